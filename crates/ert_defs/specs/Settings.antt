@@ -1,0 +1,39 @@
+-- What a service can be opened with.
+
+use Rattle.std.specs.Prelude.{◌≡◌, ℤ, pos, negsuc, ◌*◌, ◌≤◌, ◌≤ℤ◌, Result, Ok, Err}
+use Rattle.std.specs.Int.{int_rem_euclid}
+use Rattle.ert_defs.specs.Readings.{IsValid}
+use Rattle.ert_defs.specs.declared.settings.Settings.{Settings}
+use Rattle.ert_defs.specs.declared.settings.SettingsFault.{SettingsFault}
+use Rattle.ert_defs.specs.declared.settings.SettingsFault.TheVariants.{Start, First, Count}
+
+-- a start time (profile): a multiple of 1,000,000 from -2^58 to 2^58
+pub record IsStart (start : ℤ) : Type 0 where
+  pub whole : int_rem_euclid start (pos 1000000) ≡ pos 0
+  pub low : negsuc 288230376151711743 ≤ℤ start
+  pub high : start ≤ℤ pos 288230376151711744
+
+-- the counts are within their limits (profile)
+pub record HasCounts (g : Settings) : Type 0 where
+  pub schedulers_low : 1 ≤ g.schedulers
+  pub schedulers_high : g.schedulers ≤ 64
+  pub processes_low : 1 ≤ g.processes
+  pub processes_high : g.processes ≤ 1024
+  pub slots_low : 1 ≤ g.slots
+  pub slots_high : g.slots ≤ 65536
+  pub slots_in_all : (g.schedulers * g.slots) ≤ 262144
+  pub callers_low : 1 ≤ g.callers
+  pub callers_high : g.callers ≤ 17
+
+-- settings that a service can be opened with
+pub record IsChecked (g : Settings) : Type 0 where
+  pub start : IsStart g.start
+  pub first : IsValid g.first
+  pub counts : HasCounts g
+
+-- what a check of settings answers: each fault exactly where it stands and none before it does
+abbrev pub Checks : Settings → Result (Unit {0}) SettingsFault → Type 0
+Checks g (Ok _) = IsChecked g
+Checks g (Err Start) = IsStart g.start → ⊥
+Checks g (Err First) = IsStart g.start × (IsValid g.first → ⊥)
+Checks g (Err Count) = IsStart g.start × IsValid g.first × (HasCounts g → ⊥)

@@ -1,0 +1,16 @@
+//! The types of the clock and timer service, and (in `specs/`) the model that they are judged by: one
+//! list of entries, the state after it, and what makes it legal. It stands on nothing.
+//!
+//! An entry is one atomic step on the service, made by one or two actors. `docs/MODEL.md` has the
+//! definitions in words.
+#![tactic(auto)]
+
+mod entry;
+mod mail;
+mod settings;
+mod timer;
+
+pub use entry::{Act, Actor, Entry, Event};
+pub use mail::{Mail, Request, RequestKind};
+pub use settings::{Mode, OffsetState, Reading, Settings, SettingsFault};
+pub use timer::{Fired, Kind, Start, Status, TimerRef, When};

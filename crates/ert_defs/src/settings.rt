@@ -1,0 +1,115 @@
+ghost use Rattle.std.specs.Prelude.{◌↔◌, IsTrue};
+ghost use Rattle.ert_defs.specs.Settings.{IsStart, HasCounts, Checks};
+ghost use Rattle.ert_defs.specs.Readings.{IsValid};
+
+/// The time warp modes (ERTS User's Guide, "Time Warp Modes").
+#[derive(Clone, Copy, Debug, PartialEq, Eq)]
+pub enum Mode {
+    /// The time offset never changes.
+    No,
+    /// The time offset changes once, when it is finalized.
+    Single,
+    /// The time offset may change at each check.
+    Multi,
+}
+
+/// The state of the time offset (ERTS User's Guide, "Time Warp Modes").
+#[derive(Clone, Copy, Debug, PartialEq, Eq)]
+pub enum OffsetState {
+    /// It changes when it is finalized, and not before.
+    Preliminary,
+    /// It never changes again.
+    Final,
+    /// It may change at each check.
+    Volatile,
+}
+
+/// One reading of the clocks of the operating system, in nanoseconds.
+///
+/// It is valid where `mono` is from 0 to below 2^62 and `sys` lies between -2^61 and 2^61.
+#[derive(Clone, Copy, Debug, PartialEq, Eq)]
+pub struct Reading {
+    /// OS monotonic time. A value below that of an earlier reading counts as that one.
+    pub mono: i64,
+    /// OS system time.
+    pub sys: i64,
+}
+
+impl Reading {
+    /// Whether the reading is valid.
+    pub fn is_valid(&self) -> bool
+        ensures { IsTrue result ↔ IsValid self.now }
+    {
+        0 <= self.mono && self.mono < 1 << 62 && -(1 << 61) < self.sys && self.sys < 1 << 61
+    }
+}
+
+/// What a clock and timer service is opened with.
+#[derive(Clone, Copy, Debug, PartialEq, Eq)]
+pub struct Settings {
+    pub mode: Mode,
+    /// Whether time correction is on (ERTS User's Guide, "Time Correction").
+    pub correction: bool,
+    /// Monotonic time at the opening, in nanoseconds: a multiple of 1,000,000 from -2^58 to 2^58.
+    pub start: i64,
+    /// 1 to 64.
+    pub schedulers: u32,
+    /// 1 to 1,024.
+    pub processes: u32,
+    /// Timer slots of each scheduler, 1 to 65,536; at most 262,144 in all.
+    pub slots: u32,
+    /// 1 to 17.
+    pub callers: u32,
+    /// The reading that the clock opens with.
+    pub first: Reading,
+}
+
+/// Why settings are refused: the first of these, in this order.
+#[derive(Clone, Copy, Debug, PartialEq, Eq)]
+pub enum SettingsFault {
+    /// The start time is no multiple of 1,000,000, or outside -2^58 to 2^58.
+    Start,
+    /// The first reading isn't valid.
+    First,
+    /// A number of schedulers, processes, slots or callers is outside its limits.
+    Count,
+}
+
+impl Settings {
+    /// Tells whether a service can be opened with these settings, and else the first fault.
+    pub fn check(&self) -> Result<(), SettingsFault>
+        ensures { Checks self.now result }
+    {
+        if !self.has_start() {
+            return Err(SettingsFault::Start);
+        }
+        if !self.first.is_valid() {
+            return Err(SettingsFault::First);
+        }
+        if !self.has_counts() {
+            return Err(SettingsFault::Count);
+        }
+        Ok(())
+    }
+
+    fn has_start(&self) -> bool
+        ensures { IsTrue result ↔ IsStart self.now.start }
+    {
+        self.start.rem_euclid(1_000_000) == 0 && -(1 << 58) <= self.start && self.start <= 1 << 58
+    }
+
+    fn has_counts(&self) -> bool
+        ensures { IsTrue result ↔ HasCounts self.now }
+    {
+        let slots = self.schedulers as u64 * self.slots as u64;
+        1 <= self.schedulers
+            && self.schedulers <= 64
+            && 1 <= self.processes
+            && self.processes <= 1024
+            && 1 <= self.slots
+            && self.slots <= 65536
+            && slots <= 262_144
+            && 1 <= self.callers
+            && self.callers <= 17
+    }
+}
