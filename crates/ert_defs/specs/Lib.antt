@@ -1,2 +1,12 @@
+pub mod Actors
+pub mod Clocks
+pub mod Legal
+pub mod Lines
+pub mod Mails
+pub mod Milliseconds
+pub mod Permitted
 pub mod Readings
 pub mod Settings
+pub mod States
+pub mod Timers
+pub mod Words

@@ -1,0 +1,85 @@
+-- The state after a history. Each part that belongs to an actor changes only by the entries that have
+-- that actor. The statuses of timers and the exits of processes belong to nobody, and move forward alone.
+
+use Rattle.std.specs.Prelude.{ℕ, ℤ, Bool, false, cond, ◌&&◌, ◌||◌, nat_eq, List, [], ◌∷◌, Option, None}
+use Rattle.ert_defs.specs.Actors.{same_actor, has_actor}
+use Rattle.ert_defs.specs.Clocks.{Clock, first_clock, clock_after}
+use Rattle.ert_defs.specs.Mails.{MailState, SchedState, no_mail, idle_sched, mail_after, inbox_after, sched_after}
+use Rattle.ert_defs.specs.Timers.{Row, rows_after, last_after, status_after}
+use Rattle.ert_defs.specs.declared.entry.Actor.{Actor}
+use Rattle.ert_defs.specs.declared.entry.Actor.TheVariants.{Keeper, Wheel, Inbox, Sched, MailOf}
+use Rattle.ert_defs.specs.declared.entry.Entry.{Entry}
+use Rattle.ert_defs.specs.declared.entry.Event.{Event}
+use Rattle.ert_defs.specs.declared.entry.Event.TheVariants.{Look, Mark}
+use Rattle.ert_defs.specs.declared.mail.Request.{Request}
+use Rattle.ert_defs.specs.declared.settings.Settings.{Settings}
+use Rattle.ert_defs.specs.declared.timer.Status.{Status}
+use Rattle.ert_defs.specs.declared.timer.TimerRef.{TimerRef}
+
+-- the state of a service
+pub record State : Type 0 where
+  -- the clock, of Keeper
+  pub clock : Clock
+  -- the time in the last look of each actor, and the start time where there is none
+  pub looked : Actor → ℤ
+  -- the timers of each wheel, in order of arming
+  pub rows : ℕ → List Row
+  -- of each wheel and slot the last generation, 0 where there is none
+  pub last : ℕ → ℕ → ℕ
+  -- the status of each timer, None where it was never armed
+  pub status : TimerRef → Option Status
+  -- whether each process has exited
+  pub exited : ℕ → Bool
+  -- the mailbox and the monitors of each process, of its MailOf
+  pub mails : ℕ → MailState
+  -- the requests that wait for each scheduler, of its Inbox
+  pub inboxes : ℕ → List Request
+  -- what each scheduler has, of its Sched
+  pub scheds : ℕ → SchedState
+
+-- the last look after an event of the looker
+abbrev pub look_after : ℤ → Event → ℤ
+look_after last (Look now) = now
+look_after last _ = last
+
+-- whether a process has exited after an event
+abbrev pub exited_after : ℕ → Bool → Event → Bool
+exited_after p exited (Mark process exits was) = exited || (nat_eq process p && exits)
+exited_after p exited _ = exited
+
+-- the opening (ERTS User's Guide, "Time Warp Modes")
+abbrev pub opening : Settings → State
+opening g = record {
+  clock = first_clock g;
+  looked = λ a. g.start;
+  rows = λ w. [];
+  last = λ w k. 0;
+  status = λ r. None;
+  exited = λ p. false;
+  mails = λ p. no_mail;
+  inboxes = λ w. [];
+  scheds = λ w. idle_sched;
+}
+
+-- the state after one more entry
+abbrev pub next : Settings → State → Entry → State
+next g s e = record {
+  clock = cond (has_actor e Keeper) (clock_after g s.clock e.event) s.clock;
+  looked = λ a. cond (same_actor e.by a) (look_after (s.looked a) e.event) (s.looked a);
+  rows = λ w. cond (has_actor e (Wheel w)) (rows_after g (s.looked e.by) w (s.rows w) e.event) (s.rows w);
+  last = λ w k. cond (has_actor e (Wheel w)) (last_after w k (s.last w k) e.event) (s.last w k);
+  status = λ r. status_after r (has_actor e (Wheel r.wheel)) (s.status r) e.event;
+  exited = λ p. exited_after p (s.exited p) e.event;
+  mails = λ p. cond (has_actor e (MailOf p)) (mail_after s.scheds (s.mails p) e.event) (s.mails p);
+  inboxes = λ w. cond (has_actor e (Inbox w)) (inbox_after (s.inboxes w) e.event) (s.inboxes w);
+  scheds = λ w. cond (has_actor e (Sched w)) (sched_after s.rows (s.scheds w) e.event) (s.scheds w);
+}
+
+-- the state after some more entries
+abbrev pub run : Settings → State → List Entry → State
+run g s [] = s
+run g s (e ∷ es) = run g (next g s e) es
+
+-- the state after a history
+abbrev pub state : Settings → List Entry → State
+state g h = run g (opening g) h

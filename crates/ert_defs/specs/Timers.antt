@@ -1,0 +1,73 @@
+-- The timers of a history: a row for each, in order of arming, and the status of each reference
+-- (`erlang` module reference, `start_timer`, `cancel_timer` and `read_timer`).
+
+use Rattle.std.specs.Prelude.{ℕ, ℤ, Bool, true, false, cond, ◌&&◌, nat_eq, List, [], ◌∷◌, ◌++◌, Option, Some, None}
+use Rattle.ert_defs.specs.Milliseconds.{deadline_of}
+use Rattle.ert_defs.specs.declared.entry.Event.{Event}
+use Rattle.ert_defs.specs.declared.entry.Event.TheVariants.{Arm, Cancel, Expire, Orphan, Deliver, Drop}
+use Rattle.ert_defs.specs.declared.settings.Settings.{Settings}
+use Rattle.ert_defs.specs.declared.timer.Fired.{Fired}
+use Rattle.ert_defs.specs.declared.timer.Start.{Start}
+use Rattle.ert_defs.specs.declared.timer.Status.{Status}
+use Rattle.ert_defs.specs.declared.timer.Status.TheVariants.{Armed, Expired, Delivered, Cancelled, Orphaned, Dropped}
+use Rattle.ert_defs.specs.declared.timer.TimerRef.{TimerRef}
+
+-- what stays of a timer from its start on: reference, deadline, destination, message and kind
+abbrev pub Row : Type 0
+Row = Fired
+
+-- whether two references are one
+abbrev pub same_timer : TimerRef → TimerRef → Bool
+same_timer r t = nat_eq r.wheel t.wheel && nat_eq r.slot t.slot && nat_eq r.generation t.generation
+
+-- the row of a start, where its deadline is within the limits
+abbrev pub row_from : TimerRef → Start → Option ℕ → List Row
+row_from timer start None = []
+row_from timer start (Some deadline) =
+    (record { timer = timer; deadline = deadline; dest = start.dest; msg = start.msg; kind = start.kind }) ∷ []
+
+-- the rows of a wheel after an event whose maker has this last look
+abbrev pub rows_after : Settings → ℤ → ℕ → List Row → Event → List Row
+rows_after g look w rows (Arm timer start) =
+    cond (nat_eq timer.wheel w) (rows ++ row_from timer start (deadline_of g start look)) rows
+rows_after g look w rows _ = rows
+
+-- the last generation of a slot of a wheel after an event
+abbrev pub last_after : ℕ → ℕ → ℕ → Event → ℕ
+last_after w k last (Arm timer start) = cond (nat_eq timer.wheel w && nat_eq timer.slot k) timer.generation last
+last_after w k last _ = last
+
+-- the first row of a reference
+abbrev pub row_of : List Row → TimerRef → Option Row
+row_of [] timer = None
+row_of (r ∷ rows) timer = cond (same_timer r.timer timer) (Some r) (row_of rows timer)
+
+-- settling: only an armed timer moves
+abbrev pub settled_as : Status → Option Status → Option Status
+settled_as to (Some Armed) = Some to
+settled_as to status = status
+
+-- handing over: only an expired timer moves
+abbrev pub handed_as : Status → Option Status → Option Status
+handed_as to (Some Expired) = Some to
+handed_as to status = status
+
+-- the status of a reference after an event, which has the reference's wheel or not; None before it is armed
+abbrev pub status_after : TimerRef → Bool → Option Status → Event → Option Status
+status_after r has_wheel status (Arm timer start) = cond (has_wheel && same_timer timer r) (Some Armed) status
+status_after r has_wheel status (Cancel timer left) = cond (same_timer timer r) (settled_as Cancelled status) status
+status_after r has_wheel status (Expire timer) = cond (same_timer timer r) (settled_as Expired status) status
+status_after r has_wheel status (Orphan timer) = cond (same_timer timer r) (settled_as Orphaned status) status
+status_after r has_wheel status (Deliver timer) = cond (same_timer timer r) (handed_as Delivered status) status
+status_after r has_wheel status (Drop timer) = cond (same_timer timer r) (handed_as Dropped status) status
+status_after r has_wheel status _ = status
+
+-- a slot is taken while its last timer is armed or expired
+abbrev pub is_taken : Option Status → Bool
+is_taken (Some Armed) = true
+is_taken (Some Expired) = true
+is_taken _ = false
+
+-- the reference of a use of a slot
+abbrev pub timer_at : ℕ → ℕ → ℕ → TimerRef
+timer_at w k generation = record { wheel = w; slot = k; generation = generation }

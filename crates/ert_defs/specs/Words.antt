@@ -1,0 +1,68 @@
+-- The atomic words of a history. One word has the time, one the offset, each slot has one and each
+-- process has one.
+
+use Rattle.std.specs.Prelude.{ℕ, ℤ, pos, ◌+◌, ◌-◌, ◌*◌, ◌/◌, ◌%◌, ◌+ℤ◌, ◌-ℤ◌, Bool, true, false, cond, nat_lt, Option, Some}
+use Rattle.ert_defs.specs.Milliseconds.{natural}
+use Rattle.ert_defs.specs.States.{State}
+use Rattle.ert_defs.specs.Timers.{Row, row_of, timer_at}
+use Rattle.ert_defs.specs.declared.settings.OffsetState.{OffsetState}
+use Rattle.ert_defs.specs.declared.settings.OffsetState.TheVariants.{Final}
+use Rattle.ert_defs.specs.declared.settings.Settings.{Settings}
+use Rattle.ert_defs.specs.declared.timer.Status.{Status}
+use Rattle.ert_defs.specs.declared.timer.Status.TheVariants.{Armed, Expired, Delivered, Cancelled, Orphaned, Dropped}
+
+-- the time word: the nanoseconds since the start time, 0 to 8796093022207000000
+abbrev pub time_word : ℤ → ℤ → ℕ
+time_word now start = natural (now -ℤ start)
+
+-- whether an offset is final
+abbrev pub is_final : OffsetState → Bool
+is_final Final = true
+is_final _ = false
+
+-- the offset word, for an offset between -2^62 and 2^62
+abbrev pub offset_word : ℤ → Bool → ℕ
+offset_word offset final = (natural (offset +ℤ pos 4611686018427387904) * 2) + cond final 1 0
+
+-- the number of a status in a timer word
+abbrev pub status_code : Status → ℕ
+status_code Armed = 1
+status_code Expired = 2
+status_code Delivered = 3
+status_code Cancelled = 4
+status_code Orphaned = 5
+status_code Dropped = 6
+
+-- the word of a slot whose last timer has this status, deadline and generation; 0 for a slot that was
+-- never used
+abbrev pub timer_word : Status → ℕ → ℕ → ℕ
+timer_word status deadline generation = (status_code status + (8 * deadline)) + (70368744177664 * generation)
+
+abbrev pub slot_word : Option Status → Option Row → ℕ → ℕ
+slot_word (Some status) (Some row) generation = timer_word status row.deadline generation
+slot_word _ _ generation = 0
+
+-- the word of a process: 1 where it has exited
+abbrev pub process_word : Bool → ℕ
+process_word exited = cond exited 1 0
+
+-- the word of a slot of a wheel in a state
+abbrev pub word_of_slot : State → ℕ → ℕ → ℕ
+word_of_slot s w k =
+    let timer = timer_at w k (s.last w k) in
+    slot_word (s.status timer) (row_of (s.rows w) timer) (s.last w k)
+
+-- how many words a service has
+abbrev pub word_count : Settings → ℕ
+word_count g = (2 + (g.schedulers * g.slots)) + g.processes
+
+-- the word at an index: the time, the offset, the slots wheel by wheel, and the processes
+abbrev pub later_word : Settings → State → ℕ → ℕ
+later_word g s j =
+    cond (nat_lt j (g.schedulers * g.slots))
+    (word_of_slot s (j / g.slots) (j % g.slots))
+    (process_word (s.exited (j - (g.schedulers * g.slots))))
+
+abbrev pub word_of : Settings → State → ℕ → ℕ
+word_of g s i = cond (nat_lt i 1) (time_word s.clock.now g.start)
+    (cond (nat_lt i 2) (offset_word s.clock.offset (is_final s.clock.state)) (later_word g s (i - 2)))
