@@ -3,6 +3,7 @@
 use Rattle.std.specs.Prelude.{ℕ, ℤ, List, [], ◌∷◌, Bool, true, false, Option, Some, None, Result, Ok, Err, option_map, option_and_then}
 use Rattle.serde_json.specs.Data.{Data, Items, no_items, item}
 use Rattle.serde_json.specs.Find.{as_number, as_i64, as_bool, as_str, as_array}
+use Rattle.ert_defs.specs.declared.settings.Reading.{Reading}
 use Rattle.ert_scenario.specs.declared.fault.Fault.{Fault}
 use Rattle.ert_scenario.specs.declared.fault.Fault.TheVariants.{Shape, Range}
 
@@ -43,14 +44,22 @@ in_range false x = Err Range
 unfoldable pub integer : Option Data → Found ℤ
 integer value = of_kind (option_and_then as_i64 (option_and_then as_number value))
 
--- the items of an array, as a list
+abbrev only_false : Bool → Option Bool
+only_false true = None
+only_false false = Some false
+
+-- items as a list
 unfoldable pub list_of : Items → List Data
 list_of no_items = []
 list_of (item d ds) = d ∷ list_of ds
 
--- the items where the value is an array
-unfoldable pub listed : Data → Found (List Data)
-listed d = of_kind (option_map list_of (as_array d))
+-- `false`, and no other value
+unfoldable pub off : Option Data → Found Bool
+off value = of_kind (option_and_then only_false (option_and_then as_bool value))
+
+-- the items of an array
+unfoldable pub listed : Option Data → Found (List Data)
+listed value = of_kind (option_map list_of (option_and_then as_array value))
 
 -- the text of a string
 unfoldable pub text : Option Data → Found (List ℕ)
@@ -74,3 +83,7 @@ abbrev pub ◌▹◌ : {A B : Type 0} → (Option Data → Found A) → (List Da
 unfoldable pub end : List Data → Found (Unit {0})
 end [] = Ok tt
 end (d ∷ ds) = Err Shape
+
+-- an array of two integers, as a reading that may be out of range
+abbrev pub reading : Option Data → Found Reading
+reading value = listed value >>= (λ items. (integer ▹ integer ▹ end) items >>= (λ p. Ok (record { mono = p.0; sys = p.1.0 })))

@@ -1,6 +1,6 @@
 -- The ops of a scenario: a row for each.
 
-use Rattle.std.specs.Prelude.{ℕ, List, [], ◌∷◌, codes, Option, Some, None, Result, Ok, Err, if◌then◌else◌}
+use Rattle.std.specs.Prelude.{ℕ, List, [], ◌∷◌, codes, Some, Ok, Err, if◌then◌else◌}
 use Rattle.std.specs.Str.{bytes_eq}
 use Rattle.serde_json.specs.Data.{Data}
 use Rattle.ert_scenario.specs.Kinds.{Found, ◌>>=◌, ◌▹◌, integer, in_range, listed, text, head, tail, end}
@@ -15,7 +15,7 @@ plain op args = end args >>= (λ _. Ok op)
 
 -- `["tick",mono,sys]`, with a valid reading
 abbrev pub tick_row : List Data → Found Op
-tick_row args = (integer ▹ integer ▹ end) args >>= (λ p. in_range (is_reading p.0 p.1.0) (Tick p.0 p.1.0))
+tick_row args = (integer ▹ integer ▹ end) args >>= (λ p. in_range (is_reading (record { mono = p.0; sys = p.1.0 })) (Tick p.0 p.1.0))
 
 -- the name of each op, and how its arguments are read
 abbrev pub op_rows : List (List ℕ × (List Data → Found Op))
@@ -31,4 +31,4 @@ named name (row ∷ rows) args = if bytes_eq name row.0 then row.1 args else nam
 
 -- the op that a value is
 unfoldable pub op_of : Data → Found Op
-op_of d = listed d >>= (λ items. text (head items) >>= (λ name. named name op_rows (tail items)))
+op_of d = listed (Some d) >>= (λ items. text (head items) >>= (λ name. named name op_rows (tail items)))

@@ -2,9 +2,10 @@
 
 ghost use Rattle.std.specs.Prelude.{◌≡◌, map, option_map};
 ghost use Rattle.serde_json.specs.View.{view};
-ghost use Rattle.ert_scenario.specs.Kinds.{found_map, both, of_kind, in_range, integer, listed, text, head, tail, end};
+ghost use Rattle.ert_scenario.specs.Kinds.{found_map, both, of_kind, in_range, integer, off, listed, text, head, tail, end, reading};
 
 use crate::fault::Fault;
+use ert_defs::Reading;
 use serde_json::Value;
 
 /// Two readings together: a shape fault of either counts before a range fault of the other.
@@ -46,12 +47,24 @@ pub(crate) fn integer(value: Option<&Value>) -> Result<i64, Fault>
     of_kind(value.and_then(Value::as_i64))
 }
 
+/// `false`, and no other value.
+#[tactic(auto, unfolding(crate::specs::Kinds::off, crate::specs::Kinds::of_kind))]
+pub(crate) fn off(value: Option<&Value>) -> Result<bool, Fault>
+    ensures { result ≡ off (option_map (λ v. view v.now) value.entry) }
+{
+    match value.and_then(Value::as_bool) {
+        Some(false) => Ok(false),
+        Some(true) | None => Err(Fault::Shape),
+    }
+}
+
 /// The items of an array.
 #[tactic(auto, using(crate::proofs::Listed::list_of_items), unfolding(crate::specs::Kinds::listed, crate::specs::Kinds::of_kind))]
-pub(crate) fn listed(value: &Value) -> Result<&[Value], Fault>
-    ensures { found_map (λ items. map view items.now) result ≡ listed (view value.now) }
+pub(crate) fn listed(value: Option<&Value>) -> Result<&[Value], Fault>
+    ensures { found_map (λ items. map view items.now) result
+        ≡ listed (option_map (λ v. view v.now) value.entry) }
 {
-    match value.as_array() {
+    match value.and_then(Value::as_array) {
         Some(items) => Ok(items.as_slice()),
         None => Err(Fault::Shape),
     }
@@ -82,5 +95,19 @@ pub(crate) fn next(args: &[Value]) -> (Option<&Value>, &[Value])
 pub(crate) fn end(args: &[Value]) -> Result<(), Fault>
     ensures { result ≡ end (map view args.now) }
 {
-    if args.is_empty() { Ok(()) } else { Err(Fault::Shape) }
+    if args.is_empty() {
+        Ok(())
+    } else {
+        Err(Fault::Shape)
+    }
+}
+
+/// An array of two integers, as a reading that may be out of range.
+pub(crate) fn reading(value: Option<&Value>) -> Result<Reading, Fault>
+    ensures { result ≡ reading (option_map (λ v. view v.now) value.entry) }
+{
+    let (mono, items) = next(listed(value)?);
+    let (sys, items) = next(items);
+    let (mono, (sys, ())) = both(integer(mono), both(integer(sys), end(items)))?;
+    Ok(Reading { mono, sys })
 }

@@ -2,8 +2,15 @@
 #![tactic(auto)]
 
 mod fault;
+mod fields;
 mod kinds;
+mod laws;
 mod op;
 mod rows;
+mod scanning;
+mod scenario;
+mod walk;
 
+pub use laws::one_verdict;
 pub use op::Op;
+pub use scenario::{Scenario, ScenarioErr, read_scenario};

@@ -16,7 +16,7 @@ use serde_json::Value;
 pub(crate) fn op_of(value: &Value) -> Result<Op, Fault>
     ensures { result ≡ op_of (view value.now) }
 {
-    let (name, args) = next(listed(value)?);
+    let (name, args) = next(listed(Some(value))?);
     named(text(name)?, args)
 }
 
@@ -50,7 +50,7 @@ fn tick(args: &[Value]) -> Result<Op, Fault>
 /// Whether a reading is valid.
 #[tactic(auto, unfolding(crate::specs::Ranges::is_reading))]
 fn is_reading(mono: i64, sys: i64) -> bool
-    ensures { result ≡ is_reading mono sys }
+    ensures { result ≡ is_reading (record { mono = mono; sys = sys }) }
 {
     Reading { mono, sys }.is_valid()
 }
