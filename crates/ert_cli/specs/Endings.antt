@@ -1,0 +1,77 @@
+-- How the program ends, and what it has then read and written.
+
+use Rattle.std.specs.Prelude.{◌≡◌, ◌⊎◌, ◌≤◌, length, ℕ, List, [], ◌∷◌, Bool, false, Option, codes, string_bytes, String, Result, Ok, Err}
+use Rattle.std.specs.Str.{bytes_eq}
+use Rattle.std.specs.declared.alloc.Global.{Global}
+use Rattle.ert_io.specs.Known.{then, before, IsAtEnd}
+use Rattle.ert_scenario.specs.Scenarios.{Plan, IsScenario, HasRefusal}
+use Rattle.ert_cli.specs.Lines.{refusal_line}
+use Rattle.ert_cli.specs.Runs.{WritesTranscript, WritesPart}
+use Rattle.ert_cli.specs.Written.{WritesFront}
+use Rattle.ert_scenario.specs.declared.scenario.ScenarioErr.{ScenarioErr}
+use Rattle.ert_cli.specs.declared.output.RunErr.{RunErr}
+use Rattle.ert_cli.specs.declared.output.RunErr.TheVariants.{WriteFault as OutputFailed, NoMemory as OutOfMemory}
+use Rattle.ert_cli.specs.declared.ending.EndStatus.{EndStatus}
+use Rattle.ert_cli.specs.declared.ending.EndStatus.TheVariants.{Done, Usage, Refused, ReadFault, WriteFault, NoMemory, TooLong}
+
+-- the number of a status
+abbrev pub code_of : EndStatus → ℕ
+code_of Done = 0
+code_of Usage = 2
+code_of Refused = 3
+code_of ReadFault = 4
+code_of WriteFault = 5
+code_of NoMemory = 7
+code_of TooLong = 8
+
+-- whether a command line is the one word `run`
+abbrev pub is_run : List (String Global) → Bool
+is_run [] = false
+is_run (word ∷ []) = bytes_eq (string_bytes word) (codes "run")
+is_run (word ∷ other ∷ words) = false
+
+-- these bytes were read, they are all that there were, and no more than an input may have
+pub record TakesAll (old new : Option (List ℕ)) (bytes : List ℕ) : Type 0 where
+  pub taken : old ≡ before bytes new
+  pub short : length bytes ≤ 16777216
+  pub end : IsAtEnd new
+
+-- all bytes were read, they are a scenario, and its transcript was written
+pub record Did (left left_new taken taken_new : Option (List ℕ)) : Type 0 where
+  pub bytes : List ℕ
+  pub takes : TakesAll left left_new bytes
+  pub plan : Plan
+  pub is : IsScenario bytes plan
+  pub writes : WritesTranscript plan taken taken_new
+
+-- all bytes were read, they have a refusal, and its line was written
+pub record Refuses (left left_new taken taken_new : Option (List ℕ)) : Type 0 where
+  pub bytes : List ℕ
+  pub takes : TakesAll left left_new bytes
+  pub why : ScenarioErr
+  pub is : HasRefusal bytes why
+  pub writes : taken_new ≡ then taken (refusal_line why)
+
+-- the first part of a scenario's transcript was written
+pub record PartRun (bytes : List ℕ) (taken taken_new : Option (List ℕ)) : Type 0 where
+  pub plan : Plan
+  pub is : IsScenario bytes plan
+  pub writes : WritesPart plan taken taken_new
+
+-- the first part of the line of a refusal was written
+pub record PartRefused (bytes : List ℕ) (taken taken_new : Option (List ℕ)) : Type 0 where
+  pub why : ScenarioErr
+  pub is : HasRefusal bytes why
+  pub writes : WritesFront taken taken_new (refusal_line why)
+
+-- all bytes were read, and the first part of what they ask for was written
+pub record Stops (left left_new taken taken_new : Option (List ℕ)) : Type 0 where
+  pub bytes : List ℕ
+  pub takes : TakesAll left left_new bytes
+  pub part : PartRun bytes taken taken_new ⊎ PartRefused bytes taken taken_new
+
+-- the status of a run
+abbrev pub status_of : Result (Unit {0}) RunErr → EndStatus
+status_of (Ok _) = Done
+status_of (Err OutputFailed) = WriteFault
+status_of (Err OutOfMemory) = NoMemory

@@ -1,0 +1,5 @@
+pub mod Endings
+pub mod Lines
+pub mod Runs
+pub mod Scripts
+pub mod Written
