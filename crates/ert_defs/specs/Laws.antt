@@ -1,0 +1,31 @@
+-- The laws of histories that don't concern the clock's numbers: what a stranger may expect of the model.
+
+use Rattle.std.specs.Prelude.{◌≡◌, ◌⊎◌, List, [], ◌∷◌, ◌++◌, Option, Some, None}
+use Rattle.ert_defs.specs.Actors.{IsFreeOf}
+use Rattle.ert_defs.specs.Legal.{Keeps, Known, Found, Legal}
+use Rattle.ert_defs.specs.States.{state}
+use Rattle.ert_defs.specs.declared.entry.Entry.{Entry}
+use Rattle.ert_defs.specs.declared.settings.Settings.{Settings}
+use Rattle.ert_defs.specs.declared.timer.Status.{Status}
+use Rattle.ert_defs.specs.declared.timer.Status.TheVariants.{Armed, Expired, Delivered, Cancelled, Orphaned, Dropped}
+
+-- locality: what an entry's maker knew after a history holds on while no other entry has the entry's
+-- actors, so that the entry is legal at the end where its step finds out what it says
+abbrev pub LawOfLocality : Type 0
+LawOfLocality = (g : Settings) (f m : List Entry) (e : Entry) → Legal g (f ++ m) → IsFreeOf m e.by e.with
+    → Keeps g e.by e.with e.event
+    → Known g (state g f) e.by e.with e.event
+    → Found g (state g (f ++ m)) e.by e.event
+    → Legal g ((f ++ m) ++ e ∷ [])
+
+-- what one entry may make of the status of a timer
+abbrev pub MayBecome : Status → Option Status → Type 0
+MayBecome Armed after =
+    (after ≡ Some Armed) ⊎ (after ≡ Some Expired) ⊎ (after ≡ Some Cancelled) ⊎ (after ≡ Some Orphaned)
+MayBecome Expired after = (after ≡ Some Expired) ⊎ (after ≡ Some Delivered) ⊎ (after ≡ Some Dropped)
+MayBecome status after = after ≡ Some status
+
+-- what one entry may make of the status of a reference, which may not have been armed yet
+abbrev pub MayMove : Option Status → Option Status → Type 0
+MayMove None after = (after ≡ None) ⊎ (after ≡ Some Armed)
+MayMove (Some status) after = MayBecome status after
