@@ -12,7 +12,7 @@ use Rattle.ert_defs.specs.States.{State, opening, run, state}
 use Rattle.ert_defs.specs.Timers.{Row, row_of, is_taken, timer_at}
 use Rattle.ert_defs.proofs.Lists.{all_front, all_back}
 use Rattle.ert_defs.proofs.Rows.{AreRows, IsRow, rows_hold}
-use Rattle.ert_defs.proofs.Runs.{carry, state-append, legal-append, legal_first, clock_stays, exit_stays, inbox_stays, last_stays, look_stays, mail_stays, rows_stay, sched_stays}
+use Rattle.ert_defs.proofs.Runs.{carry, state-append, legal_first, legal_more, clock_stays, exit_stays, inbox_stays, last_stays, look_stays, mail_stays, rows_stay, sched_stays}
 use Rattle.ert_defs.proofs.Statuses.{not_armed_stays, free_stays}
 use Rattle.ert_defs.specs.declared.entry.Actor.{Actor}
 use Rattle.ert_defs.specs.declared.entry.Actor.TheVariants.{Keeper, Wheel, Inbox, Sched, MailOf}
@@ -140,10 +140,6 @@ known_stays g s m by with (Watch process monitor offset) wheels free keeps h =
     carry (λ (x : MailState). (monitor ≡ x.next) × (length x.monitors < 64))
     (mail_stays g process s m (free_with m by with (MailOf process) free keeps.1)) h
 known_stays g s m by with _ wheels free keeps h = tt
-
--- an entry that is legal after a history makes a longer legal one
-pub legal_more : (g : Settings) (h : List Entry) (e : Entry) → Legal g h → Can g (state g h) e → Legal g (h ++ e ∷ [])
-legal_more g h e legal can = legal-append g (opening g) h (e ∷ []) legal (can, tt)
 
 pub locality : LawOfLocality
 locality g f m e legal free keeps known found =
