@@ -2,7 +2,7 @@
 
 use Rattle.std.proofs.Common.{◌≡◌, ◌≢◌, ◌⊎◌, inl, inr, Bool, true, false, cond, ◌&&◌, List, [], ◌∷◌, Option, Some, None, refl}
 use Rattle.ert_defs.specs.Actors.{has_actor, IsFree}
-use Rattle.ert_defs.specs.Laws.{MayBecome}
+use Rattle.ert_defs.specs.Laws.{MayBecome, MayMove}
 use Rattle.ert_defs.specs.States.{State, next, run}
 use Rattle.ert_defs.specs.Timers.{same_timer, settled_as, handed_as, status_after, is_taken}
 use Rattle.ert_defs.proofs.Runs.{free_first, free_rest}
@@ -90,6 +90,21 @@ forward_free (Some Delivered) y h free = rw h refl
 forward_free (Some Cancelled) y h free = rw h refl
 forward_free (Some Orphaned) y h free = rw h refl
 forward_free (Some Dropped) y h free = rw h refl
+
+pub forward_not_none : (x y : Option Status) → Forward x y → x ≢ None → y ≢ None
+forward_not_none None y h not = absurd (not refl)
+forward_not_none (Some Armed) y h not =
+    λ is. elim h [ inl a ↦ cc | inr b ↦ elim b [ inl c ↦ cc | inr d ↦ elim d [ inl i ↦ cc | inr j ↦ cc ] ] ]
+forward_not_none (Some Expired) y h not =
+    λ is. elim h [ inl a ↦ cc | inr b ↦ elim b [ inl c ↦ cc | inr d ↦ cc ] ]
+forward_not_none (Some Delivered) y h not = λ is. cc
+forward_not_none (Some Cancelled) y h not = λ is. cc
+forward_not_none (Some Orphaned) y h not = λ is. cc
+forward_not_none (Some Dropped) y h not = λ is. cc
+
+pub forward_may : (x y : Option Status) → Forward x y → MayMove x y
+forward_may None y h = inl h
+forward_may (Some status) y h = h
 
 -- what a status keeps on its way forward, the status of a reference keeps while nobody has its wheel
 pub forward_stays : (P : Option Status → Type 0) → ((x y : Option Status) → Forward x y → P x → P y)

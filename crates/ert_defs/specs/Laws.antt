@@ -1,13 +1,15 @@
 -- The laws of histories that don't concern the clock's numbers: what a stranger may expect of the model.
 
-use Rattle.std.specs.Prelude.{◌≡◌, ◌⊎◌, ◌↔◌, List, [], ◌∷◌, ◌++◌, Option, Some, None}
+use Rattle.std.specs.Prelude.{◌≡◌, ◌≢◌, ◌⊎◌, ◌↔◌, ℕ, ◌+◌, ◌<◌, ◌≤◌, Bool, true, false, cond, not, ◌&&◌, Contains, List, [], ◌∷◌, ◌++◌, Option, Some, None}
 use Rattle.ert_defs.specs.Actors.{IsFreeOf}
 use Rattle.ert_defs.specs.Legal.{Keeps, Known, Found, Can, LegalFrom, Legal}
-use Rattle.ert_defs.specs.States.{run, state}
+use Rattle.ert_defs.specs.States.{State, opening, next, run, state}
+use Rattle.ert_defs.specs.Timers.{Row, is_taken, timer_at}
 use Rattle.ert_defs.specs.declared.entry.Entry.{Entry}
 use Rattle.ert_defs.specs.declared.settings.Settings.{Settings}
 use Rattle.ert_defs.specs.declared.timer.Status.{Status}
 use Rattle.ert_defs.specs.declared.timer.Status.TheVariants.{Armed, Expired, Delivered, Cancelled, Orphaned, Dropped}
+use Rattle.ert_defs.specs.declared.timer.TimerRef.{TimerRef}
 
 -- each beginning of a legal history is legal
 abbrev pub LawOfPrefixes : Type 0
@@ -45,3 +47,54 @@ MayBecome status after = after ≡ Some status
 abbrev pub MayMove : Option Status → Option Status → Type 0
 MayMove None after = (after ≡ None) ⊎ (after ≡ Some Armed)
 MayMove (Some status) after = MayBecome status after
+
+-- each entry of a legal history moves each status as it may
+abbrev pub LawOfMoves : Type 0
+LawOfMoves = (g : Settings) (h : List Entry) (e : Entry) (r : TimerRef) → Legal g (h ++ e ∷ [])
+    → MayMove ((state g h).status r) ((state g (h ++ e ∷ [])).status r)
+
+abbrev pub is_armed : Option Status → Bool
+is_armed (Some Armed) = true
+is_armed _ = false
+
+-- whether a timer was armed and is so no more
+abbrev pub has_settled : Option Status → Bool
+has_settled None = false
+has_settled (Some Armed) = false
+has_settled (Some _) = true
+
+-- how many of these entries settle a timer: it is armed before and not after
+abbrev pub settlings : Settings → TimerRef → State → List Entry → ℕ
+settlings g r s [] = 0
+settlings g r s (e ∷ es) =
+    cond (is_armed (s.status r) && not (is_armed ((next g s e).status r))) 1 0 + settlings g r (next g s e) es
+
+-- a timer settles at most once
+abbrev pub LawOfSettling : Type 0
+LawOfSettling = (g : Settings) (h : List Entry) (r : TimerRef) → Legal g h → settlings g r (opening g) h ≤ 1
+
+-- a timer that has settled stays so
+abbrev pub LawOfSettled : Type 0
+LawOfSettled = (g : Settings) (f m : List Entry) (r : TimerRef) → Legal g (f ++ m)
+    → has_settled ((state g f).status r) ≡ true
+    → has_settled ((state g (f ++ m)).status r) ≡ true
+
+-- a row that isn't armed never is again
+abbrev pub LawOfRows : Type 0
+LawOfRows = (g : Settings) (f m : List Entry) (w : ℕ) (row : Row) → Legal g (f ++ m)
+    → Contains ((state g f).rows w) row
+    → (state g f).status row.timer ≢ Some Armed
+    → (state g (f ++ m)).status row.timer ≢ Some Armed
+
+-- the generations of a slot, of which each has this status, were used one after the other up to the last:
+-- those from 1 on and no others were armed, and none but the last takes the slot
+pub record AreInOrder (status : ℕ → Option Status) (last : ℕ) : Type 0 where
+  pub none : status 0 ≡ None
+  pub used : (n : ℕ) → 1 ≤ n → n ≤ last → status n ≢ None
+  pub free : (n : ℕ) → n < last → is_taken (status n) ≡ false
+  pub unused : (n : ℕ) → last < n → status n ≡ None
+
+-- the generations of each slot are used one after the other
+abbrev pub LawOfSlots : Type 0
+LawOfSlots = (g : Settings) (h : List Entry) (w k : ℕ) → Legal g h
+    → AreInOrder (λ n. (state g h).status (timer_at w k n)) ((state g h).last w k)
