@@ -1,6 +1,6 @@
 -- What holds of each element of a list holds of each of its parts.
 
-use Rattle.std.proofs.Common.{◌≡◌, ℕ, zero, suc, ◌+◌, ◌<◌, List, [], ◌∷◌, ◌++◌, length, get_or, All, AllPairs, sym, subst, arith, length-append, get_or-append-add}
+use Rattle.std.proofs.Common.{suc, ◌+◌, List, ◌∷◌, ◌++◌, length, All, AllPairs, subst, arith, length-append, get_or-append-add}
 use Rattle.std.proofs.Math.ListN.{get_or-append}
 
 pub all_front : {X : Type 0} (P : X → Type 0) (xs ys : List X) → All P (xs ++ ys) → All P xs

@@ -1,17 +1,17 @@
 -- What an entry's maker knows holds on while no other entry has the entry's actors.
 
-use Rattle.std.proofs.Common.{◌≡◌, ◌≢◌, ℕ, ℤ, pos, ◌<◌, ◌≤ℤ◌, nat_le, nat_lt, ◌+◌, ◌∙◌, Bool, true, false, List, [], ◌∷◌, ◌++◌, length, All, Option, Some, None, refl, sym, subst}
+use Rattle.std.proofs.Common.{◌≡◌, ◌≢◌, ℕ, ℤ, pos, ◌<◌, ◌≤ℤ◌, nat_le, nat_lt, ◌+◌, ◌∙◌, Bool, true, false, List, [], ◌∷◌, ◌++◌, length, All, Option, Some, None, subst}
 use Rattle.std.proofs.lemmas.List.Elements.{All-head, All-tail, All-weaker}
 use Rattle.ert_defs.specs.Actors.{IsFree, IsFreeOf}
 use Rattle.ert_defs.specs.Clocks.{Clock, face}
 use Rattle.ert_defs.specs.Laws.{LawOfLocality}
-use Rattle.ert_defs.specs.Legal.{AllSettled, Can, CanAnswer, CanArm, CanTick, HasExited, IsFirst, IsNext, IsResult, Keeps, Known, Found, LegalFrom, Legal, names_timer, stands_in}
+use Rattle.ert_defs.specs.Legal.{AllSettled, CanArm, CanTick, IsFirst, IsNext, IsResult, Keeps, Known, Legal, names_timer, stands_in}
 use Rattle.ert_defs.specs.Mails.{MailState, SchedState, first_of}
 use Rattle.ert_defs.specs.Milliseconds.{down, deadline_of}
 use Rattle.ert_defs.specs.States.{State, opening, run, state}
 use Rattle.ert_defs.specs.Timers.{Row, row_of, is_taken, timer_at}
 use Rattle.ert_defs.proofs.Lists.{all_front, all_back}
-use Rattle.ert_defs.proofs.Rows.{AreRows, IsRow, rows_hold}
+use Rattle.ert_defs.proofs.Rows.{IsRow, rows_hold}
 use Rattle.ert_defs.proofs.Runs.{carry, state-append, legal_first, legal_more, clock_stays, exit_stays, inbox_stays, last_stays, look_stays, mail_stays, rows_stay, sched_stays}
 use Rattle.ert_defs.proofs.Statuses.{not_armed_stays, free_stays}
 use Rattle.ert_defs.specs.declared.entry.Actor.{Actor}
@@ -21,7 +21,6 @@ use Rattle.ert_defs.specs.declared.entry.Event.{Event}
 use Rattle.ert_defs.specs.declared.entry.Event.TheVariants.{Tick, Shift, Arm, Expire, Orphan, Deliver, Drop, Advanced, Pick, Answer, Take, Unwatch, Watch}
 use Rattle.ert_defs.specs.declared.mail.Request.{Request}
 use Rattle.ert_defs.specs.declared.settings.Settings.{Settings}
-use Rattle.ert_defs.specs.declared.timer.Status.TheVariants.{Armed}
 use Rattle.ert_defs.specs.declared.timer.TimerRef.{TimerRef}
 
 pub free_by : (m : List Entry) (by : Actor) (with : Option Actor) → IsFreeOf m by with → IsFree m by
@@ -49,10 +48,9 @@ settled_stay : (g : Settings) (w : ℕ) (test : ℕ → Bool) (rows : List Row) 
     → All (λ r. r.timer.wheel ≡ w) rows → AllSettled s.status test rows → AllSettled (run g s m).status test rows
 settled_stay g w test [] s m free of_wheel h = tt
 settled_stay g w test (r ∷ rows) s m free of_wheel h =
-    let free' : IsFree m (Wheel r.timer.wheel) = carry (λ n. IsFree m (Wheel n)) (All-head (λ (r : Row). r.timer.wheel ≡ w) r rows of_wheel) free in
-    (
-        λ passes. not_armed_stays g r.timer s m free' (h.0 passes),
-        settled_stay g w test rows s m free (All-tail (λ (r : Row). r.timer.wheel ≡ w) r rows of_wheel) h.1,
+    let free' : IsFree m (Wheel r.timer.wheel) = carry (λ n. IsFree m (Wheel n)) (All-head (λ (r : Row). r.timer.wheel ≡ w) r rows of_wheel) free in (
+      λ passes. not_armed_stays g r.timer s m free' (h.0 passes),
+      settled_stay g w test rows s m free (All-tail (λ (r : Row). r.timer.wheel ≡ w) r rows of_wheel) h.1,
     )
 
 arm_stays : (g : Settings) (s : State) (m : List Entry) (by : Actor) (timer : TimerRef) (deadline : ℤ → Option ℕ)
@@ -72,7 +70,7 @@ next_stays : (g : Settings) (s : State) (m : List Entry) (by : Actor) (timer : T
     → IsFree m by → IsFree m (Wheel timer.wheel) → IsNext g s by timer → IsNext g (run g s m) by timer
 next_stays g s m by timer wheels free own h =
     let of_wheel : All (λ r. r.timer.wheel ≡ timer.wheel) (h.before ++ (h.row ∷ h.behind)) =
-        subst (All (λ (r : Row). r.timer.wheel ≡ timer.wheel)) h.stands (wheels timer.wheel) in
+    subst (All (λ (r : Row). r.timer.wheel ≡ timer.wheel)) h.stands (wheels timer.wheel) in
     let behind = all_back (λ (r : Row). r.timer.wheel ≡ timer.wheel) h.before (h.row ∷ h.behind) of_wheel in
     record {
       before = h.before;
@@ -113,15 +111,14 @@ known_stays g s m by with (Drop timer) wheels free keeps h =
     (sched_stays g timer.wheel s m (free_as m by with (Sched timer.wheel) free keeps.0))
     (h.0, exit_stays g h.0.row.dest s m h.1)
 known_stays g s m by with (Advanced wheel to) wheels free keeps h =
-    let own = free_with m by with (Wheel wheel) free keeps.1 in
-    (
-        carry (λ look. pos to ≡ down g look) (look_stays g by s m (free_by m by with free)) h.0,
-        carry (λ rows. AllSettled (run g s m).status (λ d. nat_le d to) rows) (rows_stay g wheel s m own)
-        (settled_stay g wheel (λ d. nat_le d to) (s.rows wheel) s m own (wheels wheel) h.1),
+    let own = free_with m by with (Wheel wheel) free keeps.1 in (
+      carry (λ look. pos to ≡ down g look) (look_stays g by s m (free_by m by with free)) h.0,
+      carry (λ rows. AllSettled (run g s m).status (λ d. nat_le d to) rows) (rows_stay g wheel s m own)
+          (settled_stay g wheel (λ d. nat_le d to) (s.rows wheel) s m own (wheels wheel) h.1),
     )
 known_stays g s m by with (Pick wheel got) wheels free keeps h = (
-    carry (λ (x : SchedState). x.hand ≡ None) (sched_stays g wheel s m (free_as m by with (Sched wheel) free keeps.0)) h.0,
-    carry (λ (x : List Request). got ≡ first_of x) (inbox_stays g wheel s m (free_with m by with (Inbox wheel) free keeps.1)) h.1,
+  carry (λ (x : SchedState). x.hand ≡ None) (sched_stays g wheel s m (free_as m by with (Sched wheel) free keeps.0)) h.0,
+  carry (λ (x : List Request). got ≡ first_of x) (inbox_stays g wheel s m (free_with m by with (Inbox wheel) free keeps.1)) h.1,
 )
 known_stays g s m by with (Answer wheel left) wheels free keeps h =
     let same = sched_stays g wheel s m (free_as m by with (Sched wheel) free keeps.0) in

@@ -1,7 +1,7 @@
 -- The rows of a wheel after a legal history: each is of that wheel and has a generation from 1 to the last
 -- of its slot, and no two have one reference.
 
-use Rattle.std.proofs.Common.{◌≡◌, ◌≢◌, ℕ, ℤ, ◌+◌, ◌<◌, ◌≤◌, Bool, true, false, cond, ◌&&◌, nat_eq, List, [], ◌∷◌, ◌++◌, All, AllPairs, Option, Some, None, refl, sym, ap, ◌∙◌, arith, append-nil, get_or, eqb-true, eq-eqb}
+use Rattle.std.proofs.Common.{◌≡◌, ◌≢◌, ℕ, ℤ, ◌+◌, ◌≤◌, Bool, true, false, cond, ◌&&◌, nat_eq, List, ◌++◌, All, AllPairs, Option, Some, None, refl, ap, ◌∙◌, arith, append-nil, get_or, eqb-true, eq-eqb}
 use Rattle.std.proofs.lemmas.Bool.{and_parts}
 use Rattle.std.proofs.lemmas.List.Elements.{All-nil, All-push, All-weaker}
 use Rattle.std.proofs.lemmas.List.Quantifiers.{all_pairs_push}
@@ -76,9 +76,9 @@ more w last later grows rows timer start None wheel next new h = rw append-nil (
 more w last later grows rows timer start (Some deadline) wheel next new h =
     let r : Row = record { timer = timer; deadline = deadline; dest = start.dest; msg = start.msg; kind = start.kind } in
     let differs : (x : Row) → IsRow w last x → Differ x r = λ x is same.
-        let slot : last x.timer.slot ≡ last timer.slot = ap (λ (t : TimerRef). last t.slot) same in
-        let generation : x.timer.generation ≡ timer.generation = ap (λ (t : TimerRef). t.generation) same in
-        omega (arith, is.within) in
+    let slot : last x.timer.slot ≡ last timer.slot = ap (λ (t : TimerRef). last t.slot) same in
+    let generation : x.timer.generation ≡ timer.generation = ap (λ (t : TimerRef). t.generation) same in
+    omega (arith, is.within) in
     let wide = wider w last later grows rows h in
     record {
       each = All-push (IsRow w later) rows r wide.each (record { wheel = wheel; first = omega arith; within = omega arith });

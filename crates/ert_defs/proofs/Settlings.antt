@@ -1,17 +1,17 @@
 -- How an entry moves the status of a timer, and that a timer settles once.
 
-use Rattle.std.proofs.Common.{◌≡◌, ◌≢◌, ℕ, ◌+◌, ◌<◌, ◌≤◌, Bool, true, false, cond, not, ◌&&◌, nat_eq, List, [], ◌∷◌, ◌++◌, Contains, Option, Some, None, refl, sym, ap, ◌∙◌, ◌⊎◌, inl, inr, subst, arith}
+use Rattle.std.proofs.Common.{◌≡◌, ◌≢◌, ℕ, ◌+◌, ◌≤◌, Bool, true, false, cond, not, ◌&&◌, List, [], ◌∷◌, ◌++◌, Contains, Option, Some, None, refl, inl, inr, subst, arith}
 use Rattle.std.proofs.lemmas.Bool.{and_parts, and_right}
 use Rattle.std.proofs.lemmas.List.Elements.{All-contains}
 use Rattle.ert_defs.specs.Actors.{has_actor}
-use Rattle.ert_defs.specs.Laws.{AreInOrder, MayMove, is_armed, has_settled, settlings, LawOfMoves, LawOfSettling, LawOfSettled, LawOfRows, LawOfSlots}
+use Rattle.ert_defs.specs.Laws.{MayMove, is_armed, has_settled, settlings, LawOfMoves, LawOfSettling, LawOfSettled, LawOfRows, LawOfSlots}
 use Rattle.ert_defs.specs.Legal.{Can, Known, LegalFrom, Legal}
 use Rattle.ert_defs.specs.States.{State, opening, next, run, state}
-use Rattle.ert_defs.specs.Timers.{Row, same_timer, status_after, timer_at}
-use Rattle.ert_defs.proofs.Rows.{AreRows, IsRow, rows_hold}
+use Rattle.ert_defs.specs.Timers.{Row, same_timer, status_after}
+use Rattle.ert_defs.proofs.Rows.{IsRow, rows_hold}
 use Rattle.ert_defs.proofs.Runs.{carry, state-append, legal_first, legal_then, legal_one_more}
 use Rattle.ert_defs.proofs.Slots.{IsOrdered, same_timer-true, ordered, ordered_next, ordered_opening}
-use Rattle.ert_defs.proofs.Statuses.{Forward, arms, forward_after, forward_may}
+use Rattle.ert_defs.proofs.Statuses.{forward_after, forward_may}
 use Rattle.ert_defs.specs.declared.entry.Actor.{Actor}
 use Rattle.ert_defs.specs.declared.entry.Actor.TheVariants.{Wheel}
 use Rattle.ert_defs.specs.declared.entry.Entry.{Entry}
@@ -69,7 +69,7 @@ settled_moves (Some Dropped) y may settled = rw may refl
 settles_moves : (x y : Option Status) → MayMove x y → (is_armed x && not (is_armed y)) ≡ true → has_settled y ≡ true
 settles_moves (Some Armed) y may settles =
     elim may [
-        inl a ↦ let no : false ≡ true = rw a at settles in absurd cc
+      | inl a ↦ let no : false ≡ true = rw a at settles in absurd cc
       | inr b ↦ elim b [ inl c ↦ rw c refl | inr d ↦ elim d [ inl i ↦ rw i refl | inr j ↦ rw j refl ] ]
     ]
 settles_moves x y may settles = absurd cc
@@ -125,7 +125,7 @@ pub row_was_armed : (g : Settings) (h : List Entry) (w : ℕ) (row : Row) → Le
 row_was_armed g h w row legal in_rows =
     let is = All-contains (IsRow w ((state g h).last w)) ((state g h).rows w) row (rows_hold g h w legal).each in_rows in
     let within : row.timer.generation ≤ (state g h).last row.timer.wheel row.timer.slot =
-        carry (λ x. row.timer.generation ≤ (state g h).last x row.timer.slot) is.wheel is.within in
+    carry (λ x. row.timer.generation ≤ (state g h).last x row.timer.slot) is.wheel is.within in
     (ordered g h legal row.timer.wheel row.timer.slot).used row.timer.generation is.first within
 
 not_armed_settled : (x : Option Status) → x ≢ None → x ≢ Some Armed → has_settled x ≡ true

@@ -1,14 +1,14 @@
 -- The generations of a slot are used one after the other.
 
-use Rattle.std.proofs.Common.{◌≡◌, ◌≢◌, ℕ, ◌+◌, ◌<◌, ◌≤◌, Bool, true, false, cond, ◌&&◌, nat_eq, List, Option, Some, None, refl, sym, ap, ◌∙◌, ◌⊎◌, inl, inr, subst₂, arith, eqb-true, eq-eqb, ne_eqb}
-use Rattle.std.proofs.lemmas.Bool.{and_parts, and_right, cases_eq}
+use Rattle.std.proofs.Common.{◌≡◌, ◌≢◌, ℕ, ◌+◌, Bool, true, false, cond, ◌&&◌, nat_eq, List, Option, Some, refl, ap, ◌∙◌, inl, inr, subst₂, arith, eqb-true, eq-eqb, ne_eqb}
+use Rattle.std.proofs.lemmas.Bool.{and_parts, cases_eq}
 use Rattle.ert_defs.specs.Actors.{has_actor}
-use Rattle.ert_defs.specs.Laws.{AreInOrder, MayMove}
+use Rattle.ert_defs.specs.Laws.{AreInOrder}
 use Rattle.ert_defs.specs.Legal.{Can, CanArm, Known, Legal}
 use Rattle.ert_defs.specs.States.{State, opening, next, state}
 use Rattle.ert_defs.specs.Timers.{same_timer, status_after, last_after, is_taken, timer_at}
 use Rattle.ert_defs.proofs.Runs.{kept_from}
-use Rattle.ert_defs.proofs.Statuses.{Forward, arms, forward_after, forward_free, forward_not_none, forward_may}
+use Rattle.ert_defs.proofs.Statuses.{Forward, forward_after, forward_free, forward_not_none}
 use Rattle.ert_defs.specs.declared.entry.Actor.{Actor}
 use Rattle.ert_defs.specs.declared.entry.Actor.TheVariants.{Wheel}
 use Rattle.ert_defs.specs.declared.entry.Entry.{Entry}
@@ -48,11 +48,11 @@ order_armed status last generation next free h =
     record {
       none = rw (other 0 (omega arith)) h.none;
       used = λ n low high. elim (cases_eq generation n) [
-          inl is ↦ rw (eq-eqb generation n is) (λ no. cc)
+        | inl is ↦ rw (eq-eqb generation n is) (λ no. cc)
         | inr not ↦ rw (other n not) (h.used n low (omega arith))
       ];
       free = λ n below. rw (other n (omega arith)) (elim (cases_eq n last) [
-          inl is ↦ rw is free
+        | inl is ↦ rw is free
         | inr not ↦ h.free n (omega arith)
       ]);
       unused = λ n above. rw (other n (omega arith)) (h.unused n (omega arith));
@@ -62,7 +62,7 @@ order_armed status last generation next free h =
 abbrev pub CanUse : (ℕ → Option Status) → ℕ → ℕ → Type 0
 CanUse status last generation = (generation ≡ last + 1) × (is_taken (status last) ≡ false)
 
-can_use : (g : Settings) (s : State) (by : Actor) (timer : TimerRef) (deadline : Option ℕ) (w k : ℕ) → CanArm g s by timer deadline
+pub can_use : (g : Settings) (s : State) (by : Actor) (timer : TimerRef) (deadline : Option ℕ) (w k : ℕ) → CanArm g s by timer deadline
     → (nat_eq timer.wheel w && nat_eq timer.slot k) ≡ true
     → CanUse (λ n. s.status (timer_at w k n)) (s.last w k) timer.generation
 can_use g s by timer deadline w k can is =

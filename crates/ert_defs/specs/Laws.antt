@@ -1,11 +1,12 @@
 -- The laws of histories that don't concern the clock's numbers: what a stranger may expect of the model.
 
-use Rattle.std.specs.Prelude.{◌≡◌, ◌≢◌, ◌⊎◌, ◌↔◌, ℕ, ◌+◌, ◌<◌, ◌≤◌, Bool, true, false, cond, not, ◌&&◌, Contains, List, [], ◌∷◌, ◌++◌, Option, Some, None}
+use Rattle.std.specs.Prelude.{◌≡◌, ◌≢◌, ◌⊎◌, ◌↔◌, ℕ, ◌+◌, ◌<◌, ◌≤◌, Bool, true, false, cond, not, ◌&&◌, All, AllPairs, Contains, List, [], ◌∷◌, ◌++◌, Option, Some, None}
 use Rattle.ert_defs.specs.Actors.{IsFreeOf}
 use Rattle.ert_defs.specs.Legal.{Keeps, Known, Found, Can, LegalFrom, Legal}
 use Rattle.ert_defs.specs.States.{State, opening, next, run, state}
-use Rattle.ert_defs.specs.Timers.{Row, is_taken, timer_at}
+use Rattle.ert_defs.specs.Timers.{Row, row_of, is_taken, timer_at}
 use Rattle.ert_defs.specs.declared.entry.Entry.{Entry}
+use Rattle.ert_defs.specs.declared.entry.Event.TheVariants.{Deliver, Drop}
 use Rattle.ert_defs.specs.declared.settings.Settings.{Settings}
 use Rattle.ert_defs.specs.declared.timer.Status.{Status}
 use Rattle.ert_defs.specs.declared.timer.Status.TheVariants.{Armed, Expired, Delivered, Cancelled, Orphaned, Dropped}
@@ -98,3 +99,25 @@ pub record AreInOrder (status : ℕ → Option Status) (last : ℕ) : Type 0 whe
 abbrev pub LawOfSlots : Type 0
 LawOfSlots = (g : Settings) (h : List Entry) (w k : ℕ) → Legal g h
     → AreInOrder (λ n. (state g h).status (timer_at w k n)) ((state g h).last w k)
+
+-- an expired timer that waits at a scheduler: a row of that scheduler's wheel, and the last timer of its slot
+pub record IsFired (s : State) (w : ℕ) (row : Row) : Type 0 where
+  pub expired : s.status row.timer ≡ Some Expired
+  pub wheel : row.timer.wheel ≡ w
+  pub stands : row_of (s.rows w) row.timer ≡ Some row
+  pub last : row.timer.generation ≡ s.last w row.timer.slot
+
+-- these rows are expired timers that wait at a scheduler, and none stands there twice
+pub record AreFired (s : State) (w : ℕ) (fired : List Row) : Type 0 where
+  pub each : All (IsFired s w) fired
+  pub once : AllPairs (λ a b. a.timer ≢ b.timer) fired
+
+-- the expired timers of each scheduler
+abbrev pub LawOfFired : Type 0
+LawOfFired = (g : Settings) (h : List Entry) (w : ℕ) → Legal g h → AreFired (state g h) w ((state g h).scheds w).fired
+
+-- what is delivered or dropped was expired, so neither ever misses
+abbrev pub LawOfHanding : Type 0
+LawOfHanding = (g : Settings) (h : List Entry) (e : Entry) (timer : TimerRef) → Legal g (h ++ e ∷ [])
+    → (e.event ≡ Deliver timer) ⊎ (e.event ≡ Drop timer)
+    → (state g h).status timer ≡ Some Expired
