@@ -6,7 +6,7 @@ use Rattle.std.proofs.lemmas.List.Elements.{All-nil, All-push, All-head}
 use Rattle.std.proofs.lemmas.List.Quantifiers.{all_pairs_push}
 use Rattle.ert_defs.specs.Actors.{has_actor, is_with, same_actor}
 use Rattle.std.proofs.Math.Bool.{or-false}
-use Rattle.ert_defs.specs.Laws.{AreInOrder, IsFired, AreFired, LawOfFired, LawOfHanding}
+use Rattle.ert_defs.specs.Laws.{AreInOrder, IsFired, AreFired, LawOfFired, LawOfDelivery, LawOfDrop}
 use Rattle.ert_defs.specs.Legal.{Can, IsFirst, Known}
 use Rattle.ert_defs.specs.Mails.{others_of, first_of, sched_after, with_row}
 use Rattle.ert_defs.specs.States.{State, opening, next, state}
@@ -14,7 +14,7 @@ use Rattle.ert_defs.specs.Timers.{Row, row_of, same_timer, is_taken, timer_at}
 use Rattle.ert_defs.proofs.FiredTimers.{cond_same, same_timer_self, same_timer-false, row_named, row_kept, hands, all_stay, fired_others}
 use Rattle.ert_defs.proofs.Lists.{pairs_head}
 use Rattle.ert_defs.proofs.Rows.{Differ}
-use Rattle.ert_defs.proofs.Runs.{carry, kept_from, legal_one_more}
+use Rattle.ert_defs.proofs.Runs.{carry, kept_from, legal_one_more, state-append}
 use Rattle.ert_defs.proofs.Slots.{IsOrdered, ordered, ordered_next, ordered_opening}
 use Rattle.ert_defs.specs.declared.entry.Actor.{Actor}
 use Rattle.ert_defs.specs.declared.entry.Actor.TheVariants.{Wheel, Sched}
@@ -22,17 +22,17 @@ use Rattle.ert_defs.specs.declared.entry.Entry.{Entry}
 use Rattle.ert_defs.specs.declared.entry.Event.{Event}
 use Rattle.ert_defs.specs.declared.entry.Event.TheVariants.{Expire, Deliver, Drop}
 use Rattle.ert_defs.specs.declared.settings.Settings.{Settings}
-use Rattle.ert_defs.specs.declared.timer.Status.TheVariants.{Armed, Expired}
+use Rattle.ert_defs.specs.declared.timer.Status.TheVariants.{Armed, Expired, Delivered, Dropped}
 use Rattle.ert_defs.specs.declared.timer.TimerRef.{TimerRef}
 
 -- an event that is by a scheduler has no other
-sched_of : (e : Entry) (v w : ℕ) → e.by ≡ Sched v → is_with e.with (Sched w) ≡ false → has_actor e (Sched w) ≡ true → v ≡ w
+pub sched_of : (e : Entry) (v w : ℕ) → e.by ≡ Sched v → is_with e.with (Sched w) ≡ false → has_actor e (Sched w) ≡ true → v ≡ w
 sched_of e v w by with has =
     let P : Actor → Type 0 = λ a. (same_actor a (Sched w) || is_with e.with (Sched w)) ≡ true in
     let test : (nat_eq v w || false) ≡ true = rw with at (subst P by has) in
     eqb-true v w (rw or-false at test)
 
-has_sched : (e : Entry) (w : ℕ) → e.by ≡ Sched w → has_actor e (Sched w) ≡ true
+pub has_sched : (e : Entry) (w : ℕ) → e.by ≡ Sched w → has_actor e (Sched w) ≡ true
 has_sched e w by =
     let P : Actor → Type 0 = λ a. (same_actor a (Sched w) || is_with e.with (Sched w)) ≡ true in
     carry P by (rw (eq-eqb w w refl) refl)
@@ -76,7 +76,7 @@ taken_last s t ordered taken =
     ]
 
 -- the entry by an actor with another
-abbrev made : Actor → Option Actor → Event → Entry
+abbrev pub made : Actor → Option Actor → Event → Entry
 made by with event = record { by = by; with = with; event = event }
 
 expired_now : (g : Settings) (s : State) (by : Actor) (with : Option Actor) (timer : TimerRef) (row : Row) → IsOrdered s
@@ -192,16 +192,19 @@ pub first_has_expired : (s : State) (w : ℕ) (timer : TimerRef) → AreFired s 
 first_has_expired s w timer h first =
     subst (λ t. s.status t ≡ Some Expired) first.named (first_is_fired s w timer h first).expired
 
-pub handed_has_expired : LawOfHanding
-handed_has_expired g h e timer legal is =
+-- so a delivery and a drop find it expired
+pub delivery_hits : LawOfDelivery
+delivery_hits g h e r legal is =
     let parts = (legal_one_more g h e).0 legal in
-    let s : State = state g h in
-    let fired = fired_timers g h timer.wheel parts.0 in
-    elim is [
-      | inl deliver ↦
-          let known : Known g s e.by e.with (Deliver timer) = subst (Known g s e.by e.with) deliver parts.1.known in
-          first_has_expired s timer.wheel timer fired known.0
-      | inr drop ↦
-          let known : Known g s e.by e.with (Drop timer) = subst (Known g s e.by e.with) drop parts.1.known in
-          first_has_expired s timer.wheel timer fired known.0
-    ]
+    let known : Known g (state g h) e.by e.with (Deliver r) = subst (Known g (state g h) e.by e.with) is parts.1.known in
+    let before : (state g h).status r ≡ Some Expired =
+    first_has_expired (state g h) r.wheel r (fired_timers g h r.wheel parts.0) known.0 in
+    (before, carry (λ (s : State). s.status r ≡ Some Delivered) (state-append g h (e ∷ [])) (rw (is, before, same_timer_self r) refl))
+
+pub drop_hits : LawOfDrop
+drop_hits g h e r legal is =
+    let parts = (legal_one_more g h e).0 legal in
+    let known : Known g (state g h) e.by e.with (Drop r) = subst (Known g (state g h) e.by e.with) is parts.1.known in
+    let before : (state g h).status r ≡ Some Expired =
+    first_has_expired (state g h) r.wheel r (fired_timers g h r.wheel parts.0) known.0 in
+    (before, carry (λ (s : State). s.status r ≡ Some Dropped) (state-append g h (e ∷ [])) (rw (is, before, same_timer_self r) refl))

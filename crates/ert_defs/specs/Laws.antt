@@ -1,6 +1,6 @@
 -- The laws of histories that don't concern the clock's numbers: what a stranger may expect of the model.
 
-use Rattle.std.specs.Prelude.{◌≡◌, ◌≢◌, ◌⊎◌, ◌↔◌, ℕ, ◌+◌, ◌<◌, ◌≤◌, Bool, true, false, cond, not, ◌&&◌, All, AllPairs, Contains, List, [], ◌∷◌, ◌++◌, Option, Some, None}
+use Rattle.std.specs.Prelude.{◌≡◌, ◌≢◌, ◌⊎◌, ◌↔◌, ℕ, ◌+◌, ◌<◌, ◌≤◌, Bool, true, false, cond, not, ◌&&◌, All, AllPairs, Any, Contains, List, [], ◌∷◌, ◌++◌, Option, Some, None}
 use Rattle.ert_defs.specs.Actors.{IsFreeOf}
 use Rattle.ert_defs.specs.Legal.{Keeps, Known, Found, Can, LegalFrom, Legal}
 use Rattle.ert_defs.specs.States.{State, opening, next, run, state}
@@ -54,6 +54,7 @@ abbrev pub LawOfMoves : Type 0
 LawOfMoves = (g : Settings) (h : List Entry) (e : Entry) (r : TimerRef) → Legal g (h ++ e ∷ [])
     → MayMove ((state g h).status r) ((state g (h ++ e ∷ [])).status r)
 
+-- whether a timer is armed
 abbrev pub is_armed : Option Status → Bool
 is_armed (Some Armed) = true
 is_armed _ = false
@@ -112,12 +113,21 @@ pub record AreFired (s : State) (w : ℕ) (fired : List Row) : Type 0 where
   pub each : All (IsFired s w) fired
   pub once : AllPairs (λ a b. a.timer ≢ b.timer) fired
 
--- the expired timers of each scheduler
+-- each row in a scheduler's list is an expired timer that waits there
 abbrev pub LawOfFired : Type 0
 LawOfFired = (g : Settings) (h : List Entry) (w : ℕ) → Legal g h → AreFired (state g h) w ((state g h).scheds w).fired
 
--- what is delivered or dropped was expired, so neither ever misses
-abbrev pub LawOfHanding : Type 0
-LawOfHanding = (g : Settings) (h : List Entry) (e : Entry) (timer : TimerRef) → Legal g (h ++ e ∷ [])
-    → (e.event ≡ Deliver timer) ⊎ (e.event ≡ Drop timer)
-    → (state g h).status timer ≡ Some Expired
+-- each expired timer waits at the scheduler of its wheel
+abbrev pub LawOfWaiting : Type 0
+LawOfWaiting = (g : Settings) (h : List Entry) (r : TimerRef) → Legal g h → (state g h).status r ≡ Some Expired
+    → Any (λ row. row.timer ≡ r) ((state g h).scheds r.wheel).fired
+
+-- a delivery takes a timer from expired to delivered, and never misses
+abbrev pub LawOfDelivery : Type 0
+LawOfDelivery = (g : Settings) (h : List Entry) (e : Entry) (r : TimerRef) → Legal g (h ++ e ∷ []) → e.event ≡ Deliver r
+    → ((state g h).status r ≡ Some Expired) × ((state g (h ++ e ∷ [])).status r ≡ Some Delivered)
+
+-- a drop takes a timer from expired to dropped, and never misses
+abbrev pub LawOfDrop : Type 0
+LawOfDrop = (g : Settings) (h : List Entry) (e : Entry) (r : TimerRef) → Legal g (h ++ e ∷ []) → e.event ≡ Drop r
+    → ((state g h).status r ≡ Some Expired) × ((state g (h ++ e ∷ [])).status r ≡ Some Dropped)
