@@ -1,0 +1,15 @@
+use Rattle.std.proofs.Common.{◌≡◌, ◌+◌, ◌-◌, ◌<◌, ◌≤◌, length, vec_len}
+use Rattle.ert_io.specs.Known.{before}
+use Rattle.ert_io.proofs.reading.read_all.Given as goal
+
+-- the source went on by the bytes so far, which are one more than the limit at most
+abbrev pub invariant-pieces : goal.invariant-pieces
+invariant-pieces g l = record {
+  piece : 0 < length l.piece;
+  short : vec_len l.bytes ≤ l.limit + 1;
+  taken : g.S.Source.left l.fn.source ≡ before l.bytes.items (g.S.Source.left l.source);
+  later : g.S.Source.faults l.fn.source ≤ g.S.Source.faults l.source;
+}
+
+abbrev pub decreases-pieces : goal.decreases-pieces
+decreases-pieces g l = (l.limit + 1) - vec_len l.bytes

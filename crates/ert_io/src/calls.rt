@@ -1,0 +1,43 @@
+ghost use Rattle.std.specs.Prelude.{◌≡◌, ◌+◌, ◌≤◌, ◌↔◌, min, Contains, IsTrue};
+
+use crate::failed::Failed;
+
+/// The calls of a source or a sink in memory: which of them are to fail, how many were made, and how
+/// many failed. Both counts stop at the last value of their type.
+#[derive(Debug, Drop)]
+pub(crate) struct Calls {
+    fails: Vec<u32>,
+    made: u64,
+    faults: u64,
+}
+
+impl Calls {
+    pub(crate) fn new(fails: Vec<u32>) -> Calls
+        ensures { result ≡ record { fails = fails; made = 0; faults = 0 } }
+    {
+        Calls {
+            fails,
+            made: 0,
+            faults: 0,
+        }
+    }
+
+    /// Counts one more call, and tells whether its number, from 1, is among those that are to fail.
+    pub(crate) fn begin(&mut self) -> bool
+        ensures made { self.new ≡ record self.old { made = min (self.old.made + 1) 18446744073709551615 } }
+        ensures fails { IsTrue result ↔ Contains self.old.fails.items self.new.made }
+    {
+        self.made = self.made.saturating_add(1);
+        let made = self.made;
+        self.fails.iter().any(|number| u64::from(*number) == made)
+    }
+
+    /// Counts one more fault.
+    pub(crate) fn fail(&mut self) -> Failed
+        ensures faults { self.new ≡ record self.old { faults = min (self.old.faults + 1) 18446744073709551615 } }
+        ensures later { self.old.faults ≤ self.new.faults }
+    {
+        self.faults = self.faults.saturating_add(1);
+        Failed
+    }
+}

@@ -1,0 +1,87 @@
+ghost use Rattle.std.specs.Prelude.{◌≡◌, ◌≢◌, ℕ, ◌+◌, ◌<◌, ◌≤◌, List, Err, length, vec_len, IfOk, OnOk, OnErr, IsErrOf};
+ghost use Rattle.ert_io.specs.Faults.{Rose};
+ghost use Rattle.ert_io.specs.Known.{before, IsAtEnd};
+ghost use Rattle.ert_io.specs.declared.reading.ReadErr.TheVariants.{NoMemory};
+
+use crate::source::Source;
+use std::alloc::{AllocError, Global};
+use thiserror::Error;
+
+/// Why `read_all` gives no bytes.
+#[derive(Clone, Copy, Debug, PartialEq, Eq, Error)]
+pub enum ReadErr {
+    /// A read failed.
+    #[error("a read failed")]
+    ReadFault,
+    /// There are more bytes than the limit.
+    #[error("there are more bytes than the limit")]
+    TooLong,
+    /// There is no memory for the bytes.
+    #[error("out of memory")]
+    NoMemory,
+}
+
+impl From<AllocError> for ReadErr {
+    ghost from_gives = { λ _ e. e ≡ NoMemory };
+
+    fn from(_error: AllocError) -> ReadErr {
+        ReadErr::NoMemory
+    }
+}
+
+// How many bytes a read asks for, so that a long input takes few reads.
+const PIECE: usize = 65_536;
+
+/// Reads all bytes that a source has left, if they are `limit` at most.
+///
+/// Where they are more, it takes `limit + 1` of them and answers `TooLong`. Where a read fails or no
+/// memory is left, it doesn't say how many it took.
+pub fn read_all<S: Source>(alloc: Global, source: &mut S, limit: usize) -> Result<Vec<u8>, ReadErr>
+    ensures bytes { IfOk result (λ v. S.left source.old ≡ before v.items (S.left source.new)) }
+    ensures end { OnOk result (IsAtEnd (S.left source.new)) }
+    ensures short { IfOk result (λ v. length v.items ≤ limit) }
+    ensures too_long { IsErrOf result ReadErr.TooLong
+        → (taken : List ℕ) × (length taken ≡ limit + 1) × (S.left source.old ≡ before taken (S.left source.new)) }
+    ensures later { S.faults source.old ≤ S.faults source.new }
+    ensures cause { IsErrOf result ReadErr.ReadFault → Rose (S.faults source.old) (S.faults source.new) }
+{
+    let mut space = zeros(alloc, PIECE)?;
+    let piece = space.as_mut_slice();
+    let mut bytes = Vec::new(alloc);
+    'pieces: while bytes.len() <= limit {
+        let wanted = (limit - bytes.len()).saturating_add(1).min(piece.len());
+        if append_piece(source, &mut piece[..wanted], &mut bytes)? == 0 {
+            return Ok(bytes);
+        }
+    }
+    Err(ReadErr::TooLong)
+}
+
+// One read, by way of `space`: how many bytes it appended, 0 at the source's end.
+fn append_piece<S: Source>(
+    source: &mut S,
+    space: &mut [u8],
+    bytes: &mut Vec<u8>,
+) -> Result<usize, ReadErr>
+    requires { 0 < length space.old }
+    ensures bound { IfOk result (λ n. n ≤ length space.old) }
+    ensures count { IfOk result (λ n. vec_len bytes.new ≡ vec_len bytes.old + n) }
+    ensures taken { OnOk result (before bytes.old.items (S.left source.old) ≡ before bytes.new.items (S.left source.new)) }
+    ensures end { IfOk result (λ n. n ≡ 0 → IsAtEnd (S.left source.new)) }
+    ensures not_long { OnErr result (result ≢ Err ReadErr.TooLong) }
+    ensures later { S.faults source.old ≤ S.faults source.new }
+    ensures cause { IsErrOf result ReadErr.ReadFault → Rose (S.faults source.old) (S.faults source.new) }
+{
+    let Ok(count) = source.read(space) else {
+        return Err(ReadErr::ReadFault);
+    };
+    bytes.extend_from_slice(&space[..count])?;
+    Ok(count)
+}
+
+// A function of its own, so that no other proof sees so many zeros.
+fn zeros(alloc: Global, count: usize) -> Result<Vec<u8>, AllocError>
+    ensures { IfOk result (λ v. vec_len v ≡ count) }
+{
+    vec![in alloc; 0u8; count]
+}

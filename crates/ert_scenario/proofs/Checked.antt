@@ -1,0 +1,89 @@
+-- The tests of the ranges, and the facts that they test.
+
+use Rattle.std.proofs.Common.{◌≡◌, ◌&&◌, ◌≤◌, ℕ, ℤ, ◌≤ℤ◌, ◌<ℤ◌, true, false, Result, Ok, Err, is_ok, leb, int_le, int_lt, leb-true, le-leb, arith, refl}
+use Rattle.std.proofs.lemmas.Bool.{false≢true}
+use Rattle.std.proofs.lemmas.Int.{ints}
+use Rattle.std.specs.Bool.{Decides}
+use Rattle.std.proofs.lemmas.Bool.Decides.{Decides-and, Decides-like, Decides-int_eq, same_from_decides}
+use Rattle.ert_defs.specs.Readings.{IsValid}
+use Rattle.ert_defs.specs.Settings.{IsStart, HasCounts, IsChecked, Checks}
+use Rattle.ert_defs.specs.declared.settings.Reading.{Reading}
+use Rattle.ert_defs.specs.declared.settings.Settings.{Settings}
+use Rattle.ert_defs.specs.declared.settings.SettingsFault.{SettingsFault}
+use Rattle.ert_defs.specs.declared.settings.SettingsFault.TheVariants.{Start, First, Count}
+use Rattle.ert_scenario.specs.Ranges.{is_reading, is_start, has_counts, is_checked}
+
+Decides-nat_le : (a b : ℕ) → Decides (leb a b) (a ≤ b)
+Decides-nat_le a b = (leb-true a b, le-leb a b)
+
+Decides-int_le : (a b : ℤ) → Decides (int_le a b) (a ≤ℤ b)
+Decides-int_le a b = grind (arith, ints)
+
+Decides-int_lt : (a b : ℤ) → Decides (int_lt a b) (a <ℤ b)
+Decides-int_lt a b = grind (arith, ints)
+
+Decides-reading : (r : Reading) → Decides (is_reading r) (IsValid r)
+unfolding is_reading
+Decides-reading r =
+    Decides-like _
+    (λ p. record { mono_low = p.0.0; mono_high = p.0.1; sys_low = p.1.0; sys_high = p.1.1 })
+    (λ h. ((h.mono_low, h.mono_high), (h.sys_low, h.sys_high)))
+    (Decides-and _ _
+    (Decides-and _ _ (Decides-int_le _ _) (Decides-int_lt _ _))
+    (Decides-and _ _ (Decides-int_lt _ _) (Decides-int_lt _ _)))
+
+Decides-start : (start : ℤ) → Decides (is_start start) (IsStart start)
+unfolding is_start
+Decides-start start =
+    Decides-like _
+    (λ p. record { whole = p.0; low = p.1.0; high = p.1.1 })
+    (λ h. (h.whole, (h.low, h.high)))
+    (Decides-and _ _ (Decides-int_eq _ _) (Decides-and _ _ (Decides-int_le _ _) (Decides-int_le _ _)))
+
+within : (low value high : ℕ) → Decides (leb low value && leb value high) ((low ≤ value) × (value ≤ high))
+within low value high = Decides-and _ _ (Decides-nat_le low value) (Decides-nat_le value high)
+
+Decides-counts : (g : Settings) → Decides (has_counts g) (HasCounts g)
+unfolding has_counts
+Decides-counts g =
+    Decides-like _
+    (λ p. record {
+      schedulers_low = p.0.0;
+      schedulers_high = p.0.1;
+      processes_low = p.1.0.0;
+      processes_high = p.1.0.1;
+      slots_low = p.1.1.0.0;
+      slots_high = p.1.1.0.1;
+      slots_in_all = p.1.1.1.0;
+      callers_low = p.1.1.1.1.0;
+      callers_high = p.1.1.1.1.1;
+    })
+    (λ h. (
+      (h.schedulers_low, h.schedulers_high),
+      (
+        (h.processes_low, h.processes_high),
+        ((h.slots_low, h.slots_high), (h.slots_in_all, (h.callers_low, h.callers_high))),
+      ),
+    ))
+    (Decides-and _ _ (within 1 g.schedulers 64)
+    (Decides-and _ _ (within 1 g.processes 1024)
+    (Decides-and _ _ (within 1 g.slots 65536)
+    (Decides-and _ _ (Decides-nat_le _ _) (within 1 g.callers 17)))))
+
+pub Decides-checked : (g : Settings) → Decides (is_checked g) (IsChecked g)
+unfolding is_checked
+Decides-checked g =
+    Decides-like _
+    (λ p. record { start = p.0; first = p.1.0; counts = p.1.1 })
+    (λ h. (h.start, (h.first, h.counts)))
+    (Decides-and _ _ (Decides-start g.start) (Decides-and _ _ (Decides-reading g.first) (Decides-counts g)))
+
+never : (g : Settings) → (IsChecked g → ⊥) → false ≡ is_checked g
+never g not = same_from_decides false (is_checked g) (λ h. absurd (false≢true h), λ h. absurd (not h)) (Decides-checked g)
+
+-- what the check of settings answers is the test
+pub is_ok_check : (answer : Result (Unit {0}) SettingsFault) (g : Settings) → Checks g answer → is_ok answer ≡ is_checked g
+is_ok_check (Ok _) g h = same_from_decides true (is_checked g) (λ _. h, λ _. refl) (Decides-checked g)
+is_ok_check (Err Start) g h = never g (λ c. h c.start)
+is_ok_check (Err First) g h = never g (λ c. h.1 c.first)
+is_ok_check (Err Count) g h = never g (λ c. h.2 c.counts)

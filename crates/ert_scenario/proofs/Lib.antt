@@ -1,0 +1,4 @@
+pub mod Checked
+pub mod Listed
+pub mod Members
+pub mod Refused

@@ -1,0 +1,60 @@
+-- A verdict that refuses is a refusal of the bytes.
+
+use Rattle.std.proofs.Common.{◌≡◌, ◌≢◌, ℕ, List, Option, Some, None, Result, Ok, Err, IfErr, subst}
+use Rattle.serde_json.specs.Data.{Data}
+use Rattle.ert_defs.specs.declared.settings.Settings.{Settings}
+use Rattle.ert_scenario.specs.Fields.{settings_of, op_items}
+use Rattle.ert_scenario.specs.Kinds.{Found}
+use Rattle.ert_scenario.specs.Scenarios.{Verdict, IsValue, HasRefusal, refused, over, judged, judged_all, verdict_of}
+use Rattle.ert_scenario.specs.Walks.{first_shape, first_range, founds_of}
+use Rattle.ert_scenario.specs.declared.fault.Fault.TheVariants as faults
+use Rattle.ert_scenario.specs.declared.op.Op.{Op}
+use Rattle.ert_scenario.specs.declared.scenario.Scenario.{Scenario}
+use Rattle.ert_scenario.specs.declared.scenario.ScenarioErr.{ScenarioErr}
+use Rattle.ert_scenario.specs.declared.scenario.ScenarioErr.TheVariants.{Json, Shape, Range, Limit, NoMemory}
+
+-- the refusal names a place
+abbrev HasPlace : ScenarioErr → Type 0
+HasPlace Json = ⊥
+HasPlace (Shape place) = Unit {0}
+HasPlace (Range place) = Unit {0}
+HasPlace (Limit place) = Unit {0}
+HasPlace NoMemory = ⊥
+
+-- a verdict that refuses names a place
+abbrev NamesPlace : Verdict → Type 0
+NamesPlace verdict = IfErr verdict HasPlace
+
+NamesPlace-refused : (why : ℕ → ScenarioErr) (found : Option ℕ) (otherwise : Verdict)
+    → ((place : ℕ) → HasPlace (why place)) → NamesPlace otherwise → NamesPlace (refused why found otherwise)
+NamesPlace-refused why None otherwise names h = h
+NamesPlace-refused why (Some place) otherwise names h = names place
+
+NamesPlace-judged : (settings : Found Settings) (founds : List (Found Op)) → NamesPlace (judged settings founds)
+NamesPlace-judged (Err faults.Shape) founds = tt
+NamesPlace-judged (Err faults.Range) founds = NamesPlace-refused Shape (first_shape 1 founds) _ (λ _. tt) tt
+NamesPlace-judged (Ok settings) founds =
+    NamesPlace-refused Shape (first_shape 1 founds) _ (λ _. tt)
+    (NamesPlace-refused Range (first_range 1 founds) _ (λ _. tt)
+    (NamesPlace-refused Limit (over founds) _ (λ _. tt) tt))
+
+NamesPlace-judged_all : (settings : Found Settings) (items : Found (List Data)) → NamesPlace (judged_all settings items)
+NamesPlace-judged_all settings (Ok items) = NamesPlace-judged settings (founds_of items)
+NamesPlace-judged_all settings (Err fault) = tt
+
+names_place : (d : Data) (e : ScenarioErr) → verdict_of d ≡ Err e → HasPlace e
+unfolding verdict_of
+names_place d e is = let P : Verdict → Type 0 = NamesPlace in subst P is (NamesPlace-judged_all (settings_of d) (op_items d))
+
+HasRefusal-value : (bytes : List ℕ) (d : Data) (e : ScenarioErr) → IsValue bytes d → HasPlace e → verdict_of d ≡ Err e → HasRefusal bytes e
+HasRefusal-value bytes d Json value named is = absurd named
+HasRefusal-value bytes d (Shape place) value named is = (d, value, is)
+HasRefusal-value bytes d (Range place) value named is = (d, value, is)
+HasRefusal-value bytes d (Limit place) value named is = (d, value, is)
+HasRefusal-value bytes d NoMemory value named is = absurd named
+
+-- what refuses the value refuses the bytes
+pub refused_bytes : (bytes : List ℕ) (d : Data) (answer : Result Scenario ScenarioErr) → IsValue bytes d
+    → IfErr answer (λ e. e ≢ NoMemory → verdict_of d ≡ Err e) → IfErr answer (λ e. e ≢ NoMemory → HasRefusal bytes e)
+refused_bytes bytes d (Ok s) value h = tt
+refused_bytes bytes d (Err e) value h = λ other. HasRefusal-value bytes d e value (names_place d e (h other)) (h other)

@@ -1,0 +1,89 @@
+-- What an argument or a field is read as, or the fault that it has.
+
+use Rattle.std.specs.Prelude.{ℕ, ℤ, List, [], ◌∷◌, Bool, true, false, Option, Some, None, Result, Ok, Err, option_map, option_and_then}
+use Rattle.serde_json.specs.Data.{Data, Items, no_items, item}
+use Rattle.serde_json.specs.Find.{as_number, as_i64, as_bool, as_str, as_array}
+use Rattle.ert_defs.specs.declared.settings.Reading.{Reading}
+use Rattle.ert_scenario.specs.declared.fault.Fault.{Fault}
+use Rattle.ert_scenario.specs.declared.fault.Fault.TheVariants.{Shape, Range}
+
+-- what was read, or its fault
+abbrev pub Found : Type 0 → Type 0
+Found X = Result X Fault
+
+-- what was read, seen by `f`
+abbrev pub found_map : {A B : Type 0} → (A → B) → Found A → Found B
+found_map f (Ok a) = Ok (f a)
+found_map f (Err fault) = Err fault
+
+-- the next step, with what was read
+infixl 10 ◌>>=◌
+abbrev pub ◌>>=◌ : {A B : Type 0} → Found A → (A → Found B) → Found B
+(Ok a) >>= next = next a
+(Err fault) >>= next = Err fault
+
+-- two readings together: a shape fault of either counts before a range fault of the other
+unfoldable pub both : {A B : Type 0} → Found A → Found B → Found (A × B)
+both (Ok a) (Ok b) = Ok (a, b)
+both (Ok a) (Err fault) = Err fault
+both (Err Shape) second = Err Shape
+both (Err Range) (Ok b) = Err Range
+both (Err Range) (Err fault) = Err fault
+
+-- a value that isn't of the kind is a shape fault
+unfoldable pub of_kind : {X : Type 0} → Option X → Found X
+of_kind None = Err Shape
+of_kind (Some x) = Ok x
+
+-- a value outside its range is a range fault
+unfoldable pub in_range : {X : Type 0} → Bool → X → Found X
+in_range true x = Ok x
+in_range false x = Err Range
+
+-- an integer of 64 bits
+unfoldable pub integer : Option Data → Found ℤ
+integer value = of_kind (option_and_then as_i64 (option_and_then as_number value))
+
+abbrev only_false : Bool → Option Bool
+only_false true = None
+only_false false = Some false
+
+-- items as a list
+unfoldable pub list_of : Items → List Data
+list_of no_items = []
+list_of (item d ds) = d ∷ list_of ds
+
+-- `false`, and no other value
+unfoldable pub off : Option Data → Found Bool
+off value = of_kind (option_and_then only_false (option_and_then as_bool value))
+
+-- the items of an array
+unfoldable pub listed : Option Data → Found (List Data)
+listed value = of_kind (option_map list_of (option_and_then as_array value))
+
+-- the text of a string
+unfoldable pub text : Option Data → Found (List ℕ)
+text value = of_kind (option_and_then as_str value)
+
+-- the first item, and the items after it
+unfoldable pub head : List Data → Option Data
+head [] = None
+head (d ∷ ds) = Some d
+
+unfoldable pub tail : List Data → List Data
+tail [] = []
+tail (d ∷ ds) = ds
+
+-- one argument, and then the others
+infixr 20 ◌▹◌
+abbrev pub ◌▹◌ : {A B : Type 0} → (Option Data → Found A) → (List Data → Found B) → List Data → Found (A × B)
+(kind ▹ others) args = both (kind (head args)) (others (tail args))
+
+-- no further argument
+unfoldable pub end : List Data → Found (Unit {0})
+end [] = Ok tt
+end (d ∷ ds) = Err Shape
+
+-- an array of two integers, as a reading that may be out of range
+abbrev pub reading : Option Data → Found Reading
+reading value = listed value >>= (λ items. (integer ▹ integer ▹ end) items >>= (λ p. Ok (record { mono = p.0; sys = p.1.0 })))

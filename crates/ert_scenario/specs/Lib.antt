@@ -1,0 +1,7 @@
+pub mod Fields
+pub mod Kinds
+pub mod Ranges
+pub mod Rows
+pub mod Scenarios
+pub mod Walked
+pub mod Walks

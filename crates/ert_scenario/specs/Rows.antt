@@ -1,0 +1,34 @@
+-- The ops of a scenario: a row for each.
+
+use Rattle.std.specs.Prelude.{ℕ, List, [], ◌∷◌, codes, Some, Ok, Err, if◌then◌else◌}
+use Rattle.std.specs.Str.{bytes_eq}
+use Rattle.serde_json.specs.Data.{Data}
+use Rattle.ert_scenario.specs.Kinds.{Found, ◌>>=◌, ◌▹◌, integer, in_range, listed, text, head, tail, end}
+use Rattle.ert_scenario.specs.Ranges.{is_reading}
+use Rattle.ert_scenario.specs.declared.fault.Fault.TheVariants.{Shape}
+use Rattle.ert_scenario.specs.declared.op.Op.{Op}
+use Rattle.ert_scenario.specs.declared.op.Op.TheVariants.{Tick, Time}
+
+-- an op without arguments
+abbrev pub plain : Op → List Data → Found Op
+plain op args = end args >>= (λ _. Ok op)
+
+-- `["tick",mono,sys]`, with a valid reading
+abbrev pub tick_row : List Data → Found Op
+tick_row args = (integer ▹ integer ▹ end) args >>= (λ p. in_range (is_reading (record { mono = p.0; sys = p.1.0 })) (Tick p.0 p.1.0))
+
+-- the name of each op, and how its arguments are read
+abbrev pub op_rows : List (List ℕ × (List Data → Found Op))
+op_rows =
+    (codes "tick", tick_row)
+    ∷ (codes "time", plain Time)
+    ∷ []
+
+-- the row of this name
+abbrev pub named : List ℕ → List (List ℕ × (List Data → Found Op)) → List Data → Found Op
+named name [] args = Err Shape
+named name (row ∷ rows) args = if bytes_eq name row.0 then row.1 args else named name rows args
+
+-- the op that a value is
+unfoldable pub op_of : Data → Found Op
+op_of d = listed (Some d) >>= (λ items. text (head items) >>= (λ name. named name op_rows (tail items)))

@@ -1,0 +1,113 @@
+//! What an argument or a field is read as: a function for each kind of value, and those that join them.
+
+ghost use Rattle.std.specs.Prelude.{◌≡◌, map, option_map};
+ghost use Rattle.serde_json.specs.View.{view};
+ghost use Rattle.ert_scenario.specs.Kinds.{found_map, both, of_kind, in_range, integer, off, listed, text, head, tail, end, reading};
+
+use crate::fault::Fault;
+use ert_defs::Reading;
+use serde_json::Value;
+
+/// Two readings together: a shape fault of either counts before a range fault of the other.
+#[tactic(auto, unfolding(crate::specs::Kinds::both))]
+pub(crate) fn both<A: Drop, B: Drop>(
+    first: Result<A, Fault>,
+    second: Result<B, Fault>,
+) -> Result<(A, B), Fault>
+    ensures { result ≡ both first second }
+{
+    match first {
+        Ok(a) => second.map(|b| (a, b)),
+        Err(Fault::Shape) => Err(Fault::Shape),
+        Err(Fault::Range) => Err(second.err().unwrap_or(Fault::Range)),
+    }
+}
+
+/// A value that isn't of the kind is a shape fault.
+#[tactic(auto, unfolding(crate::specs::Kinds::of_kind))]
+fn of_kind<T: Drop>(value: Option<T>) -> Result<T, Fault>
+    ensures { result ≡ of_kind value }
+{
+    value.ok_or(Fault::Shape)
+}
+
+/// A value outside its range is a range fault.
+#[tactic(auto, unfolding(crate::specs::Kinds::in_range))]
+pub(crate) fn in_range<T: Drop>(fits: bool, value: T) -> Result<T, Fault>
+    ensures { result ≡ in_range fits value }
+{
+    if fits { Ok(value) } else { Err(Fault::Range) }
+}
+
+/// An integer of 64 bits.
+#[tactic(auto, unfolding(crate::specs::Kinds::integer))]
+pub(crate) fn integer(value: Option<&Value>) -> Result<i64, Fault>
+    ensures { result ≡ integer (option_map (λ v. view v.now) value.entry) }
+{
+    of_kind(value.and_then(Value::as_i64))
+}
+
+/// `false`, and no other value.
+#[tactic(auto, unfolding(crate::specs::Kinds::off, crate::specs::Kinds::of_kind))]
+pub(crate) fn off(value: Option<&Value>) -> Result<bool, Fault>
+    ensures { result ≡ off (option_map (λ v. view v.now) value.entry) }
+{
+    match value.and_then(Value::as_bool) {
+        Some(false) => Ok(false),
+        Some(true) | None => Err(Fault::Shape),
+    }
+}
+
+/// The items of an array.
+#[tactic(auto, using(crate::proofs::Listed::list_of_items), unfolding(crate::specs::Kinds::listed, crate::specs::Kinds::of_kind))]
+pub(crate) fn listed(value: Option<&Value>) -> Result<&[Value], Fault>
+    ensures { found_map (λ items. map view items.now) result
+        ≡ listed (option_map (λ v. view v.now) value.entry) }
+{
+    match value.and_then(Value::as_array) {
+        Some(items) => Ok(items.as_slice()),
+        None => Err(Fault::Shape),
+    }
+}
+
+/// The text of a string.
+#[tactic(auto, unfolding(crate::specs::Kinds::text, crate::specs::Kinds::of_kind))]
+pub(crate) fn text(value: Option<&Value>) -> Result<&str, Fault>
+    ensures { found_map (λ s. s.now) result ≡ text (option_map (λ v. view v.now) value.entry) }
+{
+    of_kind(value.and_then(Value::as_str))
+}
+
+/// The next argument, and those after it.
+#[tactic(auto, unfolding(crate::specs::Kinds::head, crate::specs::Kinds::tail))]
+pub(crate) fn next(args: &[Value]) -> (Option<&Value>, &[Value])
+    ensures first { option_map (λ v. view v.now) result.0 ≡ head (map view args.now) }
+    ensures others { map view result.1.now ≡ tail (map view args.now) }
+{
+    match args {
+        [first, others @ ..] => (Some(first), others),
+        [] => (None, args),
+    }
+}
+
+/// No further argument.
+#[tactic(auto, unfolding(crate::specs::Kinds::end))]
+pub(crate) fn end(args: &[Value]) -> Result<(), Fault>
+    ensures { result ≡ end (map view args.now) }
+{
+    if args.is_empty() {
+        Ok(())
+    } else {
+        Err(Fault::Shape)
+    }
+}
+
+/// An array of two integers, as a reading that may be out of range.
+pub(crate) fn reading(value: Option<&Value>) -> Result<Reading, Fault>
+    ensures { result ≡ reading (option_map (λ v. view v.now) value.entry) }
+{
+    let (mono, items) = next(listed(value)?);
+    let (sys, items) = next(items);
+    let (mono, (sys, ())) = both(integer(mono), both(integer(sys), end(items)))?;
+    Ok(Reading { mono, sys })
+}

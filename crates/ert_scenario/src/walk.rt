@@ -1,0 +1,58 @@
+ghost use Rattle.std.specs.Prelude.{◌+◌, ◌≡◌, ◌∷◌, [], List, None, OnOk, IfOk, IfErr};
+ghost use Rattle.ert_scenario.specs.Kinds.{Found};
+ghost use Rattle.ert_scenario.specs.Walks.{first_shape};
+ghost use Rattle.ert_scenario.specs.Walked.{StandsAt, IsShapeAt};
+ghost use Rattle.ert_scenario.specs.declared.op.Op.{Op as AnOp};
+
+use crate::fault::Fault;
+use crate::op::Op;
+use crate::scenario::ScenarioErr;
+use std::alloc::Global;
+
+/// The walk over the ops of a scenario.
+///
+/// A range fault doesn't end it, since a shape fault at a later place is what counts. From then on no op
+/// is kept.
+#[derive(Drop)]
+pub(crate) struct Walk {
+    pub(crate) ops: Vec<Op>,
+    /// The place of the first range fault.
+    pub(crate) range: Option<u32>,
+}
+
+impl Walk {
+    /// A walk that has met nothing yet, with room for so many ops.
+    pub(crate) fn new(alloc: Global, room: usize) -> Result<Walk, ScenarioErr>
+        ensures empty { IfOk result (λ w. w.ops.items ≡ []) }
+        ensures faultless { IfOk result (λ w. w.range ≡ None) }
+        ensures err { IfErr result (λ e. e ≡ ScenarioErr.NoMemory) }
+    {
+        match Vec::with_capacity(alloc, room) {
+            Ok(ops) => Ok(Walk { ops, range: None }),
+            Err(_) => Err(ScenarioErr::NoMemory),
+        }
+    }
+
+    /// Takes what was found at the next place.
+    pub(crate) fn step(&mut self, place: u32, found: Result<Op, Fault>) -> Result<(), ScenarioErr>
+        ensures goes_on { OnOk result ((rest all : List (Found AnOp))
+            → StandsAt self.old place (found ∷ rest) all → StandsAt self.new (place + 1) rest all) }
+        ensures stops { IfErr result (λ e. (rest all : List (Found AnOp))
+            → StandsAt self.old place (found ∷ rest) all → IsShapeAt e (first_shape 1 all)) }
+    {
+        match found {
+            Ok(op) => {
+                if self.range.is_none() {
+                    self.ops.push(op).map_err(|_| ScenarioErr::NoMemory)?;
+                }
+            }
+            Err(Fault::Shape) => return Err(ScenarioErr::Shape(place)),
+            Err(Fault::Range) => {
+                if self.range.is_none() {
+                    self.range = Some(place);
+                }
+            }
+        }
+        Ok(())
+    }
+}
