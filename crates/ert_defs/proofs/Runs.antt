@@ -1,18 +1,14 @@
 -- The state after a history that grows at its end, and what stays of it while an actor makes no entry.
 
-use Rattle.std.proofs.Common.{◌≡◌, ℕ, ℤ, Bool, true, false, cond, ◌||◌, ◌&&◌, nat_eq, List, [], ◌∷◌, ◌++◌, filter, Option, Some, None, refl, sym, subst, ◌∙◌}
+use Rattle.std.proofs.Common.{◌≡◌, ℕ, Bool, true, false, ◌||◌, List, [], ◌∷◌, ◌++◌, filter, refl, sym, subst, ◌∙◌, ◌↔◌}
 use Rattle.ert_defs.specs.Actors.{same_actor, has_actor, IsFree}
-use Rattle.ert_defs.specs.Clocks.{Clock}
 use Rattle.ert_defs.specs.Legal.{Can, LegalFrom, Legal}
-use Rattle.ert_defs.specs.Mails.{MailState, SchedState}
 use Rattle.ert_defs.specs.States.{State, opening, next, run, state, exited_after}
-use Rattle.ert_defs.specs.Timers.{Row}
 use Rattle.ert_defs.specs.declared.entry.Actor.{Actor}
 use Rattle.ert_defs.specs.declared.entry.Actor.TheVariants.{Keeper, Wheel, Inbox, Sched, MailOf}
 use Rattle.ert_defs.specs.declared.entry.Entry.{Entry}
 use Rattle.ert_defs.specs.declared.entry.Event.{Event}
 use Rattle.ert_defs.specs.declared.entry.Event.TheVariants.{Mark}
-use Rattle.ert_defs.specs.declared.mail.Request.{Request}
 use Rattle.ert_defs.specs.declared.settings.Settings.{Settings}
 
 -- a fact of one value is a fact of an equal one
@@ -39,6 +35,23 @@ legal_first g s (e ∷ f) m h = (h.0, legal_first g (next g s e) f m h.1)
 pub legal_then : (g : Settings) (s : State) (f m : List Entry) → LegalFrom g s (f ++ m) → LegalFrom g (run g s f) m
 legal_then g s [] m h = h
 legal_then g s (e ∷ f) m h = legal_then g (next g s e) f m h.1
+
+-- a history is legal where its beginning is and what follows is, after that
+pub legal_parts : (g : Settings) (f m : List Entry) → Legal g (f ++ m) ↔ (Legal g f × LegalFrom g (state g f) m)
+legal_parts g f m = (
+  λ h. (legal_first g (opening g) f m h, legal_then g (opening g) f m h),
+  λ h. legal-append g (opening g) f m h.0 h.1,
+)
+
+-- an entry that is legal after a history makes a longer legal one
+pub legal_more : (g : Settings) (h : List Entry) (e : Entry) → Legal g h → Can g (state g h) e → Legal g (h ++ e ∷ [])
+legal_more g h e legal can = legal-append g (opening g) h (e ∷ []) legal (can, tt)
+
+pub legal_one_more : (g : Settings) (h : List Entry) (e : Entry) → Legal g (h ++ e ∷ []) ↔ (Legal g h × Can g (state g h) e)
+legal_one_more g h e = (
+  λ legal. (legal_first g (opening g) h (e ∷ []) legal, (legal_then g (opening g) h (e ∷ []) legal).0),
+  λ parts. legal_more g h e parts.0 parts.1,
+)
 
 -- what holds at the opening, and after each legal entry where it held before, holds after each legal history
 pub kept_from : (g : Settings) (P : State → Type 0) → ((s : State) (e : Entry) → P s → Can g s e → P (next g s e))

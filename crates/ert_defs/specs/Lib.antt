@@ -1,5 +1,6 @@
 pub mod Actors
 pub mod Clocks
+pub mod Laws
 pub mod Legal
 pub mod Lines
 pub mod Mails

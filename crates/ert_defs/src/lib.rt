@@ -6,11 +6,15 @@
 #![tactic(auto)]
 
 mod entry;
+mod laws;
 mod mail;
 mod settings;
 mod timer;
 
 pub use entry::{Act, Actor, Entry, Event};
+pub use laws::{
+    entries_are_local, expired_timers_wait_once, prefixes_are_legal, timers_settle_once,
+};
 pub use mail::{Mail, Request, RequestKind};
 pub use settings::{Mode, OffsetState, Reading, Settings, SettingsFault};
 pub use timer::{Fired, Kind, Start, Status, TimerRef, When};

@@ -1,0 +1,210 @@
+-- The expired timers of each scheduler after a legal history: each is expired and stands once.
+
+use Rattle.std.proofs.Common.{◌≡◌, ◌≢◌, ℕ, Bool, true, false, cond, ◌||◌, nat_eq, List, [], ◌∷◌, All, get_or, Option, Some, None, refl, sym, ap, ◌∙◌, inl, inr, subst, arith, eqb-true, eq-eqb}
+use Rattle.std.proofs.lemmas.Bool.{cases_eq, cases_order}
+use Rattle.std.proofs.lemmas.List.Elements.{All-nil, All-push, All-head}
+use Rattle.std.proofs.lemmas.List.Quantifiers.{all_pairs_push}
+use Rattle.ert_defs.specs.Actors.{has_actor, is_with, same_actor}
+use Rattle.std.proofs.Math.Bool.{or-false}
+use Rattle.ert_defs.specs.Laws.{AreInOrder, IsFired, AreFired, LawOfFired, LawOfDelivery, LawOfDrop}
+use Rattle.ert_defs.specs.Legal.{Can, IsFirst, Known}
+use Rattle.ert_defs.specs.Mails.{others_of, first_of, sched_after, with_row}
+use Rattle.ert_defs.specs.States.{State, opening, next, state}
+use Rattle.ert_defs.specs.Timers.{Row, row_of, same_timer, is_taken, timer_at}
+use Rattle.ert_defs.proofs.FiredTimers.{cond_same, same_timer_self, same_timer-false, row_named, row_kept, hands, all_stay, fired_others}
+use Rattle.ert_defs.proofs.Lists.{pairs_head}
+use Rattle.ert_defs.proofs.Rows.{Differ}
+use Rattle.ert_defs.proofs.Runs.{carry, kept_from, legal_one_more, state-append}
+use Rattle.ert_defs.proofs.Slots.{IsOrdered, ordered, ordered_next, ordered_opening}
+use Rattle.ert_defs.specs.declared.entry.Actor.{Actor}
+use Rattle.ert_defs.specs.declared.entry.Actor.TheVariants.{Wheel, Sched}
+use Rattle.ert_defs.specs.declared.entry.Entry.{Entry}
+use Rattle.ert_defs.specs.declared.entry.Event.{Event}
+use Rattle.ert_defs.specs.declared.entry.Event.TheVariants.{Expire, Deliver, Drop}
+use Rattle.ert_defs.specs.declared.settings.Settings.{Settings}
+use Rattle.ert_defs.specs.declared.timer.Status.TheVariants.{Armed, Expired, Delivered, Dropped}
+use Rattle.ert_defs.specs.declared.timer.TimerRef.{TimerRef}
+
+-- an event that is by a scheduler has no other
+pub sched_of : (e : Entry) (v w : ℕ) → e.by ≡ Sched v → is_with e.with (Sched w) ≡ false → has_actor e (Sched w) ≡ true → v ≡ w
+sched_of e v w by with has =
+    let P : Actor → Type 0 = λ a. (same_actor a (Sched w) || is_with e.with (Sched w)) ≡ true in
+    let test : (nat_eq v w || false) ≡ true = rw with at (subst P by has) in
+    eqb-true v w (rw or-false at test)
+
+pub has_sched : (e : Entry) (w : ℕ) → e.by ≡ Sched w → has_actor e (Sched w) ≡ true
+has_sched e w by =
+    let P : Actor → Type 0 = λ a. (same_actor a (Sched w) || is_with e.with (Sched w)) ≡ true in
+    carry P by (rw (eq-eqb w w refl) refl)
+
+-- a scheduler hands over its first: the others wait on
+first_handed : (g : Settings) (s : State) (e : Entry) (w : ℕ) (fired : List Row) (row : Row) → Can g s e → first_of fired ≡ Some row
+    → ((r : TimerRef) → hands e.event r ≡ same_timer row.timer r) → AreFired s w fired → AreFired (next g s e) w (others_of fired)
+first_handed g s e w [] row can first handed h = absurd cc
+first_handed g s e w (r ∷ rows) row can first handed h =
+    let same : r ≡ row = cc in
+    let apart : All (Differ r) rows = pairs_head Differ r rows h.once in
+    let others : All (λ x. hands e.event x.timer ≡ false) rows =
+    λ k d lt.
+    let x : Row = get_or rows k d in
+    handed x.timer ∙ same_timer-false row.timer x.timer (λ is. apart k d lt (ap (λ (y : Row). y.timer) same ∙ is)) in
+    all_stay g s e w rows can others (fired_others s w (r ∷ rows) h)
+
+-- another scheduler's wait on
+other_handed : (g : Settings) (s : State) (e : Entry) (w : ℕ) (rows : List Row) (timer : TimerRef) → Can g s e → timer.wheel ≢ w
+    → ((r : TimerRef) → hands e.event r ≡ same_timer timer r) → AreFired s w rows → AreFired (next g s e) w rows
+other_handed g s e w rows timer can not handed h =
+    all_stay g s e w rows can
+    (λ k d lt.
+    let x : Row = get_or rows k d in
+    handed x.timer ∙ same_timer-false timer x.timer (λ is. not (ap (λ (t : TimerRef). t.wheel) is ∙ (h.each k d lt).wheel)))
+    h
+
+-- a timer that takes its slot is the last of it
+pub taken_last : (s : State) (t : TimerRef) → IsOrdered s → is_taken (s.status t) ≡ true → t.generation ≡ s.last t.wheel t.slot
+taken_last s t ordered taken =
+    let order : AreInOrder (λ n. s.status (timer_at t.wheel t.slot n)) (s.last t.wheel t.slot) = ordered t.wheel t.slot in
+    elim (cases_order t.generation (s.last t.wheel t.slot)) [
+      | inl same ↦ same
+      | inr other ↦ elim other [
+        | inl below ↦ let free : is_taken (s.status t) ≡ false = order.free t.generation below in absurd cc
+        | inr above ↦
+            let none : s.status t ≡ None = order.unused t.generation above in
+            let no : false ≡ true = rw none at taken in
+            absurd cc
+      ]
+    ]
+
+-- the entry by an actor with another
+abbrev pub made : Actor → Option Actor → Event → Entry
+made by with event = record { by = by; with = with; event = event }
+
+expired_now : (g : Settings) (s : State) (by : Actor) (with : Option Actor) (timer : TimerRef) (row : Row) → IsOrdered s
+    → s.status timer ≡ Some Armed → row_of (s.rows timer.wheel) timer ≡ Some row
+    → IsFired (next g s (made by with (Expire timer))) timer.wheel row
+expired_now g s by with timer row ordered armed stands =
+    let e : Entry = made by with (Expire timer) in
+    let named : row.timer ≡ timer = row_named (s.rows timer.wheel) row timer stands in
+    let has_wheel : Bool = has_actor e (Wheel timer.wheel) in
+    let kept : row_of ((next g s e).rows timer.wheel) timer ≡ Some row =
+    row_kept g (s.looked by) timer.wheel (s.rows timer.wheel) row timer has_wheel (Expire timer) stands in
+    let last : timer.generation ≡ s.last timer.wheel timer.slot = taken_last s timer ordered (rw armed refl) in
+    record {
+      expired = carry (λ t. (next g s e).status t ≡ Some Expired) named (rw (same_timer_self timer, armed) refl);
+      wheel = ap (λ (t : TimerRef). t.wheel) named;
+      stands = carry (λ t. row_of ((next g s e).rows timer.wheel) t ≡ Some row) named kept;
+      last = carry (λ (t : TimerRef). t.generation ≡ (next g s e).last timer.wheel t.slot) named
+          (last ∙ sym (cond_same has_wheel (s.last timer.wheel timer.slot)));
+    }
+
+-- a timer that expires waits behind the others
+expire_waits : (g : Settings) (s : State) (by : Actor) (with : Option Actor) (timer : TimerRef) (fired : List Row) (o : Option Row) → IsOrdered s
+    → Can g s (made by with (Expire timer)) → row_of (s.rows timer.wheel) timer ≡ o → AreFired s timer.wheel fired
+    → AreFired (next g s (made by with (Expire timer))) timer.wheel (with_row fired o)
+expire_waits g s by with timer fired None ordered can is h =
+    all_stay g s (made by with (Expire timer)) timer.wheel fired can (λ k d lt. refl) h
+expire_waits g s by with timer fired (Some row) ordered can is h =
+    let e : Entry = made by with (Expire timer) in
+    let stay = all_stay g s e timer.wheel fired can (λ k d lt. refl) h in
+    let named : row.timer ≡ timer = row_named (s.rows timer.wheel) row timer is in
+    let differ : (x : Row) → IsFired s timer.wheel x → Differ x row = λ x was same.
+    let both : s.status x.timer ≡ Some Armed = carry (λ t. s.status t ≡ Some Armed) (same ∙ named) can.found in
+    let no : Some Armed ≡ Some Expired = sym both ∙ was.expired in
+    cc in
+    record {
+      each = All-push (IsFired (next g s e) timer.wheel) fired row stay.each (expired_now g s by with timer row ordered can.found is);
+      once = all_pairs_push Differ fired row h.once (λ k d lt. differ (get_or fired k d) (h.each k d lt));
+    }
+
+fired_cond : (s : State) (w : ℕ) (b : Bool) (rows : List Row) → AreFired s w rows → AreFired s w (cond b (others_of rows) rows)
+fired_cond s w true rows h = fired_others s w rows h
+fired_cond s w false rows h = h
+
+-- the list of a scheduler after the first of it, or that of another, is handed over
+handed_next : (g : Settings) (s : State) (e : Entry) (w : ℕ) (timer : TimerRef) → Can g s e → e.by ≡ Sched timer.wheel
+    → IsFirst (s.scheds timer.wheel).fired timer → ((r : TimerRef) → hands e.event r ≡ same_timer timer r)
+    → AreFired s w (s.scheds w).fired → (b : Bool) → has_actor e (Sched w) ≡ b
+    → AreFired (next g s e) w (cond b (others_of (s.scheds w).fired) (s.scheds w).fired)
+handed_next g s e w timer can by first handed h b is =
+    elim (cases_eq timer.wheel w) [
+      | inl same ↦
+          let has : has_actor e (Sched w) ≡ true = has_sched e w (by ∙ ap Sched same) in
+          let here : b ≡ true = sym is ∙ has in
+          let first_here : first_of (s.scheds w).fired ≡ Some first.row = subst (λ v. first_of (s.scheds v).fired ≡ Some first.row) same first.first in
+          rw here (first_handed g s e w (s.scheds w).fired first.row can first_here
+          (λ r. handed r ∙ ap (λ t. same_timer t r) (sym first.named)) h)
+      | inr other ↦ fired_cond (next g s e) w b (s.scheds w).fired (other_handed g s e w (s.scheds w).fired timer can other handed h)
+    ]
+
+fired_with : (g : Settings) (s : State) (by : Actor) (with : Option Actor) (event : Event) (w : ℕ) → IsOrdered s → Can g s (made by with event)
+    → AreFired s w (s.scheds w).fired → (b : Bool) → has_actor (made by with event) (Sched w) ≡ b
+    → AreFired (next g s (made by with event)) w (cond b (sched_after s.rows (s.scheds w) event) (s.scheds w)).fired
+fired_with g s by with (Deliver timer) w ordered can h true is =
+    handed_next g s (made by with (Deliver timer)) w timer can can.keeps.0 can.known.0 (λ r. refl) h true is
+fired_with g s by with (Deliver timer) w ordered can h false is =
+    handed_next g s (made by with (Deliver timer)) w timer can can.keeps.0 can.known.0 (λ r. refl) h false is
+fired_with g s by with (Drop timer) w ordered can h true is =
+    handed_next g s (made by with (Drop timer)) w timer can can.keeps.0 can.known.0 (λ r. refl) h true is
+fired_with g s by with (Drop timer) w ordered can h false is =
+    handed_next g s (made by with (Drop timer)) w timer can can.keeps.0 can.known.0 (λ r. refl) h false is
+fired_with g s by with (Expire timer) w ordered can h true is =
+    let own : timer.wheel ≡ w = sched_of (made by with (Expire timer)) timer.wheel w can.keeps.0 (rw can.keeps.1 refl) is in
+    let P : ℕ → Type 0 = λ v. AreFired s v (s.scheds v).fired
+    → AreFired (next g s (made by with (Expire timer))) v (with_row (s.scheds v).fired (row_of (s.rows timer.wheel) timer)) in
+    subst P own (expire_waits g s by with timer (s.scheds timer.wheel).fired (row_of (s.rows timer.wheel) timer) ordered can refl) h
+fired_with g s by with (Expire timer) w ordered can h false is =
+    all_stay g s (made by with (Expire timer)) w (s.scheds w).fired can (λ k d lt. refl) h
+fired_with g s by with event w ordered can h true is = all_stay g s (made by with event) w (s.scheds w).fired can (λ k d lt. refl) h
+fired_with g s by with event w ordered can h false is = all_stay g s (made by with event) w (s.scheds w).fired can (λ k d lt. refl) h
+
+-- slots are used in order, and the expired timers of each scheduler wait there
+pub record IsKept (s : State) : Type 0 where
+  pub ordered : IsOrdered s
+  pub fired : (w : ℕ) → AreFired s w (s.scheds w).fired
+
+pub fired_next : (g : Settings) (s : State) (e : Entry) → IsKept s → Can g s e → IsKept (next g s e)
+fired_next g s e kept can = record {
+  ordered = ordered_next g s e kept.ordered can;
+  fired = λ w. fired_with g s e.by e.with e.event w kept.ordered can (kept.fired w) (has_actor e (Sched w)) refl;
+}
+
+pub fired_opening : (g : Settings) → IsKept (opening g)
+fired_opening g = record {
+  ordered = ordered_opening g;
+  fired = λ w. record { each = All-nil (IsFired (opening g) w); once = λ i j d lt le. absurd (omega arith) };
+}
+
+pub fired_timers : LawOfFired
+fired_timers g h w legal = (kept_from g IsKept (fired_next g) (opening g) h (fired_opening g) legal).fired w
+
+first_at : (P : Row → Type 0) (rows : List Row) (row : Row) → first_of rows ≡ Some row → All P rows → P row
+first_at P [] row is h = absurd cc
+first_at P (r ∷ rows) row is h = let same : r ≡ row = cc in subst P same (All-head P r rows h)
+
+-- the first of a scheduler's expired timers is one
+pub first_is_fired : (s : State) (w : ℕ) (timer : TimerRef) → AreFired s w (s.scheds w).fired → (first : IsFirst (s.scheds w).fired timer)
+    → IsFired s w first.row
+first_is_fired s w timer h first = first_at (IsFired s w) (s.scheds w).fired first.row first.first h.each
+
+-- and so has expired
+pub first_has_expired : (s : State) (w : ℕ) (timer : TimerRef) → AreFired s w (s.scheds w).fired → IsFirst (s.scheds w).fired timer
+    → s.status timer ≡ Some Expired
+first_has_expired s w timer h first =
+    subst (λ t. s.status t ≡ Some Expired) first.named (first_is_fired s w timer h first).expired
+
+-- so a delivery and a drop find it expired
+pub delivery_hits : LawOfDelivery
+delivery_hits g h e r legal is =
+    let parts = (legal_one_more g h e).0 legal in
+    let known : Known g (state g h) e.by e.with (Deliver r) = subst (Known g (state g h) e.by e.with) is parts.1.known in
+    let before : (state g h).status r ≡ Some Expired =
+    first_has_expired (state g h) r.wheel r (fired_timers g h r.wheel parts.0) known.0 in
+    (before, carry (λ (s : State). s.status r ≡ Some Delivered) (state-append g h (e ∷ [])) (rw (is, before, same_timer_self r) refl))
+
+pub drop_hits : LawOfDrop
+drop_hits g h e r legal is =
+    let parts = (legal_one_more g h e).0 legal in
+    let known : Known g (state g h) e.by e.with (Drop r) = subst (Known g (state g h) e.by e.with) is parts.1.known in
+    let before : (state g h).status r ≡ Some Expired =
+    first_has_expired (state g h) r.wheel r (fired_timers g h r.wheel parts.0) known.0 in
+    (before, carry (λ (s : State). s.status r ≡ Some Dropped) (state-append g h (e ∷ [])) (rw (is, before, same_timer_self r) refl))

@@ -1,0 +1,146 @@
+-- How an entry moves the status of a timer, and that a timer settles once.
+
+use Rattle.std.proofs.Common.{◌≡◌, ◌≢◌, ℕ, ◌+◌, ◌≤◌, Bool, true, false, cond, not, ◌&&◌, List, [], ◌∷◌, ◌++◌, Contains, Option, Some, None, refl, inl, inr, subst, arith}
+use Rattle.std.proofs.lemmas.Bool.{and_parts, and_right}
+use Rattle.std.proofs.lemmas.List.Elements.{All-contains}
+use Rattle.ert_defs.specs.Actors.{has_actor}
+use Rattle.ert_defs.specs.Laws.{MayMove, is_armed, has_settled, settlings, LawOfMoves, LawOfSettling, LawOfSettled, LawOfRows, LawOfSlots}
+use Rattle.ert_defs.specs.Legal.{Can, Known, LegalFrom, Legal}
+use Rattle.ert_defs.specs.States.{State, opening, next, run, state}
+use Rattle.ert_defs.specs.Timers.{Row, same_timer, status_after}
+use Rattle.ert_defs.proofs.Rows.{IsRow, rows_hold}
+use Rattle.ert_defs.proofs.Runs.{carry, state-append, legal_first, legal_then, legal_one_more}
+use Rattle.ert_defs.proofs.Slots.{IsOrdered, same_timer-true, ordered, ordered_next, ordered_opening}
+use Rattle.ert_defs.proofs.Statuses.{forward_after, forward_may}
+use Rattle.ert_defs.specs.declared.entry.Actor.{Actor}
+use Rattle.ert_defs.specs.declared.entry.Actor.TheVariants.{Wheel}
+use Rattle.ert_defs.specs.declared.entry.Entry.{Entry}
+use Rattle.ert_defs.specs.declared.entry.Event.{Event}
+use Rattle.ert_defs.specs.declared.entry.Event.TheVariants.{Arm}
+use Rattle.ert_defs.specs.declared.settings.Settings.{Settings}
+use Rattle.ert_defs.specs.declared.timer.Start.{Start}
+use Rattle.ert_defs.specs.declared.timer.Status.{Status}
+use Rattle.ert_defs.specs.declared.timer.Status.TheVariants.{Armed, Expired, Delivered, Cancelled, Orphaned, Dropped}
+use Rattle.ert_defs.specs.declared.timer.TimerRef.{TimerRef}
+
+-- a generation that can be armed was never armed
+pub armed_first : (s : State) (timer r : TimerRef) → IsOrdered s → timer.generation ≡ s.last timer.wheel timer.slot + 1
+    → same_timer timer r ≡ true → s.status r ≡ None
+armed_first s timer r ordered next is =
+    let same : timer ≡ r = same_timer-true timer r is in
+    subst (λ (t : TimerRef). s.status t ≡ None) same ((ordered timer.wheel timer.slot).unused timer.generation (omega arith))
+
+moves_arm : (s : State) (timer r : TimerRef) → IsOrdered s → timer.generation ≡ s.last timer.wheel timer.slot + 1
+    → (start : Start) (has_wheel here : Bool) → (has_wheel && same_timer timer r) ≡ here
+    → MayMove (s.status r) (status_after r has_wheel (s.status r) (Arm timer start))
+moves_arm s timer r ordered next start has_wheel true is =
+    let first : s.status r ≡ None = armed_first s timer r ordered next (and_parts has_wheel (same_timer timer r) is).1 in
+    rw (is, first) (inr refl)
+moves_arm s timer r ordered next start has_wheel false is =
+    forward_may (s.status r) (status_after r has_wheel (s.status r) (Arm timer start)) (forward_after r has_wheel (s.status r) (Arm timer start) is)
+
+moves_with : (g : Settings) (s : State) (by : Actor) (with : Option Actor) (r : TimerRef) (b : Bool) (event : Event) → IsOrdered s
+    → Known g s by with event → MayMove (s.status r) (status_after r b (s.status r) event)
+moves_with g s by with r b (Arm timer start) ordered known = moves_arm s timer r ordered known.generation start b (b && same_timer timer r) refl
+moves_with g s by with r b event ordered known =
+    forward_may (s.status r) (status_after r b (s.status r) event) (forward_after r b (s.status r) event (and_right b false refl))
+
+-- a legal entry moves each status as it may
+pub moves_next : (g : Settings) (s : State) (e : Entry) (r : TimerRef) → IsOrdered s → Can g s e → MayMove (s.status r) ((next g s e).status r)
+moves_next g s e r ordered can = moves_with g s e.by e.with r (has_actor e (Wheel r.wheel)) e.event ordered can.known
+
+pub statuses_move : LawOfMoves
+statuses_move g h e r legal =
+    let parts = (legal_one_more g h e).0 legal in
+    carry (λ (s : State). MayMove ((state g h).status r) (s.status r)) (state-append g h (e ∷ []))
+    (moves_next g (state g h) e r (ordered g h parts.0) parts.1)
+
+settled_moves : (x y : Option Status) → MayMove x y → has_settled x ≡ true → has_settled y ≡ true
+settled_moves None y may settled = absurd cc
+settled_moves (Some Armed) y may settled = absurd cc
+settled_moves (Some Expired) y may settled =
+    elim may [ inl a ↦ rw a refl | inr b ↦ elim b [ inl c ↦ rw c refl | inr d ↦ rw d refl ] ]
+settled_moves (Some Delivered) y may settled = rw may refl
+settled_moves (Some Cancelled) y may settled = rw may refl
+settled_moves (Some Orphaned) y may settled = rw may refl
+settled_moves (Some Dropped) y may settled = rw may refl
+
+-- what was armed and isn't any more has settled
+settles_moves : (x y : Option Status) → MayMove x y → (is_armed x && not (is_armed y)) ≡ true → has_settled y ≡ true
+settles_moves (Some Armed) y may settles =
+    elim may [
+      | inl a ↦ let no : false ≡ true = rw a at settles in absurd cc
+      | inr b ↦ elim b [ inl c ↦ rw c refl | inr d ↦ elim d [ inl i ↦ rw i refl | inr j ↦ rw j refl ] ]
+    ]
+settles_moves x y may settles = absurd cc
+
+settled_not_armed : (x : Option Status) → has_settled x ≡ true → is_armed x ≡ false
+settled_not_armed None settled = refl
+settled_not_armed (Some Armed) settled = absurd cc
+settled_not_armed (Some _) settled = refl
+
+-- a timer that has settled stays so
+pub settled_stays : (g : Settings) (r : TimerRef) (s : State) (es : List Entry) → IsOrdered s → LegalFrom g s es
+    → has_settled (s.status r) ≡ true → has_settled ((run g s es).status r) ≡ true
+settled_stays g r s [] ordered legal settled = settled
+settled_stays g r s (e ∷ es) ordered legal settled =
+    settled_stays g r (next g s e) es (ordered_next g s e ordered legal.0) legal.1
+    (settled_moves (s.status r) ((next g s e).status r) (moves_next g s e r ordered legal.0) settled)
+
+-- it settles no more
+pub no_settlings : (g : Settings) (r : TimerRef) (s : State) (es : List Entry) → IsOrdered s → LegalFrom g s es
+    → has_settled (s.status r) ≡ true → settlings g r s es ≡ 0
+no_settlings g r s [] ordered legal settled = refl
+no_settlings g r s (e ∷ es) ordered legal settled =
+    let still = settled_moves (s.status r) ((next g s e).status r) (moves_next g s e r ordered legal.0) settled in
+    let more : settlings g r (next g s e) es ≡ 0 = no_settlings g r (next g s e) es (ordered_next g s e ordered legal.0) legal.1 still in
+    rw (settled_not_armed (s.status r) settled) (omega arith)
+
+one_settling_at : (g : Settings) (r : TimerRef) (s : State) (e : Entry) (es : List Entry) → IsOrdered s → LegalFrom g s (e ∷ es)
+    → settlings g r (next g s e) es ≤ 1 → (b : Bool) → (is_armed (s.status r) && not (is_armed ((next g s e).status r))) ≡ b
+    → cond b 1 0 + settlings g r (next g s e) es ≤ 1
+one_settling_at g r s e es ordered legal few true is =
+    let settled = settles_moves (s.status r) ((next g s e).status r) (moves_next g s e r ordered legal.0) is in
+    let more : settlings g r (next g s e) es ≡ 0 = no_settlings g r (next g s e) es (ordered_next g s e ordered legal.0) legal.1 settled in
+    omega arith
+one_settling_at g r s e es ordered legal few false is = omega arith
+
+pub one_settling : (g : Settings) (r : TimerRef) (s : State) (es : List Entry) → IsOrdered s → LegalFrom g s es → settlings g r s es ≤ 1
+one_settling g r s [] ordered legal = omega arith
+one_settling g r s (e ∷ es) ordered legal =
+    one_settling_at g r s e es ordered legal (one_settling g r (next g s e) es (ordered_next g s e ordered legal.0) legal.1)
+    (is_armed (s.status r) && not (is_armed ((next g s e).status r))) refl
+
+pub timers_settle : LawOfSettling
+timers_settle g h r legal = one_settling g r (opening g) h (ordered_opening g) legal
+
+pub settled_timers_stay : LawOfSettled
+settled_timers_stay g f m r legal settled =
+    carry (λ (s : State). has_settled (s.status r) ≡ true) (state-append g f m)
+    (settled_stays g r (state g f) m (ordered g f (legal_first g (opening g) f m legal)) (legal_then g (opening g) f m legal) settled)
+
+-- the timer of a row was armed
+pub row_was_armed : (g : Settings) (h : List Entry) (w : ℕ) (row : Row) → Legal g h → Contains ((state g h).rows w) row
+    → (state g h).status row.timer ≢ None
+row_was_armed g h w row legal in_rows =
+    let is = All-contains (IsRow w ((state g h).last w)) ((state g h).rows w) row (rows_hold g h w legal).each in_rows in
+    let within : row.timer.generation ≤ (state g h).last row.timer.wheel row.timer.slot =
+    carry (λ x. row.timer.generation ≤ (state g h).last x row.timer.slot) is.wheel is.within in
+    (ordered g h legal row.timer.wheel row.timer.slot).used row.timer.generation is.first within
+
+not_armed_settled : (x : Option Status) → x ≢ None → x ≢ Some Armed → has_settled x ≡ true
+not_armed_settled None some other = absurd (some refl)
+not_armed_settled (Some Armed) some other = absurd (other refl)
+not_armed_settled (Some _) some other = refl
+
+settled_other : (x : Option Status) → has_settled x ≡ true → x ≢ Some Armed
+settled_other x settled = λ is. absurd (cc (rw is at settled))
+
+pub rows_stay_settled : LawOfRows
+rows_stay_settled g f m w row legal in_rows other =
+    let legal_f = legal_first g (opening g) f m legal in
+    let settled = not_armed_settled ((state g f).status row.timer) (row_was_armed g f w row legal_f in_rows) other in
+    settled_other ((state g (f ++ m)).status row.timer) (settled_timers_stay g f m row.timer legal settled)
+
+pub slots_in_order : LawOfSlots
+slots_in_order g h w k legal = ordered g h legal w k
