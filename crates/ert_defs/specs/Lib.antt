@@ -7,6 +7,7 @@ pub mod Milliseconds
 pub mod Permitted
 pub mod Readings
 pub mod Settings
+pub mod Sound
 pub mod States
 pub mod Timers
 pub mod Words
