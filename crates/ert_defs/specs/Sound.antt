@@ -1,7 +1,7 @@
 -- The bounds that a clock keeps. They say how far its time and its sums can come, and hold after each
 -- legal history.
 
-use Rattle.std.specs.Prelude.{◌≡◌, ℤ, pos, negsuc, ◌+ℤ◌, ◌-ℤ◌, ◌*ℤ◌, ◌≤ℤ◌, ◌<ℤ◌, Bool, true, false}
+use Rattle.std.specs.Prelude.{◌≡◌, ℤ, pos, negsuc, ◌+ℤ◌, ◌-ℤ◌, ◌*ℤ◌, ◌≤ℤ◌, ◌<ℤ◌, Bool, true, false, Option, Some, None}
 use Rattle.ert_defs.specs.Lines.{Base, Face, Due, IsOffset, line_time}
 use Rattle.ert_defs.specs.declared.settings.Settings.{Settings}
 
@@ -43,3 +43,8 @@ pub record DueFits (f : Face) (d : Due) : Type 0 where
   pub base : f.base.time ≡ f.time
   pub offset : IsOffset d.0
   pub sum : (d.0 +ℤ f.time) ≤ℤ pos 2305843009213693951
+
+-- the shift that is due keeps the bounds, where there is one
+abbrev pub MayShift : Face → Option Due → Type 0
+MayShift f None = Unit {0}
+MayShift f (Some d) = DueFits f d

@@ -1,0 +1,165 @@
+-- The bounds of a clock hold at the opening, and each tick and each shift keeps them.
+
+use Rattle.std.proofs.Common.{◌≡◌, refl, sym, arith, cond, Bool, true, false, Option, Some, None, subst}
+use Rattle.std.proofs.lemmas.Int.{ints, clamps}
+use Rattle.std.specs.Prelude.{ℤ, pos, negsuc, ◌+ℤ◌, ◌-ℤ◌, ◌*ℤ◌, ◌≤ℤ◌, ◌<ℤ◌, ◌&&◌, int_lt, nat_lt, unsigned_abs}
+use Rattle.std.specs.Int.{int_max}
+use Rattle.ert_defs.specs.Clocks.{face, first_clock}
+use Rattle.ert_defs.specs.Lines.{Base, Face, first_base, Due, IsOffset, IsInRange, line_time, mono_after, time_after, is_base, base_from, rate_of, rate_after, due_at, due_from, due_after, shift_of, ticked, shifted}
+use Rattle.ert_defs.specs.Permitted.{Grows}
+use Rattle.ert_defs.specs.Readings.{IsValid}
+use Rattle.ert_defs.specs.Settings.{IsChecked}
+use Rattle.ert_defs.specs.Sound.{IsRate, OnLine, OffLine, Reaches, Sound, DueFits, MayShift}
+use Rattle.ert_defs.specs.declared.entry.Act.{Act}
+use Rattle.ert_defs.specs.declared.entry.Act.TheVariants.{Plain, Force, Finalize}
+use Rattle.ert_defs.specs.declared.settings.OffsetState.{OffsetState}
+use Rattle.ert_defs.specs.declared.settings.OffsetState.TheVariants.{Preliminary, Final, Volatile}
+use Rattle.ert_defs.specs.declared.settings.Reading.{Reading}
+use Rattle.ert_defs.specs.declared.settings.Settings.{Settings}
+use Rattle.ert_defs.proofs.Numbers.{line_grows, line_base, line_far}
+
+-- the time after a tick, with correction or without
+abbrev pub time_with : Bool → Face → Reading → ℤ
+time_with c f r = cond c (line_time f.base (mono_after f r)) (int_max f.time (r.sys -ℤ f.offset))
+
+-- each rate that a base makes is one
+one_rate : (b c : Bool) → IsRate (cond b (pos 10000) (cond c (negsuc 9999) (pos 0)))
+one_rate true c = omega (arith, ints)
+one_rate false true = omega (arith, ints)
+one_rate false false = omega (arith, ints)
+
+pub rate_is : (state : OffsetState) (error : ℤ) → IsRate (rate_of state error)
+rate_is Final error = one_rate (int_lt (pos 1000000) error) (int_lt error (negsuc 999999))
+rate_is Preliminary error = omega (arith, ints)
+rate_is Volatile error = omega (arith, ints)
+
+pub rate_after_is : (act : Act) (state : OffsetState) (error : ℤ) → IsRate (rate_after act state error)
+rate_after_is Finalize state error = omega (arith, ints)
+rate_after_is Plain state error = rate_is state error
+rate_after_is Force state error = rate_is state error
+
+reach_opening : (c : Bool) (g : Settings) → IsChecked g → Reaches c g (face g (first_clock g))
+reach_opening true g k = record {
+  here = sym (line_base (first_base g));
+  far = omega (arith, ints);
+  sum = let high = k.first.sys_high in omega (arith, ints, high);
+}
+reach_opening false g k = record { sum = let high = k.first.sys_high in omega (arith, ints, high) }
+
+-- the bounds hold at the opening
+pub sound_opening : (g : Settings) → IsChecked g → Sound g (face g (first_clock g))
+sound_opening g k =
+    let start_low = k.start.low in
+    let start_high = k.start.high in
+    let sys_low = k.first.sys_low in
+    let sys_high = k.first.sys_high in
+    record {
+      rate = omega (arith, ints);
+      start = omega (arith, ints);
+      first = omega (arith, ints);
+      mono = omega (arith, ints);
+      mono_high = k.first.mono_high;
+      now = omega (arith, ints);
+      offset = omega (arith, ints);
+      reach = reach_opening g.correction g k;
+    }
+
+-- OS monotonic time never falls
+pub mono_up : (f : Face) (r : Reading) → f.mono ≤ℤ mono_after f r
+mono_up f r = omega (arith, ints, clamps)
+
+mono_below : (f : Face) (r : Reading) (top : ℤ) → f.mono <ℤ top → r.mono <ℤ top → mono_after f r <ℤ top
+mono_below f r top a b = omega (arith, ints, clamps)
+
+-- on the line, time grows from tick to tick by 99 to 101 percent of OS monotonic time, also across a base
+pub line_moves : (g : Settings) (f : Face) (r : Reading) → Sound g f → OnLine g f
+    → Grows f.mono (mono_after f r) f.time (line_time f.base (mono_after f r))
+line_moves g f r s on = rw on.here (line_grows f.base f.mono (mono_after f r) s.rate s.mono (mono_up f r))
+
+-- a tick never sets the time back
+time_up : (c : Bool) (g : Settings) (f : Face) (r : Reading) → Sound g f → Reaches c g f → f.time ≤ℤ time_with c f r
+time_up true g f r s on = let least = (line_moves g f r s on).least in omega (arith, ints, least)
+time_up false g f r s off = omega (arith, ints, clamps)
+
+pub no_fall : (g : Settings) (f : Face) (r : Reading) → Sound g f → f.time ≤ℤ time_after g f r
+no_fall g f r s = time_up g.correction g f r s s.reach
+
+-- what the clock shows after a tick that is a base, or none
+abbrev pub ticked_with : Bool → Face → Reading → Act → ℤ → Face
+ticked_with b f r act now = record {
+  time = now;
+  offset = f.offset;
+  state = f.state;
+  base = cond b (base_from r act (mono_after f r) now f.offset f.state) f.base;
+  mono = mono_after f r;
+}
+
+reach_tick : (c b : Bool) (g : Settings) (f : Face) (r : Reading) (act : Act) → Sound g f → IsValid r → Reaches c g f
+    → Reaches c g (ticked_with b f r act (time_with c f r))
+reach_tick true true g f r act s v on =
+    let up = mono_up f r in
+    let low : f.base.mono ≤ℤ mono_after f r = omega (arith, ints, s.mono) in
+    let far = line_far f.base (mono_after f r) s.rate low in
+    record {
+      here = sym (line_base (base_from r act (mono_after f r) (time_with true f r) f.offset f.state));
+      far = omega (arith, ints, far, on.far);
+      sum = omega (arith, ints, far, on.sum);
+    }
+reach_tick true false g f r act s v on = record { here = refl; far = on.far; sum = on.sum }
+reach_tick false b g f r act s v off = record { sum = let high = v.sys_high in omega (arith, ints, clamps, off.sum, high) }
+
+sound_based : (b : Bool) (g : Settings) (f : Face) (r : Reading) (act : Act) → Sound g f → IsValid r
+    → Sound g (ticked_with b f r act (time_after g f r))
+sound_based true g f r act s v =
+    let up = mono_up f r in
+    let grown = no_fall g f r s in
+    record {
+      rate = rate_after_is act f.state (r.sys -ℤ (time_after g f r +ℤ f.offset));
+      start = omega (arith, ints, grown, s.start, s.now);
+      first = omega (arith, ints, up, s.first, s.mono);
+      mono = omega (arith, ints);
+      mono_high = mono_below f r (pos 4611686018427387904) s.mono_high v.mono_high;
+      now = omega (arith, ints);
+      offset = s.offset;
+      reach = reach_tick g.correction true g f r act s v s.reach;
+    }
+sound_based false g f r act s v =
+    let up = mono_up f r in
+    let grown = no_fall g f r s in
+    record {
+      rate = s.rate;
+      start = s.start;
+      first = s.first;
+      mono = omega (arith, ints, up, s.mono);
+      mono_high = mono_below f r (pos 4611686018427387904) s.mono_high v.mono_high;
+      now = omega (arith, ints, grown, s.now);
+      offset = s.offset;
+      reach = reach_tick g.correction false g f r act s v s.reach;
+    }
+
+-- each tick keeps the bounds
+pub sound_tick : (g : Settings) (f : Face) (r : Reading) (act : Act) → Sound g f → IsValid r
+    → Sound g (ticked g f r act (time_after g f r))
+sound_tick g f r act s v = sound_based (is_base act (due_at g f r)) g f r act s v
+
+reach_shift : (c : Bool) (g : Settings) (f : Face) (d : Due) → Sound g f → DueFits f d → Reaches c g f
+    → Reaches c g (shifted f (Some d))
+reach_shift true g f d s fits on = record {
+  here = on.here;
+  far = on.far;
+  sum = omega (arith, ints, fits.base, fits.sum, s.first);
+}
+reach_shift false g f d s fits off = record { sum = omega (arith, ints, fits.sum) }
+
+-- the shift that was due keeps the bounds
+pub sound_shift : (g : Settings) (f : Face) (d : Due) → Sound g f → DueFits f d → Sound g (shifted f (Some d))
+sound_shift g f d s fits = record {
+  rate = s.rate;
+  start = s.start;
+  first = s.first;
+  mono = s.mono;
+  mono_high = s.mono_high;
+  now = s.now;
+  offset = fits.offset;
+  reach = reach_shift g.correction g f d s fits s.reach;
+}
