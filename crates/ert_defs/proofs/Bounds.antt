@@ -163,3 +163,39 @@ sound_shift g f d s fits = record {
   offset = fits.offset;
   reach = reach_shift g.correction g f d s fits s.reach;
 }
+
+-- a shift that is due follows a base, and takes the offset to what it must be
+abbrev pub FollowsBase : Act → Bool → ℤ → Option Due → Type 0
+FollowsBase act due x None = Unit {0}
+FollowsBase act due x (Some d) = (is_base act due ≡ true) × (d.0 ≡ x)
+
+follows_when : (act : Act) (due far : Bool) (x : ℤ) → is_base act due ≡ true → FollowsBase act due x (cond far (Some (x, Volatile)) None)
+follows_when act due true x base = (base, refl)
+follows_when act due false x base = tt
+
+pub follows_base : (act : Act) (due : Bool) (state : OffsetState) (x offset : ℤ) → FollowsBase act due x (due_from act due state x offset)
+follows_base Finalize due state x offset = (refl, refl)
+follows_base act due Preliminary x offset = tt
+follows_base act due Final x offset = tt
+follows_base Plain true Volatile x offset = follows_when Plain true (nat_lt 1000000 (unsigned_abs (x -ℤ offset))) x refl
+follows_base Plain false Volatile x offset = tt
+follows_base Force due Volatile x offset = follows_when Force due (nat_lt 1000000 (unsigned_abs (x -ℤ offset))) x refl
+
+fits_where : (g : Settings) (f : Face) (r : Reading) (act : Act) (due : Option Due) → IsValid r
+    → FollowsBase act (due_at g f r) (r.sys -ℤ time_after g f r) due → IsInRange due
+    → MayShift (ticked g f r act (time_after g f r)) due
+fits_where g f r act None v follows k = tt
+fits_where g f r act (Some d) v follows k = record {
+  base = rw follows.0 refl;
+  offset = k;
+  sum = let high = v.sys_high in omega (arith, ints, follows.1, high);
+}
+
+-- the shift that a tick makes due keeps the bounds
+pub due_fits : (g : Settings) (f : Face) (r : Reading) (act : Act) → IsValid r
+    → IsInRange (due_after g f r act (time_after g f r))
+    → MayShift (ticked g f r act (time_after g f r)) (due_after g f r act (time_after g f r))
+due_fits g f r act v k =
+    fits_where g f r act (due_after g f r act (time_after g f r)) v
+    (follows_base act (due_at g f r) f.state (r.sys -ℤ time_after g f r) f.offset)
+    k

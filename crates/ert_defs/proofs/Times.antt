@@ -1,0 +1,76 @@
+-- The clock over legal histories: its bounds hold after each, its time never falls, and no look is of a
+-- time to come.
+
+use Rattle.std.proofs.Common.{◌≡◌, refl, sym, ap, arith, cond, Bool, true, false, Option, Some, None, subst, List, [], ◌∷◌, ◌++◌}
+use Rattle.std.proofs.lemmas.Int.{ints, clamps}
+use Rattle.std.specs.Prelude.{ℤ, pos, negsuc, ◌+ℤ◌, ◌-ℤ◌, ◌*ℤ◌, ◌≤ℤ◌, ◌<ℤ◌}
+use Rattle.ert_defs.specs.Actors.{same_actor, has_actor}
+use Rattle.ert_defs.specs.Clocks.{Clock, face, clock_after}
+use Rattle.ert_defs.specs.Legal.{Can, Known, Found, LegalFrom, Legal}
+use Rattle.ert_defs.specs.Lines.{Face, IsInRange, time_after, due_after, ticked}
+use Rattle.ert_defs.specs.Settings.{IsChecked}
+use Rattle.ert_defs.specs.Sound.{Sound, DueFits, MayShift}
+use Rattle.ert_defs.specs.States.{State, look_after, opening, next, run, state}
+use Rattle.ert_defs.specs.declared.entry.Act.{Act}
+use Rattle.ert_defs.specs.declared.entry.Actor.{Actor}
+use Rattle.ert_defs.specs.declared.entry.Actor.TheVariants.{Keeper}
+use Rattle.ert_defs.specs.declared.entry.Entry.{Entry}
+use Rattle.ert_defs.specs.declared.entry.Event.{Event}
+use Rattle.ert_defs.specs.declared.entry.Event.TheVariants.{Tick, Shift, Look}
+use Rattle.ert_defs.specs.declared.settings.OffsetState.{OffsetState}
+use Rattle.ert_defs.specs.declared.settings.Reading.{Reading}
+use Rattle.ert_defs.specs.declared.settings.Settings.{Settings}
+use Rattle.ert_defs.proofs.Bounds.{sound_opening, sound_tick, sound_shift, due_fits, no_fall}
+
+-- the state after a longer history
+pub clock_run_append : (g : Settings) (s : State) (f m : List Entry) → run g s (f ++ m) ≡ run g (run g s f) m
+clock_run_append g s [] m = refl
+clock_run_append g s (e ∷ f) m = clock_run_append g (next g s e) f m
+
+-- what a legal history begins with is legal, and so is what follows that
+pub clock_legal_front : (g : Settings) (s : State) (f m : List Entry) → LegalFrom g s (f ++ m) → LegalFrom g s f
+clock_legal_front g s [] m legal = tt
+clock_legal_front g s (e ∷ f) m legal = (legal.0, clock_legal_front g (next g s e) f m legal.1)
+
+pub clock_legal_behind : (g : Settings) (s : State) (f m : List Entry) → LegalFrom g s (f ++ m) → LegalFrom g (run g s f) m
+clock_legal_behind g s [] m legal = legal
+clock_legal_behind g s (e ∷ f) m legal = clock_legal_behind g (next g s e) f m legal.1
+
+-- what a clock keeps: its bounds, and those of the shift that is due
+pub record KeepsBounds (g : Settings) (c : Clock) : Type 0 where
+  pub sound : Sound g (face g c)
+  pub due : MayShift (face g c) c.due
+
+-- each event of the clock keeps them
+kept_event : (g : Settings) (s : State) (by : Actor) (with : Option Actor) (event : Event) → KeepsBounds g s.clock
+    → Known g s by with event → KeepsBounds g (clock_after g s.clock event)
+kept_event g s by with (Tick reading act now) k known =
+    let f : Face = face g s.clock in
+    let told : now ≡ time_after g f reading = known.1.told in
+    let in_range : IsInRange (due_after g f reading act (time_after g f reading)) = subst (λ (t : ℤ). IsInRange (due_after g f reading act t)) told known.1.in_range in
+    record {
+      sound = subst (λ (t : ℤ). Sound g (ticked g f reading act t)) (sym told) (sound_tick g f reading act k.sound known.1.valid);
+      due = subst (λ (t : ℤ). MayShift (ticked g f reading act t) (due_after g f reading act t)) (sym told) (due_fits g f reading act known.1.valid in_range);
+    }
+kept_event g s by with (Shift offset state) k known = record {
+  sound = sound_shift g (face g s.clock) (offset, state) k.sound (subst (λ d. MayShift (face g s.clock) d) known k.due);
+  due = tt;
+}
+kept_event g s by with _ k known = k
+
+kept_when : (b : Bool) (g : Settings) (s : State) (e : Entry) → KeepsBounds g s.clock → Can g s e
+    → KeepsBounds g (cond b (clock_after g s.clock e.event) s.clock)
+kept_when true g s e k can = kept_event g s e.by e.with e.event k can.known
+kept_when false g s e k can = k
+
+-- each legal entry keeps the bounds
+pub kept_next : (g : Settings) (s : State) (e : Entry) → KeepsBounds g s.clock → Can g s e → KeepsBounds g (next g s e).clock
+kept_next g s e k can = kept_when (has_actor e Keeper) g s e k can
+
+pub kept_run : (g : Settings) (s : State) (h : List Entry) → KeepsBounds g s.clock → LegalFrom g s h → KeepsBounds g (run g s h).clock
+kept_run g s [] k legal = k
+kept_run g s (e ∷ h) k legal = kept_run g (next g s e) h (kept_next g s e k legal.0) legal.1
+
+-- the bounds hold after each legal history
+pub kept : (g : Settings) (h : List Entry) → IsChecked g → Legal g h → KeepsBounds g (state g h).clock
+kept g h checked legal = kept_run g (opening g) h (record { sound = sound_opening g checked; due = tt }) legal
