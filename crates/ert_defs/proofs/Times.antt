@@ -74,3 +74,68 @@ kept_run g s (e ∷ h) k legal = kept_run g (next g s e) h (kept_next g s e k le
 -- the bounds hold after each legal history
 pub kept : (g : Settings) (h : List Entry) → IsChecked g → Legal g h → KeepsBounds g (state g h).clock
 kept g h checked legal = kept_run g (opening g) h (record { sound = sound_opening g checked; due = tt }) legal
+
+falls_never : (g : Settings) (s : State) (by : Actor) (with : Option Actor) (event : Event) → KeepsBounds g s.clock
+    → Known g s by with event → s.clock.now ≤ℤ (clock_after g s.clock event).now
+falls_never g s by with (Tick reading act now) k known =
+    let up = no_fall g (face g s.clock) reading k.sound in
+    let told = known.1.told in
+    omega (arith, ints, up, told)
+falls_never g s by with (Shift offset state) k known = omega (arith, ints)
+falls_never g s by with _ k known = omega (arith, ints)
+
+falls_when : (b : Bool) (g : Settings) (s : State) (e : Entry) → KeepsBounds g s.clock → Can g s e
+    → s.clock.now ≤ℤ (cond b (clock_after g s.clock e.event) s.clock).now
+falls_when true g s e k can = falls_never g s e.by e.with e.event k can.known
+falls_when false g s e k can = omega (arith, ints)
+
+-- no legal entry sets the time back
+pub time_next : (g : Settings) (s : State) (e : Entry) → KeepsBounds g s.clock → Can g s e → s.clock.now ≤ℤ (next g s e).clock.now
+time_next g s e k can = falls_when (has_actor e Keeper) g s e k can
+
+pub time_run : (g : Settings) (s : State) (h : List Entry) → KeepsBounds g s.clock → LegalFrom g s h → s.clock.now ≤ℤ (run g s h).clock.now
+time_run g s [] k legal = omega (arith, ints)
+time_run g s (e ∷ h) k legal =
+    let one = time_next g s e k legal.0 in
+    let more = time_run g (next g s e) h (kept_next g s e k legal.0) legal.1 in
+    omega (arith, ints, one, more)
+
+-- in a legal history time never falls
+pub time_rises : (g : Settings) (f m : List Entry) → IsChecked g → Legal g (f ++ m)
+    → (state g f).clock.now ≤ℤ (state g (f ++ m)).clock.now
+time_rises g f m checked legal =
+    rw clock_run_append
+    (time_run g (state g f) m (kept g f checked (clock_legal_front g (opening g) f m legal)) (clock_legal_behind g (opening g) f m legal))
+
+-- a look is of no time to come, and of none before the start time
+pub record IsLook (g : Settings) (s : State) (look : ℤ) : Type 0 where
+  pub low : g.start ≤ℤ look
+  pub high : look ≤ℤ s.clock.now
+
+look_event : (b : Bool) (g : Settings) (s : State) (by a : Actor) (event : Event) → KeepsBounds g s.clock → Found g s by event
+    → IsLook g s (s.looked a) → IsLook g s (cond b (look_after (s.looked a) event) (s.looked a))
+look_event false g s by a event k found look = look
+look_event true g s by a (Look now) k found look =
+    let low = k.sound.start in
+    let high = k.sound.now in
+    record { low = omega (arith, ints, found, low, high); high = omega (arith, ints, found) }
+look_event true g s by a _ k found look = look
+
+looks_next : (g : Settings) (s : State) (e : Entry) (a : Actor) → KeepsBounds g s.clock → Can g s e
+    → IsLook g s (s.looked a) → IsLook g (next g s e) ((next g s e).looked a)
+looks_next g s e a k can look =
+    let now = look_event (same_actor e.by a) g s e.by a e.event k can.found look in
+    let up = time_next g s e k can in
+    record { low = now.low; high = omega (arith, ints, now.high, up) }
+
+looks_run : (g : Settings) (s : State) (h : List Entry) (a : Actor) → KeepsBounds g s.clock → LegalFrom g s h
+    → IsLook g s (s.looked a) → IsLook g (run g s h) ((run g s h).looked a)
+looks_run g s [] a k legal look = look
+looks_run g s (e ∷ h) a k legal look =
+    looks_run g (next g s e) h a (kept_next g s e k legal.0) legal.1 (looks_next g s e a k legal.0 look)
+
+-- after a legal history each actor's last look is such a one
+pub looks : (g : Settings) (h : List Entry) (a : Actor) → IsChecked g → Legal g h → IsLook g (state g h) ((state g h).looked a)
+looks g h a checked legal =
+    looks_run g (opening g) h a (record { sound = sound_opening g checked; due = tt }) legal
+    (record { low = omega (arith, ints); high = omega (arith, ints) })
