@@ -2,10 +2,10 @@
 
 use Rattle.std.proofs.Common.{◌≡◌, refl, sym, arith, cond, Bool, true, false, Option, Some, None, subst}
 use Rattle.std.proofs.lemmas.Int.{ints, clamps}
-use Rattle.std.specs.Prelude.{ℤ, pos, negsuc, ◌+ℤ◌, ◌-ℤ◌, ◌*ℤ◌, ◌≤ℤ◌, ◌<ℤ◌, ◌&&◌, int_lt, nat_lt, unsigned_abs}
-use Rattle.std.specs.Int.{int_max}
+use Rattle.std.specs.Prelude.{ℤ, pos, negsuc, ◌+ℤ◌, ◌-ℤ◌, ◌*ℤ◌, ◌≤ℤ◌, ◌<ℤ◌, ◌&&◌, int_lt, nat_lt, unsigned_abs, FitsSigned}
+use Rattle.std.specs.Int.{int_max, w64}
 use Rattle.ert_defs.specs.Clocks.{face, first_clock}
-use Rattle.ert_defs.specs.Lines.{Base, Face, first_base, Due, IsOffset, IsInRange, line_time, mono_after, time_after, is_base, base_from, rate_of, rate_after, due_at, due_from, due_after, shift_of, ticked, shifted}
+use Rattle.ert_defs.specs.Lines.{Base, Face, first_base, end_time, Due, IsOffset, IsInRange, line_time, mono_after, time_after, is_base, base_from, rate_of, rate_after, due_at, due_from, due_after, shift_of, ticked, shifted}
 use Rattle.ert_defs.specs.Permitted.{Grows}
 use Rattle.ert_defs.specs.Readings.{IsValid}
 use Rattle.ert_defs.specs.Settings.{IsChecked}
@@ -199,3 +199,45 @@ due_fits g f r act v k =
     fits_where g f r act (due_after g f r act (time_after g f r)) v
     (follows_base act (due_at g f r) f.state (r.sys -ℤ time_after g f r) f.offset)
     k
+
+-- the time stays between the start and the end, and its sum with the offset has 64 bits
+pub record IsWithin (g : Settings) (f : Face) : Type 0 where
+  pub low : g.start ≤ℤ f.time
+  pub high : f.time <ℤ end_time g
+  pub sum : (f.time +ℤ f.offset) <ℤ pos 9223372036854775808
+
+within_by : (c : Bool) (g : Settings) (f : Face) → IsChecked g → Sound g f → Reaches c g f → IsWithin g f
+within_by true g f k s on =
+    let far = line_far f.base f.mono s.rate s.mono in
+    let here : (pos 100 *ℤ f.time) ≤ℤ ((pos 100 *ℤ f.base.time) +ℤ (pos 101 *ℤ (f.mono -ℤ f.base.mono))) = rw on.here far in
+    let first = k.first.mono_low in
+    record {
+      low = omega (arith, ints, s.start, s.now);
+      high = omega (arith, ints, here, on.far, s.mono_high, first);
+      sum = omega (arith, ints, here, on.sum, s.mono_high, first);
+    }
+within_by false g f k s off =
+    let low = k.start.low in
+    record {
+      low = omega (arith, ints, s.start, s.now);
+      high = omega (arith, ints, off.sum, s.offset.low, low);
+      sum = omega (arith, ints, off.sum);
+    }
+
+pub within : (g : Settings) (f : Face) → IsChecked g → Sound g f → IsWithin g f
+within g f k s = within_by g.correction g f k s s.reach
+
+-- an earlier time and this offset have a sum of 64 bits
+pub sum_fits : (g : Settings) (f : Face) (x : ℤ) → IsChecked g → Sound g f → g.start ≤ℤ x → x ≤ℤ f.time → FitsSigned w64 (x +ℤ f.offset)
+sum_fits g f x k s low high =
+    let least = k.start.low in
+    let w = within g f k s in
+    omega (arith, ints, least, s.offset.low, w.sum)
+
+-- the time itself has 64 bits
+pub time_fits : (g : Settings) (f : Face) → IsChecked g → Sound g f → FitsSigned w64 f.time
+time_fits g f k s =
+    let least = k.start.low in
+    let most = k.start.high in
+    let w = within g f k s in
+    omega (arith, ints, least, most, w.low, w.high)

@@ -39,6 +39,10 @@ floor_high : (z : ℤ) → z <ℤ ((int_div_euclid z (pos 1000000) *ℤ pos 1000
 floor_high (pos a) = omega (arith, ints)
 floor_high (negsuc a) = omega (arith, ints)
 
+-- the floor of a greater number isn't smaller
+pub floor_rises : (y z : ℤ) → y ≤ℤ z → int_div_euclid y (pos 1000000) ≤ℤ int_div_euclid z (pos 1000000)
+floor_rises y z h = omega (arith, ints, floor_low y, floor_high y, floor_low z, floor_high z)
+
 -- two floors lie as far apart as the numbers do, less than one to either side
 floors : (x d : ℕ) (p q s t e : ℤ) → q ≡ (p +ℤ e) → e ≤ℤ pos (d * 10000) → pos 0 ≤ℤ (e +ℤ pos (d * 10000))
     → (s *ℤ pos 1000000) ≤ℤ p → p <ℤ ((s *ℤ pos 1000000) +ℤ pos 1000000)

@@ -3,11 +3,14 @@
 
 use Rattle.std.proofs.Common.{◌≡◌, refl, sym, ap, arith, cond, Bool, true, false, Option, Some, None, subst, List, [], ◌∷◌, ◌++◌}
 use Rattle.std.proofs.lemmas.Int.{ints, clamps}
+use Rattle.std.proofs.lemmas.List.Elements.{Contains-append_right}
 use Rattle.std.specs.Prelude.{ℤ, pos, negsuc, ◌+ℤ◌, ◌-ℤ◌, ◌*ℤ◌, ◌≤ℤ◌, ◌<ℤ◌}
 use Rattle.ert_defs.specs.Actors.{same_actor, has_actor}
 use Rattle.ert_defs.specs.Clocks.{Clock, face, clock_after}
-use Rattle.ert_defs.specs.Legal.{Can, Known, Found, LegalFrom, Legal}
+use Rattle.ert_defs.specs.ClockLaws.{IsDueBy}
+use Rattle.ert_defs.specs.Legal.{Can, Known, Found, LegalFrom, Legal, IsNext}
 use Rattle.ert_defs.specs.Lines.{Face, IsInRange, time_after, due_after, ticked}
+use Rattle.ert_defs.specs.Milliseconds.{down}
 use Rattle.ert_defs.specs.Settings.{IsChecked}
 use Rattle.ert_defs.specs.Sound.{Sound, DueFits, MayShift}
 use Rattle.ert_defs.specs.States.{State, look_after, opening, next, run, state}
@@ -16,11 +19,13 @@ use Rattle.ert_defs.specs.declared.entry.Actor.{Actor}
 use Rattle.ert_defs.specs.declared.entry.Actor.TheVariants.{Keeper}
 use Rattle.ert_defs.specs.declared.entry.Entry.{Entry}
 use Rattle.ert_defs.specs.declared.entry.Event.{Event}
-use Rattle.ert_defs.specs.declared.entry.Event.TheVariants.{Tick, Shift, Look}
+use Rattle.ert_defs.specs.declared.entry.Event.TheVariants.{Tick, Shift, Look, Expire}
 use Rattle.ert_defs.specs.declared.settings.OffsetState.{OffsetState}
 use Rattle.ert_defs.specs.declared.settings.Reading.{Reading}
 use Rattle.ert_defs.specs.declared.settings.Settings.{Settings}
+use Rattle.ert_defs.specs.declared.timer.TimerRef.{TimerRef}
 use Rattle.ert_defs.proofs.Bounds.{sound_opening, sound_tick, sound_shift, due_fits, no_fall}
+use Rattle.ert_defs.proofs.Numbers.{floor_rises}
 
 -- the state after a longer history
 pub clock_run_append : (g : Settings) (s : State) (f m : List Entry) → run g s (f ++ m) ≡ run g (run g s f) m
@@ -139,3 +144,25 @@ pub looks : (g : Settings) (h : List Entry) (a : Actor) → IsChecked g → Lega
 looks g h a checked legal =
     looks_run g (opening g) h a (record { sound = sound_opening g checked; due = tt }) legal
     (record { low = omega (arith, ints); high = omega (arith, ints) })
+
+-- a timer that is due by a look is due by each later time
+due_later : (g : Settings) (s : State) (by : Actor) (timer : TimerRef) → IsLook g s (s.looked by) → IsNext g s by timer
+    → IsDueBy g (s.rows timer.wheel) timer s.clock.now
+due_later g s by timer look n =
+    let rises : down g (s.looked by) ≤ℤ down g s.clock.now = floor_rises (s.looked by -ℤ g.start) (s.clock.now -ℤ g.start) (omega (arith, ints, look.high)) in
+    let due = n.due in
+    record {
+      row = n.row;
+      stands = rw n.stands (Contains-append_right n.before (n.row ∷ n.behind) n.row (0, (omega arith), refl));
+      named = n.named;
+      due = omega (arith, ints, due, rises);
+    }
+
+-- no timer expires early
+pub due_by_now : (g : Settings) (f : List Entry) (e : Entry) (timer : TimerRef) → IsChecked g → Legal g (f ++ e ∷ [])
+    → e.event ≡ Expire timer → IsDueBy g ((state g f).rows timer.wheel) timer (state g f).clock.now
+due_by_now g f e timer checked legal is =
+    let front = clock_legal_front g (opening g) f (e ∷ []) legal in
+    let can = clock_legal_behind g (opening g) f (e ∷ []) legal in
+    due_later g (state g f) e.by timer (looks g f e.by checked front)
+    (subst (λ event. Known g (state g f) e.by e.with event) is can.0.known)

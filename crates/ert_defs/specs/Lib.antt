@@ -1,4 +1,5 @@
 pub mod Actors
+pub mod ClockLaws
 pub mod Clocks
 pub mod Legal
 pub mod Lines

@@ -5,11 +5,13 @@
 //! definitions in words.
 #![tactic(auto)]
 
+mod clock_laws;
 mod entry;
 mod mail;
 mod settings;
 mod timer;
 
+pub use clock_laws::time_never_falls;
 pub use entry::{Act, Actor, Entry, Event};
 pub use mail::{Mail, Request, RequestKind};
 pub use settings::{Mode, OffsetState, Reading, Settings, SettingsFault};
