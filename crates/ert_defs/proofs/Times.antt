@@ -4,7 +4,8 @@
 use Rattle.std.proofs.Common.{◌≡◌, refl, sym, ap, arith, cond, Bool, true, false, Option, Some, None, subst, List, [], ◌∷◌, ◌++◌}
 use Rattle.std.proofs.lemmas.Int.{ints, clamps}
 use Rattle.std.proofs.lemmas.List.Elements.{Contains-append_right}
-use Rattle.std.specs.Prelude.{ℤ, pos, negsuc, ◌+ℤ◌, ◌-ℤ◌, ◌*ℤ◌, ◌≤ℤ◌, ◌<ℤ◌}
+use Rattle.std.specs.Prelude.{ℤ, pos, negsuc, ◌+ℤ◌, ◌-ℤ◌, ◌*ℤ◌, ◌≤ℤ◌, ◌<ℤ◌, FitsSigned}
+use Rattle.std.specs.Int.{w64}
 use Rattle.ert_defs.specs.Actors.{same_actor, has_actor}
 use Rattle.ert_defs.specs.Clocks.{Clock, face, clock_after}
 use Rattle.ert_defs.specs.ClockLaws.{IsDueBy}
@@ -24,7 +25,7 @@ use Rattle.ert_defs.specs.declared.settings.OffsetState.{OffsetState}
 use Rattle.ert_defs.specs.declared.settings.Reading.{Reading}
 use Rattle.ert_defs.specs.declared.settings.Settings.{Settings}
 use Rattle.ert_defs.specs.declared.timer.TimerRef.{TimerRef}
-use Rattle.ert_defs.proofs.Bounds.{sound_opening, sound_tick, sound_shift, due_fits, no_fall}
+use Rattle.ert_defs.proofs.Bounds.{sound_opening, sound_tick, sound_shift, due_fits, no_fall, IsWithin, within, sum_fits}
 use Rattle.ert_defs.proofs.Numbers.{floor_rises}
 
 -- the state after a longer history
@@ -166,3 +167,15 @@ due_by_now g f e timer checked legal is =
     let can = clock_legal_behind g (opening g) f (e ∷ []) legal in
     due_later g (state g f) e.by timer (looks g f e.by checked front)
     (subst (λ event. Known g (state g f) e.by e.with event) is can.0.known)
+
+-- the time after a legal history stays between the start and the end
+pub time_within : (g : Settings) (h : List Entry) → IsChecked g → Legal g h → IsWithin g (face g (state g h).clock)
+time_within g h checked legal = within g (face g (state g h).clock) checked (kept g h checked legal).sound
+
+-- its sum with the offset there, or at a later point, has 64 bits
+pub sum_within : (g : Settings) (f m : List Entry) → IsChecked g → Legal g (f ++ m)
+    → FitsSigned w64 ((state g f).clock.now +ℤ (state g (f ++ m)).clock.offset)
+sum_within g f m checked legal =
+    sum_fits g (face g (state g (f ++ m)).clock) (state g f).clock.now checked (kept g (f ++ m) checked legal).sound
+    (time_within g f checked (clock_legal_front g (opening g) f m legal)).low
+    (time_rises g f m checked legal)
