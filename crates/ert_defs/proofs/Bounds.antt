@@ -1,15 +1,15 @@
 -- The bounds of a clock hold at the opening, and each tick and each shift keeps them.
 
-use Rattle.std.proofs.Common.{◌≡◌, refl, sym, arith, cond, Bool, true, false, Option, Some, None, subst}
+use Rattle.std.proofs.Common.{◌≡◌, refl, sym, arith, cond, Bool, true, false, Option, Some, None}
 use Rattle.std.proofs.lemmas.Int.{ints, clamps}
-use Rattle.std.specs.Prelude.{ℤ, pos, negsuc, ◌+ℤ◌, ◌-ℤ◌, ◌*ℤ◌, ◌≤ℤ◌, ◌<ℤ◌, ◌&&◌, int_lt, nat_lt, unsigned_abs, FitsSigned}
+use Rattle.std.specs.Prelude.{ℤ, pos, negsuc, ◌+ℤ◌, ◌-ℤ◌, ◌*ℤ◌, ◌≤ℤ◌, ◌<ℤ◌, int_lt, nat_lt, unsigned_abs, FitsSigned}
 use Rattle.std.specs.Int.{int_max, w64}
 use Rattle.ert_defs.specs.Clocks.{face, first_clock}
-use Rattle.ert_defs.specs.Lines.{Base, Face, first_base, end_time, Due, IsOffset, IsInRange, line_time, mono_after, time_after, is_base, base_from, rate_of, rate_after, due_at, due_from, due_after, shift_of, ticked, shifted}
+use Rattle.ert_defs.specs.Lines.{Face, first_base, end_time, Due, IsInRange, line_time, mono_after, time_after, is_base, base_from, rate_of, rate_after, due_at, due_from, due_after, ticked, shifted}
 use Rattle.ert_defs.specs.Permitted.{Grows}
 use Rattle.ert_defs.specs.Readings.{IsValid}
 use Rattle.ert_defs.specs.Settings.{IsChecked}
-use Rattle.ert_defs.specs.Sound.{IsRate, OnLine, OffLine, Reaches, Sound, DueFits, MayShift}
+use Rattle.ert_defs.specs.Sound.{IsRate, OnLine, Reaches, Sound, DueFits, MayShift}
 use Rattle.ert_defs.specs.declared.entry.Act.{Act}
 use Rattle.ert_defs.specs.declared.entry.Act.TheVariants.{Plain, Force, Finalize}
 use Rattle.ert_defs.specs.declared.settings.OffsetState.{OffsetState}
@@ -23,7 +23,7 @@ abbrev pub time_with : Bool → Face → Reading → ℤ
 time_with c f r = cond c (line_time f.base (mono_after f r)) (int_max f.time (r.sys -ℤ f.offset))
 
 -- each rate that a base makes is one
-one_rate : (b c : Bool) → IsRate (cond b (pos 10000) (cond c (negsuc 9999) (pos 0)))
+pub one_rate : (b c : Bool) → IsRate (cond b (pos 10000) (cond c (negsuc 9999) (pos 0)))
 one_rate true c = omega (arith, ints)
 one_rate false true = omega (arith, ints)
 one_rate false false = omega (arith, ints)
@@ -38,7 +38,7 @@ rate_after_is Finalize state error = omega (arith, ints)
 rate_after_is Plain state error = rate_is state error
 rate_after_is Force state error = rate_is state error
 
-reach_opening : (c : Bool) (g : Settings) → IsChecked g → Reaches c g (face g (first_clock g))
+pub reach_opening : (c : Bool) (g : Settings) → IsChecked g → Reaches c g (face g (first_clock g))
 reach_opening true g k = record {
   here = sym (line_base (first_base g));
   far = omega (arith, ints);
@@ -68,7 +68,7 @@ sound_opening g k =
 pub mono_up : (f : Face) (r : Reading) → f.mono ≤ℤ mono_after f r
 mono_up f r = omega (arith, ints, clamps)
 
-mono_below : (f : Face) (r : Reading) (top : ℤ) → f.mono <ℤ top → r.mono <ℤ top → mono_after f r <ℤ top
+pub mono_below : (f : Face) (r : Reading) (top : ℤ) → f.mono <ℤ top → r.mono <ℤ top → mono_after f r <ℤ top
 mono_below f r top a b = omega (arith, ints, clamps)
 
 -- on the line, time grows from tick to tick by 99 to 101 percent of OS monotonic time, also across a base
@@ -77,7 +77,7 @@ pub line_moves : (g : Settings) (f : Face) (r : Reading) → Sound g f → OnLin
 line_moves g f r s on = rw on.here (line_grows f.base f.mono (mono_after f r) s.rate s.mono (mono_up f r))
 
 -- a tick never sets the time back
-time_up : (c : Bool) (g : Settings) (f : Face) (r : Reading) → Sound g f → Reaches c g f → f.time ≤ℤ time_with c f r
+pub time_up : (c : Bool) (g : Settings) (f : Face) (r : Reading) → Sound g f → Reaches c g f → f.time ≤ℤ time_with c f r
 time_up true g f r s on = let least = (line_moves g f r s on).least in omega (arith, ints, least)
 time_up false g f r s off = omega (arith, ints, clamps)
 
@@ -94,7 +94,7 @@ ticked_with b f r act now = record {
   mono = mono_after f r;
 }
 
-reach_tick : (c b : Bool) (g : Settings) (f : Face) (r : Reading) (act : Act) → Sound g f → IsValid r → Reaches c g f
+pub reach_tick : (c b : Bool) (g : Settings) (f : Face) (r : Reading) (act : Act) → Sound g f → IsValid r → Reaches c g f
     → Reaches c g (ticked_with b f r act (time_with c f r))
 reach_tick true true g f r act s v on =
     let up = mono_up f r in
@@ -108,7 +108,7 @@ reach_tick true true g f r act s v on =
 reach_tick true false g f r act s v on = record { here = refl; far = on.far; sum = on.sum }
 reach_tick false b g f r act s v off = record { sum = let high = v.sys_high in omega (arith, ints, clamps, off.sum, high) }
 
-sound_based : (b : Bool) (g : Settings) (f : Face) (r : Reading) (act : Act) → Sound g f → IsValid r
+pub sound_based : (b : Bool) (g : Settings) (f : Face) (r : Reading) (act : Act) → Sound g f → IsValid r
     → Sound g (ticked_with b f r act (time_after g f r))
 sound_based true g f r act s v =
     let up = mono_up f r in
@@ -142,7 +142,7 @@ pub sound_tick : (g : Settings) (f : Face) (r : Reading) (act : Act) → Sound g
     → Sound g (ticked g f r act (time_after g f r))
 sound_tick g f r act s v = sound_based (is_base act (due_at g f r)) g f r act s v
 
-reach_shift : (c : Bool) (g : Settings) (f : Face) (d : Due) → Sound g f → DueFits f d → Reaches c g f
+pub reach_shift : (c : Bool) (g : Settings) (f : Face) (d : Due) → Sound g f → DueFits f d → Reaches c g f
     → Reaches c g (shifted f (Some d))
 reach_shift true g f d s fits on = record {
   here = on.here;
@@ -169,7 +169,7 @@ abbrev pub FollowsBase : Act → Bool → ℤ → Option Due → Type 0
 FollowsBase act due x None = Unit {0}
 FollowsBase act due x (Some d) = (is_base act due ≡ true) × (d.0 ≡ x)
 
-follows_when : (act : Act) (due far : Bool) (x : ℤ) → is_base act due ≡ true → FollowsBase act due x (cond far (Some (x, Volatile)) None)
+pub follows_when : (act : Act) (due far : Bool) (x : ℤ) → is_base act due ≡ true → FollowsBase act due x (cond far (Some (x, Volatile)) None)
 follows_when act due true x base = (base, refl)
 follows_when act due false x base = tt
 
@@ -181,7 +181,7 @@ follows_base Plain true Volatile x offset = follows_when Plain true (nat_lt 1000
 follows_base Plain false Volatile x offset = tt
 follows_base Force due Volatile x offset = follows_when Force due (nat_lt 1000000 (unsigned_abs (x -ℤ offset))) x refl
 
-fits_where : (g : Settings) (f : Face) (r : Reading) (act : Act) (due : Option Due) → IsValid r
+pub fits_where : (g : Settings) (f : Face) (r : Reading) (act : Act) (due : Option Due) → IsValid r
     → FollowsBase act (due_at g f r) (r.sys -ℤ time_after g f r) due → IsInRange due
     → MayShift (ticked g f r act (time_after g f r)) due
 fits_where g f r act None v follows k = tt
@@ -206,8 +206,8 @@ pub record IsWithin (g : Settings) (f : Face) : Type 0 where
   pub high : f.time <ℤ end_time g
   pub sum : (f.time +ℤ f.offset) <ℤ pos 9223372036854775808
 
-within_by : (c : Bool) (g : Settings) (f : Face) → IsChecked g → Sound g f → Reaches c g f → IsWithin g f
-within_by true g f k s on =
+pub in_range_by : (c : Bool) (g : Settings) (f : Face) → IsChecked g → Sound g f → Reaches c g f → IsWithin g f
+in_range_by true g f k s on =
     let far = line_far f.base f.mono s.rate s.mono in
     let here : (pos 100 *ℤ f.time) ≤ℤ ((pos 100 *ℤ f.base.time) +ℤ (pos 101 *ℤ (f.mono -ℤ f.base.mono))) = rw on.here far in
     let first = k.first.mono_low in
@@ -216,7 +216,7 @@ within_by true g f k s on =
       high = omega (arith, ints, here, on.far, s.mono_high, first);
       sum = omega (arith, ints, here, on.sum, s.mono_high, first);
     }
-within_by false g f k s off =
+in_range_by false g f k s off =
     let low = k.start.low in
     record {
       low = omega (arith, ints, s.start, s.now);
@@ -224,14 +224,14 @@ within_by false g f k s off =
       sum = omega (arith, ints, off.sum);
     }
 
-pub within : (g : Settings) (f : Face) → IsChecked g → Sound g f → IsWithin g f
-within g f k s = within_by g.correction g f k s s.reach
+pub in_range : (g : Settings) (f : Face) → IsChecked g → Sound g f → IsWithin g f
+in_range g f k s = in_range_by g.correction g f k s s.reach
 
 -- an earlier time and this offset have a sum of 64 bits
 pub sum_fits : (g : Settings) (f : Face) (x : ℤ) → IsChecked g → Sound g f → g.start ≤ℤ x → x ≤ℤ f.time → FitsSigned w64 (x +ℤ f.offset)
 sum_fits g f x k s low high =
     let least = k.start.low in
-    let w = within g f k s in
+    let w = in_range g f k s in
     omega (arith, ints, least, s.offset.low, w.sum)
 
 -- the time itself has 64 bits
@@ -239,5 +239,5 @@ pub time_fits : (g : Settings) (f : Face) → IsChecked g → Sound g f → Fits
 time_fits g f k s =
     let least = k.start.low in
     let most = k.start.high in
-    let w = within g f k s in
+    let w = in_range g f k s in
     omega (arith, ints, least, most, w.low, w.high)

@@ -1,18 +1,18 @@
 -- The line of a clock is found by looking back: the last tick that was a base, or the first reading.
 
-use Rattle.std.proofs.Common.{◌≡◌, ◌⊎◌, inl, inr, refl, ap, Bool, true, false, cond, List, [], ◌∷◌, ◌++◌}
+use Rattle.std.proofs.Common.{◌≡◌, ◌⊎◌, inl, inr, refl, ap, Bool, true, false, cond, List, [], ◌∷◌}
 use Rattle.std.proofs.lemmas.List.{append-nil}
-use Rattle.ert_defs.specs.ClockLaws.{was_base, NoneWasBase, HasBase, HasNoBase}
+use Rattle.ert_defs.specs.ClockLaws.{was_base, HasBase, HasNoBase}
 use Rattle.ert_defs.specs.Clocks.{Ticked, last_mono, last_base}
-use Rattle.ert_defs.specs.Lines.{Base, base_from, is_base, is_due}
+use Rattle.ert_defs.specs.Lines.{base_from}
 use Rattle.ert_defs.specs.declared.settings.Settings.{Settings}
 
 -- the base after one more tick
-base_with : (g : Settings) (t : Ticked) (ts : List Ticked) (b : Bool) → was_base g t ts ≡ b
+pub base_with : (g : Settings) (t : Ticked) (ts : List Ticked) (b : Bool) → was_base g t ts ≡ b
     → last_base g (t ∷ ts) ≡ cond b (base_from t.reading t.act (last_mono g (t ∷ ts)) t.now t.offset t.state) (last_base g ts)
 base_with g t ts b is = rw is refl
 
-looks_after : (g : Settings) (t : Ticked) (ts : List Ticked) (b : Bool) → was_base g t ts ≡ b → HasNoBase g ts ⊎ HasBase g ts
+pub looks_after : (g : Settings) (t : Ticked) (ts : List Ticked) (b : Bool) → was_base g t ts ≡ b → HasNoBase g ts ⊎ HasBase g ts
     → HasNoBase g (t ∷ ts) ⊎ HasBase g (t ∷ ts)
 looks_after g t ts true is before = inr (record {
   newer = [];

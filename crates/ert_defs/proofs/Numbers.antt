@@ -1,10 +1,10 @@
 -- Lines: how far the time on a line comes while OS monotonic time grows.
 
-use Rattle.std.proofs.Common.{◌≡◌, ℕ, ◌+◌, ◌*◌, ◌/◌, ◌≤◌, refl, ap, arith}
+use Rattle.std.proofs.Common.{◌≡◌, ℕ, ◌+◌, ◌*◌, ◌/◌, ◌≤◌, arith}
 use Rattle.std.proofs.lemmas.Int.{ints}
 use Rattle.std.proofs.Math.Nat.{mul-le-mul_left}
 use Rattle.std.specs.Prelude.{ℤ, pos, negsuc, ◌+ℤ◌, ◌-ℤ◌, ◌*ℤ◌, ◌≤ℤ◌, ◌<ℤ◌, unsigned_abs}
-use Rattle.std.specs.Int.{int_div_euclid, int_max}
+use Rattle.std.specs.Int.{int_div_euclid}
 use Rattle.ert_defs.specs.Lines.{Base, line_time}
 use Rattle.ert_defs.specs.Permitted.{Grows}
 use Rattle.ert_defs.specs.Sound.{IsRate}
@@ -18,24 +18,24 @@ pub above : (a b : ℤ) → a ≤ℤ b → Above a b
 above a b h = record { by = unsigned_abs (b -ℤ a); is = omega (arith, ints) }
 
 -- a product with a rate is at most one percent
-rate_up : (d : ℕ) (r : ℤ) → IsRate r → (pos d *ℤ r) ≤ℤ pos (d * 10000)
+pub rate_up : (d : ℕ) (r : ℤ) → IsRate r → (pos d *ℤ r) ≤ℤ pos (d * 10000)
 rate_up d (pos k) h = let b : k ≤ 10000 = omega (arith, ints, h.high) in let m : d * k ≤ d * 10000 = mul-le-mul_left d b in omega (arith, ints)
 rate_up d (negsuc k) h = omega (arith, ints)
 
-rate_down : (d : ℕ) (r : ℤ) → IsRate r → pos 0 ≤ℤ ((pos d *ℤ r) +ℤ pos (d * 10000))
+pub rate_down : (d : ℕ) (r : ℤ) → IsRate r → pos 0 ≤ℤ ((pos d *ℤ r) +ℤ pos (d * 10000))
 rate_down d (pos k) h = omega (arith, ints)
 rate_down d (negsuc k) h = let b : k ≤ 9999 = omega (arith, ints, h.low) in let m : d * k ≤ d * 9999 = mul-le-mul_left d b in omega (arith, ints)
 
-mul_sum : (x d : ℕ) (r : ℤ) → (pos (x + d) *ℤ r) ≡ ((pos x *ℤ r) +ℤ (pos d *ℤ r))
+pub mul_sum : (x d : ℕ) (r : ℤ) → (pos (x + d) *ℤ r) ≡ ((pos x *ℤ r) +ℤ (pos d *ℤ r))
 mul_sum x d (pos k) = omega (arith, ints)
 mul_sum x d (negsuc k) = omega (arith, ints)
 
 -- the floor
-floor_low : (z : ℤ) → (int_div_euclid z (pos 1000000) *ℤ pos 1000000) ≤ℤ z
+pub floor_low : (z : ℤ) → (int_div_euclid z (pos 1000000) *ℤ pos 1000000) ≤ℤ z
 floor_low (pos a) = omega (arith, ints)
 floor_low (negsuc a) = omega (arith, ints)
 
-floor_high : (z : ℤ) → z <ℤ ((int_div_euclid z (pos 1000000) *ℤ pos 1000000) +ℤ pos 1000000)
+pub floor_high : (z : ℤ) → z <ℤ ((int_div_euclid z (pos 1000000) *ℤ pos 1000000) +ℤ pos 1000000)
 floor_high (pos a) = omega (arith, ints)
 floor_high (negsuc a) = omega (arith, ints)
 
@@ -44,23 +44,23 @@ pub floor_rises : (y z : ℤ) → y ≤ℤ z → int_div_euclid y (pos 1000000) 
 floor_rises y z h = omega (arith, ints, floor_low y, floor_high y, floor_low z, floor_high z)
 
 -- two floors lie as far apart as the numbers do, less than one to either side
-floors : (x d : ℕ) (p q s t e : ℤ) → q ≡ (p +ℤ e) → e ≤ℤ pos (d * 10000) → pos 0 ≤ℤ (e +ℤ pos (d * 10000))
+pub floors : (x d : ℕ) (p q s t e : ℤ) → q ≡ (p +ℤ e) → e ≤ℤ pos (d * 10000) → pos 0 ≤ℤ (e +ℤ pos (d * 10000))
     → (s *ℤ pos 1000000) ≤ℤ p → p <ℤ ((s *ℤ pos 1000000) +ℤ pos 1000000)
     → (t *ℤ pos 1000000) ≤ℤ q → q <ℤ ((t *ℤ pos 1000000) +ℤ pos 1000000)
     → ((s +ℤ pos ((99 * d) / 100)) ≤ℤ (t +ℤ pos d)) × ((t +ℤ pos d) ≤ℤ (s +ℤ pos (((101 * d) + 99) / 100)))
 floors x d p q s t e is up down p_low p_high q_low q_high = (omega (arith, ints), omega (arith, ints))
 
 -- the same of the time on a line, at distances from its base
-grows_by : (time rate : ℤ) (x d : ℕ) → IsRate rate
+pub grows_by : (time rate : ℤ) (x d : ℕ) → IsRate rate
     → (((((time +ℤ pos x) +ℤ int_div_euclid (pos x *ℤ rate) (pos 1000000)) +ℤ pos ((99 * d) / 100))
-        ≤ℤ ((time +ℤ pos (x + d)) +ℤ int_div_euclid (pos (x + d) *ℤ rate) (pos 1000000)))
+    ≤ℤ ((time +ℤ pos (x + d)) +ℤ int_div_euclid (pos (x + d) *ℤ rate) (pos 1000000)))
     × (((time +ℤ pos (x + d)) +ℤ int_div_euclid (pos (x + d) *ℤ rate) (pos 1000000))
-        ≤ℤ (((time +ℤ pos x) +ℤ int_div_euclid (pos x *ℤ rate) (pos 1000000)) +ℤ pos (((101 * d) + 99) / 100))))
+    ≤ℤ (((time +ℤ pos x) +ℤ int_div_euclid (pos x *ℤ rate) (pos 1000000)) +ℤ pos (((101 * d) + 99) / 100))))
 grows_by time rate x d h =
     let p : ℤ = pos x *ℤ rate in
     let q : ℤ = pos (x + d) *ℤ rate in
     let grown = floors x d p q (int_div_euclid p (pos 1000000)) (int_div_euclid q (pos 1000000)) (pos d *ℤ rate)
-        (mul_sum x d rate) (rate_up d rate h) (rate_down d rate h) (floor_low p) (floor_high p) (floor_low q) (floor_high q) in
+    (mul_sum x d rate) (rate_up d rate h) (rate_down d rate h) (floor_low p) (floor_high p) (floor_low q) (floor_high q) in
     (omega (arith, ints, grown.0), omega (arith, ints, grown.1))
 
 -- on one line, time grows by 99 to 101 percent of OS monotonic time
@@ -74,7 +74,7 @@ line_grows b o p rate low high =
     let grown = grows_by b.time b.rate x.by d.by rate in
     record { least = rw (here, there, step) grown.0; most = rw (here, there, step) grown.1 }
 
-no_product : (r : ℤ) → (pos 0 *ℤ r) ≡ pos 0
+pub no_product : (r : ℤ) → (pos 0 *ℤ r) ≡ pos 0
 no_product (pos k) = omega (arith, ints)
 no_product (negsuc k) = omega (arith, ints)
 

@@ -1,18 +1,17 @@
 -- Each legal history is permitted: how time moves at a tick, and which shifts are made in each mode.
 
-use Rattle.std.proofs.Common.{◌≡◌, ◌⊎◌, inl, inr, ℕ, ◌+◌, ◌≤◌, ◌<◌, refl, sym, ap, arith, cond, Bool, true, false, ◌&&◌, ◌||◌, Option, Some, None, subst, List, [], ◌∷◌, ◌++◌}
-use Rattle.std.proofs.lemmas.Int.{ints, clamps}
-use Rattle.std.specs.Int.{int_max}
-use Rattle.std.specs.Prelude.{ℤ, pos, ◌+ℤ◌, ◌-ℤ◌, ◌≤ℤ◌, int_lt, nat_lt, unsigned_abs}
+use Rattle.std.proofs.Common.{◌≡◌, ◌⊎◌, inl, inr, ℕ, ◌+◌, ◌≤◌, refl, sym, arith, cond, Bool, true, false, ◌&&◌, ◌||◌, Option, Some, None, subst, List, [], ◌∷◌}
+use Rattle.std.proofs.lemmas.Int.{ints}
+use Rattle.std.specs.Prelude.{ℤ, ◌-ℤ◌, int_lt, nat_lt, unsigned_abs}
 use borrow.Author.Tests.{ltb-true}
 use Rattle.ert_defs.specs.Actors.{same_actor, is_with, has_actor}
-use Rattle.ert_defs.specs.Clocks.{Clock, Ticked, last_mono, last_base, face, clock_after, first_clock}
+use Rattle.ert_defs.specs.Clocks.{Clock, Ticked, last_mono, last_base, face, clock_after}
 use Rattle.ert_defs.specs.Legal.{Can, Keeps, Known, LegalFrom, Legal}
-use Rattle.ert_defs.specs.Lines.{Face, Due, MayAct, is_due, is_check, due_from, time_after, due_after, first_state}
-use Rattle.ert_defs.specs.Permitted.{Grows, TimeMoves, ShiftIs, OfLastTick, Moves, PermittedFrom, Permitted, shift_count, shifts}
+use Rattle.ert_defs.specs.Lines.{Due, MayAct, is_due, due_from, first_state}
+use Rattle.ert_defs.specs.Permitted.{TimeMoves, ShiftIs, OfLastTick, Moves, PermittedFrom, Permitted, shift_count, shifts}
 use Rattle.ert_defs.specs.Settings.{IsChecked}
 use Rattle.ert_defs.specs.Sound.{Sound, Reaches}
-use Rattle.ert_defs.specs.States.{State, opening, next, run, state}
+use Rattle.ert_defs.specs.States.{State, opening, next, state}
 use Rattle.ert_defs.specs.declared.entry.Act.{Act}
 use Rattle.ert_defs.specs.declared.entry.Act.TheVariants.{Plain, Force, Finalize}
 use Rattle.ert_defs.specs.declared.entry.Actor.{Actor}
@@ -37,7 +36,7 @@ IsOfMode Single Final = Unit {0}
 IsOfMode Multi Volatile = Unit {0}
 IsOfMode _ _ = ⊥
 
-first_of_mode : (m : Mode) → IsOfMode m (first_state m)
+pub first_of_mode : (m : Mode) → IsOfMode m (first_state m)
 first_of_mode No = tt
 first_of_mode Single = tt
 first_of_mode Multi = tt
@@ -47,16 +46,16 @@ abbrev pub WhereDue : (Due → Type 0) → Option Due → Type 0
 WhereDue P None = Unit {0}
 WhereDue P (Some d) = P d
 
-where_both : (P : Due → Type 0) (d : Due) (a b : Bool) → (a ≡ true → b ≡ true → P d) → WhereDue P (cond (a && b) (Some d) None)
+pub where_both : (P : Due → Type 0) (d : Due) (a b : Bool) → (a ≡ true → b ≡ true → P d) → WhereDue P (cond (a && b) (Some d) None)
 where_both P d true true p = p refl refl
 where_both P d true false p = tt
 where_both P d false b p = tt
 
 -- the shift that a tick makes due is one that the mode permits
-due_is : (m : Mode) (g : Settings) (act : Act) (offset : ℤ) (state : OffsetState) (t : Ticked) (ts : List Ticked) → IsOfMode m state
+pub due_is : (m : Mode) (g : Settings) (act : Act) (offset : ℤ) (state : OffsetState) (t : Ticked) (ts : List Ticked) → IsOfMode m state
     → MayAct act state → t.act ≡ act
     → WhereDue (λ d. ShiftIs m g offset state d.0 d.1 t ts)
-        (due_from act (is_due g (last_base g ts) (last_mono g (t ∷ ts)) t.reading.sys) state (t.reading.sys -ℤ t.now) offset)
+    (due_from act (is_due g (last_base g ts) (last_mono g (t ∷ ts)) t.reading.sys) state (t.reading.sys -ℤ t.now) offset)
 due_is No g Plain offset Final t ts of_mode may is = tt
 due_is No g Force offset Final t ts of_mode may is = tt
 due_is No g Finalize offset Final t ts of_mode may is = absurd (cc)
@@ -83,7 +82,7 @@ pub record KeepsMode (g : Settings) (c : Clock) : Type 0 where
   pub state : IsOfMode g.mode c.state
   pub due : WhereDue (λ d. OfLastTick (ShiftIs g.mode g c.offset c.state d.0 d.1) c.ticks) c.due
 
-state_after : (m : Mode) (g : Settings) (from to : ℤ) (old new : OffsetState) (ticks : List Ticked) → IsOfMode m old
+pub state_after : (m : Mode) (g : Settings) (from to : ℤ) (old new : OffsetState) (ticks : List Ticked) → IsOfMode m old
     → OfLastTick (ShiftIs m g from old to new) ticks → IsOfMode m new
 state_after No g from to old new [] of_mode is = absurd is
 state_after No g from to old new (t ∷ ts) of_mode is = absurd is
@@ -92,7 +91,7 @@ state_after Single g from to old new (t ∷ ts) of_mode is = rw is.1 tt
 state_after Multi g from to old new [] of_mode is = absurd is
 state_after Multi g from to old new (t ∷ ts) of_mode is = rw is.1 tt
 
-mode_event : (g : Settings) (s : State) (by : Actor) (with : Option Actor) (event : Event) → KeepsMode g s.clock
+pub mode_event : (g : Settings) (s : State) (by : Actor) (with : Option Actor) (event : Event) → KeepsMode g s.clock
     → Known g s by with event → KeepsMode g (clock_after g s.clock event)
 mode_event g s by with (Tick reading act now) k known = record {
   state = k.state;
@@ -109,28 +108,28 @@ mode_event g s by with (Shift offset state) k known = record {
 }
 mode_event g s by with _ k known = k
 
-mode_when : (b : Bool) (g : Settings) (s : State) (e : Entry) → KeepsMode g s.clock → Can g s e
+pub mode_when : (b : Bool) (g : Settings) (s : State) (e : Entry) → KeepsMode g s.clock → Can g s e
     → KeepsMode g (cond b (clock_after g s.clock e.event) s.clock)
 mode_when true g s e k can = mode_event g s e.by e.with e.event k can.known
 mode_when false g s e k can = k
 
 -- how a tick moves the time
-one_of : (b : Bool) (x y : ℤ) → (cond b x y ≡ x) ⊎ (cond b x y ≡ y)
+pub one_of : (b : Bool) (x y : ℤ) → (cond b x y ≡ x) ⊎ (cond b x y ≡ y)
 one_of true x y = inl refl
 one_of false x y = inr refl
 
-time_moves : (c : Bool) (g : Settings) (a : Clock) (reading : Reading) (act : Act) (now : ℤ) → Sound g (face g a) → Reaches c g (face g a)
+pub time_moves : (c : Bool) (g : Settings) (a : Clock) (reading : Reading) (act : Act) (now : ℤ) → Sound g (face g a) → Reaches c g (face g a)
     → now ≡ time_with c (face g a) reading → TimeMoves c g a (clock_after g a (Tick reading act now)) reading
 time_moves true g a reading act now s on told =
     let moves = line_moves g (face g a) reading s on in
     record { least = rw told moves.least; most = rw told moves.most }
 time_moves false g a reading act now s off told = rw told (one_of (int_lt (reading.sys -ℤ a.offset) a.now) a.now (reading.sys -ℤ a.offset))
 
-stays : (b : Bool) (a : Clock) → ((cond b a a).now ≡ a.now) × ((cond b a a).offset ≡ a.offset) × ((cond b a a).state ≡ a.state)
+pub stays : (b : Bool) (a : Clock) → ((cond b a a).now ≡ a.now) × ((cond b a a).offset ≡ a.offset) × ((cond b a a).state ≡ a.state)
 stays true a = (refl, refl, refl)
 stays false a = (refl, refl, refl)
 
-moves_event : (g : Settings) (s : State) (by : Actor) (with : Option Actor) (event : Event) → KeepsBounds g s.clock → KeepsMode g s.clock
+pub moves_event : (g : Settings) (s : State) (by : Actor) (with : Option Actor) (event : Event) → KeepsBounds g s.clock → KeepsMode g s.clock
     → Keeps g by with event → Known g s by with event
     → Moves g s.clock (cond (same_actor by Keeper || is_with with Keeper) (clock_after g s.clock event) s.clock) event
 moves_event g s by with (Tick reading act now) k m keeps known =
@@ -147,11 +146,12 @@ moves_event g s by with (Shift offset state) k m keeps known =
     (refl, subst (λ due. WhereDue (λ d. OfLastTick (ShiftIs g.mode g s.clock.offset s.clock.state d.0 d.1) s.clock.ticks) due) known m.due)
 moves_event g s by with _ k m keeps known = stays (same_actor by Keeper || is_with with Keeper) s.clock
 
-moves_run : (g : Settings) (s : State) (h : List Entry) → KeepsBounds g s.clock → KeepsMode g s.clock → LegalFrom g s h → PermittedFrom g s h
+pub moves_run : (g : Settings) (s : State) (h : List Entry) → KeepsBounds g s.clock → KeepsMode g s.clock → LegalFrom g s h → PermittedFrom g s h
 moves_run g s [] k m legal = tt
-moves_run g s (e ∷ h) k m legal =
-    (moves_event g s e.by e.with e.event k m legal.0.keeps legal.0.known,
-     moves_run g (next g s e) h (kept_next g s e k legal.0) (mode_when (has_actor e Keeper) g s e m legal.0) legal.1)
+moves_run g s (e ∷ h) k m legal = (
+  moves_event g s e.by e.with e.event k m legal.0.keeps legal.0.known,
+  moves_run g (next g s e) h (kept_next g s e k legal.0) (mode_when (has_actor e Keeper) g s e m legal.0) legal.1,
+)
 
 -- in single time warp mode a shift is left only while the offset is preliminary
 abbrev pub left_in : OffsetState → ℕ
@@ -159,25 +159,25 @@ left_in Preliminary = 1
 left_in Final = 0
 left_in Volatile = 0
 
-left_most : (state : OffsetState) → left_in state ≤ 1
+pub left_most : (state : OffsetState) → left_in state ≤ 1
 left_most Preliminary = omega arith
 left_most Final = omega arith
 left_most Volatile = omega arith
 
-left_at_shift : (m : Mode) (g : Settings) (from to : ℤ) (old new : OffsetState) (ticks : List Ticked) → m ≡ Single
+pub left_at_shift : (m : Mode) (g : Settings) (from to : ℤ) (old new : OffsetState) (ticks : List Ticked) → m ≡ Single
     → OfLastTick (ShiftIs m g from old to new) ticks → 1 + left_in new ≤ left_in old
 left_at_shift No g from to old new ticks single is = absurd (cc)
 left_at_shift Multi g from to old new ticks single is = absurd (cc)
 left_at_shift Single g from to old new [] single is = absurd is
 left_at_shift Single g from to old new (t ∷ ts) single is = rw (is.0, is.1) (omega arith)
 
-left_after : (g : Settings) (a b : Clock) (event : Event) → g.mode ≡ Single → Moves g a b event
+pub left_after : (g : Settings) (a b : Clock) (event : Event) → g.mode ≡ Single → Moves g a b event
     → shift_count event + left_in b.state ≤ left_in a.state
 left_after g a b (Tick reading act now) single moves = rw moves.3 (omega arith)
 left_after g a b (Shift offset state) single moves = left_at_shift g.mode g a.offset b.offset a.state b.state a.ticks single moves.1
 left_after g a b _ single moves = rw moves.2 (omega arith)
 
-left_run : (g : Settings) (s : State) (h : List Entry) → g.mode ≡ Single → PermittedFrom g s h → shifts h ≤ left_in s.clock.state
+pub left_run : (g : Settings) (s : State) (h : List Entry) → g.mode ≡ Single → PermittedFrom g s h → shifts h ≤ left_in s.clock.state
 left_run g s [] single moves = omega arith
 left_run g s (e ∷ h) single moves =
     let one = left_after g s.clock (next g s e).clock e.event single moves.0 in

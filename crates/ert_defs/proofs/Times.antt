@@ -1,10 +1,10 @@
 -- The clock over legal histories: its bounds hold after each, its time never falls, and no look is of a
 -- time to come.
 
-use Rattle.std.proofs.Common.{◌≡◌, refl, sym, ap, arith, cond, Bool, true, false, Option, Some, None, subst, List, [], ◌∷◌, ◌++◌}
-use Rattle.std.proofs.lemmas.Int.{ints, clamps}
+use Rattle.std.proofs.Common.{◌≡◌, refl, sym, arith, cond, Bool, true, false, Option, subst, List, [], ◌∷◌, ◌++◌}
+use Rattle.std.proofs.lemmas.Int.{ints}
 use Rattle.std.proofs.lemmas.List.Elements.{Contains-append_right}
-use Rattle.std.specs.Prelude.{ℤ, pos, negsuc, ◌+ℤ◌, ◌-ℤ◌, ◌*ℤ◌, ◌≤ℤ◌, ◌<ℤ◌, FitsSigned}
+use Rattle.std.specs.Prelude.{ℤ, ◌+ℤ◌, ◌-ℤ◌, ◌≤ℤ◌, FitsSigned}
 use Rattle.std.specs.Int.{w64}
 use Rattle.ert_defs.specs.Actors.{same_actor, has_actor}
 use Rattle.ert_defs.specs.Clocks.{Clock, face, clock_after}
@@ -13,19 +13,16 @@ use Rattle.ert_defs.specs.Legal.{Can, Known, Found, LegalFrom, Legal, IsNext}
 use Rattle.ert_defs.specs.Lines.{Face, IsInRange, time_after, due_after, ticked}
 use Rattle.ert_defs.specs.Milliseconds.{down}
 use Rattle.ert_defs.specs.Settings.{IsChecked}
-use Rattle.ert_defs.specs.Sound.{Sound, DueFits, MayShift}
+use Rattle.ert_defs.specs.Sound.{Sound, MayShift}
 use Rattle.ert_defs.specs.States.{State, look_after, opening, next, run, state}
-use Rattle.ert_defs.specs.declared.entry.Act.{Act}
 use Rattle.ert_defs.specs.declared.entry.Actor.{Actor}
 use Rattle.ert_defs.specs.declared.entry.Actor.TheVariants.{Keeper}
 use Rattle.ert_defs.specs.declared.entry.Entry.{Entry}
 use Rattle.ert_defs.specs.declared.entry.Event.{Event}
 use Rattle.ert_defs.specs.declared.entry.Event.TheVariants.{Tick, Shift, Look, Expire}
-use Rattle.ert_defs.specs.declared.settings.OffsetState.{OffsetState}
-use Rattle.ert_defs.specs.declared.settings.Reading.{Reading}
 use Rattle.ert_defs.specs.declared.settings.Settings.{Settings}
 use Rattle.ert_defs.specs.declared.timer.TimerRef.{TimerRef}
-use Rattle.ert_defs.proofs.Bounds.{sound_opening, sound_tick, sound_shift, due_fits, no_fall, IsWithin, within, sum_fits}
+use Rattle.ert_defs.proofs.Bounds.{sound_opening, sound_tick, sound_shift, due_fits, no_fall, IsWithin, in_range, sum_fits}
 use Rattle.ert_defs.proofs.Numbers.{floor_rises}
 
 -- the state after a longer history
@@ -48,7 +45,7 @@ pub record KeepsBounds (g : Settings) (c : Clock) : Type 0 where
   pub due : MayShift (face g c) c.due
 
 -- each event of the clock keeps them
-kept_event : (g : Settings) (s : State) (by : Actor) (with : Option Actor) (event : Event) → KeepsBounds g s.clock
+pub kept_event : (g : Settings) (s : State) (by : Actor) (with : Option Actor) (event : Event) → KeepsBounds g s.clock
     → Known g s by with event → KeepsBounds g (clock_after g s.clock event)
 kept_event g s by with (Tick reading act now) k known =
     let f : Face = face g s.clock in
@@ -64,7 +61,7 @@ kept_event g s by with (Shift offset state) k known = record {
 }
 kept_event g s by with _ k known = k
 
-kept_when : (b : Bool) (g : Settings) (s : State) (e : Entry) → KeepsBounds g s.clock → Can g s e
+pub kept_when : (b : Bool) (g : Settings) (s : State) (e : Entry) → KeepsBounds g s.clock → Can g s e
     → KeepsBounds g (cond b (clock_after g s.clock e.event) s.clock)
 kept_when true g s e k can = kept_event g s e.by e.with e.event k can.known
 kept_when false g s e k can = k
@@ -81,7 +78,7 @@ kept_run g s (e ∷ h) k legal = kept_run g (next g s e) h (kept_next g s e k le
 pub kept : (g : Settings) (h : List Entry) → IsChecked g → Legal g h → KeepsBounds g (state g h).clock
 kept g h checked legal = kept_run g (opening g) h (record { sound = sound_opening g checked; due = tt }) legal
 
-falls_never : (g : Settings) (s : State) (by : Actor) (with : Option Actor) (event : Event) → KeepsBounds g s.clock
+pub falls_never : (g : Settings) (s : State) (by : Actor) (with : Option Actor) (event : Event) → KeepsBounds g s.clock
     → Known g s by with event → s.clock.now ≤ℤ (clock_after g s.clock event).now
 falls_never g s by with (Tick reading act now) k known =
     let up = no_fall g (face g s.clock) reading k.sound in
@@ -90,7 +87,7 @@ falls_never g s by with (Tick reading act now) k known =
 falls_never g s by with (Shift offset state) k known = omega (arith, ints)
 falls_never g s by with _ k known = omega (arith, ints)
 
-falls_when : (b : Bool) (g : Settings) (s : State) (e : Entry) → KeepsBounds g s.clock → Can g s e
+pub falls_when : (b : Bool) (g : Settings) (s : State) (e : Entry) → KeepsBounds g s.clock → Can g s e
     → s.clock.now ≤ℤ (cond b (clock_after g s.clock e.event) s.clock).now
 falls_when true g s e k can = falls_never g s e.by e.with e.event k can.known
 falls_when false g s e k can = omega (arith, ints)
@@ -118,7 +115,7 @@ pub record IsLook (g : Settings) (s : State) (look : ℤ) : Type 0 where
   pub low : g.start ≤ℤ look
   pub high : look ≤ℤ s.clock.now
 
-look_event : (b : Bool) (g : Settings) (s : State) (by a : Actor) (event : Event) → KeepsBounds g s.clock → Found g s by event
+pub look_event : (b : Bool) (g : Settings) (s : State) (by a : Actor) (event : Event) → KeepsBounds g s.clock → Found g s by event
     → IsLook g s (s.looked a) → IsLook g s (cond b (look_after (s.looked a) event) (s.looked a))
 look_event false g s by a event k found look = look
 look_event true g s by a (Look now) k found look =
@@ -127,14 +124,14 @@ look_event true g s by a (Look now) k found look =
     record { low = omega (arith, ints, found, low, high); high = omega (arith, ints, found) }
 look_event true g s by a _ k found look = look
 
-looks_next : (g : Settings) (s : State) (e : Entry) (a : Actor) → KeepsBounds g s.clock → Can g s e
+pub looks_next : (g : Settings) (s : State) (e : Entry) (a : Actor) → KeepsBounds g s.clock → Can g s e
     → IsLook g s (s.looked a) → IsLook g (next g s e) ((next g s e).looked a)
 looks_next g s e a k can look =
     let now = look_event (same_actor e.by a) g s e.by a e.event k can.found look in
     let up = time_next g s e k can in
     record { low = now.low; high = omega (arith, ints, now.high, up) }
 
-looks_run : (g : Settings) (s : State) (h : List Entry) (a : Actor) → KeepsBounds g s.clock → LegalFrom g s h
+pub looks_run : (g : Settings) (s : State) (h : List Entry) (a : Actor) → KeepsBounds g s.clock → LegalFrom g s h
     → IsLook g s (s.looked a) → IsLook g (run g s h) ((run g s h).looked a)
 looks_run g s [] a k legal look = look
 looks_run g s (e ∷ h) a k legal look =
@@ -147,7 +144,7 @@ looks g h a checked legal =
     (record { low = omega (arith, ints); high = omega (arith, ints) })
 
 -- a timer that is due by a look is due by each later time
-due_later : (g : Settings) (s : State) (by : Actor) (timer : TimerRef) → IsLook g s (s.looked by) → IsNext g s by timer
+pub due_later : (g : Settings) (s : State) (by : Actor) (timer : TimerRef) → IsLook g s (s.looked by) → IsNext g s by timer
     → IsDueBy g (s.rows timer.wheel) timer s.clock.now
 due_later g s by timer look n =
     let rises : down g (s.looked by) ≤ℤ down g s.clock.now = floor_rises (s.looked by -ℤ g.start) (s.clock.now -ℤ g.start) (omega (arith, ints, look.high)) in
@@ -169,13 +166,13 @@ due_by_now g f e timer checked legal is =
     (subst (λ event. Known g (state g f) e.by e.with event) is can.0.known)
 
 -- the time after a legal history stays between the start and the end
-pub time_within : (g : Settings) (h : List Entry) → IsChecked g → Legal g h → IsWithin g (face g (state g h).clock)
-time_within g h checked legal = within g (face g (state g h).clock) checked (kept g h checked legal).sound
+pub state_in_range : (g : Settings) (h : List Entry) → IsChecked g → Legal g h → IsWithin g (face g (state g h).clock)
+state_in_range g h checked legal = in_range g (face g (state g h).clock) checked (kept g h checked legal).sound
 
 -- its sum with the offset there, or at a later point, has 64 bits
-pub sum_within : (g : Settings) (f m : List Entry) → IsChecked g → Legal g (f ++ m)
+pub state_sum_fits : (g : Settings) (f m : List Entry) → IsChecked g → Legal g (f ++ m)
     → FitsSigned w64 ((state g f).clock.now +ℤ (state g (f ++ m)).clock.offset)
-sum_within g f m checked legal =
+state_sum_fits g f m checked legal =
     sum_fits g (face g (state g (f ++ m)).clock) (state g f).clock.now checked (kept g (f ++ m) checked legal).sound
-    (time_within g f checked (clock_legal_front g (opening g) f m legal)).low
+    (state_in_range g f checked (clock_legal_front g (opening g) f m legal)).low
     (time_rises g f m checked legal)

@@ -11,7 +11,10 @@ mod mail;
 mod settings;
 mod timer;
 
-pub use clock_laws::{clock_is_permitted, clock_looks_back, no_timer_expires_early, time_never_falls, times_stay_in_range};
+pub use clock_laws::{
+    clock_is_permitted, clock_looks_back, no_timer_expires_early, time_never_falls,
+    times_stay_in_range,
+};
 pub use entry::{Act, Actor, Entry, Event};
 pub use mail::{Mail, Request, RequestKind};
 pub use settings::{Mode, OffsetState, Reading, Settings, SettingsFault};
