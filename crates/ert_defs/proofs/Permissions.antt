@@ -1,11 +1,11 @@
 -- Each legal history is permitted: how time moves at a tick, and which shifts are made in each mode.
 
-use Rattle.std.proofs.Common.{◌≡◌, ◌⊎◌, inl, inr, ℕ, ◌+◌, ◌≤◌, refl, sym, arith, cond, Bool, true, false, ◌&&◌, ◌||◌, Option, Some, None, subst, List, [], ◌∷◌}
+use Rattle.std.proofs.Common.{◌≡◌, ◌⊎◌, inl, inr, ℕ, ◌+◌, ◌≤◌, refl, sym, le_trans, arith, cond, Bool, true, false, ◌&&◌, ◌||◌, Option, Some, None, subst, List, [], ◌∷◌}
 use Rattle.std.proofs.lemmas.Int.{ints}
 use Rattle.std.specs.Prelude.{ℤ, ◌-ℤ◌, int_lt, nat_lt, unsigned_abs}
 use borrow.Author.Tests.{ltb-true}
 use Rattle.ert_defs.specs.Actors.{same_actor, is_with, has_actor}
-use Rattle.ert_defs.specs.Clocks.{Clock, Ticked, last_mono, last_base, face, clock_after}
+use Rattle.ert_defs.specs.Clocks.{Clock, Ticked, last_mono, last_base, face, clock_after, first_clock}
 use Rattle.ert_defs.specs.Legal.{Can, Keeps, Known, LegalFrom, Legal}
 use Rattle.ert_defs.specs.Lines.{Due, MayAct, is_due, due_from, first_state}
 use Rattle.ert_defs.specs.Permitted.{TimeMoves, ShiftIs, OfLastTick, Moves, PermittedFrom, Permitted, shift_count, shifts}
@@ -25,8 +25,8 @@ use Rattle.ert_defs.specs.declared.settings.OffsetState.{OffsetState}
 use Rattle.ert_defs.specs.declared.settings.OffsetState.TheVariants.{Preliminary, Final, Volatile}
 use Rattle.ert_defs.specs.declared.settings.Reading.{Reading}
 use Rattle.ert_defs.specs.declared.settings.Settings.{Settings}
-use Rattle.ert_defs.proofs.Bounds.{time_with, line_moves, no_fall, sound_opening}
-use Rattle.ert_defs.proofs.Times.{KeepsBounds, kept_next}
+use Rattle.ert_defs.proofs.Bounds.{time_with, line_moves, no_fall}
+use Rattle.ert_defs.proofs.Times.{KeepsBounds, kept_opening, kept_next}
 
 -- the states that the offset has in each mode
 abbrev pub IsOfMode : Mode → OffsetState → Type 0
@@ -46,16 +46,20 @@ abbrev pub WhereDue : (Due → Type 0) → Option Due → Type 0
 WhereDue P None = Unit {0}
 WhereDue P (Some d) = P d
 
+-- a shift that is due on two conditions is one that both stand behind
 pub where_both : (P : Due → Type 0) (d : Due) (a b : Bool) → (a ≡ true → b ≡ true → P d) → WhereDue P (cond (a && b) (Some d) None)
 where_both P d true true p = p refl refl
 where_both P d true false p = tt
 where_both P d false b p = tt
 
+-- whether a check was due at a tick, by the ticks before it
+abbrev pub was_due : Settings → Ticked → List Ticked → Bool
+was_due g t ts = is_due g (last_base g ts) (last_mono g (t ∷ ts)) t.reading.sys
+
 -- the shift that a tick makes due is one that the mode permits
-pub due_is : (m : Mode) (g : Settings) (act : Act) (offset : ℤ) (state : OffsetState) (t : Ticked) (ts : List Ticked) → IsOfMode m state
-    → MayAct act state → t.act ≡ act
-    → WhereDue (λ d. ShiftIs m g offset state d.0 d.1 t ts)
-    (due_from act (is_due g (last_base g ts) (last_mono g (t ∷ ts)) t.reading.sys) state (t.reading.sys -ℤ t.now) offset)
+pub due_is : (m : Mode) (g : Settings) (act : Act) (offset : ℤ) (state : OffsetState) (t : Ticked) (ts : List Ticked)
+    → IsOfMode m state → MayAct act state → t.act ≡ act
+    → WhereDue (λ d. ShiftIs m g offset state d.0 d.1 t ts) (due_from act (was_due g t ts) state (t.reading.sys -ℤ t.now) offset)
 due_is No g Plain offset Final t ts of_mode may is = tt
 due_is No g Force offset Final t ts of_mode may is = tt
 due_is No g Finalize offset Final t ts of_mode may is = absurd (cc)
@@ -66,8 +70,7 @@ due_is Single g Plain offset Final t ts of_mode may is = tt
 due_is Single g Force offset Final t ts of_mode may is = tt
 due_is Single g Finalize offset Final t ts of_mode may is = absurd (cc)
 due_is Multi g Plain offset Volatile t ts of_mode may is =
-    where_both (λ d. ShiftIs Multi g offset Volatile d.0 d.1 t ts) (t.reading.sys -ℤ t.now, Volatile)
-    (is_due g (last_base g ts) (last_mono g (t ∷ ts)) t.reading.sys)
+    where_both (λ d. ShiftIs Multi g offset Volatile d.0 d.1 t ts) (t.reading.sys -ℤ t.now, Volatile) (was_due g t ts)
     (nat_lt 1000000 (unsigned_abs ((t.reading.sys -ℤ t.now) -ℤ offset)))
     (λ check far. (refl, refl, rw is check, refl, ltb-true _ _ far))
 due_is Multi g Force offset Volatile t ts of_mode may is =
@@ -77,11 +80,19 @@ due_is Multi g Force offset Volatile t ts of_mode may is =
 due_is Multi g Finalize offset Volatile t ts of_mode may is = absurd (cc)
 due_is _ g act offset _ t ts of_mode may is = elim of_mode [ ]
 
+-- the shift that is due is one that may follow the last tick
+abbrev pub MayFollow : Settings → Clock → Option Due → Type 0
+MayFollow g c due = WhereDue (λ d. OfLastTick (ShiftIs g.mode g c.offset c.state d.0 d.1) c.ticks) due
+
 -- what a clock keeps of its mode: a state of it, and a due shift that it permits
 pub record KeepsMode (g : Settings) (c : Clock) : Type 0 where
   pub state : IsOfMode g.mode c.state
-  pub due : WhereDue (λ d. OfLastTick (ShiftIs g.mode g c.offset c.state d.0 d.1) c.ticks) c.due
+  pub due : MayFollow g c c.due
 
+pub mode_opening : (g : Settings) → KeepsMode g (first_clock g)
+mode_opening g = record { state = first_of_mode g.mode; due = tt }
+
+-- a shift that the mode permits is to a state of it
 pub state_after : (m : Mode) (g : Settings) (from to : ℤ) (old new : OffsetState) (ticks : List Ticked) → IsOfMode m old
     → OfLastTick (ShiftIs m g from old to new) ticks → IsOfMode m new
 state_after No g from to old new [] of_mode is = absurd is
@@ -91,6 +102,7 @@ state_after Single g from to old new (t ∷ ts) of_mode is = rw is.1 tt
 state_after Multi g from to old new [] of_mode is = absurd is
 state_after Multi g from to old new (t ∷ ts) of_mode is = rw is.1 tt
 
+-- each event of the clock keeps it to its mode
 pub mode_event : (g : Settings) (s : State) (by : Actor) (with : Option Actor) (event : Event) → KeepsMode g s.clock
     → Known g s by with event → KeepsMode g (clock_after g s.clock event)
 mode_event g s by with (Tick reading act now) k known = record {
@@ -103,7 +115,7 @@ mode_event g s by with (Tick reading act now) k known = record {
 mode_event g s by with (Shift offset state) k known = record {
   state =
       state_after g.mode g s.clock.offset offset s.clock.state state s.clock.ticks k.state
-      (subst (λ due. WhereDue (λ d. OfLastTick (ShiftIs g.mode g s.clock.offset s.clock.state d.0 d.1) s.clock.ticks) due) known k.due);
+      (subst (λ due. MayFollow g s.clock due) known k.due);
   due = tt;
 }
 mode_event g s by with _ k known = k
@@ -113,45 +125,49 @@ pub mode_when : (b : Bool) (g : Settings) (s : State) (e : Entry) → KeepsMode 
 mode_when true g s e k can = mode_event g s e.by e.with e.event k can.known
 mode_when false g s e k can = k
 
--- how a tick moves the time
+-- a choice is one of two
 pub one_of : (b : Bool) (x y : ℤ) → (cond b x y ≡ x) ⊎ (cond b x y ≡ y)
 one_of true x y = inl refl
 one_of false x y = inr refl
 
-pub time_moves : (c : Bool) (g : Settings) (a : Clock) (reading : Reading) (act : Act) (now : ℤ) → Sound g (face g a) → Reaches c g (face g a)
-    → now ≡ time_with c (face g a) reading → TimeMoves c g a (clock_after g a (Tick reading act now)) reading
+-- a tick moves the time as it may
+pub time_moves : (c : Bool) (g : Settings) (a : Clock) (reading : Reading) (act : Act) (now : ℤ) → Sound g (face g a)
+    → Reaches c g (face g a) → now ≡ time_with c (face g a) reading
+    → TimeMoves c g a (clock_after g a (Tick reading act now)) reading
 time_moves true g a reading act now s on told =
     let moves = line_moves g (face g a) reading s on in
     record { least = rw told moves.least; most = rw told moves.most }
-time_moves false g a reading act now s off told = rw told (one_of (int_lt (reading.sys -ℤ a.offset) a.now) a.now (reading.sys -ℤ a.offset))
+time_moves false g a reading act now s off told =
+    rw told (one_of (int_lt (reading.sys -ℤ a.offset) a.now) a.now (reading.sys -ℤ a.offset))
 
+-- what an event moves that leaves the clock as it is
 pub stays : (b : Bool) (a : Clock) → ((cond b a a).now ≡ a.now) × ((cond b a a).offset ≡ a.offset) × ((cond b a a).state ≡ a.state)
 stays true a = (refl, refl, refl)
 stays false a = (refl, refl, refl)
 
-pub moves_event : (g : Settings) (s : State) (by : Actor) (with : Option Actor) (event : Event) → KeepsBounds g s.clock → KeepsMode g s.clock
-    → Keeps g by with event → Known g s by with event
-    → Moves g s.clock (cond (same_actor by Keeper || is_with with Keeper) (clock_after g s.clock event) s.clock) event
+-- an event of this maker moves the clock as it may
+abbrev pub MovesBy : Settings → Clock → Option Actor → Event → Actor → Type 0
+MovesBy g a with event by = Moves g a (cond (same_actor by Keeper || is_with with Keeper) (clock_after g a event) a) event
+
+pub moves_event : (g : Settings) (s : State) (by : Actor) (with : Option Actor) (event : Event) → KeepsBounds g s.clock
+    → KeepsMode g s.clock → Keeps g by with event → Known g s by with event → MovesBy g s.clock with event by
 moves_event g s by with (Tick reading act now) k m keeps known =
     let up = no_fall g (face g s.clock) reading k.sound in
     let told = known.1.told in
-    subst
-    (λ maker. Moves g s.clock (cond (same_actor maker Keeper || is_with with Keeper) (clock_after g s.clock (Tick reading act now)) s.clock) (Tick reading act now))
-    (sym keeps.0)
-    ((omega (arith, ints, up, told)), time_moves g.correction g s.clock reading act now k.sound k.sound.reach told, refl, refl)
+    let moves = time_moves g.correction g s.clock reading act now k.sound k.sound.reach told in
+    subst (MovesBy g s.clock with (Tick reading act now)) (sym keeps.0) ((omega (arith, ints, up, told)), moves, refl, refl)
 moves_event g s by with (Shift offset state) k m keeps known =
-    subst
-    (λ maker. Moves g s.clock (cond (same_actor maker Keeper || is_with with Keeper) (clock_after g s.clock (Shift offset state)) s.clock) (Shift offset state))
-    (sym keeps.0)
-    (refl, subst (λ due. WhereDue (λ d. OfLastTick (ShiftIs g.mode g s.clock.offset s.clock.state d.0 d.1) s.clock.ticks) due) known m.due)
+    subst (MovesBy g s.clock with (Shift offset state)) (sym keeps.0) (refl, subst (MayFollow g s.clock) known m.due)
 moves_event g s by with _ k m keeps known = stays (same_actor by Keeper || is_with with Keeper) s.clock
 
-pub moves_run : (g : Settings) (s : State) (h : List Entry) → KeepsBounds g s.clock → KeepsMode g s.clock → LegalFrom g s h → PermittedFrom g s h
+-- legal entries move the clock as they may
+pub moves_run : (g : Settings) (s : State) (h : List Entry) → KeepsBounds g s.clock → KeepsMode g s.clock → LegalFrom g s h
+    → PermittedFrom g s h
 moves_run g s [] k m legal = tt
-moves_run g s (e ∷ h) k m legal = (
-  moves_event g s e.by e.with e.event k m legal.0.keeps legal.0.known,
-  moves_run g (next g s e) h (kept_next g s e k legal.0) (mode_when (has_actor e Keeper) g s e m legal.0) legal.1,
-)
+moves_run g s (e ∷ h) k m legal =
+    let bounds = kept_next g s e k legal.0 in
+    let mode = mode_when (has_actor e Keeper) g s e m legal.0 in
+    (moves_event g s e.by e.with e.event k m legal.0.keeps legal.0.known, moves_run g (next g s e) h bounds mode legal.1)
 
 -- in single time warp mode a shift is left only while the offset is preliminary
 abbrev pub left_in : OffsetState → ℕ
@@ -187,8 +203,8 @@ left_run g s (e ∷ h) single moves =
 -- each legal history is permitted
 pub permitted : (g : Settings) (h : List Entry) → IsChecked g → Legal g h → Permitted g h
 permitted g h checked legal =
-    let moves = moves_run g (opening g) h (record { sound = sound_opening g checked; due = tt }) (record { state = first_of_mode g.mode; due = tt }) legal in
+    let moves = moves_run g (opening g) h (kept_opening g checked) (mode_opening g) legal in
     record {
       moves = moves;
-      once = λ single. let few = left_run g (opening g) h single moves in let most = left_most (first_state g.mode) in omega (arith, few, most);
+      once = λ single. le_trans (left_run g (opening g) h single moves) (left_most (first_state g.mode));
     }

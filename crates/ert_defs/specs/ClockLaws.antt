@@ -19,15 +19,18 @@ use Rattle.ert_defs.specs.declared.timer.TimerRef.{TimerRef}
 
 -- monotonic time never falls (ERTS User's Guide, "Erlang Monotonic Time")
 abbrev pub LawOfTime : Type 0
-LawOfTime = (g : Settings) (f m : List Entry) → IsChecked g → Legal g (f ++ m) → (state g f).clock.now ≤ℤ (state g (f ++ m)).clock.now
+LawOfTime = (g : Settings) (f m : List Entry) → IsChecked g → Legal g (f ++ m)
+    → (state g f).clock.now ≤ℤ (state g (f ++ m)).clock.now
 
 -- the last look of an actor is of the start time or later
 abbrev pub LawOfFirstLooks : Type 0
-LawOfFirstLooks = (g : Settings) (h : List Entry) (a : Actor) → IsChecked g → Legal g h → g.start ≤ℤ (state g h).looked a
+LawOfFirstLooks = (g : Settings) (h : List Entry) (a : Actor) → IsChecked g → Legal g h
+    → g.start ≤ℤ (state g h).looked a
 
 -- and of no time to come
 abbrev pub LawOfLastLooks : Type 0
-LawOfLastLooks = (g : Settings) (h : List Entry) (a : Actor) → IsChecked g → Legal g h → (state g h).looked a ≤ℤ (state g h).clock.now
+LawOfLastLooks = (g : Settings) (h : List Entry) (a : Actor) → IsChecked g → Legal g h
+    → (state g h).looked a ≤ℤ (state g h).clock.now
 
 -- among these rows the timer has one, whose deadline has come at a time
 pub record IsDueBy (g : Settings) (rows : List Row) (timer : TimerRef) (now : ℤ) : Type 0 where
@@ -38,8 +41,8 @@ pub record IsDueBy (g : Settings) (rows : List Row) (timer : TimerRef) (now : �
 
 -- no timer expires before its deadline (`erlang` module reference, `start_timer`)
 abbrev pub LawOfExpiry : Type 0
-LawOfExpiry = (g : Settings) (f : List Entry) (e : Entry) (timer : TimerRef) → IsChecked g → Legal g (f ++ e ∷ [])
-    → e.event ≡ Expire timer → IsDueBy g ((state g f).rows timer.wheel) timer (state g f).clock.now
+LawOfExpiry = (g : Settings) (f : List Entry) (e : Entry) (timer : TimerRef) → IsChecked g
+    → Legal g (f ++ e ∷ []) → e.event ≡ Expire timer → IsDueBy g ((state g f).rows timer.wheel) timer (state g f).clock.now
 
 -- each legal history is permitted
 abbrev pub LawOfPermission : Type 0
@@ -75,7 +78,8 @@ pub record HasBase (g : Settings) (ticks : List Ticked) : Type 0 where
   pub stands : ticks ≡ newer ++ (tick ∷ older)
   pub none_newer : NoneWasBase g newer (tick ∷ older)
   pub was : was_base g tick older ≡ true
-  pub base : last_base g ticks ≡ base_from tick.reading tick.act (last_mono g (tick ∷ older)) tick.now tick.offset tick.state
+  pub base : last_base g ticks
+      ≡ base_from tick.reading tick.act (last_mono g (tick ∷ older)) tick.now tick.offset tick.state
 
 -- no tick was a base, and the line is from the first reading
 pub record HasNoBase (g : Settings) (ticks : List Ticked) : Type 0 where

@@ -14,8 +14,10 @@ pub record IsRate (r : ℤ) : Type 0 where
 -- at most what one percent above OS monotonic time makes of the start
 pub record OnLine (g : Settings) (f : Face) : Type 0 where
   pub here : f.time ≡ line_time f.base f.mono
-  pub far : (pos 100 *ℤ f.base.time) ≤ℤ ((pos 100 *ℤ g.start) +ℤ (pos 101 *ℤ (f.base.mono -ℤ g.first.mono)))
-  pub sum : ((pos 100 *ℤ f.base.time) +ℤ (pos 100 *ℤ f.offset)) ≤ℤ (pos 230584300921369395100 +ℤ (pos 101 *ℤ (f.base.mono -ℤ g.first.mono)))
+  pub far : (pos 100 *ℤ f.base.time)
+      ≤ℤ ((pos 100 *ℤ g.start) +ℤ (pos 101 *ℤ (f.base.mono -ℤ g.first.mono)))
+  pub sum : ((pos 100 *ℤ f.base.time) +ℤ (pos 100 *ℤ f.offset))
+      ≤ℤ (pos 230584300921369395100 +ℤ (pos 101 *ℤ (f.base.mono -ℤ g.first.mono)))
 
 -- without correction: time and offset together are at most the greatest OS system time
 pub record OffLine (g : Settings) (f : Face) : Type 0 where
