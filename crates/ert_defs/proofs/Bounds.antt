@@ -22,7 +22,7 @@ use Rattle.ert_defs.proofs.Numbers.{line_grows, line_base, line_far}
 abbrev pub time_with : Bool → Face → Reading → ℤ
 time_with c f r = cond c (line_time f.base (mono_after f r)) (int_max f.time (r.sys -ℤ f.offset))
 
--- each rate that a base makes is one
+-- each rate that follows a base is at most one percent
 pub one_rate : (b c : Bool) → IsRate (cond b (pos 10000) (cond c (negsuc 9999) (pos 0)))
 one_rate true c = omega (arith, ints)
 one_rate false true = omega (arith, ints)
@@ -38,6 +38,7 @@ rate_after_is Finalize state error = omega (arith, ints)
 rate_after_is Plain state error = rate_is state error
 rate_after_is Force state error = rate_is state error
 
+-- how far the clock has come at the opening
 pub reach_opening : (c : Bool) (g : Settings) → IsChecked g → Reaches c g (face g (first_clock g))
 reach_opening true g k = record {
   here = sym (line_base (first_base g));
@@ -68,6 +69,7 @@ sound_opening g k =
 pub mono_up : (f : Face) (r : Reading) → f.mono ≤ℤ mono_after f r
 mono_up f r = omega (arith, ints, clamps)
 
+-- and stays below what each reading stays below
 pub mono_below : (f : Face) (r : Reading) (top : ℤ) → f.mono <ℤ top → r.mono <ℤ top → mono_after f r <ℤ top
 mono_below f r top a b = omega (arith, ints, clamps)
 
@@ -77,7 +79,8 @@ pub line_moves : (g : Settings) (f : Face) (r : Reading) → Sound g f → OnLin
 line_moves g f r s on = rw on.here (line_grows f.base f.mono (mono_after f r) s.rate s.mono (mono_up f r))
 
 -- a tick never sets the time back
-pub time_up : (c : Bool) (g : Settings) (f : Face) (r : Reading) → Sound g f → Reaches c g f → f.time ≤ℤ time_with c f r
+pub time_up : (c : Bool) (g : Settings) (f : Face) (r : Reading) → Sound g f → Reaches c g f
+    → f.time ≤ℤ time_with c f r
 time_up true g f r s on = let least = (line_moves g f r s on).least in omega (arith, ints, least)
 time_up false g f r s off = omega (arith, ints, clamps)
 
@@ -94,8 +97,9 @@ ticked_with b f r act now = record {
   mono = mono_after f r;
 }
 
-pub reach_tick : (c b : Bool) (g : Settings) (f : Face) (r : Reading) (act : Act) → Sound g f → IsValid r → Reaches c g f
-    → Reaches c g (ticked_with b f r act (time_with c f r))
+-- a tick that is a base, or none, keeps how far the clock has come
+pub reach_tick : (c b : Bool) (g : Settings) (f : Face) (r : Reading) (act : Act) → Sound g f → IsValid r
+    → Reaches c g f → Reaches c g (ticked_with b f r act (time_with c f r))
 reach_tick true true g f r act s v on =
     let up = mono_up f r in
     let low : f.base.mono ≤ℤ mono_after f r = omega (arith, ints, s.mono) in
@@ -106,8 +110,11 @@ reach_tick true true g f r act s v on =
       sum = omega (arith, ints, far, on.sum);
     }
 reach_tick true false g f r act s v on = record { here = refl; far = on.far; sum = on.sum }
-reach_tick false b g f r act s v off = record { sum = let high = v.sys_high in omega (arith, ints, clamps, off.sum, high) }
+reach_tick false b g f r act s v off =
+    let high = v.sys_high in
+    record { sum = omega (arith, ints, clamps, off.sum, high) }
 
+-- it keeps all bounds
 pub sound_based : (b : Bool) (g : Settings) (f : Face) (r : Reading) (act : Act) → Sound g f → IsValid r
     → Sound g (ticked_with b f r act (time_after g f r))
 sound_based true g f r act s v =
@@ -137,11 +144,12 @@ sound_based false g f r act s v =
       reach = reach_tick g.correction false g f r act s v s.reach;
     }
 
--- each tick keeps the bounds
+-- so does each tick
 pub sound_tick : (g : Settings) (f : Face) (r : Reading) (act : Act) → Sound g f → IsValid r
     → Sound g (ticked g f r act (time_after g f r))
 sound_tick g f r act s v = sound_based (is_base act (due_at g f r)) g f r act s v
 
+-- the shift that was due keeps how far the clock has come
 pub reach_shift : (c : Bool) (g : Settings) (f : Face) (d : Due) → Sound g f → DueFits f d → Reaches c g f
     → Reaches c g (shifted f (Some d))
 reach_shift true g f d s fits on = record {
@@ -151,7 +159,7 @@ reach_shift true g f d s fits on = record {
 }
 reach_shift false g f d s fits off = record { sum = omega (arith, ints, fits.sum) }
 
--- the shift that was due keeps the bounds
+-- it keeps all bounds
 pub sound_shift : (g : Settings) (f : Face) (d : Due) → Sound g f → DueFits f d → Sound g (shifted f (Some d))
 sound_shift g f d s fits = record {
   rate = s.rate;
@@ -164,23 +172,28 @@ sound_shift g f d s fits = record {
   reach = reach_shift g.correction g f d s fits s.reach;
 }
 
--- a shift that is due follows a base, and takes the offset to what it must be
+-- a shift that is due follows a base, and sets the offset to this
 abbrev pub FollowsBase : Act → Bool → ℤ → Option Due → Type 0
 FollowsBase act due x None = Unit {0}
 FollowsBase act due x (Some d) = (is_base act due ≡ true) × (d.0 ≡ x)
 
-pub follows_when : (act : Act) (due far : Bool) (x : ℤ) → is_base act due ≡ true → FollowsBase act due x (cond far (Some (x, Volatile)) None)
+pub follows_when : (act : Act) (due far : Bool) (x : ℤ) → is_base act due ≡ true
+    → FollowsBase act due x (cond far (Some (x, Volatile)) None)
 follows_when act due true x base = (base, refl)
 follows_when act due false x base = tt
 
-pub follows_base : (act : Act) (due : Bool) (state : OffsetState) (x offset : ℤ) → FollowsBase act due x (due_from act due state x offset)
+pub follows_base : (act : Act) (due : Bool) (state : OffsetState) (x offset : ℤ)
+    → FollowsBase act due x (due_from act due state x offset)
 follows_base Finalize due state x offset = (refl, refl)
 follows_base act due Preliminary x offset = tt
 follows_base act due Final x offset = tt
-follows_base Plain true Volatile x offset = follows_when Plain true (nat_lt 1000000 (unsigned_abs (x -ℤ offset))) x refl
+follows_base Plain true Volatile x offset =
+    follows_when Plain true (nat_lt 1000000 (unsigned_abs (x -ℤ offset))) x refl
 follows_base Plain false Volatile x offset = tt
-follows_base Force due Volatile x offset = follows_when Force due (nat_lt 1000000 (unsigned_abs (x -ℤ offset))) x refl
+follows_base Force due Volatile x offset =
+    follows_when Force due (nat_lt 1000000 (unsigned_abs (x -ℤ offset))) x refl
 
+-- such a shift keeps the bounds after a tick with a valid reading
 pub fits_where : (g : Settings) (f : Face) (r : Reading) (act : Act) (due : Option Due) → IsValid r
     → FollowsBase act (due_at g f r) (r.sys -ℤ time_after g f r) due → IsInRange due
     → MayShift (ticked g f r act (time_after g f r)) due
@@ -200,16 +213,18 @@ due_fits g f r act v k =
     (follows_base act (due_at g f r) f.state (r.sys -ℤ time_after g f r) f.offset)
     k
 
--- the time stays between the start and the end, and its sum with the offset has 64 bits
+-- the time is between the start and the end, and its sum with the offset is below 2^63
 pub record IsWithin (g : Settings) (f : Face) : Type 0 where
   pub low : g.start ≤ℤ f.time
   pub high : f.time <ℤ end_time g
   pub sum : (f.time +ℤ f.offset) <ℤ pos 9223372036854775808
 
+-- a clock within its bounds is there
 pub in_range_by : (c : Bool) (g : Settings) (f : Face) → IsChecked g → Sound g f → Reaches c g f → IsWithin g f
 in_range_by true g f k s on =
     let far = line_far f.base f.mono s.rate s.mono in
-    let here : (pos 100 *ℤ f.time) ≤ℤ ((pos 100 *ℤ f.base.time) +ℤ (pos 101 *ℤ (f.mono -ℤ f.base.mono))) = rw on.here far in
+    let here : (pos 100 *ℤ f.time) ≤ℤ ((pos 100 *ℤ f.base.time) +ℤ (pos 101 *ℤ (f.mono -ℤ f.base.mono))) =
+    rw on.here far in
     let first = k.first.mono_low in
     record {
       low = omega (arith, ints, s.start, s.now);
@@ -228,7 +243,8 @@ pub in_range : (g : Settings) (f : Face) → IsChecked g → Sound g f → IsWit
 in_range g f k s = in_range_by g.correction g f k s s.reach
 
 -- an earlier time and this offset have a sum of 64 bits
-pub sum_fits : (g : Settings) (f : Face) (x : ℤ) → IsChecked g → Sound g f → g.start ≤ℤ x → x ≤ℤ f.time → FitsSigned w64 (x +ℤ f.offset)
+pub sum_fits : (g : Settings) (f : Face) (x : ℤ) → IsChecked g → Sound g f → g.start ≤ℤ x → x ≤ℤ f.time
+    → FitsSigned w64 (x +ℤ f.offset)
 sum_fits g f x k s low high =
     let least = k.start.low in
     let w = in_range g f k s in

@@ -12,8 +12,9 @@ pub base_with : (g : Settings) (t : Ticked) (ts : List Ticked) (b : Bool) → wa
     → last_base g (t ∷ ts) ≡ cond b (base_from t.reading t.act (last_mono g (t ∷ ts)) t.now t.offset t.state) (last_base g ts)
 base_with g t ts b is = rw is refl
 
-pub looks_after : (g : Settings) (t : Ticked) (ts : List Ticked) (b : Bool) → was_base g t ts ≡ b → HasNoBase g ts ⊎ HasBase g ts
-    → HasNoBase g (t ∷ ts) ⊎ HasBase g (t ∷ ts)
+-- looking back after one more tick, which was a base or none
+pub looks_after : (g : Settings) (t : Ticked) (ts : List Ticked) (b : Bool) → was_base g t ts ≡ b
+    → HasNoBase g ts ⊎ HasBase g ts → HasNoBase g (t ∷ ts) ⊎ HasBase g (t ∷ ts)
 looks_after g t ts true is before = inr (record {
   newer = [];
   tick = t;
@@ -37,6 +38,7 @@ looks_after g t ts false is (inr before) = inr (record {
   base = rw (base_with g t ts false is) before.base;
 })
 
+-- looking back at any ticks
 pub look_back : (g : Settings) (ticks : List Ticked) → HasNoBase g ticks ⊎ HasBase g ticks
 look_back g [] = inl (record { none = tt; base = refl })
 look_back g (t ∷ ts) = looks_after g t ts (was_base g t ts) refl (look_back g ts)

@@ -36,6 +36,7 @@ IsOfMode Single Final = Unit {0}
 IsOfMode Multi Volatile = Unit {0}
 IsOfMode _ _ = ⊥
 
+-- it begins in one of them
 pub first_of_mode : (m : Mode) → IsOfMode m (first_state m)
 first_of_mode No = tt
 first_of_mode Single = tt
@@ -46,8 +47,9 @@ abbrev pub WhereDue : (Due → Type 0) → Option Due → Type 0
 WhereDue P None = Unit {0}
 WhereDue P (Some d) = P d
 
--- a shift that is due on two conditions is one that both stand behind
-pub where_both : (P : Due → Type 0) (d : Due) (a b : Bool) → (a ≡ true → b ≡ true → P d) → WhereDue P (cond (a && b) (Some d) None)
+-- where two tests make a shift due, both have passed
+pub where_both : (P : Due → Type 0) (d : Due) (a b : Bool) → (a ≡ true → b ≡ true → P d)
+    → WhereDue P (cond (a && b) (Some d) None)
 where_both P d true true p = p refl refl
 where_both P d true false p = tt
 where_both P d false b p = tt
@@ -57,9 +59,10 @@ abbrev pub was_due : Settings → Ticked → List Ticked → Bool
 was_due g t ts = is_due g (last_base g ts) (last_mono g (t ∷ ts)) t.reading.sys
 
 -- the shift that a tick makes due is one that the mode permits
-pub due_is : (m : Mode) (g : Settings) (act : Act) (offset : ℤ) (state : OffsetState) (t : Ticked) (ts : List Ticked)
-    → IsOfMode m state → MayAct act state → t.act ≡ act
-    → WhereDue (λ d. ShiftIs m g offset state d.0 d.1 t ts) (due_from act (was_due g t ts) state (t.reading.sys -ℤ t.now) offset)
+pub due_is : (m : Mode) (g : Settings) (act : Act) (offset : ℤ) (state : OffsetState) (t : Ticked)
+    (ts : List Ticked) → IsOfMode m state → MayAct act state → t.act ≡ act
+    → WhereDue (λ d. ShiftIs m g offset state d.0 d.1 t ts)
+    (due_from act (was_due g t ts) state (t.reading.sys -ℤ t.now) offset)
 due_is No g Plain offset Final t ts of_mode may is = tt
 due_is No g Force offset Final t ts of_mode may is = tt
 due_is No g Finalize offset Final t ts of_mode may is = absurd (cc)
@@ -89,12 +92,13 @@ pub record KeepsMode (g : Settings) (c : Clock) : Type 0 where
   pub state : IsOfMode g.mode c.state
   pub due : MayFollow g c c.due
 
+-- it has them at the opening
 pub mode_opening : (g : Settings) → KeepsMode g (first_clock g)
 mode_opening g = record { state = first_of_mode g.mode; due = tt }
 
 -- a shift that the mode permits is to a state of it
-pub state_after : (m : Mode) (g : Settings) (from to : ℤ) (old new : OffsetState) (ticks : List Ticked) → IsOfMode m old
-    → OfLastTick (ShiftIs m g from old to new) ticks → IsOfMode m new
+pub state_after : (m : Mode) (g : Settings) (from to : ℤ) (old new : OffsetState) (ticks : List Ticked)
+    → IsOfMode m old → OfLastTick (ShiftIs m g from old to new) ticks → IsOfMode m new
 state_after No g from to old new [] of_mode is = absurd is
 state_after No g from to old new (t ∷ ts) of_mode is = absurd is
 state_after Single g from to old new [] of_mode is = absurd is
@@ -103,8 +107,8 @@ state_after Multi g from to old new [] of_mode is = absurd is
 state_after Multi g from to old new (t ∷ ts) of_mode is = rw is.1 tt
 
 -- each event of the clock keeps it to its mode
-pub mode_event : (g : Settings) (s : State) (by : Actor) (with : Option Actor) (event : Event) → KeepsMode g s.clock
-    → Known g s by with event → KeepsMode g (clock_after g s.clock event)
+pub mode_event : (g : Settings) (s : State) (by : Actor) (with : Option Actor) (event : Event)
+    → KeepsMode g s.clock → Known g s by with event → KeepsMode g (clock_after g s.clock event)
 mode_event g s by with (Tick reading act now) k known = record {
   state = k.state;
   due =
@@ -120,6 +124,7 @@ mode_event g s by with (Shift offset state) k known = record {
 }
 mode_event g s by with _ k known = k
 
+-- so does an entry, by the clock or not
 pub mode_when : (b : Bool) (g : Settings) (s : State) (e : Entry) → KeepsMode g s.clock → Can g s e
     → KeepsMode g (cond b (clock_after g s.clock e.event) s.clock)
 mode_when true g s e k can = mode_event g s e.by e.with e.event k can.known
@@ -131,8 +136,8 @@ one_of true x y = inl refl
 one_of false x y = inr refl
 
 -- a tick moves the time as it may
-pub time_moves : (c : Bool) (g : Settings) (a : Clock) (reading : Reading) (act : Act) (now : ℤ) → Sound g (face g a)
-    → Reaches c g (face g a) → now ≡ time_with c (face g a) reading
+pub time_moves : (c : Bool) (g : Settings) (a : Clock) (reading : Reading) (act : Act) (now : ℤ)
+    → Sound g (face g a) → Reaches c g (face g a) → now ≡ time_with c (face g a) reading
     → TimeMoves c g a (clock_after g a (Tick reading act now)) reading
 time_moves true g a reading act now s on told =
     let moves = line_moves g (face g a) reading s on in
@@ -140,8 +145,9 @@ time_moves true g a reading act now s on told =
 time_moves false g a reading act now s off told =
     rw told (one_of (int_lt (reading.sys -ℤ a.offset) a.now) a.now (reading.sys -ℤ a.offset))
 
--- what an event moves that leaves the clock as it is
-pub stays : (b : Bool) (a : Clock) → ((cond b a a).now ≡ a.now) × ((cond b a a).offset ≡ a.offset) × ((cond b a a).state ≡ a.state)
+-- an event that leaves the clock as it is moves nothing
+pub stays : (b : Bool) (a : Clock)
+    → ((cond b a a).now ≡ a.now) × ((cond b a a).offset ≡ a.offset) × ((cond b a a).state ≡ a.state)
 stays true a = (refl, refl, refl)
 stays false a = (refl, refl, refl)
 
@@ -149,25 +155,30 @@ stays false a = (refl, refl, refl)
 abbrev pub MovesBy : Settings → Clock → Option Actor → Event → Actor → Type 0
 MovesBy g a with event by = Moves g a (cond (same_actor by Keeper || is_with with Keeper) (clock_after g a event) a) event
 
-pub moves_event : (g : Settings) (s : State) (by : Actor) (with : Option Actor) (event : Event) → KeepsBounds g s.clock
-    → KeepsMode g s.clock → Keeps g by with event → Known g s by with event → MovesBy g s.clock with event by
+-- each event moves the clock as it may
+pub moves_event : (g : Settings) (s : State) (by : Actor) (with : Option Actor) (event : Event)
+    → KeepsBounds g s.clock → KeepsMode g s.clock → Keeps g by with event → Known g s by with event
+    → MovesBy g s.clock with event by
 moves_event g s by with (Tick reading act now) k m keeps known =
     let up = no_fall g (face g s.clock) reading k.sound in
     let told = known.1.told in
     let moves = time_moves g.correction g s.clock reading act now k.sound k.sound.reach told in
-    subst (MovesBy g s.clock with (Tick reading act now)) (sym keeps.0) ((omega (arith, ints, up, told)), moves, refl, refl)
+    subst (MovesBy g s.clock with (Tick reading act now)) (sym keeps.0)
+    ((omega (arith, ints, up, told)), moves, refl, refl)
 moves_event g s by with (Shift offset state) k m keeps known =
-    subst (MovesBy g s.clock with (Shift offset state)) (sym keeps.0) (refl, subst (MayFollow g s.clock) known m.due)
+    subst (MovesBy g s.clock with (Shift offset state)) (sym keeps.0)
+    (refl, subst (MayFollow g s.clock) known m.due)
 moves_event g s by with _ k m keeps known = stays (same_actor by Keeper || is_with with Keeper) s.clock
 
 -- legal entries move the clock as they may
-pub moves_run : (g : Settings) (s : State) (h : List Entry) → KeepsBounds g s.clock → KeepsMode g s.clock → LegalFrom g s h
-    → PermittedFrom g s h
+pub moves_run : (g : Settings) (s : State) (h : List Entry) → KeepsBounds g s.clock → KeepsMode g s.clock
+    → LegalFrom g s h → PermittedFrom g s h
 moves_run g s [] k m legal = tt
 moves_run g s (e ∷ h) k m legal =
     let bounds = kept_next g s e k legal.0 in
     let mode = mode_when (has_actor e Keeper) g s e m legal.0 in
-    (moves_event g s e.by e.with e.event k m legal.0.keeps legal.0.known, moves_run g (next g s e) h bounds mode legal.1)
+    let moves = moves_event g s e.by e.with e.event k m legal.0.keeps legal.0.known in
+    (moves, moves_run g (next g s e) h bounds mode legal.1)
 
 -- in single time warp mode a shift is left only while the offset is preliminary
 abbrev pub left_in : OffsetState → ℕ
@@ -175,25 +186,31 @@ left_in Preliminary = 1
 left_in Final = 0
 left_in Volatile = 0
 
+-- that is one shift at most
 pub left_most : (state : OffsetState) → left_in state ≤ 1
 left_most Preliminary = omega arith
 left_most Final = omega arith
 left_most Volatile = omega arith
 
-pub left_at_shift : (m : Mode) (g : Settings) (from to : ℤ) (old new : OffsetState) (ticks : List Ticked) → m ≡ Single
-    → OfLastTick (ShiftIs m g from old to new) ticks → 1 + left_in new ≤ left_in old
+-- each shift uses one up
+pub left_at_shift : (m : Mode) (g : Settings) (from to : ℤ) (old new : OffsetState) (ticks : List Ticked)
+    → m ≡ Single → OfLastTick (ShiftIs m g from old to new) ticks → 1 + left_in new ≤ left_in old
 left_at_shift No g from to old new ticks single is = absurd (cc)
 left_at_shift Multi g from to old new ticks single is = absurd (cc)
 left_at_shift Single g from to old new [] single is = absurd is
 left_at_shift Single g from to old new (t ∷ ts) single is = rw (is.0, is.1) (omega arith)
 
+-- and no other event does
 pub left_after : (g : Settings) (a b : Clock) (event : Event) → g.mode ≡ Single → Moves g a b event
     → shift_count event + left_in b.state ≤ left_in a.state
 left_after g a b (Tick reading act now) single moves = rw moves.3 (omega arith)
-left_after g a b (Shift offset state) single moves = left_at_shift g.mode g a.offset b.offset a.state b.state a.ticks single moves.1
+left_after g a b (Shift offset state) single moves =
+    left_at_shift g.mode g a.offset b.offset a.state b.state a.ticks single moves.1
 left_after g a b _ single moves = rw moves.2 (omega arith)
 
-pub left_run : (g : Settings) (s : State) (h : List Entry) → g.mode ≡ Single → PermittedFrom g s h → shifts h ≤ left_in s.clock.state
+-- so no more shifts follow than are left
+pub left_run : (g : Settings) (s : State) (h : List Entry) → g.mode ≡ Single → PermittedFrom g s h
+    → shifts h ≤ left_in s.clock.state
 left_run g s [] single moves = omega arith
 left_run g s (e ∷ h) single moves =
     let one = left_after g s.clock (next g s e).clock e.event single moves.0 in

@@ -42,7 +42,8 @@ pub record IsDueBy (g : Settings) (rows : List Row) (timer : TimerRef) (now : �
 -- no timer expires before its deadline (`erlang` module reference, `start_timer`)
 abbrev pub LawOfExpiry : Type 0
 LawOfExpiry = (g : Settings) (f : List Entry) (e : Entry) (timer : TimerRef) → IsChecked g
-    → Legal g (f ++ e ∷ []) → e.event ≡ Expire timer → IsDueBy g ((state g f).rows timer.wheel) timer (state g f).clock.now
+    → Legal g (f ++ e ∷ []) → e.event ≡ Expire timer
+    → IsDueBy g ((state g f).rows timer.wheel) timer (state g f).clock.now
 
 -- each legal history is permitted
 abbrev pub LawOfPermission : Type 0
