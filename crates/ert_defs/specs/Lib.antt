@@ -1,4 +1,5 @@
 pub mod Actors
+pub mod ClockLaws
 pub mod Clocks
 pub mod Laws
 pub mod Legal
@@ -8,6 +9,7 @@ pub mod Milliseconds
 pub mod Permitted
 pub mod Readings
 pub mod Settings
+pub mod Sound
 pub mod States
 pub mod Timers
 pub mod Words

@@ -5,12 +5,17 @@
 //! definitions in words.
 #![tactic(auto)]
 
+mod clock_laws;
 mod entry;
 mod laws;
 mod mail;
 mod settings;
 mod timer;
 
+pub use clock_laws::{
+    clock_is_permitted, clock_looks_back, no_timer_expires_early, time_never_falls,
+    times_stay_in_range,
+};
 pub use entry::{Act, Actor, Entry, Event};
 pub use laws::{
     entries_are_local, expired_timers_wait_once, prefixes_are_legal, timers_settle_once,

@@ -1,0 +1,209 @@
+-- The clock over legal histories: its bounds hold after each, its time never falls, and no look is of a
+-- time to come.
+
+use Rattle.std.proofs.Common.{◌≡◌, refl, sym, arith, cond, Bool, true, false, Option, subst, List, [], ◌∷◌, ◌++◌}
+use Rattle.std.proofs.lemmas.Int.{ints}
+use Rattle.std.proofs.lemmas.List.Elements.{Contains-append_right}
+use Rattle.std.specs.Prelude.{ℤ, ◌+ℤ◌, ◌-ℤ◌, ◌≤ℤ◌, FitsSigned}
+use Rattle.std.specs.Int.{w64}
+use Rattle.ert_defs.specs.Actors.{same_actor, has_actor}
+use Rattle.ert_defs.specs.Clocks.{Clock, face, first_clock, clock_after}
+use Rattle.ert_defs.specs.ClockLaws.{IsDueBy}
+use Rattle.ert_defs.specs.Legal.{Can, Known, Found, LegalFrom, Legal, IsNext}
+use Rattle.ert_defs.specs.Lines.{IsInRange, time_after, due_after}
+use Rattle.ert_defs.specs.Milliseconds.{down}
+use Rattle.ert_defs.specs.Readings.{IsValid}
+use Rattle.ert_defs.specs.Settings.{IsChecked}
+use Rattle.ert_defs.specs.Sound.{Sound, MayShift}
+use Rattle.ert_defs.specs.States.{State, look_after, opening, next, run, state}
+use Rattle.ert_defs.specs.declared.entry.Act.{Act}
+use Rattle.ert_defs.specs.declared.entry.Actor.{Actor}
+use Rattle.ert_defs.specs.declared.entry.Actor.TheVariants.{Keeper}
+use Rattle.ert_defs.specs.declared.entry.Entry.{Entry}
+use Rattle.ert_defs.specs.declared.entry.Event.{Event}
+use Rattle.ert_defs.specs.declared.entry.Event.TheVariants.{Tick, Shift, Look, Expire}
+use Rattle.ert_defs.specs.declared.settings.Reading.{Reading}
+use Rattle.ert_defs.specs.declared.settings.Settings.{Settings}
+use Rattle.ert_defs.specs.declared.timer.TimerRef.{TimerRef}
+use Rattle.ert_defs.proofs.Bounds.{sound_opening, sound_tick, sound_shift, due_fits, no_fall, IsWithin, in_range, sum_fits}
+use Rattle.ert_defs.proofs.Numbers.{floor_rises}
+
+-- the state after a longer history
+pub clock_run_append : (g : Settings) (s : State) (f m : List Entry) → run g s (f ++ m) ≡ run g (run g s f) m
+clock_run_append g s [] m = refl
+clock_run_append g s (e ∷ f) m = clock_run_append g (next g s e) f m
+
+-- what a legal history begins with is legal, and so is what follows that
+pub clock_legal_front : (g : Settings) (s : State) (f m : List Entry) → LegalFrom g s (f ++ m) → LegalFrom g s f
+clock_legal_front g s [] m legal = tt
+clock_legal_front g s (e ∷ f) m legal = (legal.0, clock_legal_front g (next g s e) f m legal.1)
+
+pub clock_legal_behind : (g : Settings) (s : State) (f m : List Entry) → LegalFrom g s (f ++ m)
+    → LegalFrom g (run g s f) m
+clock_legal_behind g s [] m legal = legal
+clock_legal_behind g s (e ∷ f) m legal = clock_legal_behind g (next g s e) f m legal.1
+
+-- what a clock keeps: its bounds, and those of the shift that is due
+pub record KeepsBounds (g : Settings) (c : Clock) : Type 0 where
+  pub sound : Sound g (face g c)
+  pub due : MayShift (face g c) c.due
+
+-- it has them at the opening
+pub kept_opening : (g : Settings) → IsChecked g → KeepsBounds g (first_clock g)
+kept_opening g checked = record { sound = sound_opening g checked; due = tt }
+
+-- a tick to the time that the rules give keeps them
+pub kept_tick : (g : Settings) (c : Clock) (r : Reading) (act : Act) → KeepsBounds g c → IsValid r
+    → IsInRange (due_after g (face g c) r act (time_after g (face g c) r))
+    → KeepsBounds g (clock_after g c (Tick r act (time_after g (face g c) r)))
+kept_tick g c r act k valid in_range = record {
+  sound = sound_tick g (face g c) r act k.sound valid;
+  due = due_fits g (face g c) r act valid in_range;
+}
+
+-- each event of the clock keeps them
+pub kept_event : (g : Settings) (s : State) (by : Actor) (with : Option Actor) (event : Event)
+    → KeepsBounds g s.clock → Known g s by with event → KeepsBounds g (clock_after g s.clock event)
+kept_event g s by with (Tick reading act now) k known =
+    let told = known.1.told in
+    let in_range = subst (λ (t : ℤ). IsInRange (due_after g (face g s.clock) reading act t)) told
+    known.1.in_range in
+    subst (λ (t : ℤ). KeepsBounds g (clock_after g s.clock (Tick reading act t))) (sym told)
+    (kept_tick g s.clock reading act k known.1.valid in_range)
+kept_event g s by with (Shift offset state) k known = record {
+  sound = sound_shift g (face g s.clock) (offset, state) k.sound (subst (MayShift (face g s.clock)) known k.due);
+  due = tt;
+}
+kept_event g s by with _ k known = k
+
+-- so does an entry, by the clock or not
+pub kept_when : (b : Bool) (g : Settings) (s : State) (e : Entry) → KeepsBounds g s.clock → Can g s e
+    → KeepsBounds g (cond b (clock_after g s.clock e.event) s.clock)
+kept_when true g s e k can = kept_event g s e.by e.with e.event k can.known
+kept_when false g s e k can = k
+
+-- so does each legal entry
+pub kept_next : (g : Settings) (s : State) (e : Entry) → KeepsBounds g s.clock → Can g s e
+    → KeepsBounds g (next g s e).clock
+kept_next g s e k can = kept_when (has_actor e Keeper) g s e k can
+
+-- and so do legal entries one after the other
+pub kept_run : (g : Settings) (s : State) (h : List Entry) → KeepsBounds g s.clock → LegalFrom g s h
+    → KeepsBounds g (run g s h).clock
+kept_run g s [] k legal = k
+kept_run g s (e ∷ h) k legal = kept_run g (next g s e) h (kept_next g s e k legal.0) legal.1
+
+-- the bounds hold after each legal history
+pub kept : (g : Settings) (h : List Entry) → IsChecked g → Legal g h → KeepsBounds g (state g h).clock
+kept g h checked legal = kept_run g (opening g) h (kept_opening g checked) legal
+
+-- no event of the clock sets the time back
+pub time_event : (g : Settings) (s : State) (by : Actor) (with : Option Actor) (event : Event)
+    → KeepsBounds g s.clock → Known g s by with event → s.clock.now ≤ℤ (clock_after g s.clock event).now
+time_event g s by with (Tick reading act now) k known =
+    let up = no_fall g (face g s.clock) reading k.sound in
+    let told = known.1.told in
+    omega (arith, ints, up, told)
+time_event g s by with (Shift offset state) k known = omega (arith, ints)
+time_event g s by with _ k known = omega (arith, ints)
+
+-- nor does an entry, by the clock or not
+pub time_when : (b : Bool) (g : Settings) (s : State) (e : Entry) → KeepsBounds g s.clock → Can g s e
+    → s.clock.now ≤ℤ (cond b (clock_after g s.clock e.event) s.clock).now
+time_when true g s e k can = time_event g s e.by e.with e.event k can.known
+time_when false g s e k can = omega (arith, ints)
+
+-- nor a legal entry
+pub time_next : (g : Settings) (s : State) (e : Entry) → KeepsBounds g s.clock → Can g s e
+    → s.clock.now ≤ℤ (next g s e).clock.now
+time_next g s e k can = time_when (has_actor e Keeper) g s e k can
+
+-- nor legal entries one after the other
+pub time_run : (g : Settings) (s : State) (h : List Entry) → KeepsBounds g s.clock → LegalFrom g s h
+    → s.clock.now ≤ℤ (run g s h).clock.now
+time_run g s [] k legal = omega (arith, ints)
+time_run g s (e ∷ h) k legal =
+    let one = time_next g s e k legal.0 in
+    let more = time_run g (next g s e) h (kept_next g s e k legal.0) legal.1 in
+    omega (arith, ints, one, more)
+
+-- in a legal history time never falls
+pub time_rises : (g : Settings) (f m : List Entry) → IsChecked g → Legal g (f ++ m)
+    → (state g f).clock.now ≤ℤ (state g (f ++ m)).clock.now
+time_rises g f m checked legal =
+    let front = clock_legal_front g (opening g) f m legal in
+    let behind = clock_legal_behind g (opening g) f m legal in
+    rw clock_run_append (time_run g (state g f) m (kept g f checked front) behind)
+
+-- a look is of no time to come, and of none before the start time
+pub record IsLook (g : Settings) (s : State) (look : ℤ) : Type 0 where
+  pub low : g.start ≤ℤ look
+  pub high : look ≤ℤ s.clock.now
+
+-- the last look of an actor is such a one after an event, which is the actor's own or not
+pub look_event : (b : Bool) (g : Settings) (s : State) (by a : Actor) (event : Event) → KeepsBounds g s.clock
+    → Found g s by event → IsLook g s (s.looked a) → IsLook g s (cond b (look_after (s.looked a) event) (s.looked a))
+look_event false g s by a event k found look = look
+look_event true g s by a (Look now) k found look =
+    let low = k.sound.start in
+    let high = k.sound.now in
+    record { low = omega (arith, ints, found, low, high); high = omega (arith, ints, found) }
+look_event true g s by a _ k found look = look
+
+-- after a legal entry
+pub looks_next : (g : Settings) (s : State) (e : Entry) (a : Actor) → KeepsBounds g s.clock → Can g s e
+    → IsLook g s (s.looked a) → IsLook g (next g s e) ((next g s e).looked a)
+looks_next g s e a k can look =
+    let now = look_event (same_actor e.by a) g s e.by a e.event k can.found look in
+    let up = time_next g s e k can in
+    record { low = now.low; high = omega (arith, ints, now.high, up) }
+
+-- after legal entries one after the other
+pub looks_run : (g : Settings) (s : State) (h : List Entry) (a : Actor) → KeepsBounds g s.clock → LegalFrom g s h
+    → IsLook g s (s.looked a) → IsLook g (run g s h) ((run g s h).looked a)
+looks_run g s [] a k legal look = look
+looks_run g s (e ∷ h) a k legal look =
+    looks_run g (next g s e) h a (kept_next g s e k legal.0) legal.1 (looks_next g s e a k legal.0 look)
+
+-- and after a legal history
+pub looks : (g : Settings) (h : List Entry) (a : Actor) → IsChecked g → Legal g h
+    → IsLook g (state g h) ((state g h).looked a)
+looks g h a checked legal =
+    looks_run g (opening g) h a (kept_opening g checked) legal
+    (record { low = omega (arith, ints); high = omega (arith, ints) })
+
+-- a timer that is due by a look is due by each later time
+pub due_later : (g : Settings) (s : State) (by : Actor) (timer : TimerRef) → IsLook g s (s.looked by)
+    → IsNext g s by timer → IsDueBy g (s.rows timer.wheel) timer s.clock.now
+due_later g s by timer look n =
+    let later : (s.looked by -ℤ g.start) ≤ℤ (s.clock.now -ℤ g.start) = omega (arith, ints, look.high) in
+    let rises : down g (s.looked by) ≤ℤ down g s.clock.now = floor_rises _ _ later in
+    let due = n.due in
+    record {
+      row = n.row;
+      stands = rw n.stands (Contains-append_right n.before (n.row ∷ n.behind) n.row (0, (omega arith), refl));
+      named = n.named;
+      due = omega (arith, ints, due, rises);
+    }
+
+-- no timer expires early
+pub due_by_now : (g : Settings) (f : List Entry) (e : Entry) (timer : TimerRef) → IsChecked g → Legal g (f ++ e ∷ [])
+    → e.event ≡ Expire timer → IsDueBy g ((state g f).rows timer.wheel) timer (state g f).clock.now
+due_by_now g f e timer checked legal is =
+    let front = clock_legal_front g (opening g) f (e ∷ []) legal in
+    let can = clock_legal_behind g (opening g) f (e ∷ []) legal in
+    due_later g (state g f) e.by timer (looks g f e.by checked front)
+    (subst (Known g (state g f) e.by e.with) is can.0.known)
+
+-- the time after a legal history stays between the start and the end
+pub state_in_range : (g : Settings) (h : List Entry) → IsChecked g → Legal g h → IsWithin g (face g (state g h).clock)
+state_in_range g h checked legal = in_range g (face g (state g h).clock) checked (kept g h checked legal).sound
+
+-- its sum with the offset there, or at a later point, has 64 bits
+pub state_sum_fits : (g : Settings) (f m : List Entry) → IsChecked g → Legal g (f ++ m)
+    → FitsSigned w64 ((state g f).clock.now +ℤ (state g (f ++ m)).clock.offset)
+state_sum_fits g f m checked legal =
+    sum_fits g (face g (state g (f ++ m)).clock) (state g f).clock.now checked
+    (kept g (f ++ m) checked legal).sound
+    (state_in_range g f checked (clock_legal_front g (opening g) f m legal)).low
+    (time_rises g f m checked legal)
