@@ -27,21 +27,7 @@ use Rattle.ert_defs.specs.declared.settings.Settings.{Settings}
 use Rattle.ert_defs.specs.declared.timer.TimerRef.{TimerRef}
 use Rattle.ert_defs.proofs.Bounds.{sound_opening, sound_tick, sound_shift, due_fits, no_fall, IsWithin, in_range, sum_fits}
 use Rattle.ert_defs.proofs.Numbers.{floor_rises}
-
--- the state after a longer history
-pub clock_run_append : (g : Settings) (s : State) (f m : List Entry) → run g s (f ++ m) ≡ run g (run g s f) m
-clock_run_append g s [] m = refl
-clock_run_append g s (e ∷ f) m = clock_run_append g (next g s e) f m
-
--- what a legal history begins with is legal, and so is what follows that
-pub clock_legal_front : (g : Settings) (s : State) (f m : List Entry) → LegalFrom g s (f ++ m) → LegalFrom g s f
-clock_legal_front g s [] m legal = tt
-clock_legal_front g s (e ∷ f) m legal = (legal.0, clock_legal_front g (next g s e) f m legal.1)
-
-pub clock_legal_behind : (g : Settings) (s : State) (f m : List Entry) → LegalFrom g s (f ++ m)
-    → LegalFrom g (run g s f) m
-clock_legal_behind g s [] m legal = legal
-clock_legal_behind g s (e ∷ f) m legal = clock_legal_behind g (next g s e) f m legal.1
+use Rattle.ert_defs.proofs.Runs.{run-append, legal_first, legal_then}
 
 -- what a clock keeps: its bounds, and those of the shift that is due
 pub record KeepsBounds (g : Settings) (c : Clock) : Type 0 where
@@ -131,9 +117,9 @@ time_run g s (e ∷ h) k legal =
 pub time_rises : (g : Settings) (f m : List Entry) → IsChecked g → Legal g (f ++ m)
     → (state g f).clock.now ≤ℤ (state g (f ++ m)).clock.now
 time_rises g f m checked legal =
-    let front = clock_legal_front g (opening g) f m legal in
-    let behind = clock_legal_behind g (opening g) f m legal in
-    rw clock_run_append (time_run g (state g f) m (kept g f checked front) behind)
+    let front = legal_first g (opening g) f m legal in
+    let behind = legal_then g (opening g) f m legal in
+    rw run-append (time_run g (state g f) m (kept g f checked front) behind)
 
 -- a look is of no time to come, and of none before the start time
 pub record IsLook (g : Settings) (s : State) (look : ℤ) : Type 0 where
@@ -190,8 +176,8 @@ due_later g s by timer look n =
 pub due_by_now : (g : Settings) (f : List Entry) (e : Entry) (timer : TimerRef) → IsChecked g → Legal g (f ++ e ∷ [])
     → e.event ≡ Expire timer → IsDueBy g ((state g f).rows timer.wheel) timer (state g f).clock.now
 due_by_now g f e timer checked legal is =
-    let front = clock_legal_front g (opening g) f (e ∷ []) legal in
-    let can = clock_legal_behind g (opening g) f (e ∷ []) legal in
+    let front = legal_first g (opening g) f (e ∷ []) legal in
+    let can = legal_then g (opening g) f (e ∷ []) legal in
     due_later g (state g f) e.by timer (looks g f e.by checked front)
     (subst (Known g (state g f) e.by e.with) is can.0.known)
 
@@ -205,5 +191,5 @@ pub state_sum_fits : (g : Settings) (f m : List Entry) → IsChecked g → Legal
 state_sum_fits g f m checked legal =
     sum_fits g (face g (state g (f ++ m)).clock) (state g f).clock.now checked
     (kept g (f ++ m) checked legal).sound
-    (state_in_range g f checked (clock_legal_front g (opening g) f m legal)).low
+    (state_in_range g f checked (legal_first g (opening g) f m legal)).low
     (time_rises g f m checked legal)
