@@ -10,8 +10,8 @@ use std::io::{Read, Write};
 
 /// A source over one of std's readers. What it has left isn't told.
 ///
-/// Each read is one read of std's, which makes one system call at most and doesn't repeat one that a
-/// signal interrupts: such a read is a failure as any other.
+/// Each read is one read of `inner`. That of a file or of standard input makes one system call, and
+/// doesn't repeat one that a signal interrupts: such a read is a failure as any other.
 #[derive(Debug, Drop)]
 pub struct StdSource<R> {
     inner: R,
@@ -52,8 +52,9 @@ impl<R: Read> Source for StdSource<R> {
 
 /// A sink over one of std's writers. What it took isn't told, nor the room that it has.
 ///
-/// Each write is one write of std's, which makes one system call at most and doesn't repeat one that a
-/// signal interrupts: such a write is a failure as any other. A write that takes no byte is one too.
+/// Each write is one write of `inner`. That of a file or of standard output makes one system call, and
+/// doesn't repeat one that a signal interrupts: such a write is a failure as any other. A write that
+/// takes no byte is one too.
 #[derive(Debug, Drop)]
 pub struct StdSink<W> {
     inner: W,
