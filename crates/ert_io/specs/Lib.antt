@@ -1,3 +1,5 @@
 pub mod Faults
+pub mod Host
 pub mod Known
+pub mod Memory
 pub mod Writing

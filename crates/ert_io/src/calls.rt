@@ -1,4 +1,5 @@
-ghost use Rattle.std.specs.Prelude.{◌≡◌, ◌+◌, ◌≤◌, ◌↔◌, min, Contains, IsTrue};
+ghost use Rattle.std.specs.Prelude.{◌≡◌, ◌≤◌, ◌↔◌, Contains, IsTrue};
+ghost use Rattle.ert_io.specs.Faults.{one_more};
 
 use crate::failed::Failed;
 
@@ -24,7 +25,7 @@ impl Calls {
 
     /// Counts one more call, and tells whether its number, from 1, is among those that are to fail.
     pub(crate) fn begin(&mut self) -> bool
-        ensures made { self.new ≡ record self.old { made = min (self.old.made + 1) 18446744073709551615 } }
+        ensures made { self.new ≡ record self.old { made = one_more self.old.made } }
         ensures fails { IsTrue result ↔ Contains self.old.fails.items self.new.made }
     {
         self.made = self.made.saturating_add(1);
@@ -34,7 +35,7 @@ impl Calls {
 
     /// Counts one more fault.
     pub(crate) fn fail(&mut self) -> Failed
-        ensures faults { self.new ≡ record self.old { faults = min (self.old.faults + 1) 18446744073709551615 } }
+        ensures faults { self.new ≡ record self.old { faults = one_more self.old.faults } }
         ensures later { self.old.faults ≤ self.new.faults }
     {
         self.faults = self.faults.saturating_add(1);

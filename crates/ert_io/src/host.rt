@@ -1,14 +1,17 @@
-ghost use Rattle.std.specs.Prelude.{◌≡◌};
+ghost use Rattle.std.specs.Prelude.{◌≡◌, ◌<◌, ◌≤◌, length, IfOk, OnOk, OnErr};
+ghost use Rattle.std.specs.Io.KnownBytes.{ReadConsumes, WriteAppends};
+ghost use Rattle.ert_io.specs.Faults.{one_more};
+ghost use Rattle.ert_io.specs.Host.{reader_of, writer_of};
 
 use crate::failed::Failed;
 use crate::sink::Sink;
 use crate::source::Source;
 use std::io::{Read, Write};
 
-/// A source over one of std's readers. What it gives isn't known.
+/// A source over one of std's readers. What it has left isn't told.
 ///
-/// Each read is one read of std's, which makes one system call at most and doesn't repeat one that a
-/// signal interrupts: such a read is a failure as any other.
+/// Each read is one read of `inner`. That of a file or of standard input makes one system call, and
+/// doesn't repeat one that a signal interrupts: such a read is a failure as any other.
 #[derive(Debug, Drop)]
 pub struct StdSource<R> {
     inner: R,
@@ -18,7 +21,8 @@ pub struct StdSource<R> {
 impl<R: Read> StdSource<R> {
     /// Reads from `inner`, whose failures so far don't count.
     pub fn new(inner: R) -> StdSource<R>
-        ensures { ⟦<StdSource<R> as Source>⟧.faults result ≡ 0 }
+        ensures reader { reader_of result ≡ inner }
+        ensures faults { ⟦<Self as Source>⟧.faults result ≡ 0 }
     {
         StdSource { inner, faults: 0 }
     }
@@ -27,7 +31,15 @@ impl<R: Read> StdSource<R> {
 impl<R: Read> Source for StdSource<R> {
     ghost faults = { λ s. s.faults };
 
-    fn read(&mut self, buf: &mut [u8]) -> Result<usize, Failed> {
+    fn read(&mut self, buf: &mut [u8]) -> Result<usize, Failed>
+        requires { 0 < length buf.old }
+        ensures bound { IfOk result (λ n. n ≤ length buf.new) }
+        // Where the reader tells its bytes, these are them, and none only at their end.
+        ensures given { ReadConsumes (R.remaining (reader_of self.old)) (R.remaining (reader_of self.new)) result buf.new }
+        ensures ok { OnOk result (⟦<Self as Source>⟧.faults self.new ≡ ⟦<Self as Source>⟧.faults self.old) }
+        ensures err { OnErr result (⟦<Self as Source>⟧.faults self.new ≡ one_more (⟦<Self as Source>⟧.faults self.old)) }
+        ensures later { ⟦<Self as Source>⟧.faults self.old ≤ ⟦<Self as Source>⟧.faults self.new }
+    {
         match self.inner.read(buf) {
             Ok(count) => Ok(count),
             Err(_) => {
@@ -38,10 +50,11 @@ impl<R: Read> Source for StdSource<R> {
     }
 }
 
-/// A sink over one of std's writers. What it took isn't known, nor the room that it has.
+/// A sink over one of std's writers. What it took isn't told, nor the room that it has.
 ///
-/// Each write is one write of std's, which makes one system call at most and doesn't repeat one that a
-/// signal interrupts: such a write is a failure as any other. A write that takes no byte is one too.
+/// Each write is one write of `inner`. That of a file or of standard output makes one system call, and
+/// doesn't repeat one that a signal interrupts: such a write is a failure as any other. A write that
+/// takes no byte is one too.
 #[derive(Debug, Drop)]
 pub struct StdSink<W> {
     inner: W,
@@ -51,7 +64,8 @@ pub struct StdSink<W> {
 impl<W: Write> StdSink<W> {
     /// Writes to `inner`, whose failures so far don't count.
     pub fn new(inner: W) -> StdSink<W>
-        ensures { ⟦<StdSink<W> as Sink>⟧.faults result ≡ 0 }
+        ensures writer { writer_of result ≡ inner }
+        ensures faults { ⟦<Self as Sink>⟧.faults result ≡ 0 }
     {
         StdSink { inner, faults: 0 }
     }
@@ -60,7 +74,16 @@ impl<W: Write> StdSink<W> {
 impl<W: Write> Sink for StdSink<W> {
     ghost faults = { λ s. s.faults };
 
-    fn write(&mut self, bytes: &[u8]) -> Result<usize, Failed> {
+    fn write(&mut self, bytes: &[u8]) -> Result<usize, Failed>
+        requires { 0 < length bytes.now }
+        ensures least { IfOk result (λ n. 0 < n) }
+        ensures most { IfOk result (λ n. n ≤ length bytes.now) }
+        // Where the writer tells its bytes, these were appended to them.
+        ensures put { WriteAppends (W.contents (writer_of self.old)) (W.contents (writer_of self.new)) result bytes.now }
+        ensures ok { OnOk result (⟦<Self as Sink>⟧.faults self.new ≡ ⟦<Self as Sink>⟧.faults self.old) }
+        ensures err { OnErr result (⟦<Self as Sink>⟧.faults self.new ≡ one_more (⟦<Self as Sink>⟧.faults self.old)) }
+        ensures later { ⟦<Self as Sink>⟧.faults self.old ≤ ⟦<Self as Sink>⟧.faults self.new }
+    {
         match self.inner.write(bytes) {
             Ok(count) if count > 0 => Ok(count),
             _ => {

@@ -13,15 +13,19 @@
 mod calls;
 mod failed;
 mod host;
-mod memory;
+mod mem_sink;
+mod mem_source;
 mod reading;
 mod sink;
 mod source;
+#[cfg(test)]
+mod tests;
 mod writing;
 
 pub use failed::Failed;
 pub use host::{StdSink, StdSource};
-pub use memory::{MemSink, MemSource};
+pub use mem_sink::MemSink;
+pub use mem_source::MemSource;
 pub use reading::{ReadErr, read_all};
 pub use sink::Sink;
 pub use source::Source;

@@ -1,0 +1,33 @@
+-- What a source and a sink in memory are, to who uses them.
+
+use Rattle.std.specs.Prelude.{ℕ, List, drop}
+use Rattle.ert_io.specs.declared.mem_source.MemSource.{MemSource}
+use Rattle.ert_io.specs.declared.mem_sink.MemSink.{MemSink}
+
+-- the bytes that a source has left
+abbrev pub left_of : MemSource → List ℕ
+left_of s = drop s.next s.bytes.items
+
+-- how many reads were made
+abbrev pub reads_of : MemSource → ℕ
+reads_of s = s.calls.made
+
+-- the numbers of the reads that are to fail
+abbrev pub failing_reads : MemSource → List ℕ
+failing_reads s = s.calls.fails.items
+
+-- the bytes that a sink took
+abbrev pub taken_of : MemSink → List ℕ
+taken_of s = s.taken.items
+
+-- the most bytes that a sink takes in a call
+abbrev pub piece_of : MemSink → ℕ
+piece_of s = s.piece
+
+-- how many writes were made
+abbrev pub writes_of : MemSink → ℕ
+writes_of s = s.calls.made
+
+-- the numbers of the writes that are to fail
+abbrev pub failing_writes : MemSink → List ℕ
+failing_writes s = s.calls.fails.items
