@@ -22,7 +22,7 @@ Decides-int_le a b = grind (arith, ints)
 Decides-int_lt : (a b : ℤ) → Decides (int_lt a b) (a <ℤ b)
 Decides-int_lt a b = grind (arith, ints)
 
-Decides-reading : (r : Reading) → Decides (is_reading r) (IsValid r)
+pub Decides-reading : (r : Reading) → Decides (is_reading r) (IsValid r)
 unfolding is_reading
 Decides-reading r =
     Decides-like _

@@ -44,7 +44,8 @@ in_range false x = Err Range
 unfoldable pub integer : Option Data → Found ℤ
 integer value = of_kind (option_and_then as_i64 (option_and_then as_number value))
 
-abbrev only_false : Bool → Option Bool
+-- `false`, where it is that
+abbrev pub only_false : Bool → Option Bool
 only_false true = None
 only_false false = Some false
 

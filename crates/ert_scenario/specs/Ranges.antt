@@ -1,10 +1,13 @@
--- Tests of the ranges: of a reading, and of settings.
+-- The ranges of settings and of ops; of those that a row or a field needs, as tests.
 
-use Rattle.std.specs.Prelude.{◌*◌, pos, negsuc, ℤ, Bool, ◌&&◌, int_lt, int_le, nat_le}
+use Rattle.std.specs.Prelude.{◌*◌, pos, negsuc, ℤ, List, [], ◌∷◌, Bool, ◌&&◌, int_lt, int_le, nat_le}
 use Rattle.std.specs.Int.{int_rem_euclid}
 use Rattle.std.specs.Ordering.{int_eq}
+use Rattle.ert_defs.specs.Readings.{IsValid}
 use Rattle.ert_defs.specs.declared.settings.Reading.{Reading}
 use Rattle.ert_defs.specs.declared.settings.Settings.{Settings}
+use Rattle.ert_scenario.specs.declared.op.Op.{Op}
+use Rattle.ert_scenario.specs.declared.op.Op.TheVariants.{Tick, Time}
 
 -- whether a reading is valid
 unfoldable pub is_reading : Reading → Bool
@@ -27,3 +30,13 @@ has_counts g = (nat_le 1 g.schedulers && nat_le g.schedulers 64)
 -- whether a service can be opened with the settings
 unfoldable pub is_checked : Settings → Bool
 is_checked g = is_start g.start && (is_reading g.first && has_counts g)
+
+-- the arguments of an op are in range, where a service was opened with the settings
+abbrev pub IsOpInRange : Settings → Op → Type 0
+IsOpInRange g (Tick mono sys) = IsValid (record { mono = mono; sys = sys })
+IsOpInRange g Time = Unit {0}
+
+-- the arguments of all ops are
+abbrev pub IsInRange : Settings → List Op → Type 0
+IsInRange g [] = Unit {0}
+IsInRange g (op ∷ ops) = IsOpInRange g op × IsInRange g ops

@@ -1,11 +1,15 @@
 //! Laws of the definitions, each the contract of a function with no body. A caller calls the function to
 //! bring its law into reach; the call costs nothing.
 
-ghost use Rattle.std.specs.Prelude.{◌≡◌, ℕ, List};
+ghost use Rattle.std.specs.Prelude.{◌≡◌, ◌≤◌, ◌⊎◌, ℕ, List, length, false};
+ghost use Rattle.ert_defs.specs.Settings.{IsChecked};
+ghost use Rattle.ert_defs.specs.declared.settings.Mode.TheVariants.{No};
+ghost use Rattle.ert_scenario.specs.Ranges.{IsInRange};
 ghost use Rattle.ert_scenario.specs.Scenarios.{Plan, IsScenario, HasRefusal};
 ghost use Rattle.ert_scenario.specs.declared.scenario.ScenarioErr.{ScenarioErr as Refusal};
 
-/// Bytes are a scenario or have a refusal, never both, and at most one of each.
+/// Bytes are a scenario or have a refusal, never both, and at most one of each: with `some_verdict`,
+/// exactly one of all.
 pub fn one_verdict()
     ensures never_both { (bytes : List ℕ) (plan : Plan) (e : Refusal)
         → IsScenario bytes plan → HasRefusal bytes e → ⊥ }
@@ -13,4 +17,21 @@ pub fn one_verdict()
         → IsScenario bytes plan → IsScenario bytes other → plan ≡ other }
     ensures one_refusal { (bytes : List ℕ) (e other : Refusal)
         → HasRefusal bytes e → HasRefusal bytes other → e ≡ other }
+{}
+
+/// All bytes are a scenario or have a refusal.
+pub fn some_verdict()
+    ensures { (bytes : List ℕ)
+        → ((plan : Plan) × IsScenario bytes plan) ⊎ ((e : Refusal) × HasRefusal bytes e) }
+{}
+
+/// What holds of every scenario.
+pub fn scenarios_are_valid()
+    ensures settings { (bytes : List ℕ) (plan : Plan) → IsScenario bytes plan → IsChecked plan.settings }
+    ensures mode { (bytes : List ℕ) (plan : Plan) → IsScenario bytes plan → plan.settings.mode ≡ No }
+    ensures correction { (bytes : List ℕ) (plan : Plan)
+        → IsScenario bytes plan → plan.settings.correction ≡ false }
+    ensures ops { (bytes : List ℕ) (plan : Plan)
+        → IsScenario bytes plan → IsInRange plan.settings plan.ops }
+    ensures few { (bytes : List ℕ) (plan : Plan) → IsScenario bytes plan → length plan.ops ≤ 100000 }
 {}
