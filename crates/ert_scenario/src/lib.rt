@@ -11,6 +11,6 @@ mod scanning;
 mod scenario;
 mod walk;
 
-pub use laws::{one_verdict, scenarios_are_valid, some_verdict};
+pub use laws::{least_places, one_verdict, scenarios_are_valid, some_verdict};
 pub use op::Op;
 pub use scenario::{Scenario, ScenarioErr, read_scenario};
