@@ -31,10 +31,11 @@ abbrev pub fault_by : Found Settings → Found (List Data) → ℕ → Option Fa
 fault_by settings items zero = fault_of (both settings items)
 fault_by settings items (suc i) = fault_in (founds_in items) i
 
--- the place has a shape fault, or a range fault
+-- the place has a shape fault
 abbrev pub HasShapeFault : Data → ℕ → Type 0
 HasShapeFault d place = fault_by (settings_of d) (op_items d) place ≡ Some Shape
 
+-- the place has a range fault
 abbrev pub HasRangeFault : Data → ℕ → Type 0
 HasRangeFault d place = fault_by (settings_of d) (op_items d) place ≡ Some Range
 
