@@ -39,10 +39,12 @@ accepts (Ok settings) founds plan h =
     let limit = passes Limit (over founds) _ plan range.1 in
     let same : record { settings = settings; ops = ops_of founds } ≡ plan = cc in
     record {
-        opens = ap (λ (p : Plan). Ok p.settings) same;
-        shape = shape.0; range = range.0;
-        few = few_of (length founds) limit.0;
-        ops = ap (λ (p : Plan). p.ops) (sym same) }
+      opens = ap (λ (p : Plan). Ok p.settings) same;
+      shape = shape.0;
+      range = range.0;
+      few = few_of (length founds) limit.0;
+      ops = ap (λ (p : Plan). p.ops) (sym same);
+    }
 
 -- the ops were an array
 pub record AcceptsAll (settings : Found Settings) (items : Found (List Data)) (plan : Plan) : Type 0 where

@@ -1,6 +1,6 @@
 -- What is known of the parts of a reading that succeeded.
 
-use Rattle.std.proofs.Common.{◌≡◌, ℕ, List, Bool, true, false, Ok, Err, refl}
+use Rattle.std.proofs.Common.{◌≡◌, Bool, true, false, Ok, Err, refl}
 use Rattle.ert_scenario.specs.Kinds.{Found, ◌>>=◌, both, in_range}
 use Rattle.ert_scenario.specs.declared.fault.Fault.TheVariants.{Shape, Range}
 

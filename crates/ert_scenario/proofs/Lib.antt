@@ -1,6 +1,7 @@
 pub mod Accepted
 pub mod Checked
 pub mod Founds
+pub mod Least
 pub mod Listed
 pub mod Members
 pub mod Refused

@@ -4,22 +4,22 @@ use Rattle.std.proofs.lemmas.Bool.{and_parts}
 use Rattle.std.specs.Ordering.{int_eq}
 use Rattle.std.proofs.Common.{pos, ◌≡◌, ◌≤◌, ℕ, List, [], ◌∷◌, length, codes, Bool, true, false, if◌then◌else◌, Option, Some, None, Ok, Err, option_and_then, bytes_eq, ap, sym, subst, arith, ◌∙◌, refl}
 use Rattle.serde_json.specs.Data.{Data}
-use Rattle.serde_json.specs.Find.{get, as_bool}
+use Rattle.serde_json.specs.Find.{as_bool}
 use Rattle.ert_defs.specs.Settings.{IsChecked}
 use Rattle.ert_defs.specs.declared.settings.Mode.TheVariants.{No}
 use Rattle.ert_defs.specs.declared.settings.Settings.{Settings}
 use Rattle.ert_scenario.specs.Fields.{field, only_fields, head_of, is_in_range, settings_with, settings_of, op_items}
-use Rattle.ert_scenario.specs.Kinds.{Found, ◌>>=◌, ◌▹◌, both, in_range, of_kind, integer, off, only_false, listed, text, reading, head, tail, end}
-use Rattle.ert_scenario.specs.Ranges.{IsOpInRange, IsInRange, is_reading, is_checked}
+use Rattle.ert_scenario.specs.Kinds.{Found, ◌▹◌, of_kind, integer, off, only_false, listed, text, head, tail, end}
+use Rattle.ert_scenario.specs.Ranges.{IsOpInRange, IsInRange, is_checked}
 use Rattle.ert_scenario.specs.Rows.{plain, tick_row, op_rows, named, op_of}
 use Rattle.ert_scenario.specs.Scenarios.{Plan, verdict_of}
 use Rattle.ert_scenario.specs.Walks.{founds_of, ops_of}
 use Rattle.ert_scenario.specs.declared.fields.Head.{Head}
 use Rattle.ert_scenario.specs.declared.op.Op.{Op}
 use Rattle.ert_scenario.specs.declared.op.Op.TheVariants.{Tick, Time}
-use Rattle.ert_scenario.proofs.Accepted.{AcceptsAll, accepts_all}
+use Rattle.ert_scenario.proofs.Accepted.{accepts_all}
 use Rattle.ert_scenario.proofs.Checked.{Decides-reading, Decides-checked}
-use Rattle.ert_scenario.proofs.Founds.{Follows, follows, both_parts, in_range_parts}
+use Rattle.ert_scenario.proofs.Founds.{follows, both_parts, in_range_parts}
 
 -- ---- the ops: a lemma for each row
 
@@ -111,9 +111,10 @@ valid_settings d g h =
     let fits = in_range_parts (is_in_range f.read) (settings_with f.read) g f.then in
     let parts = and_parts (int_eq f.read.format (pos 1)) (is_checked (settings_with f.read)) fits.0 in
     record {
-        checked = subst IsChecked fits.1 ((Decides-checked (settings_with f.read)).0 parts.1);
-        mode = ap (λ (s : Settings). s.mode) (sym fits.1);
-        correction = ap (λ (s : Settings). s.correction) (sym fits.1) ∙ head_correction d f.read f.was }
+      checked = subst IsChecked fits.1 ((Decides-checked (settings_with f.read)).0 parts.1);
+      mode = ap (λ (s : Settings). s.mode) (sym fits.1);
+      correction = ap (λ (s : Settings). s.correction) (sym fits.1) ∙ head_correction d f.read f.was;
+    }
 
 -- ---- the scenario
 
@@ -122,7 +123,8 @@ unfolding verdict_of
 valid d plan h =
     let all = accepts_all (settings_of d) (op_items d) plan h in
     let ops : plan.ops ≡ ops_of (founds_of all.values) = all.accepted.ops in
-    let few : length (ops_of (founds_of all.values)) ≤ 100000 = omega (arith, length-ops_of (founds_of all.values), all.accepted.few) in
-    (valid_settings d plan.settings all.accepted.opens,
-    subst (IsInRange plan.settings) (sym ops) (ops_in_range plan.settings all.values),
-    rw ops few)
+    let few : length (ops_of (founds_of all.values)) ≤ 100000 = omega (arith, length-ops_of (founds_of all.values), all.accepted.few) in (
+      valid_settings d plan.settings all.accepted.opens,
+      subst (IsInRange plan.settings) (sym ops) (ops_in_range plan.settings all.values),
+      rw ops few,
+    )

@@ -40,7 +40,7 @@ unfoldable pub in_range : {X : Type 0} → Bool → X → Found X
 in_range true x = Ok x
 in_range false x = Err Range
 
--- an integer of 64 bits
+-- a number that the JSON crate gives as an integer of 64 bits, so without a fraction or an exponent
 unfoldable pub integer : Option Data → Found ℤ
 integer value = of_kind (option_and_then as_i64 (option_and_then as_number value))
 
@@ -66,11 +66,12 @@ listed value = of_kind (option_map list_of (option_and_then as_array value))
 unfoldable pub text : Option Data → Found (List ℕ)
 text value = of_kind (option_and_then as_str value)
 
--- the first item, and the items after it
+-- the first item
 unfoldable pub head : List Data → Option Data
 head [] = None
 head (d ∷ ds) = Some d
 
+-- the items after the first
 unfoldable pub tail : List Data → List Data
 tail [] = []
 tail (d ∷ ds) = ds

@@ -1,5 +1,6 @@
 pub mod Fields
 pub mod Kinds
+pub mod Places
 pub mod Ranges
 pub mod Rows
 pub mod Scenarios

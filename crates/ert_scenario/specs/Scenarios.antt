@@ -19,6 +19,7 @@ pub record Plan : Type 0 where
   pub settings : Settings
   pub ops : List Op
 
+-- the plan of a scenario
 abbrev pub plan_of : Scenario → Plan
 plan_of s = record { settings = s.settings; ops = s.ops.items }
 
@@ -67,7 +68,7 @@ Judges bytes verdict = (d : Data) × IsValue bytes d × (verdict_of d ≡ verdic
 abbrev pub IsScenario : List ℕ → Plan → Type 0
 IsScenario bytes plan = Judges bytes (Ok plan)
 
--- the bytes are refused for this reason; memory is never one
+-- the bytes are refused for this reason; want of memory is never one
 abbrev pub HasRefusal : List ℕ → ScenarioErr → Type 0
 HasRefusal bytes Json = (d : Data) → IsValue bytes d → ⊥
 HasRefusal bytes (Shape place) = Judges bytes (Err (Shape place))

@@ -37,6 +37,7 @@ pub(crate) fn op_items(value: &Value) -> Result<&[Value], Fault>
     listed(value.get("ops"))
 }
 
+/// The fields other than the ops.
 fn head_of(value: &Value) -> Result<Head, Fault>
     ensures { result ≡ head_of (view value.now) }
 {
@@ -63,19 +64,21 @@ fn only_fields(value: &Value) -> Result<(), Fault>
     }
 }
 
+/// Whether each member is a field.
 fn are_fields(members: &Map<String, Value>) -> bool
     ensures { result ≡ list_all (λ name. is_among field_names (string_bytes name)) (keys members.now) }
 {
     members.keys().all(|name| is_field(name.as_str()))
 }
 
+/// Whether it is the name of a field.
 fn is_field(name: &str) -> bool
     ensures { result ≡ is_among field_names name.now }
 {
     matches!(name, "format" | "correction" | "first" | "ops")
 }
 
-/// Those that have no field have their defaults.
+/// The settings that the fields give; those that have no field have their defaults.
 fn settings_with(head: Head) -> Settings
     ensures { result ≡ settings_with head }
 {
@@ -91,6 +94,7 @@ fn settings_with(head: Head) -> Settings
     }
 }
 
+/// Whether the format is 1, and a service can be opened with the settings.
 fn is_in_range(head: Head) -> bool
     ensures { result ≡ is_in_range head }
 {

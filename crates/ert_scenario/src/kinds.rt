@@ -39,7 +39,7 @@ pub(crate) fn in_range<T: Drop>(fits: bool, value: T) -> Result<T, Fault>
     if fits { Ok(value) } else { Err(Fault::Range) }
 }
 
-/// An integer of 64 bits.
+/// An integer of 64 bits. A number with a fraction or an exponent is none.
 #[tactic(auto, unfolding(crate::specs::Kinds::integer))]
 pub(crate) fn integer(value: Option<&Value>) -> Result<i64, Fault>
     ensures { result ≡ integer (option_map (λ v. view v.now) value.entry) }

@@ -1,4 +1,14 @@
-//! Reads a scenario, the script of ops that a service is run on, from bytes of JSON.
+//! Reads a scenario, which is what a service is opened with and the list of ops that are run on it, from
+//! bytes of JSON.
+//!
+//! It stands on `serde_json`, which reads the bytes, and on `ert_defs`, which has the settings and the
+//! test of a reading. `specs/Scenarios` says which bytes are a scenario and which refusal other bytes
+//! have, as a function of the JSON value: of the fields (`specs/Fields`), of a row for each op
+//! (`specs/Rows`) and of the kinds of their values (`specs/Kinds`). The code is made of the same parts: a
+//! new op is a variant of `Op`, a row, and a function that reads its arguments.
+//!
+//! All bytes have one answer, and `read_scenario` gives it, unless memory runs out. A fault is told with
+//! the least place that has it.
 #![tactic(auto)]
 
 mod fault;
@@ -9,8 +19,10 @@ mod op;
 mod rows;
 mod scanning;
 mod scenario;
+#[cfg(test)]
+mod tests;
 mod walk;
 
-pub use laws::{one_verdict, scenarios_are_valid, some_verdict};
+pub use laws::{least_places, one_verdict, scenarios_are_valid, some_verdict};
 pub use op::Op;
 pub use scenario::{Scenario, ScenarioErr, read_scenario};

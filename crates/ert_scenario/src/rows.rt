@@ -20,6 +20,7 @@ pub(crate) fn op_of(value: &Value) -> Result<Op, Fault>
     named(text(name)?, args)
 }
 
+/// The op of this name.
 fn named(name: &str, args: &[Value]) -> Result<Op, Fault>
     ensures { result ≡ named name.now op_rows (map view args.now) }
 {
@@ -38,6 +39,7 @@ fn plain(op: Op, args: &[Value]) -> Result<Op, Fault>
     Ok(op)
 }
 
+/// `["tick",mono,sys]`.
 fn tick(args: &[Value]) -> Result<Op, Fault>
     ensures { result ≡ tick_row (map view args.now) }
 {

@@ -18,24 +18,29 @@ pub(crate) const MAX_OPS: usize = 100_000;
 /// What a service is opened with, and the ops that are run on it.
 #[derive(Debug, Drop)]
 pub struct Scenario {
+    /// Settings that a service can be opened with: mode no, correction off, start 0, 1 scheduler, 1
+    /// process, 1024 slots, 1 caller, and the first reading of the scenario.
     pub settings: Settings,
+    /// At most 100,000, each with its arguments in range.
     pub ops: Vec<Op>,
 }
 
-/// Why bytes are no scenario. Place 0 is the object itself with its fields other than the ops; the ops
-/// have the places 1, 2 and so on.
+/// Why bytes are no scenario: the first of these, in this order. Place 0 is the object itself with its
+/// fields other than the ops; the ops have the places 1, 2 and so on.
 #[derive(Clone, Copy, Debug, PartialEq, Eq, Error)]
 pub enum ScenarioErr {
-    /// The bytes aren't one JSON value, in UTF-8, that nests no deeper than 127 arrays and objects.
+    /// The bytes aren't one JSON value in UTF-8, or it nests more than 127 arrays and objects.
     #[error("not JSON")]
     Json,
-    /// At this place a value isn't of the kind that the format asks for, and at no lesser one.
+    /// At this place, and at no lesser one, a value isn't of the kind that the format asks for, a field is
+    /// missing or unknown, an op is unknown, or it has too few or too many arguments.
     #[error("shape fault at {0}")]
     Shape(u32),
-    /// Every value is of its kind, and at this place one is out of range, and at no lesser one.
+    /// No place has such a fault. At this place, and at no lesser one, a value is out of range: the format
+    /// isn't 1, a service can't be opened with the settings, or a reading isn't valid.
     #[error("range fault at {0}")]
     Range(u32),
-    /// There are more than 100,000 ops, and no other fault. The place is 0.
+    /// No place has a fault, and there are more than 100,000 ops. The place is 0.
     #[error("too much at {0}")]
     Limit(u32),
     /// Memory ran out. This may come in place of any answer.
@@ -43,7 +48,12 @@ pub enum ScenarioErr {
     NoMemory,
 }
 
-/// Reads a scenario.
+/// Reads a scenario, in format 1.
+///
+/// The bytes are one JSON object with the fields `format` (the integer 1), `correction` (`false`), `first`
+/// (a reading, as an array of `mono` and `sys`) and `ops` (an array of ops), and no other. An op is an
+/// array of its name and its arguments, as `Op` has them. An integer is written without a fraction or an
+/// exponent, and fits 64 bits. Where a key is repeated, its last value counts.
 pub fn read_scenario(alloc: Global, bytes: &[u8]) -> Result<Scenario, ScenarioErr>
     ensures ok { IfOk result (λ s. IsScenario bytes.now (plan_of s)) }
 
@@ -57,6 +67,7 @@ pub fn read_scenario(alloc: Global, bytes: &[u8]) -> Result<Scenario, ScenarioEr
     }
 }
 
+/// The scenario that a value is.
 #[tactic(auto, unfolding(crate::specs::Scenarios::verdict_of))]
 fn scenario_of(alloc: Global, value: &Value) -> Result<Scenario, ScenarioErr>
     ensures ok { IfOk result (λ s. verdict_of (view value.now) ≡ Ok (plan_of s)) }

@@ -47,11 +47,7 @@ impl Walk {
                 }
             }
             Err(Fault::Shape) => return Err(ScenarioErr::Shape(place)),
-            Err(Fault::Range) => {
-                if self.range.is_none() {
-                    self.range = Some(place);
-                }
-            }
+            Err(Fault::Range) => self.range = self.range.or(Some(place)),
         }
         Ok(())
     }
