@@ -1,3 +1,4 @@
 pub mod Fronts
 pub mod Runs
 pub mod Steps
+pub mod Transcripts

@@ -7,14 +7,18 @@
 #![tactic(auto)]
 
 mod ending;
+mod laws;
 mod line;
 mod output;
 mod program;
 mod reply;
 mod running;
+#[cfg(test)]
+mod tests;
 
 pub use ending::{EndStatus, Ended};
 use ert_io::{StdSink, StdSource};
+pub use laws::one_transcript;
 pub use program::ertime;
 use std::io::ErrorKind;
 use std::process::ExitCode;
