@@ -9,6 +9,7 @@ mod clock_laws;
 mod entry;
 mod laws;
 mod mail;
+mod memory;
 mod settings;
 mod timer;
 
@@ -21,5 +22,6 @@ pub use laws::{
     entries_are_local, expired_timers_wait_once, prefixes_are_legal, timers_settle_once,
 };
 pub use mail::{Mail, Request, RequestKind};
+pub use memory::NoMemory;
 pub use settings::{Mode, OffsetState, Reading, Settings, SettingsFault};
 pub use timer::{Fired, Kind, Start, Status, TimerRef, When};

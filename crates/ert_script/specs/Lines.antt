@@ -1,0 +1,71 @@
+-- The lines of replies.
+
+use Rattle.std.specs.Prelude.{ℕ, ℤ, Bool, true, false, List, [], ◌∷◌, ◌++◌, codes, Option, Some, None}
+use Rattle.std.specs.Fmt.{signed_decimal}
+use Rattle.ert_defs.specs.declared.settings.Mode.{Mode}
+use Rattle.ert_defs.specs.declared.settings.Mode.TheVariants.{No, Single, Multi}
+use Rattle.ert_defs.specs.declared.settings.OffsetState.{OffsetState}
+use Rattle.ert_defs.specs.declared.settings.OffsetState.TheVariants.{Preliminary, Final, Volatile}
+use Rattle.ert_script.specs.declared.reply.Reply.{Reply}
+use Rattle.ert_script.specs.declared.reply.Reply.TheVariants.{Tick, TickWide, Check, CheckWide, Finalize, FinalizeWide, Time, System, Offset, Info, Convert, ConvertTooWide}
+
+-- one text, and then another
+infixr 20 ◌⋅◌
+
+abbrev pub ◌⋅◌ : List ℕ → List ℕ → List ℕ
+xs ⋅ ys = xs ++ ys
+
+-- the word for a state of the offset
+unfoldable pub state_word : OffsetState → List ℕ
+state_word Preliminary = codes "preliminary"
+state_word Final = codes "final"
+state_word Volatile = codes "volatile"
+
+-- the word for a time warp mode
+unfoldable pub mode_word : Mode → List ℕ
+mode_word No = codes "no"
+mode_word Single = codes "single"
+mode_word Multi = codes "multi"
+
+-- the word for whether something is on
+unfoldable pub bool_word : Bool → List ℕ
+bool_word true = codes "true"
+bool_word false = codes "false"
+
+-- the end of a line that tells a time, and the new offset where it moved
+abbrev pub moved_text : ℤ → Option ℤ → List ℕ
+moved_text now None = signed_decimal now ⋅ codes "\n"
+moved_text now (Some offset) = signed_decimal now ⋅ codes " offset " ⋅ signed_decimal offset ⋅ codes "\n"
+
+-- the parts of the line of the settings
+abbrev pub info_front : ℤ → ℤ → Mode → List ℕ
+info_front start end mode = codes "info start " ⋅ signed_decimal start ⋅ codes " end " ⋅ signed_decimal end ⋅ codes " mode " ⋅ mode_word mode
+
+abbrev pub info_middle : Bool → List ℕ
+info_middle correction = codes " correction " ⋅ bool_word correction
+
+abbrev pub offset_text : ℤ → OffsetState → List ℕ
+offset_text offset state = signed_decimal offset ⋅ codes " " ⋅ state_word state ⋅ codes "\n"
+
+abbrev pub info_back : ℤ → OffsetState → List ℕ
+info_back offset state = codes " offset " ⋅ signed_decimal offset ⋅ codes " state " ⋅ state_word state ⋅ codes "\n"
+
+-- the line of a reply
+abbrev pub line_of : Reply → List ℕ
+line_of (Tick now shift) = codes "tick " ⋅ moved_text now shift
+line_of (TickWide value) = codes "tick offset_wide " ⋅ signed_decimal value ⋅ codes "\n"
+line_of (Check now shift) = codes "check " ⋅ moved_text now shift
+line_of (CheckWide value) = codes "check offset_wide " ⋅ signed_decimal value ⋅ codes "\n"
+line_of (Finalize old now shift) = codes "finalize " ⋅ state_word old ⋅ codes " " ⋅ moved_text now shift
+line_of (FinalizeWide value) = codes "finalize offset_wide " ⋅ signed_decimal value ⋅ codes "\n"
+line_of (Time now) = codes "time " ⋅ signed_decimal now ⋅ codes "\n"
+line_of (System time) = codes "system " ⋅ signed_decimal time ⋅ codes "\n"
+line_of (Offset offset state) = codes "offset " ⋅ offset_text offset state
+line_of (Info start end mode correction offset state) = info_front start end mode ⋅ info_middle correction ⋅ info_back offset state
+line_of (Convert value) = codes "convert " ⋅ signed_decimal value ⋅ codes "\n"
+line_of ConvertTooWide = codes "convert too_wide\n"
+
+-- the lines of replies
+abbrev pub lines_of : List Reply → List ℕ
+lines_of [] = []
+lines_of (r ∷ rs) = line_of r ++ lines_of rs
