@@ -1,1 +1,3 @@
+pub mod Casts
 pub mod Stand
+pub mod Steps

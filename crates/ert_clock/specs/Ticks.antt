@@ -1,17 +1,20 @@
--- What a tick answers, and the entries that it stands for.
+-- What a tick and a finalization answer, and the entries that they stand for.
 
-use Rattle.std.specs.Prelude.{◌≡◌, ℕ, ◌<◌, ℤ, ◌-ℤ◌, Bool, true, false, List, [], ◌∷◌, ◌++◌, Some, None, Result, Ok, Err}
-use Rattle.std.specs.Int.{int_max}
+use Rattle.std.specs.Prelude.{◌≡◌, ℕ, ◌<◌, ℤ, Bool, true, false, List, [], ◌∷◌, ◌++◌, Option, Some, None, Result, Ok, Err}
+use Rattle.ert_defs.specs.Lines.{Face, Due, IsOffset, IsInRange, time_after, due_after, ticked, shifted}
 use Rattle.ert_defs.specs.Readings.{IsValid}
 use Rattle.ert_clock.specs.Shown.{Shown, Stands}
 use Rattle.ert_clock.specs.declared.clock.ClockErr.{ClockErr}
-use Rattle.ert_clock.specs.declared.clock.ClockErr.TheVariants.{BadReading}
+use Rattle.ert_clock.specs.declared.clock.ClockErr.TheVariants.{BadReading, OffsetWide}
 use Rattle.ert_clock.specs.declared.clock.Moved.{Moved}
 use Rattle.ert_defs.specs.declared.entry.Act.{Act}
-use Rattle.ert_defs.specs.declared.entry.Act.TheVariants.{Plain, Force}
+use Rattle.ert_defs.specs.declared.entry.Act.TheVariants.{Plain, Force, Finalize}
 use Rattle.ert_defs.specs.declared.entry.Actor.TheVariants.{Keeper, Caller}
 use Rattle.ert_defs.specs.declared.entry.Entry.{Entry}
-use Rattle.ert_defs.specs.declared.entry.Event.TheVariants.{Tick}
+use Rattle.ert_defs.specs.declared.entry.Event.{Event}
+use Rattle.ert_defs.specs.declared.entry.Event.TheVariants.{Tick, Shift}
+use Rattle.ert_defs.specs.declared.settings.OffsetState.{OffsetState}
+use Rattle.ert_defs.specs.declared.settings.OffsetState.TheVariants.{Preliminary, Final, Volatile}
 use Rattle.ert_defs.specs.declared.settings.Reading.{Reading}
 use Rattle.ert_defs.specs.declared.settings.Settings.{Settings}
 
@@ -20,25 +23,106 @@ abbrev pub act_of : Bool → Act
 act_of true = Force
 act_of false = Plain
 
--- the entry of a tick, made with a caller
-abbrev pub tick_entry : ℕ → Reading → Act → ℤ → Entry
-tick_entry n r act now = record { by = Keeper; with = Some (Caller n); event = Tick r act now }
-
--- the time after a tick of this clock
+-- the time after a tick
 abbrev pub time_of : Shown → Reading → ℤ
-time_of v r = int_max v.time (r.sys -ℤ v.offset)
+time_of v r = time_after v.settings v.face r
 
--- what a tick answers and leaves: the time moves and nothing else; a bad reading changes nothing
-abbrev pub Gives : Shown → Reading → Result Moved ClockErr → Shown → Type 0
-Gives v r (Ok m) new =
-    IsValid r × (m.now ≡ time_of v r) × (m.shift ≡ None)
-    × (new ≡ record { settings = v.settings; time = time_of v r; offset = v.offset; state = v.state })
-Gives v r (Err BadReading) new = (IsValid r → ⊥) × (new ≡ v)
+-- the shift that is due after a tick
+abbrev pub due_of : Shown → Reading → Act → Option Due
+due_of v r act = due_after v.settings v.face r act (time_of v r)
 
--- the clock then stands for the history with the tick's entry last
+-- what the clock shows after a tick and the shift that it made due
+abbrev pub shown_after : Shown → Reading → Act → Shown
+shown_after v r act =
+    record { settings = v.settings; face = shifted (ticked v.settings v.face r act (time_of v r)) (due_of v r act) }
+
+-- the offset of a shift
+abbrev pub offset_of : Option Due → Option ℤ
+offset_of None = None
+offset_of (Some d) = Some d.0
+
+-- this is the offset of the shift, and it is outside the limits
+abbrev pub IsWide : Option Due → ℤ → Type 0
+IsWide None value = ⊥
+IsWide (Some d) value = (value ≡ d.0) × (IsOffset d.0 → ⊥)
+
+-- a shift that is due is let through unless its offset is outside the limits
+abbrev pub Limits : Option Due → Result (Option Due) ClockErr → Type 0
+Limits due (Ok shift) = IsInRange due × (shift ≡ due)
+Limits due (Err BadReading) = ⊥
+Limits due (Err (OffsetWide value)) = IsWide due value
+
+-- what a tick answers and leaves. A reading that isn't valid comes first, then an offset outside its
+-- limits, and both change nothing
+abbrev pub Gives : Shown → Reading → Act → Result Moved ClockErr → Shown → Type 0
+Gives v r act (Ok m) new =
+    IsValid r × IsInRange (due_of v r act) × (m.now ≡ time_of v r) × (m.shift ≡ offset_of (due_of v r act))
+    × (new ≡ shown_after v r act)
+Gives v r act (Err BadReading) new = (IsValid r → ⊥) × (new ≡ v)
+Gives v r act (Err (OffsetWide value)) new = IsValid r × IsWide (due_of v r act) value × (new ≡ v)
+
+-- an entry of the clock, made with a caller
+abbrev pub keeper_entry : ℕ → Event → Entry
+keeper_entry n event = record { by = Keeper; with = Some (Caller n); event = event }
+
+-- the entry of a tick
+abbrev pub tick_entry : ℕ → Reading → Act → ℤ → Entry
+tick_entry n r act now = keeper_entry n (Tick r act now)
+
+-- the state to which a shift sets the offset: final by a finalization, and else volatile
+abbrev pub state_by : Act → OffsetState
+state_by Finalize = Final
+state_by Plain = Volatile
+state_by Force = Volatile
+
+-- the entry of the shift, where the tick made one due
+abbrev pub shift_entries : ℕ → Act → Option ℤ → List Entry
+shift_entries n act None = []
+shift_entries n act (Some offset) = keeper_entry n (Shift offset (state_by act)) ∷ []
+
+-- the entries of a tick: its own, and then that of the shift
+abbrev pub tick_entries : ℕ → Reading → Act → ℤ → Option ℤ → List Entry
+tick_entries n r act now shift = tick_entry n r act now ∷ shift_entries n act shift
+
+-- the clock then stands for the history with the entries of the tick last
 abbrev pub TicksFor : Settings → ℕ → List Entry → Reading → Act → Result Moved ClockErr → Shown → Type 0
-TicksFor g n h r act (Ok m) new = Stands g (h ++ tick_entry n r act m.now ∷ []) new
-TicksFor g n h r act (Err BadReading) new = Stands g h new
+TicksFor g n h r act (Ok m) new = Stands g (h ++ tick_entries n r act m.now m.shift) new
+TicksFor g n h r act (Err e) new = Stands g h new
 
+-- whichever history it stood for
 abbrev pub Ticks : Shown → Reading → Act → Result Moved ClockErr → Shown → Type 0
 Ticks v r act result new = (g : Settings) (h : List Entry) (n : ℕ) → n < g.callers → Stands g h v → TicksFor g n h r act result new
+
+-- what a finalization answers and leaves where there is nothing to finalize: the old time and state, and
+-- no shift. The reading must be valid all the same
+abbrev pub GivesOld : Shown → Reading → Result (OffsetState × Moved) ClockErr → Shown → Type 0
+GivesOld v r (Ok p) new =
+    IsValid r × (p.0 ≡ v.face.state) × (p.1.now ≡ v.face.time) × (p.1.shift ≡ None) × (new ≡ v)
+GivesOld v r (Err BadReading) new = (IsValid r → ⊥) × (new ≡ v)
+GivesOld v r (Err (OffsetWide value)) new = ⊥
+
+-- what a finalization of a preliminary offset answers and leaves: the old state, and what a tick does
+abbrev pub GivesFinal : Shown → Reading → Result (OffsetState × Moved) ClockErr → Shown → Type 0
+GivesFinal v r (Ok p) new = (p.0 ≡ Preliminary) × Gives v r Finalize (Ok p.1) new
+GivesFinal v r (Err e) new = Gives v r Finalize (Err e) new
+
+-- what a finalization answers and leaves, by the state before it
+abbrev pub FinalizesFrom : OffsetState → Shown → Reading → Result (OffsetState × Moved) ClockErr → Shown → Type 0
+FinalizesFrom Preliminary v r result new = GivesFinal v r result new
+FinalizesFrom Final v r result new = GivesOld v r result new
+FinalizesFrom Volatile v r result new = GivesOld v r result new
+
+-- the entries of a finalization, by the state before it: those of a tick, or none
+abbrev pub final_entries : OffsetState → ℕ → Reading → Moved → List Entry
+final_entries Preliminary n r m = tick_entries n r Finalize m.now m.shift
+final_entries Final n r m = []
+final_entries Volatile n r m = []
+
+-- the clock then stands for the history with these entries last
+abbrev pub FinalizesFor : Settings → ℕ → List Entry → Reading → Result (OffsetState × Moved) ClockErr → Shown → Type 0
+FinalizesFor g n h r (Ok p) new = Stands g (h ++ final_entries p.0 n r p.1) new
+FinalizesFor g n h r (Err e) new = Stands g h new
+
+-- whichever history it stood for
+abbrev pub Finalizes : Shown → Reading → Result (OffsetState × Moved) ClockErr → Shown → Type 0
+Finalizes v r result new = (g : Settings) (h : List Entry) (n : ℕ) → n < g.callers → Stands g h v → FinalizesFor g n h r result new

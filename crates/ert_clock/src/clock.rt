@@ -1,4 +1,8 @@
-use ert_defs::{Mode, OffsetState, Reading, Settings};
+ghost use Rattle.std.specs.Prelude.{◌≡◌};
+ghost use Rattle.ert_clock.specs.Ticks.{offset_of, Limits};
+
+use crate::faces::{Face, is_offset};
+use ert_defs::{Act, OffsetState, Reading, Settings};
 use std::marker::Model;
 
 /// What a tick did.
@@ -15,131 +19,131 @@ pub struct Moved {
 pub enum ClockErr {
     /// The reading isn't valid: `mono` is from 0 to below 2^62, and `sys` between -2^61 and 2^61.
     BadReading,
+    /// The offset would be outside its limits.
+    OffsetWide { value: i128 },
 }
 
 /// Monotonic time and the time offset.
 #[derive(Drop)]
 pub struct Clock {
     settings: Settings,
-    time: i64,
-    offset: i64,
+    face: Face,
 }
 
 impl Model for Clock {
-    ghost use Rattle.ert_clock.specs.Shown.{Shown, shown, IsKept};
+    ghost use Rattle.ert_clock.specs.Shown.{Shown};
+    ghost use Rattle.ert_clock.specs.Faces.{face_of, IsKept};
 
     ghost Value = { Shown };
 
-    ghost view = { λ c. shown c.settings c.time c.offset };
+    ghost view = { λ c. record { settings = c.settings; face = face_of c.face } };
 
-    ghost invariant = { λ c. IsKept c.settings c.time c.offset };
+    ghost invariant = { λ c. IsKept c.settings (face_of c.face) };
 }
 
 impl Clock {
-    ghost use Rattle.std.specs.Prelude.{◌≡◌, [], false};
+    ghost use Rattle.std.specs.Prelude.{◌≡◌, []};
     ghost use Rattle.ert_defs.specs.Settings.{IsChecked};
-    ghost use Rattle.ert_defs.specs.declared.settings.Mode.TheVariants.{No};
-    ghost use Rattle.ert_clock.specs.Shown.{Stands};
-    ghost use Rattle.ert_defs.specs.Readings.{IsValid};
-    ghost use Rattle.ert_clock.specs.Ticks.{act_of, time_of, Gives, Ticks};
+    ghost use Rattle.ert_clock.specs.Shown.{Stands, opening_shown};
+    ghost use Rattle.ert_clock.specs.Ticks.{Limits, act_of, Gives, Ticks, FinalizesFrom, Finalizes};
 
     /// A clock that has just been opened: monotonic time is the start time, and system time that of the
     /// first reading.
     pub fn new(settings: &Settings) -> Clock
         requires checked { IsChecked settings.now }
-        requires correction { settings.now.correction ≡ false }
-        requires mode { settings.now.mode ≡ No }
+        ensures opens { result ≡ opening_shown settings.now }
         ensures stands { Stands settings.now [] result }
     {
         Clock {
             settings: *settings,
-            time: settings.start,
-            offset: settings.first.sys - settings.start,
+            face: Face::opening(settings),
         }
     }
 
     /// Monotonic time, in nanoseconds (`erlang:monotonic_time`).
     pub fn now(&self) -> i64
-        ensures { result ≡ self.now.time }
+        ensures { result ≡ self.now.face.time }
     {
-        self.time
+        self.face.time
     }
 
     /// The time offset, in nanoseconds: system time is monotonic time plus the offset
     /// (`erlang:time_offset`).
     pub fn offset(&self) -> i64
-        ensures { result ≡ self.now.offset }
+        ensures { result ≡ self.now.face.offset }
     {
-        self.offset
+        self.face.offset
     }
 
     /// The state of the offset.
     pub fn state(&self) -> OffsetState
-        ensures { result ≡ self.now.state }
+        ensures { result ≡ self.now.face.state }
     {
-        match self.settings.mode {
-            Mode::No => OffsetState::Final,
-            Mode::Single => OffsetState::Preliminary,
-            Mode::Multi => OffsetState::Volatile,
-        }
+        self.face.state
     }
 
-    /// Takes one reading. Monotonic time becomes OS system time less the offset, and stays where that
-    /// would be earlier.
-    ///
-    /// `force` asks for a check of the clock, which changes nothing in this mode.
+    /// Takes one reading.
     pub fn tick(&mut self, reading: Reading, force: bool) -> Result<Moved, ClockErr>
-        ensures gives { Gives self.old reading result self.new }
+        ensures gives { Gives self.old reading (act_of force) result self.new }
         ensures stands { Ticks self.old reading (act_of force) result self.new }
+    {
+        self.step(reading, if force { Act::Force } else { Act::Plain })
+    }
+
+    /// Finalizes the offset.
+    pub fn finalize(&mut self, reading: Reading) -> Result<(OffsetState, Moved), ClockErr>
+        ensures gives { FinalizesFrom self.old.face.state self.old reading result self.new }
+        ensures stands { Finalizes self.old reading result self.new }
+    {
+        let state = self.state();
+        if state == OffsetState::Preliminary {
+            let moved = self.step(reading, Act::Finalize)?;
+            return Ok((state, moved));
+        }
+        if !reading.is_valid() {
+            return Err(ClockErr::BadReading);
+        }
+        Ok((
+            state,
+            Moved {
+                now: self.now(),
+                shift: None,
+            },
+        ))
+    }
+
+    /// Takes one reading, for one of the three acts.
+    fn step(&mut self, reading: Reading, act: Act) -> Result<Moved, ClockErr>
+        ensures { Gives self.old reading act result self.new }
     {
         if !reading.is_valid() {
             return Err(ClockErr::BadReading);
         }
-        let now = self.time_after(reading);
-        self.time = now;
-        Ok(Moved { now, shift: None })
-    }
-
-    fn time_after(&self, reading: Reading) -> i64
-        requires { IsValid reading }
-        ensures { result ≡ time_of self.now reading }
-    {
-        self.time.max(reading.sys - self.offset)
+        let settings = &self.settings;
+        let now = self.face.time_after(settings, reading);
+        let shift = limit(self.face.due_after(settings, reading, act, now))?;
+        self.face = self.face.ticked(settings, reading, act, now).shifted(shift);
+        Ok(Moved {
+            now,
+            shift: offset_of(shift),
+        })
     }
 }
 
-#[cfg(test)]
-mod tests {
-    use super::*;
-
-    const SETTINGS: Settings = Settings {
-        mode: Mode::No,
-        correction: false,
-        start: -1_000_000_000,
-        schedulers: 1,
-        processes: 1,
-        slots: 1,
-        callers: 1,
-        first: Reading { mono: 0, sys: 0 },
-    };
-
-    #[test]
-    fn a_backward_leap_freezes_time(rt: HostRuntime) {
-        assert!(rt; SETTINGS.check().is_ok());
-        let mut clock = Clock::new(&SETTINGS);
-        assert_eq!(rt; clock.now(), -1_000_000_000);
-        assert_eq!(rt; clock.offset(), 1_000_000_000);
-        assert_eq!(rt; clock.state(), OffsetState::Final);
-        for (mono, sys, now) in [
-            (0, 5, Some(-999_999_995)),
-            (0, 2, Some(-999_999_995)),
-            (-1, 7, None),
-            (0, 1 << 61, None),
-            (3, 7, Some(-999_999_993)),
-        ] {
-            let moved = clock.tick(Reading { mono, sys }, mono == 3);
-            assert_eq!(rt; moved.ok().map(|moved| moved.now), now, "at {mono} {sys}");
-        }
-        assert_eq!(rt; clock.now(), -999_999_993);
+/// The shift that is due, where there is one, unless its offset is outside the limits.
+fn limit(due: Option<(i128, OffsetState)>) -> Result<Option<(i64, OffsetState)>, ClockErr>
+    ensures { Limits due result }
+{
+    match due {
+        None => Ok(None),
+        Some((offset, state)) if is_offset(offset) => Ok(Some((offset as i64, state))),
+        Some((value, _)) => Err(ClockErr::OffsetWide { value }),
     }
+}
+
+/// The offset of a shift.
+fn offset_of(shift: Option<(i64, OffsetState)>) -> Option<i64>
+    ensures { result ≡ offset_of shift }
+{
+    shift.map(|(offset, _)| offset)
 }

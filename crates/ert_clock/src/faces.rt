@@ -1,0 +1,240 @@
+ghost use Rattle.std.specs.Prelude.{◌≡◌, ◌↔◌, IsTrue};
+ghost use Rattle.ert_defs.specs.Clocks.{face, first_clock};
+ghost use Rattle.ert_defs.specs.Lines.{IsOffset, first_state, rate_of, rate_after, is_base, mono_after, time_after, line_time, base_from, due_at, shift_of, due_after, ticked, shifted};
+ghost use Rattle.ert_defs.specs.Readings.{IsValid};
+ghost use Rattle.ert_defs.specs.Settings.{IsChecked};
+ghost use Rattle.ert_defs.specs.Sound.{IsRate, Sound};
+
+use ert_defs::{Act, Mode, OffsetState, Reading, Settings};
+
+/// A check is due after so many nanoseconds.
+const CHECK_INTERVAL: u64 = 60_000_000_000;
+
+/// How far OS system time may lie from system time, in nanoseconds, before a check corrects it.
+const TOLERANCE: i128 = 1_000_000;
+
+/// By how many parts per million a correction makes time faster or slower.
+const CORRECTION: i64 = 10_000;
+
+/// The line on which time runs, from the last check on.
+#[derive(Clone, Copy)]
+pub struct Line {
+    /// Monotonic time at the last check.
+    pub time: i64,
+    /// OS monotonic time at the last check.
+    pub mono: i64,
+    /// OS system time at the last check.
+    pub sys: i64,
+    /// By how many parts per million time runs faster than OS monotonic time.
+    pub rate: i64,
+}
+
+/// All numbers that change: what the clock shows, and the line that it is on.
+#[derive(Clone, Copy)]
+pub struct Face {
+    pub time: i64,
+    pub offset: i64,
+    pub state: OffsetState,
+    pub line: Line,
+    /// The greatest OS monotonic time so far.
+    pub mono: i64,
+}
+
+/// The state of the offset at the opening.
+pub fn first_state(mode: Mode) -> OffsetState
+    ensures { result ≡ first_state mode }
+{
+    match mode {
+        Mode::No => OffsetState::Final,
+        Mode::Single => OffsetState::Preliminary,
+        Mode::Multi => OffsetState::Volatile,
+    }
+}
+
+/// Whether an offset is within its limits.
+pub fn is_offset(offset: i128) -> bool
+    ensures { IsTrue result ↔ IsOffset offset }
+{
+    -(1 << 62) < offset && offset < 1 << 62
+}
+
+/// The rate after a check that finds OS system time so far above system time.
+pub fn rate_after_check(state: OffsetState, error: i128) -> i64
+    ensures { result ≡ rate_of state error }
+{
+    if state != OffsetState::Final {
+        0
+    } else if error > TOLERANCE {
+        CORRECTION
+    } else if error < -TOLERANCE {
+        -CORRECTION
+    } else {
+        0
+    }
+}
+
+/// The rate of a line that starts at a tick.
+pub fn rate_after(act: Act, state: OffsetState, error: i128) -> i64
+    ensures { result ≡ rate_after act state error }
+{
+    match act {
+        Act::Finalize => 0,
+        Act::Plain | Act::Force => rate_after_check(state, error),
+    }
+}
+
+impl Line {
+    ghost use Rattle.ert_clock.specs.Faces.{base_of};
+
+    /// The time on the line at an OS monotonic time.
+    pub fn time_at(&self, mono: i64) -> i128
+        requires { IsRate self.now.rate }
+        ensures { result ≡ line_time (base_of self.now) mono }
+    {
+        let since = mono as i128 - self.mono as i128;
+        self.time as i128 + since + (since * self.rate as i128).div_euclid(1_000_000)
+    }
+}
+
+impl Face {
+    ghost use Rattle.ert_clock.specs.Faces.{base_of, face_of, IsKept};
+
+    /// The face at the opening. The first reading counts as a check.
+    pub fn opening(settings: &Settings) -> Face
+        requires { IsChecked settings.now }
+        ensures { face_of result ≡ face settings.now (first_clock settings.now) }
+    {
+        let Reading { mono, sys } = settings.first;
+        let time = settings.start;
+        Face {
+            time,
+            offset: sys - time,
+            state: first_state(settings.mode),
+            line: Line {
+                time,
+                mono,
+                sys,
+                rate: 0,
+            },
+            mono,
+        }
+    }
+
+    /// The OS monotonic time of a tick: a reading below an earlier one counts as that.
+    pub fn mono_after(&self, reading: Reading) -> i64
+        ensures { result ≡ mono_after (face_of self.now) reading }
+    {
+        self.mono.max(reading.mono)
+    }
+
+    /// The time after a tick.
+    pub fn time_after(&self, settings: &Settings, reading: Reading) -> i64
+        requires kept { IsKept settings.now (face_of self.now) }
+        requires valid { IsValid reading }
+        ensures { result ≡ time_after settings.now (face_of self.now) reading }
+    {
+        if settings.correction {
+            self.line.time_at(self.mono_after(reading)) as i64
+        } else {
+            self.time.max(reading.sys - self.offset)
+        }
+    }
+
+    /// Whether a check is due at a tick.
+    pub fn is_check_due(&self, settings: &Settings, reading: Reading) -> bool
+        ensures { result ≡ due_at settings.now (face_of self.now) reading }
+    {
+        if settings.correction {
+            self.mono_after(reading) as i128 - self.line.mono as i128 >= CHECK_INTERVAL as i128
+        } else {
+            reading.sys.abs_diff(self.line.sys) >= CHECK_INTERVAL
+        }
+    }
+
+    /// Whether a tick is where a new line starts.
+    pub fn ends_line(&self, settings: &Settings, reading: Reading, act: Act) -> bool
+        ensures { result ≡ is_base act (due_at settings.now (face_of self.now) reading) }
+    {
+        match act {
+            Act::Plain => self.is_check_due(settings, reading),
+            Act::Force | Act::Finalize => true,
+        }
+    }
+
+    /// The line that starts at a tick.
+    pub fn line_from(&self, reading: Reading, act: Act, now: i64) -> Line
+        ensures { base_of result ≡ base_from reading act (mono_after (face_of self.now) reading) now self.now.offset self.now.state }
+    {
+        let error = reading.sys as i128 - (now as i128 + self.offset as i128);
+        Line {
+            time: now,
+            mono: self.mono_after(reading),
+            sys: reading.sys,
+            rate: rate_after(act, self.state, error),
+        }
+    }
+
+    /// The face after a tick to a time, before any shift.
+    pub fn ticked(&self, settings: &Settings, reading: Reading, act: Act, now: i64) -> Face
+        ensures { face_of result ≡ ticked settings.now (face_of self.now) reading act now }
+    {
+        let line = if self.ends_line(settings, reading, act) {
+            self.line_from(reading, act, now)
+        } else {
+            self.line
+        };
+        Face {
+            time: now,
+            offset: self.offset,
+            state: self.state,
+            line,
+            mono: self.mono_after(reading),
+        }
+    }
+
+    /// The offset and the state that are due after a tick to a time.
+    pub fn due_after(
+        &self,
+        settings: &Settings,
+        reading: Reading,
+        act: Act,
+        now: i64,
+    ) -> Option<(i128, OffsetState)>
+        ensures { result ≡ due_after settings.now (face_of self.now) reading act now }
+    {
+        let offset = reading.sys as i128 - now as i128;
+        match act {
+            Act::Finalize => Some((offset, OffsetState::Final)),
+            Act::Plain => self.shift_at(self.is_check_due(settings, reading), offset),
+            Act::Force => self.shift_at(true, offset),
+        }
+    }
+
+    /// The shift at a tick that is a check or none.
+    pub fn shift_at(&self, is_check: bool, offset: i128) -> Option<(i128, OffsetState)>
+        ensures { result ≡ shift_of self.now.state is_check offset self.now.offset }
+    {
+        if self.state == OffsetState::Volatile
+            && is_check
+            && offset.abs_diff(self.offset as i128) > TOLERANCE.unsigned_abs()
+        {
+            Some((offset, OffsetState::Volatile))
+        } else {
+            None
+        }
+    }
+
+    /// The face after a shift.
+    pub fn shifted(&self, due: Option<(i64, OffsetState)>) -> Face
+        ensures { face_of result ≡ shifted (face_of self.now) due }
+    {
+        match due {
+            Some((offset, state)) => Face {
+                offset,
+                state,
+                ..*self
+            },
+            None => *self,
+        }
+    }
+}
