@@ -42,7 +42,8 @@ impl Model for Clock {
 }
 
 impl Clock {
-    ghost use Rattle.std.specs.Prelude.{◌≡◌, []};
+    ghost use Rattle.std.specs.Prelude.{◌≡◌, ◌+ℤ◌, [], FitsSigned};
+    ghost use Rattle.std.specs.Int.{w64};
     ghost use Rattle.ert_defs.specs.Settings.{IsChecked};
     ghost use Rattle.ert_clock.specs.Shown.{Stands, opening_shown};
     ghost use Rattle.ert_clock.specs.Ticks.{Limits, act_of, Gives, Ticks, FinalizesFrom, Finalizes};
@@ -70,7 +71,8 @@ impl Clock {
     /// The time offset, in nanoseconds: system time is monotonic time plus the offset
     /// (`erlang:time_offset`).
     pub fn offset(&self) -> i64
-        ensures { result ≡ self.now.face.offset }
+        ensures value { result ≡ self.now.face.offset }
+        ensures sum { FitsSigned w64 (self.now.face.time +ℤ self.now.face.offset) }
     {
         self.face.offset
     }

@@ -56,6 +56,7 @@ impl World {
     pub fn tick(&mut self, reading: Reading, force: bool) -> Result<Moved, ClockErr>
         ensures gives { Gives self.old reading (act_of force) result self.new }
         ensures entries { Extends self.old self.new (moved_entries reading (act_of force) result) }
+        ensures settings { self.new.settings ≡ self.old.settings }
     {
         self.clock.tick(reading, force)
     }
@@ -65,6 +66,7 @@ impl World {
     pub fn finalize(&mut self, reading: Reading) -> Result<(OffsetState, Moved), ClockErr>
         ensures gives { FinalizesFrom self.old.face.state self.old reading result self.new }
         ensures entries { Extends self.old self.new (finalized_entries self.old reading result) }
+        ensures settings { self.new.settings ≡ self.old.settings }
     {
         self.clock.finalize(reading)
     }
@@ -73,6 +75,7 @@ impl World {
     pub fn monotonic_time(&mut self) -> i64
         ensures value { result ≡ self.old.face.time }
         ensures entries { Extends self.old self.new (look_entries result) }
+        ensures same { self.new ≡ self.old }
     {
         self.clock.now()
     }
@@ -82,6 +85,7 @@ impl World {
         ensures value { result.0 ≡ self.old.face.offset }
         ensures state { result.1 ≡ self.old.face.state }
         ensures entries { Extends self.old self.new (off_entries result.0 result.1) }
+        ensures same { self.new ≡ self.old }
     {
         (self.clock.offset(), self.clock.state())
     }
@@ -90,6 +94,7 @@ impl World {
     pub fn system_time(&mut self) -> i64
         ensures value { result ≡ self.old.face.time +ℤ self.old.face.offset }
         ensures entries { Extends self.old self.new (system_entries self.old) }
+        ensures same { self.new ≡ self.old }
     {
         self.clock.now() + self.clock.offset()
     }
