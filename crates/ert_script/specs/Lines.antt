@@ -7,7 +7,7 @@ use Rattle.ert_defs.specs.declared.settings.Mode.TheVariants.{No, Single, Multi}
 use Rattle.ert_defs.specs.declared.settings.OffsetState.{OffsetState}
 use Rattle.ert_defs.specs.declared.settings.OffsetState.TheVariants.{Preliminary, Final, Volatile}
 use Rattle.ert_script.specs.declared.reply.Reply.{Reply}
-use Rattle.ert_script.specs.declared.reply.Reply.TheVariants.{Tick, TickWide, Check, CheckWide, Finalize, FinalizeWide, Time, System, Offset, Info, Convert, ConvertTooWide}
+use Rattle.ert_script.specs.declared.reply.Reply.TheVariants.{Tick, TickWide, Check, CheckWide, Finalize, FinalizeWide, Time, System, Offset, Info}
 
 -- one text, and then another
 infixr 20 ◌⋅◌
@@ -38,16 +38,16 @@ moved_text now None = signed_decimal now ⋅ codes "\n"
 moved_text now (Some offset) = signed_decimal now ⋅ codes " offset " ⋅ signed_decimal offset ⋅ codes "\n"
 
 -- the parts of the line of the settings
-abbrev pub info_front : ℤ → ℤ → Mode → List ℕ
+unfoldable pub info_front : ℤ → ℤ → Mode → List ℕ
 info_front start end mode = codes "info start " ⋅ signed_decimal start ⋅ codes " end " ⋅ signed_decimal end ⋅ codes " mode " ⋅ mode_word mode
 
-abbrev pub info_middle : Bool → List ℕ
+unfoldable pub info_middle : Bool → List ℕ
 info_middle correction = codes " correction " ⋅ bool_word correction
 
 abbrev pub offset_text : ℤ → OffsetState → List ℕ
 offset_text offset state = signed_decimal offset ⋅ codes " " ⋅ state_word state ⋅ codes "\n"
 
-abbrev pub info_back : ℤ → OffsetState → List ℕ
+unfoldable pub info_back : ℤ → OffsetState → List ℕ
 info_back offset state = codes " offset " ⋅ signed_decimal offset ⋅ codes " state " ⋅ state_word state ⋅ codes "\n"
 
 -- the line of a reply
@@ -62,8 +62,6 @@ line_of (Time now) = codes "time " ⋅ signed_decimal now ⋅ codes "\n"
 line_of (System time) = codes "system " ⋅ signed_decimal time ⋅ codes "\n"
 line_of (Offset offset state) = codes "offset " ⋅ offset_text offset state
 line_of (Info start end mode correction offset state) = info_front start end mode ⋅ info_middle correction ⋅ info_back offset state
-line_of (Convert value) = codes "convert " ⋅ signed_decimal value ⋅ codes "\n"
-line_of ConvertTooWide = codes "convert too_wide\n"
 
 -- the lines of replies
 abbrev pub lines_of : List Reply → List ℕ
