@@ -13,12 +13,13 @@ pub struct World {
 impl Model for World {
     ghost use Rattle.std.specs.Prelude.{◌≡◌};
     ghost use Rattle.ert_clock.specs.Shown.{Shown};
+    ghost use Rattle.ert_defs.specs.Settings.{IsChecked};
 
     ghost Value = { Shown };
 
     ghost view = { λ w. w.clock };
 
-    ghost invariant = { λ w. w.clock.settings ≡ w.settings };
+    ghost invariant = { λ w. (w.clock.settings ≡ w.settings) × IsChecked w.settings };
 }
 
 impl World {
@@ -40,7 +41,8 @@ impl World {
 
     /// The settings that the service was opened with.
     pub fn settings(&self) -> &Settings
-        ensures { result.now ≡ self.now.settings }
+        ensures value { result.now ≡ self.now.settings }
+        ensures checked { IsChecked self.now.settings }
     {
         &self.settings
     }

@@ -11,7 +11,6 @@ use Rattle.ert_script.specs.declared.reply.Reply.TheVariants.{Tick, TickWide, Ch
 
 -- one text, and then another
 infixr 20 ◌⋅◌
-
 abbrev pub ◌⋅◌ : List ℕ → List ℕ → List ℕ
 xs ⋅ ys = xs ++ ys
 

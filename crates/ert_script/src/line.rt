@@ -74,7 +74,11 @@ fn write_offset(page: &mut String, offset: i64, state: OffsetState) -> Result<()
 fn write_info_front(page: &mut String, start: i64, end: i64, mode: Mode) -> Result<(), AllocError>
     ensures { OnOk result (string_bytes page.new ≡ string_bytes page.old ++ info_front start end mode) }
 {
-    write!(page, "info start {start} end {end} mode {}", mode_word(mode))
+    write!(
+        page,
+        "info start {start} end {end} mode {}",
+        mode_word(mode)
+    )
 }
 
 #[tactic(auto, using(crate::proofs::Texts::joined))]

@@ -1,0 +1,121 @@
+-- What each op does to the history that the world stands for.
+
+use Rattle.std.proofs.Common.{◌≡◌, ℤ, ◌+ℤ◌, Bool, true, false, List, [], ◌∷◌, ◌++◌, Option, Some, None, refl, sym, subst, ap, ◌∙◌}
+use Rattle.std.specs.Prelude.{Ok, Err}
+use Rattle.ert_defs.specs.Clocks.{Clock, face}
+use Rattle.ert_defs.specs.Lines.{Face, MayAct, end_time, time_after, due_after}
+use Rattle.ert_defs.specs.States.{State, state}
+use Rattle.ert_defs.specs.declared.entry.Act.{Act}
+use Rattle.ert_defs.specs.declared.entry.Act.TheVariants.{Plain, Force, Finalize as Finalizing}
+use Rattle.ert_defs.specs.declared.entry.Entry.{Entry}
+use Rattle.ert_defs.specs.declared.entry.Event.TheVariants.{Off}
+use Rattle.ert_defs.specs.declared.settings.Mode.{Mode}
+use Rattle.ert_defs.specs.declared.settings.OffsetState.{OffsetState}
+use Rattle.ert_defs.specs.declared.settings.OffsetState.TheVariants.{Preliminary, Final, Volatile}
+use Rattle.ert_defs.specs.declared.settings.Reading.{Reading}
+use Rattle.ert_defs.specs.declared.settings.Settings.{Settings}
+use Rattle.ert_clock.proofs.Stand.{shown_at, shown_is, TickOf, tick_of}
+use Rattle.ert_clock.specs.Shown.{Shown, Stands}
+use Rattle.ert_clock.specs.Ticks.{keeper_entry, tick_entries, offset_of, IsWide, due_of, Gives, FinalizesFrom}
+use Rattle.ert_clock.specs.declared.clock.ClockErr.TheVariants.{OffsetWide}
+use Rattle.ert_clock.specs.declared.clock.Moved.{Moved}
+use Rattle.ert_sched.proofs.Calls.{unchanged}
+use Rattle.ert_sched.specs.Worlds.{StandsFor, Extends, look_entries, off_entries, system_entries, moved_entries, finalized_entries}
+use Rattle.ert_scenario.specs.declared.op.Op.TheVariants as ops
+use Rattle.ert_script.specs.declared.reply.Reply.TheVariants.{Tick, TickWide, Check, CheckWide, Finalize, FinalizeWide, Time, System, Offset, Info}
+use Rattle.ert_script.specs.Scripts.{IsMove, IsRefusal, IsOld, IsFinal, Does, DoesFor}
+
+-- the shift that a tick told is the one that was due
+moves : (g : Settings) (h : List Entry) (v : Shown) (r : Reading) (act : Act) (m : Moved) (new : Shown)
+    → StandsFor g h v → Gives v r act (Ok m) new → IsMove g (state g h) r act m.now m.shift (tick_entries 0 r act m.now m.shift)
+moves g h v r act m new st gives =
+    record { due = (tick_of g (state g h).clock v r act m new (shown_is g h v st.clock) gives).shift; entries = refl }
+
+-- a tick whose shift would be outside the limits
+refuses : (g : Settings) (h : List Entry) (v : Shown) (r : Reading) (act : Act) (value : ℤ) (new : Shown)
+    → StandsFor g h v → MayAct act v.face.state → Gives v r act (Err (OffsetWide value)) new → IsRefusal g (state g h) r act value []
+refuses g h v r act value new st may gives = record {
+  valid = gives.0;
+  may = subst (MayAct act) (ap (λ (f : Face). f.state) st.clock.face) may;
+  wide = subst (λ (x : Shown). IsWide (due_of x r act) value) (shown_is g h v st.clock) gives.1;
+  none = refl;
+}
+
+-- nothing was done
+stays : (g : Settings) (h : List Entry) (v new : Shown) → new ≡ v → StandsFor g h v → StandsFor g (h ++ []) new
+stays g h v new is st = subst (λ (x : Shown). StandsFor g (h ++ []) x) (sym is) (unchanged g h v st)
+
+pub tick_does : (v new : Shown) (mono sys : ℤ) (m : Moved) → Gives v (record { mono = mono; sys = sys }) Plain (Ok m) new
+    → Extends v new (tick_entries 0 (record { mono = mono; sys = sys }) Plain m.now m.shift)
+    → Does v (ops.Tick mono sys) (Tick m.now m.shift) new
+tick_does v new mono sys m gives extends = λ g h st.
+    record { piece = _; allowed = moves g h v (record { mono = mono; sys = sys }) Plain m new st gives; stands = extends g h st }
+
+pub check_does : (v new : Shown) (mono sys : ℤ) (m : Moved) → Gives v (record { mono = mono; sys = sys }) Force (Ok m) new
+    → Extends v new (tick_entries 0 (record { mono = mono; sys = sys }) Force m.now m.shift)
+    → Does v (ops.Check mono sys) (Check m.now m.shift) new
+check_does v new mono sys m gives extends = λ g h st.
+    record { piece = _; allowed = moves g h v (record { mono = mono; sys = sys }) Force m new st gives; stands = extends g h st }
+
+-- a finalization that finds nothing preliminary
+old_does : (v new : Shown) (mono sys : ℤ) (old : OffsetState) (m : Moved) → (old ≡ Preliminary → ⊥)
+    → old ≡ v.face.state → m.now ≡ v.face.time → m.shift ≡ None
+    → Extends v new (finalized_entries v (record { mono = mono; sys = sys }) (Ok (old, m)))
+    → Does v (ops.Finalize mono sys) (Finalize old m.now m.shift) new
+old_does v new mono sys Preliminary m other is time none extends = absurd (other refl)
+old_does v new mono sys Final m other is time none extends = λ g h st. record {
+  piece = _;
+  allowed = record {
+    final = is ∙ ap (λ (f : Face). f.state) st.clock.face;
+    time = time ∙ ap (λ (f : Face). f.time) st.clock.face;
+    unmoved = none;
+    entries = ap (λ (f : Face). keeper_entry 0 (Off f.offset f.state) ∷ []) st.clock.face;
+  };
+  stands = extends g h st;
+}
+old_does v new mono sys Volatile m other is time none extends = λ g h st. record {
+  piece = _;
+  allowed = record {
+    final = is ∙ ap (λ (f : Face). f.state) st.clock.face;
+    time = time ∙ ap (λ (f : Face). f.time) st.clock.face;
+    unmoved = none;
+    entries = ap (λ (f : Face). keeper_entry 0 (Off f.offset f.state) ∷ []) st.clock.face;
+  };
+  stands = extends g h st;
+}
+
+-- a finalization, by the state before it and the one that it answers
+final_does : (v new : Shown) (mono sys : ℤ) (old : OffsetState) (m : Moved) (s : OffsetState) → s ≡ v.face.state
+    → FinalizesFrom s v (record { mono = mono; sys = sys }) (Ok (old, m)) new
+    → Extends v new (finalized_entries v (record { mono = mono; sys = sys }) (Ok (old, m)))
+    → Does v (ops.Finalize mono sys) (Finalize old m.now m.shift) new
+final_does v new mono sys Preliminary m Preliminary is from extends = λ g h st.
+    record { piece = _; allowed = moves g h v (record { mono = mono; sys = sys }) Finalizing m new st from.1; stands = extends g h st }
+final_does v new mono sys old m Final is from extends =
+    old_does v new mono sys old m (λ e. let f : Final ≡ Preliminary = is ∙ sym from.1 ∙ e in cc) from.1 from.2 from.3 extends
+final_does v new mono sys old m Volatile is from extends =
+    old_does v new mono sys old m (λ e. let f : Volatile ≡ Preliminary = is ∙ sym from.1 ∙ e in cc) from.1 from.2 from.3 extends
+final_does v new mono sys Final m Preliminary is from extends = let e : Final ≡ Preliminary = from.0 in cc
+final_does v new mono sys Volatile m Preliminary is from extends = let e : Volatile ≡ Preliminary = from.0 in cc
+
+pub finalize_does : (v new : Shown) (mono sys : ℤ) (old : OffsetState) (m : Moved)
+    → FinalizesFrom v.face.state v (record { mono = mono; sys = sys }) (Ok (old, m)) new
+    → Extends v new (finalized_entries v (record { mono = mono; sys = sys }) (Ok (old, m)))
+    → Does v (ops.Finalize mono sys) (Finalize old m.now m.shift) new
+finalize_does v new mono sys old m from extends = final_does v new mono sys old m v.face.state refl from extends
+
+final_refused : (v new : Shown) (mono sys value : ℤ) (s : OffsetState) → s ≡ v.face.state
+    → FinalizesFrom s v (record { mono = mono; sys = sys }) (Err (OffsetWide value)) new
+    → Does v (ops.Finalize mono sys) (FinalizeWide value) new
+final_refused v new mono sys value Preliminary is from = λ g h st. record {
+  piece = [];
+  allowed = refuses g h v (record { mono = mono; sys = sys }) Finalizing value new st (sym is) from;
+  stands = stays g h v new from.2 st;
+}
+final_refused v new mono sys value Final is from = absurd from
+final_refused v new mono sys value Volatile is from = absurd from
+
+pub finalize_refused : (v new : Shown) (mono sys value : ℤ)
+    → FinalizesFrom v.face.state v (record { mono = mono; sys = sys }) (Err (OffsetWide value)) new
+    → Does v (ops.Finalize mono sys) (FinalizeWide value) new
+finalize_refused v new mono sys value from = final_refused v new mono sys value v.face.state refl from

@@ -1,0 +1,42 @@
+use Rattle.std.proofs.Common.{arith, ◌≡◌, ◌≤◌, ◌<◌, List, ℕ, refl, sym, subst, ◌∙◌, string_bytes}
+use Rattle.ert_script.proofs.Runs.{IsSoFar, so_far_first, op_may, goes_on_at, breaks_at, ends, breaks_last, ok_map, err_map}
+use Rattle.ert_script.proofs.run.run_ops.Goals as goal
+
+pub loop-op-init : goal.loop-op-init
+loop-op-init g c = record {
+  so_far = rw c.new-page.ensures.bytes (so_far_first c.args.world.now (g.K.Sink.taken c.args.sink.now));
+  settings = refl;
+  room = c.requires.room;
+  later = omega arith;
+}
+
+pub reply_op-requires : goal.reply_op-requires
+reply_op-requires g c =
+    op_may c.args.world.now.settings c.loop-op.world c.args.ops.now c.loop-op.op-index _ c.loop-op-test.true c.loop-op.invariant.settings c.requires.ranges
+
+pub returns-in-Err-clause-err : goal.returns-in-Err-clause-err
+returns-in-Err-clause-err g c =
+    breaks_at c.args.world.now c.loop-op.world c.reply_op.new.world c.args.ops.now c.loop-op.op-index _ _ _ _ _ c.in-Ok.reply
+    c.loop-op-test.true c.loop-op.invariant.so_far c.in-Ok.ensures.ok c.in-Err.ensures.err
+
+pub loop-op-preserved : goal.loop-op-preserved
+loop-op-preserved g c = record {
+  so_far =
+    goes_on_at c.args.world.now c.loop-op.world c.reply_op.new.world c.args.ops.now c.loop-op.op-index _ _ _ _ _ _ c.in-Ok.reply
+    c.loop-op-test.true c.loop-op.invariant.so_far c.in-Ok.ensures.ok c.in_default-put.ensures.ok;
+  settings = c.reply_op.ensures.settings ∙ c.loop-op.invariant.settings;
+  room = c.put.ensures.room;
+  later = omega (arith, c.loop-op.invariant.later, c.put.ensures.later);
+}
+
+pub returns-clause-ok : goal.returns-clause-ok
+returns-clause-ok g c =
+    ok_map c.write_page.result
+    (ends c.args.world.now c.loop-op.world c.args.ops.now c.loop-op.op-index _ _ _ _ c.loop-op-test.false c.loop-op.invariant.so_far)
+    c.write_page.ensures.ok
+
+pub returns-clause-err : goal.returns-clause-err
+returns-clause-err g c =
+    err_map c.write_page.result
+    (breaks_last c.args.world.now c.loop-op.world c.args.ops.now c.loop-op.op-index _ _ _ _ c.loop-op.invariant.so_far)
+    c.write_page.ensures.err
