@@ -62,6 +62,10 @@ line_of (System time) = codes "system " ⋅ signed_decimal time ⋅ codes "\n"
 line_of (Offset offset state) = codes "offset " ⋅ offset_text offset state
 line_of (Info start end mode correction offset state) = info_front start end mode ⋅ info_middle correction ⋅ info_back offset state
 
+-- the last line of a transcript
+abbrev pub end_line : ℤ → List ℕ
+end_line now = codes "end " ⋅ signed_decimal now ⋅ codes "\n"
+
 -- the lines of replies
 abbrev pub lines_of : List Reply → List ℕ
 lines_of [] = []

@@ -5,12 +5,15 @@
 //! pieces. What they did is a script run: a piece of history for each op, all of them legal together.
 #![tactic(auto)]
 
+mod laws;
 mod line;
 mod output;
 mod reply;
 mod run;
 mod words;
 
+pub use laws::one_transcript;
+pub use line::write_end;
 pub use output::{RunErr, write_page};
 pub use reply::{Reply, reply_op};
 pub use run::run_ops;

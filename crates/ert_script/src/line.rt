@@ -1,5 +1,5 @@
 ghost use Rattle.std.specs.Prelude.{◌≡◌, ◌++◌, codes, OnOk, string_bytes};
-ghost use Rattle.ert_script.specs.Lines.{◌⋅◌, line_of, moved_text, state_word, info_front, info_middle, info_back, offset_text};
+ghost use Rattle.ert_script.specs.Lines.{◌⋅◌, line_of, end_line, moved_text, state_word, info_front, info_middle, info_back, offset_text};
 
 use crate::reply::Reply;
 use crate::words::{bool_word, mode_word, state_word};
@@ -46,6 +46,13 @@ pub fn write_line(page: &mut String, reply: &Reply) -> Result<(), AllocError>
             write_info_behind(page, correction, offset, state)
         }
     }
+}
+
+/// Appends the last line of a transcript.
+pub fn write_end(page: &mut String, now: i64) -> Result<(), AllocError>
+    ensures { OnOk result (string_bytes page.new ≡ string_bytes page.old ++ end_line now) }
+{
+    write!(page, "end {now}\n")
 }
 
 // The end of a line that tells a time, and the new offset where it moved.
