@@ -8,7 +8,7 @@ use Rattle.serde_json.specs.Find.{as_bool}
 use Rattle.ert_defs.specs.Settings.{IsChecked}
 use Rattle.ert_defs.specs.declared.settings.Mode.TheVariants.{No}
 use Rattle.ert_defs.specs.declared.settings.Settings.{Settings}
-use Rattle.ert_scenario.specs.Fields.{field, only_fields, head_of, is_in_range, settings_with, settings_of, op_items}
+use Rattle.ert_scenario.specs.Fields.{field, only_fields, times, head_of, is_in_range, settings_with, settings_of, op_items}
 use Rattle.ert_scenario.specs.Kinds.{Found, ◌▹◌, of_kind, integer, off, only_false, listed, text, head, tail, end}
 use Rattle.ert_scenario.specs.Ranges.{IsOpInRange, IsInRange, is_checked}
 use Rattle.ert_scenario.specs.Rows.{plain, tick_row, op_rows, named, op_of}
@@ -16,7 +16,7 @@ use Rattle.ert_scenario.specs.Scenarios.{Plan, verdict_of}
 use Rattle.ert_scenario.specs.Walks.{founds_of, ops_of}
 use Rattle.ert_scenario.specs.declared.fields.Head.{Head}
 use Rattle.ert_scenario.specs.declared.op.Op.{Op}
-use Rattle.ert_scenario.specs.declared.op.Op.TheVariants.{Tick, Time}
+use Rattle.ert_scenario.specs.declared.op.Op.TheVariants.{Tick, Time, System, Offset, Info}
 use Rattle.ert_scenario.proofs.Accepted.{accepts_all}
 use Rattle.ert_scenario.proofs.Checked.{Decides-reading, Decides-checked}
 use Rattle.ert_scenario.proofs.Founds.{follows, both_parts, in_range_parts}
@@ -40,7 +40,10 @@ RowsKeep g [] = Unit {0}
 RowsKeep g (row ∷ rows) = ((args : List Data) (found : Op) → row.1 args ≡ Ok found → IsOpInRange g found) × RowsKeep g rows
 
 rows_keep : (g : Settings) → RowsKeep g op_rows
-rows_keep g = (tick_keeps g, (plain_keeps g Time tt, tt))
+rows_keep g = (
+  tick_keeps g,
+  (plain_keeps g Time tt, (plain_keeps g System tt, (plain_keeps g Offset tt, (plain_keeps g Info tt, tt)))),
+)
 
 -- ---- all ops
 
@@ -100,9 +103,9 @@ head_correction d head h =
     let f = follows _ _ head h in
     let all = both_parts (only_fields d) _ f.read f.was in
     let others = both_parts (field (codes "format") integer d) _ f.read.1 all.1 in
-    let last = both_parts (field (codes "correction") off d) _ f.read.1.1 others.1 in
-    let same : record { format = f.read.1.0; correction = f.read.1.1.0; first = f.read.1.1.1 } ≡ head = cc in
-    ap (λ (h : Head). h.correction) (sym same) ∙ off_false _ _ last.0
+    let last = both_parts (times d) (field (codes "correction") off d) f.read.1.1 others.1 in
+    let same : record { format = f.read.1.0; start = f.read.1.1.0.0; first = f.read.1.1.0.1; correction = f.read.1.1.1 } ≡ head = cc in
+    ap (λ (h : Head). h.correction) (sym same) ∙ off_false _ _ last.1
 
 valid_settings : (d : Data) (g : Settings) → settings_of d ≡ Ok g → AreValid g
 unfolding settings_of

@@ -1,20 +1,21 @@
 -- The fields of a scenario, and the settings that they give.
 
-use Rattle.std.specs.Prelude.{ℕ, pos, List, [], ◌∷◌, codes, Bool, true, false, ◌&&◌, Option, Ok, Err, if◌then◌else◌}
+use Rattle.std.specs.Prelude.{ℕ, ℤ, pos, List, [], ◌∷◌, codes, Bool, true, false, ◌&&◌, Option, Ok, Err, if◌then◌else◌}
 use Rattle.std.specs.Ordering.{int_eq}
 use Rattle.std.specs.Str.{bytes_eq}
 use Rattle.serde_json.specs.Data.{Data, Members, no_members, member}
 use Rattle.serde_json.specs.Find.{get, as_object}
 use Rattle.ert_defs.specs.declared.settings.Mode.TheVariants.{No}
+use Rattle.ert_defs.specs.declared.settings.Reading.{Reading}
 use Rattle.ert_defs.specs.declared.settings.Settings.{Settings}
-use Rattle.ert_scenario.specs.Kinds.{Found, ◌>>=◌, both, of_kind, in_range, integer, off, listed, reading}
+use Rattle.ert_scenario.specs.Kinds.{Found, ◌>>=◌, both, of_kind, in_range, integer, off, listed, or_absent, reading}
 use Rattle.ert_scenario.specs.Ranges.{is_checked}
 use Rattle.ert_scenario.specs.declared.fault.Fault.TheVariants.{Shape}
 use Rattle.ert_scenario.specs.declared.fields.Head.{Head}
 
 -- the name of each field
 abbrev pub field_names : List (List ℕ)
-field_names = codes "format" ∷ codes "correction" ∷ codes "first" ∷ codes "ops" ∷ []
+field_names = codes "format" ∷ codes "start" ∷ codes "correction" ∷ codes "first" ∷ codes "ops" ∷ []
 
 -- whether it is one of these names
 abbrev pub is_among : List (List ℕ) → List ℕ → Bool
@@ -30,25 +31,33 @@ are_fields (member name d members) = is_among field_names name && are_fields mem
 unfoldable pub only_fields : Data → Found (Unit {0})
 only_fields d = of_kind (as_object d) >>= (λ members. if are_fields members then Ok tt else Err Shape)
 
--- the value of a field that has to be there
+-- the value of a field, as this kind
 abbrev pub field : {X : Type 0} → List ℕ → (Option Data → Found X) → Data → Found X
 field name kind d = kind (get name d)
+
+-- the start time, which is 0 where it is absent
+unfoldable pub start : Option Data → Found ℤ
+start value = or_absent (pos 0) integer value
+
+-- the start time and the first reading
+unfoldable pub times : Data → Found (ℤ × Reading)
+times d = both (field (codes "start") start d) (field (codes "first") reading d)
 
 -- the fields other than the ops, not yet tested for their ranges
 abbrev pub head_of : Data → Found Head
 head_of d =
     both (only_fields d)
     (both (field (codes "format") integer d)
-    (both (field (codes "correction") off d)
-    (field (codes "first") reading d)))
-    >>= (λ p. Ok (record { format = p.1.0; correction = p.1.1.0; first = p.1.1.1 }))
+    (both (times d)
+    (field (codes "correction") off d)))
+    >>= (λ p. Ok (record { format = p.1.0; start = p.1.1.0.0; first = p.1.1.0.1; correction = p.1.1.1 }))
 
 -- the settings that the fields give; those that have no field have their defaults
 abbrev pub settings_with : Head → Settings
 settings_with head = record {
   mode = No;
   correction = head.correction;
-  start = pos 0;
+  start = head.start;
   schedulers = 1;
   processes = 1;
   slots = 1024;

@@ -86,6 +86,11 @@ unfoldable pub end : List Data → Found (Unit {0})
 end [] = Ok tt
 end (d ∷ ds) = Err Shape
 
+-- what is read where there is a value, and this where there is none
+abbrev pub or_absent : {X : Type 0} → X → (Option Data → Found X) → Option Data → Found X
+or_absent absent kind None = Ok absent
+or_absent absent kind (Some d) = kind (Some d)
+
 -- an array of two integers, as a reading that may be out of range
 abbrev pub reading : Option Data → Found Reading
 reading value = listed value >>= (λ items. (integer ▹ integer ▹ end) items >>= (λ p. Ok (record { mono = p.0; sys = p.1.0 })))

@@ -7,7 +7,7 @@ use Rattle.ert_defs.specs.Readings.{IsValid}
 use Rattle.ert_defs.specs.declared.settings.Reading.{Reading}
 use Rattle.ert_defs.specs.declared.settings.Settings.{Settings}
 use Rattle.ert_scenario.specs.declared.op.Op.{Op}
-use Rattle.ert_scenario.specs.declared.op.Op.TheVariants.{Tick, Time}
+use Rattle.ert_scenario.specs.declared.op.Op.TheVariants.{Tick, Time, System, Offset, Info}
 
 -- whether a reading is valid
 unfoldable pub is_reading : Reading → Bool
@@ -35,6 +35,9 @@ is_checked g = is_start g.start && (is_reading g.first && has_counts g)
 abbrev pub IsOpInRange : Settings → Op → Type 0
 IsOpInRange g (Tick mono sys) = IsValid (record { mono = mono; sys = sys })
 IsOpInRange g Time = Unit {0}
+IsOpInRange g System = Unit {0}
+IsOpInRange g Offset = Unit {0}
+IsOpInRange g Info = Unit {0}
 
 -- the arguments of all ops are
 abbrev pub IsInRange : Settings → List Op → Type 0

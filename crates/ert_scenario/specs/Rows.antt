@@ -7,7 +7,7 @@ use Rattle.ert_scenario.specs.Kinds.{Found, ◌>>=◌, ◌▹◌, integer, in_ra
 use Rattle.ert_scenario.specs.Ranges.{is_reading}
 use Rattle.ert_scenario.specs.declared.fault.Fault.TheVariants.{Shape}
 use Rattle.ert_scenario.specs.declared.op.Op.{Op}
-use Rattle.ert_scenario.specs.declared.op.Op.TheVariants.{Tick, Time}
+use Rattle.ert_scenario.specs.declared.op.Op.TheVariants.{Tick, Time, System, Offset, Info}
 
 -- an op without arguments
 abbrev pub plain : Op → List Data → Found Op
@@ -22,6 +22,9 @@ abbrev pub op_rows : List (List ℕ × (List Data → Found Op))
 op_rows =
     (codes "tick", tick_row)
     ∷ (codes "time", plain Time)
+    ∷ (codes "system", plain System)
+    ∷ (codes "offset", plain Offset)
+    ∷ (codes "info", plain Info)
     ∷ []
 
 -- the row of this name

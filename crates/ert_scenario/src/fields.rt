@@ -1,10 +1,10 @@
 //! The fields of a scenario, and the settings that they give.
 
-ghost use Rattle.std.specs.Prelude.{◌≡◌, map, string_bytes};
+ghost use Rattle.std.specs.Prelude.{◌≡◌, map, option_map, string_bytes};
 ghost use Rattle.std.specs.BTreeMap.{keys};
 ghost use Rattle.std.specs.List.{list_all};
 ghost use Rattle.serde_json.specs.View.{view};
-ghost use Rattle.ert_scenario.specs.Fields.{field_names, is_among, only_fields, head_of, settings_with, is_in_range, settings_of, op_items};
+ghost use Rattle.ert_scenario.specs.Fields.{field_names, is_among, only_fields, start, times, head_of, settings_with, is_in_range, settings_of, op_items};
 ghost use Rattle.ert_scenario.specs.Kinds.{found_map};
 ghost use Rattle.ert_scenario.specs.Ranges.{is_checked};
 
@@ -17,8 +17,9 @@ use serde_json::{Map, Value};
 #[derive(Clone, Copy)]
 pub(crate) struct Head {
     format: i64,
-    correction: bool,
+    start: i64,
     first: Reading,
+    correction: bool,
 }
 
 /// The settings that a value gives.
@@ -43,14 +44,33 @@ fn head_of(value: &Value) -> Result<Head, Fault>
 {
     let format = integer(value.get("format"));
     let correction = off(value.get("correction"));
-    let first = reading(value.get("first"));
-    let fields = both(format, both(correction, first));
-    let ((), (format, (correction, first))) = both(only_fields(value), fields)?;
+    let fields = both(format, both(times(value), correction));
+    let ((), (format, ((start, first), correction))) = both(only_fields(value), fields)?;
     Ok(Head {
         format,
-        correction,
+        start,
         first,
+        correction,
     })
+}
+
+/// The start time and the first reading.
+#[tactic(auto, unfolding(crate::specs::Fields::times))]
+fn times(value: &Value) -> Result<(i64, Reading), Fault>
+    ensures { result ≡ times (view value.now) }
+{
+    both(start(value.get("start")), reading(value.get("first")))
+}
+
+/// The start time, which is 0 where it is absent.
+#[tactic(auto, unfolding(crate::specs::Fields::start))]
+fn start(value: Option<&Value>) -> Result<i64, Fault>
+    ensures { result ≡ start (option_map (λ v. view v.now) value.entry) }
+{
+    match value {
+        None => Ok(0),
+        Some(_) => integer(value),
+    }
 }
 
 /// An object that has no other members than fields.
@@ -75,7 +95,7 @@ fn are_fields(members: &Map<String, Value>) -> bool
 fn is_field(name: &str) -> bool
     ensures { result ≡ is_among field_names name.now }
 {
-    matches!(name, "format" | "correction" | "first" | "ops")
+    matches!(name, "format" | "start" | "correction" | "first" | "ops")
 }
 
 /// The settings that the fields give; those that have no field have their defaults.
@@ -85,7 +105,7 @@ fn settings_with(head: Head) -> Settings
     Settings {
         mode: Mode::No,
         correction: head.correction,
-        start: 0,
+        start: head.start,
         schedulers: 1,
         processes: 1,
         slots: 1024,

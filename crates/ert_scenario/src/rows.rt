@@ -27,6 +27,9 @@ fn named(name: &str, args: &[Value]) -> Result<Op, Fault>
     match name {
         "tick" => tick(args),
         "time" => plain(Op::Time, args),
+        "system" => plain(Op::System, args),
+        "offset" => plain(Op::Offset, args),
+        "info" => plain(Op::Info, args),
         _ => Err(Fault::Shape),
     }
 }

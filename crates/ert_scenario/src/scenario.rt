@@ -18,8 +18,8 @@ pub(crate) const MAX_OPS: usize = 100_000;
 /// What a service is opened with, and the ops that are run on it.
 #[derive(Debug, Drop)]
 pub struct Scenario {
-    /// Settings that a service can be opened with: mode no, correction off, start 0, 1 scheduler, 1
-    /// process, 1024 slots, 1 caller, and the first reading of the scenario.
+    /// Settings that a service can be opened with: those of the scenario's fields, mode no, 1 scheduler, 1
+    /// process, 1024 slots and 1 caller.
     pub settings: Settings,
     /// At most 100,000, each with its arguments in range.
     pub ops: Vec<Op>,
@@ -50,10 +50,16 @@ pub enum ScenarioErr {
 
 /// Reads a scenario, in format 1.
 ///
-/// The bytes are one JSON object with the fields `format` (the integer 1), `correction` (`false`), `first`
-/// (a reading, as an array of `mono` and `sys`) and `ops` (an array of ops), and no other. An op is an
-/// array of its name and its arguments, as `Op` has them. An integer is written without a fraction or an
-/// exponent, and fits 64 bits. Where a key is repeated, its last value counts.
+/// The bytes are one JSON object with these fields, and no other:
+///
+/// - `format`: the integer 1.
+/// - `start`: the start time in nanoseconds, an integer; 0 where it is absent.
+/// - `correction`: `false`.
+/// - `first`: the reading that the clock opens with, an array of `mono` and `sys`.
+/// - `ops`: an array of ops. An op is an array of its name and its arguments, as `Op` has them.
+///
+/// An integer is written without a fraction or an exponent, and fits 64 bits. Where a key is repeated, its
+/// last value counts.
 pub fn read_scenario(alloc: Global, bytes: &[u8]) -> Result<Scenario, ScenarioErr>
     ensures ok { IfOk result (λ s. IsScenario bytes.now (plan_of s)) }
 

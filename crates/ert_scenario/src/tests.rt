@@ -10,7 +10,7 @@ const SHAPE: ScenarioErr = ScenarioErr::Shape(0);
 const RANGE: ScenarioErr = ScenarioErr::Range(0);
 
 #[test]
-fn refuses_objects(rt: HostRuntime) {
+fn refuses_texts(rt: HostRuntime) {
     let rows = [
         ("", JSON),
         (r#"{"format":1"#, JSON),
@@ -18,88 +18,17 @@ fn refuses_objects(rt: HostRuntime) {
             r#"{"format":1,"correction":false,"first":[0,0],"ops":[]} x"#,
             JSON,
         ),
+        (
+            "\u{feff}{\"format\":1,\"correction\":false,\"first\":[0,0],\"ops\":[]}",
+            JSON,
+        ),
+        (r#"["\ud800"]"#, JSON),
         ("[]", SHAPE),
         ("{}", SHAPE),
         (r#"{"correction":false,"first":[0,0],"ops":[]}"#, SHAPE),
         (r#"{"format":1,"first":[0,0],"ops":[]}"#, SHAPE),
         (r#"{"format":1,"correction":false,"ops":[]}"#, SHAPE),
         (r#"{"format":1,"correction":false,"first":[0,0]}"#, SHAPE),
-        (
-            r#"{"format":1,"correction":false,"first":[0,0],"ops":[],"mode":"no"}"#,
-            SHAPE,
-        ),
-        (
-            r#"{"format":1.0,"correction":false,"first":[0,0],"ops":[]}"#,
-            SHAPE,
-        ),
-        (
-            r#"{"format":1e0,"correction":false,"first":[0,0],"ops":[]}"#,
-            SHAPE,
-        ),
-        (
-            r#"{"format":"1","correction":false,"first":[0,0],"ops":[]}"#,
-            SHAPE,
-        ),
-        (
-            r#"{"format":3,"correction":false,"first":[0,0],"ops":[]}"#,
-            RANGE,
-        ),
-        (
-            r#"{"format":1,"correction":true,"first":[0,0],"ops":[]}"#,
-            SHAPE,
-        ),
-        (
-            r#"{"format":1,"correction":null,"first":[0,0],"ops":[]}"#,
-            SHAPE,
-        ),
-        (
-            r#"{"format":1,"correction":false,"first":7,"ops":[]}"#,
-            SHAPE,
-        ),
-        (
-            r#"{"format":1,"correction":false,"first":[0],"ops":[]}"#,
-            SHAPE,
-        ),
-        (
-            r#"{"format":1,"correction":false,"first":[0,0,0],"ops":[]}"#,
-            SHAPE,
-        ),
-        (
-            r#"{"format":1,"correction":false,"first":[0.5,0],"ops":[]}"#,
-            SHAPE,
-        ),
-        (
-            r#"{"format":1,"correction":false,"first":[-1,0],"ops":[]}"#,
-            RANGE,
-        ),
-        (
-            r#"{"format":1,"correction":false,"first":[4611686018427387904,0],"ops":[]}"#,
-            RANGE,
-        ),
-        (
-            r#"{"format":1,"correction":false,"first":[0,2305843009213693952],"ops":[]}"#,
-            RANGE,
-        ),
-        (
-            r#"{"format":1,"correction":false,"first":[0,-2305843009213693952],"ops":[]}"#,
-            RANGE,
-        ),
-        (
-            r#"{"format":1,"correction":false,"first":[0,0],"ops":{}}"#,
-            SHAPE,
-        ),
-        (
-            r#"{"format":3,"correction":0,"first":[0,0],"ops":[[]]}"#,
-            SHAPE,
-        ),
-        (
-            r#"{"format":3,"correction":false,"first":[0,0],"ops":[["time"],[]]}"#,
-            ScenarioErr::Shape(2),
-        ),
-        (
-            r#"{"format":1,"format":3,"correction":false,"first":[0,0],"ops":[]}"#,
-            RANGE,
-        ),
     ];
     for (text, want) in rows {
         assert_eq!(rt;
@@ -111,6 +40,58 @@ fn refuses_objects(rt: HostRuntime) {
     assert_eq!(rt; read_scenario(rt.alloc(), &[255]).err(), Some(JSON));
 }
 
+/// A scenario with these members after the others; of a key that is repeated the last value counts.
+fn with_fields(alloc: Global, fields: &str) -> Result<String, AllocError> {
+    format!(in alloc; "{{\"format\":1,\"correction\":false,\"first\":[0,0],\"ops\":[],{fields}}}")
+}
+
+#[test]
+fn refuses_fields(rt: HostRuntime) -> Result<(), Fail> {
+    let rows = [
+        (r#""speed":1"#, SHAPE),
+        (r#""Start":0"#, SHAPE),
+        (r#""format":1.0"#, SHAPE),
+        (r#""format":1e0"#, SHAPE),
+        (r#""format":"1""#, SHAPE),
+        (r#""format":3"#, RANGE),
+        (r#""start":null"#, SHAPE),
+        (r#""start":-0"#, SHAPE),
+        (r#""start":9223372036854775808"#, SHAPE),
+        (r#""start":-9223372036854775809"#, SHAPE),
+        (r#""start":9223372036854775807"#, RANGE),
+        (r#""start":1"#, RANGE),
+        (r#""start":-1"#, RANGE),
+        (r#""start":288230376152000000"#, RANGE),
+        (r#""correction":true"#, SHAPE),
+        (r#""correction":null"#, SHAPE),
+        (r#""first":7"#, SHAPE),
+        (r#""first":[0]"#, SHAPE),
+        (r#""first":[0,0,0]"#, SHAPE),
+        (r#""first":[0.5,0]"#, SHAPE),
+        (r#""first":[-1,0]"#, RANGE),
+        (r#""first":[4611686018427387904,0]"#, RANGE),
+        (r#""first":[0,2305843009213693952]"#, RANGE),
+        (r#""first":[0,-2305843009213693952]"#, RANGE),
+        (r#""ops":{}"#, SHAPE),
+        (
+            r#""ops":[["time"]],"ops":[["wait"]]"#,
+            ScenarioErr::Shape(1),
+        ),
+        (r#""format":3,"correction":0,"ops":[[]]"#, SHAPE),
+        (r#""start":1,"ops":[["time"],[]]"#, ScenarioErr::Shape(2)),
+        (r#""start":1,"ops":[["tick",-1,0]]"#, RANGE),
+    ];
+    for (fields, want) in rows {
+        let text = with_fields(rt.alloc(), fields)?;
+        assert_eq!(rt;
+            read_scenario(rt.alloc(), text.as_bytes()).err(),
+            Some(want),
+            "at {fields}"
+        );
+    }
+    Ok(())
+}
+
 fn with_ops(alloc: Global, ops: &str) -> Result<String, AllocError> {
     format!(in alloc; "{{\"format\":1,\"correction\":false,\"first\":[7,8],\"ops\":{ops}}}")
 }
@@ -118,23 +99,34 @@ fn with_ops(alloc: Global, ops: &str) -> Result<String, AllocError> {
 #[test]
 fn refuses_ops(rt: HostRuntime) -> Result<(), Fail> {
     let rows = [
-        (r#"[["system"]]"#, ScenarioErr::Shape(1)),
+        (r#"[["wait"]]"#, ScenarioErr::Shape(1)),
         (r#"[["Time"]]"#, ScenarioErr::Shape(1)),
         (r#"["time"]"#, ScenarioErr::Shape(1)),
         (r#"[{}]"#, ScenarioErr::Shape(1)),
         (r#"[[]]"#, ScenarioErr::Shape(1)),
         (r#"[[1]]"#, ScenarioErr::Shape(1)),
         (r#"[["time",0]]"#, ScenarioErr::Shape(1)),
+        (r#"[["system",0]]"#, ScenarioErr::Shape(1)),
+        (r#"[["offset",[]]]"#, ScenarioErr::Shape(1)),
+        (r#"[["info",null]]"#, ScenarioErr::Shape(1)),
         (r#"[["tick"]]"#, ScenarioErr::Shape(1)),
         (r#"[["tick",0]]"#, ScenarioErr::Shape(1)),
         (r#"[["tick",0,0,0]]"#, ScenarioErr::Shape(1)),
         (r#"[["tick",-1,0,0]]"#, ScenarioErr::Shape(1)),
         (r#"[["tick","0",0]]"#, ScenarioErr::Shape(1)),
-        (r#"[["tick",0,0.0]]"#, ScenarioErr::Shape(1)),
+        (r#"[["tick",0,1.0]]"#, ScenarioErr::Shape(1)),
         (r#"[["tick",1e0,0]]"#, ScenarioErr::Shape(1)),
         (r#"[["tick",-0,0]]"#, ScenarioErr::Shape(1)),
         (r#"[["tick",9223372036854775808,0]]"#, ScenarioErr::Shape(1)),
+        (
+            r#"[["tick",0,-9223372036854775809]]"#,
+            ScenarioErr::Shape(1),
+        ),
         (r#"[["tick",9223372036854775807,0]]"#, ScenarioErr::Range(1)),
+        (
+            r#"[["tick",0,-9223372036854775808]]"#,
+            ScenarioErr::Range(1),
+        ),
         (r#"[["tick",4611686018427387904,0]]"#, ScenarioErr::Range(1)),
         (r#"[["tick",0,2305843009213693952]]"#, ScenarioErr::Range(1)),
         (
@@ -142,7 +134,7 @@ fn refuses_ops(rt: HostRuntime) -> Result<(), Fail> {
             ScenarioErr::Range(2),
         ),
         (
-            r#"[["tick",-1,0],["time"],["time",1],["system"]]"#,
+            r#"[["tick",-1,0],["time"],["time",1],["wait"]]"#,
             ScenarioErr::Shape(3),
         ),
     ];
@@ -160,7 +152,7 @@ fn refuses_ops(rt: HostRuntime) -> Result<(), Fail> {
 #[test]
 fn accepts_the_limits(rt: HostRuntime) -> Result<(), Fail> {
     let ops =
-        r#"[["tick",4611686018427387903,-2305843009213693951],["time"],["tick",0,2305843009213693951]]"#;
+        r#"[["tick",4611686018427387903,-2305843009213693951],["time"],["system"],["offset"],["info"]]"#;
     let text = with_ops(rt.alloc(), ops)?;
     let scenario = read_scenario(rt.alloc(), text.as_bytes())?;
     let want = [
@@ -169,10 +161,9 @@ fn accepts_the_limits(rt: HostRuntime) -> Result<(), Fail> {
             sys: -2305843009213693951,
         },
         Op::Time,
-        Op::Tick {
-            mono: 0,
-            sys: 2305843009213693951,
-        },
+        Op::System,
+        Op::Offset,
+        Op::Info,
     ];
     assert_eq!(rt; scenario.ops.as_slice(), want.as_slice());
     let settings = Settings {
@@ -189,11 +180,10 @@ fn accepts_the_limits(rt: HostRuntime) -> Result<(), Fail> {
 
     // The last of repeated keys counts.
     let repeated =
-        r#"{"format":3,"ops":[[]],"format":1,"correction":false,"first":[0,0],"ops":[]}"#;
-    assert_eq!(rt;
-        read_scenario(rt.alloc(), repeated.as_bytes())?.ops.len(),
-        0
-    );
+        r#"{"format":3,"ops":[[]],"format":1,"start":-1000000000,"correction":false,"first":[0,0],"ops":[]}"#;
+    let scenario = read_scenario(rt.alloc(), repeated.as_bytes())?;
+    assert_eq!(rt; scenario.ops.len(), 0);
+    assert_eq!(rt; scenario.settings.start, -1_000_000_000);
     Ok(())
 }
 
@@ -209,8 +199,14 @@ fn repeated(alloc: Global, piece: &str, count: usize) -> Result<String, AllocErr
 #[test]
 fn limits_ops_and_nesting(rt: HostRuntime) -> Result<(), Fail> {
     let alloc = rt.alloc();
-    for (count, want) in [(99_999, Ok(100_000)), (100_000, Err(ScenarioErr::Limit(0)))] {
-        let ops = format!(in alloc; "[{}[\"time\"]]", repeated(alloc, "[\"time\"],", count)?)?;
+    let rows = [
+        (99_999, r#"["time"]"#, Ok(100_000)),
+        (99_999, r#"["tick",-1,0]"#, Err(ScenarioErr::Range(100_000))),
+        (99_999, "[]", Err(ScenarioErr::Shape(100_000))),
+        (100_000, r#"["time"]"#, Err(ScenarioErr::Limit(0))),
+    ];
+    for (count, last, want) in rows {
+        let ops = format!(in alloc; "[{}{last}]", repeated(alloc, "[\"time\"],", count)?)?;
         let text = with_ops(alloc, ops.as_str())?;
         let answer = read_scenario(alloc, text.as_bytes());
         assert_eq!(rt; answer.map(|scenario| scenario.ops.len()), want);
