@@ -1,8 +1,7 @@
 -- What is known of the parts of a reading that succeeded.
 
 use Rattle.std.proofs.Common.{◌≡◌, Bool, true, false, Ok, Err, refl}
-use Rattle.ert_scenario.specs.Kinds.{Found, ◌>>=◌, both, in_range}
-use Rattle.ert_scenario.specs.declared.fault.Fault.TheVariants.{Shape, Range}
+use Rattle.ert_scenario.specs.Kinds.{Found, ◌>>=◌, in_range}
 
 -- a step that succeeded, with what the step before it read
 pub record Follows {A B : Type 0} (first : Found A) (next : A → Found B) (b : B) : Type 0 where
@@ -13,14 +12,6 @@ pub record Follows {A B : Type 0} (first : Found A) (next : A → Found B) (b : 
 pub follows : {A B : Type 0} (first : Found A) (next : A → Found B) (b : B) → (first >>= next) ≡ Ok b → Follows first next b
 follows (Ok a) next b h = record { read = a; was = refl; then = h }
 follows (Err fault) next b h = absurd (cc)
-
-pub both_parts : {A B : Type 0} (first : Found A) (second : Found B) (p : A × B) → both first second ≡ Ok p → (first ≡ Ok p.0) × (second ≡ Ok p.1)
-unfolding both
-both_parts (Ok a) (Ok b) p h = let same : (a, b) ≡ p = cc in (cc, cc)
-both_parts (Ok a) (Err fault) p h = absurd (cc)
-both_parts (Err Shape) second p h = absurd (cc)
-both_parts (Err Range) (Ok b) p h = absurd (cc)
-both_parts (Err Range) (Err fault) p h = absurd (cc)
 
 pub in_range_parts : {A : Type 0} (fits : Bool) (a b : A) → in_range fits a ≡ Ok b → (fits ≡ true) × (a ≡ b)
 unfolding in_range

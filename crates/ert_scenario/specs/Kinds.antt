@@ -1,6 +1,7 @@
 -- What an argument or a field is read as, or the fault that it has.
 
-use Rattle.std.specs.Prelude.{ℕ, ℤ, List, [], ◌∷◌, Bool, true, false, Option, Some, None, Result, Ok, Err, option_map, option_and_then}
+use Rattle.std.specs.Prelude.{ℕ, ℤ, List, [], ◌∷◌, Bool, true, false, Option, Some, None, Result, Ok, Err, option_map, option_and_then, if◌then◌else◌}
+use Rattle.std.specs.Str.{bytes_eq}
 use Rattle.serde_json.specs.Data.{Data, Items, no_items, item}
 use Rattle.serde_json.specs.Find.{as_number, as_i64, as_bool, as_str, as_array}
 use Rattle.ert_defs.specs.declared.settings.Reading.{Reading}
@@ -44,19 +45,14 @@ in_range false x = Err Range
 unfoldable pub integer : Option Data → Found ℤ
 integer value = of_kind (option_and_then as_i64 (option_and_then as_number value))
 
--- `false`, where it is that
-abbrev pub only_false : Bool → Option Bool
-only_false true = None
-only_false false = Some false
-
 -- items as a list
 unfoldable pub list_of : Items → List Data
 list_of no_items = []
 list_of (item d ds) = d ∷ list_of ds
 
--- `false`, and no other value
-unfoldable pub off : Option Data → Found Bool
-off value = of_kind (option_and_then only_false (option_and_then as_bool value))
+-- `true` or `false`
+unfoldable pub boolean : Option Data → Found Bool
+boolean value = of_kind (option_and_then as_bool value)
 
 -- the items of an array
 unfoldable pub listed : Option Data → Found (List Data)
@@ -91,6 +87,15 @@ abbrev pub or_absent : {X : Type 0} → X → (Option Data → Found X) → Opti
 or_absent absent kind None = Ok absent
 or_absent absent kind (Some d) = kind (Some d)
 
--- an array of two integers, as a reading that may be out of range
+-- what has this name in a table; a name that isn't there is a shape fault
+abbrev pub called : {X : Type 0} → List ℕ → List (List ℕ × X) → Found X
+called name [] = Err Shape
+called name (row ∷ rows) = if bytes_eq name row.0 then Ok row.1 else called name rows
+
+-- two integers and no more, as a reading that may be out of range
+unfoldable pub reading_from : List Data → Found Reading
+reading_from items = (integer ▹ integer ▹ end) items >>= (λ p. Ok (record { mono = p.0; sys = p.1.0 }))
+
+-- an array of the same
 abbrev pub reading : Option Data → Found Reading
-reading value = listed value >>= (λ items. (integer ▹ integer ▹ end) items >>= (λ p. Ok (record { mono = p.0; sys = p.1.0 })))
+reading value = listed value >>= reading_from

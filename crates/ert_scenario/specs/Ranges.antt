@@ -7,7 +7,7 @@ use Rattle.ert_defs.specs.Readings.{IsValid}
 use Rattle.ert_defs.specs.declared.settings.Reading.{Reading}
 use Rattle.ert_defs.specs.declared.settings.Settings.{Settings}
 use Rattle.ert_scenario.specs.declared.op.Op.{Op}
-use Rattle.ert_scenario.specs.declared.op.Op.TheVariants.{Tick, Time, System, Offset, Info}
+use Rattle.ert_scenario.specs.declared.op.Op.TheVariants.{Tick, Check, Finalize, Time, System, Offset, Info}
 
 -- whether a reading is valid
 unfoldable pub is_reading : Reading → Bool
@@ -34,6 +34,8 @@ is_checked g = is_start g.start && (is_reading g.first && has_counts g)
 -- the arguments of an op are in range, where a service was opened with the settings
 abbrev pub IsOpInRange : Settings → Op → Type 0
 IsOpInRange g (Tick mono sys) = IsValid (record { mono = mono; sys = sys })
+IsOpInRange g (Check mono sys) = IsValid (record { mono = mono; sys = sys })
+IsOpInRange g (Finalize mono sys) = IsValid (record { mono = mono; sys = sys })
 IsOpInRange g Time = Unit {0}
 IsOpInRange g System = Unit {0}
 IsOpInRange g Offset = Unit {0}

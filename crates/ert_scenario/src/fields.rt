@@ -4,12 +4,12 @@ ghost use Rattle.std.specs.Prelude.{◌≡◌, map, option_map, string_bytes};
 ghost use Rattle.std.specs.BTreeMap.{keys};
 ghost use Rattle.std.specs.List.{list_all};
 ghost use Rattle.serde_json.specs.View.{view};
-ghost use Rattle.ert_scenario.specs.Fields.{field_names, is_among, only_fields, start, times, head_of, settings_with, is_in_range, settings_of, op_items};
-ghost use Rattle.ert_scenario.specs.Kinds.{found_map};
+ghost use Rattle.ert_scenario.specs.Fields.{field_names, is_among, only_fields, mode_names, start_time, time_warp_mode, time_correction, times, modes, head_of, settings_with, is_in_range, settings_of, op_items};
+ghost use Rattle.ert_scenario.specs.Kinds.{found_map, called};
 ghost use Rattle.ert_scenario.specs.Ranges.{is_checked};
 
 use crate::fault::Fault;
-use crate::kinds::{both, in_range, integer, listed, off, reading};
+use crate::kinds::{boolean, both, in_range, integer, listed, reading, text};
 use ert_defs::{Mode, Reading, Settings};
 use serde_json::{Map, Value};
 
@@ -19,6 +19,7 @@ pub(crate) struct Head {
     format: i64,
     start: i64,
     first: Reading,
+    mode: Mode,
     correction: bool,
 }
 
@@ -43,13 +44,13 @@ fn head_of(value: &Value) -> Result<Head, Fault>
     ensures { result ≡ head_of (view value.now) }
 {
     let format = integer(value.get("format"));
-    let correction = off(value.get("correction"));
-    let fields = both(format, both(times(value), correction));
-    let ((), (format, ((start, first), correction))) = both(only_fields(value), fields)?;
+    let fields = both(format, both(times(value), modes(value)));
+    let ((), (format, ((start, first), (mode, correction)))) = both(only_fields(value), fields)?;
     Ok(Head {
         format,
         start,
         first,
+        mode,
         correction,
     })
 }
@@ -59,17 +60,62 @@ fn head_of(value: &Value) -> Result<Head, Fault>
 fn times(value: &Value) -> Result<(i64, Reading), Fault>
     ensures { result ≡ times (view value.now) }
 {
-    both(start(value.get("start")), reading(value.get("first")))
+    both(start_time(value.get("start")), reading(value.get("first")))
+}
+
+/// The time warp mode and the time correction.
+#[tactic(auto, unfolding(crate::specs::Fields::modes))]
+fn modes(value: &Value) -> Result<(Mode, bool), Fault>
+    ensures { result ≡ modes (view value.now) }
+{
+    both(
+        time_warp_mode(value.get("mode")),
+        time_correction(value.get("correction")),
+    )
 }
 
 /// The start time, which is 0 where it is absent.
-#[tactic(auto, unfolding(crate::specs::Fields::start))]
-fn start(value: Option<&Value>) -> Result<i64, Fault>
-    ensures { result ≡ start (option_map (λ v. view v.now) value.entry) }
+#[tactic(auto, unfolding(crate::specs::Fields::start_time))]
+fn start_time(value: Option<&Value>) -> Result<i64, Fault>
+    ensures { result ≡ start_time (option_map (λ v. view v.now) value.entry) }
 {
     match value {
         None => Ok(0),
         Some(_) => integer(value),
+    }
+}
+
+/// The time warp mode, which is no where it is absent.
+#[tactic(auto, unfolding(crate::specs::Fields::time_warp_mode))]
+fn time_warp_mode(value: Option<&Value>) -> Result<Mode, Fault>
+    ensures { result ≡ time_warp_mode (option_map (λ v. view v.now) value.entry) }
+{
+    match value {
+        None => Ok(Mode::No),
+        Some(_) => mode_called(text(value)?),
+    }
+}
+
+/// The time warp mode of this name.
+fn mode_called(name: &str) -> Result<Mode, Fault>
+    ensures { result ≡ called name.now mode_names }
+{
+    match name {
+        "no" => Ok(Mode::No),
+        "single" => Ok(Mode::Single),
+        "multi" => Ok(Mode::Multi),
+        _ => Err(Fault::Shape),
+    }
+}
+
+/// Whether time correction is on, as it is where this is absent.
+#[tactic(auto, unfolding(crate::specs::Fields::time_correction))]
+fn time_correction(value: Option<&Value>) -> Result<bool, Fault>
+    ensures { result ≡ time_correction (option_map (λ v. view v.now) value.entry) }
+{
+    match value {
+        None => Ok(true),
+        Some(_) => boolean(value),
     }
 }
 
@@ -95,7 +141,10 @@ fn are_fields(members: &Map<String, Value>) -> bool
 fn is_field(name: &str) -> bool
     ensures { result ≡ is_among field_names name.now }
 {
-    matches!(name, "format" | "start" | "correction" | "first" | "ops")
+    matches!(
+        name,
+        "format" | "start" | "mode" | "correction" | "first" | "ops"
+    )
 }
 
 /// The settings that the fields give; those that have no field have their defaults.
@@ -103,7 +152,7 @@ fn settings_with(head: Head) -> Settings
     ensures { result ≡ settings_with head }
 {
     Settings {
-        mode: Mode::No,
+        mode: head.mode,
         correction: head.correction,
         start: head.start,
         schedulers: 1,

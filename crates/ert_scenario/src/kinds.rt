@@ -2,7 +2,7 @@
 
 ghost use Rattle.std.specs.Prelude.{◌≡◌, map, option_map};
 ghost use Rattle.serde_json.specs.View.{view};
-ghost use Rattle.ert_scenario.specs.Kinds.{found_map, both, of_kind, in_range, integer, off, listed, text, head, tail, end, reading};
+ghost use Rattle.ert_scenario.specs.Kinds.{found_map, both, of_kind, in_range, integer, boolean, listed, text, head, tail, end, reading_from, reading};
 
 use crate::fault::Fault;
 use ert_defs::Reading;
@@ -47,15 +47,12 @@ pub(crate) fn integer(value: Option<&Value>) -> Result<i64, Fault>
     of_kind(value.and_then(Value::as_i64))
 }
 
-/// `false`, and no other value.
-#[tactic(auto, unfolding(crate::specs::Kinds::off, crate::specs::Kinds::of_kind))]
-pub(crate) fn off(value: Option<&Value>) -> Result<bool, Fault>
-    ensures { result ≡ off (option_map (λ v. view v.now) value.entry) }
+/// `true` or `false`.
+#[tactic(auto, unfolding(crate::specs::Kinds::boolean))]
+pub(crate) fn boolean(value: Option<&Value>) -> Result<bool, Fault>
+    ensures { result ≡ boolean (option_map (λ v. view v.now) value.entry) }
 {
-    match value.and_then(Value::as_bool) {
-        Some(false) => Ok(false),
-        Some(true) | None => Err(Fault::Shape),
-    }
+    of_kind(value.and_then(Value::as_bool))
 }
 
 /// The items of an array.
@@ -106,7 +103,15 @@ pub(crate) fn end(args: &[Value]) -> Result<(), Fault>
 pub(crate) fn reading(value: Option<&Value>) -> Result<Reading, Fault>
     ensures { result ≡ reading (option_map (λ v. view v.now) value.entry) }
 {
-    let (mono, items) = next(listed(value)?);
+    reading_from(listed(value)?)
+}
+
+/// Two integers and no more, as a reading that may be out of range.
+#[tactic(auto, unfolding(crate::specs::Kinds::reading_from))]
+pub(crate) fn reading_from(items: &[Value]) -> Result<Reading, Fault>
+    ensures { result ≡ reading_from (map view items.now) }
+{
+    let (mono, items) = next(items);
     let (sys, items) = next(items);
     let (mono, (sys, ())) = both(integer(mono), both(integer(sys), end(items)))?;
     Ok(Reading { mono, sys })

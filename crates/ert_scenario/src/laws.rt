@@ -1,9 +1,8 @@
 //! Laws of the definitions, each the contract of a function with no body. A caller calls the function to
 //! bring its law into reach; the call costs nothing.
 
-ghost use Rattle.std.specs.Prelude.{◌≡◌, ◌<◌, ◌≤◌, ◌⊎◌, ℕ, List, length, false};
+ghost use Rattle.std.specs.Prelude.{◌≡◌, ◌<◌, ◌≤◌, ◌⊎◌, ℕ, List, length};
 ghost use Rattle.ert_defs.specs.Settings.{IsChecked};
-ghost use Rattle.ert_defs.specs.declared.settings.Mode.TheVariants.{No};
 ghost use Rattle.serde_json.specs.Data.{Data};
 ghost use Rattle.ert_scenario.specs.Places.{HasShapeFault, HasRangeFault, op_count, IsLeast, IsNowhere};
 ghost use Rattle.ert_scenario.specs.Ranges.{IsInRange};
@@ -32,9 +31,6 @@ pub fn some_verdict()
 /// What holds of every scenario.
 pub fn scenarios_are_valid()
     ensures settings { (bytes : List ℕ) (plan : Plan) → IsScenario bytes plan → IsChecked plan.settings }
-    ensures mode { (bytes : List ℕ) (plan : Plan) → IsScenario bytes plan → plan.settings.mode ≡ No }
-    ensures correction { (bytes : List ℕ) (plan : Plan)
-        → IsScenario bytes plan → plan.settings.correction ≡ false }
     ensures ops { (bytes : List ℕ) (plan : Plan)
         → IsScenario bytes plan → IsInRange plan.settings plan.ops }
     ensures few { (bytes : List ℕ) (plan : Plan) → IsScenario bytes plan → length plan.ops ≤ 100000 }

@@ -1,15 +1,20 @@
-/// One op of a scenario.
+/// One op of a scenario, with the call of the `erlang` module reference that it is like.
 #[derive(Clone, Copy, Debug, PartialEq, Eq)]
 pub enum Op {
-    /// `["tick",mono,sys]`: the clock takes this reading, in nanoseconds. The reading is valid.
+    /// `["tick",mono,sys]`: the clock takes this reading, in nanoseconds, and checks itself where a check
+    /// is due. The reading is valid.
     Tick { mono: i64, sys: i64 },
-    /// `["time"]`: Erlang monotonic time is read (`erlang` module reference, `monotonic_time`).
+    /// `["check",mono,sys]`: the clock takes this reading and checks itself. The reading is valid.
+    Check { mono: i64, sys: i64 },
+    /// `["finalize",mono,sys]`: the clock takes this reading, and the time offset is finalized
+    /// (`system_flag`, `time_offset`). The reading is valid.
+    Finalize { mono: i64, sys: i64 },
+    /// `["time"]`: Erlang monotonic time is read (`monotonic_time`).
     Time,
     /// `["system"]`: Erlang system time is read (`system_time`).
     System,
     /// `["offset"]`: the time offset is read (`time_offset`).
     Offset,
-    /// `["info"]`: the clock's mode, correction and offset are read (`system_info`, `time_warp_mode` and the
-    /// like).
+    /// `["info"]`: the settings and the state of the clock are read (`system_info`).
     Info,
 }

@@ -3,10 +3,10 @@
 ghost use Rattle.std.specs.Prelude.{◌≡◌, map};
 ghost use Rattle.serde_json.specs.View.{view};
 ghost use Rattle.ert_scenario.specs.Ranges.{is_reading};
-ghost use Rattle.ert_scenario.specs.Rows.{plain, tick_row, named, op_rows, op_of};
+ghost use Rattle.ert_scenario.specs.Rows.{plain, valid_reading, tick_row, check_row, finalize_row, named, op_rows, op_of};
 
 use crate::fault::Fault;
-use crate::kinds::{both, end, in_range, integer, listed, next, text};
+use crate::kinds::{end, in_range, listed, next, reading_from, text};
 use crate::op::Op;
 use ert_defs::Reading;
 use serde_json::Value;
@@ -26,6 +26,8 @@ fn named(name: &str, args: &[Value]) -> Result<Op, Fault>
 {
     match name {
         "tick" => tick(args),
+        "check" => check(args),
+        "finalize" => finalize(args),
         "time" => plain(Op::Time, args),
         "system" => plain(Op::System, args),
         "offset" => plain(Op::Offset, args),
@@ -46,16 +48,39 @@ fn plain(op: Op, args: &[Value]) -> Result<Op, Fault>
 fn tick(args: &[Value]) -> Result<Op, Fault>
     ensures { result ≡ tick_row (map view args.now) }
 {
-    let (mono, args) = next(args);
-    let (sys, args) = next(args);
-    let (mono, (sys, ())) = both(integer(mono), both(integer(sys), end(args)))?;
-    in_range(is_reading(mono, sys), Op::Tick { mono, sys })
+    let Reading { mono, sys } = valid_reading(args)?;
+    Ok(Op::Tick { mono, sys })
+}
+
+/// `["check",mono,sys]`.
+fn check(args: &[Value]) -> Result<Op, Fault>
+    ensures { result ≡ check_row (map view args.now) }
+{
+    let Reading { mono, sys } = valid_reading(args)?;
+    Ok(Op::Check { mono, sys })
+}
+
+/// `["finalize",mono,sys]`.
+fn finalize(args: &[Value]) -> Result<Op, Fault>
+    ensures { result ≡ finalize_row (map view args.now) }
+{
+    let Reading { mono, sys } = valid_reading(args)?;
+    Ok(Op::Finalize { mono, sys })
+}
+
+/// The two arguments `mono` and `sys`, a valid reading.
+#[tactic(auto, unfolding(crate::specs::Rows::valid_reading))]
+fn valid_reading(args: &[Value]) -> Result<Reading, Fault>
+    ensures { result ≡ valid_reading (map view args.now) }
+{
+    let reading = reading_from(args)?;
+    in_range(is_reading(reading), reading)
 }
 
 /// Whether a reading is valid.
 #[tactic(auto, unfolding(crate::specs::Ranges::is_reading))]
-fn is_reading(mono: i64, sys: i64) -> bool
-    ensures { result ≡ is_reading (record { mono = mono; sys = sys }) }
+fn is_reading(reading: Reading) -> bool
+    ensures { result ≡ is_reading reading }
 {
-    Reading { mono, sys }.is_valid()
+    reading.is_valid()
 }

@@ -18,8 +18,8 @@ pub(crate) const MAX_OPS: usize = 100_000;
 /// What a service is opened with, and the ops that are run on it.
 #[derive(Debug, Drop)]
 pub struct Scenario {
-    /// Settings that a service can be opened with: those of the scenario's fields, mode no, 1 scheduler, 1
-    /// process, 1024 slots and 1 caller.
+    /// Settings that a service can be opened with: those of the scenario's fields, 1 scheduler, 1 process,
+    /// 1024 slots and 1 caller.
     pub settings: Settings,
     /// At most 100,000, each with its arguments in range.
     pub ops: Vec<Op>,
@@ -54,7 +54,8 @@ pub enum ScenarioErr {
 ///
 /// - `format`: the integer 1.
 /// - `start`: the start time in nanoseconds, an integer; 0 where it is absent.
-/// - `correction`: `false`.
+/// - `mode`: the time warp mode, `"no"`, `"single"` or `"multi"`; `"no"` where it is absent.
+/// - `correction`: whether time correction is on, `true` or `false`; `true` where it is absent.
 /// - `first`: the reading that the clock opens with, an array of `mono` and `sys`.
 /// - `ops`: an array of ops. An op is an array of its name and its arguments, as `Op` has them.
 ///

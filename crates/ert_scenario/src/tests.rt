@@ -14,21 +14,14 @@ fn refuses_texts(rt: HostRuntime) {
     let rows = [
         ("", JSON),
         (r#"{"format":1"#, JSON),
-        (
-            r#"{"format":1,"correction":false,"first":[0,0],"ops":[]} x"#,
-            JSON,
-        ),
-        (
-            "\u{feff}{\"format\":1,\"correction\":false,\"first\":[0,0],\"ops\":[]}",
-            JSON,
-        ),
+        (r#"{"format":1,"first":[0,0],"ops":[]} x"#, JSON),
+        ("\u{feff}{\"format\":1,\"first\":[0,0],\"ops\":[]}", JSON),
         (r#"["\ud800"]"#, JSON),
         ("[]", SHAPE),
         ("{}", SHAPE),
-        (r#"{"correction":false,"first":[0,0],"ops":[]}"#, SHAPE),
-        (r#"{"format":1,"first":[0,0],"ops":[]}"#, SHAPE),
-        (r#"{"format":1,"correction":false,"ops":[]}"#, SHAPE),
-        (r#"{"format":1,"correction":false,"first":[0,0]}"#, SHAPE),
+        (r#"{"first":[0,0],"ops":[]}"#, SHAPE),
+        (r#"{"format":1,"ops":[]}"#, SHAPE),
+        (r#"{"format":1,"first":[0,0]}"#, SHAPE),
     ];
     for (text, want) in rows {
         assert_eq!(rt;
@@ -42,7 +35,7 @@ fn refuses_texts(rt: HostRuntime) {
 
 /// A scenario with these members after the others; of a key that is repeated the last value counts.
 fn with_fields(alloc: Global, fields: &str) -> Result<String, AllocError> {
-    format!(in alloc; "{{\"format\":1,\"correction\":false,\"first\":[0,0],\"ops\":[],{fields}}}")
+    format!(in alloc; "{{\"format\":1,\"first\":[0,0],\"ops\":[],{fields}}}")
 }
 
 #[test]
@@ -62,7 +55,12 @@ fn refuses_fields(rt: HostRuntime) -> Result<(), Fail> {
         (r#""start":1"#, RANGE),
         (r#""start":-1"#, RANGE),
         (r#""start":288230376152000000"#, RANGE),
-        (r#""correction":true"#, SHAPE),
+        (r#""mode":"Multi""#, SHAPE),
+        (r#""mode":"no_time_warp""#, SHAPE),
+        (r#""mode":1"#, SHAPE),
+        (r#""mode":null"#, SHAPE),
+        (r#""correction":"true""#, SHAPE),
+        (r#""correction":1"#, SHAPE),
         (r#""correction":null"#, SHAPE),
         (r#""first":7"#, SHAPE),
         (r#""first":[0]"#, SHAPE),
@@ -93,7 +91,7 @@ fn refuses_fields(rt: HostRuntime) -> Result<(), Fail> {
 }
 
 fn with_ops(alloc: Global, ops: &str) -> Result<String, AllocError> {
-    format!(in alloc; "{{\"format\":1,\"correction\":false,\"first\":[7,8],\"ops\":{ops}}}")
+    format!(in alloc; "{{\"format\":1,\"first\":[0,0],\"ops\":{ops}}}")
 }
 
 #[test]
@@ -109,6 +107,16 @@ fn refuses_ops(rt: HostRuntime) -> Result<(), Fail> {
         (r#"[["system",0]]"#, ScenarioErr::Shape(1)),
         (r#"[["offset",[]]]"#, ScenarioErr::Shape(1)),
         (r#"[["info",null]]"#, ScenarioErr::Shape(1)),
+        (r#"[["check",0]]"#, ScenarioErr::Shape(1)),
+        (r#"[["check",0,0,0]]"#, ScenarioErr::Shape(1)),
+        (
+            r#"[["check",0,2305843009213693952]]"#,
+            ScenarioErr::Range(1),
+        ),
+        (r#"[["finalize"]]"#, ScenarioErr::Shape(1)),
+        (r#"[["finalize",0,0,"now"]]"#, ScenarioErr::Shape(1)),
+        (r#"[["finalize",0,"0"]]"#, ScenarioErr::Shape(1)),
+        (r#"[["finalize",-1,0]]"#, ScenarioErr::Range(1)),
         (r#"[["tick"]]"#, ScenarioErr::Shape(1)),
         (r#"[["tick",0]]"#, ScenarioErr::Shape(1)),
         (r#"[["tick",0,0,0]]"#, ScenarioErr::Shape(1)),
@@ -150,40 +158,82 @@ fn refuses_ops(rt: HostRuntime) -> Result<(), Fail> {
 }
 
 #[test]
-fn accepts_the_limits(rt: HostRuntime) -> Result<(), Fail> {
-    let ops =
-        r#"[["tick",4611686018427387903,-2305843009213693951],["time"],["system"],["offset"],["info"]]"#;
-    let text = with_ops(rt.alloc(), ops)?;
+fn accepts_fields(rt: HostRuntime) -> Result<(), Fail> {
+    let rows = [
+        (r#""format":1"#, Mode::No, true, 0),
+        (
+            r#""mode":"no","correction":true,"start":0"#,
+            Mode::No,
+            true,
+            0,
+        ),
+        (
+            r#""mode":"single","correction":false"#,
+            Mode::Single,
+            false,
+            0,
+        ),
+        (
+            r#""mode":"multi","start":-1000000000"#,
+            Mode::Multi,
+            true,
+            -1_000_000_000,
+        ),
+        (
+            r#""start":288230376151000000"#,
+            Mode::No,
+            true,
+            288_230_376_151_000_000,
+        ),
+        (
+            r#""format":3,"start":1,"format":1,"start":-288230376151000000"#,
+            Mode::No,
+            true,
+            -288_230_376_151_000_000,
+        ),
+    ];
+    for (fields, mode, correction, start) in rows {
+        let text = with_fields(rt.alloc(), fields)?;
+        let scenario = read_scenario(rt.alloc(), text.as_bytes())?;
+        let settings = Settings {
+            mode,
+            correction,
+            start,
+            schedulers: 1,
+            processes: 1,
+            slots: 1024,
+            callers: 1,
+            first: Reading { mono: 0, sys: 0 },
+        };
+        assert_eq!(rt; scenario.settings, settings, "at {fields}");
+    }
+    Ok(())
+}
+
+#[test]
+fn accepts_ops(rt: HostRuntime) -> Result<(), Fail> {
+    let text = r#"{"format":1,"first":[7,-8],"ops":[
+        ["tick",4611686018427387903,-2305843009213693951],["check",0,2305843009213693951],
+        ["finalize",1,-1],["time"],["system"],["offset"],["info"]
+    ]}"#;
     let scenario = read_scenario(rt.alloc(), text.as_bytes())?;
     let want = [
         Op::Tick {
             mono: 4611686018427387903,
             sys: -2305843009213693951,
         },
+        Op::Check {
+            mono: 0,
+            sys: 2305843009213693951,
+        },
+        Op::Finalize { mono: 1, sys: -1 },
         Op::Time,
         Op::System,
         Op::Offset,
         Op::Info,
     ];
     assert_eq!(rt; scenario.ops.as_slice(), want.as_slice());
-    let settings = Settings {
-        mode: Mode::No,
-        correction: false,
-        start: 0,
-        schedulers: 1,
-        processes: 1,
-        slots: 1024,
-        callers: 1,
-        first: Reading { mono: 7, sys: 8 },
-    };
-    assert_eq!(rt; scenario.settings, settings);
-
-    // The last of repeated keys counts.
-    let repeated =
-        r#"{"format":3,"ops":[[]],"format":1,"start":-1000000000,"correction":false,"first":[0,0],"ops":[]}"#;
-    let scenario = read_scenario(rt.alloc(), repeated.as_bytes())?;
-    assert_eq!(rt; scenario.ops.len(), 0);
-    assert_eq!(rt; scenario.settings.start, -1_000_000_000);
+    assert_eq!(rt; scenario.settings.first, Reading { mono: 7, sys: -8 });
     Ok(())
 }
 

@@ -2,13 +2,7 @@ use Rattle.ert_scenario.proofs.Valid.{valid}
 use Rattle.ert_scenario.proofs.laws.scenarios_are_valid.Goals as goal
 
 pub returns-clause-settings : goal.returns-clause-settings
-returns-clause-settings c bytes plan h = (valid h.0 plan h.2).0.checked
-
-pub returns-clause-mode : goal.returns-clause-mode
-returns-clause-mode c bytes plan h = (valid h.0 plan h.2).0.mode
-
-pub returns-clause-correction : goal.returns-clause-correction
-returns-clause-correction c bytes plan h = (valid h.0 plan h.2).0.correction
+returns-clause-settings c bytes plan h = (valid h.0 plan h.2).0
 
 pub returns-clause-ops : goal.returns-clause-ops
 returns-clause-ops c bytes plan h = (valid h.0 plan h.2).1
