@@ -13,7 +13,7 @@ use Rattle.ert_defs.specs.declared.settings.SettingsFault.{SettingsFault}
 use Rattle.ert_defs.specs.declared.settings.SettingsFault.TheVariants.{Start, First, Count}
 use Rattle.ert_scenario.specs.Ranges.{is_reading, is_start, has_counts, is_checked}
 
-Decides-nat_le : (a b : ℕ) → Decides (leb a b) (a ≤ b)
+pub Decides-nat_le : (a b : ℕ) → Decides (leb a b) (a ≤ b)
 Decides-nat_le a b = (leb-true a b, le-leb a b)
 
 Decides-int_le : (a b : ℤ) → Decides (int_le a b) (a ≤ℤ b)

@@ -4,5 +4,6 @@ pub mod Founds
 pub mod Least
 pub mod Listed
 pub mod Members
+pub mod Parts
 pub mod Refused
 pub mod Valid

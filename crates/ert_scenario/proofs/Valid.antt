@@ -9,23 +9,35 @@ use Rattle.ert_defs.specs.Settings.{IsChecked}
 use Rattle.ert_defs.specs.declared.settings.Reading.{Reading}
 use Rattle.ert_defs.specs.declared.settings.Settings.{Settings}
 use Rattle.ert_scenario.specs.Fields.{head_of, is_in_range, settings_with, settings_of, op_items}
-use Rattle.ert_scenario.specs.Kinds.{Found, ◌>>=◌, reading_from, listed, text, head, tail, end}
+use Rattle.ert_scenario.specs.Kinds.{Found, ◌>>=◌, ◌▹◌, integer, reading_from, listed, text, head, tail, end}
 use Rattle.ert_scenario.specs.Ranges.{IsOpInRange, IsInRange, is_reading, is_checked}
-use Rattle.ert_scenario.specs.Rows.{plain, valid_reading, op_rows, named, op_of}
+use Rattle.ert_scenario.specs.Rows.{plain, valid_reading, convert_row, op_rows, named, op_of}
+use Rattle.ert_scenario.specs.Units.{time_unit}
 use Rattle.ert_scenario.specs.Scenarios.{Plan, verdict_of}
 use Rattle.ert_scenario.specs.Walks.{founds_of, ops_of}
 use Rattle.ert_scenario.specs.declared.op.Op.{Op}
-use Rattle.ert_scenario.specs.declared.op.Op.TheVariants.{Tick, Check, Finalize, Time, System, Offset, Info}
+use Rattle.ert_scenario.specs.declared.op.Op.TheVariants.{Tick, Check, Finalize, Time, System, Offset, Info, Convert}
 use Rattle.ert_scenario.proofs.Accepted.{accepts_all}
 use Rattle.ert_scenario.proofs.Checked.{Decides-reading, Decides-checked}
 use Rattle.ert_scenario.proofs.Founds.{follows, in_range_parts}
 
 -- ---- the ops: a lemma for each row
 
+-- a row that makes an op of what it read
+makes_keeps : {A : Type 0} (g : Settings) (first : Found A) (make : A → Op)
+    → ((read : A) → first ≡ Ok read → IsOpInRange g (make read))
+    → (found : Op) → (first >>= (λ read. Ok (make read))) ≡ Ok found → IsOpInRange g found
+makes_keeps g first make fits found h =
+    let f = follows first _ found h in
+    let same : make f.read ≡ found = let e : Ok (make f.read) ≡ Ok found = f.then in cc in
+    subst (IsOpInRange g) same (fits f.read f.was)
+
 plain_keeps : (g : Settings) (op : Op) → IsOpInRange g op → (args : List Data) (found : Op) → plain op args ≡ Ok found → IsOpInRange g found
-plain_keeps g op fits args found h =
-    let same : op ≡ found = let f = follows (end args) _ found h in let e : Ok op ≡ Ok found = f.then in cc in
-    subst (IsOpInRange g) same fits
+plain_keeps g op fits args found h = makes_keeps g (end args) (λ _. op) (λ _ _. fits) found h
+
+convert_keeps : (g : Settings) (args : List Data) (found : Op) → convert_row args ≡ Ok found → IsOpInRange g found
+convert_keeps g args found h =
+    makes_keeps g ((integer ▹ time_unit ▹ time_unit ▹ end) args) (λ p. Convert p.0 p.1.0 p.1.1.0) (λ _ _. tt) found h
 
 valid_reading_keeps : (args : List Data) (r : Reading) → valid_reading args ≡ Ok r → IsValid r
 unfolding valid_reading
@@ -38,9 +50,7 @@ valid_reading_keeps args r h =
 reading_keeps : (g : Settings) (make : Reading → Op) → ((r : Reading) → IsValid r → IsOpInRange g (make r))
     → (args : List Data) (found : Op) → (valid_reading args >>= (λ r. Ok (make r))) ≡ Ok found → IsOpInRange g found
 reading_keeps g make fits args found h =
-    let f = follows (valid_reading args) _ found h in
-    let same : make f.read ≡ found = let e : Ok (make f.read) ≡ Ok found = f.then in cc in
-    subst (IsOpInRange g) same (fits f.read (valid_reading_keeps args f.read f.was))
+    makes_keeps g (valid_reading args) make (λ r was. fits r (valid_reading_keeps args r was)) found h
 
 -- each row gives ops in range alone
 abbrev RowsKeep : Settings → List (List ℕ × (List Data → Found Op)) → Type 0
@@ -54,7 +64,7 @@ rows_keep g = (
     reading_keeps g (λ r. Check r.mono r.sys) (λ r valid. valid),
     (
       reading_keeps g (λ r. Finalize r.mono r.sys) (λ r valid. valid),
-      (plain_keeps g Time tt, (plain_keeps g System tt, (plain_keeps g Offset tt, (plain_keeps g Info tt, tt)))),
+      (plain_keeps g Time tt, (plain_keeps g System tt, (plain_keeps g Offset tt, (plain_keeps g Info tt, (convert_keeps g, tt))))),
     ),
   ),
 )

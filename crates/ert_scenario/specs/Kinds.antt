@@ -3,7 +3,7 @@
 use Rattle.std.specs.Prelude.{ℕ, ℤ, List, [], ◌∷◌, Bool, true, false, Option, Some, None, Result, Ok, Err, option_map, option_and_then, if◌then◌else◌}
 use Rattle.std.specs.Str.{bytes_eq}
 use Rattle.serde_json.specs.Data.{Data, Items, no_items, item}
-use Rattle.serde_json.specs.Find.{as_number, as_i64, as_bool, as_str, as_array}
+use Rattle.serde_json.specs.Find.{as_number, as_i64, as_u64, as_bool, as_str, as_array}
 use Rattle.ert_defs.specs.declared.settings.Reading.{Reading}
 use Rattle.ert_scenario.specs.declared.fault.Fault.{Fault}
 use Rattle.ert_scenario.specs.declared.fault.Fault.TheVariants.{Shape, Range}
@@ -49,6 +49,10 @@ integer value = of_kind (option_and_then as_i64 (option_and_then as_number value
 unfoldable pub list_of : Items → List Data
 list_of no_items = []
 list_of (item d ds) = d ∷ list_of ds
+
+-- a number that the JSON crate gives as an integer from 0 to below 2^64
+unfoldable pub natural : Option Data → Found ℕ
+natural value = of_kind (option_and_then as_u64 (option_and_then as_number value))
 
 -- `true` or `false`
 unfoldable pub boolean : Option Data → Found Bool

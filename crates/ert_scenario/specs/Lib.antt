@@ -4,5 +4,6 @@ pub mod Places
 pub mod Ranges
 pub mod Rows
 pub mod Scenarios
+pub mod Units
 pub mod Walked
 pub mod Walks

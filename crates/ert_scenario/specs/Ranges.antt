@@ -7,7 +7,7 @@ use Rattle.ert_defs.specs.Readings.{IsValid}
 use Rattle.ert_defs.specs.declared.settings.Reading.{Reading}
 use Rattle.ert_defs.specs.declared.settings.Settings.{Settings}
 use Rattle.ert_scenario.specs.declared.op.Op.{Op}
-use Rattle.ert_scenario.specs.declared.op.Op.TheVariants.{Tick, Check, Finalize, Time, System, Offset, Info}
+use Rattle.ert_scenario.specs.declared.op.Op.TheVariants.{Tick, Check, Finalize, Time, System, Offset, Info, Convert}
 
 -- whether a reading is valid
 unfoldable pub is_reading : Reading → Bool
@@ -40,6 +40,7 @@ IsOpInRange g Time = Unit {0}
 IsOpInRange g System = Unit {0}
 IsOpInRange g Offset = Unit {0}
 IsOpInRange g Info = Unit {0}
+IsOpInRange g (Convert time from to) = Unit {0}
 
 -- the arguments of all ops are
 abbrev pub IsInRange : Settings → List Op → Type 0

@@ -4,11 +4,12 @@ use Rattle.std.specs.Prelude.{ℕ, List, [], ◌∷◌, codes, Some, Ok, Err, if
 use Rattle.std.specs.Str.{bytes_eq}
 use Rattle.serde_json.specs.Data.{Data}
 use Rattle.ert_defs.specs.declared.settings.Reading.{Reading}
-use Rattle.ert_scenario.specs.Kinds.{Found, ◌>>=◌, in_range, reading_from, listed, text, head, tail, end}
+use Rattle.ert_scenario.specs.Kinds.{Found, ◌>>=◌, ◌▹◌, integer, in_range, reading_from, listed, text, head, tail, end}
 use Rattle.ert_scenario.specs.Ranges.{is_reading}
+use Rattle.ert_scenario.specs.Units.{time_unit}
 use Rattle.ert_scenario.specs.declared.fault.Fault.TheVariants.{Shape}
 use Rattle.ert_scenario.specs.declared.op.Op.{Op}
-use Rattle.ert_scenario.specs.declared.op.Op.TheVariants.{Tick, Check, Finalize, Time, System, Offset, Info}
+use Rattle.ert_scenario.specs.declared.op.Op.TheVariants.{Tick, Check, Finalize, Time, System, Offset, Info, Convert}
 
 -- an op without arguments
 abbrev pub plain : Op → List Data → Found Op
@@ -30,6 +31,10 @@ check_row args = valid_reading args >>= (λ r. Ok (Check r.mono r.sys))
 abbrev pub finalize_row : List Data → Found Op
 finalize_row args = valid_reading args >>= (λ r. Ok (Finalize r.mono r.sys))
 
+-- `["convert",time,from,to]`
+abbrev pub convert_row : List Data → Found Op
+convert_row args = (integer ▹ time_unit ▹ time_unit ▹ end) args >>= (λ p. Ok (Convert p.0 p.1.0 p.1.1.0))
+
 -- the name of each op, and how its arguments are read
 abbrev pub op_rows : List (List ℕ × (List Data → Found Op))
 op_rows =
@@ -40,6 +45,7 @@ op_rows =
     ∷ (codes "system", plain System)
     ∷ (codes "offset", plain Offset)
     ∷ (codes "info", plain Info)
+    ∷ (codes "convert", convert_row)
     ∷ []
 
 -- the row of this name

@@ -2,7 +2,7 @@
 
 ghost use Rattle.std.specs.Prelude.{◌≡◌, map, option_map};
 ghost use Rattle.serde_json.specs.View.{view};
-ghost use Rattle.ert_scenario.specs.Kinds.{found_map, both, of_kind, in_range, integer, boolean, listed, text, head, tail, end, reading_from, reading};
+ghost use Rattle.ert_scenario.specs.Kinds.{found_map, both, of_kind, in_range, integer, natural, boolean, listed, text, head, tail, end, reading_from, reading};
 
 use crate::fault::Fault;
 use ert_defs::Reading;
@@ -45,6 +45,14 @@ pub(crate) fn integer(value: Option<&Value>) -> Result<i64, Fault>
     ensures { result ≡ integer (option_map (λ v. view v.now) value.entry) }
 {
     of_kind(value.and_then(Value::as_i64))
+}
+
+/// A natural below 2^64. A number with a fraction or an exponent is none.
+#[tactic(auto, unfolding(crate::specs::Kinds::natural))]
+pub(crate) fn natural(value: Option<&Value>) -> Result<u64, Fault>
+    ensures { result ≡ natural (option_map (λ v. view v.now) value.entry) }
+{
+    of_kind(value.and_then(Value::as_u64))
 }
 
 /// `true` or `false`.

@@ -1,3 +1,5 @@
+use ert_units::Unit;
+
 /// One op of a scenario, with the call of the `erlang` module reference that it is like.
 #[derive(Clone, Copy, Debug, PartialEq, Eq)]
 pub enum Op {
@@ -17,4 +19,8 @@ pub enum Op {
     Offset,
     /// `["info"]`: the settings and the state of the clock are read (`system_info`).
     Info,
+    /// `["convert",time,from,to]`: a time is converted from one unit to another (`convert_time_unit`). A unit
+    /// is its name (`"second"`, `"millisecond"`, `"microsecond"`, `"nanosecond"` or `"native"`) or its
+    /// parts per second, 1 to 2^63 - 1.
+    Convert { time: i64, from: Unit, to: Unit },
 }

@@ -3,11 +3,12 @@
 ghost use Rattle.std.specs.Prelude.{◌≡◌, map};
 ghost use Rattle.serde_json.specs.View.{view};
 ghost use Rattle.ert_scenario.specs.Ranges.{is_reading};
-ghost use Rattle.ert_scenario.specs.Rows.{plain, valid_reading, tick_row, check_row, finalize_row, named, op_rows, op_of};
+ghost use Rattle.ert_scenario.specs.Rows.{plain, valid_reading, tick_row, check_row, finalize_row, convert_row, named, op_rows, op_of};
 
 use crate::fault::Fault;
-use crate::kinds::{end, in_range, listed, next, reading_from, text};
+use crate::kinds::{both, end, in_range, integer, listed, next, reading_from, text};
 use crate::op::Op;
+use crate::units::time_unit;
 use ert_defs::Reading;
 use serde_json::Value;
 
@@ -32,6 +33,7 @@ fn named(name: &str, args: &[Value]) -> Result<Op, Fault>
         "system" => plain(Op::System, args),
         "offset" => plain(Op::Offset, args),
         "info" => plain(Op::Info, args),
+        "convert" => convert(args),
         _ => Err(Fault::Shape),
     }
 }
@@ -66,6 +68,18 @@ fn finalize(args: &[Value]) -> Result<Op, Fault>
 {
     let Reading { mono, sys } = valid_reading(args)?;
     Ok(Op::Finalize { mono, sys })
+}
+
+/// `["convert",time,from,to]`.
+fn convert(args: &[Value]) -> Result<Op, Fault>
+    ensures { result ≡ convert_row (map view args.now) }
+{
+    let (time, args) = next(args);
+    let (from, args) = next(args);
+    let (to, args) = next(args);
+    let units = both(time_unit(from), both(time_unit(to), end(args)));
+    let (time, (from, (to, ()))) = both(integer(time), units)?;
+    Ok(Op::Convert { time, from, to })
 }
 
 /// The two arguments `mono` and `sys`, a valid reading.

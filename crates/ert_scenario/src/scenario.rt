@@ -37,7 +37,8 @@ pub enum ScenarioErr {
     #[error("shape fault at {0}")]
     Shape(u32),
     /// No place has such a fault. At this place, and at no lesser one, a value is out of range: the format
-    /// isn't 1, a service can't be opened with the settings, or a reading isn't valid.
+    /// isn't 1, a service can't be opened with the settings, a reading isn't valid, or the parts per second
+    /// of a unit are 0 or at least 2^63.
     #[error("range fault at {0}")]
     Range(u32),
     /// No place has a fault, and there are more than 100,000 ops. The place is 0.

@@ -1,5 +1,6 @@
 use crate::{Op, ScenarioErr, read_scenario};
 use ert_defs::{Mode, Reading, Settings};
+use ert_units::Unit;
 use std::alloc::{AllocError, Global};
 use std::test::Fail;
 
@@ -8,6 +9,13 @@ const JSON: ScenarioErr = ScenarioErr::Json;
 const SHAPE: ScenarioErr = ScenarioErr::Shape(0);
 
 const RANGE: ScenarioErr = ScenarioErr::Range(0);
+
+const OP_SHAPE: ScenarioErr = ScenarioErr::Shape(1);
+
+const OP_RANGE: ScenarioErr = ScenarioErr::Range(1);
+
+/// The latest start time: the greatest multiple of 1,000,000 up to 2^58.
+const LATEST: i64 = 288_230_376_151_000_000;
 
 #[test]
 fn refuses_texts(rt: HostRuntime) {
@@ -71,10 +79,7 @@ fn refuses_fields(rt: HostRuntime) -> Result<(), Fail> {
         (r#""first":[0,2305843009213693952]"#, RANGE),
         (r#""first":[0,-2305843009213693952]"#, RANGE),
         (r#""ops":{}"#, SHAPE),
-        (
-            r#""ops":[["time"]],"ops":[["wait"]]"#,
-            ScenarioErr::Shape(1),
-        ),
+        (r#""ops":[["time"]],"ops":[["wait"]]"#, OP_SHAPE),
         (r#""format":3,"correction":0,"ops":[[]]"#, SHAPE),
         (r#""start":1,"ops":[["time"],[]]"#, ScenarioErr::Shape(2)),
         (r#""start":1,"ops":[["tick",-1,0]]"#, RANGE),
@@ -97,46 +102,53 @@ fn with_ops(alloc: Global, ops: &str) -> Result<String, AllocError> {
 #[test]
 fn refuses_ops(rt: HostRuntime) -> Result<(), Fail> {
     let rows = [
-        (r#"[["wait"]]"#, ScenarioErr::Shape(1)),
-        (r#"[["Time"]]"#, ScenarioErr::Shape(1)),
-        (r#"["time"]"#, ScenarioErr::Shape(1)),
-        (r#"[{}]"#, ScenarioErr::Shape(1)),
-        (r#"[[]]"#, ScenarioErr::Shape(1)),
-        (r#"[[1]]"#, ScenarioErr::Shape(1)),
-        (r#"[["time",0]]"#, ScenarioErr::Shape(1)),
-        (r#"[["system",0]]"#, ScenarioErr::Shape(1)),
-        (r#"[["offset",[]]]"#, ScenarioErr::Shape(1)),
-        (r#"[["info",null]]"#, ScenarioErr::Shape(1)),
-        (r#"[["check",0]]"#, ScenarioErr::Shape(1)),
-        (r#"[["check",0,0,0]]"#, ScenarioErr::Shape(1)),
-        (
-            r#"[["check",0,2305843009213693952]]"#,
-            ScenarioErr::Range(1),
-        ),
-        (r#"[["finalize"]]"#, ScenarioErr::Shape(1)),
-        (r#"[["finalize",0,0,"now"]]"#, ScenarioErr::Shape(1)),
-        (r#"[["finalize",0,"0"]]"#, ScenarioErr::Shape(1)),
-        (r#"[["finalize",-1,0]]"#, ScenarioErr::Range(1)),
-        (r#"[["tick"]]"#, ScenarioErr::Shape(1)),
-        (r#"[["tick",0]]"#, ScenarioErr::Shape(1)),
-        (r#"[["tick",0,0,0]]"#, ScenarioErr::Shape(1)),
-        (r#"[["tick",-1,0,0]]"#, ScenarioErr::Shape(1)),
-        (r#"[["tick","0",0]]"#, ScenarioErr::Shape(1)),
-        (r#"[["tick",0,1.0]]"#, ScenarioErr::Shape(1)),
-        (r#"[["tick",1e0,0]]"#, ScenarioErr::Shape(1)),
-        (r#"[["tick",-0,0]]"#, ScenarioErr::Shape(1)),
-        (r#"[["tick",9223372036854775808,0]]"#, ScenarioErr::Shape(1)),
-        (
-            r#"[["tick",0,-9223372036854775809]]"#,
-            ScenarioErr::Shape(1),
-        ),
-        (r#"[["tick",9223372036854775807,0]]"#, ScenarioErr::Range(1)),
-        (
-            r#"[["tick",0,-9223372036854775808]]"#,
-            ScenarioErr::Range(1),
-        ),
-        (r#"[["tick",4611686018427387904,0]]"#, ScenarioErr::Range(1)),
-        (r#"[["tick",0,2305843009213693952]]"#, ScenarioErr::Range(1)),
+        (r#"[["wait"]]"#, OP_SHAPE),
+        (r#"[["Time"]]"#, OP_SHAPE),
+        (r#"["time"]"#, OP_SHAPE),
+        (r#"[{}]"#, OP_SHAPE),
+        (r#"[[]]"#, OP_SHAPE),
+        (r#"[[1]]"#, OP_SHAPE),
+        (r#"[["time",0]]"#, OP_SHAPE),
+        (r#"[["system",0]]"#, OP_SHAPE),
+        (r#"[["offset",[]]]"#, OP_SHAPE),
+        (r#"[["info",null]]"#, OP_SHAPE),
+        (r#"[["check",0]]"#, OP_SHAPE),
+        (r#"[["check",0,0,0]]"#, OP_SHAPE),
+        (r#"[["check",0,2305843009213693952]]"#, OP_RANGE),
+        (r#"[["finalize"]]"#, OP_SHAPE),
+        (r#"[["finalize",0,0,"now"]]"#, OP_SHAPE),
+        (r#"[["finalize",0,"0"]]"#, OP_SHAPE),
+        (r#"[["finalize",-1,0]]"#, OP_RANGE),
+        (r#"[["tick"]]"#, OP_SHAPE),
+        (r#"[["tick",0]]"#, OP_SHAPE),
+        (r#"[["tick",0,0,0]]"#, OP_SHAPE),
+        (r#"[["tick",-1,0,0]]"#, OP_SHAPE),
+        (r#"[["tick","0",0]]"#, OP_SHAPE),
+        (r#"[["tick",0,1.0]]"#, OP_SHAPE),
+        (r#"[["tick",1e0,0]]"#, OP_SHAPE),
+        (r#"[["tick",-0,0]]"#, OP_SHAPE),
+        (r#"[["tick",9223372036854775808,0]]"#, OP_SHAPE),
+        (r#"[["tick",0,-9223372036854775809]]"#, OP_SHAPE),
+        (r#"[["convert",0,1]]"#, OP_SHAPE),
+        (r#"[["convert",0,1,1,1]]"#, OP_SHAPE),
+        (r#"[["convert",0.5,1,1]]"#, OP_SHAPE),
+        (r#"[["convert",0,"Second",1]]"#, OP_SHAPE),
+        (r#"[["convert",0,"seconds",1]]"#, OP_SHAPE),
+        (r#"[["convert",0,1,""]]"#, OP_SHAPE),
+        (r#"[["convert",0,1,"1000"]]"#, OP_SHAPE),
+        (r#"[["convert",0,-1,1]]"#, OP_SHAPE),
+        (r#"[["convert",0,1.0,1]]"#, OP_SHAPE),
+        (r#"[["convert",0,1,null]]"#, OP_SHAPE),
+        (r#"[["convert",0,["second"],1]]"#, OP_SHAPE),
+        (r#"[["convert",0,18446744073709551616,1]]"#, OP_SHAPE),
+        (r#"[["convert",0,0,true]]"#, OP_SHAPE),
+        (r#"[["convert",0,0,1]]"#, OP_RANGE),
+        (r#"[["convert",0,1,9223372036854775808]]"#, OP_RANGE),
+        (r#"[["convert",0,18446744073709551615,1]]"#, OP_RANGE),
+        (r#"[["tick",9223372036854775807,0]]"#, OP_RANGE),
+        (r#"[["tick",0,-9223372036854775808]]"#, OP_RANGE),
+        (r#"[["tick",4611686018427387904,0]]"#, OP_RANGE),
+        (r#"[["tick",0,2305843009213693952]]"#, OP_RANGE),
         (
             r#"[["time"],["tick",0,-2305843009213693952],["tick",-1,0]]"#,
             ScenarioErr::Range(2),
@@ -161,36 +173,18 @@ fn refuses_ops(rt: HostRuntime) -> Result<(), Fail> {
 fn accepts_fields(rt: HostRuntime) -> Result<(), Fail> {
     let rows = [
         (r#""format":1"#, Mode::No, true, 0),
+        (r#""mode":"no","correction":true"#, Mode::No, true, 0),
+        (r#""mode":"single""#, Mode::Single, true, 0),
         (
-            r#""mode":"no","correction":true,"start":0"#,
-            Mode::No,
-            true,
-            0,
-        ),
-        (
-            r#""mode":"single","correction":false"#,
-            Mode::Single,
+            r#""mode":"multi","correction":false"#,
+            Mode::Multi,
             false,
             0,
         ),
-        (
-            r#""mode":"multi","start":-1000000000"#,
-            Mode::Multi,
-            true,
-            -1_000_000_000,
-        ),
-        (
-            r#""start":288230376151000000"#,
-            Mode::No,
-            true,
-            288_230_376_151_000_000,
-        ),
-        (
-            r#""format":3,"start":1,"format":1,"start":-288230376151000000"#,
-            Mode::No,
-            true,
-            -288_230_376_151_000_000,
-        ),
+        (r#""start":-1000000000"#, Mode::No, true, -1_000_000_000),
+        (r#""start":288230376151000000"#, Mode::No, true, LATEST),
+        (r#""start":-288230376151000000"#, Mode::No, true, -LATEST),
+        (r#""start":1,"start":2000000"#, Mode::No, true, 2_000_000),
     ];
     for (fields, mode, correction, start) in rows {
         let text = with_fields(rt.alloc(), fields)?;
@@ -210,11 +204,18 @@ fn accepts_fields(rt: HostRuntime) -> Result<(), Fail> {
     Ok(())
 }
 
+fn parts(n: u64) -> Result<Unit, Fail> {
+    Ok(Unit::parts(n).ok_or("no unit")?)
+}
+
 #[test]
 fn accepts_ops(rt: HostRuntime) -> Result<(), Fail> {
     let text = r#"{"format":1,"first":[7,-8],"ops":[
         ["tick",4611686018427387903,-2305843009213693951],["check",0,2305843009213693951],
-        ["finalize",1,-1],["time"],["system"],["offset"],["info"]
+        ["finalize",1,-1],["time"],["system"],["offset"],["info"],
+        ["convert",-9223372036854775808,"second",9223372036854775807],
+        ["convert",9223372036854775807,"millisecond","microsecond"],["convert",0,"native",1],
+        ["convert",-1,"nanosecond",3]
     ]}"#;
     let scenario = read_scenario(rt.alloc(), text.as_bytes())?;
     let want = [
@@ -231,6 +232,26 @@ fn accepts_ops(rt: HostRuntime) -> Result<(), Fail> {
         Op::System,
         Op::Offset,
         Op::Info,
+        Op::Convert {
+            time: i64::MIN,
+            from: Unit::second(),
+            to: parts(i64::MAX as u64)?,
+        },
+        Op::Convert {
+            time: i64::MAX,
+            from: Unit::millisecond(),
+            to: Unit::microsecond(),
+        },
+        Op::Convert {
+            time: 0,
+            from: Unit::native(),
+            to: parts(1)?,
+        },
+        Op::Convert {
+            time: -1,
+            from: Unit::nanosecond(),
+            to: parts(3)?,
+        },
     ];
     assert_eq!(rt; scenario.ops.as_slice(), want.as_slice());
     assert_eq!(rt; scenario.settings.first, Reading { mono: 7, sys: -8 });
