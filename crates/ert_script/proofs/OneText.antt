@@ -1,6 +1,9 @@
 -- Settings and ops have one transcript: in each state an op has one reply, with one list of entries.
 
 use Rattle.std.proofs.Common.{◌≡◌, ℕ, ℤ, ◌+ℤ◌, Bool, List, [], ◌∷◌, ◌++◌, Option, Some, None, refl, sym, ap, subst, ◌∙◌}
+use Rattle.std.specs.Prelude.{FitsSigned}
+use Rattle.std.specs.Int.{w64}
+use Rattle.ert_units.specs.Conversions.{converted}
 use Rattle.ert_defs.specs.Clocks.{face}
 use Rattle.ert_defs.specs.Legal.{LegalFrom}
 use Rattle.ert_defs.specs.Lines.{Due, IsInRange, MayAct, end_time, time_after, due_after}
@@ -19,9 +22,9 @@ use Rattle.ert_sched.specs.Worlds.{caller_entry}
 use Rattle.ert_scenario.specs.declared.op.Op.{Op}
 use Rattle.ert_scenario.specs.declared.op.Op.TheVariants as ops
 use Rattle.ert_script.specs.declared.reply.Reply.{Reply}
-use Rattle.ert_script.specs.declared.reply.Reply.TheVariants.{Tick, TickWide, Check, CheckWide, Finalize, FinalizeWide, Time, System, Offset, Info}
+use Rattle.ert_script.specs.declared.reply.Reply.TheVariants.{Tick, TickWide, Check, CheckWide, Finalize, FinalizeWide, Time, System, Offset, Info, Convert, ConvertTooWide}
 use Rattle.ert_script.specs.Lines.{lines_of, end_line}
-use Rattle.ert_script.specs.Scripts.{IsMove, IsRefusal, IsOld, IsFinal, IsSum, IsInfo, Allows, ScriptRun}
+use Rattle.ert_script.specs.Scripts.{IsMove, IsRefusal, IsOld, IsFinal, IsSum, IsInfo, Tells, Allows, ScriptRun}
 use Rattle.ert_script.specs.Transcripts.{IsTranscript}
 
 -- a reply and entries that an op allows, as a function of both determines them
@@ -236,6 +239,16 @@ one_info g s (Info start end mode correction x k) (Info start' end' mode' correc
 one_info g s (Info start end mode correction x k) b p q i legal j lawful = absurd j
 one_info g s a b p q i legal j lawful = absurd i
 
+-- a conversion has one answer
+one_value_told : (time : ℤ) (from to : ℕ) (a b : Reply) → Tells time from to a → Tells time from to b → a ≡ b
+one_value_told time from to (Convert x) (Convert y) i j = ap (λ (z : ℤ). Convert z) (i.0 ∙ sym j.0)
+one_value_told time from to (Convert x) ConvertTooWide i j = absurd (j (subst (λ (z : ℤ). FitsSigned w64 z) i.0 i.1))
+one_value_told time from to ConvertTooWide (Convert y) i j = absurd (i (subst (λ (z : ℤ). FitsSigned w64 z) j.0 j.1))
+one_value_told time from to ConvertTooWide ConvertTooWide i j = refl
+one_value_told time from to (Convert x) b i j = absurd j
+one_value_told time from to ConvertTooWide b i j = absurd j
+one_value_told time from to a b i j = absurd i
+
 -- an op has one reply in a state, with one list of entries
 one_piece : (g : Settings) (s : State) (op : Op) (a b : Reply) (p q : List Entry)
     → Allows g s op a p → LegalFrom g s p → Allows g s op b q → LegalFrom g s q → IsOne a b p q
@@ -246,6 +259,8 @@ one_piece g s ops.Time a b p q i legal j lawful = one_time g s a b p q i legal j
 one_piece g s ops.System a b p q i legal j lawful = one_system g s a b p q i legal j lawful
 one_piece g s ops.Offset a b p q i legal j lawful = one_offset g s a b p q i legal j lawful
 one_piece g s ops.Info a b p q i legal j lawful = one_info g s a b p q i legal j lawful
+one_piece g s (ops.Convert time from to) a b p q i legal j lawful =
+    record { reply = one_value_told time from to a b i.0 j.0; entries = i.1 ∙ sym j.1 }
 
 -- a list of ops has one script run
 one_run : (g : Settings) (s : State) (ops : List Op) (es fs : List Entry) (rs ts : List Reply)
@@ -254,9 +269,10 @@ one_run g s [] es fs rs ts i j = (i.0 ∙ sym j.0, i.1 ∙ sym j.1)
 one_run g s (op ∷ ops) es fs rs ts i j =
     let same : IsOne i.2 j.2 i.0 j.0 = one_piece g s op i.2 j.2 i.0 j.0 i.6 i.7 j.6 j.7 in
     let rest : ScriptRun g (run g s i.0) ops j.1 j.3 = subst (λ (p : List Entry). ScriptRun g (run g s p) ops j.1 j.3) (sym same.entries) j.8 in
-    let later : (i.1 ≡ j.1) × (i.3 ≡ j.3) = one_run g (run g s i.0) ops i.1 j.1 i.3 j.3 i.8 rest in
-    (i.4 ∙ ap (λ (p : List Entry). p ++ i.1) same.entries ∙ ap (λ (l : List Entry). j.0 ++ l) later.0 ∙ sym j.4,
-     i.5 ∙ ap (λ (r : Reply). r ∷ i.3) same.reply ∙ ap (λ (l : List Reply). j.2 ∷ l) later.1 ∙ sym j.5)
+    let later : (i.1 ≡ j.1) × (i.3 ≡ j.3) = one_run g (run g s i.0) ops i.1 j.1 i.3 j.3 i.8 rest in (
+      i.4 ∙ ap (λ (p : List Entry). p ++ i.1) same.entries ∙ ap (λ (l : List Entry). j.0 ++ l) later.0 ∙ sym j.4,
+      i.5 ∙ ap (λ (r : Reply). r ∷ i.3) same.reply ∙ ap (λ (l : List Reply). j.2 ∷ l) later.1 ∙ sym j.5,
+    )
 
 pub one_text : (g : Settings) (ops : List Op) (text other : List ℕ) → IsTranscript g ops text → IsTranscript g ops other → text ≡ other
 one_text g ops text other i j =

@@ -1,6 +1,6 @@
 -- What each op does to the history that the world stands for.
 
-use Rattle.std.proofs.Common.{◌≡◌, ℤ, ◌+ℤ◌, Bool, true, false, List, [], ◌∷◌, ◌++◌, Option, Some, None, refl, sym, subst, ap, ◌∙◌}
+use Rattle.std.proofs.Common.{◌≡◌, ℕ, ℤ, ◌+ℤ◌, Bool, true, false, List, [], ◌∷◌, ◌++◌, Option, Some, None, refl, sym, subst, ap, ◌∙◌}
 use Rattle.std.specs.Prelude.{Ok, Err}
 use Rattle.ert_defs.specs.Clocks.{Clock, face}
 use Rattle.ert_defs.specs.Lines.{Face, MayAct, end_time, time_after, due_after}
@@ -21,9 +21,11 @@ use Rattle.ert_clock.specs.declared.clock.ClockErr.TheVariants.{OffsetWide}
 use Rattle.ert_clock.specs.declared.clock.Moved.{Moved}
 use Rattle.ert_sched.proofs.Calls.{unchanged}
 use Rattle.ert_sched.specs.Worlds.{StandsFor, Extends, look_entries, off_entries, system_entries, moved_entries, finalized_entries}
+use Rattle.ert_scenario.specs.declared.op.Op.{Op}
 use Rattle.ert_scenario.specs.declared.op.Op.TheVariants as ops
+use Rattle.ert_script.specs.declared.reply.Reply.{Reply}
 use Rattle.ert_script.specs.declared.reply.Reply.TheVariants.{Tick, TickWide, Check, CheckWide, Finalize, FinalizeWide, Time, System, Offset, Info}
-use Rattle.ert_script.specs.Scripts.{IsMove, IsRefusal, IsOld, IsFinal, Does, DoesFor}
+use Rattle.ert_script.specs.Scripts.{IsMove, IsRefusal, Tells, Does, DoesFor}
 
 -- the shift that a tick told is the one that was due
 moves : (g : Settings) (h : List Entry) (v : Shown) (r : Reading) (act : Act) (m : Moved) (new : Shown)
@@ -119,3 +121,10 @@ pub finalize_refused : (v new : Shown) (mono sys value : ℤ)
     → FinalizesFrom v.face.state v (record { mono = mono; sys = sys }) (Err (OffsetWide value)) new
     → Does v (ops.Finalize mono sys) (FinalizeWide value) new
 finalize_refused v new mono sys value from = final_refused v new mono sys value v.face.state refl from
+
+-- a conversion makes no entry
+pub convert_does : (w : Shown) (op : Op) (time : ℤ) (from to : ℕ) (reply : Reply) → op ≡ ops.Convert time from to
+    → Tells time from to reply → Does w op reply w
+convert_does w op time from to reply is tells =
+    subst (λ (o : Op). Does w o reply w) (sym is)
+    (λ g h st. record { piece = []; allowed = (tells, refl); stands = unchanged g h w st })

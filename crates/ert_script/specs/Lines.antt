@@ -7,7 +7,7 @@ use Rattle.ert_defs.specs.declared.settings.Mode.TheVariants.{No, Single, Multi}
 use Rattle.ert_defs.specs.declared.settings.OffsetState.{OffsetState}
 use Rattle.ert_defs.specs.declared.settings.OffsetState.TheVariants.{Preliminary, Final, Volatile}
 use Rattle.ert_script.specs.declared.reply.Reply.{Reply}
-use Rattle.ert_script.specs.declared.reply.Reply.TheVariants.{Tick, TickWide, Check, CheckWide, Finalize, FinalizeWide, Time, System, Offset, Info}
+use Rattle.ert_script.specs.declared.reply.Reply.TheVariants.{Tick, TickWide, Check, CheckWide, Finalize, FinalizeWide, Time, System, Offset, Info, Convert, ConvertTooWide}
 
 -- one text, and then another
 infixr 20 ◌⋅◌
@@ -61,6 +61,8 @@ line_of (Time now) = codes "time " ⋅ signed_decimal now ⋅ codes "\n"
 line_of (System time) = codes "system " ⋅ signed_decimal time ⋅ codes "\n"
 line_of (Offset offset state) = codes "offset " ⋅ offset_text offset state
 line_of (Info start end mode correction offset state) = info_front start end mode ⋅ info_middle correction ⋅ info_back offset state
+line_of (Convert value) = codes "convert " ⋅ signed_decimal value ⋅ codes "\n"
+line_of ConvertTooWide = codes "convert too_wide\n"
 
 -- the last line of a transcript
 abbrev pub end_line : ℤ → List ℕ

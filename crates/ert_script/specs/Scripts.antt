@@ -1,6 +1,6 @@
 -- The script runs of a list of ops: histories of the service, with their replies.
 
-use Rattle.std.specs.Prelude.{◌≡◌, ℤ, ◌+ℤ◌, Bool, List, [], ◌∷◌, ◌++◌, Option, None}
+use Rattle.std.specs.Prelude.{◌≡◌, ℕ, ℤ, ◌+ℤ◌, FitsSigned, Bool, List, [], ◌∷◌, ◌++◌, Option, None}
 use Rattle.ert_defs.specs.Clocks.{face}
 use Rattle.ert_defs.specs.Legal.{LegalFrom}
 use Rattle.ert_defs.specs.Lines.{MayAct, end_time, time_after, due_after}
@@ -8,6 +8,8 @@ use Rattle.ert_defs.specs.Readings.{IsValid}
 use Rattle.ert_defs.specs.States.{State, run, state}
 use Rattle.ert_clock.specs.Shown.{Shown}
 use Rattle.ert_clock.specs.Ticks.{keeper_entry, tick_entries, offset_of, IsWide}
+use Rattle.std.specs.Int.{w64}
+use Rattle.ert_units.specs.Conversions.{converted}
 use Rattle.ert_sched.specs.Worlds.{StandsFor, caller_entry}
 use Rattle.ert_defs.specs.declared.entry.Act.{Act}
 use Rattle.ert_defs.specs.declared.entry.Act.TheVariants.{Plain, Force, Finalize as Finalizing}
@@ -21,7 +23,7 @@ use Rattle.ert_defs.specs.declared.settings.Settings.{Settings}
 use Rattle.ert_scenario.specs.declared.op.Op.{Op}
 use Rattle.ert_scenario.specs.declared.op.Op.TheVariants as ops
 use Rattle.ert_script.specs.declared.reply.Reply.{Reply}
-use Rattle.ert_script.specs.declared.reply.Reply.TheVariants.{Tick, TickWide, Check, CheckWide, Finalize, FinalizeWide, Time, System, Offset, Info}
+use Rattle.ert_script.specs.declared.reply.Reply.TheVariants.{Tick, TickWide, Check, CheckWide, Finalize, FinalizeWide, Time, System, Offset, Info, Convert, ConvertTooWide}
 
 -- a tick that moves the clock: its own entry, and that of the shift where one is due
 pub record IsMove (g : Settings) (s : State) (r : Reading) (act : Act) (now : ℤ) (shift : Option ℤ) (es : List Entry) : Type 0 where
@@ -63,6 +65,12 @@ pub record IsInfo (g : Settings) (start end : ℤ) (mode : Mode) (correction : B
   pub corrects : correction ≡ g.correction
   pub entries : es ≡ caller_entry (Off offset state) ∷ []
 
+-- a converted time, or that it doesn't fit 64 bits
+abbrev pub Tells : ℤ → ℕ → ℕ → Reply → Type 0
+Tells time from to (Convert value) = (value ≡ converted time from to) × FitsSigned w64 value
+Tells time from to ConvertTooWide = FitsSigned w64 (converted time from to) → ⊥
+Tells time from to reply = ⊥
+
 -- the entries that the call of an op allows with its reply, in a state, made by caller 0
 abbrev pub Allows : Settings → State → Op → Reply → List Entry → Type 0
 Allows g s (ops.Tick mono sys) (Tick now shift) es = IsMove g s (record { mono = mono; sys = sys }) Plain now shift es
@@ -75,6 +83,7 @@ Allows g s ops.Time (Time now) es = es ≡ caller_entry (Look now) ∷ []
 Allows g s ops.System (System time) es = IsSum time es
 Allows g s ops.Offset (Offset offset state) es = es ≡ caller_entry (Off offset state) ∷ []
 Allows g s ops.Info (Info start end mode correction offset state) es = IsInfo g start end mode correction offset state es
+Allows g s (ops.Convert time from to) reply es = Tells time from to reply × (es ≡ [])
 Allows g s op reply es = ⊥
 
 -- a script run of ops from a state: entries that are legal after it, and replies, piece by piece

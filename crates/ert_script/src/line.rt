@@ -45,6 +45,8 @@ pub fn write_line(page: &mut String, reply: &Reply) -> Result<(), AllocError>
             write_info_front(page, start, end, mode)?;
             write_info_behind(page, correction, offset, state)
         }
+        Reply::Convert { value } => write!(page, "convert {value}\n"),
+        Reply::ConvertTooWide => write!(page, "convert too_wide\n"),
     }
 }
 

@@ -1,12 +1,13 @@
 ghost use Rattle.std.specs.Prelude.{◌≡◌, IfOk};
 ghost use Rattle.ert_defs.specs.Readings.{IsValid};
 ghost use Rattle.ert_scenario.specs.Ranges.{IsOpInRange};
-ghost use Rattle.ert_script.specs.Scripts.{Does};
+ghost use Rattle.ert_script.specs.Scripts.{Does, Tells};
 
 use ert_clock::ClockErr;
 use ert_defs::{Mode, NoMemory, OffsetState, Reading};
 use ert_scenario::Op;
 use ert_sched::World;
+use ert_units::{TooWide, Unit, convert};
 
 /// What an op answers. Times and offsets are in nanoseconds.
 #[derive(Clone, Copy, Debug, PartialEq, Eq)]
@@ -58,6 +59,12 @@ pub enum Reply {
         offset: i64,
         state: OffsetState,
     },
+    /// A time in another unit.
+    Convert {
+        value: i64,
+    },
+    /// It doesn't fit 64 bits.
+    ConvertTooWide,
 }
 
 /// How long a service may run: it ends this many nanoseconds after its start time, in more than a quarter
@@ -78,6 +85,7 @@ pub fn reply_op(world: &mut World, op: &Op) -> Result<Reply, NoMemory>
         Op::System => Ok(system(world)),
         Op::Offset => Ok(offset(world)),
         Op::Info => Ok(info(world)),
+        Op::Convert { time, from, to } => Ok(convert_time(time, from, to)),
     }
 }
 
@@ -166,5 +174,15 @@ fn info(world: &mut World) -> Reply
         correction: settings.correction,
         offset,
         state,
+    }
+}
+
+// It makes no entry.
+fn convert_time(time: i64, from: Unit, to: Unit) -> Reply
+    ensures { Tells time from to result }
+{
+    match convert(time, from, to) {
+        Ok(value) => Reply::Convert { value },
+        Err(TooWide) => Reply::ConvertTooWide,
     }
 }

@@ -1,4 +1,7 @@
 use Rattle.std.proofs.Common.{arith, ◌≡◌, ◌≤◌, ◌<◌, List, ℕ, refl, sym, subst, ◌∙◌, string_bytes}
+use Rattle.ert_scenario.specs.Ranges.{IsOpInRange}
+use Rattle.ert_scenario.specs.declared.op.Op.{Op}
+use Rattle.ert_script.specs.Scripts.{Does}
 use Rattle.ert_script.proofs.Runs.{IsSoFar, so_far_first, op_may, goes_on_at, breaks_at, ends, breaks_last, ok_map, err_map}
 use Rattle.ert_script.proofs.run.run_ops.Goals as goal
 
@@ -12,18 +15,22 @@ loop-op-init g c = record {
 
 pub reply_op-requires : goal.reply_op-requires
 reply_op-requires g c =
-    op_may c.args.world.now.settings c.loop-op.world c.args.ops.now c.loop-op.op-index _ c.loop-op-test.true c.loop-op.invariant.settings c.requires.ranges
+    subst (λ (op : Op). IsOpInRange c.loop-op.world.settings op) (sym c.op-item.is)
+    (op_may c.args.world.now.settings c.loop-op.world c.args.ops.now c.loop-op.op-index c.op-item.result c.loop-op-test.true
+      c.loop-op.invariant.settings c.requires.ranges)
 
 pub returns-in-Err-clause-err : goal.returns-in-Err-clause-err
 returns-in-Err-clause-err g c =
-    breaks_at c.args.world.now c.loop-op.world c.reply_op.new.world c.args.ops.now c.loop-op.op-index _ _ _ _ _ c.in-Ok.reply
-    c.loop-op-test.true c.loop-op.invariant.so_far c.in-Ok.ensures.ok c.in-Err.ensures.err
+    breaks_at c.args.world.now c.loop-op.world c.reply_op.new.world c.args.ops.now c.loop-op.op-index c.op-item.result _ _ _ _ c.in-Ok.reply
+    c.loop-op-test.true c.loop-op.invariant.so_far
+    (subst (λ (op : Op). Does c.loop-op.world op c.in-Ok.reply c.reply_op.new.world) c.op-item.is c.in-Ok.ensures.ok) c.in-Err.ensures.err
 
 pub loop-op-preserved : goal.loop-op-preserved
 loop-op-preserved g c = record {
   so_far =
-    goes_on_at c.args.world.now c.loop-op.world c.reply_op.new.world c.args.ops.now c.loop-op.op-index _ _ _ _ _ _ c.in-Ok.reply
-    c.loop-op-test.true c.loop-op.invariant.so_far c.in-Ok.ensures.ok c.in_default-put.ensures.ok;
+      goes_on_at c.args.world.now c.loop-op.world c.reply_op.new.world c.args.ops.now c.loop-op.op-index c.op-item.result _ _ _ _ _ c.in-Ok.reply
+      c.loop-op-test.true c.loop-op.invariant.so_far
+    (subst (λ (op : Op). Does c.loop-op.world op c.in-Ok.reply c.reply_op.new.world) c.op-item.is c.in-Ok.ensures.ok) c.in_default-put.ensures.ok;
   settings = c.reply_op.ensures.settings ∙ c.loop-op.invariant.settings;
   room = c.put.ensures.room;
   later = omega (arith, c.loop-op.invariant.later, c.put.ensures.later);
