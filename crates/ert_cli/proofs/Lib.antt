@@ -1,4 +1,1 @@
-pub mod Fronts
-pub mod Runs
-pub mod Steps
 pub mod Transcripts

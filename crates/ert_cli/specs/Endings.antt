@@ -5,12 +5,12 @@ use Rattle.std.specs.Str.{bytes_eq}
 use Rattle.std.specs.declared.alloc.Global.{Global}
 use Rattle.ert_io.specs.Known.{then, before, IsAtEnd}
 use Rattle.ert_scenario.specs.Scenarios.{Plan, IsScenario, HasRefusal}
-use Rattle.ert_cli.specs.Lines.{refusal_line}
+use Rattle.ert_cli.specs.Refusals.{refusal_line}
 use Rattle.ert_cli.specs.Runs.{WritesTranscript, WritesPart}
-use Rattle.ert_cli.specs.Written.{WritesFront}
+use Rattle.ert_script.specs.Written.{WritesFront}
 use Rattle.ert_scenario.specs.declared.scenario.ScenarioErr.{ScenarioErr}
-use Rattle.ert_cli.specs.declared.output.RunErr.{RunErr}
-use Rattle.ert_cli.specs.declared.output.RunErr.TheVariants.{WriteFault as OutputFailed, NoMemory as OutOfMemory}
+use Rattle.ert_script.specs.declared.output.RunErr.{RunErr}
+use Rattle.ert_script.specs.declared.output.RunErr.TheVariants.{WriteFault as OutputFailed, NoMemory as OutOfMemory}
 use Rattle.ert_cli.specs.declared.ending.EndStatus.{EndStatus}
 use Rattle.ert_cli.specs.declared.ending.EndStatus.TheVariants.{Done, Usage, Refused, ReadFault, WriteFault, NoMemory, TooLong}
 

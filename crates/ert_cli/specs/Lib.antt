@@ -1,5 +1,3 @@
 pub mod Endings
-pub mod Lines
+pub mod Refusals
 pub mod Runs
-pub mod Scripts
-pub mod Written

@@ -3,22 +3,18 @@
 //!
 //! `ertime` is the whole program over any source and sink of bytes; its contract says what each status
 //! means. `main` only hands it the command line and the standard streams. It stands on `ert_scenario`,
-//! which reads, `ert_clock`, which runs, and `ert_io`.
+//! which reads, `ert_script`, which runs the ops on a world, and `ert_io`.
 #![tactic(auto)]
 
 mod ending;
-mod laws;
-mod line;
-mod output;
 mod program;
-mod reply;
+mod refusal;
 mod running;
 #[cfg(test)]
 mod tests;
 
 pub use ending::{EndStatus, Ended};
 use ert_io::{StdSink, StdSource};
-pub use laws::one_transcript;
 pub use program::ertime;
 use std::io::ErrorKind;
 use std::process::ExitCode;

@@ -3,16 +3,16 @@ ghost use Rattle.ert_io.specs.Faults.{Rose};
 ghost use Rattle.ert_io.specs.Known.{then, before};
 ghost use Rattle.ert_scenario.specs.Scenarios.{Plan, IsScenario};
 ghost use Rattle.ert_scenario.specs.declared.scenario.ScenarioErr.TheVariants.{NoMemory as NoRoom};
-ghost use Rattle.ert_cli.specs.Lines.{usage_line, refusal_line};
-ghost use Rattle.ert_cli.specs.Written.{WritesFront};
+ghost use Rattle.ert_cli.specs.Refusals.{usage_line, refusal_line};
+ghost use Rattle.ert_script.specs.Written.{WritesFront};
 ghost use Rattle.ert_cli.specs.Endings.{is_run, Did, Refuses, Stops, status_of};
 
 use crate::ending::{EndStatus, Ended};
-use crate::line::write_refusal;
-use crate::output::{RunErr, write_page};
+use crate::refusal::write_refusal;
 use crate::running::run;
 use ert_io::{ReadErr, Sink, Source, read_all, write_all};
 use ert_scenario::{ScenarioErr, one_verdict, read_scenario, scenarios_are_valid};
+use ert_script::{RunErr, write_page};
 use std::alloc::Global;
 
 // The most bytes of an input.

@@ -5,14 +5,6 @@ pub run-requires-clause-checked : goal.run-requires-clause-checked
 run-requires-clause-checked g c =
     c.scenarios_are_valid.ensures.settings _ (plan_of c.in-Ok-read_scenario.scenario) c.in-Ok-read_scenario.ensures.ok
 
-pub run-requires-clause-correction : goal.run-requires-clause-correction
-run-requires-clause-correction g c =
-    c.scenarios_are_valid.ensures.correction _ (plan_of c.in-Ok-read_scenario.scenario) c.in-Ok-read_scenario.ensures.ok
-
-pub run-requires-clause-mode : goal.run-requires-clause-mode
-run-requires-clause-mode g c =
-    c.scenarios_are_valid.ensures.mode _ (plan_of c.in-Ok-read_scenario.scenario) c.in-Ok-read_scenario.ensures.ok
-
 pub run-requires-clause-ranges : goal.run-requires-clause-ranges
 run-requires-clause-ranges g c =
     c.scenarios_are_valid.ensures.ops _ (plan_of c.in-Ok-read_scenario.scenario) c.in-Ok-read_scenario.ensures.ok
