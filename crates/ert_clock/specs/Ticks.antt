@@ -1,7 +1,8 @@
 -- What a tick and a finalization answer, and the entries that they stand for.
 
-use Rattle.std.specs.Prelude.{◌≡◌, ℕ, ◌<◌, ℤ, Bool, true, false, List, [], ◌∷◌, ◌++◌, Option, Some, None, Result, Ok, Err}
-use Rattle.ert_defs.specs.Lines.{Face, Due, IsOffset, IsInRange, time_after, due_after, ticked, shifted}
+use Rattle.std.specs.Prelude.{◌≡◌, ℕ, ◌<◌, ℤ, Bool, true, false, List, [], ◌∷◌, ◌++◌}
+use Rattle.std.specs.Prelude.{Option, Some, None, Result, Ok, Err}
+use Rattle.ert_defs.specs.Lines.{Due, IsOffset, IsInRange, time_after, due_after, ticked, shifted}
 use Rattle.ert_defs.specs.Readings.{IsValid}
 use Rattle.ert_clock.specs.Shown.{Shown, Stands}
 use Rattle.ert_clock.specs.declared.clock.ClockErr.{ClockErr}
@@ -85,13 +86,15 @@ abbrev pub tick_entries : ℕ → Reading → Act → ℤ → Option ℤ → Lis
 tick_entries n r act now shift = tick_entry n r act now ∷ shift_entries n act shift
 
 -- the clock then stands for the history with the entries of the tick last
-abbrev pub TicksFor : Settings → ℕ → List Entry → Reading → Act → Result Moved ClockErr → Shown → Type 0
+abbrev pub TicksFor : Settings → ℕ → List Entry → Reading → Act
+    → Result Moved ClockErr → Shown → Type 0
 TicksFor g n h r act (Ok m) new = Stands g (h ++ tick_entries n r act m.now m.shift) new
 TicksFor g n h r act (Err e) new = Stands g h new
 
 -- whichever history it stood for
 abbrev pub Ticks : Shown → Reading → Act → Result Moved ClockErr → Shown → Type 0
-Ticks v r act result new = (g : Settings) (h : List Entry) (n : ℕ) → n < g.callers → Stands g h v → TicksFor g n h r act result new
+Ticks v r act result new =
+    (g : Settings) (h : List Entry) (n : ℕ) → n < g.callers → Stands g h v → TicksFor g n h r act result new
 
 -- what a finalization answers and leaves where there is nothing to finalize: the old time and state, and
 -- no shift. The reading must be valid all the same
@@ -119,10 +122,12 @@ final_entries Final n r m = []
 final_entries Volatile n r m = []
 
 -- the clock then stands for the history with these entries last
-abbrev pub FinalizesFor : Settings → ℕ → List Entry → Reading → Result (OffsetState × Moved) ClockErr → Shown → Type 0
+abbrev pub FinalizesFor : Settings → ℕ → List Entry → Reading
+    → Result (OffsetState × Moved) ClockErr → Shown → Type 0
 FinalizesFor g n h r (Ok p) new = Stands g (h ++ final_entries p.0 n r p.1) new
 FinalizesFor g n h r (Err e) new = Stands g h new
 
 -- whichever history it stood for
 abbrev pub Finalizes : Shown → Reading → Result (OffsetState × Moved) ClockErr → Shown → Type 0
-Finalizes v r result new = (g : Settings) (h : List Entry) (n : ℕ) → n < g.callers → Stands g h v → FinalizesFor g n h r result new
+Finalizes v r result new =
+    (g : Settings) (h : List Entry) (n : ℕ) → n < g.callers → Stands g h v → FinalizesFor g n h r result new
