@@ -23,7 +23,7 @@ use Rattle.ert_defs.specs.declared.settings.OffsetState.TheVariants.{Preliminary
 use Rattle.ert_defs.specs.declared.settings.Reading.{Reading}
 use Rattle.ert_defs.specs.declared.settings.Settings.{Settings}
 use Rattle.ert_clock.specs.Shown.{Shown, Stands}
-use Rattle.ert_clock.specs.Ticks.{act_of, offset_of, Gives, state_by, keeper_entry, tick_entry, tick_entries, Ticks}
+use Rattle.ert_clock.specs.Ticks.{act_of, offset_of, IsDone, Gives, state_by, keeper_entry, tick_entry, tick_entries, Ticks}
 use Rattle.ert_clock.specs.Ticks.{final_entries, Finalizes}
 use Rattle.ert_clock.specs.declared.clock.ClockErr.{ClockErr}
 use Rattle.ert_clock.specs.declared.clock.ClockErr.TheVariants.{BadReading, OffsetWide}
@@ -85,16 +85,16 @@ pub tick_of : (g : Settings) (h : List Entry) (v : Shown) (r : Reading) (act : A
 tick_of g h v r act m new st gives =
     let c : Clock = (state g h).clock in
     let f : Face = face g c in
-    let at : Gives (shown_at g c) r act (Ok m) new =
-    subst (λ (v : Shown). Gives v r act (Ok m) new) (shown_is g h v st) gives in
-    let told : time_after g f r ≡ m.now = sym at.2 in
+    let at : IsDone (shown_at g c) r act m new =
+    subst (λ (v : Shown). IsDone v r act m new) (shown_is g h v st) gives in
+    let told : time_after g f r ≡ m.now = sym at.told in
     record {
-      valid = at.0;
-      told = at.2;
-      in_range = subst (λ (t : ℤ). IsInRange (due_after g f r act t)) told at.1;
-      shift = at.3 ∙ ap (λ (t : ℤ). offset_of (due_after g f r act t)) told;
-      settings = ap (λ (v : Shown). v.settings) at.4;
-      shows = ap (λ (v : Shown). v.face) at.4
+      valid = at.valid;
+      told = at.told;
+      in_range = subst (λ (t : ℤ). IsInRange (due_after g f r act t)) told at.in_range;
+      shift = at.shift ∙ ap (λ (t : ℤ). offset_of (due_after g f r act t)) told;
+      settings = ap (λ (v : Shown). v.settings) at.shows;
+      shows = ap (λ (v : Shown). v.face) at.shows
           ∙ ap (λ (t : ℤ). shifted (ticked g f r act t) (due_after g f r act t)) told;
     }
 
@@ -222,8 +222,8 @@ pub ticks_by : (v : Shown) (r : Reading) (act : Act) (result : Result Moved Cloc
     → MayAct act v.face.state → Gives v r act result new → Ticks v r act result new
 ticks_by v r act (Ok m) new may gives = λ g h n below st.
     ticks_with g h n v r act m new m.shift below st may gives refl
-ticks_by v r act (Err BadReading) new may gives = λ g h n below st. subst (Stands g h) (sym gives.1) st
-ticks_by v r act (Err (OffsetWide value)) new may gives = λ g h n below st. subst (Stands g h) (sym gives.2) st
+ticks_by v r act (Err BadReading) new may gives = λ g h n below st. subst (Stands g h) (sym gives.unchanged) st
+ticks_by v r act (Err (OffsetWide value)) new may gives = λ g h n below st. subst (Stands g h) (sym gives.unchanged) st
 
 -- a tick may be made in each state of the offset
 pub may_act : (force : Bool) (s : OffsetState) → MayAct (act_of force) s

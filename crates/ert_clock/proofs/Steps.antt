@@ -32,7 +32,8 @@ pub refuses : (g : Settings) (f : Face) (r : Reading) (act : Act) (now : ℤ) (d
     → Gives (record { settings = g; face = f }) r act (Err e) (record { settings = g; face = f })
 refuses g f r act now due BadReading k limits = absurd limits
 refuses g f r act now due (OffsetWide value) k limits =
-    (k.valid, subst (λ (d : Option Due). IsWide d value) (due_then g f r act now due k) limits, refl)
+    let wide = subst (λ (d : Option Due). IsWide d value) (due_then g f r act now due k) limits in
+    record { valid = k.valid; wide = wide; unchanged = refl }
 
 -- the bounds hold after a shift that may be, where they held before
 sound_shifted : (g : Settings) (f : Face) (due : Option Due) → Sound g f → MayShift f due → Sound g (shifted f due)
@@ -85,10 +86,10 @@ pub done_gives : (g : Settings) (f : Face) (r : Reading) (act : Act) (now : ℤ)
     (next : Face) (told : Option ℤ) → told ≡ offset_of shift → Done g f r act now due shift next
     → Gives (record { settings = g; face = f }) r act (Ok (record { now = now; shift = told }))
     (record { settings = g; face = next })
-done_gives g f r act now due shift next told e d = (
-  d.computed.valid,
-  in_range_then g f r act now due shift next d,
-  d.computed.told,
-  e ∙ ap offset_of (d.limits.1 ∙ due_then g f r act now due d.computed),
-  ap (λ (f : Face). record { settings = g; face = f }) (next_then g f r act now due shift next d),
-)
+done_gives g f r act now due shift next told e d = record {
+  valid = d.computed.valid;
+  in_range = in_range_then g f r act now due shift next d;
+  told = d.computed.told;
+  shift = e ∙ ap offset_of (d.limits.1 ∙ due_then g f r act now due d.computed);
+  shows = ap (λ (f : Face). record { settings = g; face = f }) (next_then g f r act now due shift next d);
+}

@@ -1,4 +1,5 @@
-ghost use Rattle.std.specs.Prelude.{◌≡◌, ◌↔◌, IsTrue};
+ghost use Rattle.std.specs.Prelude.{◌≡◌, ◌↔◌, pos, IsTrue};
+ghost use Rattle.std.specs.Int.{int_div_euclid};
 ghost use Rattle.ert_defs.specs.Clocks.{face, first_clock};
 ghost use Rattle.ert_defs.specs.Lines.{IsOffset, first_state, rate_of, rate_after, is_base, shift_of};
 ghost use Rattle.ert_defs.specs.Lines.{mono_after, line_time, time_after, base_from, due_at};
@@ -89,6 +90,13 @@ pub fn rate_after(act: Act, state: OffsetState, error: i128) -> i64
     }
 }
 
+/// A millionth of a number, rounded down.
+fn millionth(product: i128) -> i128
+    ensures { result ≡ int_div_euclid product (pos 1000000) }
+{
+    product.div_euclid(1_000_000)
+}
+
 impl Line {
     ghost use Rattle.ert_clock.specs.Faces.{base_of};
 
@@ -99,7 +107,7 @@ impl Line {
         ensures { result ≡ line_time (base_of self.now) mono }
     {
         let since = mono as i128 - self.mono as i128;
-        self.time as i128 + since + (since * self.rate as i128).div_euclid(1_000_000)
+        self.time as i128 + since + millionth(since * self.rate as i128)
     }
 }
 

@@ -40,7 +40,7 @@ overflow_add-result-2 c =
     let plain : FitsSigned w128 (t +ℤ (a -ℤ b)) = f.plain in
     let product : FitsSigned w128 ((a -ℤ b) *ℤ r) = f.product in
     let floor : FitsSigned w128 (int_div_euclid ((a -ℤ b) *ℤ r) (pos 1000000)) = f.floor in
-    let e = simp to_z-of_z at c.div_euclid.ensures in
+    let e = simp to_z-of_z at c.millionth.ensures in
     rw e (simp to_z-of_z f.time)
 
 pub returns : goal.returns
@@ -63,5 +63,5 @@ returns c =
     let product : FitsSigned w128 ((a -ℤ b) *ℤ r) = f.product in
     let floor : FitsSigned w128 (int_div_euclid ((a -ℤ b) *ℤ r) (pos 1000000)) = f.floor in
     let time : FitsSigned w128 ((t +ℤ (a -ℤ b)) +ℤ int_div_euclid ((a -ℤ b) *ℤ r) (pos 1000000)) = f.time in
-    let e = simp to_z-of_z at c.div_euclid.ensures in
+    let e = simp to_z-of_z at c.millionth.ensures in
     rw e (simp to_z-of_z)
