@@ -121,6 +121,7 @@ pub record IsOld (v : Shown) (r : Reading) (state : OffsetState) (m : Moved) (ne
   pub shift : m.shift ≡ None
   pub unchanged : new ≡ v
 
+-- what a finalization answers and leaves there, each answer where its case holds
 abbrev pub GivesOld : Shown → Reading → Result (OffsetState × Moved) ClockErr → Shown → Type 0
 GivesOld v r (Ok p) new = IsOld v r p.0 p.1 new
 GivesOld v r (Err BadReading) new = IsBad v r new
