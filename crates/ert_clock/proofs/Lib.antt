@@ -1,3 +1,4 @@
 pub mod Casts
+pub mod Rules
 pub mod Stand
 pub mod Steps

@@ -1,7 +1,8 @@
 -- What a tick and a finalization answer, and the entries that they stand for.
 
-use Rattle.std.specs.Prelude.{◌≡◌, ℕ, ◌<◌, ℤ, Bool, true, false, List, [], ◌∷◌, ◌++◌, Option, Some, None, Result, Ok, Err}
-use Rattle.ert_defs.specs.Lines.{Face, Due, IsOffset, IsInRange, time_after, due_after, ticked, shifted}
+use Rattle.std.specs.Prelude.{◌≡◌, ℕ, ◌<◌, ℤ, Bool, true, false, List, [], ◌∷◌, ◌++◌}
+use Rattle.std.specs.Prelude.{Option, Some, None, Result, Ok, Err}
+use Rattle.ert_defs.specs.Lines.{Due, IsOffset, IsInRange, time_after, due_after, ticked, shifted}
 use Rattle.ert_defs.specs.Readings.{IsValid}
 use Rattle.ert_clock.specs.Shown.{Shown, Stands}
 use Rattle.ert_clock.specs.declared.clock.ClockErr.{ClockErr}
@@ -52,14 +53,30 @@ Limits due (Ok shift) = IsInRange due × (shift ≡ due)
 Limits due (Err BadReading) = ⊥
 Limits due (Err (OffsetWide value)) = IsWide due value
 
--- what a tick answers and leaves. A reading that isn't valid comes first, then an offset outside its
--- limits, and both change nothing
+-- a tick was done: it answers the time and the offset of the shift, and the clock shows what follows
+pub record IsDone (v : Shown) (r : Reading) (act : Act) (m : Moved) (new : Shown) : Type 0 where
+  pub valid : IsValid r
+  pub in_range : IsInRange (due_of v r act)
+  pub told : m.now ≡ time_of v r
+  pub shift : m.shift ≡ offset_of (due_of v r act)
+  pub shows : new ≡ shown_after v r act
+
+-- the reading isn't valid, and nothing changes
+pub record IsBad (v : Shown) (r : Reading) (new : Shown) : Type 0 where
+  pub invalid : IsValid r → ⊥
+  pub unchanged : new ≡ v
+
+-- the reading is valid, the shift that is due has this offset outside its limits, and nothing changes
+pub record IsTooWide (v : Shown) (r : Reading) (act : Act) (value : ℤ) (new : Shown) : Type 0 where
+  pub valid : IsValid r
+  pub wide : IsWide (due_of v r act) value
+  pub unchanged : new ≡ v
+
+-- what a tick answers and leaves, each answer where its case holds
 abbrev pub Gives : Shown → Reading → Act → Result Moved ClockErr → Shown → Type 0
-Gives v r act (Ok m) new =
-    IsValid r × IsInRange (due_of v r act) × (m.now ≡ time_of v r) × (m.shift ≡ offset_of (due_of v r act))
-    × (new ≡ shown_after v r act)
-Gives v r act (Err BadReading) new = (IsValid r → ⊥) × (new ≡ v)
-Gives v r act (Err (OffsetWide value)) new = IsValid r × IsWide (due_of v r act) value × (new ≡ v)
+Gives v r act (Ok m) new = IsDone v r act m new
+Gives v r act (Err BadReading) new = IsBad v r new
+Gives v r act (Err (OffsetWide value)) new = IsTooWide v r act value new
 
 -- an entry of the clock, made with a caller
 abbrev pub keeper_entry : ℕ → Event → Entry
@@ -85,20 +102,29 @@ abbrev pub tick_entries : ℕ → Reading → Act → ℤ → Option ℤ → Lis
 tick_entries n r act now shift = tick_entry n r act now ∷ shift_entries n act shift
 
 -- the clock then stands for the history with the entries of the tick last
-abbrev pub TicksFor : Settings → ℕ → List Entry → Reading → Act → Result Moved ClockErr → Shown → Type 0
+abbrev pub TicksFor : Settings → ℕ → List Entry → Reading → Act
+    → Result Moved ClockErr → Shown → Type 0
 TicksFor g n h r act (Ok m) new = Stands g (h ++ tick_entries n r act m.now m.shift) new
 TicksFor g n h r act (Err e) new = Stands g h new
 
 -- whichever history it stood for
 abbrev pub Ticks : Shown → Reading → Act → Result Moved ClockErr → Shown → Type 0
-Ticks v r act result new = (g : Settings) (h : List Entry) (n : ℕ) → n < g.callers → Stands g h v → TicksFor g n h r act result new
+Ticks v r act result new =
+    (g : Settings) (h : List Entry) (n : ℕ) → n < g.callers → Stands g h v → TicksFor g n h r act result new
 
--- what a finalization answers and leaves where there is nothing to finalize: the old time and state, and
--- no shift. The reading must be valid all the same
+-- a finalization had nothing to finalize: it answers the old state and time and no shift, and nothing
+-- changes. The reading must be valid all the same
+pub record IsOld (v : Shown) (r : Reading) (state : OffsetState) (m : Moved) (new : Shown) : Type 0 where
+  pub valid : IsValid r
+  pub state_is : state ≡ v.face.state
+  pub told : m.now ≡ v.face.time
+  pub shift : m.shift ≡ None
+  pub unchanged : new ≡ v
+
+-- what a finalization answers and leaves there, each answer where its case holds
 abbrev pub GivesOld : Shown → Reading → Result (OffsetState × Moved) ClockErr → Shown → Type 0
-GivesOld v r (Ok p) new =
-    IsValid r × (p.0 ≡ v.face.state) × (p.1.now ≡ v.face.time) × (p.1.shift ≡ None) × (new ≡ v)
-GivesOld v r (Err BadReading) new = (IsValid r → ⊥) × (new ≡ v)
+GivesOld v r (Ok p) new = IsOld v r p.0 p.1 new
+GivesOld v r (Err BadReading) new = IsBad v r new
 GivesOld v r (Err (OffsetWide value)) new = ⊥
 
 -- what a finalization of a preliminary offset answers and leaves: the old state, and what a tick does
@@ -119,10 +145,12 @@ final_entries Final n r m = []
 final_entries Volatile n r m = []
 
 -- the clock then stands for the history with these entries last
-abbrev pub FinalizesFor : Settings → ℕ → List Entry → Reading → Result (OffsetState × Moved) ClockErr → Shown → Type 0
+abbrev pub FinalizesFor : Settings → ℕ → List Entry → Reading
+    → Result (OffsetState × Moved) ClockErr → Shown → Type 0
 FinalizesFor g n h r (Ok p) new = Stands g (h ++ final_entries p.0 n r p.1) new
 FinalizesFor g n h r (Err e) new = Stands g h new
 
 -- whichever history it stood for
 abbrev pub Finalizes : Shown → Reading → Result (OffsetState × Moved) ClockErr → Shown → Type 0
-Finalizes v r result new = (g : Settings) (h : List Entry) (n : ℕ) → n < g.callers → Stands g h v → FinalizesFor g n h r result new
+Finalizes v r result new =
+    (g : Settings) (h : List Entry) (n : ℕ) → n < g.callers → Stands g h v → FinalizesFor g n h r result new

@@ -1,29 +1,30 @@
 ghost use Rattle.std.specs.Prelude.{◌≡◌};
-ghost use Rattle.ert_clock.specs.Ticks.{offset_of, Limits};
+ghost use Rattle.ert_clock.specs.Ticks.{Limits, offset_of};
 
 use crate::faces::{Face, is_offset};
 use ert_defs::{Act, OffsetState, Reading, Settings};
 use std::marker::Model;
 
-/// What a tick did.
+/// What a tick or a finalization did.
 #[derive(Clone, Copy, Debug, PartialEq, Eq)]
 pub struct Moved {
-    /// Monotonic time after the tick, in nanoseconds.
+    /// Monotonic time after it, in nanoseconds.
     pub now: i64,
-    /// The new offset, where the tick moved it.
+    /// The new offset, in nanoseconds, where it was set: by a finalization even to what it was.
     pub shift: Option<i64>,
 }
 
-/// Why a tick was refused. The clock is as it was.
+/// Why a tick or a finalization was refused. The clock is as it was.
 #[derive(Clone, Copy, Debug, PartialEq, Eq)]
 pub enum ClockErr {
-    /// The reading isn't valid: `mono` is from 0 to below 2^62, and `sys` between -2^61 and 2^61.
+    /// The reading isn't valid: `mono` is from 0 to below 2^62, and `sys` between -2^61 and 2^61. This is
+    /// tested first.
     BadReading,
-    /// The offset would be outside its limits.
+    /// The offset would be set to this value, in nanoseconds, which isn't between -2^62 and 2^62.
     OffsetWide { value: i128 },
 }
 
-/// Monotonic time and the time offset.
+/// Monotonic time and the time offset (ERTS User's Guide, "Time and Time Correction in Erlang").
 #[derive(Drop)]
 pub struct Clock {
     settings: Settings,
@@ -49,7 +50,8 @@ impl Clock {
     ghost use Rattle.ert_clock.specs.Ticks.{Limits, act_of, Gives, Ticks, FinalizesFrom, Finalizes};
 
     /// A clock that has just been opened: monotonic time is the start time, and system time that of the
-    /// first reading.
+    /// first reading. The offset is final in no time warp mode, preliminary in single and volatile in multi
+    /// time warp mode.
     pub fn new(settings: &Settings) -> Clock
         requires checked { IsChecked settings.now }
         ensures opens { result ≡ opening_shown settings.now }
@@ -84,7 +86,9 @@ impl Clock {
         self.face.state
     }
 
-    /// Takes one reading.
+    /// Takes one reading, and sets monotonic time by it. `force` asks for a check, which else comes once
+    /// the last one is a minute away ("Time Correction"). A check sets the rate, and in multi time warp mode
+    /// the offset, where that is more than a millisecond off ("Time Warp Modes").
     pub fn tick(&mut self, reading: Reading, force: bool) -> Result<Moved, ClockErr>
         ensures gives { Gives self.old reading (act_of force) result self.new }
         ensures stands { Ticks self.old reading (act_of force) result self.new }
@@ -92,7 +96,9 @@ impl Clock {
         self.step(reading, if force { Act::Force } else { Act::Plain })
     }
 
-    /// Finalizes the offset.
+    /// Finalizes the time offset, and answers the state that it had (`erlang:system_flag`,
+    /// `time_offset`). From preliminary it is a tick that sets the offset so that system time is the
+    /// reading's, and makes it final. From another state it changes nothing, and only tests the reading.
     pub fn finalize(&mut self, reading: Reading) -> Result<(OffsetState, Moved), ClockErr>
         ensures gives { FinalizesFrom self.old.face.state self.old reading result self.new }
         ensures stands { Finalizes self.old reading result self.new }
@@ -100,21 +106,21 @@ impl Clock {
         let state = self.state();
         if state == OffsetState::Preliminary {
             let moved = self.step(reading, Act::Finalize)?;
-            return Ok((state, moved));
+            Ok((state, moved))
+        } else if reading.is_valid() {
+            Ok((
+                state,
+                Moved {
+                    now: self.now(),
+                    shift: None,
+                },
+            ))
+        } else {
+            Err(ClockErr::BadReading)
         }
-        if !reading.is_valid() {
-            return Err(ClockErr::BadReading);
-        }
-        Ok((
-            state,
-            Moved {
-                now: self.now(),
-                shift: None,
-            },
-        ))
     }
 
-    /// Takes one reading, for one of the three acts.
+    /// Takes one reading, for one of the three acts. It computes first what can be refused.
     fn step(&mut self, reading: Reading, act: Act) -> Result<Moved, ClockErr>
         ensures { Gives self.old reading act result self.new }
     {
@@ -132,7 +138,7 @@ impl Clock {
     }
 }
 
-/// The shift that is due, where there is one, unless its offset is outside the limits.
+/// The shift that is due, if any, unless its offset is outside the limits.
 fn limit(due: Option<(i128, OffsetState)>) -> Result<Option<(i64, OffsetState)>, ClockErr>
     ensures { Limits due result }
 {
@@ -149,3 +155,6 @@ fn offset_of(shift: Option<(i64, OffsetState)>) -> Option<i64>
 {
     shift.map(|(offset, _)| offset)
 }
+
+#[cfg(test)]
+mod tests;

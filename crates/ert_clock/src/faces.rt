@@ -1,38 +1,45 @@
-ghost use Rattle.std.specs.Prelude.{◌≡◌, ◌↔◌, IsTrue};
+ghost use Rattle.std.specs.Prelude.{◌≡◌, ◌↔◌, pos, IsTrue};
+ghost use Rattle.std.specs.Int.{int_div_euclid};
 ghost use Rattle.ert_defs.specs.Clocks.{face, first_clock};
-ghost use Rattle.ert_defs.specs.Lines.{IsOffset, first_state, rate_of, rate_after, is_base, mono_after, time_after, line_time, base_from, due_at, shift_of, due_after, ticked, shifted};
+ghost use Rattle.ert_defs.specs.Lines.{IsOffset, first_state, rate_of, rate_after, is_base, shift_of};
+ghost use Rattle.ert_defs.specs.Lines.{mono_after, line_time, time_after, base_from, due_at};
+ghost use Rattle.ert_defs.specs.Lines.{due_after, ticked, shifted};
 ghost use Rattle.ert_defs.specs.Readings.{IsValid};
 ghost use Rattle.ert_defs.specs.Settings.{IsChecked};
 ghost use Rattle.ert_defs.specs.Sound.{IsRate, Sound};
 
 use ert_defs::{Act, Mode, OffsetState, Reading, Settings};
 
-/// A check is due after so many nanoseconds.
+/// How far away the last check is, in nanoseconds, where the next is due: a minute (profile).
 const CHECK_INTERVAL: u64 = 60_000_000_000;
 
-/// How far OS system time may lie from system time, in nanoseconds, before a check corrects it.
+/// How far OS system time may lie from system time, in nanoseconds, before a check acts: a millisecond
+/// (profile).
 const TOLERANCE: i128 = 1_000_000;
 
-/// By how many parts per million a correction makes time faster or slower.
+/// By how many parts per million a check makes time faster or slower: one percent (ERTS User's Guide,
+/// "Time Correction").
 const CORRECTION: i64 = 10_000;
 
-/// The line on which time runs, from the last check on.
+/// The line on which time runs with correction, from the last check on.
 #[derive(Clone, Copy)]
 pub struct Line {
-    /// Monotonic time at the last check.
+    /// Monotonic time at the last check, in nanoseconds.
     pub time: i64,
     /// OS monotonic time at the last check.
     pub mono: i64,
     /// OS system time at the last check.
     pub sys: i64,
-    /// By how many parts per million time runs faster than OS monotonic time.
+    /// By how many parts per million time runs faster than OS monotonic time, -10,000 to 10,000.
     pub rate: i64,
 }
 
-/// All numbers that change: what the clock shows, and the line that it is on.
+/// The numbers of a clock that change, in nanoseconds.
 #[derive(Clone, Copy)]
 pub struct Face {
+    /// Monotonic time.
     pub time: i64,
+    /// The time offset.
     pub offset: i64,
     pub state: OffsetState,
     pub line: Line,
@@ -58,7 +65,7 @@ pub fn is_offset(offset: i128) -> bool
     -(1 << 62) < offset && offset < 1 << 62
 }
 
-/// The rate after a check that finds OS system time so far above system time.
+/// The rate after a check that finds OS system time so many nanoseconds above system time.
 pub fn rate_after_check(state: OffsetState, error: i128) -> i64
     ensures { result ≡ rate_of state error }
 {
@@ -83,16 +90,24 @@ pub fn rate_after(act: Act, state: OffsetState, error: i128) -> i64
     }
 }
 
+/// A millionth of a number, rounded down.
+fn millionth(product: i128) -> i128
+    ensures { result ≡ int_div_euclid product (pos 1000000) }
+{
+    product.div_euclid(1_000_000)
+}
+
 impl Line {
     ghost use Rattle.ert_clock.specs.Faces.{base_of};
 
-    /// The time on the line at an OS monotonic time.
+    /// The time on the line at an OS monotonic time. Before the last check, or past the last valid reading,
+    /// it may need more than 64 bits.
     pub fn time_at(&self, mono: i64) -> i128
         requires { IsRate self.now.rate }
         ensures { result ≡ line_time (base_of self.now) mono }
     {
         let since = mono as i128 - self.mono as i128;
-        self.time as i128 + since + (since * self.rate as i128).div_euclid(1_000_000)
+        self.time as i128 + since + millionth(since * self.rate as i128)
     }
 }
 
@@ -127,7 +142,8 @@ impl Face {
         self.mono.max(reading.mono)
     }
 
-    /// The time after a tick.
+    /// Monotonic time after a tick: that of the line, or without correction OS system time less the offset
+    /// where that is later than before.
     pub fn time_after(&self, settings: &Settings, reading: Reading) -> i64
         requires kept { IsKept settings.now (face_of self.now) }
         requires valid { IsValid reading }
@@ -151,7 +167,8 @@ impl Face {
         }
     }
 
-    /// Whether a tick is where a new line starts.
+    /// Whether a new line starts at a tick: at a check, and at a finalization, which is none but counts as
+    /// the last check from then on.
     pub fn ends_line(&self, settings: &Settings, reading: Reading, act: Act) -> bool
         ensures { result ≡ is_base act (due_at settings.now (face_of self.now) reading) }
     {
@@ -161,14 +178,16 @@ impl Face {
         }
     }
 
-    /// The line that starts at a tick.
+    /// The line that starts at a tick to a time. Its rate rests on the offset before any shift.
     pub fn line_from(&self, reading: Reading, act: Act, now: i64) -> Line
-        ensures { base_of result ≡ base_from reading act (mono_after (face_of self.now) reading) now self.now.offset self.now.state }
+        ensures { base_of result
+            ≡ base_from reading act (mono_after (face_of self.now) reading) now self.now.offset self.now.state }
     {
+        let mono = self.mono_after(reading);
         let error = reading.sys as i128 - (now as i128 + self.offset as i128);
         Line {
             time: now,
-            mono: self.mono_after(reading),
+            mono,
             sys: reading.sys,
             rate: rate_after(act, self.state, error),
         }
@@ -192,7 +211,7 @@ impl Face {
         }
     }
 
-    /// The offset and the state that are due after a tick to a time.
+    /// The offset and the state that are due after a tick to a time. The offset may be outside its limits.
     pub fn due_after(
         &self,
         settings: &Settings,
@@ -210,7 +229,7 @@ impl Face {
         }
     }
 
-    /// The shift at a tick that is a check or none.
+    /// The shift to an offset that a tick makes due, as a check or none: only a volatile offset moves.
     pub fn shift_at(&self, is_check: bool, offset: i128) -> Option<(i128, OffsetState)>
         ensures { result ≡ shift_of self.now.state is_check offset self.now.offset }
     {
