@@ -11,6 +11,7 @@ mod laws;
 mod mail;
 mod settings;
 mod timer;
+mod worked;
 
 pub use clock_laws::{
     clock_is_permitted, clock_looks_back, no_timer_expires_early, time_never_falls,
@@ -23,3 +24,4 @@ pub use laws::{
 pub use mail::{Mail, Request, RequestKind};
 pub use settings::{Mode, OffsetState, Reading, Settings, SettingsFault};
 pub use timer::{Fired, Kind, Start, Status, TimerRef, When};
+pub use worked::histories_are_judged;
