@@ -12,6 +12,7 @@ mod mail;
 mod memory;
 mod settings;
 mod timer;
+mod worked;
 
 pub use clock_laws::{
     clock_is_permitted, clock_looks_back, no_timer_expires_early, time_never_falls,
@@ -25,3 +26,4 @@ pub use mail::{Mail, Request, RequestKind};
 pub use memory::NoMemory;
 pub use settings::{Mode, OffsetState, Reading, Settings, SettingsFault};
 pub use timer::{Fired, Kind, Start, Status, TimerRef, When};
+pub use worked::histories_are_judged;

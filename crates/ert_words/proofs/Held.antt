@@ -12,13 +12,15 @@ use Rattle.std.specs.Ordering.{nat_cmp}
 use Rattle.ert_words.specs.Free.{Free, HasRoom}
 
 -- a slot is in the set exactly where it is in the list
-pub contains-from_list : (xs : List ℕ) (q : ℕ) → set.contains (set.from_list {R = nat_cmp} xs) q ≡ list_any (nat_eq q) xs
+pub contains-from_list : (xs : List ℕ) (q : ℕ)
+    → set.contains (set.from_list {R = nat_cmp} xs) q ≡ list_any (nat_eq q) xs
 contains-from_list [] q = set.contains-empty nat_cmp q
 contains-from_list (x ∷ xs) q =
     set.contains-insert nat_cmp_total _ x q ∙ (λ i. unsigned_tied q x i || contains-from_list xs q i)
 
 -- what holds of each element and of one more, apart
-all_parts : (P : ℕ → Type 0) (xs : List ℕ) (x : ℕ) → AllByRecursion P (xs ++ x ∷ []) → AllByRecursion P xs × P x
+all_parts : (P : ℕ → Type 0) (xs : List ℕ) (x : ℕ) → AllByRecursion P (xs ++ x ∷ [])
+    → AllByRecursion P xs × P x
 all_parts P [] x h = (tt, h.0)
 all_parts P (y ∷ ys) x h = let rest = all_parts P ys x h.1 in ((h.0, rest.0), rest.1)
 
@@ -32,35 +34,44 @@ distinct_parts (y ∷ ys) x h =
     let rest = distinct_parts ys x h.1 in
     ((first.0, rest.0), λ i. (nat_eq_equiv.symm x y ∙ first.1) i || rest.1 i)
 
+-- the first two of three tests change places
 or_swap : (a b c : Bool) → (a || (b || c)) ≡ (b || (a || c))
 or_swap true true c = refl
 or_swap true false c = refl
 or_swap false b c = refl
 
 -- one more at the end
-pub list_any-push : (p : ℕ → Bool) (xs : List ℕ) (x : ℕ) → list_any p (xs ++ x ∷ []) ≡ (p x || list_any p xs)
+pub list_any-push : (p : ℕ → Bool) (xs : List ℕ) (x : ℕ)
+    → list_any p (xs ++ x ∷ []) ≡ (p x || list_any p xs)
 list_any-push p [] x = refl
-list_any-push p (y ∷ ys) x = ap (λ b. p y || b) (list_any-push p ys x) ∙ or_swap (p y) (p x) (list_any p ys)
+list_any-push p (y ∷ ys) x =
+    ap (λ b. p y || b) (list_any-push p ys x) ∙ or_swap (p y) (p x) (list_any p ys)
 
+-- a test or true
 or-true : (b : Bool) → (b || true) ≡ true
 or-true true = refl
 or-true false = refl
 
-below_more : (slots x q : ℕ) (b : Bool) → x < slots → (b ≡ true → q < slots) → (nat_eq q x || b) ≡ true → q < slots
+-- one more slot in range, and all are in range
+below_more : (slots x q : ℕ) (b : Bool) → x < slots → (b ≡ true → q < slots)
+    → (nat_eq q x || b) ≡ true → q < slots
 below_more slots x q b low h held =
     elim (eqb_tells q x) [ inl e ↦ omega arith | inr e ↦ h ((λ i. sym e.0 i || b) ∙ held) ]
 
 -- the list after a push
-pub pushed : (slots capacity larger x : ℕ) (xs : List ℕ) → HasRoom slots xs capacity → capacity ≤ larger → x < slots
-    → list_any (nat_eq x) xs ≡ false → HasRoom slots (xs ++ x ∷ []) larger
+pub pushed : (slots capacity larger x : ℕ) (xs : List ℕ) → HasRoom slots xs capacity → capacity ≤ larger
+    → x < slots → list_any (nat_eq x) xs ≡ false → HasRoom slots (xs ++ x ∷ []) larger
 pushed slots capacity larger x xs h grown low away = record {
   once = IsDistinct-push nat_eq_equiv xs x h.once away;
-  below = λ q held. below_more slots x q (list_any (nat_eq q) xs) low (h.below q) (sym (list_any-push (nat_eq q) xs x) ∙ held);
+  below = λ q held.
+      below_more slots x q (list_any (nat_eq q) xs) low (h.below q) (sym (list_any-push (nat_eq q) xs x) ∙ held);
   room = omega (arith, h.room);
 }
 
+-- the last is among them
 list_any-last : (x : ℕ) (xs : List ℕ) → list_any (nat_eq x) (xs ++ x ∷ []) ≡ true
-list_any-last x xs = list_any-push (nat_eq x) xs x ∙ (λ i. nat_eq_equiv.refl x i || list_any (nat_eq x) xs)
+list_any-last x xs =
+    list_any-push (nat_eq x) xs x ∙ (λ i. nat_eq_equiv.refl x i || list_any (nat_eq x) xs)
 
 -- the list after a pop, and what it gave
 pub record IsPopped (slots capacity x : ℕ) (xs : List ℕ) : Type 0 where
@@ -68,13 +79,15 @@ pub record IsPopped (slots capacity x : ℕ) (xs : List ℕ) : Type 0 where
   pub in_range : x < slots
   pub away : list_any (nat_eq x) xs ≡ false
 
-pub popped : (slots capacity x : ℕ) (xs : List ℕ) → HasRoom slots (xs ++ x ∷ []) capacity → IsPopped slots capacity x xs
+pub popped : (slots capacity x : ℕ) (xs : List ℕ) → HasRoom slots (xs ++ x ∷ []) capacity
+    → IsPopped slots capacity x xs
 popped slots capacity x xs h =
     let parts = distinct_parts xs x h.once in
     record {
       room = record {
         once = parts.0;
-        below = λ q held. h.below q (list_any-push (nat_eq q) xs x ∙ ap (λ b. nat_eq q x || b) held ∙ or-true (nat_eq q x));
+        below = λ q held.
+            h.below q (list_any-push (nat_eq q) xs x ∙ ap (λ b. nat_eq q x || b) held ∙ or-true (nat_eq q x));
         room = h.room;
       };
       in_range = h.below x (list_any-last x xs);
@@ -86,10 +99,13 @@ pub room_left : (slots capacity x : ℕ) (xs : List ℕ) → HasRoom slots xs ca
     → list_any (nat_eq x) xs ≡ false → length xs < slots
 room_left slots capacity x xs h low away =
     let more = pushed slots capacity capacity x xs h (omega arith) low away in
-    let e : length (xs ++ x ∷ []) ≤ slots = length-le_from_distinct_below (xs ++ x ∷ []) slots more.once more.below in
+    let e : length (xs ++ x ∷ []) ≤ slots =
+    length-le_from_distinct_below (xs ++ x ∷ []) slots more.once more.below in
     omega (arith, length-append {A = ℕ})
 
-without : (x q : ℕ) (b : Bool) → (nat_eq q x ≡ true → b ≡ false) → b ≡ (not (nat_eq q x) && (nat_eq q x || b))
+-- a slot that isn't among them, put in and taken out
+without : (x q : ℕ) (b : Bool) → (nat_eq q x ≡ true → b ≡ false)
+    → b ≡ (not (nat_eq q x) && (nat_eq q x || b))
 without x q b h = elim (eqb_tells q x) [ inl e ↦ rw e.0 (h e.0) | inr e ↦ rw e.0 refl ]
 
 -- a push and a pop, by the sets
@@ -98,17 +114,21 @@ pub from_list-pop : (xs : List ℕ) (x : ℕ) → list_any (nat_eq x) xs ≡ fal
 from_list-pop xs x away =
     set.same_set nat_cmp_total set.nat_cmp-IsAntisymmetric _ _ (λ q. contains-from_list xs q
     ∙ without x q (list_any (nat_eq q) xs) (λ e. (rw (eqb-true q x e) away))
-    ∙ sym (set.contains-remove nat_cmp_total _ x q ∙ (λ i. not (unsigned_tied q x i) && (contains-from_list (xs ++ x ∷ []) q ∙ list_any-push (nat_eq q) xs x) i)))
+    ∙ sym (set.contains-remove nat_cmp_total _ x q
+    ∙ (λ i. not (unsigned_tied q x i) && (contains-from_list (xs ++ x ∷ []) q ∙ list_any-push (nat_eq q) xs x) i)))
 
 -- slots that were counted up from a number
-list_any-range : (a n q : ℕ) → list_any (nat_eq q) (range_with_len a n) ≡ (nat_le a q && nat_lt q (a + n))
+list_any-range : (a n q : ℕ)
+    → list_any (nat_eq q) (range_with_len a n) ≡ (nat_le a q && nat_lt q (a + n))
 list_any-range a zero q = grind arith
 list_any-range a (suc n) q = grind (arith, list_any-range (a + 1) n q)
 
+-- a slot isn't among later ones
 above : (a b n : ℕ) → a < b → AllByRecursion (λ y. nat_eq a y ≡ false) (range_with_len b n)
 above a b zero h = tt
 above a b (suc n) h = (grind arith, above a (b + 1) n (omega arith))
 
+-- slots that were counted up stand once
 distinct_range : (a n : ℕ) → IsDistinct nat_eq (range_with_len a n)
 unfolding IsDistinct
 distinct_range a zero = tt
@@ -118,6 +138,7 @@ distinct_range a (suc n) = (above a (a + 1) n (omega arith), distinct_range (a +
 pub list_any-every : (slots q : ℕ) → list_any (nat_eq q) (range_with_len 0 slots) ≡ nat_lt q slots
 list_any-every slots q = list_any-range 0 slots q ∙ grind arith
 
+-- and so there is room where there is for as many
 pub every : (slots capacity : ℕ) → slots ≤ capacity → HasRoom slots (range_with_len 0 slots) capacity
 every slots capacity room = record {
   once = distinct_range 0 slots;
@@ -125,6 +146,7 @@ every slots capacity room = record {
   room = room;
 }
 
+-- a set with one more isn't empty
 pub some_slot : (x : ℕ) (xs : List ℕ) → set.from_list {R = nat_cmp} (xs ++ x ∷ []) ≢ set.empty
 some_slot x xs e =
     absurd (true≢false (sym (contains-from_list (xs ++ x ∷ []) x ∙ list_any-last x xs)
@@ -133,7 +155,9 @@ some_slot x xs e =
 -- what a pop leaves
 pub room_after : (slots capacity : ℕ) (xs ys : List ℕ) (picked : Option ℕ) → xs ≡ ys ++ option_to_list picked
     → HasRoom slots xs capacity → HasRoom slots ys capacity
-room_after slots capacity xs ys None e h = let P : List ℕ → Type 0 = λ zs. HasRoom slots zs capacity in subst P (e ∙ append-nil ys) h
+room_after slots capacity xs ys None e h =
+    let P : List ℕ → Type 0 = λ zs. HasRoom slots zs capacity in
+    subst P (e ∙ append-nil ys) h
 room_after slots capacity xs ys (Some x) e h =
     let P : List ℕ → Type 0 = λ zs. HasRoom slots zs capacity in
     (popped slots capacity x ys (subst P e h)).room
@@ -151,13 +175,16 @@ pub record Picks (old new : Free) (picked : Option ℕ) : Type 0 where
   pub in_range : IfSome picked (λ slot. slot < old.slots)
 
 -- where a pop gives nothing there was nothing
-pub emptied : (n : ℕ) (xs : List ℕ) (picked : Option ℕ) → n ≡ length xs → (0 < n → IsSome picked) → IfNone picked (xs ≡ [])
+pub emptied : (n : ℕ) (xs : List ℕ) (picked : Option ℕ) → n ≡ length xs → (0 < n → IsSome picked)
+    → IfNone picked (xs ≡ [])
 emptied n [] None e h = refl
 emptied n (x ∷ xs) None e h = absurd (true≢false (sym (h (omega arith))))
 emptied n xs (Some x) e h = tt
 
+-- what a pop gives, by what it leaves
 picks_at : (slots capacity : ℕ) (ys : List ℕ) (picked : Option ℕ)
-    → HasRoom slots (ys ++ option_to_list picked) capacity → IfNone picked (ys ++ option_to_list picked ≡ [])
+    → HasRoom slots (ys ++ option_to_list picked) capacity
+    → IfNone picked (ys ++ option_to_list picked ≡ [])
     → Picks (free_of slots (ys ++ option_to_list picked)) (free_of slots ys) picked
 picks_at slots capacity ys None h none = record {
   none = (λ _. ap (λ xs. set.from_list xs) none, λ _. refl);
@@ -172,12 +199,15 @@ picks_at slots capacity ys (Some x) h none =
       none = (λ is_none. absurd (true≢false is_none), λ e. absurd (some_slot x ys e));
       unchanged = tt;
       held = contains-from_list (ys ++ x ∷ []) x ∙ list_any-last x ys;
-      taken = ap (λ (s : set.FinSet nat_cmp). record { slots = slots; held = s }) (from_list-pop ys x parts.away);
+      taken = ap (λ (s : set.FinSet nat_cmp). record { slots = slots; held = s })
+          (from_list-pop ys x parts.away);
       in_range = parts.in_range;
     }
 
+-- and by the list before it
 pub picks : (slots capacity : ℕ) (xs ys : List ℕ) (picked : Option ℕ) → xs ≡ ys ++ option_to_list picked
-    → HasRoom slots xs capacity → IfNone picked (xs ≡ []) → Picks (free_of slots xs) (free_of slots ys) picked
+    → HasRoom slots xs capacity → IfNone picked (xs ≡ [])
+    → Picks (free_of slots xs) (free_of slots ys) picked
 picks slots capacity xs ys picked e h none =
     let P : List ℕ → Type 0 = λ zs. HasRoom slots zs capacity in
     let Q : List ℕ → Type 0 = λ zs. Picks (free_of slots zs) (free_of slots ys) picked in
@@ -189,17 +219,21 @@ pub record CanPut (slots slot : ℕ) (xs : List ℕ) : Type 0 where
   pub in_range : slot < slots
   pub away : list_any (nat_eq slot) xs ≡ false
 
+-- by the set
 pub can_put : (now : Free) (slots slot : ℕ) (xs : List ℕ) → free_of slots xs ≡ now → slot < now.slots
     → set.contains now.held slot ≡ false → CanPut slots slot xs
 can_put now slots slot xs e low away = record {
   in_range = subst (λ (f : Free). slot < f.slots) (sym e) low;
-  away = sym (contains-from_list xs slot) ∙ subst (λ (f : Free). set.contains f.held slot ≡ false) (sym e) away;
+  away = sym (contains-from_list xs slot)
+      ∙ subst (λ (f : Free). set.contains f.held slot ≡ false) (sym e) away;
 }
 
 -- the free slots after a push
-pub free_of-push : (now : Free) (slots slot : ℕ) (xs ys : List ℕ) → free_of slots xs ≡ now → ys ≡ xs ++ slot ∷ []
+pub free_of-push : (now : Free) (slots slot : ℕ) (xs ys : List ℕ) → free_of slots xs ≡ now
+    → ys ≡ xs ++ slot ∷ []
     → free_of slots ys ≡ record { slots = now.slots; held = set.insert now.held slot }
 free_of-push now slots slot xs ys e pushed =
     ap (free_of slots) pushed
-    ∙ ap (λ (s : set.FinSet nat_cmp). record { slots = slots; held = s }) (set.from_list_push nat_cmp_total set.nat_cmp-IsAntisymmetric xs slot)
+    ∙ ap (λ (s : set.FinSet nat_cmp). record { slots = slots; held = s })
+    (set.from_list_push nat_cmp_total set.nat_cmp-IsAntisymmetric xs slot)
     ∙ ap (λ (f : Free). record { slots = f.slots; held = set.insert f.held slot }) e

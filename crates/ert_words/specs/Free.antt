@@ -14,7 +14,8 @@ pub record Free : Type 0 where
 -- stored as the pair of both
 abbrev pub free_code : Coded Free
 free_code =
-    code_by (ℕ × set.FinSet nat_cmp) (coded× coded_ℕ (set.code coded_ℕ)) (λ f. (f.slots, f.held)) (λ p. record { slots = p.0; held = p.1 }) (λ _. refl)
+    code_by (ℕ × set.FinSet nat_cmp) (coded× coded_ℕ (set.code coded_ℕ)) (λ f. (f.slots, f.held))
+    (λ p. record { slots = p.0; held = p.1 }) (λ _. refl)
 
 -- each slot stands once, all are below the number of slots, and there is room for as many
 pub record HasRoom (slots : ℕ) (held : List ℕ) (capacity : ℕ) : Type 0 where

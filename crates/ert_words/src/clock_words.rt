@@ -19,7 +19,8 @@ pub fn time_word(now: i64, start: i64) -> u64
 /// The time of a word that was packed with this start time.
 pub fn time_of(word: u64, start: i64) -> i64
     requires { IsTimeWord word start }
-    ensures unpacks { (now : ℤ) → IsTime now start → word ≡ words.time_word now start → result ≡ now }
+    ensures unpacks { (now : ℤ) → IsTime now start → word ≡ words.time_word now start
+        → result ≡ now }
     ensures packs { word ≡ words.time_word result start }
     ensures in_range { IsTime result start }
 {
@@ -37,7 +38,8 @@ pub fn offset_word(offset: i64, fin: bool) -> u64
 /// The offset of a word, and whether it is final.
 pub fn offset_of(word: u64) -> (i64, bool)
     requires { IsOffsetWord word }
-    ensures unpacks { (offset : ℤ) (final : Bool) → IsOffset offset → word ≡ words.offset_word offset final → result ≡ (offset, final) }
+    ensures unpacks { (offset : ℤ) (final : Bool) → IsOffset offset
+        → word ≡ words.offset_word offset final → result ≡ (offset, final) }
     ensures packs { word ≡ words.offset_word result.0 result.1 }
     ensures in_range { IsOffset result.0 }
 {

@@ -38,7 +38,8 @@ impl FreeSlots {
     /// Holds every slot below `slots`.
     pub fn new(alloc: Global, slots: u32) -> Result<FreeSlots, NoMemory>
         ensures slots { IfOk result (λ free. free.slots ≡ slots) }
-        ensures every { IfOk result (λ free. (slot : ℕ) → set.contains free.held slot ≡ nat_lt slot slots) }
+        ensures every { IfOk result (λ free. (slot : ℕ)
+            → set.contains free.held slot ≡ nat_lt slot slots) }
     {
         match below(alloc, slots) {
             Ok(held) => Ok(FreeSlots { slots, held }),
@@ -51,7 +52,8 @@ impl FreeSlots {
         ensures none { IsNone result ↔ (self.old.held ≡ set.empty) }
         ensures unchanged { IfNone result (self.new ≡ self.old) }
         ensures held { IfSome result (λ slot. set.contains self.old.held slot ≡ true) }
-        ensures taken { IfSome result (λ slot. self.new ≡ record self.old { held = set.remove self.old.held slot }) }
+        ensures taken { IfSome result (λ slot.
+            self.new ≡ record self.old { held = set.remove self.old.held slot }) }
         ensures in_range { IfSome result (λ slot. slot < self.old.slots) }
     {
         self.held.pop()

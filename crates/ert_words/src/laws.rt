@@ -1,5 +1,5 @@
-//! That two values have two words. Each law is the contract of a function that does nothing, so that it is
-//! proved wherever this crate is.
+//! That two values have two words. Each law is the contract of a function that does nothing, so that
+//! it is proved wherever this crate is.
 
 ghost use Rattle.ert_words.specs.Laws.{LawOfTimes, LawOfOffsets, LawOfTimers, LawOfIdle};
 

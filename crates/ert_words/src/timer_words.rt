@@ -24,7 +24,9 @@ pub fn timer_word(status: Status, deadline: u64, generation: u32) -> u64
 pub fn timer_of(word: u64) -> Option<(Status, u64, u32)>
     requires { IsTimerWord word }
     ensures idle { IsNone result ↔ (word ≡ 0) }
-    ensures unpacks { (status : Status) (deadline generation : ℕ) → IsTimer deadline generation → word ≡ words.timer_word status deadline generation → result ≡ Some (status, deadline, generation) }
+    ensures unpacks { (status : Status) (deadline generation : ℕ) → IsTimer deadline generation
+        → word ≡ words.timer_word status deadline generation
+        → result ≡ Some (status, deadline, generation) }
     ensures packs { IfSome result (λ timer. word ≡ words.timer_word timer.0 timer.1 timer.2) }
     ensures in_range { IfSome result (λ timer. IsTimer timer.1 timer.2) }
 {
