@@ -63,10 +63,7 @@ modes d = both (field (codes "mode") time_warp_mode d) (field (codes "correction
 -- the fields other than the ops, not yet tested for their ranges
 abbrev pub head_of : Data → Found Head
 head_of d =
-    both (only_fields d)
-    (both (field (codes "format") integer d)
-    (both (times d)
-    (modes d)))
+    both (only_fields d) (both (field (codes "format") integer d) (both (times d) (modes d)))
     >>= (λ p. Ok (record { format = p.1.0; start = p.1.1.0.0; first = p.1.1.0.1; mode = p.1.1.1.0; correction = p.1.1.1.1 }))
 
 -- the settings that the fields give; those that have no field have their defaults
