@@ -2,7 +2,9 @@
 //! list of entries, the state after it, and what makes it legal. It stands on nothing.
 //!
 //! An entry is one atomic step on the service, made by one or two actors. `docs/MODEL.md` has the
-//! definitions in words.
+//! definitions in words. The laws of the model are the contracts of functions that do nothing: what a
+//! legal history is made of, locality, the lives of timers, and what the clock may do. Worked histories
+//! test the definitions.
 #![tactic(auto)]
 
 mod clock_laws;

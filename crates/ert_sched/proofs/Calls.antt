@@ -28,7 +28,7 @@ pub one_more : (g : Settings) (h : List Entry) (w : Shown) (e : Entry) → Stand
 one_more g h w e st can same = record {
   checked = st.checked;
   clock = stands_kept g h (h ++ e ∷ []) w st.clock (legal-append g (opening g) h (e ∷ []) st.clock.legal (can, tt))
-    (ap (λ (s : State). s.clock) (state-append g h (e ∷ [])) ∙ same);
+      (ap (λ (s : State). s.clock) (state-append g h (e ∷ [])) ∙ same);
 }
 
 -- a history that nothing was added to
@@ -74,11 +74,11 @@ old_extends : (v new : Shown) (g : Settings) (h : List Entry) → new ≡ v → 
 old_extends v new g h is st =
     subst (λ (x : Shown). StandsFor g (h ++ keeper_entry 0 (Off v.face.offset v.face.state) ∷ []) x) (sym is)
     (one_more g h v (keeper_entry 0 (Off v.face.offset v.face.state)) st
-      (record {
-        keeps = st.checked.counts.callers_low;
-        known = tt;
-        found = (ap (λ (f : Face). f.offset) st.clock.face, ap (λ (f : Face). f.state) st.clock.face);
-      }) refl)
+    (record {
+      keeps = st.checked.counts.callers_low;
+      known = tt;
+      found = (ap (λ (f : Face). f.offset) st.clock.face, ap (λ (f : Face). f.state) st.clock.face);
+    }) refl)
 
 -- a finalization by the state that it answers, which is the one before it
 final_extends : (v : Shown) (r : Reading) (old : OffsetState) (m : Moved) (new : Shown) (s : OffsetState)

@@ -1,12 +1,9 @@
 ghost use Rattle.std.specs.Prelude.{◌≡◌, IfOk};
 ghost use Rattle.std.specs.List.{range_with_len};
 
+use ert_defs::NoMemory;
 use std::alloc::{AllocError, Global};
 use std::marker::Model;
-
-/// There was no memory for the free slots. Nothing has changed.
-#[derive(Clone, Copy, Debug, PartialEq, Eq)]
-pub struct NoMemory;
 
 /// The slots of one scheduler that a timer may be started in.
 ///

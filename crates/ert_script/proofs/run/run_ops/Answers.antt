@@ -17,7 +17,7 @@ pub reply_op-requires : goal.reply_op-requires
 reply_op-requires g c =
     subst (λ (op : Op). IsOpInRange c.loop-op.world.settings op) (sym c.op-item.is)
     (op_may c.args.world.now.settings c.loop-op.world c.args.ops.now c.loop-op.op-index c.op-item.result c.loop-op-test.true
-      c.loop-op.invariant.settings c.requires.ranges)
+    c.loop-op.invariant.settings c.requires.ranges)
 
 pub returns-in-Err-clause-err : goal.returns-in-Err-clause-err
 returns-in-Err-clause-err g c =
@@ -30,7 +30,7 @@ loop-op-preserved g c = record {
   so_far =
       goes_on_at c.args.world.now c.loop-op.world c.reply_op.new.world c.args.ops.now c.loop-op.op-index c.op-item.result _ _ _ _ _ c.in-Ok.reply
       c.loop-op-test.true c.loop-op.invariant.so_far
-    (subst (λ (op : Op). Does c.loop-op.world op c.in-Ok.reply c.reply_op.new.world) c.op-item.is c.in-Ok.ensures.ok) c.in_default-put.ensures.ok;
+      (subst (λ (op : Op). Does c.loop-op.world op c.in-Ok.reply c.reply_op.new.world) c.op-item.is c.in-Ok.ensures.ok) c.in_default-put.ensures.ok;
   settings = c.reply_op.ensures.settings ∙ c.loop-op.invariant.settings;
   room = c.put.ensures.room;
   later = omega (arith, c.loop-op.invariant.later, c.put.ensures.later);

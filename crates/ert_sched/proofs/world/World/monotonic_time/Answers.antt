@@ -9,4 +9,4 @@ returns-clause-entries c =
     let m : FitsSigned w64 c.now.result = search rules in
     simp to_z-of_z
     (subst (λ (v : Shown). Extends v v (look_entries c.now.result)) c.self.view_is
-      (look_extends c.self.inside.clock c.now.result c.now.ensures))
+    (look_extends c.self.inside.clock c.now.result c.now.ensures))

@@ -9,4 +9,4 @@ returns-clause-entries c =
     let m : FitsSigned w64 c.offset.result = search rules in
     simp to_z-of_z
     (subst (λ (v : Shown). Extends v v (off_entries c.offset.result c.state.result)) c.self.view_is
-      (off_extends c.self.inside.clock c.offset.result c.state.result c.offset.ensures.value c.state.ensures))
+    (off_extends c.self.inside.clock c.offset.result c.state.result c.offset.ensures.value c.state.ensures))
