@@ -1,9 +1,7 @@
 -- What a run of all ops wrote, and the end line behind it.
 
-use Rattle.std.proofs.Common.{◌≡◌, ◌⊎◌, inl, inr, ℕ, ℤ, List, [], ◌++◌, take, Option, refl, sym, ap, ◌∙◌, append_assoc}
-use Rattle.std.specs.Prelude.{Result, Ok, Err, OnOk, OnErr}
+use Rattle.std.proofs.Common.{◌≡◌, inl, inr, ℕ, List, [], ◌++◌, take, Option, refl, ap, ◌∙◌, append_assoc}
 use Rattle.ert_io.specs.Known.{then}
-use Rattle.ert_defs.specs.Clocks.{face}
 use Rattle.ert_defs.specs.Lines.{Face}
 use Rattle.ert_clock.specs.Shown.{Shown}
 use Rattle.ert_sched.specs.Worlds.{StandsFor}
@@ -13,7 +11,7 @@ use Rattle.ert_script.specs.Lines.{lines_of, end_line}
 use Rattle.ert_script.specs.Scripts.{RunsFor}
 use Rattle.ert_script.specs.Transcripts.{IsTranscript}
 use Rattle.ert_script.specs.Written.{WritesFront, WritesRun, WritesSome}
-use Rattle.ert_cli.specs.Runs.{WritesTranscript, IsBegun, WritesPart}
+use Rattle.ert_cli.specs.Runs.{WritesTranscript, WritesPart}
 
 -- the transcript of a run of all ops
 transcript_of : (plan : Plan) (start w : Shown) (old now : Option (List ℕ)) → StandsFor plan.settings [] start

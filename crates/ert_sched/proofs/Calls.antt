@@ -1,9 +1,8 @@
 -- The calls of a world extend its history.
 
-use Rattle.std.proofs.Common.{◌≡◌, ℤ, List, [], ◌∷◌, ◌++◌, Option, Some, None, refl, sym, subst, ap, ◌∙◌, append_assoc}
+use Rattle.std.proofs.Common.{◌≡◌, ℤ, List, [], ◌∷◌, ◌++◌, refl, sym, subst, ap, ◌∙◌, append_assoc}
 use Rattle.std.specs.Prelude.{Result, Ok, Err}
 use Rattle.std.proofs.lemmas.List.{append-nil}
-use Rattle.ert_defs.specs.Clocks.{Clock}
 use Rattle.ert_defs.specs.Legal.{Can}
 use Rattle.ert_defs.specs.Lines.{Face}
 use Rattle.ert_defs.specs.States.{State, opening, next, state}
@@ -86,11 +85,11 @@ final_extends : (v : Shown) (r : Reading) (old : OffsetState) (m : Moved) (new :
     → ((g : Settings) (h : List Entry) → StandsFor g h v → Stands g (h ++ clock_entries old 0 r m) new)
     → Extends v new (final_entries v r old m)
 final_extends v r Preliminary m new s from stands = λ g h st. record { checked = st.checked; clock = stands g h st }
-final_extends v r Final m new Final from stands = λ g h st. old_extends v new g h from.4 st
-final_extends v r Final m new Volatile from stands = λ g h st. old_extends v new g h from.4 st
+final_extends v r Final m new Final from stands = λ g h st. old_extends v new g h from.unchanged st
+final_extends v r Final m new Volatile from stands = λ g h st. old_extends v new g h from.unchanged st
 final_extends v r Final m new Preliminary from stands = λ g h st. let e : Final ≡ Preliminary = from.0 in cc
-final_extends v r Volatile m new Final from stands = λ g h st. old_extends v new g h from.4 st
-final_extends v r Volatile m new Volatile from stands = λ g h st. old_extends v new g h from.4 st
+final_extends v r Volatile m new Final from stands = λ g h st. old_extends v new g h from.unchanged st
+final_extends v r Volatile m new Volatile from stands = λ g h st. old_extends v new g h from.unchanged st
 final_extends v r Volatile m new Preliminary from stands = λ g h st. let e : Volatile ≡ Preliminary = from.0 in cc
 
 pub finalize_extends : (v : Shown) (r : Reading) (result : Result (OffsetState × Moved) ClockErr) (new : Shown)

@@ -1,6 +1,6 @@
 -- The history that a world stands for, and how its calls extend it.
 
-use Rattle.std.specs.Prelude.{◌≡◌, ℤ, List, [], ◌∷◌, ◌++◌, None, Some, Result, Ok, Err}
+use Rattle.std.specs.Prelude.{ℤ, List, [], ◌∷◌, ◌++◌, None, Result, Ok, Err}
 use Rattle.ert_clock.specs.Shown.{Shown, Stands}
 use Rattle.ert_clock.specs.Ticks.{keeper_entry, tick_entries}
 use Rattle.ert_clock.specs.declared.clock.ClockErr.{ClockErr}

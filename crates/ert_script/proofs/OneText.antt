@@ -3,10 +3,9 @@
 use Rattle.std.proofs.Common.{◌≡◌, ℕ, ℤ, ◌+ℤ◌, Bool, List, [], ◌∷◌, ◌++◌, Option, Some, None, refl, sym, ap, subst, ◌∙◌}
 use Rattle.std.specs.Prelude.{FitsSigned}
 use Rattle.std.specs.Int.{w64}
-use Rattle.ert_units.specs.Conversions.{converted}
 use Rattle.ert_defs.specs.Clocks.{face}
 use Rattle.ert_defs.specs.Legal.{LegalFrom}
-use Rattle.ert_defs.specs.Lines.{Due, IsInRange, MayAct, end_time, time_after, due_after}
+use Rattle.ert_defs.specs.Lines.{Due, IsInRange, MayAct, time_after, due_after}
 use Rattle.ert_defs.specs.States.{State, opening, run, state}
 use Rattle.ert_defs.specs.declared.entry.Act.{Act}
 use Rattle.ert_defs.specs.declared.entry.Act.TheVariants.{Plain, Force, Finalize as Finalizing}
@@ -17,14 +16,14 @@ use Rattle.ert_defs.specs.declared.settings.OffsetState.{OffsetState}
 use Rattle.ert_defs.specs.declared.settings.OffsetState.TheVariants.{Preliminary, Final, Volatile}
 use Rattle.ert_defs.specs.declared.settings.Reading.{Reading}
 use Rattle.ert_defs.specs.declared.settings.Settings.{Settings}
-use Rattle.ert_clock.specs.Ticks.{keeper_entry, tick_entries, offset_of, IsWide}
+use Rattle.ert_clock.specs.Ticks.{tick_entries, offset_of, IsWide}
 use Rattle.ert_sched.specs.Worlds.{caller_entry}
 use Rattle.ert_scenario.specs.declared.op.Op.{Op}
 use Rattle.ert_scenario.specs.declared.op.Op.TheVariants as ops
 use Rattle.ert_script.specs.declared.reply.Reply.{Reply}
 use Rattle.ert_script.specs.declared.reply.Reply.TheVariants.{Tick, TickWide, Check, CheckWide, Finalize, FinalizeWide, Time, System, Offset, Info, Convert, ConvertTooWide}
 use Rattle.ert_script.specs.Lines.{lines_of, end_line}
-use Rattle.ert_script.specs.Scripts.{IsMove, IsRefusal, IsOld, IsFinal, IsSum, IsInfo, Tells, Allows, ScriptRun}
+use Rattle.ert_script.specs.Scripts.{IsMove, IsRefusal, IsOld, IsFinal, IsSum, Tells, Allows, ScriptRun}
 use Rattle.ert_script.specs.Transcripts.{IsTranscript}
 
 -- a reply and entries that an op allows, as a function of both determines them

@@ -4,7 +4,7 @@ use Rattle.std.proofs.Common.{◌≡◌, ℕ, ◌+◌, ◌<◌, List, [], ◌∷
 use Rattle.std.specs.Prelude.{Result, Ok, Err, OnOk, OnErr, ◌≤◌}
 use Rattle.std.proofs.lemmas.List.{take_more, take_all}
 use Rattle.ert_io.specs.Known.{then}
-use Rattle.ert_defs.specs.Legal.{LegalFrom, Legal}
+use Rattle.ert_defs.specs.Legal.{LegalFrom}
 use Rattle.ert_defs.specs.States.{State, opening, run, state}
 use Rattle.ert_defs.proofs.Runs.{run-append, state-append, legal_then}
 use Rattle.ert_defs.specs.declared.entry.Entry.{Entry}

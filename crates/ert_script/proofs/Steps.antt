@@ -1,45 +1,43 @@
 -- What each op does to the history that the world stands for.
 
-use Rattle.std.proofs.Common.{◌≡◌, ℕ, ℤ, ◌+ℤ◌, Bool, true, false, List, [], ◌∷◌, ◌++◌, Option, Some, None, refl, sym, subst, ap, ◌∙◌}
+use Rattle.std.proofs.Common.{◌≡◌, ℕ, ℤ, List, [], ◌∷◌, ◌++◌, None, refl, sym, subst, ap, ◌∙◌}
 use Rattle.std.specs.Prelude.{Ok, Err}
-use Rattle.ert_defs.specs.Clocks.{Clock, face}
-use Rattle.ert_defs.specs.Lines.{Face, MayAct, end_time, time_after, due_after}
-use Rattle.ert_defs.specs.States.{State, state}
+use Rattle.ert_defs.specs.Lines.{Face, MayAct}
+use Rattle.ert_defs.specs.States.{state}
 use Rattle.ert_defs.specs.declared.entry.Act.{Act}
 use Rattle.ert_defs.specs.declared.entry.Act.TheVariants.{Plain, Force, Finalize as Finalizing}
 use Rattle.ert_defs.specs.declared.entry.Entry.{Entry}
 use Rattle.ert_defs.specs.declared.entry.Event.TheVariants.{Off}
-use Rattle.ert_defs.specs.declared.settings.Mode.{Mode}
 use Rattle.ert_defs.specs.declared.settings.OffsetState.{OffsetState}
 use Rattle.ert_defs.specs.declared.settings.OffsetState.TheVariants.{Preliminary, Final, Volatile}
 use Rattle.ert_defs.specs.declared.settings.Reading.{Reading}
 use Rattle.ert_defs.specs.declared.settings.Settings.{Settings}
-use Rattle.ert_clock.proofs.Stand.{shown_at, shown_is, TickOf, tick_of}
-use Rattle.ert_clock.specs.Shown.{Shown, Stands}
-use Rattle.ert_clock.specs.Ticks.{keeper_entry, tick_entries, offset_of, IsWide, due_of, Gives, FinalizesFrom}
+use Rattle.ert_clock.proofs.Stand.{shown_is, tick_of}
+use Rattle.ert_clock.specs.Shown.{Shown}
+use Rattle.ert_clock.specs.Ticks.{keeper_entry, tick_entries, IsWide, due_of, Gives, FinalizesFrom}
 use Rattle.ert_clock.specs.declared.clock.ClockErr.TheVariants.{OffsetWide}
 use Rattle.ert_clock.specs.declared.clock.Moved.{Moved}
 use Rattle.ert_sched.proofs.Calls.{unchanged}
-use Rattle.ert_sched.specs.Worlds.{StandsFor, Extends, look_entries, off_entries, system_entries, moved_entries, finalized_entries}
+use Rattle.ert_sched.specs.Worlds.{StandsFor, Extends, finalized_entries}
 use Rattle.ert_scenario.specs.declared.op.Op.{Op}
 use Rattle.ert_scenario.specs.declared.op.Op.TheVariants as ops
 use Rattle.ert_script.specs.declared.reply.Reply.{Reply}
-use Rattle.ert_script.specs.declared.reply.Reply.TheVariants.{Tick, TickWide, Check, CheckWide, Finalize, FinalizeWide, Time, System, Offset, Info}
-use Rattle.ert_script.specs.Scripts.{IsMove, IsRefusal, Tells, Does, DoesFor}
+use Rattle.ert_script.specs.declared.reply.Reply.TheVariants.{Tick, Check, Finalize, FinalizeWide}
+use Rattle.ert_script.specs.Scripts.{IsMove, IsRefusal, Tells, Does}
 
 -- the shift that a tick told is the one that was due
 moves : (g : Settings) (h : List Entry) (v : Shown) (r : Reading) (act : Act) (m : Moved) (new : Shown)
     → StandsFor g h v → Gives v r act (Ok m) new → IsMove g (state g h) r act m.now m.shift (tick_entries 0 r act m.now m.shift)
 moves g h v r act m new st gives =
-    record { due = (tick_of g (state g h).clock v r act m new (shown_is g h v st.clock) gives).shift; entries = refl }
+    record { due = (tick_of g h v r act m new st.clock gives).shift; entries = refl }
 
 -- a tick whose shift would be outside the limits
 refuses : (g : Settings) (h : List Entry) (v : Shown) (r : Reading) (act : Act) (value : ℤ) (new : Shown)
     → StandsFor g h v → MayAct act v.face.state → Gives v r act (Err (OffsetWide value)) new → IsRefusal g (state g h) r act value []
 refuses g h v r act value new st may gives = record {
-  valid = gives.0;
+  valid = gives.valid;
   may = subst (MayAct act) (ap (λ (f : Face). f.state) st.clock.face) may;
-  wide = subst (λ (x : Shown). IsWide (due_of x r act) value) (shown_is g h v st.clock) gives.1;
+  wide = subst (λ (x : Shown). IsWide (due_of x r act) value) (shown_is g h v st.clock) gives.wide;
   none = refl;
 }
 
@@ -94,9 +92,9 @@ final_does : (v new : Shown) (mono sys : ℤ) (old : OffsetState) (m : Moved) (s
 final_does v new mono sys Preliminary m Preliminary is from extends = λ g h st.
     record { piece = _; allowed = moves g h v (record { mono = mono; sys = sys }) Finalizing m new st from.1; stands = extends g h st }
 final_does v new mono sys old m Final is from extends =
-    old_does v new mono sys old m (λ e. let f : Final ≡ Preliminary = is ∙ sym from.1 ∙ e in cc) from.1 from.2 from.3 extends
+    old_does v new mono sys old m (λ e. let f : Final ≡ Preliminary = is ∙ sym from.state_is ∙ e in cc) from.state_is from.told from.shift extends
 final_does v new mono sys old m Volatile is from extends =
-    old_does v new mono sys old m (λ e. let f : Volatile ≡ Preliminary = is ∙ sym from.1 ∙ e in cc) from.1 from.2 from.3 extends
+    old_does v new mono sys old m (λ e. let f : Volatile ≡ Preliminary = is ∙ sym from.state_is ∙ e in cc) from.state_is from.told from.shift extends
 final_does v new mono sys Final m Preliminary is from extends = let e : Final ≡ Preliminary = from.0 in cc
 final_does v new mono sys Volatile m Preliminary is from extends = let e : Volatile ≡ Preliminary = from.0 in cc
 
@@ -112,7 +110,7 @@ final_refused : (v new : Shown) (mono sys value : ℤ) (s : OffsetState) → s �
 final_refused v new mono sys value Preliminary is from = λ g h st. record {
   piece = [];
   allowed = refuses g h v (record { mono = mono; sys = sys }) Finalizing value new st (sym is) from;
-  stands = stays g h v new from.2 st;
+  stands = stays g h v new from.unchanged st;
 }
 final_refused v new mono sys value Final is from = absurd from
 final_refused v new mono sys value Volatile is from = absurd from

@@ -17,7 +17,7 @@ use Rattle.ert_defs.specs.declared.entry.Entry.{Entry}
 use Rattle.ert_defs.specs.declared.entry.Event.TheVariants.{Look, Off}
 use Rattle.ert_defs.specs.declared.settings.Mode.{Mode}
 use Rattle.ert_defs.specs.declared.settings.OffsetState.{OffsetState}
-use Rattle.ert_defs.specs.declared.settings.OffsetState.TheVariants.{Preliminary, Final, Volatile}
+use Rattle.ert_defs.specs.declared.settings.OffsetState.TheVariants.{Preliminary}
 use Rattle.ert_defs.specs.declared.settings.Reading.{Reading}
 use Rattle.ert_defs.specs.declared.settings.Settings.{Settings}
 use Rattle.ert_scenario.specs.declared.op.Op.{Op}

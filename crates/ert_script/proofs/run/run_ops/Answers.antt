@@ -1,8 +1,8 @@
-use Rattle.std.proofs.Common.{arith, ◌≡◌, ◌≤◌, ◌<◌, List, ℕ, refl, sym, subst, ◌∙◌, string_bytes}
+use Rattle.std.proofs.Common.{arith, refl, sym, subst, ◌∙◌}
 use Rattle.ert_scenario.specs.Ranges.{IsOpInRange}
 use Rattle.ert_scenario.specs.declared.op.Op.{Op}
 use Rattle.ert_script.specs.Scripts.{Does}
-use Rattle.ert_script.proofs.Runs.{IsSoFar, so_far_first, op_may, goes_on_at, breaks_at, ends, breaks_last, ok_map, err_map}
+use Rattle.ert_script.proofs.Runs.{so_far_first, op_may, goes_on_at, breaks_at, ends, breaks_last, ok_map, err_map}
 use Rattle.ert_script.proofs.run.run_ops.Goals as goal
 
 pub loop-op-init : goal.loop-op-init

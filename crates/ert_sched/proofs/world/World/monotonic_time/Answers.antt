@@ -1,4 +1,4 @@
-use Rattle.std.proofs.Common.{rules, ◌≡◌, subst, FitsSigned, w64, to_z-of_z}
+use Rattle.std.proofs.Common.{rules, subst, FitsSigned, w64, to_z-of_z}
 use Rattle.ert_clock.specs.Shown.{Shown}
 use Rattle.ert_sched.specs.Worlds.{Extends, look_entries}
 use Rattle.ert_sched.proofs.Calls.{look_extends}
