@@ -1,4 +1,4 @@
-ghost use Rattle.std.specs.Prelude.{◌≡◌, ◌↔◌, ◌≤◌, ◌<◌, ℕ, IsNone, IfSome};
+ghost use Rattle.std.specs.Prelude.{◌≡◌, ◌↔◌, ℕ, IsNone, IfSome};
 ghost use Rattle.ert_defs.specs.declared.timer.Status.{Status};
 ghost use Rattle.ert_words.specs.Ranges.{IsTimer, IsTimerWord};
 ghost use Rattle.ert_defs.specs.Words as words;
