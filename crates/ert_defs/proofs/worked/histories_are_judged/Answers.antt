@@ -11,8 +11,8 @@ use Rattle.ert_defs.specs.declared.timer.Kind.TheVariants.{Wrapped}
 use Rattle.ert_defs.proofs.worked.histories_are_judged.Goals as goal
 
 -- the row of the timer with a deadline
-abbrev row : ℕ → Row
-row deadline = record { timer = timer; deadline = deadline; dest = 0; msg = 7; kind = Wrapped }
+abbrev row_due : ℕ → Row
+row_due deadline = record { timer = timer; deadline = deadline; dest = 0; msg = 7; kind = Wrapped }
 
 -- an element of a list of one is that one
 only : (x r : Row) (before behind : List Row) → x ∷ [] ≡ before ++ (r ∷ behind) → r ≡ x
@@ -25,18 +25,18 @@ returns-clause-early_expiry c = (
   search rules,
   λ legal.
       let next = ((legal_one_more (small No) (started 5) _).0 legal).1.known in
-      let first : next.row ≡ row 6 = only (row 6) next.row next.before next.behind next.stands in
+      let first : next.row ≡ row_due 6 = only (row_due 6) next.row next.before next.behind next.stands in
       let due : pos 6 ≤ℤ pos 1 = subst (λ (r : Row). pos r.deadline ≤ℤ pos 1) first next.due in
       omega (arith, ints),
 )
 
 -- the timer is the next to expire
 next : IsNext (small No) (state (small No) (started 0)) (Sched 0) timer
-next = record { before = []; row = row 1; behind = []; stands = refl; named = refl; due = search rules; first_before = tt; first_behind = search rules }
+next = record { before = []; row = row_due 1; behind = []; stands = refl; named = refl; due = search rules; first_before = tt; first_behind = search rules }
 
 -- and the first to hand over, to the process that it was started for
-first : (first : IsFirst (row 1 ∷ []) timer) × (Some (MailOf 0) ≡ Some (MailOf first.row.dest))
-first = (record { row = row 1; first = refl; named = refl }, refl)
+first : (first : IsFirst (row_due 1 ∷ []) timer) × (Some (MailOf 0) ≡ Some (MailOf first.row.dest))
+first = (record { row = row_due 1; first = refl; named = refl }, refl)
 
 pub returns-clause-delivered : goal.returns-clause-delivered
 returns-clause-delivered c =
@@ -44,7 +44,7 @@ returns-clause-delivered c =
 
 -- its destination has exited
 exited : HasExited (state (small No) exit) timer
-exited = record { row = row 5; stands = refl; exited = refl }
+exited = record { row = row_due 5; stands = refl; exited = refl }
 
 pub returns-clause-orphaned : goal.returns-clause-orphaned
 returns-clause-orphaned c = (search (rules, exited), refl)
