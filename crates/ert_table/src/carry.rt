@@ -1,0 +1,20 @@
+use ert_defs::{Mail, Request};
+
+/// What a load of the time word records.
+#[derive(Clone, Copy, Debug, PartialEq, Eq)]
+pub enum TimeCarry {
+    /// The time was read.
+    Look,
+    /// All timers of the scheduler's wheel that were due at `to` milliseconds have been settled.
+    Advanced { to: u64 },
+    /// A request was put into the inbox of a wheel.
+    Ask { wheel: u32, request: Request },
+    /// The first request of the scheduler's inbox was taken into its hand.
+    Pick { got: Option<Request> },
+    /// The request in the scheduler's hand was answered to a process.
+    Answer { left: Option<u64>, process: u32 },
+    /// The first message of a mailbox was taken.
+    Take { process: u32, got: Option<Mail> },
+    /// A monitor was removed, where it stood.
+    Unwatch { process: u32, monitor: u32, was: bool },
+}

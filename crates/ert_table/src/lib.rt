@@ -1,0 +1,14 @@
+//! One table of atomic words.
+#![tactic(auto)]
+
+mod carry;
+mod clock_steps;
+mod desk;
+mod opening;
+mod passes;
+mod plays;
+mod view;
+
+pub use carry::TimeCarry;
+pub use desk::{Desk, NoMemory, Pass, Words};
+pub use view::{Met, View};
