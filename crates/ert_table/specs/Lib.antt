@@ -2,6 +2,8 @@ pub mod Acts
 pub mod Desks
 pub mod Entries
 pub mod Held
+pub mod Openings
+pub mod Places
 pub mod Rule
 pub mod Takes
 pub mod Views
