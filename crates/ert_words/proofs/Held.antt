@@ -1,0 +1,205 @@
+-- The slots that are held, as a list without repeats and as a set.
+
+use Rattle.std.proofs.Common.{◌↔◌, Option, Some, None, IsNone, IsSome, IfNone, IfSome, option_to_list, append-nil, subst, ◌≡◌, ◌≢◌, ℕ, ◌+◌, ◌<◌, ◌≤◌, true, false, Bool, ◌||◌, ◌&&◌, not, List, [], ◌∷◌, ◌++◌, length, nat_eq, nat_lt, nat_le, refl, sym, ap, ◌∙◌, arith, zero, suc, inl, inr, length-append}
+use Rattle.std.proofs.lemmas.Bool.{eqb-true, ltb-true, true≢false}
+use Rattle.std.proofs.lemmas.Bool.Decides.{eqb_tells}
+use Rattle.std.proofs.lemmas.Map.Keys.{IsDistinct-push}
+use Rattle.std.proofs.lemmas.Map.Steps.{length-le_from_distinct_below}
+use Rattle.std.specs.Cmp.{nat_cmp_total, nat_eq_equiv, unsigned_tied}
+use Rattle.std.specs.FinSet as set
+use Rattle.std.specs.List.{IsDistinct, AllByRecursion, list_any, range_with_len}
+use Rattle.std.specs.Ordering.{nat_cmp}
+use Rattle.ert_words.specs.Free.{Free, HasRoom}
+
+-- a slot is in the set exactly where it is in the list
+pub contains-from_list : (xs : List ℕ) (q : ℕ) → set.contains (set.from_list {R = nat_cmp} xs) q ≡ list_any (nat_eq q) xs
+contains-from_list [] q = set.contains-empty nat_cmp q
+contains-from_list (x ∷ xs) q =
+    set.contains-insert nat_cmp_total _ x q ∙ (λ i. unsigned_tied q x i || contains-from_list xs q i)
+
+-- what holds of each element and of one more, apart
+all_parts : (P : ℕ → Type 0) (xs : List ℕ) (x : ℕ) → AllByRecursion P (xs ++ x ∷ []) → AllByRecursion P xs × P x
+all_parts P [] x h = (tt, h.0)
+all_parts P (y ∷ ys) x h = let rest = all_parts P ys x h.1 in ((h.0, rest.0), rest.1)
+
+-- what is left of a list without repeats has none, and lacks what was last
+pub distinct_parts : (xs : List ℕ) (x : ℕ) → IsDistinct nat_eq (xs ++ x ∷ [])
+    → IsDistinct nat_eq xs × (list_any (nat_eq x) xs ≡ false)
+unfolding IsDistinct
+distinct_parts [] x h = (tt, refl)
+distinct_parts (y ∷ ys) x h =
+    let first = all_parts (λ z. nat_eq y z ≡ false) ys x h.0 in
+    let rest = distinct_parts ys x h.1 in
+    ((first.0, rest.0), λ i. (nat_eq_equiv.symm x y ∙ first.1) i || rest.1 i)
+
+or_swap : (a b c : Bool) → (a || (b || c)) ≡ (b || (a || c))
+or_swap true true c = refl
+or_swap true false c = refl
+or_swap false b c = refl
+
+-- one more at the end
+pub list_any-push : (p : ℕ → Bool) (xs : List ℕ) (x : ℕ) → list_any p (xs ++ x ∷ []) ≡ (p x || list_any p xs)
+list_any-push p [] x = refl
+list_any-push p (y ∷ ys) x = ap (λ b. p y || b) (list_any-push p ys x) ∙ or_swap (p y) (p x) (list_any p ys)
+
+or-true : (b : Bool) → (b || true) ≡ true
+or-true true = refl
+or-true false = refl
+
+below_more : (slots x q : ℕ) (b : Bool) → x < slots → (b ≡ true → q < slots) → (nat_eq q x || b) ≡ true → q < slots
+below_more slots x q b low h held =
+    elim (eqb_tells q x) [ inl e ↦ omega arith | inr e ↦ h ((λ i. sym e.0 i || b) ∙ held) ]
+
+-- the list after a push
+pub pushed : (slots capacity larger x : ℕ) (xs : List ℕ) → HasRoom slots xs capacity → capacity ≤ larger → x < slots
+    → list_any (nat_eq x) xs ≡ false → HasRoom slots (xs ++ x ∷ []) larger
+pushed slots capacity larger x xs h grown low away = record {
+  once = IsDistinct-push nat_eq_equiv xs x h.once away;
+  below = λ q held. below_more slots x q (list_any (nat_eq q) xs) low (h.below q) (sym (list_any-push (nat_eq q) xs x) ∙ held);
+  room = omega (arith, h.room);
+}
+
+list_any-last : (x : ℕ) (xs : List ℕ) → list_any (nat_eq x) (xs ++ x ∷ []) ≡ true
+list_any-last x xs = list_any-push (nat_eq x) xs x ∙ (λ i. nat_eq_equiv.refl x i || list_any (nat_eq x) xs)
+
+-- the list after a pop, and what it gave
+pub record IsPopped (slots capacity x : ℕ) (xs : List ℕ) : Type 0 where
+  pub room : HasRoom slots xs capacity
+  pub in_range : x < slots
+  pub away : list_any (nat_eq x) xs ≡ false
+
+pub popped : (slots capacity x : ℕ) (xs : List ℕ) → HasRoom slots (xs ++ x ∷ []) capacity → IsPopped slots capacity x xs
+popped slots capacity x xs h =
+    let parts = distinct_parts xs x h.once in
+    record {
+      room = record {
+        once = parts.0;
+        below = λ q held. h.below q (list_any-push (nat_eq q) xs x ∙ ap (λ b. nat_eq q x || b) held ∙ or-true (nat_eq q x));
+        room = h.room;
+      };
+      in_range = h.below x (list_any-last x xs);
+      away = parts.1;
+    }
+
+-- there is room for a slot that isn't held
+pub room_left : (slots capacity x : ℕ) (xs : List ℕ) → HasRoom slots xs capacity → x < slots
+    → list_any (nat_eq x) xs ≡ false → length xs < slots
+room_left slots capacity x xs h low away =
+    let more = pushed slots capacity capacity x xs h (omega arith) low away in
+    let e : length (xs ++ x ∷ []) ≤ slots = length-le_from_distinct_below (xs ++ x ∷ []) slots more.once more.below in
+    omega (arith, length-append {A = ℕ})
+
+without : (x q : ℕ) (b : Bool) → (nat_eq q x ≡ true → b ≡ false) → b ≡ (not (nat_eq q x) && (nat_eq q x || b))
+without x q b h = elim (eqb_tells q x) [ inl e ↦ rw e.0 (h e.0) | inr e ↦ rw e.0 refl ]
+
+-- a push and a pop, by the sets
+pub from_list-pop : (xs : List ℕ) (x : ℕ) → list_any (nat_eq x) xs ≡ false
+    → set.from_list {R = nat_cmp} xs ≡ set.remove (set.from_list (xs ++ x ∷ [])) x
+from_list-pop xs x away =
+    set.same_set nat_cmp_total set.nat_cmp-IsAntisymmetric _ _ (λ q. contains-from_list xs q
+    ∙ without x q (list_any (nat_eq q) xs) (λ e. (rw (eqb-true q x e) away))
+    ∙ sym (set.contains-remove nat_cmp_total _ x q ∙ (λ i. not (unsigned_tied q x i) && (contains-from_list (xs ++ x ∷ []) q ∙ list_any-push (nat_eq q) xs x) i)))
+
+-- slots that were counted up from a number
+list_any-range : (a n q : ℕ) → list_any (nat_eq q) (range_with_len a n) ≡ (nat_le a q && nat_lt q (a + n))
+list_any-range a zero q = grind arith
+list_any-range a (suc n) q = grind (arith, list_any-range (a + 1) n q)
+
+above : (a b n : ℕ) → a < b → AllByRecursion (λ y. nat_eq a y ≡ false) (range_with_len b n)
+above a b zero h = tt
+above a b (suc n) h = (grind arith, above a (b + 1) n (omega arith))
+
+distinct_range : (a n : ℕ) → IsDistinct nat_eq (range_with_len a n)
+unfolding IsDistinct
+distinct_range a zero = tt
+distinct_range a (suc n) = (above a (a + 1) n (omega arith), distinct_range (a + 1) n)
+
+-- every slot is held
+pub list_any-every : (slots q : ℕ) → list_any (nat_eq q) (range_with_len 0 slots) ≡ nat_lt q slots
+list_any-every slots q = list_any-range 0 slots q ∙ grind arith
+
+pub every : (slots capacity : ℕ) → slots ≤ capacity → HasRoom slots (range_with_len 0 slots) capacity
+every slots capacity room = record {
+  once = distinct_range 0 slots;
+  below = λ q held. ltb-true q slots (sym (list_any-every slots q) ∙ held);
+  room = room;
+}
+
+pub some_slot : (x : ℕ) (xs : List ℕ) → set.from_list {R = nat_cmp} (xs ++ x ∷ []) ≢ set.empty
+some_slot x xs e =
+    absurd (true≢false (sym (contains-from_list (xs ++ x ∷ []) x ∙ list_any-last x xs)
+    ∙ ap (λ s. set.contains s x) e ∙ set.contains-empty nat_cmp x))
+
+-- what a pop leaves
+pub room_after : (slots capacity : ℕ) (xs ys : List ℕ) (picked : Option ℕ) → xs ≡ ys ++ option_to_list picked
+    → HasRoom slots xs capacity → HasRoom slots ys capacity
+room_after slots capacity xs ys None e h = let P : List ℕ → Type 0 = λ zs. HasRoom slots zs capacity in subst P (e ∙ append-nil ys) h
+room_after slots capacity xs ys (Some x) e h =
+    let P : List ℕ → Type 0 = λ zs. HasRoom slots zs capacity in
+    (popped slots capacity x ys (subst P e h)).room
+
+-- the free slots of a list
+abbrev pub free_of : ℕ → List ℕ → Free
+free_of slots xs = record { slots = slots; held = set.from_list xs }
+
+-- what a pop gives, by the free slots before it and after it
+pub record Picks (old new : Free) (picked : Option ℕ) : Type 0 where
+  pub none : IsNone picked ↔ (old.held ≡ set.empty)
+  pub unchanged : IfNone picked (new ≡ old)
+  pub held : IfSome picked (λ slot. set.contains old.held slot ≡ true)
+  pub taken : IfSome picked (λ slot. new ≡ record { slots = old.slots; held = set.remove old.held slot })
+  pub in_range : IfSome picked (λ slot. slot < old.slots)
+
+-- where a pop gives nothing there was nothing
+pub emptied : (n : ℕ) (xs : List ℕ) (picked : Option ℕ) → n ≡ length xs → (0 < n → IsSome picked) → IfNone picked (xs ≡ [])
+emptied n [] None e h = refl
+emptied n (x ∷ xs) None e h = absurd (true≢false (sym (h (omega arith))))
+emptied n xs (Some x) e h = tt
+
+picks_at : (slots capacity : ℕ) (ys : List ℕ) (picked : Option ℕ)
+    → HasRoom slots (ys ++ option_to_list picked) capacity → IfNone picked (ys ++ option_to_list picked ≡ [])
+    → Picks (free_of slots (ys ++ option_to_list picked)) (free_of slots ys) picked
+picks_at slots capacity ys None h none = record {
+  none = (λ _. ap (λ xs. set.from_list xs) none, λ _. refl);
+  unchanged = ap (free_of slots) (sym (append-nil ys));
+  held = tt;
+  taken = tt;
+  in_range = tt;
+}
+picks_at slots capacity ys (Some x) h none =
+    let parts = popped slots capacity x ys h in
+    record {
+      none = (λ is_none. absurd (true≢false is_none), λ e. absurd (some_slot x ys e));
+      unchanged = tt;
+      held = contains-from_list (ys ++ x ∷ []) x ∙ list_any-last x ys;
+      taken = ap (λ (s : set.FinSet nat_cmp). record { slots = slots; held = s }) (from_list-pop ys x parts.away);
+      in_range = parts.in_range;
+    }
+
+pub picks : (slots capacity : ℕ) (xs ys : List ℕ) (picked : Option ℕ) → xs ≡ ys ++ option_to_list picked
+    → HasRoom slots xs capacity → IfNone picked (xs ≡ []) → Picks (free_of slots xs) (free_of slots ys) picked
+picks slots capacity xs ys picked e h none =
+    let P : List ℕ → Type 0 = λ zs. HasRoom slots zs capacity in
+    let Q : List ℕ → Type 0 = λ zs. Picks (free_of slots zs) (free_of slots ys) picked in
+    let R : List ℕ → Type 0 = λ zs. IfNone picked (zs ≡ []) in
+    subst Q (sym e) (picks_at slots capacity ys picked (subst P e h) (subst R e none))
+
+-- a slot that may be put back, by the list
+pub record CanPut (slots slot : ℕ) (xs : List ℕ) : Type 0 where
+  pub in_range : slot < slots
+  pub away : list_any (nat_eq slot) xs ≡ false
+
+pub can_put : (now : Free) (slots slot : ℕ) (xs : List ℕ) → free_of slots xs ≡ now → slot < now.slots
+    → set.contains now.held slot ≡ false → CanPut slots slot xs
+can_put now slots slot xs e low away = record {
+  in_range = subst (λ (f : Free). slot < f.slots) (sym e) low;
+  away = sym (contains-from_list xs slot) ∙ subst (λ (f : Free). set.contains f.held slot ≡ false) (sym e) away;
+}
+
+-- the free slots after a push
+pub free_of-push : (now : Free) (slots slot : ℕ) (xs ys : List ℕ) → free_of slots xs ≡ now → ys ≡ xs ++ slot ∷ []
+    → free_of slots ys ≡ record { slots = now.slots; held = set.insert now.held slot }
+free_of-push now slots slot xs ys e pushed =
+    ap (free_of slots) pushed
+    ∙ ap (λ (s : set.FinSet nat_cmp). record { slots = slots; held = s }) (set.from_list_push nat_cmp_total set.nat_cmp-IsAntisymmetric xs slot)
+    ∙ ap (λ (f : Free). record { slots = f.slots; held = set.insert f.held slot }) e

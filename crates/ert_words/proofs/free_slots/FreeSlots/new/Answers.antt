@@ -1,0 +1,17 @@
+use Rattle.std.proofs.Common.{◌≡◌, ◌≤◌, List, ℕ, length, sym, ap, ◌∙◌, subst, arith}
+use Rattle.std.proofs.lemmas.List.FromFn.{length-range_with_len}
+use Rattle.std.specs.List.{range_with_len}
+use Rattle.ert_words.proofs.Held.{contains-from_list, list_any-every, every}
+use Rattle.ert_words.specs.Free.{HasRoom}
+use Rattle.ert_words.proofs.free_slots.FreeSlots.new.Goals as goal
+
+pub invariant_of-result : goal.invariant_of-result
+invariant_of-result c =
+    let held = c.in-Ok.held in
+    let many : length held.items ≡ c.args.slots = ap (λ (xs : List ℕ). length xs) c.in-Ok.ensures ∙ length-range_with_len 0 c.args.slots in
+    let room : c.args.slots ≤ held.cap = omega (arith, many, held.ok.0, held.ok.1) in
+    subst (λ (xs : List ℕ). HasRoom c.args.slots xs held.cap) (sym c.in-Ok.ensures) (every c.args.slots held.cap room)
+
+pub returns-in-Ok-clause-every : goal.returns-in-Ok-clause-every
+returns-in-Ok-clause-every c slot =
+    rw c.in-Ok.ensures (contains-from_list (range_with_len 0 c.args.slots) slot ∙ list_any-every c.args.slots slot)

@@ -1,0 +1,44 @@
+-- Which values have a word, and which numbers are words.
+
+use Rattle.std.specs.Prelude.{◌≡◌, ◌⊎◌, ℕ, ℤ, pos, ◌≤◌, ◌+ℤ◌, ◌≤ℤ◌, Bool, FitsSigned}
+use Rattle.std.specs.Int.{w64}
+use Rattle.ert_defs.specs.Lines.{IsOffset}
+use Rattle.ert_defs.specs.Words.{time_word, offset_word, timer_word}
+use Rattle.ert_defs.specs.declared.timer.Status.{Status}
+
+-- a time that has a word: from the start time to the last millisecond that a deadline can name
+pub record IsTime (now start : ℤ) : Type 0 where
+  pub low : start ≤ℤ now
+  pub high : now ≤ℤ (start +ℤ pos 8796093022207000000)
+
+-- the word of some time of 64 bits
+pub record IsTimeWord (word : ℕ) (start : ℤ) : Type 0 where
+  pub now : ℤ
+  pub fits : FitsSigned w64 now
+  pub in_range : IsTime now start
+  pub stands : word ≡ time_word now start
+
+-- the word of some offset
+pub record IsOffsetWord (word : ℕ) : Type 0 where
+  pub offset : ℤ
+  pub final : Bool
+  pub in_range : IsOffset offset
+  pub stands : word ≡ offset_word offset final
+
+-- a timer that has a word, by its deadline in milliseconds after the start and its generation
+pub record IsTimer (deadline generation : ℕ) : Type 0 where
+  pub deadline_high : deadline ≤ 8796093022207
+  pub generation_low : 1 ≤ generation
+  pub generation_high : generation ≤ 262143
+
+-- the word of some timer
+pub record IsUsedWord (word : ℕ) : Type 0 where
+  pub status : Status
+  pub deadline : ℕ
+  pub generation : ℕ
+  pub in_range : IsTimer deadline generation
+  pub stands : word ≡ timer_word status deadline generation
+
+-- the word of a slot, used or not
+abbrev pub IsTimerWord : ℕ → Type 0
+IsTimerWord word = (word ≡ 0) ⊎ IsUsedWord word
