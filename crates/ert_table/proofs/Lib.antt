@@ -5,3 +5,4 @@ pub mod WordPlaces
 pub mod FirstHolds
 pub mod Closings
 pub mod WordSteps
+pub mod ClockActs

@@ -187,3 +187,11 @@ may_load_at key g g' slots id me step entry entry' same same' entries bare lt ac
     let by_settings : Allows (Ruled key) slots id me i (λ n. n) (λ n now. Read g' step me (entry n) n now) =
     subst (λ k. Allows (Ruled key) slots id me i (λ n. n) (λ n now. Read k step me (entry n) n now)) (sym same') by_key in
     subst (λ (x : ℕ → Entry). Allows (Ruled key) slots id me i (λ n. n) (λ n now. Read g' step me (x n) n now)) (sym entries) by_settings
+
+-- the same of a store of a number, whose entry doesn't hang on what was there
+pub may_store_at : (key g g' : Settings) (slots id : ℕ) (me : Sitter) (i m : ℕ) (e : Entry) (entry' : ℕ → Entry)
+    → key ≡ g → g' ≡ g → entry' ≡ (λ n. e) → me.1 ≡ [] → i < word_count g → Acts g me.0 i (λ n. m) (λ n. e)
+    → Allows (Ruled key) slots id me i (λ n. m) (λ n now. Told g' me (entry' m) now)
+may_store_at key g g' slots id me i m e entry' same same' entries bare lt acts =
+    may_step_at key g g' slots id me i (λ n. m) (λ n. e) (λ n. entry' m) same same'
+    (ap (λ (x : ℕ → Entry). λ (n : ℕ). x m) entries) bare lt acts

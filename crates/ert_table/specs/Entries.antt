@@ -1,6 +1,6 @@
 -- The entries that the steps make.
 
-use Rattle.std.specs.Prelude.{◌≡◌, ℕ, ℤ, List, Option, Some, None}
+use Rattle.std.specs.Prelude.{ℕ, ℤ, pos, ◌+ℤ◌, Option, Some, None}
 use Rattle.ert_defs.specs.declared.entry.Act.{Act}
 use Rattle.ert_defs.specs.declared.entry.Actor.{Actor}
 use Rattle.ert_defs.specs.declared.entry.Actor.TheVariants.{Keeper, Wheel, Inbox, Sched, MailOf, Caller}
@@ -8,6 +8,7 @@ use Rattle.ert_defs.specs.declared.entry.Entry.{Entry}
 use Rattle.ert_defs.specs.declared.entry.Event.{Event}
 use Rattle.ert_defs.specs.declared.entry.Event.TheVariants.{Tick, Look, Advanced, Ask, Pick, Answer, Take, Unwatch}
 use Rattle.ert_defs.specs.declared.settings.Reading.{Reading}
+use Rattle.ert_defs.specs.declared.settings.Settings.{Settings}
 use Rattle.ert_table.specs.declared.carry.TimeCarry.{TimeCarry}
 use Rattle.ert_table.specs.declared.carry.TimeCarry.TheVariants.{Look as ToLook, Advanced as ToAdvance, Ask as ToAsk, Pick as ToPick, Answer as ToAnswer, Take as ToTake, Unwatch as ToUnwatch}
 
@@ -33,3 +34,7 @@ time_entry by (ToPick got) now = entry_by by (Some (Inbox (wheel_of by))) (Pick 
 time_entry by (ToAnswer left process) now = entry_by by (Some (MailOf process)) (Answer (wheel_of by) left)
 time_entry by (ToTake process got) now = entry_by by (Some (MailOf process)) (Take process got)
 time_entry by (ToUnwatch process monitor was) now = entry_by by (Some (MailOf process)) (Unwatch process monitor was)
+
+-- the time of a word
+abbrev pub time_in : Settings → ℕ → ℤ
+time_in g n = g.start +ℤ pos n
