@@ -1,14 +1,21 @@
 -- The entries that the steps make.
 
-use Rattle.std.specs.Prelude.{ℕ, ℤ, pos, ◌+ℤ◌, Option, Some, None}
+use Rattle.std.specs.Prelude.{ℕ, ℤ, pos, ◌+ℤ◌, ◌-ℤ◌, ◌/◌, ◌%◌, Bool, true, false, nat_eq, List, Option, Some, None, option_map}
+use Rattle.ert_defs.specs.Lines.{first_state}
 use Rattle.ert_defs.specs.declared.entry.Act.{Act}
 use Rattle.ert_defs.specs.declared.entry.Actor.{Actor}
 use Rattle.ert_defs.specs.declared.entry.Actor.TheVariants.{Keeper, Wheel, Inbox, Sched, MailOf, Caller}
 use Rattle.ert_defs.specs.declared.entry.Entry.{Entry}
 use Rattle.ert_defs.specs.declared.entry.Event.{Event}
-use Rattle.ert_defs.specs.declared.entry.Event.TheVariants.{Tick, Look, Advanced, Ask, Pick, Answer, Take, Unwatch}
+use Rattle.ert_defs.specs.declared.entry.Event.TheVariants.{Tick, Shift, Look, Off, Advanced, Ask, Pick, Answer, Take, Unwatch, Watch, Tell}
+use Rattle.ert_defs.specs.declared.settings.Mode.{Mode}
+use Rattle.ert_defs.specs.declared.settings.OffsetState.{OffsetState}
+use Rattle.ert_defs.specs.declared.settings.OffsetState.TheVariants.{Final}
 use Rattle.ert_defs.specs.declared.settings.Reading.{Reading}
 use Rattle.ert_defs.specs.declared.settings.Settings.{Settings}
+use Rattle.ert_table.specs.Held.{least_caller}
+use Rattle.ert_table.specs.declared.carry.OffsetCarry.{OffsetCarry}
+use Rattle.ert_table.specs.declared.carry.OffsetCarry.TheVariants.{Off as ToOff, Watch as ToWatch, Tell as ToTell}
 use Rattle.ert_table.specs.declared.carry.TimeCarry.{TimeCarry}
 use Rattle.ert_table.specs.declared.carry.TimeCarry.TheVariants.{Look as ToLook, Advanced as ToAdvance, Ask as ToAsk, Pick as ToPick, Answer as ToAnswer, Take as ToTake, Unwatch as ToUnwatch}
 
@@ -38,3 +45,31 @@ time_entry by (ToUnwatch process monitor was) now = entry_by by (Some (MailOf pr
 -- the time of a word
 abbrev pub time_in : Settings → ℕ → ℤ
 time_in g n = g.start +ℤ pos n
+
+-- the shift of a caller
+abbrev pub shift_entry : ℕ → ℤ → OffsetState → Entry
+shift_entry by offset state = entry_by Keeper (Some (Caller by)) (Shift offset state)
+
+-- with whom the offset is read: the clock's part, with the caller of least number among these
+abbrev pub offset_with : Settings → List Actor → Actor → Option Actor
+offset_with g actors Keeper = option_map Caller (least_caller actors g.callers)
+offset_with g actors by = None
+
+-- what is recorded where the offset word is loaded by a pass with these actors
+abbrev pub offset_entry : Settings → List Actor → Actor → OffsetCarry → ℤ → OffsetState → Entry
+offset_entry g actors by ToOff offset state = entry_by by (offset_with g actors by) (Off offset state)
+offset_entry g actors by (ToWatch process monitor) offset state = entry_by by (Some (MailOf process)) (Watch process monitor offset)
+offset_entry g actors by (ToTell process) offset state = entry_by by (Some (MailOf process)) (Tell process offset)
+
+-- the offset of a word
+abbrev pub offset_in : ℕ → ℤ
+offset_in n = pos (n / 2) -ℤ pos 4611686018427387904
+
+-- the state of an offset that is final or not, in a mode
+abbrev pub state_where : Mode → Bool → OffsetState
+state_where mode true = Final
+state_where mode false = first_state mode
+
+-- the state of the offset of a word
+abbrev pub state_in : Settings → ℕ → OffsetState
+state_in g n = state_where g.mode (nat_eq (n % 2) 1)

@@ -18,3 +18,14 @@ pub enum TimeCarry {
     /// A monitor was removed, where it stood.
     Unwatch { process: u32, monitor: u32, was: bool },
 }
+
+/// What a load of the offset word records.
+#[derive(Clone, Copy, Debug, PartialEq, Eq)]
+pub enum OffsetCarry {
+    /// The offset was read.
+    Off,
+    /// A monitor of the offset was made, of this number among those of the process.
+    Watch { process: u32, monitor: u32 },
+    /// A process was told the offset, for each monitor that it was new to.
+    Tell { process: u32 },
+}

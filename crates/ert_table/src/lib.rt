@@ -9,6 +9,6 @@ mod passes;
 mod plays;
 mod view;
 
-pub use carry::TimeCarry;
+pub use carry::{OffsetCarry, TimeCarry};
 pub use desk::{Desk, NoMemory, Pass, Words};
 pub use view::{Met, View};
