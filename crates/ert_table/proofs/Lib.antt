@@ -6,3 +6,4 @@ pub mod FirstHolds
 pub mod Closings
 pub mod WordSteps
 pub mod ClockActs
+pub mod ProcessActs

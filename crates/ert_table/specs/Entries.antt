@@ -7,7 +7,7 @@ use Rattle.ert_defs.specs.declared.entry.Actor.{Actor}
 use Rattle.ert_defs.specs.declared.entry.Actor.TheVariants.{Keeper, Wheel, Inbox, Sched, MailOf, Caller}
 use Rattle.ert_defs.specs.declared.entry.Entry.{Entry}
 use Rattle.ert_defs.specs.declared.entry.Event.{Event}
-use Rattle.ert_defs.specs.declared.entry.Event.TheVariants.{Tick, Shift, Look, Off, Advanced, Ask, Pick, Answer, Take, Unwatch, Watch, Tell}
+use Rattle.ert_defs.specs.declared.entry.Event.TheVariants.{Tick, Shift, Look, Off, Mark, Advanced, Ask, Pick, Answer, Take, Unwatch, Watch, Tell}
 use Rattle.ert_defs.specs.declared.settings.Mode.{Mode}
 use Rattle.ert_defs.specs.declared.settings.OffsetState.{OffsetState}
 use Rattle.ert_defs.specs.declared.settings.OffsetState.TheVariants.{Final}
@@ -73,3 +73,7 @@ state_where mode false = first_state mode
 -- the state of the offset of a word
 abbrev pub state_in : Settings → ℕ → OffsetState
 state_in g n = state_where g.mode (nat_eq (n % 2) 1)
+
+-- what is recorded where the word of a process is read, and maybe set
+abbrev pub mark_entry : Actor → ℕ → Bool → Bool → Entry
+mark_entry by process exits was = entry_by by None (Mark process exits was)

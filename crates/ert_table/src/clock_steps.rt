@@ -9,16 +9,11 @@ ghost use Rattle.ert_table.specs.Takes.{MayStep, Appends};
 
 use crate::carry::{OffsetCarry, TimeCarry};
 use crate::desk::{Desk, Pass};
+use crate::places::{OFFSET, TIME};
 use crate::plays::{Adds, Carried, Loads};
 use ert_defs::{Act, Actor, Mode, OffsetState, Reading};
 use ert_words::{offset_of, offset_word, time_of, time_word};
 use std::marker::Brand;
-
-/// The place of the time in the table.
-const TIME: usize = 0;
-
-/// The place of the offset.
-const OFFSET: usize = 1;
 
 impl Pass {
     /// Stores the time that follows from a reading: the tick of a caller, whose clock part the pass holds.

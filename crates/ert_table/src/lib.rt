@@ -6,7 +6,9 @@ mod clock_steps;
 mod desk;
 mod opening;
 mod passes;
+mod places;
 mod plays;
+mod process_steps;
 mod view;
 
 pub use carry::{OffsetCarry, TimeCarry};
