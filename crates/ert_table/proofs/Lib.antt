@@ -7,3 +7,4 @@ pub mod Closings
 pub mod WordSteps
 pub mod ClockActs
 pub mod ProcessActs
+pub mod SlotFacts

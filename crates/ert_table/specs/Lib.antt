@@ -5,5 +5,6 @@ pub mod Held
 pub mod Openings
 pub mod Places
 pub mod Rule
+pub mod Settlings
 pub mod Takes
 pub mod Views

@@ -1,4 +1,4 @@
-use ert_defs::{Mail, Request};
+use ert_defs::{Mail, Request, TimerRef};
 
 /// What a load of the time word records.
 #[derive(Clone, Copy, Debug, PartialEq, Eq)]
@@ -28,4 +28,28 @@ pub enum OffsetCarry {
     Watch { process: u32, monitor: u32 },
     /// A process was told the offset, for each monitor that it was new to.
     Tell { process: u32 },
+}
+
+/// What a load of a slot's word records.
+#[derive(Clone, Copy, Debug, PartialEq, Eq)]
+pub enum TimerCarry {
+    /// The last timer of a slot was looked at.
+    Probe { wheel: u32, slot: u32 },
+    /// A timer was read (`erlang` module reference, `read_timer`).
+    Peek { timer: TimerRef },
+}
+
+/// How a timer is settled, or handed over once it has expired.
+#[derive(Clone, Copy, Debug, PartialEq, Eq)]
+pub enum Settle {
+    /// It is cancelled (`erlang` module reference, `cancel_timer`).
+    Cancel,
+    /// It expires.
+    Expire,
+    /// It is cancelled because its destination has exited.
+    Orphan,
+    /// It had expired, and its message is in the mailbox of its destination.
+    Deliver,
+    /// It had expired, and its destination has exited.
+    Drop,
 }

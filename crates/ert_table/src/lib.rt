@@ -11,6 +11,6 @@ mod plays;
 mod process_steps;
 mod view;
 
-pub use carry::{OffsetCarry, TimeCarry};
+pub use carry::{OffsetCarry, Settle, TimeCarry, TimerCarry};
 pub use desk::{Desk, NoMemory, Pass, Words};
 pub use view::{Met, View};

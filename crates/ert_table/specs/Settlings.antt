@@ -1,0 +1,107 @@
+-- What a word of a slot has, and the entries of the steps on it.
+
+use Rattle.std.specs.Prelude.{◌≡◌, ℕ, ◌+◌, ◌*◌, ◌/◌, ◌%◌, Bool, true, false, cond, ◌&&◌, nat_eq, Option, Some, None}
+use Rattle.ert_defs.specs.Legal.{left_by}
+use Rattle.ert_defs.specs.Milliseconds.{left}
+use Rattle.ert_defs.specs.States.{State, state}
+use Rattle.ert_defs.specs.Timers.{Row, row_of, timer_at}
+use Rattle.ert_defs.specs.Words.{timer_word}
+use Rattle.ert_defs.specs.declared.entry.Actor.{Actor}
+use Rattle.ert_defs.specs.declared.entry.Actor.TheVariants.{Wheel, MailOf}
+use Rattle.ert_defs.specs.declared.entry.Entry.{Entry}
+use Rattle.ert_defs.specs.declared.entry.Event.TheVariants.{Probe, Peek, Cancel, Expire, Orphan, Deliver, Drop}
+use Rattle.ert_defs.specs.declared.settings.Settings.{Settings}
+use Rattle.ert_defs.specs.declared.timer.Status.{Status}
+use Rattle.ert_defs.specs.declared.timer.Status.TheVariants.{Armed, Expired, Delivered, Cancelled, Orphaned, Dropped}
+use Rattle.ert_defs.specs.declared.timer.TimerRef.{TimerRef}
+use Rattle.ert_table.specs.Entries.{entry_by}
+use Rattle.ert_table.specs.Takes.{Appends}
+use Rattle.ert_table.specs.declared.carry.Settle.{Settle}
+use Rattle.ert_table.specs.declared.carry.Settle.TheVariants.{Cancel as ToCancel, Expire as ToExpire, Orphan as ToOrphan, Deliver as ToDeliver, Drop as ToDrop}
+use Rattle.ert_table.specs.declared.view.View.{View}
+
+-- the status of a code
+abbrev pub status_by : ℕ → Option Status
+status_by code =
+    cond (nat_eq code 1) (Some Armed)
+    (cond (nat_eq code 2) (Some Expired)
+    (cond (nat_eq code 3) (Some Delivered)
+    (cond (nat_eq code 4) (Some Cancelled)
+    (cond (nat_eq code 5) (Some Orphaned)
+    (cond (nat_eq code 6) (Some Dropped) None)))))
+
+-- the status, deadline and generation of the word of a slot
+abbrev pub status_in : ℕ → Option Status
+status_in n = status_by (n % 8)
+
+abbrev pub deadline_in : ℕ → ℕ
+deadline_in n = (n / 8) % 8796093022208
+
+abbrev pub generation_in : ℕ → ℕ
+generation_in n = n / 70368744177664
+
+-- a timer has a row with this deadline
+pub record HasRow (s : State) (timer : TimerRef) (deadline : ℕ) : Type 0 where
+  pub row : Row
+  pub stands : row_of (s.rows timer.wheel) timer ≡ Some row
+  pub due : row.deadline ≡ deadline
+
+-- the status that a timer has before it is settled or handed over, and the one that it gets
+abbrev pub status_from : Settle → Status
+status_from ToCancel = Armed
+status_from ToExpire = Armed
+status_from ToOrphan = Armed
+status_from ToDeliver = Expired
+status_from ToDrop = Expired
+
+abbrev pub status_to : Settle → Status
+status_to ToCancel = Cancelled
+status_to ToExpire = Expired
+status_to ToOrphan = Orphaned
+status_to ToDeliver = Delivered
+status_to ToDrop = Dropped
+
+-- with whom a message is delivered: the mailbox of its destination
+abbrev pub mail_of : Option Row → Option Actor
+mail_of None = None
+mail_of (Some row) = Some (MailOf row.dest)
+
+-- what is recorded where a timer is settled or handed over by one that knows this state
+abbrev pub hit_entry : Settings → State → Actor → TimerRef → ℕ → Settle → Entry
+hit_entry g s by timer deadline ToCancel = entry_by by None (Cancel timer (Some (left g deadline (s.looked by))))
+hit_entry g s by timer deadline ToExpire = entry_by by (Some (Wheel timer.wheel)) (Expire timer)
+hit_entry g s by timer deadline ToOrphan = entry_by by (Some (Wheel timer.wheel)) (Orphan timer)
+hit_entry g s by timer deadline ToDeliver = entry_by by (mail_of (row_of (s.rows timer.wheel) timer)) (Deliver timer)
+hit_entry g s by timer deadline ToDrop = entry_by by None (Drop timer)
+
+-- what is recorded where the last timer of a slot is looked at
+abbrev pub probe_entry : Actor → ℕ → ℕ → Option Status → Entry
+probe_entry by wheel slot found = entry_by by (Some (Wheel wheel)) (Probe wheel slot found)
+
+-- what is recorded where a timer isn't in the status that it is to be taken from; one that expired is,
+-- until it is handed over
+abbrev pub Misses : Settings → View → Actor → TimerRef → Settle → View → Type 0
+Misses g v by timer ToCancel w = Appends g v (entry_by by None (Cancel timer None)) w
+Misses g v by timer ToExpire w = (found : Option Status) × Appends g v (probe_entry by timer.wheel timer.slot found) w
+Misses g v by timer ToOrphan w = (found : Option Status) × Appends g v (probe_entry by timer.wheel timer.slot found) w
+Misses g v by timer ToDeliver w = ⊥
+Misses g v by timer ToDrop w = ⊥
+
+-- a timer was settled or handed over, or was not in the status for that
+abbrev pub Settles : Settings → View → Actor → TimerRef → ℕ → Settle → Bool → View → Type 0
+Settles g v by timer deadline how true w = Appends g v (hit_entry g (state g v.front) by timer deadline how) w
+Settles g v by timer deadline how false w = Misses g v by timer how w
+
+-- the entry of a miss, where the word was n
+abbrev pub miss_entry : Entry → Actor → TimerRef → Settle → ℕ → Entry
+miss_entry hit by timer ToCancel n = entry_by by None (Cancel timer None)
+miss_entry hit by timer ToExpire n = probe_entry by timer.wheel timer.slot (status_in n)
+miss_entry hit by timer ToOrphan n = probe_entry by timer.wheel timer.slot (status_in n)
+miss_entry hit by timer ToDeliver n = hit
+miss_entry hit by timer ToDrop n = hit
+
+-- the entry of the step, where the word was n
+abbrev pub settle_entry : Settings → State → Actor → TimerRef → ℕ → Settle → ℕ → Entry
+settle_entry g s by timer deadline how n =
+    let hit = hit_entry g s by timer deadline how in
+    cond (nat_eq n (timer_word (status_from how) deadline timer.generation)) hit (miss_entry hit by timer how n)
