@@ -8,3 +8,4 @@ pub mod WordSteps
 pub mod ClockActs
 pub mod ProcessActs
 pub mod SlotFacts
+pub mod TimerActs

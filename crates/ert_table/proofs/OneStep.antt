@@ -15,7 +15,7 @@ use Rattle.ert_defs.proofs.Runs.{state-append}
 use Rattle.ert_defs.specs.declared.entry.Actor.{Actor}
 use Rattle.ert_defs.specs.declared.entry.Entry.{Entry}
 use Rattle.ert_defs.specs.declared.settings.Settings.{Settings}
-use Rattle.ert_table.specs.Acts.{Acts, Then, Sitter, Told, Read}
+use Rattle.ert_table.specs.Acts.{Acts, Then, Finds, Sitter, Told, Read, Compared}
 use Rattle.ert_table.specs.Held.{is_held, IsOurs}
 use Rattle.ert_table.specs.Rule.{Fits, Holds}
 use Rattle.ert_table.specs.Takes.{Appends}
@@ -31,7 +31,7 @@ abbrev pub after : View → List Entry → Entry → View
 after v h e = record { front = h ++ e ∷ []; actors = v.actors; settings = v.settings; met = None }
 
 -- the history with the step's entry is legal
-grows : (g : Settings) (v : View) (i n : ℕ) (e : Entry) (h : List Entry) → Then g v i n h → IsOurs v.actors e.by e.with
+pub grows : (g : Settings) (v : View) (i n : ℕ) (e : Entry) (h : List Entry) → Then g v i n h → IsOurs v.actors e.by e.with
     → Keeps g e.by e.with e.event → Known g (state g v.front) e.by e.with e.event → Found g (state g h) e.by e.event
     → Legal g (h ++ e ∷ [])
 grows g v i n e h then ours ranged known found =
@@ -115,7 +115,7 @@ shown_all g words h e i m counted lt shown here others j lt_j =
 -- a step on a word is allowed, if what it tells of the pass is wanted
 pub may_step : (g : Settings) (slots id : ℕ) (v : View) (i : ℕ) (f : ℕ → ℕ) (entry : ℕ → Entry) (then : ℕ → Sitter → Type 0)
     → i < word_count g → Acts g v i f entry
-    → ((n : ℕ) (w : View) → w.settings ≡ v.settings → Appends g v (entry n) w → word_of g (state g w.front) i ≡ f n → then n (w, []))
+    → ((n : ℕ) (w : View) → w.settings ≡ v.settings → Finds g v i n (entry n) w → word_of g (state g w.front) i ≡ f n → then n (w, []))
     → Allows (Ruled g) slots id (v, []) i f then
 may_step g slots id v i f entry then lt acts wanted s kept homes at fits =
     let n : ℕ = slice_index s.words i in
@@ -152,7 +152,8 @@ may_step g slots id v i f entry then lt acts wanted s kept homes at fits =
       others = fit.own;
       ours = acts.ours n;
     } in
-    (w, keeps, tt, ruled, wanted n w refl tells (ap (λ s. word_of g s i) (state-append g h (e ∷ [])) ∙ here))
+    let finds : Finds g v i n e w = record { step = tells; word = ap (λ x. word_of g (state g x) i) (sym fit.begins) ∙ now.word } in
+    (w, keeps, tt, ruled, wanted n w refl finds (ap (λ s. word_of g s i) (state-append g h (e ∷ [])) ∙ here))
 
 -- there is a first word
 pub has_words : (words : ℕ) (g : Settings) → words ≡ word_count g → 0 < words
@@ -165,7 +166,7 @@ pub may_step_at : (key g g' : Settings) (slots id : ℕ) (me : Sitter) (i : ℕ)
 may_step_at key g g' slots id me i f entry entry' same same' entries bare lt acts =
     let P : List (ℕ × Unit {0}) → Type 0 = λ l. Allows (Ruled g) slots id (me.0, l) i f (λ n now. Told g (me.0, l) (entry n) now) in
     let stands : P me.1 = subst P (sym bare)
-    (may_step g slots id me.0 i f entry (λ n now. Told g (me.0, []) (entry n) now) lt acts (λ n w named tells shown. (refl, named, tells))) in
+    (may_step g slots id me.0 i f entry (λ n now. Told g (me.0, []) (entry n) now) lt acts (λ n w named finds shown. (refl, named, finds.step))) in
     let by_key : Allows (Ruled key) slots id me i f (λ n now. Told g me (entry n) now) =
     subst (λ k. Allows (Ruled k) slots id me i f (λ n now. Told g me (entry n) now)) (sym same) stands in
     let by_settings : Allows (Ruled key) slots id me i f (λ n now. Told g' me (entry n) now) =
@@ -181,7 +182,7 @@ may_load_at key g g' slots id me step entry entry' same same' entries bare lt ac
     let P : List (ℕ × Unit {0}) → Type 0 = λ l. Allows (Ruled g) slots id (me.0, l) i (λ n. n) (λ n now. Read g step (me.0, l) (entry n) n now) in
     let stands : P me.1 = subst P (sym bare)
     (may_step g slots id me.0 i (λ n. n) entry (λ n now. Read g step (me.0, []) (entry n) n now) lt acts
-        (λ n w named tells shown. (refl, named, tells, shown))) in
+        (λ n w named finds shown. (refl, named, finds.step, shown))) in
     let by_key : Allows (Ruled key) slots id me i (λ n. n) (λ n now. Read g step me (entry n) n now) =
     subst (λ k. Allows (Ruled k) slots id me i (λ n. n) (λ n now. Read g step me (entry n) n now)) (sym same) stands in
     let by_settings : Allows (Ruled key) slots id me i (λ n. n) (λ n now. Read g' step me (entry n) n now) =
@@ -195,3 +196,18 @@ pub may_store_at : (key g g' : Settings) (slots id : ℕ) (me : Sitter) (i m : �
 may_store_at key g g' slots id me i m e entry' same same' entries bare lt acts =
     may_step_at key g g' slots id me i (λ n. m) (λ n. e) (λ n. entry' m) same same'
     (ap (λ (x : ℕ → Entry). λ (n : ℕ). x m) entries) bare lt acts
+
+-- the same of an exchange, which tells what was found
+pub may_compare_at : (key g g' : Settings) (slots id : ℕ) (me : Sitter) (step : Step (Unit {0})) (f : ℕ → ℕ) (entry entry' : ℕ → Entry)
+    → key ≡ g → g' ≡ g → entry' ≡ entry → me.1 ≡ [] → step.word < word_count g → Acts g me.0 step.word f entry
+    → Allows (Ruled key) slots id me step.word f (λ n now. Compared g' step me (entry' n) n now)
+may_compare_at key g g' slots id me step f entry entry' same same' entries bare lt acts =
+    let i : ℕ = step.word in
+    let P : List (ℕ × Unit {0}) → Type 0 = λ l. Allows (Ruled g) slots id (me.0, l) i f (λ n now. Compared g step (me.0, l) (entry n) n now) in
+    let stands : P me.1 = subst P (sym bare)
+    (may_step g slots id me.0 i f entry (λ n now. Compared g step (me.0, []) (entry n) n now) lt acts (λ n w named finds shown. (refl, named, finds))) in
+    let by_key : Allows (Ruled key) slots id me i f (λ n now. Compared g step me (entry n) n now) =
+    subst (λ k. Allows (Ruled k) slots id me i f (λ n now. Compared g step me (entry n) n now)) (sym same) stands in
+    let by_settings : Allows (Ruled key) slots id me i f (λ n now. Compared g' step me (entry n) n now) =
+    subst (λ k. Allows (Ruled key) slots id me i f (λ n now. Compared k step me (entry n) n now)) (sym same') by_key in
+    subst (λ (x : ℕ → Entry). Allows (Ruled key) slots id me i f (λ n now. Compared g' step me (x n) n now)) (sym entries) by_settings

@@ -117,7 +117,7 @@ quiet_event g s _ h = record {
   exited = λ p b. refl;
 }
 
-cond_is : {X : Type 0} (b : Bool) (x y : X) → y ≡ x → cond b y x ≡ x
+pub cond_is : {X : Type 0} (b : Bool) (x y : X) → y ≡ x → cond b y x ≡ x
 cond_is true x y h = h
 cond_is false x y h = refl
 

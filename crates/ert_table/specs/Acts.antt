@@ -48,6 +48,15 @@ abbrev pub Read : Settings → Step (Unit {0}) → Sitter → Entry → ℕ → 
 Read g step me e n now = (now.1 ≡ []) × (now.0.settings ≡ me.0.settings) × Appends g me.0 e now.0
     × (word_of g (state g now.0.front) step.word ≡ n)
 
+-- a step took place with an entry, and found this number in the word
+pub record Finds (g : Settings) (v : View) (i n : ℕ) (e : Entry) (w : View) : Type 0 where
+  pub step : Appends g v e w
+  pub word : word_of g (state g (v.front ++ step.between)) i ≡ n
+
+-- the pass has found a number in a word, and set it to another or not
+abbrev pub Compared : Settings → Step (Unit {0}) → Sitter → Entry → ℕ → Sitter → Type 0
+Compared g step me e n now = (now.1 ≡ []) × (now.0.settings ≡ me.0.settings) × Finds g me.0 step.word n e now.0
+
 -- the pass is as it was, and knows what is so of the two that met
 abbrev pub Meets : Settings → Sitter → Sitter → Type 0
 Meets g me now = (now ≡ me) × HasMet me.0.met me.0.front × Legal g me.0.front

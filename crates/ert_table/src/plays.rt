@@ -5,7 +5,7 @@ ghost use Rattle.ert_defs.specs.declared.entry.Actor.{Actor};
 ghost use Rattle.ert_defs.specs.declared.entry.Actor.TheVariants.{Keeper};
 ghost use Rattle.ert_defs.specs.declared.entry.Entry.{Entry};
 ghost use Rattle.ert_defs.specs.declared.settings.Settings.{Settings};
-ghost use Rattle.ert_table.specs.Acts.{Told, Read, Meets, any_settings, any_entry};
+ghost use Rattle.ert_table.specs.Acts.{Told, Read, Compared, Meets, any_settings, any_entry};
 ghost use Rattle.ert_table.specs.Views.{rest_of, part_of, both, spent};
 
 use crate::view::View;
@@ -39,6 +39,15 @@ pub(crate) struct Loads<C> {
 
 impl<C: Carried> Play<(), View> for Loads<C> {
     ghost then = { λ step me n now. Read C.settings step me (C.entry n) n now };
+}
+
+/// A step that makes its entry by what it finds.
+pub(crate) struct Compares<C> {
+    carried: PhantomData<C>,
+}
+
+impl<C: Carried> Play<(), View> for Compares<C> {
+    ghost then = { λ step me n now. Compared C.settings step me (C.entry n) n now };
 }
 
 /// The settings of the desk.
