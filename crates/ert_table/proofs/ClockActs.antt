@@ -2,7 +2,6 @@
 
 use Rattle.std.proofs.Common.{◌≡◌, ◌≢◌, ℕ, ℤ, pos, negsuc, ◌+◌, ◌*◌, ◌/◌, ◌%◌, cond, nat_eq, ◌+ℤ◌, ◌-ℤ◌, ◌≤ℤ◌, ◌<ℤ◌, ◌<◌, ◌≤◌, Bool, true, false, List, [], ◌∷◌, ◌++◌, Option, Some, None, refl, sym, ap, subst, ◌∙◌, arith, append-nil, FitsSigned}
 use Rattle.std.proofs.lemmas.Int.{ints}
-use Rattle.std.proofs.Math.Logic.{∥∥₁_elim}
 use Rattle.std.proofs.Props.{props}
 use Rattle.std.specs.Int.{w64}
 use Rattle.ert_defs.specs.Actors.{has_actor}
@@ -33,6 +32,7 @@ use Rattle.ert_table.specs.Acts.{Acts, Then}
 use Rattle.ert_table.specs.Entries.{tick_entry, time_entry, time_in, shift_entry, offset_entry, offset_in, state_where, state_in}
 use Rattle.ert_table.specs.Rule.{IsLegalBy}
 use Rattle.ert_table.specs.Takes.{MayStep}
+use Rattle.ert_table.proofs.OneStep.{legal_by}
 use Rattle.ert_table.proofs.WordSteps.{is_quiet, word_quiet, word_same}
 use Rattle.ert_table.specs.declared.carry.TimeCarry.{TimeCarry}
 use Rattle.ert_table.specs.declared.carry.TimeCarry.TheVariants.{Look, Advanced, Ask, Pick, Answer, Take, Unwatch}
@@ -63,12 +63,6 @@ time_back_at start now (negsuc m) n low same is = absurd (omega (arith, ints))
 -- a word's time is the time that it was made from
 pub time_back : (start now : ℤ) (n : ℕ) → start ≤ℤ now → time_word now start ≡ n → (start +ℤ pos n) ≡ now
 time_back start now n low is = time_back_at start now (now -ℤ start) n low refl is
-
--- what is legal by the settings of a pass is legal
-pub legal_by : {P : Type 0} (g : Settings) (settings : Option Settings) (front : List Entry) → IsProp P → settings ≡ Some g
-    → ∥ IsLegalBy settings front ∥₁ → (Legal g front → P) → P
-legal_by {P} g settings front prop named legal gives =
-    ∥∥₁_elim legal prop (λ by. gives (subst (λ s. IsLegalBy s front) named by))
 
 -- the time of a tick has a word
 tick_fits : (g : Settings) (by : ℕ) (reading : Reading) (act : Act) (now : ℤ) (v : View) → IsChecked g

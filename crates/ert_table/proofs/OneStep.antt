@@ -1,6 +1,7 @@
 -- A step keeps the rule, and tells what its entry says. It doesn't know the events.
 
 use Rattle.std.proofs.Common.{◌≡◌, ◌≢◌, ◌⊎◌, inl, inr, ⊎_elim, ℕ, ◌<◌, arith, Bool, true, false, List, [], ◌∷◌, ◌++◌, length, set, get_or, slice_index, Option, Some, None, refl, sym, ap, subst, ◌∙◌, append_assoc, append-nil, length-set, get_or-set_same, get_or-set_other}
+use Rattle.std.proofs.Math.Logic.{∥∥₁_elim}
 use Rattle.std.proofs.lemmas.Bool.{cases_eq}
 use mathlib.Core.Option.{some}
 use lib.ListN.{get_elem?}
@@ -17,7 +18,7 @@ use Rattle.ert_defs.specs.declared.entry.Entry.{Entry}
 use Rattle.ert_defs.specs.declared.settings.Settings.{Settings}
 use Rattle.ert_table.specs.Acts.{Acts, Then, Finds, Sitter, Told, Read, Compared}
 use Rattle.ert_table.specs.Held.{is_held, IsOurs}
-use Rattle.ert_table.specs.Rule.{Fits, Holds}
+use Rattle.ert_table.specs.Rule.{Fits, Holds, IsLegalBy}
 use Rattle.ert_table.specs.Takes.{Appends}
 use Rattle.ert_table.proofs.Holders.{tells, held_of, free_of, free-append, free_one}
 use Rattle.ert_table.specs.declared.view.View.{View}
@@ -211,3 +212,16 @@ may_compare_at key g g' slots id me step f entry entry' same same' entries bare 
     let by_settings : Allows (Ruled key) slots id me i f (λ n now. Compared g' step me (entry n) n now) =
     subst (λ k. Allows (Ruled key) slots id me i f (λ n now. Compared k step me (entry n) n now)) (sym same') by_key in
     subst (λ (x : ℕ → Entry). Allows (Ruled key) slots id me i f (λ n now. Compared g' step me (x n) n now)) (sym entries) by_settings
+
+-- what a step found, for the settings, the place and the entries that were picked
+pub finds_as : (g g' : Settings) (v : View) (i i' n : ℕ) (entry entry' : ℕ → Entry) (w : View) → g' ≡ g → i' ≡ i → entry' ≡ entry
+    → Finds g' v i' n (entry' n) w → Finds g v i n (entry n) w
+finds_as g g' v i i' n entry entry' w same place entries finds =
+    subst (λ (x : ℕ → Entry). Finds g v i n (x n) w) entries
+    (subst (λ k. Finds g v k n (entry' n) w) place (subst (λ k. Finds k v i' n (entry' n) w) same finds))
+
+-- what is legal by the settings of a pass is legal
+pub legal_by : {P : Type 0} (g : Settings) (settings : Option Settings) (front : List Entry) → IsProp P → settings ≡ Some g
+    → ∥ IsLegalBy settings front ∥₁ → (Legal g front → P) → P
+legal_by {P} g settings front prop named legal gives =
+    ∥∥₁_elim legal prop (λ by. gives (subst (λ s. IsLegalBy s front) named by))

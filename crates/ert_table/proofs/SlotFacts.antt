@@ -1,6 +1,7 @@
 -- What holds of the slots after each legal history, and what their words tell.
 
 use Rattle.std.proofs.Common.{◌≡◌, ◌≢◌, ◌⊎◌, inl, inr, ⊎_elim, ℕ, ℤ, pos, negsuc, ◌+ℤ◌, ◌-ℤ◌, zero, ◌+◌, ◌*◌, ◌/◌, ◌%◌, ◌<◌, ◌≤◌, Bool, true, false, cond, ◌&&◌, nat_eq, nat_le, List, [], ◌∷◌, ◌++◌, All, Option, Some, None, refl, sym, ap, subst, ◌∙◌, arith, append-nil, eqb-true, eq-eqb}
+use Rattle.std.proofs.Props.{props}
 use Rattle.std.proofs.lemmas.Bool.{and_parts, and_right, cases_order}
 use Rattle.std.proofs.lemmas.Bool.Decides.{nat_tests}
 use Rattle.std.proofs.lemmas.List.Elements.{All-nil, All-push, All-head, All-tail}
@@ -12,7 +13,8 @@ use Rattle.ert_defs.specs.Milliseconds.{up, deadline_at, deadline_when, deadline
 use Rattle.ert_defs.specs.States.{State, opening, next, state}
 use Rattle.ert_defs.specs.Timers.{Row, row_from, rows_after, last_after, row_of, same_timer, status_after, is_taken, timer_at}
 use Rattle.ert_defs.specs.Words.{status_code, timer_word, slot_word, word_of_slot}
-use Rattle.ert_defs.proofs.FiredTimers.{row_of-append, row_kept, same_timer_self}
+use Rattle.ert_defs.proofs.FiredTimers.{row_kept, row_named, same_timer_self}
+use Rattle.ert_defs.proofs.Rows.{IsRow, rows_hold}
 use Rattle.ert_defs.proofs.Runs.{carry, kept_from}
 use Rattle.ert_defs.proofs.Slots.{ordered, same_timer-true}
 use Rattle.ert_defs.proofs.Statuses.{Forward, arms, forward_after}
@@ -29,7 +31,10 @@ use Rattle.ert_defs.specs.declared.timer.TimerRef.{TimerRef}
 use Rattle.ert_defs.specs.declared.timer.When.{When}
 use Rattle.ert_defs.specs.declared.timer.When.TheVariants.{After, At}
 use Rattle.ert_words.specs.Ranges.{IsTimer}
-use Rattle.ert_table.specs.Settlings.{status_by, status_in, deadline_in, generation_in}
+use Rattle.ert_table.specs.Rule.{IsLegalBy}
+use Rattle.ert_table.proofs.OneStep.{legal_by}
+use Rattle.ert_table.specs.declared.view.View.{View}
+use Rattle.ert_table.specs.Settlings.{HasRow, status_by, status_in, deadline_in, generation_in}
 
 -- the last generation of each slot is in range
 abbrev pub LastsFit : State → Type 0
@@ -255,16 +260,17 @@ pub record IsUsed (s : State) (w k n : ℕ) : Type 0 where
   pub word : n ≡ timer_word status row.deadline (s.last w k)
   pub in_range : IsTimer row.deadline (s.last w k)
 
-soon : (rows : List Row) (r : TimerRef) (row : Row) → All IsSoon rows → row_of rows r ≡ Some row → IsSoon row
-soon [] r row fits is = absurd cc
-soon (x ∷ rows) r row fits is = at (same_timer x.timer r) (soon rows r row (All-tail IsSoon x rows fits)) is
+-- what is so of all rows is so of the row of a reference
+pub of_row : (P : Row → Type 0) (rows : List Row) (r : TimerRef) (row : Row) → All P rows → row_of rows r ≡ Some row → P row
+of_row P [] r row fits is = absurd cc
+of_row P (x ∷ rows) r row fits is = at (same_timer x.timer r) (of_row P rows r row (All-tail P x rows fits)) is
   where
-    at : (b : Bool) → (row_of rows r ≡ Some row → IsSoon row) → cond b (Some x) (row_of rows r) ≡ Some row → IsSoon row
-    at true more h = let same : x ≡ row = cc in subst IsSoon same (All-head IsSoon x rows fits)
+    at : (b : Bool) → (row_of rows r ≡ Some row → P row) → cond b (Some x) (row_of rows r) ≡ Some row → P row
+    at true more h = let same : x ≡ row = cc in subst P same (All-head P x rows fits)
     at false more h = more h
 
 pub row_soon : (s : State) (r : TimerRef) (row : Row) → KeepsSlots s → row_of (s.rows r.wheel) r ≡ Some row → row.deadline ≤ 8796093022207
-row_soon s r row kept is = soon (s.rows r.wheel) r row (kept.deadlines r.wheel) is
+row_soon s r row kept is = of_row IsSoon (s.rows r.wheel) r row (kept.deadlines r.wheel) is
 
 last_low : (s : State) (w k last : ℕ) (status : Status) → AreInOrder (λ n. s.status (timer_at w k n)) last
     → s.status (timer_at w k last) ≡ Some status → 1 ≤ last
@@ -345,3 +351,25 @@ pub not_by_word : (s : State) (timer : TimerRef) (status : Status) (row : Row) (
     → n ≢ timer_word status row.deadline timer.generation → s.status timer ≢ Some status
 not_by_word s timer status row n kept taken stands word not is =
     not (sym word ∙ word_by_status s timer status row kept taken is stands)
+
+-- a timer with a row is in range
+pub row_in_range : (g : Settings) (h : List Entry) (timer : TimerRef) (deadline : ℕ) → Legal g h → HasRow (state g h) timer deadline
+    → IsTimer deadline timer.generation
+row_in_range g h timer deadline legal has =
+    let kept = slots_kept g h legal in
+    let s : State = state g h in
+    let w : ℕ = timer.wheel in
+    let named : has.row.timer ≡ timer = row_named (s.rows w) has.row timer has.stands in
+    let is_row : IsRow w (s.last w) has.row = of_row (IsRow w (s.last w)) (s.rows w) timer has.row (rows_hold g h w legal).each has.stands in
+    let same : has.row.timer.generation ≡ timer.generation = ap (λ (t : TimerRef). t.generation) named in
+    record {
+      deadline_high = subst (λ d. d ≤ 8796093022207) has.due (row_soon s timer has.row kept has.stands);
+      generation_low = subst (λ n. 1 ≤ n) same is_row.first;
+      generation_high = subst (λ n. n ≤ 262143) same (omega (arith, is_row.within, kept.lasts w has.row.timer.slot));
+    }
+
+pub timer_is : (g : Settings) (v : View) (timer : TimerRef) (deadline : ℕ) → v.settings ≡ Some g → ∥ IsLegalBy v.settings v.front ∥₁
+    → HasRow (state g v.front) timer deadline → IsTimer deadline timer.generation
+timer_is g v timer deadline named legal has =
+    let prop : IsProp (IsTimer deadline timer.generation) = hlevel props in
+    legal_by g v.settings v.front prop named legal (λ h. row_in_range g v.front timer deadline h has)

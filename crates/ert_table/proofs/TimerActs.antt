@@ -7,12 +7,12 @@ use Rattle.ert_defs.specs.Actors.{has_actor, IsFree, IsCaller}
 use Rattle.ert_defs.specs.Clocks.{Clock, clock_after}
 use Rattle.ert_defs.specs.Legal.{IsSlot, IsProber, Keeps, Known, Found, Legal, left_by}
 use Rattle.ert_defs.specs.Milliseconds.{left}
-use Rattle.ert_defs.specs.States.{State, next, run, state, exited_after}
+use Rattle.ert_defs.specs.States.{State, opening, next, run, state, exited_after}
 use Rattle.ert_defs.specs.Timers.{Row, rows_after, last_after, row_of, same_timer, status_after, settled_as, is_taken, timer_at}
 use Rattle.ert_defs.specs.Words.{word_of, word_count, offset_word, is_final, timer_word, slot_word, word_of_slot}
 use Rattle.ert_defs.proofs.FiredLists.{delivery_hits, drop_hits}
 use Rattle.ert_defs.proofs.FiredTimers.{row_kept, row_named, same_timer_self}
-use Rattle.ert_defs.proofs.Runs.{look_stays, state-append}
+use Rattle.ert_defs.proofs.Runs.{legal_first, look_stays, state-append}
 use Rattle.ert_defs.proofs.Slots.{same_timer-true}
 use Rattle.ert_defs.specs.declared.entry.Actor.{Actor}
 use Rattle.ert_defs.specs.declared.entry.Actor.TheVariants.{Keeper, Wheel, Sched, Caller}
@@ -22,11 +22,11 @@ use Rattle.ert_defs.specs.declared.settings.Settings.{Settings}
 use Rattle.ert_defs.specs.declared.timer.Status.{Status}
 use Rattle.ert_defs.specs.declared.timer.Status.TheVariants.{Armed, Expired, Delivered, Cancelled, Orphaned, Dropped}
 use Rattle.ert_defs.specs.declared.timer.TimerRef.{TimerRef}
-use Rattle.ert_table.specs.Acts.{Acts, Then}
+use Rattle.ert_table.specs.Acts.{Acts, Then, Finds}
 use Rattle.ert_table.specs.Held.{is_held, IsOurs}
 use Rattle.ert_table.specs.Places.{slot_place}
-use Rattle.ert_table.specs.Settlings.{HasRow, status_from, status_to, status_in, mail_of, hit_entry, miss_entry, settle_entry}
-use Rattle.ert_table.specs.Takes.{MayStep}
+use Rattle.ert_table.specs.Settlings.{HasRow, status_from, status_to, status_in, mail_of, hit_entry, Misses, Settles, miss_entry, settle_entry}
+use Rattle.ert_table.specs.Takes.{MayStep, Appends}
 use Rattle.ert_table.proofs.Holders.{tells, free_of}
 use Rattle.ert_table.proofs.OneStep.{grows}
 use Rattle.ert_table.proofs.SlotFacts.{KeepsSlots, slots_kept, IsIdle, IsUsed, slot_cases, row_soon, word_parts, status_by_word, not_by_word}
@@ -108,7 +108,7 @@ module _ (g : Settings) (s : State) (by : Actor) (timer : TimerRef) (deadline : 
   miss_known at Drop n h = h
 
   -- the slot is in range
-  hit_slot : (how : Settle) → let hit = hit_entry g s by timer deadline how in
+  pub hit_slot : (how : Settle) → let hit = hit_entry g s by timer deadline how in
       Keeps g hit.by hit.with hit.event → IsSlot g timer.wheel timer.slot
   hit_slot Cancel h = h.2
   hit_slot Expire h = h.2
@@ -320,6 +320,35 @@ sure_at g v i n by timer deadline Drop h then may sure =
     (drop_hits g h e timer (grows g v i n e h then may.ours may.keeps may.known tt) refl).0
 sure_at g v i n by timer deadline _ h then may sure = absurd cc
 
+-- what a miss tells
+missed : (g : Settings) (v : View) (by : Actor) (timer : TimerRef) (deadline : ℕ) (how : Settle) (w : View) (n : ℕ) {x : Option Status}
+    → x ≢ Some (status_from how) → (is_sure how ≡ true → x ≡ Some (status_from how))
+    → Appends g v (miss_entry (hit_entry g (state g v.front) by timer deadline how) by timer how n) w → Misses g v by timer how w
+missed g v by timer deadline Cancel w n not sure step = step
+missed g v by timer deadline Expire w n not sure step = (status_in n, step)
+missed g v by timer deadline Orphan w n not sure step = (status_in n, step)
+missed g v by timer deadline Deliver w n not sure step = not (sure refl)
+missed g v by timer deadline Drop w n not sure step = not (sure refl)
+
+-- a timer that was settled isn't armed
+to_settled : (how : Settle) → Some (status_to how) ≢ Some Armed
+to_settled Cancel = λ is. cc
+to_settled Expire = λ is. cc
+to_settled Orphan = λ is. cc
+to_settled Deliver = λ is. cc
+to_settled Drop = λ is. cc
+
+-- nor is one that wasn't when it was to be settled
+miss_settled : (g : Settings) (s0 s : State) (by : Actor) (timer : TimerRef) (deadline n : ℕ) (how : Settle)
+    → s.status timer ≢ Some (status_from how) → (is_sure how ≡ true → s.status timer ≡ Some (status_from how))
+    → (next g s (miss_entry (hit_entry g s0 by timer deadline how) by timer how n)).status timer ≢ Some Armed
+miss_settled g s0 s by timer deadline n Cancel not sure =
+    subst (λ x. x ≢ Some Armed) (sym (cancelled_at (same_timer timer timer) (s.status timer) (λ is. not))) not
+miss_settled g s0 s by timer deadline n Expire not sure = not
+miss_settled g s0 s by timer deadline n Orphan not sure = not
+miss_settled g s0 s by timer deadline n Deliver not sure = absurd (not (sure refl))
+miss_settled g s0 s by timer deadline n Drop not sure = absurd (not (sure refl))
+
 module _ (g : Settings) (v : View) (by : Actor) (timer : TimerRef) (deadline : ℕ) (how : Settle)
     (may : MayStep g v (hit_entry g (state g v.front) by timer deadline how)) (has : HasRow (state g v.front) timer deadline) where
   abbrev front : State
@@ -414,3 +443,45 @@ module _ (g : Settings) (v : View) (by : Actor) (timer : TimerRef) (deadline : �
     here = λ h n then. here_at h n then (nat_eq n old) refl;
     others = λ h n j then lt not. alone_others g (state g h) timer (cond (nat_eq n old) hit (miss n)) j (alone_at n (nat_eq n old)) not;
   }
+
+  -- what the pass that stepped knows of the history at its step
+  then_found : (w : View) (n : ℕ) → (finds : Finds g v place n (settle_entry g front by timer deadline how n) w)
+      → Then g v place n (v.front ++ finds.step.between)
+  then_found w n finds = record {
+    legal = legal_first g (opening g) (v.front ++ finds.step.between) (settle_entry g front by timer deadline how n ∷ [])
+        (subst (Legal g) finds.step.grown finds.step.legal);
+    later = finds.step.between;
+    begins = refl;
+    own = finds.step.others;
+    word = finds.word;
+  }
+
+  -- a step tells whether the timer was settled or handed over
+  pub settle_tells : (w : View) (n : ℕ) → Finds g v place n (settle_entry g front by timer deadline how n) w
+      → (b : Bool) → nat_eq n old ≡ b → Settles g v by timer deadline how b w
+  settle_tells w n finds true is = subst (λ b. Appends g v (cond b hit (miss n)) w) is finds.step
+  settle_tells w n finds false is =
+      let then = then_found w n finds in
+      missed g v by timer deadline how w n (misses (v.front ++ finds.step.between) n then is)
+      (sure_at g v place n by timer deadline how (v.front ++ finds.step.between) then may)
+      (subst (λ b. Appends g v (cond b hit (miss n)) w) is finds.step)
+
+  settled_at : (h : List Entry) (n : ℕ) → Then g v place n h → (b : Bool) → nat_eq n old ≡ b
+      → (next g (state g h) (cond b hit (miss n))).status timer ≢ Some Armed
+  settled_at h n then true is =
+      subst (λ x. x ≢ Some Armed)
+      (sym (ap (λ x. status_after timer (has_actor hit (Wheel timer.wheel)) x hit.event) (hits h n then is).0
+      ∙ hit_status g front by timer deadline how (has_actor hit (Wheel timer.wheel))))
+      (to_settled how)
+  settled_at h n then false is =
+      miss_settled g front (state g h) by timer deadline n how (misses h n then is) (sure_at g v place n by timer deadline how h then may)
+
+  -- either way it isn't armed after that
+  pub settle_settles : (w : View) (n : ℕ) → Finds g v place n (settle_entry g front by timer deadline how n) w
+      → (b : Bool) → nat_eq n old ≡ b → (state g w.front).status timer ≢ Some Armed
+  settle_settles w n finds b is =
+      let h : List Entry = v.front ++ finds.step.between in
+      let e : Entry = cond b hit (miss n) in
+      let grown : w.front ≡ h ++ e ∷ [] = subst (λ c. w.front ≡ h ++ (cond c hit (miss n)) ∷ []) is finds.step.grown in
+      let moved : state g w.front ≡ next g (state g h) e = ap (state g) grown ∙ state-append g h (e ∷ []) in
+      subst (λ (s : State). s.status timer ≢ Some Armed) (sym moved) (settled_at h n (then_found w n finds) b is)

@@ -9,6 +9,7 @@ mod passes;
 mod places;
 mod plays;
 mod process_steps;
+mod timer_steps;
 mod view;
 
 pub use carry::{OffsetCarry, Settle, TimeCarry, TimerCarry};

@@ -1,0 +1,90 @@
+//! Steps on the words of slots.
+ghost use Rattle.std.specs.Prelude.{◌≡◌, ◌≢◌, Some};
+ghost use Rattle.ert_defs.specs.States.{state};
+ghost use Rattle.ert_defs.specs.declared.timer.Status.TheVariants.{Armed};
+ghost use Rattle.ert_table.specs.Desks.{settings_of, view_of, front_of, Belongs};
+ghost use Rattle.ert_table.specs.Settlings.{HasRow, status_from, status_to, hit_entry, settle_entry, Settles};
+ghost use Rattle.ert_table.specs.Takes.{MayStep, Appends};
+
+use crate::carry::Settle;
+use crate::desk::{Desk, Pass};
+use crate::plays::{Carried, Compares};
+use ert_defs::{Actor, Status, TimerRef};
+use ert_words::timer_word;
+use std::marker::Brand;
+
+impl Settle {
+    /// The status of a timer that can be settled so.
+    fn from(self) -> Status
+        ensures { result ≡ status_from self }
+    {
+        match self {
+            Settle::Cancel | Settle::Expire | Settle::Orphan => Status::Armed,
+            Settle::Deliver | Settle::Drop => Status::Expired,
+        }
+    }
+
+    /// The status that it gets.
+    fn to(self) -> Status
+        ensures { result ≡ status_to self }
+    {
+        match self {
+            Settle::Cancel => Status::Cancelled,
+            Settle::Expire => Status::Expired,
+            Settle::Orphan => Status::Orphaned,
+            Settle::Deliver => Status::Delivered,
+            Settle::Drop => Status::Dropped,
+        }
+    }
+}
+
+impl Pass {
+    /// Settles an armed timer, or hands over one that has expired, and answers whether it did.
+    ///
+    /// `deadline` is that of the timer, in milliseconds after the start time. Either way the timer isn't
+    /// armed any more. A timer that has expired stays so until it is handed over, so that can't fail.
+    pub fn settle(
+        &mut self,
+        desk: &Desk,
+        by: Actor,
+        timer: TimerRef,
+        deadline: u64,
+        how: Settle,
+    ) -> bool
+        requires belongs { Belongs desk.now self.old }
+        requires row { HasRow (state (settings_of desk.now) (front_of self.old)) timer deadline }
+        requires may { MayStep (settings_of desk.now) (view_of self.old) (hit_entry (settings_of desk.now) (state (settings_of desk.now) (front_of self.old)) by timer deadline how) }
+        ensures belongs { Belongs desk.now self.new }
+        ensures step { Settles (settings_of desk.now) (view_of self.old) by timer deadline how result (view_of self.new) }
+        ensures settled { (state (settings_of desk.now) (front_of self.new)).status timer ≢ Some Armed }
+    {
+        self.settle_as::<Brand>(desk, by, timer, deadline, how)
+    }
+
+    fn settle_as<C: Carried>(
+        &mut self,
+        desk: &Desk,
+        by: Actor,
+        timer: TimerRef,
+        deadline: u64,
+        how: Settle,
+    ) -> bool
+        requires settings { C.settings ≡ settings_of desk.now }
+        requires entry { C.entry ≡ settle_entry (settings_of desk.now) (state (settings_of desk.now) (front_of self.old)) by timer deadline how }
+        requires belongs { Belongs desk.now self.old }
+        requires row { HasRow (state (settings_of desk.now) (front_of self.old)) timer deadline }
+        requires may { MayStep (settings_of desk.now) (view_of self.old) (hit_entry (settings_of desk.now) (state (settings_of desk.now) (front_of self.old)) by timer deadline how) }
+        ensures belongs { Belongs desk.now self.new }
+        ensures step { Settles (settings_of desk.now) (view_of self.old) by timer deadline how result (view_of self.new) }
+        ensures settled { (state (settings_of desk.now) (front_of self.new)).status timer ≢ Some Armed }
+    {
+        let place = desk.slot_place(timer.wheel, timer.slot);
+        let old = timer_word(how.from(), deadline, timer.generation);
+        let new = timer_word(how.to(), deadline, timer.generation);
+        let found = desk
+            .table
+            .shared
+            .compare_exchange::<Compares<C>>(&mut self.seat, place, old, new);
+        found == old
+    }
+}
