@@ -9,3 +9,4 @@ pub mod ClockActs
 pub mod ProcessActs
 pub mod SlotFacts
 pub mod TimerActs
+pub mod ReadActs

@@ -127,7 +127,7 @@ pub held_maker : (actors : List Actor) (by : Actor) (with : Option Actor) → Is
 held_maker actors by None h = h
 held_maker actors by (Some a) h = h.0
 
-left_none : (g : Settings) (look : ℤ) (status : Option Status) (row : Option Row) → status ≢ Some Armed → left_by g look status row ≡ None
+pub left_none : (g : Settings) (look : ℤ) (status : Option Status) (row : Option Row) → status ≢ Some Armed → left_by g look status row ≡ None
 left_none g look None row not = refl
 left_none g look (Some Armed) row not = absurd (not refl)
 left_none g look (Some Expired) row not = refl
@@ -153,7 +153,7 @@ record Slot (g : Settings) (v : View) (by : Actor) (timer : TimerRef) (row : Row
   stands : row_of (s.rows timer.wheel) timer ≡ Some row
   look : s.looked by ≡ (state g v.front).looked by
 
-later_state : (g : Settings) (v : View) (i n : ℕ) (h : List Entry) (then : Then g v i n h) → state g h ≡ run g (state g v.front) then.later
+pub later_state : (g : Settings) (v : View) (i n : ℕ) (h : List Entry) (then : Then g v i n h) → state g h ≡ run g (state g v.front) then.later
 later_state g v i n h then = ap (state g) then.begins ∙ state-append g v.front then.later
 
 slot_then : (g : Settings) (v : View) (by : Actor) (timer : TimerRef) (row : Row) (n : ℕ) (h : List Entry)

@@ -1,7 +1,6 @@
 -- What a word of a slot has, and the entries of the steps on it.
 
-use Rattle.std.specs.Prelude.{◌≡◌, ℕ, ◌+◌, ◌*◌, ◌/◌, ◌%◌, Bool, true, false, cond, ◌&&◌, nat_eq, Option, Some, None}
-use Rattle.ert_defs.specs.Legal.{left_by}
+use Rattle.std.specs.Prelude.{◌≡◌, ℕ, ℤ, ◌+◌, ◌*◌, ◌/◌, ◌%◌, Bool, true, false, cond, ◌&&◌, nat_eq, Option, Some, None, option_map}
 use Rattle.ert_defs.specs.Milliseconds.{left}
 use Rattle.ert_defs.specs.States.{State, state}
 use Rattle.ert_defs.specs.Timers.{Row, row_of, timer_at}
@@ -18,6 +17,8 @@ use Rattle.ert_table.specs.Entries.{entry_by}
 use Rattle.ert_table.specs.Takes.{Appends}
 use Rattle.ert_table.specs.declared.carry.Settle.{Settle}
 use Rattle.ert_table.specs.declared.carry.Settle.TheVariants.{Cancel as ToCancel, Expire as ToExpire, Orphan as ToOrphan, Deliver as ToDeliver, Drop as ToDrop}
+use Rattle.ert_table.specs.declared.carry.TimerCarry.{TimerCarry}
+use Rattle.ert_table.specs.declared.carry.TimerCarry.TheVariants.{Probe as ToProbe, Peek as ToPeek}
 use Rattle.ert_table.specs.declared.view.View.{View}
 
 -- the status of a code
@@ -105,3 +106,44 @@ abbrev pub settle_entry : Settings → State → Actor → TimerRef → ℕ → 
 settle_entry g s by timer deadline how n =
     let hit = hit_entry g s by timer deadline how in
     cond (nat_eq n (timer_word (status_from how) deadline timer.generation)) hit (miss_entry hit by timer how n)
+
+-- what a word of a slot shows of its last timer: status, deadline and generation
+abbrev pub Shown : Type 0
+Shown = Status × ℕ × ℕ
+
+-- the slot that is looked at
+abbrev pub wheel_in : TimerCarry → ℕ
+wheel_in (ToProbe wheel slot) = wheel
+wheel_in (ToPeek timer) = timer.wheel
+
+abbrev pub slot_in : TimerCarry → ℕ
+slot_in (ToProbe wheel slot) = slot
+slot_in (ToPeek timer) = timer.slot
+
+-- what is shown of a slot in a state
+abbrev pub shown_by : Option Status → Option Row → ℕ → Option Shown
+shown_by (Some status) (Some row) generation = Some (status, row.deadline, generation)
+shown_by _ _ generation = None
+
+abbrev pub shown_in : State → ℕ → ℕ → Option Shown
+shown_in s w k =
+    let timer = timer_at w k (s.last w k) in
+    shown_by (s.status timer) (row_of (s.rows w) timer) (s.last w k)
+
+-- the milliseconds left of a timer by what was shown of its slot: an older timer of the slot isn't armed
+abbrev pub left_at : Settings → ℤ → ℕ → Status → ℕ → ℕ → Option ℕ
+left_at g look wanted Armed deadline generation = cond (nat_eq generation wanted) (Some (left g deadline look)) None
+left_at g look wanted _ deadline generation = None
+
+abbrev pub left_shown : Settings → ℤ → ℕ → Option Shown → Option ℕ
+left_shown g look wanted None = None
+left_shown g look wanted (Some shown) = left_at g look wanted shown.0 shown.1 shown.2
+
+-- what is recorded where the word of a slot is loaded by one with this last look
+abbrev pub read_entry : Settings → ℤ → Actor → TimerCarry → Option Shown → Entry
+read_entry g look by (ToProbe wheel slot) shown = probe_entry by wheel slot (option_map (λ x. x.0) shown)
+read_entry g look by (ToPeek timer) shown = entry_by by None (Peek timer (left_shown g look timer.generation shown))
+
+-- what the word of a slot shows
+abbrev pub parts_in : ℕ → Option Shown
+parts_in n = option_map (λ status. (status, deadline_in n, generation_in n)) (status_in n)

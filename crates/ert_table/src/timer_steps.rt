@@ -1,16 +1,17 @@
 //! Steps on the words of slots.
-ghost use Rattle.std.specs.Prelude.{◌≡◌, ◌≢◌, Some};
+ghost use Rattle.std.specs.Prelude.{◌≡◌, ◌≢◌, Option, Some};
 ghost use Rattle.ert_defs.specs.States.{state};
+ghost use Rattle.ert_defs.specs.Words.{word_of_slot};
 ghost use Rattle.ert_defs.specs.declared.timer.Status.TheVariants.{Armed};
 ghost use Rattle.ert_table.specs.Desks.{settings_of, view_of, front_of, Belongs};
-ghost use Rattle.ert_table.specs.Settlings.{HasRow, status_from, status_to, hit_entry, settle_entry, Settles};
+ghost use Rattle.ert_table.specs.Settlings.{HasRow, status_from, status_to, hit_entry, settle_entry, Settles, Shown, read_entry, parts_in, shown_in, wheel_in, slot_in};
 ghost use Rattle.ert_table.specs.Takes.{MayStep, Appends};
 
-use crate::carry::Settle;
+use crate::carry::{Settle, TimerCarry};
 use crate::desk::{Desk, Pass};
-use crate::plays::{Carried, Compares};
+use crate::plays::{Carried, Compares, Loads};
 use ert_defs::{Actor, Status, TimerRef};
-use ert_words::timer_word;
+use ert_words::{timer_of, timer_word};
 use std::marker::Brand;
 
 impl Settle {
@@ -86,5 +87,51 @@ impl Pass {
             .shared
             .compare_exchange::<Compares<C>>(&mut self.seat, place, old, new);
         found == old
+    }
+
+    /// Loads the word of a slot, and records what is carried.
+    ///
+    /// It shows the status of the last timer of the slot, its deadline in milliseconds after the start
+    /// time, and its generation; None where the slot was never used.
+    pub fn load_timer(
+        &mut self,
+        desk: &Desk,
+        by: Actor,
+        carry: &TimerCarry,
+    ) -> Option<(Status, u64, u32)>
+        requires belongs { Belongs desk.now self.old }
+        requires may { (shown : Option Shown) → MayStep (settings_of desk.now) (view_of self.old) (read_entry (settings_of desk.now) ((state (settings_of desk.now) (front_of self.old)).looked by) by carry.now shown) }
+        ensures belongs { Belongs desk.now self.new }
+        ensures step { Appends (settings_of desk.now) (view_of self.old) (read_entry (settings_of desk.now) ((state (settings_of desk.now) (front_of self.old)).looked by) by carry.now result) (view_of self.new) }
+        ensures shown { result ≡ shown_in (state (settings_of desk.now) (front_of self.new)) (wheel_in carry.now) (slot_in carry.now) }
+    {
+        let word = self.load_timer_as::<Brand>(desk, by, carry);
+        timer_of(word)
+    }
+
+    fn load_timer_as<C: Carried>(&mut self, desk: &Desk, by: Actor, carry: &TimerCarry) -> u64
+        requires settings { C.settings ≡ settings_of desk.now }
+        requires entry { C.entry ≡ (λ n. read_entry (settings_of desk.now) ((state (settings_of desk.now) (front_of self.old)).looked by) by carry.now (parts_in n)) }
+        requires belongs { Belongs desk.now self.old }
+        requires may { (shown : Option Shown) → MayStep (settings_of desk.now) (view_of self.old) (read_entry (settings_of desk.now) ((state (settings_of desk.now) (front_of self.old)).looked by) by carry.now shown) }
+        ensures belongs { Belongs desk.now self.new }
+        ensures step { Appends (settings_of desk.now) (view_of self.old) (read_entry (settings_of desk.now) ((state (settings_of desk.now) (front_of self.old)).looked by) by carry.now (parts_in result)) (view_of self.new) }
+        ensures word { word_of_slot (state (settings_of desk.now) (front_of self.new)) (wheel_in carry.now) (slot_in carry.now) ≡ result }
+    {
+        let (wheel, slot) = carry.slot();
+        let place = desk.slot_place(wheel, slot);
+        desk.table.shared.load::<Loads<C>>(&mut self.seat, place)
+    }
+}
+
+impl TimerCarry {
+    /// The wheel and the slot that are looked at.
+    fn slot(&self) -> (u32, u32)
+        ensures { result ≡ (wheel_in self.now, slot_in self.now) }
+    {
+        match self {
+            TimerCarry::Probe { wheel, slot } => (*wheel, *slot),
+            TimerCarry::Peek { timer } => (timer.wheel, timer.slot),
+        }
     }
 }
