@@ -10,3 +10,4 @@ pub mod ProcessActs
 pub mod SlotFacts
 pub mod TimerActs
 pub mod ReadActs
+pub mod ArmActs

@@ -216,7 +216,7 @@ alone_slot g s timer e w k alone other = record {
   row = λ m. ap (λ rows. row_of rows (timer_at w k m)) (alone_rows g s timer e w alone);
 }
 
-other_timer : (g : Settings) (timer : TimerRef) (j w k m : ℕ) → j ≢ slot_place g timer.wheel timer.slot → j ≡ slot_place g w k
+pub other_timer : (g : Settings) (timer : TimerRef) (j w k m : ℕ) → j ≢ slot_place g timer.wheel timer.slot → j ≡ slot_place g w k
     → same_timer timer (timer_at w k m) ≡ false
 other_timer g timer j w k m not is =
     ⊎_elim

@@ -6,10 +6,11 @@ use Rattle.ert_defs.specs.States.{State, state}
 use Rattle.ert_defs.specs.Timers.{Row, row_of, timer_at}
 use Rattle.ert_defs.specs.Words.{timer_word}
 use Rattle.ert_defs.specs.declared.entry.Actor.{Actor}
-use Rattle.ert_defs.specs.declared.entry.Actor.TheVariants.{Wheel, MailOf}
+use Rattle.ert_defs.specs.declared.entry.Actor.TheVariants.{Wheel, MailOf, Caller}
 use Rattle.ert_defs.specs.declared.entry.Entry.{Entry}
-use Rattle.ert_defs.specs.declared.entry.Event.TheVariants.{Probe, Peek, Cancel, Expire, Orphan, Deliver, Drop}
+use Rattle.ert_defs.specs.declared.entry.Event.TheVariants.{Arm, Probe, Peek, Cancel, Expire, Orphan, Deliver, Drop}
 use Rattle.ert_defs.specs.declared.settings.Settings.{Settings}
+use Rattle.ert_defs.specs.declared.timer.Start.{Start}
 use Rattle.ert_defs.specs.declared.timer.Status.{Status}
 use Rattle.ert_defs.specs.declared.timer.Status.TheVariants.{Armed, Expired, Delivered, Cancelled, Orphaned, Dropped}
 use Rattle.ert_defs.specs.declared.timer.TimerRef.{TimerRef}
@@ -147,3 +148,7 @@ read_entry g look by (ToPeek timer) shown = entry_by by None (Peek timer (left_s
 -- what the word of a slot shows
 abbrev pub parts_in : ℕ → Option Shown
 parts_in n = option_map (λ status. (status, deadline_in n, generation_in n)) (status_in n)
+
+-- what is recorded where a caller starts a timer
+abbrev pub arm_entry : ℕ → TimerRef → Start → Entry
+arm_entry by timer start = entry_by (Caller by) (Some (Wheel timer.wheel)) (Arm timer start)

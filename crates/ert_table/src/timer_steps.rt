@@ -1,16 +1,18 @@
 //! Steps on the words of slots.
 ghost use Rattle.std.specs.Prelude.{◌≡◌, ◌≢◌, Option, Some};
+ghost use Rattle.ert_defs.specs.Milliseconds.{deadline_of};
 ghost use Rattle.ert_defs.specs.States.{state};
 ghost use Rattle.ert_defs.specs.Words.{word_of_slot};
+ghost use Rattle.ert_defs.specs.declared.entry.Actor.TheVariants.{Caller};
 ghost use Rattle.ert_defs.specs.declared.timer.Status.TheVariants.{Armed};
 ghost use Rattle.ert_table.specs.Desks.{settings_of, view_of, front_of, Belongs};
-ghost use Rattle.ert_table.specs.Settlings.{HasRow, status_from, status_to, hit_entry, settle_entry, Settles, Shown, read_entry, parts_in, shown_in, wheel_in, slot_in};
+ghost use Rattle.ert_table.specs.Settlings.{HasRow, status_from, status_to, hit_entry, settle_entry, Settles, Shown, read_entry, parts_in, shown_in, wheel_in, slot_in, arm_entry};
 ghost use Rattle.ert_table.specs.Takes.{MayStep, Appends};
 
 use crate::carry::{Settle, TimerCarry};
 use crate::desk::{Desk, Pass};
-use crate::plays::{Carried, Compares, Loads};
-use ert_defs::{Actor, Status, TimerRef};
+use crate::plays::{Adds, Carried, Compares, Loads};
+use ert_defs::{Actor, Start, Status, TimerRef};
 use ert_words::{timer_of, timer_word};
 use std::marker::Brand;
 
@@ -40,6 +42,40 @@ impl Settle {
 }
 
 impl Pass {
+    /// Starts a timer in a slot that is free (`erlang` module reference, `start_timer`).
+    ///
+    /// `deadline` is that of the start at the caller's last look, in milliseconds after the start time.
+    pub fn arm(&mut self, desk: &Desk, by: u32, timer: TimerRef, start: &Start, deadline: u64)
+        requires belongs { Belongs desk.now self.old }
+        requires may { MayStep (settings_of desk.now) (view_of self.old) (arm_entry by timer start.now) }
+        requires deadline { deadline_of (settings_of desk.now) start.now ((state (settings_of desk.now) (front_of self.old)).looked (Caller by)) ≡ Some deadline }
+        ensures belongs { Belongs desk.now self.new }
+        ensures step { Appends (settings_of desk.now) (view_of self.old) (arm_entry by timer start.now) (view_of self.new) }
+    {
+        self.arm_as::<Brand>(desk, by, timer, start, deadline);
+    }
+
+    fn arm_as<C: Carried>(
+        &mut self,
+        desk: &Desk,
+        by: u32,
+        timer: TimerRef,
+        start: &Start,
+        deadline: u64,
+    )
+        requires settings { C.settings ≡ settings_of desk.now }
+        requires entry { C.entry ≡ (λ n. arm_entry by timer start.now) }
+        requires belongs { Belongs desk.now self.old }
+        requires may { MayStep (settings_of desk.now) (view_of self.old) (arm_entry by timer start.now) }
+        requires deadline { deadline_of (settings_of desk.now) start.now ((state (settings_of desk.now) (front_of self.old)).looked (Caller by)) ≡ Some deadline }
+        ensures belongs { Belongs desk.now self.new }
+        ensures step { Appends (settings_of desk.now) (view_of self.old) (arm_entry by timer start.now) (view_of self.new) }
+    {
+        let place = desk.slot_place(timer.wheel, timer.slot);
+        let word = timer_word(Status::Armed, deadline, timer.generation);
+        desk.table.shared.store::<Adds<C>>(&mut self.seat, place, word);
+    }
+
     /// Settles an armed timer, or hands over one that has expired, and answers whether it did.
     ///
     /// `deadline` is that of the timer, in milliseconds after the start time. Either way the timer isn't
