@@ -11,3 +11,4 @@ pub mod SlotFacts
 pub mod TimerActs
 pub mod ReadActs
 pub mod ArmActs
+pub mod Calls

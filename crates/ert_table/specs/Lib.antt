@@ -2,6 +2,7 @@ pub mod Acts
 pub mod Desks
 pub mod Entries
 pub mod Held
+pub mod Laws
 pub mod Openings
 pub mod Places
 pub mod Rule

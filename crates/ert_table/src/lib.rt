@@ -4,6 +4,7 @@
 mod carry;
 mod clock_steps;
 mod desk;
+mod laws;
 mod opening;
 mod passes;
 mod places;
@@ -14,4 +15,5 @@ mod view;
 
 pub use carry::{OffsetCarry, Settle, TimeCarry, TimerCarry};
 pub use desk::{Desk, NoMemory, Pass, Words};
+pub use laws::calls_take_place;
 pub use view::{Met, View};
