@@ -8,4 +8,5 @@ pub mod Places
 pub mod Rule
 pub mod Settlings
 pub mod Takes
+pub mod Trial
 pub mod Views

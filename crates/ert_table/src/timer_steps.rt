@@ -18,7 +18,7 @@ use std::marker::Brand;
 
 impl Settle {
     /// The status of a timer that can be settled so.
-    fn from(self) -> Status
+    fn status_before(self) -> Status
         ensures { result ≡ status_from self }
     {
         match self {
@@ -28,7 +28,7 @@ impl Settle {
     }
 
     /// The status that it gets.
-    fn to(self) -> Status
+    fn status_after(self) -> Status
         ensures { result ≡ status_to self }
     {
         match self {
@@ -116,8 +116,8 @@ impl Pass {
         ensures settled { (state (settings_of desk.now) (front_of self.new)).status timer ≢ Some Armed }
     {
         let place = desk.slot_place(timer.wheel, timer.slot);
-        let old = timer_word(how.from(), deadline, timer.generation);
-        let new = timer_word(how.to(), deadline, timer.generation);
+        let old = timer_word(how.status_before(), deadline, timer.generation);
+        let new = timer_word(how.status_after(), deadline, timer.generation);
         let found = desk
             .table
             .shared

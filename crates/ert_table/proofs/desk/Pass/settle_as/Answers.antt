@@ -34,9 +34,9 @@ compare_exchange-found-requires g c =
     let place = c.slot_place-place.result in
     let place_is = sym c.slot_place-place.ensures in
     let old : timer_word (status_from how) deadline timer.generation ≡ c.timer_word-old.result =
-    sym (c.timer_word-old.ensures ∙ ap (λ x. timer_word x deadline timer.generation) c.from.ensures) in
+    sym (c.timer_word-old.ensures ∙ ap (λ x. timer_word x deadline timer.generation) c.status_before.ensures) in
     let new : timer_word (status_to how) deadline timer.generation ≡ c.timer_word-new.result =
-    sym (c.timer_word-new.ensures ∙ ap (λ x. timer_word x deadline timer.generation) c.to.ensures) in
+    sym (c.timer_word-new.ensures ∙ ap (λ x. timer_word x deadline timer.generation) c.status_after.ensures) in
     let entry = settle_entry desk.settings front c.args.by timer deadline how in
     let slot = hit_slot desk.settings front c.args.by timer deadline how c.requires.may.keeps in
     let within : place < word_count desk.settings =
@@ -65,7 +65,7 @@ returns g c =
     (settle_entry desk.settings (state desk.settings v.front) c.args.by timer c.args.deadline how) g.C.Carried.entry
     w c.requires.settings c.slot_place-place.ensures c.requires.entry c.compare_exchange-found.ensures.2.2 in
     let old : timer_word (status_from how) c.args.deadline timer.generation ≡ c.timer_word-old.result =
-    sym (c.timer_word-old.ensures ∙ ap (λ x. timer_word x c.args.deadline timer.generation) c.from.ensures) in
+    sym (c.timer_word-old.ensures ∙ ap (λ x. timer_word x c.args.deadline timer.generation) c.status_before.ensures) in
     let hit : Bool = nat_eq n c.timer_word-old.result in
     let is = ap (λ x. nat_eq n x) old in
     record {
