@@ -1,0 +1,14 @@
+pub mod Holders
+pub mod OneStep
+pub mod Moves
+pub mod WordPlaces
+pub mod FirstHolds
+pub mod Closings
+pub mod WordSteps
+pub mod ClockActs
+pub mod ProcessActs
+pub mod SlotFacts
+pub mod TimerActs
+pub mod ReadActs
+pub mod ArmActs
+pub mod Calls

@@ -1,0 +1,72 @@
+-- Steps on the words of processes take place with their entries.
+
+use Rattle.std.proofs.Common.{◌≡◌, ◌≢◌, ℕ, ◌+◌, ◌*◌, ◌<◌, Bool, true, false, cond, ◌||◌, ◌&&◌, nat_eq, List, Option, Some, None, refl, sym, ap, subst, ◌∙◌, arith, eq-eqb, ne_eqb}
+use Rattle.std.specs.Prelude.{bit_or}
+use Rattle.ert_defs.specs.Actors.{same_actor, has_actor}
+use Rattle.ert_defs.specs.Clocks.{Clock}
+use Rattle.ert_defs.specs.States.{State, next, state}
+use Rattle.ert_defs.specs.Timers.{row_of, timer_at}
+use Rattle.ert_defs.specs.Words.{word_of, word_count, offset_word, is_final, process_word}
+use Rattle.ert_defs.specs.declared.entry.Actor.{Actor}
+use Rattle.ert_defs.specs.declared.entry.Actor.TheVariants.{Keeper, Wheel}
+use Rattle.ert_defs.specs.declared.entry.Entry.{Entry}
+use Rattle.ert_defs.specs.declared.settings.Settings.{Settings}
+use Rattle.ert_table.specs.Acts.{Acts, Then}
+use Rattle.ert_table.specs.Entries.{mark_entry}
+use Rattle.ert_table.specs.Places.{process_place}
+use Rattle.ert_table.specs.Takes.{MayStep}
+use Rattle.ert_table.proofs.WordPlaces.{word_of-process}
+use Rattle.ert_table.proofs.WordSteps.{cond_same, word_same}
+use Rattle.ert_table.specs.declared.view.View.{View}
+
+was_found : (exited : Bool) (n : ℕ) → process_word exited ≡ n → nat_eq n 1 ≡ exited
+was_found true n is = subst (λ (k : ℕ). nat_eq k 1 ≡ true) is refl
+was_found false n is = subst (λ (k : ℕ). nat_eq k 1 ≡ false) is refl
+
+marked_at : (exited exits : Bool) → process_word (exited || exits) ≡ bit_or (process_word exited) (process_word exits)
+marked_at true true = refl
+marked_at true false = refl
+marked_at false true = refl
+marked_at false false = refl
+
+-- a mark of a process sets its word where it is to
+marked : (exited exits : Bool) (process n : ℕ) → process_word exited ≡ n
+    → process_word (exited || (nat_eq process process && exits)) ≡ bit_or n (process_word exits)
+marked exited exits process n is =
+    rw (eq-eqb process process refl) (marked_at exited exits ∙ ap (λ k. bit_or k (process_word exits)) is)
+
+or_none : (b exits : Bool) → (b || (false && exits)) ≡ b
+or_none true exits = refl
+or_none false exits = refl
+
+-- and leaves those of the others
+unmarked : (exited exits : Bool) (process other : ℕ) → process ≢ other → (exited || (nat_eq process other && exits)) ≡ exited
+unmarked exited exits process other not = rw (ne_eqb process other not) (or_none exited exits)
+
+-- a step on the word of a process marks it
+pub mark_acts : (g : Settings) (v : View) (by : Actor) (process : ℕ) (exits : Bool)
+    → ((was : Bool) → MayStep g v (mark_entry by process exits was))
+    → Acts g v (process_place g process) (λ n. bit_or n (process_word exits)) (λ n. mark_entry by process exits (nat_eq n 1))
+mark_acts g v by process exits may =
+    let place : ℕ = process_place g process in
+    let entry = λ (n : ℕ). mark_entry by process exits (nat_eq n 1) in
+    let exited = λ (h : List Entry) (n : ℕ) (then : Then g v place n h).
+        let r : process_word ((state g h).exited process) ≡ n = sym (word_of-process g (state g h) process) ∙ then.word in r in
+    record {
+      ours = λ n. (may (nat_eq n 1)).ours;
+      keeps = λ n. (may (nat_eq n 1)).keeps;
+      known = λ n. tt;
+      found = λ h n then. was_found ((state g h).exited process) n (exited h n then);
+      here = λ h n then. word_of-process g (next g (state g h) (entry n)) process
+          ∙ marked ((state g h).exited process) exits process n (exited h n then);
+      others = λ h n j then lt not. word_same g (state g h) (next g (state g h) (entry n)) j (record {
+        time = λ _. ap (λ (c : Clock). c.now) (cond_same (has_actor (entry n) Keeper) (state g h).clock);
+        offset = λ _. ap (λ (c : Clock). offset_word c.offset (is_final c.state)) (cond_same (has_actor (entry n) Keeper) (state g h).clock);
+        slot = λ w k _ _. record {
+          last = cond_same (has_actor (entry n) (Wheel w)) ((state g h).last w k);
+          status = λ m. refl;
+          row = λ m. ap (λ rows. row_of rows (timer_at w k m)) (cond_same (has_actor (entry n) (Wheel w)) ((state g h).rows w));
+        };
+        process = λ p is. unmarked ((state g h).exited p) exits process p (λ same. not (is ∙ ap (process_place g) (sym same)));
+      });
+    }

@@ -1,0 +1,41 @@
+use Rattle.std.proofs.Common.{◌≡◌, ℕ, ◌<◌, ◌∙◌, sym, ap, subst, subst₂}
+use Rattle.ert_defs.specs.States.{state}
+use Rattle.ert_defs.specs.Words.{word_count, timer_word}
+use Rattle.ert_defs.specs.declared.entry.Actor.TheVariants.{Caller}
+use Rattle.ert_defs.specs.declared.entry.Entry.{Entry}
+use Rattle.ert_defs.specs.declared.timer.Status.TheVariants.{Armed}
+use Rattle.ert_table.specs.Acts.{Acts}
+use Rattle.ert_table.specs.Places.{slot_place}
+use Rattle.ert_table.specs.Settlings.{arm_entry}
+use Rattle.ert_table.proofs.ArmActs.{arm_is, arm_acts}
+use Rattle.ert_table.proofs.OneStep.{may_store_at}
+use Rattle.ert_table.proofs.WordPlaces.{slot_place-high}
+use Rattle.ert_table.proofs.desk.Pass.arm_as.Goals as goal
+
+pub timer_word-word-requires : goal.timer_word-word-requires
+timer_word-word-requires g c =
+    let desk = c.args.desk.now in
+    let v = c.args.self.now.seat.me.0 in
+    arm_is desk.settings v c.args.by c.args.timer c.args.start.now ((state desk.settings v.front).looked (Caller c.args.by)) c.args.deadline
+    c.requires.may c.requires.deadline
+
+pub store-requires : goal.store-requires
+store-requires g c =
+    let desk = c.args.desk.now in
+    let seat = c.args.self.now.seat in
+    let timer = c.args.timer in
+    let place = c.slot_place-place.result in
+    let place_is = sym c.slot_place-place.ensures in
+    let slot = c.requires.may.keeps.2 in
+    let entry : Entry = arm_entry c.args.by timer c.args.start.now in
+    let within : place < word_count desk.settings =
+    subst (λ i. i < word_count desk.settings) place_is (slot_place-high desk.settings timer.wheel timer.slot slot.wheel_high slot.slot_high) in
+    let acts : Acts desk.settings seat.me.0 place (λ n. c.timer_word-word.result) (λ n. entry) =
+    subst₂ (λ i m. Acts desk.settings seat.me.0 i (λ n. m) (λ n. entry)) place_is (sym c.timer_word-word.ensures)
+    (arm_acts desk.settings seat.me.0 c.args.by timer c.args.start.now c.args.deadline c.requires.may c.requires.deadline) in (
+      c.requires.belongs.table,
+      subst (λ n. place < n) (sym desk.counted) within,
+      may_store_at desk.table.shared.key desk.settings g.C.Carried.settings desk.table.shared.table_id.slots seat.id seat.me
+          place c.timer_word-word.result entry g.C.Carried.entry
+          desk.keyed c.requires.settings c.requires.entry c.args.self.now.bare within acts,
+    )

@@ -1,0 +1,79 @@
+//! The heart of the service: one table of atomic words, on which every thread's steps form one legal
+//! history.
+//!
+//! # The words
+//!
+//! The state that threads share is a row of 64-bit words: one has the time, one the offset, then each slot
+//! of each wheel has one, and each process (`ert_defs`, `specs/Words.antt`). There is no lock, and nothing
+//! else is shared. Each call on a word is one atomic step, sequentially consistent: a load, a store, a
+//! compare-and-exchange or an or. It takes no memory, never waits, is never tried again and can't be
+//! refused.
+//!
+//! # The history
+//!
+//! Each step is recorded as one entry of a history. The history stands in the proofs alone: no list is
+//! kept anywhere. The rule of the table, which holds between any two steps whatever the threads do, is:
+//! there is one history, it is legal by the desk's settings, and the words are those of its state. What is
+//! no word (mailboxes, inboxes, what a scheduler holds in its hand) is data of the crates above. They have
+//! no step of their own, so a load of the time word records what was done with them: the entry is what
+//! counts, and the time that it finds is welcome anyway.
+//!
+//! # Passes
+//!
+//! A thread steps with a `Pass`. It has no bytes, and carries two things. The *actors* that it holds are
+//! what it may do: an entry is made by one or two actors, and each actor is held by at most one pass. Its
+//! *front* is what it knows: a beginning of the history, which has all entries of its actors. So what an
+//! actor's own part of the state was at the front, it still is at the next step, however many entries of
+//! others stand between. That is why a step can be prepared from the front and be legal when it is made.
+//!
+//! A pass divides (`Pass::split`) and two become one (`Pass::join`). The joined one knows the longer of
+//! the two fronts, which the other begins.
+//!
+//! # What a step asks and tells
+//!
+//! It asks that the pass holds the entry's actors, that the entry is in range, and that what its maker
+//! must know is so at the front (`MayStep`). What the step itself finds out is no condition: whether a
+//! timer was still armed, or a process had exited. It tells that the entry is last in the new front,
+//! that none of the entries between the old front and it has an actor of the pass, and that the new front
+//! is legal (`Appends`). For calls of several steps `TakesPlace` says that their entries are all that the
+//! front has gained of the pass's actors.
+//!
+//! # The steps
+//!
+//! | call | step on a word | entries |
+//! |---|---|---|
+//! | `store_time` | stores the time | Tick |
+//! | `load_time` | loads it | Look; and what has no word: Advanced, Ask, Pick, Answer, Take, Unwatch |
+//! | `store_offset` | stores the offset | Shift |
+//! | `load_offset` | loads it | Off, Watch, Tell |
+//! | `arm` | stores a slot | Arm |
+//! | `load_timer` | loads one | Probe, Peek |
+//! | `settle` | exchanges one, if it is as expected | Cancel, Expire, Orphan, Deliver, Drop; on a miss Cancel or Probe |
+//! | `mark` | ors into the word of a process | Mark |
+//!
+//! A store needs no care for other writers: the time and the offset are the clock's part's alone, and a
+//! free slot is the wheel's. A slot that is taken may be settled by anybody, so there the whole word is
+//! compared, generation and all: a timer is settled once, and an old reference never touches a newer timer
+//! of its slot.
+//!
+//! It stands on `ert_defs`, `ert_words` and the kit's `atomic_table`.
+#![tactic(auto)]
+
+mod carry;
+mod clock_steps;
+mod desk;
+mod laws;
+mod opening;
+mod passes;
+mod places;
+mod plays;
+mod process_steps;
+#[cfg(test)]
+mod tests;
+mod timer_steps;
+mod view;
+
+pub use carry::{OffsetCarry, Settle, TimeCarry, TimerCarry};
+pub use desk::{Desk, NoMemory, Pass, Words};
+pub use laws::calls_take_place;
+pub use view::{Met, View};

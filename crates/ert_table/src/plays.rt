@@ -1,0 +1,96 @@
+//! What a step on the table tells a pass, for entries, actors and settings that a call picks. They stand in
+//! proofs alone.
+ghost use Rattle.std.specs.Prelude.{ℕ};
+ghost use Rattle.ert_defs.specs.declared.entry.Actor.{Actor};
+ghost use Rattle.ert_defs.specs.declared.entry.Actor.TheVariants.{Keeper};
+ghost use Rattle.ert_defs.specs.declared.entry.Entry.{Entry};
+ghost use Rattle.ert_defs.specs.declared.settings.Settings.{Settings};
+ghost use Rattle.ert_table.specs.Acts.{Told, Read, Compared, Meets, any_settings, any_entry};
+ghost use Rattle.ert_table.specs.Views.{rest_of, part_of, both, spent};
+
+use crate::view::View;
+use atomic_table::{Join, Play, Split};
+use std::marker::{Brand, PhantomData};
+
+/// The settings of the desk, and the entry of a step for each word that it may find.
+pub(crate) trait Carried {
+    ghost settings: { Settings };
+    ghost entry: { ℕ → Entry };
+}
+
+impl Carried for Brand {
+    ghost settings = { any_settings };
+    ghost entry = { λ n. any_entry };
+}
+
+/// A step that makes its entry.
+pub(crate) struct Adds<C> {
+    carried: PhantomData<C>,
+}
+
+impl<C: Carried> Play<(), View> for Adds<C> {
+    ghost then = { λ step me n now. Told C.settings me (C.entry n) now };
+}
+
+/// A load that makes its entry, and finds a word of the state.
+pub(crate) struct Loads<C> {
+    carried: PhantomData<C>,
+}
+
+impl<C: Carried> Play<(), View> for Loads<C> {
+    ghost then = { λ step me n now. Read C.settings step me (C.entry n) n now };
+}
+
+/// A step that makes its entry by what it finds.
+pub(crate) struct Compares<C> {
+    carried: PhantomData<C>,
+}
+
+impl<C: Carried> Play<(), View> for Compares<C> {
+    ghost then = { λ step me n now. Compared C.settings step me (C.entry n) n now };
+}
+
+/// The settings of the desk.
+pub(crate) trait Named {
+    ghost settings: { Settings };
+}
+
+impl Named for Brand {
+    ghost settings = { any_settings };
+}
+
+/// A load that tells a joined pass what it is joined of.
+pub(crate) struct Learns<C> {
+    named: PhantomData<C>,
+}
+
+impl<C: Named> Play<(), View> for Learns<C> {
+    ghost then = { λ step me n now. Meets C.settings me now };
+}
+
+/// An actor.
+pub(crate) trait Chosen {
+    ghost actor: { Actor };
+}
+
+impl Chosen for Brand {
+    ghost actor = { Keeper };
+}
+
+/// One actor goes to a new pass.
+pub(crate) struct Cuts<C> {
+    chosen: PhantomData<C>,
+}
+
+impl<C: Chosen> Split<View> for Cuts<C> {
+    ghost left = { λ v. rest_of v C.actor };
+    ghost right = { λ v. part_of v C.actor };
+}
+
+/// Two passes become one.
+pub(crate) struct Glues;
+
+impl Join<View> for Glues {
+    ghost both = { both };
+    ghost spent = { spent };
+}

@@ -1,0 +1,173 @@
+//! Steps on the words of slots.
+ghost use Rattle.std.specs.Prelude.{◌≡◌, ◌≢◌, Option, Some};
+ghost use Rattle.ert_defs.specs.Milliseconds.{deadline_of};
+ghost use Rattle.ert_defs.specs.States.{state};
+ghost use Rattle.ert_defs.specs.Words.{word_of_slot};
+ghost use Rattle.ert_defs.specs.declared.entry.Actor.TheVariants.{Caller};
+ghost use Rattle.ert_defs.specs.declared.timer.Status.TheVariants.{Armed};
+ghost use Rattle.ert_table.specs.Desks.{settings_of, view_of, front_of, Belongs};
+ghost use Rattle.ert_table.specs.Settlings.{HasRow, status_from, status_to, hit_entry, settle_entry, Settles, Shown, read_entry, parts_in, shown_in, wheel_in, slot_in, arm_entry};
+ghost use Rattle.ert_table.specs.Takes.{MayStep, Appends};
+
+use crate::carry::{Settle, TimerCarry};
+use crate::desk::{Desk, Pass};
+use crate::plays::{Adds, Carried, Compares, Loads};
+use ert_defs::{Actor, Start, Status, TimerRef};
+use ert_words::{timer_of, timer_word};
+use std::marker::Brand;
+
+impl Settle {
+    /// The status of a timer that can be settled so.
+    fn status_before(self) -> Status
+        ensures { result ≡ status_from self }
+    {
+        match self {
+            Settle::Cancel | Settle::Expire | Settle::Orphan => Status::Armed,
+            Settle::Deliver | Settle::Drop => Status::Expired,
+        }
+    }
+
+    /// The status that it gets.
+    fn status_after(self) -> Status
+        ensures { result ≡ status_to self }
+    {
+        match self {
+            Settle::Cancel => Status::Cancelled,
+            Settle::Expire => Status::Expired,
+            Settle::Orphan => Status::Orphaned,
+            Settle::Deliver => Status::Delivered,
+            Settle::Drop => Status::Dropped,
+        }
+    }
+}
+
+impl Pass {
+    /// Starts a timer in a slot that is free (`erlang` module reference, `start_timer`).
+    ///
+    /// `deadline` is that of the start at the caller's last look, in milliseconds after the start time.
+    pub fn arm(&mut self, desk: &Desk, by: u32, timer: TimerRef, start: &Start, deadline: u64)
+        requires belongs { Belongs desk.now self.old }
+        requires may { MayStep (settings_of desk.now) (view_of self.old) (arm_entry by timer start.now) }
+        requires deadline { deadline_of (settings_of desk.now) start.now ((state (settings_of desk.now) (front_of self.old)).looked (Caller by)) ≡ Some deadline }
+        ensures belongs { Belongs desk.now self.new }
+        ensures step { Appends (settings_of desk.now) (view_of self.old) (arm_entry by timer start.now) (view_of self.new) }
+    {
+        self.arm_as::<Brand>(desk, by, timer, start, deadline);
+    }
+
+    fn arm_as<C: Carried>(
+        &mut self,
+        desk: &Desk,
+        by: u32,
+        timer: TimerRef,
+        start: &Start,
+        deadline: u64,
+    )
+        requires settings { C.settings ≡ settings_of desk.now }
+        requires entry { C.entry ≡ (λ n. arm_entry by timer start.now) }
+        requires belongs { Belongs desk.now self.old }
+        requires may { MayStep (settings_of desk.now) (view_of self.old) (arm_entry by timer start.now) }
+        requires deadline { deadline_of (settings_of desk.now) start.now ((state (settings_of desk.now) (front_of self.old)).looked (Caller by)) ≡ Some deadline }
+        ensures belongs { Belongs desk.now self.new }
+        ensures step { Appends (settings_of desk.now) (view_of self.old) (arm_entry by timer start.now) (view_of self.new) }
+    {
+        let place = desk.slot_place(timer.wheel, timer.slot);
+        let word = timer_word(Status::Armed, deadline, timer.generation);
+        desk.table.shared.store::<Adds<C>>(&mut self.seat, place, word);
+    }
+
+    /// Settles an armed timer, or hands over one that has expired, and answers whether it did.
+    ///
+    /// `deadline` is that of the timer, in milliseconds after the start time. Either way the timer isn't
+    /// armed any more. A timer that has expired stays so until it is handed over, so that can't fail.
+    pub fn settle(
+        &mut self,
+        desk: &Desk,
+        by: Actor,
+        timer: TimerRef,
+        deadline: u64,
+        how: Settle,
+    ) -> bool
+        requires belongs { Belongs desk.now self.old }
+        requires row { HasRow (state (settings_of desk.now) (front_of self.old)) timer deadline }
+        requires may { MayStep (settings_of desk.now) (view_of self.old) (hit_entry (settings_of desk.now) (state (settings_of desk.now) (front_of self.old)) by timer deadline how) }
+        ensures belongs { Belongs desk.now self.new }
+        ensures step { Settles (settings_of desk.now) (view_of self.old) by timer deadline how result (view_of self.new) }
+        ensures settled { (state (settings_of desk.now) (front_of self.new)).status timer ≢ Some Armed }
+    {
+        self.settle_as::<Brand>(desk, by, timer, deadline, how)
+    }
+
+    fn settle_as<C: Carried>(
+        &mut self,
+        desk: &Desk,
+        by: Actor,
+        timer: TimerRef,
+        deadline: u64,
+        how: Settle,
+    ) -> bool
+        requires settings { C.settings ≡ settings_of desk.now }
+        requires entry { C.entry ≡ settle_entry (settings_of desk.now) (state (settings_of desk.now) (front_of self.old)) by timer deadline how }
+        requires belongs { Belongs desk.now self.old }
+        requires row { HasRow (state (settings_of desk.now) (front_of self.old)) timer deadline }
+        requires may { MayStep (settings_of desk.now) (view_of self.old) (hit_entry (settings_of desk.now) (state (settings_of desk.now) (front_of self.old)) by timer deadline how) }
+        ensures belongs { Belongs desk.now self.new }
+        ensures step { Settles (settings_of desk.now) (view_of self.old) by timer deadline how result (view_of self.new) }
+        ensures settled { (state (settings_of desk.now) (front_of self.new)).status timer ≢ Some Armed }
+    {
+        let place = desk.slot_place(timer.wheel, timer.slot);
+        let old = timer_word(how.status_before(), deadline, timer.generation);
+        let new = timer_word(how.status_after(), deadline, timer.generation);
+        let found = desk
+            .table
+            .shared
+            .compare_exchange::<Compares<C>>(&mut self.seat, place, old, new);
+        found == old
+    }
+
+    /// Loads the word of a slot, and records what is carried.
+    ///
+    /// It shows the status of the last timer of the slot, its deadline in milliseconds after the start
+    /// time, and its generation; None where the slot was never used.
+    pub fn load_timer(
+        &mut self,
+        desk: &Desk,
+        by: Actor,
+        carry: &TimerCarry,
+    ) -> Option<(Status, u64, u32)>
+        requires belongs { Belongs desk.now self.old }
+        requires may { (shown : Option Shown) → MayStep (settings_of desk.now) (view_of self.old) (read_entry (settings_of desk.now) ((state (settings_of desk.now) (front_of self.old)).looked by) by carry.now shown) }
+        ensures belongs { Belongs desk.now self.new }
+        ensures step { Appends (settings_of desk.now) (view_of self.old) (read_entry (settings_of desk.now) ((state (settings_of desk.now) (front_of self.old)).looked by) by carry.now result) (view_of self.new) }
+        ensures shown { result ≡ shown_in (state (settings_of desk.now) (front_of self.new)) (wheel_in carry.now) (slot_in carry.now) }
+    {
+        let word = self.load_timer_as::<Brand>(desk, by, carry);
+        timer_of(word)
+    }
+
+    fn load_timer_as<C: Carried>(&mut self, desk: &Desk, by: Actor, carry: &TimerCarry) -> u64
+        requires settings { C.settings ≡ settings_of desk.now }
+        requires entry { C.entry ≡ (λ n. read_entry (settings_of desk.now) ((state (settings_of desk.now) (front_of self.old)).looked by) by carry.now (parts_in n)) }
+        requires belongs { Belongs desk.now self.old }
+        requires may { (shown : Option Shown) → MayStep (settings_of desk.now) (view_of self.old) (read_entry (settings_of desk.now) ((state (settings_of desk.now) (front_of self.old)).looked by) by carry.now shown) }
+        ensures belongs { Belongs desk.now self.new }
+        ensures step { Appends (settings_of desk.now) (view_of self.old) (read_entry (settings_of desk.now) ((state (settings_of desk.now) (front_of self.old)).looked by) by carry.now (parts_in result)) (view_of self.new) }
+        ensures word { word_of_slot (state (settings_of desk.now) (front_of self.new)) (wheel_in carry.now) (slot_in carry.now) ≡ result }
+    {
+        let (wheel, slot) = carry.slot();
+        let place = desk.slot_place(wheel, slot);
+        desk.table.shared.load::<Loads<C>>(&mut self.seat, place)
+    }
+}
+
+impl TimerCarry {
+    /// The wheel and the slot that are looked at.
+    fn slot(&self) -> (u32, u32)
+        ensures { result ≡ (wheel_in self.now, slot_in self.now) }
+    {
+        match self {
+            TimerCarry::Probe { wheel, slot } => (*wheel, *slot),
+            TimerCarry::Peek { timer } => (timer.wheel, timer.slot),
+        }
+    }
+}
