@@ -82,3 +82,11 @@ whole_exact g v w es whole call =
     let legal : Legal g (v.front ++ call.later) = subst (Legal g) call.grown call.legal in
     let all = all_ours g v.actors (state g v.front) call.later whole (legal_then g (opening g) v.front call.later legal) in
     call.grown ∙ ap (λ l. v.front ++ l) (sym all ∙ call.ours)
+
+-- a step of a pass that holds every actor makes its whole history longer by the entry
+pub whole_step : (g : Settings) (v w : View) (h : List Entry) (e : Entry) → IsWhole g v.actors → v.front ≡ h → Appends g v e w
+    → (w.front ≡ h ++ e ∷ []) × IsWhole g w.actors
+whole_step g v w h e whole front step = (
+  whole_exact g v w (e ∷ []) whole (step_takes_place g v e w step) ∙ ap (λ x. x ++ e ∷ []) front,
+  subst (IsWhole g) (sym step.actors) whole,
+)
