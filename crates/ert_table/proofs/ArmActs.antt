@@ -134,16 +134,16 @@ module _ (g : Settings) (v : View) (by : ℕ) (timer : TimerRef) (start : Start)
   rows_other rows true true (Some d) r not =
       row_of-other rows (record { timer = timer; deadline = d; dest = start.dest; msg = start.msg; kind = start.kind }) r
       (λ is. (let yes : same_timer timer r ≡ true = subst (λ t. same_timer timer t ≡ true) is (same_timer_self timer) in
-          let no : true ≡ false = sym yes ∙ not in cc))
+      let no : true ≡ false = sym yes ∙ not in cc))
 
   last_other : (j w k n : ℕ) (b : Bool) → j ≢ place → j ≡ slot_place g w k
       → cond b (cond (nat_eq timer.wheel w && nat_eq timer.slot k) timer.generation n) n ≡ n
   last_other j w k n b not is =
       ⊎_elim
       (λ same. (let parts = and_parts (nat_eq timer.wheel w) (nat_eq timer.slot k) same in
-          let wheel : timer.wheel ≡ w = eqb-true timer.wheel w parts.0 in
-          let slot : timer.slot ≡ k = eqb-true timer.slot k parts.1 in
-          absurd (not (is ∙ sym (ap (λ x. slot_place g x timer.slot) wheel ∙ ap (slot_place g w) slot)))))
+      let wheel : timer.wheel ≡ w = eqb-true timer.wheel w parts.0 in
+      let slot : timer.slot ≡ k = eqb-true timer.slot k parts.1 in
+      absurd (not (is ∙ sym (ap (λ x. slot_place g x timer.slot) wheel ∙ ap (slot_place g w) slot)))))
       (λ differs. rw differs (cond_same b n))
       (tells (nat_eq timer.wheel w && nat_eq timer.slot k))
 

@@ -114,12 +114,12 @@ divided_fit g h views id v a held at fits k u is =
     let fit = fits id v at in
     ⊎_elim
     (λ (old : get_elem? (set views id (rest_of v a)) k ≡ some u). ⊎_elim
-        (λ (here : (k ≡ id) × (rest_of v a ≡ u)). subst (Fits g h) here.1
-            (fits_less g h v (rest_of v a).actors fit (λ b held. (held_but_parts v.actors a b held).1)))
-        (λ (there : (k ≢ id) × (get_elem? views k ≡ some u)). fits k u there.1)
-        (at_set views id k (rest_of v a) u old))
+    (λ (here : (k ≡ id) × (rest_of v a ≡ u)). subst (Fits g h) here.1
+    (fits_less g h v (rest_of v a).actors fit (λ b held. (held_but_parts v.actors a b held).1)))
+    (λ (there : (k ≢ id) × (get_elem? views k ≡ some u)). fits k u there.1)
+    (at_set views id k (rest_of v a) u old))
     (λ (new : (k ≡ length (set views id (rest_of v a))) × (part_of v a ≡ u)). subst (Fits g h) new.1
-        (fits_less g h v (a ∷ []) fit (λ b one. subst (λ c. is_held v.actors c ≡ true) (held_one a b one) held)))
+    (fits_less g h v (a ∷ []) fit (λ b one. subst (λ c. is_held v.actors c ≡ true) (held_one a b one) held)))
     (at_snoc_at (set views id (rest_of v a)) (part_of v a) u k is)
 
 -- a pass that holds an actor may give it to a new pass
@@ -227,23 +227,23 @@ module _ (views : List View) (id other : ℕ) (v w : View) (at : get_elem? views
   whose k u is =
       ⊎_elim
       (λ (gone : (k ≡ other) × (spent ≡ u)).
-          let nothing : (b : Actor) → is_held u.actors b ≡ true → ⊥ = λ b held.
-          let no : false ≡ true = subst (λ (x : View). is_held x.actors b ≡ true) (sym gone.1) held in cc in
-          let r : Before k u = record {
-            view = w;
-            stood = subst (λ n. get_elem? views n ≡ some w) (sym gone.0) with;
-            less = λ b held. absurd (nothing b held);
-            left = λ _. nothing;
-          } in inl r)
+      let nothing : (b : Actor) → is_held u.actors b ≡ true → ⊥ = λ b held.
+      let no : false ≡ true = subst (λ (x : View). is_held x.actors b ≡ true) (sym gone.1) held in cc in
+      let r : Before k u = record {
+        view = w;
+        stood = subst (λ n. get_elem? views n ≡ some w) (sym gone.0) with;
+        less = λ b held. absurd (nothing b held);
+        left = λ _. nothing;
+      } in inl r)
       (λ (stays : (k ≢ other) × (get_elem? (set views id (both v w)) k ≡ some u)). ⊎_elim
-          (λ (here : (k ≡ id) × (both v w ≡ u)). let r : Both k u = record { here = here.0; is = here.1 } in inr r)
-          (λ (there : (k ≢ id) × (get_elem? views k ≡ some u)). let r : Before k u = record {
-            view = u;
-            stood = there.1;
-            less = λ b held. held;
-            left = λ is. absurd (stays.0 is);
-          } in inl r)
-          (at_set views id k (both v w) u stays.1))
+      (λ (here : (k ≡ id) × (both v w ≡ u)). let r : Both k u = record { here = here.0; is = here.1 } in inr r)
+      (λ (there : (k ≢ id) × (get_elem? views k ≡ some u)). let r : Before k u = record {
+        view = u;
+        stood = there.1;
+        less = λ b held. held;
+        left = λ is. absurd (stays.0 is);
+      } in inl r)
+      (at_set views id k (both v w) u stays.1))
       (at_set (set views id (both v w)) other k spent u is)
 
   -- an old pass and the one that two became have no actor in common, unless they are one
@@ -277,10 +277,10 @@ joins g id other v w s kept at not there =
       fits = λ k u is. ⊎_elim
           (λ (gone : (k ≡ other) × (spent ≡ u)). subst (Fits g kept.history) gone.1 (spent_fits g kept.history))
           (λ (stays : (k ≢ other) × (get_elem? (set s.views id (both v w)) k ≡ some u)). ⊎_elim
-              (λ (here : (k ≡ id) × (both v w ≡ u)). subst (Fits g kept.history) here.1
-                  (both_fit g kept.history v w (kept.fits id v at) (kept.fits other w with) apart))
-              (λ (there : (k ≢ id) × (get_elem? s.views k ≡ some u)). kept.fits k u there.1)
-              (at_set s.views id k (both v w) u stays.1))
+          (λ (here : (k ≡ id) × (both v w ≡ u)). subst (Fits g kept.history) here.1
+          (both_fit g kept.history v w (kept.fits id v at) (kept.fits other w with) apart))
+          (λ (there : (k ≢ id) × (get_elem? s.views k ≡ some u)). kept.fits k u there.1)
+          (at_set s.views id k (both v w) u stays.1))
           (at_set (set s.views id (both v w)) other k spent u is);
       apart = λ j k x y b at_x at_y held_x held_y.
           united s.views id other v w at not with kept.apart j k x y b
@@ -307,7 +307,7 @@ learns g slots id v s kept homes at fits =
     same_word : (words : List ℕ) (j : ℕ) → j < length words → slice_index (set words 0 (slice_index words 0)) j ≡ slice_index words j
     same_word words j lt = ⊎_elim
         (λ is. subst (λ k. slice_index (set words 0 (slice_index words 0)) k ≡ slice_index words k) (sym is)
-            (get_or-set_same words 0 (slice_index words 0) 0 (omega arith)))
+        (get_or-set_same words 0 (slice_index words 0) 0 (omega arith)))
         (λ not. get_or-set_other words 0 j (slice_index words 0) 0 not)
         (cases_eq j 0)
 

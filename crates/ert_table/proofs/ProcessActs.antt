@@ -51,7 +51,7 @@ mark_acts g v by process exits may =
     let place : ℕ = process_place g process in
     let entry = λ (n : ℕ). mark_entry by process exits (nat_eq n 1) in
     let exited = λ (h : List Entry) (n : ℕ) (then : Then g v place n h).
-        let r : process_word ((state g h).exited process) ≡ n = sym (word_of-process g (state g h) process) ∙ then.word in r in
+    let r : process_word ((state g h).exited process) ≡ n = sym (word_of-process g (state g h) process) ∙ then.word in r in
     record {
       ours = λ n. (may (nat_eq n 1)).ours;
       keeps = λ n. (may (nat_eq n 1)).keeps;

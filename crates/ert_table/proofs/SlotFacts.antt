@@ -315,12 +315,12 @@ status_by_word s timer status deadline n kept word fits is =
     ⊎_elim
     (λ (idle : IsIdle s timer.wheel timer.slot n). absurd (omega (arith, idle.word, code_low status)))
     (λ (used : IsUsed s timer.wheel timer.slot n).
-        let same = same_parts used.status status used.row.deadline deadline (s.last timer.wheel timer.slot) timer.generation
-        used.in_range.deadline_high fits (sym used.word ∙ is) in (
-          subst (λ m. s.status (timer_at timer.wheel timer.slot m) ≡ Some status) same.2
-              (used.status_is ∙ ap (λ (x : Status). Some x) same.0),
-          same.2,
-        ))
+    let same = same_parts used.status status used.row.deadline deadline (s.last timer.wheel timer.slot) timer.generation
+    used.in_range.deadline_high fits (sym used.word ∙ is) in (
+      subst (λ m. s.status (timer_at timer.wheel timer.slot m) ≡ Some status) same.2
+          (used.status_is ∙ ap (λ (x : Status). Some x) same.0),
+      same.2,
+    ))
     (slot_cases s timer.wheel timer.slot n kept word)
 
 -- a timer that takes its slot is the last of it
@@ -330,9 +330,9 @@ taken_is_last s timer status kept taken is =
     let order = kept.ordered timer.wheel timer.slot in
     ⊎_elim (λ same. sym same)
     (λ (rest : (timer.generation < s.last timer.wheel timer.slot) ⊎ (s.last timer.wheel timer.slot < timer.generation)). ⊎_elim
-        (λ below. (let no : true ≡ false = sym taken ∙ (ap is_taken (sym is) ∙ order.free timer.generation below) in absurd cc))
-        (λ above. (let no : Some status ≡ None = sym is ∙ order.unused timer.generation above in absurd cc))
-        rest)
+    (λ below. (let no : true ≡ false = sym taken ∙ (ap is_taken (sym is) ∙ order.free timer.generation below) in absurd cc))
+    (λ above. (let no : Some status ≡ None = sym is ∙ order.unused timer.generation above in absurd cc))
+    rest)
     (cases_order timer.generation (s.last timer.wheel timer.slot))
 
 -- and the word of the slot is that of it

@@ -142,8 +142,8 @@ slot_found s w k n kept word =
     ⊎_elim
     (λ (idle : IsIdle s w k n). ap status_in idle.word ∙ sym idle.status)
     (λ (used : IsUsed s w k n).
-        let parts = word_parts used.status used.row.deadline (s.last w k) used.in_range.deadline_high in
-        ap status_in used.word ∙ (parts.status_is ∙ sym used.status_is))
+    let parts = word_parts used.status used.row.deadline (s.last w k) used.in_range.deadline_high in
+    ap status_in used.word ∙ (parts.status_is ∙ sym used.status_is))
     (slot_cases s w k n kept word)
 
 -- what a pass with a row of a timer finds at a step on its slot
@@ -279,7 +279,7 @@ is_sure _ = false
 miss_word : (g : Settings) (s0 s : State) (by : Actor) (timer : TimerRef) (deadline n : ℕ) (how : Settle)
     → s.status timer ≢ Some (status_from how) → (is_sure how ≡ true → s.status timer ≡ Some (status_from how))
     → word_of_slot (next g s (miss_entry (hit_entry g s0 by timer deadline how) by timer how n)) timer.wheel timer.slot
-        ≡ word_of_slot s timer.wheel timer.slot
+    ≡ word_of_slot s timer.wheel timer.slot
 miss_word g s0 s by timer deadline n Cancel not sure =
     let e : Entry = miss_entry (hit_entry g s0 by timer deadline Cancel) by timer Cancel n in
     let alone = miss_alone g s0 by timer deadline Cancel n in
@@ -392,7 +392,7 @@ module _ (g : Settings) (v : View) (by : Actor) (timer : TimerRef) (deadline : �
       let slot = found_slot h n then in
       not_by_word (state g h) timer (status_from how) has.row n slot.kept (from_taken how) slot.stands slot.word
       (λ same. (let yes : nat_eq n old ≡ true = eq-eqb n old (same ∙ ap (λ d. timer_word (status_from how) d timer.generation) has.due) in
-          let no : true ≡ false = sym yes ∙ is in cc))
+      let no : true ≡ false = sym yes ∙ is in cc))
 
   ours_at : (n : ℕ) (b : Bool) → IsOurs v.actors (cond b hit (miss n)).by (cond b hit (miss n)).with
   ours_at n true = may.ours

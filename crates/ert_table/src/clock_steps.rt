@@ -44,7 +44,9 @@ impl Pass {
         ensures step { Appends (settings_of desk.now) (view_of self.old) (tick_entry by reading act now) (view_of self.new) }
     {
         let word = time_word(now, desk.settings.start);
-        desk.table.shared.store::<Adds<C>>(&mut self.seat, TIME, word);
+        desk.table
+            .shared
+            .store::<Adds<C>>(&mut self.seat, TIME, word);
     }
 
     /// Loads the time, in nanoseconds, and records what is carried.
@@ -83,13 +85,7 @@ impl Pass {
         self.store_offset_as::<Brand>(desk, by, offset, state);
     }
 
-    fn store_offset_as<C: Carried>(
-        &mut self,
-        desk: &Desk,
-        by: u32,
-        offset: i64,
-        state: OffsetState,
-    )
+    fn store_offset_as<C: Carried>(&mut self, desk: &Desk, by: u32, offset: i64, state: OffsetState)
         requires settings { C.settings ≡ settings_of desk.now }
         requires entry { C.entry ≡ (λ n. shift_entry by offset state) }
         requires belongs { Belongs desk.now self.old }
@@ -98,18 +94,15 @@ impl Pass {
         ensures step { Appends (settings_of desk.now) (view_of self.old) (shift_entry by offset state) (view_of self.new) }
     {
         let word = offset_word(offset, state_is_final(state));
-        desk.table.shared.store::<Adds<C>>(&mut self.seat, OFFSET, word);
+        desk.table
+            .shared
+            .store::<Adds<C>>(&mut self.seat, OFFSET, word);
     }
 
     /// Loads the offset, in nanoseconds, and its state, and records what is carried.
     ///
     /// Where the clock's part reads it, the entry is with the caller of least number that the pass holds.
-    pub fn load_offset(
-        &mut self,
-        desk: &Desk,
-        by: Actor,
-        carry: &OffsetCarry,
-    ) -> (i64, OffsetState)
+    pub fn load_offset(&mut self, desk: &Desk, by: Actor, carry: &OffsetCarry) -> (i64, OffsetState)
         requires belongs { Belongs desk.now self.old }
         requires may { (offset : ℤ) (state : OffsetState) → MayStep (settings_of desk.now) (view_of self.old) (offset_entry (settings_of desk.now) (actors_of self.old) by carry.now offset state) }
         ensures belongs { Belongs desk.now self.new }

@@ -73,7 +73,9 @@ impl Pass {
     {
         let place = desk.slot_place(timer.wheel, timer.slot);
         let word = timer_word(Status::Armed, deadline, timer.generation);
-        desk.table.shared.store::<Adds<C>>(&mut self.seat, place, word);
+        desk.table
+            .shared
+            .store::<Adds<C>>(&mut self.seat, place, word);
     }
 
     /// Settles an armed timer, or hands over one that has expired, and answers whether it did.
