@@ -1,7 +1,6 @@
 -- Calls of one step and of several.
 
-use Rattle.std.proofs.Common.{◌≡◌, ◌⊎◌, ⊎_elim, Bool, true, false, ◌||◌, List, [], ◌∷◌, ◌++◌, filter, refl, sym, ap, subst, ◌∙◌, append_assoc}
-use Rattle.std.specs.List.{list_any}
+use Rattle.std.proofs.Common.{◌≡◌, Bool, true, false, List, [], ◌∷◌, ◌++◌, filter, refl, sym, ap, subst, ◌∙◌, append_assoc}
 use Rattle.std.proofs.lemmas.List.Elements.{filter-append}
 use Rattle.ert_defs.specs.Actors.{same_actor, has_actor, IsFree}
 use Rattle.ert_defs.specs.Legal.{LegalFrom, Legal}
@@ -12,7 +11,7 @@ use Rattle.ert_defs.specs.declared.entry.Entry.{Entry}
 use Rattle.ert_defs.specs.declared.settings.Settings.{Settings}
 use Rattle.ert_table.specs.Held.{is_held, is_ours, IsWhole}
 use Rattle.ert_table.specs.Laws.{LawOfSteps, LawOfCalls, LawOfWholePasses}
-use Rattle.ert_table.specs.Takes.{Appends, TakesPlace}
+use Rattle.ert_table.specs.Takes.{Appends}
 use Rattle.ert_table.proofs.Closings.{maker_in_range}
 use Rattle.ert_table.proofs.Holders.{or_left, or_right, same_actor-true, same_actor_self}
 use Rattle.ert_table.proofs.TimerActs.{held_maker}

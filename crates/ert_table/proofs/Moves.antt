@@ -1,17 +1,16 @@
 -- Passes that are divided, put together, and told what they were put together of.
 
-use Rattle.std.proofs.Common.{◌≡◌, ◌≢◌, ◌⊎◌, inl, inr, ⊎_elim, ℕ, zero, suc, ◌<◌, ◌≤◌, Bool, true, false, cond, nat_le, List, [], ◌∷◌, ◌++◌, length, set, get_or, slice_index, Option, Some, None, refl, sym, ap, subst, ◌∙◌, arith, append-nil, length-set, get_or-set_same, get_or-set_other}
+use Rattle.std.proofs.Common.{◌≡◌, ◌≢◌, ◌⊎◌, inl, inr, ⊎_elim, ℕ, zero, suc, ◌<◌, ◌≤◌, Bool, true, false, cond, nat_le, List, [], ◌∷◌, ◌++◌, length, set, slice_index, None, refl, sym, ap, subst, ◌∙◌, arith, append-nil, length-set, get_or-set_same, get_or-set_other}
 use Rattle.std.proofs.lemmas.Bool.{cases_eq}
 use Rattle.std.proofs.lemmas.Bool.Decides.{nat_tests}
 use Rattle.std.proofs.lemmas.List.Elements.{filter-append}
 use mathlib.Core.Option.{some, some-injective, some-ne-none}
 use lib.ListN.{get_elem?}
-use Rattle.atomic_table.specs.Table.{State, keeps, Allows, Splits, Joins}
+use Rattle.atomic_table.specs.Table.{keeps, Allows, Splits, Joins}
 use Rattle.atomic_table.proofs.Lists.{at_set, set_else, set_again}
-use Rattle.ert_defs.specs.Actors.{same_actor, has_actor, of, IsFree}
+use Rattle.ert_defs.specs.Actors.{has_actor, of, IsFree}
 use Rattle.ert_defs.specs.Legal.{Legal}
-use Rattle.ert_defs.specs.States.{opening, state}
-use Rattle.ert_defs.specs.Words.{word_of, word_count}
+use Rattle.ert_defs.specs.States.{opening}
 use Rattle.ert_defs.proofs.Runs.{legal_first}
 use Rattle.ert_defs.specs.declared.entry.Actor.{Actor}
 use Rattle.ert_defs.specs.declared.entry.Entry.{Entry}
@@ -19,8 +18,8 @@ use Rattle.ert_defs.specs.declared.settings.Settings.{Settings}
 use Rattle.ert_table.specs.Acts.{Sitter, Meets}
 use Rattle.ert_table.specs.Held.{is_held}
 use Rattle.ert_table.specs.Rule.{Fits, Holds}
-use Rattle.ert_table.specs.Views.{Begins, rest_of, part_of, longer, meeting, both, spent, Joined}
-use Rattle.ert_table.proofs.Holders.{tells, same_actor_self, held-append, held_one, held_but_parts, free_then, free_front}
+use Rattle.ert_table.specs.Views.{rest_of, part_of, longer, both, spent}
+use Rattle.ert_table.proofs.Holders.{same_actor_self, held-append, held_one, held_but_parts, free_then, free_front}
 use Rattle.ert_table.proofs.OneStep.{Ruled}
 use Rattle.ert_table.specs.declared.view.View.{View}
 

@@ -1,13 +1,13 @@
 -- A step keeps the rule, and tells what its entry says. It doesn't know the events.
 
-use Rattle.std.proofs.Common.{◌≡◌, ◌≢◌, ◌⊎◌, inl, inr, ⊎_elim, ℕ, ◌<◌, arith, Bool, true, false, List, [], ◌∷◌, ◌++◌, length, set, get_or, slice_index, Option, Some, None, refl, sym, ap, subst, ◌∙◌, append_assoc, append-nil, length-set, get_or-set_same, get_or-set_other}
+use Rattle.std.proofs.Common.{◌≡◌, ◌≢◌, ⊎_elim, ℕ, ◌<◌, arith, true, false, List, [], ◌∷◌, ◌++◌, length, set, slice_index, Option, Some, None, refl, sym, ap, subst, ◌∙◌, append_assoc, append-nil, length-set, get_or-set_same, get_or-set_other}
 use Rattle.std.proofs.Math.Logic.{∥∥₁_elim}
 use Rattle.std.proofs.lemmas.Bool.{cases_eq}
 use mathlib.Core.Option.{some}
 use lib.ListN.{get_elem?}
-use Rattle.atomic_table.specs.Table.{State, Act, Step, keeps, Allows}
+use Rattle.atomic_table.specs.Table.{State, Step, keeps, Allows}
 use Rattle.atomic_table.proofs.Lists.{at_set}
-use Rattle.ert_defs.specs.Actors.{has_actor, IsFree}
+use Rattle.ert_defs.specs.Actors.{has_actor}
 use Rattle.ert_defs.specs.Legal.{Keeps, Known, Found, Legal}
 use Rattle.ert_defs.specs.States.{next, state}
 use Rattle.ert_defs.specs.Words.{word_of, word_count}

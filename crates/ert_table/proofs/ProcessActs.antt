@@ -1,12 +1,12 @@
 -- Steps on the words of processes take place with their entries.
 
-use Rattle.std.proofs.Common.{◌≡◌, ◌≢◌, ℕ, ◌+◌, ◌*◌, ◌<◌, Bool, true, false, cond, ◌||◌, ◌&&◌, nat_eq, List, Option, Some, None, refl, sym, ap, subst, ◌∙◌, arith, eq-eqb, ne_eqb}
+use Rattle.std.proofs.Common.{◌≡◌, ◌≢◌, ℕ, Bool, true, false, ◌||◌, ◌&&◌, nat_eq, List, refl, sym, ap, subst, ◌∙◌, eq-eqb, ne_eqb}
 use Rattle.std.specs.Prelude.{bit_or}
-use Rattle.ert_defs.specs.Actors.{same_actor, has_actor}
+use Rattle.ert_defs.specs.Actors.{has_actor}
 use Rattle.ert_defs.specs.Clocks.{Clock}
-use Rattle.ert_defs.specs.States.{State, next, state}
+use Rattle.ert_defs.specs.States.{next, state}
 use Rattle.ert_defs.specs.Timers.{row_of, timer_at}
-use Rattle.ert_defs.specs.Words.{word_of, word_count, offset_word, is_final, process_word}
+use Rattle.ert_defs.specs.Words.{offset_word, is_final, process_word}
 use Rattle.ert_defs.specs.declared.entry.Actor.{Actor}
 use Rattle.ert_defs.specs.declared.entry.Actor.TheVariants.{Keeper, Wheel}
 use Rattle.ert_defs.specs.declared.entry.Entry.{Entry}

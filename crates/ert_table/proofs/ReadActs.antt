@@ -1,13 +1,12 @@
 -- Loads of the words of slots take place with their entries.
 
-use Rattle.std.proofs.Common.{◌≡◌, ◌≢◌, ◌⊎◌, inl, inr, ⊎_elim, ℕ, ℤ, ◌+◌, ◌*◌, ◌<◌, ◌≤◌, Bool, true, false, cond, nat_eq, List, Option, Some, None, option_map, refl, sym, ap, subst, ◌∙◌, arith, eq-eqb, ne_eqb}
+use Rattle.std.proofs.Common.{◌≡◌, ◌≢◌, inl, inr, ⊎_elim, ℕ, ℤ, ◌≤◌, true, Option, Some, None, option_map, refl, sym, ap, subst, ◌∙◌, eq-eqb, ne_eqb}
 use Rattle.std.specs.Prelude.{IsNone}
 use Rattle.std.proofs.lemmas.Bool.{cases_eq}
-use Rattle.ert_defs.specs.Legal.{IsSlot, Keeps, Found, Legal, left_by}
-use Rattle.ert_defs.specs.Milliseconds.{left}
-use Rattle.ert_defs.specs.States.{State, next, run, state}
-use Rattle.ert_defs.specs.Timers.{Row, row_of, is_taken, timer_at}
-use Rattle.ert_defs.specs.Words.{word_of, word_of_slot, timer_word}
+use Rattle.ert_defs.specs.Legal.{IsSlot, Keeps, Found, left_by}
+use Rattle.ert_defs.specs.States.{State, state}
+use Rattle.ert_defs.specs.Timers.{Row, row_of, timer_at}
+use Rattle.ert_defs.specs.Words.{word_of_slot, timer_word}
 use Rattle.ert_defs.proofs.Runs.{look_stays}
 use Rattle.ert_defs.specs.declared.entry.Actor.{Actor}
 use Rattle.ert_defs.specs.declared.entry.Entry.{Entry}
@@ -16,8 +15,8 @@ use Rattle.ert_defs.specs.declared.timer.Status.{Status}
 use Rattle.ert_defs.specs.declared.timer.Status.TheVariants.{Armed, Expired, Delivered, Cancelled, Orphaned, Dropped}
 use Rattle.ert_defs.specs.declared.timer.TimerRef.{TimerRef}
 use Rattle.ert_words.specs.Ranges.{IsTimer, IsTimerWord}
-use Rattle.ert_table.specs.Acts.{Acts, Then}
-use Rattle.ert_table.specs.Held.{is_held, IsOurs}
+use Rattle.ert_table.specs.Acts.{Acts}
+use Rattle.ert_table.specs.Held.{is_held}
 use Rattle.ert_table.specs.Places.{slot_place}
 use Rattle.ert_table.specs.Settlings.{Shown, wheel_in, slot_in, shown_by, shown_in, left_at, left_shown, read_entry, status_in, deadline_in, generation_in, parts_in}
 use Rattle.ert_table.specs.Takes.{MayStep}

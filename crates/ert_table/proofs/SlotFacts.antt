@@ -1,21 +1,21 @@
 -- What holds of the slots after each legal history, and what their words tell.
 
-use Rattle.std.proofs.Common.{◌≡◌, ◌≢◌, ◌⊎◌, inl, inr, ⊎_elim, ℕ, ℤ, pos, negsuc, ◌+ℤ◌, ◌-ℤ◌, zero, ◌+◌, ◌*◌, ◌/◌, ◌%◌, ◌<◌, ◌≤◌, Bool, true, false, cond, ◌&&◌, nat_eq, nat_le, List, [], ◌∷◌, ◌++◌, All, Option, Some, None, refl, sym, ap, subst, ◌∙◌, arith, append-nil, eqb-true, eq-eqb}
+use Rattle.std.proofs.Common.{◌≡◌, ◌≢◌, ◌⊎◌, inl, inr, ⊎_elim, ℕ, ℤ, pos, negsuc, ◌+ℤ◌, ◌-ℤ◌, zero, ◌+◌, ◌*◌, ◌/◌, ◌%◌, ◌<◌, ◌≤◌, Bool, true, false, cond, ◌&&◌, nat_eq, nat_le, List, [], ◌∷◌, ◌++◌, All, Option, Some, None, refl, sym, ap, subst, ◌∙◌, arith, append-nil, eq-eqb}
 use Rattle.std.proofs.Props.{props}
-use Rattle.std.proofs.lemmas.Bool.{and_parts, and_right, cases_order}
+use Rattle.std.proofs.lemmas.Bool.{and_parts, cases_order}
 use Rattle.std.proofs.lemmas.Bool.Decides.{nat_tests}
 use Rattle.std.proofs.lemmas.List.Elements.{All-nil, All-push, All-head, All-tail}
 use Rattle.std.specs.Int.{int_div_euclid}
 use Rattle.ert_defs.specs.Actors.{has_actor}
 use Rattle.ert_defs.specs.Laws.{AreInOrder}
-use Rattle.ert_defs.specs.Legal.{Can, CanArm, Known, Legal}
+use Rattle.ert_defs.specs.Legal.{Can, Known, Legal}
 use Rattle.ert_defs.specs.Milliseconds.{up, deadline_at, deadline_when, deadline_of}
 use Rattle.ert_defs.specs.States.{State, opening, next, state}
 use Rattle.ert_defs.specs.Timers.{Row, row_from, rows_after, last_after, row_of, same_timer, status_after, is_taken, timer_at}
 use Rattle.ert_defs.specs.Words.{status_code, timer_word, slot_word, word_of_slot}
 use Rattle.ert_defs.proofs.FiredTimers.{row_kept, row_named, same_timer_self}
 use Rattle.ert_defs.proofs.Rows.{IsRow, rows_hold}
-use Rattle.ert_defs.proofs.Runs.{carry, kept_from}
+use Rattle.ert_defs.proofs.Runs.{kept_from}
 use Rattle.ert_defs.proofs.Slots.{ordered, same_timer-true}
 use Rattle.ert_defs.proofs.Statuses.{Forward, arms, forward_after}
 use Rattle.ert_defs.specs.declared.entry.Actor.{Actor}

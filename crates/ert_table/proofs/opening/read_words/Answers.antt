@@ -1,4 +1,4 @@
-use Rattle.std.proofs.Common.{◌≡◌, ◌∙◌, ℕ, ◌<◌, ◌≢◌, ◌+◌, length, slice_index, arith, below_more, sym, vec_len, set, get_or-set_same, get_or-set_other, rules}
+use Rattle.std.proofs.Common.{◌≡◌, ◌∙◌, ◌<◌, ◌+◌, length, slice_index, arith, below_more, sym, set, get_or-set_same, get_or-set_other, rules}
 use Rattle.std.specs.Mem.Slots.{slots_items}
 use Rattle.ert_table.proofs.Closings.{get_at}
 use Rattle.ert_table.proofs.opening.read_words.Goals as goal

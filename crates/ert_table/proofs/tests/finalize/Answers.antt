@@ -1,16 +1,16 @@
-use Rattle.std.proofs.Common.{◌≡◌, ◌∙◌, ℕ, ℤ, pos, sym, ap, subst, refl, rules, List, [], ◌∷◌, ◌++◌, Some, None, lit<}
+use Rattle.std.proofs.Common.{◌≡◌, ◌∙◌, ℤ, pos, sym, ap, subst, refl, rules, List, [], ◌∷◌, ◌++◌, Some, None, lit<}
 use Rattle.ert_defs.specs.Legal.{Known}
 use Rattle.ert_defs.specs.States.{state}
 use Rattle.ert_defs.specs.declared.entry.Act.TheVariants.{Plain, Finalize}
 use Rattle.ert_defs.specs.declared.entry.Actor.TheVariants.{Keeper, Caller}
 use Rattle.ert_defs.specs.declared.entry.Entry.{Entry}
-use Rattle.ert_defs.specs.declared.entry.Event.TheVariants.{Tick, Shift, Look}
+use Rattle.ert_defs.specs.declared.entry.Event.TheVariants.{Tick, Look}
 use Rattle.ert_defs.specs.declared.settings.OffsetState.TheVariants.{Final}
 use Rattle.ert_defs.specs.declared.settings.Settings.{Settings}
 use Rattle.ert_table.specs.Entries.{entry_by, tick_entry, shift_entry}
 use Rattle.ert_table.specs.Held.{IsWhole}
 use Rattle.ert_table.specs.Takes.{MayStep}
-use Rattle.ert_table.specs.Trial.{trial_settings, reading_at, finalized}
+use Rattle.ert_table.specs.Trial.{trial_settings, reading_at}
 use Rattle.ert_table.proofs.Calls.{whole_step}
 use Rattle.ert_table.specs.declared.view.View.{View}
 use Rattle.ert_table.proofs.tests.finalize.Goals as goal

@@ -1,4 +1,4 @@
-use Rattle.std.proofs.Common.{◌≡◌, ◌∙◌, ℕ, ◌<◌, ◌+◌, ◌*◌, length, slice_index, arith, sym, ap, vec_len, rules}
+use Rattle.std.proofs.Common.{◌≡◌, ◌∙◌, ◌*◌, slice_index, arith, sym, vec_len}
 use Rattle.std.specs.Mem.Slots.{slots_items}
 use Rattle.ert_defs.specs.States.{state}
 use Rattle.ert_table.proofs.Closings.{get_at, closed_words, close_words}
