@@ -1,20 +1,17 @@
 -- A store of the word of a slot takes place as the start of a timer.
 
-use Rattle.std.proofs.Common.{◌≡◌, ◌≢◌, ◌⊎◌, ⊎_elim, ℕ, ℤ, ◌+◌, ◌*◌, ◌<◌, ◌≤◌, Bool, true, false, cond, ◌&&◌, nat_eq, List, [], ◌∷◌, ◌++◌, All, Option, Some, None, refl, sym, ap, subst, ◌∙◌, arith, append-nil, eq-eqb, eqb-true}
+use Rattle.std.proofs.Common.{◌≡◌, ◌≢◌, ⊎_elim, ℕ, ℤ, ◌+◌, ◌≤◌, Bool, true, false, cond, ◌&&◌, nat_eq, List, [], ◌∷◌, ◌++◌, All, Option, Some, None, refl, sym, ap, subst, ◌∙◌, arith, append-nil, eq-eqb, eqb-true}
 use Rattle.std.proofs.lemmas.Bool.{and_parts, and_right}
-use Rattle.ert_defs.specs.Actors.{has_actor, IsFree}
-use Rattle.ert_defs.specs.Clocks.{Clock}
-use Rattle.ert_defs.specs.Legal.{IsSlot, CanArm, Legal}
+use Rattle.ert_defs.specs.Actors.{has_actor}
 use Rattle.ert_defs.specs.Milliseconds.{deadline_of}
-use Rattle.ert_defs.specs.States.{State, next, run, state}
+use Rattle.ert_defs.specs.States.{State, next, state}
 use Rattle.ert_defs.specs.Timers.{Row, row_from, row_of, same_timer, timer_at}
-use Rattle.ert_defs.specs.Words.{word_of, word_count, offset_word, is_final, timer_word, slot_word, word_of_slot}
+use Rattle.ert_defs.specs.Words.{timer_word, slot_word, word_of_slot}
 use Rattle.ert_defs.proofs.FiredTimers.{row_named, same_timer_self}
 use Rattle.ert_defs.proofs.Rows.{IsRow, rows_hold}
 use Rattle.ert_defs.proofs.Runs.{look_stays, last_stays}
 use Rattle.ert_defs.proofs.Slots.{same_timer-true}
-use Rattle.ert_defs.specs.declared.entry.Actor.{Actor}
-use Rattle.ert_defs.specs.declared.entry.Actor.TheVariants.{Keeper, Wheel, Caller}
+use Rattle.ert_defs.specs.declared.entry.Actor.TheVariants.{Wheel, Caller}
 use Rattle.ert_defs.specs.declared.entry.Entry.{Entry}
 use Rattle.ert_defs.specs.declared.settings.Settings.{Settings}
 use Rattle.ert_defs.specs.declared.timer.Start.{Start}
@@ -23,7 +20,6 @@ use Rattle.ert_defs.specs.declared.timer.Status.TheVariants.{Armed}
 use Rattle.ert_defs.specs.declared.timer.TimerRef.{TimerRef}
 use Rattle.ert_words.specs.Ranges.{IsTimer}
 use Rattle.ert_table.specs.Acts.{Acts, Then}
-use Rattle.ert_table.specs.Held.{is_held}
 use Rattle.ert_table.specs.Places.{slot_place}
 use Rattle.ert_table.specs.Settlings.{arm_entry}
 use Rattle.ert_table.specs.Takes.{MayStep}
@@ -134,16 +130,16 @@ module _ (g : Settings) (v : View) (by : ℕ) (timer : TimerRef) (start : Start)
   rows_other rows true true (Some d) r not =
       row_of-other rows (record { timer = timer; deadline = d; dest = start.dest; msg = start.msg; kind = start.kind }) r
       (λ is. (let yes : same_timer timer r ≡ true = subst (λ t. same_timer timer t ≡ true) is (same_timer_self timer) in
-          let no : true ≡ false = sym yes ∙ not in cc))
+      let no : true ≡ false = sym yes ∙ not in cc))
 
   last_other : (j w k n : ℕ) (b : Bool) → j ≢ place → j ≡ slot_place g w k
       → cond b (cond (nat_eq timer.wheel w && nat_eq timer.slot k) timer.generation n) n ≡ n
   last_other j w k n b not is =
       ⊎_elim
       (λ same. (let parts = and_parts (nat_eq timer.wheel w) (nat_eq timer.slot k) same in
-          let wheel : timer.wheel ≡ w = eqb-true timer.wheel w parts.0 in
-          let slot : timer.slot ≡ k = eqb-true timer.slot k parts.1 in
-          absurd (not (is ∙ sym (ap (λ x. slot_place g x timer.slot) wheel ∙ ap (slot_place g w) slot)))))
+      let wheel : timer.wheel ≡ w = eqb-true timer.wheel w parts.0 in
+      let slot : timer.slot ≡ k = eqb-true timer.slot k parts.1 in
+      absurd (not (is ∙ sym (ap (λ x. slot_place g x timer.slot) wheel ∙ ap (slot_place g w) slot)))))
       (λ differs. rw differs (cond_same b n))
       (tells (nat_eq timer.wheel w && nat_eq timer.slot k))
 

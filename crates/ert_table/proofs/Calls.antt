@@ -1,7 +1,6 @@
 -- Calls of one step and of several.
 
-use Rattle.std.proofs.Common.{◌≡◌, ◌⊎◌, ⊎_elim, Bool, true, false, ◌||◌, List, [], ◌∷◌, ◌++◌, filter, refl, sym, ap, subst, ◌∙◌, append_assoc}
-use Rattle.std.specs.List.{list_any}
+use Rattle.std.proofs.Common.{◌≡◌, Bool, true, false, List, [], ◌∷◌, ◌++◌, filter, refl, sym, ap, subst, ◌∙◌, append_assoc}
 use Rattle.std.proofs.lemmas.List.Elements.{filter-append}
 use Rattle.ert_defs.specs.Actors.{same_actor, has_actor, IsFree}
 use Rattle.ert_defs.specs.Legal.{LegalFrom, Legal}
@@ -12,7 +11,7 @@ use Rattle.ert_defs.specs.declared.entry.Entry.{Entry}
 use Rattle.ert_defs.specs.declared.settings.Settings.{Settings}
 use Rattle.ert_table.specs.Held.{is_held, is_ours, IsWhole}
 use Rattle.ert_table.specs.Laws.{LawOfSteps, LawOfCalls, LawOfWholePasses}
-use Rattle.ert_table.specs.Takes.{Appends, TakesPlace}
+use Rattle.ert_table.specs.Takes.{Appends}
 use Rattle.ert_table.proofs.Closings.{maker_in_range}
 use Rattle.ert_table.proofs.Holders.{or_left, or_right, same_actor-true, same_actor_self}
 use Rattle.ert_table.proofs.TimerActs.{held_maker}
@@ -82,3 +81,11 @@ whole_exact g v w es whole call =
     let legal : Legal g (v.front ++ call.later) = subst (Legal g) call.grown call.legal in
     let all = all_ours g v.actors (state g v.front) call.later whole (legal_then g (opening g) v.front call.later legal) in
     call.grown ∙ ap (λ l. v.front ++ l) (sym all ∙ call.ours)
+
+-- a step of a pass that holds every actor makes its whole history longer by the entry
+pub whole_step : (g : Settings) (v w : View) (h : List Entry) (e : Entry) → IsWhole g v.actors → v.front ≡ h → Appends g v e w
+    → (w.front ≡ h ++ e ∷ []) × IsWhole g w.actors
+whole_step g v w h e whole front step = (
+  whole_exact g v w (e ∷ []) whole (step_takes_place g v e w step) ∙ ap (λ x. x ++ e ∷ []) front,
+  subst (IsWhole g) (sym step.actors) whole,
+)

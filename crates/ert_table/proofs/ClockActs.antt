@@ -1,25 +1,24 @@
 -- Steps on the words of the time and of the offset take place with their entries.
 
-use Rattle.std.proofs.Common.{◌≡◌, ◌≢◌, ℕ, ℤ, pos, negsuc, ◌+◌, ◌*◌, ◌/◌, ◌%◌, cond, nat_eq, ◌+ℤ◌, ◌-ℤ◌, ◌≤ℤ◌, ◌<ℤ◌, ◌<◌, ◌≤◌, Bool, true, false, List, [], ◌∷◌, ◌++◌, Option, Some, None, refl, sym, ap, subst, ◌∙◌, arith, append-nil, FitsSigned}
+use Rattle.std.proofs.Common.{◌≡◌, ℕ, ℤ, pos, negsuc, ◌+◌, ◌*◌, ◌/◌, ◌%◌, cond, nat_eq, ◌+ℤ◌, ◌-ℤ◌, ◌≤ℤ◌, ◌<ℤ◌, Bool, true, false, List, [], ◌∷◌, ◌++◌, Some, refl, sym, ap, subst, ◌∙◌, arith}
 use Rattle.std.proofs.lemmas.Int.{ints}
 use Rattle.std.proofs.Props.{props}
-use Rattle.std.specs.Int.{w64}
 use Rattle.ert_defs.specs.Actors.{has_actor}
 use Rattle.ert_defs.specs.Clocks.{Clock, face}
-use Rattle.ert_defs.specs.Legal.{Keeps, Known, Found, Legal}
-use Rattle.ert_defs.specs.Lines.{IsOffset, end_time}
+use Rattle.ert_defs.specs.Legal.{Found, Legal}
+use Rattle.ert_defs.specs.Lines.{IsOffset}
 use Rattle.ert_defs.specs.Milliseconds.{natural}
 use Rattle.ert_defs.specs.Settings.{IsChecked}
 use Rattle.ert_defs.specs.Sound.{MayShift}
 use Rattle.ert_defs.specs.States.{State, opening, next, state}
-use Rattle.ert_defs.specs.Words.{word_of, word_count, time_word, offset_word, is_final}
-use Rattle.ert_defs.proofs.Bounds.{IsWithin, time_fits}
+use Rattle.ert_defs.specs.Words.{time_word, offset_word, is_final}
+use Rattle.ert_defs.proofs.Bounds.{time_fits}
 use Rattle.ert_defs.proofs.Permissions.{IsOfMode, KeepsMode, mode_opening, mode_when}
 use Rattle.ert_defs.proofs.Runs.{kept_from, legal_more, state-append}
 use Rattle.ert_defs.proofs.Times.{kept, state_in_range}
 use Rattle.ert_defs.specs.declared.entry.Act.{Act}
 use Rattle.ert_defs.specs.declared.entry.Actor.{Actor}
-use Rattle.ert_defs.specs.declared.entry.Actor.TheVariants.{Keeper, Caller}
+use Rattle.ert_defs.specs.declared.entry.Actor.TheVariants.{Keeper}
 use Rattle.ert_defs.specs.declared.entry.Entry.{Entry}
 use Rattle.ert_defs.specs.declared.settings.Mode.{Mode}
 use Rattle.ert_defs.specs.declared.settings.Mode.TheVariants.{No, Single, Multi}
@@ -28,7 +27,7 @@ use Rattle.ert_defs.specs.declared.settings.OffsetState.TheVariants.{Preliminary
 use Rattle.ert_defs.specs.declared.settings.Reading.{Reading}
 use Rattle.ert_defs.specs.declared.settings.Settings.{Settings}
 use Rattle.ert_words.specs.Ranges.{IsTime, IsTimeWord, IsOffsetWord}
-use Rattle.ert_table.specs.Acts.{Acts, Then}
+use Rattle.ert_table.specs.Acts.{Acts}
 use Rattle.ert_table.specs.Entries.{tick_entry, time_entry, time_in, shift_entry, offset_entry, offset_in, state_where, state_in}
 use Rattle.ert_table.specs.Rule.{IsLegalBy}
 use Rattle.ert_table.specs.Takes.{MayStep}

@@ -1,21 +1,21 @@
 -- What a pass that holds every actor knows: the whole history.
 
-use Rattle.std.proofs.Common.{◌≡◌, ℕ, zero, suc, vec_len, ◌+◌, ◌*◌, ◌<◌, ◌≤◌, Bool, true, false, List, [], ◌∷◌, ◌++◌, filter, slice_index, Option, Some, None, refl, sym, ap, subst, ◌∙◌, arith, append-nil}
+use Rattle.std.proofs.Common.{◌≡◌, ℕ, zero, suc, vec_len, ◌+◌, ◌*◌, ◌<◌, true, false, List, [], ◌∷◌, ◌++◌, slice_index, Option, None, refl, sym, ap, subst, ◌∙◌, arith, append-nil}
 use lib.ListN.{get_elem?}
 use mathlib.Core.Option.{some, some-injective, some-ne-none}
 use Rattle.atomic_table.specs.Table.{Final, Seen}
 use Rattle.ert_defs.specs.Actors.{same_actor, has_actor, IsFree, IsCaller, IsUser}
-use Rattle.ert_defs.specs.Legal.{IsProber, IsReader, Keeps, Can, LegalFrom, Legal}
-use Rattle.ert_defs.specs.States.{State, opening, next, state, run}
+use Rattle.ert_defs.specs.Legal.{IsProber, IsReader, Keeps, LegalFrom, Legal}
+use Rattle.ert_defs.specs.States.{State, opening, state}
 use Rattle.ert_defs.specs.Words.{word_of, word_count}
 use Rattle.ert_defs.proofs.Runs.{legal_then, free_first}
 use Rattle.ert_defs.specs.declared.entry.Actor.{Actor}
-use Rattle.ert_defs.specs.declared.entry.Actor.TheVariants.{Keeper, Wheel, Inbox, Sched, MailOf, Caller}
+use Rattle.ert_defs.specs.declared.entry.Actor.TheVariants.{Keeper, Sched, Caller}
 use Rattle.ert_defs.specs.declared.entry.Entry.{Entry}
 use Rattle.ert_defs.specs.declared.entry.Event.{Event}
 use Rattle.ert_defs.specs.declared.entry.Event.TheVariants.{Tick, Shift, Look, Off, Arm, Probe, Peek, Cancel, Expire, Orphan, Deliver, Drop, Mark, Advanced, Ask, Pick, Answer, Take, Unwatch, Watch, Tell}
 use Rattle.ert_defs.specs.declared.settings.Settings.{Settings}
-use Rattle.ert_table.specs.Held.{is_held, IsActor, IsWhole}
+use Rattle.ert_table.specs.Held.{IsActor, IsWhole}
 use Rattle.ert_table.specs.Places.{slot_place, process_place, AreWords}
 use Rattle.ert_table.specs.Rule.{Fits, Holds}
 use Rattle.ert_table.proofs.Holders.{or_left, same_actor_self}

@@ -1,14 +1,13 @@
 -- The rule holds at the opening.
 
-use Rattle.std.proofs.Common.{◌≡◌, ◌≢◌, ◌⊎◌, inl, inr, ⊎_elim, ℕ, ℤ, pos, zero, suc, ◌+◌, ◌-◌, ◌*◌, ◌<◌, ◌≤◌, ◌-ℤ◌, Bool, true, false, cond, nat_lt, List, [], ◌∷◌, length, set, replicate, slice_index, Option, Some, None, refl, sym, ap, subst, ◌∙◌, arith, length-set, get_or-set_same, get_or-set_other}
+use Rattle.std.proofs.Common.{◌≡◌, ℕ, ℤ, pos, zero, suc, ◌-◌, ◌*◌, ◌<◌, ◌≤◌, ◌-ℤ◌, Bool, true, false, cond, nat_lt, [], ◌∷◌, replicate, slice_index, refl, sym, ap, subst, ◌∙◌, arith, length-set, get_or-set_same, get_or-set_other}
 use Rattle.std.proofs.Math.ListN.{length-replicate, get_or-replicate}
-use Rattle.std.proofs.lemmas.Bool.{cases_eq}
 use Rattle.std.proofs.lemmas.Int.{ints}
 use mathlib.Core.Option.{some, some-injective, some-ne-none}
 use lib.ListN.{get_elem?}
 use Rattle.ert_defs.specs.Milliseconds.{natural}
-use Rattle.ert_defs.specs.States.{opening, state}
-use Rattle.ert_defs.specs.Words.{word_of, later_word, word_count, time_word}
+use Rattle.ert_defs.specs.States.{opening}
+use Rattle.ert_defs.specs.Words.{word_of, word_count, time_word}
 use Rattle.ert_defs.specs.declared.settings.Settings.{Settings}
 use Rattle.ert_table.specs.Openings.{first_words}
 use Rattle.ert_table.specs.Rule.{Fits, Holds}

@@ -1,7 +1,6 @@
 -- What a list of actors holds, and which entries are free of it.
 
-use Rattle.std.proofs.Common.{◌≡◌, ◌≢◌, ◌⊎◌, inl, inr, ⊎_elim, ℕ, zero, suc, ◌<◌, Bool, true, false, cond, not, ◌||◌, ◌&&◌, nat_eq, List, [], ◌∷◌, ◌++◌, filter, Option, Some, None, refl, sym, ap, subst, ◌∙◌, arith, eqb-true, eq-eqb}
-use Rattle.std.specs.List.{list_any}
+use Rattle.std.proofs.Common.{◌≡◌, ◌⊎◌, inl, inr, ⊎_elim, ℕ, zero, suc, ◌<◌, Bool, true, false, not, ◌||◌, ◌&&◌, List, [], ◌∷◌, ◌++◌, Option, Some, None, refl, sym, ap, subst, ◌∙◌, arith, eqb-true, eq-eqb}
 use Rattle.std.proofs.lemmas.List.Elements.{filter-append}
 use Rattle.std.proofs.lemmas.Bool.{and_parts, cases_eq}
 use Rattle.std.proofs.lemmas.List.Folds.{list_any-append}
@@ -12,7 +11,7 @@ use Rattle.ert_defs.specs.declared.entry.Actor.{Actor}
 use Rattle.ert_defs.specs.declared.entry.Actor.TheVariants.{Keeper, Wheel, Inbox, Sched, MailOf, Caller}
 use Rattle.ert_defs.specs.declared.entry.Entry.{Entry}
 use Rattle.ert_defs.specs.declared.settings.Settings.{Settings}
-use Rattle.ert_table.specs.Held.{is_held, IsOurs, is_ours, actors_but, IsActor, IsWhole, upto, everyone}
+use Rattle.ert_table.specs.Held.{is_held, IsOurs, actors_but, IsWhole, upto, everyone}
 
 -- a test has an answer
 pub tells : (b : Bool) → (b ≡ true) ⊎ (b ≡ false)
@@ -82,6 +81,7 @@ held_of actors e a ours h =
         → is_held actors a ≡ true
     held_by actors by None a ours is = subst (λ b. is_held actors b ≡ true) is ours
     held_by actors by (Some c) a ours is = subst (λ b. is_held actors b ≡ true) is ours.0
+
     held_with : (actors : List Actor) (by : Actor) (with : Option Actor) (a : Actor) → IsOurs actors by with
         → is_with with a ≡ true → is_held actors a ≡ true
     held_with actors by None a ours is = absurd cc
@@ -158,3 +158,12 @@ whole_everyone g (Caller n) h =
     held_then (upto Wheel g.schedulers) _ (Caller n) (held_then (upto Inbox g.schedulers) _ (Caller n)
     (held_then (upto Sched g.schedulers) _ (Caller n) (held_then (upto MailOf g.processes) _ (Caller n)
     (upto_held Caller (λ m n. eq-eqb m n) g.callers n h))))
+
+-- what a pass holds that is divided, the two hold after that
+pub whole_divided : (g : Settings) (actors : List Actor) (a : Actor) → IsWhole g actors → IsWhole g (actors_but actors a ++ a ∷ [])
+whole_divided g actors a whole b ranged =
+    ⊎_elim
+    (λ same. held_then (actors_but actors a) (a ∷ []) b
+    (subst (λ c. is_held (a ∷ []) c ≡ true) (sym (same_actor-true b a same)) (or_left (same_actor a a) false (same_actor_self a))))
+    (λ differs. held_first (actors_but actors a) (a ∷ []) b (held_but_other actors a b differs (whole b ranged)))
+    (tells (same_actor b a))

@@ -1,17 +1,16 @@
 -- Passes that are divided, put together, and told what they were put together of.
 
-use Rattle.std.proofs.Common.{◌≡◌, ◌≢◌, ◌⊎◌, inl, inr, ⊎_elim, ℕ, zero, suc, ◌<◌, ◌≤◌, Bool, true, false, cond, nat_le, List, [], ◌∷◌, ◌++◌, length, set, get_or, slice_index, Option, Some, None, refl, sym, ap, subst, ◌∙◌, arith, append-nil, length-set, get_or-set_same, get_or-set_other}
+use Rattle.std.proofs.Common.{◌≡◌, ◌≢◌, ◌⊎◌, inl, inr, ⊎_elim, ℕ, zero, suc, ◌<◌, ◌≤◌, Bool, true, false, cond, nat_le, List, [], ◌∷◌, ◌++◌, length, set, slice_index, None, refl, sym, ap, subst, ◌∙◌, arith, append-nil, length-set, get_or-set_same, get_or-set_other}
 use Rattle.std.proofs.lemmas.Bool.{cases_eq}
 use Rattle.std.proofs.lemmas.Bool.Decides.{nat_tests}
 use Rattle.std.proofs.lemmas.List.Elements.{filter-append}
 use mathlib.Core.Option.{some, some-injective, some-ne-none}
 use lib.ListN.{get_elem?}
-use Rattle.atomic_table.specs.Table.{State, keeps, Allows, Splits, Joins}
+use Rattle.atomic_table.specs.Table.{keeps, Allows, Splits, Joins}
 use Rattle.atomic_table.proofs.Lists.{at_set, set_else, set_again}
-use Rattle.ert_defs.specs.Actors.{same_actor, has_actor, of, IsFree}
+use Rattle.ert_defs.specs.Actors.{has_actor, of, IsFree}
 use Rattle.ert_defs.specs.Legal.{Legal}
-use Rattle.ert_defs.specs.States.{opening, state}
-use Rattle.ert_defs.specs.Words.{word_of, word_count}
+use Rattle.ert_defs.specs.States.{opening}
 use Rattle.ert_defs.proofs.Runs.{legal_first}
 use Rattle.ert_defs.specs.declared.entry.Actor.{Actor}
 use Rattle.ert_defs.specs.declared.entry.Entry.{Entry}
@@ -19,8 +18,8 @@ use Rattle.ert_defs.specs.declared.settings.Settings.{Settings}
 use Rattle.ert_table.specs.Acts.{Sitter, Meets}
 use Rattle.ert_table.specs.Held.{is_held}
 use Rattle.ert_table.specs.Rule.{Fits, Holds}
-use Rattle.ert_table.specs.Views.{Begins, rest_of, part_of, longer, meeting, both, spent, Joined}
-use Rattle.ert_table.proofs.Holders.{tells, same_actor_self, held-append, held_one, held_but_parts, free_then, free_front}
+use Rattle.ert_table.specs.Views.{rest_of, part_of, longer, both, spent}
+use Rattle.ert_table.proofs.Holders.{same_actor_self, held-append, held_one, held_but_parts, free_then, free_front}
 use Rattle.ert_table.proofs.OneStep.{Ruled}
 use Rattle.ert_table.specs.declared.view.View.{View}
 
@@ -114,12 +113,12 @@ divided_fit g h views id v a held at fits k u is =
     let fit = fits id v at in
     ⊎_elim
     (λ (old : get_elem? (set views id (rest_of v a)) k ≡ some u). ⊎_elim
-        (λ (here : (k ≡ id) × (rest_of v a ≡ u)). subst (Fits g h) here.1
-            (fits_less g h v (rest_of v a).actors fit (λ b held. (held_but_parts v.actors a b held).1)))
-        (λ (there : (k ≢ id) × (get_elem? views k ≡ some u)). fits k u there.1)
-        (at_set views id k (rest_of v a) u old))
+    (λ (here : (k ≡ id) × (rest_of v a ≡ u)). subst (Fits g h) here.1
+    (fits_less g h v (rest_of v a).actors fit (λ b held. (held_but_parts v.actors a b held).1)))
+    (λ (there : (k ≢ id) × (get_elem? views k ≡ some u)). fits k u there.1)
+    (at_set views id k (rest_of v a) u old))
     (λ (new : (k ≡ length (set views id (rest_of v a))) × (part_of v a ≡ u)). subst (Fits g h) new.1
-        (fits_less g h v (a ∷ []) fit (λ b one. subst (λ c. is_held v.actors c ≡ true) (held_one a b one) held)))
+    (fits_less g h v (a ∷ []) fit (λ b one. subst (λ c. is_held v.actors c ≡ true) (held_one a b one) held)))
     (at_snoc_at (set views id (rest_of v a)) (part_of v a) u k is)
 
 -- a pass that holds an actor may give it to a new pass
@@ -227,23 +226,23 @@ module _ (views : List View) (id other : ℕ) (v w : View) (at : get_elem? views
   whose k u is =
       ⊎_elim
       (λ (gone : (k ≡ other) × (spent ≡ u)).
-          let nothing : (b : Actor) → is_held u.actors b ≡ true → ⊥ = λ b held.
-          let no : false ≡ true = subst (λ (x : View). is_held x.actors b ≡ true) (sym gone.1) held in cc in
-          let r : Before k u = record {
-            view = w;
-            stood = subst (λ n. get_elem? views n ≡ some w) (sym gone.0) with;
-            less = λ b held. absurd (nothing b held);
-            left = λ _. nothing;
-          } in inl r)
+      let nothing : (b : Actor) → is_held u.actors b ≡ true → ⊥ = λ b held.
+      let no : false ≡ true = subst (λ (x : View). is_held x.actors b ≡ true) (sym gone.1) held in cc in
+      let r : Before k u = record {
+        view = w;
+        stood = subst (λ n. get_elem? views n ≡ some w) (sym gone.0) with;
+        less = λ b held. absurd (nothing b held);
+        left = λ _. nothing;
+      } in inl r)
       (λ (stays : (k ≢ other) × (get_elem? (set views id (both v w)) k ≡ some u)). ⊎_elim
-          (λ (here : (k ≡ id) × (both v w ≡ u)). let r : Both k u = record { here = here.0; is = here.1 } in inr r)
-          (λ (there : (k ≢ id) × (get_elem? views k ≡ some u)). let r : Before k u = record {
-            view = u;
-            stood = there.1;
-            less = λ b held. held;
-            left = λ is. absurd (stays.0 is);
-          } in inl r)
-          (at_set views id k (both v w) u stays.1))
+      (λ (here : (k ≡ id) × (both v w ≡ u)). let r : Both k u = record { here = here.0; is = here.1 } in inr r)
+      (λ (there : (k ≢ id) × (get_elem? views k ≡ some u)). let r : Before k u = record {
+        view = u;
+        stood = there.1;
+        less = λ b held. held;
+        left = λ is. absurd (stays.0 is);
+      } in inl r)
+      (at_set views id k (both v w) u stays.1))
       (at_set (set views id (both v w)) other k spent u is)
 
   -- an old pass and the one that two became have no actor in common, unless they are one
@@ -277,10 +276,10 @@ joins g id other v w s kept at not there =
       fits = λ k u is. ⊎_elim
           (λ (gone : (k ≡ other) × (spent ≡ u)). subst (Fits g kept.history) gone.1 (spent_fits g kept.history))
           (λ (stays : (k ≢ other) × (get_elem? (set s.views id (both v w)) k ≡ some u)). ⊎_elim
-              (λ (here : (k ≡ id) × (both v w ≡ u)). subst (Fits g kept.history) here.1
-                  (both_fit g kept.history v w (kept.fits id v at) (kept.fits other w with) apart))
-              (λ (there : (k ≢ id) × (get_elem? s.views k ≡ some u)). kept.fits k u there.1)
-              (at_set s.views id k (both v w) u stays.1))
+          (λ (here : (k ≡ id) × (both v w ≡ u)). subst (Fits g kept.history) here.1
+          (both_fit g kept.history v w (kept.fits id v at) (kept.fits other w with) apart))
+          (λ (there : (k ≢ id) × (get_elem? s.views k ≡ some u)). kept.fits k u there.1)
+          (at_set s.views id k (both v w) u stays.1))
           (at_set (set s.views id (both v w)) other k spent u is);
       apart = λ j k x y b at_x at_y held_x held_y.
           united s.views id other v w at not with kept.apart j k x y b
@@ -307,7 +306,7 @@ learns g slots id v s kept homes at fits =
     same_word : (words : List ℕ) (j : ℕ) → j < length words → slice_index (set words 0 (slice_index words 0)) j ≡ slice_index words j
     same_word words j lt = ⊎_elim
         (λ is. subst (λ k. slice_index (set words 0 (slice_index words 0)) k ≡ slice_index words k) (sym is)
-            (get_or-set_same words 0 (slice_index words 0) 0 (omega arith)))
+        (get_or-set_same words 0 (slice_index words 0) 0 (omega arith)))
         (λ not. get_or-set_other words 0 j (slice_index words 0) 0 not)
         (cases_eq j 0)
 

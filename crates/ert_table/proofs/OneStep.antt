@@ -1,13 +1,13 @@
 -- A step keeps the rule, and tells what its entry says. It doesn't know the events.
 
-use Rattle.std.proofs.Common.{◌≡◌, ◌≢◌, ◌⊎◌, inl, inr, ⊎_elim, ℕ, ◌<◌, arith, Bool, true, false, List, [], ◌∷◌, ◌++◌, length, set, get_or, slice_index, Option, Some, None, refl, sym, ap, subst, ◌∙◌, append_assoc, append-nil, length-set, get_or-set_same, get_or-set_other}
+use Rattle.std.proofs.Common.{◌≡◌, ◌≢◌, ⊎_elim, ℕ, ◌<◌, arith, true, false, List, [], ◌∷◌, ◌++◌, length, set, slice_index, Option, Some, None, refl, sym, ap, subst, ◌∙◌, append_assoc, append-nil, length-set, get_or-set_same, get_or-set_other}
 use Rattle.std.proofs.Math.Logic.{∥∥₁_elim}
 use Rattle.std.proofs.lemmas.Bool.{cases_eq}
 use mathlib.Core.Option.{some}
 use lib.ListN.{get_elem?}
-use Rattle.atomic_table.specs.Table.{State, Act, Step, keeps, Allows}
+use Rattle.atomic_table.specs.Table.{State, Step, keeps, Allows}
 use Rattle.atomic_table.proofs.Lists.{at_set}
-use Rattle.ert_defs.specs.Actors.{has_actor, IsFree}
+use Rattle.ert_defs.specs.Actors.{has_actor}
 use Rattle.ert_defs.specs.Legal.{Keeps, Known, Found, Legal}
 use Rattle.ert_defs.specs.States.{next, state}
 use Rattle.ert_defs.specs.Words.{word_of, word_count}
@@ -94,9 +94,9 @@ fits_all : (g : Settings) (words : List ℕ) (views : List View) (id : ℕ) (v :
 fits_all g words views id v e kept at ours k u is =
     ⊎_elim
     (λ (here : (k ≡ id) × (after v kept.history e ≡ u)).
-        subst (Fits g (kept.history ++ e ∷ [])) here.1 (fits_now g kept.history e v (kept.fits id v at)))
+    subst (Fits g (kept.history ++ e ∷ [])) here.1 (fits_now g kept.history e v (kept.fits id v at)))
     (λ (there : (k ≢ id) × (get_elem? views k ≡ some u)). fits_on g kept.history e u (kept.fits k u there.1)
-        (λ a held. apart_of v.actors u.actors e a ours (λ ours'. there.0 (kept.apart k id u v a there.1 at held ours'))))
+    (λ a held. apart_of v.actors u.actors e a ours (λ ours'. there.0 (kept.apart k id u v a there.1 at held ours'))))
     (at_set views id k (after v kept.history e) u is)
 
 -- the words are those of the state after a step
@@ -109,7 +109,7 @@ shown_all g words h e i m counted lt shown here others j lt_j =
     let moved : state g (h ++ e ∷ []) ≡ next g (state g h) e = state-append g h (e ∷ []) in
     ⊎_elim
     (λ is. subst (λ k. slice_index (set words i m) k ≡ word_of g (state g (h ++ e ∷ [])) k) (sym is)
-        (get_or-set_same words i m 0 (subst (λ x. i < x) (sym counted) lt) ∙ (sym here ∙ ap (λ s. word_of g s i) (sym moved))))
+    (get_or-set_same words i m 0 (subst (λ x. i < x) (sym counted) lt) ∙ (sym here ∙ ap (λ s. word_of g s i) (sym moved))))
     (λ not. get_or-set_other words i j m 0 not ∙ (shown j lt_j ∙ (sym (others j lt_j not) ∙ ap (λ s. word_of g s j) (sym moved))))
     (cases_eq j i)
 
@@ -183,7 +183,7 @@ may_load_at key g g' slots id me step entry entry' same same' entries bare lt ac
     let P : List (ℕ × Unit {0}) → Type 0 = λ l. Allows (Ruled g) slots id (me.0, l) i (λ n. n) (λ n now. Read g step (me.0, l) (entry n) n now) in
     let stands : P me.1 = subst P (sym bare)
     (may_step g slots id me.0 i (λ n. n) entry (λ n now. Read g step (me.0, []) (entry n) n now) lt acts
-        (λ n w named finds shown. (refl, named, finds.step, shown))) in
+    (λ n w named finds shown. (refl, named, finds.step, shown))) in
     let by_key : Allows (Ruled key) slots id me i (λ n. n) (λ n now. Read g step me (entry n) n now) =
     subst (λ k. Allows (Ruled k) slots id me i (λ n. n) (λ n now. Read g step me (entry n) n now)) (sym same) stands in
     let by_settings : Allows (Ruled key) slots id me i (λ n. n) (λ n now. Read g' step me (entry n) n now) =

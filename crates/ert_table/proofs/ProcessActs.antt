@@ -1,12 +1,12 @@
 -- Steps on the words of processes take place with their entries.
 
-use Rattle.std.proofs.Common.{◌≡◌, ◌≢◌, ℕ, ◌+◌, ◌*◌, ◌<◌, Bool, true, false, cond, ◌||◌, ◌&&◌, nat_eq, List, Option, Some, None, refl, sym, ap, subst, ◌∙◌, arith, eq-eqb, ne_eqb}
+use Rattle.std.proofs.Common.{◌≡◌, ◌≢◌, ℕ, Bool, true, false, ◌||◌, ◌&&◌, nat_eq, List, refl, sym, ap, subst, ◌∙◌, eq-eqb, ne_eqb}
 use Rattle.std.specs.Prelude.{bit_or}
-use Rattle.ert_defs.specs.Actors.{same_actor, has_actor}
+use Rattle.ert_defs.specs.Actors.{has_actor}
 use Rattle.ert_defs.specs.Clocks.{Clock}
-use Rattle.ert_defs.specs.States.{State, next, state}
+use Rattle.ert_defs.specs.States.{next, state}
 use Rattle.ert_defs.specs.Timers.{row_of, timer_at}
-use Rattle.ert_defs.specs.Words.{word_of, word_count, offset_word, is_final, process_word}
+use Rattle.ert_defs.specs.Words.{offset_word, is_final, process_word}
 use Rattle.ert_defs.specs.declared.entry.Actor.{Actor}
 use Rattle.ert_defs.specs.declared.entry.Actor.TheVariants.{Keeper, Wheel}
 use Rattle.ert_defs.specs.declared.entry.Entry.{Entry}
@@ -51,7 +51,7 @@ mark_acts g v by process exits may =
     let place : ℕ = process_place g process in
     let entry = λ (n : ℕ). mark_entry by process exits (nat_eq n 1) in
     let exited = λ (h : List Entry) (n : ℕ) (then : Then g v place n h).
-        let r : process_word ((state g h).exited process) ≡ n = sym (word_of-process g (state g h) process) ∙ then.word in r in
+    let r : process_word ((state g h).exited process) ≡ n = sym (word_of-process g (state g h) process) ∙ then.word in r in
     record {
       ours = λ n. (may (nat_eq n 1)).ours;
       keeps = λ n. (may (nat_eq n 1)).keeps;

@@ -1,13 +1,12 @@
 -- Loads of the words of slots take place with their entries.
 
-use Rattle.std.proofs.Common.{◌≡◌, ◌≢◌, ◌⊎◌, inl, inr, ⊎_elim, ℕ, ℤ, ◌+◌, ◌*◌, ◌<◌, ◌≤◌, Bool, true, false, cond, nat_eq, List, Option, Some, None, option_map, refl, sym, ap, subst, ◌∙◌, arith, eq-eqb, ne_eqb}
+use Rattle.std.proofs.Common.{◌≡◌, ◌≢◌, inl, inr, ⊎_elim, ℕ, ℤ, ◌≤◌, true, Option, Some, None, option_map, refl, sym, ap, subst, ◌∙◌, eq-eqb, ne_eqb}
 use Rattle.std.specs.Prelude.{IsNone}
 use Rattle.std.proofs.lemmas.Bool.{cases_eq}
-use Rattle.ert_defs.specs.Legal.{IsSlot, Keeps, Found, Legal, left_by}
-use Rattle.ert_defs.specs.Milliseconds.{left}
-use Rattle.ert_defs.specs.States.{State, next, run, state}
-use Rattle.ert_defs.specs.Timers.{Row, row_of, is_taken, timer_at}
-use Rattle.ert_defs.specs.Words.{word_of, word_of_slot, timer_word}
+use Rattle.ert_defs.specs.Legal.{IsSlot, Keeps, Found, left_by}
+use Rattle.ert_defs.specs.States.{State, state}
+use Rattle.ert_defs.specs.Timers.{Row, row_of, timer_at}
+use Rattle.ert_defs.specs.Words.{word_of_slot, timer_word}
 use Rattle.ert_defs.proofs.Runs.{look_stays}
 use Rattle.ert_defs.specs.declared.entry.Actor.{Actor}
 use Rattle.ert_defs.specs.declared.entry.Entry.{Entry}
@@ -16,8 +15,8 @@ use Rattle.ert_defs.specs.declared.timer.Status.{Status}
 use Rattle.ert_defs.specs.declared.timer.Status.TheVariants.{Armed, Expired, Delivered, Cancelled, Orphaned, Dropped}
 use Rattle.ert_defs.specs.declared.timer.TimerRef.{TimerRef}
 use Rattle.ert_words.specs.Ranges.{IsTimer, IsTimerWord}
-use Rattle.ert_table.specs.Acts.{Acts, Then}
-use Rattle.ert_table.specs.Held.{is_held, IsOurs}
+use Rattle.ert_table.specs.Acts.{Acts}
+use Rattle.ert_table.specs.Held.{is_held}
 use Rattle.ert_table.specs.Places.{slot_place}
 use Rattle.ert_table.specs.Settlings.{Shown, wheel_in, slot_in, shown_by, shown_in, left_at, left_shown, read_entry, status_in, deadline_in, generation_in, parts_in}
 use Rattle.ert_table.specs.Takes.{MayStep}
@@ -45,11 +44,11 @@ parts_shown s w k n kept word =
     let timer : TimerRef = timer_at w k (s.last w k) in
     ⊎_elim
     (λ (idle : IsIdle s w k n). ap parts_in idle.word
-        ∙ sym (ap (λ x. shown_by x (row_of (s.rows w) timer) (s.last w k)) idle.status))
+    ∙ sym (ap (λ x. shown_by x (row_of (s.rows w) timer) (s.last w k)) idle.status))
     (λ (used : IsUsed s w k n). ap parts_in used.word
-        ∙ (parts_used used.status used.row.deadline (s.last w k) used.in_range.deadline_high
-        ∙ sym (ap (λ x. shown_by x (row_of (s.rows w) timer) (s.last w k)) used.status_is
-        ∙ ap (λ x. shown_by (Some used.status) x (s.last w k)) used.row_is)))
+    ∙ (parts_used used.status used.row.deadline (s.last w k) used.in_range.deadline_high
+    ∙ sym (ap (λ x. shown_by x (row_of (s.rows w) timer) (s.last w k)) used.status_is
+    ∙ ap (λ x. shown_by (Some used.status) x (s.last w k)) used.row_is)))
     (slot_cases s w k n kept word)
 
 status_shown : (f : Status → Shown) → ((x : Status) → (f x).0 ≡ x) → (o : Option Status) → option_map (λ (x : Shown). x.0) (option_map f o) ≡ o
@@ -84,23 +83,23 @@ peek_found g s look timer n kept word =
     let none = left_none g look (s.status timer) (row_of (s.rows w) timer) in
     ⊎_elim
     (λ (idle : IsIdle s w k n).
-        let not : s.status timer ≢ Some Armed = λ is.
-        (let last = taken_is_last s timer Armed kept refl is in
-        let no : None ≡ Some Armed = sym idle.status ∙ (ap (λ m. s.status (timer_at w k m)) last ∙ is) in cc) in
-        ap (λ m. left_shown g look timer.generation (parts_in m)) idle.word ∙ sym (none not))
+    let not : s.status timer ≢ Some Armed = λ is.
+    (let last = taken_is_last s timer Armed kept refl is in
+    let no : None ≡ Some Armed = sym idle.status ∙ (ap (λ m. s.status (timer_at w k m)) last ∙ is) in cc) in
+    ap (λ m. left_shown g look timer.generation (parts_in m)) idle.word ∙ sym (none not))
     (λ (used : IsUsed s w k n).
-        let shown : parts_in n ≡ Some (used.status, used.row.deadline, s.last w k) =
-        ap parts_in used.word ∙ parts_used used.status used.row.deadline (s.last w k) used.in_range.deadline_high in
-        ap (left_shown g look timer.generation) shown ∙ ⊎_elim
-            (λ (same : s.last w k ≡ timer.generation).
-                let status : s.status timer ≡ Some used.status = subst (λ m. s.status (timer_at w k m) ≡ Some used.status) same used.status_is in
-                let row : row_of (s.rows w) timer ≡ Some used.row =
-                subst (λ m. row_of (s.rows w) (timer_at w k m) ≡ Some used.row) same used.row_is in
-                left_used g look timer.generation used.status used.row (s.last w k) same
-                ∙ sym (ap (λ x. left_by g look x (row_of (s.rows w) timer)) status ∙ ap (λ x. left_by g look (Some used.status) x) row))
-            (λ differs. left_other g look timer.generation used.status used.row.deadline (s.last w k) differs
-                ∙ sym (none (λ is. differs (taken_is_last s timer Armed kept refl is))))
-            (cases_eq (s.last w k) timer.generation))
+    let shown : parts_in n ≡ Some (used.status, used.row.deadline, s.last w k) =
+    ap parts_in used.word ∙ parts_used used.status used.row.deadline (s.last w k) used.in_range.deadline_high in
+    ap (left_shown g look timer.generation) shown ∙ ⊎_elim
+    (λ (same : s.last w k ≡ timer.generation).
+    let status : s.status timer ≡ Some used.status = subst (λ m. s.status (timer_at w k m) ≡ Some used.status) same used.status_is in
+    let row : row_of (s.rows w) timer ≡ Some used.row =
+    subst (λ m. row_of (s.rows w) (timer_at w k m) ≡ Some used.row) same used.row_is in
+    left_used g look timer.generation used.status used.row (s.last w k) same
+    ∙ sym (ap (λ x. left_by g look x (row_of (s.rows w) timer)) status ∙ ap (λ x. left_by g look (Some used.status) x) row))
+    (λ differs. left_other g look timer.generation used.status used.row.deadline (s.last w k) differs
+    ∙ sym (none (λ is. differs (taken_is_last s timer Armed kept refl is))))
+    (cases_eq (s.last w k) timer.generation))
     (slot_cases s w k n kept word)
 
 read_quiet : (g : Settings) (look : ℤ) (by : Actor) (carry : TimerCarry) (shown : Option Shown) → is_quiet (read_entry g look by carry shown).event ≡ true
@@ -170,14 +169,14 @@ none_is (Some x) h = absurd cc
 pub unpacked_shown : (s : State) (w k n : ℕ) (result : Option Shown) → KeepsSlots s → word_of_slot s w k ≡ n
     → (n ≡ 0 → IsNone result)
     → ((status : Status) (deadline generation : ℕ) → IsTimer deadline generation → n ≡ timer_word status deadline generation
-        → result ≡ Some (status, deadline, generation))
+    → result ≡ Some (status, deadline, generation))
     → result ≡ shown_in s w k
 unpacked_shown s w k n result kept word idle_shown used_shown =
     let timer : TimerRef = timer_at w k (s.last w k) in
     ⊎_elim
     (λ (idle : IsIdle s w k n). none_is result (idle_shown idle.word)
-        ∙ sym (ap (λ x. shown_by x (row_of (s.rows w) timer) (s.last w k)) idle.status))
+    ∙ sym (ap (λ x. shown_by x (row_of (s.rows w) timer) (s.last w k)) idle.status))
     (λ (used : IsUsed s w k n). used_shown used.status used.row.deadline (s.last w k) used.in_range used.word
-        ∙ sym (ap (λ x. shown_by x (row_of (s.rows w) timer) (s.last w k)) used.status_is
-        ∙ ap (λ x. shown_by (Some used.status) x (s.last w k)) used.row_is))
+    ∙ sym (ap (λ x. shown_by x (row_of (s.rows w) timer) (s.last w k)) used.status_is
+    ∙ ap (λ x. shown_by (Some used.status) x (s.last w k)) used.row_is))
     (slot_cases s w k n kept word)

@@ -1,21 +1,21 @@
 -- What holds of the slots after each legal history, and what their words tell.
 
-use Rattle.std.proofs.Common.{◌≡◌, ◌≢◌, ◌⊎◌, inl, inr, ⊎_elim, ℕ, ℤ, pos, negsuc, ◌+ℤ◌, ◌-ℤ◌, zero, ◌+◌, ◌*◌, ◌/◌, ◌%◌, ◌<◌, ◌≤◌, Bool, true, false, cond, ◌&&◌, nat_eq, nat_le, List, [], ◌∷◌, ◌++◌, All, Option, Some, None, refl, sym, ap, subst, ◌∙◌, arith, append-nil, eqb-true, eq-eqb}
+use Rattle.std.proofs.Common.{◌≡◌, ◌≢◌, ◌⊎◌, inl, inr, ⊎_elim, ℕ, ℤ, pos, negsuc, ◌+ℤ◌, ◌-ℤ◌, zero, ◌+◌, ◌*◌, ◌/◌, ◌%◌, ◌<◌, ◌≤◌, Bool, true, false, cond, ◌&&◌, nat_eq, nat_le, List, [], ◌∷◌, ◌++◌, All, Option, Some, None, refl, sym, ap, subst, ◌∙◌, arith, append-nil, eq-eqb}
 use Rattle.std.proofs.Props.{props}
-use Rattle.std.proofs.lemmas.Bool.{and_parts, and_right, cases_order}
+use Rattle.std.proofs.lemmas.Bool.{and_parts, cases_order}
 use Rattle.std.proofs.lemmas.Bool.Decides.{nat_tests}
 use Rattle.std.proofs.lemmas.List.Elements.{All-nil, All-push, All-head, All-tail}
 use Rattle.std.specs.Int.{int_div_euclid}
 use Rattle.ert_defs.specs.Actors.{has_actor}
 use Rattle.ert_defs.specs.Laws.{AreInOrder}
-use Rattle.ert_defs.specs.Legal.{Can, CanArm, Known, Legal}
+use Rattle.ert_defs.specs.Legal.{Can, Known, Legal}
 use Rattle.ert_defs.specs.Milliseconds.{up, deadline_at, deadline_when, deadline_of}
 use Rattle.ert_defs.specs.States.{State, opening, next, state}
 use Rattle.ert_defs.specs.Timers.{Row, row_from, rows_after, last_after, row_of, same_timer, status_after, is_taken, timer_at}
 use Rattle.ert_defs.specs.Words.{status_code, timer_word, slot_word, word_of_slot}
 use Rattle.ert_defs.proofs.FiredTimers.{row_kept, row_named, same_timer_self}
 use Rattle.ert_defs.proofs.Rows.{IsRow, rows_hold}
-use Rattle.ert_defs.proofs.Runs.{carry, kept_from}
+use Rattle.ert_defs.proofs.Runs.{kept_from}
 use Rattle.ert_defs.proofs.Slots.{ordered, same_timer-true}
 use Rattle.ert_defs.proofs.Statuses.{Forward, arms, forward_after}
 use Rattle.ert_defs.specs.declared.entry.Actor.{Actor}
@@ -315,12 +315,12 @@ status_by_word s timer status deadline n kept word fits is =
     ⊎_elim
     (λ (idle : IsIdle s timer.wheel timer.slot n). absurd (omega (arith, idle.word, code_low status)))
     (λ (used : IsUsed s timer.wheel timer.slot n).
-        let same = same_parts used.status status used.row.deadline deadline (s.last timer.wheel timer.slot) timer.generation
-        used.in_range.deadline_high fits (sym used.word ∙ is) in (
-          subst (λ m. s.status (timer_at timer.wheel timer.slot m) ≡ Some status) same.2
-              (used.status_is ∙ ap (λ (x : Status). Some x) same.0),
-          same.2,
-        ))
+    let same = same_parts used.status status used.row.deadline deadline (s.last timer.wheel timer.slot) timer.generation
+    used.in_range.deadline_high fits (sym used.word ∙ is) in (
+      subst (λ m. s.status (timer_at timer.wheel timer.slot m) ≡ Some status) same.2
+          (used.status_is ∙ ap (λ (x : Status). Some x) same.0),
+      same.2,
+    ))
     (slot_cases s timer.wheel timer.slot n kept word)
 
 -- a timer that takes its slot is the last of it
@@ -330,9 +330,9 @@ taken_is_last s timer status kept taken is =
     let order = kept.ordered timer.wheel timer.slot in
     ⊎_elim (λ same. sym same)
     (λ (rest : (timer.generation < s.last timer.wheel timer.slot) ⊎ (s.last timer.wheel timer.slot < timer.generation)). ⊎_elim
-        (λ below. (let no : true ≡ false = sym taken ∙ (ap is_taken (sym is) ∙ order.free timer.generation below) in absurd cc))
-        (λ above. (let no : Some status ≡ None = sym is ∙ order.unused timer.generation above in absurd cc))
-        rest)
+    (λ below. (let no : true ≡ false = sym taken ∙ (ap is_taken (sym is) ∙ order.free timer.generation below) in absurd cc))
+    (λ above. (let no : Some status ≡ None = sym is ∙ order.unused timer.generation above in absurd cc))
+    rest)
     (cases_order timer.generation (s.last timer.wheel timer.slot))
 
 -- and the word of the slot is that of it

@@ -1,17 +1,16 @@
 -- Steps on the words of slots take place with their entries.
 
-use Rattle.std.proofs.Common.{◌≡◌, ◌≢◌, ◌⊎◌, inl, inr, ⊎_elim, ℕ, ℤ, ◌+◌, ◌*◌, ◌<◌, ◌≤◌, Bool, true, false, cond, ◌&&◌, nat_eq, List, [], ◌∷◌, ◌++◌, All, Option, Some, None, refl, sym, ap, subst, ◌∙◌, arith, eqb-true, eq-eqb}
-use Rattle.std.proofs.lemmas.Bool.{and_parts}
+use Rattle.std.proofs.Common.{◌≡◌, ◌≢◌, ⊎_elim, ℕ, ℤ, ◌≤◌, Bool, true, false, cond, nat_eq, List, [], ◌∷◌, ◌++◌, Option, Some, None, refl, sym, ap, subst, ◌∙◌, eqb-true, eq-eqb}
 use prog.Atomic.{either}
-use Rattle.ert_defs.specs.Actors.{has_actor, IsFree, IsCaller}
+use Rattle.ert_defs.specs.Actors.{has_actor, IsCaller}
 use Rattle.ert_defs.specs.Clocks.{Clock, clock_after}
 use Rattle.ert_defs.specs.Legal.{IsSlot, IsProber, Keeps, Known, Found, Legal, left_by}
 use Rattle.ert_defs.specs.Milliseconds.{left}
 use Rattle.ert_defs.specs.States.{State, opening, next, run, state, exited_after}
 use Rattle.ert_defs.specs.Timers.{Row, rows_after, last_after, row_of, same_timer, status_after, settled_as, is_taken, timer_at}
-use Rattle.ert_defs.specs.Words.{word_of, word_count, offset_word, is_final, timer_word, slot_word, word_of_slot}
+use Rattle.ert_defs.specs.Words.{word_of, offset_word, is_final, timer_word, slot_word, word_of_slot}
 use Rattle.ert_defs.proofs.FiredLists.{delivery_hits, drop_hits}
-use Rattle.ert_defs.proofs.FiredTimers.{row_kept, row_named, same_timer_self}
+use Rattle.ert_defs.proofs.FiredTimers.{row_kept, same_timer_self}
 use Rattle.ert_defs.proofs.Runs.{legal_first, look_stays, state-append}
 use Rattle.ert_defs.proofs.Slots.{same_timer-true}
 use Rattle.ert_defs.specs.declared.entry.Actor.{Actor}
@@ -25,13 +24,13 @@ use Rattle.ert_defs.specs.declared.timer.TimerRef.{TimerRef}
 use Rattle.ert_table.specs.Acts.{Acts, Then, Finds}
 use Rattle.ert_table.specs.Held.{is_held, IsOurs}
 use Rattle.ert_table.specs.Places.{slot_place}
-use Rattle.ert_table.specs.Settlings.{HasRow, status_from, status_to, status_in, mail_of, hit_entry, Misses, Settles, miss_entry, settle_entry}
+use Rattle.ert_table.specs.Settlings.{HasRow, status_from, status_to, status_in, hit_entry, Misses, Settles, miss_entry, settle_entry}
 use Rattle.ert_table.specs.Takes.{MayStep, Appends}
-use Rattle.ert_table.proofs.Holders.{tells, free_of}
+use Rattle.ert_table.proofs.Holders.{tells}
 use Rattle.ert_table.proofs.OneStep.{grows}
 use Rattle.ert_table.proofs.SlotFacts.{KeepsSlots, slots_kept, IsIdle, IsUsed, slot_cases, row_soon, word_parts, status_by_word, not_by_word}
-use Rattle.ert_table.proofs.WordPlaces.{word_of-slot, slot_place-high}
-use Rattle.ert_table.proofs.WordSteps.{SameSlot, slot_same, cond_is, cond_same, word_same}
+use Rattle.ert_table.proofs.WordPlaces.{word_of-slot}
+use Rattle.ert_table.proofs.WordSteps.{SameSlot, slot_same, cond_is, word_same}
 use Rattle.ert_table.specs.declared.carry.Settle.{Settle}
 use Rattle.ert_table.specs.declared.carry.Settle.TheVariants.{Cancel, Expire, Orphan, Deliver, Drop}
 use Rattle.ert_table.specs.declared.view.View.{View}
@@ -142,8 +141,8 @@ slot_found s w k n kept word =
     ⊎_elim
     (λ (idle : IsIdle s w k n). ap status_in idle.word ∙ sym idle.status)
     (λ (used : IsUsed s w k n).
-        let parts = word_parts used.status used.row.deadline (s.last w k) used.in_range.deadline_high in
-        ap status_in used.word ∙ (parts.status_is ∙ sym used.status_is))
+    let parts = word_parts used.status used.row.deadline (s.last w k) used.in_range.deadline_high in
+    ap status_in used.word ∙ (parts.status_is ∙ sym used.status_is))
     (slot_cases s w k n kept word)
 
 -- what a pass with a row of a timer finds at a step on its slot
@@ -279,7 +278,7 @@ is_sure _ = false
 miss_word : (g : Settings) (s0 s : State) (by : Actor) (timer : TimerRef) (deadline n : ℕ) (how : Settle)
     → s.status timer ≢ Some (status_from how) → (is_sure how ≡ true → s.status timer ≡ Some (status_from how))
     → word_of_slot (next g s (miss_entry (hit_entry g s0 by timer deadline how) by timer how n)) timer.wheel timer.slot
-        ≡ word_of_slot s timer.wheel timer.slot
+    ≡ word_of_slot s timer.wheel timer.slot
 miss_word g s0 s by timer deadline n Cancel not sure =
     let e : Entry = miss_entry (hit_entry g s0 by timer deadline Cancel) by timer Cancel n in
     let alone = miss_alone g s0 by timer deadline Cancel n in
@@ -392,7 +391,7 @@ module _ (g : Settings) (v : View) (by : Actor) (timer : TimerRef) (deadline : �
       let slot = found_slot h n then in
       not_by_word (state g h) timer (status_from how) has.row n slot.kept (from_taken how) slot.stands slot.word
       (λ same. (let yes : nat_eq n old ≡ true = eq-eqb n old (same ∙ ap (λ d. timer_word (status_from how) d timer.generation) has.due) in
-          let no : true ≡ false = sym yes ∙ is in cc))
+      let no : true ≡ false = sym yes ∙ is in cc))
 
   ours_at : (n : ℕ) (b : Bool) → IsOurs v.actors (cond b hit (miss n)).by (cond b hit (miss n)).with
   ours_at n true = may.ours

@@ -1,6 +1,6 @@
 -- Which word stands at which place.
 
-use Rattle.std.proofs.Common.{◌≡◌, ◌≢◌, ℕ, zero, suc, ◌+◌, ◌-◌, ◌*◌, ◌/◌, ◌%◌, ◌<◌, ◌≤◌, Bool, true, false, cond, nat_lt, refl, sym, ap, ◌∙◌, arith}
+use Rattle.std.proofs.Common.{◌≡◌, ℕ, ◌+◌, ◌-◌, ◌*◌, ◌%◌, ◌<◌, ◌≤◌, true, false, nat_lt, ap, ◌∙◌, arith}
 use Rattle.std.proofs.lemmas.Bool.Decides.{nat_tests}
 use Rattle.std.proofs.lemmas.Nat.{div-mul-add, mod-mul-add, mul-add-lt}
 use Rattle.ert_defs.specs.States.{State}
@@ -27,8 +27,8 @@ word_of-slot g s w k low lt =
     let first = word_of-later g s (slot_place g w k) (w * g.slots + k) (omega arith) in
     let fits : w * g.slots + k < g.schedulers * g.slots = omega (arith, mul-add-lt w g.slots k g.schedulers low lt) in
     first ∙ rw (below_true (w * g.slots + k) (g.schedulers * g.slots) fits)
-        (ap (λ x. word_of_slot s x ((w * g.slots + k) % g.slots)) (div-mul-add w g.slots k lt)
-        ∙ ap (λ x. word_of_slot s w x) (mod-mul-add w g.slots k lt))
+    (ap (λ x. word_of_slot s x ((w * g.slots + k) % g.slots)) (div-mul-add w g.slots k lt)
+    ∙ ap (λ x. word_of_slot s w x) (mod-mul-add w g.slots k lt))
 
 pub slot_place-high : (g : Settings) (w k : ℕ) → w < g.schedulers → k < g.slots → slot_place g w k < word_count g
 slot_place-high g w k low lt = omega (arith, mul-add-lt w g.slots k g.schedulers low lt)

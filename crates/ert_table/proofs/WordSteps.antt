@@ -1,12 +1,12 @@
 -- What an entry leaves of the words.
 
-use Rattle.std.proofs.Common.{◌≡◌, ◌≢◌, ◌⊎◌, inl, inr, ⊎_elim, ℕ, ℤ, zero, suc, ◌+◌, ◌-◌, ◌*◌, ◌/◌, ◌%◌, ◌<◌, ◌≤◌, Bool, true, false, cond, nat_lt, List, Option, Some, None, refl, sym, ap, subst, ◌∙◌, arith, div-add-mod'}
+use Rattle.std.proofs.Common.{◌≡◌, ◌⊎◌, inl, inr, ℕ, ℤ, zero, suc, ◌+◌, ◌-◌, ◌*◌, ◌/◌, ◌%◌, ◌<◌, ◌≤◌, Bool, true, false, cond, List, Option, refl, sym, ap, ◌∙◌, arith, div-add-mod'}
 use Rattle.std.proofs.lemmas.Bool.{cases_lt}
 use Rattle.ert_defs.specs.Actors.{has_actor}
 use Rattle.ert_defs.specs.Clocks.{Clock, clock_after}
 use Rattle.ert_defs.specs.States.{State, next, exited_after}
 use Rattle.ert_defs.specs.Timers.{Row, row_of, rows_after, last_after, status_after, timer_at}
-use Rattle.ert_defs.specs.Words.{time_word, offset_word, is_final, slot_word, process_word, word_of, later_word, word_of_slot, word_count}
+use Rattle.ert_defs.specs.Words.{time_word, offset_word, is_final, slot_word, process_word, word_of, word_of_slot}
 use Rattle.ert_defs.specs.declared.entry.Actor.TheVariants.{Keeper, Wheel}
 use Rattle.ert_defs.specs.declared.entry.Entry.{Entry}
 use Rattle.ert_defs.specs.declared.entry.Event.{Event}
@@ -15,7 +15,7 @@ use Rattle.ert_defs.specs.declared.settings.Settings.{Settings}
 use Rattle.ert_defs.specs.declared.timer.Status.{Status}
 use Rattle.ert_defs.specs.declared.timer.TimerRef.{TimerRef}
 use Rattle.ert_table.specs.Places.{slot_place, process_place}
-use Rattle.ert_table.proofs.WordPlaces.{below_true, below_false, word_of-later, word_of-slot, word_of-process}
+use Rattle.ert_table.proofs.WordPlaces.{below_true, word_of-later, word_of-process}
 
 -- what two states have in common of a slot
 pub record SameSlot (s s' : State) (w k : ℕ) : Type 0 where

@@ -1,6 +1,6 @@
 -- The actors that a pass holds.
 
-use Rattle.std.specs.Prelude.{◌≡◌, ℕ, zero, suc, ◌<◌, Bool, true, false, cond, not, List, [], ◌∷◌, ◌++◌, filter, Option, Some, None}
+use Rattle.std.specs.Prelude.{◌≡◌, ℕ, zero, suc, ◌<◌, Bool, true, cond, not, List, [], ◌∷◌, ◌++◌, filter, Option, Some, None}
 use Rattle.std.specs.List.{list_any}
 use Rattle.ert_defs.specs.Actors.{same_actor, has_actor}
 use Rattle.ert_defs.specs.declared.entry.Actor.{Actor}

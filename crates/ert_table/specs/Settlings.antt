@@ -1,6 +1,6 @@
 -- What a word of a slot has, and the entries of the steps on it.
 
-use Rattle.std.specs.Prelude.{◌≡◌, ℕ, ℤ, ◌+◌, ◌*◌, ◌/◌, ◌%◌, Bool, true, false, cond, ◌&&◌, nat_eq, Option, Some, None, option_map}
+use Rattle.std.specs.Prelude.{◌≡◌, ℕ, ℤ, ◌/◌, ◌%◌, Bool, true, false, cond, nat_eq, Option, Some, None, option_map}
 use Rattle.ert_defs.specs.Milliseconds.{left}
 use Rattle.ert_defs.specs.States.{State, state}
 use Rattle.ert_defs.specs.Timers.{Row, row_of, timer_at}

@@ -1,6 +1,6 @@
 -- What a pass knows, and how that is divided and put together.
 
-use Rattle.std.specs.Prelude.{◌≡◌, Bool, true, cond, nat_le, List, [], ◌∷◌, ◌++◌, length, Option, Some, None}
+use Rattle.std.specs.Prelude.{◌≡◌, true, cond, nat_le, List, [], ◌∷◌, ◌++◌, length, Option, Some, None}
 use Rattle.ert_defs.specs.Actors.{of}
 use Rattle.ert_defs.specs.declared.entry.Actor.{Actor}
 use Rattle.ert_defs.specs.declared.entry.Entry.{Entry}

@@ -6,17 +6,34 @@ pub enum TimeCarry {
     /// The time was read.
     Look,
     /// All timers of the scheduler's wheel that were due at `to` milliseconds have been settled.
-    Advanced { to: u64 },
+    Advanced {
+        to: u64,
+    },
     /// A request was put into the inbox of a wheel.
-    Ask { wheel: u32, request: Request },
+    Ask {
+        wheel: u32,
+        request: Request,
+    },
     /// The first request of the scheduler's inbox was taken into its hand.
-    Pick { got: Option<Request> },
+    Pick {
+        got: Option<Request>,
+    },
     /// The request in the scheduler's hand was answered to a process.
-    Answer { left: Option<u64>, process: u32 },
+    Answer {
+        left: Option<u64>,
+        process: u32,
+    },
     /// The first message of a mailbox was taken.
-    Take { process: u32, got: Option<Mail> },
+    Take {
+        process: u32,
+        got: Option<Mail>,
+    },
     /// A monitor was removed, where it stood.
-    Unwatch { process: u32, monitor: u32, was: bool },
+    Unwatch {
+        process: u32,
+        monitor: u32,
+        was: bool,
+    },
 }
 
 /// What a load of the offset word records.

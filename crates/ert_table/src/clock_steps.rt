@@ -1,11 +1,8 @@
 //! Steps on the words of the time and of the offset.
-ghost use Rattle.std.specs.Prelude.{◌≡◌, ℤ};
-ghost use Rattle.ert_defs.specs.declared.settings.OffsetState.{OffsetState};
-ghost use Rattle.ert_defs.specs.States.{state};
+ghost use Rattle.std.specs.Prelude.{◌≡◌};
 ghost use Rattle.ert_defs.specs.Words.{time_word, offset_word, is_final};
-ghost use Rattle.ert_table.specs.Desks.{settings_of, view_of, front_of, actors_of, Belongs};
-ghost use Rattle.ert_table.specs.Entries.{tick_entry, time_entry, time_in, shift_entry, offset_entry, offset_in, state_where, state_in};
-ghost use Rattle.ert_table.specs.Takes.{MayStep, Appends};
+ghost use Rattle.ert_table.specs.Desks.{settings_of, state_of, Belongs, MayMake, Makes, MayLoadTime, MayLoadOffset, offset_made};
+ghost use Rattle.ert_table.specs.Entries.{tick_entry, time_entry, time_in, shift_entry, offset_in, state_where, state_in};
 
 use crate::carry::{OffsetCarry, TimeCarry};
 use crate::desk::{Desk, Pass};
@@ -21,9 +18,9 @@ impl Pass {
     /// `now` is in nanoseconds.
     pub fn store_time(&mut self, desk: &Desk, by: u32, reading: Reading, act: Act, now: i64)
         requires belongs { Belongs desk.now self.old }
-        requires may { MayStep (settings_of desk.now) (view_of self.old) (tick_entry by reading act now) }
+        requires may { MayMake desk.now self.old (tick_entry by reading act now) }
         ensures belongs { Belongs desk.now self.new }
-        ensures step { Appends (settings_of desk.now) (view_of self.old) (tick_entry by reading act now) (view_of self.new) }
+        ensures step { Makes desk.now self.old (tick_entry by reading act now) self.new }
     {
         self.store_time_as::<Brand>(desk, by, reading, act, now);
     }
@@ -39,21 +36,23 @@ impl Pass {
         requires settings { C.settings ≡ settings_of desk.now }
         requires entry { C.entry ≡ (λ n. tick_entry by reading act now) }
         requires belongs { Belongs desk.now self.old }
-        requires may { MayStep (settings_of desk.now) (view_of self.old) (tick_entry by reading act now) }
+        requires may { MayMake desk.now self.old (tick_entry by reading act now) }
         ensures belongs { Belongs desk.now self.new }
-        ensures step { Appends (settings_of desk.now) (view_of self.old) (tick_entry by reading act now) (view_of self.new) }
+        ensures step { Makes desk.now self.old (tick_entry by reading act now) self.new }
     {
         let word = time_word(now, desk.settings.start);
-        desk.table.shared.store::<Adds<C>>(&mut self.seat, TIME, word);
+        desk.table
+            .shared
+            .store::<Adds<C>>(&mut self.seat, TIME, word);
     }
 
     /// Loads the time, in nanoseconds, and records what is carried.
     pub fn load_time(&mut self, desk: &Desk, by: Actor, carry: &TimeCarry) -> i64
         requires belongs { Belongs desk.now self.old }
-        requires may { (now : ℤ) → MayStep (settings_of desk.now) (view_of self.old) (time_entry by carry.now now) }
+        requires may { MayLoadTime desk.now self.old by carry.now }
         ensures belongs { Belongs desk.now self.new }
-        ensures step { Appends (settings_of desk.now) (view_of self.old) (time_entry by carry.now result) (view_of self.new) }
-        ensures time { result ≡ (state (settings_of desk.now) (front_of self.new)).clock.now }
+        ensures step { Makes desk.now self.old (time_entry by carry.now result) self.new }
+        ensures time { result ≡ (state_of desk.now self.new).clock.now }
     {
         let word = self.load_time_as::<Brand>(desk, by, carry);
         time_of(word, desk.settings.start)
@@ -63,10 +62,10 @@ impl Pass {
         requires settings { C.settings ≡ settings_of desk.now }
         requires entry { C.entry ≡ (λ n. time_entry by carry.now (time_in (settings_of desk.now) n)) }
         requires belongs { Belongs desk.now self.old }
-        requires may { (now : ℤ) → MayStep (settings_of desk.now) (view_of self.old) (time_entry by carry.now now) }
+        requires may { MayLoadTime desk.now self.old by carry.now }
         ensures belongs { Belongs desk.now self.new }
-        ensures step { Appends (settings_of desk.now) (view_of self.old) (time_entry by carry.now (time_in (settings_of desk.now) result)) (view_of self.new) }
-        ensures word { time_word (state (settings_of desk.now) (front_of self.new)).clock.now (settings_of desk.now).start ≡ result }
+        ensures step { Makes desk.now self.old (time_entry by carry.now (time_in (settings_of desk.now) result)) self.new }
+        ensures word { time_word (state_of desk.now self.new).clock.now (settings_of desk.now).start ≡ result }
     {
         desk.table.shared.load::<Loads<C>>(&mut self.seat, TIME)
     }
@@ -76,46 +75,37 @@ impl Pass {
     /// `offset` is in nanoseconds.
     pub fn store_offset(&mut self, desk: &Desk, by: u32, offset: i64, state: OffsetState)
         requires belongs { Belongs desk.now self.old }
-        requires may { MayStep (settings_of desk.now) (view_of self.old) (shift_entry by offset state) }
+        requires may { MayMake desk.now self.old (shift_entry by offset state) }
         ensures belongs { Belongs desk.now self.new }
-        ensures step { Appends (settings_of desk.now) (view_of self.old) (shift_entry by offset state) (view_of self.new) }
+        ensures step { Makes desk.now self.old (shift_entry by offset state) self.new }
     {
         self.store_offset_as::<Brand>(desk, by, offset, state);
     }
 
-    fn store_offset_as<C: Carried>(
-        &mut self,
-        desk: &Desk,
-        by: u32,
-        offset: i64,
-        state: OffsetState,
-    )
+    fn store_offset_as<C: Carried>(&mut self, desk: &Desk, by: u32, offset: i64, state: OffsetState)
         requires settings { C.settings ≡ settings_of desk.now }
         requires entry { C.entry ≡ (λ n. shift_entry by offset state) }
         requires belongs { Belongs desk.now self.old }
-        requires may { MayStep (settings_of desk.now) (view_of self.old) (shift_entry by offset state) }
+        requires may { MayMake desk.now self.old (shift_entry by offset state) }
         ensures belongs { Belongs desk.now self.new }
-        ensures step { Appends (settings_of desk.now) (view_of self.old) (shift_entry by offset state) (view_of self.new) }
+        ensures step { Makes desk.now self.old (shift_entry by offset state) self.new }
     {
         let word = offset_word(offset, state_is_final(state));
-        desk.table.shared.store::<Adds<C>>(&mut self.seat, OFFSET, word);
+        desk.table
+            .shared
+            .store::<Adds<C>>(&mut self.seat, OFFSET, word);
     }
 
     /// Loads the offset, in nanoseconds, and its state, and records what is carried.
     ///
     /// Where the clock's part reads it, the entry is with the caller of least number that the pass holds.
-    pub fn load_offset(
-        &mut self,
-        desk: &Desk,
-        by: Actor,
-        carry: &OffsetCarry,
-    ) -> (i64, OffsetState)
+    pub fn load_offset(&mut self, desk: &Desk, by: Actor, carry: &OffsetCarry) -> (i64, OffsetState)
         requires belongs { Belongs desk.now self.old }
-        requires may { (offset : ℤ) (state : OffsetState) → MayStep (settings_of desk.now) (view_of self.old) (offset_entry (settings_of desk.now) (actors_of self.old) by carry.now offset state) }
+        requires may { MayLoadOffset desk.now self.old by carry.now }
         ensures belongs { Belongs desk.now self.new }
-        ensures step { Appends (settings_of desk.now) (view_of self.old) (offset_entry (settings_of desk.now) (actors_of self.old) by carry.now result.0 result.1) (view_of self.new) }
-        ensures offset { result.0 ≡ (state (settings_of desk.now) (front_of self.new)).clock.offset }
-        ensures state { result.1 ≡ (state (settings_of desk.now) (front_of self.new)).clock.state }
+        ensures step { Makes desk.now self.old (offset_made desk.now self.old by carry.now result.0 result.1) self.new }
+        ensures offset { result.0 ≡ (state_of desk.now self.new).clock.offset }
+        ensures state { result.1 ≡ (state_of desk.now self.new).clock.state }
     {
         let word = self.load_offset_as::<Brand>(desk, by, carry);
         let (offset, is_final) = offset_of(word);
@@ -124,12 +114,12 @@ impl Pass {
 
     fn load_offset_as<C: Carried>(&mut self, desk: &Desk, by: Actor, carry: &OffsetCarry) -> u64
         requires settings { C.settings ≡ settings_of desk.now }
-        requires entry { C.entry ≡ (λ n. offset_entry (settings_of desk.now) (actors_of self.old) by carry.now (offset_in n) (state_in (settings_of desk.now) n)) }
+        requires entry { C.entry ≡ (λ n. offset_made desk.now self.old by carry.now (offset_in n) (state_in (settings_of desk.now) n)) }
         requires belongs { Belongs desk.now self.old }
-        requires may { (offset : ℤ) (state : OffsetState) → MayStep (settings_of desk.now) (view_of self.old) (offset_entry (settings_of desk.now) (actors_of self.old) by carry.now offset state) }
+        requires may { MayLoadOffset desk.now self.old by carry.now }
         ensures belongs { Belongs desk.now self.new }
-        ensures step { Appends (settings_of desk.now) (view_of self.old) (offset_entry (settings_of desk.now) (actors_of self.old) by carry.now (offset_in result) (state_in (settings_of desk.now) result)) (view_of self.new) }
-        ensures word { let clock = (state (settings_of desk.now) (front_of self.new)).clock in offset_word clock.offset (is_final clock.state) ≡ result }
+        ensures step { Makes desk.now self.old (offset_made desk.now self.old by carry.now (offset_in result) (state_in (settings_of desk.now) result)) self.new }
+        ensures word { let clock = (state_of desk.now self.new).clock in offset_word clock.offset (is_final clock.state) ≡ result }
     {
         desk.table.shared.load::<Loads<C>>(&mut self.seat, OFFSET)
     }

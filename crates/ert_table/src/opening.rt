@@ -78,7 +78,10 @@ fn words_of_opening(alloc: Global, settings: &Settings) -> Result<Vec<u64>, Allo
 {
     let slots = settings.schedulers as usize * settings.slots as usize;
     let mut words = zeros(alloc, 2 + slots + settings.processes as usize)?;
-    words[1] = offset_word(offset_at_opening(settings), is_final_at_opening(settings.mode));
+    words[1] = offset_word(
+        offset_at_opening(settings),
+        is_final_at_opening(settings.mode),
+    );
     Ok(words)
 }
 

@@ -15,11 +15,13 @@ use std::marker::{Brand, PhantomData};
 /// The settings of the desk, and the entry of a step for each word that it may find.
 pub(crate) trait Carried {
     ghost settings: { Settings };
+
     ghost entry: { ℕ → Entry };
 }
 
 impl Carried for Brand {
     ghost settings = { any_settings };
+
     ghost entry = { λ n. any_entry };
 }
 
@@ -84,6 +86,7 @@ pub(crate) struct Cuts<C> {
 
 impl<C: Chosen> Split<View> for Cuts<C> {
     ghost left = { λ v. rest_of v C.actor };
+
     ghost right = { λ v. part_of v C.actor };
 }
 
@@ -92,5 +95,6 @@ pub(crate) struct Glues;
 
 impl Join<View> for Glues {
     ghost both = { both };
+
     ghost spent = { spent };
 }

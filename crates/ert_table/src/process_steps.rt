@@ -1,8 +1,7 @@
 //! Steps on the words of processes.
-ghost use Rattle.std.specs.Prelude.{◌≡◌, Bool, nat_eq};
-ghost use Rattle.ert_table.specs.Desks.{settings_of, view_of, Belongs};
+ghost use Rattle.std.specs.Prelude.{◌≡◌, nat_eq};
+ghost use Rattle.ert_table.specs.Desks.{settings_of, Belongs, Makes, MayMark};
 ghost use Rattle.ert_table.specs.Entries.{mark_entry};
-ghost use Rattle.ert_table.specs.Takes.{MayStep, Appends};
 
 use crate::desk::{Desk, Pass};
 use crate::plays::{Adds, Carried};
@@ -13,9 +12,9 @@ impl Pass {
     /// Whether a process had exited. Where `exits` is true it has exited from now on.
     pub fn mark(&mut self, desk: &Desk, by: Actor, process: u32, exits: bool) -> bool
         requires belongs { Belongs desk.now self.old }
-        requires may { (was : Bool) → MayStep (settings_of desk.now) (view_of self.old) (mark_entry by process exits was) }
+        requires may { MayMark desk.now self.old by process exits }
         ensures belongs { Belongs desk.now self.new }
-        ensures step { Appends (settings_of desk.now) (view_of self.old) (mark_entry by process exits result) (view_of self.new) }
+        ensures step { Makes desk.now self.old (mark_entry by process exits result) self.new }
     {
         self.mark_as::<Brand>(desk, by, process, exits) == 1
     }
@@ -24,9 +23,9 @@ impl Pass {
         requires settings { C.settings ≡ settings_of desk.now }
         requires entry { C.entry ≡ (λ n. mark_entry by process exits (nat_eq n 1)) }
         requires belongs { Belongs desk.now self.old }
-        requires may { (was : Bool) → MayStep (settings_of desk.now) (view_of self.old) (mark_entry by process exits was) }
+        requires may { MayMark desk.now self.old by process exits }
         ensures belongs { Belongs desk.now self.new }
-        ensures step { Appends (settings_of desk.now) (view_of self.old) (mark_entry by process exits (nat_eq result 1)) (view_of self.new) }
+        ensures step { Makes desk.now self.old (mark_entry by process exits (nat_eq result 1)) self.new }
     {
         let word = desk.process_place(process);
         desk.table

@@ -1,13 +1,9 @@
 //! Steps on the words of slots.
-ghost use Rattle.std.specs.Prelude.{◌≡◌, ◌≢◌, Option, Some};
-ghost use Rattle.ert_defs.specs.Milliseconds.{deadline_of};
-ghost use Rattle.ert_defs.specs.States.{state};
+ghost use Rattle.std.specs.Prelude.{◌≡◌, ◌≢◌, Some};
 ghost use Rattle.ert_defs.specs.Words.{word_of_slot};
-ghost use Rattle.ert_defs.specs.declared.entry.Actor.TheVariants.{Caller};
 ghost use Rattle.ert_defs.specs.declared.timer.Status.TheVariants.{Armed};
-ghost use Rattle.ert_table.specs.Desks.{settings_of, view_of, front_of, Belongs};
-ghost use Rattle.ert_table.specs.Settlings.{HasRow, status_from, status_to, hit_entry, settle_entry, Settles, Shown, read_entry, parts_in, shown_in, wheel_in, slot_in, arm_entry};
-ghost use Rattle.ert_table.specs.Takes.{MayStep, Appends};
+ghost use Rattle.ert_table.specs.Desks.{settings_of, state_of, Belongs, MayMake, Makes, MayLoadTimer, read_made, settled_made, SettlesOrMisses, IsDeadlineOf};
+ghost use Rattle.ert_table.specs.Settlings.{HasRow, status_from, status_to, settle_entry, parts_in, shown_in, wheel_in, slot_in, arm_entry};
 
 use crate::carry::{Settle, TimerCarry};
 use crate::desk::{Desk, Pass};
@@ -47,10 +43,10 @@ impl Pass {
     /// `deadline` is that of the start at the caller's last look, in milliseconds after the start time.
     pub fn arm(&mut self, desk: &Desk, by: u32, timer: TimerRef, start: &Start, deadline: u64)
         requires belongs { Belongs desk.now self.old }
-        requires may { MayStep (settings_of desk.now) (view_of self.old) (arm_entry by timer start.now) }
-        requires deadline { deadline_of (settings_of desk.now) start.now ((state (settings_of desk.now) (front_of self.old)).looked (Caller by)) ≡ Some deadline }
+        requires may { MayMake desk.now self.old (arm_entry by timer start.now) }
+        requires deadline { IsDeadlineOf desk.now self.old by start.now deadline }
         ensures belongs { Belongs desk.now self.new }
-        ensures step { Appends (settings_of desk.now) (view_of self.old) (arm_entry by timer start.now) (view_of self.new) }
+        ensures step { Makes desk.now self.old (arm_entry by timer start.now) self.new }
     {
         self.arm_as::<Brand>(desk, by, timer, start, deadline);
     }
@@ -66,14 +62,16 @@ impl Pass {
         requires settings { C.settings ≡ settings_of desk.now }
         requires entry { C.entry ≡ (λ n. arm_entry by timer start.now) }
         requires belongs { Belongs desk.now self.old }
-        requires may { MayStep (settings_of desk.now) (view_of self.old) (arm_entry by timer start.now) }
-        requires deadline { deadline_of (settings_of desk.now) start.now ((state (settings_of desk.now) (front_of self.old)).looked (Caller by)) ≡ Some deadline }
+        requires may { MayMake desk.now self.old (arm_entry by timer start.now) }
+        requires deadline { IsDeadlineOf desk.now self.old by start.now deadline }
         ensures belongs { Belongs desk.now self.new }
-        ensures step { Appends (settings_of desk.now) (view_of self.old) (arm_entry by timer start.now) (view_of self.new) }
+        ensures step { Makes desk.now self.old (arm_entry by timer start.now) self.new }
     {
         let place = desk.slot_place(timer.wheel, timer.slot);
         let word = timer_word(Status::Armed, deadline, timer.generation);
-        desk.table.shared.store::<Adds<C>>(&mut self.seat, place, word);
+        desk.table
+            .shared
+            .store::<Adds<C>>(&mut self.seat, place, word);
     }
 
     /// Settles an armed timer, or hands over one that has expired, and answers whether it did.
@@ -89,11 +87,11 @@ impl Pass {
         how: Settle,
     ) -> bool
         requires belongs { Belongs desk.now self.old }
-        requires row { HasRow (state (settings_of desk.now) (front_of self.old)) timer deadline }
-        requires may { MayStep (settings_of desk.now) (view_of self.old) (hit_entry (settings_of desk.now) (state (settings_of desk.now) (front_of self.old)) by timer deadline how) }
+        requires row { HasRow (state_of desk.now self.old) timer deadline }
+        requires may { MayMake desk.now self.old (settled_made desk.now self.old by timer deadline how) }
         ensures belongs { Belongs desk.now self.new }
-        ensures step { Settles (settings_of desk.now) (view_of self.old) by timer deadline how result (view_of self.new) }
-        ensures settled { (state (settings_of desk.now) (front_of self.new)).status timer ≢ Some Armed }
+        ensures step { SettlesOrMisses desk.now self.old by timer deadline how result self.new }
+        ensures settled { (state_of desk.now self.new).status timer ≢ Some Armed }
     {
         self.settle_as::<Brand>(desk, by, timer, deadline, how)
     }
@@ -107,13 +105,13 @@ impl Pass {
         how: Settle,
     ) -> bool
         requires settings { C.settings ≡ settings_of desk.now }
-        requires entry { C.entry ≡ settle_entry (settings_of desk.now) (state (settings_of desk.now) (front_of self.old)) by timer deadline how }
+        requires entry { C.entry ≡ settle_entry (settings_of desk.now) (state_of desk.now self.old) by timer deadline how }
         requires belongs { Belongs desk.now self.old }
-        requires row { HasRow (state (settings_of desk.now) (front_of self.old)) timer deadline }
-        requires may { MayStep (settings_of desk.now) (view_of self.old) (hit_entry (settings_of desk.now) (state (settings_of desk.now) (front_of self.old)) by timer deadline how) }
+        requires row { HasRow (state_of desk.now self.old) timer deadline }
+        requires may { MayMake desk.now self.old (settled_made desk.now self.old by timer deadline how) }
         ensures belongs { Belongs desk.now self.new }
-        ensures step { Settles (settings_of desk.now) (view_of self.old) by timer deadline how result (view_of self.new) }
-        ensures settled { (state (settings_of desk.now) (front_of self.new)).status timer ≢ Some Armed }
+        ensures step { SettlesOrMisses desk.now self.old by timer deadline how result self.new }
+        ensures settled { (state_of desk.now self.new).status timer ≢ Some Armed }
     {
         let place = desk.slot_place(timer.wheel, timer.slot);
         let old = timer_word(how.status_before(), deadline, timer.generation);
@@ -136,10 +134,10 @@ impl Pass {
         carry: &TimerCarry,
     ) -> Option<(Status, u64, u32)>
         requires belongs { Belongs desk.now self.old }
-        requires may { (shown : Option Shown) → MayStep (settings_of desk.now) (view_of self.old) (read_entry (settings_of desk.now) ((state (settings_of desk.now) (front_of self.old)).looked by) by carry.now shown) }
+        requires may { MayLoadTimer desk.now self.old by carry.now }
         ensures belongs { Belongs desk.now self.new }
-        ensures step { Appends (settings_of desk.now) (view_of self.old) (read_entry (settings_of desk.now) ((state (settings_of desk.now) (front_of self.old)).looked by) by carry.now result) (view_of self.new) }
-        ensures shown { result ≡ shown_in (state (settings_of desk.now) (front_of self.new)) (wheel_in carry.now) (slot_in carry.now) }
+        ensures step { Makes desk.now self.old (read_made desk.now self.old by carry.now result) self.new }
+        ensures shown { result ≡ shown_in (state_of desk.now self.new) (wheel_in carry.now) (slot_in carry.now) }
     {
         let word = self.load_timer_as::<Brand>(desk, by, carry);
         timer_of(word)
@@ -147,12 +145,12 @@ impl Pass {
 
     fn load_timer_as<C: Carried>(&mut self, desk: &Desk, by: Actor, carry: &TimerCarry) -> u64
         requires settings { C.settings ≡ settings_of desk.now }
-        requires entry { C.entry ≡ (λ n. read_entry (settings_of desk.now) ((state (settings_of desk.now) (front_of self.old)).looked by) by carry.now (parts_in n)) }
+        requires entry { C.entry ≡ (λ n. read_made desk.now self.old by carry.now (parts_in n)) }
         requires belongs { Belongs desk.now self.old }
-        requires may { (shown : Option Shown) → MayStep (settings_of desk.now) (view_of self.old) (read_entry (settings_of desk.now) ((state (settings_of desk.now) (front_of self.old)).looked by) by carry.now shown) }
+        requires may { MayLoadTimer desk.now self.old by carry.now }
         ensures belongs { Belongs desk.now self.new }
-        ensures step { Appends (settings_of desk.now) (view_of self.old) (read_entry (settings_of desk.now) ((state (settings_of desk.now) (front_of self.old)).looked by) by carry.now (parts_in result)) (view_of self.new) }
-        ensures word { word_of_slot (state (settings_of desk.now) (front_of self.new)) (wheel_in carry.now) (slot_in carry.now) ≡ result }
+        ensures step { Makes desk.now self.old (read_made desk.now self.old by carry.now (parts_in result)) self.new }
+        ensures word { word_of_slot (state_of desk.now self.new) (wheel_in carry.now) (slot_in carry.now) ≡ result }
     {
         let (wheel, slot) = carry.slot();
         let place = desk.slot_place(wheel, slot);

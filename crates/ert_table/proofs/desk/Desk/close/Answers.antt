@@ -1,4 +1,4 @@
-use Rattle.std.proofs.Common.{◌≡◌, ◌∙◌, ℕ, ◌<◌, ◌+◌, ◌*◌, length, slice_index, arith, sym, ap, vec_len, rules}
+use Rattle.std.proofs.Common.{◌≡◌, ◌∙◌, ◌*◌, slice_index, arith, sym, vec_len}
 use Rattle.std.specs.Mem.Slots.{slots_items}
 use Rattle.ert_defs.specs.States.{state}
 use Rattle.ert_table.proofs.Closings.{get_at, closed_words, close_words}
@@ -13,7 +13,7 @@ returns c =
     let processes_length : vec_len c.in_ok-processes.processes ≡ g.processes = c.in_ok-processes.ensures.length in
     close_words g (state g c.args.pass.seat.me.0.front) (λ i. slice_index found i) _
     (closed_words c.args.self.table.shared.key g c.args.pass.seat.id c.args.pass.seat.me.0 found (slots_items closed.result.slots)
-        c.args.self.keyed closed.ensures.values.2 c.requires.whole)
+    c.args.self.keyed closed.ensures.values.2 c.requires.whole)
     (sym (get_at found 0 c.word.result c.word.ensures))
     (sym (get_at found 1 c.word-2.result c.word-2.ensures))
     (c.read_words.ensures.length ∙ timers_length)

@@ -1,5 +1,5 @@
-use Rattle.std.proofs.Common.{sym, subst, ◌∷◌, [], ◌∙◌, ◌≡◌, ap, true, List, ℕ}
-use Rattle.ert_table.specs.Held.{is_held, IsActor, IsWhole}
+use Rattle.std.proofs.Common.{sym, subst, ◌∷◌, [], ◌∙◌, ◌≡◌, ap, List, ℕ}
+use Rattle.ert_table.specs.Held.{IsWhole}
 use Rattle.ert_table.specs.Rule.{Holds}
 use Rattle.ert_table.specs.Views.{first_view}
 use Rattle.ert_table.proofs.FirstHolds.{opens}

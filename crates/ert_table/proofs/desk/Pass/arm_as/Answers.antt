@@ -1,11 +1,9 @@
-use Rattle.std.proofs.Common.{◌≡◌, ℕ, ◌<◌, ◌∙◌, sym, ap, subst, subst₂}
+use Rattle.std.proofs.Common.{◌<◌, sym, subst, subst₂}
 use Rattle.ert_defs.specs.States.{state}
-use Rattle.ert_defs.specs.Words.{word_count, timer_word}
+use Rattle.ert_defs.specs.Words.{word_count}
 use Rattle.ert_defs.specs.declared.entry.Actor.TheVariants.{Caller}
 use Rattle.ert_defs.specs.declared.entry.Entry.{Entry}
-use Rattle.ert_defs.specs.declared.timer.Status.TheVariants.{Armed}
 use Rattle.ert_table.specs.Acts.{Acts}
-use Rattle.ert_table.specs.Places.{slot_place}
 use Rattle.ert_table.specs.Settlings.{arm_entry}
 use Rattle.ert_table.proofs.ArmActs.{arm_is, arm_acts}
 use Rattle.ert_table.proofs.OneStep.{may_store_at}

@@ -1,4 +1,4 @@
-use Rattle.std.proofs.Common.{sym, ◌≡◌, [], refl, ◌∙◌, ap}
+use Rattle.std.proofs.Common.{sym, ◌≡◌, [], ◌∙◌, ap}
 use Rattle.ert_table.proofs.Moves.{joins, learns_at}
 use Rattle.ert_table.proofs.OneStep.{has_words}
 use Rattle.ert_table.specs.Acts.{Sitter}

@@ -1,9 +1,8 @@
-use Rattle.std.proofs.Common.{◌≡◌, ℕ, ◌<◌, ◌∙◌, Bool, true, false, nat_eq, refl, sym, subst, subst₂, bit_or}
+use Rattle.std.proofs.Common.{◌≡◌, ℕ, ◌<◌, Bool, true, false, nat_eq, refl, sym, subst, subst₂, bit_or}
 use mir.Val.{bool_byte}
 use Rattle.ert_defs.specs.Words.{word_count, process_word}
 use Rattle.ert_table.specs.Acts.{Acts}
 use Rattle.ert_table.specs.Entries.{mark_entry}
-use Rattle.ert_table.specs.Places.{process_place}
 use Rattle.ert_table.proofs.OneStep.{may_step_at}
 use Rattle.ert_table.proofs.ProcessActs.{mark_acts}
 use Rattle.ert_table.proofs.WordPlaces.{process_place-high}
