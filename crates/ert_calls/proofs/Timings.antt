@@ -1,0 +1,192 @@
+-- What is left of a timer, by what its slot shows and by the state.
+
+use Rattle.std.proofs.Common.{◌≡◌, ◌≢◌, ◌↔◌, ℕ, ◌-◌, ℤ, pos, negsuc, ◌-ℤ◌, arith, Bool, true, false, cond, nat_eq, List, [], ◌∷◌, ◌++◌, Option, Some, None, option_map, refl, sym, ap, subst, ◌∙◌, eqb-true}
+use Rattle.std.proofs.lemmas.Int.{ints}
+use Rattle.std.specs.Prelude.{IsSome}
+use Rattle.ert_defs.specs.Legal.{Found, Legal, left_by, left_of, names_timer}
+use Rattle.ert_defs.specs.Milliseconds.{natural, left}
+use Rattle.ert_defs.specs.States.{State, opening, state}
+use Rattle.ert_defs.specs.Timers.{Row, row_of, timer_at}
+use Rattle.ert_defs.proofs.Runs.{legal_first}
+use Rattle.ert_defs.specs.declared.entry.Actor.{Actor}
+use Rattle.ert_defs.specs.declared.entry.Entry.{Entry}
+use Rattle.ert_defs.specs.declared.settings.Settings.{Settings}
+use Rattle.ert_defs.specs.declared.timer.Status.{Status}
+use Rattle.ert_defs.specs.declared.timer.Status.TheVariants.{Armed, Expired, Delivered, Cancelled, Orphaned, Dropped}
+use Rattle.ert_defs.specs.declared.timer.TimerRef.{TimerRef}
+use Rattle.ert_table.specs.Held.{is_held}
+use Rattle.ert_table.specs.Settlings.{Shown, HasRow, shown_by, shown_in, left_shown, Settles}
+use Rattle.ert_table.specs.Takes.{Appends, TakesPlace}
+use Rattle.ert_table.specs.declared.carry.Settle.TheVariants.{Cancel as ToCancel}
+use Rattle.ert_table.specs.declared.view.View.{View}
+use Rattle.ert_table.proofs.Calls.{step_takes_place, takes_place_then}
+use Rattle.ert_table.proofs.SlotFacts.{slots_kept}
+use Rattle.ert_calls.specs.Calls.{look_entry, peek_entry, cancel_entry, AtLastStep, IsLeft, read_entries, TellsLeft, Reads, cancel_entries, Cancels}
+use Rattle.ert_calls.specs.Deadlines.{deadline_at, deadline_shown, HasDeadline, Peeks}
+use Rattle.ert_calls.proofs.Looks.{can_step, look_before, look_stepped}
+
+-- a difference, or 0 where it is negative
+pub natural_sub : (x : ℤ) (m n : ℕ) → x ≡ (pos m -ℤ pos n) → natural x ≡ m - n
+natural_sub (pos k) m n is = omega (arith, ints)
+natural_sub (negsuc k) m n is = omega (arith, ints)
+
+-- something is left only of an armed timer
+only_armed : (g : Settings) (look : ℤ) (status : Option Status) (row : Option Row) → IsSome (left_by g look status row)
+    → status ≡ Some Armed
+only_armed g look None row some = absurd cc
+only_armed g look (Some Armed) row some = refl
+only_armed g look (Some Expired) row some = absurd cc
+only_armed g look (Some Delivered) row some = absurd cc
+only_armed g look (Some Cancelled) row some = absurd cc
+only_armed g look (Some Orphaned) row some = absurd cc
+only_armed g look (Some Dropped) row some = absurd cc
+
+-- and of each, since it has a row
+each_armed : (g : Settings) (h : List Entry) (timer : TimerRef) (look : ℤ) → Legal g h → (state g h).status timer ≡ Some Armed
+    → IsSome (left_by g look ((state g h).status timer) (row_of ((state g h).rows timer.wheel) timer))
+each_armed g h timer look legal is =
+    let used : (state g h).status timer ≢ None = λ none. (let no : Some Armed ≡ None = sym is ∙ none in cc) in
+    let stands = (slots_kept g h legal).stand timer used in
+    subst (λ x. IsSome (left_by g look x (row_of ((state g h).rows timer.wheel) timer))) (sym is)
+    (subst (λ x. IsSome (left_by g look (Some Armed) x)) (sym stands.is) refl)
+
+pub is_left : (g : Settings) (h : List Entry) (timer : TimerRef) (look : ℤ) (answer : Option ℕ) → Legal g h
+    → answer ≡ left_by g look ((state g h).status timer) (row_of ((state g h).rows timer.wheel) timer)
+    → IsLeft g timer look answer (state g h)
+is_left g h timer look answer legal told = record {
+  told = told;
+  armed = (
+    λ some. only_armed g look ((state g h).status timer) (row_of ((state g h).rows timer.wheel) timer) (subst IsSome told some),
+    λ is. subst IsSome (sym told) (each_armed g h timer look legal is),
+  );
+}
+
+-- what a step finds left by the last look of its maker
+left_found : (g : Settings) (v : View) (e : Entry) (w : View) (timer : TimerRef) (now : ℤ) (answer : Option ℕ) (step : Appends g v e w)
+    → is_held v.actors e.by ≡ true → (state g v.front).looked e.by ≡ now
+    → answer ≡ left_of g (state g (v.front ++ step.between)) e.by timer
+    → AtLastStep g w.front (IsLeft g timer now answer)
+left_found g v e w timer now answer step held look found =
+    let before : List Entry = v.front ++ step.between in
+    let s : State = state g before in
+    let same : s.looked e.by ≡ now = look_before g v e w e.by step held ∙ look in
+    record {
+      before = before;
+      last = e;
+      grown = step.grown;
+      held = is_left g before timer now answer (legal_first g (opening g) before (e ∷ []) (subst (Legal g) step.grown step.legal))
+          (found ∙ ap (λ x. left_by g x (s.status timer) (row_of (s.rows timer.wheel) timer)) same);
+    }
+
+-- what a call knows after its look
+record Looked (g : Settings) (v : View) (by : Actor) (now : ℤ) (u : View) : Type 0 where
+  held : is_held u.actors by ≡ true
+  look : (state g u.front).looked by ≡ now
+
+looked : (g : Settings) (v : View) (by : Actor) (now : ℤ) (u : View) → is_held v.actors by ≡ true → Appends g v (look_entry by now) u
+    → Looked g v by now u
+looked g v by now u held step = record {
+  held = subst (λ actors. is_held actors by ≡ true) (sym step.actors) held;
+  look = look_stepped g v (look_entry by now) u step held;
+}
+
+-- a read of a reference out of range
+pub reads_none : (g : Settings) (v : View) (by : Actor) (timer : TimerRef) (now : ℤ) (u : View) → names_timer g timer ≡ false
+    → Appends g v (look_entry by now) u → Reads g v by timer None u
+reads_none g v by timer now u out step = record {
+  now = now;
+  call = subst (λ b. TakesPlace g v (look_entry by now ∷ read_entries b by timer None) u) (sym out)
+      (step_takes_place g v (look_entry by now) u step);
+  left = subst (λ b. TellsLeft b g timer now None u) (sym out) refl;
+}
+
+-- a timer that was read, by the look before
+record Peeked (g : Settings) (v : View) (by : Actor) (timer : TimerRef) (now : ℤ) (answer : Option ℕ) (w : View) : Type 0 where
+  call : TakesPlace g v (look_entry by now ∷ (peek_entry by timer answer ∷ [])) w
+  left : AtLastStep g w.front (IsLeft g timer now answer)
+  held : is_held w.actors by ≡ true
+  look : (state g w.front).looked by ≡ now
+
+peeked : (g : Settings) (v : View) (by : Actor) (timer : TimerRef) (now : ℤ) (u : View) (deadline : Option ℕ) (w : View)
+    → is_held v.actors by ≡ true → Appends g v (look_entry by now) u → Peeks g u by timer deadline w
+    → Peeked g v by timer now (option_map (λ d. left g d now) deadline) w
+peeked g v by timer now u deadline w held step peek =
+    let answer : Option ℕ = option_map (λ d. left g d now) deadline in
+    let after = looked g v by now u held step in
+    let read : Appends g u (peek_entry by timer answer) w =
+    subst (λ x. Appends g u (peek_entry by timer (option_map (λ d. left g d x) deadline)) w) after.look peek.step in
+    record {
+      call = takes_place_then g v u w (look_entry by now ∷ []) (peek_entry by timer answer ∷ [])
+          (step_takes_place g v (look_entry by now) u step) (step_takes_place g u (peek_entry by timer answer) w read);
+      left = left_found g u (peek_entry by timer answer) w timer now answer read after.held after.look
+          (can_step g u (peek_entry by timer answer) w read).found;
+      held = subst (λ actors. is_held actors by ≡ true) (sym read.actors) after.held;
+      look = look_stepped g u (peek_entry by timer answer) w read after.held ∙ after.look;
+    }
+
+-- a read of one in range
+pub reads : (g : Settings) (v : View) (by : Actor) (timer : TimerRef) (now : ℤ) (u : View) (deadline : Option ℕ) (w : View)
+    → is_held v.actors by ≡ true → names_timer g timer ≡ true → Appends g v (look_entry by now) u → Peeks g u by timer deadline w
+    → Reads g v by timer (option_map (λ d. left g d now) deadline) w
+reads g v by timer now u deadline w held within step peek =
+    let answer : Option ℕ = option_map (λ d. left g d now) deadline in
+    let read = peeked g v by timer now u deadline w held step peek in
+    record {
+      now = now;
+      call = subst (λ b. TakesPlace g v (look_entry by now ∷ read_entries b by timer answer) w) (sym within) read.call;
+      left = subst (λ b. TellsLeft b g timer now answer w) (sym within) read.left;
+    }
+
+-- a cancel of a reference out of range
+pub cancels_none : (g : Settings) (v : View) (by : Actor) (timer : TimerRef) (now : ℤ) (u : View) → names_timer g timer ≡ false
+    → Appends g v (look_entry by now) u → Cancels g v by timer None u
+cancels_none g v by timer now u out step = record {
+  now = now;
+  found = None;
+  call = subst (λ b. TakesPlace g v (look_entry by now ∷ cancel_entries b by timer None None) u) (sym out)
+      (step_takes_place g v (look_entry by now) u step);
+  left = subst (λ b. TellsLeft b g timer now None u) (sym out) refl;
+}
+
+-- a cancel of a timer that isn't armed when it is read
+pub cancels_unarmed : (g : Settings) (v : View) (by : Actor) (timer : TimerRef) (now : ℤ) (u w : View)
+    → is_held v.actors by ≡ true → names_timer g timer ≡ true → Appends g v (look_entry by now) u → Peeks g u by timer None w
+    → Cancels g v by timer None w
+cancels_unarmed g v by timer now u w held within step peek =
+    let read = peeked g v by timer now u None w held step peek in
+    record {
+      now = now;
+      found = None;
+      call = subst (λ b. TakesPlace g v (look_entry by now ∷ cancel_entries b by timer None None) w) (sym within) read.call;
+      left = subst (λ b. TellsLeft b g timer now None w) (sym within) read.left;
+    }
+
+-- the step of a cancel
+cancelled : (g : Settings) (v : View) (by : Actor) (timer : TimerRef) (deadline : ℕ) (hit : Bool) (w : View)
+    → Settles g v by timer deadline ToCancel hit w
+    → Appends g v (cancel_entry by timer (cond hit (Some (left g deadline ((state g v.front).looked by))) None)) w
+cancelled g v by timer deadline true w step = step
+cancelled g v by timer deadline false w step = step
+
+-- a cancel of one that is armed then, and at the last step or not
+pub cancels : (g : Settings) (v : View) (by : Actor) (timer : TimerRef) (now : ℤ) (u : View) (deadline : ℕ) (w : View) (hit : Bool) (x : View)
+    → is_held v.actors by ≡ true → names_timer g timer ≡ true → Appends g v (look_entry by now) u → Peeks g u by timer (Some deadline) w
+    → Settles g w by timer deadline ToCancel hit x
+    → Cancels g v by timer (cond hit (Some (left g deadline now)) None) x
+cancels g v by timer now u deadline w hit x held within step peek settled =
+    let found : ℕ = left g deadline now in
+    let answer : Option ℕ = cond hit (Some found) None in
+    let read = peeked g v by timer now u (Some deadline) w held step peek in
+    let last : Appends g w (cancel_entry by timer answer) x =
+    subst (λ y. Appends g w (cancel_entry by timer (cond hit (Some (left g deadline y)) None)) x) read.look
+    (cancelled g w by timer deadline hit x settled) in
+    record {
+      now = now;
+      found = Some found;
+      call = subst (λ b. TakesPlace g v (look_entry by now ∷ cancel_entries b by timer (Some found) answer) x) (sym within)
+          (takes_place_then g v w x (look_entry by now ∷ (peek_entry by timer (Some found) ∷ [])) (cancel_entry by timer answer ∷ [])
+          read.call (step_takes_place g w (cancel_entry by timer answer) x last));
+      left = subst (λ b. TellsLeft b g timer now answer x) (sym within)
+          (left_found g w (cancel_entry by timer answer) x timer now answer last read.held read.look
+          (can_step g w (cancel_entry by timer answer) x last).found);
+    }

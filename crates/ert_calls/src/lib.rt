@@ -1,0 +1,30 @@
+//! The calls of the clock and timer service that take no memory and no lock, and wait for nobody.
+//!
+//! Each is some steps on the words of a desk (`ert_table`), made as a caller or a scheduler that the pass
+//! holds. A step can't be refused, so a call makes its steps once and answers from what they found. Other
+//! threads may step between two steps of one call. So a cancel whose timer was still armed when it was
+//! read can miss it, and then answers that nothing was cancelled.
+//!
+//! | call | entries | answer |
+//! |---|---|---|
+//! | `monotonic_time` | Look | its time |
+//! | `time_offset` | Off | its offset, and the state of that |
+//! | `system_time` | Look, Off | the time of the one and the offset of the other, added |
+//! | `read_timer` | Look; Peek where the reference is in range | what the Peek found left |
+//! | `cancel_timer` | the same; Cancel where the Peek found something left | what the Cancel found left |
+//! | `is_alive` | Mark | whether the process had not exited |
+//! | `mark_exit` | Mark, which exits it | the same |
+//!
+//! `specs/Calls.antt` has a relation for each call: its entries in order, and the answer that is read from
+//! them. What is left of a timer is told by the look that the same call made, rounded up.
+//!
+//! It stands on `ert_defs` and `ert_table`.
+#![tactic(auto)]
+
+mod clock_calls;
+mod process_calls;
+mod timer_calls;
+
+pub use clock_calls::{monotonic_time, system_time, time_offset};
+pub use process_calls::{is_alive, mark_exit};
+pub use timer_calls::{cancel_timer, read_timer};

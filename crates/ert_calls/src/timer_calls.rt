@@ -1,0 +1,113 @@
+//! Calls that read and cancel timers.
+ghost use Rattle.std.specs.Prelude.{pos, ◌≡◌, ◌≤ℤ◌, ◌<ℤ◌, true};
+ghost use Rattle.ert_defs.specs.Actors.{IsUser};
+ghost use Rattle.ert_defs.specs.Legal.{names_timer};
+ghost use Rattle.ert_defs.specs.Lines.{end_time};
+ghost use Rattle.ert_defs.specs.Milliseconds as milliseconds;
+ghost use Rattle.ert_table.specs.Desks.{settings_of, view_of, actors_of, Belongs};
+ghost use Rattle.ert_table.specs.Held.{is_held};
+ghost use Rattle.ert_calls.specs.Calls.{Reads, Cancels};
+ghost use Rattle.ert_calls.specs.Deadlines.{deadline_shown, Peeks};
+
+use crate::clock_calls::look;
+use ert_defs::{Actor, Settings, Status, TimerRef};
+use ert_table::{Desk, Pass, Settle, TimerCarry};
+
+/// The last generation that a slot can have.
+const LAST_GENERATION: u32 = 262_143;
+
+const NANOSECONDS_PER_MILLISECOND: i64 = 1_000_000;
+
+/// The milliseconds left of a timer, rounded up (`erlang` module reference, `read_timer`).
+///
+/// None comes exactly where the reference is out of range or its timer isn't armed.
+pub fn read_timer(desk: &Desk, pass: &mut Pass, by: Actor, timer: TimerRef) -> Option<u64>
+    requires belongs { Belongs desk.now pass.old }
+    requires held { is_held (actors_of pass.old) by ≡ true }
+    requires user { IsUser (settings_of desk.now) by }
+    ensures belongs { Belongs desk.now pass.new }
+    ensures call { Reads (settings_of desk.now) (view_of pass.old) by timer result (view_of pass.new) }
+{
+    let now = look(desk, pass, by);
+    if !is_in_range(desk.settings(), timer) {
+        return None;
+    }
+    let deadline = armed_deadline(desk, pass, by, timer)?;
+    Some(left(desk.settings(), deadline, now))
+}
+
+/// Cancels a timer, and tells the milliseconds that were left of it, rounded up (`erlang` module
+/// reference, `cancel_timer`).
+///
+/// None comes exactly where the reference is out of range or its timer isn't armed when it would be
+/// cancelled.
+pub fn cancel_timer(desk: &Desk, pass: &mut Pass, by: Actor, timer: TimerRef) -> Option<u64>
+    requires belongs { Belongs desk.now pass.old }
+    requires held { is_held (actors_of pass.old) by ≡ true }
+    requires user { IsUser (settings_of desk.now) by }
+    ensures belongs { Belongs desk.now pass.new }
+    ensures call { Cancels (settings_of desk.now) (view_of pass.old) by timer result (view_of pass.new) }
+{
+    let now = look(desk, pass, by);
+    if !is_in_range(desk.settings(), timer) {
+        return None;
+    }
+    let deadline = armed_deadline(desk, pass, by, timer)?;
+    if pass.settle(desk, by, timer, deadline, Settle::Cancel) {
+        Some(left(desk.settings(), deadline, now))
+    } else {
+        None
+    }
+}
+
+/// Reads a timer: its deadline where it is armed, in milliseconds after the start time.
+fn armed_deadline(desk: &Desk, pass: &mut Pass, by: Actor, timer: TimerRef) -> Option<u64>
+    requires belongs { Belongs desk.now pass.old }
+    requires held { is_held (actors_of pass.old) by ≡ true }
+    requires user { IsUser (settings_of desk.now) by }
+    requires in_range { names_timer (settings_of desk.now) timer ≡ true }
+    ensures belongs { Belongs desk.now pass.new }
+    ensures step { Peeks (settings_of desk.now) (view_of pass.old) by timer result (view_of pass.new) }
+{
+    let shown = pass.load_timer(desk, by, &TimerCarry::Peek { timer });
+    deadline_of(shown, timer.generation)
+}
+
+/// The deadline of a timer of this generation, by what its slot shows; None where it isn't armed.
+fn deadline_of(shown: Option<(Status, u64, u32)>, wanted: u32) -> Option<u64>
+    ensures { result ≡ deadline_shown wanted shown }
+{
+    match shown {
+        Some((Status::Armed, deadline, generation)) if generation == wanted => Some(deadline),
+        _ => None,
+    }
+}
+
+/// Whether a reference is in range: else it never named a timer.
+fn is_in_range(settings: &Settings, timer: TimerRef) -> bool
+    ensures { result ≡ names_timer settings.now timer }
+{
+    timer.wheel < settings.schedulers
+        && timer.slot < settings.slots
+        && 1 <= timer.generation
+        && timer.generation <= LAST_GENERATION
+}
+
+/// The milliseconds from a time to a deadline, rounded up; 0 where the deadline has passed.
+fn left(settings: &Settings, deadline: u64, now: i64) -> u64
+    requires low { settings.now.start ≤ℤ now }
+    requires high { now <ℤ end_time settings.now }
+    ensures { result ≡ milliseconds.left settings.now deadline now }
+{
+    deadline.saturating_sub(rounded_up(settings, now))
+}
+
+/// The milliseconds from the start time to a time, rounded up.
+fn rounded_up(settings: &Settings, now: i64) -> u64
+    requires low { settings.now.start ≤ℤ now }
+    requires high { now <ℤ end_time settings.now }
+    ensures { pos result ≡ milliseconds.up settings.now now }
+{
+    let nanoseconds = now - settings.start + (NANOSECONDS_PER_MILLISECOND - 1);
+    nanoseconds.div_euclid(NANOSECONDS_PER_MILLISECOND) as u64
+}
