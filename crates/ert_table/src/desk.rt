@@ -39,7 +39,3 @@ pub struct Words {
     /// 1 for each process that has exited, else 0.
     pub processes: Vec<u64>,
 }
-
-/// There was no memory.
-#[derive(Clone, Copy, Debug, PartialEq, Eq)]
-pub struct NoMemory;

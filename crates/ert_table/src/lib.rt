@@ -74,6 +74,6 @@ mod timer_steps;
 mod view;
 
 pub use carry::{OffsetCarry, Settle, TimeCarry, TimerCarry};
-pub use desk::{Desk, NoMemory, Pass, Words};
+pub use desk::{Desk, Pass, Words};
 pub use laws::calls_take_place;
 pub use view::{Met, View};

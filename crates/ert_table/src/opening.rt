@@ -10,17 +10,11 @@ ghost use Rattle.ert_table.specs.Held.{IsWhole};
 ghost use Rattle.ert_table.specs.Openings.{first_words};
 ghost use Rattle.ert_table.specs.Places.{AreWords};
 
-use crate::desk::{Desk, NoMemory, Pass, Words};
+use crate::desk::{Desk, Pass, Words};
 use atomic_table::{Closed, Table};
-use ert_defs::{Mode, Settings};
+use ert_defs::{Mode, NoMemory, Settings};
 use ert_words::offset_word;
 use std::alloc::{AllocError, Global};
-
-impl From<AllocError> for NoMemory {
-    fn from(_: AllocError) -> NoMemory {
-        NoMemory
-    }
-}
 
 impl Desk {
     /// Opens a service: its history is empty, and the pass holds every actor.

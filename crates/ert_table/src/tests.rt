@@ -6,7 +6,7 @@ ghost use Rattle.ert_defs.specs.declared.entry.Actor.TheVariants.{Caller};
 
 use super::*;
 use ert_defs::{
-    Act, Actor, Kind, Mode, OffsetState, Reading, Settings, Start, Status, TimerRef, When,
+    Act, Actor, Kind, Mode, NoMemory, OffsetState, Reading, Settings, Start, Status, TimerRef, When,
 };
 use std::thread::join;
 
