@@ -17,5 +17,7 @@
 #![tactic(auto)]
 
 mod part;
+#[cfg(test)]
+mod tests;
 
 pub use part::KeeperPart;
