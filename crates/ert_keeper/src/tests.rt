@@ -3,8 +3,8 @@ ghost use Rattle.ert_keeper.specs.Trial.{IsReady};
 
 use super::*;
 use ert_clock::{ClockErr, Moved};
-use ert_defs::{Mode, OffsetState, Reading, Settings};
-use ert_table::{Desk, NoMemory, Pass, Words};
+use ert_defs::{Mode, NoMemory, OffsetState, Reading, Settings};
+use ert_table::{Desk, Pass, Words};
 use std::alloc::Global;
 use std::process::Abort;
 
