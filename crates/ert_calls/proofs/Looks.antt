@@ -1,13 +1,12 @@
 -- The steps that a caller or a scheduler may always make, and what is known of its last look.
 
-use Rattle.std.proofs.Common.{◌≡◌, ℤ, Bool, true, false, not, cond, List, [], ◌∷◌, ◌++◌, Option, None, refl, sym, ap, subst, ◌∙◌, append_assoc}
+use Rattle.std.proofs.Common.{◌≡◌, ℤ, Bool, true, false, not, cond, List, [], ◌∷◌, ◌++◌, refl, sym, ap, subst, ◌∙◌, append_assoc}
 use Rattle.std.specs.Prelude.{◌+ℤ◌, FitsSigned}
 use Rattle.std.specs.Int.{w64}
-use Rattle.ert_defs.specs.Actors.{same_actor, IsUser}
-use Rattle.ert_defs.specs.Clocks.{Clock}
-use Rattle.ert_defs.specs.Legal.{Can, Found, Legal}
+use Rattle.ert_defs.specs.Actors.{IsUser}
+use Rattle.ert_defs.specs.Legal.{Can, Legal}
 use Rattle.ert_defs.specs.Settings.{IsChecked}
-use Rattle.ert_defs.specs.States.{State, look_after, opening, next, run, state}
+use Rattle.ert_defs.specs.States.{State, look_after, opening, next, state}
 use Rattle.ert_defs.proofs.Runs.{state-append, legal_then, look_stays}
 use Rattle.ert_defs.proofs.Times.{state_sum_fits}
 use Rattle.ert_defs.specs.declared.entry.Actor.{Actor}
@@ -15,9 +14,9 @@ use Rattle.ert_defs.specs.declared.entry.Actor.TheVariants.{Sched, Caller}
 use Rattle.ert_defs.specs.declared.entry.Entry.{Entry}
 use Rattle.ert_defs.specs.declared.settings.OffsetState.{OffsetState}
 use Rattle.ert_defs.specs.declared.settings.Settings.{Settings}
-use Rattle.ert_table.specs.Entries.{offset_with, offset_entry}
+use Rattle.ert_table.specs.Entries.{offset_entry}
 use Rattle.ert_table.specs.Held.{is_held}
-use Rattle.ert_table.specs.Takes.{MayStep, Appends}
+use Rattle.ert_table.specs.Takes.{Appends}
 use Rattle.ert_table.proofs.Holders.{same_actor_self}
 use Rattle.ert_table.specs.declared.carry.OffsetCarry.TheVariants.{Off as ToOff}
 use Rattle.ert_table.specs.declared.view.View.{View}

@@ -1,12 +1,12 @@
 -- What is left of a timer, by what its slot shows and by the state.
 
-use Rattle.std.proofs.Common.{◌≡◌, ◌≢◌, ◌↔◌, ℕ, ◌-◌, ℤ, pos, negsuc, ◌-ℤ◌, arith, Bool, true, false, cond, nat_eq, List, [], ◌∷◌, ◌++◌, Option, Some, None, option_map, refl, sym, ap, subst, ◌∙◌, eqb-true}
+use Rattle.std.proofs.Common.{◌≡◌, ◌≢◌, ℕ, ◌-◌, ℤ, pos, negsuc, ◌-ℤ◌, arith, Bool, true, false, cond, List, [], ◌∷◌, ◌++◌, Option, Some, None, option_map, refl, sym, ap, subst, ◌∙◌}
 use Rattle.std.proofs.lemmas.Int.{ints}
 use Rattle.std.specs.Prelude.{IsSome}
-use Rattle.ert_defs.specs.Legal.{Found, Legal, left_by, left_of, names_timer}
+use Rattle.ert_defs.specs.Legal.{Legal, left_by, left_of, names_timer}
 use Rattle.ert_defs.specs.Milliseconds.{natural, left}
 use Rattle.ert_defs.specs.States.{State, opening, state}
-use Rattle.ert_defs.specs.Timers.{Row, row_of, timer_at}
+use Rattle.ert_defs.specs.Timers.{Row, row_of}
 use Rattle.ert_defs.proofs.Runs.{legal_first}
 use Rattle.ert_defs.specs.declared.entry.Actor.{Actor}
 use Rattle.ert_defs.specs.declared.entry.Entry.{Entry}
@@ -15,14 +15,14 @@ use Rattle.ert_defs.specs.declared.timer.Status.{Status}
 use Rattle.ert_defs.specs.declared.timer.Status.TheVariants.{Armed, Expired, Delivered, Cancelled, Orphaned, Dropped}
 use Rattle.ert_defs.specs.declared.timer.TimerRef.{TimerRef}
 use Rattle.ert_table.specs.Held.{is_held}
-use Rattle.ert_table.specs.Settlings.{Shown, HasRow, shown_by, shown_in, left_shown, Settles}
+use Rattle.ert_table.specs.Settlings.{Settles}
 use Rattle.ert_table.specs.Takes.{Appends, TakesPlace}
 use Rattle.ert_table.specs.declared.carry.Settle.TheVariants.{Cancel as ToCancel}
 use Rattle.ert_table.specs.declared.view.View.{View}
 use Rattle.ert_table.proofs.Calls.{step_takes_place, takes_place_then}
 use Rattle.ert_table.proofs.SlotFacts.{slots_kept}
 use Rattle.ert_calls.specs.Calls.{look_entry, peek_entry, cancel_entry, AtLastStep, IsLeft, read_entries, TellsLeft, Reads, cancel_entries, Cancels}
-use Rattle.ert_calls.specs.Deadlines.{deadline_at, deadline_shown, HasDeadline, Peeks}
+use Rattle.ert_calls.specs.Deadlines.{Peeks}
 use Rattle.ert_calls.proofs.Looks.{can_step, look_before, look_stepped}
 
 -- a difference, or 0 where it is negative

@@ -1,6 +1,6 @@
 -- The deadline of an armed timer, as a call reads it.
 
-use Rattle.std.specs.Prelude.{◌≡◌, ◌≢◌, ℕ, cond, nat_eq, Option, Some, None, option_map}
+use Rattle.std.specs.Prelude.{ℕ, cond, nat_eq, Option, Some, None, option_map}
 use Rattle.ert_defs.specs.Milliseconds.{left}
 use Rattle.ert_defs.specs.States.{State, state}
 use Rattle.ert_defs.specs.declared.entry.Actor.{Actor}

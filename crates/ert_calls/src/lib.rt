@@ -16,13 +16,16 @@
 //! | `mark_exit` | Mark, which exits it | the same |
 //!
 //! `specs/Calls.antt` has a relation for each call: its entries in order, and the answer that is read from
-//! them. What is left of a timer is told by the look that the same call made, rounded up.
+//! them. What is left of a timer is told by the look that the same call made: the whole milliseconds from
+//! that time to the deadline.
 //!
 //! It stands on `ert_defs` and `ert_table`.
 #![tactic(auto)]
 
 mod clock_calls;
 mod process_calls;
+#[cfg(test)]
+mod tests;
 mod timer_calls;
 
 pub use clock_calls::{monotonic_time, system_time, time_offset};

@@ -22,7 +22,7 @@ pub fn is_alive(desk: &Desk, pass: &mut Pass, by: Actor, process: u32) -> bool
 
 /// Lets a process exit, and tells whether it had not exited before.
 ///
-/// Of several calls for one process just one answers true.
+/// The timers that are armed for the process stay so.
 pub fn mark_exit(desk: &Desk, pass: &mut Pass, by: Actor, process: u32) -> bool
     requires belongs { Belongs desk.now pass.old }
     requires held { is_held (actors_of pass.old) by ≡ true }

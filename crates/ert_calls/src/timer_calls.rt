@@ -18,7 +18,7 @@ const LAST_GENERATION: u32 = 262_143;
 
 const NANOSECONDS_PER_MILLISECOND: i64 = 1_000_000;
 
-/// The milliseconds left of a timer, rounded up (`erlang` module reference, `read_timer`).
+/// The whole milliseconds left of a timer (`erlang` module reference, `read_timer`).
 ///
 /// None comes exactly where the reference is out of range or its timer isn't armed.
 pub fn read_timer(desk: &Desk, pass: &mut Pass, by: Actor, timer: TimerRef) -> Option<u64>
@@ -36,11 +36,11 @@ pub fn read_timer(desk: &Desk, pass: &mut Pass, by: Actor, timer: TimerRef) -> O
     Some(left(desk.settings(), deadline, now))
 }
 
-/// Cancels a timer, and tells the milliseconds that were left of it, rounded up (`erlang` module
-/// reference, `cancel_timer`).
+/// Cancels a timer, and tells the whole milliseconds that were left of it (`erlang` module reference,
+/// `cancel_timer`).
 ///
-/// None comes exactly where the reference is out of range or its timer isn't armed when it would be
-/// cancelled.
+/// None comes exactly where the reference is out of range or its timer isn't armed at the last step of the
+/// call.
 pub fn cancel_timer(desk: &Desk, pass: &mut Pass, by: Actor, timer: TimerRef) -> Option<u64>
     requires belongs { Belongs desk.now pass.old }
     requires held { is_held (actors_of pass.old) by ≡ true }
@@ -93,7 +93,7 @@ fn is_in_range(settings: &Settings, timer: TimerRef) -> bool
         && timer.generation <= LAST_GENERATION
 }
 
-/// The milliseconds from a time to a deadline, rounded up; 0 where the deadline has passed.
+/// The whole milliseconds from a time to a deadline; 0 where the deadline has passed.
 fn left(settings: &Settings, deadline: u64, now: i64) -> u64
     requires low { settings.now.start ≤ℤ now }
     requires high { now <ℤ end_time settings.now }

@@ -1,4 +1,4 @@
-use Rattle.std.proofs.Common.{◌≡◌, sym, subst, rules, ◌≤ℤ◌, ◌<ℤ◌, ℤ, FitsSigned, w64, to_z-of_z}
+use Rattle.std.proofs.Common.{sym, subst, rules, ◌≤ℤ◌, ◌<ℤ◌, ℤ, FitsSigned, w64, to_z-of_z}
 use Rattle.ert_defs.specs.Lines.{end_time}
 use Rattle.ert_defs.proofs.Times.{state_in_range}
 use Rattle.ert_table.specs.Desks.{settings_of, front_of}

@@ -1,4 +1,4 @@
-use Rattle.std.proofs.Common.{◌≡◌, sym, subst, rules, ℤ, ◌+ℤ◌, ◌∷◌, [], FitsSigned, w64, to_z-of_z, refl, ap, ◌∙◌}
+use Rattle.std.proofs.Common.{sym, subst, rules, ℤ, ◌+ℤ◌, ◌∷◌, [], FitsSigned, w64, to_z-of_z}
 use Rattle.ert_defs.specs.States.{state}
 use Rattle.ert_table.specs.Desks.{settings_of, view_of}
 use Rattle.ert_table.specs.Takes.{Appends}

@@ -1,5 +1,5 @@
-use Rattle.std.proofs.Common.{rules, subst, FitsSigned, w64, to_z-of_z}
-use Rattle.ert_table.specs.Desks.{settings_of, view_of, actors_of}
+use Rattle.std.proofs.Common.{subst}
+use Rattle.ert_table.specs.Desks.{settings_of, view_of}
 use Rattle.ert_table.specs.Takes.{Appends}
 use Rattle.ert_table.proofs.Calls.{step_takes_place}
 use Rattle.ert_calls.specs.Calls.{off_entry}
