@@ -6,8 +6,10 @@ ghost use Rattle.ert_table.specs.Held.{is_held};
 ghost use Rattle.ert_calls.specs.Trial.{trial_settings, started};
 
 use super::*;
-use ert_defs::{Act, Actor, Kind, Mode, OffsetState, Reading, Settings, Start, TimerRef, When};
-use ert_table::{Desk, NoMemory, Pass};
+use ert_defs::{
+    Act, Actor, Kind, Mode, NoMemory, OffsetState, Reading, Settings, Start, TimerRef, When,
+};
+use ert_table::{Desk, Pass};
 
 const SETTINGS: Settings = Settings {
     mode: Mode::Single,
