@@ -13,9 +13,6 @@ use crate::clock_calls::look;
 use ert_defs::{Actor, Settings, Status, TimerRef};
 use ert_table::{Desk, Pass, Settle, TimerCarry};
 
-/// The last generation that a slot can have.
-const LAST_GENERATION: u32 = 262_143;
-
 const NANOSECONDS_PER_MILLISECOND: i64 = 1_000_000;
 
 /// The whole milliseconds left of a timer (`erlang` module reference, `read_timer`).
@@ -29,7 +26,7 @@ pub fn read_timer(desk: &Desk, pass: &mut Pass, by: Actor, timer: TimerRef) -> O
     ensures call { Reads (settings_of desk.now) (view_of pass.old) by timer result (view_of pass.new) }
 {
     let now = look(desk, pass, by);
-    if !is_in_range(desk.settings(), timer) {
+    if !timer.is_in_range(desk.settings()) {
         return None;
     }
     let deadline = armed_deadline(desk, pass, by, timer)?;
@@ -49,7 +46,7 @@ pub fn cancel_timer(desk: &Desk, pass: &mut Pass, by: Actor, timer: TimerRef) ->
     ensures call { Cancels (settings_of desk.now) (view_of pass.old) by timer result (view_of pass.new) }
 {
     let now = look(desk, pass, by);
-    if !is_in_range(desk.settings(), timer) {
+    if !timer.is_in_range(desk.settings()) {
         return None;
     }
     let deadline = armed_deadline(desk, pass, by, timer)?;
@@ -81,16 +78,6 @@ fn deadline_of(shown: Option<(Status, u64, u32)>, wanted: u32) -> Option<u64>
         Some((Status::Armed, deadline, generation)) if generation == wanted => Some(deadline),
         _ => None,
     }
-}
-
-/// Whether a reference is in range: else it never named a timer.
-fn is_in_range(settings: &Settings, timer: TimerRef) -> bool
-    ensures { result ≡ names_timer settings.now timer }
-{
-    timer.wheel < settings.schedulers
-        && timer.slot < settings.slots
-        && 1 <= timer.generation
-        && timer.generation <= LAST_GENERATION
 }
 
 /// The whole milliseconds from a time to a deadline; 0 where the deadline has passed.

@@ -1,14 +1,14 @@
 ghost use Rattle.std.specs.Prelude.{◌≡◌, ◌↔◌, pos, IsTrue};
 ghost use Rattle.std.specs.Int.{int_div_euclid};
 ghost use Rattle.ert_defs.specs.Clocks.{face, first_clock};
-ghost use Rattle.ert_defs.specs.Lines.{IsOffset, first_state, rate_of, rate_after, is_base, shift_of};
+ghost use Rattle.ert_defs.specs.Lines.{IsOffset, rate_of, rate_after, is_base, shift_of};
 ghost use Rattle.ert_defs.specs.Lines.{mono_after, line_time, time_after, base_from, due_at};
 ghost use Rattle.ert_defs.specs.Lines.{due_after, ticked, shifted};
 ghost use Rattle.ert_defs.specs.Readings.{IsValid};
 ghost use Rattle.ert_defs.specs.Settings.{IsChecked};
 ghost use Rattle.ert_defs.specs.Sound.{IsRate, Sound};
 
-use ert_defs::{Act, Mode, OffsetState, Reading, Settings};
+use ert_defs::{Act, OffsetState, Reading, Settings};
 
 /// How far away the last check is, in nanoseconds, where the next is due: a minute (profile).
 const CHECK_INTERVAL: u64 = 60_000_000_000;
@@ -45,17 +45,6 @@ pub struct Face {
     pub line: Line,
     /// The greatest OS monotonic time so far.
     pub mono: i64,
-}
-
-/// The state of the offset at the opening.
-pub fn first_state(mode: Mode) -> OffsetState
-    ensures { result ≡ first_state mode }
-{
-    match mode {
-        Mode::No => OffsetState::Final,
-        Mode::Single => OffsetState::Preliminary,
-        Mode::Multi => OffsetState::Volatile,
-    }
 }
 
 /// Whether an offset is within its limits.
@@ -124,7 +113,7 @@ impl Face {
         Face {
             time,
             offset: sys - time,
-            state: first_state(settings.mode),
+            state: settings.mode.first_state(),
             line: Line {
                 time,
                 mono,

@@ -21,7 +21,7 @@ abbrev pub natural : ℤ → ℕ
 natural (pos n) = n
 natural (negsuc n) = 0
 
--- the milliseconds left of a timer at a time, never fewer than are needed
+-- the whole milliseconds from a time to the deadline of a timer, the time rounded up; 0 where it has passed
 abbrev pub left : Settings → ℕ → ℤ → ℕ
 left g deadline x = natural (pos deadline -ℤ up g x)
 

@@ -27,5 +27,5 @@ pub use laws::{
 pub use mail::{Mail, Request, RequestKind};
 pub use memory::NoMemory;
 pub use settings::{Mode, OffsetState, Reading, Settings, SettingsFault};
-pub use timer::{Fired, Kind, Start, Status, TimerRef, When};
+pub use timer::{Fired, Kind, LAST_GENERATION, Start, Status, TimerRef, When};
 pub use worked::histories_are_judged;

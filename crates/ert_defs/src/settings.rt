@@ -1,4 +1,5 @@
-ghost use Rattle.std.specs.Prelude.{◌↔◌, IsTrue};
+ghost use Rattle.std.specs.Prelude.{◌≡◌, ◌↔◌, IsTrue};
+ghost use Rattle.ert_defs.specs.Lines.{first_state};
 ghost use Rattle.ert_defs.specs.Settings.{IsStart, HasCounts, Checks};
 ghost use Rattle.ert_defs.specs.Readings.{IsValid};
 
@@ -11,6 +12,19 @@ pub enum Mode {
     Single,
     /// The time offset may change at each check.
     Multi,
+}
+
+impl Mode {
+    /// The state of the offset at the opening.
+    pub fn first_state(self) -> OffsetState
+        ensures { result ≡ first_state self }
+    {
+        match self {
+            Mode::No => OffsetState::Final,
+            Mode::Single => OffsetState::Preliminary,
+            Mode::Multi => OffsetState::Volatile,
+        }
+    }
 }
 
 /// The state of the time offset (ERTS User's Guide, "Time Warp Modes").

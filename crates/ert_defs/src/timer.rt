@@ -1,3 +1,8 @@
+ghost use Rattle.std.specs.Prelude.{◌≡◌};
+ghost use Rattle.ert_defs.specs.Legal.{names_timer};
+
+use crate::settings::Settings;
+
 /// Names one timer of one scheduler (`erlang` module reference, `start_timer`).
 ///
 /// It is in range where `wheel` is below the number of schedulers, `slot` below the number of slots and
@@ -10,6 +15,21 @@ pub struct TimerRef {
     pub slot: u32,
     /// Which use of the slot it is, from 1.
     pub generation: u32,
+}
+
+/// The last generation that a slot can have (profile).
+pub const LAST_GENERATION: u32 = 262_143;
+
+impl TimerRef {
+    /// Whether the reference is in range.
+    pub fn is_in_range(&self, settings: &Settings) -> bool
+        ensures { result ≡ names_timer settings.now self.now }
+    {
+        self.wheel < settings.schedulers
+            && self.slot < settings.slots
+            && 1 <= self.generation
+            && self.generation <= LAST_GENERATION
+    }
 }
 
 /// When a timer is to expire (`erlang` module reference, `start_timer`, option `abs`).
