@@ -1,17 +1,20 @@
 -- How the program ends, and what it has then read and written.
 
-use Rattle.std.specs.Prelude.{◌≡◌, ◌⊎◌, ◌≤◌, length, ℕ, List, [], ◌∷◌, Bool, false, Option, codes, string_bytes, String, Result, Ok, Err}
+use Rattle.std.specs.Prelude.{◌≡◌, ◌⊎◌, ◌≤◌, length, ℕ, List, [], ◌∷◌, Bool, false, Option, Some, None, codes, string_bytes, String, Result, Ok, Err}
 use Rattle.std.specs.Str.{bytes_eq}
 use Rattle.std.specs.declared.alloc.Global.{Global}
 use Rattle.ert_io.specs.Known.{then, before, IsAtEnd}
 use Rattle.ert_scenario.specs.Scenarios.{Plan, IsScenario, HasRefusal}
 use Rattle.ert_cli.specs.Refusals.{refusal_line}
-use Rattle.ert_cli.specs.Runs.{WritesTranscript, WritesPart}
-use Rattle.ert_script.specs.Written.{WritesFront}
+use Rattle.ert_cli.specs.Runs.{RunsOn, WritesPart}
+use Rattle.ert_io.specs.Writing.{WritesFront}
 use Rattle.ert_scenario.specs.declared.scenario.ScenarioErr.{ScenarioErr}
 use Rattle.ert_script.specs.declared.output.RunErr.{RunErr}
 use Rattle.ert_script.specs.declared.output.RunErr.TheVariants.{WriteFault as OutputFailed, NoMemory as OutOfMemory}
 use Rattle.ert_cli.specs.declared.ending.EndStatus.{EndStatus}
+use Rattle.ert_cli.specs.declared.ending.Ended.{Ended}
+use Rattle.ert_table.specs.declared.desk.Desk.{Desk}
+use Rattle.ert_table.specs.declared.desk.Pass.{Pass}
 use Rattle.ert_cli.specs.declared.ending.EndStatus.TheVariants.{Done, Usage, Refused, ReadFault, WriteFault, NoMemory, TooLong}
 
 -- the number of a status
@@ -36,13 +39,13 @@ pub record TakesAll (old new : Option (List ℕ)) (bytes : List ℕ) : Type 0 wh
   pub short : length bytes ≤ 16777216
   pub end : IsAtEnd new
 
--- all bytes were read, they are a scenario, and its transcript was written
-pub record Did (left left_new taken taken_new : Option (List ℕ)) : Type 0 where
+-- all bytes were read, they are a scenario, and it was run on a desk
+pub record Did (left left_new taken taken_new : Option (List ℕ)) (r : Desk × Pass) : Type 0 where
   pub bytes : List ℕ
   pub takes : TakesAll left left_new bytes
   pub plan : Plan
   pub is : IsScenario bytes plan
-  pub writes : WritesTranscript plan taken taken_new
+  pub ran : RunsOn plan taken taken_new r
 
 -- all bytes were read, they have a refusal, and its line was written
 pub record Refuses (left left_new taken taken_new : Option (List ℕ)) : Type 0 where
@@ -70,8 +73,12 @@ pub record Stops (left left_new taken taken_new : Option (List ℕ)) : Type 0 wh
   pub takes : TakesAll left left_new bytes
   pub part : PartRun bytes taken taken_new ⊎ PartRefused bytes taken taken_new
 
--- the status of a run
-abbrev pub status_of : Result (Unit {0}) RunErr → EndStatus
-status_of (Ok _) = Done
-status_of (Err OutputFailed) = WriteFault
-status_of (Err OutOfMemory) = NoMemory
+-- an end without a desk
+abbrev pub without_desk : EndStatus → Ended
+without_desk status = record { status = status; desk = None }
+
+-- the end of a run: its desk is there where it is done
+abbrev pub end_of : Result (Desk × Pass) RunErr → Ended
+end_of (Ok returned) = record { status = Done; desk = Some returned }
+end_of (Err OutputFailed) = without_desk WriteFault
+end_of (Err OutOfMemory) = without_desk NoMemory

@@ -1,5 +1,8 @@
 ghost use Rattle.std.specs.Prelude.{◌≡◌};
-ghost use Rattle.ert_cli.specs.Endings.{code_of};
+ghost use Rattle.ert_cli.specs.Endings.{code_of, without_desk, end_of};
+
+use ert_script::RunErr;
+use ert_table::{Desk, Pass};
 
 /// How a run of the program ended.
 #[derive(Clone, Copy, Debug, PartialEq, Eq)]
@@ -38,7 +41,33 @@ impl EndStatus {
 }
 
 /// What a run of the program leaves.
-#[derive(Clone, Copy, Debug, PartialEq, Eq)]
+#[derive(Drop)]
 pub struct Ended {
     pub status: EndStatus,
+    /// The desk that the scenario was run on, with the pass that holds every actor of it. It is there at
+    /// Done, and only there. `Desk::close` reads its words.
+    pub desk: Option<(Desk, Pass)>,
+}
+
+impl Ended {
+    /// The end of a run.
+    pub(crate) fn of_run(ran: Result<(Desk, Pass), RunErr>) -> Ended
+        ensures { result ≡ end_of ran }
+    {
+        match ran {
+            Ok(desk) => Ended {
+                status: EndStatus::Done,
+                desk: Some(desk),
+            },
+            Err(RunErr::WriteFault) => Ended::without_desk(EndStatus::WriteFault),
+            Err(RunErr::NoMemory) => Ended::without_desk(EndStatus::NoMemory),
+        }
+    }
+
+    /// An end at which no run is done.
+    pub(crate) fn without_desk(status: EndStatus) -> Ended
+        ensures { result ≡ without_desk status }
+    {
+        Ended { status, desk: None }
+    }
 }

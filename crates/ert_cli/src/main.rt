@@ -3,7 +3,7 @@
 //!
 //! `ertime` is the whole program over any source and sink of bytes; its contract says what each status
 //! means. `main` only hands it the command line and the standard streams. It stands on `ert_scenario`,
-//! which reads, `ert_script`, which runs the ops on a world, and `ert_io`.
+//! which reads, `ert_script`, which runs the ops on a world, `ert_io`, and `ert_table`, whose desk it returns.
 #![tactic(auto)]
 
 mod ending;

@@ -1,18 +1,18 @@
-ghost use Rattle.std.specs.Prelude.{◌≡◌, ◌≢◌, ◌≤◌, ◌⊎◌, ℕ, List, true, false, Some, None, length, OnErr, IsErrOf, IfOk, OnOk};
+ghost use Rattle.std.specs.Prelude.{◌≡◌, ◌≢◌, ◌≤◌, ◌⊎◌, ℕ, List, true, false, Some, None, length, OnErr, IsErrOf, IsSomeAnd, IfOk, OnOk};
 ghost use Rattle.ert_io.specs.Faults.{Rose};
 ghost use Rattle.ert_io.specs.Known.{then, before};
 ghost use Rattle.ert_scenario.specs.Scenarios.{Plan, IsScenario};
 ghost use Rattle.ert_scenario.specs.declared.scenario.ScenarioErr.TheVariants.{NoMemory as NoRoom};
 ghost use Rattle.ert_cli.specs.Refusals.{usage_line, refusal_line};
-ghost use Rattle.ert_script.specs.Written.{WritesFront};
-ghost use Rattle.ert_cli.specs.Endings.{is_run, Did, Refuses, Stops, status_of};
+ghost use Rattle.ert_io.specs.Writing.{WritesFront};
+ghost use Rattle.ert_cli.specs.Endings.{is_run, Did, Refuses, Stops};
 
 use crate::ending::{EndStatus, Ended};
 use crate::refusal::write_refusal;
 use crate::running::run;
 use ert_io::{ReadErr, Sink, Source, read_all, write_all};
 use ert_scenario::{ScenarioErr, one_verdict, read_scenario, scenarios_are_valid};
-use ert_script::{RunErr, write_page};
+use ert_script::write_page;
 use std::alloc::Global;
 
 // The most bytes of an input.
@@ -21,7 +21,8 @@ const MAX_INPUT: usize = 16_777_216;
 const USAGE: &str = "usage: ertime run | race | live N | stress SEED N\n";
 
 /// The program: `words` is its command line without its name, and its only command so far is `run`, which
-/// reads a scenario from the input and writes its transcript to the output.
+/// reads a scenario from the input and writes its transcript to the output. At Done it returns the desk that
+/// the scenario was run on.
 ///
 /// The sink tells no room.
 pub fn ertime<R: AllocGlobal, I: Source, O: Sink>(
@@ -32,9 +33,11 @@ pub fn ertime<R: AllocGlobal, I: Source, O: Sink>(
 ) -> Ended
     requires { O.room output.old ≡ None }
 
-    // The input was read to its end, it is a scenario, and what was written is its transcript.
+    // The input was read to its end, it is a scenario, and it was run on the desk: what was written is its
+    // transcript, and the history of the pass is that of the same script run.
     ensures done { result.status ≡ EndStatus.Done
-        → (is_run words.now ≡ true) × Did (I.left input.old) (I.left input.new) (O.taken output.old) (O.taken output.new) }
+        → (is_run words.now ≡ true) × IsSomeAnd result.desk (λ r. Did (I.left input.old) (I.left input.new) (O.taken output.old) (O.taken output.new) r) }
+    ensures no_desk { result.status ≢ EndStatus.Done → result.desk ≡ None }
     ensures usage { result.status ≡ EndStatus.Usage
         → (is_run words.now ≡ false) × (O.taken output.new ≡ then (O.taken output.old) usage_line) }
     ensures refused { result.status ≡ EndStatus.Refused
@@ -64,21 +67,18 @@ pub fn ertime<R: AllocGlobal, I: Source, O: Sink>(
     one_verdict();
     scenarios_are_valid();
     if !is_run(words) {
-        return Ended {
-            status: usage(output),
-        };
+        return Ended::without_desk(usage(output));
     }
-    let status = match read_all(rt.alloc(), input, MAX_INPUT) {
+    match read_all(rt.alloc(), input, MAX_INPUT) {
         Ok(bytes) => match read_scenario(rt.alloc(), &bytes) {
-            Ok(scenario) => done(run(rt.alloc(), &scenario, output)),
-            Err(ScenarioErr::NoMemory) => EndStatus::NoMemory,
-            Err(refusal) => refused(rt.alloc(), &refusal, output),
+            Ok(scenario) => Ended::of_run(run(rt.alloc(), &scenario, output)),
+            Err(ScenarioErr::NoMemory) => Ended::without_desk(EndStatus::NoMemory),
+            Err(refusal) => Ended::without_desk(refused(rt.alloc(), &refusal, output)),
         },
-        Err(ReadErr::ReadFault) => EndStatus::ReadFault,
-        Err(ReadErr::TooLong) => EndStatus::TooLong,
-        Err(ReadErr::NoMemory) => EndStatus::NoMemory,
-    };
-    Ended { status }
+        Err(ReadErr::ReadFault) => Ended::without_desk(EndStatus::ReadFault),
+        Err(ReadErr::TooLong) => Ended::without_desk(EndStatus::TooLong),
+        Err(ReadErr::NoMemory) => Ended::without_desk(EndStatus::NoMemory),
+    }
 }
 
 // Whether the command line is the one word `run`.
@@ -102,17 +102,6 @@ fn usage<O: Sink>(output: &mut O) -> EndStatus
     match write_all(output, USAGE.as_bytes()) {
         Ok(()) => EndStatus::Usage,
         Err(_) => EndStatus::WriteFault,
-    }
-}
-
-// The status of a run.
-fn done(ran: Result<(), RunErr>) -> EndStatus
-    ensures { result ≡ status_of ran }
-{
-    match ran {
-        Ok(()) => EndStatus::Done,
-        Err(RunErr::WriteFault) => EndStatus::WriteFault,
-        Err(RunErr::NoMemory) => EndStatus::NoMemory,
     }
 }
 

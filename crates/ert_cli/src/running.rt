@@ -1,25 +1,30 @@
-ghost use Rattle.std.specs.Prelude.{◌≡◌, ◌≤◌, None, OnOk, OnErr, IsErrOf};
+ghost use Rattle.std.specs.Prelude.{◌≡◌, ◌≤◌, None, IfOk, OnOk, OnErr, IsErrOf};
 ghost use Rattle.ert_io.specs.Faults.{Rose};
 ghost use Rattle.ert_defs.specs.Settings.{IsChecked};
 ghost use Rattle.ert_scenario.specs.Ranges.{IsInRange};
 ghost use Rattle.ert_scenario.specs.Scenarios.{plan_of};
 ghost use Rattle.ert_io.specs.Known.{then};
 ghost use Rattle.ert_script.specs.Lines.{end_line};
-ghost use Rattle.ert_script.specs.Written.{WritesFront};
-ghost use Rattle.ert_cli.specs.Runs.{WritesTranscript, WritesPart};
+ghost use Rattle.ert_io.specs.Writing.{WritesFront};
+ghost use Rattle.ert_cli.specs.Runs.{RunsOn, WritesPart};
 
 use ert_io::Sink;
 use ert_scenario::Scenario;
 use ert_sched::World;
 use ert_script::{RunErr, run_ops, write_end, write_page};
+use ert_table::{Desk, Pass};
 use std::alloc::Global;
 
-/// Runs the ops of a scenario on a new world, and writes its transcript.
-pub fn run<O: Sink>(alloc: Global, scenario: &Scenario, output: &mut O) -> Result<(), RunErr>
+/// Runs the ops of a scenario on a new world, writes its transcript, and gives the world's desk.
+pub fn run<O: Sink>(
+    alloc: Global,
+    scenario: &Scenario,
+    output: &mut O,
+) -> Result<(Desk, Pass), RunErr>
     requires room { O.room output.old ≡ None }
     requires checked { IsChecked scenario.now.settings }
     requires ranges { IsInRange scenario.now.settings scenario.now.ops.items }
-    ensures ok { OnOk result (WritesTranscript (plan_of scenario.now) (O.taken output.old) (O.taken output.new)) }
+    ensures ok { IfOk result (λ r. RunsOn (plan_of scenario.now) (O.taken output.old) (O.taken output.new) r) }
     ensures err { OnErr result (WritesPart (plan_of scenario.now) (O.taken output.old) (O.taken output.new)) }
     ensures later { O.faults output.old ≤ O.faults output.new }
     ensures cause { IsErrOf result RunErr.WriteFault → Rose (O.faults output.old) (O.faults output.new) }
@@ -27,10 +32,9 @@ pub fn run<O: Sink>(alloc: Global, scenario: &Scenario, output: &mut O) -> Resul
     let Ok(mut world) = World::open(alloc, &scenario.settings) else {
         return Err(RunErr::NoMemory);
     };
-    if let Err(e) = run_ops(alloc, &mut world, &scenario.ops, output) {
-        return Err(e);
-    }
-    finish(alloc, world.published(), output)
+    run_ops(alloc, &mut world, &scenario.ops, output)?;
+    finish(alloc, world.published(), output)?;
+    Ok(world.into_desk())
 }
 
 /// Writes the last line of a transcript.

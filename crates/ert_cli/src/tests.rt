@@ -42,6 +42,12 @@ fn run(
 }
 
 // The fields beside the format, the ops, and the lines.
+const FINALIZED: (&str, &str, &str) = (
+    r#""mode":"single","first":[0,0]"#,
+    r#"["tick",5000000000,1005000000000],["system"],["finalize",6000000000,1006000000000],["system"],["finalize",7000000000,1008000000000],["tick",7000000000,1007000000000]"#,
+    "tick 5000000000\nsystem 5000000000\nfinalize preliminary 6000000000 offset 1000000000000\nsystem 1006000000000\nfinalize final 6000000000\ntick 7000000000\nend 7000000000\n",
+);
+
 const ROWS: [(&str, &str, &str); 18] = [
     (
         r#""correction":false,"first":[0,10000000000]"#,
@@ -89,11 +95,7 @@ const ROWS: [(&str, &str, &str); 18] = [
         r#"["tick",50,0],["tick",150,0]"#,
         "tick 0\ntick 50\nend 50\n",
     ),
-    (
-        r#""mode":"single","first":[0,0]"#,
-        r#"["tick",5000000000,1005000000000],["system"],["finalize",6000000000,1006000000000],["system"],["finalize",7000000000,1008000000000],["tick",7000000000,1007000000000]"#,
-        "tick 5000000000\nsystem 5000000000\nfinalize preliminary 6000000000 offset 1000000000000\nsystem 1006000000000\nfinalize final 6000000000\ntick 7000000000\nend 7000000000\n",
-    ),
+    FINALIZED,
     (
         r#""mode":"single","correction":false,"first":[0,10000000000]"#,
         r#"["finalize",0,9000000000],["system"],["tick",0,9500000000]"#,
@@ -172,6 +174,24 @@ fn writes_transcripts_and_refusals(rt: HostRuntime) -> Result<(), Fail> {
     let (ended, written) = run(&rt, &["run"], r#"{"format":1"#, (0, 0), 7)?;
     assert_eq!(rt; ended, EndStatus::Refused);
     assert_eq!(rt; written.as_str(), "refused json\n");
+    Ok(())
+}
+
+// The words are those of the state after the last line: the time is 7 seconds, and the offset, 1,000
+// seconds and final, stands in its word above 2^62, doubled.
+#[test]
+fn gives_its_desk_back(rt: HostRuntime) -> Result<(), Fail> {
+    let words = strings(rt.alloc(), &["run"])?;
+    let (fields, ops, _) = FINALIZED;
+    let text = format!(in rt.alloc(); "{{\"format\":1,{fields},\"ops\":[{ops}]}}")?;
+    let mut input = MemSource::new(text.as_bytes().to_vec(rt.alloc())?, Vec::new(rt.alloc()));
+    let mut output = MemSink::new(rt.alloc(), 100, Vec::new(rt.alloc()));
+    let ended = ertime(&rt, words.as_slice(), &mut input, &mut output);
+    assert_eq!(rt; ended.status, EndStatus::Done);
+    let (desk, pass) = ended.desk.ok_or("there is no desk")?;
+    let words = desk.close(rt.alloc(), pass)?;
+    assert_eq!(rt; words.time, 7_000_000_000);
+    assert_eq!(rt; words.offset, 9_223_374_036_854_775_809);
     Ok(())
 }
 

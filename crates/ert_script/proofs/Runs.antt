@@ -9,15 +9,15 @@ use Rattle.ert_defs.specs.States.{State, opening, run, state}
 use Rattle.ert_defs.proofs.Runs.{run-append, state-append, legal_then}
 use Rattle.ert_defs.specs.declared.entry.Entry.{Entry}
 use Rattle.ert_defs.specs.declared.settings.Settings.{Settings}
-use Rattle.ert_clock.specs.Shown.{Shown}
 use Rattle.ert_sched.proofs.Calls.{unchanged}
-use Rattle.ert_sched.specs.Worlds.{StandsFor}
+use Rattle.ert_sched.specs.Worlds.{Service, StandsFor}
 use Rattle.ert_scenario.specs.Ranges.{IsOpInRange, IsInRange}
 use Rattle.ert_scenario.specs.declared.op.Op.{Op}
 use Rattle.ert_script.specs.declared.reply.Reply.{Reply}
 use Rattle.ert_script.specs.Lines.{line_of, lines_of}
 use Rattle.ert_script.specs.Scripts.{Allows, ScriptRun, DoesFor, Does, RunsFor, Runs}
-use Rattle.ert_script.specs.Written.{Moves, WritesFront, WritesRun, WritesSome}
+use Rattle.ert_io.specs.Writing.{WritesFront}
+use Rattle.ert_script.specs.Written.{Moves, WritesRun, WritesSome}
 
 -- the lines of replies and one more
 pub lines-snoc : (rs : List Reply) (r : Reply) → lines_of (rs ++ r ∷ []) ≡ lines_of rs ++ line_of r
@@ -62,7 +62,7 @@ run_more g s (o ∷ ops) es rs op r piece ran allowed legal =
     )
 
 -- the world did a list of ops, and then one more
-pub runs_more : (old now new : Shown) (ops : List Op) (rs : List Reply) (op : Op) (r : Reply)
+pub runs_more : (old now new : Service) (ops : List Op) (rs : List Reply) (op : Op) (r : Reply)
     → Runs old ops rs now → Does now op r new → Runs old (ops ++ op ∷ []) (rs ++ r ∷ []) new
 runs_more old now new ops rs op r runs does = λ g h st.
     let far : RunsFor g h ops rs now = runs g h st in
@@ -77,11 +77,11 @@ runs_more old now new ops rs op r runs does = λ g h st.
     }
 
 -- no op was done
-pub runs_none : (w : Shown) → Runs w [] [] w
+pub runs_none : (w : Service) → Runs w [] [] w
 runs_none w = λ g h st. record { entries = []; runs = (refl, refl); stands = unchanged g h w st }
 
 -- a run so far: the ops done, and their lines: what was written of them and what waits to be
-pub record IsSoFar (start : Shown) (ops : List Op) (w : Shown) (old now : Option (List ℕ)) (page : List ℕ) : Type 0 where
+pub record IsSoFar (start : Service) (ops : List Op) (w : Service) (old now : Option (List ℕ)) (page : List ℕ) : Type 0 where
   pub replies : List Reply
   pub front : List ℕ
   pub runs : Runs start ops replies w
@@ -94,7 +94,7 @@ then-nil None = refl
 then-nil (Some xs) = ap (λ (t : List ℕ). Some t) (sym (append-nil xs))
 
 -- before the first op nothing was done and nothing written
-pub so_far_first : (w : Shown) (old : Option (List ℕ)) → IsSoFar w [] w old old []
+pub so_far_first : (w : Service) (old : Option (List ℕ)) → IsSoFar w [] w old old []
 so_far_first w old = record { replies = []; front = []; runs = runs_none w; taken = then-nil old; whole = refl }
 
 -- what is written of what waits, at the end of what was written
@@ -107,7 +107,7 @@ lined front page line part rest lines e f =
     append_assoc front part rest ∙ ap (λ (t : List ℕ). front ++ t) f ∙ sym (append_assoc front page line) ∙ ap (λ (t : List ℕ). t ++ line) e
 
 -- one more op was done and its line put
-goes_on : (start v v' : Shown) (ops : List Op) (old now new : Option (List ℕ)) (page page' : List ℕ) (op : Op) (r : Reply)
+goes_on : (start v v' : Service) (ops : List Op) (old now new : Option (List ℕ)) (page page' : List ℕ) (op : Op) (r : Reply)
     → IsSoFar start ops v old now page → Does v op r v' → Moves now new (page ++ line_of r) page' → IsSoFar start (ops ++ op ∷ []) v' old new page'
 goes_on start v v' ops old now new page page' op r far does moves = record {
   replies = far.replies ++ r ∷ [];
@@ -127,12 +127,12 @@ op_in_range g [] i d all below = absurd (omega arith)
 op_in_range g (op ∷ ops) zero d all below = all.0
 op_in_range g (op ∷ ops) (suc i) d all below = op_in_range g ops i d all.1 (omega arith)
 
-pub op_may : (g : Settings) (v : Shown) (ops : List Op) (i : ℕ) (d : Op) → i < length ops → v.settings ≡ g → IsInRange g ops
+pub op_may : (g : Settings) (v : Service) (ops : List Op) (i : ℕ) (d : Op) → i < length ops → v.settings ≡ g → IsInRange g ops
     → IsOpInRange v.settings (get_or ops i d)
 op_may g v ops i d below same all =
     subst (λ (x : Settings). IsOpInRange x (get_or ops i d)) (sym same) (op_in_range g ops i d all below)
 
-pub goes_on_at : (start v v' : Shown) (ops : List Op) (i : ℕ) (d : Op) (old now new : Option (List ℕ)) (page page' : List ℕ) (r : Reply)
+pub goes_on_at : (start v v' : Service) (ops : List Op) (i : ℕ) (d : Op) (old now new : Option (List ℕ)) (page page' : List ℕ) (r : Reply)
     → i < length ops → IsSoFar start (take i ops) v old now page
     → Does v (get_or ops i d) r v' → Moves now new (page ++ line_of r) page' → IsSoFar start (take (i + 1) ops) v' old new page'
 goes_on_at start v v' ops i d old now new page page' r below far does moves =
@@ -140,7 +140,7 @@ goes_on_at start v v' ops i d old now new page page' r below far does moves =
     (goes_on start v v' (take i ops) old now new page page' (get_or ops i d) r far does moves)
 
 -- the output stopped while the line of one more op was put
-pub breaks_at : (start v v' : Shown) (ops : List Op) (i : ℕ) (d : Op) (old now new : Option (List ℕ)) (page : List ℕ) (r : Reply)
+pub breaks_at : (start v v' : Service) (ops : List Op) (i : ℕ) (d : Op) (old now new : Option (List ℕ)) (page : List ℕ) (r : Reply)
     → i < length ops → IsSoFar start (take i ops) v old now page
     → Does v (get_or ops i d) r v' → WritesFront now new (page ++ line_of r) → WritesSome start ops old new
 breaks_at start v v' ops i d old now new page r below far does w = record {
@@ -158,7 +158,7 @@ breaks_at start v v' ops i d old now new page r below far does w = record {
 }
 
 -- the run stopped before one more op
-pub stops_at : (start v : Shown) (ops : List Op) (i : ℕ) (old now : Option (List ℕ)) (page : List ℕ)
+pub stops_at : (start v : Service) (ops : List Op) (i : ℕ) (old now : Option (List ℕ)) (page : List ℕ)
     → IsSoFar start (take i ops) v old now page → WritesSome start ops old now
 stops_at start v ops i old now page far = record {
   done = i;
@@ -169,12 +169,12 @@ stops_at start v ops i old now page far = record {
 }
 
 -- the run of all ops, where the index has come to the end
-far_last : (start v : Shown) (ops : List Op) (i : ℕ) (old now : Option (List ℕ)) (page : List ℕ)
+far_last : (start v : Service) (ops : List Op) (i : ℕ) (old now : Option (List ℕ)) (page : List ℕ)
     → length ops ≤ i → IsSoFar start (take i ops) v old now page → IsSoFar start ops v old now page
 far_last start v ops i old now page over far = subst (λ (os : List Op). IsSoFar start os v old now page) (take_all i ops over) far
 
 -- all ops were done, and the page was written
-pub ends : (start v : Shown) (ops : List Op) (i : ℕ) (old now new : Option (List ℕ)) (page : List ℕ)
+pub ends : (start v : Service) (ops : List Op) (i : ℕ) (old now new : Option (List ℕ)) (page : List ℕ)
     → length ops ≤ i → IsSoFar start (take i ops) v old now page → new ≡ then now page → WritesRun start ops v old new
 ends start v ops i old now new page over far taken =
     let all : IsSoFar start ops v old now page = far_last start v ops i old now page over far in
@@ -185,7 +185,7 @@ ends start v ops i old now new page over far taken =
     }
 
 -- the output stopped at the last page
-pub breaks_last : (start v : Shown) (ops : List Op) (i : ℕ) (old now new : Option (List ℕ)) (page : List ℕ)
+pub breaks_last : (start v : Service) (ops : List Op) (i : ℕ) (old now new : Option (List ℕ)) (page : List ℕ)
     → IsSoFar start (take i ops) v old now page → WritesFront now new page → WritesSome start ops old new
 breaks_last start v ops i old now new page far w = record {
   done = i;

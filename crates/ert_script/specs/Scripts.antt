@@ -6,11 +6,10 @@ use Rattle.ert_defs.specs.Legal.{LegalFrom}
 use Rattle.ert_defs.specs.Lines.{MayAct, end_time, time_after, due_after}
 use Rattle.ert_defs.specs.Readings.{IsValid}
 use Rattle.ert_defs.specs.States.{State, run, state}
-use Rattle.ert_clock.specs.Shown.{Shown}
 use Rattle.ert_clock.specs.Ticks.{keeper_entry, tick_entries, offset_of, IsWide}
 use Rattle.std.specs.Int.{w64}
 use Rattle.ert_units.specs.Conversions.{converted}
-use Rattle.ert_sched.specs.Worlds.{StandsFor, caller_entry}
+use Rattle.ert_sched.specs.Worlds.{Service, StandsFor, caller_entry}
 use Rattle.ert_defs.specs.declared.entry.Act.{Act}
 use Rattle.ert_defs.specs.declared.entry.Act.TheVariants.{Plain, Force, Finalize as Finalizing}
 use Rattle.ert_defs.specs.declared.entry.Entry.{Entry}
@@ -96,19 +95,19 @@ ScriptRun g s (op ∷ ops) es rs =
 
 -- what an op does: whichever history the world stood for before, the op allows entries with which that
 -- history goes on, and the world stands for it
-pub record DoesFor (g : Settings) (h : List Entry) (op : Op) (reply : Reply) (new : Shown) : Type 0 where
+pub record DoesFor (g : Settings) (h : List Entry) (op : Op) (reply : Reply) (new : Service) : Type 0 where
   pub piece : List Entry
   pub allowed : Allows g (state g h) op reply piece
   pub stands : StandsFor g (h ++ piece) new
 
-abbrev pub Does : Shown → Op → Reply → Shown → Type 0
+abbrev pub Does : Service → Op → Reply → Service → Type 0
 Does old op reply new = (g : Settings) (h : List Entry) → StandsFor g h old → DoesFor g h op reply new
 
 -- what a list of ops does: the history goes on by a script run
-pub record RunsFor (g : Settings) (h : List Entry) (ops : List Op) (rs : List Reply) (new : Shown) : Type 0 where
+pub record RunsFor (g : Settings) (h : List Entry) (ops : List Op) (rs : List Reply) (new : Service) : Type 0 where
   pub entries : List Entry
   pub runs : ScriptRun g (state g h) ops entries rs
   pub stands : StandsFor g (h ++ entries) new
 
-abbrev pub Runs : Shown → List Op → List Reply → Shown → Type 0
+abbrev pub Runs : Service → List Op → List Reply → Service → Type 0
 Runs old ops rs new = (g : Settings) (h : List Entry) → StandsFor g h old → RunsFor g h ops rs new

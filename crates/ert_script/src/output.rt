@@ -2,7 +2,8 @@ ghost use Rattle.std.specs.Prelude.{◌≡◌, ◌≤◌, ◌++◌, OnOk, OnErr,
 ghost use Rattle.ert_io.specs.Faults.{Rose};
 ghost use Rattle.ert_io.specs.Known.{then};
 ghost use Rattle.ert_script.specs.Lines.{line_of};
-ghost use Rattle.ert_script.specs.Written.{Moves, WritesFront};
+ghost use Rattle.ert_io.specs.Writing.{WritesFront};
+ghost use Rattle.ert_script.specs.Written.{Moves};
 
 use crate::line::write_line;
 use crate::reply::Reply;

@@ -33,9 +33,7 @@ pub fn run_ops<K: Sink>(
         let Ok(reply) = reply_op(world, op) else {
             return Err(RunErr::NoMemory);
         };
-        if let Err(e) = put(sink, &mut page, &reply) {
-            return Err(e);
-        }
+        put(sink, &mut page, &reply)?;
     }
     write_page(sink, &mut page)
 }

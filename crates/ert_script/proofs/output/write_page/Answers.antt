@@ -1,4 +1,4 @@
-use Rattle.ert_script.proofs.Fronts.{taken_front}
+use Rattle.ert_io.proofs.Fronts.{taken_front}
 use Rattle.ert_script.proofs.output.write_page.Goals as goal
 
 pub returns-in-Err-clause-err : goal.returns-in-Err-clause-err

@@ -1,4 +1,5 @@
 use Rattle.std.proofs.Common.{arith, refl, sym, subst, ◌∙◌}
+use Rattle.std.proofs.lemmas.Result.{err_from_is_err_and}
 use Rattle.ert_scenario.specs.Ranges.{IsOpInRange}
 use Rattle.ert_scenario.specs.declared.op.Op.{Op}
 use Rattle.ert_script.specs.Scripts.{Does}
@@ -19,18 +20,20 @@ reply_op-requires g c =
     (op_may c.args.world.now.settings c.loop-op.world c.args.ops.now c.loop-op.op-index c.op-item.result c.loop-op-test.true
     c.loop-op.invariant.settings c.requires.ranges)
 
-pub returns-in-Err-clause-err : goal.returns-in-Err-clause-err
-returns-in-Err-clause-err g c =
-    breaks_at c.args.world.now c.loop-op.world c.reply_op.new.world c.args.ops.now c.loop-op.op-index c.op-item.result _ _ _ _ c.in-Ok.reply
+pub returns-in_err-put-clause-err : goal.returns-in_err-put-clause-err
+returns-in_err-put-clause-err g c =
+    let p = err_from_is_err_and c.from_residual.result c.from_residual.ensures.1 in
+    rw p.1
+    (breaks_at c.args.world.now c.loop-op.world c.reply_op.new.world c.args.ops.now c.loop-op.op-index c.op-item.result _ _ _ _ c.in-Ok.reply
     c.loop-op-test.true c.loop-op.invariant.so_far
-    (subst (λ (op : Op). Does c.loop-op.world op c.in-Ok.reply c.reply_op.new.world) c.op-item.is c.in-Ok.ensures.ok) c.in-Err.ensures.err
+    (subst (λ (op : Op). Does c.loop-op.world op c.in-Ok.reply c.reply_op.new.world) c.op-item.is c.in-Ok.ensures.ok) c.in_err-put.ensures.err)
 
 pub loop-op-preserved : goal.loop-op-preserved
 loop-op-preserved g c = record {
   so_far =
       goes_on_at c.args.world.now c.loop-op.world c.reply_op.new.world c.args.ops.now c.loop-op.op-index c.op-item.result _ _ _ _ _ c.in-Ok.reply
       c.loop-op-test.true c.loop-op.invariant.so_far
-      (subst (λ (op : Op). Does c.loop-op.world op c.in-Ok.reply c.reply_op.new.world) c.op-item.is c.in-Ok.ensures.ok) c.in_default-put.ensures.ok;
+      (subst (λ (op : Op). Does c.loop-op.world op c.in-Ok.reply c.reply_op.new.world) c.op-item.is c.in-Ok.ensures.ok) c.in_ok-put.ensures.ok;
   settings = c.reply_op.ensures.settings ∙ c.loop-op.invariant.settings;
   room = c.put.ensures.room;
   later = omega (arith, c.loop-op.invariant.later, c.put.ensures.later);

@@ -1,10 +1,18 @@
-use Rattle.std.proofs.Common.{subst}
-use Rattle.ert_clock.specs.Shown.{Shown}
-use Rattle.ert_sched.specs.Worlds.{Extends, finalized_entries}
-use Rattle.ert_sched.proofs.Calls.{finalize_extends}
+use Rattle.ert_table.specs.Desks.{settings_of, view_of}
+use Rattle.ert_sched.proofs.Calls.{reads_by, finalize_goes}
 use Rattle.ert_sched.proofs.world.World.finalize.Goals as goal
+
+pub finalize-requires-clause-least : goal.finalize-requires-clause-least
+finalize-requires-clause-least c =
+    reads_by c.self.inside.keeper.face.state (settings_of c.self.inside.desk) (view_of c.self.inside.pass)
+    c.self.inside.desk.checked.counts.callers_low c.self.invariant.whole
+
+pub invariant_of-self : goal.invariant_of-self
+invariant_of-self c =
+    (finalize_goes c.args.self.now c.self.inside.desk c.self.inside.pass c.finalize.new.pass c.self.inside.keeper c.finalize.new.self c.args.reading
+    c.finalize.result c.self.view_is c.self.invariant c.finalize.ensures.belongs c.finalize.ensures.steps c.finalize.ensures.stands).fit
 
 pub returns-clause-entries : goal.returns-clause-entries
 returns-clause-entries c =
-    subst (λ (v : Shown). Extends v c.finalize.new.self (finalized_entries v c.args.reading c.finalize.result)) c.self.view_is
-    (finalize_extends c.self.inside.clock c.args.reading c.finalize.result c.finalize.new.self c.finalize.ensures.gives c.finalize.ensures.stands)
+    (finalize_goes c.args.self.now c.self.inside.desk c.self.inside.pass c.finalize.new.pass c.self.inside.keeper c.finalize.new.self c.args.reading
+    c.finalize.result c.self.view_is c.self.invariant c.finalize.ensures.belongs c.finalize.ensures.steps c.finalize.ensures.stands).extends
