@@ -1,0 +1,12 @@
+pub mod ActorFormats
+pub mod Digits
+pub mod EntryFormats
+pub mod FirstLines
+pub mod Formats
+pub mod Integers
+pub mod Lines
+pub mod OneSpelling
+pub mod PartFormats
+pub mod Splits
+pub mod WordFormats
+pub mod Tables

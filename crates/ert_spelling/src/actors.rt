@@ -1,0 +1,55 @@
+//! The actors of an entry.
+
+ghost use Rattle.std.specs.Prelude.{◌≡◌};
+ghost use Rattle.ert_spelling.specs.Cuts.{words_of};
+ghost use Rattle.ert_spelling.specs.Readers.{seen};
+ghost use Rattle.ert_spelling.specs.Reading.{actor_of, with_of, actor_at, with_at};
+
+use crate::numbers::small_of;
+use crate::words::{Words, next_word};
+use ert_defs::Actor;
+
+/// The actor that made an entry.
+#[tactic(auto, unfolding(crate::specs::Reading::actor_at))]
+pub(crate) fn actor(words: Words) -> Option<(Actor, Words)>
+    ensures { seen result ≡ actor_at (words_of words.entry) }
+{
+    let (word, words) = next_word(words)?;
+    Some((actor_of(word)?, words))
+}
+
+/// The second actor that made an entry, where there is one.
+#[tactic(auto, unfolding(crate::specs::Reading::with_at))]
+pub(crate) fn with(words: Words) -> Option<(Option<Actor>, Words)>
+    ensures { seen result ≡ with_at (words_of words.entry) }
+{
+    let (word, words) = next_word(words)?;
+    Some((with_of(word)?, words))
+}
+
+/// The actor that a word names: a letter, and its number.
+#[tactic(auto, unfolding(crate::specs::Reading::actor_of))]
+fn actor_of(word: &[u8]) -> Option<Actor>
+    ensures { result ≡ actor_of word.now }
+{
+    match word {
+        [b'k'] => Some(Actor::Keeper),
+        [b'w', number @ ..] => Some(Actor::Wheel(small_of(number)?)),
+        [b'i', number @ ..] => Some(Actor::Inbox(small_of(number)?)),
+        [b's', number @ ..] => Some(Actor::Sched(small_of(number)?)),
+        [b'm', number @ ..] => Some(Actor::MailOf(small_of(number)?)),
+        [b'c', number @ ..] => Some(Actor::Caller(small_of(number)?)),
+        _ => None,
+    }
+}
+
+/// The second actor that a word names, or that there is none.
+#[tactic(auto, unfolding(crate::specs::Reading::with_of))]
+fn with_of(word: &[u8]) -> Option<Option<Actor>>
+    ensures { result ≡ with_of word.now }
+{
+    if word == b"-".as_slice() {
+        return Some(None);
+    }
+    Some(Some(actor_of(word)?))
+}

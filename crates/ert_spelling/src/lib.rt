@@ -1,0 +1,24 @@
+//! Reads histories that were written down: the settings of a service and a list of entries, one to a line.
+//!
+//! It stands on `ert_defs`, which has the types. `specs/Spelling` says which bytes spell which history and
+//! at which line other bytes are misspelled, by the words of each part (`specs/Parts`, `specs/Entries`).
+//! The code reads each line from the left, a function for each part, and takes no memory but for the list
+//! of entries. `docs/FORMATS.md` tells the spelling in words.
+#![tactic(auto)]
+
+mod actors;
+mod cutting;
+mod entries;
+mod events;
+mod history;
+mod laws;
+mod mails;
+mod numbers;
+mod settings;
+#[cfg(test)]
+mod tests;
+mod timers;
+mod words;
+
+pub use history::{History, SpellingErr, read_history};
+pub use laws::one_spelling;

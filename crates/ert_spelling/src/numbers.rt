@@ -1,0 +1,86 @@
+//! Numbers: decimal, with a leading minus where negative, and with no other sign and no leading zero.
+
+ghost use Rattle.std.specs.Prelude.{◌≡◌};
+ghost use Rattle.ert_spelling.specs.Cuts.{words_of};
+ghost use Rattle.ert_spelling.specs.Readers.{seen, is_plain, natural_of, small_of, integer_of, below_zero};
+ghost use Rattle.ert_spelling.specs.Reading.{small_at, natural_at, integer_at};
+
+use crate::words::{Words, next_word};
+use std::str;
+
+/// A number of 32 bits.
+#[tactic(auto, unfolding(crate::specs::Reading::small_at))]
+pub(crate) fn small(words: Words) -> Option<(u32, Words)>
+    ensures { seen result ≡ small_at (words_of words.entry) }
+{
+    let (word, words) = next_word(words)?;
+    Some((small_of(word)?, words))
+}
+
+/// A number of 64 bits.
+#[tactic(auto, unfolding(crate::specs::Reading::natural_at))]
+pub(crate) fn natural(words: Words) -> Option<(u64, Words)>
+    ensures { seen result ≡ natural_at (words_of words.entry) }
+{
+    let (word, words) = next_word(words)?;
+    Some((natural_of(word)?, words))
+}
+
+/// A number of 64 bits that may be negative.
+#[tactic(auto, unfolding(crate::specs::Reading::integer_at))]
+pub(crate) fn integer(words: Words) -> Option<(i64, Words)>
+    ensures { seen result ≡ integer_at (words_of words.entry) }
+{
+    let (word, words) = next_word(words)?;
+    Some((integer_of(word)?, words))
+}
+
+/// The number of 32 bits that a word is.
+#[tactic(auto, unfolding(crate::specs::Readers::small_of))]
+pub(crate) fn small_of(word: &[u8]) -> Option<u32>
+    ensures { result ≡ small_of word.now }
+{
+    u32::try_from(natural_of(word)?).ok()
+}
+
+/// The number of 64 bits that a word is.
+#[tactic(auto, unfolding(crate::specs::Readers::natural_of))]
+fn natural_of(word: &[u8]) -> Option<u64>
+    ensures { result ≡ natural_of word.now }
+{
+    if !is_plain(word) {
+        return None;
+    }
+    match str::from_utf8(word) {
+        Ok(digits) => digits.parse().ok(),
+        Err(_) => None,
+    }
+}
+
+/// Whether a word begins as a number does: with a digit, which is 0 only where it stands alone.
+fn is_plain(word: &[u8]) -> bool
+    ensures { result ≡ is_plain word.now }
+{
+    matches!(word, [b'0'..=b'9'] | [b'1'..=b'9', _, ..])
+}
+
+/// The number of 64 bits, which may be negative, that a word is.
+#[tactic(auto, unfolding(crate::specs::Readers::integer_of))]
+fn integer_of(word: &[u8]) -> Option<i64>
+    ensures { result ≡ integer_of word.now }
+{
+    match word {
+        [b'-', digits @ ..] => below_zero(natural_of(digits)?),
+        _ => i64::try_from(natural_of(word)?).ok(),
+    }
+}
+
+/// The number that is so far below 0, and not 0.
+fn below_zero(distance: u64) -> Option<i64>
+    ensures { result ≡ below_zero distance }
+{
+    if distance == 0 {
+        return None;
+    }
+    0i64.checked_sub_unsigned(distance)
+}
