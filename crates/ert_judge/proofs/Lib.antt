@@ -1,0 +1,11 @@
+mod CellLaws
+mod Finds
+mod Goes
+mod Knows
+mod Makers
+mod Opens
+mod Stands
+mod TimerLaws
+mod TimersGo
+mod Walks
+mod WheelTests

@@ -1,0 +1,118 @@
+-- The model's state that a judge keeps, and how it goes on by an entry.
+
+use Rattle.std.specs.Prelude.{◌≡◌, ℕ, ℤ, pos, [], true, List, length, nat_le, Option, Some, None, replicate, false}
+use Rattle.ert_defs.specs.Clocks.{Clock, face, first_clock}
+use Rattle.ert_defs.specs.Legal.{CanTick, Legal}
+use Rattle.ert_defs.specs.Lines.{Face, Due, due_after, ticked, shifted}
+use Rattle.ert_defs.specs.Mails.{no_mail, idle_sched}
+use Rattle.ert_defs.specs.Milliseconds.{down, deadline_of}
+use Rattle.ert_defs.specs.States.{State, state}
+use Rattle.ert_defs.specs.Timers.{timer_at}
+use Rattle.ert_defs.specs.declared.entry.Actor.{Actor}
+use Rattle.ert_defs.specs.declared.entry.Entry.{Entry}
+use Rattle.ert_defs.specs.declared.entry.Event.{Event}
+use Rattle.ert_defs.specs.declared.entry.Event.TheVariants.{Tick, Shift, Arm}
+use Rattle.ert_defs.specs.declared.settings.Settings.{Settings}
+use Rattle.ert_defs.specs.declared.timer.Status.{Status}
+use Rattle.ert_state.specs.Clocks.{face_of}
+use Rattle.ert_state.specs.Parts.{looks_in, no_looks, look_of, looks_after, rows_in, status_at, timers_after, exited_at, exits_after, mail_at, mails_after, inbox_at, inboxes_after, sched_at, scheds_in, scheds_after}
+use Rattle.ert_state.specs.Wheels.{timers_at, last_in, is_settled, IsOwn}
+use Rattle.ert_state.specs.declared.clock.Clock.{Clock as KeptClock}
+use Rattle.ert_judge.specs.declared.judge.Judge.{Judge}
+
+-- the numbers of a judge's clock are those of a clock
+pub record ClockIs (g : Settings) (c : Clock) (k : KeptClock) : Type 0 where
+  pub face : face g c ≡ face_of k
+  pub due : c.due ≡ k.due
+
+-- the state that a judge keeps, with this clock
+abbrev pub shown : Clock → Judge → State
+shown c j = record {
+  clock = c;
+  looked = λ a. look_of (looks_in j.looks) a;
+  rows = λ w. rows_in j.timers w;
+  last = λ w k. last_in (timers_at j.timers w) k;
+  status = λ r. status_at j.timers r;
+  exited = λ p. exited_at j.exits p;
+  mails = λ p. mail_at j.mailboxes p;
+  inboxes = λ w. inbox_at j.inboxes w;
+  scheds = λ w. sched_at j.schedulers w;
+}
+
+-- a judge at the opening
+pub record IsOpening (g : Settings) (j : Judge) : Type 0 where
+  pub settings : j.settings ≡ g
+  pub clock : ClockIs g (first_clock g) j.clock
+  pub looks : looks_in j.looks ≡ no_looks g
+  pub timers : j.timers ≡ replicate g.schedulers []
+  pub exits : j.exits ≡ replicate g.processes false
+  pub mailboxes : j.mailboxes ≡ replicate g.processes no_mail
+  pub inboxes : j.inboxes ≡ replicate g.schedulers []
+  pub schedulers : j.schedulers ≡ replicate g.schedulers idle_sched
+
+-- the timers of each wheel are its own, each under its own status
+abbrev pub OwnTimers : Judge → Type 0
+OwnTimers j = (w : ℕ) → IsOwn w (timers_at j.timers w)
+
+-- the status of the last timer of a slot
+abbrev pub last_status : Judge → ℕ → ℕ → Option Status
+last_status j w k = status_at j.timers (timer_at w k (last_in (timers_at j.timers w) k))
+
+-- a wheel has settled all that was due at the last look of an actor
+pub record HasAdvanced (j : Judge) (by : Actor) (w to : ℕ) : Type 0 where
+  pub told : pos to ≡ down j.settings (look_of (looks_in j.looks) by)
+  pub settled : is_settled (λ d. nat_le d to) (timers_at j.timers w) ≡ true
+
+-- what the clock shows after an event
+abbrev pub face_moved : Settings → Face → Event → Face
+face_moved g f (Tick r act now) = ticked g f r act now
+face_moved g f (Shift offset new) = shifted f (Some (offset, new))
+face_moved g f _ = f
+
+-- the shift that is due after an event
+abbrev pub due_moved : Settings → Face → Option Due → Event → Option Due
+due_moved g f due (Tick r act now) = due_after g f r act now
+due_moved g f due (Shift offset new) = None
+due_moved g f due _ = due
+
+-- a clock can go on by an event: by a tick where that is legal
+abbrev pub MayFollow : Settings → Face → Event → Type 0
+MayFollow g f (Tick r act now) = CanTick g f r act now
+MayFollow g f _ = Unit {0}
+
+-- a clock has gone on by an event
+pub record ClockFollows (g : Settings) (old : KeptClock) (event : Event) (new : KeptClock) : Type 0 where
+  pub face : face_of new ≡ face_moved g (face_of old) event
+  pub due : new.due ≡ due_moved g (face_of old) old.due event
+
+-- the deadline of the timer that an event arms, by the last look of its maker
+abbrev pub deadline_by : Settings → ℤ → Event → Option ℕ
+deadline_by g look (Arm timer start) = deadline_of g start look
+deadline_by g look _ = None
+
+-- a judge has gone on by an entry
+pub record Follows (old : Judge) (e : Entry) (new : Judge) : Type 0 where
+  pub settings : new.settings ≡ old.settings
+  pub clock : ClockFollows old.settings old.clock e.event new.clock
+  pub looks : looks_in new.looks ≡ looks_after e.by e.event (looks_in old.looks)
+  pub timers : new.timers
+      ≡ timers_after (deadline_by old.settings (look_of (looks_in old.looks) e.by) e.event) e.event old.timers
+  pub exits : new.exits ≡ exits_after e.event old.exits
+  pub mailboxes : new.mailboxes ≡ mails_after (scheds_in old.schedulers) e.with e.event old.mailboxes
+  pub inboxes : new.inboxes ≡ inboxes_after e.with e.event old.inboxes
+  pub schedulers : new.schedulers ≡ scheds_after (rows_in old.timers) e.by e.event old.schedulers
+
+-- a judge stands for a legal history: it keeps the state after that
+pub record StandsFor (g : Settings) (h : List Entry) (j : Judge) : Type 0 where
+  pub settings : j.settings ≡ g
+  pub legal : Legal g h
+  pub clock : ClockIs g (state g h).clock j.clock
+  pub kept : state g h ≡ shown (state g h).clock j
+  pub own : OwnTimers j
+  pub callers : length (looks_in j.looks).callers ≡ g.callers
+  pub lookers : length (looks_in j.looks).schedulers ≡ g.schedulers
+  pub wheels : length j.timers ≡ g.schedulers
+  pub processes : length j.exits ≡ g.processes
+  pub mails : length j.mailboxes ≡ g.processes
+  pub inboxes : length j.inboxes ≡ g.schedulers
+  pub schedulers : length j.schedulers ≡ g.schedulers

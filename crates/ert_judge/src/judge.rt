@@ -1,0 +1,322 @@
+ghost use Rattle.std.specs.Prelude.{◌≡◌, ◌↔◌, ℕ, IsTrue, Ok, Some, None};
+ghost use Rattle.ert_defs.specs.Legal.{IsResult, Legal};
+ghost use Rattle.ert_defs.specs.Settings.{IsChecked};
+ghost use Rattle.ert_defs.specs.Timers.{is_taken};
+ghost use Rattle.ert_judge.specs.Verdicts.{IsFirstIllegal};
+
+use crate::range::is_in_range;
+use ert_defs::{Actor, Entry, Event, LAST_GENERATION, NoMemory, Settings, Start, Status, TimerRef};
+use ert_state::{
+    Clock, Exits, Inboxes, Looks, Mailboxes, Schedulers, Timers, deadline_of, down, left,
+};
+use std::alloc::Global;
+
+/// How many monitors of a process may stand (profile).
+const MONITORS: usize = 64;
+
+/// The state after the entries so far.
+#[derive(Drop)]
+struct Judge {
+    settings: Settings,
+    clock: Clock,
+    looks: Looks,
+    timers: Timers,
+    exits: Exits,
+    mailboxes: Mailboxes,
+    inboxes: Inboxes,
+    schedulers: Schedulers,
+}
+
+impl Judge {
+    ghost use Rattle.std.specs.Prelude.{◌≡◌, ◌↔◌, IsTrue, IfOk, OnOk, Some, true, List};
+    ghost use Rattle.ert_defs.specs.Clocks as clocks;
+    ghost use Rattle.ert_defs.specs.Legal.{Can, Known, Found, HasExited, CanAnswer, CanArm, IsFirst, left_of};
+    ghost use Rattle.ert_defs.specs.Milliseconds as milliseconds;
+    ghost use Rattle.ert_defs.specs.Settings.{IsChecked};
+    ghost use Rattle.ert_defs.specs.States.{state};
+    ghost use Rattle.ert_defs.specs.declared.entry.Actor.TheVariants.{MailOf};
+    ghost use Rattle.ert_defs.specs.declared.entry.Entry as entries;
+    ghost use Rattle.ert_defs.specs.declared.settings.Settings as settings;
+    ghost use Rattle.ert_state.specs.Clocks.{face_of};
+    ghost use Rattle.ert_state.specs.Parts.{looks_in, look_of, sched_at, exited_at};
+    ghost use Rattle.ert_judge.specs.Shown.{ClockIs, shown, IsOpening, OwnTimers, last_status, HasAdvanced, MayFollow, ClockFollows, deadline_by, Follows, StandsFor};
+    ghost use Rattle.ert_state.specs.Wheels.{timers_at, IsFirstDue};
+
+    /// The state at the opening.
+    fn open(alloc: Global, settings: &Settings) -> Result<Judge, NoMemory>
+        requires { IsChecked settings.now }
+        ensures { IfOk result (λ judge. IsOpening settings.now judge) }
+    {
+        Ok(Judge {
+            settings: *settings,
+            clock: Clock::opening(settings),
+            looks: Looks::new(alloc, settings)?,
+            timers: Timers::new(alloc, settings.schedulers)?,
+            exits: Exits::new(alloc, settings.processes)?,
+            mailboxes: Mailboxes::new(alloc, settings.processes)?,
+            inboxes: Inboxes::new(alloc, settings.schedulers)?,
+            schedulers: Schedulers::new(alloc, settings.schedulers)?,
+        })
+    }
+
+    /// Whether an entry in range is legal, by what its maker must know.
+    fn is_known(&self, entry: &Entry) -> bool
+        ensures { (c : clocks.Clock) → ClockIs self.now.settings c self.now.clock → OwnTimers self.now
+            → IsTrue result ↔ Known self.now.settings (shown c self.now) entry.now.by entry.now.with entry.now.event }
+    {
+        match entry.event {
+            Event::Tick { reading, act, now } => {
+                self.clock.due.is_none() && self.clock.can_tick(&self.settings, reading, act, now)
+            }
+            Event::Shift { offset, state } => self.clock.due == Some((offset, state)),
+            Event::Arm { timer, start } => self.can_arm(entry.by, timer, start),
+            Event::Expire { timer } => self.is_next(entry.by, timer),
+            Event::Orphan { timer } => self.has_exited(timer),
+            Event::Deliver { timer } => self.can_deliver(entry.with, timer),
+            Event::Drop { timer } => self.can_drop(timer),
+            Event::Advanced { wheel, to } => self.has_advanced(entry.by, wheel, to),
+            Event::Pick { wheel, got } => {
+                self.schedulers.hand(wheel).is_none() && got == self.inboxes.first(wheel)
+            }
+            Event::Answer { wheel, left } => self.can_answer(entry.with, wheel, left),
+            Event::Take { process, got } => got == self.mailboxes.first(process),
+            Event::Unwatch {
+                process,
+                monitor,
+                was,
+            } => was == self.mailboxes.has_monitor(process, monitor),
+            Event::Watch {
+                process,
+                monitor,
+                ..
+            } => {
+                monitor as u64 == self.mailboxes.next(process)
+                    && self.mailboxes.count(process) < MONITORS
+            }
+            _ => true,
+        }
+    }
+
+    /// Whether an entry is legal, by what its step finds out.
+    fn is_found(&self, entry: &Entry) -> bool
+        ensures { (c : clocks.Clock) → ClockIs self.now.settings c self.now.clock
+            → IsTrue result ↔ Found self.now.settings (shown c self.now) entry.now.by entry.now.event }
+    {
+        match entry.event {
+            Event::Look { now } => now == self.clock.time,
+            Event::Off { offset, state } => {
+                offset == self.clock.offset && state == self.clock.state
+            }
+            Event::Probe { wheel, slot, found } => found == self.last_status(wheel, slot),
+            Event::Peek { timer, left } => is_left(left, self.left(entry.by, timer)),
+            Event::Cancel { timer, left } => is_left(left, self.left(entry.by, timer)),
+            Event::Expire { timer } => self.timers.status(timer) == Some(Status::Armed),
+            Event::Orphan { timer } => self.timers.status(timer) == Some(Status::Armed),
+            Event::Mark { process, was, .. } => was == self.exits.has_exited(process),
+            Event::Watch { offset, .. } => offset == self.clock.offset,
+            Event::Tell { offset, .. } => offset == self.clock.offset,
+            _ => true,
+        }
+    }
+
+    /// The status of the last timer of a slot.
+    fn last_status(&self, wheel: u32, slot: u32) -> Option<Status>
+        ensures { result ≡ last_status self.now wheel slot }
+    {
+        self.timers.status(TimerRef {
+            wheel,
+            slot,
+            generation: self.timers.last(wheel, slot),
+        })
+    }
+
+    /// The milliseconds left of a timer by the last look of an actor, where it is armed.
+    fn left(&self, by: Actor, timer: TimerRef) -> Option<u128>
+        ensures { (c : clocks.Clock) → result ≡ left_of self.now.settings (shown c self.now) by timer }
+    {
+        match self.timers.find(timer) {
+            Some(found) => {
+                if found.status == Status::Armed {
+                    Some(left(&self.settings, found.row.deadline, self.looks.of(by)))
+                } else {
+                    None
+                }
+            }
+            None => None,
+        }
+    }
+
+    /// Whether a timer can be armed: its slot is neither taken nor spent, and its start has a deadline.
+    fn can_arm(&self, by: Actor, timer: TimerRef, start: Start) -> bool
+        ensures { (c : clocks.Clock) → IsTrue result ↔ CanArm self.now.settings (shown c self.now) by timer (milliseconds.deadline_of self.now.settings start (look_of (looks_in self.now.looks) by)) }
+    {
+        let last = self.timers.last(timer.wheel, timer.slot);
+        !is_taken(self.last_status(timer.wheel, timer.slot))
+            && timer.generation as u64 == last as u64 + 1
+            && timer.generation <= LAST_GENERATION
+            && deadline_of(&self.settings, start.when, self.looks.of(by)).is_some()
+    }
+
+    /// Whether a timer is due and the first of its wheel, but for its own status.
+    fn is_next(&self, by: Actor, timer: TimerRef) -> bool
+        ensures { IsTrue result ↔ IsFirstDue (timers_at self.now.timers timer.wheel) timer (milliseconds.down self.now.settings (look_of (looks_in self.now.looks) by)) }
+    {
+        let now = down(&self.settings, self.looks.of(by));
+        self.timers.is_first(timer, now)
+    }
+
+    /// Whether the row of a timer stands, and its destination has exited.
+    fn has_exited(&self, timer: TimerRef) -> bool
+        ensures { (c : clocks.Clock) → IsTrue result ↔ HasExited (shown c self.now) timer }
+    {
+        match self.timers.row(timer) {
+            Some(row) => self.exits.has_exited(row.dest),
+            None => false,
+        }
+    }
+
+    /// Whether a timer is the first of its scheduler's expired ones, and goes to the process with whose
+    /// mailbox the entry is made.
+    fn can_deliver(&self, with: Option<Actor>, timer: TimerRef) -> bool
+        ensures { IsTrue result ↔ ((first : IsFirst (sched_at self.now.schedulers timer.wheel).fired timer) × (with ≡ Some (MailOf first.row.dest))) }
+    {
+        match self.schedulers.first_fired(timer.wheel) {
+            Some(row) if row.timer == timer => with == Some(Actor::MailOf(row.dest)),
+            _ => false,
+        }
+    }
+
+    /// Whether a timer is the first of its scheduler's expired ones, and its destination has exited.
+    fn can_drop(&self, timer: TimerRef) -> bool
+        ensures { IsTrue result ↔ ((first : IsFirst (sched_at self.now.schedulers timer.wheel).fired timer) × (exited_at self.now.exits first.row.dest ≡ true)) }
+    {
+        match self.schedulers.first_fired(timer.wheel) {
+            Some(row) if row.timer == timer => self.exits.has_exited(row.dest),
+            _ => false,
+        }
+    }
+
+    /// Whether this many milliseconds are those of the last look, and no timer that was due then is armed.
+    fn has_advanced(&self, by: Actor, wheel: u32, to: u64) -> bool
+        ensures { IsTrue result ↔ HasAdvanced self.now by wheel to }
+    {
+        to as i128 == down(&self.settings, self.looks.of(by))
+            && self.timers.is_settled_to(wheel, to)
+    }
+
+    /// Whether the request in a scheduler's hand can be answered so.
+    fn can_answer(&self, with: Option<Actor>, wheel: u32, left: Option<u64>) -> bool
+        ensures { (c : clocks.Clock) → IsTrue result ↔ CanAnswer self.now.settings (shown c self.now) with wheel left }
+    {
+        match self.schedulers.hand(wheel) {
+            Some(request) => {
+                with == Some(Actor::MailOf(request.reply_to))
+                    && is_result(
+                        request.timer.is_in_range(&self.settings),
+                        self.schedulers.outcome(wheel),
+                        left,
+                    )
+            }
+            None => false,
+        }
+    }
+
+    /// Goes on by an entry that is legal. A part that reads another goes on before that one does, so that it
+    /// finds it as it was before the entry.
+    fn follow(&mut self, entry: &Entry) -> Result<(), NoMemory>
+        requires { MayFollow self.old.settings (face_of self.old.clock) entry.now.event }
+        ensures { OnOk result (Follows self.old entry.now self.new) }
+    {
+        let event = &entry.event;
+        let deadline = self.deadline(entry);
+        self.mailboxes.follow(entry.with, event, &self.schedulers)?;
+        self.schedulers.follow(entry.by, event, &self.timers)?;
+        self.timers.follow(event, deadline)?;
+        self.looks.follow(entry.by, event);
+        self.exits.follow(event);
+        self.inboxes.follow(entry.with, event)?;
+        self.follow_clock(event);
+        Ok(())
+    }
+
+    /// The deadline of the timer that an entry arms.
+    fn deadline(&self, entry: &Entry) -> Option<u64>
+        ensures { result ≡ deadline_by self.now.settings (look_of (looks_in self.now.looks) entry.now.by) entry.now.event }
+    {
+        match entry.event {
+            Event::Arm { start, .. } => {
+                deadline_of(&self.settings, start.when, self.looks.of(entry.by))
+            }
+            _ => None,
+        }
+    }
+
+    /// The clock goes on by an event.
+    fn follow_clock(&mut self, event: &Event)
+        requires { MayFollow self.old.settings (face_of self.old.clock) event.now }
+        ensures clock { ClockFollows self.old.settings self.old.clock event.now self.new.clock }
+        ensures others { self.new ≡ record self.old { clock = self.new.clock } }
+    {
+        match *event {
+            Event::Tick { reading, act, now } => self.clock.tick(&self.settings, reading, act, now),
+            Event::Shift { offset, state } => self.clock.shift(offset, state),
+            _ => {}
+        }
+    }
+
+    /// Whether an entry is legal.
+    fn can(&self, entry: &Entry) -> bool
+        ensures { (g : settings.Settings) (h : List entries.Entry) → StandsFor g h self.now → IsTrue result ↔ Can g (state g h) entry.now }
+    {
+        is_in_range(&self.settings, entry) && self.is_known(entry) && self.is_found(entry)
+    }
+}
+
+/// Whether this is told where so many milliseconds are left.
+fn is_left(told: Option<u64>, left: Option<u128>) -> bool
+    ensures { IsTrue result ↔ (told ≡ left) }
+{
+    match (told, left) {
+        (Some(told), Some(left)) => told as u128 == left,
+        (None, None) => true,
+        _ => false,
+    }
+}
+
+/// Whether a slot whose last timer has this status is taken.
+fn is_taken(status: Option<Status>) -> bool
+    ensures { result ≡ is_taken status }
+{
+    matches!(status, Some(Status::Armed | Status::Expired))
+}
+
+/// Whether an answer says what the scheduler found, or nothing of a reference that is out of range.
+fn is_result(names: bool, outcome: Option<Option<u64>>, left: Option<u64>) -> bool
+    ensures { IsTrue result ↔ IsResult names outcome left }
+{
+    if names {
+        outcome == Some(left)
+    } else {
+        left.is_none()
+    }
+}
+
+/// The place of the first entry that isn't legal after those before it, from 0.
+pub fn first_illegal(
+    alloc: Global,
+    settings: &Settings,
+    entries: &[Entry],
+) -> Result<Option<usize>, NoMemory>
+    requires { IsChecked settings.now }
+    ensures legal { result ≡ Ok None → Legal settings.now entries.now }
+    ensures illegal { (place : ℕ) → result ≡ Ok (Some place) → IsFirstIllegal settings.now entries.now place }
+{
+    let mut judge = Judge::open(alloc, settings)?;
+    for i in 0..entries.len() {
+        if !judge.can(&entries[i]) {
+            return Ok(Some(i));
+        }
+        judge.follow(&entries[i])?;
+    }
+    Ok(None)
+}

@@ -1,0 +1,12 @@
+//! Judges histories: which entry is the first that isn't legal.
+//!
+//! The model of `ert_defs` says when an entry is legal in a state. A judge keeps that state by its parts
+//! (`ert_state`) and walks once over the entries: it asks whether the next entry is in range, whether its
+//! maker knew what it had to, and whether its step found out what it says; then each part goes on by it.
+//! It stands on `ert_defs` and `ert_state`.
+#![tactic(auto)]
+
+mod judge;
+mod range;
+
+pub use judge::first_illegal;

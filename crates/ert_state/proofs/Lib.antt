@@ -1,0 +1,4 @@
+mod Casts
+mod MonitorLaws
+mod Ticks
+pub mod WheelLaws

@@ -1,0 +1,35 @@
+-- What the code computes in parts is what the rules on numbers say, over plain variables.
+
+use Rattle.std.proofs.Common.{◌≡◌, refl, sym, ap, ◌∙◌, true, false}
+use Rattle.std.specs.Prelude.{ℤ, pos, ◌-ℤ◌, ◌+ℤ◌, int_le}
+use Rattle.std.specs.Int.{int_max}
+use Rattle.ert_defs.specs.Lines.{Face, mono_after, line_time, time_after, due_at, rate_after, base_from}
+use Rattle.ert_defs.specs.declared.entry.Act.{Act}
+use Rattle.ert_defs.specs.declared.settings.Reading.{Reading}
+use Rattle.ert_defs.specs.declared.settings.Settings.{Settings}
+
+-- with correction the time after a tick is that of the line
+pub on_line : (g : Settings) (f : Face) (r : Reading) (m x : ℤ) → g.correction ≡ true
+    → m ≡ mono_after f r → x ≡ line_time f.base m → x ≡ time_after g f r
+on_line g f r m x on e k =
+    let is : time_after g f r ≡ line_time f.base (mono_after f r) = rw on refl in
+    k ∙ ap (line_time f.base) e ∙ sym is
+
+-- without it, OS system time less the offset, or the time before
+pub off_line : (g : Settings) (f : Face) (r : Reading) (x : ℤ) → g.correction ≡ false
+    → x ≡ int_max f.time (r.sys -ℤ f.offset) → x ≡ time_after g f r
+off_line g f r x off k =
+    let is : time_after g f r ≡ int_max f.time (r.sys -ℤ f.offset) = rw off refl in
+    k ∙ sym is
+
+-- with correction a check is due by the distance from the last one in OS monotonic time
+pub due_is : (g : Settings) (f : Face) (r : Reading) (m : ℤ) → g.correction ≡ true → m ≡ mono_after f r
+    → int_le (pos 60000000000) (m -ℤ f.base.mono) ≡ due_at g f r
+due_is g f r m on e = rw (e, on) refl
+
+-- the base that starts at a tick
+pub base_is : (r : Reading) (act : Act) (f : Face) (now m rate : ℤ) → m ≡ mono_after f r
+    → rate ≡ rate_after act f.state (r.sys -ℤ (now +ℤ f.offset))
+    → record { time = now; mono = m; sys = r.sys; rate = rate }
+    ≡ base_from r act (mono_after f r) now f.offset f.state
+base_is r act f now m rate e k = rw (e, k) refl
