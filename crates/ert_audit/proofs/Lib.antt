@@ -1,0 +1,3 @@
+mod Completes
+mod OneVerdict
+mod Texts

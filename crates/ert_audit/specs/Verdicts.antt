@@ -1,0 +1,52 @@
+-- What is said of a text, and the line that says it.
+
+use Rattle.std.specs.Prelude.{◌≡◌, ℕ, ◌+◌, List, ◌++◌, length, codes, Result, Ok, Err}
+use Rattle.std.specs.Fmt.{decimal}
+use Rattle.ert_defs.specs.Legal.{Legal}
+use Rattle.ert_defs.specs.Settings.{IsChecked}
+use Rattle.ert_defs.specs.declared.entry.Entry.{Entry}
+use Rattle.ert_defs.specs.declared.memory.NoMemory.{NoMemory}
+use Rattle.ert_defs.specs.declared.settings.Settings.{Settings}
+use Rattle.ert_judge.specs.Verdicts.{IsFirstIllegal}
+use Rattle.ert_spelling.specs.Spelling.{Spells, MisspelledAt}
+use Rattle.ert_spelling.specs.declared.history.SpellingErr.{SpellingErr}
+use Rattle.ert_spelling.specs.declared.history.SpellingErr.TheVariants.{Misspelled, NoMemory as OutOfMemory}
+use Rattle.ert_audit.specs.declared.verdict.Verdict.{Verdict}
+use Rattle.ert_audit.specs.declared.verdict.Verdict.TheVariants.{Legal as IsLegal, Illegal, Refused}
+
+-- a text spells a history of settings that a service can be opened with
+pub record IsHistory (text : List ℕ) : Type 0 where
+  pub settings : Settings
+  pub entries : List Entry
+  pub spelled : Spells settings entries text
+  pub checked : IsChecked settings
+
+-- the history is legal, and has so many entries
+pub record IsLegalText (text : List ℕ) (count : ℕ) : Type 0 where
+  pub history : IsHistory text
+  pub legal : Legal history.settings history.entries
+  pub all : count ≡ length history.entries
+
+-- the entry at a line, where the settings have line 1, is the first that isn't legal
+pub record IsIllegalText (text : List ℕ) (line : ℕ) : Type 0 where
+  pub history : IsHistory text
+  pub place : ℕ
+  pub first : IsFirstIllegal history.settings history.entries place
+  pub at : line ≡ place + 2
+
+-- what a verdict says of a text
+abbrev pub HasVerdict : List ℕ → Verdict → Type 0
+HasVerdict text (IsLegal count) = IsLegalText text count
+HasVerdict text (Illegal line) = IsIllegalText text line
+HasVerdict text (Refused line) = MisspelledAt text line
+
+-- the verdict where no history was read
+abbrev pub refusal_of : SpellingErr → Result Verdict NoMemory
+refusal_of (Misspelled line) = Ok (Refused line)
+refusal_of OutOfMemory = Err (record {})
+
+-- the line that tells a verdict
+abbrev pub verdict_line : Verdict → List ℕ
+verdict_line (IsLegal count) = codes "legal " ++ decimal count ++ codes "\n"
+verdict_line (Illegal line) = codes "illegal " ++ decimal line ++ codes "\n"
+verdict_line (Refused line) = codes "refused " ++ decimal line ++ codes "\n"

@@ -1,0 +1,98 @@
+ghost use Rattle.std.specs.Prelude.{◌≡◌, ◌⊎◌, ◌≤◌, ℕ, List, Some, None, IsTrue, false, length};
+ghost use Rattle.ert_io.specs.Faults.{Rose};
+ghost use Rattle.ert_io.specs.Known.{then, before};
+ghost use Rattle.ert_io.specs.Writing.{WritesFront};
+ghost use Rattle.ert_audit.specs.Audits.{IsVerdict, Judges, Stops, status_of};
+ghost use Rattle.ert_audit.specs.Verdicts.{HasVerdict, verdict_line};
+ghost use Rattle.ert_audit.specs.declared.verdict.Verdict as verdicts;
+
+use crate::status::AuditStatus;
+use crate::verdict::{Verdict, one_verdict, verdict_on, write_verdict};
+use ert_io::{ReadErr, Sink, Source, read_all, write_all};
+use std::alloc::Global;
+
+/// The most bytes of an input.
+const MAX_INPUT: usize = 16_777_216;
+
+/// The program: it reads a history from the input, and writes one line to the output, which tells whether
+/// the history is legal.
+///
+/// The sink tells no room.
+pub fn audit<R: AllocGlobal, I: Source, O: Sink>(
+    rt: &R,
+    input: &mut I,
+    output: &mut O,
+) -> AuditStatus
+    requires { O.room output.old ≡ None }
+
+    // The input was read to its end, its text has this verdict, and the line of that was written.
+    ensures judged { IsVerdict result → Judges result (I.left input.old) (I.left input.new) (O.taken output.old) (O.taken output.new) }
+    ensures read_fault { result ≡ AuditStatus.ReadFault → Rose (I.faults input.old) (I.faults input.new) × (output.new ≡ output.old) }
+    ensures too_long { result ≡ AuditStatus.TooLong → (output.new ≡ output.old)
+        × ((taken : List ℕ) × (length taken ≡ 16777217) × (I.left input.old ≡ before taken (I.left input.new))) }
+    ensures write_fault { result ≡ AuditStatus.WriteFault → Rose (O.faults output.old) (O.faults output.new) }
+
+    // After a failed write, or without memory, the first part of the line stands.
+    ensures stops { (result ≡ AuditStatus.WriteFault) ⊎ (result ≡ AuditStatus.NoMemory)
+        → (output.new ≡ output.old) ⊎ Stops (I.left input.old) (I.left input.new) (O.taken output.old) (O.taken output.new) }
+
+    // Where nothing fails, only want of memory keeps a text from its verdict.
+    ensures complete { (Rose (I.faults input.old) (I.faults input.new) → ⊥) → (Rose (O.faults output.old) (O.faults output.new) → ⊥)
+        → (text : List ℕ) (verdict : verdicts.Verdict) → I.left input.old ≡ Some text → length text ≤ 16777216 → HasVerdict text verdict
+        → (result ≡ status_of verdict) ⊎ (result ≡ AuditStatus.NoMemory) }
+    ensures later { I.faults input.old ≤ I.faults input.new }
+    ensures later_out { O.faults output.old ≤ O.faults output.new }
+{
+    one_verdict();
+    match read_all(rt.alloc(), input, MAX_INPUT) {
+        Ok(text) => match verdict_on(rt.alloc(), &text) {
+            Ok(verdict) => tell(rt.alloc(), verdict, output),
+            Err(_) => AuditStatus::NoMemory,
+        },
+        Err(ReadErr::ReadFault) => AuditStatus::ReadFault,
+        Err(ReadErr::TooLong) => AuditStatus::TooLong,
+        Err(ReadErr::NoMemory) => AuditStatus::NoMemory,
+    }
+}
+
+/// Writes the line of a verdict.
+fn tell<O: Sink>(alloc: Global, verdict: Verdict, output: &mut O) -> AuditStatus
+    requires { O.room output.old ≡ None }
+    ensures which { (result ≡ status_of verdict) ⊎ (result ≡ AuditStatus.WriteFault) ⊎ (result ≡ AuditStatus.NoMemory) }
+    ensures told { result ≡ status_of verdict → O.taken output.new ≡ then (O.taken output.old) (verdict_line verdict) }
+    ensures front { WritesFront (O.taken output.old) (O.taken output.new) (verdict_line verdict) }
+    ensures later { O.faults output.old ≤ O.faults output.new }
+    ensures cause { result ≡ AuditStatus.WriteFault → Rose (O.faults output.old) (O.faults output.new) }
+{
+    let mut page = String::new(alloc);
+    if write_verdict(&mut page, verdict).is_err() {
+        return AuditStatus::NoMemory;
+    }
+    if write_line(output, page.as_bytes()) {
+        status_of(verdict)
+    } else {
+        AuditStatus::WriteFault
+    }
+}
+
+/// Writes a line, and tells whether all of it was written.
+fn write_line<O: Sink>(output: &mut O, line: &[u8]) -> bool
+    requires { O.room output.old ≡ None }
+    ensures whole { IsTrue result → O.taken output.new ≡ then (O.taken output.old) line.now }
+    ensures front { WritesFront (O.taken output.old) (O.taken output.new) line.now }
+    ensures later { O.faults output.old ≤ O.faults output.new }
+    ensures cause { result ≡ false → Rose (O.faults output.old) (O.faults output.new) }
+{
+    write_all(output, line).is_ok()
+}
+
+/// The status that tells a verdict.
+fn status_of(verdict: Verdict) -> AuditStatus
+    ensures { result ≡ status_of verdict }
+{
+    match verdict {
+        Verdict::Legal { .. } => AuditStatus::Legal,
+        Verdict::Illegal { .. } => AuditStatus::Illegal,
+        Verdict::Refused { .. } => AuditStatus::Refused,
+    }
+}
