@@ -135,14 +135,10 @@ impl Judge {
         ensures { (c : clocks.Clock) → result ≡ left_of self.now.settings (shown c self.now) by timer }
     {
         match self.timers.find(timer) {
-            Some(found) => {
-                if found.status == Status::Armed {
-                    Some(left(&self.settings, found.row.deadline, self.looks.of(by)))
-                } else {
-                    None
-                }
+            Some(found) if found.status == Status::Armed => {
+                Some(left(&self.settings, found.row.deadline, self.looks.of(by)))
             }
-            None => None,
+            _ => None,
         }
     }
 

@@ -48,10 +48,7 @@ impl Timers {
     pub fn row(&self, timer: TimerRef) -> Option<Fired>
         ensures { result ≡ row_of (rows_in self.now timer.wheel) timer }
     {
-        match self.find(timer) {
-            Some(found) => Some(found.row),
-            None => None,
-        }
+        Some(self.find(timer)?.row)
     }
 
     /// The status of a timer, None where it was never armed.

@@ -6,8 +6,8 @@ use Rattle.ert_state.specs.Wheels.{timers_at}
 use Rattle.ert_judge.proofs.Finds.{left_armed}
 use Rattle.ert_judge.proofs.judge.Judge.left.Goals as goal
 
-pub returns-then-eq : goal.returns-then-eq
-returns-then-eq c = λ c'.
+pub returns-in-Some : goal.returns-in-Some
+returns-in-Some c = λ c'.
     let look : ℤ = look_of (looks_in c.args.self.now.looks) c.args.by in
     let armed : c.in-Some.found.status ≡ Armed = search rules in
     let is = left_armed c.args.self.now.settings look (timers_at c.args.self.now.timers c.args.timer.wheel)
