@@ -5,8 +5,10 @@
 //! anew but the law and what cites it.
 #![tactic(auto)]
 
+mod lives;
 mod ranges;
 
+pub use lives::timers_have_six_lives;
 pub use ranges::{
     expired_timers_are_few, requests_are_in_range, rows_are_in_range, timers_have_rows,
 };
