@@ -1,5 +1,9 @@
+pub mod Expiries
 pub mod Few
 pub mod Histories
+pub mod Mailboxes
+pub mod OwnTells
 pub mod Requests
 pub mod RowRanges
 pub mod TimerLives
+pub mod Told

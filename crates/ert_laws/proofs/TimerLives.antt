@@ -134,6 +134,6 @@ pub lives : LawOfLives
 lives g h r legal =
     by_entries g (λ h. life r h ≡ life_to ((state g h).status r))
     (λ h e legal can is.
-        filter_map-append (λ (e : Entry). status_given r e.event) h (e ∷ [])
-        ∙ life_moved (status_given r e.event) ((state g h).status r) ((state g (h ++ e ∷ [])).status r) (life r h) (moved_more g h e r legal can) is)
+    filter_map-append (λ (e : Entry). status_given r e.event) h (e ∷ [])
+    ∙ life_moved (status_given r e.event) ((state g h).status r) ((state g (h ++ e ∷ [])).status r) (life r h) (moved_more g h e r legal can) is)
     refl h legal

@@ -5,10 +5,14 @@
 //! anew but the law and what cites it.
 #![tactic(auto)]
 
+mod changes;
 mod lives;
+mod mail_order;
 mod ranges;
 
+pub use changes::changes_tell_another_offset;
 pub use lives::timers_have_six_lives;
+pub use mail_order::{mailboxes_keep_order, timer_messages_come_in_order};
 pub use ranges::{
     expired_timers_are_few, requests_are_in_range, rows_are_in_range, timers_have_rows,
 };
