@@ -23,7 +23,7 @@ use Rattle.ert_defs.specs.declared.timer.TimerRef.{TimerRef}
 use Rattle.ert_laws.specs.MailOrder.{Sent, sent_by_row, sent_by_none, sent_in, sent_at, sent_to, taken_in, taken_from, LawOfMailboxes}
 use Rattle.ert_laws.proofs.Histories.{by_entries, kept_after, state-more, gathered-more}
 
-abbrev mail_in : Sent → Mail
+abbrev pub mail_in : Sent → Mail
 mail_in x = x.mail
 
 -- an entry with the mailbox of a process, by another actor, has just that mailbox

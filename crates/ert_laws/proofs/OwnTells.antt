@@ -1,9 +1,9 @@
 -- Each message of a change comes from a Tell of its own.
 
-use Rattle.std.proofs.Common.{◌≡◌, ◌≢◌, ℕ, ℤ, Bool, true, false, cond, not, nat_eq, List, [], ◌∷◌, ◌++◌, All, filter, map, get_or, Option, Some, None, refl, sym, ap, subst, ◌∙◌, eqb-true}
+use Rattle.std.proofs.Common.{◌≡◌, ◌≢◌, ℕ, ℤ, Bool, true, false, cond, not, nat_eq, List, [], ◌∷◌, ◌++◌, All, filter, map, get_or, Option, Some, None, refl, sym, ap, subst, ◌∙◌, append_assoc, eqb-true}
 use Rattle.std.proofs.lemmas.Bool.{cond_both}
 use Rattle.std.proofs.lemmas.Bool.Decides.{Decides-int_eq, Decides-not}
-use Rattle.std.proofs.lemmas.List.Elements.{All-nil, All-cons, All-filter, All-map, filter_passes}
+use Rattle.std.proofs.lemmas.List.Elements.{All-nil, All-append, All-cons, All-filter, All-map, All-weaker, filter_passes}
 use Rattle.std.specs.Option.{option_to_list}
 use Rattle.std.specs.Ordering.{int_eq}
 use Rattle.ert_defs.specs.Actors.{has_actor}
@@ -12,7 +12,7 @@ use Rattle.ert_defs.specs.Mails.{Monitor, answer_by, answer_in, changes_of, is_n
 use Rattle.ert_defs.specs.States.{State, state}
 use Rattle.ert_defs.specs.Timers.{Row, row_of}
 use Rattle.ert_defs.proofs.FiredLists.{made}
-use Rattle.ert_defs.proofs.Runs.{legal_one_more}
+use Rattle.ert_defs.proofs.Runs.{carry, legal_more, legal_one_more}
 use Rattle.ert_defs.specs.declared.entry.Actor.{Actor}
 use Rattle.ert_defs.specs.declared.entry.Actor.TheVariants.{MailOf}
 use Rattle.ert_defs.specs.declared.entry.Entry.{Entry}
@@ -27,9 +27,10 @@ use Rattle.ert_defs.specs.declared.settings.Settings.{Settings}
 use Rattle.ert_defs.specs.declared.timer.Kind.{Kind}
 use Rattle.ert_defs.specs.declared.timer.Kind.TheVariants.{Wrapped, Bare}
 use Rattle.ert_defs.specs.declared.timer.TimerRef.{TimerRef}
-use Rattle.ert_laws.specs.Changes.{IsOwnTell, LastTold, TellsTruly, LawOfChanges}
-use Rattle.ert_laws.specs.MailOrder.{Sent, sent_by_row, sent_by_none, sent_in, sent_at}
-use Rattle.ert_laws.proofs.Mailboxes.{mail_has, caller_no_mail}
+use Rattle.ert_laws.specs.Changes.{IsOwnTell, LastTold, TellsTruly, IsTold, LawOfChanges, LawOfTold}
+use Rattle.ert_laws.specs.MailOrder.{Sent, sent_by_row, sent_by_none, sent_in, sent_at, sent_to}
+use Rattle.ert_laws.proofs.Histories.{by_entries, gathered-more}
+use Rattle.ert_laws.proofs.Mailboxes.{mail_has, caller_no_mail, mail_in, mailboxes}
 use Rattle.ert_laws.proofs.Told.{AreTold, monitors_told}
 
 -- a message of a timer is no Change
@@ -102,3 +103,36 @@ changes_are_told g h e p legal =
     cond_both (has_actor e (MailOf p)) (sent_in (state g h) ((state g h).mails p) e.event) [] (AllTrue g h e p)
     (λ has. true_event g h e.by e.with e.event p parts.0 parts.1 has)
     (λ not. All-nil (λ (x : Sent). TellsTruly g h e p x.mail))
+
+-- what comes from a Tell of a history does so of a longer one
+told_longer : (g : Settings) (h : List Entry) (e : Entry) (p : ℕ) (mail : Mail) → IsTold g h p mail → IsTold g (h ++ e ∷ []) p mail
+told_longer g h e p (Change n offset) has = record {
+  before = has.before;
+  entry = has.entry;
+  behind = has.behind ++ e ∷ [];
+  stands = ap (λ x. x ++ e ∷ []) has.stands ∙ append_assoc has.before (has.entry ∷ has.behind) (e ∷ []);
+  own = has.own;
+}
+told_longer g h e p _ has = tt
+
+told_here : (g : Settings) (h : List Entry) (e : Entry) (p : ℕ) (mail : Mail) → TellsTruly g h e p mail → IsTold g (h ++ e ∷ []) p mail
+told_here g h e p (Change n offset) own = record { before = h; entry = e; behind = []; stands = refl; own = own }
+told_here g h e p _ own = tt
+
+sent_are_told : (g : Settings) (h : List Entry) (p : ℕ) → Legal g h → All (λ (x : Sent). IsTold g h p x.mail) (sent_to g p h)
+sent_are_told g h p legal =
+    by_entries g (λ h. All (λ (x : Sent). IsTold g h p x.mail) (sent_to g p h))
+    (λ h e legal can told.
+        let longer : List Entry = h ++ e ∷ [] in
+        let P : Sent → Type 0 = λ x. IsTold g longer p x.mail in
+        carry (All P) (gathered-more g (sent_at p) h e)
+        (All-append P (sent_to g p h) (sent_at p (state g h) e)
+        (All-weaker (λ (x : Sent). IsTold g h p x.mail) P (λ x was. told_longer g h e p x.mail was) (sent_to g p h) told)
+        (All-weaker (λ (x : Sent). TellsTruly g h e p x.mail) P (λ x own. told_here g h e p x.mail own) (sent_at p (state g h) e)
+        (changes_are_told g h e p (legal_more g h e legal can)))))
+    (All-nil (λ (x : Sent). IsTold g [] p x.mail)) h legal
+
+pub messages_are_told : LawOfTold
+messages_are_told g h p legal =
+    subst (All (IsTold g h p)) (mailboxes g h p legal)
+    (All-map (IsTold g h p) mail_in (sent_to g p h) (sent_are_told g h p legal))

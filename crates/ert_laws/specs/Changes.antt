@@ -10,7 +10,7 @@ use Rattle.ert_defs.specs.declared.entry.Event.TheVariants.{Watch, Tell}
 use Rattle.ert_defs.specs.declared.mail.Mail.{Mail}
 use Rattle.ert_defs.specs.declared.mail.Mail.TheVariants.{Change}
 use Rattle.ert_defs.specs.declared.settings.Settings.{Settings}
-use Rattle.ert_laws.specs.MailOrder.{sent_at}
+use Rattle.ert_laws.specs.MailOrder.{sent_at, taken_from}
 
 -- the offset that an event tells a monitor of a process: the monitor is made with one, and a Tell is for all
 -- monitors of the process
@@ -47,3 +47,20 @@ TellsTruly g h e p _ = Unit {0}
 abbrev pub LawOfChanges : Type 0
 LawOfChanges = (g : Settings) (h : List Entry) (e : Entry) (p : ℕ) → Legal g (h ++ e ∷ [])
     → All (λ sent. TellsTruly g h e p sent.mail) (sent_at p (state g h) e)
+
+-- a message tells what was so at a Tell of its own in a history, if it tells of a change
+pub record HasTell (g : Settings) (h : List Entry) (p n : ℕ) (offset : ℤ) : Type 0 where
+  pub before : List Entry
+  pub entry : Entry
+  pub behind : List Entry
+  pub stands : h ≡ before ++ (entry ∷ behind)
+  pub own : IsOwnTell g before entry p n offset
+
+abbrev pub IsTold : Settings → List Entry → ℕ → Mail → Type 0
+IsTold g h p (Change n offset) = HasTell g h p n offset
+IsTold g h p _ = Unit {0}
+
+-- so each Change that was taken from a mailbox, or stands in it, comes from such a Tell
+abbrev pub LawOfTold : Type 0
+LawOfTold = (g : Settings) (h : List Entry) (p : ℕ) → Legal g h
+    → All (IsTold g h p) (taken_from p h ++ ((state g h).mails p).queue)

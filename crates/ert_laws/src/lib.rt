@@ -9,6 +9,7 @@ mod changes;
 mod lives;
 mod mail_order;
 mod ranges;
+mod worked;
 
 pub use changes::changes_tell_another_offset;
 pub use lives::timers_have_six_lives;
@@ -16,3 +17,4 @@ pub use mail_order::{mailboxes_keep_order, timer_messages_come_in_order};
 pub use ranges::{
     expired_timers_are_few, requests_are_in_range, rows_are_in_range, timers_have_rows,
 };
+pub use worked::lives_and_mail_are_read;
