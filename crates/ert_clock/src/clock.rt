@@ -168,6 +168,3 @@ fn offset_of(shift: Option<(i64, OffsetState)>) -> Option<i64>
 {
     shift.map(|(offset, _)| offset)
 }
-
-#[cfg(test)]
-mod tests;

@@ -1,5 +1,5 @@
-use super::*;
-use ert_defs::Mode;
+use ert_clock::{Clock, ClockErr, Moved};
+use ert_defs::{Mode, OffsetState, Reading, Settings};
 use std::process::Abort;
 
 #[derive(Clone, Copy, Debug, PartialEq, Eq)]

@@ -1,4 +1,4 @@
-use super::*;
+use ert_units::{TooWide, Unit, convert};
 use std::test::Fail;
 
 /// The most parts that a second may have.

@@ -1,6 +1,6 @@
 //! Each event, its words taken from the table in `docs/FORMATS.md`.
 
-use crate::tests::history;
+use crate::spelling::history;
 use ert_defs::{
     Act, Actor, Entry, Event, Kind, Mail, OffsetState, Reading, Request, RequestKind, Start,
     Status, TimerRef, When,

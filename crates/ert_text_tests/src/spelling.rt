@@ -1,6 +1,6 @@
 mod events;
 
-use crate::{History, SpellingErr, read_history};
+use ert_spelling::{History, SpellingErr, read_history};
 use ert_defs::{Actor, Entry, Event, Mode, Reading, Settings};
 use std::alloc::Global;
 use std::test::Fail;

@@ -1,7 +1,7 @@
 //! Words that were computed by hand from the table of fields, and each public call once.
 
-use super::*;
 use ert_defs::Status;
+use ert_words::{FreeSlots, offset_of, offset_word, time_of, time_word, timer_of, timer_word};
 use std::test::Fail;
 
 #[test]

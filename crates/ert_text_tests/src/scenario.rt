@@ -1,4 +1,4 @@
-use crate::{Op, ScenarioErr, read_scenario};
+use ert_scenario::{Op, ScenarioErr, read_scenario};
 use ert_defs::{Mode, Reading, Settings};
 use ert_units::Unit;
 use std::alloc::{AllocError, Global};

@@ -1,4 +1,4 @@
-use super::*;
+use ert_io::{MemSink, MemSource, ReadErr, StdSink, StdSource, WriteErr, read_all, write_all};
 use std::alloc::{AllocError, Global};
 use std::fs;
 use std::test::Fail;
