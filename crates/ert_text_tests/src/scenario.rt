@@ -1,5 +1,5 @@
-use ert_scenario::{Op, ScenarioErr, read_scenario};
 use ert_defs::{Mode, Reading, Settings};
+use ert_scenario::{Op, ScenarioErr, read_scenario};
 use ert_units::Unit;
 use std::alloc::{AllocError, Global};
 use std::test::Fail;

@@ -1,7 +1,7 @@
 mod events;
 
-use ert_spelling::{History, SpellingErr, read_history};
 use ert_defs::{Actor, Entry, Event, Mode, Reading, Settings};
+use ert_spelling::{History, SpellingErr, read_history};
 use std::alloc::Global;
 use std::test::Fail;
 
