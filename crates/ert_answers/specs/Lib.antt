@@ -1,0 +1,7 @@
+pub mod Chains
+pub mod ClockCalls
+pub mod MailCalls
+pub mod RequestCalls
+pub mod TimerCalls
+pub mod Ways
+pub mod WheelCalls
