@@ -1,5 +1,6 @@
 pub mod Chains
 pub mod ClockCalls
+pub mod Laws
 pub mod MailCalls
 pub mod RequestCalls
 pub mod TimerCalls

@@ -25,5 +25,7 @@
 #![tactic(auto)]
 
 mod answers;
+mod laws;
 
 pub use answers::{Handed, MonitorErr, StartErr, Taken, Turned};
+pub use laws::{answers_are_read, exits_settle_timers, messages_are_read};
