@@ -2,7 +2,7 @@
 
 use Rattle.std.proofs.Common.{◌≡◌, ◌≢◌, ℕ, zero, suc, ◌+◌, ◌<◌, ◌≤◌, ℤ, Bool, true, false, cond, nat_eq, List, [], ◌∷◌, ◌++◌, length, Contains, slice_index_or, Option, Some, refl, sym, ap, subst, ◌∙◌, arith, append_assoc, eqb-true, eq-eqb}
 use Rattle.std.proofs.lemmas.List.Elements.{Contains-append_left}
-use Rattle.ert_answers.specs.Chains.{SweepsWheel, SweepsWheels, Exits}
+use Rattle.ert_answers.specs.Chains.{SweepsWheel, SweepsWheels}
 use Rattle.ert_answers.specs.Laws.{Settles, LawOfExits}
 use Rattle.ert_answers.specs.Ways.{Way, alone, beside}
 use Rattle.ert_answers.specs.WheelCalls.{AreSwept}
@@ -16,7 +16,6 @@ use Rattle.ert_defs.specs.declared.entry.Entry.{Entry}
 use Rattle.ert_defs.specs.declared.entry.Event.{Event}
 use Rattle.ert_defs.specs.declared.entry.Event.TheVariants.{Arm}
 use Rattle.ert_defs.specs.declared.settings.Settings.{Settings}
-use Rattle.ert_defs.specs.declared.timer.Start.{Start}
 use Rattle.ert_defs.specs.declared.timer.Status.{Status}
 use Rattle.ert_defs.specs.declared.timer.Status.TheVariants.{Armed}
 use Rattle.ert_defs.specs.declared.timer.TimerRef.{TimerRef}

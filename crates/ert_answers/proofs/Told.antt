@@ -1,9 +1,9 @@
 -- The same entries have one answer: of starts and of advances, by what stands among their probes.
 
-use Rattle.std.proofs.Common.{◌≡◌, ◌≢◌, ℕ, zero, suc, ◌+◌, ℤ, Bool, false, List, [], ◌∷◌, ◌++◌, Option, Some, None, Result, Ok, Err, refl, sym, ap, subst, ◌∙◌, rules, arith}
+use Rattle.std.proofs.Common.{◌≡◌, ℕ, zero, suc, ◌+◌, ℤ, false, List, [], ◌∷◌, ◌++◌, Option, Some, None, Ok, Err, refl, sym, ap, subst, ◌∙◌, arith}
 use Rattle.ert_answers.specs.Laws.{LawOfStarts, LawOfAdvances}
 use Rattle.ert_answers.specs.TimerCalls.{AreProbes, AreTaken, IsStarted, IsBadArg, IsWheelFull}
-use Rattle.ert_answers.specs.WheelCalls.{Try, HasAdvanced, expires_by, expiry_entries, hit_by, hits}
+use Rattle.ert_answers.specs.WheelCalls.{Try, expires_by, expiry_entries, hit_by, hits}
 use Rattle.ert_answers.specs.declared.answers.StartErr.TheVariants.{BadArg, Full, NoMemory}
 use Rattle.ert_defs.specs.Entries.{look_entry, probe_entry, arm_entry, expire_entry, mark_entry, advanced_entry}
 use Rattle.ert_defs.specs.Milliseconds.{deadline_of}
@@ -11,7 +11,6 @@ use Rattle.ert_defs.specs.States.{State}
 use Rattle.ert_defs.specs.declared.entry.Actor.{Actor}
 use Rattle.ert_defs.specs.declared.entry.Actor.TheVariants.{Caller, Sched}
 use Rattle.ert_defs.specs.declared.entry.Entry.{Entry}
-use Rattle.ert_defs.specs.declared.entry.Event.{Event}
 use Rattle.ert_defs.specs.declared.entry.Event.TheVariants.{Look, Arm, Probe, Expire, Advanced}
 use Rattle.ert_defs.specs.declared.settings.Settings.{Settings}
 use Rattle.ert_defs.specs.declared.timer.Start.{Start}
@@ -19,7 +18,7 @@ use Rattle.ert_defs.specs.declared.timer.Status.{Status}
 use Rattle.ert_defs.specs.declared.timer.TimerRef.{TimerRef}
 
 -- one entry has one event
-event_same : (e f : Entry) → e ≡ f → e.event ≡ f.event
+pub event_same : (e f : Entry) → e ≡ f → e.event ≡ f.event
 event_same e f same = ap (λ (x : Entry). x.event) same
 
 look_same : (by : Actor) (now later : ℤ) → look_entry by now ≡ look_entry by later → now ≡ later
@@ -34,12 +33,13 @@ not_probe by wheel start timer slot found same =
     event_same (arm_entry by timer start) (probe_entry (Caller by) wheel slot found) same in
     cc
 
--- of a list that begins with probes, and then has an arming, the arming is that
-armed_same : (by wheel : ℕ) (start : Start) (probes others : List Entry) (t u : TimerRef) (x y : List Entry) → AreProbes (Caller by) wheel probes
-    → AreProbes (Caller by) wheel others → probes ++ (arm_entry by t start ∷ x) ≡ others ++ (arm_entry by u start ∷ y) → t ≡ u
+-- of a list that begins with probes, and then has an arming, the arming is that, and what follows on it too
+pub armed_same : (by wheel : ℕ) (start : Start) (probes others : List Entry) (t u : TimerRef) (x y : List Entry) → AreProbes (Caller by) wheel probes
+    → AreProbes (Caller by) wheel others → probes ++ (arm_entry by t start ∷ x) ≡ others ++ (arm_entry by u start ∷ y)
+    → (t ≡ u) × (x ≡ y)
 armed_same by wheel start [] [] t u x y are others_are same =
     let heads : arm_entry by t start ≡ arm_entry by u start = cc in
-    let event : Arm t start ≡ Arm u start = event_same (arm_entry by t start) (arm_entry by u start) heads in cc
+    let event : Arm t start ≡ Arm u start = event_same (arm_entry by t start) (arm_entry by u start) heads in (cc, cc)
 armed_same by wheel start [] (f ∷ others) t u x y are others_are same =
     let heads : arm_entry by t start ≡ f = cc in
     absurd (not_probe by wheel start t others_are.0 others_are.1 (heads ∙ others_are.2))
@@ -71,7 +71,7 @@ started_same : (g : Settings) (by wheel : ℕ) (start : Start) (t u : TimerRef) 
 started_same g by wheel start t u s es first second =
     let same : first.probes ++ (arm_entry by t start ∷ (mark_entry (Caller by) start.dest false first.was ∷ first.closing))
     ≡ second.probes ++ (arm_entry by u start ∷ (mark_entry (Caller by) start.dest false second.was ∷ second.closing)) = cc (sym first.entries ∙ second.entries) in
-    armed_same by wheel start first.probes second.probes t u _ _ first.are_probes second.are_probes same
+    (armed_same by wheel start first.probes second.probes t u _ _ first.are_probes second.are_probes same).0
 
 not_bad : (g : Settings) (by wheel : ℕ) (start : Start) (t : TimerRef) (s : State) (es : List Entry) → IsStarted g by wheel start t s es
     → IsBadArg g by start es → ⊥

@@ -1,17 +1,13 @@
 -- Laws on what the calls answer. The functions of src/laws.rt carry them as contracts, so that they are
 -- proved.
 
-use Rattle.std.specs.Prelude.{◌≡◌, ◌≢◌, ℕ, ℤ, ◌<◌, Bool, true, Contains, List, ◌++◌, Option, Some, Result, Ok, Err}
-use Rattle.ert_clock.specs.declared.clock.ClockErr.{ClockErr}
-use Rattle.ert_clock.specs.declared.clock.Moved.{Moved}
+use Rattle.std.specs.Prelude.{◌≡◌, ◌≢◌, ℕ, ◌<◌, Bool, true, Contains, List, ◌++◌, Option, Some, Ok, Err}
 use Rattle.ert_defs.specs.Legal.{Legal}
 use Rattle.ert_defs.specs.States.{State, state}
 use Rattle.ert_defs.specs.Timers.{Row}
 use Rattle.ert_defs.specs.declared.entry.Actor.{Actor}
 use Rattle.ert_defs.specs.declared.entry.Entry.{Entry}
 use Rattle.ert_defs.specs.declared.mail.Request.{Request}
-use Rattle.ert_defs.specs.declared.memory.NoMemory.{NoMemory as WantOfMemory}
-use Rattle.ert_defs.specs.declared.settings.OffsetState.{OffsetState}
 use Rattle.ert_defs.specs.declared.settings.Reading.{Reading}
 use Rattle.ert_defs.specs.declared.settings.Settings.{Settings}
 use Rattle.ert_defs.specs.declared.timer.Start.{Start}
@@ -24,12 +20,8 @@ use Rattle.ert_answers.specs.RequestCalls.{Picks, Answers}
 use Rattle.ert_answers.specs.TimerCalls.{Reads, Cancels, Starts}
 use Rattle.ert_answers.specs.Ways.{Way, alone, beside}
 use Rattle.ert_answers.specs.WheelCalls.{Advances, TellsAlive, MarksExit}
-use Rattle.ert_answers.specs.declared.answers.Handed.{Handed}
-use Rattle.ert_answers.specs.declared.answers.MonitorErr.{MonitorErr}
 use Rattle.ert_answers.specs.declared.answers.MonitorErr.TheVariants as monitors
-use Rattle.ert_answers.specs.declared.answers.StartErr.{StartErr}
 use Rattle.ert_answers.specs.declared.answers.StartErr.TheVariants as starts
-use Rattle.ert_answers.specs.declared.answers.Taken.{Taken}
 
 -- an answer is read from the entries: in one state the same entries have one answer
 abbrev pub IsRead : {A : Type 0} → (A → State → List Entry → Type 0) → Type 0

@@ -6,3 +6,4 @@ pub mod RequestCalls
 pub mod TimerCalls
 pub mod Ways
 pub mod WheelCalls
+pub mod Worked
