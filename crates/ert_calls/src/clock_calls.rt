@@ -50,8 +50,10 @@ pub fn system_time(desk: &Desk, pass: &mut Pass, by: Actor) -> i64
     now + offset
 }
 
-/// One step: the time, which lies between the start time and the end time.
-pub(crate) fn look(desk: &Desk, pass: &mut Pass, by: Actor) -> i64
+/// One step: Erlang monotonic time, in nanoseconds, which lies between the start time and the end time.
+///
+/// It is `monotonic_time` for calls of several steps: its entry is the last of the new front.
+pub fn look(desk: &Desk, pass: &mut Pass, by: Actor) -> i64
     requires belongs { Belongs desk.now pass.old }
     requires held { is_held (actors_of pass.old) by ≡ true }
     requires user { IsUser (settings_of desk.now) by }

@@ -1,6 +1,7 @@
 pub mod Actors
 pub mod ClockLaws
 pub mod Clocks
+pub mod Entries
 pub mod Laws
 pub mod Legal
 pub mod Lines

@@ -11,7 +11,7 @@ use Rattle.ert_defs.specs.Timers.{Row, rows_after, last_after, row_of, same_time
 use Rattle.ert_defs.specs.Words.{word_of, offset_word, is_final, timer_word, slot_word, word_of_slot}
 use Rattle.ert_defs.proofs.FiredLists.{delivery_hits, drop_hits}
 use Rattle.ert_defs.proofs.FiredTimers.{row_kept, same_timer_self}
-use Rattle.ert_defs.proofs.Runs.{legal_first, look_stays, state-append}
+use Rattle.ert_defs.proofs.Runs.{legal_first, last_stays, look_stays, state-append}
 use Rattle.ert_defs.proofs.Slots.{same_timer-true}
 use Rattle.ert_defs.specs.declared.entry.Actor.{Actor}
 use Rattle.ert_defs.specs.declared.entry.Actor.TheVariants.{Keeper, Wheel, Sched, Caller}
@@ -322,12 +322,14 @@ sure_at g v i n by timer deadline _ h then may sure = absurd cc
 -- what a miss tells
 missed : (g : Settings) (v : View) (by : Actor) (timer : TimerRef) (deadline : ℕ) (how : Settle) (w : View) (n : ℕ) {x : Option Status}
     → x ≢ Some (status_from how) → (is_sure how ≡ true → x ≡ Some (status_from how))
+    → (is_held v.actors (Wheel timer.wheel) ≡ true → (state g v.front).last timer.wheel timer.slot ≡ timer.generation
+    → status_in n ≢ Some (status_from how))
     → Appends g v (miss_entry (hit_entry g (state g v.front) by timer deadline how) by timer how n) w → Misses g v by timer how w
-missed g v by timer deadline Cancel w n not sure step = step
-missed g v by timer deadline Expire w n not sure step = (status_in n, step)
-missed g v by timer deadline Orphan w n not sure step = (status_in n, step)
-missed g v by timer deadline Deliver w n not sure step = not (sure refl)
-missed g v by timer deadline Drop w n not sure step = not (sure refl)
+missed g v by timer deadline Cancel w n not sure last step = step
+missed g v by timer deadline Expire w n not sure last step = record { found = status_in n; step = step; not_armed = last step.ours.1 }
+missed g v by timer deadline Orphan w n not sure last step = record { found = status_in n; step = step; not_armed = last step.ours.1 }
+missed g v by timer deadline Deliver w n not sure last step = not (sure refl)
+missed g v by timer deadline Drop w n not sure last step = not (sure refl)
 
 -- a timer that was settled isn't armed
 to_settled : (how : Settle) → Some (status_to how) ≢ Some Armed
@@ -455,14 +457,29 @@ module _ (g : Settings) (v : View) (by : Actor) (timer : TimerRef) (deadline : �
     word = finds.word;
   }
 
+  -- a miss finds another status, where the pass knows that the timer is the last of its slot
+  last_missed : (h : List Entry) (n : ℕ) → Then g v place n h → nat_eq n old ≡ false
+      → is_held v.actors (Wheel timer.wheel) ≡ true → front.last timer.wheel timer.slot ≡ timer.generation
+      → status_in n ≢ Some (status_from how)
+  last_missed h n then is held last =
+      let slot = found_slot h n then in
+      let s : State = state g h in
+      let still : s.last timer.wheel timer.slot ≡ timer.generation =
+      ap (λ (x : State). x.last timer.wheel timer.slot) (later_state g v place n h then)
+      ∙ (last_stays g timer.wheel timer.slot front then.later (then.own (Wheel timer.wheel) held) ∙ last) in
+      let found : status_in n ≡ s.status timer =
+      slot_found s timer.wheel timer.slot n slot.kept slot.word ∙ ap (λ m. s.status (timer_at timer.wheel timer.slot m)) still in
+      subst (λ x. x ≢ Some (status_from how)) (sym found) (misses h n then is)
+
   -- a step tells whether the timer was settled or handed over
   pub settle_tells : (w : View) (n : ℕ) → Finds g v place n (settle_entry g front by timer deadline how n) w
       → (b : Bool) → nat_eq n old ≡ b → Settles g v by timer deadline how b w
   settle_tells w n finds true is = subst (λ b. Appends g v (cond b hit (miss n)) w) is finds.step
   settle_tells w n finds false is =
+      let h : List Entry = v.front ++ finds.step.between in
       let then = then_found w n finds in
-      missed g v by timer deadline how w n (misses (v.front ++ finds.step.between) n then is)
-      (sure_at g v place n by timer deadline how (v.front ++ finds.step.between) then may)
+      missed g v by timer deadline how w n (misses h n then is) (sure_at g v place n by timer deadline how h then may)
+      (last_missed h n then is)
       (subst (λ b. Appends g v (cond b hit (miss n)) w) is finds.step)
 
   settled_at : (h : List Entry) (n : ℕ) → Then g v place n h → (b : Bool) → nat_eq n old ≡ b

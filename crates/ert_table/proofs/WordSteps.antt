@@ -1,7 +1,6 @@
 -- What an entry leaves of the words.
 
-use Rattle.std.proofs.Common.{◌≡◌, ◌⊎◌, inl, inr, ℕ, ℤ, zero, suc, ◌+◌, ◌-◌, ◌*◌, ◌/◌, ◌%◌, ◌<◌, ◌≤◌, Bool, true, false, cond, List, Option, refl, sym, ap, ◌∙◌, arith, div-add-mod'}
-use Rattle.std.proofs.lemmas.Bool.{cases_lt}
+use Rattle.std.proofs.Common.{◌≡◌, ℕ, ℤ, ◌<◌, Bool, true, false, cond, List, Option, refl, sym, ap, subst, ◌∙◌}
 use Rattle.ert_defs.specs.Actors.{has_actor}
 use Rattle.ert_defs.specs.Clocks.{Clock, clock_after}
 use Rattle.ert_defs.specs.States.{State, next, exited_after}
@@ -15,7 +14,7 @@ use Rattle.ert_defs.specs.declared.settings.Settings.{Settings}
 use Rattle.ert_defs.specs.declared.timer.Status.{Status}
 use Rattle.ert_defs.specs.declared.timer.TimerRef.{TimerRef}
 use Rattle.ert_table.specs.Places.{slot_place, process_place}
-use Rattle.ert_table.proofs.WordPlaces.{below_true, word_of-later, word_of-process}
+use Rattle.ert_table.proofs.WordPlaces.{Use, for_time, for_offset, for_slot, for_process, for_gap, use_of, word_of-slot, word_of-process}
 
 -- what two states have in common of a slot
 pub record SameSlot (s s' : State) (w k : ℕ) : Type 0 where
@@ -32,47 +31,24 @@ slot_same s s' w k same =
 -- what two states have in common of the words but one
 pub record SameWords (g : Settings) (s s' : State) (j : ℕ) : Type 0 where
   pub time : j ≡ 0 → s'.clock.now ≡ s.clock.now
-  pub offset : j ≡ 1 → offset_word s'.clock.offset (is_final s'.clock.state) ≡ offset_word s.clock.offset (is_final s.clock.state)
+  pub offset : j ≡ 8 → offset_word s'.clock.offset (is_final s'.clock.state) ≡ offset_word s.clock.offset (is_final s.clock.state)
   pub slot : (w k : ℕ) → j ≡ slot_place g w k → k < g.slots → SameSlot s s' w k
   pub process : (p : ℕ) → j ≡ process_place g p → s'.exited p ≡ s.exited p
 
--- the word at a place of a slot
-same_slot : (g : Settings) (s s' : State) (j m : ℕ) → j ≡ 2 + m → m < g.schedulers * g.slots → SameWords g s s' j
-    → word_of g s' j ≡ word_of g s j
-same_slot g s s' j m is lt same =
-    let w : ℕ = m / g.slots in
-    let k : ℕ = m % g.slots in
-    let some_slots : 0 < g.slots = positive g.schedulers g.slots m lt in
-    let whole : w * g.slots + k ≡ m = div-add-mod' m g.slots in
-    let place : j ≡ slot_place g w k = omega arith in
-    let within : k < g.slots = omega arith in
-    let alike = slot_same s s' w k (same.slot w k place within) in
-    word_of-later g s' j m is ∙ (rw (below_true m (g.schedulers * g.slots) lt) alike ∙ sym (word_of-later g s j m is))
-  where
-    positive : (a b m : ℕ) → m < a * b → 0 < b
-    positive a zero m lt = absurd (omega arith)
-    positive a (suc b) m lt = omega arith
-
--- the word at a place of a process
-same_process : (g : Settings) (s s' : State) (j m : ℕ) → j ≡ 2 + m → g.schedulers * g.slots ≤ m → SameWords g s s' j
-    → word_of g s' j ≡ word_of g s j
-same_process g s s' j m is le same =
-    let p : ℕ = m - g.schedulers * g.slots in
-    let place : j ≡ process_place g p = omega arith in
-    ap (λ x. word_of g s' x) place
-    ∙ (word_of-process g s' p ∙ (ap process_word (same.process p place) ∙ (sym (word_of-process g s p) ∙ ap (λ x. word_of g s x) (sym place))))
-
 pub word_same : (g : Settings) (s s' : State) (j : ℕ) → SameWords g s s' j → word_of g s' j ≡ word_of g s j
-word_same g s s' zero same = ap (λ x. time_word x g.start) (same.time refl)
-word_same g s s' (suc zero) same = same.offset refl
-word_same g s s' (suc (suc m)) same =
-    elim (tells_lt m (g.schedulers * g.slots)) [
-      | inl lt ↦ same_slot g s s' (suc (suc m)) m (omega arith) lt same
-      | inr le ↦ same_process g s s' (suc (suc m)) m (omega arith) le same
-    ]
+word_same g s s' j same = at (use_of g j)
   where
-    tells_lt : (a b : ℕ) → (a < b) ⊎ (b ≤ a)
-    tells_lt a b = cases_lt a b
+    here : (i : ℕ) → j ≡ i → word_of g s' i ≡ word_of g s i → word_of g s' j ≡ word_of g s j
+    here i is alike = subst (λ x. word_of g s' x ≡ word_of g s x) (sym is) alike
+
+    at : Use g j → word_of g s' j ≡ word_of g s j
+    at (for_time is) = here 0 is (ap (λ x. time_word x g.start) (same.time is))
+    at (for_offset is) = here 8 is (same.offset is)
+    at (for_slot w k low lt is) = here (slot_place g w k) is
+        (word_of-slot g s' w k low lt ∙ (slot_same s s' w k (same.slot w k is lt) ∙ sym (word_of-slot g s w k low lt)))
+    at (for_process p is) = here (process_place g p) is
+        (word_of-process g s' p ∙ (ap process_word (same.process p is) ∙ sym (word_of-process g s p)))
+    at (for_gap idle) = idle s' ∙ sym (idle s)
 
 pub cond_same : {X : Type 0} (b : Bool) (x : X) → cond b x x ≡ x
 cond_same true x = refl
