@@ -1,18 +1,18 @@
 -- A scheduler hands its timers over in order of expiry, and so puts their messages into mailboxes.
 
-use Rattle.std.proofs.Common.{◌≡◌, ◌≢◌, ℕ, Bool, true, false, cond, ◌||◌, ◌&&◌, nat_eq, List, [], ◌∷◌, ◌++◌, All, filter, map, get_or, Option, Some, None, refl, sym, ap, subst, ◌∙◌, inl, inr, append-nil, append_assoc, eqb-true, eq-eqb, ne_eqb}
+use Rattle.std.proofs.Common.{◌≡◌, ℕ, Bool, true, false, cond, ◌||◌, ◌&&◌, nat_eq, List, [], ◌∷◌, ◌++◌, All, filter, map, get_or, Option, Some, None, refl, sym, ap, subst, ◌∙◌, append-nil, append_assoc, eqb-true}
 use Rattle.std.proofs.Math.Bool.{or-false}
 use Rattle.std.proofs.lemmas.List.{map-append}
 use Rattle.std.proofs.lemmas.List.Elements.{All-nil, All-push, All-head, All-tail, filter-append}
 use Rattle.std.specs.Option.{option_to_list}
 use Rattle.ert_defs.specs.Actors.{has_actor, is_with, same_actor}
-use Rattle.ert_defs.specs.Laws.{IsFired, MayMove}
+use Rattle.ert_defs.specs.Laws.{MayMove}
 use Rattle.ert_defs.specs.Legal.{Can, IsFirst, Legal}
 use Rattle.ert_defs.specs.Mails.{SchedState, first_of, others_of, answer_in, changes_of, sched_after, with_row}
 use Rattle.ert_defs.specs.States.{State, next, state}
-use Rattle.ert_defs.specs.Timers.{Row, row_of, same_timer, handed_as}
-use Rattle.ert_defs.proofs.FiredLists.{IsKept, first_is_fired, first_has_expired, made}
-use Rattle.ert_defs.proofs.FiredTimers.{cond_same, same_timer_self}
+use Rattle.ert_defs.specs.Timers.{Row, row_of}
+use Rattle.ert_defs.proofs.FiredLists.{IsKept, first_has_expired, made}
+use Rattle.ert_defs.proofs.FiredTimers.{same_timer_self}
 use Rattle.ert_defs.proofs.Runs.{carry}
 use Rattle.ert_defs.proofs.Settlings.{moves_next}
 use Rattle.ert_defs.specs.declared.entry.Actor.{Actor}
@@ -25,7 +25,7 @@ use Rattle.ert_defs.specs.declared.settings.Settings.{Settings}
 use Rattle.ert_defs.specs.declared.timer.Status.{Status}
 use Rattle.ert_defs.specs.declared.timer.Status.TheVariants.{Armed, Expired, Delivered, Cancelled, Orphaned, Dropped}
 use Rattle.ert_defs.specs.declared.timer.TimerRef.{TimerRef}
-use Rattle.ert_laws.specs.MailOrder.{Sent, sent_by_row, sent_by_none, sent_in, sent_at, sent_to, expired_in, expired_of, is_delivered, is_handed_over, is_from, is_delivered_to, InTurn, LawOfTurns, LawOfOrder}
+use Rattle.ert_laws.specs.MailOrder.{Sent, sent_by_row, sent_by_none, sent_at, sent_to, expired_in, expired_of, is_delivered, is_handed_over, is_from, is_delivered_to, LawOfTurns, LawOfOrder}
 use Rattle.ert_laws.proofs.Histories.{by_entries, kept_after, state-more, gathered-more}
 use Rattle.ert_laws.proofs.Mailboxes.{mail_has, first_row}
 

@@ -1,13 +1,13 @@
 -- What was put into a mailbox is what was taken from it, and then what stands in it.
 
-use Rattle.std.proofs.Common.{◌≡◌, ℕ, Bool, true, false, cond, ◌||◌, nat_eq, List, [], ◌∷◌, ◌++◌, map, Option, Some, None, refl, sym, ap, subst, ◌∙◌, append-nil, append_assoc, eqb-true}
+use Rattle.std.proofs.Common.{◌≡◌, ℕ, Bool, true, false, cond, ◌||◌, nat_eq, List, [], ◌∷◌, ◌++◌, map, Option, Some, refl, sym, ap, subst, ◌∙◌, append-nil, append_assoc, eqb-true}
 use Rattle.std.proofs.lemmas.List.{map-append}
 use Rattle.std.proofs.lemmas.List.Elements.{filter_map-append}
 use Rattle.std.specs.List.{filter_map}
 use Rattle.std.specs.Option.{option_to_list}
 use Rattle.ert_defs.specs.Actors.{IsCaller, has_actor, is_with, same_actor}
 use Rattle.ert_defs.specs.Legal.{Can, IsFirst}
-use Rattle.ert_defs.specs.Mails.{MailState, first_of, others_of, message_in, message_of, mail_after, answer_in, changes_of}
+use Rattle.ert_defs.specs.Mails.{first_of, others_of, message_in, message_of, mail_after, answer_in, changes_of}
 use Rattle.ert_defs.specs.States.{State, next, state}
 use Rattle.ert_defs.specs.Timers.{Row, row_of}
 use Rattle.ert_defs.proofs.FiredLists.{IsKept, first_is_fired, made}

@@ -1,6 +1,6 @@
 -- Each message of a change comes from a Tell of its own.
 
-use Rattle.std.proofs.Common.{◌≡◌, ◌≢◌, ℕ, ℤ, Bool, true, false, cond, not, nat_eq, List, [], ◌∷◌, ◌++◌, All, filter, map, get_or, Option, Some, None, refl, sym, ap, subst, ◌∙◌, append_assoc, eqb-true}
+use Rattle.std.proofs.Common.{◌≡◌, ℕ, ℤ, true, List, [], ◌∷◌, ◌++◌, All, filter, map, get_or, Option, Some, None, refl, sym, ap, subst, ◌∙◌, append_assoc, eqb-true}
 use Rattle.std.proofs.lemmas.Bool.{cond_both}
 use Rattle.std.proofs.lemmas.Bool.Decides.{Decides-int_eq, Decides-not}
 use Rattle.std.proofs.lemmas.List.Elements.{All-nil, All-append, All-cons, All-filter, All-map, All-weaker, filter_passes}
@@ -9,7 +9,7 @@ use Rattle.std.specs.Ordering.{int_eq}
 use Rattle.ert_defs.specs.Actors.{has_actor}
 use Rattle.ert_defs.specs.Legal.{Can, Legal}
 use Rattle.ert_defs.specs.Mails.{Monitor, answer_by, answer_in, changes_of, is_news, message_by}
-use Rattle.ert_defs.specs.States.{State, state}
+use Rattle.ert_defs.specs.States.{state}
 use Rattle.ert_defs.specs.Timers.{Row, row_of}
 use Rattle.ert_defs.proofs.FiredLists.{made}
 use Rattle.ert_defs.proofs.Runs.{carry, legal_more, legal_one_more}
@@ -27,11 +27,11 @@ use Rattle.ert_defs.specs.declared.settings.Settings.{Settings}
 use Rattle.ert_defs.specs.declared.timer.Kind.{Kind}
 use Rattle.ert_defs.specs.declared.timer.Kind.TheVariants.{Wrapped, Bare}
 use Rattle.ert_defs.specs.declared.timer.TimerRef.{TimerRef}
-use Rattle.ert_laws.specs.Changes.{IsOwnTell, LastTold, TellsTruly, IsTold, LawOfChanges, LawOfTold}
+use Rattle.ert_laws.specs.Changes.{LastTold, TellsTruly, IsTold, LawOfChanges, LawOfTold}
 use Rattle.ert_laws.specs.MailOrder.{Sent, sent_by_row, sent_by_none, sent_in, sent_at, sent_to}
 use Rattle.ert_laws.proofs.Histories.{by_entries, gathered-more}
 use Rattle.ert_laws.proofs.Mailboxes.{mail_has, caller_no_mail, mail_in, mailboxes}
-use Rattle.ert_laws.proofs.Told.{AreTold, monitors_told}
+use Rattle.ert_laws.proofs.Told.{monitors_told}
 
 -- a message of a timer is no Change
 timer_message : (g : Settings) (h : List Entry) (e : Entry) (p : ℕ) (kind : Kind) (timer : TimerRef) (msg : ℕ)
@@ -123,13 +123,13 @@ sent_are_told : (g : Settings) (h : List Entry) (p : ℕ) → Legal g h → All 
 sent_are_told g h p legal =
     by_entries g (λ h. All (λ (x : Sent). IsTold g h p x.mail) (sent_to g p h))
     (λ h e legal can told.
-        let longer : List Entry = h ++ e ∷ [] in
-        let P : Sent → Type 0 = λ x. IsTold g longer p x.mail in
-        carry (All P) (gathered-more g (sent_at p) h e)
-        (All-append P (sent_to g p h) (sent_at p (state g h) e)
-        (All-weaker (λ (x : Sent). IsTold g h p x.mail) P (λ x was. told_longer g h e p x.mail was) (sent_to g p h) told)
-        (All-weaker (λ (x : Sent). TellsTruly g h e p x.mail) P (λ x own. told_here g h e p x.mail own) (sent_at p (state g h) e)
-        (changes_are_told g h e p (legal_more g h e legal can)))))
+    let longer : List Entry = h ++ e ∷ [] in
+    let P : Sent → Type 0 = λ x. IsTold g longer p x.mail in
+    carry (All P) (gathered-more g (sent_at p) h e)
+    (All-append P (sent_to g p h) (sent_at p (state g h) e)
+    (All-weaker (λ (x : Sent). IsTold g h p x.mail) P (λ x was. told_longer g h e p x.mail was) (sent_to g p h) told)
+    (All-weaker (λ (x : Sent). TellsTruly g h e p x.mail) P (λ x own. told_here g h e p x.mail own) (sent_at p (state g h) e)
+    (changes_are_told g h e p (legal_more g h e legal can)))))
     (All-nil (λ (x : Sent). IsTold g [] p x.mail)) h legal
 
 pub messages_are_told : LawOfTold

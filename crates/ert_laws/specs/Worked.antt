@@ -1,106 +1,213 @@
--- Worked histories: the lives of timers, and what was put into a mailbox and taken, by hand. The function of
--- src/worked.rt carries the statements as a contract, so that they are proved.
+-- Worked histories: what the model says of some short histories that were written by hand.
+-- A function of src/worked.rt carries the statements as a contract, so that they are proved.
 
-use Rattle.std.specs.Prelude.{◌≡◌, ℕ, pos, negsuc, false, List, [], ◌∷◌, ◌++◌, Option, Some, None}
+use Rattle.std.specs.Prelude.{◌≡◌, ℕ, ℤ, pos, negsuc, true, false, List, [], ◌∷◌, ◌++◌, Option, Some, None}
 use Rattle.ert_defs.specs.Legal.{Legal}
 use Rattle.ert_defs.specs.States.{state}
-use Rattle.ert_defs.specs.Timers.{Row}
-use Rattle.ert_defs.specs.Worked.{small, timer, by_caller, by_sched, tick, started, delivered, cancelled, orphaned, answered, taken}
-use Rattle.ert_defs.specs.declared.entry.Act.TheVariants.{Plain}
-use Rattle.ert_defs.specs.declared.entry.Actor.TheVariants.{Wheel, MailOf}
+use Rattle.ert_defs.specs.declared.entry.Act.{Act}
+use Rattle.ert_defs.specs.declared.entry.Act.TheVariants.{Plain, Force}
+use Rattle.ert_defs.specs.declared.entry.Actor.{Actor}
+use Rattle.ert_defs.specs.declared.entry.Actor.TheVariants.{Keeper, Wheel, Inbox, Sched, MailOf, Caller}
 use Rattle.ert_defs.specs.declared.entry.Entry.{Entry}
-use Rattle.ert_defs.specs.declared.entry.Event.TheVariants.{Look, Arm, Expire, Deliver, Mark, Advanced, Take}
+use Rattle.ert_defs.specs.declared.entry.Event.{Event}
+use Rattle.ert_defs.specs.declared.entry.Event.TheVariants.{Tick, Shift, Look, Arm, Peek, Cancel, Expire, Orphan, Deliver, Mark, Advanced, Ask, Pick, Answer, Take, Watch, Tell}
+use Rattle.ert_defs.specs.declared.mail.Mail.{Mail}
 use Rattle.ert_defs.specs.declared.mail.Mail.TheVariants.{Timeout, CancelDone, Change}
+use Rattle.ert_defs.specs.declared.mail.Request.{Request}
+use Rattle.ert_defs.specs.declared.mail.RequestKind.TheVariants.{Cancel as ToCancel}
+use Rattle.ert_defs.specs.declared.settings.Mode.{Mode}
 use Rattle.ert_defs.specs.declared.settings.Mode.TheVariants.{No, Multi}
+use Rattle.ert_defs.specs.declared.settings.OffsetState.TheVariants.{Volatile}
+use Rattle.ert_defs.specs.declared.settings.Reading.{Reading}
 use Rattle.ert_defs.specs.declared.settings.Settings.{Settings}
 use Rattle.ert_defs.specs.declared.timer.Kind.TheVariants.{Wrapped}
-use Rattle.ert_defs.specs.declared.timer.Status.TheVariants.{Armed, Expired, Delivered, Cancelled, Orphaned}
+use Rattle.ert_defs.specs.declared.timer.Start.{Start}
+use Rattle.ert_defs.specs.declared.timer.Status.{Status}
+use Rattle.ert_defs.specs.declared.timer.Status.TheVariants.{Delivered, Cancelled, Orphaned}
 use Rattle.ert_defs.specs.declared.timer.TimerRef.{TimerRef}
 use Rattle.ert_defs.specs.declared.timer.When.TheVariants.{After}
-use Rattle.ert_laws.specs.Lives.{life}
-use Rattle.ert_laws.specs.MailOrder.{Sent, sent_to, taken_from, expired_of}
 
--- the second timer of the only slot, which is never started
-abbrev pub next_timer : TimerRef
-next_timer = record { wheel = 0; slot = 0; generation = 2 }
+-- the settings: no time correction, the start time and the first reading 0, and one of each kind
+abbrev pub small : Mode → Settings
+small mode = record {
+  mode = mode;
+  correction = false;
+  start = pos 0;
+  schedulers = 1;
+  processes = 1;
+  slots = 1;
+  callers = 1;
+  first = record { mono = pos 0; sys = pos 0 };
+}
 
--- the lives in five histories: a cancel that tells nothing is no part of one
-pub record LivesAreRead : Type 0 where
-  pub waits : life timer (started 5) ≡ Armed ∷ []
-  pub arrives : life timer delivered ≡ Armed ∷ Expired ∷ Delivered ∷ []
-  pub is_cancelled : life timer cancelled ≡ Armed ∷ Cancelled ∷ []
-  pub is_orphaned : life timer orphaned ≡ Armed ∷ Orphaned ∷ []
-  pub never_armed : life next_timer delivered ≡ []
+-- the first timer of the only slot
+abbrev pub timer : TimerRef
+timer = record { wheel = 0; slot = 0; generation = 1 }
 
--- the message of the timer
-abbrev pub sent_by_timer : Sent
-sent_by_timer = record { timer = Some timer; mail = Timeout timer 7 }
+-- a start so many milliseconds from now, of a message for the only process
+abbrev pub start_after : ℕ → Start
+start_after delay = record { when = After (pos delay); dest = 0; msg = 7; kind = Wrapped }
 
--- the answer to a cancel, and a change of the offset: no timer sent them
-abbrev pub sent_as_answer : Sent
-sent_as_answer = record { timer = None; mail = CancelDone timer (Some 5) }
+-- an entry by the only caller
+abbrev pub by_caller : Option Actor → Event → Entry
+by_caller with event = record { by = Caller 0; with = with; event = event }
 
-abbrev pub sent_as_change : Sent
-sent_as_change = record { timer = None; mail = Change 0 (negsuc 4999999999) }
+-- an entry by the only scheduler
+abbrev pub by_sched : Option Actor → Event → Entry
+by_sched with event = record { by = Sched 0; with = with; event = event }
 
--- what was put into the only mailbox in three histories, each of which takes it
-pub record MailIsRead : Type 0 where
-  pub timer_sent : sent_to (small No) 0 delivered ≡ sent_by_timer ∷ []
-  pub timer_taken : taken_from 0 delivered ≡ Timeout timer 7 ∷ []
-  pub answer_sent : sent_to (small No) 0 answered ≡ sent_as_answer ∷ []
-  pub answer_taken : taken_from 0 answered ≡ CancelDone timer (Some 5) ∷ []
-  pub change_sent : sent_to (small Multi) 0 taken ≡ sent_as_change ∷ []
-  pub change_taken : taken_from 0 taken ≡ Change 0 (negsuc 4999999999) ∷ []
+-- a tick to a time, at this OS system time
+abbrev pub tick : Act → ℤ → ℤ → Entry
+tick act sys now =
+    let reading : Reading = record { mono = pos 0; sys = sys } in
+    record { by = Keeper; with = Some (Caller 0); event = Tick reading act now }
 
--- settings with two slots
-abbrev pub wide : Settings
-wide = record (small No) { slots = 2 }
+-- an entry isn't legal after a history that is
+abbrev pub Refuses : List Entry → Entry → Type 0
+Refuses h e = Legal (small No) h × (Legal (small No) (h ++ e ∷ []) → ⊥)
 
--- a timer of 5 milliseconds that is started at 0 in the first slot, and then one of 2 in the second
-abbrev pub slow : Row
-slow = record { timer = timer; deadline = 5; dest = 0; msg = 7; kind = Wrapped }
+-- the status of the timer after a history
+abbrev pub status_of : List Entry → Option Status
+status_of h = (state (small No) h).status timer
 
-abbrev pub fast : Row
-fast = record { timer = record { wheel = 0; slot = 1; generation = 1 }; deadline = 2; dest = 0; msg = 8; kind = Wrapped }
-
--- the start of a timer, so many milliseconds from the time 0
-abbrev pub arm : Row → Entry
-arm row = by_caller (Some (Wheel 0)) (Arm row.timer (record { when = After (pos row.deadline); dest = 0; msg = row.msg; kind = Wrapped }))
-
--- both expire when the scheduler looks at 6, are delivered, and one message is taken
-abbrev pub both_started : List Entry
-both_started =
-    by_caller None (Look (pos 0))
-    ∷ arm slow
+-- the time comes to 1 millisecond, and the caller looks and starts a timer
+abbrev pub begun : ℕ → List Entry
+begun delay =
+    tick Plain (pos 1000000) (pos 1000000)
+    ∷ by_caller None (Look (pos 1000000))
+    ∷ by_caller (Some (Wheel 0)) (Arm timer (start_after delay))
     ∷ by_caller None (Mark 0 false false)
-    ∷ arm fast
-    ∷ by_caller None (Mark 0 false false)
-    ∷ tick Plain (pos 6000000) (pos 6000000)
-    ∷ by_sched None (Look (pos 6000000))
     ∷ []
 
-abbrev pub both_expired : List Entry
-both_expired =
-    by_sched (Some (Wheel 0)) (Expire fast.timer)
-    ∷ by_sched (Some (Wheel 0)) (Expire slow.timer)
-    ∷ by_sched (Some (Wheel 0)) (Advanced 0 6)
+-- then the scheduler looks
+abbrev pub started : ℕ → List Entry
+started delay = begun delay ++ by_sched None (Look (pos 1000000)) ∷ []
+
+-- a timer of 5 milliseconds that is started at 1 is due at 6: at 1 the scheduler has none to settle
+abbrev pub TimerWaits : Type 0
+TimerWaits = Legal (small No) (started 5 ++ by_sched (Some (Wheel 0)) (Advanced 0 1) ∷ [])
+
+-- nor can the timer expire at 1
+abbrev pub EarlyExpiryIsRefused : Type 0
+EarlyExpiryIsRefused = Refuses (started 5) (by_sched (Some (Wheel 0)) (Expire timer))
+
+-- a timer expires, and its message is put into the mailbox and taken
+abbrev pub expiry : List Entry
+expiry =
+    by_sched (Some (Wheel 0)) (Expire timer)
+    ∷ by_sched (Some (Wheel 0)) (Advanced 0 1)
     ∷ by_sched None (Mark 0 false false)
-    ∷ by_sched (Some (MailOf 0)) (Deliver fast.timer)
-    ∷ by_sched None (Mark 0 false false)
-    ∷ by_sched (Some (MailOf 0)) (Deliver slow.timer)
+    ∷ by_sched (Some (MailOf 0)) (Deliver timer)
     ∷ by_caller None (Mark 0 false false)
-    ∷ by_caller (Some (MailOf 0)) (Take 0 (Some (Timeout fast.timer 8)))
+    ∷ by_caller (Some (MailOf 0)) (Take 0 (Some (Timeout timer 7)))
     ∷ []
 
-abbrev pub both : List Entry
-both = both_started ++ both_expired
+-- which a timer of no time does at once
+abbrev pub delivered : List Entry
+delivered = started 0 ++ expiry
 
--- the one with the earlier deadline expires first, and so its message is first
-pub record ExpiryIsInOrder : Type 0 where
-  pub legal : Legal wide both
-  pub expired : expired_of wide 0 both ≡ fast ∷ slow ∷ []
-  pub sent : sent_to wide 0 both
-      ≡ (record { timer = Some fast.timer; mail = Timeout fast.timer 8 })
-      ∷ (record { timer = Some slow.timer; mail = Timeout slow.timer 7 }) ∷ []
-  pub first_taken : taken_from 0 both ≡ Timeout fast.timer 8 ∷ []
-  pub other_stands : ((state wide both).mails 0).queue ≡ Timeout slow.timer 7 ∷ []
+-- the timer is delivered then
+abbrev pub TimerIsDelivered : Type 0
+TimerIsDelivered = Legal (small No) delivered × (status_of delivered ≡ Some Delivered)
+
+-- a timer is read with 5 milliseconds left
+abbrev pub read : List Entry
+read = begun 5 ++ by_caller None (Look (pos 1000000)) ∷ by_caller None (Peek timer (Some 5)) ∷ []
+
+-- and cancelled with as many; it can't be cancelled again
+abbrev pub cancelled : List Entry
+cancelled = read ++ by_caller None (Cancel timer (Some 5)) ∷ by_caller None (Cancel timer None) ∷ []
+
+-- the timer is cancelled then
+abbrev pub TimerIsCancelled : Type 0
+TimerIsCancelled = Legal (small No) cancelled × (status_of cancelled ≡ Some Cancelled)
+
+-- a cancel can't tell another number
+abbrev pub OtherCancelIsRefused : Type 0
+OtherCancelIsRefused = Refuses read (by_caller None (Cancel timer (Some 4)))
+
+-- a process exits, and a timer is started for it
+abbrev pub exit : List Entry
+exit =
+    by_caller None (Mark 0 true false)
+    ∷ by_caller None (Look (pos 0))
+    ∷ by_caller (Some (Wheel 0)) (Arm timer (start_after 5))
+    ∷ by_caller None (Mark 0 false true)
+    ∷ []
+
+-- the timer is cancelled for that
+abbrev pub orphaned : List Entry
+orphaned = exit ++ by_caller (Some (Wheel 0)) (Orphan timer) ∷ []
+
+-- the timer is orphaned then
+abbrev pub TimerIsOrphaned : Type 0
+TimerIsOrphaned = Legal (small No) orphaned × (status_of orphaned ≡ Some Orphaned)
+
+-- a timer isn't cancelled so while its destination stands
+abbrev pub EarlyOrphanIsRefused : Type 0
+EarlyOrphanIsRefused = Refuses (begun 5) (by_caller (Some (Wheel 0)) (Orphan timer))
+
+-- an asynchronous cancel of the timer, with an answer
+abbrev pub request : Request
+request = record { kind = ToCancel; timer = timer; reply_to = 0; info = true }
+
+-- the caller asks for it, and the scheduler takes the request and cancels the timer
+abbrev pub asked : List Entry
+asked = begun 5
+    ++ by_caller (Some (Inbox 0)) (Ask 0 request)
+    ∷ by_sched (Some (Inbox 0)) (Pick 0 (Some request))
+    ∷ by_sched None (Look (pos 1000000))
+    ∷ by_sched None (Peek timer (Some 5))
+    ∷ by_sched None (Cancel timer (Some 5))
+    ∷ []
+
+-- the scheduler tells the milliseconds that were left, and the caller takes the answer
+abbrev pub answer : List Entry
+answer =
+    by_sched (Some (MailOf 0)) (Answer 0 (Some 5))
+    ∷ by_caller (Some (MailOf 0)) (Take 0 (Some (CancelDone timer (Some 5))))
+    ∷ []
+
+-- both in a row
+abbrev pub answered : List Entry
+answered = asked ++ answer
+
+-- the timer is cancelled then
+abbrev pub RequestIsAnswered : Type 0
+RequestIsAnswered = Legal (small No) answered × (status_of answered ≡ Some Cancelled)
+
+-- the scheduler can't tell another number
+abbrev pub OtherAnswerIsRefused : Type 0
+OtherAnswerIsRefused = Refuses asked (by_sched (Some (MailOf 0)) (Answer 0 (Some 4)))
+
+-- OS system time comes to 10 seconds and leaps back to 5: the time stays, and the offset falls by 5 seconds
+abbrev pub shifted : List Entry
+shifted =
+    by_caller (Some (MailOf 0)) (Watch 0 0 (pos 0))
+    ∷ tick Force (pos 10000000000) (pos 10000000000)
+    ∷ tick Force (pos 5000000000) (pos 10000000000)
+    ∷ record { by = Keeper; with = Some (Caller 0); event = Shift (negsuc 4999999999) Volatile }
+    ∷ []
+
+-- the monitor is told
+abbrev pub told : List Entry
+told = shifted ++ by_caller (Some (MailOf 0)) (Tell 0 (negsuc 4999999999)) ∷ []
+
+-- and told again
+abbrev pub told_twice : List Entry
+told_twice = told ++ by_caller (Some (MailOf 0)) (Tell 0 (negsuc 4999999999)) ∷ []
+
+-- and its message is taken
+abbrev pub taken : List Entry
+taken = told_twice ++ by_caller (Some (MailOf 0)) (Take 0 (Some (Change 0 (negsuc 4999999999)))) ∷ []
+
+-- the messages in the mailbox after a history
+abbrev pub queue_after : List Entry → List Mail
+queue_after h = ((state (small Multi) h).mails 0).queue
+
+-- a monitor of the time offset is told the new one once
+pub record MonitorIsToldOnce : Type 0 where
+  pub legal : Legal (small Multi) taken
+  pub once : queue_after told ≡ Change 0 (negsuc 4999999999) ∷ []
+  pub not_again : queue_after told_twice ≡ queue_after told
+  pub empty : queue_after taken ≡ []

@@ -1,5 +1,6 @@
-use Rattle.ert_defs.proofs.Times.{time_rises, looks}
-use Rattle.ert_defs.proofs.clock_laws.time_never_falls.Goals as goal
+use Rattle.ert_defs.proofs.Times.{time_rises}
+use Rattle.ert_laws.proofs.Looks.{looks}
+use Rattle.ert_laws.proofs.clock_laws.time_never_falls.Goals as goal
 
 pub returns-clause-time : goal.returns-clause-time
 returns-clause-time c = time_rises

@@ -5,7 +5,6 @@ use Rattle.std.proofs.Math.Bool.{or-true}
 use Rattle.std.proofs.lemmas.List.Folds.{list_any-append, Any-from_list_any}
 use Rattle.std.specs.List.{list_any}
 use Rattle.ert_defs.specs.Actors.{has_actor, is_with}
-use Rattle.ert_defs.specs.Laws.{LawOfWaiting}
 use Rattle.ert_defs.specs.Legal.{Can, IsFirst, IsNext, IsWithMail, Legal}
 use Rattle.ert_defs.specs.Mails.{others_of, first_of, sched_after, with_row}
 use Rattle.ert_defs.specs.States.{State, opening, next, state}
@@ -23,6 +22,7 @@ use Rattle.ert_defs.specs.declared.settings.Settings.{Settings}
 use Rattle.ert_defs.specs.declared.timer.Status.{Status}
 use Rattle.ert_defs.specs.declared.timer.Status.TheVariants.{Armed, Expired, Delivered, Cancelled, Orphaned, Dropped}
 use Rattle.ert_defs.specs.declared.timer.TimerRef.{TimerRef}
+use Rattle.ert_laws.specs.Lives.{LawOfWaiting}
 
 -- whether a timer stands in a list of rows
 abbrev pub waits_in : TimerRef → List Row → Bool

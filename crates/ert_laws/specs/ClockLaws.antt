@@ -7,7 +7,7 @@ use Rattle.ert_defs.specs.Clocks.{Ticked, last_mono, last_base}
 use Rattle.ert_defs.specs.Legal.{Legal}
 use Rattle.ert_defs.specs.Lines.{end_time, first_base, is_base, is_due, base_from}
 use Rattle.ert_defs.specs.Milliseconds.{down}
-use Rattle.ert_defs.specs.Permitted.{Permitted}
+use Rattle.ert_laws.specs.Permitted.{Permitted}
 use Rattle.ert_defs.specs.Settings.{IsChecked}
 use Rattle.ert_defs.specs.States.{state}
 use Rattle.ert_defs.specs.Timers.{Row}

@@ -1,6 +1,6 @@
 use Rattle.ert_defs.proofs.FiredLists.{fired_timers, delivery_hits, drop_hits}
-use Rattle.ert_defs.proofs.Waiting.{expired_timers_wait}
-use Rattle.ert_defs.proofs.laws.expired_timers_wait_once.Goals as goal
+use Rattle.ert_laws.proofs.Waiting.{expired_timers_wait}
+use Rattle.ert_laws.proofs.lives.expired_timers_wait_once.Goals as goal
 
 pub returns-clause-lists : goal.returns-clause-lists
 returns-clause-lists c = fired_timers
