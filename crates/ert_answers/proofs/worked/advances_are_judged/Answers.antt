@@ -1,4 +1,4 @@
-use Rattle.std.proofs.Common.{◌≡◌, ℕ, pos, [], ◌∷◌, Some, None, refl, ap, arith}
+use Rattle.std.proofs.Common.{◌≡◌, ℕ, pos, cond, nat_eq, [], ◌∷◌, Some, None, refl, subst}
 use Rattle.ert_answers.proofs.Told.{advances_same}
 use Rattle.ert_answers.specs.WheelCalls.{Try, HasAdvanced}
 use Rattle.ert_answers.specs.Worked.{one, asked, missing}
@@ -26,5 +26,4 @@ returns-clause-missed c = missed
 pub returns-clause-miscounted : goal.returns-clause-miscounted
 returns-clause-miscounted c = λ is.
     let both = advances_same one 0 (state one asked) missing (1, 1) (1, 0) is missed in
-    let counts : 1 ≡ 0 = ap (λ (p : ℕ × ℕ). p.1) both in
-    omega arith
+    subst (λ (p : ℕ × ℕ). cond (nat_eq p.1 1) (Unit {0}) ⊥) both tt
