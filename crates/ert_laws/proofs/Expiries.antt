@@ -9,7 +9,7 @@ use Rattle.ert_defs.specs.Legal.{Can, IsFirst, Legal}
 use Rattle.ert_defs.specs.Mails.{SchedState, first_of, others_of, answer_in, changes_of, sched_after, with_row}
 use Rattle.ert_defs.specs.States.{State, next, state}
 use Rattle.ert_defs.specs.Timers.{Row, row_of}
-use Rattle.ert_defs.proofs.FiredLists.{IsKept, first_has_expired, made}
+use Rattle.ert_defs.proofs.FiredLists.{IsKept, first_has_expired, made, kept_after}
 use Rattle.ert_defs.proofs.FiredTimers.{same_timer_self}
 use Rattle.ert_defs.proofs.Runs.{carry}
 use Rattle.ert_defs.specs.declared.entry.Actor.{Actor}
@@ -22,7 +22,7 @@ use Rattle.ert_defs.specs.declared.settings.Settings.{Settings}
 use Rattle.ert_defs.specs.declared.timer.Status.TheVariants.{Expired, Delivered, Dropped}
 use Rattle.ert_defs.specs.declared.timer.TimerRef.{TimerRef}
 use Rattle.ert_laws.specs.MailOrder.{Sent, sent_by_row, sent_by_none, sent_at, sent_to, expired_in, expired_of, is_delivered, is_handed_over, is_from, is_delivered_to, LawOfTurns, LawOfOrder}
-use Rattle.ert_laws.proofs.Histories.{by_entries, kept_after, state-more, gathered-more}
+use Rattle.ert_laws.proofs.Histories.{by_entries, state-more, gathered-more}
 use Rattle.ert_laws.proofs.Mailboxes.{mail_has, first_row}
 use Rattle.ert_laws.proofs.Handing.{HandsOver, none_pass, none_handed, one_handed}
 
