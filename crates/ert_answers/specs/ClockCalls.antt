@@ -1,0 +1,89 @@
+-- What the calls on the clock record and answer (`erlang` module reference, `monotonic_time`, `time_offset`,
+-- `system_time`, `system_flag`).
+
+use Rattle.std.specs.Prelude.{◌≡◌, ℕ, ℤ, ◌+ℤ◌, Bool, List, [], ◌∷◌, None, Result, Ok, Err}
+use Rattle.ert_clock.specs.Ticks.{act_of, keeper_entry, tick_entries, offset_of, IsWide}
+use Rattle.ert_clock.specs.declared.clock.ClockErr.{ClockErr}
+use Rattle.ert_clock.specs.declared.clock.ClockErr.TheVariants.{BadReading, OffsetWide}
+use Rattle.ert_clock.specs.declared.clock.Moved.{Moved}
+use Rattle.ert_defs.specs.Clocks.{face}
+use Rattle.ert_defs.specs.Entries.{look_entry, off_entry}
+use Rattle.ert_defs.specs.Lines.{MayAct, time_after, due_after}
+use Rattle.ert_defs.specs.Readings.{IsValid}
+use Rattle.ert_defs.specs.States.{State}
+use Rattle.ert_defs.specs.declared.entry.Act.{Act}
+use Rattle.ert_defs.specs.declared.entry.Act.TheVariants.{Finalize}
+use Rattle.ert_defs.specs.declared.entry.Actor.{Actor}
+use Rattle.ert_defs.specs.declared.entry.Entry.{Entry}
+use Rattle.ert_defs.specs.declared.entry.Event.TheVariants.{Off}
+use Rattle.ert_defs.specs.declared.settings.OffsetState.{OffsetState}
+use Rattle.ert_defs.specs.declared.settings.OffsetState.TheVariants.{Preliminary, Final, Volatile}
+use Rattle.ert_defs.specs.declared.settings.Reading.{Reading}
+use Rattle.ert_defs.specs.declared.settings.Settings.{Settings}
+
+-- a tick moves the clock: its own entry, and that of the shift where it made one due; the answer is the time
+-- of the one and the offset of the other
+pub record Moves (g : Settings) (by : ℕ) (r : Reading) (act : Act) (m : Moved) (s : State) (es : List Entry) : Type 0 where
+  pub shift : m.shift ≡ offset_of (due_after g (face g s.clock) r act m.now)
+  pub entries : es ≡ tick_entries by r act m.now m.shift
+
+-- the reading isn't valid, and no entry is made
+pub record IsBadReading (r : Reading) (es : List Entry) : Type 0 where
+  pub invalid : IsValid r → ⊥
+  pub none : es ≡ []
+
+-- the shift that would be due has this offset, outside its limits, and no entry is made
+pub record IsTooWide (g : Settings) (r : Reading) (act : Act) (value : ℤ) (s : State) (es : List Entry) : Type 0 where
+  pub valid : IsValid r
+  pub may : MayAct act s.clock.state
+  pub wide : IsWide (due_after g (face g s.clock) r act (time_after g (face g s.clock) r)) value
+  pub none : es ≡ []
+
+-- an act is refused
+abbrev pub RefusesTick : Settings → Reading → Act → ClockErr → State → List Entry → Type 0
+RefusesTick g r act BadReading s es = IsBadReading r es
+RefusesTick g r act (OffsetWide value) s es = IsTooWide g r act value s es
+
+-- a reading is taken for one of the three acts
+abbrev pub Acts : Settings → ℕ → Reading → Act → Result Moved ClockErr → State → List Entry → Type 0
+Acts g by r act (Ok m) s es = Moves g by r act m s es
+Acts g by r act (Err e) s es = RefusesTick g r act e s es
+
+-- `tick`, for a caller, forced or not
+abbrev pub Ticks : Settings → ℕ → Reading → Bool → Result Moved ClockErr → State → List Entry → Type 0
+Ticks g by r force answer s es = Acts g by r (act_of force) answer s es
+
+-- a finalization finds nothing preliminary: the clock's part looks at the offset, and nothing moves
+pub record Stays (by : ℕ) (r : Reading) (old : OffsetState) (m : Moved) (s : State) (es : List Entry) : Type 0 where
+  pub offset : ℤ
+  pub valid : IsValid r
+  pub time : m.now ≡ s.clock.now
+  pub unmoved : m.shift ≡ None
+  pub entries : es ≡ keeper_entry by (Off offset old) ∷ []
+
+-- a finalization by the state before it
+abbrev pub FinalizesFrom : OffsetState → Settings → ℕ → Reading → Moved → State → List Entry → Type 0
+FinalizesFrom Preliminary g by r m s es = Moves g by r Finalize m s es
+FinalizesFrom Final g by r m s es = Stays by r Final m s es
+FinalizesFrom Volatile g by r m s es = Stays by r Volatile m s es
+
+-- `finalize`, for a caller: the answer has the state before it
+abbrev pub Finalizes : Settings → ℕ → Reading → Result (OffsetState × Moved) ClockErr → State → List Entry → Type 0
+Finalizes g by r (Ok p) s es = (p.0 ≡ s.clock.state) × FinalizesFrom p.0 g by r p.1 s es
+Finalizes g by r (Err e) s es = RefusesTick g r Finalize e s es
+
+-- `monotonic_time`: a look, whose time is the answer
+abbrev pub TellsTime : Settings → Actor → ℤ → State → List Entry → Type 0
+TellsTime g by answer s es = es ≡ look_entry by answer ∷ []
+
+-- `time_offset`: the offset and its state are the answer
+abbrev pub TellsOffset : Settings → Actor → ℤ × OffsetState → State → List Entry → Type 0
+TellsOffset g by answer s es = es ≡ off_entry by answer.0 answer.1 ∷ []
+
+-- `system_time`: a look, and then the offset; the answer is the sum
+pub record TellsSystemTime (g : Settings) (by : Actor) (answer : ℤ) (s : State) (es : List Entry) : Type 0 where
+  pub now : ℤ
+  pub offset : ℤ
+  pub offset_state : OffsetState
+  pub sum : answer ≡ now +ℤ offset
+  pub entries : es ≡ look_entry by now ∷ (off_entry by offset offset_state ∷ [])
