@@ -18,3 +18,4 @@ pub mod SettleActs
 pub mod ReadActs
 pub mod ArmActs
 pub mod Calls
+pub mod Makings
