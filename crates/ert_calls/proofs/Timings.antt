@@ -18,7 +18,7 @@ use Rattle.ert_defs.specs.declared.timer.Status.TheVariants.{Armed, Expired, Del
 use Rattle.ert_defs.specs.declared.timer.TimerRef.{TimerRef}
 use Rattle.ert_table.specs.Held.{is_held}
 use Rattle.ert_table.specs.Settlings.{Settles}
-use Rattle.ert_table.specs.Making.{Makes}
+use Rattle.ert_table.specs.Calls.{IsMade}
 use Rattle.ert_table.specs.Takes.{Appends, TakesPlace}
 use Rattle.ert_table.specs.declared.carry.Settle.TheVariants.{Cancel as ToCancel}
 use Rattle.ert_table.specs.declared.view.View.{View}
@@ -92,7 +92,7 @@ looked g v by now u held step = record {
 
 -- a call made its entries, and its answer tells what was left
 pub record Tells (g : Settings) (v : View) (by : Actor) (timer : TimerRef) (answer : Option ℕ) (allows : State → List Entry → Type 0) (w : View) : Type 0 where
-  pub call : Makes g v allows w
+  pub call : IsMade g v allows w
   pub left : TellsLeft (names_timer g timer) g by timer answer w
 
 -- a read of a reference out of range

@@ -19,3 +19,4 @@ pub mod ReadActs
 pub mod ArmActs
 pub mod Calls
 pub mod Makings
+pub mod Parts

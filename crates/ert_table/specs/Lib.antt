@@ -1,9 +1,9 @@
 pub mod Acts
+pub mod Calls
 pub mod Desks
 pub mod Entries
 pub mod Held
 pub mod Laws
-pub mod Making
 pub mod Openings
 pub mod Places
 pub mod Rule
