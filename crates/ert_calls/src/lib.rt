@@ -24,8 +24,6 @@
 
 mod clock_calls;
 mod process_calls;
-#[cfg(test)]
-mod tests;
 mod timer_calls;
 
 pub use clock_calls::{look, monotonic_time, system_time, time_offset};

@@ -73,8 +73,6 @@ mod passes;
 mod places;
 mod plays;
 mod process_steps;
-#[cfg(test)]
-mod tests;
 mod timer_steps;
 mod view;
 

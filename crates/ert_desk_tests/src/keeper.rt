@@ -1,9 +1,9 @@
 ghost use Rattle.std.specs.Prelude.{◌≡◌};
-ghost use Rattle.ert_keeper.specs.Trial.{IsReady};
+ghost use Rattle.ert_desk_tests.specs.KeeperTrial.{IsReady};
 
-use super::*;
 use ert_clock::{ClockErr, Moved};
 use ert_defs::{Mode, NoMemory, OffsetState, Reading, Settings};
+use ert_keeper::KeeperPart;
 use ert_table::{Desk, Pass, Words};
 use std::alloc::Global;
 use std::process::Abort;

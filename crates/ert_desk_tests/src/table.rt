@@ -1,13 +1,13 @@
 ghost use Rattle.std.specs.Prelude.{◌≡◌, ◌<◌, ◌++◌, true, []};
 ghost use Rattle.ert_table.specs.Desks.{settings_of, actors_of, Belongs, KnowsAll};
 ghost use Rattle.ert_table.specs.Held.{is_held, IsWhole};
-ghost use Rattle.ert_table.specs.Trial.{trial_settings, finalized, started};
+ghost use Rattle.ert_desk_tests.specs.TableTrial.{trial_settings, finalized, started};
 ghost use Rattle.ert_defs.specs.declared.entry.Actor.TheVariants.{Caller};
 
-use super::*;
 use ert_defs::{
     Act, Actor, Kind, Mode, NoMemory, OffsetState, Reading, Settings, Start, Status, TimerRef, When,
 };
+use ert_table::{Desk, OffsetCarry, Pass, Settle, TimeCarry, TimerCarry};
 use std::thread::join;
 
 const SETTINGS: Settings = Settings {

@@ -10,10 +10,10 @@ use Rattle.ert_defs.specs.declared.settings.Settings.{Settings}
 use Rattle.ert_table.specs.Entries.{entry_by, tick_entry, shift_entry}
 use Rattle.ert_table.specs.Held.{IsWhole}
 use Rattle.ert_table.specs.Takes.{MayStep}
-use Rattle.ert_table.specs.Trial.{trial_settings, reading_at}
+use Rattle.ert_desk_tests.specs.TableTrial.{trial_settings, reading_at}
 use Rattle.ert_table.proofs.Calls.{whole_step}
 use Rattle.ert_table.specs.declared.view.View.{View}
-use Rattle.ert_table.proofs.tests.finalize.Goals as goal
+use Rattle.ert_desk_tests.proofs.table.finalize.Goals as goal
 
 -- the history after a look at a time, and after the second tick
 abbrev looked : ℤ → List Entry

@@ -3,9 +3,9 @@ use Rattle.ert_defs.specs.States.{state}
 use Rattle.ert_defs.specs.declared.settings.Settings.{Settings}
 use Rattle.ert_defs.specs.declared.entry.Entry.{Entry}
 use Rattle.ert_table.specs.Settlings.{HasRow}
-use Rattle.ert_table.specs.Trial.{trial_settings, trial_timer, finalized, started}
+use Rattle.ert_desk_tests.specs.TableTrial.{trial_settings, trial_timer, finalized, started}
 use Rattle.ert_table.proofs.Calls.{whole_step}
-use Rattle.ert_table.proofs.tests.start_and_cancel.Goals as goal
+use Rattle.ert_desk_tests.proofs.table.start_and_cancel.Goals as goal
 
 has_row : (g : Settings) (front : List Entry) → g ≡ trial_settings → front ≡ started → HasRow (state g front) trial_timer 6
 has_row g front same is =

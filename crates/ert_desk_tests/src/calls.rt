@@ -3,9 +3,11 @@ ghost use Rattle.std.specs.Prelude.{◌≡◌, true, []};
 ghost use Rattle.ert_defs.specs.declared.entry.Actor.TheVariants.{Caller};
 ghost use Rattle.ert_table.specs.Desks.{settings_of, actors_of, Belongs, KnowsAll};
 ghost use Rattle.ert_table.specs.Held.{is_held};
-ghost use Rattle.ert_calls.specs.Trial.{trial_settings, started};
+ghost use Rattle.ert_desk_tests.specs.CallsTrial.{trial_settings, started};
 
-use super::*;
+use ert_calls::{
+    cancel_timer, is_alive, mark_exit, monotonic_time, read_timer, system_time, time_offset,
+};
 use ert_defs::{
     Act, Actor, Kind, Mode, NoMemory, OffsetState, Reading, Settings, Start, TimerRef, When,
 };

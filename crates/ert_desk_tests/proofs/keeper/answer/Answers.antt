@@ -1,5 +1,5 @@
-use Rattle.ert_keeper.proofs.Trials.{ready_reads}
-use Rattle.ert_keeper.proofs.tests.answer.Goals as goal
+use Rattle.ert_desk_tests.proofs.KeeperTrials.{ready_reads}
+use Rattle.ert_desk_tests.proofs.keeper.answer.Goals as goal
 
 pub finalize-requires-clause-least : goal.finalize-requires-clause-least
 finalize-requires-clause-least c =

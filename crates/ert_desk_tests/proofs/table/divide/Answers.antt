@@ -1,9 +1,9 @@
 use Rattle.std.proofs.Common.{◌≡◌, true, ◌++◌, subst, subst₂, sym, refl, lit<}
 use Rattle.ert_defs.specs.declared.entry.Actor.TheVariants.{Caller}
 use Rattle.ert_table.specs.Held.{is_held, IsWhole}
-use Rattle.ert_table.specs.Trial.{trial_settings}
+use Rattle.ert_desk_tests.specs.TableTrial.{trial_settings}
 use Rattle.ert_table.proofs.Holders.{held_but_other, whole_divided}
-use Rattle.ert_table.proofs.tests.divide.Goals as goal
+use Rattle.ert_desk_tests.proofs.table.divide.Goals as goal
 
 pub split-requires-clause-held : goal.split-requires-clause-held
 split-requires-clause-held c = c.requires.whole (Caller 1) (lit< tt)

@@ -11,7 +11,7 @@ use Rattle.ert_table.specs.Held.{is_held, least_caller}
 use Rattle.ert_table.specs.declared.desk.Desk.{Desk}
 use Rattle.ert_table.specs.declared.desk.Pass.{Pass}
 use Rattle.ert_keeper.specs.Published.{ReadsBy}
-use Rattle.ert_keeper.specs.Trial.{IsReady}
+use Rattle.ert_desk_tests.specs.KeeperTrial.{IsReady}
 
 -- it is the least that a pass holds
 least_first : (actors : List Actor) (n : ℕ) → is_held actors (Caller 0) ≡ true → least_caller actors (suc n) ≡ Some 0
