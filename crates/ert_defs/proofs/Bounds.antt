@@ -23,13 +23,18 @@ abbrev pub time_with : Bool → Face → Reading → ℤ
 time_with c f r = cond c (line_time f.base (mono_after f r)) (int_max f.time (r.sys -ℤ f.offset))
 
 -- each rate that follows a base is at most one percent
-pub one_rate : (b c : Bool) → IsRate (cond b (pos 10000) (cond c (negsuc 9999) (pos 0)))
-one_rate true c = omega (arith, ints)
-one_rate false true = omega (arith, ints)
-one_rate false false = omega (arith, ints)
+pub one_rate : (a b c d : Bool)
+    → IsRate (cond a (pos 10000) (cond b (pos 500) (cond c (negsuc 9999) (cond d (negsuc 499) (pos 0)))))
+one_rate true b c d = omega (arith, ints)
+one_rate false true c d = omega (arith, ints)
+one_rate false false true d = omega (arith, ints)
+one_rate false false false true = omega (arith, ints)
+one_rate false false false false = omega (arith, ints)
 
 pub rate_is : (state : OffsetState) (error : ℤ) → IsRate (rate_of state error)
-rate_is Final error = one_rate (int_lt (pos 1000000) error) (int_lt error (negsuc 999999))
+rate_is Final error =
+    one_rate (int_lt (pos 100000000) error) (int_lt (pos 1000000) error)
+    (int_lt error (negsuc 99999999)) (int_lt error (negsuc 999999))
 rate_is Preliminary error = omega (arith, ints)
 rate_is Volatile error = omega (arith, ints)
 

@@ -177,7 +177,8 @@ fired_opening g = record {
 pub fired_timers : LawOfFired
 fired_timers g h w legal = (kept_from g IsKept (fired_next g) (opening g) h (fired_opening g) legal).fired w
 
-first_at : (P : Row → Type 0) (rows : List Row) (row : Row) → first_of rows ≡ Some row → All P rows → P row
+-- what holds of each row holds of the first
+pub first_at : (P : Row → Type 0) (rows : List Row) (row : Row) → first_of rows ≡ Some row → All P rows → P row
 first_at P [] row is h = absurd cc
 first_at P (r ∷ rows) row is h = let same : r ≡ row = cc in subst P same (All-head P r rows h)
 

@@ -86,9 +86,15 @@ is_base Plain due = due
 is_base Force due = true
 is_base Finalize due = true
 
--- the rate that follows a check, where OS system time is so far above system time
+-- the rate that follows a check, where OS system time is so far above system time (ERTS User's Guide, "Time
+-- Correction"; the two strengths are the profile's): one percent past 100 ms, 500 parts per million past
+-- 1 ms, in either direction
 abbrev pub rate_of : OffsetState → ℤ → ℤ
-rate_of Final error = cond (int_lt (pos 1000000) error) (pos 10000) (cond (int_lt error (negsuc 999999)) (negsuc 9999) (pos 0))
+rate_of Final error =
+    cond (int_lt (pos 100000000) error) (pos 10000)
+    (cond (int_lt (pos 1000000) error) (pos 500)
+    (cond (int_lt error (negsuc 99999999)) (negsuc 9999)
+    (cond (int_lt error (negsuc 999999)) (negsuc 499) (pos 0))))
 rate_of Preliminary error = pos 0
 rate_of Volatile error = pos 0
 

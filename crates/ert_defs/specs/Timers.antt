@@ -1,7 +1,7 @@
 -- The timers of a history: a row for each, in order of arming, and the status of each reference
 -- (`erlang` module reference, `start_timer`, `cancel_timer` and `read_timer`).
 
-use Rattle.std.specs.Prelude.{ℕ, ℤ, Bool, true, false, cond, ◌&&◌, nat_eq, List, [], ◌∷◌, ◌++◌, Option, Some, None}
+use Rattle.std.specs.Prelude.{◌≡◌, ℕ, ℤ, Bool, true, false, cond, ◌&&◌, nat_eq, List, [], ◌∷◌, ◌++◌, Option, Some, None}
 use Rattle.ert_defs.specs.Milliseconds.{deadline_of}
 use Rattle.ert_defs.specs.declared.entry.Event.{Event}
 use Rattle.ert_defs.specs.declared.entry.Event.TheVariants.{Arm, Cancel, Expire, Orphan, Deliver, Drop}
@@ -41,6 +41,11 @@ last_after w k last _ = last
 abbrev pub row_of : List Row → TimerRef → Option Row
 row_of [] timer = None
 row_of (r ∷ rows) timer = cond (same_timer r.timer timer) (Some r) (row_of rows timer)
+
+-- a reference has a row among these
+pub record Stands (rows : List Row) (r : TimerRef) : Type 0 where
+  pub row : Row
+  pub is : row_of rows r ≡ Some row
 
 -- settling: only an armed timer moves
 abbrev pub settled_as : Status → Option Status → Option Status

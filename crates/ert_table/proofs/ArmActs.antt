@@ -8,6 +8,7 @@ use Rattle.ert_defs.specs.States.{State, next, state}
 use Rattle.ert_defs.specs.Timers.{Row, row_from, row_of, same_timer, timer_at}
 use Rattle.ert_defs.specs.Words.{timer_word, slot_word, word_of_slot}
 use Rattle.ert_defs.proofs.FiredTimers.{row_named, same_timer_self}
+use Rattle.ert_defs.proofs.Standing.{of_row}
 use Rattle.ert_defs.proofs.Rows.{IsRow, rows_hold}
 use Rattle.ert_defs.proofs.Runs.{look_stays, last_stays}
 use Rattle.ert_defs.proofs.Slots.{same_timer-true}
@@ -24,7 +25,7 @@ use Rattle.ert_table.specs.Places.{slot_place}
 use Rattle.ert_table.specs.Settlings.{arm_entry}
 use Rattle.ert_table.specs.Takes.{MayStep}
 use Rattle.ert_table.proofs.Holders.{tells}
-use Rattle.ert_table.proofs.SlotFacts.{of_row, deadline_high}
+use Rattle.ert_table.proofs.SlotFacts.{deadline_high}
 use Rattle.ert_table.proofs.TimerActs.{later_state, other_timer}
 use Rattle.ert_table.proofs.WordPlaces.{word_of-slot}
 use Rattle.ert_table.proofs.WordSteps.{cond_same, word_same}

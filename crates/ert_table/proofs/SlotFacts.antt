@@ -1,10 +1,10 @@
 -- What holds of the slots after each legal history, and what their words tell.
 
-use Rattle.std.proofs.Common.{◌≡◌, ◌≢◌, ◌⊎◌, inl, inr, ⊎_elim, ℕ, ℤ, pos, negsuc, ◌+ℤ◌, ◌-ℤ◌, zero, ◌+◌, ◌*◌, ◌/◌, ◌%◌, ◌<◌, ◌≤◌, Bool, true, false, cond, ◌&&◌, nat_eq, nat_le, List, [], ◌∷◌, ◌++◌, All, Option, Some, None, refl, sym, ap, subst, ◌∙◌, arith, append-nil, eq-eqb}
+use Rattle.std.proofs.Common.{◌≡◌, ◌≢◌, ◌⊎◌, inl, inr, ⊎_elim, ℕ, ℤ, pos, negsuc, ◌+ℤ◌, ◌-ℤ◌, zero, ◌+◌, ◌*◌, ◌/◌, ◌%◌, ◌<◌, ◌≤◌, Bool, true, false, cond, ◌&&◌, nat_eq, nat_le, List, [], ◌∷◌, ◌++◌, All, Option, Some, None, refl, sym, ap, subst, ◌∙◌, arith, append-nil}
 use Rattle.std.proofs.Props.{props}
-use Rattle.std.proofs.lemmas.Bool.{and_parts, cases_order}
+use Rattle.std.proofs.lemmas.Bool.{cases_order}
 use Rattle.std.proofs.lemmas.Bool.Decides.{nat_tests}
-use Rattle.std.proofs.lemmas.List.Elements.{All-nil, All-push, All-head, All-tail}
+use Rattle.std.proofs.lemmas.List.Elements.{All-nil, All-push}
 use Rattle.std.specs.Int.{int_div_euclid}
 use Rattle.ert_defs.specs.Actors.{has_actor}
 use Rattle.ert_defs.specs.Laws.{AreInOrder}
@@ -13,11 +13,11 @@ use Rattle.ert_defs.specs.Milliseconds.{up, deadline_at, deadline_when, deadline
 use Rattle.ert_defs.specs.States.{State, opening, next, state}
 use Rattle.ert_defs.specs.Timers.{Row, row_from, rows_after, last_after, row_of, same_timer, status_after, is_taken, timer_at}
 use Rattle.ert_defs.specs.Words.{status_code, timer_word, slot_word, word_of_slot}
-use Rattle.ert_defs.proofs.FiredTimers.{row_kept, row_named, same_timer_self}
+use Rattle.ert_defs.proofs.FiredTimers.{row_named}
 use Rattle.ert_defs.proofs.Rows.{IsRow, rows_hold}
 use Rattle.ert_defs.proofs.Runs.{kept_from}
-use Rattle.ert_defs.proofs.Slots.{ordered, same_timer-true}
-use Rattle.ert_defs.proofs.Statuses.{Forward, arms, forward_after}
+use Rattle.ert_defs.proofs.Slots.{ordered}
+use Rattle.ert_defs.proofs.Standing.{AllStand, all_stand, of_row}
 use Rattle.ert_defs.specs.declared.entry.Actor.{Actor}
 use Rattle.ert_defs.specs.declared.entry.Actor.TheVariants.{Wheel}
 use Rattle.ert_defs.specs.declared.entry.Entry.{Entry}
@@ -105,76 +105,6 @@ deadlines_next g s e fits can w =
     cond_all (has_actor e (Wheel w)) (rows_after g (s.looked e.by) w (s.rows w) e.event) (s.rows w)
     (rows_event g (s.looked e.by) w (s.rows w) e.event (fits w)) (fits w)
 
--- a timer has a row among these
-pub record Stands (rows : List Row) (r : TimerRef) : Type 0 where
-  pub row : Row
-  pub is : row_of rows r ≡ Some row
-
--- each timer that was ever armed has a row
-abbrev pub AllStand : State → Type 0
-AllStand s = (r : TimerRef) → s.status r ≢ None → Stands (s.rows r.wheel) r
-
--- the row of a reference is among rows with one for it at their end
-first_or : (b : Bool) (x : Row) (o : Option Row) → ((y : Row) × (o ≡ Some y)) → (y : Row) × (cond b (Some x) o ≡ Some y)
-first_or true x o found = (x, refl)
-first_or false x o found = found
-
-stands_last : (rows : List Row) (row : Row) → Stands (rows ++ row ∷ []) row.timer
-stands_last [] row = record { row = row; is = rw (same_timer_self row.timer) refl }
-stands_last (x ∷ rows) row =
-    let more = stands_last rows row in
-    let found = first_or (same_timer x.timer row.timer) x (row_of (rows ++ row ∷ []) row.timer) (more.row, more.is) in
-    record { row = found.0; is = found.1 }
-
--- a timer that is armed has a row
-stands_from : (rows : List Row) (timer : TimerRef) (start : Start) (deadline : Option ℕ) → deadline ≢ None
-    → Stands (rows ++ row_from timer start deadline) timer
-stands_from rows timer start None some_deadline = absurd (some_deadline refl)
-stands_from rows timer start (Some d) some_deadline =
-    stands_last rows (record { timer = timer; deadline = d; dest = start.dest; msg = start.msg; kind = start.kind })
-
-stands_armed : (g : Settings) (look : ℤ) (rows : List Row) (timer : TimerRef) (start : Start) → deadline_of g start look ≢ None
-    → Stands (cond true (rows_after g look timer.wheel rows (Arm timer start)) rows) timer
-stands_armed g look rows timer start due =
-    rw (eq-eqb timer.wheel timer.wheel refl) (stands_from rows timer start (deadline_of g start look) due)
-
--- one that isn't keeps its row
-stands_kept : (g : Settings) (look : ℤ) (rows : List Row) (r : TimerRef) (b : Bool) (event : Event) → Stands rows r
-    → Stands (cond b (rows_after g look r.wheel rows event) rows) r
-stands_kept g look rows r b event stands = record {
-  row = stands.row;
-  is = row_kept g look r.wheel rows stands.row r b event stands.is;
-}
-
-stands_quiet : (g : Settings) (s : State) (look : ℤ) (r : TimerRef) (b : Bool) (event : Event) → (b && arms event r) ≡ false
-    → (s.status r ≢ None → Stands (s.rows r.wheel) r)
-    → status_after r b (s.status r) event ≢ None → Stands (cond b (rows_after g look r.wheel (s.rows r.wheel) event) (s.rows r.wheel)) r
-stands_quiet g s look r b event none stand used =
-    stands_kept g look (s.rows r.wheel) r b event
-    (stand (λ is. used (subst (λ x. Forward x (status_after r b (s.status r) event)) is (forward_after r b (s.status r) event none))))
-
-no_and : (b : Bool) → (b && false) ≡ true → ⊥
-no_and true h = cc
-no_and false h = cc
-
-stands_event : (g : Settings) (s : State) (by : Actor) (with : Option Actor) (r : TimerRef) (b armed : Bool) (event : Event) → Known g s by with event
-    → (b && arms event r) ≡ armed → (s.status r ≢ None → Stands (s.rows r.wheel) r)
-    → status_after r b (s.status r) event ≢ None
-    → Stands (cond b (rows_after g (s.looked by) r.wheel (s.rows r.wheel) event) (s.rows r.wheel)) r
-stands_event g s by with r b false event known is stand used = stands_quiet g s (s.looked by) r b event is stand used
-stands_event g s by with r b true (Arm timer start) known is stand used =
-    let parts = and_parts b (same_timer timer r) is in
-    let same : timer ≡ r = same_timer-true timer r parts.1 in
-    let own : Stands (cond true (rows_after g (s.looked by) timer.wheel (s.rows timer.wheel) (Arm timer start)) (s.rows timer.wheel)) timer =
-    stands_armed g (s.looked by) (s.rows timer.wheel) timer start known.due in
-    let P : TimerRef → Bool → Type 0 = λ t c. Stands (cond c (rows_after g (s.looked by) t.wheel (s.rows t.wheel) (Arm timer start)) (s.rows t.wheel)) t in
-    subst (λ c. P r c) (sym parts.0) (subst (λ t. P t true) same own)
-stands_event g s by with r b true _ known is stand used = absurd (no_and b is)
-
-stands_next : (g : Settings) (s : State) (e : Entry) → AllStand s → Can g s e → AllStand (next g s e)
-stands_next g s e stand can r used =
-    stands_event g s e.by e.with r (has_actor e (Wheel r.wheel)) (has_actor e (Wheel r.wheel) && arms e.event r) e.event can.known refl (stand r) used
-
 -- what is kept of the slots
 pub record KeepsSlots (s : State) : Type 0 where
   pub ordered : (w k : ℕ) → AreInOrder (λ n. s.status (timer_at w k n)) (s.last w k)
@@ -187,7 +117,7 @@ slots_kept g h legal = record {
   ordered = ordered g h legal;
   lasts = kept_from g LastsFit (lasts_next g) (opening g) h (λ w k. omega arith) legal;
   deadlines = kept_from g DeadlinesFit (deadlines_next g) (opening g) h (λ w. All-nil IsSoon) legal;
-  stand = kept_from g AllStand (stands_next g) (opening g) h (λ r used. absurd (used refl)) legal;
+  stand = all_stand g h legal;
 }
 
 code_low : (status : Status) → 1 ≤ status_code status
@@ -259,15 +189,6 @@ pub record IsUsed (s : State) (w k n : ℕ) : Type 0 where
   pub row_is : row_of (s.rows w) (timer_at w k (s.last w k)) ≡ Some row
   pub word : n ≡ timer_word status row.deadline (s.last w k)
   pub in_range : IsTimer row.deadline (s.last w k)
-
--- what is so of all rows is so of the row of a reference
-pub of_row : (P : Row → Type 0) (rows : List Row) (r : TimerRef) (row : Row) → All P rows → row_of rows r ≡ Some row → P row
-of_row P [] r row fits is = absurd cc
-of_row P (x ∷ rows) r row fits is = at (same_timer x.timer r) (of_row P rows r row (All-tail P x rows fits)) is
-  where
-    at : (b : Bool) → (row_of rows r ≡ Some row → P row) → cond b (Some x) (row_of rows r) ≡ Some row → P row
-    at true more h = let same : x ≡ row = cc in subst P same (All-head P x rows fits)
-    at false more h = more h
 
 pub row_soon : (s : State) (r : TimerRef) (row : Row) → KeepsSlots s → row_of (s.rows r.wheel) r ≡ Some row → row.deadline ≤ 8796093022207
 row_soon s r row kept is = of_row IsSoon (s.rows r.wheel) r row (kept.deadlines r.wheel) is
