@@ -1,5 +1,6 @@
 pub mod Calls
 pub mod Labels
+pub mod Laws
 pub mod Lines
 pub mod Pieces
 pub mod Plain

@@ -7,10 +7,12 @@
 //! the timer's label. The text of every script run is the one that it computes (`one_transcript`).
 #![tactic(auto)]
 
+mod laws;
 mod op;
 mod reply;
 mod worked;
 
+pub use laws::one_transcript;
 pub use op::Op;
 pub use reply::Reply;
 pub use worked::transcripts_are_judged;
