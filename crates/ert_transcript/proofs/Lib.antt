@@ -6,3 +6,4 @@ pub mod Meets
 pub mod Readings
 pub mod Shown
 pub mod Steps
+pub mod Taken

@@ -19,10 +19,14 @@ use Rattle.ert_transcript.specs.Pieces.{Piece}
 use Rattle.ert_transcript.specs.declared.reply.Reply.{Reply}
 use Rattle.ert_transcript.specs.declared.reply.Reply.TheVariants.{StartOk, StartBadArg, StartFull, SendAfterOk, SendAfterBadArg, SendAfterFull, Read}
 
--- how many of these rows take a slot: those that are armed, and those that have expired and aren't handed over
+-- how many of these rows have a status that passes a test
+abbrev pub count_of : (Option Status → Bool) → (TimerRef → Option Status) → List Row → ℕ
+count_of test status [] = 0
+count_of test status (r ∷ rows) = cond (test (status r.timer)) 1 0 + count_of test status rows
+
+-- how many take a slot: those that are armed, and those that have expired and aren't handed over
 abbrev pub taken_of : (TimerRef → Option Status) → List Row → ℕ
-taken_of status [] = 0
-taken_of status (r ∷ rows) = cond (is_taken (status r.timer)) 1 0 + taken_of status rows
+taken_of status rows = count_of is_taken status rows
 
 -- the replies to a start of each kind
 abbrev pub started : Kind → TimerRef → Reply
