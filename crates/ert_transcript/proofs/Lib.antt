@@ -1,3 +1,4 @@
+pub mod Arms
 pub mod Bound
 pub mod Cancels
 pub mod Clocks
