@@ -132,7 +132,7 @@ used_bound : (last : ℕ → ℕ → ℕ) (ls : Labels) (l : ℕ) (t : TimerRef)
 used_bound last [] l t h used = (used, tt)
 used_bound last (p ∷ ps) l t h used = (h.0, used_bound last ps l t h.1 used)
 
-own_last : (g : Settings) (s : State) (t : TimerRef) (start : Start) → (next g s (arm_entry 0 t start)).last t.wheel t.slot ≡ t.generation
+pub own_last : (g : Settings) (s : State) (t : TimerRef) (start : Start) → (next g s (arm_entry 0 t start)).last t.wheel t.slot ≡ t.generation
 own_last g s t start =
     ap (λ (b : Bool). cond b (cond (b && nat_eq t.slot t.slot) t.generation (s.last t.wheel t.slot)) (s.last t.wheel t.slot)) (eq-eqb t.wheel t.wheel refl)
     ∙ ap (λ (b : Bool). cond b t.generation (s.last t.wheel t.slot)) (eq-eqb t.slot t.slot refl)

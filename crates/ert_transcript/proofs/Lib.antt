@@ -5,6 +5,8 @@ pub mod Clocks
 pub mod Mailing
 pub mod Meets
 pub mod Readings
+pub mod Refusals
 pub mod Shown
+pub mod Starts
 pub mod Steps
 pub mod Taken

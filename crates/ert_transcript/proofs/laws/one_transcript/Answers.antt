@@ -1,6 +1,7 @@
 -- What every script run prints.
 
-use Rattle.ert_transcript.proofs.Arms.{meets_armed}
+use Rattle.ert_transcript.proofs.Starts.{start_done}
+use Rattle.ert_transcript.proofs.Refusals.{full_done}
 use Rattle.ert_transcript.proofs.laws.one_transcript.Goals as goal
 
 pub returns : goal.returns
