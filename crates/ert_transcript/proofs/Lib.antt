@@ -2,6 +2,7 @@ pub mod Arms
 pub mod Bound
 pub mod Cancels
 pub mod Clocks
+pub mod Due
 pub mod Mailing
 pub mod Meets
 pub mod Readings
