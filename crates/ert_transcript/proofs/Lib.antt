@@ -1,3 +1,4 @@
+pub mod Advances
 pub mod Arms
 pub mod Bound
 pub mod Cancels
