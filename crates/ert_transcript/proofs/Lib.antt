@@ -8,6 +8,7 @@ pub mod Mailing
 pub mod Meets
 pub mod Readings
 pub mod Refusals
+pub mod Serves
 pub mod Shown
 pub mod Starts
 pub mod Steps
