@@ -5,6 +5,7 @@ pub mod Cancels
 pub mod Clocks
 pub mod Due
 pub mod Mailing
+pub mod Many
 pub mod Meets
 pub mod Readings
 pub mod Refusals
