@@ -4,6 +4,7 @@ pub mod Bound
 pub mod Cancels
 pub mod Clocks
 pub mod Due
+pub mod Hands
 pub mod Mailing
 pub mod Many
 pub mod Meets
