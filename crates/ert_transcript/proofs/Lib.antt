@@ -14,4 +14,5 @@ pub mod Serves
 pub mod Shown
 pub mod Starts
 pub mod Steps
+pub mod Sweeps
 pub mod Taken
