@@ -2,6 +2,7 @@ pub mod Advances
 pub mod Arms
 pub mod Bound
 pub mod Cancels
+pub mod Chains
 pub mod Clocks
 pub mod Due
 pub mod Hands
