@@ -9,11 +9,13 @@ pub mod Hands
 pub mod Mailing
 pub mod Many
 pub mod Meets
+pub mod OpsDone
 pub mod Readings
 pub mod Refusals
 pub mod Serves
 pub mod Shown
 pub mod Starts
+pub mod StartsAgree
 pub mod Steps
 pub mod Sweeps
 pub mod Taken

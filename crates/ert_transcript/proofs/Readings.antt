@@ -12,11 +12,13 @@ use Rattle.ert_clock.specs.declared.clock.Moved.{Moved}
 use Rattle.ert_defs.specs.Clocks.{Clock}
 use Rattle.ert_defs.specs.Entries.{look_entry, off_entry}
 use Rattle.ert_defs.specs.Legal.{LegalFrom}
+use Rattle.ert_defs.specs.Lines.{end_time}
 use Rattle.ert_defs.specs.States.{State}
 use Rattle.ert_defs.specs.declared.entry.Act.TheVariants.{Finalize as Finalizing}
 use Rattle.ert_defs.specs.declared.entry.Actor.TheVariants.{Keeper, Caller}
 use Rattle.ert_defs.specs.declared.entry.Entry.{Entry}
 use Rattle.ert_defs.specs.declared.entry.Event.TheVariants.{Off}
+use Rattle.ert_defs.specs.declared.settings.Mode.{Mode}
 use Rattle.ert_defs.specs.declared.settings.OffsetState.{OffsetState}
 use Rattle.ert_defs.specs.declared.settings.OffsetState.TheVariants.{Preliminary, Final, Volatile}
 use Rattle.ert_defs.specs.declared.settings.Reading.{Reading}
@@ -24,7 +26,7 @@ use Rattle.ert_defs.specs.declared.settings.Settings.{Settings}
 use Rattle.ert_transcript.proofs.Clocks.{IsDone, done_as, Decides-int_le, decided_not, moves_done, refuses_done}
 use Rattle.ert_transcript.proofs.Meets.{Meets, meets_next}
 use Rattle.ert_transcript.proofs.Steps.{as_look, as_off}
-use Rattle.ert_transcript.specs.Calls.{Converts}
+use Rattle.ert_transcript.specs.Calls.{Converts, TellsSettings}
 use Rattle.ert_transcript.specs.Labels.{Labels, label_of}
 use Rattle.ert_transcript.specs.Lines.{line_of}
 use Rattle.ert_transcript.specs.Pieces.{Piece}
@@ -116,6 +118,19 @@ system_done g n ls s c time es h legal does =
     ∙ ap (λ (x : OffsetState). record { entries = look_entry (Caller 0) does.now ∷ off_entry (Caller 0) does.offset x ∷ []; reply = System (does.now +ℤ does.offset) }) (sym state)
     ∙ ap (λ (x : ℤ). record { entries = look_entry (Caller 0) does.now ∷ off_entry (Caller 0) does.offset does.offset_state ∷ []; reply = System x }) (sym does.sum))
     (record { line = refl; meets = meets_next g n ls (as_off does.offset does.offset_state) (Caller 0) None _ _ look lawful.1.0 })
+
+pub info_done : (g : Settings) (n : ℕ) (ls : Labels) (s c : State) (start end : ℤ) (mode : Mode) (correction : Bool) (offset : ℤ) (state : OffsetState)
+    (es : List Entry) → Meets g n ls s c → LegalFrom g s es → TellsSettings g start end mode correction → es ≡ off_entry (Caller 0) offset state ∷ []
+    → IsDone g n ls s c (Info start end mode correction offset state) es (info_piece g c)
+info_done g n ls s c start end mode correction offset state es h legal told is =
+    let P : ℤ → ℤ → Mode → Bool → Type 0 = λ a b d e.
+    IsDone g n ls s c (Info start end mode correction offset state) es
+    (record { entries = off_entry (Caller 0) c.clock.offset c.clock.state ∷ []; reply = Info a b d e c.clock.offset c.clock.state }) in
+    subst (λ (x : Bool). P g.start (end_time g) g.mode x) told.corrects
+    (subst (λ (x : Mode). P g.start (end_time g) x correction) told.of_mode
+    (subst (λ (x : ℤ). P g.start x mode correction) told.ends
+    (subst (λ (x : ℤ). P x end mode correction) told.starts
+    (offset_done g n ls s c offset state es (Info start end mode correction) h legal is refl))))
 
 -- conversions
 

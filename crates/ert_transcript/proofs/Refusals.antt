@@ -52,16 +52,24 @@ refused_as : (g : Settings) (n : ℕ) (ls : Labels) (l w : ℕ) (start : Start) 
 refused_as g n ls l w start s c now reply time is =
     is ∙ ap (λ (x : ℤ). record { entries = look_entry (Caller 0) x ∷ []; reply = reply }) (sym time)
 
+-- a start that is refused: the plain service answers so, and does the same
+pub record IsRefused (g : Settings) (n : ℕ) (ls : Labels) (l w : ℕ) (start : Start) (s c : State) (reply : Reply) (es : List Entry) : Type 0 where
+  pub replies : (starting g c l w start).reply ≡ reply
+  pub done : IsDone g n ls s c reply es (starting g c l w start)
+
 pub bad_arg_done : (g : Settings) (n : ℕ) (ls : Labels) (l w : ℕ) (start : Start) (s c : State) (es : List Entry) → Meets g n ls s c → LegalFrom g s es
     → IsBadArg g 0 start es → line_of (label_of ls) (bad_arg start.kind) ≡ line_of slot_of (bad_arg start.kind)
-    → IsDone g n ls s c (bad_arg start.kind) es (starting g c l w start)
+    → IsRefused g n ls l w start s c (bad_arg start.kind) es
 bad_arg_done g n ls l w start s c es h legal does plain =
     let lawful = subst (λ (x : List Entry). LegalFrom g s x) does.entries legal in
     let time : does.now ≡ c.clock.now = lawful.0.found ∙ ap (λ (k : Clock). k.now) h.shows.clock in
     let refused : deadline_of g start c.clock.now ≡ None = ap (λ (x : ℤ). deadline_of g start x) (sym time) ∙ does.refused in
-    done_as g n ls s c (bad_arg start.kind) es (look_entry (Caller 0) does.now ∷ []) (starting g c l w start) _ does.entries
-    (refused_as g n ls l w start s c does.now (bad_arg start.kind) time (bad_arg_piece g c l w start (deadline_of g start c.clock.now) refused))
-    (record { line = plain; meets = meets_next g n ls (as_look does.now) (Caller 0) None s c h lawful.0 })
+    let piece = refused_as g n ls l w start s c does.now (bad_arg start.kind) time (bad_arg_piece g c l w start (deadline_of g start c.clock.now) refused) in
+    record {
+      replies = ap (λ (p : Piece). p.reply) piece;
+      done = done_as g n ls s c (bad_arg start.kind) es (look_entry (Caller 0) does.now ∷ []) (starting g c l w start) _ does.entries piece
+          (record { line = plain; meets = meets_next g n ls (as_look does.now) (Caller 0) None s c h lawful.0 });
+    }
 
 -- each slot that was looked at is taken
 
@@ -102,7 +110,7 @@ slots_taken g w s z k (suc n) es same few legal are j low high =
 
 pub full_done : (g : Settings) (n : ℕ) (ls : Labels) (l w : ℕ) (start : Start) (s c : State) (es : List Entry) → n < 262143 → Meets g n ls s c
     → LegalFrom g s es → IsWheelFull g 0 w start s es → line_of (label_of ls) (full start.kind) ≡ line_of slot_of (full start.kind)
-    → IsDone g n ls s c (full start.kind) es (starting g c l w start)
+    → IsRefused g n ls l w start s c (full start.kind) es
 full_done g n ls l w start s c es few h legal does plain =
     let lawful = subst (λ (x : List Entry). LegalFrom g s x) does.entries legal in
     let time : does.now ≡ c.clock.now = lawful.0.found ∙ ap (λ (k : Clock). k.now) h.shows.clock in
@@ -116,9 +124,12 @@ full_done g n ls l w start s c es few h legal does plain =
     let all : taken_of c.status (c.rows w) ≡ g.slots =
     sym (count_pairs is_taken (IsName g ls) s.status c.status h.shows.status (s.rows w) (c.rows w) (h.shows.rows w)) ∙ taken in
     let look = meets_next g n ls (as_look does.now) (Caller 0) None s c h lawful.0 in
-    done_as g n ls s c (full start.kind) es (look_entry (Caller 0) does.now ∷ does.probes) (starting g c l w start) _ does.entries
-    (refused_as g n ls l w start s c does.now (full start.kind) time (full_piece g c l w start (deadline_of g start c.clock.now) due all))
-    (record {
-      line = plain;
-      meets = meets_probes g n ls (Caller 0) w does.probes looked _ (taken_probes w s 0 g.slots does.probes does.are_taken) lawful.1 look;
-    })
+    let piece = refused_as g n ls l w start s c does.now (full start.kind) time (full_piece g c l w start (deadline_of g start c.clock.now) due all) in
+    record {
+      replies = ap (λ (p : Piece). p.reply) piece;
+      done = done_as g n ls s c (full start.kind) es (look_entry (Caller 0) does.now ∷ does.probes) (starting g c l w start) _ does.entries piece
+          (record {
+            line = plain;
+            meets = meets_probes g n ls (Caller 0) w does.probes looked _ (taken_probes w s 0 g.slots does.probes does.are_taken) lawful.1 look;
+          });
+    }

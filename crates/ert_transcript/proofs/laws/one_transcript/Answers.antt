@@ -5,7 +5,8 @@ use Rattle.ert_transcript.proofs.Refusals.{full_done}
 use Rattle.ert_transcript.proofs.Advances.{advance_meets}
 use Rattle.ert_transcript.proofs.Many.{all_served}
 use Rattle.ert_transcript.proofs.Hands.{deliver_meets}
-use Rattle.ert_transcript.proofs.Chains.{exit_done}
+use Rattle.ert_transcript.proofs.OpsDone.{demonitor_op}
+use Rattle.ert_transcript.proofs.StartsAgree.{start_op}
 use Rattle.ert_transcript.proofs.laws.one_transcript.Goals as goal
 
 pub returns : goal.returns
