@@ -13,6 +13,7 @@ pub mod OpsDone
 pub mod Readings
 pub mod Refusals
 pub mod Serves
+pub mod Runs
 pub mod Shown
 pub mod Starts
 pub mod StartsAgree

@@ -1,13 +1,7 @@
 -- What every script run prints.
 
-use Rattle.ert_transcript.proofs.Starts.{start_done}
-use Rattle.ert_transcript.proofs.Refusals.{full_done}
-use Rattle.ert_transcript.proofs.Advances.{advance_meets}
-use Rattle.ert_transcript.proofs.Many.{all_served}
-use Rattle.ert_transcript.proofs.Hands.{deliver_meets}
-use Rattle.ert_transcript.proofs.OpsDone.{demonitor_op}
-use Rattle.ert_transcript.proofs.StartsAgree.{start_op}
+use Rattle.ert_transcript.proofs.Runs.{one_text, one_transcript}
 use Rattle.ert_transcript.proofs.laws.one_transcript.Goals as goal
 
 pub returns : goal.returns
-returns c = ?
+returns c = record { text = one_text; one = one_transcript }
