@@ -1,0 +1,12 @@
+pub mod Calls
+pub mod Labels
+pub mod Laws
+pub mod Lines
+pub mod Pieces
+pub mod Plain
+pub mod PlainClock
+pub mod PlainMail
+pub mod PlainTimers
+pub mod PlainTurns
+pub mod Scripts
+pub mod Worked
