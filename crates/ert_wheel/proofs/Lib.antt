@@ -1,4 +1,7 @@
 mod Calls
+mod Collect
+mod Due
+mod Lists
 mod Opening
 mod Parts
 mod Splice

@@ -54,6 +54,12 @@ pub kept_set : (keys : List Key) (slot : ℕ) (key : Key) (seen : Option Key) �
     → kept_keys (set keys slot key) ≡ set (kept_keys keys) slot seen
 kept_set keys slot key seen h = map-set kept keys slot key ∙ ap (set (kept_keys keys) slot) h
 
+-- the key of a place
+pub place_is : (home : Key → ℕ) (key : Option Key) (p : Place) → place_of home key ≡ Some p
+    → (k : Key) × (key ≡ Some k) × (record { home = home k; order = k.order } ≡ p)
+place_is home None p h = cc
+place_is home (Some k) p h = (k, refl, cc)
+
 -- the places after a key was written
 places_set : (home : Key → ℕ) (keys : List (Option Key)) (slot : ℕ) (key : Option Key) → slot < length keys
     → (j : ℕ) → with_place (places home keys) slot (place_of home key) j ≡ places home (set keys slot key) j

@@ -1,24 +1,17 @@
 -- What each call that changes a wheel does, in the form in which the calls meet it.
 
-use Rattle.std.proofs.Common.{◌≡◌, ◌≢◌, ℕ, ◌+◌, ◌-◌, ◌<◌, ◌≤◌, ◌^◌, Bool, true, false, cond, max, min, List, Option, Some, None, IsSome, IfSome, map, replicate, length, get_or, set, count_by, sym, subst, ◌∙◌, ap, inl, inr, refl, arith}
-use Rattle.std.proofs.lemmas.Bool.{cases_lt}
-use Rattle.std.proofs.lemmas.List.{length-map, length-set, set-get_or}
+use Rattle.std.proofs.Common.{◌≡◌, ◌≢◌, ℕ, ◌+◌, ◌-◌, ◌<◌, ◌≤◌, ◌^◌, Bool, true, false, cond, nat_le, max, min, List, Option, Some, None, IsSome, IfSome, map, replicate, length, get_or, set, count_by, sym, subst, ◌∙◌, ap, inl, inr, refl, arith}
+use Rattle.std.proofs.lemmas.Bool.Decides.{leb_tells}
+use Rattle.std.proofs.lemmas.List.{ext_get_or, get_or-map, length-map, length-set, set-get_or}
 use Rattle.std.proofs.lemmas.List.Sums.{count_by-le-length}
 use Rattle.std.specs.Int.{IsPowerOfTwo}
 use Rattle.std.specs.Option.{is_some}
-use Rattle.ert_wheel.proofs.Views.{kept_low, kept_high, kept_set, key_read, chains_set, counts_more, counts_less, bucket_low}
+use Rattle.ert_wheel.proofs.Views.{kept_low, kept_high, kept_set, key_read, chains_set, counts_more, counts_less, bucket_low, place_is}
 use Rattle.ert_wheel.specs.Rings.{Rings, Place, AreChains, MayPut, Puts, MayTake, Takes}
-use Rattle.ert_wheel.specs.Rows.{key_in}
+use Rattle.ert_wheel.specs.Rows.{key_in, times, due_at, left_at}
 use Rattle.ert_wheel.specs.Wheels.{kept, kept_keys, bucket_of, home_by, place_of, places, IsWheel}
 use Rattle.ert_wheel.specs.declared.row.Key.{Key}
-
--- the key of a place
-place_is : (home : Key → ℕ) (key : Option Key) (p : Place) → place_of home key ≡ Some p
-    → (k : Key) × (key ≡ Some k) × (k.order ≡ p.order)
-place_is home None p h = cc
-place_is home (Some k) p h =
-    let e : record { home = home k; order = k.order } ≡ p = cc in
-    (k, refl, ap (λ (q : Place). q.order) e)
+use Rattle.ert_wheel.specs.declared.row.Row.{Row}
 
 -- a slot without a row can be put into a chain
 pub may_put : (mask next count : ℕ) (keys : List Key) (chains : Rings) (seen : List (Option Key)) (slot time home : ℕ)
@@ -41,10 +34,11 @@ orders_below : (home : Key → ℕ) (keys : List (Option Key)) (order : ℕ)
     → ((j : ℕ) → IfSome (key_in keys j) (λ key. key.order < order)) → (j : ℕ) (p : Place)
     → places home keys j ≡ Some p → p.order < order
 orders_below home keys order newest j p h =
-    let k : (k : Key) × (key_in keys j ≡ Some k) × (k.order ≡ p.order) = place_is home (key_in keys j) p h in
+    let k : (k : Key) × (key_in keys j ≡ Some k) × (record { home = home k; order = k.order } ≡ p) =
+        place_is home (key_in keys j) p h in
     let below : k.0.order < order =
         subst (λ (o : Option Key). IfSome o (λ key. key.order < order)) k.1 (newest j) in
-    omega (arith, k.2)
+    omega (arith, ap (λ (q : Place). q.order) k.2)
 
 -- the count of rows leaves room for one more where a slot has none
 pub count_fits : (mask next count : ℕ) (keys : List Key) (chains : Rings) (seen : List (Option Key)) (slot : ℕ) (key : Key)
@@ -205,3 +199,29 @@ passed_wheel mask next next' to count keys chains seen w is none up low fits =
       are = subst (λ (p : ℕ → Option Place). AreChains chains p)
           (λ i j. sym (passed_place mask next next' to (key_in (kept_keys keys) j) (at j) up low) i) w.are;
     }
+
+-- a wheel whose due rows were taken out has left what isn't due
+pub record TakesOut (old now : List (Option Key)) (rows : List Row) : Type 0 where
+  pub len : length now ≡ length old
+  pub stays : (j : ℕ) → times j rows ≡ 0 → key_in now j ≡ key_in old j
+  pub gone : (j : ℕ) → 0 < times j rows → key_in now j ≡ None
+
+left_of : (to : ℕ) (was : Option Key) (count : ℕ) (now : Option Key) → count ≡ due_at to was
+    → (count ≡ 0 → now ≡ was) → (0 < count → now ≡ None) → now ≡ left_at to was
+left_of to None count now e stays gone = stays e
+left_of to (Some key) count now e stays gone =
+    elim (leb_tells key.deadline to)
+    [ inl (t, due) ↦
+        let one : ◌≡◌ {A = ℕ} (cond (nat_le key.deadline to) 1 0) 1 = ap (λ b. cond b 1 0) t in
+        gone (omega (arith, e, one)) ∙ sym (ap (λ b. cond b None (Some key)) t)
+    | inr (f, later) ↦
+        let none : ◌≡◌ {A = ℕ} (cond (nat_le key.deadline to) 1 0) 0 = ap (λ b. cond b 1 0) f in
+        stays (e ∙ none) ∙ sym (ap (λ b. cond b None (Some key)) f)
+    ]
+
+pub taken_out : (to : ℕ) (old now : List (Option Key)) (rows : List Row) → TakesOut old now rows
+    → ((j : ℕ) → times j rows ≡ due_at to (key_in old j)) → now ≡ map (left_at to) old
+taken_out to old now rows t each =
+    ext_get_or None now (map (left_at to) old) (t.len ∙ sym (length-map old (left_at to))) (λ j low.
+        left_of to (key_in old j) (times j rows) (key_in now j) (each j) (t.stays j) (t.gone j)
+        ∙ sym (get_or-map (left_at to) old j None None (omega (arith, t.len))))

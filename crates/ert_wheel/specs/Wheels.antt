@@ -5,7 +5,7 @@ use Rattle.std.specs.Int.{IsPowerOfTwo}
 use Rattle.std.specs.Option.{is_some}
 use Rattle.ert_wheel.specs.Rings.{Rings, Place, AreChains}
 use Rattle.ert_wheel.specs.Rows.{key_in}
-use Rattle.ert_wheel.specs.declared.wheel.TheConstants.{VACANT}
+use Rattle.ert_wheel.specs.declared.row.TheConstants.{VACANT}
 use Rattle.ert_wheel.specs.declared.row.Key.{Key}
 
 -- what a slot's stored key says: none where its deadline is the mark of a slot without a row

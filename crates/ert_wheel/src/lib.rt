@@ -4,6 +4,9 @@
 mod chains;
 mod links;
 mod row;
+#[cfg(test)]
+mod tests;
+mod walk;
 mod wheel;
 
 pub use chains::Chains;

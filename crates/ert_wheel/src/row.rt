@@ -1,3 +1,9 @@
+/// Stands in place of a deadline where a slot has no row. No row has this deadline.
+pub const VACANT: u64 = u64::MAX;
+
+/// The greatest deadline that a row can have.
+pub const LAST: u64 = VACANT - 1;
+
 /// What a wheel keeps of a row.
 #[derive(Clone, Copy, Debug, PartialEq, Eq)]
 pub struct Key {

@@ -1,20 +1,11 @@
-ghost use Rattle.std.specs.Prelude.{◌≡◌, ◌+◌, ◌<◌, ◌≤◌, ◌^◌, ℕ, List, IfOk, length, map, replicate, vec_len, vec_capacity};
-ghost use Rattle.std.specs.Int.{IsPowerOfTwo};
-ghost use Rattle.ert_wheel.specs.Walks.{MayCollect, MayCollectSome, Collects, Spans};
-ghost use Rattle.ert_wheel.specs.Wheels.{kept_keys, bucket_of};
-ghost use Rattle.ert_wheel.specs.declared.row.Key.{Key};
+ghost use Rattle.std.specs.Prelude.{◌≡◌, IfOk, replicate};
 
 use crate::chains::Chains;
-use crate::row::{Key, Row};
+use crate::row::{Key, Row, LAST, VACANT};
+use crate::walk::{bucket, collect, span};
 use ert_defs::NoMemory;
 use std::alloc::Global;
 use std::marker::Model;
-
-/// Stands in place of a deadline where a slot has no row. No row has this deadline.
-const VACANT: u64 = u64::MAX;
-
-/// The greatest deadline that a row can have.
-const LAST: u64 = VACANT - 1;
 
 /// A hashed timing wheel: rows by their slots, and the due ones in order of deadline.
 ///
@@ -45,7 +36,7 @@ impl Model for Wheel {
 }
 
 impl Wheel {
-    ghost use Rattle.std.specs.Prelude.{◌≡◌, ◌↔◌, ◌+◌, ◌<◌, ◌≤◌, ℕ, Some, None, IsTrue, IsSome, IfSome, IfOk, All, count_by, length, option_map, replicate, slice_set, vec_capacity};
+    ghost use Rattle.std.specs.Prelude.{◌≡◌, ◌↔◌, ◌<◌, ◌≤◌, ◌^◌, ℕ, Some, None, IsTrue, IsSome, IfSome, IfOk, All, count_by, length, map, option_map, replicate, slice_set, vec_capacity};
     ghost use Rattle.std.specs.List.Sorted.{IsSortedBy};
     ghost use Rattle.std.specs.Option.{is_some};
     ghost use Rattle.ert_wheel.specs.Rows.{key_in, key_of, row_at, times, due_at, left_at, comes_before};
@@ -130,6 +121,23 @@ impl Wheel {
         true
     }
 
+    /// Writes the rows with a deadline at most `to`, in order of deadline, then of order, into `out`,
+    /// which is cleared first and has room for one row of each slot.
+    pub fn due(&self, to: u64, out: &mut Vec<Row>)
+        requires { length self.now ≤ vec_capacity out.old }
+        ensures each { (slot : ℕ) → times slot out.new.items ≡ due_at to (key_in self.now slot) }
+        ensures rows { All (λ row. key_in self.now row.slot ≡ Some (key_of row)) out.new.items }
+        ensures sorted { IsSortedBy comes_before out.new.items }
+        ensures capacity { vec_capacity out.new ≡ vec_capacity out.old }
+    {
+        out.clear();
+        let (first, end) = span(self.mask, self.next_time, to);
+        for time in first..end {
+            collect(&self.chains, &self.keys, bucket(self.mask, time), to, out);
+        }
+        out.sort_unstable();
+    }
+
     /// Tells that nothing is left up to `to`: no later call looks at a time up to it again.
     ///
     /// A wheel that isn't told so gives the same rows, but looks at more and more buckets.
@@ -138,6 +146,22 @@ impl Wheel {
         ensures { self.new ≡ self.old }
     {
         self.next_time = self.next_time.max(to.min(LAST - 1) + 1);
+    }
+
+    /// Takes the rows with a deadline at most `to` out, and writes them into `out` as `due` does.
+    pub fn advance(&mut self, to: u64, out: &mut Vec<Row>)
+        requires { length self.old ≤ vec_capacity out.old }
+        ensures each { (slot : ℕ) → times slot out.new.items ≡ due_at to (key_in self.old slot) }
+        ensures rows { All (λ row. key_in self.old row.slot ≡ Some (key_of row)) out.new.items }
+        ensures sorted { IsSortedBy comes_before out.new.items }
+        ensures capacity { vec_capacity out.new ≡ vec_capacity out.old }
+        ensures left { self.new ≡ map (left_at to) self.old }
+    {
+        self.due(to, out);
+        for row in out.iter() {
+            self.remove(row.slot);
+        }
+        self.pass(to);
     }
 }
 
@@ -149,25 +173,4 @@ fn no_keys(alloc: Global, slots: u32) -> Result<Vec<Key>, NoMemory>
         order: 0,
     };
     Ok(vec![in alloc; vacant; slots as usize]?)
-}
-
-// The bucket of a time.
-fn bucket(mask: u32, time: u64) -> u32
-    ensures { result ≡ bucket_of mask time }
-{
-    (time & mask as u64) as u32
-}
-
-// The times to visit for what is due up to `to`, as the first one and the end.
-fn span(mask: u32, next_time: u64, to: u64) -> (u64, u64)
-    requires power { IsPowerOfTwo (mask + 1) }
-    requires time { next_time < VACANT }
-    ensures { Spans mask next_time to result.0 result.1 }
-{
-    let last = to.min(LAST).max(next_time);
-    if last - next_time >= mask as u64 {
-        (0, mask as u64 + 1)
-    } else {
-        (next_time, last + 1)
-    }
 }
