@@ -6,6 +6,7 @@ mod Opening
 mod Parts
 mod Splice
 mod Times
+mod Trials
 mod Unsplice
 mod Views
 mod Writes
