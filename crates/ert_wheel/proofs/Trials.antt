@@ -1,6 +1,6 @@
 -- What the tests know after each of their steps.
 
-use Rattle.std.proofs.Common.{◌≡◌, ℕ, ◌+◌, ◌<◌, ◌≤◌, List, Option, Some, None, IfSome, true, false, cond, nat_le, map, replicate, length, get_or, set, sym, subst, ◌∙◌, ap, inl, inr, refl, arith, get_or-set_same, get_or-set_other}
+use Rattle.std.proofs.Common.{◌≡◌, ℕ, ◌+◌, ◌<◌, List, Option, Some, None, IfSome, true, false, cond, nat_le, map, replicate, length, set, sym, subst, ◌∙◌, ap, inl, inr, arith, get_or-set_same, get_or-set_other}
 use Rattle.std.proofs.lemmas.Bool.{cases_eq, cases_lt}
 use Rattle.std.proofs.lemmas.List.{get_or-replicate, get_or_past, length-replicate}
 use Rattle.std.proofs.Math.ListN.{get_or-map}
@@ -12,23 +12,23 @@ use Rattle.ert_wheel.specs.declared.row.Key.{Key}
 pub below_none : (n order : ℕ) → AreBelow order (replicate n None)
 below_none n order slot =
     let none : key_in (replicate n None) slot ≡ None =
-        elim (cases_lt slot n)
-        [ inl low ↦ get_or-replicate n slot None None low
-        | inr high ↦ get_or_past (replicate n None) slot None (omega (arith, length-replicate {A = Option Key} n None))
-        ] in
+    elim (cases_lt slot n) [
+      | inl low ↦ get_or-replicate n slot None None low
+      | inr high ↦ get_or_past (replicate n None) slot None (omega (arith, length-replicate {A = Option Key} n None))
+    ] in
     subst (λ (o : Option Key). IfSome o (λ key. key.order < order)) (sym none) tt
 
 -- a slot was written
 pub below_set : (keys : List (Option Key)) (slot order : ℕ) (key : Option Key) → slot < length keys → AreBelow order keys
     → IfSome key (λ k. k.order < order) → AreBelow order (set keys slot key)
 below_set keys slot order key low below one j =
-    elim (cases_eq j slot)
-    [ inl e ↦
-        let here : key ≡ key_in (set keys slot key) j =
-            sym (ap (key_in (set keys slot key)) e ∙ get_or-set_same keys slot key None low) in
-        subst (λ (o : Option Key). IfSome o (λ k. k.order < order)) here one
-    | inr ne ↦
-        subst (λ (o : Option Key). IfSome o (λ k. k.order < order)) (sym (get_or-set_other keys slot j key None ne)) (below j)
+    elim (cases_eq j slot) [
+      | inl e ↦
+          let here : key ≡ key_in (set keys slot key) j =
+          sym (ap (key_in (set keys slot key)) e ∙ get_or-set_same keys slot key None low) in
+          subst (λ (o : Option Key). IfSome o (λ k. k.order < order)) here one
+      | inr ne ↦
+          subst (λ (o : Option Key). IfSome o (λ k. k.order < order)) (sym (get_or-set_other keys slot j key None ne)) (below j)
     ]
 
 -- a larger bound does too

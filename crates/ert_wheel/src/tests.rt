@@ -72,7 +72,14 @@ fn time_leaps(rt: HostRuntime) -> Result<(), Fail> {
     let (mut wheel, mut out) = open(rt.alloc())?;
     put(&mut wheel, row(1029, 0, 1));
     put(&mut wheel, row(5, 1, 2));
-    assert!(rt; gives(&mut wheel, u64::MAX, &mut out, &[row(5, 1, 2), row(1029, 0, 1)]));
+    assert!(rt;
+        gives(
+            &mut wheel,
+            u64::MAX,
+            &mut out,
+            &[row(5, 1, 2), row(1029, 0, 1)]
+        )
+    );
     put(&mut wheel, row(u64::MAX - 1, 2, 0));
     assert_eq!(rt; wheel.len(), 1);
     assert!(rt; gives(&mut wheel, u64::MAX, &mut out, &[row(u64::MAX - 1, 2, 0)]));

@@ -1,5 +1,5 @@
-use Rattle.std.proofs.Common.{◌+◌, List, Option, Some, None, sym, subst, arith}
-use Rattle.ert_wheel.proofs.Trials.{below_set, below_more}
+use Rattle.std.proofs.Common.{List, Option, None, sym, subst}
+use Rattle.ert_wheel.proofs.Trials.{below_set}
 use Rattle.ert_wheel.proofs.tests.put.Goals as goal
 use Rattle.ert_wheel.specs.Trial.{AreBelow}
 use Rattle.ert_wheel.specs.declared.row.Key.{Key}
