@@ -1,0 +1,12 @@
+mod Calls
+mod Collect
+mod Due
+mod Lists
+mod Opening
+mod Parts
+mod Splice
+mod Times
+mod Trials
+mod Unsplice
+mod Views
+mod Writes
