@@ -40,8 +40,13 @@ one_pass x number k few = by (nat_lt (number * 2 ^ 40) x && nat_le x (number * 2
 all_passes : (x : ℕ) (passes : List UniquePass) → times x (plain_together passes) ≤ times ((x - 1) / 2 ^ 40) (map number_of passes)
 all_passes x [] = omega arith
 all_passes x (p ∷ passes) =
-    omega (arith, (times_adds x).parts (plain_answers (number_of p) (plains_of p)) (plain_together passes),
-    (times_adds ((x - 1) / 2 ^ 40)).parts (number_of p ∷ []) (map number_of passes), one_pass x (number_of p) (plains_of p) p.plain, all_passes x passes)
+    omega (
+      arith,
+      (times_adds x).parts (plain_answers (number_of p) (plains_of p)) (plain_together passes),
+      (times_adds ((x - 1) / 2 ^ 40)).parts (number_of p ∷ []) (map number_of passes),
+      one_pass x (number_of p) (plains_of p) p.plain,
+      all_passes x passes,
+    )
 
 pub plain_differ : (passes : List UniquePass) → AllDiffer (map number_of passes) → AllDiffer (plain_together passes)
 plain_differ passes apart x = omega (arith, all_passes x passes, apart ((x - 1) / 2 ^ 40))

@@ -17,8 +17,14 @@ divided_draws : (m : List ℕ → ℕ) → Adds m → (views : List View) (id : 
     → m (drawn (set views id (keeping v share) ++ part_of v moved ∷ [])) ≡ m (drawn views)
 divided_draws m adds views id v share moved at =
     let now : List View = set views id (keeping v share) in
-    omega (arith, drawn_total m adds views, drawn_total m adds (now ++ part_of v moved ∷ []), total_last (λ u. m u.draws) now (part_of v moved),
-    total_set (λ u. m u.draws) views id v (keeping v share) at, adds.none)
+    omega (
+      arith,
+      drawn_total m adds views,
+      drawn_total m adds (now ++ part_of v moved ∷ []),
+      total_last (λ u. m u.draws) now (part_of v moved),
+      total_set (λ u. m u.draws) views id v (keeping v share) at,
+      adds.none,
+    )
 
 -- a pass may give a new one a part of its share, if its draws are within the rest
 pub divides : (passes id : ℕ) (v : View) (share moved : ℕ) → v.passes ≡ passes → share + moved ≡ v.share
@@ -43,8 +49,15 @@ united_draws : (m : List ℕ → ℕ) → Adds m → (views : List View) (id oth
     → get_elem? (set views id (both v w)) other ≡ some w → m (drawn (set (set views id (both v w)) other spent)) ≡ m (drawn views)
 united_draws m adds views id other v w at there =
     let now : List View = set views id (both v w) in
-    omega (arith, drawn_total m adds views, drawn_total m adds (set now other spent), total_set (λ u. m u.draws) views id v (both v w) at,
-    total_set (λ u. m u.draws) now other w spent there, adds.none, adds.parts v.draws w.draws)
+    omega (
+      arith,
+      drawn_total m adds views,
+      drawn_total m adds (set now other spent),
+      total_set (λ u. m u.draws) views id v (both v w) at,
+      total_set (λ u. m u.draws) now other w spent there,
+      adds.none,
+      adds.parts v.draws w.draws,
+    )
 
 united_fits : (passes word : ℕ) (v w : View) → Fits passes word v → Fits passes word w → v.passes ≡ passes → Fits passes word (both v w)
 united_fits passes word v w fit other opened = record {

@@ -19,20 +19,36 @@ shares_bound : (passes word : ℕ) (views : List View) → AllFit passes word vi
     → sum_by (λ v. length v.draws) views ≤ 2 ^ 40 * sum_by (λ v. v.share) views
 shares_bound passes word [] fits = omega arith
 shares_bound passes word (v ∷ views) fits =
-    omega (arith, (fits 0 v refl).short, sum_by-cons (λ (u : View). length u.draws) v views, sum_by-cons (λ (u : View). u.share) v views,
-    shares_bound passes word views (fits_rest passes word v views fits))
+    omega (
+      arith,
+      (fits 0 v refl).short,
+      sum_by-cons (λ (u : View). length u.draws) v views,
+      sum_by-cons (λ (u : View). u.share) v views,
+      shares_bound passes word views (fits_rest passes word v views fits),
+    )
 
 -- while a pass has room, it is less than that
 room_bound : (passes word : ℕ) (views : List View) (id : ℕ) (v : View) → AllFit passes word views → get_elem? views id ≡ some v
     → length v.draws < 2 ^ 40 * v.share → sum_by (λ u. length u.draws) views < 2 ^ 40 * sum_by (λ u. u.share) views
 room_bound passes word [] id v fits at room = absurd (some-ne-none v (sym at))
 room_bound passes word (u ∷ views) zero v fits at room =
-    omega (arith, room, ap (λ (x : View). x.share) (some-injective u v at), ap (λ (x : View). length x.draws) (some-injective u v at),
-    sum_by-cons (λ (u : View). length u.draws) u views, sum_by-cons (λ (u : View). u.share) u views,
-    shares_bound passes word views (fits_rest passes word u views fits))
+    omega (
+      arith,
+      room,
+      ap (λ (x : View). x.share) (some-injective u v at),
+      ap (λ (x : View). length x.draws) (some-injective u v at),
+      sum_by-cons (λ (u : View). length u.draws) u views,
+      sum_by-cons (λ (u : View). u.share) u views,
+      shares_bound passes word views (fits_rest passes word u views fits),
+    )
 room_bound passes word (u ∷ views) (suc id) v fits at room =
-    omega (arith, (fits 0 u refl).short, sum_by-cons (λ (u : View). length u.draws) u views, sum_by-cons (λ (u : View). u.share) u views,
-    room_bound passes word views id v (fits_rest passes word u views fits) at room)
+    omega (
+      arith,
+      (fits 0 u refl).short,
+      sum_by-cons (λ (u : View). length u.draws) u views,
+      sum_by-cons (λ (u : View). u.share) u views,
+      room_bound passes word views id v (fits_rest passes word u views fits) at room,
+    )
 
 -- so the word is less than the draws of all passes
 word_bound : (passes : ℕ) (words : List ℕ) (views : List View) (id : ℕ) (v : View) (kept : Holds passes words views) → get_elem? views id ≡ some v
@@ -44,8 +60,13 @@ word_bound passes words views id v kept at room =
 drew_more : (m : List ℕ → ℕ) → Adds m → (views : List View) (id : ℕ) (v : View) (n : ℕ) → get_elem? views id ≡ some v
     → m (drawn (set views id (drew v n))) ≡ m (drawn views) + m (n ∷ [])
 drew_more m adds views id v n at =
-    omega (arith, total_set (λ u. m u.draws) views id v (drew v n) at, drawn_total m adds views,
-    drawn_total m adds (set views id (drew v n)), adds.parts v.draws (n ∷ []))
+    omega (
+      arith,
+      total_set (λ u. m u.draws) views id v (drew v n) at,
+      drawn_total m adds views,
+      drawn_total m adds (set views id (drew v n)),
+      adds.parts v.draws (n ∷ []),
+    )
 
 drew_fits : (passes word : ℕ) (v : View) → Fits passes word v → length v.draws < 2 ^ 40 * v.share → Fits passes (word + 1) (drew v (word + 1))
 drew_fits passes word v fit room = record {

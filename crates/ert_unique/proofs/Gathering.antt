@@ -26,8 +26,14 @@ pub gathers_one : (all xs : List ℕ) (passes rest : List UniquePass) (p : Uniqu
     → IsRearranged all (draws_together passes ++ xs) → IsRearranged all (draws_together rest ++ (xs ++ draws_of p))
 gathers_one all xs passes rest p is so =
     rearranged all (draws_together passes ++ xs) (draws_together rest ++ (xs ++ draws_of p)) so
-    (λ m adds. omega (arith, adds.parts (draws_together passes) xs, adds.parts (draws_together rest) (xs ++ draws_of p), adds.parts xs (draws_of p),
-    ap (λ (l : List UniquePass). m (draws_together l)) is, together_last m adds rest p))
+    (λ m adds. omega (
+      arith,
+      adds.parts (draws_together passes) xs,
+      adds.parts (draws_together rest) (xs ++ draws_of p),
+      adds.parts xs (draws_of p),
+      ap (λ (l : List UniquePass). m (draws_together l)) is,
+      together_last m adds rest p,
+    ))
 
 -- the first that is taken off
 pub gathers_first : (passes rest : List UniquePass) (p : UniquePass) → passes ≡ rest ++ p ∷ []

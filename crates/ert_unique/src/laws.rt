@@ -1,5 +1,6 @@
 //! Laws: the contracts of functions that do nothing.
 ghost use Rattle.std.specs.Prelude.{◌≤◌, All, map};
+ghost use Rattle.std.specs.List.Sorted.{IsStrictlyIncreasing};
 ghost use Rattle.ert_unique.specs.Laws.{LawOfPlainAnswers, LawOfStamps};
 ghost use Rattle.ert_unique.specs.Numbers.{AllDiffer};
 ghost use Rattle.ert_unique.specs.Passes.{draws_of, seen_of, number_of};
@@ -7,10 +8,10 @@ ghost use Rattle.ert_unique.specs.Plain.{plain_together};
 
 use crate::uniques::UniquePass;
 
-/// The monotonic numbers that a pass drew are at most the greatest that it has seen. So each draw is
-/// greater than all that the pass drew before.
+/// The monotonic numbers that a pass drew rise, and are at most the greatest that it has seen.
 pub fn monotonic_numbers_rise(pass: &UniquePass)
-    ensures { All (λ n. n ≤ seen_of pass.now) (draws_of pass.now) }
+    ensures rising { IsStrictlyIncreasing (draws_of pass.now) }
+    ensures seen { All (λ n. n ≤ seen_of pass.now) (draws_of pass.now) }
 {}
 
 /// A plain number tells which pass answered it, and as which of its answers.

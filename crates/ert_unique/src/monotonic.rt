@@ -17,7 +17,8 @@ impl Uniques {
         ensures rises { IfOk result (λ n. seen_of pass.old < n) }
         ensures seen { IfOk result (λ n. seen_of pass.new ≡ n) }
         ensures range { IfOk result (λ n. n ≤ 2 ^ 40 * passes_of self.now) }
-        ensures others { (number_of pass.new ≡ number_of pass.old) × (plains_of pass.new ≡ plains_of pass.old) }
+        ensures number { number_of pass.new ≡ number_of pass.old }
+        ensures plains { plains_of pass.new ≡ plains_of pass.old }
         ensures room { OnOk result (length (draws_of pass.old) < 2 ^ 40) }
         ensures spent { OnErr result ((length (draws_of pass.old) ≡ 2 ^ 40) × (pass.new ≡ pass.old)) }
     {
@@ -41,8 +42,6 @@ impl Uniques {
         ensures other_seen { seen_of other.new ≡ seen_of other.old }
     {
         let note = self.table.shared.split_seat::<Notes>(&mut other.seat);
-        self.table
-            .shared
-            .join_seat::<Unites>(&mut pass.seat, note);
+        self.table.shared.join_seat::<Unites>(&mut pass.seat, note);
     }
 }

@@ -63,9 +63,9 @@ impl Uniques {
         let seat = self.gather(passes);
         let Uniques { table } = self;
         let closed = table.close_with(seat);
-        let drawn = closed.word(0);
+        let greatest = closed.word(0);
         closed.free();
-        drawn
+        greatest
     }
 
     /// Puts all passes together: the seat has all shares, and the draws of all.

@@ -1,7 +1,8 @@
 //! Plain unique integers.
 ghost use Rattle.std.specs.Prelude.{◌≡◌, ◌+◌, ◌^◌, ◌≤◌, IfOk, OnErr, OnOk};
-ghost use Rattle.ert_unique.specs.Passes.{draws_of, seen_of, number_of, plains_of};
+ghost use Rattle.ert_unique.specs.Passes.{draws_of, seen_of, number_of, plains_of, Belongs};
 ghost use Rattle.ert_unique.specs.Plain.{plain_answer};
+ghost use Rattle.ert_unique.specs.declared.uniques.Uniques.{Uniques};
 
 use crate::uniques::{MOST, Spent, UniquePass};
 
@@ -15,7 +16,10 @@ impl UniquePass {
         ensures answer { IfOk result (λ n. n ≡ plain_answer (number_of self.old) (plains_of self.new)) }
         ensures plains { OnOk result (plains_of self.new ≡ plains_of self.old + 1) }
         ensures room { OnOk result (plains_of self.new ≤ 2 ^ 40) }
-        ensures others { (number_of self.new ≡ number_of self.old) × (self.new.seat ≡ self.old.seat) }
+        ensures number { number_of self.new ≡ number_of self.old }
+        ensures draws { draws_of self.new ≡ draws_of self.old }
+        ensures seen { seen_of self.new ≡ seen_of self.old }
+        ensures belongs { (u : Uniques) → Belongs u self.old → Belongs u self.new }
         ensures spent { OnErr result ((plains_of self.old ≡ 2 ^ 40) × (self.new ≡ self.old)) }
     {
         if self.plains == MOST {

@@ -1,4 +1,5 @@
 ghost use Rattle.std.specs.Prelude.{◌≡◌, ◌^◌, ◌<◌, ◌≤◌, [], length, All};
+ghost use Rattle.std.specs.List.Sorted.{IsStrictlyIncreasing};
 
 use crate::view::{UniqueRule, View};
 use atomic_table::{Seat, Table};
@@ -38,4 +39,5 @@ pub struct UniquePass {
     ghost few: { drawn ≤ 2 ^ 40 },
     ghost plain: { plains ≤ 2 ^ 40 },
     ghost greatest: { All (λ n. n ≤ seat.me.0.seen) seat.me.0.draws },
+    ghost rising: { IsStrictlyIncreasing seat.me.0.draws },
 }

@@ -11,7 +11,7 @@ returns c =
     let seat = c.gather-seat.result in
     let closed = c.close_with-closed in
     let words = slots_items closed.result.words in
-    let drawn = c.word-drawn.result in
-    one_to_rearranged drawn (draws_together c.args.passes.items) seat.me.0.draws c.gather-seat.ensures.draws
-    (subst (λ n. IsOneTo n seat.me.0.draws) (first_at words drawn c.word-drawn.ensures)
+    let greatest = c.word-greatest.result in
+    one_to_rearranged greatest (draws_together c.args.passes.items) seat.me.0.draws c.gather-seat.ensures.draws
+    (subst (λ n. IsOneTo n seat.me.0.draws) (first_at words greatest c.word-greatest.ensures)
     (closes c.args.self.table.shared.key seat.id seat.me.0 words (slots_items closed.result.slots) closed.ensures.values.2 c.gather-seat.ensures.share))

@@ -23,7 +23,14 @@ pub returns-clause-all : goal.returns-clause-all
 returns-clause-all c =
     let items = c.loop-number.passes.items in
     record {
-      count = omega (arith, length-map items number_of, ap length c.loop-number.invariant.numbers, length_below c.loop-number.number,
-          c.loop-number.auto.number-end, c.loop-number-test.false, c.requires.count);
+      count = omega (
+        arith,
+        length-map items number_of,
+        ap length c.loop-number.invariant.numbers,
+        length_below c.loop-number.number,
+        c.loop-number.auto.number-end,
+        c.loop-number-test.false,
+        c.requires.count,
+      );
       belong = c.loop-number.invariant.belong;
     }

@@ -9,5 +9,5 @@ fetch_add-greatest-requires c =
       c.requires.belongs.table,
       omega (arith, c.args.self.now.one_word),
       draws table.shared.key table.shared.table_id.slots pass.seat.id pass.seat.me pass.bare c.requires.belongs.opened
-          c.args.self.now.in_range.1 (omega (arith, pass.share, pass.counted, pass.few, c.if-pass-eq-MOST.false)),
+          c.args.self.now.in_range.1 (grind (arith, pass.share, pass.counted, pass.few)),
     )
