@@ -1,4 +1,5 @@
 pub mod Calls
+pub mod Counts
 pub mod Labels
 pub mod Laws
 pub mod Lines
