@@ -1,11 +1,11 @@
 -- The script runs of a list of ops beside the plain service: op by op they agree, so both print the same.
 
-use Rattle.std.proofs.Common.{◌≡◌, ◌≢◌, ℕ, zero, suc, ◌+◌, ◌<◌, ◌≤◌, Bool, All, AllPairs, List, [], ◌∷◌, ◌++◌, length, Option, Some, None, refl, sym, ap, ◌∙◌, subst, arith, append_assoc}
-use Rattle.std.proofs.lemmas.List.Elements.{All-nil, All-head, All-tail}
+use Rattle.std.proofs.Common.{◌≡◌, ◌≢◌, ℕ, zero, suc, ◌+◌, ◌<◌, ◌≤◌, All, AllPairs, List, [], ◌∷◌, ◌++◌, length, refl, sym, ap, ◌∙◌, subst, arith, append_assoc}
+use Rattle.std.proofs.lemmas.List.Elements.{All-head, All-tail}
 use Rattle.ert_answers.specs.Ways.{alone}
 use Rattle.ert_defs.proofs.Lists.{pairs_head, pairs_tail}
 use Rattle.ert_defs.proofs.Rows.{rows_hold}
-use Rattle.ert_defs.proofs.Runs.{run-append, state-append, legal_first, legal_then}
+use Rattle.ert_defs.proofs.Runs.{state-append}
 use Rattle.ert_defs.proofs.Slots.{ordered}
 use Rattle.ert_defs.proofs.Standing.{all_stand}
 use Rattle.ert_defs.specs.Clocks.{Clock}
@@ -19,19 +19,19 @@ use Rattle.ert_defs.specs.declared.timer.TimerRef.{TimerRef}
 use Rattle.ert_defs.specs.declared.timer.When.{When}
 use Rattle.ert_transcript.proofs.Bound.{IsName, IsFreeLabel, unbound_name}
 use Rattle.ert_transcript.proofs.Many.{legal_before, legal_after}
-use Rattle.ert_transcript.proofs.Meets.{Meets, Agrees}
+use Rattle.ert_transcript.proofs.Meets.{Agrees}
 use Rattle.ert_transcript.proofs.OpsDone.{tick_op, check_op, finalize_op, notify_op, time_op, system_op, offset_op, info_op, cancel_op, cancel_quiet_op, read_op, cancel_async_op, read_async_op, serve_an_op, advance_an_op, deliver_an_op, turn_an_op, receive_op, exit_op, alive_op, monitor_op, demonitor_op}
 use Rattle.ert_transcript.proofs.Readings.{converts_done}
 use Rattle.ert_transcript.proofs.Shown.{Names, Shows}
 use Rattle.ert_transcript.proofs.Taken.{count_pairs}
 use Rattle.ert_transcript.proofs.StartsAgree.{IsAgreed, agreed, start_op, send_after_op}
 use Rattle.ert_transcript.specs.Calls.{Calls}
-use Rattle.ert_transcript.specs.Labels.{Labels, ref_of, label_of, bind}
-use Rattle.ert_transcript.specs.Counts.{has_status, count_in, counts_of, plain_after, plain_counts}
+use Rattle.ert_transcript.specs.Labels.{Labels, label_of, bind}
+use Rattle.ert_transcript.specs.Counts.{has_status, count_in, counts_of, plain_after}
 use Rattle.ert_transcript.specs.Laws.{labels_in, AreOps, LawOfOneText, LawOfOneTranscript, LawOfCounts}
 use Rattle.ert_transcript.specs.PlainTimers.{count_of}
 use Rattle.ert_transcript.specs.Lines.{line_of, end_line}
-use Rattle.ert_transcript.specs.Plain.{slot_of, piece_of, plain_lines, plain_text}
+use Rattle.ert_transcript.specs.Plain.{piece_of, plain_lines}
 use Rattle.ert_transcript.specs.Scripts.{labels_after, Script, lines_of, IsTranscript}
 use Rattle.ert_transcript.specs.declared.op.Op.{Op}
 use Rattle.ert_transcript.specs.declared.op.Op.TheVariants as ops
@@ -112,9 +112,10 @@ free_bound k l t (p ∷ ps) free apart = (free.0, free_bound k l t ps free.1 apa
 
 free_rest : (l : ℕ) (t : TimerRef) (rest : List ℕ) (ls : Labels) → AreFree rest ls → All (λ (k : ℕ). l ≢ k) rest → AreFree rest (bind ls l t)
 free_rest l t [] ls free apart = tt
-free_rest l t (k ∷ rest) ls free apart =
-    (free_bound k l t ls free.0 (All-head (λ (k : ℕ). l ≢ k) k rest apart),
-    free_rest l t rest ls free.1 (All-tail (λ (k : ℕ). l ≢ k) k rest apart))
+free_rest l t (k ∷ rest) ls free apart = (
+  free_bound k l t ls free.0 (All-head (λ (k : ℕ). l ≢ k) k rest apart),
+  free_rest l t rest ls free.1 (All-tail (λ (k : ℕ). l ≢ k) k rest apart),
+)
 
 free_first : (op : Op) (rest : List Op) (ls : Labels) → AreFree (labels_in (op ∷ rest)) ls → IsFreeFor op ls
 free_first (ops.Start l w when p msg) rest ls free = free.0

@@ -1,6 +1,6 @@
 -- How many timers of a service have which status, and the line that tells it.
 
-use Rattle.std.specs.Prelude.{ℕ, zero, suc, ◌+◌, Bool, true, false, List, [], ◌∷◌, codes, Option, Some, None}
+use Rattle.std.specs.Prelude.{ℕ, zero, suc, ◌+◌, Bool, true, false, List, [], ◌∷◌, codes, Option, Some}
 use Rattle.std.specs.Fmt.{decimal}
 use Rattle.ert_defs.specs.States.{State, opening, run}
 use Rattle.ert_defs.specs.declared.settings.Settings.{Settings}

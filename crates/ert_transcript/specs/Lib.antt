@@ -11,3 +11,6 @@ pub mod PlainTimers
 pub mod PlainTurns
 pub mod Scripts
 pub mod Worked
+pub mod WorkedClocks
+pub mod WorkedTimers
+pub mod WorkedTurns
