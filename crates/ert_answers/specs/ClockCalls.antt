@@ -1,7 +1,7 @@
 -- What the calls on the clock record and answer (`erlang` module reference, `monotonic_time`, `time_offset`,
 -- `system_time`, `system_flag`).
 
-use Rattle.std.specs.Prelude.{◌≡◌, ℕ, ℤ, ◌+ℤ◌, Bool, List, [], ◌∷◌, Option, None, Result, Ok, Err}
+use Rattle.std.specs.Prelude.{◌≡◌, ℕ, ℤ, ◌+ℤ◌, Bool, List, [], ◌∷◌, None, Result, Ok, Err}
 use Rattle.ert_clock.specs.Ticks.{act_of, keeper_entry, tick_entries, offset_of, IsWide}
 use Rattle.ert_clock.specs.declared.clock.ClockErr.{ClockErr}
 use Rattle.ert_clock.specs.declared.clock.ClockErr.TheVariants.{BadReading, OffsetWide}

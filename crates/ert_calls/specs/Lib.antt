@@ -1,3 +1,2 @@
-pub mod Calls
 pub mod Deadlines
-pub mod Trial
+pub mod Left

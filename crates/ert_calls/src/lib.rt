@@ -7,7 +7,7 @@
 //!
 //! | call | entries | answer |
 //! |---|---|---|
-//! | `monotonic_time` | Look | its time |
+//! | `monotonic_time`, `look` | Look | its time |
 //! | `time_offset` | Off | its offset, and the state of that |
 //! | `system_time` | Look, Off | the time of the one and the offset of the other, added |
 //! | `read_timer` | Look; Peek where the reference is in range | what the Peek found left |
@@ -24,10 +24,8 @@
 
 mod clock_calls;
 mod process_calls;
-#[cfg(test)]
-mod tests;
 mod timer_calls;
 
-pub use clock_calls::{monotonic_time, system_time, time_offset};
+pub use clock_calls::{look, monotonic_time, system_time, time_offset};
 pub use process_calls::{is_alive, mark_exit};
 pub use timer_calls::{cancel_timer, read_timer};

@@ -10,7 +10,7 @@ use Rattle.ert_defs.specs.declared.entry.Act.TheVariants.{Plain}
 use Rattle.ert_defs.specs.declared.settings.Reading.{Reading}
 use Rattle.ert_defs.specs.declared.settings.Settings.{Settings}
 use Rattle.ert_defs.proofs.Bounds.{sound_tick, time_fits}
-use Rattle.ert_clock.specs.Faces.{IsKept}
+use Rattle.ert_clock.specs.Shown.{IsKept}
 
 -- the time after a tick has 64 bits
 pub after_fits : (g : Settings) (f : Face) (r : Reading) → IsKept g f → IsValid r

@@ -10,7 +10,7 @@ use Rattle.ert_defs.specs.declared.entry.Act.{Act}
 use Rattle.ert_defs.specs.declared.settings.Reading.{Reading}
 use Rattle.ert_defs.specs.declared.settings.Settings.{Settings}
 use Rattle.ert_defs.proofs.Bounds.{sound_tick, sound_shift, due_fits}
-use Rattle.ert_clock.specs.Faces.{IsKept}
+use Rattle.ert_clock.specs.Shown.{IsKept}
 use Rattle.ert_clock.specs.Ticks.{offset_of, IsWide, Limits, Gives}
 use Rattle.ert_clock.specs.declared.clock.ClockErr.{ClockErr}
 use Rattle.ert_clock.specs.declared.clock.ClockErr.TheVariants.{BadReading, OffsetWide}

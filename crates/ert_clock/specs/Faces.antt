@@ -1,11 +1,8 @@
--- What the fields of a clock mean.
+-- What the numbers of a line and of a face mean.
 
 use Rattle.ert_defs.specs.Lines.{Base, Face}
-use Rattle.ert_defs.specs.Settings.{IsChecked}
-use Rattle.ert_defs.specs.Sound.{Sound}
 use Rattle.ert_clock.specs.declared.faces.Face.{Face as KeptFace}
 use Rattle.ert_clock.specs.declared.faces.Line.{Line}
-use Rattle.ert_defs.specs.declared.settings.Settings.{Settings}
 
 -- the base of a line
 abbrev pub base_of : Line → Base
@@ -14,8 +11,3 @@ base_of l = record { time = l.time; mono = l.mono; sys = l.sys; rate = l.rate }
 -- what a clock with this face shows
 abbrev pub face_of : KeptFace → Face
 face_of f = record { time = f.time; offset = f.offset; state = f.state; base = base_of f.line; mono = f.mono }
-
--- what each clock keeps: settings that were checked, and the bounds of its face
-pub record IsKept (g : Settings) (f : Face) : Type 0 where
-  pub checked : IsChecked g
-  pub sound : Sound g f

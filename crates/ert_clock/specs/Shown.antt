@@ -4,6 +4,8 @@ use Rattle.std.specs.Prelude.{◌≡◌, List, None}
 use Rattle.ert_defs.specs.Clocks.{face, first_clock}
 use Rattle.ert_defs.specs.Legal.{Legal}
 use Rattle.ert_defs.specs.Lines.{Face}
+use Rattle.ert_defs.specs.Settings.{IsChecked}
+use Rattle.ert_defs.specs.Sound.{Sound}
 use Rattle.ert_defs.specs.States.{state}
 use Rattle.ert_defs.specs.declared.entry.Entry.{Entry}
 use Rattle.ert_defs.specs.declared.settings.Settings.{Settings}
@@ -24,3 +26,8 @@ pub record Stands (g : Settings) (h : List Entry) (v : Shown) : Type 0 where
   pub settings : v.settings ≡ g
   pub face : v.face ≡ face g (state g h).clock
   pub quiet : (state g h).clock.due ≡ None
+
+-- what each clock keeps: settings that were checked, and the bounds of its face
+pub record IsKept (g : Settings) (f : Face) : Type 0 where
+  pub checked : IsChecked g
+  pub sound : Sound g f

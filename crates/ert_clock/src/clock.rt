@@ -1,4 +1,8 @@
 ghost use Rattle.std.specs.Prelude.{◌≡◌};
+ghost use Rattle.ert_defs.specs.Lines.{time_after};
+ghost use Rattle.ert_defs.specs.Readings.{IsValid};
+ghost use Rattle.ert_clock.specs.Faces.{face_of};
+ghost use Rattle.ert_clock.specs.Shown.{IsKept};
 ghost use Rattle.ert_clock.specs.Ticks.{Limits, offset_of};
 
 use crate::faces::{Face, is_offset};
@@ -32,8 +36,8 @@ pub struct Clock {
 }
 
 impl Model for Clock {
-    ghost use Rattle.ert_clock.specs.Shown.{Shown};
-    ghost use Rattle.ert_clock.specs.Faces.{face_of, IsKept};
+    ghost use Rattle.ert_clock.specs.Shown.{Shown, IsKept};
+    ghost use Rattle.ert_clock.specs.Faces.{face_of};
 
     ghost Value = { Shown };
 
@@ -128,7 +132,7 @@ impl Clock {
             return Err(ClockErr::BadReading);
         }
         let settings = &self.settings;
-        let now = self.face.time_after(settings, reading);
+        let now = time_after(settings, &self.face, reading);
         let shift = limit(self.face.due_after(settings, reading, act, now))?;
         self.face = self.face.ticked(settings, reading, act, now).shifted(shift);
         Ok(Moved {
@@ -136,6 +140,15 @@ impl Clock {
             shift: offset_of(shift),
         })
     }
+}
+
+/// Monotonic time after a tick, in nanoseconds. It fits, since a clock takes only valid readings.
+fn time_after(settings: &Settings, face: &Face, reading: Reading) -> i64
+    requires kept { IsKept settings.now (face_of face.now) }
+    requires valid { IsValid reading }
+    ensures { result ≡ time_after settings.now (face_of face.now) reading }
+{
+    face.time_after(settings, reading) as i64
 }
 
 /// The shift that is due, if any, unless its offset is outside the limits.
@@ -155,6 +168,3 @@ fn offset_of(shift: Option<(i64, OffsetState)>) -> Option<i64>
 {
     shift.map(|(offset, _)| offset)
 }
-
-#[cfg(test)]
-mod tests;

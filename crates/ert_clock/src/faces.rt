@@ -4,9 +4,7 @@ ghost use Rattle.ert_defs.specs.Clocks.{face, first_clock};
 ghost use Rattle.ert_defs.specs.Lines.{IsOffset, rate_of, rate_after, is_base, shift_of};
 ghost use Rattle.ert_defs.specs.Lines.{mono_after, line_time, time_after, base_from, due_at};
 ghost use Rattle.ert_defs.specs.Lines.{due_after, ticked, shifted};
-ghost use Rattle.ert_defs.specs.Readings.{IsValid};
 ghost use Rattle.ert_defs.specs.Settings.{IsChecked};
-ghost use Rattle.ert_defs.specs.Sound.{IsRate, Sound};
 
 use ert_defs::{Act, OffsetState, Reading, Settings};
 
@@ -17,9 +15,16 @@ const CHECK_INTERVAL: u64 = 60_000_000_000;
 /// (profile).
 const TOLERANCE: i128 = 1_000_000;
 
-/// By how many parts per million a check makes time faster or slower: one percent (ERTS User's Guide,
-/// "Time Correction").
-const CORRECTION: i64 = 10_000;
+/// From how far on a check corrects at full strength, in nanoseconds: 100 milliseconds (profile).
+const FAR: i128 = 100_000_000;
+
+/// By how many parts per million a check makes time faster or slower to use up a small difference
+/// (profile).
+const GENTLE: i16 = 500;
+
+/// By how many parts per million it does so where the difference is large: one percent, the most that the
+/// ERTS User's Guide allows ("Time Correction").
+const STRONG: i16 = 10_000;
 
 /// The line on which time runs with correction, from the last check on.
 #[derive(Clone, Copy)]
@@ -31,7 +36,7 @@ pub struct Line {
     /// OS system time at the last check.
     pub sys: i64,
     /// By how many parts per million time runs faster than OS monotonic time, -10,000 to 10,000.
-    pub rate: i64,
+    pub rate: i16,
 }
 
 /// The numbers of a clock that change, in nanoseconds.
@@ -55,22 +60,26 @@ pub fn is_offset(offset: i128) -> bool
 }
 
 /// The rate after a check that finds OS system time so many nanoseconds above system time.
-pub fn rate_after_check(state: OffsetState, error: i128) -> i64
+fn rate_after_check(state: OffsetState, error: i128) -> i16
     ensures { result ≡ rate_of state error }
 {
     if state != OffsetState::Final {
         0
+    } else if error > FAR {
+        STRONG
     } else if error > TOLERANCE {
-        CORRECTION
+        GENTLE
+    } else if error < -FAR {
+        -STRONG
     } else if error < -TOLERANCE {
-        -CORRECTION
+        -GENTLE
     } else {
         0
     }
 }
 
 /// The rate of a line that starts at a tick.
-pub fn rate_after(act: Act, state: OffsetState, error: i128) -> i64
+fn rate_after(act: Act, state: OffsetState, error: i128) -> i16
     ensures { result ≡ rate_after act state error }
 {
     match act {
@@ -80,7 +89,7 @@ pub fn rate_after(act: Act, state: OffsetState, error: i128) -> i64
 }
 
 /// A millionth of a number, rounded down.
-fn millionth(product: i128) -> i128
+pub fn millionth(product: i128) -> i128
     ensures { result ≡ int_div_euclid product (pos 1000000) }
 {
     product.div_euclid(1_000_000)
@@ -92,7 +101,6 @@ impl Line {
     /// The time on the line at an OS monotonic time. Before the last check, or past the last valid reading,
     /// it may need more than 64 bits.
     pub fn time_at(&self, mono: i64) -> i128
-        requires { IsRate self.now.rate }
         ensures { result ≡ line_time (base_of self.now) mono }
     {
         let since = mono as i128 - self.mono as i128;
@@ -101,7 +109,7 @@ impl Line {
 }
 
 impl Face {
-    ghost use Rattle.ert_clock.specs.Faces.{base_of, face_of, IsKept};
+    ghost use Rattle.ert_clock.specs.Faces.{base_of, face_of};
 
     /// The face at the opening. The first reading counts as a check.
     pub fn opening(settings: &Settings) -> Face
@@ -132,16 +140,15 @@ impl Face {
     }
 
     /// Monotonic time after a tick: that of the line, or without correction OS system time less the offset
-    /// where that is later than before.
-    pub fn time_after(&self, settings: &Settings, reading: Reading) -> i64
-        requires kept { IsKept settings.now (face_of self.now) }
-        requires valid { IsValid reading }
+    /// where that is later than before. For a face that no valid readings lead to it may need more than 64
+    /// bits.
+    pub fn time_after(&self, settings: &Settings, reading: Reading) -> i128
         ensures { result ≡ time_after settings.now (face_of self.now) reading }
     {
         if settings.correction {
-            self.line.time_at(self.mono_after(reading)) as i64
+            self.line.time_at(self.mono_after(reading))
         } else {
-            self.time.max(reading.sys - self.offset)
+            (self.time as i128).max(reading.sys as i128 - self.offset as i128)
         }
     }
 

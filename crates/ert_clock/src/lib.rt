@@ -15,8 +15,9 @@
 //! **Checks.** A tick is a check where it is forced, or where the last check is a minute away: in OS
 //! monotonic time with correction, in OS system time without. A check ends the tick. The line starts again
 //! at the time to which the tick came, so that a new rate never makes time leap. In state final the rate is
-//! one percent up where OS system time is more than a millisecond ahead of system time (time plus offset),
-//! one percent down where it is more than a millisecond behind, and else 0. In the other states it is 0.
+//! one percent up where OS system time is more than 100 milliseconds ahead of system time (time plus
+//! offset), 500 parts per million where it is more than one ahead, the same down where it is behind, and
+//! else 0. In the other states it is 0. A rate stands until the next check.
 //!
 //! **The offset.** In no time warp mode it is final from the start. In multi time warp mode it is
 //! volatile, and a check that finds it more than a millisecond off sets it to OS system time less time. In
@@ -35,3 +36,4 @@ mod clock;
 mod faces;
 
 pub use clock::{Clock, ClockErr, Moved};
+pub use faces::{Face, Line, is_offset, millionth};

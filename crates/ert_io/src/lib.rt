@@ -18,8 +18,6 @@ mod mem_source;
 mod reading;
 mod sink;
 mod source;
-#[cfg(test)]
-mod tests;
 mod writing;
 
 pub use failed::Failed;

@@ -12,7 +12,7 @@ use Rattle.ert_defs.specs.declared.entry.Event.{Event}
 use Rattle.ert_defs.specs.declared.entry.Event.TheVariants.{Tick, Shift, Look, Off, Arm, Probe, Peek, Cancel, Expire, Orphan, Deliver, Drop, Mark, Advanced, Ask, Pick, Answer, Take, Unwatch, Watch, Tell}
 use Rattle.ert_defs.specs.declared.settings.Settings.{Settings}
 use Rattle.ert_defs.specs.declared.timer.TimerRef.{TimerRef}
-use Rattle.ert_state.specs.Clocks.{face_of}
+use Rattle.ert_clock.specs.Faces.{face_of}
 use Rattle.ert_judge.specs.Shown.{ClockIs, ClockFollows, face_moved, due_moved}
 use Rattle.ert_state.specs.declared.clock.Clock.{Clock as KeptClock}
 
@@ -109,7 +109,7 @@ clock_stands g c by with event old new keeps is follows =
     let shows = clock_shows g c event in
     let moved : ClockIs g (clock_after g c event) new = record {
       face = shows.0 ∙ ap (λ f. face_moved g f event) is.face ∙ sym follows.face;
-      due = shows.1 ∙ ap (λ f. due_moved g f c.due event) is.face ∙ ap (λ d. due_moved g (face_of old) d event) is.due
+      due = shows.1 ∙ ap (λ f. due_moved g f c.due event) is.face ∙ ap (λ d. due_moved g (face_of old.face) d event) is.due
           ∙ sym follows.due;
     } in
     let P : Clock → Type 0 = λ x. ClockIs g x new in

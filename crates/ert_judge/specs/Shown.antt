@@ -14,7 +14,7 @@ use Rattle.ert_defs.specs.declared.entry.Event.{Event}
 use Rattle.ert_defs.specs.declared.entry.Event.TheVariants.{Tick, Shift, Arm}
 use Rattle.ert_defs.specs.declared.settings.Settings.{Settings}
 use Rattle.ert_defs.specs.declared.timer.Status.{Status}
-use Rattle.ert_state.specs.Clocks.{face_of}
+use Rattle.ert_clock.specs.Faces.{face_of}
 use Rattle.ert_state.specs.Parts.{looks_in, no_looks, look_of, looks_after, rows_in, status_at, timers_after, exited_at, exits_after, mail_at, mails_after, inbox_at, inboxes_after, sched_at, scheds_in, scheds_after}
 use Rattle.ert_state.specs.Wheels.{timers_at, last_in, is_settled, IsOwn}
 use Rattle.ert_state.specs.declared.clock.Clock.{Clock as KeptClock}
@@ -22,7 +22,7 @@ use Rattle.ert_judge.specs.declared.judge.Judge.{Judge}
 
 -- the numbers of a judge's clock are those of a clock
 pub record ClockIs (g : Settings) (c : Clock) (k : KeptClock) : Type 0 where
-  pub face : face g c ≡ face_of k
+  pub face : face g c ≡ face_of k.face
   pub due : c.due ≡ k.due
 
 -- the state that a judge keeps, with this clock
@@ -82,8 +82,8 @@ MayFollow g f _ = Unit {0}
 
 -- a clock has gone on by an event
 pub record ClockFollows (g : Settings) (old : KeptClock) (event : Event) (new : KeptClock) : Type 0 where
-  pub face : face_of new ≡ face_moved g (face_of old) event
-  pub due : new.due ≡ due_moved g (face_of old) old.due event
+  pub face : face_of new.face ≡ face_moved g (face_of old.face) event
+  pub due : new.due ≡ due_moved g (face_of old.face) old.due event
 
 -- the deadline of the timer that an event arms, by the last look of its maker
 abbrev pub deadline_by : Settings → ℤ → Event → Option ℕ

@@ -37,7 +37,7 @@ impl Judge {
     ghost use Rattle.ert_defs.specs.declared.entry.Actor.TheVariants.{MailOf};
     ghost use Rattle.ert_defs.specs.declared.entry.Entry as entries;
     ghost use Rattle.ert_defs.specs.declared.settings.Settings as settings;
-    ghost use Rattle.ert_state.specs.Clocks.{face_of};
+    ghost use Rattle.ert_clock.specs.Faces.{face_of};
     ghost use Rattle.ert_state.specs.Parts.{looks_in, look_of, sched_at, exited_at};
     ghost use Rattle.ert_judge.specs.Shown.{ClockIs, shown, IsOpening, OwnTimers, last_status, HasAdvanced, MayFollow, ClockFollows, deadline_by, Follows, StandsFor};
     ghost use Rattle.ert_state.specs.Wheels.{timers_at, IsFirstDue};
@@ -103,9 +103,9 @@ impl Judge {
             → IsTrue result ↔ Found self.now.settings (shown c self.now) entry.now.by entry.now.event }
     {
         match entry.event {
-            Event::Look { now } => now == self.clock.time,
+            Event::Look { now } => now == self.clock.face.time,
             Event::Off { offset, state } => {
-                offset == self.clock.offset && state == self.clock.state
+                offset == self.clock.face.offset && state == self.clock.face.state
             }
             Event::Probe { wheel, slot, found } => found == self.last_status(wheel, slot),
             Event::Peek { timer, left } => is_left(left, self.left(entry.by, timer)),
@@ -113,8 +113,8 @@ impl Judge {
             Event::Expire { timer } => self.timers.status(timer) == Some(Status::Armed),
             Event::Orphan { timer } => self.timers.status(timer) == Some(Status::Armed),
             Event::Mark { process, was, .. } => was == self.exits.has_exited(process),
-            Event::Watch { offset, .. } => offset == self.clock.offset,
-            Event::Tell { offset, .. } => offset == self.clock.offset,
+            Event::Watch { offset, .. } => offset == self.clock.face.offset,
+            Event::Tell { offset, .. } => offset == self.clock.face.offset,
             _ => true,
         }
     }
@@ -220,7 +220,7 @@ impl Judge {
     /// Goes on by an entry that is legal. A part that reads another goes on before that one does, so that it
     /// finds it as it was before the entry.
     fn follow(&mut self, entry: &Entry) -> Result<(), NoMemory>
-        requires { MayFollow self.old.settings (face_of self.old.clock) entry.now.event }
+        requires { MayFollow self.old.settings (face_of self.old.clock.face) entry.now.event }
         ensures { OnOk result (Follows self.old entry.now self.new) }
     {
         let event = &entry.event;
@@ -249,7 +249,7 @@ impl Judge {
 
     /// The clock goes on by an event.
     fn follow_clock(&mut self, event: &Event)
-        requires { MayFollow self.old.settings (face_of self.old.clock) event.now }
+        requires { MayFollow self.old.settings (face_of self.old.clock.face) event.now }
         ensures clock { ClockFollows self.old.settings self.old.clock event.now self.new.clock }
         ensures others { self.new ≡ record self.old { clock = self.new.clock } }
     {

@@ -17,7 +17,5 @@
 #![tactic(auto)]
 
 mod part;
-#[cfg(test)]
-mod tests;
 
 pub use part::KeeperPart;

@@ -20,8 +20,6 @@ mod op;
 mod rows;
 mod scanning;
 mod scenario;
-#[cfg(test)]
-mod tests;
 mod units;
 mod walk;
 

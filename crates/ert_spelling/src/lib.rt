@@ -15,8 +15,6 @@ mod laws;
 mod mails;
 mod numbers;
 mod settings;
-#[cfg(test)]
-mod tests;
 mod timers;
 mod words;
 

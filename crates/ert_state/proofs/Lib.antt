@@ -1,4 +1,2 @@
-mod Casts
 mod MonitorLaws
-mod Ticks
 pub mod WheelLaws

@@ -4,7 +4,7 @@
 //! and goes on by an event by its own rule: the clock, the last looks, the timers of each wheel, the exits,
 //! the mailboxes, the inboxes and the schedulers. A part is a list of cells, one for each number in range.
 //! Its `follow` says exactly which list it becomes (`specs/Parts`); what it is asked, it finds in one cell,
-//! for a timer by a scan of the timers of one wheel. It stands on `ert_defs` alone.
+//! for a timer by a scan of the timers of one wheel. It stands on `ert_defs`, and on the numbers of `ert_clock`.
 #![tactic(auto)]
 
 mod clock;
@@ -18,7 +18,7 @@ mod schedulers;
 mod timers;
 mod wheels;
 
-pub use clock::{Clock, Line};
+pub use clock::Clock;
 pub use exits::Exits;
 pub use inboxes::Inboxes;
 pub use looks::Looks;

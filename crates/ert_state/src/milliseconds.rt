@@ -1,7 +1,7 @@
 ghost use Rattle.std.specs.Prelude.{◌≡◌, pos, negsuc, ◌≤ℤ◌};
 ghost use Rattle.ert_defs.specs.Milliseconds as milliseconds;
 
-use crate::clock::millionth;
+use ert_clock::millionth;
 use ert_defs::{Settings, When};
 
 /// The last deadline that a timer can have, in milliseconds after the start time.

@@ -13,7 +13,7 @@ use Rattle.ert_defs.specs.Sound.{MayShift}
 use Rattle.ert_defs.specs.States.{State, opening, next, state}
 use Rattle.ert_defs.specs.Words.{time_word, offset_word, is_final}
 use Rattle.ert_defs.proofs.Bounds.{time_fits}
-use Rattle.ert_defs.proofs.Permissions.{IsOfMode, KeepsMode, mode_opening, mode_when}
+use Rattle.ert_defs.proofs.Modes.{IsOfMode, KeepsMode, mode_opening, mode_when}
 use Rattle.ert_defs.proofs.Runs.{kept_from, legal_more, state-append}
 use Rattle.ert_defs.proofs.Times.{kept, state_in_range}
 use Rattle.ert_defs.specs.declared.entry.Act.{Act}
@@ -131,7 +131,7 @@ time_acts g v by carry checked may = record {
 
 -- a shift changes the offset alone
 pub shift_acts : (g : Settings) (v : View) (by : ℕ) (offset : ℤ) (new : OffsetState) → MayStep g v (shift_entry by offset new)
-    → Acts g v 1 (λ n. offset_word offset (is_final new)) (λ n. shift_entry by offset new)
+    → Acts g v 8 (λ n. offset_word offset (is_final new)) (λ n. shift_entry by offset new)
 shift_acts g v by offset new may = record {
   ours = λ n. may.ours;
   keeps = λ n. may.keeps;
@@ -241,7 +241,7 @@ offset_carried g actors s by (ToTell process) offset new is = is.0
 -- a load of the offset records what is carried
 pub offset_acts : (g : Settings) (v : View) (by : Actor) (carry : OffsetCarry) → IsChecked g
     → ((offset : ℤ) (new : OffsetState) → MayStep g v (offset_entry g v.actors by carry offset new))
-    → Acts g v 1 (λ n. n) (λ n. offset_entry g v.actors by carry (offset_in n) (state_in g n))
+    → Acts g v 8 (λ n. n) (λ n. offset_entry g v.actors by carry (offset_in n) (state_in g n))
 offset_acts g v by carry checked may =
     let entry = λ (n : ℕ). offset_entry g v.actors by carry (offset_in n) (state_in g n) in
     record {
@@ -250,6 +250,6 @@ offset_acts g v by carry checked may =
       known = λ n. (may (offset_in n) (state_in g n)).known;
       found = λ h n then. offset_carried g v.actors (state g h) by carry (offset_in n) (state_in g n)
           (offset_found g h n checked then.legal then.word);
-      here = λ h n then. word_quiet g (state g h) (entry n) 1 (offset_quiet g v.actors by carry (offset_in n) (state_in g n)) ∙ then.word;
+      here = λ h n then. word_quiet g (state g h) (entry n) 8 (offset_quiet g v.actors by carry (offset_in n) (state_in g n)) ∙ then.word;
       others = λ h n j then lt not. word_quiet g (state g h) (entry n) j (offset_quiet g v.actors by carry (offset_in n) (state_in g n));
     }

@@ -1,6 +1,6 @@
 -- What a pass that holds every actor knows: the whole history.
 
-use Rattle.std.proofs.Common.{◌≡◌, ℕ, zero, suc, vec_len, ◌+◌, ◌*◌, ◌<◌, true, false, List, [], ◌∷◌, ◌++◌, slice_index, Option, None, refl, sym, ap, subst, ◌∙◌, arith, append-nil}
+use Rattle.std.proofs.Common.{◌≡◌, ℕ, zero, suc, vec_len, ◌+◌, ◌*◌, ◌/◌, ◌%◌, ◌<◌, true, false, List, [], ◌∷◌, ◌++◌, slice_index, Option, None, refl, sym, ap, subst, ◌∙◌, arith, append-nil}
 use lib.ListN.{get_elem?}
 use mathlib.Core.Option.{some, some-injective, some-ne-none}
 use Rattle.atomic_table.specs.Table.{Final, Seen}
@@ -21,7 +21,7 @@ use Rattle.ert_table.specs.Rule.{Fits, Holds}
 use Rattle.ert_table.proofs.Holders.{or_left, same_actor_self}
 use Rattle.ert_table.proofs.OneStep.{Ruled}
 use Rattle.ert_table.proofs.WordPlaces.{slot_place-high, word_of-slot, process_place-high, word_of-process}
-use Rattle.std.proofs.lemmas.Nat.{mul-add-lt}
+use Rattle.std.proofs.lemmas.Nat.{div-mul-add, mod-mul-add, mul-add-lt}
 use Rattle.ert_table.specs.declared.desk.Words.{Words}
 use Rattle.ert_table.specs.declared.view.View.{View}
 
@@ -106,20 +106,23 @@ get_at (x ∷ words) (suc i) n h = get_at words i n h
 -- words that are read one by one from those at closing are those of the front
 pub close_words : (g : Settings) (s : State) (found : ℕ → ℕ) (w : Words)
     → ((i : ℕ) → i < word_count g → found i ≡ word_of g s i)
-    → w.time ≡ found 0 → w.offset ≡ found 1
+    → w.time ≡ found 0 → w.offset ≡ found 8
     → vec_len w.timers ≡ g.schedulers * g.slots
-    → ((k : ℕ) → k < g.schedulers * g.slots → slice_index w.timers.items k ≡ found (2 + k))
+    → ((i : ℕ) → i < g.schedulers * g.slots → slice_index w.timers.items i ≡ found (slot_place g (i / g.slots) (i % g.slots)))
     → vec_len w.processes ≡ g.processes
-    → ((k : ℕ) → k < g.processes → slice_index w.processes.items k ≡ found (process_place g k))
+    → ((p : ℕ) → p < g.processes → slice_index w.processes.items p ≡ found (process_place g p))
     → AreWords g s w
 close_words g s found w shown time offset timers_length timers processes_length processes = record {
   time = time ∙ shown 0 (omega arith);
-  offset = offset ∙ shown 1 (omega arith);
+  offset = offset ∙ shown 8 (omega arith);
   timers_length = timers_length;
   timers = λ wheel slot low lt.
-      let fits : wheel * g.slots + slot < g.schedulers * g.slots = omega (arith, mul-add-lt wheel g.slots slot g.schedulers low lt) in
-      let place : 2 + (wheel * g.slots + slot) ≡ slot_place g wheel slot = omega arith in
-      timers (wheel * g.slots + slot) fits
+      let i : ℕ = wheel * g.slots + slot in
+      let within : i < g.schedulers * g.slots = omega (arith, mul-add-lt wheel g.slots slot g.schedulers low lt) in
+      let place : slot_place g (i / g.slots) (i % g.slots) ≡ slot_place g wheel slot =
+      ap (λ x. slot_place g x (i % g.slots)) (div-mul-add wheel g.slots slot lt)
+      ∙ ap (λ x. slot_place g wheel x) (mod-mul-add wheel g.slots slot lt) in
+      timers i within
       ∙ (ap found place ∙ (shown (slot_place g wheel slot) (slot_place-high g wheel slot low lt) ∙ word_of-slot g s wheel slot low lt));
   processes_length = processes_length;
   processes = λ p lt. processes p lt ∙ (shown (process_place g p) (process_place-high g p lt) ∙ word_of-process g s p);

@@ -1,7 +1,8 @@
 -- The rule holds at the opening.
 
-use Rattle.std.proofs.Common.{◌≡◌, ℕ, ℤ, pos, zero, suc, ◌-◌, ◌*◌, ◌<◌, ◌≤◌, ◌-ℤ◌, Bool, true, false, cond, nat_lt, [], ◌∷◌, replicate, slice_index, refl, sym, ap, subst, ◌∙◌, arith, length-set, get_or-set_same, get_or-set_other}
+use Rattle.std.proofs.Common.{◌≡◌, ◌≢◌, ⊎_elim, ℕ, ℤ, pos, zero, suc, ◌<◌, ◌-ℤ◌, [], ◌∷◌, replicate, slice_index, refl, sym, ap, subst, ◌∙◌, arith, length-set, get_or-set_same, get_or-set_other}
 use Rattle.std.proofs.Math.ListN.{length-replicate, get_or-replicate}
+use Rattle.std.proofs.lemmas.Bool.{cases_eq}
 use Rattle.std.proofs.lemmas.Int.{ints}
 use mathlib.Core.Option.{some, some-injective, some-ne-none}
 use lib.ListN.{get_elem?}
@@ -12,33 +13,38 @@ use Rattle.ert_defs.specs.declared.settings.Settings.{Settings}
 use Rattle.ert_table.specs.Openings.{first_words}
 use Rattle.ert_table.specs.Rule.{Fits, Holds}
 use Rattle.ert_table.specs.Views.{first_view}
-use Rattle.ert_table.proofs.WordPlaces.{word_of-later}
+use Rattle.ert_table.specs.Places.{slot_place, process_place}
+use Rattle.ert_table.proofs.WordPlaces.{Use, for_time, for_offset, for_slot, for_process, for_gap, use_of, word_of-slot, word_of-process}
 use Rattle.ert_table.specs.declared.view.View.{View}
-
-cond_same : {X : Type 0} (b : Bool) (x : X) → cond b x x ≡ x
-cond_same true x = refl
-cond_same false x = refl
 
 no_time : (start : ℤ) → time_word start start ≡ 0
 no_time start =
     let none : start -ℤ start ≡ pos 0 = omega (arith, ints) in
     ap natural none
 
--- behind the first two each word of the opening is 0
-opening_later : (g : Settings) (i : ℕ) → 2 ≤ i → word_of g (opening g) i ≡ 0
-opening_later g i low =
-    word_of-later g (opening g) i (i - 2) (omega arith) ∙ cond_same (nat_lt (i - 2) (g.schedulers * g.slots)) 0
+-- each word of the opening but the offset is 0
+opening_idle : (g : Settings) (i : ℕ) → i ≢ 8 → word_of g (opening g) i ≡ 0
+opening_idle g i not = at (use_of g i)
+  where
+    here : (j : ℕ) → i ≡ j → word_of g (opening g) j ≡ 0 → word_of g (opening g) i ≡ 0
+    here j is idle = ap (λ x. word_of g (opening g) x) is ∙ idle
+
+    at : Use g i → word_of g (opening g) i ≡ 0
+    at (for_time is) = here 0 is (no_time g.start)
+    at (for_offset is) = absurd (not is)
+    at (for_slot w k low lt is) = here (slot_place g w k) is (word_of-slot g (opening g) w k low lt)
+    at (for_process p is) = here (process_place g p) is (word_of-process g (opening g) p)
+    at (for_gap idle) = idle (opening g)
 
 -- the words of the opening
 first_shown : (g : Settings) (i : ℕ) → i < word_count g → slice_index (first_words g) i ≡ word_of g (opening g) i
-first_shown g zero lt =
-    get_or-set_other (replicate (word_count g) 0) 1 0 _ 0 (λ h. omega arith)
-    ∙ (get_or-replicate (word_count g) 0 0 0 lt ∙ sym (no_time g.start))
-first_shown g (suc zero) lt =
-    get_or-set_same (replicate (word_count g) 0) 1 _ 0 (omega (arith, length-replicate {A = ℕ} (word_count g) 0))
-first_shown g (suc (suc i)) lt =
-    get_or-set_other (replicate (word_count g) 0) 1 (suc (suc i)) _ 0 (λ h. omega arith)
-    ∙ (get_or-replicate (word_count g) (suc (suc i)) 0 0 lt ∙ sym (opening_later g (suc (suc i)) (omega arith)))
+first_shown g i lt =
+    ⊎_elim
+    (λ (is : i ≡ 8). subst (λ j. slice_index (first_words g) j ≡ word_of g (opening g) j) (sym is)
+    (get_or-set_same (replicate (word_count g) 0) 8 _ 0 (omega (arith, length-replicate {A = ℕ} (word_count g) 0))))
+    (λ (not : i ≢ 8). get_or-set_other (replicate (word_count g) 0) 8 i _ 0 not
+    ∙ (get_or-replicate (word_count g) i 0 0 lt ∙ sym (opening_idle g i not)))
+    (cases_eq i 8)
 
 -- the first pass fits the empty history
 first_fits : (g : Settings) → Fits g [] (first_view g)
@@ -52,7 +58,7 @@ pub opens : (g : Settings) → Holds g (first_words g) (first_view g ∷ [])
 opens g = record {
   history = [];
   legal = tt;
-  counted = length-set (replicate (word_count g) 0) 1 _ ∙ length-replicate (word_count g) 0;
+  counted = length-set (replicate (word_count g) 0) 8 _ ∙ length-replicate (word_count g) 0;
   shown = first_shown g;
   fits = λ k v is. subst (Fits g []) (one_view (first_view g) k v is).1 (first_fits g);
   apart = λ j k v w a at_v at_w held_v held_w. (one_view (first_view g) j v at_v).0 ∙ sym (one_view (first_view g) k w at_w).0;

@@ -1,4 +1,5 @@
 pub mod Acts
+pub mod Calls
 pub mod Desks
 pub mod Entries
 pub mod Held
@@ -8,5 +9,4 @@ pub mod Places
 pub mod Rule
 pub mod Settlings
 pub mod Takes
-pub mod Trial
 pub mod Views

@@ -2,17 +2,17 @@
 
 use Rattle.std.specs.Prelude.{◌≡◌, ℕ, ◌+◌, ◌*◌, ◌<◌, vec_len, slice_index}
 use Rattle.ert_defs.specs.States.{State}
-use Rattle.ert_defs.specs.Words.{time_word, offset_word, is_final, word_of_slot, process_word}
+use Rattle.ert_defs.specs.Words.{time_word, offset_word, is_final, word_of_slot, process_word, wheel_width, wheels_width}
 use Rattle.ert_defs.specs.declared.settings.Settings.{Settings}
 use Rattle.ert_table.specs.declared.desk.Words.{Words}
 
 -- the place of the word of a slot of a wheel
 abbrev pub slot_place : Settings → ℕ → ℕ → ℕ
-slot_place g w k = (2 + (w * g.slots)) + k
+slot_place g w k = (16 + (w * wheel_width g)) + k
 
 -- the place of the word of a process
 abbrev pub process_place : Settings → ℕ → ℕ
-process_place g p = (2 + (g.schedulers * g.slots)) + p
+process_place g p = (16 + wheels_width g) + p
 
 -- the words are those of a state
 pub record AreWords (g : Settings) (s : State) (w : Words) : Type 0 where

@@ -1,6 +1,6 @@
 -- What a word of a slot has, and the entries of the steps on it.
 
-use Rattle.std.specs.Prelude.{◌≡◌, ℕ, ℤ, ◌/◌, ◌%◌, Bool, true, false, cond, nat_eq, Option, Some, None, option_map}
+use Rattle.std.specs.Prelude.{◌≡◌, ◌≢◌, ℕ, ℤ, ◌/◌, ◌%◌, Bool, true, false, cond, nat_eq, Option, Some, None, option_map}
 use Rattle.ert_defs.specs.Milliseconds.{left}
 use Rattle.ert_defs.specs.States.{State, state}
 use Rattle.ert_defs.specs.Timers.{Row, row_of, timer_at}
@@ -80,12 +80,19 @@ hit_entry g s by timer deadline ToDrop = entry_by by None (Drop timer)
 abbrev pub probe_entry : Actor → ℕ → ℕ → Option Status → Entry
 probe_entry by wheel slot found = entry_by by (Some (Wheel wheel)) (Probe wheel slot found)
 
+-- a timer wasn't armed when it was to be settled, and the last timer of its slot was looked at. That one
+-- isn't armed either where it is the same, as the pass knows that holds the wheel
+pub record Probes (g : Settings) (v : View) (by : Actor) (timer : TimerRef) (w : View) : Type 0 where
+  pub found : Option Status
+  pub step : Appends g v (probe_entry by timer.wheel timer.slot found) w
+  pub not_armed : (state g v.front).last timer.wheel timer.slot ≡ timer.generation → found ≢ Some Armed
+
 -- what is recorded where a timer isn't in the status that it is to be taken from; one that expired is,
 -- until it is handed over
 abbrev pub Misses : Settings → View → Actor → TimerRef → Settle → View → Type 0
 Misses g v by timer ToCancel w = Appends g v (entry_by by None (Cancel timer None)) w
-Misses g v by timer ToExpire w = (found : Option Status) × Appends g v (probe_entry by timer.wheel timer.slot found) w
-Misses g v by timer ToOrphan w = (found : Option Status) × Appends g v (probe_entry by timer.wheel timer.slot found) w
+Misses g v by timer ToExpire w = Probes g v by timer w
+Misses g v by timer ToOrphan w = Probes g v by timer w
 Misses g v by timer ToDeliver w = ⊥
 Misses g v by timer ToDrop w = ⊥
 

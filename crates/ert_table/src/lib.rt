@@ -9,6 +9,11 @@
 //! compare-and-exchange or an or. It takes no memory, never waits, is never tried again and can't be
 //! refused.
 //!
+//! A step that writes a word takes its whole cache line from the other processors, and the time word is
+//! read by nearly every call. So seven words that are never used stand behind the time, behind the offset
+//! and behind the slots of each wheel: none of these groups shares a line with another, and threads that
+//! start and cancel timers on wheels of their own don't disturb each other.
+//!
 //! # The history
 //!
 //! Each step is recorded as one entry of a history. The history stands in the proofs alone: no list is
@@ -49,7 +54,7 @@
 //! | `arm` | stores a slot | Arm |
 //! | `load_timer` | loads one | Probe, Peek |
 //! | `settle` | exchanges one, if it is as expected | Cancel, Expire, Orphan, Deliver, Drop; on a miss Cancel or Probe |
-//! | `mark` | ors into the word of a process | Mark |
+//! | `mark` | ors 1 into the word of a process that exits, and else loads it | Mark |
 //!
 //! A store needs no care for other writers: the time and the offset are the clock's part's alone, and a
 //! free slot is the wheel's. A slot that is taken may be settled by anybody, so there the whole word is
@@ -68,8 +73,6 @@ mod passes;
 mod places;
 mod plays;
 mod process_steps;
-#[cfg(test)]
-mod tests;
 mod timer_steps;
 mod view;
 

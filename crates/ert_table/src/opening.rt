@@ -1,16 +1,19 @@
 //! How a desk is opened and closed.
-ghost use Rattle.std.specs.Prelude.{◌≡◌, ◌+◌, ◌<◌, ◌≤◌, ℕ, [], length, slice_index, vec_len, replicate, IfOk};
+ghost use Rattle.std.specs.Prelude.{◌≡◌, ◌*◌, ◌/◌, ◌%◌, ◌<◌, ℕ, [], slice_index, vec_len, replicate, IfOk};
 ghost use Rattle.std.specs.Mem.Slots.{slots_items, slots_len, IsFull};
 ghost use Rattle.ert_defs.specs.Lines.{first_offset, first_state};
 ghost use Rattle.ert_defs.specs.Settings.{IsChecked};
 ghost use Rattle.ert_defs.specs.States.{state};
+ghost use Rattle.ert_defs.specs.Words as words;
 ghost use Rattle.ert_defs.specs.Words.{is_final};
 ghost use Rattle.ert_table.specs.Desks.{settings_of, front_of, actors_of, Belongs};
 ghost use Rattle.ert_table.specs.Held.{IsWhole};
 ghost use Rattle.ert_table.specs.Openings.{first_words};
+ghost use Rattle.ert_table.specs.Places as places;
 ghost use Rattle.ert_table.specs.Places.{AreWords};
 
 use crate::desk::{Desk, Pass, Words};
+use crate::places::{OFFSET, TIME, process_place, slot_place, word_count};
 use atomic_table::{Closed, Table};
 use ert_defs::{Mode, NoMemory, Settings};
 use ert_words::offset_word;
@@ -50,14 +53,14 @@ impl Desk {
         let slots = self.settings.schedulers as usize * self.settings.slots as usize;
         let mut timers = zeros(alloc, slots)?;
         let mut processes = zeros(alloc, self.settings.processes as usize)?;
-        let Desk { table, settings: _ } = self;
+        let Desk { table, settings } = self;
         let Pass { seat } = pass;
         let closed = table.close_with(seat);
-        read_words(&closed, 2, &mut timers);
-        read_words(&closed, 2 + slots, &mut processes);
+        read_timers(&closed, &settings, &mut timers);
+        read_processes(&closed, &settings, &mut processes);
         let words = Words {
-            time: closed.word(0),
-            offset: closed.word(1),
+            time: closed.word(TIME),
+            offset: closed.word(OFFSET),
             timers,
             processes,
         };
@@ -70,9 +73,8 @@ fn words_of_opening(alloc: Global, settings: &Settings) -> Result<Vec<u64>, Allo
     requires { IsChecked settings.now }
     ensures { IfOk result (λ words. words.items ≡ first_words settings.now) }
 {
-    let slots = settings.schedulers as usize * settings.slots as usize;
-    let mut words = zeros(alloc, 2 + slots + settings.processes as usize)?;
-    words[1] = offset_word(
+    let mut words = zeros(alloc, word_count(settings))?;
+    words[OFFSET] = offset_word(
         offset_at_opening(settings),
         is_final_at_opening(settings.mode),
     );
@@ -99,14 +101,31 @@ fn is_final_at_opening(mode: Mode) -> bool
     matches!(mode, Mode::No)
 }
 
-/// Reads so many words, from a place on.
-fn read_words(closed: &Closed<(), Global>, first: usize, words: &mut Vec<u64>)
+/// Reads the words of the slots, wheel by wheel, without the gaps between them.
+fn read_timers(closed: &Closed<(), Global>, settings: &Settings, timers: &mut Vec<u64>)
+    requires checked { IsChecked settings.now }
     requires full { IsFull closed.now.words }
-    requires within { first + vec_len words.old ≤ slots_len closed.now.words }
-    ensures length { vec_len words.new ≡ vec_len words.old }
-    ensures words { (k : ℕ) → k < vec_len words.old → slice_index words.new.items k ≡ slice_index (slots_items closed.now.words) (first + k) }
+    requires counted { slots_len closed.now.words ≡ words.word_count settings.now }
+    requires room { vec_len timers.old ≡ settings.now.schedulers * settings.now.slots }
+    ensures length { vec_len timers.new ≡ vec_len timers.old }
+    ensures timers { (i : ℕ) → i < vec_len timers.old → slice_index timers.new.items i ≡ slice_index (slots_items closed.now.words) (places.slot_place settings.now (i / settings.now.slots) (i % settings.now.slots)) }
 {
-    for i in 0..words.len() {
-        words[i] = closed.word(first + i);
+    let slots = settings.slots as usize;
+    for i in 0..timers.len() {
+        timers[i] = closed.word(slot_place(settings, i / slots, i % slots));
+    }
+}
+
+/// Reads the words of the processes.
+fn read_processes(closed: &Closed<(), Global>, settings: &Settings, processes: &mut Vec<u64>)
+    requires checked { IsChecked settings.now }
+    requires full { IsFull closed.now.words }
+    requires counted { slots_len closed.now.words ≡ words.word_count settings.now }
+    requires room { vec_len processes.old ≡ settings.now.processes }
+    ensures length { vec_len processes.new ≡ vec_len processes.old }
+    ensures processes { (p : ℕ) → p < vec_len processes.old → slice_index processes.new.items p ≡ slice_index (slots_items closed.now.words) (places.process_place settings.now p) }
+{
+    for p in 0..processes.len() {
+        processes[p] = closed.word(process_place(settings, p));
     }
 }

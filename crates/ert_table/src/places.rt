@@ -1,33 +1,63 @@
 //! The places of the words in the table.
 ghost use Rattle.std.specs.Prelude.{◌≡◌, ◌<◌};
 ghost use Rattle.ert_defs.specs.Legal.{IsSlot};
+ghost use Rattle.ert_defs.specs.Settings.{IsChecked};
+ghost use Rattle.ert_defs.specs.Words as words;
 ghost use Rattle.ert_table.specs.Places as places;
 
-use crate::desk::Desk;
+use ert_defs::Settings;
+
+/// How many unused words stand between two groups of words: with one word of a group they fill a cache
+/// line of 64 bytes, so a step on one group never takes the line of another.
+const GAP: usize = 7;
 
 /// The place of the time.
 pub(crate) const TIME: usize = 0;
 
 /// The place of the offset.
-pub(crate) const OFFSET: usize = 1;
+pub(crate) const OFFSET: usize = TIME + 1 + GAP;
 
-/// The place of the first slot.
-const SLOTS: usize = 2;
+/// The place of the first slot of the first wheel.
+const SLOTS: usize = OFFSET + 1 + GAP;
 
-impl Desk {
-    /// The place of a slot of a wheel.
-    pub(crate) fn slot_place(&self, wheel: u32, slot: u32) -> usize
-        requires { IsSlot self.now.settings wheel slot }
-        ensures { result ≡ places.slot_place self.now.settings wheel slot }
-    {
-        SLOTS + wheel as usize * self.settings.slots as usize + slot as usize
-    }
+/// The place of a slot of a wheel.
+pub(crate) fn slot_place(settings: &Settings, wheel: usize, slot: usize) -> usize
+    requires checked { IsChecked settings.now }
+    requires slot { IsSlot settings.now wheel slot }
+    ensures { result ≡ places.slot_place settings.now wheel slot }
+{
+    SLOTS + wheel * wheel_width(settings) + slot
+}
 
-    /// The place of a process.
-    pub(crate) fn process_place(&self, process: u32) -> usize
-        requires { process < self.now.settings.processes }
-        ensures { result ≡ places.process_place self.now.settings process }
-    {
-        SLOTS + self.settings.schedulers as usize * self.settings.slots as usize + process as usize
-    }
+/// The place of a process.
+pub(crate) fn process_place(settings: &Settings, process: usize) -> usize
+    requires checked { IsChecked settings.now }
+    requires process { process < settings.now.processes }
+    ensures { result ≡ places.process_place settings.now process }
+{
+    SLOTS + wheels_width(settings) + process
+}
+
+/// How many words a desk has.
+pub(crate) fn word_count(settings: &Settings) -> usize
+    requires { IsChecked settings.now }
+    ensures { result ≡ words.word_count settings.now }
+{
+    SLOTS + wheels_width(settings) + settings.processes as usize
+}
+
+/// How many words the wheels take.
+fn wheels_width(settings: &Settings) -> usize
+    requires { IsChecked settings.now }
+    ensures { result ≡ words.wheels_width settings.now }
+{
+    settings.schedulers as usize * wheel_width(settings)
+}
+
+/// How many words a wheel takes: its slots, and the gap behind them.
+fn wheel_width(settings: &Settings) -> usize
+    requires { IsChecked settings.now }
+    ensures { result ≡ words.wheel_width settings.now }
+{
+    settings.slots as usize + GAP
 }

@@ -7,6 +7,7 @@ ghost use Rattle.ert_table.specs.Settlings.{HasRow, status_from, status_to, sett
 
 use crate::carry::{Settle, TimerCarry};
 use crate::desk::{Desk, Pass};
+use crate::places::slot_place;
 use crate::plays::{Adds, Carried, Compares, Loads};
 use ert_defs::{Actor, Start, Status, TimerRef};
 use ert_words::{timer_of, timer_word};
@@ -67,7 +68,7 @@ impl Pass {
         ensures belongs { Belongs desk.now self.new }
         ensures step { Makes desk.now self.old (arm_entry by timer start.now) self.new }
     {
-        let place = desk.slot_place(timer.wheel, timer.slot);
+        let place = slot_place(&desk.settings, timer.wheel as usize, timer.slot as usize);
         let word = timer_word(Status::Armed, deadline, timer.generation);
         desk.table
             .shared
@@ -113,7 +114,7 @@ impl Pass {
         ensures step { SettlesOrMisses desk.now self.old by timer deadline how result self.new }
         ensures settled { (state_of desk.now self.new).status timer ≢ Some Armed }
     {
-        let place = desk.slot_place(timer.wheel, timer.slot);
+        let place = slot_place(&desk.settings, timer.wheel as usize, timer.slot as usize);
         let old = timer_word(how.status_before(), deadline, timer.generation);
         let new = timer_word(how.status_after(), deadline, timer.generation);
         let found = desk
@@ -153,7 +154,7 @@ impl Pass {
         ensures word { word_of_slot (state_of desk.now self.new) (wheel_in carry.now) (slot_in carry.now) ≡ result }
     {
         let (wheel, slot) = carry.slot();
-        let place = desk.slot_place(wheel, slot);
+        let place = slot_place(&desk.settings, wheel as usize, slot as usize);
         desk.table.shared.load::<Loads<C>>(&mut self.seat, place)
     }
 }

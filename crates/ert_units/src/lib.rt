@@ -6,8 +6,6 @@
 
 mod conversion;
 mod laws;
-#[cfg(test)]
-mod tests;
 mod unit;
 
 pub use conversion::{TooWide, convert};

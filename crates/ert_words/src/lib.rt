@@ -10,8 +10,6 @@
 mod clock_words;
 mod free_slots;
 mod laws;
-#[cfg(test)]
-mod tests;
 mod timer_words;
 
 pub use clock_words::{offset_of, offset_word, time_of, time_word};

@@ -4,7 +4,7 @@ use Rattle.std.specs.Prelude.{ℤ, ◌-ℤ◌}
 use Rattle.std.specs.Int.{w128}
 use Rattle.ert_defs.proofs.Numbers.{floor_low, floor_high}
 use Rattle.ert_defs.specs.Milliseconds.{deadline_at}
-use Rattle.ert_state.proofs.Casts.{wide}
+use Rattle.ert_clock.proofs.Casts.{wide}
 use Rattle.ert_state.proofs.milliseconds.deadline_of.Goals as goal
 
 pub returns-in-At : goal.returns-in-At

@@ -3,7 +3,7 @@ use Rattle.std.proofs.lemmas.Int.{ints}
 use Rattle.std.specs.Prelude.{ℤ, pos, ◌-ℤ◌, ◌+ℤ◌}
 use Rattle.std.specs.Int.{w128, int_div_euclid}
 use Rattle.ert_defs.proofs.Numbers.{floor_low, floor_high}
-use Rattle.ert_state.proofs.Casts.{wide, wide_difference}
+use Rattle.ert_clock.proofs.Casts.{wide, wide_difference}
 use Rattle.ert_state.proofs.milliseconds.up.Goals as goal
 
 pub returns : goal.returns

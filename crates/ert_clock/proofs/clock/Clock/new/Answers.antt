@@ -1,7 +1,7 @@
 use Rattle.std.proofs.Common.{sym, subst}
 use Rattle.ert_defs.specs.Lines.{Face}
 use Rattle.ert_defs.proofs.Bounds.{sound_opening}
-use Rattle.ert_clock.specs.Faces.{IsKept}
+use Rattle.ert_clock.specs.Shown.{IsKept}
 use Rattle.ert_clock.proofs.clock.Clock.new.Goals as goal
 
 pub invariant_of-result : goal.invariant_of-result

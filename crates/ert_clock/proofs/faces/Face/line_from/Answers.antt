@@ -1,6 +1,6 @@
 use Rattle.std.proofs.Common.{rules, FitsSigned, w64, to_z-of_z}
 use Rattle.std.specs.Prelude.{ℤ, ◌-ℤ◌, ◌+ℤ◌}
-use Rattle.std.specs.Int.{w128}
+use Rattle.std.specs.Int.{w16, w128}
 use Rattle.ert_clock.specs.Faces.{face_of}
 use Rattle.ert_clock.proofs.Casts.{wide, wide_sum, wide_error}
 use Rattle.ert_clock.proofs.Rules.{base_is}
@@ -15,7 +15,7 @@ returns c =
     let o64 : FitsSigned w64 c.args.self.now.offset = search rules in
     let s64 : FitsSigned w64 c.args.reading.sys = search rules in
     let m64 : FitsSigned w64 c.mono_after-mono.result = search rules in
-    let r64 : FitsSigned w64 c.rate_after.result = search rules in
+    let r64 : FitsSigned w16 c.rate_after.result = search rules in
     let n128 : FitsSigned w128 n = wide n n64 in
     let o128 : FitsSigned w128 o = wide o o64 in
     let s128 : FitsSigned w128 s = wide s s64 in

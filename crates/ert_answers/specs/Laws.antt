@@ -1,0 +1,105 @@
+-- Laws on what the calls answer. The functions of src/laws.rt carry them as contracts, so that they are
+-- proved.
+
+use Rattle.std.specs.Prelude.{◌≡◌, ◌≢◌, ℕ, ◌<◌, Bool, true, Contains, List, ◌++◌, Option, Some, Ok, Err, ◌≤◌, []}
+use Rattle.ert_defs.specs.Legal.{Legal}
+use Rattle.ert_defs.specs.States.{State, state}
+use Rattle.ert_defs.specs.Timers.{Row}
+use Rattle.ert_defs.specs.declared.entry.Actor.{Actor}
+use Rattle.ert_defs.specs.declared.entry.Entry.{Entry}
+use Rattle.ert_defs.specs.declared.mail.Request.{Request}
+use Rattle.ert_defs.specs.declared.settings.Reading.{Reading}
+use Rattle.ert_defs.specs.declared.settings.Settings.{Settings}
+use Rattle.ert_defs.specs.declared.timer.Start.{Start}
+use Rattle.ert_defs.specs.declared.timer.Status.TheVariants.{Armed}
+use Rattle.ert_defs.specs.declared.timer.TimerRef.{TimerRef}
+use Rattle.ert_answers.specs.Chains.{Exits, Turns}
+use Rattle.ert_answers.specs.ClockCalls.{Ticks, Finalizes, TellsTime, TellsOffset, TellsSystemTime}
+use Rattle.ert_answers.specs.MailCalls.{HandsOver, Takes, Monitors, Demonitors, Tells}
+use Rattle.ert_answers.specs.RequestCalls.{Picks, Answers}
+use Rattle.ert_answers.specs.TimerCalls.{Reads, Cancels, Starts}
+use Rattle.ert_answers.specs.Ways.{Way, alone, beside}
+use Rattle.ert_answers.specs.WheelCalls.{Advances, TellsAlive, MarksExit}
+use Rattle.ert_answers.specs.declared.answers.MonitorErr.TheVariants as monitors
+use Rattle.ert_answers.specs.declared.answers.StartErr.TheVariants as starts
+use Rattle.ert_answers.specs.declared.answers.Turned.{Turned}
+
+-- an answer is read from the entries: in one state the same entries have one answer
+abbrev pub IsRead : {A : Type 0} → (A → State → List Entry → Type 0) → Type 0
+IsRead {A} allows = (s : State) (es : List Entry) (a b : A) → allows a s es → allows b s es → a ≡ b
+
+-- but for want of memory
+abbrev pub IsReadBut : {A : Type 0} → A → (A → State → List Entry → Type 0) → Type 0
+IsReadBut {A} want allows = (s : State) (es : List Entry) (a b : A) → a ≢ want → b ≢ want → allows a s es → allows b s es → a ≡ b
+
+abbrev pub LawOfTicks : Type 0
+LawOfTicks = (g : Settings) (by : ℕ) (r : Reading) (force : Bool) → IsRead (Ticks g by r force)
+
+abbrev pub LawOfFinalizations : Type 0
+LawOfFinalizations = (g : Settings) (by : ℕ) (r : Reading) → IsRead (Finalizes g by r)
+
+abbrev pub LawOfTimes : Type 0
+LawOfTimes = (g : Settings) (by : Actor) → IsRead (TellsTime g by)
+
+abbrev pub LawOfOffsets : Type 0
+LawOfOffsets = (g : Settings) (by : Actor) → IsRead (TellsOffset g by)
+
+abbrev pub LawOfSystemTimes : Type 0
+LawOfSystemTimes = (g : Settings) (by : Actor) → IsRead (TellsSystemTime g by)
+
+abbrev pub LawOfReads : Type 0
+LawOfReads = (g : Settings) (by : Actor) (timer : TimerRef) → IsRead (Reads g by timer)
+
+abbrev pub LawOfCancels : Type 0
+LawOfCancels = (g : Settings) (by : Actor) (timer : TimerRef) → IsRead (Cancels g by timer)
+
+abbrev pub LawOfStarts : Type 0
+LawOfStarts = (g : Settings) (by wheel : ℕ) (start : Start) → IsReadBut (Err starts.NoMemory) (Starts g by wheel start)
+
+abbrev pub LawOfAdvances : Type 0
+LawOfAdvances = (g : Settings) (w : ℕ) → IsRead (λ (answer : ℕ × ℕ). Advances g w (Ok answer))
+
+abbrev pub LawOfMarks : Type 0
+LawOfMarks = (g : Settings) (by : Actor) (process : ℕ) → IsRead (TellsAlive g by process) × IsRead (MarksExit g by process)
+
+abbrev pub LawOfHandedOver : Type 0
+LawOfHandedOver = (g : Settings) (w : ℕ) (fired : Row) → IsRead (λ how. HandsOver g w fired (Ok how))
+
+abbrev pub LawOfTaken : Type 0
+LawOfTaken = (g : Settings) (by process : ℕ) → IsRead (Takes g by process)
+
+abbrev pub LawOfMonitors : Type 0
+LawOfMonitors = (g : Settings) (by process : ℕ) → IsReadBut (Err monitors.NoMemory) (Monitors g by process)
+
+abbrev pub LawOfDemonitors : Type 0
+LawOfDemonitors = (g : Settings) (by process monitor : ℕ) → IsRead (Demonitors g by process monitor)
+
+abbrev pub LawOfTold : Type 0
+LawOfTold = (g : Settings) (by process : ℕ) → IsRead (λ (put : ℕ). Tells g by process (Ok put))
+
+abbrev pub LawOfPicks : Type 0
+LawOfPicks = (g : Settings) (w : ℕ) → IsRead (Picks g w)
+
+abbrev pub LawOfAnswers : Type 0
+LawOfAnswers = (g : Settings) (w : ℕ) (request : Request) → IsRead (λ (left : Option ℕ). Answers g w request (Ok left))
+
+-- after an exit that was made in a way, no timer of the process that was armed before it is armed: `call`
+-- begins with the Mark by which it exits
+abbrev pub Settles : Settings → Way → Type 0
+Settles g way = (by process wheel : ℕ) (row : Row) (h m after : List Entry) → Legal g (h ++ (m ++ after))
+    → (call : Exits g way by process true h m) → wheel < g.schedulers
+    → Contains ((state g (h ++ call.before)).rows wheel) row → row.dest ≡ process
+    → (state g (h ++ (m ++ after))).status row.timer ≢ Some Armed
+
+-- an exit settles the timers of its process, alone and beside others
+abbrev pub LawOfExits : Type 0
+LawOfExits = (g : Settings) → Settles g (alone g) × ((a : Actor) → Settles g (beside g a))
+
+-- a turn that was made in a way served 64 at most, and leaves no expired timer to hand over
+abbrev pub EndsTurn : Settings → Way → Type 0
+EndsTurn g way = (w : ℕ) (t : Turned) (h m : List Entry) → Turns g way w (Ok t) h m
+    → (t.served ≤ 64) × (((state g (h ++ m)).scheds w).fired ≡ [])
+
+-- so does each turn, alone and beside others
+abbrev pub LawOfTurns : Type 0
+LawOfTurns = (g : Settings) → EndsTurn g (alone g) × ((a : Actor) → EndsTurn g (beside g a))

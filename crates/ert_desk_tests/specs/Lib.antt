@@ -1,0 +1,3 @@
+pub mod CallsTrial
+pub mod KeeperTrial
+pub mod TableTrial

@@ -1,0 +1,30 @@
+use Rattle.std.proofs.Common.{ℕ, ◌<◌, false, nat_eq, sym, subst}
+use Rattle.ert_defs.specs.Words.{word_count}
+use Rattle.ert_table.specs.Acts.{Acts}
+use Rattle.ert_table.specs.Entries.{mark_entry}
+use Rattle.ert_table.proofs.OneStep.{may_step_at}
+use Rattle.ert_table.proofs.ProcessActs.{load_exit_acts}
+use Rattle.ert_table.proofs.WordPlaces.{process_place-high}
+use Rattle.ert_table.proofs.desk.Pass.load_exit_as.Goals as goal
+
+pub process_place-place-requires : goal.process_place-place-requires
+process_place-place-requires g c = record { checked = c.args.desk.now.checked; process = (c.requires.may false).keeps.2 }
+
+pub load-requires : goal.load-requires
+load-requires g c =
+    let desk = c.args.desk.now in
+    let seat = c.args.self.now.seat in
+    let place = c.process_place-place.result in
+    let place_is = sym c.process_place-place.ensures in
+    let entry = λ (n : ℕ). mark_entry c.args.by c.args.process false (nat_eq n 1) in
+    let within : place < word_count desk.settings =
+    subst (λ i. i < word_count desk.settings) place_is (process_place-high desk.settings c.args.process (c.requires.may false).keeps.2) in
+    let acts : Acts desk.settings seat.me.0 place (λ n. n) entry =
+    subst (λ i. Acts desk.settings seat.me.0 i (λ n. n) entry) place_is
+    (load_exit_acts desk.settings seat.me.0 c.args.by c.args.process c.requires.may) in (
+      c.requires.belongs.table,
+      subst (λ n. place < n) (sym desk.counted) within,
+      may_step_at desk.table.shared.key desk.settings g.C.Carried.settings desk.table.shared.table_id.slots seat.id seat.me
+          place (λ n. n) entry g.C.Carried.entry
+          desk.keyed c.requires.settings c.requires.entry c.args.self.now.bare within acts,
+    )
