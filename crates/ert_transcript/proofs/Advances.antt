@@ -1,37 +1,35 @@
 -- An advance: the timers that expire are the due ones, in order of deadline and then of starting, whatever
 -- else was tried.
 
-use Rattle.std.proofs.Common.{◌≡◌, ◌≢◌, ℕ, ℤ, pos, ◌+◌, ◌≤◌, ◌≤ℤ◌, Bool, true, false, cond, ◌&&◌, nat_eq, nat_lt, nat_le, List, [], ◌∷◌, ◌++◌, All, AllPairs, length, map, Option, Some, None, refl, sym, ap, ◌∙◌, subst, arith, eq-eqb}
+use Rattle.std.proofs.Common.{◌≡◌, ◌≢◌, ℕ, ℤ, pos, ◌≤◌, ◌≤ℤ◌, Bool, true, false, cond, ◌&&◌, nat_eq, nat_le, List, [], ◌∷◌, ◌++◌, All, AllPairs, length, Option, Some, None, refl, sym, ap, ◌∙◌, subst, arith, eq-eqb}
 use Rattle.std.proofs.lemmas.Int.{ints}
 use Rattle.std.proofs.lemmas.Bool.Decides.{nat_tests}
 use Rattle.std.proofs.lemmas.List.Elements.{All-head, All-tail}
-use Rattle.ert_answers.specs.WheelCalls.{Try, expires_by, expiry_entries, hit_by, hits, HasAdvanced}
+use Rattle.ert_answers.specs.WheelCalls.{Try, expires_by, expiry_entries, hits, HasAdvanced}
 use Rattle.ert_defs.proofs.FiredTimers.{cond_same, same_timer_self, same_timer-false}
 use Rattle.ert_defs.proofs.Lists.{pairs_head, pairs_tail}
-use Rattle.ert_defs.proofs.Rows.{AreRows, Differ}
-use Rattle.ert_defs.proofs.Runs.{run-append}
-use Rattle.ert_defs.specs.Actors.{same_actor, has_actor}
+use Rattle.ert_defs.proofs.Rows.{Differ}
+use Rattle.ert_defs.specs.Actors.{has_actor}
 use Rattle.ert_defs.specs.Clocks.{Clock}
 use Rattle.ert_defs.specs.Entries.{look_entry, expire_entry, probe_entry, advanced_entry}
 use Rattle.ert_defs.specs.Laws.{is_armed}
-use Rattle.ert_defs.specs.Legal.{Can, IsNext, LegalFrom, AllSettled}
+use Rattle.ert_defs.specs.Legal.{Can, IsNext, LegalFrom}
 use Rattle.ert_defs.specs.Milliseconds.{down, natural}
-use Rattle.ert_defs.specs.States.{State, next, run, look_after}
+use Rattle.ert_defs.specs.States.{State, next, run}
 use Rattle.ert_defs.specs.Timers.{Row, same_timer, settled_as}
-use Rattle.ert_defs.specs.declared.entry.Actor.{Actor}
 use Rattle.ert_defs.specs.declared.entry.Actor.TheVariants.{Wheel, Sched}
 use Rattle.ert_defs.specs.declared.entry.Entry.{Entry}
 use Rattle.ert_defs.specs.declared.settings.Settings.{Settings}
 use Rattle.ert_defs.specs.declared.timer.Status.{Status}
-use Rattle.ert_defs.specs.declared.timer.Status.TheVariants.{Armed, Expired}
+use Rattle.ert_defs.specs.declared.timer.Status.TheVariants.{Expired}
 use Rattle.ert_defs.specs.declared.timer.TimerRef.{TimerRef}
 use Rattle.ert_transcript.proofs.Bound.{IsName}
 use Rattle.ert_transcript.proofs.Due.{IsFirstDue, SameArmed, due_first, due_none, due_pairs}
 use Rattle.ert_transcript.proofs.Meets.{IsKept, Meets, meets_next, meets_probed}
-use Rattle.ert_transcript.proofs.Shown.{Names, Pairs, SameRow}
+use Rattle.ert_transcript.proofs.Shown.{Pairs, SameRow}
 use Rattle.ert_transcript.proofs.Steps.{as_look, as_expire, as_advanced}
 use Rattle.ert_transcript.specs.Labels.{Labels}
-use Rattle.ert_transcript.specs.PlainTurns.{is_due_at, due_rows, expiries, advancing}
+use Rattle.ert_transcript.specs.PlainTurns.{due_rows, expiries, advancing}
 
 -- the milliseconds of the record are those of the look
 

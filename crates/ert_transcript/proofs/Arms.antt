@@ -1,9 +1,8 @@
 -- A timer is armed: both services then differ in names alone, by the labels with one more.
 
-use Rattle.std.proofs.Common.{◌≡◌, ◌≢◌, ℕ, ℤ, suc, ◌+◌, ◌<◌, ◌≤◌, Bool, true, false, cond, ◌&&◌, ◌||◌, nat_eq, nat_lt, nat_le, List, [], ◌∷◌, ◌++◌, Option, Some, None, refl, sym, ap, ◌∙◌, subst, inl, inr, arith, eq-eqb}
-use Rattle.std.proofs.lemmas.Bool.{cases_eq, and_parts}
+use Rattle.std.proofs.Common.{◌≡◌, ◌≢◌, ℕ, ℤ, suc, ◌+◌, ◌≤◌, Bool, true, false, cond, ◌&&◌, nat_eq, List, [], ◌∷◌, ◌++◌, Option, Some, None, refl, sym, ap, ◌∙◌, subst, arith, eq-eqb}
 use Rattle.std.proofs.lemmas.Bool.Decides.{nat_tests}
-use Rattle.ert_defs.proofs.FiredTimers.{cond_same, same_timer_self, same_timer-false}
+use Rattle.ert_defs.proofs.FiredTimers.{same_timer_self}
 use Rattle.ert_defs.proofs.Rows.{last_grows}
 use Rattle.ert_defs.proofs.Slots.{same_timer-true}
 use Rattle.ert_defs.specs.Actors.{same_actor, has_actor}
@@ -11,13 +10,11 @@ use Rattle.ert_defs.specs.Entries.{arm_entry}
 use Rattle.ert_defs.specs.Legal.{Can, IsSlot, names_timer}
 use Rattle.ert_defs.specs.Milliseconds.{deadline_of}
 use Rattle.ert_defs.specs.States.{State, next}
-use Rattle.ert_defs.specs.Timers.{Row, same_timer, row_from, status_after, timer_at}
-use Rattle.ert_defs.specs.declared.entry.Actor.{Actor}
+use Rattle.ert_defs.specs.Timers.{Row, same_timer, row_from, timer_at}
 use Rattle.ert_defs.specs.declared.entry.Actor.TheVariants.{Wheel, Caller}
 use Rattle.ert_defs.specs.declared.entry.Event.TheVariants.{Arm}
 use Rattle.ert_defs.specs.declared.settings.Settings.{Settings}
 use Rattle.ert_defs.specs.declared.timer.Start.{Start}
-use Rattle.ert_defs.specs.declared.timer.Status.{Status}
 use Rattle.ert_defs.specs.declared.timer.Status.TheVariants.{Armed}
 use Rattle.ert_defs.specs.declared.timer.TimerRef.{TimerRef}
 use Rattle.ert_transcript.proofs.Bound.{IsName, names_are, names_grow, new_name, name_before, name_is, IsFreeLabel, IsNewTimer}
@@ -119,11 +116,12 @@ shows_armed g ls l t start s c new h =
 
 new_timer : (last : ℕ → ℕ → ℕ) (t : TimerRef) (ls : Labels) → t.generation ≡ last t.wheel t.slot + 1 → AreUsed last ls → IsNewTimer t ls
 new_timer last t [] next h = tt
-new_timer last t (p ∷ ps) next h =
-    (λ same.
-    let within : t.generation ≤ last t.wheel t.slot = subst (λ (x : TimerRef). x.generation ≤ last x.wheel x.slot) same h.0.high in
-    absurd (omega arith),
-    new_timer last t ps next h.1)
+new_timer last t (p ∷ ps) next h = (
+  λ same.
+      let within : t.generation ≤ last t.wheel t.slot = subst (λ (x : TimerRef). x.generation ≤ last x.wheel x.slot) same h.0.high in
+      absurd (omega arith),
+  new_timer last t ps next h.1,
+)
 
 in_range_by : (g : Settings) (t : TimerRef) → IsSlot g t.wheel t.slot → 1 ≤ t.generation → t.generation ≤ 262143 → names_timer g t ≡ true
 in_range_by g t slot low high = grind (arith, nat_tests, slot.wheel_high, slot.slot_high)

@@ -1,7 +1,7 @@
 -- What the plain service calls a timer: its wheel stays, its slot is its label, and it is the first use of
 -- that. Such names are one to one, and a start that armed a timer adds one name.
 
-use Rattle.std.proofs.Common.{◌≡◌, ◌≢◌, ◌⊎◌, ℕ, zero, suc, ◌+◌, ◌≤◌, Bool, true, false, cond, ◌&&◌, nat_eq, List, [], ◌∷◌, ◌++◌, Option, Some, None, refl, sym, ap, ◌∙◌, subst, inl, inr, arith, eqb-true, eq-eqb, ne_eqb}
+use Rattle.std.proofs.Common.{◌≡◌, ◌≢◌, ℕ, zero, suc, Bool, true, false, cond, nat_eq, [], ◌∷◌, ◌++◌, refl, sym, ap, ◌∙◌, subst, inl, inr, arith, eqb-true, eq-eqb, ne_eqb}
 use Rattle.std.proofs.lemmas.Bool.{cases_eq}
 use Rattle.ert_defs.proofs.FiredTimers.{same_timer_self, same_timer-false}
 use Rattle.ert_defs.proofs.Slots.{same_timer-true}
@@ -9,7 +9,7 @@ use Rattle.ert_defs.specs.Legal.{names_timer}
 use Rattle.ert_defs.specs.Timers.{same_timer, timer_at}
 use Rattle.ert_defs.specs.declared.settings.Settings.{Settings}
 use Rattle.ert_defs.specs.declared.timer.TimerRef.{TimerRef}
-use Rattle.ert_transcript.proofs.Shown.{Names, AreNames, Grows}
+use Rattle.ert_transcript.proofs.Shown.{AreNames, Grows}
 use Rattle.ert_transcript.specs.Labels.{Labels, ref_of, label_in, label_of, bind}
 
 -- 0 for 0, and else 1
@@ -133,12 +133,12 @@ label_kept (p ∷ ps) more x r some is =
 pub names_grow : (g : Settings) (ls more : Labels) → Grows (IsName g ls) (IsName g (ls ++ more))
 names_grow g ls more r n h = elim (cases_eq r.generation 0) [
   | inl none ↦ record {
-      wheel = h.wheel;
-      slot = h.slot ∙ label_unbound ls r none ∙ sym (label_unbound (ls ++ more) r none);
-      generation = h.generation;
-      back = λ some. absurd (some none);
-      in_range = h.in_range;
-    }
+    wheel = h.wheel;
+    slot = h.slot ∙ label_unbound ls r none ∙ sym (label_unbound (ls ++ more) r none);
+    generation = h.generation;
+    back = λ some. absurd (some none);
+    in_range = h.in_range;
+  }
   | inr some ↦
       let back = h.back some in
       let label : label_of (ls ++ more) r ≡ label_of ls r =
@@ -196,12 +196,12 @@ ref_other false t rest r other is = is
 pub name_before : (g : Settings) (ls : Labels) (l : ℕ) (t r n : TimerRef) → IsFreeLabel l ls → t ≢ r → IsName g (bind ls l t) r n → IsName g ls r n
 name_before g ls l t r n free other h = elim (cases_eq r.generation 0) [
   | inl none ↦ record {
-      wheel = h.wheel;
-      slot = h.slot ∙ label_unbound (bind ls l t) r none ∙ sym (label_unbound ls r none);
-      generation = h.generation;
-      back = λ some. absurd (some none);
-      in_range = h.in_range;
-    }
+    wheel = h.wheel;
+    slot = h.slot ∙ label_unbound (bind ls l t) r none ∙ sym (label_unbound ls r none);
+    generation = h.generation;
+    back = λ some. absurd (some none);
+    in_range = h.in_range;
+  }
   | inr some ↦
       let label : label_of (bind ls l t) r ≡ label_of ls r =
       label_bound (bind ls l t) r some ∙ label_other ls l t r other ∙ sym (label_bound ls r some) in

@@ -1,6 +1,6 @@
 -- Cancelling and reading, by a caller or by a scheduler for one: both services find the same left.
 
-use Rattle.std.proofs.Common.{◌≡◌, ◌≢◌, ℕ, ℤ, Bool, true, false, cond, ◌&&◌, nat_eq, nat_lt, nat_le, List, [], ◌∷◌, ◌++◌, Option, Some, None, refl, sym, ap, ◌∙◌, subst, inl, inr, eq-eqb}
+use Rattle.std.proofs.Common.{◌≡◌, ℕ, ℤ, Bool, true, false, cond, ◌&&◌, nat_lt, nat_le, List, ◌∷◌, Option, Some, None, refl, sym, ap, ◌∙◌, subst, inl, inr, eq-eqb}
 use Rattle.std.proofs.lemmas.Bool.{cases_eq}
 use Rattle.ert_answers.specs.TimerCalls.{read_entries, cancel_entries, Reads, Cancels}
 use Rattle.ert_defs.proofs.FiredTimers.{cond_same}
@@ -19,7 +19,7 @@ use Rattle.ert_defs.specs.declared.timer.Status.{Status}
 use Rattle.ert_defs.specs.declared.timer.Status.TheVariants.{Armed}
 use Rattle.ert_defs.specs.declared.timer.TimerRef.{TimerRef}
 use Rattle.ert_transcript.proofs.Bound.{IsName, names_are, sign, sign_some}
-use Rattle.ert_transcript.proofs.Clocks.{IsDone, done_as}
+use Rattle.ert_transcript.proofs.Clocks.{IsDone}
 use Rattle.ert_transcript.proofs.Meets.{Meets, meets_next}
 use Rattle.ert_transcript.proofs.Shown.{Names, AreNames, Both, SameRow, Shows, Pairs, row_both}
 use Rattle.ert_transcript.proofs.Steps.{as_look, as_peek, as_cancel}

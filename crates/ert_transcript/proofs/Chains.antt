@@ -1,14 +1,14 @@
 -- The ops of several steps: serving, advancing, delivering, turns and exits print the same.
 
-use Rattle.std.proofs.Common.{◌≡◌, ℕ, zero, suc, ◌+◌, Bool, true, false, cond, not, List, [], ◌∷◌, ◌++◌, Option, Some, None, Result, Ok, refl, sym, ap, ◌∙◌, subst}
-use Rattle.ert_answers.specs.Chains.{Serves, AdvancesWheel, HasDelivered, HasTurned, Exits, SweepsWheels, puts, drops}
-use Rattle.ert_answers.specs.Ways.{alone, Then}
+use Rattle.std.proofs.Common.{◌≡◌, ℕ, zero, suc, Bool, true, false, List, [], ◌∷◌, ◌++◌, None, Ok, refl, sym, ap, ◌∙◌, subst}
+use Rattle.ert_answers.specs.Chains.{Serves, HasDelivered, HasTurned, Exits, SweepsWheels, puts, drops}
+use Rattle.ert_answers.specs.Ways.{alone}
 use Rattle.ert_answers.specs.WheelCalls.{HasAdvanced, IsSwept}
 use Rattle.ert_answers.specs.declared.answers.Turned.{Turned}
 use Rattle.ert_defs.proofs.Runs.{run-append, state-append}
 use Rattle.ert_defs.specs.Entries.{mark_entry}
 use Rattle.ert_defs.specs.Legal.{LegalFrom}
-use Rattle.ert_defs.specs.States.{State, next, run, state}
+use Rattle.ert_defs.specs.States.{State, run, state}
 use Rattle.ert_defs.specs.declared.entry.Actor.TheVariants.{Caller}
 use Rattle.ert_defs.specs.declared.entry.Entry.{Entry}
 use Rattle.ert_defs.specs.declared.settings.Settings.{Settings}
@@ -22,11 +22,9 @@ use Rattle.ert_transcript.proofs.Steps.{as_mark}
 use Rattle.ert_transcript.proofs.Sweeps.{sweep_meets}
 use Rattle.ert_transcript.specs.Labels.{Labels, label_of}
 use Rattle.ert_transcript.specs.Lines.{line_of, turn_line}
-use Rattle.ert_transcript.specs.Pieces.{Piece}
 use Rattle.ert_transcript.specs.Plain.{slot_of}
 use Rattle.ert_transcript.specs.PlainMail.{orphans, sweeps, exit_piece}
 use Rattle.ert_transcript.specs.PlainTurns.{Served, serving, has_served, serve_many, advancing, handing, hows_of, serve_op, advance_op, deliver_op, turn_op}
-use Rattle.ert_transcript.specs.declared.reply.Reply.{Reply}
 use Rattle.ert_transcript.specs.declared.reply.Reply.TheVariants.{Serve, Advance, Deliver, Turn, Exit}
 
 serve_prints : (ls : Labels) (a b : Bool) → a ≡ b → line_of (label_of ls) (Serve a) ≡ line_of slot_of (Serve b)

@@ -1,39 +1,29 @@
 -- The ops of the clock: the service answers and does as the plain one.
 
-use Rattle.std.proofs.Common.{◌≡◌, ℕ, ℤ, ◌≤ℤ◌, ◌<ℤ◌, ◌+ℤ◌, Bool, true, false, cond, ◌&&◌, int_lt, int_le, List, [], ◌∷◌, ◌++◌, Option, Some, None, refl, sym, ap, ◌∙◌, subst, arith}
-use Rattle.std.specs.Prelude.{FitsSigned, pos, negsuc}
-use Rattle.std.specs.Int.{w64}
+use Rattle.std.proofs.Common.{◌≡◌, ℕ, ℤ, ◌≤ℤ◌, ◌<ℤ◌, Bool, true, false, cond, int_lt, int_le, List, [], Option, Some, None, refl, sym, ap, ◌∙◌, subst, arith}
 use Rattle.std.proofs.lemmas.Int.{ints}
 use Rattle.std.specs.Bool.{Decides}
 use Rattle.std.proofs.lemmas.Bool.Decides.{Decides-and, Decides-like}
-use Rattle.ert_answers.specs.ClockCalls.{Moves, IsTooWide, Stays, FinalizesFrom, Finalizes, TellsSystemTime}
-use Rattle.ert_clock.specs.Ticks.{keeper_entry, tick_entries, shift_entries, offset_of, IsWide, state_by}
+use Rattle.ert_answers.specs.ClockCalls.{Moves, IsTooWide}
+use Rattle.ert_clock.specs.Ticks.{tick_entries, shift_entries, offset_of, IsWide, state_by}
 use Rattle.ert_clock.specs.declared.clock.Moved.{Moved}
 use Rattle.ert_defs.specs.Clocks.{Clock, face}
-use Rattle.ert_defs.specs.Entries.{look_entry, off_entry}
-use Rattle.ert_defs.specs.Legal.{Can, LegalFrom}
-use Rattle.ert_defs.specs.Lines.{Due, IsOffset, IsInRange, MayAct, time_after, due_after}
-use Rattle.ert_defs.specs.States.{State, next, run}
+use Rattle.ert_defs.specs.Legal.{LegalFrom}
+use Rattle.ert_defs.specs.Lines.{Due, IsOffset, IsInRange, time_after, due_after}
+use Rattle.ert_defs.specs.States.{State, run}
 use Rattle.ert_defs.specs.declared.entry.Act.{Act}
-use Rattle.ert_defs.specs.declared.entry.Act.TheVariants.{Plain, Force, Finalize as Finalizing}
 use Rattle.ert_defs.specs.declared.entry.Actor.TheVariants.{Keeper, Caller}
 use Rattle.ert_defs.specs.declared.entry.Entry.{Entry}
-use Rattle.ert_defs.specs.declared.entry.Event.TheVariants.{Off}
-use Rattle.ert_defs.specs.declared.settings.OffsetState.{OffsetState}
-use Rattle.ert_defs.specs.declared.settings.OffsetState.TheVariants.{Preliminary, Final, Volatile}
 use Rattle.ert_defs.specs.declared.settings.Reading.{Reading}
 use Rattle.ert_defs.specs.declared.settings.Settings.{Settings}
-use Rattle.ert_transcript.proofs.Bound.{IsName}
 use Rattle.ert_transcript.proofs.Meets.{Meets, meets_next}
-use Rattle.ert_transcript.proofs.Steps.{Step, as_tick, as_shift, as_look, as_off}
+use Rattle.ert_transcript.proofs.Steps.{as_tick, as_shift}
 use Rattle.ert_transcript.specs.Labels.{Labels, label_of}
 use Rattle.ert_transcript.specs.Lines.{line_of}
 use Rattle.ert_transcript.specs.Pieces.{Piece}
 use Rattle.ert_transcript.specs.Plain.{slot_of}
-use Rattle.ert_transcript.specs.PlainClock.{is_within, clock_piece, clocked, finalize_piece, time_piece, system_piece, offset_piece, info_piece, fits_64_bits, convert_piece}
+use Rattle.ert_transcript.specs.PlainClock.{is_within, clock_piece, clocked}
 use Rattle.ert_transcript.specs.declared.reply.Reply.{Reply}
-use Rattle.ert_transcript.specs.declared.reply.Reply.TheVariants.{Finalize, FinalizeWide, Convert, ConvertTooWide}
-use Rattle.ert_units.specs.Conversions.{converted}
 
 -- what an op does is what the plain service does: it prints the same, and both meet again
 pub record IsDone (g : Settings) (n : ℕ) (ls : Labels) (s c : State) (reply : Reply) (es : List Entry) (piece : Piece) : Type 0 where

@@ -7,7 +7,7 @@ use Rattle.ert_answers.specs.RequestCalls.{inbox_for}
 use Rattle.ert_defs.specs.Clocks.{Clock}
 use Rattle.ert_defs.specs.Entries.{off_entry, mark_entry, ask_entry, take_entry, watch_entry, unwatch_entry, tell_entry}
 use Rattle.ert_defs.specs.Legal.{LegalFrom, stands_in}
-use Rattle.ert_defs.specs.Mails.{MailState, Monitor, first_of, changes_of}
+use Rattle.ert_defs.specs.Mails.{Monitor, first_of, changes_of}
 use Rattle.ert_defs.specs.States.{State, next}
 use Rattle.ert_defs.specs.declared.entry.Actor.TheVariants.{Inbox, MailOf, Caller}
 use Rattle.ert_defs.specs.declared.entry.Entry.{Entry}
@@ -16,19 +16,18 @@ use Rattle.ert_defs.specs.declared.mail.Mail.TheVariants.{Timeout, Bare, CancelD
 use Rattle.ert_defs.specs.declared.mail.Request.{Request}
 use Rattle.ert_defs.specs.declared.settings.OffsetState.{OffsetState}
 use Rattle.ert_defs.specs.declared.settings.Settings.{Settings}
-use Rattle.ert_transcript.proofs.Bound.{IsName, names_are}
+use Rattle.ert_transcript.proofs.Bound.{IsName}
 use Rattle.ert_transcript.proofs.Clocks.{IsDone, done_as}
 use Rattle.ert_transcript.proofs.Meets.{Meets, meets_next}
 use Rattle.ert_transcript.proofs.Shown.{Both, SameMail, SameRequest, pairs_first}
 use Rattle.ert_transcript.proofs.Steps.{as_off, as_mark, as_ask, as_take, as_unwatch, as_watch, as_tell}
 use Rattle.ert_transcript.specs.Labels.{Labels, label_of}
 use Rattle.ert_transcript.specs.Lines.{line_of, mail_line}
-use Rattle.ert_transcript.specs.Pieces.{Piece}
 use Rattle.ert_transcript.specs.Plain.{slot_of}
 use Rattle.ert_transcript.specs.PlainMail.{received, receive_piece, alive_piece, may_watch, monitor_piece, demonitor_piece, notify_piece}
 use Rattle.ert_transcript.specs.PlainTurns.{ask_piece}
 use Rattle.ert_transcript.specs.declared.reply.Reply.{Reply}
-use Rattle.ert_transcript.specs.declared.reply.Reply.TheVariants.{Received, ReceivedEmpty, ReceivedExited, Alive, Monitor as Monitored, MonitorFull, Demonitor, Notify}
+use Rattle.ert_transcript.specs.declared.reply.Reply.TheVariants.{ReceivedExited, Alive, Monitor as Monitored, MonitorFull, Demonitor, Notify}
 
 pub notify_done : (g : Settings) (n : ℕ) (ls : Labels) (s c : State) (p put : ℕ) (es : List Entry) → Meets g n ls s c
     → LegalFrom g s es → HasTold 0 p (s.mails p) put es → IsDone g n ls s c (Notify put) es (notify_piece c p)

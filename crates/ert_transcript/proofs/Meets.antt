@@ -1,7 +1,7 @@
 -- How far a service and the plain service have come with the same ops: their states differ in names alone,
 -- by the labels that are bound.
 
-use Rattle.std.proofs.Common.{◌≡◌, ◌≢◌, ℕ, suc, ◌+◌, ◌≤◌, Bool, true, false, cond, List, [], ◌∷◌, ◌++◌, Option, Some, None, refl, sym, ap, ◌∙◌, subst, arith}
+use Rattle.std.proofs.Common.{◌≡◌, ℕ, ◌≤◌, cond, List, [], ◌∷◌, Option, refl, sym, ap, ◌∙◌, subst, arith}
 use Rattle.ert_defs.proofs.FiredTimers.{cond_same}
 use Rattle.ert_defs.proofs.Rows.{AreRows, rows_next}
 use Rattle.ert_defs.proofs.Slots.{IsOrdered, ordered_next}
@@ -18,7 +18,7 @@ use Rattle.ert_defs.specs.declared.settings.Settings.{Settings}
 use Rattle.ert_defs.specs.declared.timer.Status.{Status}
 use Rattle.ert_defs.specs.declared.timer.TimerRef.{TimerRef}
 use Rattle.ert_answers.specs.TimerCalls.{AreProbes}
-use Rattle.ert_transcript.proofs.Bound.{IsName, names_are, IsFreeLabel}
+use Rattle.ert_transcript.proofs.Bound.{IsName, names_are}
 use Rattle.ert_transcript.proofs.Shown.{Names, Shows}
 use Rattle.ert_transcript.proofs.Steps.{Step, as_tick, first, second, shows_next, shows_probed}
 use Rattle.ert_transcript.specs.Labels.{Labels, ref_of}

@@ -1,6 +1,6 @@
 -- Each op but a start, with each of its replies: the service answers and does as the plain one.
 
-use Rattle.std.proofs.Common.{◌≡◌, ℕ, ℤ, Bool, List, Option, Some, None, refl}
+use Rattle.std.proofs.Common.{ℕ, ℤ, Bool, List, Some, None, refl}
 use Rattle.ert_answers.specs.Ways.{alone}
 use Rattle.ert_defs.specs.Legal.{LegalFrom}
 use Rattle.ert_defs.specs.States.{State, state}
@@ -8,7 +8,6 @@ use Rattle.ert_defs.specs.declared.entry.Act.TheVariants.{Plain, Force}
 use Rattle.ert_defs.specs.declared.entry.Entry.{Entry}
 use Rattle.ert_defs.specs.declared.mail.RequestKind.TheVariants.{Cancel as ToCancel, Read as ToRead}
 use Rattle.ert_defs.specs.declared.settings.Settings.{Settings}
-use Rattle.ert_defs.specs.declared.timer.TimerRef.{TimerRef}
 use Rattle.ert_transcript.proofs.Bound.{IsName}
 use Rattle.ert_transcript.proofs.Cancels.{cancel_done, read_done}
 use Rattle.ert_transcript.proofs.Chains.{serve_done, advance_done, deliver_done, turn_done, exit_done}
@@ -16,7 +15,6 @@ use Rattle.ert_transcript.proofs.Clocks.{IsDone, moves_done, refuses_done}
 use Rattle.ert_transcript.proofs.Mailing.{notify_done, exited_done, receive_done, alive_done, monitor_done, no_monitor_done, demonitor_done, ask_done}
 use Rattle.ert_transcript.proofs.Meets.{Meets}
 use Rattle.ert_transcript.proofs.Readings.{finalizes_done, final_refused, time_done, offset_done, system_done, info_done}
-use Rattle.ert_transcript.proofs.Shown.{SameRequest}
 use Rattle.ert_transcript.specs.Calls.{Calls, reading_of, request_of}
 use Rattle.ert_transcript.specs.Labels.{Labels, ref_of}
 use Rattle.ert_transcript.specs.PlainClock.{tick_piece, check_piece, finalize_piece, time_piece, system_piece, offset_piece, info_piece}

@@ -31,9 +31,9 @@ use Rattle.ert_transcript.specs.Labels.{Labels, label_of}
 use Rattle.ert_transcript.specs.Lines.{line_of}
 use Rattle.ert_transcript.specs.Pieces.{Piece}
 use Rattle.ert_transcript.specs.Plain.{slot_of}
-use Rattle.ert_transcript.specs.PlainClock.{finalize_piece, time_piece, system_piece, offset_piece, info_piece, fits_64_bits, convert_piece}
+use Rattle.ert_transcript.specs.PlainClock.{finalize_piece, time_piece, system_piece, info_piece, fits_64_bits, convert_piece}
 use Rattle.ert_transcript.specs.declared.reply.Reply.{Reply}
-use Rattle.ert_transcript.specs.declared.reply.Reply.TheVariants.{Finalize, FinalizeWide, Time, System, Offset, Info, Convert, ConvertTooWide}
+use Rattle.ert_transcript.specs.declared.reply.Reply.TheVariants.{Finalize, FinalizeWide, Time, System, Info, Convert, ConvertTooWide}
 use Rattle.ert_units.specs.Conversions.{converted}
 
 -- a finalization of what isn't preliminary

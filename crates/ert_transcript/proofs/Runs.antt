@@ -1,11 +1,11 @@
 -- The script runs of a list of ops beside the plain service: op by op they agree, so both print the same.
 
-use Rattle.std.proofs.Common.{◌≡◌, ◌≢◌, ℕ, suc, ◌+◌, ◌<◌, ◌≤◌, Bool, All, AllPairs, List, [], ◌∷◌, ◌++◌, length, Option, Some, None, refl, sym, ap, ◌∙◌, subst, arith, append_assoc}
-use Rattle.std.proofs.lemmas.List.Elements.{All-nil, All-head, All-tail}
+use Rattle.std.proofs.Common.{◌≡◌, ◌≢◌, ℕ, zero, suc, ◌+◌, ◌<◌, ◌≤◌, All, AllPairs, List, [], ◌∷◌, ◌++◌, length, refl, sym, ap, ◌∙◌, subst, arith, append_assoc}
+use Rattle.std.proofs.lemmas.List.Elements.{All-head, All-tail}
 use Rattle.ert_answers.specs.Ways.{alone}
 use Rattle.ert_defs.proofs.Lists.{pairs_head, pairs_tail}
 use Rattle.ert_defs.proofs.Rows.{rows_hold}
-use Rattle.ert_defs.proofs.Runs.{run-append, state-append, legal_first, legal_then}
+use Rattle.ert_defs.proofs.Runs.{state-append}
 use Rattle.ert_defs.proofs.Slots.{ordered}
 use Rattle.ert_defs.proofs.Standing.{all_stand}
 use Rattle.ert_defs.specs.Clocks.{Clock}
@@ -13,19 +13,25 @@ use Rattle.ert_defs.specs.Legal.{LegalFrom}
 use Rattle.ert_defs.specs.States.{State, opening, run, state}
 use Rattle.ert_defs.specs.declared.entry.Entry.{Entry}
 use Rattle.ert_defs.specs.declared.settings.Settings.{Settings}
+use Rattle.ert_defs.specs.declared.timer.Status.{Status}
+use Rattle.ert_defs.specs.declared.timer.Status.TheVariants.{Armed, Expired, Delivered, Cancelled, Orphaned, Dropped}
 use Rattle.ert_defs.specs.declared.timer.TimerRef.{TimerRef}
 use Rattle.ert_defs.specs.declared.timer.When.{When}
 use Rattle.ert_transcript.proofs.Bound.{IsName, IsFreeLabel, unbound_name}
 use Rattle.ert_transcript.proofs.Many.{legal_before, legal_after}
-use Rattle.ert_transcript.proofs.Meets.{Meets, Agrees}
+use Rattle.ert_transcript.proofs.Meets.{Agrees}
 use Rattle.ert_transcript.proofs.OpsDone.{tick_op, check_op, finalize_op, notify_op, time_op, system_op, offset_op, info_op, cancel_op, cancel_quiet_op, read_op, cancel_async_op, read_async_op, serve_an_op, advance_an_op, deliver_an_op, turn_an_op, receive_op, exit_op, alive_op, monitor_op, demonitor_op}
 use Rattle.ert_transcript.proofs.Readings.{converts_done}
+use Rattle.ert_transcript.proofs.Shown.{Names, Shows}
+use Rattle.ert_transcript.proofs.Taken.{count_pairs}
 use Rattle.ert_transcript.proofs.StartsAgree.{IsAgreed, agreed, start_op, send_after_op}
 use Rattle.ert_transcript.specs.Calls.{Calls}
-use Rattle.ert_transcript.specs.Labels.{Labels, ref_of, label_of, bind}
-use Rattle.ert_transcript.specs.Laws.{labels_in, AreOps}
+use Rattle.ert_transcript.specs.Labels.{Labels, label_of, bind}
+use Rattle.ert_transcript.specs.Counts.{has_status, count_in, counts_of, plain_after}
+use Rattle.ert_transcript.specs.Laws.{labels_in, AreOps, LawOfOneText, LawOfOneTranscript, LawOfCounts}
+use Rattle.ert_transcript.specs.PlainTimers.{count_of}
 use Rattle.ert_transcript.specs.Lines.{line_of, end_line}
-use Rattle.ert_transcript.specs.Plain.{slot_of, piece_of, plain_lines, plain_text}
+use Rattle.ert_transcript.specs.Plain.{piece_of, plain_lines}
 use Rattle.ert_transcript.specs.Scripts.{labels_after, Script, lines_of, IsTranscript}
 use Rattle.ert_transcript.specs.declared.op.Op.{Op}
 use Rattle.ert_transcript.specs.declared.op.Op.TheVariants as ops
@@ -106,9 +112,10 @@ free_bound k l t (p ∷ ps) free apart = (free.0, free_bound k l t ps free.1 apa
 
 free_rest : (l : ℕ) (t : TimerRef) (rest : List ℕ) (ls : Labels) → AreFree rest ls → All (λ (k : ℕ). l ≢ k) rest → AreFree rest (bind ls l t)
 free_rest l t [] ls free apart = tt
-free_rest l t (k ∷ rest) ls free apart =
-    (free_bound k l t ls free.0 (All-head (λ (k : ℕ). l ≢ k) k rest apart),
-    free_rest l t rest ls free.1 (All-tail (λ (k : ℕ). l ≢ k) k rest apart))
+free_rest l t (k ∷ rest) ls free apart = (
+  free_bound k l t ls free.0 (All-head (λ (k : ℕ). l ≢ k) k rest apart),
+  free_rest l t rest ls free.1 (All-tail (λ (k : ℕ). l ≢ k) k rest apart),
+)
 
 free_first : (op : Op) (rest : List Op) (ls : Labels) → AreFree (labels_in (op ∷ rest)) ls → IsFreeFor op ls
 free_first (ops.Start l w when p msg) rest ls free = free.0
@@ -141,39 +148,47 @@ apart_later _ rest apart = apart
 
 -- the induction over the ops
 
-pub lines_agree : (g : Settings) (n : ℕ) (ls cl : Labels) (list : List Op) (rs : List Reply) (after : Labels) (h m : List Entry) (c : State)
+-- the whole list: it prints the same, and leaves states that differ in names alone
+pub record AreDone (g : Settings) (ls cl : Labels) (list : List Op) (rs : List Reply) (after : Labels) (s c : State) : Type 0 where
+  pub text : lines_of ls list rs ++ end_line s.clock.now ≡ plain_lines g c cl list
+  pub shows : Shows (IsName g after) s (plain_after g c cl list)
+
+lines_agree : (g : Settings) (n : ℕ) (ls cl : Labels) (list : List Op) (rs : List Reply) (after : Labels) (h m : List Entry) (c : State)
     → n + length list ≤ 100000 → Apart (labels_in list) → AreFree (labels_in list) ls → AreFree (labels_in list) cl
     → Agrees g n ls cl (state g h) c → LegalFrom g (state g h) m → Script g (alone g) 0 ls list rs after h m
-    → lines_of ls list rs ++ end_line (state g (h ++ m)).clock.now ≡ plain_lines g c cl list
+    → AreDone g ls cl list rs after (state g (h ++ m)) c
 lines_agree g n ls cl [] rs after h m c few apart free other agrees legal runs =
-    let time : (state g (h ++ m)).clock.now ≡ c.clock.now =
-    ap (λ (z : State). z.clock.now) (state-append g h m ∙ ap (λ (e : List Entry). run g (state g h) e) runs.2)
-    ∙ ap (λ (k : Clock). k.now) agrees.meets.shows.clock in
-    ap end_line time
+    let same : state g (h ++ m) ≡ state g h = state-append g h m ∙ ap (λ (e : List Entry). run g (state g h) e) runs.2 in
+    record {
+      text = ap end_line (ap (λ (z : State). z.clock.now) same ∙ ap (λ (k : Clock). k.now) agrees.meets.shows.clock);
+      shows = subst (λ (x : Labels). Shows (IsName g x) (state g (h ++ m)) c) (sym runs.1)
+          (subst (λ (z : State). Shows (IsName g ls) z c) (sym same) agrees.meets.shows);
+    }
 lines_agree g n ls cl (op ∷ list) rs after h m c few apart free other agrees legal runs =
     let piece : List Entry = runs.0 in
     let later : List Entry = runs.1 in
     let reply : Reply = runs.2 in
     let others : List Reply = runs.3 in
     let joined : m ≡ piece ++ later = runs.4 in
-    let told : rs ≡ reply ∷ others = runs.5 in
     let count : length (op ∷ list) ≡ suc (length list) = refl in
     let one = op_agrees g n ls cl h piece c op reply (omega arith) (free_first op list ls free) (free_first op list cl other) agrees
     (legal_before g h m piece later joined legal) runs.6 in
+    let labels : Labels = labels_after ls op reply in
     let d : State = run g c (piece_of g c cl op).entries in
-    let here = subst (λ (z : State). Agrees g (suc n) (labels_after ls op reply) (labels_after cl op (piece_of g c cl op).reply) z d)
-    (sym (state-append g h piece)) one.agrees in
-    let rest = lines_agree g (suc n) (labels_after ls op reply) (labels_after cl op (piece_of g c cl op).reply) list others after (h ++ piece) later d
+    let here = subst (λ (z : State). Agrees g (suc n) labels (labels_after cl op (piece_of g c cl op).reply) z d) (sym (state-append g h piece)) one.agrees in
+    let rest = lines_agree g (suc n) labels (labels_after cl op (piece_of g c cl op).reply) list others after (h ++ piece) later d
     (omega arith) (apart_later op list apart) (free_later op reply list ls apart free) (free_later op (piece_of g c cl op).reply list cl apart other)
     here (legal_after g h m piece later joined legal) runs.7 in
-    let whole : h ++ m ≡ (h ++ piece) ++ later = ap (λ (e : List Entry). h ++ e) joined ∙ sym (append_assoc h piece later) in
-    let first : List ℕ = line_of (label_of (labels_after ls op reply)) reply in
-    let tail : List ℕ = lines_of (labels_after ls op reply) list others in
-    ap (λ (x : List Reply). lines_of ls (op ∷ list) x ++ end_line (state g (h ++ m)).clock.now) told
-    ∙ append_assoc first tail (end_line (state g (h ++ m)).clock.now)
-    ∙ ap (λ (e : List Entry). first ++ (tail ++ end_line (state g e).clock.now)) whole
-    ∙ ap (λ (x : List ℕ). first ++ x) rest
-    ∙ ap (λ (x : List ℕ). x ++ plain_lines g d (labels_after cl op (piece_of g c cl op).reply) list) one.line
+    let whole : (h ++ piece) ++ later ≡ h ++ m = append_assoc h piece later ∙ ap (λ (e : List Entry). h ++ e) (sym joined) in
+    let all = subst (λ (e : List Entry). AreDone g labels (labels_after cl op (piece_of g c cl op).reply) list others after (state g e) d) whole rest in
+    let first : List ℕ = line_of (label_of labels) reply in
+    record {
+      text = ap (λ (x : List Reply). lines_of ls (op ∷ list) x ++ end_line (state g (h ++ m)).clock.now) runs.5
+          ∙ append_assoc first (lines_of labels list others) (end_line (state g (h ++ m)).clock.now)
+          ∙ ap (λ (x : List ℕ). first ++ x) all.text
+          ∙ ap (λ (x : List ℕ). x ++ plain_lines g d (labels_after cl op (piece_of g c cl op).reply) list) one.line;
+      shows = all.shows;
+    }
 
 -- at the opening both agree
 
@@ -201,11 +216,38 @@ opened g = record {
   names = λ x. unbound_name g [] 0 x;
 }
 
-pub one_text : (g : Settings) (list : List Op) (text : List ℕ) → AreOps list → IsTranscript g list text → text ≡ plain_text g list
-one_text g list text are t =
-    t.reads ∙ lines_agree g 0 [] [] list t.replies t.labels [] t.entries (opening g) (omega (arith, are.few)) are.apart (none_free (labels_in list))
+done : (g : Settings) (list : List Op) (text : List ℕ) → AreOps list → (t : IsTranscript g list text)
+    → AreDone g [] [] list t.replies t.labels (state g t.entries) (opening g)
+done g list text are t =
+    lines_agree g 0 [] [] list t.replies t.labels [] t.entries (opening g) (omega (arith, are.few)) are.apart (none_free (labels_in list))
     (none_free (labels_in list)) (opened g) t.legal t.runs
 
-pub one_transcript : (g : Settings) (list : List Op) (text other : List ℕ) → AreOps list → IsTranscript g list text → IsTranscript g list other
-    → text ≡ other
+pub one_text : LawOfOneText
+one_text g list text are t = t.reads ∙ (done g list text are t).text
+
+pub one_transcript : LawOfOneTranscript
 one_transcript g list text other are t s = one_text g list text are t ∙ sym (one_text g list other are s)
+
+-- and as many timers have each status
+
+same_count : (R : Names) (s c : State) (status : Status) (w : ℕ) → Shows R s c → count_in s status w ≡ count_in c status w
+same_count R s c status zero h = refl
+same_count R s c status (suc w) h =
+    let before : count_in s status w ≡ count_in c status w = same_count R s c status w h in
+    let here : count_of (has_status status) s.status (s.rows w) ≡ count_of (has_status status) c.status (c.rows w) =
+    count_pairs (has_status status) R s.status c.status h.status (s.rows w) (c.rows w) (h.rows w) in
+    cc
+
+same_counts : (R : Names) (g : Settings) (s c : State) → Shows R s c → counts_of g s ≡ counts_of g c
+same_counts R g s c h =
+    let armed : count_in s Armed g.schedulers ≡ count_in c Armed g.schedulers = same_count R s c Armed g.schedulers h in
+    let expired : count_in s Expired g.schedulers ≡ count_in c Expired g.schedulers = same_count R s c Expired g.schedulers h in
+    let delivered : count_in s Delivered g.schedulers ≡ count_in c Delivered g.schedulers = same_count R s c Delivered g.schedulers h in
+    let dropped : count_in s Dropped g.schedulers ≡ count_in c Dropped g.schedulers = same_count R s c Dropped g.schedulers h in
+    let cancelled : count_in s Cancelled g.schedulers ≡ count_in c Cancelled g.schedulers = same_count R s c Cancelled g.schedulers h in
+    let orphaned : count_in s Orphaned g.schedulers ≡ count_in c Orphaned g.schedulers = same_count R s c Orphaned g.schedulers h in
+    cc
+
+pub counts_agree : LawOfCounts
+counts_agree g list text are t =
+    same_counts (IsName g t.labels) g (state g t.entries) (plain_after g (opening g) [] list) (done g list text are t).shows

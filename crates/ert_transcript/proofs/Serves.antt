@@ -1,12 +1,10 @@
 -- Serving: both services answer the same requests, and as many.
 
-use Rattle.std.proofs.Common.{◌≡◌, ◌≢◌, ℕ, zero, suc, ◌+◌, ◌≤◌, Bool, true, false, cond, nat_eq, nat_lt, List, [], ◌∷◌, ◌++◌, Option, Some, None, Result, Ok, refl, sym, ap, ◌∙◌, subst, arith, append-nil, append_assoc}
-use Rattle.std.proofs.lemmas.Bool.Decides.{nat_tests}
-use Rattle.ert_answers.specs.Chains.{HoldsBy, HasServed, Serves, ServesMany, ServesAll}
+use Rattle.std.proofs.Common.{◌≡◌, ℕ, Bool, true, false, cond, nat_eq, List, [], ◌∷◌, ◌++◌, Option, Some, None, Ok, refl, sym, ap, ◌∙◌, subst}
+use Rattle.ert_answers.specs.Chains.{HoldsBy, HasServed, Serves}
 use Rattle.ert_answers.specs.RequestCalls.{DoesAsked, HasAnswered}
-use Rattle.ert_answers.specs.Ways.{Growth, Then, alone}
+use Rattle.ert_answers.specs.Ways.{alone}
 use Rattle.ert_defs.proofs.Runs.{run-append, state-append, legal_first, legal_then}
-use Rattle.ert_defs.specs.Clocks.{Clock}
 use Rattle.ert_defs.specs.Entries.{look_entry, pick_entry, answer_entry}
 use Rattle.ert_defs.specs.Legal.{LegalFrom}
 use Rattle.ert_defs.specs.Mails.{first_of}
@@ -25,7 +23,7 @@ use Rattle.ert_transcript.proofs.Shown.{Both, SameRequest, pairs_first}
 use Rattle.ert_transcript.proofs.Steps.{as_pick, as_answer}
 use Rattle.ert_transcript.specs.Labels.{Labels}
 use Rattle.ert_transcript.specs.PlainTimers.{is_bound, left_now, left_if}
-use Rattle.ert_transcript.specs.PlainTurns.{request_entries, answer_entries, Served, pick_piece, serve_piece, serving, has_served, and_then, serve_many}
+use Rattle.ert_transcript.specs.PlainTurns.{request_entries, answer_entries, Served, pick_piece, serve_piece, serving, has_served}
 
 -- one request is answered
 

@@ -1,9 +1,8 @@
 -- Two states that differ in the names of timers alone: for each reference of the one the other has another,
 -- by a relation that is one to one and keeps the wheel.
 
-use Rattle.std.proofs.Common.{◌≡◌, ◌≢◌, ℕ, ℤ, Bool, true, false, cond, List, [], ◌∷◌, ◌++◌, length, Option, Some, None, refl, sym, ap, ◌∙◌, subst}
-use Rattle.ert_defs.specs.Clocks.{Clock}
-use Rattle.ert_defs.specs.Mails.{MailState, SchedState, Monitor, first_of, others_of, message_by, message_of, message_in, answer_by, answer_of, answer_in, with_row}
+use Rattle.std.proofs.Common.{◌≡◌, ℕ, Bool, true, false, cond, List, [], ◌∷◌, ◌++◌, length, Option, Some, None, refl, sym, subst}
+use Rattle.ert_defs.specs.Mails.{MailState, SchedState, first_of, others_of, message_by, message_of, message_in, answer_by, answer_of, answer_in, with_row}
 use Rattle.ert_defs.specs.States.{State}
 use Rattle.ert_defs.specs.Timers.{Row, same_timer, row_of}
 use Rattle.ert_defs.specs.declared.entry.Actor.{Actor}
@@ -14,7 +13,6 @@ use Rattle.ert_defs.specs.declared.mail.RequestKind.{RequestKind}
 use Rattle.ert_defs.specs.declared.mail.RequestKind.TheVariants.{Cancel as ToCancel, Read as ToRead}
 use Rattle.ert_defs.specs.declared.timer.Kind.{Kind}
 use Rattle.ert_defs.specs.declared.timer.Kind.TheVariants.{Wrapped, Bare}
-use Rattle.ert_defs.specs.declared.timer.Status.{Status}
 use Rattle.ert_defs.specs.declared.timer.TimerRef.{TimerRef}
 
 -- which reference of the one state is which of the other

@@ -1,35 +1,29 @@
 -- Starts: the service answers and does as the plain one, whichever slot it takes.
 
-use Rattle.std.proofs.Common.{◌≡◌, ◌≢◌, ◌⊎◌, ℕ, ℤ, zero, suc, ◌+◌, ◌<◌, ◌≤◌, Bool, true, false, cond, nat_eq, nat_le, List, [], ◌∷◌, ◌++◌, Option, Some, None, refl, sym, ap, ◌∙◌, subst, inl, inr, arith}
+use Rattle.std.proofs.Common.{◌≡◌, ◌≢◌, ℕ, ℤ, suc, ◌<◌, Bool, true, false, cond, nat_le, List, [], ◌∷◌, ◌++◌, Option, Some, None, refl, sym, ap, ◌∙◌, subst, inl, inr, arith}
 use Rattle.std.proofs.lemmas.Bool.Decides.{nat_tests}
-use Rattle.ert_answers.specs.TimerCalls.{AreProbes, AreTaken, Closes, IsMissed, IsStarted, IsBadArg, IsWheelFull}
-use Rattle.ert_defs.proofs.FiredTimers.{cond_same}
+use Rattle.ert_answers.specs.TimerCalls.{AreProbes, Closes, IsStarted}
 use Rattle.ert_defs.proofs.Runs.{run-append, legal_first, legal_then}
-use Rattle.ert_defs.specs.Actors.{has_actor}
 use Rattle.ert_defs.specs.Clocks.{Clock}
-use Rattle.ert_defs.specs.Entries.{look_entry, arm_entry, mark_entry, orphan_entry, probe_entry}
+use Rattle.ert_defs.specs.Entries.{look_entry, arm_entry, mark_entry, orphan_entry}
 use Rattle.ert_defs.specs.Legal.{LegalFrom}
 use Rattle.ert_defs.specs.Milliseconds.{deadline_of}
 use Rattle.ert_defs.specs.States.{State, next, run}
-use Rattle.ert_defs.specs.Timers.{Row, is_taken, timer_at}
+use Rattle.ert_defs.specs.Timers.{is_taken, timer_at}
 use Rattle.ert_defs.specs.declared.entry.Actor.TheVariants.{Wheel, Caller}
 use Rattle.ert_defs.specs.declared.entry.Entry.{Entry}
 use Rattle.ert_defs.specs.declared.settings.Settings.{Settings}
 use Rattle.ert_defs.specs.declared.timer.Start.{Start}
-use Rattle.ert_defs.specs.declared.timer.Status.{Status}
 use Rattle.ert_defs.specs.declared.timer.Status.TheVariants.{Armed}
 use Rattle.ert_defs.specs.declared.timer.TimerRef.{TimerRef}
 use Rattle.ert_transcript.proofs.Arms.{IsNew, is_new, armed_status, own_last, meets_armed}
 use Rattle.ert_transcript.proofs.Bound.{IsName, IsFreeLabel, new_name}
-use Rattle.ert_transcript.proofs.Clocks.{IsDone, done_as}
-use Rattle.ert_transcript.proofs.Meets.{Meets, meets_next, meets_probed, meets_probes}
+use Rattle.ert_transcript.proofs.Meets.{Meets, meets_next, meets_probes}
 use Rattle.ert_transcript.proofs.Steps.{as_look, as_mark, as_orphan}
-use Rattle.ert_transcript.proofs.Taken.{all_taken, one_free, count_pairs}
-use Rattle.ert_transcript.specs.Labels.{Labels, label_of, bind}
-use Rattle.ert_transcript.specs.Lines.{line_of}
+use Rattle.ert_transcript.proofs.Taken.{one_free, count_pairs}
+use Rattle.ert_transcript.specs.Labels.{Labels, bind}
 use Rattle.ert_transcript.specs.Pieces.{Piece}
-use Rattle.ert_transcript.specs.Plain.{slot_of}
-use Rattle.ert_transcript.specs.PlainTimers.{taken_of, started, bad_arg, full, looks, arm_entries, start_piece, starting}
+use Rattle.ert_transcript.specs.PlainTimers.{taken_of, started, full, looks, arm_entries, start_piece, starting}
 
 -- what the plain service does, by the deadline and the count of what is taken
 

@@ -1,8 +1,7 @@
 -- A start, wrapped or bare, with each of its replies: both services agree afterwards, also on what its label
 -- stands for.
 
-use Rattle.std.proofs.Common.{◌≡◌, ◌≢◌, ℕ, suc, ◌<◌, Bool, true, false, cond, nat_eq, List, [], ◌∷◌, ◌++◌, Option, Some, None, Err, refl, sym, ap, ◌∙◌, subst, inl, inr, arith, eqb-true, eq-eqb, ne_eqb}
-use Rattle.ert_answers.specs.TimerCalls.{IsStarted, IsBadArg, IsWheelFull}
+use Rattle.std.proofs.Common.{◌≡◌, ℕ, suc, ◌<◌, Bool, true, false, cond, nat_eq, List, [], ◌∷◌, refl, sym, ap, ◌∙◌, subst, arith}
 use Rattle.ert_answers.specs.Ways.{alone}
 use Rattle.ert_defs.specs.Legal.{LegalFrom}
 use Rattle.ert_defs.specs.States.{State, run, state}
@@ -13,18 +12,17 @@ use Rattle.ert_defs.specs.declared.timer.Kind.TheVariants.{Wrapped, Bare}
 use Rattle.ert_defs.specs.declared.timer.Start.{Start}
 use Rattle.ert_defs.specs.declared.timer.TimerRef.{TimerRef}
 use Rattle.ert_defs.specs.declared.timer.When.{When}
-use Rattle.ert_transcript.proofs.Arms.{IsNew}
 use Rattle.ert_transcript.proofs.Bound.{IsName, IsFreeLabel, names_grow, new_name, ref_bound}
 use Rattle.ert_transcript.proofs.Clocks.{IsDone}
-use Rattle.ert_transcript.proofs.Meets.{Meets, Agrees, meets_later}
-use Rattle.ert_transcript.proofs.Refusals.{IsRefused, bad_arg_done, full_done}
+use Rattle.ert_transcript.proofs.Meets.{Agrees, meets_later}
+use Rattle.ert_transcript.proofs.Refusals.{bad_arg_done, full_done}
 use Rattle.ert_transcript.proofs.Starts.{AreStarted, start_done}
 use Rattle.ert_transcript.specs.Calls.{Calls, start_of}
 use Rattle.ert_transcript.specs.Labels.{Labels, ref_of, label_of, bind}
 use Rattle.ert_transcript.specs.Lines.{line_of}
 use Rattle.ert_transcript.specs.Pieces.{Piece}
 use Rattle.ert_transcript.specs.Plain.{slot_of, piece_of}
-use Rattle.ert_transcript.specs.PlainTimers.{looks, arm_entries, started, starting}
+use Rattle.ert_transcript.specs.PlainTimers.{looks, arm_entries, starting}
 use Rattle.ert_transcript.specs.Scripts.{labels_after}
 use Rattle.ert_transcript.specs.declared.op.Op.{Op}
 use Rattle.ert_transcript.specs.declared.op.Op.TheVariants as ops

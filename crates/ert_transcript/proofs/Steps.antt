@@ -1,13 +1,13 @@
 -- Two states that differ in names alone still do so after the same event, told of each by its names.
 
-use Rattle.std.proofs.Common.{◌≡◌, ◌≢◌, ◌⊎◌, ℕ, ℤ, Bool, true, false, cond, ◌&&◌, ◌||◌, nat_eq, List, [], ◌∷◌, ◌++◌, map, filter, Option, Some, None, refl, sym, ap, ◌∙◌, subst, inl, inr, eq-eqb}
-use Rattle.ert_defs.proofs.FiredTimers.{cond_same, same_timer_self}
+use Rattle.std.proofs.Common.{◌≡◌, ℕ, ℤ, Bool, true, false, cond, List, [], ◌∷◌, ◌++◌, map, filter, Option, refl, sym, ap, ◌∙◌, subst}
+use Rattle.ert_defs.proofs.FiredTimers.{cond_same}
 use Rattle.ert_defs.specs.Actors.{same_actor, has_actor}
 use Rattle.ert_defs.specs.Clocks.{Clock, clock_after}
 use Rattle.ert_defs.specs.Entries.{entry_by, probe_entry}
 use Rattle.ert_defs.specs.Mails.{MailState, SchedState, Monitor, mail_after, inbox_after, sched_after, changes_of, is_news, told_of, without}
 use Rattle.ert_defs.specs.States.{State, next, look_after, exited_after}
-use Rattle.ert_defs.specs.Timers.{Row, same_timer, row_of, rows_after, status_after, settled_as, handed_as}
+use Rattle.ert_defs.specs.Timers.{Row, same_timer, rows_after, status_after, settled_as, handed_as}
 use Rattle.ert_defs.specs.declared.entry.Act.{Act}
 use Rattle.ert_defs.specs.declared.entry.Actor.{Actor}
 use Rattle.ert_defs.specs.declared.entry.Actor.TheVariants.{Keeper, Wheel, Inbox, Sched, MailOf}
@@ -21,7 +21,7 @@ use Rattle.ert_defs.specs.declared.settings.OffsetState.{OffsetState}
 use Rattle.ert_defs.specs.declared.settings.Reading.{Reading}
 use Rattle.ert_defs.specs.declared.settings.Settings.{Settings}
 use Rattle.ert_defs.specs.declared.timer.Status.{Status}
-use Rattle.ert_defs.specs.declared.timer.Status.TheVariants.{Armed, Expired, Delivered, Cancelled, Orphaned, Dropped}
+use Rattle.ert_defs.specs.declared.timer.Status.TheVariants.{Expired, Delivered, Cancelled, Orphaned, Dropped}
 use Rattle.ert_defs.specs.declared.timer.TimerRef.{TimerRef}
 use Rattle.ert_transcript.proofs.Shown.{Names, AreNames, Pairs, Both, SameRow, SameRequest, SameMail, SameMails, SameSched, Shows, both_if, pairs-append, pairs_others, row_both, messages_same, answers_same, with_row_same}
 

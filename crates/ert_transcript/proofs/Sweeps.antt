@@ -1,14 +1,13 @@
 -- A sweep of a wheel for a process: in whatever order its timers are cancelled, and whatever else was looked
 -- at, both services end with the same statuses.
 
-use Rattle.std.proofs.Common.{◌≡◌, ◌≢◌, ℕ, ℤ, Bool, true, false, cond, ◌&&◌, ◌||◌, nat_eq, List, [], ◌∷◌, ◌++◌, map, filter, Option, Some, None, refl, sym, ap, ◌∙◌, subst, arith, eqb-true, eq-eqb}
+use Rattle.std.proofs.Common.{◌≡◌, ◌≢◌, ℕ, Bool, true, false, cond, ◌&&◌, ◌||◌, nat_eq, List, [], ◌∷◌, map, filter, Option, Some, None, refl, sym, ap, ◌∙◌, subst, arith, eqb-true, eq-eqb}
 use Rattle.std.proofs.lemmas.Bool.{and_parts}
-use Rattle.ert_answers.specs.WheelCalls.{Try, orphans_by, orphan_entries, IsFor, MaySweep, AllMaySweep, Sweeps, AreSwept, IsSwept}
-use Rattle.ert_defs.proofs.FiredTimers.{cond_same, same_timer_self, row_named}
+use Rattle.ert_answers.specs.WheelCalls.{Try, orphans_by, orphan_entries, MaySweep, AllMaySweep, Sweeps, AreSwept, IsSwept}
+use Rattle.ert_defs.proofs.FiredTimers.{cond_same}
 use Rattle.ert_defs.proofs.Runs.{kept_from}
 use Rattle.ert_defs.proofs.Slots.{same_timer-true}
 use Rattle.ert_defs.specs.Actors.{same_actor, has_actor}
-use Rattle.ert_defs.specs.Clocks.{Clock}
 use Rattle.ert_defs.specs.Entries.{orphan_entry, probe_entry}
 use Rattle.ert_defs.specs.Laws.{is_armed}
 use Rattle.ert_defs.specs.Legal.{LegalFrom}
@@ -16,7 +15,7 @@ use Rattle.ert_defs.specs.Mails.{MailState, SchedState}
 use Rattle.ert_defs.specs.States.{State, next, run}
 use Rattle.ert_defs.specs.Timers.{Row, row_of, same_timer, settled_as}
 use Rattle.ert_defs.specs.declared.entry.Actor.{Actor}
-use Rattle.ert_defs.specs.declared.entry.Actor.TheVariants.{Keeper, Wheel, Inbox, Sched, MailOf, Caller}
+use Rattle.ert_defs.specs.declared.entry.Actor.TheVariants.{Wheel, Caller}
 use Rattle.ert_defs.specs.declared.entry.Entry.{Entry}
 use Rattle.ert_defs.specs.declared.mail.Request.{Request}
 use Rattle.ert_defs.specs.declared.settings.Settings.{Settings}

@@ -1,7 +1,7 @@
 -- A wheel is full exactly where as many of its rows take a slot as it has slots: a row that takes a slot is
 -- the last of it, and no two rows have one reference.
 
-use Rattle.std.proofs.Common.{◌≡◌, ◌≢◌, ℕ, zero, suc, ◌+◌, ◌<◌, ◌≤◌, Bool, true, false, cond, ◌&&◌, nat_eq, nat_lt, nat_le, List, [], ◌∷◌, All, AllPairs, get_or, Option, Some, None, refl, sym, ap, ◌∙◌, subst, inl, inr, arith, eq-eqb, eqb-true, ne_eqb}
+use Rattle.std.proofs.Common.{◌≡◌, ◌≢◌, ℕ, zero, suc, ◌+◌, ◌<◌, ◌≤◌, Bool, true, false, cond, ◌&&◌, nat_eq, nat_lt, nat_le, List, [], ◌∷◌, All, AllPairs, get_or, Option, Some, None, refl, sym, ap, ◌∙◌, subst, inl, inr, arith, eq-eqb, eqb-true}
 use Rattle.std.proofs.lemmas.Bool.{cases_eq, and_parts}
 use Rattle.std.proofs.lemmas.Bool.Decides.{nat_tests}
 use Rattle.std.proofs.lemmas.List.Elements.{All-head, All-tail}
@@ -10,7 +10,6 @@ use Rattle.ert_defs.proofs.FiredTimers.{same_timer_self, same_timer-false}
 use Rattle.ert_defs.proofs.Lists.{pairs_head, pairs_tail}
 use Rattle.ert_defs.proofs.Rows.{IsRow, AreRows, Differ}
 use Rattle.ert_defs.proofs.Slots.{IsOrdered, same_timer-true}
-use Rattle.ert_defs.proofs.Standing.{AllStand}
 use Rattle.ert_defs.specs.Legal.{names_timer}
 use Rattle.ert_defs.specs.States.{State}
 use Rattle.ert_defs.specs.Timers.{Row, Stands, same_timer, row_of, is_taken, timer_at}
@@ -143,7 +142,6 @@ count_at s w k c kept is =
     let r : Row = get_or (s.rows w) i d in
     at_named s w k r (same_timer r.timer t) kept.ordered (rows.each i d lt).wheel refl) in
     same ∙ count_and (is_taken (s.status t)) (λ r. same_timer r.timer t) (s.rows w) ∙ count_when s w k c kept is
-
   where
     count_when : (s : State) (w k : ℕ) (c : Bool) → IsKept s → is_taken (s.status (last_timer s w k)) ≡ c
         → cond (is_taken (s.status (last_timer s w k))) (count_rows (λ r. same_timer r.timer (last_timer s w k)) (s.rows w)) 0 ≡ one_if c
@@ -240,5 +238,8 @@ all_taken g ls s c w kept shows taken =
 pub one_free : (g : Settings) (ls : Labels) (s c : State) (w k : ℕ) → IsKept s → Shows (IsName g ls) s c → k < g.slots
     → is_taken (s.status (last_timer s w k)) ≡ false → taken_of s.status (s.rows w) < g.slots
 one_free g ls s c w k kept shows lt free =
-    omega (arith, taken_below s.status g.slots (s.rows w) (rows_in g ls w (s.last w) (s.rows w) (c.rows w) (shows.rows w) (kept.rows w).each),
-    one_below s w k g.slots kept lt free)
+    omega (
+      arith,
+      taken_below s.status g.slots (s.rows w) (rows_in g ls w (s.last w) (s.rows w) (c.rows w) (shows.rows w) (kept.rows w).each),
+      one_below s w k g.slots kept lt free,
+    )

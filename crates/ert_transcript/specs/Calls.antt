@@ -1,7 +1,7 @@
 -- The call that an op is, by caller n, in a way: which pieces of history it allows with its reply. Want of
 -- memory is no reply.
 
-use Rattle.std.specs.Prelude.{◌≡◌, ℕ, ℤ, FitsSigned, Bool, true, false, List, [], ◌∷◌, ◌++◌, Option, Some, None, Result, Ok, Err}
+use Rattle.std.specs.Prelude.{◌≡◌, ℕ, ℤ, FitsSigned, Bool, true, false, List, [], ◌∷◌, Option, Ok, Err}
 use Rattle.std.specs.Int.{w64}
 use Rattle.ert_answers.specs.Chains.{Serves, AdvancesWheel, Delivers, Turns, Exits}
 use Rattle.ert_answers.specs.ClockCalls.{Ticks, Finalizes, TellsTime, TellsOffset, TellsSystemTime}
@@ -15,14 +15,12 @@ use Rattle.ert_answers.specs.declared.answers.StartErr.TheVariants.{BadArg, Full
 use Rattle.ert_answers.specs.declared.answers.Taken.TheVariants.{Mail as Taking, Empty, Exited}
 use Rattle.ert_clock.specs.declared.clock.ClockErr.TheVariants.{OffsetWide}
 use Rattle.ert_defs.specs.Lines.{end_time}
-use Rattle.ert_defs.specs.declared.entry.Actor.{Actor}
 use Rattle.ert_defs.specs.declared.entry.Actor.TheVariants.{Keeper, Wheel, Inbox, MailOf, Caller}
 use Rattle.ert_defs.specs.declared.entry.Entry.{Entry}
 use Rattle.ert_defs.specs.declared.mail.Request.{Request}
 use Rattle.ert_defs.specs.declared.mail.RequestKind.{RequestKind}
 use Rattle.ert_defs.specs.declared.mail.RequestKind.TheVariants.{Cancel as ToCancel, Read as ToRead}
 use Rattle.ert_defs.specs.declared.settings.Mode.{Mode}
-use Rattle.ert_defs.specs.declared.settings.OffsetState.{OffsetState}
 use Rattle.ert_defs.specs.declared.settings.Reading.{Reading}
 use Rattle.ert_defs.specs.declared.settings.Settings.{Settings}
 use Rattle.ert_defs.specs.declared.timer.Kind.{Kind}

@@ -1,7 +1,9 @@
 -- The laws of transcripts: what every script run of a list of ops prints.
 
 use Rattle.std.specs.Prelude.{◌≡◌, ◌≢◌, ℕ, ◌≤◌, AllPairs, List, [], ◌∷◌, length}
+use Rattle.ert_defs.specs.States.{state}
 use Rattle.ert_defs.specs.declared.settings.Settings.{Settings}
+use Rattle.ert_transcript.specs.Counts.{counts_of, plain_counts}
 use Rattle.ert_transcript.specs.Plain.{plain_text}
 use Rattle.ert_transcript.specs.Scripts.{IsTranscript}
 use Rattle.ert_transcript.specs.declared.op.Op.{Op}
@@ -27,3 +29,8 @@ LawOfOneText = (g : Settings) (ops : List Op) (text : List ℕ) → AreOps ops �
 abbrev pub LawOfOneTranscript : Type 0
 LawOfOneTranscript = (g : Settings) (ops : List Op) (text other : List ℕ) → AreOps ops
     → IsTranscript g ops text → IsTranscript g ops other → text ≡ other
+
+-- the timers that a script run leaves have the statuses that the plain service tells
+abbrev pub LawOfCounts : Type 0
+LawOfCounts = (g : Settings) (ops : List Op) (text : List ℕ) → AreOps ops → (t : IsTranscript g ops text)
+    → counts_of g (state g t.entries) ≡ plain_counts g ops

@@ -1,4 +1,5 @@
 pub mod Calls
+pub mod Counts
 pub mod Labels
 pub mod Laws
 pub mod Lines
@@ -10,3 +11,6 @@ pub mod PlainTimers
 pub mod PlainTurns
 pub mod Scripts
 pub mod Worked
+pub mod WorkedClocks
+pub mod WorkedTimers
+pub mod WorkedTurns

@@ -1,6 +1,6 @@
 -- The plain service: the ops of the clock.
 
-use Rattle.std.specs.Prelude.{ℕ, ℤ, pos, negsuc, ◌+ℤ◌, Bool, cond, ◌&&◌, int_lt, int_le, List, [], ◌∷◌, Option, Some, None}
+use Rattle.std.specs.Prelude.{ℕ, ℤ, pos, negsuc, ◌+ℤ◌, Bool, cond, ◌&&◌, int_lt, int_le, [], ◌∷◌, Option, Some, None}
 use Rattle.ert_clock.specs.Ticks.{keeper_entry, tick_entries}
 use Rattle.ert_defs.specs.Clocks.{face}
 use Rattle.ert_defs.specs.Entries.{look_entry, off_entry}

@@ -1,6 +1,6 @@
 -- The plain service: mailboxes, exits and monitors of the time offset.
 
-use Rattle.std.specs.Prelude.{ℕ, suc, zero, Bool, true, false, cond, not, ◌&&◌, nat_eq, nat_lt, nat_le, List, [], ◌∷◌, ◌++◌, length, map, filter, Option, Some, None}
+use Rattle.std.specs.Prelude.{ℕ, suc, zero, Bool, true, false, not, ◌&&◌, nat_eq, nat_lt, nat_le, List, [], ◌∷◌, ◌++◌, length, map, filter, Option, Some, None}
 use Rattle.ert_defs.specs.Entries.{off_entry, orphan_entry, mark_entry, take_entry, watch_entry, unwatch_entry, tell_entry}
 use Rattle.ert_defs.specs.Laws.{is_armed}
 use Rattle.ert_defs.specs.Legal.{stands_in}

@@ -7,7 +7,6 @@ use Rattle.ert_answers.specs.RequestCalls.{inbox_for}
 use Rattle.ert_answers.specs.TimerCalls.{read_entries, cancel_entries}
 use Rattle.ert_answers.specs.declared.answers.Handed.{Handed}
 use Rattle.ert_answers.specs.declared.answers.Handed.TheVariants.{Put, Dropped}
-use Rattle.ert_answers.specs.declared.answers.Turned.{Turned}
 use Rattle.ert_defs.specs.Entries.{look_entry, expire_entry, advanced_entry, ask_entry, pick_entry, answer_entry}
 use Rattle.ert_defs.specs.Laws.{is_armed}
 use Rattle.ert_defs.specs.Mails.{first_of}
@@ -25,7 +24,7 @@ use Rattle.ert_defs.specs.declared.timer.TimerRef.{TimerRef}
 use Rattle.ert_transcript.specs.Pieces.{Piece}
 use Rattle.ert_transcript.specs.PlainTimers.{is_bound, left_now, left_if}
 use Rattle.ert_transcript.specs.declared.reply.Reply.{Reply}
-use Rattle.ert_transcript.specs.declared.reply.Reply.TheVariants.{CancelAsync, ReadAsync, Serve, Advance, Deliver, Turn}
+use Rattle.ert_transcript.specs.declared.reply.Reply.TheVariants.{Serve, Advance, Deliver, Turn}
 
 -- a request is put into the inbox of its scheduler
 abbrev pub ask_piece : Settings → Request → Reply → Piece
