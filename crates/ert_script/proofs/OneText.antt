@@ -25,7 +25,8 @@ use Rattle.ert_scenario.specs.declared.op.Op.{Op}
 use Rattle.ert_scenario.specs.declared.op.Op.TheVariants as ops
 use Rattle.ert_script.specs.declared.reply.Reply.{Reply}
 use Rattle.ert_script.specs.declared.reply.Reply.TheVariants.{Tick, TickWide, Check, CheckWide, Finalize, FinalizeWide, Time, System, Offset, Info, Convert, ConvertTooWide}
-use Rattle.ert_script.specs.Lines.{lines_of, end_line}
+use Rattle.ert_script.specs.Lines.{lines_of}
+use Rattle.ert_transcript.specs.Texts.{end_line}
 use Rattle.ert_script.specs.Scripts.{reading_of, moved_to, Tells, Allows, ScriptRun}
 use Rattle.ert_script.specs.Transcripts.{IsTranscript}
 

@@ -6,7 +6,6 @@ mod Opening
 mod Parts
 mod Splice
 mod Times
-mod Trials
 mod Unsplice
-mod Views
+pub mod Views
 mod Writes

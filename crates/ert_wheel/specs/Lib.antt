@@ -2,6 +2,5 @@ pub mod Chained
 pub mod Links
 pub mod Rings
 pub mod Rows
-pub mod Trial
 pub mod Walks
 pub mod Wheels

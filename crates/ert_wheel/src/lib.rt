@@ -30,8 +30,6 @@
 mod chains;
 mod links;
 mod row;
-#[cfg(test)]
-mod tests;
 mod walk;
 mod wheel;
 

@@ -1,9 +1,9 @@
 //! Rows that come round, a late one, a leap over all buckets, and chains once.
 
 ghost use Rattle.std.specs.Prelude.{◌≡◌, ◌+◌, ◌<◌, ◌≤◌, ℕ, IfOk, length, vec_capacity};
-ghost use Rattle.ert_wheel.specs.Trial.{AreBelow};
+ghost use Rattle.ert_wheel_tests.specs.Trial.{AreBelow};
 
-use super::*;
+use ert_wheel::{Chains, Row, Wheel};
 use std::alloc::Global;
 use std::test::Fail;
 
