@@ -1,6 +1,6 @@
 -- Passes that are divided and put together keep the rule.
 
-use Rattle.std.proofs.Common.{◌≡◌, ◌≢◌, inl, inr, ℕ, ◌+◌, ◌*◌, ◌^◌, ◌≤◌, max, arith, List, [], ◌∷◌, ◌++◌, length, length-append, set, All, sum_by, refl, sym, ◌∙◌}
+use Rattle.std.proofs.Common.{◌≡◌, inl, inr, ℕ, ◌+◌, ◌*◌, ◌^◌, ◌≤◌, max, arith, List, [], ◌∷◌, ◌++◌, length, length-append, set, refl, sym, ◌∙◌}
 use Rattle.std.proofs.lemmas.List.Elements.{All-append, All-nil}
 use mathlib.Core.Option.{some}
 use lib.ListN.{get_elem?}

@@ -1,12 +1,12 @@
 -- A draw keeps the rule, and tells that the number is new.
 
-use Rattle.std.proofs.Common.{◌≡◌, ℕ, zero, suc, ◌+◌, ◌*◌, ◌%◌, ◌^◌, ◌<◌, ◌≤◌, ⊎_elim, arith, inl, List, [], ◌∷◌, ◌++◌, length, set, All, sum_by, slice_index, refl, sym, ap, subst, ◌∙◌}
+use Rattle.std.proofs.Common.{◌≡◌, ℕ, zero, suc, ◌+◌, ◌*◌, ◌%◌, ◌^◌, ◌<◌, ◌≤◌, ⊎_elim, arith, inl, List, [], ◌∷◌, length, set, sum_by, slice_index, refl, sym, ap, subst}
 use Rattle.std.proofs.Math.Nat.{mod-eq_of_lt}
 use Rattle.std.proofs.lemmas.List.Sums.{sum_by-cons}
 use Rattle.std.proofs.lemmas.List.Elements.{All-append, All-cons, All-nil}
 use mathlib.Core.Option.{some, some-injective, some-ne-none}
 use lib.ListN.{get_elem?}
-use Rattle.atomic_table.specs.Table.{State, Act, keeps, Allows, Valid, stepped, carried_after}
+use Rattle.atomic_table.specs.Table.{Act, keeps, Allows, Valid, stepped, carried_after}
 use Rattle.ert_unique.specs.Rule.{drawn, Fits, Holds}
 use Rattle.ert_unique.specs.Steps.{Draws, Sitter, Told}
 use Rattle.ert_unique.specs.Views.{drew, spent}

@@ -1,6 +1,6 @@
 -- Totals over all passes, and how they change with one pass.
 
-use Rattle.std.proofs.Common.{◌≡◌, ℕ, zero, suc, ◌+◌, ◌<◌, arith, cond, ◌==◌, List, [], ◌∷◌, ◌++◌, length, length-append, set, sum_by, refl, sym, ap, ◌∙◌}
+use Rattle.std.proofs.Common.{◌≡◌, ℕ, zero, suc, ◌+◌, arith, cond, ◌==◌, List, [], ◌∷◌, ◌++◌, length, length-append, set, sum_by, refl, sym, ap, ◌∙◌}
 use Rattle.std.proofs.lemmas.Bool.Decides.{nat_tests}
 use Rattle.std.proofs.lemmas.List.Sums.{sum_by-append, sum_by-cons}
 use mathlib.Core.Option.{some, some-injective, some-ne-none}

@@ -1,7 +1,7 @@
 -- The laws of unique integers and stamps. The functions of src/laws.rt carry them as contracts, so that
 -- they are proved.
 
-use Rattle.std.specs.Prelude.{◌≡◌, ℕ, ℤ, pos, ◌+ℤ◌, ◌*ℤ◌, ◌≤ℤ◌, ◌<ℤ◌, ◌^◌, ◌≤◌}
+use Rattle.std.specs.Prelude.{◌≡◌, ℕ, pos, ◌+ℤ◌, ◌*ℤ◌, ◌≤ℤ◌, ◌<ℤ◌, ◌^◌, ◌≤◌}
 use Rattle.ert_unique.specs.Plain.{plain_answer}
 use Rattle.ert_unique.specs.Stamps.{stamp_at}
 use Rattle.ert_unique.specs.declared.stamp.Stamp.{Stamp}

@@ -1,6 +1,6 @@
 -- Lists of numbers in which none is missing and none stands twice.
 
-use Rattle.std.specs.Prelude.{◌≡◌, ℕ, ◌≤◌, Bool, cond, nat_lt, nat_le, ◌&&◌, ◌==◌, List, length, count_by}
+use Rattle.std.specs.Prelude.{◌≡◌, ℕ, ◌≤◌, cond, nat_lt, nat_le, ◌&&◌, ◌==◌, List, length, count_by}
 
 -- how often a number stands in a list
 abbrev pub times : ℕ → List ℕ → ℕ

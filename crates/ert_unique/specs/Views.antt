@@ -1,6 +1,6 @@
 -- What a pass knows, and how that is divided and put together.
 
-use Rattle.std.specs.Prelude.{ℕ, ◌+◌, ◌-◌, max, List, [], ◌∷◌, ◌++◌}
+use Rattle.std.specs.Prelude.{ℕ, ◌+◌, max, [], ◌∷◌, ◌++◌}
 use Rattle.ert_unique.specs.declared.view.View.{View}
 
 -- what the first pass knows, which has the shares of all that are opened

@@ -26,12 +26,21 @@ fn passes_draw_in_turn(rt: HostRuntime) -> Result<(), NoMemory> {
     let (uniques, mut passes) = Uniques::open(rt.alloc(), 2)?;
     let mut two = passes.pop().expect(&rt, "there are two passes");
     let mut one = passes.pop().expect(&rt, "there are two passes");
-    assert_eq!(rt; one.plain(), Ok(1));
-    assert_eq!(rt; two.plain(), Ok(1_099_511_627_777));
     assert_eq!(rt; draw_in_turn(&uniques, &mut one, &mut two), Ok((1, 2, 3)));
     uniques.meet(&mut two, &mut one);
     assert_eq!(rt; uniques.monotonic(&mut two), Ok(4));
     let passes = together(rt.alloc(), &uniques, one, two)?;
     assert_eq!(rt; uniques.close(passes), 4);
+    Ok(())
+}
+
+#[test]
+fn passes_answer_from_their_own_ranges(rt: HostRuntime) -> Result<(), NoMemory> {
+    let (_, mut passes) = Uniques::open(rt.alloc(), 2)?;
+    let mut two = passes.pop().expect(&rt, "there are two passes");
+    let mut one = passes.pop().expect(&rt, "there are two passes");
+    assert_eq!(rt; (one.plain(), one.plain()), (Ok(1), Ok(2)));
+    assert_eq!(rt; two.plain(), Ok(1_099_511_627_777));
+    assert_eq!(rt; two.plain(), Ok(1_099_511_627_778));
     Ok(())
 }

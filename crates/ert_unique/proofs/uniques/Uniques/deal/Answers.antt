@@ -1,6 +1,6 @@
 use Rattle.std.proofs.Common.{◌≡◌, ◌-◌, ◌∙◌, arith, ap, length}
 use Rattle.std.proofs.lemmas.List.{length-map}
-use Rattle.ert_unique.specs.Passes.{number_of, below}
+use Rattle.ert_unique.specs.Passes.{number_of}
 use Rattle.ert_unique.specs.Steps.{Sitter}
 use Rattle.ert_unique.proofs.Dividing.{divides}
 use Rattle.ert_unique.proofs.Gathering.{length_below}

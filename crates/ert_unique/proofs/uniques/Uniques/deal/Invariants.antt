@@ -1,4 +1,4 @@
-use Rattle.std.proofs.Common.{◌≡◌, ◌-◌, ◌≤◌, All, [], map}
+use Rattle.std.proofs.Common.{◌≡◌, ◌-◌, All, [], map}
 use Rattle.ert_unique.specs.Passes.{number_of, Belongs, IsNew, below}
 use Rattle.ert_unique.specs.Views.{first_view, keeping}
 use Rattle.ert_unique.proofs.uniques.Uniques.deal.Given as goal

@@ -1,9 +1,8 @@
-use Rattle.std.proofs.Common.{◌≡◌, ◌∙◌, [], arith, ap}
+use Rattle.std.proofs.Common.{◌∙◌, arith, ap}
 use Rattle.std.proofs.lemmas.List.Elements.{All-pop}
 use Rattle.std.specs.Prelude.{Some}
 use Rattle.ert_unique.specs.Passes.{Belongs, draws_together}
 use Rattle.ert_unique.specs.Steps.{Sitter}
-use Rattle.ert_unique.specs.Views.{both}
 use Rattle.ert_unique.proofs.Dividing.{unites}
 use Rattle.ert_unique.proofs.Gathering.{gathers_first, gathers_one}
 use Rattle.ert_unique.proofs.uniques.Uniques.gather.Goals as goal
