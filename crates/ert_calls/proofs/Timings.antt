@@ -1,13 +1,13 @@
 -- What is left of a timer, by what its slot shows and by the state.
 
-use Rattle.std.proofs.Common.{◌≡◌, ◌≢◌, ℕ, ◌-◌, ℤ, pos, negsuc, ◌-ℤ◌, arith, Bool, true, false, cond, List, [], ◌∷◌, ◌++◌, Option, Some, None, option_map, refl, sym, ap, subst, ◌∙◌}
+use Rattle.std.proofs.Common.{◌≡◌, ◌≢◌, ℕ, ◌-◌, ℤ, pos, negsuc, ◌-ℤ◌, arith, Bool, true, false, cond, List, [], ◌∷◌, ◌++◌, Option, Some, None, option_map, refl, sym, subst, ◌∙◌}
 use Rattle.std.proofs.lemmas.Int.{ints}
 use Rattle.std.specs.Prelude.{IsSome}
 use Rattle.ert_answers.specs.TimerCalls.{read_entries, Reads, cancel_entries, Cancels}
 use Rattle.ert_defs.specs.Entries.{look_entry, peek_entry, cancel_entry}
 use Rattle.ert_defs.specs.Legal.{Legal, left_by, left_of, names_timer}
 use Rattle.ert_defs.specs.Milliseconds.{natural, left}
-use Rattle.ert_defs.specs.States.{State, opening, state}
+use Rattle.ert_defs.specs.States.{opening, state}
 use Rattle.ert_defs.specs.Timers.{Row, row_of}
 use Rattle.ert_defs.proofs.Runs.{legal_first}
 use Rattle.ert_defs.specs.declared.entry.Actor.{Actor}
@@ -25,7 +25,7 @@ use Rattle.ert_table.proofs.Calls.{step_takes_place, takes_place_then}
 use Rattle.ert_table.proofs.SlotFacts.{slots_kept}
 use Rattle.ert_calls.specs.Left.{AtLastStep, IsLeft, TellsLeft, Tells}
 use Rattle.ert_calls.specs.Deadlines.{Peeks}
-use Rattle.ert_calls.proofs.Looks.{can_step, look_before, look_stepped}
+use Rattle.ert_calls.proofs.Looks.{can_step, look_stepped}
 
 -- a difference, or 0 where it is negative
 pub natural_sub : (x : ℤ) (m n : ℕ) → x ≡ (pos m -ℤ pos n) → natural x ≡ m - n

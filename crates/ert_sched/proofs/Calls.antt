@@ -1,25 +1,19 @@
 -- The calls of a world extend its history.
 
 use Rattle.std.proofs.Common.{◌≡◌, ℕ, zero, suc, ◌<◌, ℤ, ◌+ℤ◌, true, List, [], ◌∷◌, ◌++◌, Some, refl, sym, subst, ap, ◌∙◌, arith}
-use Rattle.std.specs.Prelude.{Result, Ok, Err}
 use Rattle.std.proofs.lemmas.List.{append-nil}
 use Rattle.ert_clock.proofs.Stand.{stands_kept}
 use Rattle.ert_clock.specs.Shown.{Shown, Stands}
-use Rattle.ert_clock.specs.declared.clock.ClockErr.{ClockErr}
-use Rattle.ert_clock.specs.declared.clock.Moved.{Moved}
 use Rattle.ert_defs.specs.Clocks.{face}
 use Rattle.ert_defs.proofs.Runs.{state-append, legal_then}
 use Rattle.ert_defs.specs.Legal.{LegalFrom, Legal}
 use Rattle.ert_defs.specs.Lines.{Face}
 use Rattle.ert_defs.specs.States.{State, opening, run, state}
-use Rattle.ert_defs.specs.declared.entry.Act.{Act}
 use Rattle.ert_defs.specs.declared.entry.Actor.{Actor}
 use Rattle.ert_defs.specs.declared.entry.Actor.TheVariants.{Caller}
 use Rattle.ert_defs.specs.declared.entry.Entry.{Entry}
-use Rattle.ert_defs.specs.declared.entry.Event.TheVariants.{Look, Off}
 use Rattle.ert_defs.specs.declared.settings.OffsetState.{OffsetState}
 use Rattle.ert_defs.specs.declared.settings.OffsetState.TheVariants.{Preliminary, Final, Volatile}
-use Rattle.ert_defs.specs.declared.settings.Reading.{Reading}
 use Rattle.ert_defs.specs.declared.settings.Settings.{Settings}
 use Rattle.ert_answers.specs.ClockCalls.{TellsTime, TellsOffset, TellsSystemTime}
 use Rattle.ert_defs.specs.Entries.{look_entry, off_entry}
@@ -32,7 +26,7 @@ use Rattle.ert_table.specs.Held.{is_held, IsWhole, least_caller}
 use Rattle.ert_table.specs.Calls.{IsMade}
 use Rattle.ert_table.specs.Takes.{TakesPlace}
 use Rattle.ert_table.specs.declared.view.View.{View}
-use Rattle.ert_sched.specs.Worlds.{Service, seen, AreFit, StandsFor, GoesOn, Goes}
+use Rattle.ert_sched.specs.Worlds.{Service, seen, AreFit, StandsFor, Goes}
 
 -- caller 0 is the least that a pass with every actor holds
 least_from : (actors : List Actor) (n : ℕ) → is_held actors (Caller 0) ≡ true → least_caller actors (suc n) ≡ Some 0

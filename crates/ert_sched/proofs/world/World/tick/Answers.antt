@@ -1,5 +1,5 @@
 use Rattle.ert_answers.specs.ClockCalls.{Ticks}
-use Rattle.ert_sched.proofs.Calls.{Does, does}
+use Rattle.ert_sched.proofs.Calls.{does}
 use Rattle.ert_sched.proofs.world.World.tick.Goals as goal
 
 pub invariant_of-self : goal.invariant_of-self
