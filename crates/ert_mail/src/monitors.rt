@@ -1,11 +1,11 @@
 //! The monitors of the time offset that a process has.
-ghost use Rattle.std.specs.Prelude.{◌≡◌, ◌≤◌, ◌<◌, ◌+◌, [], ◌∷◌, ◌++◌, length, vec_len, vec_capacity, OnOk};
+ghost use Rattle.std.specs.Prelude.{◌≡◌, ◌≤◌, ◌<◌, ◌+◌, [], ◌∷◌, ◌++◌, length, vec_len};
 ghost use Rattle.std.specs.VecDeque.{deque_len, deque_capacity};
 ghost use Rattle.ert_defs.specs.Legal.{stands_in};
 ghost use Rattle.ert_defs.specs.Mails.{changes_of, told_of, without};
 ghost use Rattle.ert_mail.specs.Mailboxes.{monitor_of, monitors_of};
 
-use ert_defs::{Mail, NoMemory};
+use ert_defs::Mail;
 use std::collections::VecDeque;
 
 /// A monitor of the time offset.
@@ -26,16 +26,6 @@ pub(crate) fn has_monitor(monitors: &[Monitor], number: u32) -> bool
         }
     }
     false
-}
-
-/// Makes room for one more monitor.
-pub(crate) fn reserve_one(monitors: &mut Vec<Monitor>) -> Result<(), NoMemory>
-    ensures items { monitors.new.items ≡ monitors.old.items }
-    ensures len { vec_len monitors.new ≡ vec_len monitors.old }
-    ensures room { OnOk result (vec_len monitors.new < vec_capacity monitors.new) }
-{
-    monitors.reserve(1)?;
-    Ok(())
 }
 
 /// Removes the monitor of a number.

@@ -1,7 +1,7 @@
 //! The calls on the monitors of a process (`erlang` module reference, `monitor` with `time_offset`).
 ghost use Rattle.std.specs.Prelude.{◌≡◌};
 
-use crate::monitors::{Monitor, has_monitor, remove, reserve_one, tell_all};
+use crate::monitors::{Monitor, has_monitor, remove, tell_all};
 use crate::part::MailPart;
 use ert_answers::MonitorErr;
 use ert_defs::{Actor, NoMemory};
@@ -11,7 +11,7 @@ use ert_table::{Desk, OffsetCarry, Pass, TimeCarry};
 const MOST_MONITORS: usize = 64;
 
 impl MailPart {
-    ghost use Rattle.std.specs.Prelude.{◌↔◌, IfOk, OnErr, Err};
+    ghost use Rattle.std.specs.Prelude.{◌↔◌, IsTrue, IfOk, OnErr, Err};
     ghost use Rattle.ert_defs.specs.Legal.{stands_in};
     ghost use Rattle.ert_answers.specs.MailCalls.{Demonitors, Tells};
     ghost use Rattle.ert_answers.specs.declared.answers.MonitorErr.TheVariants.{Full};
@@ -36,11 +36,13 @@ impl MailPart {
         ensures stands { Stands (settings_of desk.now) (front_of pass.new) self.new }
     {
         let by = Actor::Caller(by);
-        if self.monitors.len() >= MOST_MONITORS || self.next > u32::MAX as u64 {
+        if self.has_many() {
             pass.load_offset(desk, by, &OffsetCarry::Off);
             return Err(MonitorErr::Full);
         }
-        reserve_one(&mut self.monitors)?;
+        if self.monitors.reserve(1).is_err() {
+            return Err(MonitorErr::NoMemory);
+        }
         let number = self.next as u32;
         let process = self.process;
         let carry = OffsetCarry::Watch {
@@ -51,6 +53,13 @@ impl MailPart {
         self.monitors.push_reserved(Monitor { number, told });
         self.next += 1;
         Ok(number)
+    }
+
+    /// Whether no further monitor can be made.
+    fn has_many(&self) -> bool
+        ensures { IsTrue result ↔ AreMany self.now.held }
+    {
+        self.monitors.len() >= MOST_MONITORS || self.next > u32::MAX as u64
     }
 
     /// Removes a monitor, and tells whether it stood.
