@@ -1,4 +1,5 @@
 pub mod Standing
 pub mod Takings
 pub mod Watchings
+pub mod Handings
 pub mod MonitorLaws

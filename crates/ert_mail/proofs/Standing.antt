@@ -46,8 +46,8 @@ stands_at g v e w m n held stands step process has delivered =
     }
 
 -- an entry makes this of what a process has
-abbrev pub Makes : Settings → ℕ → Entry → (MailState → MailState) → Type 0
-Makes g p e f = (s : State) → (next g s e).mails p ≡ f (s.mails p)
+abbrev pub Turns : Settings → ℕ → Entry → (MailState → MailState) → Type 0
+Turns g p e f = (s : State) → (next g s e).mails p ≡ f (s.mails p)
 
 same_mail : (a b : MailState) → a.queue ≡ b.queue → a.monitors ≡ b.monitors → a.next ≡ b.next → a ≡ b
 same_mail a b queue monitors next =
@@ -56,7 +56,7 @@ same_mail a b queue monitors next =
     ∙ ap (λ x. record { queue = b.queue; monitors = b.monitors; next = x }) next)
 
 pub stands_step : (g : Settings) (v : View) (e : Entry) (w : View) (m n : Mailbox) (f : MailState → MailState)
-    → is_held v.actors (MailOf m.process) ≡ true → Stands g v.front m → Appends g v e w → Makes g m.process e f
+    → is_held v.actors (MailOf m.process) ≡ true → Stands g v.front m → Appends g v e w → Turns g m.process e f
     → delivers_to m.process e ≡ false → n.process ≡ m.process → n.held.queue ≡ (f m.held).queue → n.held.monitors ≡ (f m.held).monitors
     → n.held.next ≡ (f m.held).next → n.delivered ≡ m.delivered → Stands g w.front n
 stands_step g v e w m n f held stands step makes none process queue monitors next delivered =

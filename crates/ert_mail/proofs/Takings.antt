@@ -11,10 +11,10 @@ use Rattle.ert_defs.specs.declared.settings.Settings.{Settings}
 use Rattle.ert_answers.specs.MailCalls.{Takes}
 use Rattle.ert_answers.specs.declared.answers.Taken.{Taken}
 use Rattle.ert_answers.specs.declared.answers.Taken.TheVariants.{Mail as First, Empty, Exited}
-use Rattle.ert_table.specs.Calls.{IsMade}
+use Rattle.ert_table.specs.Making.{Makes}
 use Rattle.ert_table.specs.Held.{is_held}
 use Rattle.ert_table.specs.Takes.{MayStep, Appends}
-use Rattle.ert_table.proofs.Calls.{step_takes_place}
+use Rattle.ert_table.proofs.Makings.{step_makes}
 use Rattle.ert_table.proofs.Parts.{two_steps, held_on}
 use Rattle.ert_table.specs.declared.view.View.{View}
 use Rattle.ert_mail.specs.Mailboxes.{Mailbox, Stands, IsCallers}
@@ -33,12 +33,8 @@ pub stands_marked : (g : Settings) (v u : View) (by : ℕ) (was : Bool) (m : Mai
     → Stands g v.front m → Appends g v (mark_entry (Caller by) m.process false was) u → Stands g u.front m
 stands_marked g v u by was m held stands step = stands_apart g v (mark_entry (Caller by) m.process false was) u m held refl stands step
 
-pub exited_made : (g : Settings) (v u : View) (by p : ℕ) → Appends g v (mark_entry (Caller by) p false true) u → IsMade g v (Takes g by p Exited) u
-exited_made g v u by p step = record {
-  entries = mark_entry (Caller by) p false true ∷ [];
-  allowed = refl;
-  call = step_takes_place g v (mark_entry (Caller by) p false true) u step;
-}
+pub exited_made : (g : Settings) (v u : View) (by p : ℕ) → Appends g v (mark_entry (Caller by) p false true) u → Makes g v (Takes g by p Exited) u
+exited_made g v u by p step = step_makes g v (mark_entry (Caller by) p false true) u (Takes g by p Exited) refl step
 
 -- the first message may be taken
 pub may_take : (g : Settings) (u : View) (by : ℕ) (m : Mailbox) (got : Option Mail) → IsCallers g u by m.process → Stands g u.front m
@@ -55,7 +51,7 @@ taken_of None = Empty
 taken_of (Some mail) = First mail
 
 taken_made : (g : Settings) (v u w : View) (by p : ℕ) (got : Option Mail) → Appends g v (mark_entry (Caller by) p false false) u
-    → Appends g u (take_entry by p got) w → IsMade g v (Takes g by p (taken_of got)) w
+    → Appends g u (take_entry by p got) w → Makes g v (Takes g by p (taken_of got)) w
 taken_made g v u w by p None mark take = record {
   entries = mark_entry (Caller by) p false false ∷ (take_entry by p None ∷ []);
   allowed = refl;
@@ -68,14 +64,14 @@ taken_made g v u w by p (Some mail) mark take = record {
 }
 
 pub first_made : (g : Settings) (v u w : View) (by p : ℕ) (got : Option Mail) (mail : Mail) → got ≡ Some mail
-    → Appends g v (mark_entry (Caller by) p false false) u → Appends g u (take_entry by p got) w → IsMade g v (Takes g by p (First mail)) w
+    → Appends g v (mark_entry (Caller by) p false false) u → Appends g u (take_entry by p got) w → Makes g v (Takes g by p (First mail)) w
 first_made g v u w by p got mail is mark take =
-    subst (λ answer. IsMade g v (Takes g by p answer) w) (ap taken_of is) (taken_made g v u w by p got mark take)
+    subst (λ answer. Makes g v (Takes g by p answer) w) (ap taken_of is) (taken_made g v u w by p got mark take)
 
 pub empty_made : (g : Settings) (v u w : View) (by p : ℕ) (got : Option Mail) → got ≡ None
-    → Appends g v (mark_entry (Caller by) p false false) u → Appends g u (take_entry by p got) w → IsMade g v (Takes g by p Empty) w
+    → Appends g v (mark_entry (Caller by) p false false) u → Appends g u (take_entry by p got) w → Makes g v (Takes g by p Empty) w
 empty_made g v u w by p got is mark take =
-    subst (λ answer. IsMade g v (Takes g by p answer) w) (ap taken_of is) (taken_made g v u w by p got mark take)
+    subst (λ answer. Makes g v (Takes g by p answer) w) (ap taken_of is) (taken_made g v u w by p got mark take)
 
 -- a mailbox stands after its first message was taken off
 abbrev without_first : MailState → MailState

@@ -1,7 +1,7 @@
 -- The steps of the calls on monitors.
 
 use Rattle.std.proofs.Common.{◌≡◌, ◌⊎◌, ℕ, ◌+◌, ◌<◌, ◌≤◌, ℤ, Bool, true, false, List, [], ◌∷◌, ◌++◌, length, Ok, Err, inl, inr, refl, sym, ap, subst, ◌∙◌, eq-eqb}
-use Rattle.std.proofs.lemmas.Bool.{cases_le}
+use Rattle.std.proofs.lemmas.Bool.{cases_lt}
 use Rattle.std.proofs.lemmas.List.{map-append}
 use Rattle.ert_defs.specs.Entries.{off_entry, watch_entry, unwatch_entry, tell_entry}
 use Rattle.ert_defs.specs.Mails.{MailState, changes_of, told_of, without}
@@ -10,22 +10,19 @@ use Rattle.ert_defs.specs.declared.settings.OffsetState.{OffsetState}
 use Rattle.ert_defs.specs.declared.settings.Settings.{Settings}
 use Rattle.ert_answers.specs.MailCalls.{Monitors, Demonitors, Tells}
 use Rattle.ert_answers.specs.declared.answers.MonitorErr.TheVariants.{Full, NoMemory}
-use Rattle.ert_table.specs.Calls.{IsMade}
+use Rattle.ert_table.specs.Making.{Makes}
 use Rattle.ert_table.specs.Held.{is_held}
 use Rattle.ert_table.specs.Takes.{Appends}
-use Rattle.ert_table.proofs.Calls.{step_takes_place}
+use Rattle.ert_table.proofs.Makings.{step_makes}
 use Rattle.ert_table.specs.declared.view.View.{View}
 use Rattle.ert_mail.specs.Mailboxes.{Mailbox, Stands, AreMany, monitor_of, monitors_of}
 use Rattle.ert_mail.specs.declared.monitors.Monitor.{Monitor}
 use Rattle.ert_mail.proofs.Standing.{stands_step, stands_apart}
 
 pub unwatch_made : (g : Settings) (v w : View) (by p monitor : ℕ) (was : Bool) → Appends g v (unwatch_entry by p monitor was) w
-    → IsMade g v (Demonitors g by p monitor was) w
-unwatch_made g v w by p monitor was step = record {
-  entries = unwatch_entry by p monitor was ∷ [];
-  allowed = refl;
-  call = step_takes_place g v (unwatch_entry by p monitor was) w step;
-}
+    → Makes g v (Demonitors g by p monitor was) w
+unwatch_made g v w by p monitor was step =
+    step_makes g v (unwatch_entry by p monitor was) w (Demonitors g by p monitor was) refl step
 
 abbrev unwatched : ℕ → MailState → MailState
 unwatched monitor has = record { queue = has.queue; monitors = without monitor has.monitors; next = has.next }
@@ -39,30 +36,25 @@ stands_unwatched g v w by monitor was m n held stands step process queue monitor
     (λ s. rw (eq-eqb m.process m.process refl) refl) (rw (eq-eqb m.process m.process refl) refl) process queue monitors next delivered
 
 pub full_made : (g : Settings) (v w : View) (by : ℕ) (m : Mailbox) (offset : ℤ) (offset_state : OffsetState) → Stands g v.front m → AreMany m.held
-    → Appends g v (off_entry (Caller by) offset offset_state) w → IsMade g v (Monitors g by m.process (Err Full)) w
-full_made g v w by m offset offset_state stands many step = record {
-  entries = off_entry (Caller by) offset offset_state ∷ [];
-  allowed = record { offset = offset; offset_state = offset_state; full = subst AreMany stands.held many; entries = refl };
-  call = step_takes_place g v (off_entry (Caller by) offset offset_state) w step;
-}
+    → Appends g v (off_entry (Caller by) offset offset_state) w → Makes g v (Monitors g by m.process (Err Full)) w
+full_made g v w by m offset offset_state stands many step =
+    step_makes g v (off_entry (Caller by) offset offset_state) w (Monitors g by m.process (Err Full))
+    (record { offset = offset; offset_state = offset_state; full = subst AreMany stands.held many; entries = refl }) step
 
 pub stands_full : (g : Settings) (v w : View) (by : ℕ) (m : Mailbox) (offset : ℤ) (offset_state : OffsetState) → is_held v.actors (MailOf m.process) ≡ true
     → Stands g v.front m → Appends g v (off_entry (Caller by) offset offset_state) w → Stands g w.front m
 stands_full g v w by m offset offset_state held stands step = stands_apart g v (off_entry (Caller by) offset offset_state) w m held refl stands step
 
 pub not_many : (m : MailState) → (AreMany m → ⊥) → m.next ≤ 4294967295
-not_many m few = elim (cases_le m.next 4294967295) [
-  | inl low ↦ low
-  | inr high ↦ absurd (few (inr high))
+not_many m few = elim (cases_lt 4294967295 m.next) [
+  | inl high ↦ absurd (few (inr high))
+  | inr low ↦ low
 ]
 
 pub watch_made : (g : Settings) (v w : View) (by p number : ℕ) (offset : ℤ) → number ≤ 4294967295
-    → Appends g v (watch_entry by p number offset) w → IsMade g v (Monitors g by p (Ok number)) w
-watch_made g v w by p number offset low step = record {
-  entries = watch_entry by p number offset ∷ [];
-  allowed = record { offset = offset; low = low; entries = refl };
-  call = step_takes_place g v (watch_entry by p number offset) w step;
-}
+    → Appends g v (watch_entry by p number offset) w → Makes g v (Monitors g by p (Ok number)) w
+watch_made g v w by p number offset low step =
+    step_makes g v (watch_entry by p number offset) w (Monitors g by p (Ok number)) (record { offset = offset; low = low; entries = refl }) step
 
 abbrev watched : ℕ → ℤ → MailState → MailState
 watched number offset has = record {
@@ -83,16 +75,14 @@ stands_watched g v w by made old new m n held stands step process before after o
     next delivered
 
 pub tell_made : (g : Settings) (v w : View) (by put : ℕ) (m : Mailbox) (offset : ℤ) → Stands g v.front m → put ≡ length (changes_of offset m.held.monitors)
-    → Appends g v (tell_entry by m.process offset) w → IsMade g v (Tells g by m.process (Ok put)) w
-tell_made g v w by put m offset stands put_is step = record {
-  entries = tell_entry by m.process offset ∷ [];
-  allowed = record {
-    offset = offset;
-    put_is = put_is ∙ ap (λ (has : MailState). length (changes_of offset has.monitors)) stands.held;
-    entries = refl;
-  };
-  call = step_takes_place g v (tell_entry by m.process offset) w step;
-}
+    → Appends g v (tell_entry by m.process offset) w → Makes g v (Tells g by m.process (Ok put)) w
+tell_made g v w by put m offset stands put_is step =
+    step_makes g v (tell_entry by m.process offset) w (Tells g by m.process (Ok put))
+    (record {
+      offset = offset;
+      put_is = put_is ∙ ap (λ (has : MailState). length (changes_of offset has.monitors)) stands.held;
+      entries = refl;
+    }) step
 
 abbrev told_all : ℤ → MailState → MailState
 told_all offset has =

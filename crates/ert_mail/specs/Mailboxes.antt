@@ -17,7 +17,8 @@ use Rattle.ert_answers.specs.declared.answers.MonitorErr.{MonitorErr}
 use Rattle.ert_answers.specs.declared.answers.MonitorErr.TheVariants.{Full, NoMemory as WantOfMemory}
 use Rattle.ert_answers.specs.declared.answers.Taken.{Taken}
 use Rattle.ert_answers.specs.declared.answers.Taken.TheVariants.{Mail as First, Empty, Exited}
-use Rattle.ert_table.specs.Calls.{IsMade, IsOmitted}
+use Rattle.ert_table.specs.Calls.{MakesNone}
+use Rattle.ert_table.specs.Making.{Makes}
 use Rattle.ert_table.specs.Held.{is_held}
 use Rattle.ert_table.specs.declared.view.View.{View}
 use Rattle.ert_mail.specs.declared.monitors.Monitor.{Monitor as KeptMonitor}
@@ -96,9 +97,9 @@ IsTaken before Exited after = after ≡ before
 
 -- a monitor is made, or none can be; for want of memory no step is taken
 abbrev pub IsMonitor : Settings → View → ℕ → ℕ → Result ℕ MonitorErr → View → Type 0
-IsMonitor g v by process (Ok number) w = IsMade g v (Monitors g by process (Ok number)) w
-IsMonitor g v by process (Err Full) w = IsMade g v (Monitors g by process (Err Full)) w
-IsMonitor g v by process (Err WantOfMemory) w = IsOmitted g v (Monitors g by process (Err WantOfMemory)) w
+IsMonitor g v by process (Ok number) w = Makes g v (Monitors g by process (Ok number)) w
+IsMonitor g v by process (Err Full) w = Makes g v (Monitors g by process (Err Full)) w
+IsMonitor g v by process (Err WantOfMemory) w = MakesNone g v (Monitors g by process (Err WantOfMemory)) w
 
 -- no further monitor can be made: 64 stand, or the number 4294967295 was given
 abbrev pub AreMany : MailState → Type 0

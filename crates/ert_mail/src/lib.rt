@@ -1,6 +1,7 @@
 //! The mailbox of a process, on the desk.
 #![tactic(auto)]
 
+mod handing;
 mod monitors;
 mod part;
 mod watching;

@@ -37,7 +37,7 @@ impl Model for MailPart {
 impl MailPart {
     ghost use Rattle.std.specs.Prelude.{◌<◌, OnOk, OnErr};
     ghost use Rattle.ert_answers.specs.MailCalls.{Takes};
-    ghost use Rattle.ert_table.specs.Calls.{IsMade};
+    ghost use Rattle.ert_table.specs.Making.{Makes};
     ghost use Rattle.ert_table.specs.Desks.{settings_of, view_of, front_of, Belongs};
     ghost use Rattle.ert_mail.specs.Mailboxes.{IsEmpty, IsSame, IsCallers, IsTaken, Stands};
 
@@ -84,7 +84,7 @@ impl MailPart {
         requires holds { IsCallers (settings_of desk.now) (view_of pass.old) by self.old.process }
         requires stands { Stands (settings_of desk.now) (front_of pass.old) self.old }
         ensures belongs { Belongs desk.now pass.new }
-        ensures call { IsMade (settings_of desk.now) (view_of pass.old) (Takes (settings_of desk.now) by self.old.process result) (view_of pass.new) }
+        ensures call { Makes (settings_of desk.now) (view_of pass.old) (Takes (settings_of desk.now) by self.old.process result) (view_of pass.new) }
         ensures taken { IsTaken self.old.held.queue result self.new.held.queue }
         ensures process { self.new.process ≡ self.old.process }
         ensures stands { Stands (settings_of desk.now) (front_of pass.new) self.new }

@@ -15,7 +15,8 @@ impl MailPart {
     ghost use Rattle.ert_defs.specs.Legal.{stands_in};
     ghost use Rattle.ert_answers.specs.MailCalls.{Demonitors, Tells};
     ghost use Rattle.ert_answers.specs.declared.answers.MonitorErr.TheVariants.{Full};
-    ghost use Rattle.ert_table.specs.Calls.{IsMade, IsMadeIfOk};
+    ghost use Rattle.ert_table.specs.Calls.{MakesIfOk};
+    ghost use Rattle.ert_table.specs.Making.{Makes};
     ghost use Rattle.ert_table.specs.Desks.{settings_of, view_of, front_of, Belongs};
     ghost use Rattle.ert_mail.specs.Mailboxes.{AreMany, IsCallers, IsMonitor, IsSame, Stands};
 
@@ -68,7 +69,7 @@ impl MailPart {
         requires holds { IsCallers (settings_of desk.now) (view_of pass.old) by self.old.process }
         requires stands { Stands (settings_of desk.now) (front_of pass.old) self.old }
         ensures belongs { Belongs desk.now pass.new }
-        ensures call { IsMade (settings_of desk.now) (view_of pass.old) (Demonitors (settings_of desk.now) by self.old.process monitor result) (view_of pass.new) }
+        ensures call { Makes (settings_of desk.now) (view_of pass.old) (Demonitors (settings_of desk.now) by self.old.process monitor result) (view_of pass.new) }
         ensures was { result ≡ stands_in monitor self.old.held.monitors }
         ensures process { self.new.process ≡ self.old.process }
         ensures stands { Stands (settings_of desk.now) (front_of pass.new) self.new }
@@ -93,7 +94,7 @@ impl MailPart {
         requires holds { IsCallers (settings_of desk.now) (view_of pass.old) by self.old.process }
         requires stands { Stands (settings_of desk.now) (front_of pass.old) self.old }
         ensures belongs { Belongs desk.now pass.new }
-        ensures call { IsMadeIfOk (settings_of desk.now) (view_of pass.old) (Tells (settings_of desk.now) by self.old.process) result (view_of pass.new) }
+        ensures call { MakesIfOk (settings_of desk.now) (view_of pass.old) (Tells (settings_of desk.now) by self.old.process) result (view_of pass.new) }
         ensures err { OnErr result (IsSame self.old self.new) }
         ensures process { self.new.process ≡ self.old.process }
         ensures stands { Stands (settings_of desk.now) (front_of pass.new) self.new }

@@ -12,4 +12,5 @@ pub mod TimerActs
 pub mod ReadActs
 pub mod ArmActs
 pub mod Calls
+pub mod Makings
 pub mod Parts

@@ -1,7 +1,7 @@
 use Rattle.std.proofs.Common.{◌≡◌, ◌∙◌, refl, sym, ap, subst, Ok, List, [], ◌∷◌, ◌++◌}
 use Rattle.ert_answers.specs.RequestCalls.{Asks}
 use Rattle.ert_defs.specs.declared.mail.Request.{Request}
-use Rattle.ert_table.specs.Calls.{IsMade}
+use Rattle.ert_table.specs.Making.{Makes}
 use Rattle.ert_table.specs.Desks.{settings_of, view_of}
 use Rattle.ert_inbox.specs.Inboxes.{Waiting, IsAskers, Stands}
 use Rattle.ert_inbox.specs.contracts.part.InboxPart.{the_view}
@@ -13,7 +13,7 @@ returns-clause-call c =
     let g = settings_of c.args.desk.now in
     let v = view_of c.args.pass.now in
     let w = view_of c.load_time.new.self in
-    subst (λ (q : Waiting). IsMade g v (Asks g c.args.by q.wheel c.args.request (Ok tt)) w) c.self.view_is
+    subst (λ (q : Waiting). Makes g v (Asks g c.args.by q.wheel c.args.request (Ok tt)) w) c.self.view_is
     (ask_made g v w c.args.by c.self.inside.wheel c.args.request tt c.load_time.ensures.step)
 
 pub returns-clause-stands : goal.returns-clause-stands

@@ -1,7 +1,7 @@
 use Rattle.std.proofs.Common.{◌≡◌, refl, sym, subst}
 use Rattle.ert_answers.specs.RequestCalls.{Picks}
 use Rattle.ert_defs.specs.States.{State, state}
-use Rattle.ert_table.specs.Calls.{IsMade}
+use Rattle.ert_table.specs.Making.{Makes}
 use Rattle.ert_table.specs.Desks.{settings_of, view_of}
 use Rattle.ert_table.proofs.Parts.{popped}
 use Rattle.ert_inbox.specs.Inboxes.{Waiting, IsScheds, Stands, picked}
@@ -14,7 +14,7 @@ returns-clause-call c =
     let g = settings_of c.args.desk.now in
     let v = view_of c.args.pass.now in
     let w = view_of c.load_time.new.self in
-    subst (λ (q : Waiting). IsMade g v (Picks g q.wheel c.pop_front-got.result) w) c.self.view_is
+    subst (λ (q : Waiting). Makes g v (Picks g q.wheel c.pop_front-got.result) w) c.self.view_is
     (pick_made g v w c.self.inside.wheel c.pop_front-got.result c.load_time.ensures.step)
 
 pub returns-clause-sched : goal.returns-clause-sched

@@ -1,7 +1,8 @@
 use Rattle.std.proofs.Common.{◌≡◌, ℕ, ℤ, pos, arith, rules, true, false, Ok, Err, List, sym, ap, subst, refl, ◌∙◌, to_z, of_z, w64, to_z-of_z}
 use Rattle.ert_answers.specs.MailCalls.{Monitors, Demonitors, Tells}
 use Rattle.ert_answers.specs.declared.answers.MonitorErr.TheVariants.{Full, NoMemory}
-use Rattle.ert_table.specs.Calls.{IsMade, IsMadeIfOk}
+use Rattle.ert_table.specs.Calls.{MakesIfOk}
+use Rattle.ert_table.specs.Making.{Makes}
 use Rattle.ert_table.specs.Desks.{settings_of, view_of}
 use Rattle.ert_mail.specs.Mailboxes.{Mailbox, Stands, IsCallers, IsMonitor, AreMany}
 use Rattle.ert_mail.specs.contracts.part.MailPart.{the_view}
@@ -13,7 +14,7 @@ returns-clause-call c =
     let g = settings_of c.args.desk.now in
     let v = view_of c.args.pass.now in
     let w = view_of c.load_time.new.self in
-    subst (λ (m : Mailbox). IsMade g v (Demonitors g c.args.by m.process c.args.monitor c.has_monitor-was.result) w) c.self.view_is
+    subst (λ (m : Mailbox). Makes g v (Demonitors g c.args.by m.process c.args.monitor c.has_monitor-was.result) w) c.self.view_is
     (unwatch_made g v w c.args.by c.self.inside.process c.args.monitor c.has_monitor-was.result c.load_time.ensures.step)
 
 pub returns-clause-stands : goal.returns-clause-stands

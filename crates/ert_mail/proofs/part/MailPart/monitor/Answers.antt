@@ -1,7 +1,8 @@
 use Rattle.std.proofs.Common.{◌≡◌, ℕ, ℤ, pos, arith, rules, true, false, Ok, Err, List, FitsSigned, ◌≤◌, ◌<◌, sym, ap, subst, refl, ◌∙◌, to_z, of_z, w64, to_z-of_z}
 use Rattle.ert_answers.specs.MailCalls.{Monitors, Demonitors, Tells}
 use Rattle.ert_answers.specs.declared.answers.MonitorErr.TheVariants.{Full, NoMemory}
-use Rattle.ert_table.specs.Calls.{IsMade, IsMadeIfOk}
+use Rattle.ert_table.specs.Calls.{MakesIfOk}
+use Rattle.ert_table.specs.Making.{Makes}
 use Rattle.ert_table.specs.Desks.{settings_of, view_of}
 use Rattle.ert_mail.specs.Mailboxes.{Mailbox, Stands, IsCallers, IsMonitor, AreMany}
 use Rattle.ert_mail.specs.contracts.part.MailPart.{the_view}
@@ -30,7 +31,7 @@ returns-clause-call c =
     let few : AreMany (the_view c.self.inside).held → ⊥ = λ many.
     let full : c.has_many.result ≡ true = c.has_many.ensures.1 (subst (λ (m : Mailbox). AreMany m.held) c.self.view_is many) in cc in
     let low : c.self.inside.next ≤ 4294967295 = not_many (the_view c.self.inside).held few in
-    subst (λ (m : Mailbox). IsMade g v (Monitors g c.args.by m.process (Ok c.self.inside.next)) w) c.self.view_is
+    subst (λ (m : Mailbox). Makes g v (Monitors g c.args.by m.process (Ok c.self.inside.next)) w) c.self.view_is
     (watch_made g v w c.args.by c.self.inside.process c.self.inside.next c.load_offset-told.result.0 low c.load_offset-told.ensures.step)
 
 pub returns-clause-stands : goal.returns-clause-stands

@@ -3,7 +3,7 @@ use Rattle.ert_defs.specs.Entries.{mark_entry}
 use Rattle.ert_defs.specs.declared.entry.Actor.TheVariants.{MailOf, Caller}
 use Rattle.ert_answers.specs.MailCalls.{Takes}
 use Rattle.ert_answers.specs.declared.answers.Taken.TheVariants.{Exited}
-use Rattle.ert_table.specs.Calls.{IsMade}
+use Rattle.ert_table.specs.Making.{Makes}
 use Rattle.ert_table.specs.Desks.{settings_of, view_of}
 use Rattle.ert_table.specs.Takes.{Appends}
 use Rattle.ert_table.proofs.Parts.{popped, held_on}
@@ -20,7 +20,7 @@ returns-then-mark-clause-call c =
     let u = view_of c.mark.new.self in
     let p = c.self.inside.process in
     let exited = subst (λ was. Appends g v (mark_entry (Caller c.args.by) p false was) u) c.if-mark.true c.mark.ensures.step in
-    subst (λ (m : Mailbox). IsMade g v (Takes g c.args.by m.process Exited) u) c.self.view_is (exited_made g v u c.args.by p exited)
+    subst (λ (m : Mailbox). Makes g v (Takes g c.args.by m.process Exited) u) c.self.view_is (exited_made g v u c.args.by p exited)
 
 pub returns-then-mark-clause-stands : goal.returns-then-mark-clause-stands
 returns-then-mark-clause-stands c =
@@ -52,13 +52,13 @@ returns-clause-call c =
     let w = view_of c.load_time.new.self in
     let p = c.self.inside.process in
     let alive = subst (λ was. Appends g v (mark_entry (Caller c.args.by) p false was) u) c.if-mark.false c.mark.ensures.step in
-    subst (λ (m : Mailbox). IsMade g v (Takes g c.args.by m.process c.match-got.result) w) c.self.view_is
+    subst (λ (m : Mailbox). Makes g v (Takes g c.args.by m.process c.match-got.result) w) c.self.view_is
     (elim c.match-got.branch [
       | in-Some b ↦
-          subst (λ answer. IsMade g v (Takes g c.args.by p answer) w) (sym b.result-is)
+          subst (λ answer. Makes g v (Takes g c.args.by p answer) w) (sym b.result-is)
           (first_made g v u w c.args.by p c.pop_front-got.result b.in-Some.mail b.in-Some.is alive c.load_time.ensures.step)
       | in-None b ↦
-          subst (λ answer. IsMade g v (Takes g c.args.by p answer) w) (sym b.result-is)
+          subst (λ answer. Makes g v (Takes g c.args.by p answer) w) (sym b.result-is)
           (empty_made g v u w c.args.by p c.pop_front-got.result b.in-None.is alive c.load_time.ensures.step)
     ])
 

@@ -1,7 +1,8 @@
 use Rattle.std.proofs.Common.{◌≡◌, ℕ, ℤ, pos, arith, rules, true, false, Ok, Err, List, length, FitsSigned, ◌++◌, ◌-◌, sym, ap, subst, refl, ◌∙◌, to_z, of_z, w64, to_z-of_z}
 use Rattle.ert_answers.specs.MailCalls.{Monitors, Demonitors, Tells}
 use Rattle.ert_answers.specs.declared.answers.MonitorErr.TheVariants.{Full, NoMemory}
-use Rattle.ert_table.specs.Calls.{IsMade, IsMadeIfOk}
+use Rattle.ert_table.specs.Calls.{MakesIfOk}
+use Rattle.ert_table.specs.Making.{Makes}
 use Rattle.ert_table.specs.Desks.{settings_of, view_of}
 use Rattle.ert_mail.specs.Mailboxes.{Mailbox, Stands, IsCallers, IsMonitor, AreMany}
 use Rattle.ert_mail.specs.contracts.part.MailPart.{the_view}
@@ -26,7 +27,7 @@ returns-clause-call c =
     let offset : ℤ = to_z w64 (of_z w64 c.load_offset-offset.result.0) in
     let step = subst (λ x. Appends g v (tell_entry c.args.by m.process x) w) (sym (to_z-of_z fits)) c.load_offset-offset.ensures.step in
     let put = c.tell_all.ensures.put ∙ ap (λ (ms : List Monitor). length (changes_of offset (monitors_of ms))) c.deref_mut.ensures.value in
-    subst (λ (m : Mailbox). IsMade g v (Tells g c.args.by m.process (Ok c.tell_all.result)) w) c.self.view_is
+    subst (λ (m : Mailbox). Makes g v (Tells g c.args.by m.process (Ok c.tell_all.result)) w) c.self.view_is
     (tell_made g v w c.args.by c.tell_all.result m offset stands put step)
 
 pub returns-clause-stands : goal.returns-clause-stands
