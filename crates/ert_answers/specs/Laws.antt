@@ -1,7 +1,7 @@
 -- Laws on what the calls answer. The functions of src/laws.rt carry them as contracts, so that they are
 -- proved.
 
-use Rattle.std.specs.Prelude.{◌≡◌, ◌≢◌, ℕ, ◌<◌, Bool, true, Contains, List, ◌++◌, Option, Some, Ok, Err}
+use Rattle.std.specs.Prelude.{◌≡◌, ◌≢◌, ℕ, ◌<◌, Bool, true, Contains, List, ◌++◌, Option, Some, Ok, Err, ◌≤◌, []}
 use Rattle.ert_defs.specs.Legal.{Legal}
 use Rattle.ert_defs.specs.States.{State, state}
 use Rattle.ert_defs.specs.Timers.{Row}
@@ -13,7 +13,7 @@ use Rattle.ert_defs.specs.declared.settings.Settings.{Settings}
 use Rattle.ert_defs.specs.declared.timer.Start.{Start}
 use Rattle.ert_defs.specs.declared.timer.Status.TheVariants.{Armed}
 use Rattle.ert_defs.specs.declared.timer.TimerRef.{TimerRef}
-use Rattle.ert_answers.specs.Chains.{Exits}
+use Rattle.ert_answers.specs.Chains.{Exits, Turns}
 use Rattle.ert_answers.specs.ClockCalls.{Ticks, Finalizes, TellsTime, TellsOffset, TellsSystemTime}
 use Rattle.ert_answers.specs.MailCalls.{HandsOver, Takes, Monitors, Demonitors, Tells}
 use Rattle.ert_answers.specs.RequestCalls.{Picks, Answers}
@@ -22,6 +22,7 @@ use Rattle.ert_answers.specs.Ways.{Way, alone, beside}
 use Rattle.ert_answers.specs.WheelCalls.{Advances, TellsAlive, MarksExit}
 use Rattle.ert_answers.specs.declared.answers.MonitorErr.TheVariants as monitors
 use Rattle.ert_answers.specs.declared.answers.StartErr.TheVariants as starts
+use Rattle.ert_answers.specs.declared.answers.Turned.{Turned}
 
 -- an answer is read from the entries: in one state the same entries have one answer
 abbrev pub IsRead : {A : Type 0} → (A → State → List Entry → Type 0) → Type 0
@@ -93,3 +94,12 @@ Settles g way = (by process wheel : ℕ) (row : Row) (h m after : List Entry) �
 -- an exit settles the timers of its process, alone and beside others
 abbrev pub LawOfExits : Type 0
 LawOfExits = (g : Settings) → Settles g (alone g) × ((a : Actor) → Settles g (beside g a))
+
+-- a turn that was made in a way served 64 at most, and leaves no expired timer to hand over
+abbrev pub EndsTurn : Settings → Way → Type 0
+EndsTurn g way = (w : ℕ) (t : Turned) (h m : List Entry) → Turns g way w (Ok t) h m
+    → (t.served ≤ 64) × (((state g (h ++ m)).scheds w).fired ≡ [])
+
+-- so does each turn, alone and beside others
+abbrev pub LawOfTurns : Type 0
+LawOfTurns = (g : Settings) → EndsTurn g (alone g) × ((a : Actor) → EndsTurn g (beside g a))

@@ -3,11 +3,11 @@
 
 use Rattle.std.specs.Prelude.{ℕ, pos, negsuc, Bool, true, false, List, [], ◌∷◌, ◌++◌, Option, Some, None}
 use Rattle.ert_answers.specs.declared.answers.Turned.{Turned}
-use Rattle.ert_defs.specs.Entries.{arm_entry, orphan_entry, probe_entry}
+use Rattle.ert_defs.specs.Entries.{arm_entry, orphan_entry, probe_entry, tell_entry}
 use Rattle.ert_defs.specs.States.{State, state}
 use Rattle.ert_defs.specs.Worked.{small, timer, start_after, by_caller, by_sched, tick, begun}
 use Rattle.ert_defs.specs.declared.entry.Act.TheVariants.{Plain}
-use Rattle.ert_defs.specs.declared.entry.Actor.TheVariants.{Wheel, Inbox, MailOf, Caller}
+use Rattle.ert_defs.specs.declared.entry.Actor.TheVariants.{Wheel, Inbox, Sched, MailOf, Caller}
 use Rattle.ert_defs.specs.declared.entry.Entry.{Entry}
 use Rattle.ert_defs.specs.declared.entry.Event.TheVariants.{Look, Peek, Cancel, Expire, Deliver, Mark, Advanced, Ask, Pick, Answer}
 use Rattle.ert_defs.specs.declared.mail.Request.{Request}
@@ -17,6 +17,7 @@ use Rattle.ert_defs.specs.declared.settings.Settings.{Settings}
 use Rattle.ert_defs.specs.declared.timer.Kind.TheVariants.{Wrapped}
 use Rattle.ert_defs.specs.declared.timer.Start.{Start}
 use Rattle.ert_defs.specs.declared.timer.Status.{Status}
+use Rattle.ert_defs.specs.declared.timer.Status.TheVariants.{Cancelled}
 use Rattle.ert_defs.specs.declared.timer.TimerRef.{TimerRef}
 use Rattle.ert_defs.specs.declared.timer.When.TheVariants.{After}
 
@@ -119,6 +120,13 @@ advancing =
     ∷ (by_sched (Some (Wheel 0)) (Expire timer)
     ∷ (by_sched (Some (Wheel 0)) (Advanced 0 1) ∷ []))
 
+-- or its slot is found so that it can't
+abbrev pub missing : List Entry
+missing =
+    by_sched None (Look (pos 1000000))
+    ∷ (probe_entry (Sched 0) 0 0 (Some Cancelled)
+    ∷ (by_sched (Some (Wheel 0)) (Advanced 0 1) ∷ []))
+
 -- and its message is put
 abbrev pub delivering : List Entry
 delivering = by_sched None (Mark 0 false false) ∷ (by_sched (Some (MailOf 0)) (Deliver timer) ∷ [])
@@ -130,3 +138,7 @@ turning = (serving ++ idling) ++ advancing
 -- what a turn did: so many requests and messages
 abbrev pub turned : ℕ → ℕ → Turned
 turned served put = record { served = served; to = 1; fired = 1; put = put; dropped = 0 }
+
+-- the process is told that the offset fell by 5 seconds
+abbrev pub telling : List Entry
+telling = tell_entry 0 0 (negsuc 4999999999) ∷ []

@@ -3,7 +3,7 @@
 ghost use Rattle.ert_answers.specs.Laws.{LawOfTicks, LawOfFinalizations, LawOfTimes, LawOfOffsets, LawOfSystemTimes};
 ghost use Rattle.ert_answers.specs.Laws.{LawOfReads, LawOfCancels, LawOfStarts, LawOfAdvances, LawOfMarks};
 ghost use Rattle.ert_answers.specs.Laws.{LawOfHandedOver, LawOfTaken, LawOfMonitors, LawOfDemonitors, LawOfTold};
-ghost use Rattle.ert_answers.specs.Laws.{LawOfPicks, LawOfAnswers, LawOfExits};
+ghost use Rattle.ert_answers.specs.Laws.{LawOfPicks, LawOfAnswers, LawOfExits, LawOfTurns};
 
 /// The answers of the calls on the clock and on timers are read from their entries: in one state the same
 /// entries have one answer, but for want of memory.
@@ -35,4 +35,9 @@ pub fn messages_are_read()
 /// steps and comes after.
 pub fn exits_settle_timers()
     ensures { LawOfExits }
+{}
+
+/// After a turn no expired timer waits at the scheduler, and it served 64 requests at most.
+pub fn turns_deliver_all()
+    ensures { LawOfTurns }
 {}

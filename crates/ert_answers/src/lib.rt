@@ -29,7 +29,8 @@ mod laws;
 mod worked;
 
 pub use answers::{Handed, MonitorErr, StartErr, Taken, Turned};
-pub use laws::{answers_are_read, exits_settle_timers, messages_are_read};
+pub use laws::{answers_are_read, exits_settle_timers, messages_are_read, turns_deliver_all};
 pub use worked::{
-    cancels_are_judged, exits_are_judged, refusals_are_judged, starts_are_judged, turns_are_judged,
+    advances_are_judged, cancels_are_judged, exits_are_judged, messages_are_judged,
+    monitors_are_judged, refusals_are_judged, starts_are_judged, turns_are_judged,
 };

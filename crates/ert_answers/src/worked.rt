@@ -1,18 +1,23 @@
 //! What the definitions say of entries that were judged by hand.
 
-ghost use Rattle.std.specs.Prelude.{Bool, true, false, [], ◌∷◌, ◌++◌, Some, None, Ok, Err};
-ghost use Rattle.ert_defs.specs.Entries.{orphan_entry};
+ghost use Rattle.std.specs.Prelude.{pos, Bool, true, false, [], ◌∷◌, ◌++◌, Some, None, Ok, Err};
+ghost use Rattle.ert_defs.specs.Entries.{off_entry, orphan_entry, mark_entry, take_entry, watch_entry};
 ghost use Rattle.ert_defs.specs.States.{state};
-ghost use Rattle.ert_defs.specs.Worked.{timer, start_after};
+ghost use Rattle.ert_defs.specs.Worked.{small, timer, start_after, shifted, told};
+ghost use Rattle.ert_defs.specs.declared.settings.Mode.TheVariants.{Multi};
+ghost use Rattle.ert_defs.specs.declared.settings.OffsetState.TheVariants.{Final};
 ghost use Rattle.ert_defs.specs.declared.entry.Actor.TheVariants.{Caller};
 ghost use Rattle.ert_defs.specs.declared.timer.Status.TheVariants.{Armed, Cancelled};
 ghost use Rattle.ert_answers.specs.Chains.{Exits, Turns};
 ghost use Rattle.ert_answers.specs.TimerCalls.{Reads, Cancels, Starts};
 ghost use Rattle.ert_answers.specs.Ways.{alone};
-ghost use Rattle.ert_answers.specs.WheelCalls.{Sweeps};
+ghost use Rattle.ert_answers.specs.WheelCalls.{Advances, Sweeps};
+ghost use Rattle.ert_answers.specs.MailCalls.{Takes, Monitors, Tells};
+ghost use Rattle.ert_answers.specs.declared.answers.MonitorErr.TheVariants.{Full as MonitorsFull};
+ghost use Rattle.ert_answers.specs.declared.answers.Taken.TheVariants.{Empty, Exited};
 ghost use Rattle.ert_answers.specs.declared.answers.StartErr.TheVariants.{BadArg, Full};
 ghost use Rattle.ert_answers.specs.Worked.{one, idle, armed, start_before, look, starting, orphaned, probed, reading, cancelling};
-ghost use Rattle.ert_answers.specs.Worked.{unbound, two, timer_of, both_armed, exiting, asked, turning, delivering, turned};
+ghost use Rattle.ert_answers.specs.Worked.{unbound, two, timer_of, both_armed, exiting, asked, turning, advancing, missing, delivering, turned, telling};
 
 /// A start of a timer for a process that had exited cancels it, or finds it settled: it doesn't leave it
 /// armed.
@@ -58,4 +63,30 @@ pub fn exits_are_judged()
 pub fn turns_are_judged()
     ensures done { Turns one (alone one) 0 (Ok (turned 1 1)) asked (turning ++ delivering) }
     ensures undelivered { Turns one (alone one) 0 (Ok (turned 1 0)) asked turning → ⊥ }
+{}
+
+/// An advance answers how many timers expired, and not how many it tried.
+pub fn advances_are_judged()
+    ensures expired { Advances one 0 (Ok (1, 1)) (state one asked) advancing }
+    ensures missed { Advances one 0 (Ok (1, 0)) (state one asked) missing }
+    ensures miscounted { Advances one 0 (Ok (1, 1)) (state one asked) missing → ⊥ }
+{}
+
+/// A process is told an offset once for each monitor that it is new to. A monitor's number has 32 bits, and
+/// none is refused while fewer than 64 stand.
+pub fn monitors_are_judged()
+    ensures told { Tells (small Multi) 0 0 (Ok 1) (state (small Multi) shifted) telling }
+    ensures not_again { Tells (small Multi) 0 0 (Ok 0) (state (small Multi) told) telling }
+    ensures untold { Tells (small Multi) 0 0 (Ok 0) (state (small Multi) shifted) telling → ⊥ }
+    ensures first { Monitors one 0 0 (Ok 0) idle (watch_entry 0 0 0 (pos 0) ∷ []) }
+    ensures beyond { Monitors one 0 0 (Ok 4294967296) idle (watch_entry 0 0 4294967296 (pos 0) ∷ []) → ⊥ }
+    ensures refused { Monitors one 0 0 (Err MonitorsFull) idle (off_entry (Caller 0) (pos 0) Final ∷ []) → ⊥ }
+{}
+
+/// A process that has exited is told so, and one that hasn't gets the first message or nothing.
+pub fn messages_are_judged()
+    ensures exited { Takes one 0 0 Exited idle (mark_entry (Caller 0) 0 false true ∷ []) }
+    ensures empty { Takes one 0 0 Empty idle (mark_entry (Caller 0) 0 false false ∷ (take_entry 0 0 None ∷ [])) }
+    ensures not_exited { Takes one 0 0 Exited idle (mark_entry (Caller 0) 0 false false ∷ []) → ⊥ }
+    ensures unasked { Takes one 0 0 Empty idle (mark_entry (Caller 0) 0 false false ∷ []) → ⊥ }
 {}

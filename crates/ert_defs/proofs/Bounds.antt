@@ -6,7 +6,7 @@ use Rattle.std.specs.Prelude.{ℤ, pos, negsuc, ◌+ℤ◌, ◌-ℤ◌, ◌*ℤ�
 use Rattle.std.specs.Int.{int_max, w64}
 use Rattle.ert_defs.specs.Clocks.{face, first_clock}
 use Rattle.ert_defs.specs.Lines.{Face, first_base, end_time, Due, IsInRange, line_time, mono_after, time_after, is_base, base_from, rate_of, rate_after, due_at, due_from, due_after, ticked, shifted}
-use Rattle.ert_defs.specs.Permitted.{Grows}
+use Rattle.ert_defs.specs.ClockMoves.{Grows}
 use Rattle.ert_defs.specs.Readings.{IsValid}
 use Rattle.ert_defs.specs.Settings.{IsChecked}
 use Rattle.ert_defs.specs.Sound.{IsRate, OnLine, Reaches, Sound, DueFits, MayShift}

@@ -6,7 +6,7 @@ use Rattle.std.proofs.Math.Nat.{mul-le-mul_left}
 use Rattle.std.specs.Prelude.{ℤ, pos, negsuc, ◌+ℤ◌, ◌-ℤ◌, ◌*ℤ◌, ◌≤ℤ◌, ◌<ℤ◌, unsigned_abs}
 use Rattle.std.specs.Int.{int_div_euclid}
 use Rattle.ert_defs.specs.Lines.{Base, line_time}
-use Rattle.ert_defs.specs.Permitted.{Grows}
+use Rattle.ert_defs.specs.ClockMoves.{Grows}
 use Rattle.ert_defs.specs.Sound.{IsRate}
 
 -- how far one number is above another

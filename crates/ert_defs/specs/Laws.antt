@@ -1,6 +1,6 @@
 -- The laws of histories that don't concern the clock's numbers: what a stranger may expect of the model.
 
-use Rattle.std.specs.Prelude.{◌≡◌, ◌≢◌, ◌⊎◌, ◌↔◌, ℕ, ◌+◌, ◌<◌, ◌≤◌, Bool, true, false, cond, not, ◌&&◌, All, AllPairs, Any, Contains, List, [], ◌∷◌, ◌++◌, Option, Some, None}
+use Rattle.std.specs.Prelude.{◌≡◌, ◌≢◌, ◌⊎◌, ◌↔◌, ℕ, ◌+◌, ◌<◌, ◌≤◌, Bool, true, false, cond, not, ◌&&◌, All, AllPairs, Contains, List, [], ◌∷◌, ◌++◌, Option, Some, None}
 use Rattle.ert_defs.specs.Actors.{IsFreeOf}
 use Rattle.ert_defs.specs.Legal.{Keeps, Known, Found, Can, LegalFrom, Legal}
 use Rattle.ert_defs.specs.States.{State, opening, next, run, state}
@@ -116,11 +116,6 @@ pub record AreFired (s : State) (w : ℕ) (fired : List Row) : Type 0 where
 -- each row in a scheduler's list is an expired timer that waits there
 abbrev pub LawOfFired : Type 0
 LawOfFired = (g : Settings) (h : List Entry) (w : ℕ) → Legal g h → AreFired (state g h) w ((state g h).scheds w).fired
-
--- each expired timer waits at the scheduler of its wheel
-abbrev pub LawOfWaiting : Type 0
-LawOfWaiting = (g : Settings) (h : List Entry) (r : TimerRef) → Legal g h → (state g h).status r ≡ Some Expired
-    → Any (λ row. row.timer ≡ r) ((state g h).scheds r.wheel).fired
 
 -- a delivery takes a timer from expired to delivered, and never misses
 abbrev pub LawOfDelivery : Type 0

@@ -1,5 +1,5 @@
 pub mod Actors
-pub mod ClockLaws
+pub mod ClockMoves
 pub mod Clocks
 pub mod Entries
 pub mod Laws
@@ -7,7 +7,6 @@ pub mod Legal
 pub mod Lines
 pub mod Mails
 pub mod Milliseconds
-pub mod Permitted
 pub mod Readings
 pub mod Settings
 pub mod Sound

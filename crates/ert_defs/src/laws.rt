@@ -1,7 +1,7 @@
 //! The laws of histories that don't concern the clock's numbers. Each is the contract of a function that
 //! does nothing, so that it is proved wherever this crate is.
 
-ghost use Rattle.ert_defs.specs.Laws.{LawOfPrefixes, LawOfParts, LawOfOneMore, LawOfStates, LawOfLocality, LawOfMoves, LawOfSettling, LawOfSettled, LawOfRows, LawOfSlots, LawOfFired, LawOfWaiting, LawOfDelivery, LawOfDrop};
+ghost use Rattle.ert_defs.specs.Laws.{LawOfPrefixes, LawOfParts, LawOfOneMore, LawOfStates, LawOfLocality, LawOfMoves, LawOfSettling, LawOfSettled, LawOfRows, LawOfSlots};
 
 /// A history is legal exactly where its beginning is and each further entry is legal in the state after
 /// those before it.
@@ -26,13 +26,4 @@ pub fn timers_settle_once()
     ensures settled { LawOfSettled }
     ensures rows { LawOfRows }
     ensures slots { LawOfSlots }
-{}
-
-/// The list of a scheduler has just the expired timers of its wheel. Each is the last of its slot, and stands
-/// there once. So a delivery or a drop never misses.
-pub fn expired_timers_wait_once()
-    ensures lists { LawOfFired }
-    ensures waiting { LawOfWaiting }
-    ensures delivery { LawOfDelivery }
-    ensures drop { LawOfDrop }
 {}

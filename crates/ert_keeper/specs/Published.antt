@@ -31,22 +31,6 @@ ReadsBy Preliminary g v by = Unit {0}
 ReadsBy Final g v by = least_caller v.actors g.callers ≡ Some by
 ReadsBy Volatile g v by = least_caller v.actors g.callers ≡ Some by
 
--- a tick takes place with its entry and then that of the shift that it made due; refused, it takes no step
-abbrev pub TickSteps : Settings → ℕ → Reading → Act → View → Result Moved ClockErr → View → Type 0
-TickSteps g by r act v (Ok m) w = TakesPlace g v (tick_entries by r act m.now m.shift) w
-TickSteps g by r act v (Err e) w = w ≡ v
-
--- the entries of a finalization, by the state before it: those of a tick, or a look of the clock at its offset
-abbrev pub final_entries : OffsetState → ℕ → Shown → Reading → Moved → List Entry
-final_entries Preliminary by old r m = tick_entries by r Finalize m.now m.shift
-final_entries Final by old r m = keeper_entry by (Off old.face.offset Final) ∷ []
-final_entries Volatile by old r m = keeper_entry by (Off old.face.offset Volatile) ∷ []
-
--- a finalization takes place with these entries; refused, it takes no step
-abbrev pub FinalSteps : Settings → ℕ → Reading → Shown → View → Result (OffsetState × Moved) ClockErr → View → Type 0
-FinalSteps g by r old v (Ok p) w = TakesPlace g v (final_entries old.face.state by old r p.1) w
-FinalSteps g by r old v (Err e) w = w ≡ v
-
 -- a clock has done a tick that the history it stood for doesn't have yet
 pub record IsAhead (g : Settings) (h : List Entry) (r : Reading) (act : Act) (m : Moved) (new : Shown) : Type 0 where
   pub old : Shown

@@ -1,13 +1,13 @@
 -- What holds of the empty history, and of each legal one with one more entry where it holds of that without
 -- it, holds of each legal history.
 
-use Rattle.std.proofs.Common.{◌≡◌, List, [], ◌∷◌, ◌++◌, subst, append-nil, append_assoc}
+use Rattle.std.proofs.Common.{◌≡◌, List, [], ◌∷◌, ◌++◌, refl, sym, ap, subst, ◌∙◌, append-nil, append_assoc}
 use Rattle.ert_defs.specs.Legal.{Can, LegalFrom, Legal}
-use Rattle.ert_defs.specs.States.{State, opening, next, state}
-use Rattle.ert_defs.proofs.FiredLists.{IsKept, fired_next, fired_opening}
-use Rattle.ert_defs.proofs.Runs.{carry, kept_from, legal_more, state-append}
+use Rattle.ert_defs.specs.States.{State, opening, next, run, state}
+use Rattle.ert_defs.proofs.Runs.{carry, legal_more, state-append}
 use Rattle.ert_defs.specs.declared.entry.Entry.{Entry}
 use Rattle.ert_defs.specs.declared.settings.Settings.{Settings}
+use Rattle.ert_laws.specs.MailOrder.{gathered_from, gathered}
 
 -- the state after one more entry
 pub state-more : (g : Settings) (h : List Entry) (e : Entry) → state g (h ++ e ∷ []) ≡ next g (state g h) e
@@ -26,6 +26,16 @@ pub by_entries : (g : Settings) (P : List Entry → Type 0)
     → P [] → (h : List Entry) → Legal g h → P h
 by_entries g P step none h legal = along g P step [] h tt legal none
 
--- slots are used in order after a legal history, and expired timers wait
-pub kept_after : (g : Settings) (h : List Entry) → Legal g h → IsKept (state g h)
-kept_after g h legal = kept_from g IsKept (fired_next g) (opening g) h (fired_opening g) legal
+gathered-append : {X : Type 0} (g : Settings) (give : State → Entry → List X) (s : State) (h m : List Entry)
+    → gathered_from g give s (h ++ m) ≡ gathered_from g give s h ++ gathered_from g give (run g s h) m
+gathered-append g give s [] m = refl
+gathered-append g give s (e ∷ h) m =
+    ap (λ x. give s e ++ x) (gathered-append g give (next g s e) h m)
+    ∙ sym (append_assoc (give s e) (gathered_from g give (next g s e) h) (gathered_from g give (run g s (e ∷ h)) m))
+
+-- what one more entry gives comes last
+pub gathered-more : {X : Type 0} (g : Settings) (give : State → Entry → List X) (h : List Entry) (e : Entry)
+    → gathered g give (h ++ e ∷ []) ≡ gathered g give h ++ give (state g h) e
+gathered-more g give h e =
+    gathered-append g give (opening g) h (e ∷ [])
+    ∙ ap (λ x. gathered g give h ++ x) (append-nil (give (state g h) e))

@@ -1,5 +1,14 @@
+pub mod Expiries
 pub mod Few
+pub mod Handing
 pub mod Histories
+pub mod LookBack
+pub mod Looks
+pub mod Mailboxes
+pub mod OwnTells
+pub mod Permissions
 pub mod Requests
 pub mod RowRanges
 pub mod TimerLives
+pub mod Told
+pub mod Waiting

@@ -1,6 +1,6 @@
 -- The entries of a timer's life move its status, and no others do.
 
-use Rattle.std.proofs.Common.{◌≡◌, ◌≢◌, ℕ, ℤ, Bool, true, false, cond, ◌&&◌, nat_eq, List, [], ◌∷◌, ◌++◌, Option, Some, None, refl, sym, ap, subst, ◌∙◌, append-nil, eq-eqb}
+use Rattle.std.proofs.Common.{◌≡◌, ◌≢◌, ℕ, ℤ, Bool, true, false, cond, ◌&&◌, List, [], ◌∷◌, ◌++◌, Option, Some, None, refl, sym, ap, subst, ◌∙◌, append-nil, eq-eqb}
 use Rattle.std.proofs.Math.Bool.{and-false, or-true}
 use Rattle.std.proofs.lemmas.List.Elements.{filter_map-append}
 use Rattle.std.specs.List.{filter_map}
@@ -8,7 +8,7 @@ use Rattle.ert_defs.specs.Actors.{has_actor, is_with, same_actor}
 use Rattle.ert_defs.specs.Legal.{Can, Legal, left_by}
 use Rattle.ert_defs.specs.States.{State, next, state}
 use Rattle.ert_defs.specs.Timers.{Row, Stands, row_of, same_timer, settled_as, handed_as, status_after}
-use Rattle.ert_defs.proofs.FiredLists.{IsKept, first_has_expired, made}
+use Rattle.ert_defs.proofs.FiredLists.{IsKept, first_has_expired, made, kept_after}
 use Rattle.ert_defs.proofs.Runs.{carry, legal_one_more}
 use Rattle.ert_defs.proofs.Settlings.{armed_first}
 use Rattle.ert_defs.proofs.Slots.{same_timer-true}
@@ -19,12 +19,11 @@ use Rattle.ert_defs.specs.declared.entry.Entry.{Entry}
 use Rattle.ert_defs.specs.declared.entry.Event.{Event}
 use Rattle.ert_defs.specs.declared.entry.Event.TheVariants.{Arm, Cancel, Expire, Orphan, Deliver, Drop}
 use Rattle.ert_defs.specs.declared.settings.Settings.{Settings}
-use Rattle.ert_defs.specs.declared.timer.Start.{Start}
 use Rattle.ert_defs.specs.declared.timer.Status.{Status}
 use Rattle.ert_defs.specs.declared.timer.Status.TheVariants.{Armed, Expired, Delivered, Cancelled, Orphaned, Dropped}
 use Rattle.ert_defs.specs.declared.timer.TimerRef.{TimerRef}
 use Rattle.ert_laws.specs.Lives.{status_given, life, life_to, status_before, Moved, LawOfLives, LawOfMovers}
-use Rattle.ert_laws.proofs.Histories.{by_entries, kept_after, state-more}
+use Rattle.ert_laws.proofs.Histories.{by_entries, state-more}
 
 -- a start arms a timer that was never armed
 moved_arm : (b t : Bool) (x : Option Status) → (t ≡ true → b ≡ true) → (t ≡ true → x ≡ None)
@@ -134,6 +133,6 @@ pub lives : LawOfLives
 lives g h r legal =
     by_entries g (λ h. life r h ≡ life_to ((state g h).status r))
     (λ h e legal can is.
-        filter_map-append (λ (e : Entry). status_given r e.event) h (e ∷ [])
-        ∙ life_moved (status_given r e.event) ((state g h).status r) ((state g (h ++ e ∷ [])).status r) (life r h) (moved_more g h e r legal can) is)
+    filter_map-append (λ (e : Entry). status_given r e.event) h (e ∷ [])
+    ∙ life_moved (status_given r e.event) ((state g h).status r) ((state g (h ++ e ∷ [])).status r) (life r h) (moved_more g h e r legal can) is)
     refl h legal

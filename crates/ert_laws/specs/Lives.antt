@@ -1,7 +1,7 @@
 -- The life of a timer, as a statement on the entries of a history (`erlang` module reference, `start_timer`
--- and `cancel_timer`). The function of src/lives.rt carries the laws as contracts, so that they are proved.
+-- and `cancel_timer`). The functions of src/lives.rt carry the laws as contracts, so that they are proved.
 
-use Rattle.std.specs.Prelude.{◌≡◌, cond, filter_map, List, [], ◌∷◌, ◌++◌, Option, Some, None}
+use Rattle.std.specs.Prelude.{◌≡◌, Any, cond, filter_map, List, [], ◌∷◌, ◌++◌, Option, Some, None}
 use Rattle.ert_defs.specs.Legal.{Legal}
 use Rattle.ert_defs.specs.States.{state}
 use Rattle.ert_defs.specs.Timers.{same_timer}
@@ -61,3 +61,8 @@ Moved (Some to) before after = (before ≡ status_before to) × (after ≡ Some 
 abbrev pub LawOfMovers : Type 0
 LawOfMovers = (g : Settings) (h : List Entry) (e : Entry) (r : TimerRef) → Legal g (h ++ e ∷ [])
     → Moved (status_given r e.event) ((state g h).status r) ((state g (h ++ e ∷ [])).status r)
+
+-- each expired timer waits at the scheduler of its wheel
+abbrev pub LawOfWaiting : Type 0
+LawOfWaiting = (g : Settings) (h : List Entry) (r : TimerRef) → Legal g h → (state g h).status r ≡ Some Expired
+    → Any (λ row. row.timer ≡ r) ((state g h).scheds r.wheel).fired

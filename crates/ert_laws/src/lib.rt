@@ -1,14 +1,27 @@
-//! The laws of the model that the crates below the top don't need: what the numbers in a legal history name.
+//! The laws of the model: what a stranger may expect of each legal history. What the clock may do, the lives
+//! of timers, the order of messages, what a message tells of a change of the time offset, and what the numbers in
+//! a history name. Worked histories test the definitions.
 //!
-//! It stands on `ert_defs` alone, and its functions do nothing: each has a law as its contract, so that
-//! the law is proved wherever this crate is. It stands apart so that a change of a law proves nothing
-//! anew but the law and what cites it.
+//! It stands on `ert_defs` alone. Its functions do nothing: each has laws as its contract, so that they are
+//! proved wherever this crate is. They stand apart from the model so that a change of a law proves nothing anew
+//! but the law and what cites it; what the proofs of the service rest on stands in `ert_defs`.
 #![tactic(auto)]
 
+mod changes;
+mod clock_laws;
 mod lives;
+mod mail_order;
 mod ranges;
+mod worked;
 
-pub use lives::timers_have_six_lives;
+pub use changes::changes_tell_another_offset;
+pub use clock_laws::{
+    clock_is_permitted, clock_looks_back, no_timer_expires_early, time_never_falls,
+    times_stay_in_range,
+};
+pub use lives::{expired_timers_wait_once, timers_have_six_lives};
+pub use mail_order::{mailboxes_keep_order, timer_messages_come_in_order};
 pub use ranges::{
     expired_timers_are_few, requests_are_in_range, rows_are_in_range, timers_have_rows,
 };
+pub use worked::{histories_are_judged, lives_and_mail_are_read};

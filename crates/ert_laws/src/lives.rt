@@ -1,6 +1,7 @@
 //! The lives of timers.
 
-ghost use Rattle.ert_laws.specs.Lives.{LawOfLives, LawOfMovers};
+ghost use Rattle.ert_defs.specs.Laws.{LawOfFired, LawOfDelivery, LawOfDrop};
+ghost use Rattle.ert_laws.specs.Lives.{LawOfLives, LawOfMovers, LawOfWaiting};
 
 /// The life of a timer is one of six: armed; armed, cancelled; armed, orphaned; armed, expired; armed, expired,
 /// delivered; armed, expired, dropped. It is read off the entries that start the timer, cancel it with an
@@ -9,4 +10,13 @@ ghost use Rattle.ert_laws.specs.Lives.{LawOfLives, LawOfMovers};
 pub fn timers_have_six_lives()
     ensures lives { LawOfLives }
     ensures movers { LawOfMovers }
+{}
+
+/// The list of a scheduler has just the expired timers of its wheel. Each is the last of its slot, and stands
+/// there once. So a delivery or a drop never misses.
+pub fn expired_timers_wait_once()
+    ensures lists { LawOfFired }
+    ensures waiting { LawOfWaiting }
+    ensures delivery { LawOfDelivery }
+    ensures drop { LawOfDrop }
 {}

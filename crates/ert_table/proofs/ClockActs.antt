@@ -13,7 +13,7 @@ use Rattle.ert_defs.specs.Sound.{MayShift}
 use Rattle.ert_defs.specs.States.{State, opening, next, state}
 use Rattle.ert_defs.specs.Words.{time_word, offset_word, is_final}
 use Rattle.ert_defs.proofs.Bounds.{time_fits}
-use Rattle.ert_defs.proofs.Permissions.{IsOfMode, KeepsMode, mode_opening, mode_when}
+use Rattle.ert_defs.proofs.Modes.{IsOfMode, KeepsMode, mode_opening, mode_when}
 use Rattle.ert_defs.proofs.Runs.{kept_from, legal_more, state-append}
 use Rattle.ert_defs.proofs.Times.{kept, state_in_range}
 use Rattle.ert_defs.specs.declared.entry.Act.{Act}

@@ -1,10 +1,11 @@
 use Rattle.std.proofs.Common.{◌≡◌, ◌∙◌, sym, ap, subst, rules, Some, None, true, false, FitsSigned, w64, to_z, of_z, to_z-of_z}
+use Rattle.ert_answers.specs.TimerCalls.{Reads}
 use Rattle.ert_defs.specs.Legal.{names_timer}
 use Rattle.ert_defs.specs.Milliseconds.{left}
 use Rattle.ert_defs.specs.declared.settings.Settings.{Settings}
 use Rattle.ert_table.specs.Desks.{settings_of, view_of}
-use Rattle.ert_calls.specs.Calls.{Reads}
 use Rattle.ert_calls.specs.Deadlines.{Peeks}
+use Rattle.ert_calls.specs.Left.{Tells}
 use Rattle.ert_calls.proofs.Timings.{reads_none, reads}
 use Rattle.ert_calls.proofs.timer_calls.read_timer.Goals as goal
 
@@ -23,7 +24,7 @@ returns-in_err-deadline-clause-call c =
     let within : names_timer g c.args.timer ≡ true = search rules in
     let none : c.armed_deadline.result ≡ None = search rules in
     let result : c.from_residual.result ≡ None = search rules in
-    subst (λ answer. Reads g v c.args.by c.args.timer answer w) (sym result)
+    subst (λ answer. Tells g v c.args.by c.args.timer answer (Reads g c.args.by c.args.timer answer) w) (sym result)
     (reads g v c.args.by c.args.timer c.look-now.result u None w c.requires.held within c.look-now.ensures.step
     (subst (λ x. Peeks g u c.args.by c.args.timer x w) none c.armed_deadline.ensures.step))
 
@@ -40,6 +41,6 @@ returns-clause-call c =
     let fits : FitsSigned w64 c.look-now.result = search rules in
     let told : c.left.result ≡ left g deadline now =
     simp to_z-of_z at (c.left.ensures ∙ ap (λ (s : Settings). left s deadline (to_z w64 (of_z w64 now))) c.settings-2.ensures) in
-    subst (λ n. Reads g v c.args.by c.args.timer (Some n) w) (sym told)
+    subst (λ n. Tells g v c.args.by c.args.timer (Some n) (Reads g c.args.by c.args.timer (Some n)) w) (sym told)
     (reads g v c.args.by c.args.timer now u (Some deadline) w c.requires.held within c.look-now.ensures.step
     (subst (λ x. Peeks g u c.args.by c.args.timer x w) some c.armed_deadline.ensures.step))

@@ -1,0 +1,27 @@
+-- What a turn leaves.
+
+use Rattle.std.proofs.Common.{◌≡◌, ℕ, List, [], ◌++◌, Ok, sym, ap, ◌∙◌, append_assoc}
+use Rattle.ert_answers.specs.Chains.{HasTurned}
+use Rattle.ert_answers.specs.Laws.{EndsTurn, LawOfTurns}
+use Rattle.ert_answers.specs.Ways.{Way, alone, beside}
+use Rattle.ert_defs.specs.States.{State, state}
+use Rattle.ert_defs.specs.declared.entry.Entry.{Entry}
+use Rattle.ert_defs.specs.declared.settings.Settings.{Settings}
+use Rattle.ert_defs.proofs.Runs.{carry}
+
+-- a history and two pieces, of which the second is two pieces
+three : (h m before after rest last : List Entry) → m ≡ before ++ after → after ≡ rest ++ last
+    → h ++ m ≡ ((h ++ before) ++ rest) ++ last
+three h m before after rest last joined more =
+    ap (λ l. h ++ l) (joined ∙ ap (λ l. before ++ l) more)
+    ∙ (sym (append_assoc h before (rest ++ last)) ∙ sym (append_assoc (h ++ before) rest last))
+
+ends_turn : (g : Settings) (way : Way) → EndsTurn g way
+ends_turn g way w t h m turn =
+    let rest = turn.other in
+    let place : h ++ m ≡ ((h ++ turn.before) ++ rest.before) ++ rest.after =
+    three h m turn.before turn.after rest.before rest.after turn.joined rest.joined in
+    (turn.one.0, carry (λ (l : List Entry). ((state g l).scheds w).fired ≡ []) place rest.other.done)
+
+pub turns_end : LawOfTurns
+turns_end g = (ends_turn g (alone g), λ a. ends_turn g (beside g a))

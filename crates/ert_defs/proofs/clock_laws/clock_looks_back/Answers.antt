@@ -1,5 +1,0 @@
-use Rattle.ert_defs.proofs.LookBack.{look_back}
-use Rattle.ert_defs.proofs.clock_laws.clock_looks_back.Goals as goal
-
-pub returns : goal.returns
-returns c = look_back

@@ -1,5 +1,0 @@
-use Rattle.ert_defs.proofs.Times.{due_by_now}
-use Rattle.ert_defs.proofs.clock_laws.no_timer_expires_early.Goals as goal
-
-pub returns : goal.returns
-returns c = due_by_now

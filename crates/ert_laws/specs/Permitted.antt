@@ -1,0 +1,43 @@
+-- What a clock is permitted to do, as a statement on a history (ERTS User's Guide, "Time Warp Modes").
+
+use Rattle.std.specs.Prelude.{◌≡◌, ◌⊎◌, ℕ, ◌+◌, ◌≤◌, ◌-ℤ◌, ◌≤ℤ◌, Bool, true, false, List, [], ◌∷◌}
+use Rattle.ert_defs.specs.ClockMoves.{Grows, ShiftIs, OfLastTick}
+use Rattle.ert_defs.specs.Clocks.{Clock, last_mono}
+use Rattle.ert_defs.specs.States.{State, opening, next}
+use Rattle.ert_defs.specs.declared.entry.Entry.{Entry}
+use Rattle.ert_defs.specs.declared.entry.Event.{Event}
+use Rattle.ert_defs.specs.declared.entry.Event.TheVariants.{Tick, Shift}
+use Rattle.ert_defs.specs.declared.settings.Mode.TheVariants.{Single}
+use Rattle.ert_defs.specs.declared.settings.Reading.{Reading}
+use Rattle.ert_defs.specs.declared.settings.Settings.{Settings}
+
+-- how a tick may move the time, with correction and without
+abbrev pub TimeMoves : Bool → Settings → Clock → Clock → Reading → Type 0
+TimeMoves true g a b r = Grows (last_mono g a.ticks) (last_mono g b.ticks) a.now b.now
+TimeMoves false g a b r = (b.now ≡ a.now) ⊎ (b.now ≡ (r.sys -ℤ a.offset))
+
+-- how an event may move the clock
+abbrev pub Moves : Settings → Clock → Clock → Event → Type 0
+Moves g a b (Tick reading act now) =
+    (a.now ≤ℤ b.now) × TimeMoves g.correction g a b reading × (b.offset ≡ a.offset) × (b.state ≡ a.state)
+Moves g a b (Shift offset state) = (b.now ≡ a.now) × OfLastTick (ShiftIs g.mode g a.offset a.state b.offset b.state) a.ticks
+Moves g a b _ = (b.now ≡ a.now) × (b.offset ≡ a.offset) × (b.state ≡ a.state)
+
+-- each entry moves the clock as it may
+abbrev pub PermittedFrom : Settings → State → List Entry → Type 0
+PermittedFrom g s [] = Unit {0}
+PermittedFrom g s (e ∷ es) = Moves g s.clock (next g s e).clock e.event × PermittedFrom g (next g s e) es
+
+-- the number of shifts
+abbrev pub shift_count : Event → ℕ
+shift_count (Shift offset state) = 1
+shift_count _ = 0
+
+abbrev pub shifts : List Entry → ℕ
+shifts [] = 0
+shifts (e ∷ es) = shift_count e.event + shifts es
+
+-- a history is permitted
+pub record Permitted (g : Settings) (h : List Entry) : Type 0 where
+  pub moves : PermittedFrom g (opening g) h
+  pub once : g.mode ≡ Single → shifts h ≤ 1
