@@ -1,10 +1,11 @@
 -- The steps by which an expired timer is handed over.
 
-use Rattle.std.proofs.Common.{◌≡◌, ℕ, Bool, true, false, ◌||◌, ◌<◌, List, [], ◌∷◌, ◌++◌, Option, Some, None, Ok, refl, sym, ap, subst, ◌∙◌, eq-eqb}
+use Rattle.std.proofs.Common.{◌≡◌, ℕ, Bool, true, false, ◌||◌, ◌+◌, ◌<◌, ◌≤◌, List, [], ◌∷◌, ◌++◌, Option, Some, None, Ok, refl, sym, ap, subst, ◌∙◌, eq-eqb, arith}
 use Rattle.ert_defs.specs.Entries.{mark_entry, deliver_entry, drop_entry}
 use Rattle.ert_defs.specs.Laws.{IsFired}
 use Rattle.ert_defs.specs.Legal.{Can, Legal, IsSlot}
 use Rattle.ert_defs.specs.Mails.{MailState, SchedState, first_of, others_of, message_of, message_in}
+use Rattle.ert_defs.specs.Settings.{IsChecked}
 use Rattle.ert_defs.specs.States.{State, next, state}
 use Rattle.ert_defs.specs.Timers.{Row, row_of}
 use Rattle.ert_defs.proofs.FiredLists.{first_at, fired_timers}
@@ -14,6 +15,8 @@ use Rattle.ert_defs.specs.declared.entry.Actor.TheVariants.{Sched, MailOf}
 use Rattle.ert_defs.specs.declared.entry.Entry.{Entry}
 use Rattle.ert_defs.specs.declared.entry.Event.TheVariants.{Deliver, Drop}
 use Rattle.ert_defs.specs.declared.settings.Settings.{Settings}
+use Rattle.ert_answers.specs.MailCalls.{handed_entries}
+use Rattle.ert_answers.specs.declared.answers.Handed.{Handed}
 use Rattle.ert_answers.specs.declared.answers.Handed.TheVariants.{Put, Dropped}
 use Rattle.ert_laws.proofs.RowRanges.{first_placed}
 use Rattle.ert_table.specs.Held.{is_held}
@@ -22,9 +25,10 @@ use Rattle.ert_table.specs.Takes.{MayStep, Appends}
 use Rattle.ert_table.proofs.Parts.{part_before, stepped, two_steps, held_on}
 use Rattle.ert_table.specs.declared.carry.Settle.TheVariants.{Deliver as ToDeliver, Drop as ToDrop}
 use Rattle.ert_table.specs.declared.view.View.{View}
-use Rattle.ert_mail.specs.Mailboxes.{IsScheds, handed}
+use Rattle.ert_mail.specs.Mailboxes.{Mailbox, Stands, IsScheds, deliveries, handed}
 use Rattle.ert_mail.specs.Steps.{IsHanded, with_fired}
-use Rattle.ert_mail.proofs.Standing.{mails_before}
+use Rattle.ert_mail.proofs.Counts.{deliveries_few}
+use Rattle.ert_mail.proofs.Standing.{deliveries_after, mails_before}
 
 pub scheds_before : (g : Settings) (v : View) (e : Entry) (w : View) (n : ℕ) → is_held v.actors (Sched n) ≡ true → (step : Appends g v e w)
     → (state g (v.front ++ step.between)).scheds n ≡ (state g v.front).scheds n
@@ -173,3 +177,37 @@ drop_handed g v u w fired hit holds mark settled =
       mails = ap (λ (s : State). s.mails p) (stepped g u e w step)
           ∙ (mails_before g u e w p (held_on g v d u (MailOf p) mark holds.mail) step ∙ mails_marked g v u n p true holds.mail mark);
     }
+
+-- a mailbox stands after a timer was handed over to its process
+abbrev counted : Handed → ℕ
+counted Put = 1
+counted Dropped = 0
+
+handed_count : (n p : ℕ) (fired : Row) (how : Handed) → fired.dest ≡ p → deliveries p (handed_entries n fired how) ≡ counted how
+handed_count n p fired Put same = rw same (rw (eq-eqb p p refl) refl)
+handed_count n p fired Dropped same = refl
+
+pub stands_handed : (g : Settings) (v w : View) (fired : Row) (how : Handed) (m n : Mailbox) → fired.dest ≡ m.process
+    → is_held v.actors (MailOf m.process) ≡ true → Stands g v.front m → IsHanded g v fired how w → n.process ≡ m.process
+    → n.held ≡ with_fired how fired m.held → n.delivered ≡ m.delivered + counted how → Stands g w.front n
+stands_handed g v w fired how m n dest held stands steps process has delivered =
+    let p = m.process in
+    let mails : (state g w.front).mails p ≡ with_fired how fired ((state g v.front).mails p) =
+    subst (λ p. (state g w.front).mails p ≡ with_fired how fired ((state g v.front).mails p)) dest steps.mails in
+    let count = deliveries_after g v (handed_entries fired.timer.wheel fired how) w p held steps.call in
+    record {
+      in_range = rw process stands.in_range;
+      held = has ∙ (ap (with_fired how fired) stands.held ∙ (sym mails ∙ ap (λ p. (state g w.front).mails p) (sym process)));
+      delivered = delivered
+          ∙ (ap (λ d. d + counted how) stands.delivered
+          ∙ (ap (λ d. deliveries p v.front + d) (sym (handed_count fired.timer.wheel p fired how dest))
+          ∙ (sym count ∙ ap (λ p. deliveries p w.front) (sym process))));
+    }
+
+-- one more is counted in 64 bits
+pub count_fits : (g : Settings) (v w : View) (fired : Row) (m : Mailbox) → IsChecked g → fired.dest ≡ m.process
+    → is_held v.actors (MailOf m.process) ≡ true → Stands g v.front m → IsHanded g v fired Put w → m.delivered + 1 ≤ 1099511627776
+count_fits g v w fired m checked dest held stands steps =
+    let p = m.process in
+    let count = deliveries_after g v (handed_entries fired.timer.wheel fired Put) w p held steps.call in
+    omega (arith, stands.delivered, count, handed_count fired.timer.wheel p fired Put dest, deliveries_few g w.front p checked steps.call.legal)

@@ -4,6 +4,7 @@
 mod handing;
 mod monitors;
 mod part;
+mod replies;
 mod watching;
 
 pub use ert_answers::{Handed, MonitorErr, Taken};

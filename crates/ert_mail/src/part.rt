@@ -1,8 +1,10 @@
 ghost use Rattle.std.specs.Prelude.{◌≡◌};
 
+use crate::handing::{hand_over, message_of};
 use crate::monitors::Monitor;
-use ert_answers::Taken;
-use ert_defs::{Actor, Mail, NoMemory};
+use crate::replies::{put_answer, reply};
+use ert_answers::{Handed, Taken};
+use ert_defs::{Actor, Fired, Mail, NoMemory, Request};
 use ert_table::{Desk, Pass, TimeCarry};
 use std::alloc::Global;
 use std::collections::VecDeque;
@@ -35,11 +37,14 @@ impl Model for MailPart {
 }
 
 impl MailPart {
-    ghost use Rattle.std.specs.Prelude.{◌<◌, OnOk, OnErr};
-    ghost use Rattle.ert_answers.specs.MailCalls.{Takes};
+    ghost use Rattle.std.specs.Prelude.{◌<◌, Some, OnOk, OnErr};
+    ghost use Rattle.ert_defs.specs.Mails.{first_of};
+    ghost use Rattle.ert_answers.specs.MailCalls.{HandsOver, Takes};
+    ghost use Rattle.ert_answers.specs.RequestCalls.{Answers};
+    ghost use Rattle.ert_table.specs.Calls.{MakesIfOk};
     ghost use Rattle.ert_table.specs.Making.{Makes};
-    ghost use Rattle.ert_table.specs.Desks.{settings_of, view_of, front_of, Belongs};
-    ghost use Rattle.ert_mail.specs.Mailboxes.{IsEmpty, IsSame, IsCallers, IsTaken, Stands};
+    ghost use Rattle.ert_table.specs.Desks.{settings_of, view_of, front_of, state_of, Belongs};
+    ghost use Rattle.ert_mail.specs.Mailboxes.{IsEmpty, IsSame, IsCallers, IsScheds, IsTaken, Stands, handed, answered};
 
     /// The mailbox of a process on a desk that has just been opened. It is empty.
     pub fn open(alloc: Global, process: u32) -> MailPart
@@ -100,5 +105,68 @@ impl MailPart {
             Some(mail) => Taken::Mail(mail),
             None => Taken::Empty,
         }
+    }
+
+    /// Hands over an expired timer to its process, for its scheduler of which it is the first: its message
+    /// is put last, or thrown away where the process is seen to have exited.
+    ///
+    /// Want of memory comes only where there was no room. Then no step was taken and nothing has changed.
+    pub fn deliver(
+        &mut self,
+        desk: &Desk,
+        pass: &mut Pass,
+        fired: &Fired,
+    ) -> Result<Handed, NoMemory>
+        requires belongs { Belongs desk.now pass.old }
+        requires holds { IsScheds (settings_of desk.now) (view_of pass.old) fired.now.timer.wheel self.old.process }
+        requires dest { fired.now.dest ≡ self.old.process }
+        requires first { first_of ((state_of desk.now pass.old).scheds fired.now.timer.wheel).fired ≡ Some fired.now }
+        requires stands { Stands (settings_of desk.now) (front_of pass.old) self.old }
+        ensures belongs { Belongs desk.now pass.new }
+        ensures call { MakesIfOk (settings_of desk.now) (view_of pass.old) (HandsOver (settings_of desk.now) fired.now.timer.wheel fired.now) result (view_of pass.new) }
+        ensures sched { (state_of desk.now pass.new).scheds fired.now.timer.wheel ≡ handed result ((state_of desk.now pass.old).scheds fired.now.timer.wheel) }
+        ensures memory { OnErr result (self.old.room ≡ 0) }
+        ensures err { OnErr result (IsSame self.old self.new) }
+        ensures process { self.new.process ≡ self.old.process }
+        ensures stands { Stands (settings_of desk.now) (front_of pass.new) self.new }
+    {
+        self.queue.reserve(1)?;
+        if let Handed::Dropped = hand_over(desk, pass, fired) {
+            return Ok(Handed::Dropped);
+        }
+        self.queue.push_back_reserved(message_of(fired));
+        self.delivered += 1;
+        Ok(Handed::Put)
+    }
+
+    /// Answers the request in the hand of a scheduler: cancels or reads its timer, puts the answer last where
+    /// one is wanted, empties the hand, and tells the whole milliseconds that were left of the timer.
+    ///
+    /// Want of memory comes only where there was no room. Then no step was taken and nothing has changed: the
+    /// request is in the hand, and the timer is as it was.
+    pub fn answer(
+        &mut self,
+        desk: &Desk,
+        pass: &mut Pass,
+        sched: u32,
+        request: &Request,
+    ) -> Result<Option<u64>, NoMemory>
+        requires belongs { Belongs desk.now pass.old }
+        requires holds { IsScheds (settings_of desk.now) (view_of pass.old) sched self.old.process }
+        requires asker { request.now.reply_to ≡ self.old.process }
+        requires hand { ((state_of desk.now pass.old).scheds sched).hand ≡ Some request.now }
+        requires stands { Stands (settings_of desk.now) (front_of pass.old) self.old }
+        ensures belongs { Belongs desk.now pass.new }
+        ensures call { MakesIfOk (settings_of desk.now) (view_of pass.old) (Answers (settings_of desk.now) sched request.now) result (view_of pass.new) }
+        ensures sched { (state_of desk.now pass.new).scheds sched ≡ answered result ((state_of desk.now pass.old).scheds sched) }
+        ensures memory { OnErr result (self.old.room ≡ 0) }
+        ensures err { OnErr result (IsSame self.old self.new) }
+        ensures process { self.new.process ≡ self.old.process }
+        ensures stands { Stands (settings_of desk.now) (front_of pass.new) self.new }
+    {
+        self.queue.reserve(1)?;
+        let left = reply(desk, pass, sched, request);
+        put_answer(&mut self.queue, request, left);
+        Ok(left)
     }
 }

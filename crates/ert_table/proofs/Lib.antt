@@ -17,5 +17,4 @@ pub mod ReadActs
 pub mod ArmActs
 pub mod Calls
 pub mod Makings
-pub mod Makings
 pub mod Parts

@@ -11,6 +11,8 @@ use Rattle.ert_defs.specs.Mails.{changes_of, told_of}
 use Rattle.ert_defs.specs.declared.mail.Mail.{Mail}
 use Rattle.ert_table.specs.Takes.{Appends}
 use Rattle.ert_mail.specs.Mailboxes.{monitors_of, seen}
+use Rattle.std.proofs.lemmas.List.{with_items_is}
+use Rattle.std.specs.Vec.{with_items}
 use Rattle.std.specs.VecDeque.{deque_len, deque_capacity}
 use Rattle.ert_mail.specs.declared.monitors.Monitor.{Monitor}
 use Rattle.ert_mail.proofs.Watchings.{tell_made, stands_told}
@@ -44,7 +46,9 @@ returns-clause-stands c =
     let queue = c.tell_all.ensures.queue
     ∙ (ap (λ (q : List Mail). q ++ changes_of offset (monitors_of c.deref_mut.result.now)) c.in_ok-reserve.ensures.items
     ∙ ap (λ (ms : List Monitor). c.self.inside.queue.items ++ changes_of offset (monitors_of ms)) c.deref_mut.ensures.value) in
-    let monitors = c.tell_all.ensures.monitors ∙ ap (λ (ms : List Monitor). told_of offset (monitors_of ms)) c.deref_mut.ensures.value in
-    let n : Mailbox = seen c.self.inside.process c.tell_all.new.queue.items c.tell_all.new.monitors c.self.inside.next c.self.inside.delivered
+    let kept : (with_items c.self.inside.monitors c.tell_all.new.monitors).items ≡ c.tell_all.new.monitors =
+    with_items_is c.self.inside.monitors c.tell_all.new.monitors (omega arith) in
+    let monitors = ap monitors_of kept ∙ c.tell_all.ensures.monitors ∙ ap (λ (ms : List Monitor). told_of offset (monitors_of ms)) c.deref_mut.ensures.value in
+    let n : Mailbox = seen c.self.inside.process c.tell_all.new.queue.items (with_items c.self.inside.monitors c.tell_all.new.monitors).items c.self.inside.next c.self.inside.delivered
     (deque_capacity c.tell_all.new.queue - deque_len c.tell_all.new.queue) in
     stands_told g v w c.args.by offset m n holds.mail stands step refl queue monitors refl refl
