@@ -28,7 +28,7 @@ use Rattle.ert_mail.proofs.Handings.{scheds_before}
 
 -- the entries of what a scheduler does for a request: it looks, and no more where the reference is out of
 -- range; or it reads the timer; or it reads and cancels it
-abbrev AreAsked : Settings → ℕ → TimerRef → Option ℕ → List Entry → Type 0
+abbrev pub AreAsked : Settings → ℕ → TimerRef → Option ℕ → List Entry → Type 0
 AreAsked g n timer left es =
     ((now : ℤ) × (names_timer g timer ≡ false) × (left ≡ None) × (es ≡ look_entry (Sched n) now ∷ []))
     ⊎ ((now : ℤ) × (names_timer g timer ≡ true) × (es ≡ look_entry (Sched n) now ∷ (peek_entry (Sched n) timer left ∷ [])))
@@ -60,7 +60,7 @@ cancel_asked g n timer left s es cancels = at (names_timer g timer) refl cancels
         ∙ ap (λ left. look_entry (Sched n) cancels.now ∷ (peek_entry (Sched n) timer left ∷ [])) (sym (cancels.quiet found))))
     at true is (Some x) found = inr (inr (cancels.now, Some x, is, by_case true (Some x) is found))
 
-asked : (g : Settings) (n : ℕ) (kind : RequestKind) (timer : TimerRef) (left : Option ℕ) (s : State) (es : List Entry)
+pub asked : (g : Settings) (n : ℕ) (kind : RequestKind) (timer : TimerRef) (left : Option ℕ) (s : State) (es : List Entry)
     → DoesAsked kind g n timer left s es → AreAsked g n timer left es
 asked g n Cancel timer left s es does = cancel_asked g n timer left s es does
 asked g n Read timer left s es does = read_asked g n timer left s es does

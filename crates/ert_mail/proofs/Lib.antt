@@ -5,3 +5,4 @@ pub mod Handings
 pub mod AnswerSteps
 pub mod MonitorLaws
 pub mod Counts
+pub mod LawsHold

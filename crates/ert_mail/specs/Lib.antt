@@ -1,2 +1,3 @@
 pub mod Mailboxes
+pub mod Laws
 pub mod Steps

@@ -23,5 +23,6 @@ returns-clause-stands c =
     let q : Waiting = the_view c.self.inside in
     let holds = subst (λ (q : Waiting). IsAskers g v c.args.by q.wheel) (sym c.self.view_is) c.requires.holds in
     let stands = subst (Stands g v.front) (sym c.self.view_is) c.requires.stands in
-    let more = c.push_back_reserved.ensures.items ∙ ap (λ (xs : List Request). xs ++ c.args.request ∷ []) c.in_ok-reserve.ensures.items in
+    let more : c.push_back_reserved.new.self.items ≡ c.self.inside.queue.items ++ c.args.request ∷ [] =
+    c.push_back_reserved.ensures.items ∙ ap (λ (xs : List Request). xs ++ c.args.request ∷ []) c.in_ok-reserve.ensures.items in
     stands_asked g v (view_of c.load_time.new.self) c.args.by c.args.request q _ holds.inbox stands c.load_time.ensures.step refl more
