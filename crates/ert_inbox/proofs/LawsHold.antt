@@ -1,6 +1,6 @@
 -- An inbox stands on without entries of its own, and each call makes entries of its actors alone.
 
-use Rattle.std.proofs.Common.{◌≡◌, List, [], ◌∷◌, Ok, Err, sym, ap, subst, ◌∙◌}
+use Rattle.std.proofs.Common.{◌≡◌, [], ◌∷◌, Ok, Err, sym, ap, subst, ◌∙◌}
 use Rattle.ert_defs.specs.States.{State, state}
 use Rattle.ert_defs.proofs.Runs.{state-append, inbox_stays}
 use Rattle.ert_defs.specs.declared.entry.Actor.TheVariants.{Inbox, Sched, Caller}

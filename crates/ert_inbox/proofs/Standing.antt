@@ -1,8 +1,8 @@
 -- An inbox stands on after a step of the pass that holds it.
 
-use Rattle.std.proofs.Common.{◌≡◌, ℕ, true, List, [], ◌∷◌, ◌++◌, Option, Some, None, Ok, refl, sym, ap, ◌∙◌, eq-eqb}
+use Rattle.std.proofs.Common.{◌≡◌, ℕ, true, List, [], ◌∷◌, ◌++◌, Option, Ok, refl, sym, ap, ◌∙◌, eq-eqb}
 use Rattle.ert_defs.specs.Entries.{ask_entry, pick_entry}
-use Rattle.ert_defs.specs.Mails.{SchedState, first_of, others_of}
+use Rattle.ert_defs.specs.Mails.{others_of}
 use Rattle.ert_defs.specs.States.{State, next, state}
 use Rattle.ert_defs.specs.declared.entry.Actor.TheVariants.{Inbox, Sched}
 use Rattle.ert_defs.specs.declared.entry.Entry.{Entry}

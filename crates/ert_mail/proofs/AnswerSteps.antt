@@ -3,7 +3,7 @@
 use Rattle.std.proofs.Common.{◌≡◌, ◌⊎◌, ℕ, ◌+◌, ◌<◌, ℤ, Bool, true, false, cond, List, [], ◌∷◌, ◌++◌, Option, Some, None, Ok, inl, inr, refl, sym, ap, subst, ◌∙◌, eq-eqb, add-zero}
 use Rattle.ert_defs.specs.Entries.{look_entry, peek_entry, cancel_entry, answer_entry}
 use Rattle.ert_defs.specs.Legal.{IsResult, names_timer}
-use Rattle.ert_defs.specs.Mails.{MailState, SchedState, answer_in, answer_of, is_about}
+use Rattle.ert_defs.specs.Mails.{SchedState, answer_in, is_about}
 use Rattle.ert_defs.specs.States.{State, next, run, state}
 use Rattle.ert_defs.proofs.FiredTimers.{same_timer_self}
 use Rattle.ert_defs.specs.declared.entry.Actor.TheVariants.{Sched, MailOf}
@@ -13,11 +13,11 @@ use Rattle.ert_defs.specs.declared.mail.RequestKind.{RequestKind}
 use Rattle.ert_defs.specs.declared.mail.RequestKind.TheVariants.{Cancel, Read}
 use Rattle.ert_defs.specs.declared.settings.Settings.{Settings}
 use Rattle.ert_defs.specs.declared.timer.TimerRef.{TimerRef}
-use Rattle.ert_answers.specs.RequestCalls.{DoesAsked, HasAnswered}
+use Rattle.ert_answers.specs.RequestCalls.{DoesAsked}
 use Rattle.ert_answers.specs.TimerCalls.{Reads, Cancels, read_entries, cancel_entries}
 use Rattle.ert_table.specs.Held.{is_held}
 use Rattle.ert_table.specs.Making.{Makes}
-use Rattle.ert_table.specs.Takes.{MayStep, Appends, TakesPlace}
+use Rattle.ert_table.specs.Takes.{MayStep, Appends}
 use Rattle.ert_table.proofs.Calls.{step_takes_place, takes_place_then}
 use Rattle.ert_table.proofs.Parts.{AreByThemselves, mail_own, sched_own, own_after, stepped}
 use Rattle.ert_table.specs.declared.view.View.{View}
@@ -53,11 +53,16 @@ cancel_asked g n timer left s es cancels = at (names_timer g timer) refl cancels
         cancels.entries
         ∙ (ap (λ b. look_entry (Sched n) cancels.now ∷ cancel_entries b (Sched n) timer cancels.found left) is
         ∙ ap (λ x. look_entry (Sched n) cancels.now ∷ cancel_entries b (Sched n) timer x left) found)
+
     at : (b : Bool) → names_timer g timer ≡ b → (x : Option ℕ) → cancels.found ≡ x → AreAsked g n timer left es
     at false is x found = inl (cancels.now, is, cancels.quiet (cancels.unread is), by_case false x is found)
     at true is None found =
-        inr (inl (cancels.now, is, by_case true None is found
-        ∙ ap (λ left. look_entry (Sched n) cancels.now ∷ (peek_entry (Sched n) timer left ∷ [])) (sym (cancels.quiet found))))
+        inr (inl (
+          cancels.now,
+          is,
+          by_case true None is found
+              ∙ ap (λ left. look_entry (Sched n) cancels.now ∷ (peek_entry (Sched n) timer left ∷ [])) (sym (cancels.quiet found)),
+        ))
     at true is (Some x) found = inr (inr (cancels.now, Some x, is, by_case true (Some x) is found))
 
 pub asked : (g : Settings) (n : ℕ) (kind : RequestKind) (timer : TimerRef) (left : Option ℕ) (s : State) (es : List Entry)
@@ -123,22 +128,28 @@ sched_asked : (g : Settings) (n : ℕ) (request : Request) (left : Option ℕ) (
     → AreByThemselves g (λ (s : State). s.scheds n) es
     × ((s : State) → (s.scheds n).hand ≡ Some request → IsDone g request left (s.scheds n) ((run g s es).scheds n))
 sched_asked g n request left es (inl are) =
-    rw are.3 ((by_look g n are.0, tt),
-    λ s hand. record {
-      hand = ap (λ (x : SchedState). x.hand) (looked g n are.0 s);
-      fired = ap (λ (x : SchedState). x.fired) (looked g n are.0 s);
-      result = rw are.1 are.2;
-    })
+    rw are.3 (
+      (by_look g n are.0, tt),
+      λ s hand. record {
+        hand = ap (λ (x : SchedState). x.hand) (looked g n are.0 s);
+        fired = ap (λ (x : SchedState). x.fired) (looked g n are.0 s);
+        result = rw are.1 are.2;
+      },
+    )
 sched_asked g n request left es (inr (inl are)) =
-    rw are.2 ((by_look g n are.0, (by_peek g n request.timer left, tt)),
-    λ s hand. done g request left (s.scheds n) (s.scheds n) _ hand are.1 refl refl
-    (peeked g n request.timer left (next g s (look_entry (Sched n) are.0)) ∙ ap (noted request.timer left) (looked g n are.0 s)))
+    rw are.2 (
+      (by_look g n are.0, (by_peek g n request.timer left, tt)),
+      λ s hand. done g request left (s.scheds n) (s.scheds n) _ hand are.1 refl refl
+          (peeked g n request.timer left (next g s (look_entry (Sched n) are.0)) ∙ ap (noted request.timer left) (looked g n are.0 s)),
+    )
 sched_asked g n request left es (inr (inr are)) =
-    rw are.3 ((by_look g n are.0, (by_peek g n request.timer are.1, (by_cancel g n request.timer left, tt))),
-    λ s hand. done g request left (s.scheds n) (noted request.timer are.1 (s.scheds n)) _ hand are.2 refl refl
-    (cancelled g n request.timer left (next g (next g s (look_entry (Sched n) are.0)) (peek_entry (Sched n) request.timer are.1))
-    ∙ ap (noted request.timer left)
-    (peeked g n request.timer are.1 (next g s (look_entry (Sched n) are.0)) ∙ ap (noted request.timer are.1) (looked g n are.0 s))))
+    rw are.3 (
+      (by_look g n are.0, (by_peek g n request.timer are.1, (by_cancel g n request.timer left, tt))),
+      λ s hand. done g request left (s.scheds n) (noted request.timer are.1 (s.scheds n)) _ hand are.2 refl refl
+          (cancelled g n request.timer left (next g (next g s (look_entry (Sched n) are.0)) (peek_entry (Sched n) request.timer are.1))
+          ∙ ap (noted request.timer left)
+          (peeked g n request.timer are.1 (next g s (look_entry (Sched n) are.0)) ∙ ap (noted request.timer are.1) (looked g n are.0 s))),
+    )
 
 -- what a pass knows once the request in the hand of its scheduler is done
 record IsAnswerable (g : Settings) (v : View) (n : ℕ) (request : Request) (left : Option ℕ) (u : View) : Type 0 where

@@ -11,10 +11,10 @@ use Rattle.std.proofs.lemmas.Map.Made.{IsDistinct-from_AllPairs}
 use Rattle.std.proofs.lemmas.Map.Steps.{length-le_from_distinct_below}
 use Rattle.std.specs.List.{list_any}
 use Rattle.ert_defs.specs.Actors.{is_with}
-use Rattle.ert_defs.specs.Legal.{Can, Legal}
+use Rattle.ert_defs.specs.Legal.{Legal}
 use Rattle.ert_defs.specs.Settings.{IsChecked}
 use Rattle.ert_defs.specs.States.{State, state}
-use Rattle.ert_defs.specs.Timers.{same_timer, timer_at}
+use Rattle.ert_defs.specs.Timers.{timer_at}
 use Rattle.ert_defs.proofs.FiredTimers.{row_named, same_timer_self}
 use Rattle.ert_defs.proofs.Runs.{legal_more}
 use Rattle.ert_defs.proofs.Standing.{all_stand, of_row}
@@ -94,23 +94,24 @@ more_event : (g : Settings) (h : List Entry) (e : Entry) (event : Event) → e.e
     × AllPairs (λ (a b : TimerRef). a ≢ b) (timers_in h ++ put_first event [])
 more_event g h e (Deliver timer) is legal was =
     let given : status_given timer e.event ≡ Some Delivered = rw is (rw (same_timer_self timer) refl) in
-    let now = delivered_now (status_given timer e.event) ((state g h).status timer) ((state g (h ++ e ∷ [])).status timer) given (entries_move g h e timer legal) in
-    (All-push (λ r. (state g (h ++ e ∷ [])).status r ≡ Some Delivered) (timers_in h) timer (stay g h e legal (timers_in h) was.each) now.1,
-    all_pairs_push (λ (a b : TimerRef). a ≢ b) (timers_in h) timer was.once
-    (λ k d lt same. let old : (state g h).status timer ≡ Some Delivered = subst (λ r. (state g h).status r ≡ Some Delivered) same (was.each k d lt) in
-    let new = now.0 in cc))
+    let now = delivered_now (status_given timer e.event) ((state g h).status timer) ((state g (h ++ e ∷ [])).status timer) given (entries_move g h e timer legal) in (
+      All-push (λ r. (state g (h ++ e ∷ [])).status r ≡ Some Delivered) (timers_in h) timer (stay g h e legal (timers_in h) was.each) now.1,
+      all_pairs_push (λ (a b : TimerRef). a ≢ b) (timers_in h) timer was.once
+          (λ k d lt same. let old : (state g h).status timer ≡ Some Delivered = subst (λ r. (state g h).status r ≡ Some Delivered) same (was.each k d lt) in
+          let new = now.0 in cc),
+    )
 more_event g h e _ is legal was = rw append-nil (stay g h e legal (timers_in h) was.each, was.once)
 
 are_once : (g : Settings) (h : List Entry) → Legal g h → AreOnce g h
 are_once g h legal =
     by_entries g (AreOnce g)
     (λ h e legal can was.
-        let more = more_event g h e e.event refl (legal_more g h e legal can) was in
-        let same = timers-append h (e ∷ []) in
-        record {
-          each = subst (All (λ r. (state g (h ++ e ∷ [])).status r ≡ Some Delivered)) (sym same) more.0;
-          once = subst (AllPairs (λ (a b : TimerRef). a ≢ b)) (sym same) more.1;
-        })
+    let more = more_event g h e e.event refl (legal_more g h e legal can) was in
+    let same = timers-append h (e ∷ []) in
+    record {
+      each = subst (All (λ r. (state g (h ++ e ∷ [])).status r ≡ Some Delivered)) (sym same) more.0;
+      once = subst (AllPairs (λ (a b : TimerRef). a ≢ b)) (sym same) more.1;
+    })
     (record { each = All-nil (λ r. (state g []).status r ≡ Some Delivered); once = λ i j d less lt. absurd (omega arith) }) h legal
 
 -- the references of a service as numbers

@@ -1,19 +1,19 @@
 -- The steps by which an expired timer is handed over.
 
-use Rattle.std.proofs.Common.{◌≡◌, ℕ, Bool, true, false, ◌||◌, ◌+◌, ◌<◌, ◌≤◌, List, [], ◌∷◌, ◌++◌, Option, Some, None, Ok, refl, sym, ap, subst, ◌∙◌, eq-eqb, arith}
+use Rattle.std.proofs.Common.{◌≡◌, ℕ, Bool, true, false, ◌||◌, ◌+◌, ◌<◌, ◌≤◌, List, [], ◌∷◌, ◌++◌, Some, Ok, refl, sym, ap, subst, ◌∙◌, eq-eqb, arith}
 use Rattle.ert_defs.specs.Entries.{mark_entry, deliver_entry, drop_entry}
 use Rattle.ert_defs.specs.Laws.{IsFired}
 use Rattle.ert_defs.specs.Legal.{Can, Legal, IsSlot}
-use Rattle.ert_defs.specs.Mails.{MailState, SchedState, first_of, others_of, message_of, message_in}
+use Rattle.ert_defs.specs.Mails.{SchedState, first_of, message_of, message_in}
 use Rattle.ert_defs.specs.Settings.{IsChecked}
 use Rattle.ert_defs.specs.States.{State, next, state}
-use Rattle.ert_defs.specs.Timers.{Row, row_of}
+use Rattle.ert_defs.specs.Timers.{Row}
 use Rattle.ert_defs.proofs.FiredLists.{first_at, fired_timers}
 use Rattle.ert_defs.proofs.Runs.{legal_one_more}
 use Rattle.ert_defs.specs.declared.entry.Actor.{Actor}
 use Rattle.ert_defs.specs.declared.entry.Actor.TheVariants.{Sched, MailOf}
 use Rattle.ert_defs.specs.declared.entry.Entry.{Entry}
-use Rattle.ert_defs.specs.declared.entry.Event.TheVariants.{Deliver, Drop}
+use Rattle.ert_defs.specs.declared.entry.Event.TheVariants.{Deliver}
 use Rattle.ert_defs.specs.declared.settings.Settings.{Settings}
 use Rattle.ert_answers.specs.MailCalls.{handed_entries}
 use Rattle.ert_answers.specs.declared.answers.Handed.{Handed}

@@ -1,9 +1,8 @@
 -- A mailbox stands on without entries of its own, and each call makes entries of its actors alone.
 
-use Rattle.std.proofs.Common.{◌≡◌, ℕ, Bool, true, false, List, [], ◌∷◌, ◌++◌, length, filter, Option, Some, None, Ok, Err, inl, inr, refl, sym, ap, subst, ◌∙◌, append-nil}
+use Rattle.std.proofs.Common.{◌≡◌, ℕ, false, List, [], ◌∷◌, ◌++◌, length, filter, Option, Ok, Err, inl, inr, refl, sym, ap, subst, ◌∙◌, append-nil}
 use Rattle.std.proofs.lemmas.List.Elements.{filter-append}
 use Rattle.ert_defs.specs.Actors.{IsFree}
-
 use Rattle.ert_defs.specs.States.{State, state}
 use Rattle.ert_defs.proofs.Runs.{state-append, mail_stays, free_first, free_rest}
 use Rattle.ert_defs.specs.declared.entry.Actor.{Actor}

@@ -1,14 +1,12 @@
 -- The laws of the monitors that are kept: what it is to find one, to remove one, and to be told.
 
-use Rattle.std.proofs.Common.{◌≡◌, ◌∙◌, refl, sym, ap, inl, inr, ℕ, ℤ, ◌+◌, ◌<◌, ◌≤◌, true, false, not, nat_eq, List, [], ◌∷◌, ◌++◌, length, get_or, set, take, drop, append_assoc, append-nil, arith}
+use Rattle.std.proofs.Common.{◌≡◌, ◌∙◌, refl, ap, inl, inr, ℕ, ℤ, ◌+◌, ◌<◌, ◌≤◌, not, nat_eq, List, [], ◌∷◌, ◌++◌, length, get_or, set, take, drop, append-nil, arith}
 use Rattle.std.proofs.lemmas.Bool.{cases_Bool}
 use Rattle.std.proofs.lemmas.Grind.{common_steps}
 use Rattle.std.proofs.lemmas.List.{take_more, drop_all, take_all, get_or_default}
 use Rattle.std.proofs.lemmas.List.Edits.{map_over_more}
-use Rattle.std.proofs.lemmas.List.Elements.{filter-append}
 use Rattle.std.specs.Prelude.{map, filter}
 use Rattle.ert_defs.specs.Mails.{is_news, changes_of, told_of, without}
-use Rattle.ert_defs.specs.declared.mail.Mail.{Mail}
 use Rattle.ert_defs.specs.declared.mail.Mail.TheVariants.{Change}
 use Rattle.ert_mail.specs.Mailboxes.{monitor_of, monitors_of}
 use Rattle.ert_mail.specs.declared.monitors.Monitor.{Monitor}

@@ -1,6 +1,6 @@
 -- The steps of the calls on monitors.
 
-use Rattle.std.proofs.Common.{◌≡◌, ◌⊎◌, ℕ, ◌+◌, ◌<◌, ◌≤◌, ℤ, Bool, true, false, List, [], ◌∷◌, ◌++◌, length, Ok, Err, inl, inr, refl, sym, ap, subst, ◌∙◌, eq-eqb}
+use Rattle.std.proofs.Common.{◌≡◌, ℕ, ◌+◌, ◌≤◌, ℤ, Bool, true, List, [], ◌∷◌, ◌++◌, length, Ok, Err, inl, inr, refl, sym, ap, subst, ◌∙◌, eq-eqb}
 use Rattle.std.proofs.lemmas.Bool.{cases_lt}
 use Rattle.std.proofs.lemmas.List.{map-append}
 use Rattle.ert_defs.specs.Entries.{off_entry, watch_entry, unwatch_entry, tell_entry}
@@ -9,7 +9,7 @@ use Rattle.ert_defs.specs.declared.entry.Actor.TheVariants.{MailOf, Caller}
 use Rattle.ert_defs.specs.declared.settings.OffsetState.{OffsetState}
 use Rattle.ert_defs.specs.declared.settings.Settings.{Settings}
 use Rattle.ert_answers.specs.MailCalls.{Monitors, Demonitors, Tells}
-use Rattle.ert_answers.specs.declared.answers.MonitorErr.TheVariants.{Full, NoMemory}
+use Rattle.ert_answers.specs.declared.answers.MonitorErr.TheVariants.{Full}
 use Rattle.ert_table.specs.Making.{Makes}
 use Rattle.ert_table.specs.Held.{is_held}
 use Rattle.ert_table.specs.Takes.{Appends}

@@ -1,6 +1,6 @@
 -- Laws of mailboxes. The functions of src/laws.rt carry them as contracts, so that they are proved.
 
-use Rattle.std.specs.Prelude.{◌≡◌, ℕ, Bool, List, [], ◌∷◌, Option, Result, Ok}
+use Rattle.std.specs.Prelude.{◌≡◌, ℕ, Bool, List, [], ◌∷◌, Option, Result}
 use Rattle.ert_defs.specs.Actors.{of}
 use Rattle.ert_defs.specs.States.{State}
 use Rattle.ert_defs.specs.Timers.{Row}

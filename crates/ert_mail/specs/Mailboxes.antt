@@ -1,6 +1,6 @@
 -- The mailbox of a process, as callers see it, and when it stands for a history.
 
-use Rattle.std.specs.Prelude.{◌≡◌, ◌⊎◌, ℕ, ◌<◌, ◌≤◌, Bool, true, false, cond, ◌&&◌, List, [], ◌∷◌, ◌++◌, length, map, filter, Option, Some, None, Result, Ok, Err}
+use Rattle.std.specs.Prelude.{◌≡◌, ◌⊎◌, ℕ, ◌<◌, ◌≤◌, Bool, true, false, ◌&&◌, List, [], ◌∷◌, length, map, filter, Option, None, Result, Ok, Err}
 use Rattle.ert_defs.specs.Actors.{is_with}
 use Rattle.ert_defs.specs.Mails.{MailState, Monitor, SchedState, no_mail, others_of}
 use Rattle.ert_defs.specs.States.{state}

@@ -1,6 +1,6 @@
 -- What the steps of the calls of a scheduler make of what it has and of a mailbox.
 
-use Rattle.std.specs.Prelude.{◌≡◌, ℕ, List, [], ◌∷◌, ◌++◌, Option, Ok}
+use Rattle.std.specs.Prelude.{◌≡◌, ℕ, [], ◌∷◌, ◌++◌, Option, Ok}
 use Rattle.ert_defs.specs.Mails.{MailState, message_of, answer_of}
 use Rattle.ert_defs.specs.States.{state}
 use Rattle.ert_defs.specs.Timers.{Row}

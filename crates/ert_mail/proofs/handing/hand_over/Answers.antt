@@ -1,4 +1,4 @@
-use Rattle.std.proofs.Common.{◌≡◌, true, false, subst}
+use Rattle.std.proofs.Common.{false, subst}
 use Rattle.ert_defs.specs.Entries.{mark_entry}
 use Rattle.ert_defs.specs.declared.entry.Actor.TheVariants.{Sched}
 use Rattle.ert_table.specs.Desks.{settings_of, view_of}

@@ -1,4 +1,4 @@
-use Rattle.std.proofs.Common.{arith, ◌<◌, List, [], ◌∷◌, get_or, slice_index_or, ◌≡◌, ◌∙◌, refl, sym, ap, ℤ, pos, ◌+◌, ◌++◌, length, take, to_z, of_z, w64, to_z-of_z, append_assoc, length-append}
+use Rattle.std.proofs.Common.{arith, ◌<◌, List, [], ◌∷◌, get_or, slice_index_or, ◌≡◌, ◌∙◌, sym, ap, ℤ, pos, ◌++◌, length, take, to_z, of_z, w64, to_z-of_z, append_assoc, length-append}
 use Rattle.ert_defs.specs.Mails.{changes_of}
 use Rattle.ert_defs.specs.declared.mail.Mail.{Mail}
 use Rattle.ert_mail.specs.Mailboxes.{monitor_of, monitors_of}

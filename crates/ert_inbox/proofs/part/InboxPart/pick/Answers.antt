@@ -1,6 +1,6 @@
 use Rattle.std.proofs.Common.{◌≡◌, refl, sym, subst}
 use Rattle.ert_answers.specs.RequestCalls.{Picks}
-use Rattle.ert_defs.specs.States.{State, state}
+use Rattle.ert_defs.specs.States.{state}
 use Rattle.ert_table.specs.Making.{Makes}
 use Rattle.ert_table.specs.Desks.{settings_of, view_of}
 use Rattle.ert_table.proofs.Parts.{popped}

@@ -1,11 +1,10 @@
-use Rattle.std.proofs.Common.{◌≡◌, ◌∙◌, ◌≤◌, ◌+◌, ◌-◌, Fits, w64, List, [], ◌∷◌, ◌++◌, add-zero, arith, rules, refl, sym, ap, subst}
+use Rattle.std.proofs.Common.{◌≡◌, ◌∙◌, ◌≤◌, ◌+◌, ◌-◌, List, [], ◌∷◌, ◌++◌, add-zero, rules, refl, sym, ap, subst}
 use Rattle.std.specs.VecDeque.{deque_len, deque_capacity}
 use Rattle.ert_defs.specs.Mails.{message_of}
 use Rattle.ert_defs.specs.declared.mail.Mail.{Mail}
 use Rattle.ert_answers.specs.declared.answers.Handed.TheVariants.{Put, Dropped}
 use Rattle.ert_table.specs.Desks.{settings_of, view_of}
 use Rattle.ert_mail.specs.Mailboxes.{Mailbox, Stands, IsScheds, seen}
-use Rattle.ert_mail.specs.Steps.{IsHanded}
 use Rattle.ert_mail.specs.contracts.part.MailPart.{the_view}
 use Rattle.ert_mail.proofs.Handings.{stands_handed, count_fits}
 use Rattle.ert_mail.proofs.part.MailPart.deliver.Goals as goal

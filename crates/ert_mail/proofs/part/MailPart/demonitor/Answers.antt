@@ -1,10 +1,8 @@
-use Rattle.std.proofs.Common.{◌≡◌, ℕ, ℤ, pos, arith, rules, true, false, Ok, Err, List, sym, ap, subst, refl, ◌∙◌, to_z, of_z, w64, to_z-of_z}
-use Rattle.ert_answers.specs.MailCalls.{Monitors, Demonitors, Tells}
-use Rattle.ert_answers.specs.declared.answers.MonitorErr.TheVariants.{Full, NoMemory}
-use Rattle.ert_table.specs.Calls.{MakesIfOk}
+use Rattle.std.proofs.Common.{sym, subst, refl}
+use Rattle.ert_answers.specs.MailCalls.{Demonitors}
 use Rattle.ert_table.specs.Making.{Makes}
 use Rattle.ert_table.specs.Desks.{settings_of, view_of}
-use Rattle.ert_mail.specs.Mailboxes.{Mailbox, Stands, IsCallers, IsMonitor, AreMany}
+use Rattle.ert_mail.specs.Mailboxes.{Mailbox, Stands, IsCallers}
 use Rattle.ert_mail.specs.contracts.part.MailPart.{the_view}
 use Rattle.ert_mail.proofs.Watchings.{unwatch_made, stands_unwatched}
 use Rattle.ert_mail.proofs.part.MailPart.demonitor.Goals as goal

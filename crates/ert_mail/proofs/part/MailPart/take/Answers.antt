@@ -1,4 +1,4 @@
-use Rattle.std.proofs.Common.{◌≡◌, true, false, sym, ap, subst, rules, refl, ◌∙◌}
+use Rattle.std.proofs.Common.{false, sym, subst, refl}
 use Rattle.ert_defs.specs.Entries.{mark_entry}
 use Rattle.ert_defs.specs.declared.entry.Actor.TheVariants.{MailOf, Caller}
 use Rattle.ert_answers.specs.MailCalls.{Takes}
