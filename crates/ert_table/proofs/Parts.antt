@@ -17,7 +17,7 @@ use Rattle.ert_table.specs.Held.{is_held, is_ours, IsOurs}
 use Rattle.ert_table.specs.Takes.{Appends, TakesPlace}
 use Rattle.ert_table.specs.Views.{Begins}
 use Rattle.ert_table.proofs.Calls.{step_takes_place, takes_place_then}
-use Rattle.ert_table.proofs.Holders.{or_false, same_actor-true}
+use Rattle.ert_table.proofs.Holders.{or_false, or_left, or_right, same_actor-true, same_actor_self}
 use Rattle.ert_table.specs.declared.view.View.{View}
 
 -- an entry that isn't of these actors has none of them
@@ -151,3 +151,10 @@ pub popped : {X : Type 0} (old new : List X) (got : Option X) → old ≡ option
 popped old new (Some x) items rest = rw items (refl, refl)
 popped [] new None items rest = (refl, rest)
 popped (x ∷ old) new None items rest = absurd (omega (arith, ap length items, ap length rest))
+
+-- the entries of an actor alone, or with another, are of these
+pub of_one : (a : Actor) (others : List Actor) → IsOurs (a ∷ others) a None
+of_one a others = or_left (same_actor a a) (is_held others a) (same_actor_self a)
+
+pub of_both : (a b : Actor) → IsOurs (a ∷ (b ∷ [])) a (Some b)
+of_both a b = (of_one a (b ∷ []), or_right (same_actor a b) (is_held (b ∷ []) b) (of_one b []))
