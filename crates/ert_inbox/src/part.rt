@@ -25,8 +25,7 @@ impl InboxPart {
     ghost use Rattle.std.specs.Prelude.{◌<◌, [], None, OnErr};
     ghost use Rattle.ert_answers.specs.RequestCalls.{Asks, Picks};
     ghost use Rattle.ert_defs.specs.Mails.{first_of};
-    ghost use Rattle.ert_table.specs.Calls.{IsMadeIfOk};
-    ghost use Rattle.ert_table.specs.Calls.{IsMade};
+    ghost use Rattle.ert_table.specs.Calls.{IsMade, IsMadeIfOk};
     ghost use Rattle.ert_table.specs.Desks.{settings_of, view_of, front_of, state_of, Belongs};
     ghost use Rattle.ert_inbox.specs.Inboxes.{IsAskers, IsScheds, Stands, picked};
 

@@ -17,8 +17,7 @@ use Rattle.ert_answers.specs.declared.answers.MonitorErr.{MonitorErr}
 use Rattle.ert_answers.specs.declared.answers.MonitorErr.TheVariants.{Full, NoMemory as WantOfMemory}
 use Rattle.ert_answers.specs.declared.answers.Taken.{Taken}
 use Rattle.ert_answers.specs.declared.answers.Taken.TheVariants.{Mail as First, Empty, Exited}
-use Rattle.ert_table.specs.Calls.{IsOmitted}
-use Rattle.ert_table.specs.Calls.{IsMade}
+use Rattle.ert_table.specs.Calls.{IsMade, IsOmitted}
 use Rattle.ert_table.specs.Held.{is_held}
 use Rattle.ert_table.specs.declared.view.View.{View}
 use Rattle.ert_mail.specs.declared.monitors.Monitor.{Monitor as KeptMonitor}

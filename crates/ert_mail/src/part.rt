@@ -41,8 +41,7 @@ impl MailPart {
     ghost use Rattle.ert_defs.specs.Mails.{first_of};
     ghost use Rattle.ert_answers.specs.MailCalls.{HandsOver, Takes};
     ghost use Rattle.ert_answers.specs.RequestCalls.{Answers};
-    ghost use Rattle.ert_table.specs.Calls.{IsMadeIfOk};
-    ghost use Rattle.ert_table.specs.Calls.{IsMade};
+    ghost use Rattle.ert_table.specs.Calls.{IsMade, IsMadeIfOk};
     ghost use Rattle.ert_table.specs.Desks.{settings_of, view_of, front_of, state_of, Belongs};
     ghost use Rattle.ert_mail.specs.Mailboxes.{IsEmpty, IsSame, IsCallers, IsScheds, IsTaken, Stands, handed, answered};
 
@@ -73,7 +72,7 @@ impl MailPart {
         self.delivered
     }
 
-    /// IsMade room for one more message.
+    /// Makes room for one more message.
     pub fn reserve(&mut self) -> Result<(), NoMemory>
         ensures room { OnOk result (0 < self.new.room) }
         ensures same { IsSame self.old self.new }

@@ -15,12 +15,11 @@ impl MailPart {
     ghost use Rattle.ert_defs.specs.Legal.{stands_in};
     ghost use Rattle.ert_answers.specs.MailCalls.{Demonitors, Tells};
     ghost use Rattle.ert_answers.specs.declared.answers.MonitorErr.TheVariants.{Full};
-    ghost use Rattle.ert_table.specs.Calls.{IsMadeIfOk};
-    ghost use Rattle.ert_table.specs.Calls.{IsMade};
+    ghost use Rattle.ert_table.specs.Calls.{IsMade, IsMadeIfOk};
     ghost use Rattle.ert_table.specs.Desks.{settings_of, view_of, front_of, Belongs};
     ghost use Rattle.ert_mail.specs.Mailboxes.{AreMany, IsCallers, IsMonitor, IsSame, Stands};
 
-    /// IsMade a monitor of the time offset, which counts the offset of now as told, and answers its number.
+    /// Makes a monitor of the time offset, which counts the offset of now as told, and answers its number.
     ///
     /// It is refused with Full where 64 monitors stand or the number 4294967295 was given, which is tested
     /// first. After a refusal nothing has changed.
