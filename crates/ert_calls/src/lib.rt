@@ -15,11 +15,11 @@
 //! | `is_alive` | Mark | whether the process had not exited |
 //! | `mark_exit` | Mark, which exits it | the same |
 //!
-//! `specs/Calls.antt` has a relation for each call: its entries in order, and the answer that is read from
-//! them. What is left of a timer is told by the look that the same call made: the whole milliseconds from
-//! that time to the deadline.
+//! What each call may record with its answer stands in `ert_answers`: its entries in order, and the answer
+//! that is read from them. What is left of a timer is told by the look that the same call made: the whole
+//! milliseconds from that time to the deadline (`specs/Left.antt`).
 //!
-//! It stands on `ert_defs` and `ert_table`.
+//! It stands on `ert_defs`, `ert_answers` and `ert_table`.
 #![tactic(auto)]
 
 mod clock_calls;

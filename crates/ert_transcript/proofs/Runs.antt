@@ -30,7 +30,8 @@ use Rattle.ert_transcript.specs.Labels.{Labels, label_of, bind}
 use Rattle.ert_transcript.specs.Counts.{has_status, count_in, counts_of, plain_after}
 use Rattle.ert_transcript.specs.Laws.{labels_in, AreOps, LawOfOneText, LawOfOneTranscript, LawOfCounts}
 use Rattle.ert_transcript.specs.PlainTimers.{count_of}
-use Rattle.ert_transcript.specs.Lines.{line_of, end_line}
+use Rattle.ert_transcript.specs.Lines.{line_of}
+use Rattle.ert_transcript.specs.Texts.{end_line}
 use Rattle.ert_transcript.specs.Plain.{piece_of, plain_lines}
 use Rattle.ert_transcript.specs.Scripts.{labels_after, Script, lines_of, IsTranscript}
 use Rattle.ert_transcript.specs.declared.op.Op.{Op}

@@ -7,7 +7,7 @@ use Rattle.ert_defs.specs.declared.settings.Settings.{Settings}
 use Rattle.ert_defs.specs.declared.timer.Status.{Status}
 use Rattle.ert_defs.specs.declared.timer.Status.TheVariants.{Armed, Expired, Delivered, Cancelled, Orphaned, Dropped}
 use Rattle.ert_transcript.specs.Labels.{Labels}
-use Rattle.ert_transcript.specs.Lines.{◌⋅◌}
+use Rattle.ert_transcript.specs.Texts.{◌⋅◌}
 use Rattle.ert_transcript.specs.Plain.{piece_of}
 use Rattle.ert_transcript.specs.PlainTimers.{count_of}
 use Rattle.ert_transcript.specs.Scripts.{labels_after}

@@ -10,6 +10,7 @@ pub mod PlainMail
 pub mod PlainTimers
 pub mod PlainTurns
 pub mod Scripts
+pub mod Texts
 pub mod Worked
 pub mod WorkedClocks
 pub mod WorkedTimers

@@ -10,7 +10,8 @@ use Rattle.ert_defs.specs.declared.timer.Kind.TheVariants.{Wrapped, Bare}
 use Rattle.ert_defs.specs.declared.timer.TimerRef.{TimerRef}
 use Rattle.ert_transcript.specs.Calls.{reading_of, start_of, request_of}
 use Rattle.ert_transcript.specs.Labels.{Labels, ref_of}
-use Rattle.ert_transcript.specs.Lines.{line_of, end_line}
+use Rattle.ert_transcript.specs.Lines.{line_of}
+use Rattle.ert_transcript.specs.Texts.{end_line}
 use Rattle.ert_transcript.specs.Pieces.{Piece}
 use Rattle.ert_transcript.specs.PlainClock.{tick_piece, check_piece, finalize_piece, time_piece, system_piece, offset_piece, info_piece, convert_piece}
 use Rattle.ert_transcript.specs.PlainMail.{receive_piece, alive_piece, exit_piece, monitor_piece, may_watch, demonitor_piece, notify_piece}
