@@ -1,9 +1,9 @@
 -- Worked scenarios on timers, their slots, and exits.
 
-use Rattle.std.specs.Prelude.{pos, negsuc, [], ◌∷◌}
+use Rattle.std.specs.Prelude.{true, pos, negsuc, [], ◌∷◌}
 use Rattle.ert_defs.specs.declared.timer.When.TheVariants.{After, At}
 use Rattle.ert_transcript.specs.Worked.{Scenario, plain, corrected}
-use Rattle.ert_transcript.specs.declared.op.Op.TheVariants.{Tick, Time, Start, Cancel, Read, Advance, Deliver, Turn, Receive, Exit, Alive}
+use Rattle.ert_transcript.specs.declared.op.Op.TheVariants.{Tick, Start, Cancel, Read, ReadAsync, Serve, Advance, Deliver, Turn, Receive, Exit, Alive, Time}
 
 -- a deadline is rounded up and a look down: at 0.5 milliseconds a timer of 10 is due at 11
 abbrev pub rounding : Scenario
@@ -134,5 +134,32 @@ orphan = record {
       ∷ Start 1 0 (After (pos 3)) 1 0
       ∷ Start 2 0 (After (pos 3)) 0 0
       ∷ Start 3 0 (After (pos 3)) 0 0
+      ∷ [];
+}
+
+-- timers of one deadline expire as they were started, whatever their labels
+abbrev pub by_starting : Scenario
+by_starting = record {
+  settings = plain;
+  ops = Start 9 0 (After (pos 5)) 0 1
+      ∷ Start 2 0 (After (pos 5)) 0 2
+      ∷ Tick (pos 0) (pos 5000000)
+      ∷ Turn 0
+      ∷ Receive 0
+      ∷ Receive 0
+      ∷ [];
+}
+
+-- the label of a start that was refused isn't bound
+abbrev pub refused_label : Scenario
+refused_label = record {
+  settings = record plain { slots = 1 };
+  ops = Start 1 0 (After (pos 4)) 0 0
+      ∷ Start 2 0 (After (pos 4)) 0 0
+      ∷ Cancel 2
+      ∷ ReadAsync 2 0 true
+      ∷ Serve 0
+      ∷ Receive 0
+      ∷ Read 1
       ∷ [];
 }

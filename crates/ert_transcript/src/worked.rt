@@ -3,7 +3,7 @@
 ghost use Rattle.std.specs.Prelude.{◌++◌, codes};
 ghost use Rattle.ert_transcript.specs.Worked.{Prints, EndsWith, Leaves, repeated};
 ghost use Rattle.ert_transcript.specs.WorkedClocks.{frozen, warped, fallen, finalized, volatile, too_wide, strong, gentle, conversions};
-ghost use Rattle.ert_transcript.specs.WorkedTimers.{rounding, cancelling, deadlines, below_zero, in_order, one_slot, exits, orphan};
+ghost use Rattle.ert_transcript.specs.WorkedTimers.{rounding, cancelling, deadlines, below_zero, in_order, one_slot, exits, orphan, by_starting, refused_label};
 ghost use Rattle.ert_transcript.specs.WorkedTurns.{requests, too_late, many_requests, quiet, monitors, many_monitors, one_day, idle, cancelled_once, delivered_once, orphaned_once};
 
 /// The plain service prints of the worked scenarios what the rules say, and leaves the timers that they say.
@@ -25,6 +25,8 @@ pub fn transcripts_are_judged()
     ensures one_slot { Prints one_slot (codes "start ok\nstart full\ncancel 4\nstart ok\nread false\nread 6\ntick 6000000\nadvance 6 1\nstart full\ndeliver 1 0\nstart ok\nread 1\nend 6000000\n") }
     ensures exits { Prints exits (codes "start ok\nstart ok\nstart ok\nstart ok\nadvance 0 1\nexit ok\ndeliver 0 1\nexit ok\nread false\nread false\nread 5\nstart ok\nread false\nreceive exited\nexit already\nalive false\nalive true\nend 0\n") }
     ensures orphan { Prints orphan (codes "exit ok\nstart ok\nstart ok\nstart full\nend 0\n") }
+    ensures by_starting { Prints by_starting (codes "start ok\nstart ok\ntick 5000000\nturn 0 5 2 2 0\nreceive timeout 9 1\nreceive timeout 2 2\nend 5000000\n") }
+    ensures refused_label { Prints refused_label (codes "start ok\nstart full\ncancel false\nread_async ok\nserve 1\nreceive read_timer 2 false\nread 4\nend 0\n") }
     ensures requests { Prints requests (codes "start ok\nread_async ok\nreceive empty\nserve 1\nreceive read_timer 1 7\ncancel_async ok\nserve 1\nreceive cancel_timer 9 false\nserve 0\nend 0\n") }
     ensures too_late { Prints too_late (codes "start ok\ncancel_async ok\nread_async ok\ncancel 9\nturn 2 0 0 0 0\nreceive cancel_timer 1 false\nreceive read_timer 1 false\nreceive empty\nend 0\n") }
     ensures many_requests { Prints many_requests (repeated 65 (codes "read_async ok\n") ++ codes "turn 64 0 0 0 0\nserve 1\nserve 0\nend 0\n") }

@@ -1,6 +1,6 @@
 -- What the worked scenarios print, by computation.
 
-use Rattle.std.proofs.Common.{codes, refl}
+use Rattle.std.proofs.Common.{◌≡◌, codes, refl}
 use Rattle.std.specs.Fmt.{digits}
 use Rattle.ert_transcript.specs.Texts.{state_word, mode_word, bool_word, info_front, info_middle, info_back}
 use Rattle.ert_transcript.proofs.worked.transcripts_are_judged.Goals as goal
@@ -25,6 +25,8 @@ returns c = record {
   one_slot = refl;
   exits = refl;
   orphan = refl;
+  by_starting = refl;
+  refused_label = refl;
   requests = refl;
   too_late = refl;
   many_requests = refl;
