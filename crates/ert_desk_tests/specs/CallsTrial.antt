@@ -8,7 +8,7 @@ use Rattle.ert_defs.specs.declared.timer.Kind.TheVariants.{Wrapped}
 use Rattle.ert_defs.specs.declared.timer.Start.{Start}
 use Rattle.ert_defs.specs.declared.timer.TimerRef.{TimerRef}
 use Rattle.ert_defs.specs.declared.timer.When.TheVariants.{After}
-use Rattle.ert_table.specs.Settlings.{arm_entry}
+use Rattle.ert_defs.specs.Entries.{arm_entry}
 
 -- the settings of the tests: OS system time is 7 nanoseconds ahead
 abbrev pub trial_settings : Settings

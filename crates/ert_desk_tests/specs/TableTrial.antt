@@ -13,8 +13,8 @@ use Rattle.ert_defs.specs.declared.timer.Kind.TheVariants.{Wrapped}
 use Rattle.ert_defs.specs.declared.timer.Start.{Start}
 use Rattle.ert_defs.specs.declared.timer.TimerRef.{TimerRef}
 use Rattle.ert_defs.specs.declared.timer.When.TheVariants.{After}
-use Rattle.ert_table.specs.Entries.{entry_by, tick_entry, shift_entry}
-use Rattle.ert_table.specs.Settlings.{arm_entry}
+use Rattle.ert_table.specs.Entries.{tick_entry, shift_entry}
+use Rattle.ert_defs.specs.Entries.{entry_by, arm_entry}
 
 -- the settings of the tests
 abbrev pub trial_settings : Settings

@@ -13,7 +13,8 @@ use Rattle.ert_defs.specs.declared.entry.Actor.TheVariants.{Inbox, Sched, MailOf
 use Rattle.ert_defs.specs.declared.entry.Entry.{Entry}
 use Rattle.ert_defs.specs.declared.settings.Settings.{Settings}
 use Rattle.ert_table.specs.Calls.{AreOnlyOf}
-use Rattle.ert_table.specs.Held.{is_held, is_ours, IsOurs}
+use Rattle.ert_table.specs.Held.{is_held, IsOurs}
+use Rattle.ert_defs.specs.Entries.{is_ours}
 use Rattle.ert_table.specs.Takes.{Appends, TakesPlace}
 use Rattle.ert_table.specs.Views.{Begins}
 use Rattle.ert_table.proofs.Calls.{step_takes_place, takes_place_then}

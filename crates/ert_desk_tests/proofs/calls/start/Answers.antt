@@ -1,7 +1,7 @@
 use Rattle.std.proofs.Common.{◌≡◌, ◌∙◌, true, [], ◌∷◌, ◌++◌, sym, ap, subst}
 use Rattle.ert_table.specs.Desks.{settings_of, view_of}
 use Rattle.ert_table.specs.Held.{is_held}
-use Rattle.ert_table.specs.Settlings.{arm_entry}
+use Rattle.ert_defs.specs.Entries.{arm_entry}
 use Rattle.ert_table.proofs.Calls.{step_takes_place, whole_exact}
 use Rattle.ert_desk_tests.specs.CallsTrial.{trial_timer, trial_start}
 use Rattle.ert_desk_tests.proofs.calls.start.Goals as goal

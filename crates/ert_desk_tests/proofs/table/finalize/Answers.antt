@@ -7,7 +7,8 @@ use Rattle.ert_defs.specs.declared.entry.Entry.{Entry}
 use Rattle.ert_defs.specs.declared.entry.Event.TheVariants.{Tick, Look}
 use Rattle.ert_defs.specs.declared.settings.OffsetState.TheVariants.{Final}
 use Rattle.ert_defs.specs.declared.settings.Settings.{Settings}
-use Rattle.ert_table.specs.Entries.{entry_by, tick_entry, shift_entry}
+use Rattle.ert_table.specs.Entries.{tick_entry, shift_entry}
+use Rattle.ert_defs.specs.Entries.{entry_by}
 use Rattle.ert_table.specs.Held.{IsWhole}
 use Rattle.ert_table.specs.Takes.{MayStep}
 use Rattle.ert_desk_tests.specs.TableTrial.{trial_settings, reading_at}
