@@ -1,6 +1,6 @@
 -- What the worked scenarios print, by computation.
 
-use Rattle.std.proofs.Common.{◌≡◌, codes, refl}
+use Rattle.std.proofs.Common.{codes, refl}
 use Rattle.std.specs.Fmt.{digits}
 use Rattle.ert_transcript.specs.Texts.{state_word, mode_word, bool_word, info_front, info_middle, info_back}
 use Rattle.ert_transcript.proofs.worked.transcripts_are_judged.Goals as goal
