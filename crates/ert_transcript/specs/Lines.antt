@@ -1,6 +1,6 @@
 -- The lines of replies.
 
-use Rattle.std.specs.Prelude.{ℕ, ℤ, Bool, true, false, List, ◌++◌, codes, Option, Some, None}
+use Rattle.std.specs.Prelude.{ℕ, true, false, List, codes, Option, Some, None}
 use Rattle.std.specs.Fmt.{decimal, signed_decimal}
 use Rattle.ert_answers.specs.declared.answers.Turned.{Turned}
 use Rattle.ert_defs.specs.declared.mail.Mail.{Mail}

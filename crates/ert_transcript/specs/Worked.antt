@@ -7,6 +7,7 @@ use Rattle.ert_defs.specs.declared.settings.Mode.TheVariants.{No}
 use Rattle.ert_defs.specs.declared.settings.Settings.{Settings}
 use Rattle.ert_transcript.specs.Counts.{plain_counts, settled_line}
 use Rattle.ert_transcript.specs.Plain.{plain_text}
+use Rattle.ert_transcript.specs.Scripts.{IsTranscript}
 use Rattle.ert_transcript.specs.declared.op.Op.{Op}
 
 -- settings and ops
@@ -17,6 +18,10 @@ pub record Scenario : Type 0 where
 -- what a scenario prints
 abbrev pub Prints : Scenario → List ℕ → Type 0
 Prints s text = plain_text s.settings s.ops ≡ text
+
+-- a text is a transcript of it
+abbrev pub IsPrinted : Scenario → List ℕ → Type 0
+IsPrinted s text = IsTranscript s.settings s.ops text
 
 -- the end of what it prints
 abbrev pub EndsWith : Scenario → List ℕ → Type 0

@@ -137,3 +137,7 @@ orphaned_once = record { settings = record plain { processes = 2 }; ops = Exit 1
 -- a turn of a service without timers
 abbrev pub idle : Scenario
 idle = record { settings = record plain { mode = Multi; schedulers = 4; processes = 8; slots = 4096 }; ops = Turn 2 ∷ [] }
+
+-- a timer that is cancelled
+abbrev pub one_cancel : Scenario
+one_cancel = record { settings = plain; ops = Start 1 0 (After (pos 5)) 0 7 ∷ Cancel 1 ∷ [] }

@@ -1,10 +1,10 @@
 //! What some scenarios print and leave, which the rules tell.
 
 ghost use Rattle.std.specs.Prelude.{◌++◌, codes};
-ghost use Rattle.ert_transcript.specs.Worked.{Prints, EndsWith, Leaves, repeated};
+ghost use Rattle.ert_transcript.specs.Worked.{Prints, IsPrinted, EndsWith, Leaves, repeated};
 ghost use Rattle.ert_transcript.specs.WorkedClocks.{frozen, warped, fallen, finalized, volatile, too_wide, strong, gentle, conversions};
 ghost use Rattle.ert_transcript.specs.WorkedTimers.{rounding, cancelling, deadlines, below_zero, in_order, one_slot, exits, orphan, by_starting, refused_label};
-ghost use Rattle.ert_transcript.specs.WorkedTurns.{requests, too_late, many_requests, quiet, monitors, many_monitors, one_day, idle, cancelled_once, delivered_once, orphaned_once};
+ghost use Rattle.ert_transcript.specs.WorkedTurns.{requests, too_late, many_requests, quiet, monitors, many_monitors, one_day, idle, one_cancel, cancelled_once, delivered_once, orphaned_once};
 
 /// The plain service prints of the worked scenarios what the rules say, and leaves the timers that they say.
 pub fn transcripts_are_judged()
@@ -34,6 +34,7 @@ pub fn transcripts_are_judged()
     ensures monitors { Prints monitors (codes "monitor 0\nmonitor 1\ndemonitor true\ndemonitor false\ncheck 0 offset 9000000000\nnotify 1\nnotify 0\nreceive change 1 9000000000\nreceive empty\nend 0\n") }
     ensures many_monitors { EndsWith many_monitors (codes "monitor 63\nmonitor full\nend 0\n") }
     ensures one_day { Prints one_day (codes "info start 0 end 8796093022207000000 mode multi correction true offset 1767225600000000000 state volatile\nmonitor 0\nstart ok\nstart ok\ntick 250000000\nturn 0 250 1 1 0\nreceive timeout 2 200\nstart ok\ncancel_async ok\nreceive empty\ntick 300000000\nturn 1 300 0 0 0\nreceive cancel_timer 1 700\ncheck 400000000 offset 1767225610000000000\nsystem 1767225610400000000\nnotify 1\nreceive change 0 1767225610000000000\nread 350\nexit ok\nread false\nreceive exited\ntick 60400000000\nturn 0 60400 0 0 0\nend 60400000000\n") }
+    ensures one_cancel { IsPrinted one_cancel (codes "start ok\ncancel 5\nend 0\n") }
     ensures idle { Leaves idle (codes "settled armed 0 expired 0 delivered 0 dropped 0 cancelled 0 orphaned 0\n") }
     ensures cancelled_once { Leaves cancelled_once (codes "settled armed 0 expired 0 delivered 0 dropped 0 cancelled 1 orphaned 0\n") }
     ensures delivered_once { Leaves delivered_once (codes "settled armed 0 expired 0 delivered 1 dropped 0 cancelled 0 orphaned 0\n") }
