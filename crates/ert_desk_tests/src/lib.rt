@@ -1,0 +1,6 @@
+//! Tests of the parts of a desk, by their public calls. They stand apart from the crates that they test, so
+//! that a crate is proved once, and not a second time with its tests.
+#![tactic(auto)]
+
+#[cfg(test)]
+mod mail;
