@@ -22,9 +22,9 @@ impl Model for InboxPart {
 }
 
 impl InboxPart {
-    ghost use Rattle.std.specs.Prelude.{◌<◌, [], None, OnErr};
+    ghost use Rattle.std.specs.Prelude.{◌<◌, [], ◌∷◌, ◌++◌, None, OnOk, OnErr};
     ghost use Rattle.ert_answers.specs.RequestCalls.{Asks, Picks};
-    ghost use Rattle.ert_defs.specs.Mails.{first_of};
+    ghost use Rattle.ert_defs.specs.Mails.{first_of, others_of};
     ghost use Rattle.ert_table.specs.Calls.{IsMade, IsMadeIfOk};
     ghost use Rattle.ert_table.specs.Desks.{settings_of, view_of, front_of, state_of, Belongs};
     ghost use Rattle.ert_inbox.specs.Inboxes.{IsAskers, IsScheds, Stands, picked};
@@ -62,6 +62,7 @@ impl InboxPart {
         requires stands { Stands (settings_of desk.now) (front_of pass.old) self.old }
         ensures belongs { Belongs desk.now pass.new }
         ensures call { IsMadeIfOk (settings_of desk.now) (view_of pass.old) (Asks (settings_of desk.now) by self.old.wheel request) result (view_of pass.new) }
+        ensures last { OnOk result (self.new.requests ≡ self.old.requests ++ request ∷ []) }
         ensures err { OnErr result (self.new ≡ self.old) }
         ensures wheel { self.new.wheel ≡ self.old.wheel }
         ensures stands { Stands (settings_of desk.now) (front_of pass.new) self.new }
@@ -82,6 +83,7 @@ impl InboxPart {
         ensures belongs { Belongs desk.now pass.new }
         ensures call { IsMade (settings_of desk.now) (view_of pass.old) (Picks (settings_of desk.now) self.old.wheel result) (view_of pass.new) }
         ensures first { result ≡ first_of self.old.requests }
+        ensures others { self.new.requests ≡ others_of self.old.requests }
         ensures sched { (state_of desk.now pass.new).scheds self.old.wheel ≡ picked result ((state_of desk.now pass.old).scheds self.old.wheel) }
         ensures wheel { self.new.wheel ≡ self.old.wheel }
         ensures stands { Stands (settings_of desk.now) (front_of pass.new) self.new }
