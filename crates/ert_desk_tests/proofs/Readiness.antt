@@ -14,6 +14,7 @@ use Rattle.ert_defs.specs.declared.memory.NoMemory.{NoMemory}
 use Rattle.ert_defs.specs.declared.settings.Settings.{Settings}
 use Rattle.ert_answers.specs.MailCalls.{Monitors, Tells}
 use Rattle.ert_answers.specs.RequestCalls.{Asks, Picks, Answers}
+use Rattle.ert_answers.specs.WheelCalls.{MarksExit}
 use Rattle.ert_answers.specs.declared.answers.MonitorErr.{MonitorErr}
 use Rattle.ert_answers.specs.declared.answers.MonitorErr.TheVariants.{Full, NoMemory as WantOfMemory}
 use Rattle.ert_table.specs.Calls.{AreOnlyOf, MakesIfOk, MakesNone}
@@ -22,7 +23,7 @@ use Rattle.ert_table.specs.Held.{is_held, IsWhole}
 use Rattle.ert_table.specs.Making.{Makes}
 use Rattle.ert_table.specs.Views.{Begins}
 use Rattle.ert_table.proofs.Calls.{whole_exact}
-use Rattle.ert_table.proofs.Parts.{free_of_others}
+use Rattle.ert_table.proofs.Parts.{free_of_others, of_one}
 use Rattle.ert_table.specs.declared.desk.Desk.{Desk}
 use Rattle.ert_table.specs.declared.desk.Pass.{Pass}
 use Rattle.ert_table.specs.declared.view.View.{View}
@@ -232,3 +233,19 @@ after_answer d p r x m n q k got request left ready made sched others wheel wait
       inbox = inbox_laws.stand_on g v.front w.front k rest.begins
           (none_more v.front w.front answers.entries actors (Inbox k.wheel) rest.grown only refl) waits;
     }
+
+-- after the process exited by caller 0
+pub after_exit : (d : Desk) (p r : Pass) (m : Mailbox) (q : Waiting) (answer : Bool) → IsReady d p m q
+    → Makes (settings_of d) (view_of p) (MarksExit (settings_of d) (Caller 0) m.process answer) (view_of r) → Belongs d r → IsReady d r m q
+after_exit d p r m q answer ready made belongs =
+    let g = settings_of d in
+    let v = view_of p in
+    let w = view_of r in
+    let allows = MarksExit g (Caller 0) m.process answer in
+    let rest = leaves g v w allows ready.whole made in
+    let alone : AreOnlyOf (Caller 0 ∷ []) made.entries = subst (AreOnlyOf (Caller 0 ∷ [])) (sym made.allowed) (of_one (Caller 0) [], tt) in
+    let among : AreOnlyOf (Caller 0 ∷ (MailOf m.process ∷ [])) made.entries =
+    subst (AreOnlyOf (Caller 0 ∷ (MailOf m.process ∷ []))) (sym made.allowed) (of_one (Caller 0) (MailOf m.process ∷ []), tt) in
+    after_mail d p r m m q allows ready made among belongs refl
+    (mail_laws.stand_on g v.front w.front m rest.begins
+    (none_more v.front w.front made.entries (Caller 0 ∷ []) (MailOf m.process) rest.grown alone refl) ready.mail)

@@ -3,7 +3,8 @@ ghost use Rattle.std.specs.Prelude.{◌≡◌, OnOk};
 ghost use Rattle.ert_desk_tests.specs.Trials.{IsReady};
 
 use ert_answers::{MonitorErr, Taken};
-use ert_defs::{Mail, Mode, NoMemory, Reading, Request, RequestKind, Settings, TimerRef};
+use ert_calls::mark_exit;
+use ert_defs::{Actor, Mail, Mode, NoMemory, Reading, Request, RequestKind, Settings, TimerRef};
 use ert_inbox::InboxPart;
 use ert_mail::MailPart;
 use ert_table::{Desk, Pass};
@@ -66,6 +67,14 @@ fn tell(
     ensures { IsReady desk.now pass.new mail.new inbox.now }
 {
     mail.tell(desk, pass, 0)
+}
+
+/// Lets the process exit.
+fn exit(desk: &Desk, pass: &mut Pass, mail: &MailPart, inbox: &InboxPart) -> bool
+    requires { IsReady desk.now pass.old mail.now inbox.now }
+    ensures { IsReady desk.now pass.new mail.now inbox.now }
+{
+    mark_exit(desk, pass, Actor::Caller(0), mail.process())
 }
 
 /// Asks for a read of a timer.
@@ -185,5 +194,17 @@ fn at_most_64_monitors_stand(rt: HostRuntime) -> Result<(), NoMemory> {
     assert!(rt; !demonitor(&desk, &mut pass, &mut mail, &inbox, 3));
     assert_eq!(rt; monitor(&desk, &mut pass, &mut mail, &inbox), Ok(64));
     assert_eq!(rt; tell(&desk, &mut pass, &mut mail, &inbox), Ok(0));
+    Ok(())
+}
+
+#[test]
+fn an_exited_process_takes_nothing(rt: HostRuntime) -> Result<(), NoMemory> {
+    let (desk, mut pass) = Desk::open(rt.alloc(), &SETTINGS)?;
+    let mut mail = MailPart::open(rt.alloc(), 1);
+    let mut inbox = InboxPart::open(rt.alloc(), 0);
+    ask(&desk, &mut pass, &mail, &mut inbox, request(0, true))?;
+    assert!(rt; exit(&desk, &mut pass, &mail, &inbox));
+    assert_eq!(rt; serve(&desk, &mut pass, &mut mail, &mut inbox)?, Some(None));
+    assert_eq!(rt; take(&desk, &mut pass, &mut mail, &inbox), Taken::Exited);
     Ok(())
 }
