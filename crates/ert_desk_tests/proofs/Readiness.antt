@@ -1,6 +1,6 @@
 -- What the tests hold they hold after each call.
 
-use Rattle.std.proofs.Common.{◌≡◌, ℕ, Bool, false, true, List, [], ◌∷◌, ◌++◌, All, Option, Result, Ok, Err, Some, None, OnOk, OnErr, refl, sym, ap, subst, ◌∙◌, append-nil}
+use Rattle.std.proofs.Common.{◌≡◌, ℕ, Bool, false, List, [], ◌∷◌, ◌++◌, All, Option, Result, Ok, Err, None, OnOk, OnErr, refl, sym, ap, subst, ◌∙◌, append-nil}
 use Rattle.std.proofs.lemmas.List.Elements.{filter-append, All-push, All-tail}
 use Rattle.ert_defs.specs.Actors.{of, has_actor}
 use Rattle.ert_defs.specs.Mails.{SchedState, others_of}
@@ -17,7 +17,7 @@ use Rattle.ert_answers.specs.RequestCalls.{Asks, Picks, Answers}
 use Rattle.ert_answers.specs.WheelCalls.{MarksExit}
 use Rattle.ert_answers.specs.declared.answers.MonitorErr.{MonitorErr}
 use Rattle.ert_answers.specs.declared.answers.MonitorErr.TheVariants.{Full, NoMemory as WantOfMemory}
-use Rattle.ert_table.specs.Calls.{AreOnlyOf, MakesIfOk, MakesNone}
+use Rattle.ert_table.specs.Calls.{AreOnlyOf, MakesIfOk}
 use Rattle.ert_table.specs.Desks.{settings_of, view_of, front_of, actors_of, state_of, Belongs}
 use Rattle.ert_table.specs.Held.{is_held, IsWhole}
 use Rattle.ert_table.specs.Making.{Makes}

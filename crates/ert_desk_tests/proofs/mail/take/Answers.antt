@@ -1,7 +1,7 @@
 use Rattle.ert_table.specs.Desks.{settings_of, view_of}
 use Rattle.ert_defs.specs.States.{state}
-use Rattle.ert_answers.specs.MailCalls.{Takes, Demonitors}
-use Rattle.ert_mail.proofs.LawsHold.{takes_only, demonitors_only}
+use Rattle.ert_answers.specs.MailCalls.{Takes}
+use Rattle.ert_mail.proofs.LawsHold.{takes_only}
 use Rattle.ert_desk_tests.proofs.Readiness.{after_mail}
 use Rattle.ert_desk_tests.proofs.mail.take.Goals as goal
 
