@@ -7,4 +7,6 @@ mod calls;
 #[cfg(test)]
 mod keeper;
 #[cfg(test)]
+mod mail;
+#[cfg(test)]
 mod table;
