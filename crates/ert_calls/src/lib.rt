@@ -28,4 +28,4 @@ mod timer_calls;
 
 pub use clock_calls::{look, monotonic_time, system_time, time_offset};
 pub use process_calls::{is_alive, mark_exit};
-pub use timer_calls::{cancel_timer, read_timer};
+pub use timer_calls::{cancel_timer, read_timer, rounded_up};

@@ -91,7 +91,7 @@ fn left(settings: &Settings, deadline: u64, now: i64) -> u64
 }
 
 /// The milliseconds from the start time to a time, rounded up.
-fn rounded_up(settings: &Settings, now: i64) -> u64
+pub fn rounded_up(settings: &Settings, now: i64) -> u64
     requires low { settings.now.start ≤ℤ now }
     requires high { now <ℤ end_time settings.now }
     ensures { pos result ≡ milliseconds.up settings.now now }

@@ -1,9 +1,9 @@
 mod Calls
-mod Collect
+pub mod Collect
 mod Due
-mod Lists
+pub mod Lists
 mod Opening
-mod Parts
+pub mod Parts
 mod Splice
 mod Times
 mod Unsplice
