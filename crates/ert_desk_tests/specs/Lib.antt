@@ -1,4 +1,5 @@
 pub mod CallsTrial
+pub mod DeliveryTrial
 pub mod KeeperTrial
 pub mod MailTrial
 pub mod TableTrial

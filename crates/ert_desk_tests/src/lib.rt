@@ -5,6 +5,8 @@
 #[cfg(test)]
 mod calls;
 #[cfg(test)]
+mod deliveries;
+#[cfg(test)]
 mod keeper;
 #[cfg(test)]
 mod mail;
