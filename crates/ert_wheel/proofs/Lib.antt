@@ -1,0 +1,11 @@
+mod Calls
+mod Collect
+mod Due
+mod Lists
+mod Opening
+mod Parts
+mod Splice
+mod Times
+mod Unsplice
+mod Views
+mod Writes

@@ -1,0 +1,52 @@
+-- A wheel that was just made.
+
+use Rattle.std.proofs.Common.{◌≡◌, ℕ, ◌+◌, ◌-◌, ◌<◌, ◌≤◌, ◌^◌, Option, Some, None, List, [], ◌∷◌, map, replicate, length, get_or, count_by, zero, suc, sym, subst, ◌∙◌, ap, inl, inr, refl, arith}
+use Rattle.std.proofs.Math.ListN.{get_or-map, get_or-eq_default}
+use Rattle.std.proofs.lemmas.Bool.{cases_lt}
+use Rattle.std.proofs.lemmas.List.{length-replicate, get_or-replicate}
+use Rattle.std.proofs.lemmas.List.Folds.{sum_by-replicate}
+use Rattle.std.proofs.lemmas.Nat.{pow_pos}
+use Rattle.std.specs.Int.{IsPowerOfTwo}
+use Rattle.std.specs.Option.{is_some}
+use Rattle.ert_wheel.specs.Rings.{Rings, Place, AreChains}
+use Rattle.ert_wheel.specs.Rows.{key_in}
+use Rattle.ert_wheel.specs.Wheels.{kept, kept_keys, home_by, place_of, places, IsWheel}
+use Rattle.ert_wheel.specs.declared.row.Key.{Key}
+
+-- what stands for a slot without a row
+abbrev pub no_key : Key
+no_key = record { deadline = 2 ^ 64 - 1; order = 0 }
+
+-- no key is seen
+pub kept_none : (n : ℕ) → kept_keys (replicate n no_key) ≡ replicate n None
+kept_none zero = refl
+kept_none (suc n) = ap (λ (s : List (Option Key)). None ∷ s) (kept_none n)
+
+-- and so no slot has a place
+no_place : (home : Key → ℕ) (n j : ℕ) → places home (replicate n None) j ≡ None
+no_place home n j =
+    elim (cases_lt j n)
+    [ inl low ↦ ap (place_of home) (get_or-replicate n j None None low)
+    | inr high ↦
+        let short : length (replicate {A = Option Key} n None) ≤ j = omega (arith, length-replicate {A = Option Key} n None) in
+        ap (place_of home) (get_or-eq_default (replicate n None) None short)
+    ]
+
+pub opened : (slots buckets : ℕ) (keys : List Key) (chains : Rings) → keys ≡ replicate slots no_key
+    → chains.slots ≡ slots → chains.homes ≡ buckets → AreChains chains (λ _. None) → IsPowerOfTwo buckets
+    → slots < 2 ^ 32 → IsWheel (buckets - 1) 0 0 keys chains
+opened slots buckets keys chains is low homes are (k, e) few =
+    let some : (buckets - 1) + 1 ≡ buckets = omega (arith, pow_pos k) in
+    let seen : kept_keys keys ≡ replicate slots None = ap kept_keys is ∙ kept_none slots in
+    let many : length keys ≡ slots = ap length is ∙ length-replicate slots no_key in
+    record {
+      slots = many ∙ sym low;
+      few = omega arith;
+      homes = some ∙ sym homes;
+      power = (k, some ∙ e);
+      time = omega arith;
+      counts = sym (ap (count_by is_some) seen ∙ sum_by-replicate _ slots None ∙ omega arith);
+      are = subst (λ (s : List (Option Key)). AreChains chains (places (home_by (buckets - 1) 0) s)) (sym seen)
+          (subst (λ (p : ℕ → Option Place). AreChains chains p)
+          (λ i j. sym (no_place (home_by (buckets - 1) 0) slots j) i) are);
+    }

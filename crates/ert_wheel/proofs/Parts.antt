@@ -1,0 +1,229 @@
+-- Chains by their places: what is at a node, and a slot put in or taken out.
+
+use Rattle.std.proofs.Common.{map, ◌≡◌, ◌≢◌, ◌⊎◌, ℕ, ◌+◌, ◌-◌, ◌<◌, ◌≤◌, ◌^◌, Bool, true, false, cond, List, Option, Some, None, IfSome, nat_lt, nat_eq, length, sym, subst, ◌∙◌, ap, inl, inr, refl, arith}
+use Rattle.std.proofs.lemmas.Bool.{cases_eq, cases_lt, lt-ltb, le-ltb, ltb-true, eq-eqb, ne_eqb, true≢false, false≢true}
+use Rattle.std.proofs.lemmas.List.{with_items_is}
+use Rattle.std.proofs.lemmas.List.FromFn.{get_or-map-range_with_len}
+use Rattle.std.specs.List.{range_with_len}
+use Rattle.std.specs.Option.{is_some}
+use Rattle.ert_wheel.proofs.Splice.{GoesIn, inserted}
+use Rattle.ert_wheel.proofs.Unsplice.{GoesOut, removed}
+use Rattle.ert_wheel.specs.Chained.{Shape, Chained, Changed, Spliced, Unspliced}
+use Rattle.ert_wheel.specs.Links.{next_at, prev_at, alone, no_link}
+use Rattle.ert_wheel.specs.Rings.{Rings, Place, home_of, order_of, by_node, shape, AreChains, with_place, Puts, Takes, StandsIn, slot_at, bound_of, Finds}
+use Rattle.ert_wheel.specs.declared.links.Link.{Link}
+
+-- what a slot has, and what a head has
+by_slot : {A : Type 0} (slots : ℕ) (of_place : Option Place → A) (of_head : ℕ → A)
+    (places : ℕ → Option Place) (x : ℕ) → x < slots → by_node slots of_place of_head places x ≡ of_place (places x)
+by_slot slots of_place of_head places x low =
+    ap (λ b. cond b (of_place (places x)) (of_head x)) (lt-ltb x slots low)
+
+by_head : {A : Type 0} (slots : ℕ) (of_place : Option Place → A) (of_head : ℕ → A)
+    (places : ℕ → Option Place) (x : ℕ) → slots ≤ x → by_node slots of_place of_head places x ≡ of_head x
+by_head slots of_place of_head places x high =
+    ap (λ b. cond b (of_place (places x)) (of_head x)) (le-ltb x slots high)
+
+-- a slot that has a place
+pub record IsSlot (slots homes : ℕ) (places : ℕ → Option Place) (x : ℕ) (place : Place) : Type 0 where
+  pub low : x < slots
+  pub has : places x ≡ Some place
+  pub on : (shape slots homes places).on x ≡ true
+  pub at_home : (shape slots homes places).home x ≡ place.home
+  pub top : (shape slots homes places).top x ≡ place.order
+  pub bound : (shape slots homes places).low x ≡ place.order + 1
+
+-- a home's head
+pub record IsHead (slots homes : ℕ) (places : ℕ → Option Place) (x : ℕ) : Type 0 where
+  pub high : slots ≤ x
+  pub few : x < slots + homes
+  pub on : (shape slots homes places).on x ≡ true
+  pub at_home : (shape slots homes places).home x ≡ x - slots
+  pub top : (shape slots homes places).top x ≡ 2 ^ 64
+  pub bound : (shape slots homes places).low x ≡ 0
+
+pub slot_is : (slots homes : ℕ) (places : ℕ → Option Place) (x : ℕ) (p : Place) → x < slots
+    → places x ≡ Some p → IsSlot slots homes places x p
+slot_is slots homes places x p low has = record {
+  low = low;
+  has = has;
+  on = by_slot slots is_some (λ x. nat_lt x (slots + homes)) places x low ∙ ap is_some has;
+  at_home = by_slot slots home_of (λ x. x - slots) places x low ∙ ap home_of has;
+  top = by_slot slots order_of (λ _. 2 ^ 64) places x low ∙ ap order_of has;
+  bound = by_slot slots (λ p. order_of p + 1) (λ _. 0) places x low ∙ ap (λ p. order_of p + 1) has;
+}
+
+pub head_is : (slots homes : ℕ) (places : ℕ → Option Place) (x : ℕ) → slots ≤ x → x < slots + homes
+    → IsHead slots homes places x
+head_is slots homes places x high few = record {
+  high = high;
+  few = few;
+  on = by_head slots is_some (λ x. nat_lt x (slots + homes)) places x high ∙ lt-ltb x (slots + homes) few;
+  at_home = by_head slots home_of (λ x. x - slots) places x high;
+  top = by_head slots order_of (λ _. 2 ^ 64) places x high;
+  bound = by_head slots (λ p. order_of p + 1) (λ _. 0) places x high;
+}
+
+-- where a test finds a value, there is one
+some_place : (o : Option Place) → is_some o ≡ true → (p : Place) × (o ≡ Some p)
+some_place None h = absurd (false≢true h)
+some_place (Some p) h = (p, refl)
+
+-- what is on is one of both
+pub node_is : (slots homes : ℕ) (places : ℕ → Option Place) (x : ℕ)
+    → (shape slots homes places).on x ≡ true
+    → ((p : Place) × IsSlot slots homes places x p) ⊎ IsHead slots homes places x
+node_is slots homes places x on =
+    elim (cases_lt x slots)
+    [ inl low ↦
+        let found : (p : Place) × (places x ≡ Some p) =
+            some_place (places x) (sym (by_slot slots is_some (λ x. nat_lt x (slots + homes)) places x low) ∙ on) in
+        inl (found.0, slot_is slots homes places x found.0 low found.1)
+    | inr high ↦
+        inr (head_is slots homes places x high
+        (ltb-true x (slots + homes) (sym (by_head slots is_some (λ x. nat_lt x (slots + homes)) places x high) ∙ on)))
+    ]
+
+-- a change of one place
+pub with_place_here : (places : ℕ → Option Place) (slot : ℕ) (place : Option Place)
+    → with_place places slot place slot ≡ place
+with_place_here places slot place =
+    ap (λ b. cond b place (places slot)) (eq-eqb slot slot refl)
+
+pub with_place_there : (places : ℕ → Option Place) (slot : ℕ) (place : Option Place) (x : ℕ) → x ≢ slot
+    → with_place places slot place x ≡ places x
+with_place_there places slot place x ne = ap (λ b. cond b place (places x)) (ne_eqb x slot ne)
+
+changed_at : {A : Type 0} (slots : ℕ) (of_place : Option Place → A) (of_head : ℕ → A)
+    (places : ℕ → Option Place) (slot : ℕ) (place : Option Place) → slot < slots
+    → Changed (by_node slots of_place of_head places) (by_node slots of_place of_head (with_place places slot place)) slot (of_place place)
+changed_at slots of_place of_head places slot place low = record {
+  here =
+      by_slot slots of_place of_head (with_place places slot place) slot low
+      ∙ ap of_place (with_place_here places slot place);
+  there = λ x ne.
+      ap (λ p. cond (nat_lt x slots) (of_place p) (of_head x)) (with_place_there places slot place x ne);
+}
+
+-- who has a place after one was given
+has_place : (places : ℕ → Option Place) (slot : ℕ) (new : Place) (j : ℕ) (p : Place)
+    → with_place places slot (Some new) j ≡ Some p
+    → ((j ≡ slot) × (new ≡ p)) ⊎ ((j ≢ slot) × (places j ≡ Some p))
+has_place places slot new j p h =
+    elim (cases_eq j slot)
+    [ inl e ↦
+        let at_slot : Some new ≡ Some p =
+            sym (ap (with_place places slot (Some new)) e ∙ with_place_here places slot (Some new)) ∙ h in
+        inl (e, cc)
+    | inr ne ↦ inr (ne, sym (with_place_there places slot (Some new) j ne) ∙ h)
+    ]
+
+-- who has one after one was given up
+kept_place : (places : ℕ → Option Place) (slot : ℕ) (j : ℕ) (p : Place)
+    → with_place places slot None j ≡ Some p → places j ≡ Some p
+kept_place places slot j p h =
+    elim (cases_eq j slot)
+    [ inl e ↦
+        let none : None ≡ Some p = sym (ap (with_place places slot None) e ∙ with_place_here places slot None) ∙ h in
+        cc
+    | inr ne ↦ sym (with_place_there places slot None j ne) ∙ h
+    ]
+
+-- what is needed to give a slot a place
+pub record CanPut (r : Rings) (places : ℕ → Option Place) (slot home order : ℕ) : Type 0 where
+  pub are : AreChains r places
+  pub low : slot < r.slots
+  pub in_range : home < r.homes
+  pub out : places slot ≡ None
+  pub fits : order < 2 ^ 64
+  pub above : (j : ℕ) (p : Place) → places j ≡ Some p → p.order < order
+
+-- no other node of the chain is above
+highest : (r : Rings) (places : ℕ → Option Place) (slot home order : ℕ) → CanPut r places slot home order
+    → (x : ℕ) → (shape r.slots r.homes places).on x ≡ true
+    → (shape r.slots r.homes places).home x ≡ (shape r.slots r.homes places).home (r.slots + home)
+    → x ≢ r.slots + home → (shape r.slots r.homes places).top x ≤ order
+highest r places slot home order can x on same ne =
+    let h : IsHead r.slots r.homes places (r.slots + home) =
+        head_is r.slots r.homes places (r.slots + home) (omega arith) (omega (arith, can.in_range)) in
+    elim (node_is r.slots r.homes places x on)
+    [ inl (p, s) ↦ omega (arith, s.top, can.above x p s.has)
+    | inr t ↦ absurd (ne (omega (arith, same, t.at_home, h.at_home, t.high)))
+    ]
+
+goes_in : (r : Rings) (places : ℕ → Option Place) (slot home order : ℕ) → CanPut r places slot home order
+    → GoesIn (shape r.slots r.homes places)
+    (shape r.slots r.homes (with_place places slot (Some (record { home = home; order = order })))) (r.slots + home) slot order
+goes_in r places slot home order can =
+    let new : Option Place = Some (record { home = home; order = order }) in
+    let h : IsHead r.slots r.homes places (r.slots + home) =
+        head_is r.slots r.homes places (r.slots + home) (omega arith) (omega (arith, can.in_range)) in
+    let a : Shape = shape r.slots r.homes places in
+    let b : Shape = shape r.slots r.homes (with_place places slot new) in
+    let same : home ≡ a.home (r.slots + home) = omega (arith, h.at_home) in
+    record {
+      slots = refl;
+      on = changed_at r.slots is_some (λ x. nat_lt x (r.slots + r.homes)) places slot new can.low;
+      home = subst (λ (n : ℕ). Changed a.home b.home slot n) same
+          (changed_at r.slots home_of (λ x. x - r.slots) places slot new can.low);
+      top = changed_at r.slots order_of (λ _. 2 ^ 64) places slot new can.low;
+      low = changed_at r.slots (λ p. order_of p + 1) (λ _. 0) places slot new can.low;
+      off = by_slot r.slots is_some (λ x. nat_lt x (r.slots + r.homes)) places slot can.low ∙ ap is_some can.out;
+      head_on = h.on;
+      head_above = omega arith;
+      below_head = omega (arith, h.top, can.fits);
+      above = λ x on. elim (node_is r.slots r.homes places x on)
+          [ inl (p, s) ↦ omega (arith, s.bound, can.above x p s.has) | inr t ↦ omega (arith, t.bound) ];
+      highest = highest r places slot home order can;
+    }
+
+-- the chains with a slot put in
+pub put_chains : (r : Rings) (places : ℕ → Option Place) (slot home order : ℕ) (links : List Link)
+    → CanPut r places slot home order
+    → Spliced (next_at r.links) (prev_at r.links) (next_at links) (prev_at links) (r.slots + home) slot
+    → AreChains (record r { links = links }) (with_place places slot (Some (record { home = home; order = order })))
+put_chains r places slot home order links can spliced = record {
+  orders = λ j p h. elim (has_place places slot _ j p h)
+      [ inl t ↦ omega (arith, ap (λ (q : Place). q.order) t.1, can.fits) | inr t ↦ can.are.orders j p t.1 ];
+  once = λ i j p q h k e. elim (has_place places slot _ i p h)
+      [ inl s ↦ elim (has_place places slot _ j q k)
+          [ inl t ↦ s.0 ∙ sym t.0
+          | inr t ↦ absurd (omega (arith, ap (λ (q : Place). q.order) s.1, can.above j q t.1))
+          ]
+      | inr s ↦ elim (has_place places slot _ j q k)
+          [ inl t ↦ absurd (omega (arith, ap (λ (q : Place). q.order) t.1, can.above i p s.1))
+          | inr t ↦ can.are.once i j p q s.1 t.1 e
+          ]
+      ];
+  chained = inserted (record { old = can.are.chained; goes = goes_in r places slot home order can; links = spliced });
+}
+
+goes_out : (r : Rings) (places : ℕ → Option Place) (slot : ℕ) (place : Place) → AreChains r places
+    → slot < r.slots → places slot ≡ Some place
+    → GoesOut (shape r.slots r.homes places) (shape r.slots r.homes (with_place places slot None)) slot
+goes_out r places slot place are low has =
+    let s : IsSlot r.slots r.homes places slot place = slot_is r.slots r.homes places slot place low has in
+    record {
+      slots = refl;
+      on = changed_at r.slots is_some (λ x. nat_lt x (r.slots + r.homes)) places slot None low;
+      home = (changed_at r.slots home_of (λ x. x - r.slots) places slot None low).there;
+      top = (changed_at r.slots order_of (λ _. 2 ^ 64) places slot None low).there;
+      low = (changed_at r.slots (λ p. order_of p + 1) (λ _. 0) places slot None low).there;
+      held = s.on;
+      rank = omega (arith, s.bound, s.top);
+      once = λ j down on e. elim (node_is r.slots r.homes places j on)
+          [ inl (p, t) ↦ are.once j slot p place t.has has (sym t.top ∙ e ∙ s.top)
+          | inr t ↦ absurd (omega (arith, t.high))
+          ];
+    }
+
+-- the chains with a slot taken out
+pub take_chains : (r : Rings) (places : ℕ → Option Place) (slot : ℕ) (place : Place) (links : List Link)
+    → AreChains r places → slot < r.slots → places slot ≡ Some place
+    → Unspliced (next_at r.links) (prev_at r.links) (next_at links) (prev_at links) slot
+    → AreChains (record r { links = links }) (with_place places slot None)
+take_chains r places slot place links are low has unspliced = record {
+  orders = λ j p h. are.orders j p (kept_place places slot j p h);
+  once = λ i j p q h k e. are.once i j p q (kept_place places slot i p h) (kept_place places slot j q k) e;
+  chained = removed (record { old = are.chained; goes = goes_out r places slot place are low has; links = unspliced });
+}

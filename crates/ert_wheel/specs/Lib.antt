@@ -1,0 +1,6 @@
+pub mod Chained
+pub mod Links
+pub mod Rings
+pub mod Rows
+pub mod Walks
+pub mod Wheels

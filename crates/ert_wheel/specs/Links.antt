@@ -1,0 +1,19 @@
+-- The links of a vector, as functions of the node.
+
+use Rattle.std.specs.Prelude.{ℕ, List, slice_index_or}
+use Rattle.ert_wheel.specs.declared.links.Link.{Link}
+
+-- the links of a node that is alone in its ring
+abbrev pub alone : ℕ → Link
+alone node = record { next = node; prev = node }
+
+-- what is read past the end
+abbrev pub no_link : Link
+no_link = record { next = 0; prev = 0 }
+
+-- the node after a node, and the node before it
+abbrev pub next_at : List Link → ℕ → ℕ
+next_at links node = (slice_index_or links node no_link).next
+
+abbrev pub prev_at : List Link → ℕ → ℕ
+prev_at links node = (slice_index_or links node no_link).prev

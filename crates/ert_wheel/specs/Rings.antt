@@ -1,0 +1,107 @@
+-- Chains of slots, for whoever knows where each slot belongs.
+
+use Rattle.std.specs.Prelude.{◌≡◌, ℕ, ◌+◌, ◌-◌, ◌<◌, ◌≤◌, ◌^◌, Bool, List, Option, Some, None, nat_lt, nat_eq, if◌then◌else◌, length, IfSome}
+use Rattle.std.specs.Option.{is_some}
+use Rattle.ert_wheel.specs.Chained.{Shape, Chained}
+use Rattle.ert_wheel.specs.Links.{next_at, prev_at}
+use Rattle.ert_wheel.specs.declared.links.Link.{Link}
+
+-- how many slots and homes there are, and the links of both: of each slot, and then of each home's head
+pub record Rings : Type 0 where
+  pub slots : ℕ
+  pub homes : ℕ
+  pub links : List Link
+
+-- there are links for all, and their numbers fit
+pub record HasLinks (r : Rings) : Type 0 where
+  pub len : length r.links ≡ r.slots + r.homes
+  pub few : r.slots + r.homes < 2 ^ 32
+
+-- where a slot belongs: the home whose chain it is in, and its rank there
+pub record Place : Type 0 where
+  pub home : ℕ
+  pub order : ℕ
+
+-- the home and the rank of a place, and 0 of none
+abbrev pub home_of : Option Place → ℕ
+home_of None = 0
+home_of (Some place) = place.home
+
+abbrev pub order_of : Option Place → ℕ
+order_of None = 0
+order_of (Some place) = place.order
+
+-- what the slots have by their places, and the heads by their numbers
+abbrev pub by_node : {A : Type 0} → ℕ → (Option Place → A) → (ℕ → A) → (ℕ → Option Place) → ℕ → A
+by_node slots of_place of_head places x = if nat_lt x slots then of_place (places x) else of_head x
+
+-- the chains of an assignment of places
+abbrev pub shape : ℕ → ℕ → (ℕ → Option Place) → Shape
+shape slots homes places = record {
+  slots = slots;
+  on = by_node slots is_some (λ x. nat_lt x (slots + homes)) places;
+  home = by_node slots home_of (λ x. x - slots) places;
+  top = by_node slots order_of (λ _. 2 ^ 64) places;
+  low = by_node slots (λ p. order_of p + 1) (λ _. 0) places;
+}
+
+-- the chain of each home has just the slots whose place it is, from the greatest order to the least
+pub record AreChains (r : Rings) (places : ℕ → Option Place) : Type 0 where
+  pub orders : (j : ℕ) (p : Place) → places j ≡ Some p → p.order < 2 ^ 64
+  pub once : (i j : ℕ) (p q : Place) → places i ≡ Some p → places j ≡ Some q → p.order ≡ q.order → i ≡ j
+  pub chained : Chained (shape r.slots r.homes places) (next_at r.links) (prev_at r.links)
+
+-- the places, with another at one slot
+abbrev pub with_place : (ℕ → Option Place) → ℕ → Option Place → ℕ → Option Place
+with_place places slot place j = if nat_eq j slot then place else places j
+
+-- some assignment fits, and in it the slot has no place
+pub record MayPut (r : Rings) (slot home : ℕ) : Type 0 where
+  pub places : ℕ → Option Place
+  pub are : AreChains r places
+  pub low : slot < r.slots
+  pub in_range : home < r.homes
+  pub out : places slot ≡ None
+
+-- in every assignment that fits, the slot gets this home, with any order above all others
+abbrev pub Puts : Rings → Rings → ℕ → ℕ → Type 0
+Puts old new slot home =
+    (places : ℕ → Option Place) (order : ℕ) → AreChains old places → places slot ≡ None → order < 2 ^ 64
+    → ((j : ℕ) (p : Place) → places j ≡ Some p → p.order < order)
+    → AreChains new (with_place places slot (Some (record { home = home; order = order })))
+
+-- some assignment fits, and in it the slot has a place
+pub record MayTake (r : Rings) (slot : ℕ) : Type 0 where
+  pub places : ℕ → Option Place
+  pub place : Place
+  pub are : AreChains r places
+  pub low : slot < r.slots
+  pub in_place : places slot ≡ Some place
+
+-- in every assignment that fits, the slot gives its place up
+abbrev pub Takes : Rings → Rings → ℕ → Type 0
+Takes old new slot =
+    (places : ℕ → Option Place) (place : Place) → AreChains old places → places slot ≡ Some place
+    → AreChains new (with_place places slot None)
+
+-- a slot stands in the chain of a home
+pub record StandsIn (places : ℕ → Option Place) (home slot : ℕ) : Type 0 where
+  pub place : Place
+  pub has : places slot ≡ Some place
+  pub at_home : place.home ≡ home
+
+-- the slot of a node, and none of a head
+abbrev pub slot_at : ℕ → ℕ → Option ℕ
+slot_at slots node = if nat_lt node slots then Some node else None
+
+-- one above the order of a slot, and 0 of none
+abbrev pub bound_of : (ℕ → Option Place) → Option ℕ → ℕ
+bound_of places None = 0
+bound_of places (Some slot) = order_of (places slot) + 1
+
+-- the slot of a home with the greatest order below a bound, or none
+pub record Finds (r : Rings) (places : ℕ → Option Place) (home bound : ℕ) (found : Option ℕ) : Type 0 where
+  pub stands : IfSome found (λ slot. (slot < r.slots) × StandsIn places home slot)
+  pub down : bound_of places found ≤ bound
+  pub greatest : (j : ℕ) (p : Place) → j < r.slots → places j ≡ Some p → p.home ≡ home → p.order < bound
+      → p.order < bound_of places found

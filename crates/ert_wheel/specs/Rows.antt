@@ -1,0 +1,40 @@
+-- A wheel as its user sees it: the key of each slot that has a row.
+
+use Rattle.std.specs.Prelude.{◌≡◌, ℕ, Bool, ◌||◌, ◌&&◌, List, Option, Some, None, cond, nat_lt, nat_le, nat_eq, count_by, slice_index_or, option_map}
+use Rattle.ert_wheel.specs.declared.row.Key.{Key}
+use Rattle.ert_wheel.specs.declared.row.Row.{Row}
+
+-- the key of a slot; None where it has no row
+abbrev pub key_in : List (Option Key) → ℕ → Option Key
+key_in keys slot = slice_index_or keys slot None
+
+-- a row without its slot
+abbrev pub key_of : Row → Key
+key_of row = record { deadline = row.deadline; order = row.order }
+
+-- the row of a slot by its key
+abbrev pub row_at : ℕ → Key → Row
+row_at slot key = record { deadline = key.deadline; order = key.order; slot = slot }
+
+-- how often a slot stands in a list of rows
+abbrev pub times : ℕ → List Row → ℕ
+times slot rows = count_by (λ row. nat_eq row.slot slot) rows
+
+-- 1 where there is a key that passes, and else 0
+abbrev pub passing : (Key → Bool) → Option Key → ℕ
+passing test None = 0
+passing test (Some key) = cond (test key) 1 0
+
+-- how often a slot is due: once where it has a row with a deadline at most `to`, and else not at all
+abbrev pub due_at : ℕ → Option Key → ℕ
+due_at to = passing (λ key. nat_le key.deadline to)
+
+-- what a slot has left when its due row is taken out
+abbrev pub left_at : ℕ → Option Key → Option Key
+left_at to None = None
+left_at to (Some key) = cond (nat_le key.deadline to) None (Some key)
+
+-- rows come by their deadlines, and those of one deadline by their orders
+abbrev pub comes_before : Row → Row → Bool
+comes_before x y =
+    nat_lt x.deadline y.deadline || (nat_eq x.deadline y.deadline && nat_lt x.order y.order)

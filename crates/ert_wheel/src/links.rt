@@ -1,0 +1,73 @@
+//! The links of nodes in rings. Each write keeps to the nodes that it names.
+
+ghost use Rattle.std.specs.Prelude.{◌≡◌, ◌≢◌, ◌<◌, ℕ, length, map, IfOk};
+ghost use Rattle.std.specs.List.{range_with_len};
+ghost use Rattle.ert_wheel.specs.Chained.{Changed, Spliced, Unspliced};
+ghost use Rattle.ert_wheel.specs.Links.{next_at, prev_at, alone};
+
+use std::alloc::{AllocError, Global};
+
+/// The nodes after and before a node.
+#[derive(Clone, Copy)]
+pub struct Link {
+    pub next: u32,
+    pub prev: u32,
+}
+
+/// So many nodes, each alone in its ring.
+pub fn alone(alloc: Global, nodes: u32) -> Result<Vec<Link>, AllocError>
+    ensures { IfOk result (λ links. links.items ≡ map alone (range_with_len 0 nodes)) }
+{
+    (0..nodes)
+        .map(|node| Link {
+            next: node,
+            prev: node,
+        })
+        .collect(alloc)
+}
+
+/// Puts a slot in behind a head.
+pub fn link_in(links: &mut [Link], head: u32, slot: u32)
+    requires head { head < length links.old }
+    requires slot { slot < length links.old }
+    requires next { next_at links.old head < length links.old }
+    requires apart { slot ≢ head }
+    requires new { slot ≢ next_at links.old head }
+    ensures { Spliced (next_at links.old) (prev_at links.old) (next_at links.new) (prev_at links.new)
+        head slot }
+{
+    let next = links[head as usize].next;
+    set_next(links, slot, next);
+    set_prev(links, slot, head);
+    set_prev(links, next, slot);
+    set_next(links, head, slot);
+}
+
+/// Makes the two neighbours of a slot neighbours of each other.
+pub fn unlink(links: &mut [Link], slot: u32)
+    requires slot { slot < length links.old }
+    requires next { next_at links.old slot < length links.old }
+    requires prev { prev_at links.old slot < length links.old }
+    ensures { Unspliced (next_at links.old) (prev_at links.old) (next_at links.new)
+        (prev_at links.new) slot }
+{
+    let Link { next, prev } = links[slot as usize];
+    set_next(links, prev, next);
+    set_prev(links, next, prev);
+}
+
+fn set_next(links: &mut [Link], node: u32, next: u32)
+    requires { node < length links.old }
+    ensures next { Changed (next_at links.old) (next_at links.new) node next }
+    ensures prev { (x : ℕ) → prev_at links.new x ≡ prev_at links.old x }
+{
+    links[node as usize].next = next;
+}
+
+fn set_prev(links: &mut [Link], node: u32, prev: u32)
+    requires { node < length links.old }
+    ensures prev { Changed (prev_at links.old) (prev_at links.new) node prev }
+    ensures next { (x : ℕ) → next_at links.new x ≡ next_at links.old x }
+{
+    links[node as usize].prev = prev;
+}

@@ -1,0 +1,25 @@
+/// Stands in place of a deadline where a slot has no row. No row has this deadline.
+pub const VACANT: u64 = u64::MAX;
+
+/// The greatest deadline that a row can have.
+pub const LAST: u64 = VACANT - 1;
+
+/// What a wheel keeps of a row.
+#[derive(Clone, Copy, Debug, PartialEq, Eq)]
+pub struct Key {
+    /// When the row is due, in milliseconds. At most `u64::MAX - 1`.
+    pub deadline: u64,
+    /// Its rank among all rows that were put in: later ones have greater orders.
+    pub order: u64,
+}
+
+/// A row of a wheel. Rows are compared by deadline, then by order.
+#[derive(Clone, Copy, Debug, PartialEq, Eq, PartialOrd, Ord)]
+pub struct Row {
+    /// When the row is due, in milliseconds. At most `u64::MAX - 1`.
+    pub deadline: u64,
+    /// Its rank among all rows that were put in: later ones have greater orders.
+    pub order: u64,
+    /// The slot whose row it is.
+    pub slot: u32,
+}

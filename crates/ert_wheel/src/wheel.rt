@@ -1,0 +1,176 @@
+ghost use Rattle.std.specs.Prelude.{◌≡◌, IfOk, replicate};
+
+use crate::chains::Chains;
+use crate::row::{Key, Row, LAST, VACANT};
+use crate::walk::{bucket, collect, span};
+use ert_defs::NoMemory;
+use std::alloc::Global;
+use std::marker::Model;
+
+/// A hashed timing wheel: rows by their slots, and the due ones in order of deadline.
+///
+/// It has room for one row of each slot below a number that is fixed when it is made, and takes no
+/// memory after that. A contract sees it as the list of the slots' keys, with None for a slot without a
+/// row.
+#[derive(Drop)]
+pub struct Wheel {
+    // A time's bucket is its low bits, which this masks.
+    mask: u32,
+    // The first time that wasn't passed.
+    next_time: u64,
+    len: u32,
+    keys: Vec<Key>,
+    chains: Chains,
+}
+
+impl Model for Wheel {
+    ghost use Rattle.std.specs.Prelude.{List, Option};
+    ghost use Rattle.ert_wheel.specs.Wheels.{kept_keys, IsWheel};
+    ghost use Rattle.ert_wheel.specs.declared.row.Key.{Key};
+
+    ghost Value = { List (Option Key) };
+
+    ghost view = { λ w. kept_keys w.keys.items };
+
+    ghost invariant = { λ w. IsWheel w.mask w.next_time w.len w.keys.items w.chains };
+}
+
+impl Wheel {
+    ghost use Rattle.std.specs.Prelude.{◌≡◌, ◌↔◌, ◌<◌, ◌≤◌, ◌^◌, ℕ, Some, None, IsTrue, IsSome, IfSome, IfOk, All, count_by, length, map, option_map, replicate, slice_set, vec_capacity};
+    ghost use Rattle.std.specs.List.Sorted.{IsSortedBy};
+    ghost use Rattle.std.specs.Option.{is_some};
+    ghost use Rattle.ert_wheel.specs.Rows.{key_in, key_of, row_at, times, due_at, left_at, comes_before};
+
+    /// A wheel without rows, with room for one of each slot below `slots`.
+    pub fn new(alloc: Global, slots: u32) -> Result<Wheel, NoMemory>
+        requires { slots ≤ 2 ^ 30 }
+        ensures { IfOk result (λ wheel. wheel ≡ replicate slots None) }
+    {
+        let buckets = slots.next_power_of_two();
+        let keys = no_keys(alloc, slots)?;
+        let chains = Chains::new(alloc, slots, buckets)?;
+        Ok(Wheel {
+            mask: buckets - 1,
+            next_time: 0,
+            len: 0,
+            keys,
+            chains,
+        })
+    }
+
+    /// How many rows there are.
+    pub fn len(&self) -> usize
+        ensures { result ≡ count_by is_some self.now }
+    {
+        self.len as usize
+    }
+
+    /// Whether there is no row.
+    pub fn is_empty(&self) -> bool
+        ensures { IsTrue result ↔ (count_by is_some self.now ≡ 0) }
+    {
+        self.len == 0
+    }
+
+    /// The row of a slot; None where it has none.
+    pub fn row(&self, slot: u32) -> Option<Row>
+        requires { slot < length self.now }
+        ensures { result ≡ option_map (row_at slot) (key_in self.now slot) }
+    {
+        let Key { deadline, order } = self.keys[slot as usize];
+        (deadline < VACANT).then_some(Row {
+            deadline,
+            order,
+            slot,
+        })
+    }
+
+    /// Puts a row in. Its slot has none, and its order is above that of every row that is held.
+    ///
+    /// A row whose deadline was passed already is given by the next advance.
+    pub fn insert(&mut self, row: Row)
+        requires slot { row.slot < length self.old }
+        requires vacant { key_in self.old row.slot ≡ None }
+        requires deadline { row.deadline < u64.MAX }
+        requires newest { (slot : ℕ) → IfSome (key_in self.old slot) (λ key. key.order < row.order) }
+        ensures { self.new ≡ slice_set self.old row.slot (Some (key_of row)) }
+    {
+        let Row {
+            deadline,
+            order,
+            slot,
+        } = row;
+        let home = bucket(self.mask, deadline.max(self.next_time));
+        self.chains.put(slot, home);
+        self.keys[slot as usize] = Key { deadline, order };
+        self.len += 1;
+    }
+
+    /// Takes the row of a slot out; false exactly where there is none.
+    pub fn remove(&mut self, slot: u32) -> bool
+        requires { slot < length self.old }
+        ensures found { IsTrue result ↔ IsSome (key_in self.old slot) }
+        ensures left { self.new ≡ slice_set self.old slot None }
+    {
+        if self.keys[slot as usize].deadline == VACANT {
+            return false;
+        }
+        self.chains.take(slot);
+        self.keys[slot as usize].deadline = VACANT;
+        self.len -= 1;
+        true
+    }
+
+    /// Writes the rows with a deadline at most `to`, in order of deadline, then of order, into `out`,
+    /// which is cleared first and has room for one row of each slot.
+    pub fn due(&self, to: u64, out: &mut Vec<Row>)
+        requires { length self.now ≤ vec_capacity out.old }
+        ensures each { (slot : ℕ) → times slot out.new.items ≡ due_at to (key_in self.now slot) }
+        ensures rows { All (λ row. key_in self.now row.slot ≡ Some (key_of row)) out.new.items }
+        ensures sorted { IsSortedBy comes_before out.new.items }
+        ensures capacity { vec_capacity out.new ≡ vec_capacity out.old }
+    {
+        out.clear();
+        let (first, end) = span(self.mask, self.next_time, to);
+        for time in first..end {
+            collect(&self.chains, &self.keys, bucket(self.mask, time), to, out);
+        }
+        out.sort_unstable();
+    }
+
+    /// Tells that nothing is left up to `to`: no later call looks at a time up to it again.
+    ///
+    /// A wheel that isn't told so gives the same rows, but looks at more and more buckets.
+    pub fn pass(&mut self, to: u64)
+        requires { (slot : ℕ) → IfSome (key_in self.old slot) (λ key. to < key.deadline) }
+        ensures { self.new ≡ self.old }
+    {
+        self.next_time = self.next_time.max(to.min(LAST - 1) + 1);
+    }
+
+    /// Takes the rows with a deadline at most `to` out, and writes them into `out` as `due` does.
+    pub fn advance(&mut self, to: u64, out: &mut Vec<Row>)
+        requires { length self.old ≤ vec_capacity out.old }
+        ensures each { (slot : ℕ) → times slot out.new.items ≡ due_at to (key_in self.old slot) }
+        ensures rows { All (λ row. key_in self.old row.slot ≡ Some (key_of row)) out.new.items }
+        ensures sorted { IsSortedBy comes_before out.new.items }
+        ensures capacity { vec_capacity out.new ≡ vec_capacity out.old }
+        ensures left { self.new ≡ map (left_at to) self.old }
+    {
+        self.due(to, out);
+        for row in out.iter() {
+            self.remove(row.slot);
+        }
+        self.pass(to);
+    }
+}
+
+fn no_keys(alloc: Global, slots: u32) -> Result<Vec<Key>, NoMemory>
+    ensures { IfOk result (λ keys. keys.items ≡ replicate slots (record { deadline = u64.MAX; order = 0 })) }
+{
+    let vacant = Key {
+        deadline: VACANT,
+        order: 0,
+    };
+    Ok(vec![in alloc; vacant; slots as usize]?)
+}
