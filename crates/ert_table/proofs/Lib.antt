@@ -12,3 +12,4 @@ pub mod TimerActs
 pub mod ReadActs
 pub mod ArmActs
 pub mod Calls
+pub mod Parts

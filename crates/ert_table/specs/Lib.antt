@@ -1,4 +1,5 @@
 pub mod Acts
+pub mod Calls
 pub mod Desks
 pub mod Entries
 pub mod Held
