@@ -4,6 +4,7 @@ use Rattle.std.proofs.Common.{◌≡◌, ℤ, Bool, true, false, not, cond, List
 use Rattle.std.specs.Prelude.{◌+ℤ◌, FitsSigned}
 use Rattle.std.specs.Int.{w64}
 use Rattle.ert_defs.specs.Actors.{IsUser}
+use Rattle.ert_defs.specs.Entries.{off_entry}
 use Rattle.ert_defs.specs.Legal.{Can, Legal}
 use Rattle.ert_defs.specs.Settings.{IsChecked}
 use Rattle.ert_defs.specs.States.{State, look_after, opening, next, state}
@@ -20,7 +21,6 @@ use Rattle.ert_table.specs.Takes.{Appends}
 use Rattle.ert_table.proofs.Holders.{same_actor_self}
 use Rattle.ert_table.specs.declared.carry.OffsetCarry.TheVariants.{Off as ToOff}
 use Rattle.ert_table.specs.declared.view.View.{View}
-use Rattle.ert_calls.specs.Calls.{off_entry}
 
 -- a caller or a scheduler reads the offset alone
 pub off_alone : (g : Settings) (actors : List Actor) (by : Actor) (offset : ℤ) (offset_state : OffsetState) → IsUser g by

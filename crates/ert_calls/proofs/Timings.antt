@@ -3,6 +3,8 @@
 use Rattle.std.proofs.Common.{◌≡◌, ◌≢◌, ℕ, ◌-◌, ℤ, pos, negsuc, ◌-ℤ◌, arith, Bool, true, false, cond, List, [], ◌∷◌, ◌++◌, Option, Some, None, option_map, refl, sym, ap, subst, ◌∙◌}
 use Rattle.std.proofs.lemmas.Int.{ints}
 use Rattle.std.specs.Prelude.{IsSome}
+use Rattle.ert_answers.specs.TimerCalls.{read_entries, Reads, cancel_entries, Cancels}
+use Rattle.ert_defs.specs.Entries.{look_entry, peek_entry, cancel_entry}
 use Rattle.ert_defs.specs.Legal.{Legal, left_by, left_of, names_timer}
 use Rattle.ert_defs.specs.Milliseconds.{natural, left}
 use Rattle.ert_defs.specs.States.{State, opening, state}
@@ -16,12 +18,13 @@ use Rattle.ert_defs.specs.declared.timer.Status.TheVariants.{Armed, Expired, Del
 use Rattle.ert_defs.specs.declared.timer.TimerRef.{TimerRef}
 use Rattle.ert_table.specs.Held.{is_held}
 use Rattle.ert_table.specs.Settlings.{Settles}
+use Rattle.ert_table.specs.Making.{Makes}
 use Rattle.ert_table.specs.Takes.{Appends, TakesPlace}
 use Rattle.ert_table.specs.declared.carry.Settle.TheVariants.{Cancel as ToCancel}
 use Rattle.ert_table.specs.declared.view.View.{View}
 use Rattle.ert_table.proofs.Calls.{step_takes_place, takes_place_then}
 use Rattle.ert_table.proofs.SlotFacts.{slots_kept}
-use Rattle.ert_calls.specs.Calls.{look_entry, peek_entry, cancel_entry, AtLastStep, IsLeft, read_entries, TellsLeft, Reads, cancel_entries, Cancels}
+use Rattle.ert_calls.specs.Left.{AtLastStep, IsLeft, TellsLeft}
 use Rattle.ert_calls.specs.Deadlines.{Peeks}
 use Rattle.ert_calls.proofs.Looks.{can_step, look_before, look_stepped}
 
@@ -50,32 +53,29 @@ each_armed g h timer look legal is =
     subst (λ x. IsSome (left_by g look x (row_of ((state g h).rows timer.wheel) timer))) (sym is)
     (subst (λ x. IsSome (left_by g look (Some Armed) x)) (sym stands.is) refl)
 
-pub is_left : (g : Settings) (h : List Entry) (timer : TimerRef) (look : ℤ) (answer : Option ℕ) → Legal g h
-    → answer ≡ left_by g look ((state g h).status timer) (row_of ((state g h).rows timer.wheel) timer)
-    → IsLeft g timer look answer (state g h)
-is_left g h timer look answer legal told = record {
-  told = told;
-  armed = (
-    λ some. only_armed g look ((state g h).status timer) (row_of ((state g h).rows timer.wheel) timer) (subst IsSome told some),
-    λ is. subst IsSome (sym told) (each_armed g h timer look legal is),
-  );
-}
+is_left : (g : Settings) (h : List Entry) (by : Actor) (timer : TimerRef) (answer : Option ℕ) → Legal g h → answer ≡ left_of g (state g h) by timer
+    → IsLeft g by timer answer (state g h)
+is_left g h by timer answer legal told =
+    let look : ℤ = (state g h).looked by in
+    record {
+      told = told;
+      armed = (
+        λ some. only_armed g look ((state g h).status timer) (row_of ((state g h).rows timer.wheel) timer) (subst IsSome told some),
+        λ is. subst IsSome (sym told) (each_armed g h timer look legal is),
+      );
+    }
 
 -- what a step finds left by the last look of its maker
-left_found : (g : Settings) (v : View) (e : Entry) (w : View) (timer : TimerRef) (now : ℤ) (answer : Option ℕ) (step : Appends g v e w)
-    → is_held v.actors e.by ≡ true → (state g v.front).looked e.by ≡ now
+left_found : (g : Settings) (v : View) (e : Entry) (w : View) (timer : TimerRef) (answer : Option ℕ) (step : Appends g v e w)
     → answer ≡ left_of g (state g (v.front ++ step.between)) e.by timer
-    → AtLastStep g w.front (IsLeft g timer now answer)
-left_found g v e w timer now answer step held look found =
+    → AtLastStep g w.front (IsLeft g e.by timer answer)
+left_found g v e w timer answer step found =
     let before : List Entry = v.front ++ step.between in
-    let s : State = state g before in
-    let same : s.looked e.by ≡ now = look_before g v e w e.by step held ∙ look in
     record {
       before = before;
       last = e;
       grown = step.grown;
-      held = is_left g before timer now answer (legal_first g (opening g) before (e ∷ []) (subst (Legal g) step.grown step.legal))
-          (found ∙ ap (λ x. left_by g x (s.status timer) (row_of (s.rows timer.wheel) timer)) same);
+      held = is_left g before e.by timer answer (legal_first g (opening g) before (e ∷ []) (subst (Legal g) step.grown step.legal)) found;
     }
 
 -- what a call knows after its look
@@ -90,21 +90,28 @@ looked g v by now u held step = record {
   look = look_stepped g v (look_entry by now) u step held;
 }
 
+-- a call made its entries, and its answer tells what was left
+pub record Tells (g : Settings) (v : View) (by : Actor) (timer : TimerRef) (answer : Option ℕ) (allows : State → List Entry → Type 0) (w : View) : Type 0 where
+  pub call : Makes g v allows w
+  pub left : TellsLeft (names_timer g timer) g by timer answer w
+
 -- a read of a reference out of range
 pub reads_none : (g : Settings) (v : View) (by : Actor) (timer : TimerRef) (now : ℤ) (u : View) → names_timer g timer ≡ false
-    → Appends g v (look_entry by now) u → Reads g v by timer None u
+    → Appends g v (look_entry by now) u → Tells g v by timer None (Reads g by timer None) u
 reads_none g v by timer now u out step = record {
-  now = now;
-  call = subst (λ b. TakesPlace g v (look_entry by now ∷ read_entries b by timer None) u) (sym out)
-      (step_takes_place g v (look_entry by now) u step);
-  left = subst (λ b. TellsLeft b g timer now None u) (sym out) refl;
+  call = record {
+    entries = look_entry by now ∷ read_entries (names_timer g timer) by timer None;
+    allowed = record { now = now; entries = refl; quiet = λ _. refl };
+    call = subst (λ b. TakesPlace g v (look_entry by now ∷ read_entries b by timer None) u) (sym out)
+        (step_takes_place g v (look_entry by now) u step);
+  };
+  left = subst (λ b. TellsLeft b g by timer None u) (sym out) refl;
 }
 
 -- a timer that was read, by the look before
 record Peeked (g : Settings) (v : View) (by : Actor) (timer : TimerRef) (now : ℤ) (answer : Option ℕ) (w : View) : Type 0 where
   call : TakesPlace g v (look_entry by now ∷ (peek_entry by timer answer ∷ [])) w
-  left : AtLastStep g w.front (IsLeft g timer now answer)
-  held : is_held w.actors by ≡ true
+  left : AtLastStep g w.front (IsLeft g by timer answer)
   look : (state g w.front).looked by ≡ now
 
 peeked : (g : Settings) (v : View) (by : Actor) (timer : TimerRef) (now : ℤ) (u : View) (deadline : Option ℕ) (w : View)
@@ -118,47 +125,58 @@ peeked g v by timer now u deadline w held step peek =
     record {
       call = takes_place_then g v u w (look_entry by now ∷ []) (peek_entry by timer answer ∷ [])
           (step_takes_place g v (look_entry by now) u step) (step_takes_place g u (peek_entry by timer answer) w read);
-      left = left_found g u (peek_entry by timer answer) w timer now answer read after.held after.look
+      left = left_found g u (peek_entry by timer answer) w timer answer read
           (can_step g u (peek_entry by timer answer) w read).found;
-      held = subst (λ actors. is_held actors by ≡ true) (sym read.actors) after.held;
       look = look_stepped g u (peek_entry by timer answer) w read after.held ∙ after.look;
     }
+
+-- a reference isn't in range and out of range
+in_or_out : (b : Bool) → b ≡ true → b ≡ false → ⊥
+in_or_out true is other = absurd cc
+in_or_out false is other = absurd cc
 
 -- a read of one in range
 pub reads : (g : Settings) (v : View) (by : Actor) (timer : TimerRef) (now : ℤ) (u : View) (deadline : Option ℕ) (w : View)
     → is_held v.actors by ≡ true → names_timer g timer ≡ true → Appends g v (look_entry by now) u → Peeks g u by timer deadline w
-    → Reads g v by timer (option_map (λ d. left g d now) deadline) w
+    → Tells g v by timer (option_map (λ d. left g d now) deadline) (Reads g by timer (option_map (λ d. left g d now) deadline)) w
 reads g v by timer now u deadline w held within step peek =
     let answer : Option ℕ = option_map (λ d. left g d now) deadline in
     let read = peeked g v by timer now u deadline w held step peek in
     record {
-      now = now;
-      call = subst (λ b. TakesPlace g v (look_entry by now ∷ read_entries b by timer answer) w) (sym within) read.call;
-      left = subst (λ b. TellsLeft b g timer now answer w) (sym within) read.left;
+      call = record {
+        entries = look_entry by now ∷ read_entries (names_timer g timer) by timer answer;
+        allowed = record { now = now; entries = refl; quiet = λ out. absurd (in_or_out (names_timer g timer) within out) };
+        call = subst (λ b. TakesPlace g v (look_entry by now ∷ read_entries b by timer answer) w) (sym within) read.call;
+      };
+      left = subst (λ b. TellsLeft b g by timer answer w) (sym within) read.left;
     }
 
 -- a cancel of a reference out of range
 pub cancels_none : (g : Settings) (v : View) (by : Actor) (timer : TimerRef) (now : ℤ) (u : View) → names_timer g timer ≡ false
-    → Appends g v (look_entry by now) u → Cancels g v by timer None u
+    → Appends g v (look_entry by now) u → Tells g v by timer None (Cancels g by timer None) u
 cancels_none g v by timer now u out step = record {
-  now = now;
-  found = None;
-  call = subst (λ b. TakesPlace g v (look_entry by now ∷ cancel_entries b by timer None None) u) (sym out)
-      (step_takes_place g v (look_entry by now) u step);
-  left = subst (λ b. TellsLeft b g timer now None u) (sym out) refl;
+  call = record {
+    entries = look_entry by now ∷ cancel_entries (names_timer g timer) by timer None None;
+    allowed = record { now = now; found = None; entries = refl; unread = λ _. refl; quiet = λ _. refl };
+    call = subst (λ b. TakesPlace g v (look_entry by now ∷ cancel_entries b by timer None None) u) (sym out)
+        (step_takes_place g v (look_entry by now) u step);
+  };
+  left = subst (λ b. TellsLeft b g by timer None u) (sym out) refl;
 }
 
 -- a cancel of a timer that isn't armed when it is read
 pub cancels_unarmed : (g : Settings) (v : View) (by : Actor) (timer : TimerRef) (now : ℤ) (u w : View)
     → is_held v.actors by ≡ true → names_timer g timer ≡ true → Appends g v (look_entry by now) u → Peeks g u by timer None w
-    → Cancels g v by timer None w
+    → Tells g v by timer None (Cancels g by timer None) w
 cancels_unarmed g v by timer now u w held within step peek =
     let read = peeked g v by timer now u None w held step peek in
     record {
-      now = now;
-      found = None;
-      call = subst (λ b. TakesPlace g v (look_entry by now ∷ cancel_entries b by timer None None) w) (sym within) read.call;
-      left = subst (λ b. TellsLeft b g timer now None w) (sym within) read.left;
+      call = record {
+        entries = look_entry by now ∷ cancel_entries (names_timer g timer) by timer None None;
+        allowed = record { now = now; found = None; entries = refl; unread = λ _. refl; quiet = λ _. refl };
+        call = subst (λ b. TakesPlace g v (look_entry by now ∷ cancel_entries b by timer None None) w) (sym within) read.call;
+      };
+      left = subst (λ b. TellsLeft b g by timer None w) (sym within) read.left;
     }
 
 -- the step of a cancel
@@ -172,7 +190,7 @@ cancelled g v by timer deadline false w step = step
 pub cancels : (g : Settings) (v : View) (by : Actor) (timer : TimerRef) (now : ℤ) (u : View) (deadline : ℕ) (w : View) (hit : Bool) (x : View)
     → is_held v.actors by ≡ true → names_timer g timer ≡ true → Appends g v (look_entry by now) u → Peeks g u by timer (Some deadline) w
     → Settles g w by timer deadline ToCancel hit x
-    → Cancels g v by timer (cond hit (Some (left g deadline now)) None) x
+    → Tells g v by timer (cond hit (Some (left g deadline now)) None) (Cancels g by timer (cond hit (Some (left g deadline now)) None)) x
 cancels g v by timer now u deadline w hit x held within step peek settled =
     let found : ℕ = left g deadline now in
     let answer : Option ℕ = cond hit (Some found) None in
@@ -181,12 +199,20 @@ cancels g v by timer now u deadline w hit x held within step peek settled =
     subst (λ y. Appends g w (cancel_entry by timer (cond hit (Some (left g deadline y)) None)) x) read.look
     (cancelled g w by timer deadline hit x settled) in
     record {
-      now = now;
-      found = Some found;
-      call = subst (λ b. TakesPlace g v (look_entry by now ∷ cancel_entries b by timer (Some found) answer) x) (sym within)
-          (takes_place_then g v w x (look_entry by now ∷ (peek_entry by timer (Some found) ∷ [])) (cancel_entry by timer answer ∷ [])
-          read.call (step_takes_place g w (cancel_entry by timer answer) x last));
-      left = subst (λ b. TellsLeft b g timer now answer x) (sym within)
-          (left_found g w (cancel_entry by timer answer) x timer now answer last read.held read.look
+      call = record {
+        entries = look_entry by now ∷ cancel_entries (names_timer g timer) by timer (Some found) answer;
+        allowed = record {
+          now = now;
+          found = Some found;
+          entries = refl;
+          unread = λ out. absurd (in_or_out (names_timer g timer) within out);
+          quiet = λ none. absurd cc;
+        };
+        call = subst (λ b. TakesPlace g v (look_entry by now ∷ cancel_entries b by timer (Some found) answer) x) (sym within)
+            (takes_place_then g v w x (look_entry by now ∷ (peek_entry by timer (Some found) ∷ [])) (cancel_entry by timer answer ∷ [])
+            read.call (step_takes_place g w (cancel_entry by timer answer) x last));
+      };
+      left = subst (λ b. TellsLeft b g by timer answer x) (sym within)
+          (left_found g w (cancel_entry by timer answer) x timer answer last
           (can_step g w (cancel_entry by timer answer) x last).found);
     }

@@ -1,6 +1,7 @@
 -- The deadline of an armed timer, as a call reads it.
 
 use Rattle.std.specs.Prelude.{ℕ, cond, nat_eq, Option, Some, None, option_map}
+use Rattle.ert_defs.specs.Entries.{peek_entry}
 use Rattle.ert_defs.specs.Milliseconds.{left}
 use Rattle.ert_defs.specs.States.{State, state}
 use Rattle.ert_defs.specs.declared.entry.Actor.{Actor}
@@ -11,7 +12,6 @@ use Rattle.ert_defs.specs.declared.timer.TimerRef.{TimerRef}
 use Rattle.ert_table.specs.Settlings.{Shown, HasRow}
 use Rattle.ert_table.specs.Takes.{Appends}
 use Rattle.ert_table.specs.declared.view.View.{View}
-use Rattle.ert_calls.specs.Calls.{peek_entry}
 
 -- the deadline where the last timer of a slot is armed and of the generation that is wanted
 abbrev pub deadline_at : ℕ → Status → ℕ → ℕ → Option ℕ

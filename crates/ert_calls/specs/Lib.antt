@@ -1,3 +1,3 @@
-pub mod Calls
 pub mod Deadlines
+pub mod Left
 pub mod Trial

@@ -6,7 +6,9 @@ ghost use Rattle.ert_defs.specs.Lines.{end_time};
 ghost use Rattle.ert_defs.specs.Milliseconds as milliseconds;
 ghost use Rattle.ert_table.specs.Desks.{settings_of, view_of, actors_of, Belongs};
 ghost use Rattle.ert_table.specs.Held.{is_held};
-ghost use Rattle.ert_calls.specs.Calls.{Reads, Cancels};
+ghost use Rattle.ert_table.specs.Making.{Makes};
+ghost use Rattle.ert_answers.specs.TimerCalls.{Reads, Cancels};
+ghost use Rattle.ert_calls.specs.Left.{TellsLeft};
 ghost use Rattle.ert_calls.specs.Deadlines.{deadline_shown, Peeks};
 
 use crate::clock_calls::look;
@@ -23,7 +25,8 @@ pub fn read_timer(desk: &Desk, pass: &mut Pass, by: Actor, timer: TimerRef) -> O
     requires held { is_held (actors_of pass.old) by ≡ true }
     requires user { IsUser (settings_of desk.now) by }
     ensures belongs { Belongs desk.now pass.new }
-    ensures call { Reads (settings_of desk.now) (view_of pass.old) by timer result (view_of pass.new) }
+    ensures call { Makes (settings_of desk.now) (view_of pass.old) (Reads (settings_of desk.now) by timer result) (view_of pass.new) }
+    ensures left { TellsLeft (names_timer (settings_of desk.now) timer) (settings_of desk.now) by timer result (view_of pass.new) }
 {
     let now = look(desk, pass, by);
     if !timer.is_in_range(desk.settings()) {
@@ -43,7 +46,8 @@ pub fn cancel_timer(desk: &Desk, pass: &mut Pass, by: Actor, timer: TimerRef) ->
     requires held { is_held (actors_of pass.old) by ≡ true }
     requires user { IsUser (settings_of desk.now) by }
     ensures belongs { Belongs desk.now pass.new }
-    ensures call { Cancels (settings_of desk.now) (view_of pass.old) by timer result (view_of pass.new) }
+    ensures call { Makes (settings_of desk.now) (view_of pass.old) (Cancels (settings_of desk.now) by timer result) (view_of pass.new) }
+    ensures left { TellsLeft (names_timer (settings_of desk.now) timer) (settings_of desk.now) by timer result (view_of pass.new) }
 {
     let now = look(desk, pass, by);
     if !timer.is_in_range(desk.settings()) {

@@ -7,7 +7,7 @@ use Rattle.std.proofs.lemmas.List.Quantifiers.{all_pairs_push}
 use Rattle.ert_defs.specs.Actors.{has_actor, is_with, same_actor}
 use Rattle.std.proofs.Math.Bool.{or-false}
 use Rattle.ert_defs.specs.Laws.{AreInOrder, IsFired, AreFired, LawOfFired, LawOfDelivery, LawOfDrop}
-use Rattle.ert_defs.specs.Legal.{Can, IsFirst, Known}
+use Rattle.ert_defs.specs.Legal.{Can, IsFirst, Known, Legal}
 use Rattle.ert_defs.specs.Mails.{others_of, first_of, sched_after, with_row}
 use Rattle.ert_defs.specs.States.{State, opening, next, state}
 use Rattle.ert_defs.specs.Timers.{Row, row_of, same_timer, is_taken, timer_at}
@@ -174,8 +174,11 @@ fired_opening g = record {
   fired = λ w. record { each = All-nil (IsFired (opening g) w); once = λ i j d lt le. absurd (omega arith) };
 }
 
+pub kept_after : (g : Settings) (h : List Entry) → Legal g h → IsKept (state g h)
+kept_after g h legal = kept_from g IsKept (fired_next g) (opening g) h (fired_opening g) legal
+
 pub fired_timers : LawOfFired
-fired_timers g h w legal = (kept_from g IsKept (fired_next g) (opening g) h (fired_opening g) legal).fired w
+fired_timers g h w legal = (kept_after g h legal).fired w
 
 -- what holds of each row holds of the first
 pub first_at : (P : Row → Type 0) (rows : List Row) (row : Row) → first_of rows ≡ Some row → All P rows → P row

@@ -13,3 +13,4 @@ pub mod Sound
 pub mod States
 pub mod Timers
 pub mod Words
+pub mod Worked

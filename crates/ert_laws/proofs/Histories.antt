@@ -4,8 +4,7 @@
 use Rattle.std.proofs.Common.{◌≡◌, List, [], ◌∷◌, ◌++◌, refl, sym, ap, subst, ◌∙◌, append-nil, append_assoc}
 use Rattle.ert_defs.specs.Legal.{Can, LegalFrom, Legal}
 use Rattle.ert_defs.specs.States.{State, opening, next, run, state}
-use Rattle.ert_defs.proofs.FiredLists.{IsKept, fired_next, fired_opening}
-use Rattle.ert_defs.proofs.Runs.{carry, kept_from, legal_more, state-append}
+use Rattle.ert_defs.proofs.Runs.{carry, legal_more, state-append}
 use Rattle.ert_defs.specs.declared.entry.Entry.{Entry}
 use Rattle.ert_defs.specs.declared.settings.Settings.{Settings}
 use Rattle.ert_laws.specs.MailOrder.{gathered_from, gathered}
@@ -26,10 +25,6 @@ pub by_entries : (g : Settings) (P : List Entry → Type 0)
     → ((h : List Entry) (e : Entry) → Legal g h → Can g (state g h) e → P h → P (h ++ e ∷ []))
     → P [] → (h : List Entry) → Legal g h → P h
 by_entries g P step none h legal = along g P step [] h tt legal none
-
--- slots are used in order after a legal history, and expired timers wait
-pub kept_after : (g : Settings) (h : List Entry) → Legal g h → IsKept (state g h)
-kept_after g h legal = kept_from g IsKept (fired_next g) (opening g) h (fired_opening g) legal
 
 gathered-append : {X : Type 0} (g : Settings) (give : State → Entry → List X) (s : State) (h m : List Entry)
     → gathered_from g give s (h ++ m) ≡ gathered_from g give s h ++ gathered_from g give (run g s h) m

@@ -1,5 +1,6 @@
 pub mod Expiries
 pub mod Few
+pub mod Handing
 pub mod Histories
 pub mod LookBack
 pub mod Looks

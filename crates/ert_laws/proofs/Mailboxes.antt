@@ -10,7 +10,7 @@ use Rattle.ert_defs.specs.Legal.{Can, IsFirst}
 use Rattle.ert_defs.specs.Mails.{first_of, others_of, message_in, message_of, mail_after, answer_in, changes_of}
 use Rattle.ert_defs.specs.States.{State, next, state}
 use Rattle.ert_defs.specs.Timers.{Row, row_of}
-use Rattle.ert_defs.proofs.FiredLists.{IsKept, first_is_fired, made}
+use Rattle.ert_defs.proofs.FiredLists.{IsKept, first_is_fired, made, kept_after}
 use Rattle.ert_defs.proofs.Runs.{carry}
 use Rattle.ert_defs.specs.declared.entry.Actor.{Actor}
 use Rattle.ert_defs.specs.declared.entry.Actor.TheVariants.{MailOf, Caller}
@@ -21,7 +21,7 @@ use Rattle.ert_defs.specs.declared.mail.Mail.{Mail}
 use Rattle.ert_defs.specs.declared.settings.Settings.{Settings}
 use Rattle.ert_defs.specs.declared.timer.TimerRef.{TimerRef}
 use Rattle.ert_laws.specs.MailOrder.{Sent, sent_by_row, sent_by_none, sent_in, sent_at, sent_to, taken_in, taken_from, LawOfMailboxes}
-use Rattle.ert_laws.proofs.Histories.{by_entries, kept_after, state-more, gathered-more}
+use Rattle.ert_laws.proofs.Histories.{by_entries, state-more, gathered-more}
 
 abbrev pub mail_in : Sent → Mail
 mail_in x = x.mail

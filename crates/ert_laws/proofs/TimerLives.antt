@@ -8,7 +8,7 @@ use Rattle.ert_defs.specs.Actors.{has_actor, is_with, same_actor}
 use Rattle.ert_defs.specs.Legal.{Can, Legal, left_by}
 use Rattle.ert_defs.specs.States.{State, next, state}
 use Rattle.ert_defs.specs.Timers.{Row, Stands, row_of, same_timer, settled_as, handed_as, status_after}
-use Rattle.ert_defs.proofs.FiredLists.{IsKept, first_has_expired, made}
+use Rattle.ert_defs.proofs.FiredLists.{IsKept, first_has_expired, made, kept_after}
 use Rattle.ert_defs.proofs.Runs.{carry, legal_one_more}
 use Rattle.ert_defs.proofs.Settlings.{armed_first}
 use Rattle.ert_defs.proofs.Slots.{same_timer-true}
@@ -23,7 +23,7 @@ use Rattle.ert_defs.specs.declared.timer.Status.{Status}
 use Rattle.ert_defs.specs.declared.timer.Status.TheVariants.{Armed, Expired, Delivered, Cancelled, Orphaned, Dropped}
 use Rattle.ert_defs.specs.declared.timer.TimerRef.{TimerRef}
 use Rattle.ert_laws.specs.Lives.{status_given, life, life_to, status_before, Moved, LawOfLives, LawOfMovers}
-use Rattle.ert_laws.proofs.Histories.{by_entries, kept_after, state-more}
+use Rattle.ert_laws.proofs.Histories.{by_entries, state-more}
 
 -- a start arms a timer that was never armed
 moved_arm : (b t : Bool) (x : Option Status) → (t ≡ true → b ≡ true) → (t ≡ true → x ≡ None)

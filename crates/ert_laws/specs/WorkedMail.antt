@@ -1,20 +1,20 @@
 -- Worked histories: the lives of timers, and what was put into a mailbox and taken, by hand. A function of
 -- src/worked.rt carries the statements as a contract, so that they are proved.
 
-use Rattle.std.specs.Prelude.{◌≡◌, pos, negsuc, false, List, [], ◌∷◌, ◌++◌, Some, None}
+use Rattle.std.specs.Prelude.{◌≡◌, pos, negsuc, true, false, List, [], ◌∷◌, ◌++◌, Some, None}
 use Rattle.ert_defs.specs.Legal.{Legal}
 use Rattle.ert_defs.specs.States.{state}
 use Rattle.ert_defs.specs.Timers.{Row}
-use Rattle.ert_laws.specs.Worked.{small, timer, by_caller, by_sched, tick, started, delivered, cancelled, orphaned, answered, taken}
+use Rattle.ert_defs.specs.Worked.{small, timer, by_caller, by_sched, tick, started, delivered, cancelled, orphaned, answered, taken}
 use Rattle.ert_defs.specs.declared.entry.Act.TheVariants.{Plain}
 use Rattle.ert_defs.specs.declared.entry.Actor.TheVariants.{Wheel, MailOf}
 use Rattle.ert_defs.specs.declared.entry.Entry.{Entry}
-use Rattle.ert_defs.specs.declared.entry.Event.TheVariants.{Look, Arm, Expire, Deliver, Mark, Advanced, Take}
+use Rattle.ert_defs.specs.declared.entry.Event.TheVariants.{Look, Arm, Expire, Deliver, Drop, Mark, Advanced, Take}
 use Rattle.ert_defs.specs.declared.mail.Mail.TheVariants.{Timeout, CancelDone, Change}
 use Rattle.ert_defs.specs.declared.settings.Mode.TheVariants.{No, Multi}
 use Rattle.ert_defs.specs.declared.settings.Settings.{Settings}
 use Rattle.ert_defs.specs.declared.timer.Kind.TheVariants.{Wrapped}
-use Rattle.ert_defs.specs.declared.timer.Status.TheVariants.{Armed, Expired, Delivered, Cancelled, Orphaned}
+use Rattle.ert_defs.specs.declared.timer.Status.TheVariants.{Armed, Expired, Delivered, Cancelled, Orphaned, Dropped}
 use Rattle.ert_defs.specs.declared.timer.TimerRef.{TimerRef}
 use Rattle.ert_defs.specs.declared.timer.When.TheVariants.{After}
 use Rattle.ert_laws.specs.Lives.{life}
@@ -24,12 +24,22 @@ use Rattle.ert_laws.specs.MailOrder.{Sent, sent_to, taken_from, expired_of}
 abbrev pub next_timer : TimerRef
 next_timer = record { wheel = 0; slot = 0; generation = 2 }
 
--- the lives in five histories: a cancel that tells nothing is no part of one
+-- the timer expires, its process exits, and so its message is dropped
+abbrev pub dropped : List Entry
+dropped = started 0
+    ++ by_sched (Some (Wheel 0)) (Expire timer)
+    ∷ by_caller None (Mark 0 true false)
+    ∷ by_sched None (Mark 0 false true)
+    ∷ by_sched None (Drop timer)
+    ∷ []
+
+-- the lives in some histories: a cancel that tells nothing is no part of one
 pub record LivesAreRead : Type 0 where
   pub waits : life timer (started 5) ≡ Armed ∷ []
   pub arrives : life timer delivered ≡ Armed ∷ Expired ∷ Delivered ∷ []
   pub is_cancelled : life timer cancelled ≡ Armed ∷ Cancelled ∷ []
   pub is_orphaned : life timer orphaned ≡ Armed ∷ Orphaned ∷ []
+  pub is_dropped : life timer dropped ≡ Armed ∷ Expired ∷ Dropped ∷ []
   pub never_armed : life next_timer delivered ≡ []
 
 -- the message of the timer
@@ -43,12 +53,13 @@ sent_as_answer = record { timer = None; mail = CancelDone timer (Some 5) }
 abbrev pub sent_as_change : Sent
 sent_as_change = record { timer = None; mail = Change 0 (negsuc 4999999999) }
 
--- what was put into the only mailbox in three histories, each of which takes it
+-- what was put into the only mailbox in some histories, of which three take it
 pub record MailIsRead : Type 0 where
   pub timer_sent : sent_to (small No) 0 delivered ≡ sent_by_timer ∷ []
   pub timer_taken : taken_from 0 delivered ≡ Timeout timer 7 ∷ []
   pub answer_sent : sent_to (small No) 0 answered ≡ sent_as_answer ∷ []
   pub answer_taken : taken_from 0 answered ≡ CancelDone timer (Some 5) ∷ []
+  pub none_sent : sent_to (small No) 0 dropped ≡ []
   pub change_sent : sent_to (small Multi) 0 taken ≡ sent_as_change ∷ []
   pub change_taken : taken_from 0 taken ≡ Change 0 (negsuc 4999999999) ∷ []
 

@@ -10,7 +10,6 @@ use Rattle.ert_defs.specs.Words.{timer_word, slot_word, word_of_slot}
 use Rattle.ert_defs.proofs.FiredTimers.{row_named, same_timer_self}
 use Rattle.ert_defs.proofs.Standing.{of_row}
 use Rattle.ert_defs.proofs.Rows.{IsRow, rows_hold}
-use Rattle.ert_defs.proofs.Runs.{look_stays, last_stays}
 use Rattle.ert_defs.proofs.Slots.{same_timer-true}
 use Rattle.ert_defs.specs.declared.entry.Actor.TheVariants.{Wheel, Caller}
 use Rattle.ert_defs.specs.declared.entry.Entry.{Entry}
@@ -25,8 +24,9 @@ use Rattle.ert_table.specs.Places.{slot_place}
 use Rattle.ert_table.specs.Settlings.{arm_entry}
 use Rattle.ert_table.specs.Takes.{MayStep}
 use Rattle.ert_table.proofs.Holders.{tells}
+use Rattle.ert_table.proofs.AtSteps.{look_then, last_then}
+use Rattle.ert_table.proofs.Hits.{other_timer}
 use Rattle.ert_table.proofs.SlotFacts.{deadline_high}
-use Rattle.ert_table.proofs.TimerActs.{later_state, other_timer}
 use Rattle.ert_table.proofs.WordPlaces.{word_of-slot}
 use Rattle.ert_table.proofs.WordSteps.{cond_same, word_same}
 use Rattle.ert_table.specs.declared.view.View.{View}
@@ -85,19 +85,11 @@ module _ (g : Settings) (v : View) (by : ℕ) (timer : TimerRef) (start : Start)
   has_wheel = eq-eqb timer.wheel timer.wheel refl
 
   -- what is known at the step
-  look_then : (h : List Entry) (n : ℕ) → Then g v place n h → (state g h).looked (Caller by) ≡ (state g v.front).looked (Caller by)
-  look_then h n then =
-      ap (λ (s : State). s.looked (Caller by)) (later_state g v place n h then)
-      ∙ look_stays g (Caller by) (state g v.front) then.later (then.own (Caller by) may.ours.0)
-
-  last_then : (h : List Entry) (n : ℕ) → Then g v place n h → timer.generation ≡ (state g h).last timer.wheel timer.slot + 1
-  last_then h n then =
-      may.known.generation
-      ∙ ap (λ m. m + 1) (sym (ap (λ (s : State). s.last timer.wheel timer.slot) (later_state g v place n h then)
-      ∙ last_stays g timer.wheel timer.slot (state g v.front) then.later (then.own (Wheel timer.wheel) may.ours.1)))
+  new_then : (h : List Entry) (n : ℕ) → Then g v place n h → timer.generation ≡ (state g h).last timer.wheel timer.slot + 1
+  new_then h n then = may.known.generation ∙ ap (λ m. m + 1) (sym (last_then g v place n h then timer.wheel timer.slot may.ours.1))
 
   due_then : (h : List Entry) (n : ℕ) → Then g v place n h → deadline_of g start ((state g h).looked (Caller by)) ≡ Some deadline
-  due_then h n then = ap (deadline_of g start) (look_then h n then) ∙ due
+  due_then h n then = ap (deadline_of g start) (look_then g v place n h then (Caller by) may.ours.0) ∙ due
 
   -- the rows of the wheel after the step
   rows_then : (h : List Entry) (n : ℕ) → Then g v place n h
@@ -114,7 +106,7 @@ module _ (g : Settings) (v : View) (by : ℕ) (timer : TimerRef) (start : Start)
       let w : ℕ = timer.wheel in
       let k : ℕ = timer.slot in
       let none : row_of (s.rows w) timer ≡ None =
-      row_new (s.rows w) w (s.last w) timer (row_of (s.rows w) timer) (rows_hold g h w then.legal).each (last_then h n then) refl in
+      row_new (s.rows w) w (s.last w) timer (row_of (s.rows w) timer) (rows_hold g h w then.legal).each (new_then h n then) refl in
       let last' : s'.last w k ≡ timer.generation = rw (has_wheel, eq-eqb k k refl) refl in
       let status' : s'.status timer ≡ Some Armed = rw (has_wheel, eq-eqb k k refl, eq-eqb timer.generation timer.generation refl) refl in
       let row' : row_of (s'.rows w) timer ≡ Some row = ap (λ rows. row_of rows timer) (rows_then h n then) ∙ row_of-last (s.rows w) row none in

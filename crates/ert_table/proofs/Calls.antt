@@ -13,8 +13,7 @@ use Rattle.ert_table.specs.Held.{is_held, is_ours, IsWhole}
 use Rattle.ert_table.specs.Laws.{LawOfSteps, LawOfCalls, LawOfWholePasses}
 use Rattle.ert_table.specs.Takes.{Appends}
 use Rattle.ert_table.proofs.Closings.{maker_in_range}
-use Rattle.ert_table.proofs.Holders.{or_left, or_right, same_actor-true, same_actor_self}
-use Rattle.ert_table.proofs.TimerActs.{held_maker}
+use Rattle.ert_table.proofs.Holders.{held_maker, or_left, or_right, same_actor-true, same_actor_self}
 use Rattle.ert_table.specs.declared.view.View.{View}
 
 -- an entry with none of these actors isn't theirs

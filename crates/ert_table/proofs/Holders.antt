@@ -87,6 +87,11 @@ held_of actors e a ours h =
     held_with actors by None a ours is = absurd cc
     held_with actors by (Some c) a ours is = subst (λ b. is_held actors b ≡ true) (same_actor-true c a is) ours.1
 
+-- the maker of an entry of ours is held
+pub held_maker : (actors : List Actor) (by : Actor) (with : Option Actor) → IsOurs actors by with → is_held actors by ≡ true
+held_maker actors by None h = h
+held_maker actors by (Some a) h = h.0
+
 -- entries that are free of all held actors are free of those of an entry of ours
 pub free_of : (actors : List Actor) (m : List Entry) (by : Actor) (with : Option Actor) → IsOurs actors by with
     → ((a : Actor) → is_held actors a ≡ true → IsFree m a) → IsFreeOf m by with

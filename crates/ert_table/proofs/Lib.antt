@@ -1,6 +1,7 @@
 pub mod Holders
 pub mod OneStep
-pub mod Moves
+pub mod Splits
+pub mod Joins
 pub mod WordPlaces
 pub mod FirstHolds
 pub mod Closings
@@ -8,8 +9,12 @@ pub mod WordSteps
 pub mod ClockActs
 pub mod ProcessActs
 pub mod SlotFacts
-pub mod TimerActs
+pub mod AtSteps
+pub mod Hits
+pub mod Misses
+pub mod SettleActs
 pub mod ReadActs
 pub mod ArmActs
 pub mod Calls
+pub mod Makings
 pub mod Parts

@@ -7,7 +7,6 @@ use Rattle.ert_defs.specs.Legal.{IsSlot, Keeps, Found, left_by}
 use Rattle.ert_defs.specs.States.{State, state}
 use Rattle.ert_defs.specs.Timers.{Row, row_of, timer_at}
 use Rattle.ert_defs.specs.Words.{word_of_slot, timer_word}
-use Rattle.ert_defs.proofs.Runs.{look_stays}
 use Rattle.ert_defs.specs.declared.entry.Actor.{Actor}
 use Rattle.ert_defs.specs.declared.entry.Entry.{Entry}
 use Rattle.ert_defs.specs.declared.settings.Settings.{Settings}
@@ -20,9 +19,10 @@ use Rattle.ert_table.specs.Held.{is_held}
 use Rattle.ert_table.specs.Places.{slot_place}
 use Rattle.ert_table.specs.Settlings.{Shown, wheel_in, slot_in, shown_by, shown_in, left_at, left_shown, read_entry, status_in, deadline_in, generation_in, parts_in}
 use Rattle.ert_table.specs.Takes.{MayStep}
-use Rattle.ert_table.proofs.SlotFacts.{KeepsSlots, slots_kept, IsIdle, IsUsed, slot_cases, word_parts, taken_is_last}
-use Rattle.ert_table.proofs.TimerActs.{held_maker, later_state, left_none, slot_found}
-use Rattle.ert_table.proofs.WordPlaces.{word_of-slot}
+use Rattle.ert_table.proofs.SlotFacts.{KeepsSlots, slots_kept, IsIdle, IsUsed, slot_cases, word_parts, slot_found, taken_is_last}
+use Rattle.ert_table.proofs.AtSteps.{look_then, slot_then}
+use Rattle.ert_table.proofs.Holders.{held_maker}
+use Rattle.ert_table.proofs.Misses.{left_none}
 use Rattle.ert_table.proofs.WordSteps.{is_quiet, word_quiet}
 use Rattle.ert_table.specs.declared.carry.TimerCarry.{TimerCarry}
 use Rattle.ert_table.specs.declared.carry.TimerCarry.TheVariants.{Probe, Peek}
@@ -141,8 +141,7 @@ read_acts g v by carry may =
       keeps = λ n. (may (parts_in n)).keeps;
       known = λ n. (may (parts_in n)).known;
       found = λ h n then. read_found g (state g h) look by carry n (slots_kept g h then.legal)
-          (sym (word_of-slot g (state g h) (wheel_in carry) (slot_in carry) slot.wheel_high slot.slot_high) ∙ then.word)
-          (ap (λ (s : State). s.looked by) (later_state g v place n h then) ∙ look_stays g by (state g v.front) then.later (then.own by held));
+          (slot_then g v (wheel_in carry) (slot_in carry) n h slot then) (look_then g v place n h then by held);
       here = λ h n then. word_quiet g (state g h) (entry n) place (read_quiet g look by carry (parts_in n)) ∙ then.word;
       others = λ h n j then lt not. word_quiet g (state g h) (entry n) j (read_quiet g look by carry (parts_in n));
     }

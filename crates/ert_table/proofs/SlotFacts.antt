@@ -228,6 +228,16 @@ slot_at s w k n (Some status) kept word is =
 pub slot_cases : (s : State) (w k n : ℕ) → KeepsSlots s → word_of_slot s w k ≡ n → IsIdle s w k n ⊎ IsUsed s w k n
 slot_cases s w k n kept word = slot_at s w k n (s.status (timer_at w k (s.last w k))) kept word refl
 
+-- the status in the word of a slot is that of its last timer
+pub slot_found : (s : State) (w k n : ℕ) → KeepsSlots s → word_of_slot s w k ≡ n → status_in n ≡ s.status (timer_at w k (s.last w k))
+slot_found s w k n kept word =
+    ⊎_elim
+    (λ (idle : IsIdle s w k n). ap status_in idle.word ∙ sym idle.status)
+    (λ (used : IsUsed s w k n).
+    let parts = word_parts used.status used.row.deadline (s.last w k) used.in_range.deadline_high in
+    ap status_in used.word ∙ (parts.status_is ∙ sym used.status_is))
+    (slot_cases s w k n kept word)
+
 -- where the word of a slot is that of a timer with a status, it is the last timer and has that status
 pub status_by_word : (s : State) (timer : TimerRef) (status : Status) (deadline n : ℕ) → KeepsSlots s
     → word_of_slot s timer.wheel timer.slot ≡ n → deadline ≤ 8796093022207 → n ≡ timer_word status deadline timer.generation

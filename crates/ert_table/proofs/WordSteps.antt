@@ -1,6 +1,7 @@
 -- What an entry leaves of the words.
 
-use Rattle.std.proofs.Common.{◌≡◌, ℕ, ℤ, ◌<◌, Bool, true, false, cond, List, Option, refl, sym, ap, subst, ◌∙◌}
+use Rattle.std.proofs.Common.{◌≡◌, ℕ, ℤ, ◌<◌, Bool, true, false, cond, ◌&&◌, List, Option, refl, sym, ap, subst, ◌∙◌}
+use Rattle.std.proofs.lemmas.Bool.{and_parts}
 use Rattle.ert_defs.specs.Actors.{has_actor}
 use Rattle.ert_defs.specs.Clocks.{Clock, clock_after}
 use Rattle.ert_defs.specs.States.{State, next, exited_after}
@@ -54,61 +55,87 @@ pub cond_same : {X : Type 0} (b : Bool) (x : X) → cond b x x ≡ x
 cond_same true x = refl
 cond_same false x = refl
 
--- whether an event leaves all words
-abbrev pub is_quiet : Event → Bool
-is_quiet (Tick reading act now) = false
-is_quiet (Shift offset state) = false
-is_quiet (Arm timer start) = false
-is_quiet (Cancel timer left) = false
-is_quiet (Expire timer) = false
-is_quiet (Orphan timer) = false
-is_quiet (Deliver timer) = false
-is_quiet (Drop timer) = false
-is_quiet (Mark process exits was) = false
-is_quiet _ = true
-
--- what such an event leaves
-pub record IsQuiet (g : Settings) (s : State) (event : Event) : Type 0 where
-  pub clock : (c : Clock) → clock_after g c event ≡ c
-  pub rows : (look : ℤ) (w : ℕ) (rows : List Row) → rows_after g look w rows event ≡ rows
-  pub last : (w k n : ℕ) → last_after w k n event ≡ n
-  pub status : (r : TimerRef) (b : Bool) (x : Option Status) → status_after r b x event ≡ x
-  pub exited : (p : ℕ) (b : Bool) → exited_after p b event ≡ b
-
-pub quiet_event : (g : Settings) (s : State) (event : Event) → is_quiet event ≡ true → IsQuiet g s event
-quiet_event g s (Tick reading act now) h = absurd cc
-quiet_event g s (Shift offset state) h = absurd cc
-quiet_event g s (Arm timer start) h = absurd cc
-quiet_event g s (Cancel timer left) h = absurd cc
-quiet_event g s (Expire timer) h = absurd cc
-quiet_event g s (Orphan timer) h = absurd cc
-quiet_event g s (Deliver timer) h = absurd cc
-quiet_event g s (Drop timer) h = absurd cc
-quiet_event g s (Mark process exits was) h = absurd cc
-quiet_event g s _ h = record {
-  clock = λ c. refl;
-  rows = λ look w rows. refl;
-  last = λ w k n. refl;
-  status = λ r b x. refl;
-  exited = λ p b. refl;
-}
-
 pub cond_is : {X : Type 0} (b : Bool) (x y : X) → y ≡ x → cond b y x ≡ x
 cond_is true x y h = h
 cond_is false x y h = refl
 
--- an entry with a quiet event leaves all words
-pub word_quiet : (g : Settings) (s : State) (e : Entry) (j : ℕ) → is_quiet e.event ≡ true → word_of g (next g s e) j ≡ word_of g s j
-word_quiet g s e j h =
-    let quiet = quiet_event g s e.event h in
-    let clock : (next g s e).clock ≡ s.clock = cond_is (has_actor e Keeper) s.clock _ (quiet.clock s.clock) in
+-- whether an event leaves the clock, the rows, the generations and the exits: all but the statuses of timers
+abbrev pub is_calm : Event → Bool
+is_calm (Tick reading act now) = false
+is_calm (Shift offset state) = false
+is_calm (Arm timer start) = false
+is_calm (Mark process exits was) = false
+is_calm _ = true
+
+-- what such an event leaves
+record Leaves (g : Settings) (event : Event) : Type 0 where
+  clock : (c : Clock) → clock_after g c event ≡ c
+  rows : (look : ℤ) (w : ℕ) (rows : List Row) → rows_after g look w rows event ≡ rows
+  last : (w k n : ℕ) → last_after w k n event ≡ n
+  exited : (p : ℕ) (b : Bool) → exited_after p b event ≡ b
+
+calm_event : (g : Settings) (event : Event) → is_calm event ≡ true → Leaves g event
+calm_event g (Tick reading act now) h = absurd cc
+calm_event g (Shift offset state) h = absurd cc
+calm_event g (Arm timer start) h = absurd cc
+calm_event g (Mark process exits was) h = absurd cc
+calm_event g _ h = record {
+  clock = λ c. refl;
+  rows = λ look w rows. refl;
+  last = λ w k n. refl;
+  exited = λ p b. refl;
+}
+
+pub calm_last : (g : Settings) (s : State) (e : Entry) (w k : ℕ) → is_calm e.event ≡ true → (next g s e).last w k ≡ s.last w k
+calm_last g s e w k calm = cond_is (has_actor e (Wheel w)) (s.last w k) _ ((calm_event g e.event calm).last w k (s.last w k))
+
+pub calm_rows : (g : Settings) (s : State) (e : Entry) (w : ℕ) → is_calm e.event ≡ true → (next g s e).rows w ≡ s.rows w
+calm_rows g s e w calm = cond_is (has_actor e (Wheel w)) (s.rows w) _ ((calm_event g e.event calm).rows (s.looked e.by) w (s.rows w))
+
+-- an entry with such an event leaves a word, where it leaves the statuses of the slot that this is
+pub word_calm : (g : Settings) (s : State) (e : Entry) (j : ℕ) → is_calm e.event ≡ true
+    → ((w k m : ℕ) → j ≡ slot_place g w k → (next g s e).status (timer_at w k m) ≡ s.status (timer_at w k m))
+    → word_of g (next g s e) j ≡ word_of g s j
+word_calm g s e j calm statuses =
+    let leaves = calm_event g e.event calm in
+    let clock : (next g s e).clock ≡ s.clock = cond_is (has_actor e Keeper) s.clock _ (leaves.clock s.clock) in
     word_same g s (next g s e) j (record {
       time = λ _. ap (λ (c : Clock). c.now) clock;
       offset = λ _. ap (λ (c : Clock). offset_word c.offset (is_final c.state)) clock;
-      slot = λ w k _ _. record {
-        last = cond_is (has_actor e (Wheel w)) (s.last w k) _ (quiet.last w k (s.last w k));
-        status = λ n. quiet.status (timer_at w k n) _ (s.status (timer_at w k n));
-        row = λ n. ap (λ rows. row_of rows (timer_at w k n)) (cond_is (has_actor e (Wheel w)) (s.rows w) _ (quiet.rows (s.looked e.by) w (s.rows w)));
+      slot = λ w k is _. record {
+        last = calm_last g s e w k calm;
+        status = λ m. statuses w k m is;
+        row = λ m. ap (λ rows. row_of rows (timer_at w k m)) (calm_rows g s e w calm);
       };
-      process = λ p _. quiet.exited p (s.exited p);
+      process = λ p _. leaves.exited p (s.exited p);
     })
+
+-- whether an event leaves the statuses of timers
+abbrev pub leaves_statuses : Event → Bool
+leaves_statuses (Arm timer start) = false
+leaves_statuses (Cancel timer left) = false
+leaves_statuses (Expire timer) = false
+leaves_statuses (Orphan timer) = false
+leaves_statuses (Deliver timer) = false
+leaves_statuses (Drop timer) = false
+leaves_statuses _ = true
+
+status_left : (event : Event) (r : TimerRef) (b : Bool) (x : Option Status) → leaves_statuses event ≡ true → status_after r b x event ≡ x
+status_left (Arm timer start) r b x h = absurd cc
+status_left (Cancel timer left) r b x h = absurd cc
+status_left (Expire timer) r b x h = absurd cc
+status_left (Orphan timer) r b x h = absurd cc
+status_left (Deliver timer) r b x h = absurd cc
+status_left (Drop timer) r b x h = absurd cc
+status_left _ r b x h = refl
+
+-- whether an event leaves all words
+abbrev pub is_quiet : Event → Bool
+is_quiet event = is_calm event && leaves_statuses event
+
+-- an entry with a quiet event does
+pub word_quiet : (g : Settings) (s : State) (e : Entry) (j : ℕ) → is_quiet e.event ≡ true → word_of g (next g s e) j ≡ word_of g s j
+word_quiet g s e j quiet =
+    let parts = and_parts (is_calm e.event) (leaves_statuses e.event) quiet in
+    word_calm g s e j parts.0
+    (λ w k m _. status_left e.event (timer_at w k m) (has_actor e (Wheel w)) (s.status (timer_at w k m)) parts.1)

@@ -4,6 +4,7 @@ pub mod Desks
 pub mod Entries
 pub mod Held
 pub mod Laws
+pub mod Making
 pub mod Openings
 pub mod Places
 pub mod Rule

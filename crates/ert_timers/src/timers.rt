@@ -37,7 +37,7 @@ pub struct Timers {
 }
 
 impl Model for Timers {
-    ghost use Rattle.std.specs.Prelude.{◌≡◌, ◌×◌};
+    ghost use Rattle.std.specs.Prelude.{◌≡◌};
     ghost use Rattle.ert_timers.specs.Parts.{Part, part_code, AreFit};
 
     ghost Value = { Part };

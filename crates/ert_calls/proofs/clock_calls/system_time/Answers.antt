@@ -1,9 +1,9 @@
-use Rattle.std.proofs.Common.{sym, subst, rules, ℤ, ◌+ℤ◌, ◌∷◌, [], FitsSigned, w64, to_z-of_z}
+use Rattle.std.proofs.Common.{sym, subst, refl, rules, ℤ, ◌+ℤ◌, ◌∷◌, [], FitsSigned, w64, to_z-of_z}
+use Rattle.ert_defs.specs.Entries.{look_entry, off_entry}
 use Rattle.ert_defs.specs.States.{state}
 use Rattle.ert_table.specs.Desks.{settings_of, view_of}
 use Rattle.ert_table.specs.Takes.{Appends}
 use Rattle.ert_table.proofs.Calls.{step_takes_place, takes_place_then}
-use Rattle.ert_calls.specs.Calls.{look_entry, off_entry}
 use Rattle.ert_calls.proofs.Looks.{off_alone, read_sum_fits}
 use Rattle.ert_calls.proofs.clock_calls.system_time.Goals as goal
 
@@ -36,11 +36,9 @@ returns-clause-call c =
     let step : Appends g u (off_entry c.args.by offset c.load_offset-offset.result.1) w =
     subst (λ e. Appends g u e w) (off_alone g u.actors c.args.by offset c.load_offset-offset.result.1 c.requires.user) c.load_offset-offset.ensures.step in
     record {
-      now = now;
-      offset = offset;
-      offset_state = c.load_offset-offset.result.1;
+      entries = look_entry c.args.by now ∷ (off_entry c.args.by offset c.load_offset-offset.result.1 ∷ []);
+      allowed = record { now = now; offset = offset; offset_state = c.load_offset-offset.result.1; sum = simp to_z-of_z; entries = refl };
       call = takes_place_then g v u w (look_entry c.args.by now ∷ []) (off_entry c.args.by offset c.load_offset-offset.result.1 ∷ [])
           (step_takes_place g v (look_entry c.args.by now) u c.look-now.ensures.step)
           (step_takes_place g u (off_entry c.args.by offset c.load_offset-offset.result.1) w step);
-      sum = simp to_z-of_z;
     }

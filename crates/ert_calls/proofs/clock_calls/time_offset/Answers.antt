@@ -1,8 +1,9 @@
-use Rattle.std.proofs.Common.{subst}
+use Rattle.std.proofs.Common.{subst, refl}
+use Rattle.ert_answers.specs.ClockCalls.{TellsOffset}
+use Rattle.ert_defs.specs.Entries.{off_entry}
 use Rattle.ert_table.specs.Desks.{settings_of, view_of}
 use Rattle.ert_table.specs.Takes.{Appends}
-use Rattle.ert_table.proofs.Calls.{step_takes_place}
-use Rattle.ert_calls.specs.Calls.{off_entry}
+use Rattle.ert_table.proofs.Makings.{step_makes}
 use Rattle.ert_calls.proofs.Looks.{off_alone}
 use Rattle.ert_calls.proofs.clock_calls.time_offset.Goals as goal
 
@@ -15,4 +16,4 @@ returns-clause-call c =
     let offset_state = c.load_offset.result.1 in
     let step : Appends g v (off_entry c.args.by offset offset_state) w =
     subst (λ e. Appends g v e w) (off_alone g v.actors c.args.by offset offset_state c.requires.user) c.load_offset.ensures.step in
-    step_takes_place g v (off_entry c.args.by offset offset_state) w step
+    step_makes g v (off_entry c.args.by offset offset_state) w (TellsOffset g c.args.by c.load_offset.result) refl step

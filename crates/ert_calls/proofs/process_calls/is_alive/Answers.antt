@@ -1,14 +1,16 @@
-use Rattle.std.proofs.Common.{false, subst}
+use Rattle.std.proofs.Common.{false, not, ◌∷◌, [], ap}
+use Rattle.ert_answers.specs.WheelCalls.{TellsAlive}
+use Rattle.ert_defs.specs.Entries.{mark_entry}
 use Rattle.ert_table.specs.Desks.{settings_of, view_of}
-use Rattle.ert_table.specs.Entries.{mark_entry}
-use Rattle.ert_table.specs.Takes.{Appends}
-use Rattle.ert_table.proofs.Calls.{step_takes_place}
+use Rattle.ert_table.proofs.Makings.{step_makes}
 use Rattle.ert_calls.proofs.Looks.{not-not}
 use Rattle.ert_calls.proofs.process_calls.is_alive.Goals as goal
 
 pub returns-clause-call : goal.returns-clause-call
 returns-clause-call c =
     let g = settings_of c.args.desk.now in
-    let v = view_of c.args.pass.now in
-    let w = view_of c.mark.new.self in
-    step_takes_place g v _ w (subst (λ was. Appends g v (mark_entry c.args.by c.args.process false was) w) (not-not c.mark.result) c.mark.ensures.step)
+    let by = c.args.by in
+    let process = c.args.process in
+    let was = c.mark.result in
+    step_makes g (view_of c.args.pass.now) (mark_entry by process false was) (view_of c.mark.new.self) (TellsAlive g by process (not was))
+    (ap (λ b. mark_entry by process false b ∷ []) (not-not was)) c.mark.ensures.step

@@ -4,7 +4,7 @@ use Rattle.ert_defs.proofs.Runs.{legal_parts, legal_one_more}
 use Rattle.ert_defs.specs.Legal.{IsNext, IsFirst, HasExited, CanAnswer}
 use Rattle.ert_defs.specs.States.{state}
 use Rattle.ert_defs.specs.Timers.{Row}
-use Rattle.ert_laws.specs.Worked.{small, timer, started, expiry, exit, asked, answer, request}
+use Rattle.ert_defs.specs.Worked.{small, timer, started, expiry, exit, asked, answer, request}
 use Rattle.ert_defs.specs.declared.entry.Actor.TheVariants.{Sched, MailOf}
 use Rattle.ert_defs.specs.declared.settings.Mode.TheVariants.{No}
 use Rattle.ert_defs.specs.declared.timer.Kind.TheVariants.{Wrapped}

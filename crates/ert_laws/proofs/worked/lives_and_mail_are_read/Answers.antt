@@ -2,14 +2,14 @@ use Rattle.std.proofs.Common.{◌≡◌, refl, rules, [], ◌∷◌, Some}
 use Rattle.ert_defs.proofs.Runs.{legal_parts}
 use Rattle.ert_defs.specs.Legal.{IsNext, IsFirst}
 use Rattle.ert_defs.specs.States.{next, state}
-use Rattle.ert_laws.specs.Worked.{by_sched}
+use Rattle.ert_defs.specs.Worked.{by_sched}
 use Rattle.ert_defs.specs.declared.entry.Actor.TheVariants.{Sched, Wheel, MailOf}
 use Rattle.ert_defs.specs.declared.entry.Event.TheVariants.{Expire}
 use Rattle.ert_laws.specs.WorkedMail.{wide, slow, fast, both_started, both_expired}
 use Rattle.ert_laws.proofs.worked.lives_and_mail_are_read.Goals as goal
 
 pub returns-clause-lives : goal.returns-clause-lives
-returns-clause-lives c = record { waits = refl; arrives = refl; is_cancelled = refl; is_orphaned = refl; never_armed = refl }
+returns-clause-lives c = record { waits = refl; arrives = refl; is_cancelled = refl; is_orphaned = refl; is_dropped = refl; never_armed = refl }
 
 pub returns-clause-mail : goal.returns-clause-mail
 returns-clause-mail c = record {
@@ -17,6 +17,7 @@ returns-clause-mail c = record {
   timer_taken = refl;
   answer_sent = refl;
   answer_taken = refl;
+  none_sent = refl;
   change_sent = refl;
   change_taken = refl;
 }

@@ -9,7 +9,8 @@ use Rattle.ert_table.specs.Places.{slot_place}
 use Rattle.ert_table.specs.Settlings.{status_from, status_to, settle_entry}
 use Rattle.ert_table.proofs.OneStep.{may_compare_at, finds_as}
 use Rattle.ert_table.proofs.SlotFacts.{timer_is}
-use Rattle.ert_table.proofs.TimerActs.{hit_slot, settle_acts, settle_tells, settle_settles}
+use Rattle.ert_table.proofs.Hits.{hit_slot}
+use Rattle.ert_table.proofs.SettleActs.{settle_acts, settle_tells, settle_settles}
 use Rattle.ert_table.proofs.WordPlaces.{slot_place-high}
 use Rattle.ert_table.proofs.desk.Pass.settle_as.Goals as goal
 

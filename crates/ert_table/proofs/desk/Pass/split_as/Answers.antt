@@ -1,6 +1,6 @@
 use Rattle.std.proofs.Common.{sym, ◌≡◌, true, subst}
 use Rattle.ert_table.specs.Held.{is_held}
-use Rattle.ert_table.proofs.Moves.{splits}
+use Rattle.ert_table.proofs.Splits.{splits}
 use Rattle.ert_table.proofs.OneStep.{has_words}
 use Rattle.ert_table.proofs.desk.Pass.split_as.Goals as goal
 

@@ -1,9 +1,6 @@
--- Worked histories: what the model says of some short histories that were written by hand.
--- A function of src/worked.rt carries the statements as a contract, so that they are proved.
+-- Worked histories: some short histories that were written by hand. `ert_laws` says what the model says of them.
 
-use Rattle.std.specs.Prelude.{◌≡◌, ℕ, ℤ, pos, negsuc, true, false, List, [], ◌∷◌, ◌++◌, Option, Some, None}
-use Rattle.ert_defs.specs.Legal.{Legal}
-use Rattle.ert_defs.specs.States.{state}
+use Rattle.std.specs.Prelude.{ℕ, ℤ, pos, negsuc, true, false, List, [], ◌∷◌, ◌++◌, Option, Some, None}
 use Rattle.ert_defs.specs.declared.entry.Act.{Act}
 use Rattle.ert_defs.specs.declared.entry.Act.TheVariants.{Plain, Force}
 use Rattle.ert_defs.specs.declared.entry.Actor.{Actor}
@@ -11,19 +8,15 @@ use Rattle.ert_defs.specs.declared.entry.Actor.TheVariants.{Keeper, Wheel, Inbox
 use Rattle.ert_defs.specs.declared.entry.Entry.{Entry}
 use Rattle.ert_defs.specs.declared.entry.Event.{Event}
 use Rattle.ert_defs.specs.declared.entry.Event.TheVariants.{Tick, Shift, Look, Arm, Peek, Cancel, Expire, Orphan, Deliver, Mark, Advanced, Ask, Pick, Answer, Take, Watch, Tell}
-use Rattle.ert_defs.specs.declared.mail.Mail.{Mail}
 use Rattle.ert_defs.specs.declared.mail.Mail.TheVariants.{Timeout, CancelDone, Change}
 use Rattle.ert_defs.specs.declared.mail.Request.{Request}
 use Rattle.ert_defs.specs.declared.mail.RequestKind.TheVariants.{Cancel as ToCancel}
 use Rattle.ert_defs.specs.declared.settings.Mode.{Mode}
-use Rattle.ert_defs.specs.declared.settings.Mode.TheVariants.{No, Multi}
 use Rattle.ert_defs.specs.declared.settings.OffsetState.TheVariants.{Volatile}
 use Rattle.ert_defs.specs.declared.settings.Reading.{Reading}
 use Rattle.ert_defs.specs.declared.settings.Settings.{Settings}
 use Rattle.ert_defs.specs.declared.timer.Kind.TheVariants.{Wrapped}
 use Rattle.ert_defs.specs.declared.timer.Start.{Start}
-use Rattle.ert_defs.specs.declared.timer.Status.{Status}
-use Rattle.ert_defs.specs.declared.timer.Status.TheVariants.{Delivered, Cancelled, Orphaned}
 use Rattle.ert_defs.specs.declared.timer.TimerRef.{TimerRef}
 use Rattle.ert_defs.specs.declared.timer.When.TheVariants.{After}
 
@@ -62,14 +55,6 @@ tick act sys now =
     let reading : Reading = record { mono = pos 0; sys = sys } in
     record { by = Keeper; with = Some (Caller 0); event = Tick reading act now }
 
--- an entry isn't legal after a history that is
-abbrev pub Refuses : List Entry → Entry → Type 0
-Refuses h e = Legal (small No) h × (Legal (small No) (h ++ e ∷ []) → ⊥)
-
--- the status of the timer after a history
-abbrev pub status_of : List Entry → Option Status
-status_of h = (state (small No) h).status timer
-
 -- the time comes to 1 millisecond, and the caller looks and starts a timer
 abbrev pub begun : ℕ → List Entry
 begun delay =
@@ -82,14 +67,6 @@ begun delay =
 -- then the scheduler looks
 abbrev pub started : ℕ → List Entry
 started delay = begun delay ++ by_sched None (Look (pos 1000000)) ∷ []
-
--- a timer of 5 milliseconds that is started at 1 is due at 6: at 1 the scheduler has none to settle
-abbrev pub TimerWaits : Type 0
-TimerWaits = Legal (small No) (started 5 ++ by_sched (Some (Wheel 0)) (Advanced 0 1) ∷ [])
-
--- nor can the timer expire at 1
-abbrev pub EarlyExpiryIsRefused : Type 0
-EarlyExpiryIsRefused = Refuses (started 5) (by_sched (Some (Wheel 0)) (Expire timer))
 
 -- a timer expires, and its message is put into the mailbox and taken
 abbrev pub expiry : List Entry
@@ -106,10 +83,6 @@ expiry =
 abbrev pub delivered : List Entry
 delivered = started 0 ++ expiry
 
--- the timer is delivered then
-abbrev pub TimerIsDelivered : Type 0
-TimerIsDelivered = Legal (small No) delivered × (status_of delivered ≡ Some Delivered)
-
 -- a timer is read with 5 milliseconds left
 abbrev pub read : List Entry
 read = begun 5 ++ by_caller None (Look (pos 1000000)) ∷ by_caller None (Peek timer (Some 5)) ∷ []
@@ -117,14 +90,6 @@ read = begun 5 ++ by_caller None (Look (pos 1000000)) ∷ by_caller None (Peek t
 -- and cancelled with as many; it can't be cancelled again
 abbrev pub cancelled : List Entry
 cancelled = read ++ by_caller None (Cancel timer (Some 5)) ∷ by_caller None (Cancel timer None) ∷ []
-
--- the timer is cancelled then
-abbrev pub TimerIsCancelled : Type 0
-TimerIsCancelled = Legal (small No) cancelled × (status_of cancelled ≡ Some Cancelled)
-
--- a cancel can't tell another number
-abbrev pub OtherCancelIsRefused : Type 0
-OtherCancelIsRefused = Refuses read (by_caller None (Cancel timer (Some 4)))
 
 -- a process exits, and a timer is started for it
 abbrev pub exit : List Entry
@@ -138,14 +103,6 @@ exit =
 -- the timer is cancelled for that
 abbrev pub orphaned : List Entry
 orphaned = exit ++ by_caller (Some (Wheel 0)) (Orphan timer) ∷ []
-
--- the timer is orphaned then
-abbrev pub TimerIsOrphaned : Type 0
-TimerIsOrphaned = Legal (small No) orphaned × (status_of orphaned ≡ Some Orphaned)
-
--- a timer isn't cancelled so while its destination stands
-abbrev pub EarlyOrphanIsRefused : Type 0
-EarlyOrphanIsRefused = Refuses (begun 5) (by_caller (Some (Wheel 0)) (Orphan timer))
 
 -- an asynchronous cancel of the timer, with an answer
 abbrev pub request : Request
@@ -172,14 +129,6 @@ answer =
 abbrev pub answered : List Entry
 answered = asked ++ answer
 
--- the timer is cancelled then
-abbrev pub RequestIsAnswered : Type 0
-RequestIsAnswered = Legal (small No) answered × (status_of answered ≡ Some Cancelled)
-
--- the scheduler can't tell another number
-abbrev pub OtherAnswerIsRefused : Type 0
-OtherAnswerIsRefused = Refuses asked (by_sched (Some (MailOf 0)) (Answer 0 (Some 4)))
-
 -- OS system time comes to 10 seconds and leaps back to 5: the time stays, and the offset falls by 5 seconds
 abbrev pub shifted : List Entry
 shifted =
@@ -200,14 +149,3 @@ told_twice = told ++ by_caller (Some (MailOf 0)) (Tell 0 (negsuc 4999999999)) �
 -- and its message is taken
 abbrev pub taken : List Entry
 taken = told_twice ++ by_caller (Some (MailOf 0)) (Take 0 (Some (Change 0 (negsuc 4999999999)))) ∷ []
-
--- the messages in the mailbox after a history
-abbrev pub queue_after : List Entry → List Mail
-queue_after h = ((state (small Multi) h).mails 0).queue
-
--- a monitor of the time offset is told the new one once
-pub record MonitorIsToldOnce : Type 0 where
-  pub legal : Legal (small Multi) taken
-  pub once : queue_after told ≡ Change 0 (negsuc 4999999999) ∷ []
-  pub not_again : queue_after told_twice ≡ queue_after told
-  pub empty : queue_after taken ≡ []

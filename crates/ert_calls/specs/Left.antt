@@ -1,0 +1,29 @@
+-- What is left of a timer, as a call tells it that has looked at the time.
+
+use Rattle.std.specs.Prelude.{◌≡◌, ◌↔◌, ℕ, Bool, true, false, List, [], ◌∷◌, ◌++◌, Option, Some, None, IsSome}
+use Rattle.ert_defs.specs.Legal.{left_of}
+use Rattle.ert_defs.specs.States.{State, state}
+use Rattle.ert_defs.specs.declared.entry.Actor.{Actor}
+use Rattle.ert_defs.specs.declared.entry.Entry.{Entry}
+use Rattle.ert_defs.specs.declared.settings.Settings.{Settings}
+use Rattle.ert_defs.specs.declared.timer.Status.TheVariants.{Armed}
+use Rattle.ert_defs.specs.declared.timer.TimerRef.{TimerRef}
+use Rattle.ert_table.specs.declared.view.View.{View}
+
+-- so it was in the state in which the last entry of a front was made
+pub record AtLastStep (g : Settings) (front : List Entry) (holds : State → Type 0) : Type 0 where
+  pub before : List Entry
+  pub last : Entry
+  pub grown : front ≡ before ++ last ∷ []
+  pub held : holds (state g before)
+
+-- this is left of a timer by the last look of an actor, in a state: something exactly where it is armed
+pub record IsLeft (g : Settings) (by : Actor) (timer : TimerRef) (answer : Option ℕ) (s : State) : Type 0 where
+  pub told : answer ≡ left_of g s by timer
+  pub armed : IsSome answer ↔ (s.status timer ≡ Some Armed)
+
+-- the answer is what was left at the last step, by the call's own look; None where the reference is out of
+-- range
+abbrev pub TellsLeft : Bool → Settings → Actor → TimerRef → Option ℕ → View → Type 0
+TellsLeft false g by timer answer w = answer ≡ None
+TellsLeft true g by timer answer w = AtLastStep g w.front (IsLeft g by timer answer)

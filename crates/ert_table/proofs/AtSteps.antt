@@ -1,0 +1,52 @@
+-- What a pass knew at its front still holds when it steps.
+
+use Rattle.std.proofs.Common.{◌≡◌, ℕ, true, List, [], ◌∷◌, Some, sym, ap, subst, ◌∙◌}
+use Rattle.ert_defs.specs.Actors.{has_actor}
+use Rattle.ert_defs.specs.Legal.{IsSlot}
+use Rattle.ert_defs.specs.States.{State, next, run, state}
+use Rattle.ert_defs.specs.Timers.{Row, row_of}
+use Rattle.ert_defs.specs.Words.{word_of_slot}
+use Rattle.ert_defs.proofs.FiredTimers.{row_kept}
+use Rattle.ert_defs.proofs.Runs.{last_stays, look_stays, state-append}
+use Rattle.ert_defs.specs.declared.entry.Actor.{Actor}
+use Rattle.ert_defs.specs.declared.entry.Actor.TheVariants.{Wheel}
+use Rattle.ert_defs.specs.declared.entry.Entry.{Entry}
+use Rattle.ert_defs.specs.declared.settings.Settings.{Settings}
+use Rattle.ert_defs.specs.declared.timer.TimerRef.{TimerRef}
+use Rattle.ert_table.specs.Acts.{Then}
+use Rattle.ert_table.specs.Held.{is_held}
+use Rattle.ert_table.specs.Places.{slot_place}
+use Rattle.ert_table.proofs.WordPlaces.{word_of-slot}
+use Rattle.ert_table.specs.declared.view.View.{View}
+
+-- a row stands on
+row_stands : (g : Settings) (r : TimerRef) (row : Row) (s : State) (m : List Entry) → row_of (s.rows r.wheel) r ≡ Some row
+    → row_of ((run g s m).rows r.wheel) r ≡ Some row
+row_stands g r row s [] h = h
+row_stands g r row s (e ∷ m) h =
+    row_stands g r row (next g s e) m
+    (row_kept g (s.looked e.by) r.wheel (s.rows r.wheel) row r (has_actor e (Wheel r.wheel)) e.event h)
+
+module _ (g : Settings) (v : View) (i n : ℕ) (h : List Entry) (then : Then g v i n h) where
+  later_state : state g h ≡ run g (state g v.front) then.later
+  later_state = ap (state g) then.begins ∙ state-append g v.front then.later
+
+  -- the last look of an actor that the pass holds
+  pub look_then : (a : Actor) → is_held v.actors a ≡ true → (state g h).looked a ≡ (state g v.front).looked a
+  look_then a held = ap (λ (s : State). s.looked a) later_state ∙ look_stays g a (state g v.front) then.later (then.own a held)
+
+  -- the last generation of each slot of a wheel that it holds
+  pub last_then : (w k : ℕ) → is_held v.actors (Wheel w) ≡ true → (state g h).last w k ≡ (state g v.front).last w k
+  last_then w k held = ap (λ (s : State). s.last w k) later_state ∙ last_stays g w k (state g v.front) then.later (then.own (Wheel w) held)
+
+  -- the row of any timer
+  pub row_then : (timer : TimerRef) (row : Row) → row_of ((state g v.front).rows timer.wheel) timer ≡ Some row
+      → row_of ((state g h).rows timer.wheel) timer ≡ Some row
+  row_then timer row stands =
+      subst (λ (s : State). row_of (s.rows timer.wheel) timer ≡ Some row) (sym later_state)
+      (row_stands g timer row (state g v.front) then.later stands)
+
+-- the word that a step finds at the place of a slot is that of the slot
+pub slot_then : (g : Settings) (v : View) (w k n : ℕ) (h : List Entry) → IsSlot g w k → Then g v (slot_place g w k) n h
+    → word_of_slot (state g h) w k ≡ n
+slot_then g v w k n h slot then = sym (word_of-slot g (state g h) w k slot.wheel_high slot.slot_high) ∙ then.word

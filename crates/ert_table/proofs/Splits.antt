@@ -1,0 +1,127 @@
+-- Passes that are divided.
+
+use Rattle.std.proofs.Common.{◌≡◌, ◌≢◌, ◌⊎◌, inl, inr, ⊎_elim, ℕ, zero, suc, true, false, List, [], ◌∷◌, ◌++◌, length, set, None, refl, sym, ap, subst, ◌∙◌}
+use mathlib.Core.Option.{some, some-injective, some-ne-none}
+use lib.ListN.{get_elem?}
+use Rattle.atomic_table.specs.Table.{Splits}
+use Rattle.atomic_table.proofs.Lists.{at_set}
+use Rattle.ert_defs.specs.declared.entry.Actor.{Actor}
+use Rattle.ert_defs.specs.declared.entry.Entry.{Entry}
+use Rattle.ert_defs.specs.declared.settings.Settings.{Settings}
+use Rattle.ert_table.specs.Held.{is_held}
+use Rattle.ert_table.specs.Rule.{Fits}
+use Rattle.ert_table.specs.Views.{rest_of, part_of}
+use Rattle.ert_table.proofs.Holders.{same_actor_self, held_one, held_but_parts}
+use Rattle.ert_table.proofs.OneStep.{Ruled}
+use Rattle.ert_table.specs.declared.view.View.{View}
+
+-- what stands in a list with one more at its end
+pub at_snoc_at : {X : Type 0} (l : List X) (a b : X) (j : ℕ) → get_elem? (l ++ a ∷ []) j ≡ some b
+    → (get_elem? l j ≡ some b) ⊎ ((j ≡ length l) × (a ≡ b))
+at_snoc_at [] a b zero e = inr (refl, some-injective a b e)
+at_snoc_at [] a b (suc j) e = absurd (some-ne-none b (sym e))
+at_snoc_at (x ∷ xs) a b zero e = inl e
+at_snoc_at (x ∷ xs) a b (suc j) e = ⊎_elim (λ t. inl t) (λ t. inr (ap suc t.0, t.1)) (at_snoc_at xs a b j e)
+
+-- a pass fits that knows the same and holds no more
+fits_less : (g : Settings) (h : List Entry) (v : View) (actors : List Actor) → Fits g h v
+    → ((a : Actor) → is_held actors a ≡ true → is_held v.actors a ≡ true)
+    → Fits g h (record { front = v.front; actors = actors; settings = v.settings; met = None })
+fits_less g h v actors fit less = record {
+  later = fit.later;
+  begins = fit.begins;
+  own = λ a held. fit.own a (less a held);
+  named = fit.named;
+  met = tt;
+}
+
+-- no two of these passes hold one actor
+abbrev pub AreApart : List View → Type 0
+AreApart views = (j k : ℕ) (x y : View) (a : Actor) → get_elem? views j ≡ some x → get_elem? views k ≡ some y
+    → is_held x.actors a ≡ true → is_held y.actors a ≡ true → j ≡ k
+
+module _ (views : List View) (id : ℕ) (v : View) (a : Actor) (at : get_elem? views id ≡ some v) where
+  -- a pass after a division: an old one, which holds no more than before and no actor that was given away,
+  -- or the new one
+  record Old (k : ℕ) (u : View) : Type 0 where
+    view : View
+    stood : get_elem? views k ≡ some view
+    less : (b : Actor) → is_held u.actors b ≡ true → is_held view.actors b ≡ true
+    gave : k ≡ id → is_held u.actors a ≡ true → ⊥
+
+  record New (k : ℕ) (u : View) : Type 0 where
+    last : k ≡ length (set views id (rest_of v a))
+    is : part_of v a ≡ u
+
+  gave_away : (u : View) → rest_of v a ≡ u → is_held u.actors a ≡ true → ⊥
+  gave_away u is held =
+      let parts = held_but_parts v.actors a a (subst (λ (x : View). is_held x.actors a ≡ true) (sym is) held) in
+      let no : true ≡ false = sym (same_actor_self a) ∙ parts.0 in
+      cc
+
+  old_is : (k : ℕ) (u : View) → get_elem? (set views id (rest_of v a)) k ≡ some u → Old k u
+  old_is k u is =
+      ⊎_elim
+      (λ (here : (k ≡ id) × (rest_of v a ≡ u)). let r : Old k u = record {
+        view = v;
+        stood = subst (λ n. get_elem? views n ≡ some v) (sym here.0) at;
+        less = λ b held. (held_but_parts v.actors a b (subst (λ (x : View). is_held x.actors b ≡ true) (sym here.1) held)).1;
+        gave = λ _ held. gave_away u here.1 held;
+      } in r)
+      (λ (there : (k ≢ id) × (get_elem? views k ≡ some u)). let r : Old k u = record {
+        view = u;
+        stood = there.1;
+        less = λ b held. held;
+        gave = λ is. absurd (there.0 is);
+      } in r)
+      (at_set views id k (rest_of v a) u is)
+
+  which : (k : ℕ) (u : View) → get_elem? (set views id (rest_of v a) ++ part_of v a ∷ []) k ≡ some u → Old k u ⊎ New k u
+  which k u is =
+      ⊎_elim (λ old. inl (old_is k u old)) (λ (new : (k ≡ length (set views id (rest_of v a))) × (part_of v a ≡ u)). inr (record { last = new.0; is = new.1 }))
+      (at_snoc_at (set views id (rest_of v a)) (part_of v a) u k is)
+
+  -- an old pass and the new one have no actor in common
+  old_new : is_held v.actors a ≡ true → AreApart views → (k n : ℕ) (u x : View) (b : Actor) → Old k u → New n x
+      → is_held u.actors b ≡ true → is_held x.actors b ≡ true → ⊥
+  old_new held apart k n u x b old new held_u held_x =
+      let same : a ≡ b = held_one a b (subst (λ (y : View). is_held y.actors b ≡ true) (sym new.is) held_x) in
+      let held_a : is_held u.actors a ≡ true = subst (λ c. is_held u.actors c ≡ true) (sym same) held_u in
+      old.gave (apart k id old.view v a old.stood at (old.less a held_a) held) held_a
+
+  divided : is_held v.actors a ≡ true → AreApart views → (j k : ℕ) (x y : View) (b : Actor) → Old j x ⊎ New j x → Old k y ⊎ New k y
+      → is_held x.actors b ≡ true → is_held y.actors b ≡ true → j ≡ k
+  divided held apart j k x y b (inl p) (inl q) held_x held_y =
+      apart j k p.view q.view b p.stood q.stood (p.less b held_x) (q.less b held_y)
+  divided held apart j k x y b (inl p) (inr q) held_x held_y = absurd (old_new held apart j k x y b p q held_x held_y)
+  divided held apart j k x y b (inr p) (inl q) held_x held_y = absurd (old_new held apart k j y x b q p held_y held_x)
+  divided held apart j k x y b (inr p) (inr q) held_x held_y = p.last ∙ sym q.last
+
+-- each pass fits after a division
+divided_fit : (g : Settings) (h : List Entry) (views : List View) (id : ℕ) (v : View) (a : Actor) → is_held v.actors a ≡ true
+    → get_elem? views id ≡ some v → ((k : ℕ) (u : View) → get_elem? views k ≡ some u → Fits g h u) → (k : ℕ) (u : View)
+    → get_elem? (set views id (rest_of v a) ++ part_of v a ∷ []) k ≡ some u → Fits g h u
+divided_fit g h views id v a held at fits k u is =
+    let fit = fits id v at in
+    ⊎_elim
+    (λ (old : get_elem? (set views id (rest_of v a)) k ≡ some u). ⊎_elim
+    (λ (here : (k ≡ id) × (rest_of v a ≡ u)). subst (Fits g h) here.1
+    (fits_less g h v (rest_of v a).actors fit (λ b held. (held_but_parts v.actors a b held).1)))
+    (λ (there : (k ≢ id) × (get_elem? views k ≡ some u)). fits k u there.1)
+    (at_set views id k (rest_of v a) u old))
+    (λ (new : (k ≡ length (set views id (rest_of v a))) × (part_of v a ≡ u)). subst (Fits g h) new.1
+    (fits_less g h v (a ∷ []) fit (λ b one. subst (λ c. is_held v.actors c ≡ true) (held_one a b one) held)))
+    (at_snoc_at (set views id (rest_of v a)) (part_of v a) u k is)
+
+-- a pass that holds an actor may give it to a new pass
+pub splits : (g : Settings) (id : ℕ) (v : View) (a : Actor) → is_held v.actors a ≡ true
+    → Splits (Ruled g) id v (rest_of v a) (part_of v a)
+splits g id v a held s kept at = record {
+  history = kept.history;
+  legal = kept.legal;
+  counted = kept.counted;
+  shown = kept.shown;
+  fits = divided_fit g kept.history s.views id v a held at kept.fits;
+  apart = λ j k x y b at_x at_y held_x held_y.
+      divided s.views id v a at held kept.apart j k x y b (which s.views id v a at j x at_x) (which s.views id v a at k y at_y) held_x held_y;
+}
