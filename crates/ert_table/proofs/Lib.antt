@@ -9,6 +9,8 @@ pub mod WordSteps
 pub mod ClockActs
 pub mod ProcessActs
 pub mod SlotFacts
+pub mod TimerWords
+pub mod SlotWords
 pub mod AtSteps
 pub mod Hits
 pub mod Misses

@@ -19,7 +19,9 @@ use Rattle.ert_table.specs.Held.{is_held}
 use Rattle.ert_table.specs.Places.{slot_place}
 use Rattle.ert_table.specs.Settlings.{Shown, wheel_in, slot_in, shown_by, shown_in, left_at, left_shown, read_entry, status_in, deadline_in, generation_in, parts_in}
 use Rattle.ert_table.specs.Takes.{MayStep}
-use Rattle.ert_table.proofs.SlotFacts.{KeepsSlots, slots_kept, IsIdle, IsUsed, slot_cases, word_parts, slot_found, taken_is_last}
+use Rattle.ert_table.proofs.SlotFacts.{KeepsSlots, slots_kept}
+use Rattle.ert_table.proofs.SlotWords.{IsIdle, IsUsed, slot_cases, slot_found, taken_is_last}
+use Rattle.ert_table.proofs.TimerWords.{word_parts}
 use Rattle.ert_table.proofs.AtSteps.{look_then, slot_then}
 use Rattle.ert_table.proofs.Holders.{held_maker}
 use Rattle.ert_table.proofs.Misses.{left_none}

@@ -25,7 +25,8 @@ use Rattle.ert_table.proofs.Hits.{from_taken, to_settled, hit_by, hit_slot, hit_
 use Rattle.ert_table.proofs.Holders.{held_maker}
 use Rattle.ert_table.proofs.Misses.{can_miss, missed_from, miss_may, miss_found, miss_status, miss_word, missed}
 use Rattle.ert_table.proofs.OneStep.{grows}
-use Rattle.ert_table.proofs.SlotFacts.{slots_kept, row_soon, slot_found, status_by_word, not_by_word}
+use Rattle.ert_table.proofs.SlotFacts.{slots_kept, row_soon}
+use Rattle.ert_table.proofs.SlotWords.{slot_found, status_by_word, not_by_word}
 use Rattle.ert_table.proofs.WordPlaces.{word_of-slot}
 use Rattle.ert_table.specs.declared.carry.Settle.{Settle}
 use Rattle.ert_table.specs.declared.carry.Settle.TheVariants.{Deliver, Drop}
