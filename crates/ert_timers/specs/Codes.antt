@@ -4,19 +4,19 @@ use Rattle.std.specs.Prelude.{◌≡◌, ℕ, Bool, true, false, List, Option, r
 use Rattle.std.specs.Coded.{Coded, code_by, coded×, coded_ℕ, coded_bool, coded_list, coded_option}
 use Rattle.ert_defs.specs.declared.timer.Kind.{Kind}
 use Rattle.ert_defs.specs.declared.timer.Kind.TheVariants.{Wrapped, Bare}
-use Rattle.ert_timers.specs.declared.timers.Slot.{Slot}
+use Rattle.ert_timers.specs.declared.part.Slot.{Slot}
 use Rattle.ert_wheel.specs.declared.row.Key.{Key}
 
-is_bare : Kind → Bool
+pub is_bare : Kind → Bool
 is_bare Wrapped = false
 is_bare Bare = true
 
-kind_by : Bool → Kind
+pub kind_by : Bool → Kind
 kind_by false = Wrapped
 kind_by true = Bare
 
-kind_back : (kind : Kind) → kind_by (is_bare kind) ≡ kind
-unfolding is_bare, kind_by
+pub kind_back : (kind : Kind) → kind_by (is_bare kind) ≡ kind
+unfolding is_bare kind_by
 kind_back Wrapped = refl
 kind_back Bare = refl
 

@@ -1,3 +1,4 @@
+pub mod Changes
 pub mod Codes
 pub mod FiredLists
 pub mod Parts

@@ -21,7 +21,7 @@ use Rattle.ert_defs.specs.declared.timer.TimerRef.{TimerRef}
 use Rattle.ert_table.specs.Held.{is_held}
 use Rattle.ert_table.specs.declared.view.View.{View}
 use Rattle.ert_timers.specs.Codes.{slot_code, key_code}
-use Rattle.ert_timers.specs.declared.timers.Slot.{Slot}
+use Rattle.ert_timers.specs.declared.part.Slot.{Slot}
 use Rattle.ert_wheel.specs.Rings.{Rings, Place, AreChains}
 use Rattle.ert_wheel.specs.Rows.{key_in}
 use Rattle.ert_wheel.specs.declared.row.Key.{Key}
@@ -88,11 +88,13 @@ abbrev pub owners_of : List Slot → List (Option Key) → ℕ → Option Place
 owners_of slots keys k = owner_of slots k (key_in keys k)
 
 -- what the fields of a part keep, whatever the history
-pub record AreFit (slots : List Slot) (keys : List (Option Key)) (free : Free) (owners : Rings) (armed expired orphaned : ℕ) : Type 0 where
+pub record AreFit (processes : ℕ) (slots : List Slot) (keys : List (Option Key)) (free : Free) (owners : Rings) (armed expired orphaned : ℕ) : Type 0 where
   pub few : length slots ≤ 65536
   pub wide : length keys ≡ length slots
   pub all_slots : free.slots ≡ length slots
   pub owned : owners.slots ≡ length slots
+  pub homes : owners.homes ≡ processes
+  pub few_homes : processes ≤ 1024
   -- a slot that is held free has no row, and can be used again
   pub vacant : (k : ℕ) → set.contains free.held k ≡ true → key_in keys k ≡ None
   pub below : (k : ℕ) → set.contains free.held k ≡ true → k < length slots
@@ -104,7 +106,7 @@ pub record AreFit (slots : List Slot) (keys : List (Option Key)) (free : Free) (
   pub tally : (expired + orphaned) + count_by is_some keys ≤ armed
   pub orders : (k : ℕ) (key : Key) → key_in keys k ≡ Some key → key.order < armed
   -- the rows of each process are in a chain
-  pub dests : (k : ℕ) (key : Key) → key_in keys k ≡ Some key → (slot_at slots k).dest < owners.homes
+  pub dests : (k : ℕ) (key : Key) → key_in keys k ≡ Some key → (slot_at slots k).dest < processes
   pub chained : AreChains owners (owners_of slots keys)
 
 -- the rows that are held: each is the last of its slot, at the place of its order among the timers of the

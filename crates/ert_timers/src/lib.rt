@@ -2,7 +2,8 @@
 #![tactic(auto)]
 
 mod fired_list;
-mod timers;
+mod part;
 
 pub use ert_answers::StartErr;
 pub use fired_list::FiredList;
+pub use part::WheelPart;
