@@ -4,3 +4,6 @@ pub mod Standing
 pub mod Fit
 pub mod Keeping
 pub mod Openings
+pub mod Tried
+pub mod Dues
+pub mod Trials

@@ -3,6 +3,7 @@
 use Rattle.std.proofs.Common.{◌≡◌, ◌≢◌, ℕ, ◌+◌, ◌*◌, ◌<◌, ◌≤◌, Bool, true, false, cond, nat_lt, List, [], ◌∷◌, length, replicate, count_by, Option, Some, None, refl, sym, ap, subst, ◌∙◌, arith, inl, inr, get_or}
 use Rattle.std.proofs.lemmas.Bool.{cases_lt, ltb-true}
 use Rattle.std.proofs.lemmas.List.{get_or-replicate, length-replicate}
+use Rattle.std.proofs.Math.ListN.{get_or-eq_default}
 use Rattle.std.proofs.lemmas.List.Elements.{All-from_get_or}
 use Rattle.std.proofs.lemmas.List.Folds.{sum_by-replicate}
 use Rattle.std.specs.FinSet as sets
@@ -23,7 +24,7 @@ pub key_nowhere : (n k : ℕ) → key_in (replicate n None) k ≡ None
 key_nowhere n k =
     elim (cases_lt k n)
     [ inl low ↦ get_or-replicate n k None None low
-    | inr high ↦ get_or_default (replicate n None) k None (omega (arith, length-replicate n (let o : Option Key = None in o)))
+    | inr high ↦ get_or-eq_default (replicate n None) None (omega (arith, length-replicate n (let o : Option Key = None in o)))
     ]
 
 -- no slot was used
@@ -31,7 +32,7 @@ slot_nowhere : (n k : ℕ) → slot_at (replicate n unused) k ≡ unused
 slot_nowhere n k =
     elim (cases_lt k n)
     [ inl low ↦ get_or-replicate n k unused unused low
-    | inr high ↦ get_or_default (replicate n unused) k unused (omega (arith, length-replicate n unused))
+    | inr high ↦ get_or-eq_default (replicate n unused) unused (omega (arith, length-replicate n unused))
     ]
 
 no_keys : (n : ℕ) → count_by is_some (let keys : List (Option Key) = replicate n None in keys) ≡ 0
@@ -75,6 +76,7 @@ stands_open g w n p low many number processes slots keys arms expires orphans =
         number = subst (λ m. m < g.schedulers) (sym number) low;
         processes = processes;
         many = ap length slots ∙ (length-replicate n unused ∙ sym many);
+        wide = ap length keys ∙ (length-replicate n None ∙ sym many);
         rows = record {
           each = λ k key is. (let e : None ≡ Some key = sym (none k) ∙ is in absurd cc);
           unexpired = λ k key is. (let e : None ≡ Some key = sym (none k) ∙ is in absurd cc);

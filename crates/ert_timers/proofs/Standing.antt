@@ -29,12 +29,13 @@ use Rattle.ert_wheel.specs.declared.row.Key.{Key}
 
 -- the part with these keys and counts fits a later state
 pub holds_with : (g : Settings) (s t : State) (p : Part) (keys : List (Option Key)) (expired orphaned : ℕ) → Holds g s p
-    → IsLater p.number s t → HoldsRows t p.number p.slots keys
+    → IsLater p.number s t → length keys ≡ length p.keys → HoldsRows t p.number p.slots keys
     → Holds g t (record p { keys = keys; expires = expired; orphans = orphaned })
-holds_with g s t p keys expired orphaned holds later rows = record {
+holds_with g s t p keys expired orphaned holds later wide rows = record {
   number = holds.number;
   processes = holds.processes;
   many = holds.many;
+  wide = wide ∙ holds.wide;
   rows = rows;
   lasts = λ k low. holds.lasts k low ∙ sym (later.last k);
   arms = holds.arms ∙ ap length (sym later.rows);
@@ -62,6 +63,7 @@ holds_freed g t p k holds none = record {
   number = holds.number;
   processes = holds.processes;
   many = holds.many;
+  wide = holds.wide;
   rows = holds.rows;
   lasts = holds.lasts;
   arms = holds.arms;
@@ -87,7 +89,7 @@ pub count_same : (g : Settings) (v : View) (e : Entry) (u : View) (w : ℕ) (tes
     → is_held v.actors (Wheel w) ≡ true → test e.event ≡ false → count_of test w u.front ≡ count_of test w v.front
 count_same g v e u w test step held unmet =
     let none : (has_actor e (Wheel w) && test e.event) ≡ false = at (has_actor e (Wheel w)) in
-    let e : ◌≡◌ {A = ℕ} (cond (has_actor e (Wheel w) && test e.event) 1 0) 0 = ap (λ b. cond b 1 0) none in
+    let nought : ◌≡◌ {A = ℕ} (cond (has_actor e (Wheel w) && test e.event) 1 0) 0 = ap (λ b. cond b 1 0) none in
     omega (arith, count_step g v e u w test step held)
   where
     at : (b : Bool) → (b && test e.event) ≡ false
@@ -111,7 +113,7 @@ stands_step g v e u p stands step held calm = record {
   legal = step.legal;
   holds =
       let later = later_step g v e u p.number step held calm.arm in
-      holds_with g (state g v.front) (state g u.front) p p.keys p.expires p.orphans stands.holds later
+      holds_with g (state g v.front) (state g u.front) p p.keys p.expires p.orphans stands.holds later refl
       (rows_later g v.front p.number p.slots p.keys (state g u.front) stands.legal stands.holds.rows later
       (λ k key is.
       unexpired_step g v e u (last_timer p.number p.slots k) step held (no_expire e.event calm.expire (last_timer p.number p.slots k))

@@ -1,4 +1,6 @@
 pub mod Changes
 pub mod Codes
+pub mod Expiring
 pub mod FiredLists
+pub mod Looking
 pub mod Parts

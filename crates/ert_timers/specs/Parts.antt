@@ -122,6 +122,7 @@ pub record Holds (g : Settings) (s : State) (p : Part) : Type 0 where
   pub number : p.number < g.schedulers
   pub processes : p.processes ≡ g.processes
   pub many : length p.slots ≡ g.slots
+  pub wide : length p.keys ≡ g.slots
   pub rows : HoldsRows s p.number p.slots p.keys
   pub lasts : (k : ℕ) → k < g.slots → (slot_at p.slots k).generation ≡ s.last p.number k
   pub arms : p.arms ≡ length (s.rows p.number)

@@ -1,7 +1,9 @@
 //! One scheduler's timers, on the desk.
 #![tactic(auto)]
 
+mod advancing;
 mod fired_list;
+mod looking;
 mod part;
 
 pub use ert_answers::StartErr;

@@ -1,11 +1,13 @@
 ghost use Rattle.std.specs.Prelude.{◌≡◌, IfOk, replicate};
 ghost use Rattle.ert_timers.specs.Parts.{unused};
 
+use crate::fired_list::FiredList;
 use ert_defs::{Fired, Kind, NoMemory, Settings, Start, TimerRef, LAST_GENERATION};
 use ert_wheel::{Chains, Row, Wheel};
 use ert_words::FreeSlots;
 use std::alloc::Global;
 use std::marker::Model;
+use std::mem;
 
 /// What is kept of the last timer of a slot.
 #[derive(Clone, Copy)]
@@ -36,6 +38,9 @@ pub struct WheelPart {
     /// How many expired, and how many were cancelled because their destination had exited.
     expires: u64,
     orphans: u64,
+    /// The due rows of an advance, kept for the next one.
+    due: Vec<Row>,
+    alloc: Global,
 }
 
 impl Model for WheelPart {
@@ -65,6 +70,7 @@ impl WheelPart {
     ghost use Rattle.std.specs.Prelude.{◌≡◌, ◌↔◌, ◌<◌, ◌≤◌, ◌^◌, ◌-◌, IfOk, IfSome, IfNone, IsNone, IsSome, IsTrue, ℕ, false, true, length, [], Some, None, option_map, slice_set};
     ghost use Rattle.ert_defs.specs.Settings.{IsChecked};
     ghost use Rattle.ert_timers.specs.Parts.{Stands, IsTidy, held_row, last_timer};
+    ghost use Rattle.ert_timers.specs.Expiring.{AreDue};
     ghost use Rattle.ert_timers.specs.Changes.{IsFree, freed, picked, kept, dropped, let_go, given_back, LostRow, NextOf};
     ghost use Rattle.ert_wheel.specs.Rows.{key_in, key_of, row_at};
 
@@ -90,6 +96,8 @@ impl WheelPart {
             arms: 0,
             expires: 0,
             orphans: 0,
+            due: Vec::with_capacity(alloc, settings.slots as usize)?,
+            alloc,
         })
     }
 
@@ -134,6 +142,37 @@ impl WheelPart {
     {
         let slot = self.owners.newest(process)?;
         self.wheel.row(slot)
+    }
+
+    /// The rows with a deadline up to `to`, in order of deadline and then of start, with room for their timers
+    /// in the list.
+    pub(crate) fn find_due(&mut self, to: u64, fired: &mut FiredList) -> Result<Vec<Row>, NoMemory>
+        ensures part { self.new ≡ self.old }
+        ensures due { IfOk result (λ due. AreDue self.old to due.items) }
+        ensures fired { fired.new.rows ≡ fired.old.rows }
+        ensures room { IfOk result (λ due. length due.items ≤ fired.new.room) }
+    {
+        let mut due = mem::replace(&mut self.due, Vec::new(self.alloc));
+        due.clear();
+        due.reserve(self.slots.len())?;
+        self.wheel.due(to, &mut due);
+        fired.reserve(due.len())?;
+        Ok(due)
+    }
+
+    /// Tells the wheel that nothing is due up to `to`.
+    pub(crate) fn go_on(&mut self, to: u64)
+        requires { (slot : ℕ) → IfSome (key_in self.old.keys slot) (λ key. to < key.deadline) }
+        ensures { self.new ≡ self.old }
+    {
+        self.wheel.pass(to);
+    }
+
+    /// Keeps the vector of an advance for the next one.
+    pub(crate) fn keep_list(&mut self, due: Vec<Row>)
+        ensures { self.new ≡ self.old }
+    {
+        self.due = due;
     }
 
     /// Takes a slot out that is held free; None exactly where none is.

@@ -1,11 +1,11 @@
 mod Calls
-mod Collect
+pub mod Collect
 mod Due
-mod Lists
+pub mod Lists
 mod Opening
-mod Parts
+pub mod Parts
 mod Splice
 mod Times
 mod Unsplice
-mod Views
+pub mod Views
 mod Writes
