@@ -7,3 +7,6 @@ pub mod Openings
 pub mod Tried
 pub mod Dues
 pub mod Trials
+pub mod Orphaned
+pub mod Armings
+pub mod Lookings

@@ -81,14 +81,13 @@ count_more g v e u w test step held has is =
     omega (arith, count_step g v e u w test step held)
 
 -- the row of a timer that isn't armed any more goes
-pub stands_gone : (g : Settings) (v : View) (e : Entry) (u : View) (p : Part) (k expired orphaned : ℕ) (key : Key) → Stands g v.front p
-    → key_in p.keys k ≡ Some key → Appends g v e u → is_held v.actors (Wheel p.number) ≡ true → is_arm e.event ≡ false
+pub stands_gone : (g : Settings) (v : View) (e : Entry) (u : View) (p : Part) (k expired orphaned : ℕ) → Stands g v.front p
+    → k < length p.keys → Appends g v e u → is_held v.actors (Wheel p.number) ≡ true → is_arm e.event ≡ false
     → ((j : ℕ) → j ≢ k → expires e.event (last_timer p.number p.slots j) ≡ false)
     → (state g u.front).status (last_timer p.number p.slots k) ≢ Some Armed
     → expired ≡ count_of is_expire p.number u.front → orphaned ≡ count_of is_orphan p.number u.front
     → Stands g u.front (record p { keys = set p.keys k None; expires = expired; orphans = orphaned })
-stands_gone g v e u p k expired orphaned key stands held step wheel unarmed others settled expires_are orphans_are =
-    let low : k < length p.keys = key_low p.keys k key held in
+stands_gone g v e u p k expired orphaned stands low step wheel unarmed others settled expires_are orphans_are =
     let later = later_step g v e u p.number step wheel unarmed in
     record {
       legal = step.legal;
@@ -151,7 +150,7 @@ expired g v p q row old new u true stands held sched wheel settles settled part 
       step = step;
       part = part;
       stands = subst (λ (x : Part). Stands g u.front x) (sym part)
-          (stands_gone g v e u p row.slot (p.expires + 1) p.orphans (key_of row) stands held step wheel refl
+          (stands_gone g v e u p row.slot (p.expires + 1) p.orphans stands (key_low p.keys row.slot (key_of row) held) step wheel refl
           (λ j other. two_slots w p.slots row.slot j other) settled
           (ap (λ n. n + 1) counts.expires ∙ sym (count_more g v e u w is_expire step wheel (self w) refl))
           (counts.orphans ∙ sym (count_same g v e u w is_orphan step wheel refl)));
@@ -171,7 +170,7 @@ expired g v p q row old new u false stands held sched wheel settles settled part
       step = step;
       part = part;
       stands = subst (λ (x : Part). Stands g u.front x) (sym part)
-          (stands_gone g v e u p row.slot (p.expires + 0) p.orphans (key_of row) stands held step wheel refl (λ j other. refl) settled
+          (stands_gone g v e u p row.slot (p.expires + 0) p.orphans stands (key_low p.keys row.slot (key_of row) held) step wheel refl (λ j other. refl) settled
           (same ∙ (counts.expires ∙ sym (count_same g v e u w is_expire step wheel refl)))
           (counts.orphans ∙ sym (count_same g v e u w is_orphan step wheel refl)));
       fired = fired;

@@ -4,3 +4,4 @@ pub mod Expiring
 pub mod FiredLists
 pub mod Looking
 pub mod Parts
+pub mod Starting

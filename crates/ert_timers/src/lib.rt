@@ -5,6 +5,7 @@ mod advancing;
 mod fired_list;
 mod looking;
 mod part;
+mod starting;
 
 pub use ert_answers::StartErr;
 pub use fired_list::FiredList;

@@ -108,6 +108,13 @@ impl WheelPart {
         self.number
     }
 
+    /// How many slots there are.
+    pub(crate) fn slot_count(&self) -> u32
+        ensures { result ≡ length self.now.slots }
+    {
+        self.slots.len() as u32
+    }
+
     /// The row of a slot; None where the slot has none.
     pub(crate) fn row(&self, slot: u32) -> Option<Row>
         requires { slot < length self.now.slots }

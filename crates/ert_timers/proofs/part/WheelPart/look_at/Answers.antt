@@ -1,0 +1,1 @@
+use Rattle.ert_timers.proofs.part.WheelPart.look_at.Goals as goal

@@ -1,0 +1,1 @@
+use Rattle.ert_timers.proofs.part.WheelPart.start.Goals as goal
