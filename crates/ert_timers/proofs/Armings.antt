@@ -97,7 +97,7 @@ rows_armed : (g : Settings) (h : List Entry) (w k : ℕ) (slots : List Slot) (ke
     → ((j : ℕ) (seen : Key) → key_in keys j ≡ Some seen → s.status (last_timer w slots j) ≢ Some Expired) → IsArmed w s t timer row
     → timer ≡ last_timer w (set slots k slot) k → row ≡ held_row w (set slots k slot) k key → key.order ≡ length ((state g h).rows w)
     → k < length slots → k < length keys → key_in keys k ≡ None
-    → ((n : ℕ) (old : Row) → slice_get ((state g h).rows w) n ≡ Some old → old.timer ≢ timer)
+    → ((n : ℕ) (x : Row) → slice_get ((state g h).rows w) n ≡ Some x → x.timer ≢ timer)
     → HoldsRows t w (set slots k slot) (set keys k (Some key))
 rows_armed g h w k slots keys slot key s t timer row legal holds later unexpired armed named row_is order low wide vacant fresh = record {
   each = λ j seen is.
@@ -136,7 +136,7 @@ rows_armed g h w k slots keys slot key s t timer row legal holds later unexpired
           let was : s.status x.timer ≡ Some Armed = sym (armed.other x.timer (fresh n x there)) ∙ is in
           let held = holds.armed n x there (later.armed x.timer (row_wheel g h w n x legal there) was) in
           let other : x.timer.slot ≢ k =
-          λ same. (let none : None ≡ Some (record { deadline = x.deadline; order = n }) = sym vacant ∙ (ap (key_in keys) (sym same) ∙ held) in cc) in
+          λ same. (let none : ◌≡◌ {A = Option Key} None (Some (record { deadline = x.deadline; order = n })) = sym vacant ∙ (ap (key_in keys) (sym same) ∙ held) in cc) in
           get_or-set_other keys k x.timer.slot (Some key) None other ∙ held
       | new here same ↦
           let x_is : x ≡ held_row w (set slots k slot) k key = sym same ∙ row_is in
@@ -155,15 +155,15 @@ rows_armed g h w k slots keys slot key s t timer row legal holds later unexpired
 
 -- each old timer has another reference
 old_apart : (g : Settings) (h : List Entry) (w k : ℕ) (last : ℕ) (timer : TimerRef) → Legal g h → (state g h).last w k ≡ last
-    → timer.slot ≡ k → timer.generation ≡ last + 1 → (n : ℕ) (old : Row) → slice_get ((state g h).rows w) n ≡ Some old → old.timer ≢ timer
-old_apart g h w k last timer legal last_is slot generation n old at same =
+    → timer.slot ≡ k → timer.generation ≡ last + 1 → (n : ℕ) (row : Row) → slice_get ((state g h).rows w) n ≡ Some row → row.timer ≢ timer
+old_apart g h w k last timer legal last_is slot generation n row at same =
     let rows : List Row = (state g h).rows w in
-    let is : IsRow w ((state g h).last w) old =
-    subst (IsRow w ((state g h).last w)) (get_or_from_slice_get rows n old old at)
-        (All-get_or (IsRow w ((state g h).last w)) rows n old (slice_get_within rows n old at) (rows_hold g h w legal).each) in
-    let slot_is : (state g h).last w old.timer.slot ≡ last =
+    let is : IsRow w ((state g h).last w) row =
+    subst (IsRow w ((state g h).last w)) (get_or_from_slice_get rows n row row at)
+        (All-get_or (IsRow w ((state g h).last w)) rows n row (slice_get_within rows n row at) (rows_hold g h w legal).each) in
+    let slot_is : (state g h).last w row.timer.slot ≡ last =
     ap ((state g h).last w) (ap (λ (t : TimerRef). t.slot) same ∙ slot) ∙ last_is in
-    let generation_is : old.timer.generation ≡ last + 1 = ap (λ (t : TimerRef). t.generation) same ∙ generation in
+    let generation_is : row.timer.generation ≡ last + 1 = ap (λ (t : TimerRef). t.generation) same ∙ generation in
     absurd (omega (arith, is.within, slot_is, generation_is))
 
 -- the part stands with the new timer

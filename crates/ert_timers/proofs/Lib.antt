@@ -10,3 +10,5 @@ pub mod Trials
 pub mod Orphaned
 pub mod Armings
 pub mod Lookings
+pub mod Starts
+pub mod Swept

@@ -23,6 +23,7 @@ use Rattle.ert_table.specs.Takes.{Appends, TakesPlace}
 use Rattle.ert_table.specs.declared.view.View.{View}
 use Rattle.ert_table.proofs.Calls.{step_takes_place, takes_place_then}
 use Rattle.ert_table.proofs.Parts.{stepped}
+use Rattle.ert_table.proofs.SlotFacts.{slots_kept}
 use Rattle.ert_timers.specs.Changes.{IsFree, dropped, freed, picked}
 use Rattle.ert_timers.specs.Parts.{HoldsCaller, Part, Stands, slot_at, last_timer, is_arm, is_expire, is_orphan}
 use Rattle.ert_timers.specs.Starting.{LooksAt, LooksAtSome, TakesSlot, FindsSlot, AreFull, probes_from, status_shown}
@@ -36,6 +37,13 @@ use Rattle.ert_wheel.specs.Rows.{key_in}
 pub status_is : (shown : Option Shown) → option_map (λ (x : Shown). x.0) shown ≡ status_shown shown
 status_is None = refl
 status_is (Some shown) = refl
+
+pub probe_is : (g : Settings) (v : View) (by w w' k : ℕ) (shown : Option Shown) (u : View) → w' ≡ w
+    → Appends g v (probe_entry (Caller by) w' k (option_map (λ (x : Shown). x.0) shown)) u
+    → Appends g v (probe_entry (Caller by) w k (status_shown shown)) u
+probe_is g v by w w' k shown u number step =
+    subst (λ n. Appends g v (probe_entry (Caller by) n k (status_shown shown)) u) number
+    (subst (λ x. Appends g v (probe_entry (Caller by) w' k x) u) (status_is shown) step)
 
 -- what was found is the status of the slot's last timer, before and after the look
 pub found_is : (g : Settings) (v : View) (by : ℕ) (p : Part) (k : ℕ) (found : Option Status) (u : View) → Stands g v.front p
@@ -87,9 +95,10 @@ spent n s k high away = at (nat_lt n 262143) refl away
 
 -- a slot was found not taken: it has no row from then on, and is held free unless it is spent
 pub looks_free : (g : Settings) (v : View) (by : ℕ) (p q r : Part) (k : ℕ) (found : Option Status) (u : View) → Stands g v.front p
-    → HoldsCaller g v by p.number → k < g.slots → (slot_at p.slots k).generation ≤ 262143
-    → Appends g v (probe_entry (Caller by) p.number k found) u → is_taken found ≡ false → q ≡ dropped p k → r ≡ freed q k → LooksAt g v by p r k u
-looks_free g v by p q r k found u stands holds low few step none gone back =
+    → HoldsCaller g v by p.number → k < g.slots → Appends g v (probe_entry (Caller by) p.number k found) u → is_taken found ≡ false → q ≡ dropped p k → r ≡ freed q k → LooksAt g v by p r k u
+looks_free g v by p q r k found u stands holds low step none gone back =
+    let few : (slot_at p.slots k).generation ≤ 262143 =
+    omega (arith, stands.holds.lasts k low, (slots_kept g v.front stands.legal).lasts p.number k) in
     let e : Entry = probe_entry (Caller by) p.number k found in
     let is = found_is g v by p k found u stands holds low step in
     let free : is_taken ((state g u.front).status (last_timer p.number p.slots k)) ≡ false = ap is_taken (sym is) ∙ none in

@@ -5,3 +5,4 @@ pub mod FiredLists
 pub mod Looking
 pub mod Parts
 pub mod Starting
+pub mod Sweeping

@@ -6,6 +6,7 @@ mod fired_list;
 mod looking;
 mod part;
 mod starting;
+mod sweeping;
 
 pub use ert_answers::StartErr;
 pub use fired_list::FiredList;
