@@ -1,8 +1,9 @@
 -- The loop over the timers of a process.
 
-use Rattle.std.proofs.Common.{◌≡◌, ◌≢◌, ℕ, zero, suc, ◌+◌, ◌<◌, Bool, true, false, cond, ◌||◌, List, [], ◌∷◌, ◌++◌, length, map, Option, Some, None, refl, sym, ap, subst, ◌∙◌, arith, append-nil, append_assoc}
+use Rattle.std.proofs.Common.{◌≡◌, ◌≢◌, ℕ, zero, suc, ◌+◌, ◌<◌, Bool, true, false, cond, ◌||◌, List, [], ◌∷◌, ◌++◌, length, map, count_by, Option, Some, None, refl, sym, ap, subst, ◌∙◌, arith, set, append-nil, append_assoc}
 use Rattle.std.proofs.lemmas.List.{map-append}
 use Rattle.std.specs.List.{slice_get}
+use Rattle.std.specs.Option.{is_some}
 use Rattle.ert_defs.specs.States.{State, next, run, state}
 use Rattle.ert_defs.specs.Timers.{Row, row_of}
 use Rattle.ert_defs.proofs.Runs.{exit_stays, state-append}
@@ -28,6 +29,8 @@ use Rattle.ert_timers.proofs.Tried.{held_found}
 use Rattle.ert_wheel.specs.Rows.{key_in, key_of}
 use Rattle.ert_wheel.specs.declared.row.Key.{Key}
 use Rattle.ert_wheel.specs.declared.row.Row.{Row as WheelRow}
+use Rattle.ert_wheel.proofs.Collect.{key_low}
+use Rattle.ert_wheel.proofs.Views.{counts_less}
 
 -- none was tried yet
 pub sweeps_none : (g : Settings) (v : View) (by process : ℕ) (p : Part) → Stands g v.front p → (state g v.front).exited process ≡ true
@@ -120,3 +123,12 @@ sweeps_all g v by process p q u some = record {
   allowed = record { tries = some.tries; may = some.may; entries = refl };
   call = some.call;
 }
+
+-- fewer rows are left after each try
+pub fewer : (g : Settings) (u : View) (by process : ℕ) (q r : Part) (row : WheelRow) (timer : Row) (w : View) → NextOf q process (Some row)
+    → timer ≡ held_row q.number q.slots row.slot (key_of row) → Orphans g u by q r timer.timer w
+    → count_by is_some r.keys < count_by is_some q.keys
+fewer g u by process q r row timer w next is one =
+    let slot : timer.timer.slot ≡ row.slot = ap (λ (x : Row). x.timer.slot) is in
+    let keys : r.keys ≡ set q.keys row.slot None = ap (λ (x : Part). x.keys) one.part ∙ ap (λ k. set q.keys k None) slot in
+    omega (arith, ap (count_by is_some) keys, counts_less q.keys row.slot (key_of row) (key_low q.keys row.slot (key_of row) next.1) next.1)

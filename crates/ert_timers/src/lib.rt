@@ -10,4 +10,4 @@ mod sweeping;
 
 pub use ert_answers::StartErr;
 pub use fired_list::FiredList;
-pub use part::WheelPart;
+pub use part::{Tally, WheelPart};

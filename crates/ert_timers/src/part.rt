@@ -43,6 +43,19 @@ pub struct WheelPart {
     alloc: Global,
 }
 
+/// How many timers of a wheel there were.
+#[derive(Clone, Copy, Debug, PartialEq, Eq)]
+pub struct Tally {
+    /// How many were armed.
+    pub arms: u64,
+    /// How many expired.
+    pub expires: u64,
+    /// How many were cancelled because their destination had exited.
+    pub orphans: u64,
+    /// How many the part still holds as armed.
+    pub rows: u64,
+}
+
 impl Model for WheelPart {
     ghost use Rattle.ert_timers.specs.Parts.{Part, part_code, AreFit};
 
@@ -66,8 +79,9 @@ impl Model for WheelPart {
 
 impl WheelPart {
     ghost use Rattle.std.specs.Bool.{OnTrue};
+    ghost use Rattle.std.specs.Option.{is_some};
     ghost use Rattle.std.specs.FinSet as set;
-    ghost use Rattle.std.specs.Prelude.{◌≡◌, ◌↔◌, ◌<◌, ◌≤◌, ◌^◌, ◌-◌, IfOk, IfSome, IfNone, IsNone, IsSome, IsTrue, ℕ, false, true, length, [], Some, None, option_map, slice_set};
+    ghost use Rattle.std.specs.Prelude.{◌≡◌, ◌↔◌, ◌<◌, ◌≤◌, ◌^◌, ◌-◌, IfOk, IfSome, IfNone, IsNone, IsSome, IsTrue, ℕ, false, true, length, count_by, [], Some, None, option_map, slice_set};
     ghost use Rattle.ert_defs.specs.Settings.{IsChecked};
     ghost use Rattle.ert_timers.specs.Parts.{Stands, IsTidy, held_row, last_timer};
     ghost use Rattle.ert_timers.specs.Expiring.{AreDue};
@@ -106,6 +120,21 @@ impl WheelPart {
         ensures { result ≡ self.now.number }
     {
         self.number
+    }
+
+    /// The counts of the wheel's timers. The first three are those of the history that the part stands for.
+    pub fn tally(&self) -> Tally
+        ensures arms { result.arms ≡ self.now.arms }
+        ensures expires { result.expires ≡ self.now.expires }
+        ensures orphans { result.orphans ≡ self.now.orphans }
+        ensures rows { result.rows ≡ count_by is_some self.now.keys }
+    {
+        Tally {
+            arms: self.arms,
+            expires: self.expires,
+            orphans: self.orphans,
+            rows: self.wheel.len() as u64,
+        }
     }
 
     /// How many slots there are.

@@ -10,7 +10,6 @@ impl WheelPart {
     ghost use Rattle.ert_table.specs.Making.{Makes};
     ghost use Rattle.ert_timers.specs.Parts.{HoldsCaller, Stands};
 
-    #[tactic(none)]
     /// Cancels all timers of a process that has exited, and holds their slots free.
     ///
     /// It does work for the timers of that process alone, and takes no memory.
