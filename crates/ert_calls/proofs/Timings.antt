@@ -1,13 +1,13 @@
 -- What is left of a timer, by what its slot shows and by the state.
 
-use Rattle.std.proofs.Common.{◌≡◌, ◌≢◌, ℕ, ◌-◌, ℤ, pos, negsuc, ◌-ℤ◌, arith, Bool, true, false, cond, List, [], ◌∷◌, ◌++◌, Option, Some, None, option_map, refl, sym, ap, subst, ◌∙◌}
+use Rattle.std.proofs.Common.{◌≡◌, ◌≢◌, ℕ, ◌-◌, ℤ, pos, negsuc, ◌-ℤ◌, arith, Bool, true, false, cond, List, [], ◌∷◌, ◌++◌, Option, Some, None, option_map, refl, sym, subst, ◌∙◌}
 use Rattle.std.proofs.lemmas.Int.{ints}
 use Rattle.std.specs.Prelude.{IsSome}
 use Rattle.ert_answers.specs.TimerCalls.{read_entries, Reads, cancel_entries, Cancels}
 use Rattle.ert_defs.specs.Entries.{look_entry, peek_entry, cancel_entry}
 use Rattle.ert_defs.specs.Legal.{Legal, left_by, left_of, names_timer}
 use Rattle.ert_defs.specs.Milliseconds.{natural, left}
-use Rattle.ert_defs.specs.States.{State, opening, state}
+use Rattle.ert_defs.specs.States.{opening, state}
 use Rattle.ert_defs.specs.Timers.{Row, row_of}
 use Rattle.ert_defs.proofs.Runs.{legal_first}
 use Rattle.ert_defs.specs.declared.entry.Actor.{Actor}
@@ -18,15 +18,14 @@ use Rattle.ert_defs.specs.declared.timer.Status.TheVariants.{Armed, Expired, Del
 use Rattle.ert_defs.specs.declared.timer.TimerRef.{TimerRef}
 use Rattle.ert_table.specs.Held.{is_held}
 use Rattle.ert_table.specs.Settlings.{Settles}
-use Rattle.ert_table.specs.Making.{Makes}
 use Rattle.ert_table.specs.Takes.{Appends, TakesPlace}
 use Rattle.ert_table.specs.declared.carry.Settle.TheVariants.{Cancel as ToCancel}
 use Rattle.ert_table.specs.declared.view.View.{View}
 use Rattle.ert_table.proofs.Calls.{step_takes_place, takes_place_then}
 use Rattle.ert_table.proofs.SlotFacts.{slots_kept}
-use Rattle.ert_calls.specs.Left.{AtLastStep, IsLeft, TellsLeft}
+use Rattle.ert_calls.specs.Left.{AtLastStep, IsLeft, TellsLeft, Tells}
 use Rattle.ert_calls.specs.Deadlines.{Peeks}
-use Rattle.ert_calls.proofs.Looks.{can_step, look_before, look_stepped}
+use Rattle.ert_calls.proofs.Looks.{can_step, look_stepped}
 
 -- a difference, or 0 where it is negative
 pub natural_sub : (x : ℤ) (m n : ℕ) → x ≡ (pos m -ℤ pos n) → natural x ≡ m - n
@@ -89,11 +88,6 @@ looked g v by now u held step = record {
   held = subst (λ actors. is_held actors by ≡ true) (sym step.actors) held;
   look = look_stepped g v (look_entry by now) u step held;
 }
-
--- a call made its entries, and its answer tells what was left
-pub record Tells (g : Settings) (v : View) (by : Actor) (timer : TimerRef) (answer : Option ℕ) (allows : State → List Entry → Type 0) (w : View) : Type 0 where
-  pub call : Makes g v allows w
-  pub left : TellsLeft (names_timer g timer) g by timer answer w
 
 -- a read of a reference out of range
 pub reads_none : (g : Settings) (v : View) (by : Actor) (timer : TimerRef) (now : ℤ) (u : View) → names_timer g timer ≡ false

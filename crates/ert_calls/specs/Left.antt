@@ -1,13 +1,14 @@
 -- What is left of a timer, as a call tells it that has looked at the time.
 
 use Rattle.std.specs.Prelude.{◌≡◌, ◌↔◌, ℕ, Bool, true, false, List, [], ◌∷◌, ◌++◌, Option, Some, None, IsSome}
-use Rattle.ert_defs.specs.Legal.{left_of}
+use Rattle.ert_defs.specs.Legal.{left_of, names_timer}
 use Rattle.ert_defs.specs.States.{State, state}
 use Rattle.ert_defs.specs.declared.entry.Actor.{Actor}
 use Rattle.ert_defs.specs.declared.entry.Entry.{Entry}
 use Rattle.ert_defs.specs.declared.settings.Settings.{Settings}
 use Rattle.ert_defs.specs.declared.timer.Status.TheVariants.{Armed}
 use Rattle.ert_defs.specs.declared.timer.TimerRef.{TimerRef}
+use Rattle.ert_table.specs.Calls.{IsMade}
 use Rattle.ert_table.specs.declared.view.View.{View}
 
 -- so it was in the state in which the last entry of a front was made
@@ -27,3 +28,8 @@ pub record IsLeft (g : Settings) (by : Actor) (timer : TimerRef) (answer : Optio
 abbrev pub TellsLeft : Bool → Settings → Actor → TimerRef → Option ℕ → View → Type 0
 TellsLeft false g by timer answer w = answer ≡ None
 TellsLeft true g by timer answer w = AtLastStep g w.front (IsLeft g by timer answer)
+
+-- a call on a timer took place with entries that it may make, and its answer is what was left
+pub record Tells (g : Settings) (v : View) (by : Actor) (timer : TimerRef) (answer : Option ℕ) (allows : State → List Entry → Type 0) (w : View) : Type 0 where
+  pub call : IsMade g v allows w
+  pub left : TellsLeft (names_timer g timer) g by timer answer w

@@ -6,7 +6,7 @@ ghost use Rattle.ert_defs.specs.States.{state};
 ghost use Rattle.ert_table.specs.Desks.{settings_of, view_of, front_of, actors_of, Belongs};
 ghost use Rattle.ert_table.specs.Held.{is_held};
 ghost use Rattle.ert_table.specs.Takes.{Appends};
-ghost use Rattle.ert_table.specs.Making.{Makes};
+ghost use Rattle.ert_table.specs.Calls.{IsMade};
 ghost use Rattle.ert_defs.specs.Entries.{look_entry};
 ghost use Rattle.ert_answers.specs.ClockCalls.{TellsTime, TellsOffset, TellsSystemTime};
 
@@ -21,7 +21,7 @@ pub fn monotonic_time(desk: &Desk, pass: &mut Pass, by: Actor) -> i64
     requires held { is_held (actors_of pass.old) by ≡ true }
     requires user { IsUser (settings_of desk.now) by }
     ensures belongs { Belongs desk.now pass.new }
-    ensures call { Makes (settings_of desk.now) (view_of pass.old) (TellsTime (settings_of desk.now) by result) (view_of pass.new) }
+    ensures call { IsMade (settings_of desk.now) (view_of pass.old) (TellsTime (settings_of desk.now) by result) (view_of pass.new) }
 {
     look(desk, pass, by)
 }
@@ -32,7 +32,7 @@ pub fn time_offset(desk: &Desk, pass: &mut Pass, by: Actor) -> (i64, OffsetState
     requires held { is_held (actors_of pass.old) by ≡ true }
     requires user { IsUser (settings_of desk.now) by }
     ensures belongs { Belongs desk.now pass.new }
-    ensures call { Makes (settings_of desk.now) (view_of pass.old) (TellsOffset (settings_of desk.now) by result) (view_of pass.new) }
+    ensures call { IsMade (settings_of desk.now) (view_of pass.old) (TellsOffset (settings_of desk.now) by result) (view_of pass.new) }
 {
     pass.load_offset(desk, by, &OffsetCarry::Off)
 }
@@ -45,7 +45,7 @@ pub fn system_time(desk: &Desk, pass: &mut Pass, by: Actor) -> i64
     requires held { is_held (actors_of pass.old) by ≡ true }
     requires user { IsUser (settings_of desk.now) by }
     ensures belongs { Belongs desk.now pass.new }
-    ensures call { Makes (settings_of desk.now) (view_of pass.old) (TellsSystemTime (settings_of desk.now) by result) (view_of pass.new) }
+    ensures call { IsMade (settings_of desk.now) (view_of pass.old) (TellsSystemTime (settings_of desk.now) by result) (view_of pass.new) }
 {
     let now = look(desk, pass, by);
     let (offset, _) = pass.load_offset(desk, by, &OffsetCarry::Off);

@@ -15,19 +15,17 @@
 //! | `is_alive` | Mark | whether the process had not exited |
 //! | `mark_exit` | Mark, which exits it | the same |
 //!
-//! `specs/Calls.antt` has a relation for each call: its entries in order, and the answer that is read from
-//! them. What is left of a timer is told by the look that the same call made: the whole milliseconds from
-//! that time to the deadline.
+//! What each call may record with its answer stands in `ert_answers`: its entries in order, and the answer
+//! that is read from them. What is left of a timer is told by the look that the same call made: the whole
+//! milliseconds from that time to the deadline (`specs/Left.antt`).
 //!
-//! It stands on `ert_defs` and `ert_table`.
+//! It stands on `ert_defs`, `ert_answers` and `ert_table`.
 #![tactic(auto)]
 
 mod clock_calls;
 mod process_calls;
-#[cfg(test)]
-mod tests;
 mod timer_calls;
 
 pub use clock_calls::{look, monotonic_time, system_time, time_offset};
 pub use process_calls::{is_alive, mark_exit};
-pub use timer_calls::{cancel_timer, read_timer};
+pub use timer_calls::{cancel_timer, read_timer, rounded_up};

@@ -3,7 +3,7 @@ ghost use Rattle.std.specs.Prelude.{◌≡◌, ◌<◌, true};
 ghost use Rattle.ert_defs.specs.Actors.{IsUser};
 ghost use Rattle.ert_table.specs.Desks.{settings_of, view_of, actors_of, Belongs};
 ghost use Rattle.ert_table.specs.Held.{is_held};
-ghost use Rattle.ert_table.specs.Making.{Makes};
+ghost use Rattle.ert_table.specs.Calls.{IsMade};
 ghost use Rattle.ert_answers.specs.WheelCalls.{TellsAlive, MarksExit};
 
 use ert_defs::Actor;
@@ -16,7 +16,7 @@ pub fn is_alive(desk: &Desk, pass: &mut Pass, by: Actor, process: u32) -> bool
     requires user { IsUser (settings_of desk.now) by }
     requires in_range { process < (settings_of desk.now).processes }
     ensures belongs { Belongs desk.now pass.new }
-    ensures call { Makes (settings_of desk.now) (view_of pass.old) (TellsAlive (settings_of desk.now) by process result) (view_of pass.new) }
+    ensures call { IsMade (settings_of desk.now) (view_of pass.old) (TellsAlive (settings_of desk.now) by process result) (view_of pass.new) }
 {
     !pass.mark(desk, by, process, false)
 }
@@ -30,7 +30,7 @@ pub fn mark_exit(desk: &Desk, pass: &mut Pass, by: Actor, process: u32) -> bool
     requires user { IsUser (settings_of desk.now) by }
     requires in_range { process < (settings_of desk.now).processes }
     ensures belongs { Belongs desk.now pass.new }
-    ensures call { Makes (settings_of desk.now) (view_of pass.old) (MarksExit (settings_of desk.now) by process result) (view_of pass.new) }
+    ensures call { IsMade (settings_of desk.now) (view_of pass.old) (MarksExit (settings_of desk.now) by process result) (view_of pass.new) }
 {
     !pass.mark(desk, by, process, true)
 }

@@ -6,9 +6,8 @@ ghost use Rattle.ert_defs.specs.Lines.{end_time};
 ghost use Rattle.ert_defs.specs.Milliseconds as milliseconds;
 ghost use Rattle.ert_table.specs.Desks.{settings_of, view_of, actors_of, Belongs};
 ghost use Rattle.ert_table.specs.Held.{is_held};
-ghost use Rattle.ert_table.specs.Making.{Makes};
 ghost use Rattle.ert_answers.specs.TimerCalls.{Reads, Cancels};
-ghost use Rattle.ert_calls.specs.Left.{TellsLeft};
+ghost use Rattle.ert_calls.specs.Left.{Tells};
 ghost use Rattle.ert_calls.specs.Deadlines.{deadline_shown, Peeks};
 
 use crate::clock_calls::look;
@@ -25,8 +24,7 @@ pub fn read_timer(desk: &Desk, pass: &mut Pass, by: Actor, timer: TimerRef) -> O
     requires held { is_held (actors_of pass.old) by ≡ true }
     requires user { IsUser (settings_of desk.now) by }
     ensures belongs { Belongs desk.now pass.new }
-    ensures call { Makes (settings_of desk.now) (view_of pass.old) (Reads (settings_of desk.now) by timer result) (view_of pass.new) }
-    ensures left { TellsLeft (names_timer (settings_of desk.now) timer) (settings_of desk.now) by timer result (view_of pass.new) }
+    ensures call { Tells (settings_of desk.now) (view_of pass.old) by timer result (Reads (settings_of desk.now) by timer result) (view_of pass.new) }
 {
     let now = look(desk, pass, by);
     if !timer.is_in_range(desk.settings()) {
@@ -46,8 +44,7 @@ pub fn cancel_timer(desk: &Desk, pass: &mut Pass, by: Actor, timer: TimerRef) ->
     requires held { is_held (actors_of pass.old) by ≡ true }
     requires user { IsUser (settings_of desk.now) by }
     ensures belongs { Belongs desk.now pass.new }
-    ensures call { Makes (settings_of desk.now) (view_of pass.old) (Cancels (settings_of desk.now) by timer result) (view_of pass.new) }
-    ensures left { TellsLeft (names_timer (settings_of desk.now) timer) (settings_of desk.now) by timer result (view_of pass.new) }
+    ensures call { Tells (settings_of desk.now) (view_of pass.old) by timer result (Cancels (settings_of desk.now) by timer result) (view_of pass.new) }
 {
     let now = look(desk, pass, by);
     if !timer.is_in_range(desk.settings()) {
@@ -94,7 +91,7 @@ fn left(settings: &Settings, deadline: u64, now: i64) -> u64
 }
 
 /// The milliseconds from the start time to a time, rounded up.
-fn rounded_up(settings: &Settings, now: i64) -> u64
+pub fn rounded_up(settings: &Settings, now: i64) -> u64
     requires low { settings.now.start ≤ℤ now }
     requires high { now <ℤ end_time settings.now }
     ensures { pos result ≡ milliseconds.up settings.now now }

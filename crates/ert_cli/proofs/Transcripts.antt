@@ -7,7 +7,8 @@ use Rattle.ert_defs.specs.declared.entry.Entry.{Entry}
 use Rattle.ert_sched.specs.Worlds.{Service, StandsFor}
 use Rattle.ert_scenario.specs.Scenarios.{Plan}
 use Rattle.ert_script.proofs.Runs.{then_then, then-nil}
-use Rattle.ert_script.specs.Lines.{lines_of, end_line}
+use Rattle.ert_script.specs.Lines.{lines_of}
+use Rattle.ert_transcript.specs.Texts.{end_line}
 use Rattle.ert_script.specs.Scripts.{RunsFor}
 use Rattle.ert_script.specs.Transcripts.{IsTranscript}
 use Rattle.ert_io.specs.Writing.{WritesFront}

@@ -4,7 +4,7 @@ ghost use Rattle.ert_defs.specs.Settings.{IsChecked};
 ghost use Rattle.ert_scenario.specs.Ranges.{IsInRange};
 ghost use Rattle.ert_scenario.specs.Scenarios.{plan_of};
 ghost use Rattle.ert_io.specs.Known.{then};
-ghost use Rattle.ert_script.specs.Lines.{end_line};
+ghost use Rattle.ert_transcript.specs.Texts.{end_line};
 ghost use Rattle.ert_io.specs.Writing.{WritesFront};
 ghost use Rattle.ert_cli.specs.Runs.{RunsOn, WritesPart};
 

@@ -4,7 +4,7 @@
 //! An entry is one atomic step on the service, made by one or two actors. `docs/MODEL.md` has the
 //! definitions in words. The laws of the model are the contracts of functions that do nothing. Those that the
 //! proofs of the service rest on stand here: what a legal history is made of, locality, and how the statuses of
-//! timers move. The others, with worked histories that test the definitions, stand in `ert_laws`.
+//! timers move. The others stand in `ert_laws`, which also judges the worked histories of `specs/Worked`.
 #![tactic(auto)]
 
 mod entry;

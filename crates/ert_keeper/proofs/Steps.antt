@@ -1,26 +1,33 @@
 -- The clock's own steps on a pass: whatever others did between, the clock moves by those steps alone.
 
-use Rattle.std.proofs.Common.{◌≡◌, ℕ, ℤ, true, List, [], ◌∷◌, ◌++◌, Option, Some, None, refl, sym, subst, ap, ◌∙◌}
-use Rattle.std.specs.Prelude.{option_map}
-use Rattle.ert_clock.proofs.Stand.{owed, stands_none, stands_some, stands_kept}
+use Rattle.std.proofs.Common.{◌≡◌, ℕ, ℤ, Bool, true, false, List, [], ◌∷◌, ◌++◌, Option, Some, None, refl, sym, subst, ap, ◌∙◌}
+use Rattle.std.specs.Prelude.{option_map, Err}
+use Rattle.ert_answers.specs.ClockCalls.{RefusesTick, Acts, Finalizes}
+use Rattle.ert_clock.proofs.Stand.{shown_is, owed, stands_none, stands_some, stands_kept}
 use Rattle.ert_clock.specs.Shown.{Shown, Stands}
-use Rattle.ert_clock.specs.Ticks.{state_by, keeper_entry, tick_entry, tick_entries}
+use Rattle.ert_clock.specs.Ticks.{act_of, state_by, keeper_entry, tick_entry, tick_entries, due_of, IsWide, Gives, FinalizesFrom}
+use Rattle.ert_clock.specs.declared.clock.ClockErr.{ClockErr}
+use Rattle.ert_clock.specs.declared.clock.ClockErr.TheVariants.{BadReading, OffsetWide}
 use Rattle.ert_clock.specs.declared.clock.Moved.{Moved}
 use Rattle.ert_defs.proofs.Runs.{state-append, clock_stays}
 use Rattle.ert_defs.specs.Clocks.{Clock, clock_after}
-use Rattle.ert_defs.specs.Lines.{Face}
+use Rattle.ert_defs.specs.Lines.{Face, MayAct}
 use Rattle.ert_defs.specs.States.{State, state}
 use Rattle.ert_defs.specs.declared.entry.Act.{Act}
+use Rattle.ert_defs.specs.declared.entry.Act.TheVariants.{Finalize}
 use Rattle.ert_defs.specs.declared.entry.Actor.{Actor}
 use Rattle.ert_defs.specs.declared.entry.Actor.TheVariants.{Keeper, Caller}
 use Rattle.ert_defs.specs.declared.entry.Entry.{Entry}
 use Rattle.ert_defs.specs.declared.entry.Event.{Event}
 use Rattle.ert_defs.specs.declared.entry.Event.TheVariants.{Tick, Shift, Off}
 use Rattle.ert_defs.specs.declared.settings.OffsetState.{OffsetState}
+use Rattle.ert_defs.specs.declared.settings.OffsetState.TheVariants.{Preliminary, Final, Volatile}
 use Rattle.ert_defs.specs.declared.settings.Reading.{Reading}
 use Rattle.ert_defs.specs.declared.settings.Settings.{Settings}
 use Rattle.ert_table.proofs.Calls.{step_takes_place, takes_place_then}
+use Rattle.ert_table.proofs.Makings.{none_made}
 use Rattle.ert_table.specs.Held.{is_held, least_caller}
+use Rattle.ert_table.specs.Calls.{IsMade}
 use Rattle.ert_table.specs.Takes.{MayStep, Appends, TakesPlace}
 use Rattle.ert_table.specs.declared.view.View.{View}
 use Rattle.ert_keeper.specs.Published.{HoldsKeeper, IsAhead, IsStill}
@@ -111,3 +118,39 @@ off_published g v w n now offset s holds still step offset_is state_is =
           (step_takes_place g v (keeper_entry n (Off offset s)) w by));
       stands = stands;
     }
+
+-- an act is refused where the clock refuses it
+refuses : (g : Settings) (h : List Entry) (r : Reading) (act : Act) (e : ClockErr) (old new : Shown) → Stands g h old
+    → MayAct act old.face.state → Gives old r act (Err e) new → RefusesTick g r act e (state g h) []
+refuses g h r act BadReading old new stands may gives = record { invalid = gives.invalid; none = refl }
+refuses g h r act (OffsetWide value) old new stands may gives = record {
+  valid = gives.valid;
+  may = subst (MayAct act) (ap (λ (f : Face). f.state) stands.face) may;
+  wide = subst (λ (x : Shown). IsWide (due_of x r act) value) (shown_is g h old stands) gives.wide;
+  none = refl;
+}
+
+may_force : (force : Bool) (s : OffsetState) → MayAct (act_of force) s
+may_force true s = tt
+may_force false s = tt
+
+pub tick_refused : (g : Settings) (v w : View) (n : ℕ) (r : Reading) (force : Bool) (e : ClockErr) (old new : Shown) → Stands g v.front old
+    → Gives old r (act_of force) (Err e) new → w ≡ v → IsMade g v (Acts g n r (act_of force) (Err e)) w
+tick_refused g v w n r force e old new stands gives same =
+    none_made g v w (Acts g n r (act_of force) (Err e)) stands.legal
+    (refuses g v.front r (act_of force) e old new stands (may_force force old.face.state) gives) same
+
+-- a finalization is refused where the clock refuses it
+refuses_final : (g : Settings) (h : List Entry) (r : Reading) (e : ClockErr) (old new : Shown) (s : OffsetState) → s ≡ old.face.state
+    → FinalizesFrom s old r (Err e) new → Stands g h old → RefusesTick g r Finalize e (state g h) []
+refuses_final g h r e old new Preliminary is from stands = refuses g h r Finalize e old new stands (sym is) from
+refuses_final g h r BadReading old new Final is from stands = record { invalid = from.invalid; none = refl }
+refuses_final g h r (OffsetWide value) old new Final is from stands = absurd from
+refuses_final g h r BadReading old new Volatile is from stands = record { invalid = from.invalid; none = refl }
+refuses_final g h r (OffsetWide value) old new Volatile is from stands = absurd from
+
+pub final_refused : (g : Settings) (v w : View) (n : ℕ) (r : Reading) (e : ClockErr) (old new : Shown)
+    → FinalizesFrom old.face.state old r (Err e) new → Stands g v.front old → w ≡ v → IsMade g v (Finalizes g n r (Err e)) w
+final_refused g v w n r e old new from stands same =
+    none_made g v w (Finalizes g n r (Err e)) stands.legal
+    (refuses_final g v.front r e old new old.face.state refl from stands) same

@@ -1,22 +1,18 @@
 -- What the clock's part publishes on a desk.
 
-use Rattle.std.specs.Prelude.{◌≡◌, ℕ, ◌<◌, true, List, [], ◌∷◌, Some, Result, Ok, Err}
+use Rattle.std.specs.Prelude.{◌≡◌, ℕ, ◌<◌, true, List, Some, Ok}
 use Rattle.ert_clock.specs.Shown.{Shown, Stands}
-use Rattle.ert_clock.specs.Ticks.{Gives, keeper_entry, tick_entries}
-use Rattle.ert_clock.specs.declared.clock.ClockErr.{ClockErr}
+use Rattle.ert_clock.specs.Ticks.{Gives}
 use Rattle.ert_clock.specs.declared.clock.Moved.{Moved}
 use Rattle.ert_defs.specs.Lines.{MayAct}
 use Rattle.ert_defs.specs.declared.entry.Act.{Act}
-use Rattle.ert_defs.specs.declared.entry.Act.TheVariants.{Finalize}
 use Rattle.ert_defs.specs.declared.entry.Actor.TheVariants.{Keeper, Caller}
 use Rattle.ert_defs.specs.declared.entry.Entry.{Entry}
-use Rattle.ert_defs.specs.declared.entry.Event.TheVariants.{Off}
 use Rattle.ert_defs.specs.declared.settings.OffsetState.{OffsetState}
 use Rattle.ert_defs.specs.declared.settings.OffsetState.TheVariants.{Preliminary, Final, Volatile}
 use Rattle.ert_defs.specs.declared.settings.Reading.{Reading}
 use Rattle.ert_defs.specs.declared.settings.Settings.{Settings}
 use Rattle.ert_table.specs.Held.{is_held, least_caller}
-use Rattle.ert_table.specs.Takes.{TakesPlace}
 use Rattle.ert_table.specs.declared.view.View.{View}
 
 -- a pass holds the clock's part, and a caller in range with whom its entries are made
@@ -30,22 +26,6 @@ abbrev pub ReadsBy : OffsetState → Settings → View → ℕ → Type 0
 ReadsBy Preliminary g v by = Unit {0}
 ReadsBy Final g v by = least_caller v.actors g.callers ≡ Some by
 ReadsBy Volatile g v by = least_caller v.actors g.callers ≡ Some by
-
--- a tick takes place with its entry and then that of the shift that it made due; refused, it takes no step
-abbrev pub TickSteps : Settings → ℕ → Reading → Act → View → Result Moved ClockErr → View → Type 0
-TickSteps g by r act v (Ok m) w = TakesPlace g v (tick_entries by r act m.now m.shift) w
-TickSteps g by r act v (Err e) w = w ≡ v
-
--- the entries of a finalization, by the state before it: those of a tick, or a look of the clock at its offset
-abbrev pub final_entries : OffsetState → ℕ → Shown → Reading → Moved → List Entry
-final_entries Preliminary by old r m = tick_entries by r Finalize m.now m.shift
-final_entries Final by old r m = keeper_entry by (Off old.face.offset Final) ∷ []
-final_entries Volatile by old r m = keeper_entry by (Off old.face.offset Volatile) ∷ []
-
--- a finalization takes place with these entries; refused, it takes no step
-abbrev pub FinalSteps : Settings → ℕ → Reading → Shown → View → Result (OffsetState × Moved) ClockErr → View → Type 0
-FinalSteps g by r old v (Ok p) w = TakesPlace g v (final_entries old.face.state by old r p.1) w
-FinalSteps g by r old v (Err e) w = w ≡ v
 
 -- a clock has done a tick that the history it stood for doesn't have yet
 pub record IsAhead (g : Settings) (h : List Entry) (r : Reading) (act : Act) (m : Moved) (new : Shown) : Type 0 where

@@ -13,11 +13,9 @@
 //! answers exactly as the clock does, and takes place on the pass with exactly its entries. A refused call
 //! takes no step and changes nothing. No call takes memory.
 //!
-//! It stands on `ert_defs`, `ert_clock` and `ert_table`.
+//! It stands on `ert_defs`, `ert_clock`, `ert_answers` and `ert_table`.
 #![tactic(auto)]
 
 mod part;
-#[cfg(test)]
-mod tests;
 
 pub use part::KeeperPart;

@@ -22,13 +22,16 @@ impl Model for KeeperPart {
 
 impl KeeperPart {
     ghost use Rattle.std.specs.Prelude.{◌≡◌, [], ◌∷◌};
+    ghost use Rattle.std.specs.Result.{IfErr};
+    ghost use Rattle.ert_answers.specs.ClockCalls.{Ticks, Finalizes};
+    ghost use Rattle.ert_table.specs.Calls.{IsMade};
     ghost use Rattle.ert_defs.specs.Settings.{IsChecked};
     ghost use Rattle.ert_clock.specs.Shown.{Stands, opening_shown};
     ghost use Rattle.ert_clock.specs.Ticks.{act_of, Gives, FinalizesFrom, tick_entries, keeper_entry};
     ghost use Rattle.ert_defs.specs.declared.entry.Event.TheVariants.{Off};
     ghost use Rattle.ert_table.specs.Desks.{settings_of, view_of, front_of, Belongs};
     ghost use Rattle.ert_table.specs.Takes.{TakesPlace};
-    ghost use Rattle.ert_keeper.specs.Published.{HoldsKeeper, ReadsBy, TickSteps, FinalSteps, IsAhead, IsStill};
+    ghost use Rattle.ert_keeper.specs.Published.{HoldsKeeper, ReadsBy, IsAhead, IsStill};
 
     /// The part of a desk that has just been opened: its clock is that of the opening.
     pub fn open(settings: &Settings) -> KeeperPart
@@ -65,7 +68,8 @@ impl KeeperPart {
         requires stands { Stands (settings_of desk.now) (front_of pass.old) self.old }
         ensures belongs { Belongs desk.now pass.new }
         ensures gives { Gives self.old reading (act_of force) result self.new }
-        ensures steps { TickSteps (settings_of desk.now) by reading (act_of force) (view_of pass.old) result (view_of pass.new) }
+        ensures call { IsMade (settings_of desk.now) (view_of pass.old) (Ticks (settings_of desk.now) by reading force result) (view_of pass.new) }
+        ensures refused { IfErr result (λ e. view_of pass.new ≡ view_of pass.old) }
         ensures stands { Stands (settings_of desk.now) (front_of pass.new) self.new }
     {
         let moved = self.clock.tick(reading, force)?;
@@ -92,7 +96,8 @@ impl KeeperPart {
         requires stands { Stands (settings_of desk.now) (front_of pass.old) self.old }
         ensures belongs { Belongs desk.now pass.new }
         ensures gives { FinalizesFrom self.old.face.state self.old reading result self.new }
-        ensures steps { FinalSteps (settings_of desk.now) by reading self.old (view_of pass.old) result (view_of pass.new) }
+        ensures call { IsMade (settings_of desk.now) (view_of pass.old) (Finalizes (settings_of desk.now) by reading result) (view_of pass.new) }
+        ensures refused { IfErr result (λ e. view_of pass.new ≡ view_of pass.old) }
         ensures stands { Stands (settings_of desk.now) (front_of pass.new) self.new }
     {
         let (state, moved) = self.clock.finalize(reading)?;

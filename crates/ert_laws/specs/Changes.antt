@@ -1,5 +1,5 @@
 -- What a message tells of a change of the time offset (`erlang` module reference, `monitor`, type
--- `time_offset`). The function of src/changes.rt carries the law as a contract, so that it is proved.
+-- `time_offset`). The function of src/changes.rt carries the laws as its contract, so that they are proved.
 
 use Rattle.std.specs.Prelude.{◌≡◌, ◌≢◌, ℕ, ℤ, cond, ◌&&◌, nat_eq, All, List, [], ◌∷◌, ◌++◌, Option, Some, None}
 use Rattle.ert_defs.specs.Legal.{Legal}

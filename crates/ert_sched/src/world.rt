@@ -33,7 +33,9 @@ impl World {
     ghost use Rattle.ert_defs.specs.Settings.{IsChecked};
     ghost use Rattle.ert_clock.specs.Ticks.{act_of, Gives, FinalizesFrom};
     ghost use Rattle.ert_table.specs.Desks.{settings_of, KnowsAll};
-    ghost use Rattle.ert_sched.specs.Worlds.{StandsFor, Extends, look_entries, off_entries, system_entries, moved_entries, finalized_entries};
+    ghost use Rattle.ert_sched.specs.Worlds.{StandsFor, Goes};
+    ghost use Rattle.ert_answers.specs.ClockCalls.{Ticks, Finalizes, TellsTime, TellsOffset, TellsSystemTime};
+    ghost use Rattle.ert_defs.specs.declared.entry.Actor.TheVariants.{Caller};
 
     /// Opens a service. Its history is empty.
     pub fn open(alloc: Global, settings: &Settings) -> Result<World, NoMemory>
@@ -68,7 +70,7 @@ impl World {
     /// It is refused where the clock refuses it (`ClockErr`), and then it makes no entry.
     pub fn tick(&mut self, reading: Reading, force: bool) -> Result<Moved, ClockErr>
         ensures gives { Gives self.old.clock reading (act_of force) result self.new.clock }
-        ensures entries { Extends self.old self.new (moved_entries reading (act_of force) result) }
+        ensures call { Goes self.old (λ g. Ticks g 0 reading force result) self.new }
         ensures settings { self.new.settings ≡ self.old.settings }
     {
         self.keeper
@@ -81,7 +83,7 @@ impl World {
     /// It is refused where the clock refuses it (`ClockErr`), and then it makes no entry.
     pub fn finalize(&mut self, reading: Reading) -> Result<(OffsetState, Moved), ClockErr>
         ensures gives { FinalizesFrom self.old.clock.face.state self.old.clock reading result self.new.clock }
-        ensures entries { Extends self.old self.new (finalized_entries self.old.clock reading result) }
+        ensures call { Goes self.old (λ g. Finalizes g 0 reading result) self.new }
         ensures settings { self.new.settings ≡ self.old.settings }
     {
         self.keeper
@@ -91,7 +93,7 @@ impl World {
     /// Monotonic time, in nanoseconds (`erlang:monotonic_time`).
     pub fn monotonic_time(&mut self) -> i64
         ensures value { result ≡ self.old.clock.face.time }
-        ensures entries { Extends self.old self.new (look_entries result) }
+        ensures call { Goes self.old (λ g. TellsTime g (Caller 0) result) self.new }
         ensures settings { self.new.settings ≡ self.old.settings }
         ensures clock { self.new.clock ≡ self.old.clock }
     {
@@ -102,7 +104,7 @@ impl World {
     pub fn time_offset(&mut self) -> (i64, OffsetState)
         ensures value { result.0 ≡ self.old.clock.face.offset }
         ensures state { result.1 ≡ self.old.clock.face.state }
-        ensures entries { Extends self.old self.new (off_entries result.0 result.1) }
+        ensures call { Goes self.old (λ g. TellsOffset g (Caller 0) result) self.new }
         ensures settings { self.new.settings ≡ self.old.settings }
         ensures clock { self.new.clock ≡ self.old.clock }
     {
@@ -112,7 +114,7 @@ impl World {
     /// System time, in nanoseconds: monotonic time plus the time offset (`erlang:system_time`).
     pub fn system_time(&mut self) -> i64
         ensures value { result ≡ self.old.clock.face.time +ℤ self.old.clock.face.offset }
-        ensures entries { Extends self.old self.new (system_entries self.old.clock) }
+        ensures call { Goes self.old (λ g. TellsSystemTime g (Caller 0) result) self.new }
         ensures settings { self.new.settings ≡ self.old.settings }
         ensures clock { self.new.clock ≡ self.old.clock }
     {

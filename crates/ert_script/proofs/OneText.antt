@@ -10,20 +10,24 @@ use Rattle.ert_defs.specs.States.{State, opening, run, state}
 use Rattle.ert_defs.specs.declared.entry.Act.{Act}
 use Rattle.ert_defs.specs.declared.entry.Act.TheVariants.{Plain, Force, Finalize as Finalizing}
 use Rattle.ert_defs.specs.declared.entry.Entry.{Entry}
-use Rattle.ert_defs.specs.declared.entry.Event.TheVariants.{Look, Off}
+use Rattle.ert_defs.specs.declared.entry.Event.TheVariants.{Off}
 use Rattle.ert_defs.specs.declared.settings.Mode.{Mode}
 use Rattle.ert_defs.specs.declared.settings.OffsetState.{OffsetState}
 use Rattle.ert_defs.specs.declared.settings.OffsetState.TheVariants.{Preliminary, Final, Volatile}
 use Rattle.ert_defs.specs.declared.settings.Reading.{Reading}
 use Rattle.ert_defs.specs.declared.settings.Settings.{Settings}
-use Rattle.ert_clock.specs.Ticks.{tick_entries, offset_of, IsWide}
-use Rattle.ert_sched.specs.Worlds.{caller_entry}
+use Rattle.ert_answers.specs.ClockCalls.{Moves, IsTooWide, Stays, FinalizesFrom, TellsSystemTime}
+use Rattle.ert_clock.specs.Ticks.{keeper_entry, tick_entries, offset_of, IsWide}
+use Rattle.ert_clock.specs.declared.clock.Moved.{Moved}
+use Rattle.ert_defs.specs.Entries.{look_entry, off_entry}
+use Rattle.ert_defs.specs.declared.entry.Actor.TheVariants.{Caller}
 use Rattle.ert_scenario.specs.declared.op.Op.{Op}
 use Rattle.ert_scenario.specs.declared.op.Op.TheVariants as ops
 use Rattle.ert_script.specs.declared.reply.Reply.{Reply}
 use Rattle.ert_script.specs.declared.reply.Reply.TheVariants.{Tick, TickWide, Check, CheckWide, Finalize, FinalizeWide, Time, System, Offset, Info, Convert, ConvertTooWide}
-use Rattle.ert_script.specs.Lines.{lines_of, end_line}
-use Rattle.ert_script.specs.Scripts.{IsMove, IsRefusal, IsOld, IsFinal, IsSum, Tells, Allows, ScriptRun}
+use Rattle.ert_script.specs.Lines.{lines_of}
+use Rattle.ert_transcript.specs.Texts.{end_line}
+use Rattle.ert_script.specs.Scripts.{reading_of, moved_to, Tells, Allows, ScriptRun}
 use Rattle.ert_script.specs.Transcripts.{IsTranscript}
 
 -- a reply and entries that an op allows, as a function of both determines them
@@ -33,15 +37,15 @@ pub record IsOne (a b : Reply) (es fs : List Entry) : Type 0 where
 
 -- the time of a tick is the one that follows the state
 move_time : (g : Settings) (s : State) (r : Reading) (act : Act) (now : ℤ) (shift : Option ℤ) (es : List Entry)
-    → IsMove g s r act now shift es → LegalFrom g s es → now ≡ time_after g (face g s.clock) r
+    → Moves g 0 r act (moved_to now shift) s es → LegalFrom g s es → now ≡ time_after g (face g s.clock) r
 move_time g s r act now shift es m legal = (subst (λ (x : List Entry). LegalFrom g s x) m.entries legal).0.known.1.told
 
 move_state : (g : Settings) (s : State) (r : Reading) (act : Act) (now : ℤ) (shift : Option ℤ) (es : List Entry)
-    → IsMove g s r act now shift es → LegalFrom g s es → MayAct act s.clock.state
+    → Moves g 0 r act (moved_to now shift) s es → LegalFrom g s es → MayAct act s.clock.state
 move_state g s r act now shift es m legal = (subst (λ (x : List Entry). LegalFrom g s x) m.entries legal).0.known.1.may
 
 move_range : (g : Settings) (s : State) (r : Reading) (act : Act) (now : ℤ) (shift : Option ℤ) (es : List Entry)
-    → IsMove g s r act now shift es → LegalFrom g s es → IsInRange (due_after g (face g s.clock) r act now)
+    → Moves g 0 r act (moved_to now shift) s es → LegalFrom g s es → IsInRange (due_after g (face g s.clock) r act now)
 move_range g s r act now shift es m legal = (subst (λ (x : List Entry). LegalFrom g s x) m.entries legal).0.known.1.in_range
 
 -- two moves of one state by one reading are one
@@ -51,11 +55,11 @@ pub record IsSame (now then : ℤ) (shift other : Option ℤ) (es fs : List Entr
   pub entries : es ≡ fs
 
 one_move : (g : Settings) (s : State) (r : Reading) (act : Act) (now then : ℤ) (shift other : Option ℤ) (es fs : List Entry)
-    → IsMove g s r act now shift es → LegalFrom g s es → IsMove g s r act then other fs → LegalFrom g s fs
+    → Moves g 0 r act (moved_to now shift) s es → LegalFrom g s es → Moves g 0 r act (moved_to then other) s fs → LegalFrom g s fs
     → IsSame now then shift other es fs
 one_move g s r act now then shift other es fs m legal n lawful =
     let time : now ≡ then = move_time g s r act now shift es m legal ∙ sym (move_time g s r act then other fs n lawful) in
-    let same : shift ≡ other = m.due ∙ ap (λ (t : ℤ). offset_of (due_after g (face g s.clock) r act t)) time ∙ sym n.due in
+    let same : shift ≡ other = m.shift ∙ ap (λ (t : ℤ). offset_of (due_after g (face g s.clock) r act t)) time ∙ sym n.shift in
     record {
       time = time;
       shift_is = same;
@@ -69,7 +73,7 @@ not_wide (Some d) value h w = w.1 h
 
 -- a tick isn't both made and refused
 not_both : (g : Settings) (s : State) (r : Reading) (act : Act) (now : ℤ) (shift : Option ℤ) (es fs : List Entry) (value : ℤ)
-    → IsMove g s r act now shift es → LegalFrom g s es → IsRefusal g s r act value fs → ⊥
+    → Moves g 0 r act (moved_to now shift) s es → LegalFrom g s es → IsTooWide g r act value s fs → ⊥
 not_both g s r act now shift es fs value m legal w =
     not_wide (due_after g (face g s.clock) r act (time_after g (face g s.clock) r)) value
     (subst (λ (t : ℤ). IsInRange (due_after g (face g s.clock) r act t)) (move_time g s r act now shift es m legal) (move_range g s r act now shift es m legal))
@@ -81,108 +85,113 @@ one_value None x y a b = absurd a
 one_value (Some d) x y a b = a.0 ∙ sym b.0
 
 one_refusal : (g : Settings) (s : State) (r : Reading) (act : Act) (x y : ℤ) (es fs : List Entry)
-    → IsRefusal g s r act x es → IsRefusal g s r act y fs → x ≡ y
+    → IsTooWide g r act x s es → IsTooWide g r act y s fs → x ≡ y
 one_refusal g s r act x y es fs a b = one_value (due_after g (face g s.clock) r act (time_after g (face g s.clock) r)) x y a.wide b.wide
 
 -- a tick has one answer
 one_tick : (g : Settings) (s : State) (mono sys : ℤ) (a b : Reply) (p q : List Entry)
-    → Allows g s (ops.Tick mono sys) a p → LegalFrom g s p → Allows g s (ops.Tick mono sys) b q → LegalFrom g s q → IsOne a b p q
+    → Allows g (ops.Tick mono sys) a s p → LegalFrom g s p → Allows g (ops.Tick mono sys) b s q → LegalFrom g s q → IsOne a b p q
 one_tick g s mono sys (Tick now shift) (Tick then other) p q i legal j lawful =
-    let same = one_move g s (record { mono = mono; sys = sys }) Plain now then shift other p q i legal j lawful in
+    let same = one_move g s (reading_of mono sys) Plain now then shift other p q i legal j lawful in
     record { reply = ap (λ (t : ℤ). Tick t shift) same.time ∙ ap (λ (x : Option ℤ). Tick then x) same.shift_is; entries = same.entries }
 one_tick g s mono sys (Tick now shift) (TickWide value) p q i legal j lawful =
-    absurd (not_both g s (record { mono = mono; sys = sys }) Plain now shift p q value i legal j)
+    absurd (not_both g s (reading_of mono sys) Plain now shift p q value i legal j)
 one_tick g s mono sys (TickWide value) (Tick now shift) p q i legal j lawful =
-    absurd (not_both g s (record { mono = mono; sys = sys }) Plain now shift q p value j lawful i)
+    absurd (not_both g s (reading_of mono sys) Plain now shift q p value j lawful i)
 one_tick g s mono sys (TickWide x) (TickWide y) p q i legal j lawful =
-    record { reply = ap (λ (v : ℤ). TickWide v) (one_refusal g s (record { mono = mono; sys = sys }) Plain x y p q i j); entries = i.none ∙ sym j.none }
+    record { reply = ap (λ (v : ℤ). TickWide v) (one_refusal g s (reading_of mono sys) Plain x y p q i j); entries = i.none ∙ sym j.none }
 one_tick g s mono sys (Tick now shift) b p q i legal j lawful = absurd j
 one_tick g s mono sys (TickWide x) b p q i legal j lawful = absurd j
 one_tick g s mono sys a b p q i legal j lawful = absurd i
 
 one_check : (g : Settings) (s : State) (mono sys : ℤ) (a b : Reply) (p q : List Entry)
-    → Allows g s (ops.Check mono sys) a p → LegalFrom g s p → Allows g s (ops.Check mono sys) b q → LegalFrom g s q → IsOne a b p q
+    → Allows g (ops.Check mono sys) a s p → LegalFrom g s p → Allows g (ops.Check mono sys) b s q → LegalFrom g s q → IsOne a b p q
 one_check g s mono sys (Check now shift) (Check then other) p q i legal j lawful =
-    let same = one_move g s (record { mono = mono; sys = sys }) Force now then shift other p q i legal j lawful in
+    let same = one_move g s (reading_of mono sys) Force now then shift other p q i legal j lawful in
     record { reply = ap (λ (t : ℤ). Check t shift) same.time ∙ ap (λ (x : Option ℤ). Check then x) same.shift_is; entries = same.entries }
 one_check g s mono sys (Check now shift) (CheckWide value) p q i legal j lawful =
-    absurd (not_both g s (record { mono = mono; sys = sys }) Force now shift p q value i legal j)
+    absurd (not_both g s (reading_of mono sys) Force now shift p q value i legal j)
 one_check g s mono sys (CheckWide value) (Check now shift) p q i legal j lawful =
-    absurd (not_both g s (record { mono = mono; sys = sys }) Force now shift q p value j lawful i)
+    absurd (not_both g s (reading_of mono sys) Force now shift q p value j lawful i)
 one_check g s mono sys (CheckWide x) (CheckWide y) p q i legal j lawful =
-    record { reply = ap (λ (v : ℤ). CheckWide v) (one_refusal g s (record { mono = mono; sys = sys }) Force x y p q i j); entries = i.none ∙ sym j.none }
+    record { reply = ap (λ (v : ℤ). CheckWide v) (one_refusal g s (reading_of mono sys) Force x y p q i j); entries = i.none ∙ sym j.none }
 one_check g s mono sys (Check now shift) b p q i legal j lawful = absurd j
 one_check g s mono sys (CheckWide x) b p q i legal j lawful = absurd j
 one_check g s mono sys a b p q i legal j lawful = absurd i
 
--- the state that a finalization answers is the one before it
-final_state : (g : Settings) (s : State) (r : Reading) (old : OffsetState) (now : ℤ) (shift : Option ℤ) (es : List Entry)
-    → IsFinal g s r old now shift es → LegalFrom g s es → old ≡ s.clock.state
-final_state g s r Preliminary now shift es i legal = sym (move_state g s r Finalizing now shift es i legal)
-final_state g s r Final now shift es i legal = i.final
-final_state g s r Volatile now shift es i legal = i.final
+-- the offset that a finalization read, where it found nothing preliminary
+stays_offset : (g : Settings) (s : State) (r : Reading) (old : OffsetState) (m : Moved) (es : List Entry) → (i : Stays 0 r old m s es)
+    → LegalFrom g s es → i.offset ≡ s.clock.offset
+stays_offset g s r old m es i legal = (subst (λ (x : List Entry). LegalFrom g s x) i.entries legal).0.found.0
 
--- two finalizations that found nothing preliminary
-one_old : (s : State) (old : OffsetState) (now then : ℤ) (shift other : Option ℤ) (es fs : List Entry)
-    → IsOld s old now shift es → IsOld s old then other fs → IsSame now then shift other es fs
-one_old s old now then shift other es fs a b =
-    record { time = a.time ∙ sym b.time; shift_is = a.unmoved ∙ sym b.unmoved; entries = a.entries ∙ sym b.entries }
+one_old : (g : Settings) (s : State) (r : Reading) (old : OffsetState) (now then : ℤ) (shift other : Option ℤ) (es fs : List Entry)
+    → Stays 0 r old (moved_to now shift) s es → LegalFrom g s es → Stays 0 r old (moved_to then other) s fs → LegalFrom g s fs
+    → IsSame now then shift other es fs
+one_old g s r old now then shift other es fs a legal b lawful =
+    let offset : a.offset ≡ b.offset =
+    stays_offset g s r old (moved_to now shift) es a legal ∙ sym (stays_offset g s r old (moved_to then other) fs b lawful) in
+    record {
+      time = a.time ∙ sym b.time;
+      shift_is = a.unmoved ∙ sym b.unmoved;
+      entries = a.entries ∙ ap (λ (x : ℤ). keeper_entry 0 (Off x old) ∷ []) offset ∙ sym b.entries;
+    }
 
 one_final : (g : Settings) (s : State) (r : Reading) (old : OffsetState) (now then : ℤ) (shift other : Option ℤ) (es fs : List Entry)
-    → IsFinal g s r old now shift es → LegalFrom g s es → IsFinal g s r old then other fs → LegalFrom g s fs
+    → FinalizesFrom old g 0 r (moved_to now shift) s es → LegalFrom g s es → FinalizesFrom old g 0 r (moved_to then other) s fs → LegalFrom g s fs
     → IsSame now then shift other es fs
 one_final g s r Preliminary now then shift other es fs i legal j lawful = one_move g s r Finalizing now then shift other es fs i legal j lawful
-one_final g s r Final now then shift other es fs i legal j lawful = one_old s Final now then shift other es fs i j
-one_final g s r Volatile now then shift other es fs i legal j lawful = one_old s Volatile now then shift other es fs i j
+one_final g s r Final now then shift other es fs i legal j lawful = one_old g s r Final now then shift other es fs i legal j lawful
+one_final g s r Volatile now then shift other es fs i legal j lawful = one_old g s r Volatile now then shift other es fs i legal j lawful
 
 -- a finalization isn't both made and refused: a refused one found a preliminary offset
 not_final : (g : Settings) (s : State) (r : Reading) (old : OffsetState) (now : ℤ) (shift : Option ℤ) (es fs : List Entry) (value : ℤ)
-    → IsFinal g s r old now shift es → LegalFrom g s es → IsRefusal g s r Finalizing value fs → ⊥
-not_final g s r Preliminary now shift es fs value i legal w = not_both g s r Finalizing now shift es fs value i legal w
-not_final g s r Final now shift es fs value i legal w = let e : Final ≡ Preliminary = i.final ∙ w.may in cc
-not_final g s r Volatile now shift es fs value i legal w = let e : Volatile ≡ Preliminary = i.final ∙ w.may in cc
+    → old ≡ s.clock.state → FinalizesFrom old g 0 r (moved_to now shift) s es → LegalFrom g s es → IsTooWide g r Finalizing value s fs → ⊥
+not_final g s r Preliminary now shift es fs value is i legal w = not_both g s r Finalizing now shift es fs value i legal w
+not_final g s r Final now shift es fs value is i legal w = let e : Final ≡ Preliminary = is ∙ w.may in cc
+not_final g s r Volatile now shift es fs value is i legal w = let e : Volatile ≡ Preliminary = is ∙ w.may in cc
 
 one_finalize : (g : Settings) (s : State) (mono sys : ℤ) (a b : Reply) (p q : List Entry)
-    → Allows g s (ops.Finalize mono sys) a p → LegalFrom g s p → Allows g s (ops.Finalize mono sys) b q → LegalFrom g s q → IsOne a b p q
+    → Allows g (ops.Finalize mono sys) a s p → LegalFrom g s p → Allows g (ops.Finalize mono sys) b s q → LegalFrom g s q → IsOne a b p q
 one_finalize g s mono sys (Finalize old now shift) (Finalize was then other) p q i legal j lawful =
-    let r : Reading = record { mono = mono; sys = sys } in
-    let state : old ≡ was = final_state g s r old now shift p i legal ∙ sym (final_state g s r was then other q j lawful) in
-    let again : IsFinal g s r old then other q = subst (λ (x : OffsetState). IsFinal g s r x then other q) (sym state) j in
-    let same = one_final g s r old now then shift other p q i legal again lawful in
+    let r : Reading = reading_of mono sys in
+    let state : old ≡ was = i.0 ∙ sym j.0 in
+    let again : FinalizesFrom old g 0 r (moved_to then other) s q =
+    subst (λ (x : OffsetState). FinalizesFrom x g 0 r (moved_to then other) s q) (sym state) j.1 in
+    let same = one_final g s r old now then shift other p q i.1 legal again lawful in
     record {
       reply = ap (λ (x : OffsetState). Finalize x now shift) state ∙ ap (λ (t : ℤ). Finalize was t shift) same.time
           ∙ ap (λ (x : Option ℤ). Finalize was then x) same.shift_is;
       entries = same.entries;
     }
 one_finalize g s mono sys (Finalize old now shift) (FinalizeWide value) p q i legal j lawful =
-    absurd (not_final g s (record { mono = mono; sys = sys }) old now shift p q value i legal j)
+    absurd (not_final g s (reading_of mono sys) old now shift p q value i.0 i.1 legal j)
 one_finalize g s mono sys (FinalizeWide value) (Finalize old now shift) p q i legal j lawful =
-    absurd (not_final g s (record { mono = mono; sys = sys }) old now shift q p value j lawful i)
+    absurd (not_final g s (reading_of mono sys) old now shift q p value j.0 j.1 lawful i)
 one_finalize g s mono sys (FinalizeWide x) (FinalizeWide y) p q i legal j lawful =
-    record { reply = ap (λ (v : ℤ). FinalizeWide v) (one_refusal g s (record { mono = mono; sys = sys }) Finalizing x y p q i j); entries = i.none ∙ sym j.none }
+    record { reply = ap (λ (v : ℤ). FinalizeWide v) (one_refusal g s (reading_of mono sys) Finalizing x y p q i j); entries = i.none ∙ sym j.none }
 one_finalize g s mono sys (Finalize old now shift) b p q i legal j lawful = absurd j
 one_finalize g s mono sys (FinalizeWide x) b p q i legal j lawful = absurd j
 one_finalize g s mono sys a b p q i legal j lawful = absurd i
 
 -- a look is of the time
-looked : (g : Settings) (s : State) (now : ℤ) (later es : List Entry) → es ≡ caller_entry (Look now) ∷ later → LegalFrom g s es → now ≡ s.clock.now
+looked : (g : Settings) (s : State) (now : ℤ) (later es : List Entry) → es ≡ look_entry (Caller 0) now ∷ later → LegalFrom g s es → now ≡ s.clock.now
 looked g s now later es is legal = (subst (λ (x : List Entry). LegalFrom g s x) is legal).0.found
 
 -- a look at the offset is of the offset
-seen : (g : Settings) (s : State) (offset : ℤ) (state : OffsetState) (later es : List Entry) → es ≡ caller_entry (Off offset state) ∷ later
+seen : (g : Settings) (s : State) (offset : ℤ) (state : OffsetState) (later es : List Entry) → es ≡ off_entry (Caller 0) offset state ∷ later
     → LegalFrom g s es → (offset ≡ s.clock.offset) × (state ≡ s.clock.state)
 seen g s offset state later es is legal = (subst (λ (x : List Entry). LegalFrom g s x) is legal).0.found
 
 one_time : (g : Settings) (s : State) (a b : Reply) (p q : List Entry)
-    → Allows g s ops.Time a p → LegalFrom g s p → Allows g s ops.Time b q → LegalFrom g s q → IsOne a b p q
+    → Allows g ops.Time a s p → LegalFrom g s p → Allows g ops.Time b s q → LegalFrom g s q → IsOne a b p q
 one_time g s (Time now) (Time then) p q i legal j lawful =
     let same : now ≡ then = looked g s now [] p i legal ∙ sym (looked g s then [] q j lawful) in
-    record { reply = ap (λ (t : ℤ). Time t) same; entries = i ∙ ap (λ (t : ℤ). caller_entry (Look t) ∷ []) same ∙ sym j }
+    record { reply = ap (λ (t : ℤ). Time t) same; entries = i ∙ ap (λ (t : ℤ). look_entry (Caller 0) t ∷ []) same ∙ sym j }
 one_time g s (Time now) b p q i legal j lawful = absurd j
 one_time g s a b p q i legal j lawful = absurd i
 
 one_offset : (g : Settings) (s : State) (a b : Reply) (p q : List Entry)
-    → Allows g s ops.Offset a p → LegalFrom g s p → Allows g s ops.Offset b q → LegalFrom g s q → IsOne a b p q
+    → Allows g ops.Offset a s p → LegalFrom g s p → Allows g ops.Offset b s q → LegalFrom g s q → IsOne a b p q
 one_offset g s (Offset x k) (Offset y l) p q i legal j lawful =
     let u = seen g s x k [] p i legal in
     let v = seen g s y l [] q j lawful in
@@ -190,37 +199,37 @@ one_offset g s (Offset x k) (Offset y l) p q i legal j lawful =
     let state : k ≡ l = u.1 ∙ sym v.1 in
     record {
       reply = ap (λ (z : ℤ). Offset z k) offset ∙ ap (λ (z : OffsetState). Offset y z) state;
-      entries = i ∙ ap (λ (z : ℤ). caller_entry (Off z k) ∷ []) offset ∙ ap (λ (z : OffsetState). caller_entry (Off y z) ∷ []) state ∙ sym j;
+      entries = i ∙ ap (λ (z : ℤ). off_entry (Caller 0) z k ∷ []) offset ∙ ap (λ (z : OffsetState). off_entry (Caller 0) y z ∷ []) state ∙ sym j;
     }
 one_offset g s (Offset x k) b p q i legal j lawful = absurd j
 one_offset g s a b p q i legal j lawful = absurd i
 
 -- the time and the offset behind a sum are those of the state
-sum_seen : (g : Settings) (s : State) (time : ℤ) (es : List Entry) → (i : IsSum time es) → LegalFrom g s es
-    → (i.now ≡ s.clock.now) × (i.offset ≡ s.clock.offset) × (i.state ≡ s.clock.state)
+sum_seen : (g : Settings) (s : State) (time : ℤ) (es : List Entry) → (i : TellsSystemTime g (Caller 0) time s es) → LegalFrom g s es
+    → (i.now ≡ s.clock.now) × (i.offset ≡ s.clock.offset) × (i.offset_state ≡ s.clock.state)
 sum_seen g s time es i legal =
     let at = subst (λ (x : List Entry). LegalFrom g s x) i.entries legal in
     (at.0.found, at.1.0.found.0, at.1.0.found.1)
 
 one_system : (g : Settings) (s : State) (a b : Reply) (p q : List Entry)
-    → Allows g s ops.System a p → LegalFrom g s p → Allows g s ops.System b q → LegalFrom g s q → IsOne a b p q
+    → Allows g ops.System a s p → LegalFrom g s p → Allows g ops.System b s q → LegalFrom g s q → IsOne a b p q
 one_system g s (System x) (System y) p q i legal j lawful =
     let u = sum_seen g s x p i legal in
     let v = sum_seen g s y q j lawful in
     let now : i.now ≡ j.now = u.0 ∙ sym v.0 in
     let offset : i.offset ≡ j.offset = u.1 ∙ sym v.1 in
-    let state : i.state ≡ j.state = u.2 ∙ sym v.2 in
+    let state : i.offset_state ≡ j.offset_state = u.2 ∙ sym v.2 in
     record {
       reply = ap (λ (z : ℤ). System z) (i.sum ∙ ap (λ (z : ℤ). z +ℤ i.offset) now ∙ ap (λ (z : ℤ). j.now +ℤ z) offset ∙ sym j.sum);
-      entries = i.entries ∙ ap (λ (z : ℤ). caller_entry (Look z) ∷ caller_entry (Off i.offset i.state) ∷ []) now
-          ∙ ap (λ (z : ℤ). caller_entry (Look j.now) ∷ caller_entry (Off z i.state) ∷ []) offset
-          ∙ ap (λ (z : OffsetState). caller_entry (Look j.now) ∷ caller_entry (Off j.offset z) ∷ []) state ∙ sym j.entries;
+      entries = i.entries ∙ ap (λ (z : ℤ). look_entry (Caller 0) z ∷ off_entry (Caller 0) i.offset i.offset_state ∷ []) now
+          ∙ ap (λ (z : ℤ). look_entry (Caller 0) j.now ∷ off_entry (Caller 0) z i.offset_state ∷ []) offset
+          ∙ ap (λ (z : OffsetState). look_entry (Caller 0) j.now ∷ off_entry (Caller 0) j.offset z ∷ []) state ∙ sym j.entries;
     }
 one_system g s (System x) b p q i legal j lawful = absurd j
 one_system g s a b p q i legal j lawful = absurd i
 
 one_info : (g : Settings) (s : State) (a b : Reply) (p q : List Entry)
-    → Allows g s ops.Info a p → LegalFrom g s p → Allows g s ops.Info b q → LegalFrom g s q → IsOne a b p q
+    → Allows g ops.Info a s p → LegalFrom g s p → Allows g ops.Info b s q → LegalFrom g s q → IsOne a b p q
 one_info g s (Info start end mode correction x k) (Info start' end' mode' correction' y l) p q i legal j lawful =
     let u = seen g s x k [] p i.entries legal in
     let v = seen g s y l [] q j.entries lawful in
@@ -233,7 +242,7 @@ one_info g s (Info start end mode correction x k) (Info start' end' mode' correc
           ∙ ap (λ (z : Bool). Info start' end' mode' z x k) (i.corrects ∙ sym j.corrects)
           ∙ ap (λ (z : ℤ). Info start' end' mode' correction' z k) offset
           ∙ ap (λ (z : OffsetState). Info start' end' mode' correction' y z) state;
-      entries = i.entries ∙ ap (λ (z : ℤ). caller_entry (Off z k) ∷ []) offset ∙ ap (λ (z : OffsetState). caller_entry (Off y z) ∷ []) state ∙ sym j.entries;
+      entries = i.entries ∙ ap (λ (z : ℤ). off_entry (Caller 0) z k ∷ []) offset ∙ ap (λ (z : OffsetState). off_entry (Caller 0) y z ∷ []) state ∙ sym j.entries;
     }
 one_info g s (Info start end mode correction x k) b p q i legal j lawful = absurd j
 one_info g s a b p q i legal j lawful = absurd i
@@ -250,7 +259,7 @@ one_value_told time from to a b i j = absurd i
 
 -- an op has one reply in a state, with one list of entries
 one_piece : (g : Settings) (s : State) (op : Op) (a b : Reply) (p q : List Entry)
-    → Allows g s op a p → LegalFrom g s p → Allows g s op b q → LegalFrom g s q → IsOne a b p q
+    → Allows g op a s p → LegalFrom g s p → Allows g op b s q → LegalFrom g s q → IsOne a b p q
 one_piece g s (ops.Tick mono sys) a b p q i legal j lawful = one_tick g s mono sys a b p q i legal j lawful
 one_piece g s (ops.Check mono sys) a b p q i legal j lawful = one_check g s mono sys a b p q i legal j lawful
 one_piece g s (ops.Finalize mono sys) a b p q i legal j lawful = one_finalize g s mono sys a b p q i legal j lawful

@@ -10,12 +10,12 @@ use Rattle.ert_defs.proofs.Runs.{run-append, state-append, legal_then}
 use Rattle.ert_defs.specs.declared.entry.Entry.{Entry}
 use Rattle.ert_defs.specs.declared.settings.Settings.{Settings}
 use Rattle.ert_sched.proofs.Calls.{unchanged}
-use Rattle.ert_sched.specs.Worlds.{Service, StandsFor}
+use Rattle.ert_sched.specs.Worlds.{Service, StandsFor, GoesOn}
 use Rattle.ert_scenario.specs.Ranges.{IsOpInRange, IsInRange}
 use Rattle.ert_scenario.specs.declared.op.Op.{Op}
 use Rattle.ert_script.specs.declared.reply.Reply.{Reply}
 use Rattle.ert_script.specs.Lines.{line_of, lines_of}
-use Rattle.ert_script.specs.Scripts.{Allows, ScriptRun, DoesFor, Does, RunsFor, Runs}
+use Rattle.ert_script.specs.Scripts.{Allows, ScriptRun, Does, RunsFor, Runs}
 use Rattle.ert_io.specs.Writing.{WritesFront}
 use Rattle.ert_script.specs.Written.{Moves, WritesRun, WritesSome}
 
@@ -31,7 +31,7 @@ then_then (Some xs) a b = ap (λ (t : List ℕ). Some t) (append_assoc xs a b)
 
 -- a script run and one more op
 pub run_more : (g : Settings) (s : State) (ops : List Op) (es : List Entry) (rs : List Reply) (op : Op) (r : Reply) (piece : List Entry)
-    → ScriptRun g s ops es rs → Allows g (run g s es) op r piece → LegalFrom g (run g s es) piece
+    → ScriptRun g s ops es rs → Allows g op r (run g s es) piece → LegalFrom g (run g s es) piece
     → ScriptRun g s (ops ++ op ∷ []) (es ++ piece) (rs ++ r ∷ [])
 run_more g s [] es rs op r piece ran allowed legal = (
   piece,
@@ -40,7 +40,7 @@ run_more g s [] es rs op r piece ran allowed legal = (
   [],
   ap (λ (x : List Entry). x ++ piece) ran.0 ∙ sym (append-nil piece),
   ap (λ (x : List Reply). x ++ r ∷ []) ran.1,
-  subst (λ (x : List Entry). Allows g (run g s x) op r piece) ran.0 allowed,
+  subst (λ (x : List Entry). Allows g op r (run g s x) piece) ran.0 allowed,
   subst (λ (x : List Entry). LegalFrom g (run g s x) piece) ran.0 legal,
   (refl, refl),
 )
@@ -58,7 +58,7 @@ run_more g s (o ∷ ops) es rs op r piece ran allowed legal =
       ran.6,
       ran.7,
       run_more g (run g s first) ops later ran.3 op r piece ran.8
-          (subst (λ (x : State). Allows g x op r piece) on allowed) (subst (λ (x : State). LegalFrom g x piece) on legal),
+          (subst (λ (x : State). Allows g op r x piece) on allowed) (subst (λ (x : State). LegalFrom g x piece) on legal),
     )
 
 -- the world did a list of ops, and then one more
@@ -66,13 +66,13 @@ pub runs_more : (old now new : Service) (ops : List Op) (rs : List Reply) (op : 
     → Runs old ops rs now → Does now op r new → Runs old (ops ++ op ∷ []) (rs ++ r ∷ []) new
 runs_more old now new ops rs op r runs does = λ g h st.
     let far : RunsFor g h ops rs now = runs g h st in
-    let d : DoesFor g (h ++ far.entries) op r new = does g (h ++ far.entries) far.stands in
+    let d : GoesOn g (h ++ far.entries) (Allows g op r) new = does g (h ++ far.entries) far.stands in
     let at : state g (h ++ far.entries) ≡ run g (state g h) far.entries = state-append g h far.entries in
     let legal : LegalFrom g (state g (h ++ far.entries)) d.piece = legal_then g (opening g) (h ++ far.entries) d.piece d.stands.clock.legal in
     record {
       entries = far.entries ++ d.piece;
       runs = run_more g (state g h) ops far.entries rs op r d.piece far.runs
-          (subst (λ (x : State). Allows g x op r d.piece) at d.allowed) (subst (λ (x : State). LegalFrom g x d.piece) at legal);
+          (subst (λ (x : State). Allows g op r x d.piece) at d.allowed) (subst (λ (x : State). LegalFrom g x d.piece) at legal);
       stands = subst (λ (x : List Entry). StandsFor g x new) (append_assoc h far.entries d.piece) d.stands;
     }
 

@@ -1,53 +1,10 @@
 -- The lines of replies.
 
-use Rattle.std.specs.Prelude.{ℕ, ℤ, Bool, true, false, List, [], ◌∷◌, ◌++◌, codes, Option, Some, None}
+use Rattle.std.specs.Prelude.{ℕ, ℤ, List, [], ◌∷◌, ◌++◌, codes}
 use Rattle.std.specs.Fmt.{signed_decimal}
-use Rattle.ert_defs.specs.declared.settings.Mode.{Mode}
-use Rattle.ert_defs.specs.declared.settings.Mode.TheVariants.{No, Single, Multi}
-use Rattle.ert_defs.specs.declared.settings.OffsetState.{OffsetState}
-use Rattle.ert_defs.specs.declared.settings.OffsetState.TheVariants.{Preliminary, Final, Volatile}
+use Rattle.ert_transcript.specs.Texts.{◌⋅◌, state_word, moved_text, info_front, info_middle, offset_text, info_back}
 use Rattle.ert_script.specs.declared.reply.Reply.{Reply}
 use Rattle.ert_script.specs.declared.reply.Reply.TheVariants.{Tick, TickWide, Check, CheckWide, Finalize, FinalizeWide, Time, System, Offset, Info, Convert, ConvertTooWide}
-
--- one text, and then another
-infixr 20 ◌⋅◌
-abbrev pub ◌⋅◌ : List ℕ → List ℕ → List ℕ
-xs ⋅ ys = xs ++ ys
-
--- the word for a state of the offset
-unfoldable pub state_word : OffsetState → List ℕ
-state_word Preliminary = codes "preliminary"
-state_word Final = codes "final"
-state_word Volatile = codes "volatile"
-
--- the word for a time warp mode
-unfoldable pub mode_word : Mode → List ℕ
-mode_word No = codes "no"
-mode_word Single = codes "single"
-mode_word Multi = codes "multi"
-
--- the word for whether something is on
-unfoldable pub bool_word : Bool → List ℕ
-bool_word true = codes "true"
-bool_word false = codes "false"
-
--- the end of a line that tells a time, and the new offset where it moved
-abbrev pub moved_text : ℤ → Option ℤ → List ℕ
-moved_text now None = signed_decimal now ⋅ codes "\n"
-moved_text now (Some offset) = signed_decimal now ⋅ codes " offset " ⋅ signed_decimal offset ⋅ codes "\n"
-
--- the parts of the line of the settings
-unfoldable pub info_front : ℤ → ℤ → Mode → List ℕ
-info_front start end mode = codes "info start " ⋅ signed_decimal start ⋅ codes " end " ⋅ signed_decimal end ⋅ codes " mode " ⋅ mode_word mode
-
-unfoldable pub info_middle : Bool → List ℕ
-info_middle correction = codes " correction " ⋅ bool_word correction
-
-abbrev pub offset_text : ℤ → OffsetState → List ℕ
-offset_text offset state = signed_decimal offset ⋅ codes " " ⋅ state_word state ⋅ codes "\n"
-
-unfoldable pub info_back : ℤ → OffsetState → List ℕ
-info_back offset state = codes " offset " ⋅ signed_decimal offset ⋅ codes " state " ⋅ state_word state ⋅ codes "\n"
 
 -- the line of a reply
 abbrev pub line_of : Reply → List ℕ
@@ -63,10 +20,6 @@ line_of (Offset offset state) = codes "offset " ⋅ offset_text offset state
 line_of (Info start end mode correction offset state) = info_front start end mode ⋅ info_middle correction ⋅ info_back offset state
 line_of (Convert value) = codes "convert " ⋅ signed_decimal value ⋅ codes "\n"
 line_of ConvertTooWide = codes "convert too_wide\n"
-
--- the last line of a transcript
-abbrev pub end_line : ℤ → List ℕ
-end_line now = codes "end " ⋅ signed_decimal now ⋅ codes "\n"
 
 -- the lines of replies
 abbrev pub lines_of : List Reply → List ℕ

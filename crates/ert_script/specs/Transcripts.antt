@@ -5,7 +5,8 @@ use Rattle.ert_defs.specs.States.{opening, state}
 use Rattle.ert_defs.specs.declared.entry.Entry.{Entry}
 use Rattle.ert_defs.specs.declared.settings.Settings.{Settings}
 use Rattle.ert_scenario.specs.declared.op.Op.{Op}
-use Rattle.ert_script.specs.Lines.{lines_of, end_line}
+use Rattle.ert_script.specs.Lines.{lines_of}
+use Rattle.ert_transcript.specs.Texts.{end_line}
 use Rattle.ert_script.specs.Scripts.{ScriptRun}
 use Rattle.ert_script.specs.declared.reply.Reply.{Reply}
 

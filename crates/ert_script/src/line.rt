@@ -1,5 +1,7 @@
 ghost use Rattle.std.specs.Prelude.{◌≡◌, ◌++◌, codes, OnOk, string_bytes};
-ghost use Rattle.ert_script.specs.Lines.{◌⋅◌, line_of, end_line, moved_text, state_word, info_front, info_middle, info_back, offset_text};
+ghost use Rattle.ert_script.specs.Lines.{line_of};
+ghost use Rattle.ert_transcript.specs.Texts.{end_line};
+ghost use Rattle.ert_transcript.specs.Texts.{◌⋅◌, moved_text, state_word, info_front, info_middle, info_back, offset_text};
 
 use crate::reply::Reply;
 use crate::words::{bool_word, mode_word, state_word};
@@ -79,7 +81,7 @@ fn write_offset(page: &mut String, offset: i64, state: OffsetState) -> Result<()
     write!(page, "{offset} {}\n", state_word(state))
 }
 
-#[tactic(auto, unfolding(crate::specs::Lines::info_front))]
+#[tactic(auto, unfolding(ert_transcript::specs::Texts::info_front))]
 fn write_info_front(page: &mut String, start: i64, end: i64, mode: Mode) -> Result<(), AllocError>
     ensures { OnOk result (string_bytes page.new ≡ string_bytes page.old ++ info_front start end mode) }
 {
@@ -103,14 +105,14 @@ fn write_info_behind(
     write_info_back(page, offset, state)
 }
 
-#[tactic(auto, unfolding(crate::specs::Lines::info_middle))]
+#[tactic(auto, unfolding(ert_transcript::specs::Texts::info_middle))]
 fn write_info_middle(page: &mut String, correction: bool) -> Result<(), AllocError>
     ensures { OnOk result (string_bytes page.new ≡ string_bytes page.old ++ info_middle correction) }
 {
     write!(page, " correction {}", bool_word(correction))
 }
 
-#[tactic(auto, unfolding(crate::specs::Lines::info_back))]
+#[tactic(auto, unfolding(ert_transcript::specs::Texts::info_back))]
 fn write_info_back(page: &mut String, offset: i64, state: OffsetState) -> Result<(), AllocError>
     ensures { OnOk result (string_bytes page.new ≡ string_bytes page.old ++ info_back offset state) }
 {

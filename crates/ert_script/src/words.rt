@@ -1,10 +1,10 @@
 ghost use Rattle.std.specs.Prelude.{◌≡◌};
-ghost use Rattle.ert_script.specs.Lines.{state_word, mode_word, bool_word};
+ghost use Rattle.ert_transcript.specs.Texts.{state_word, mode_word, bool_word};
 
 use ert_defs::{Mode, OffsetState};
 
 /// The word for a state of the offset.
-#[tactic(auto, unfolding(crate::specs::Lines::state_word))]
+#[tactic(auto, unfolding(ert_transcript::specs::Texts::state_word))]
 pub fn state_word(state: OffsetState) -> &'static str
     ensures { result.now ≡ state_word state }
 {
@@ -16,7 +16,7 @@ pub fn state_word(state: OffsetState) -> &'static str
 }
 
 /// The word for a time warp mode.
-#[tactic(auto, unfolding(crate::specs::Lines::mode_word))]
+#[tactic(auto, unfolding(ert_transcript::specs::Texts::mode_word))]
 pub fn mode_word(mode: Mode) -> &'static str
     ensures { result.now ≡ mode_word mode }
 {
@@ -28,7 +28,7 @@ pub fn mode_word(mode: Mode) -> &'static str
 }
 
 /// The word for whether something is on.
-#[tactic(auto, unfolding(crate::specs::Lines::bool_word))]
+#[tactic(auto, unfolding(ert_transcript::specs::Texts::bool_word))]
 pub fn bool_word(is_on: bool) -> &'static str
     ensures { result.now ≡ bool_word is_on }
 {

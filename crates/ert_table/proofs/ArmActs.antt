@@ -21,7 +21,7 @@ use Rattle.ert_defs.specs.declared.timer.TimerRef.{TimerRef}
 use Rattle.ert_words.specs.Ranges.{IsTimer}
 use Rattle.ert_table.specs.Acts.{Acts, Then}
 use Rattle.ert_table.specs.Places.{slot_place}
-use Rattle.ert_table.specs.Settlings.{arm_entry}
+use Rattle.ert_defs.specs.Entries.{arm_entry}
 use Rattle.ert_table.specs.Takes.{MayStep}
 use Rattle.ert_table.proofs.Holders.{tells}
 use Rattle.ert_table.proofs.AtSteps.{look_then, last_then}

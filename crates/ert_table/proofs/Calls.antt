@@ -9,7 +9,8 @@ use Rattle.ert_defs.proofs.Runs.{free_first, free_rest, legal_then}
 use Rattle.ert_defs.specs.declared.entry.Actor.{Actor}
 use Rattle.ert_defs.specs.declared.entry.Entry.{Entry}
 use Rattle.ert_defs.specs.declared.settings.Settings.{Settings}
-use Rattle.ert_table.specs.Held.{is_held, is_ours, IsWhole}
+use Rattle.ert_table.specs.Held.{is_held, IsWhole}
+use Rattle.ert_defs.specs.Entries.{is_ours}
 use Rattle.ert_table.specs.Laws.{LawOfSteps, LawOfCalls, LawOfWholePasses}
 use Rattle.ert_table.specs.Takes.{Appends}
 use Rattle.ert_table.proofs.Closings.{maker_in_range}

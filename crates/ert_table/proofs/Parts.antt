@@ -1,10 +1,11 @@
 -- What a pass knows of a part of the state that others don't change: it is that of the front at the pass's
 -- next step, and after a call it is what the call's own entries make of it.
 
-use Rattle.std.proofs.Common.{◌≡◌, ℕ, Bool, true, false, cond, ◌||◌, List, [], ◌∷◌, ◌++◌, filter, Option, Some, None, refl, sym, ap, subst, ◌∙◌, append-nil}
+use Rattle.std.proofs.Common.{◌≡◌, ℕ, Bool, true, false, cond, ◌||◌, List, [], ◌∷◌, ◌++◌, length, filter, drop, option_to_list, Option, Some, None, refl, sym, ap, subst, ◌∙◌, append-nil, arith}
 use Rattle.std.proofs.lemmas.List.{append_cancel_left}
 use Rattle.std.proofs.lemmas.List.Elements.{filter-append}
 use Rattle.ert_defs.specs.Actors.{same_actor, is_with, has_actor, of, IsFree}
+use Rattle.ert_defs.specs.Mails.{first_of, others_of}
 use Rattle.ert_defs.specs.States.{State, next, run, state}
 use Rattle.ert_defs.proofs.Runs.{state-append, own_stays}
 use Rattle.ert_defs.specs.declared.entry.Actor.{Actor}
@@ -12,10 +13,12 @@ use Rattle.ert_defs.specs.declared.entry.Actor.TheVariants.{Inbox, Sched, MailOf
 use Rattle.ert_defs.specs.declared.entry.Entry.{Entry}
 use Rattle.ert_defs.specs.declared.settings.Settings.{Settings}
 use Rattle.ert_table.specs.Calls.{AreOnlyOf}
-use Rattle.ert_table.specs.Held.{is_held, is_ours, IsOurs}
+use Rattle.ert_table.specs.Held.{is_held, IsOurs}
+use Rattle.ert_defs.specs.Entries.{is_ours}
 use Rattle.ert_table.specs.Takes.{Appends, TakesPlace}
 use Rattle.ert_table.specs.Views.{Begins}
-use Rattle.ert_table.proofs.Holders.{or_false, same_actor-true}
+use Rattle.ert_table.proofs.Calls.{step_takes_place, takes_place_then}
+use Rattle.ert_table.proofs.Holders.{or_false, or_left, or_right, same_actor-true, same_actor_self}
 use Rattle.ert_table.specs.declared.view.View.{View}
 
 -- an entry that isn't of these actors has none of them
@@ -132,3 +135,27 @@ pub free_later : (a : Actor) (f h : List Entry) (longer : Begins f h) → of h a
 free_later a f h longer same =
     append_cancel_left (of f a) (of longer.later a) []
     (sym (filter-append (λ e. has_actor e a) f longer.later) ∙ (sym (ap (λ l. of l a) longer.grown) ∙ (same ∙ sym (append-nil (of f a)))))
+
+-- two steps are a call with their entries
+pub two_steps : (g : Settings) (v : View) (d : Entry) (u : View) (e : Entry) (w : View) → Appends g v d u → Appends g u e w
+    → TakesPlace g v (d ∷ (e ∷ [])) w
+two_steps g v d u e w one other =
+    takes_place_then g v u w (d ∷ []) (e ∷ []) (step_takes_place g v d u one) (step_takes_place g u e w other)
+
+-- a pass holds after a step what it held
+pub held_on : (g : Settings) (v : View) (e : Entry) (w : View) (a : Actor) → Appends g v e w → is_held v.actors a ≡ true → is_held w.actors a ≡ true
+held_on g v e w a step held = subst (λ actors. is_held actors a ≡ true) (sym step.actors) held
+
+-- what is taken off a queue is the first, and the others stay
+pub popped : {X : Type 0} (old new : List X) (got : Option X) → old ≡ option_to_list got ++ new → new ≡ drop 1 old
+    → (got ≡ first_of old) × (new ≡ others_of old)
+popped old new (Some x) items rest = rw items (refl, refl)
+popped [] new None items rest = (refl, rest)
+popped (x ∷ old) new None items rest = absurd (omega (arith, ap length items, ap length rest))
+
+-- the entries of an actor alone, or with another, are of these
+pub of_one : (a : Actor) (others : List Actor) → IsOurs (a ∷ others) a None
+of_one a others = or_left (same_actor a a) (is_held others a) (same_actor_self a)
+
+pub of_both : (a b : Actor) → IsOurs (a ∷ (b ∷ [])) a (Some b)
+of_both a b = (of_one a (b ∷ []), or_right (same_actor a b) (is_held (b ∷ []) b) (of_one b []))

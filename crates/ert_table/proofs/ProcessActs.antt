@@ -12,7 +12,7 @@ use Rattle.ert_defs.specs.declared.entry.Actor.TheVariants.{Keeper, Wheel}
 use Rattle.ert_defs.specs.declared.entry.Entry.{Entry}
 use Rattle.ert_defs.specs.declared.settings.Settings.{Settings}
 use Rattle.ert_table.specs.Acts.{Acts, Then}
-use Rattle.ert_table.specs.Entries.{mark_entry}
+use Rattle.ert_defs.specs.Entries.{mark_entry}
 use Rattle.ert_table.specs.Places.{process_place}
 use Rattle.ert_table.specs.Takes.{MayStep}
 use Rattle.ert_table.proofs.WordPlaces.{word_of-process}

@@ -10,7 +10,8 @@ use Rattle.ert_defs.specs.declared.settings.OffsetState.{OffsetState}
 use Rattle.ert_defs.specs.declared.settings.Settings.{Settings}
 use Rattle.ert_defs.specs.declared.timer.Start.{Start}
 use Rattle.ert_defs.specs.declared.timer.TimerRef.{TimerRef}
-use Rattle.ert_table.specs.Entries.{time_entry, offset_entry, mark_entry}
+use Rattle.ert_table.specs.Entries.{time_entry, offset_entry}
+use Rattle.ert_defs.specs.Entries.{mark_entry}
 use Rattle.ert_table.specs.Held.{IsWhole}
 use Rattle.ert_table.specs.Settlings.{Shown, read_entry, hit_entry, Settles}
 use Rattle.ert_table.specs.Takes.{MayStep, Appends}

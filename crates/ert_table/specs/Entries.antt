@@ -1,13 +1,13 @@
 -- The entries that the steps make.
 
 use Rattle.std.specs.Prelude.{ℕ, ℤ, pos, ◌+ℤ◌, ◌-ℤ◌, ◌/◌, ◌%◌, Bool, true, false, nat_eq, List, Option, Some, None, option_map}
+use Rattle.ert_defs.specs.Entries.{entry_by}
 use Rattle.ert_defs.specs.Lines.{first_state}
 use Rattle.ert_defs.specs.declared.entry.Act.{Act}
 use Rattle.ert_defs.specs.declared.entry.Actor.{Actor}
 use Rattle.ert_defs.specs.declared.entry.Actor.TheVariants.{Keeper, Wheel, Inbox, Sched, MailOf, Caller}
 use Rattle.ert_defs.specs.declared.entry.Entry.{Entry}
-use Rattle.ert_defs.specs.declared.entry.Event.{Event}
-use Rattle.ert_defs.specs.declared.entry.Event.TheVariants.{Tick, Shift, Look, Off, Mark, Advanced, Ask, Pick, Answer, Take, Unwatch, Watch, Tell}
+use Rattle.ert_defs.specs.declared.entry.Event.TheVariants.{Tick, Shift, Look, Off, Advanced, Ask, Pick, Answer, Take, Unwatch, Watch, Tell}
 use Rattle.ert_defs.specs.declared.settings.Mode.{Mode}
 use Rattle.ert_defs.specs.declared.settings.OffsetState.{OffsetState}
 use Rattle.ert_defs.specs.declared.settings.OffsetState.TheVariants.{Final}
@@ -18,10 +18,6 @@ use Rattle.ert_table.specs.declared.carry.OffsetCarry.{OffsetCarry}
 use Rattle.ert_table.specs.declared.carry.OffsetCarry.TheVariants.{Off as ToOff, Watch as ToWatch, Tell as ToTell}
 use Rattle.ert_table.specs.declared.carry.TimeCarry.{TimeCarry}
 use Rattle.ert_table.specs.declared.carry.TimeCarry.TheVariants.{Look as ToLook, Advanced as ToAdvance, Ask as ToAsk, Pick as ToPick, Answer as ToAnswer, Take as ToTake, Unwatch as ToUnwatch}
-
--- an entry
-abbrev pub entry_by : Actor → Option Actor → Event → Entry
-entry_by by with event = record { by = by; with = with; event = event }
 
 -- the wheel of a scheduler
 abbrev pub wheel_of : Actor → ℕ
@@ -73,7 +69,3 @@ state_where mode false = first_state mode
 -- the state of the offset of a word
 abbrev pub state_in : Settings → ℕ → OffsetState
 state_in g n = state_where g.mode (nat_eq (n % 2) 1)
-
--- what is recorded where the word of a process is read, and maybe set
-abbrev pub mark_entry : Actor → ℕ → Bool → Bool → Entry
-mark_entry by process exits was = entry_by by None (Mark process exits was)

@@ -2,10 +2,9 @@
 
 use Rattle.std.specs.Prelude.{◌≡◌, ℕ, zero, suc, ◌<◌, Bool, true, cond, not, List, [], ◌∷◌, ◌++◌, filter, Option, Some, None}
 use Rattle.std.specs.List.{list_any}
-use Rattle.ert_defs.specs.Actors.{same_actor, has_actor}
+use Rattle.ert_defs.specs.Actors.{same_actor}
 use Rattle.ert_defs.specs.declared.entry.Actor.{Actor}
 use Rattle.ert_defs.specs.declared.entry.Actor.TheVariants.{Keeper, Wheel, Inbox, Sched, MailOf, Caller}
-use Rattle.ert_defs.specs.declared.entry.Entry.{Entry}
 use Rattle.ert_defs.specs.declared.settings.Settings.{Settings}
 
 -- whether an actor is among these
@@ -16,10 +15,6 @@ is_held actors a = list_any (λ b. same_actor b a) actors
 abbrev pub IsOurs : List Actor → Actor → Option Actor → Type 0
 IsOurs actors by None = is_held actors by ≡ true
 IsOurs actors by (Some a) = (is_held actors by ≡ true) × (is_held actors a ≡ true)
-
--- whether an entry has an actor among these
-abbrev pub is_ours : List Actor → Entry → Bool
-is_ours actors e = list_any (λ a. has_actor e a) actors
 
 -- these actors but one
 abbrev pub actors_but : List Actor → Actor → List Actor

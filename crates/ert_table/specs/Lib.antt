@@ -4,11 +4,9 @@ pub mod Desks
 pub mod Entries
 pub mod Held
 pub mod Laws
-pub mod Making
 pub mod Openings
 pub mod Places
 pub mod Rule
 pub mod Settlings
 pub mod Takes
-pub mod Trial
 pub mod Views

@@ -6,15 +6,14 @@ use Rattle.ert_defs.specs.States.{State, state}
 use Rattle.ert_defs.specs.Timers.{Row, row_of, timer_at}
 use Rattle.ert_defs.specs.Words.{timer_word}
 use Rattle.ert_defs.specs.declared.entry.Actor.{Actor}
-use Rattle.ert_defs.specs.declared.entry.Actor.TheVariants.{Wheel, MailOf, Caller}
+use Rattle.ert_defs.specs.declared.entry.Actor.TheVariants.{Wheel, MailOf}
 use Rattle.ert_defs.specs.declared.entry.Entry.{Entry}
-use Rattle.ert_defs.specs.declared.entry.Event.TheVariants.{Arm, Probe, Peek, Cancel, Expire, Orphan, Deliver, Drop}
+use Rattle.ert_defs.specs.declared.entry.Event.TheVariants.{Peek, Cancel, Expire, Orphan, Deliver, Drop}
 use Rattle.ert_defs.specs.declared.settings.Settings.{Settings}
-use Rattle.ert_defs.specs.declared.timer.Start.{Start}
 use Rattle.ert_defs.specs.declared.timer.Status.{Status}
 use Rattle.ert_defs.specs.declared.timer.Status.TheVariants.{Armed, Expired, Delivered, Cancelled, Orphaned, Dropped}
 use Rattle.ert_defs.specs.declared.timer.TimerRef.{TimerRef}
-use Rattle.ert_table.specs.Entries.{entry_by}
+use Rattle.ert_defs.specs.Entries.{entry_by, probe_entry}
 use Rattle.ert_table.specs.Takes.{Appends}
 use Rattle.ert_table.specs.declared.carry.Settle.{Settle}
 use Rattle.ert_table.specs.declared.carry.Settle.TheVariants.{Cancel as ToCancel, Expire as ToExpire, Orphan as ToOrphan, Deliver as ToDeliver, Drop as ToDrop}
@@ -75,10 +74,6 @@ hit_entry g s by timer deadline ToExpire = entry_by by (Some (Wheel timer.wheel)
 hit_entry g s by timer deadline ToOrphan = entry_by by (Some (Wheel timer.wheel)) (Orphan timer)
 hit_entry g s by timer deadline ToDeliver = entry_by by (mail_of (row_of (s.rows timer.wheel) timer)) (Deliver timer)
 hit_entry g s by timer deadline ToDrop = entry_by by None (Drop timer)
-
--- what is recorded where the last timer of a slot is looked at
-abbrev pub probe_entry : Actor → ℕ → ℕ → Option Status → Entry
-probe_entry by wheel slot found = entry_by by (Some (Wheel wheel)) (Probe wheel slot found)
 
 -- a timer wasn't armed when it was to be settled, and the last timer of its slot was looked at. That one
 -- isn't armed either where it is the same, as the pass knows that holds the wheel
@@ -155,7 +150,3 @@ read_entry g look by (ToPeek timer) shown = entry_by by None (Peek timer (left_s
 -- what the word of a slot shows
 abbrev pub parts_in : ℕ → Option Shown
 parts_in n = option_map (λ status. (status, deadline_in n, generation_in n)) (status_in n)
-
--- what is recorded where a caller starts a timer
-abbrev pub arm_entry : ℕ → TimerRef → Start → Entry
-arm_entry by timer start = entry_by (Caller by) (Some (Wheel timer.wheel)) (Arm timer start)

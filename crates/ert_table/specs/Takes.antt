@@ -7,7 +7,8 @@ use Rattle.ert_defs.specs.States.{state}
 use Rattle.ert_defs.specs.declared.entry.Actor.{Actor}
 use Rattle.ert_defs.specs.declared.entry.Entry.{Entry}
 use Rattle.ert_defs.specs.declared.settings.Settings.{Settings}
-use Rattle.ert_table.specs.Held.{is_held, is_ours, IsOurs}
+use Rattle.ert_table.specs.Held.{is_held, IsOurs}
+use Rattle.ert_defs.specs.Entries.{is_ours}
 use Rattle.ert_table.specs.declared.view.View.{View}
 
 -- a pass may step with an entry: it holds the entry's actors, the entry is in range, and its front shows

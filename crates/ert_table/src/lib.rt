@@ -10,9 +10,9 @@
 //! refused.
 //!
 //! A step that writes a word takes its whole cache line from the other processors, and the time word is
-//! read by nearly every call. So seven words that are never used stand between the time and the offset,
-//! before and behind the slots of each wheel, and before the processes: a group of words shares no line
-//! with another, and threads that start and cancel timers on wheels of their own don't disturb each other.
+//! read by nearly every call. So seven words that are never used stand behind the time, behind the offset
+//! and behind the slots of each wheel: none of these groups shares a line with another, and threads that
+//! start and cancel timers on wheels of their own don't disturb each other.
 //!
 //! # The history
 //!
@@ -73,8 +73,6 @@ mod passes;
 mod places;
 mod plays;
 mod process_steps;
-#[cfg(test)]
-mod tests;
 mod timer_steps;
 mod view;
 

@@ -1,7 +1,7 @@
 //! Steps on the words of processes.
 ghost use Rattle.std.specs.Prelude.{◌≡◌, nat_eq, true, false};
 ghost use Rattle.ert_table.specs.Desks.{settings_of, Belongs, Makes, MayMark};
-ghost use Rattle.ert_table.specs.Entries.{mark_entry};
+ghost use Rattle.ert_defs.specs.Entries.{mark_entry};
 
 use crate::desk::{Desk, Pass};
 use crate::places::process_place;

@@ -3,7 +3,8 @@ ghost use Rattle.std.specs.Prelude.{◌≡◌, ◌≢◌, Some};
 ghost use Rattle.ert_defs.specs.Words.{word_of_slot};
 ghost use Rattle.ert_defs.specs.declared.timer.Status.TheVariants.{Armed};
 ghost use Rattle.ert_table.specs.Desks.{settings_of, state_of, Belongs, MayMake, Makes, MayLoadTimer, read_made, settled_made, SettlesOrMisses, IsDeadlineOf};
-ghost use Rattle.ert_table.specs.Settlings.{HasRow, status_from, status_to, settle_entry, parts_in, shown_in, wheel_in, slot_in, arm_entry};
+ghost use Rattle.ert_table.specs.Settlings.{HasRow, status_from, status_to, settle_entry, parts_in, shown_in, wheel_in, slot_in};
+ghost use Rattle.ert_defs.specs.Entries.{arm_entry};
 
 use crate::carry::{Settle, TimerCarry};
 use crate::desk::{Desk, Pass};

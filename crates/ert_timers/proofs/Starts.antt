@@ -15,7 +15,7 @@ use Rattle.ert_defs.specs.declared.timer.TimerRef.{TimerRef}
 use Rattle.ert_answers.specs.TimerCalls.{AreProbes, AreTaken, Starts}
 use Rattle.ert_answers.specs.declared.answers.StartErr.TheVariants.{BadArg, Full}
 use Rattle.ert_calls.proofs.Looks.{look_stepped}
-use Rattle.ert_table.specs.Making.{Makes}
+use Rattle.ert_table.specs.Calls.{IsMade}
 use Rattle.ert_table.specs.Takes.{Appends, TakesPlace}
 use Rattle.ert_table.specs.declared.view.View.{View}
 use Rattle.ert_table.proofs.Calls.{step_takes_place, takes_place_then}
@@ -26,7 +26,7 @@ use Rattle.ert_timers.proofs.Standing.{IsCalm, stands_step}
 
 -- a start that is refused for its time
 pub bad_arg : (g : Settings) (v : View) (by w : ℕ) (start : Start) (deadline : Option ℕ) (u : View) → deadline ≡ None
-    → LooksAhead g v by start deadline u → Makes g v (Starts g by w start (Err BadArg)) u
+    → LooksAhead g v by start deadline u → IsMade g v (Starts g by w start (Err BadArg)) u
 bad_arg g v by w start deadline u none looks = record {
   entries = look_entry (Caller by) looks.now ∷ [];
   allowed = record { now = looks.now; refused = sym looks.told ∙ none; entries = refl };
@@ -64,7 +64,7 @@ are_taken by w s q k (suc n) (found ∷ founds) many none lasts full =
 -- a start for which no slot was found
 pub is_full : (g : Settings) (v : View) (by : ℕ) (p q : Part) (start : Start) (deadline : Option ℕ) (d : ℕ) (slot : Option ℕ) (u x : View)
     → Stands g v.front p → deadline ≡ Some d → slot ≡ None → LooksAhead g v by start deadline u → TakesSlot g u by p q slot x
-    → Makes g v (Starts g by p.number start (Err Full)) x
+    → IsMade g v (Starts g by p.number start (Err Full)) x
 is_full g v by p q start deadline d slot u x stands has none looks takes =
     let all = subst (λ s. TakesSlot g u by p q s x) none takes in
     let probes : List Entry = probes_from by p.number 0 all.founds in
@@ -93,7 +93,7 @@ due_ahead g v by p q start deadline d slot u x holds has looks takes =
 -- a start whose timer was armed
 pub is_started : (g : Settings) (v : View) (by : ℕ) (p q r s : Part) (start : Start) (deadline : Option ℕ) (slot : Option ℕ) (k d : ℕ)
     (timer : TimerRef) (u x y z : View) → LooksAhead g v by start deadline u → TakesSlot g u by p q slot x → Arms g x by q r k d start timer y
-    → Ends g y by r s start.dest timer z → Makes g v (Starts g by p.number start (Ok timer)) z
+    → Ends g y by r s start.dest timer z → IsMade g v (Starts g by p.number start (Ok timer)) z
 is_started g v by p q r s start deadline slot k d timer u x y z looks takes arms ends =
     let look : Entry = look_entry (Caller by) looks.now in
     let probes : List Entry = probes_from by p.number 0 takes.founds in

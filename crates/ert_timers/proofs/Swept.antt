@@ -15,7 +15,7 @@ use Rattle.ert_defs.specs.declared.timer.TimerRef.{TimerRef}
 use Rattle.ert_answers.specs.WheelCalls.{AllMaySweep, AreSwept, IsFor, IsSwept, MaySweep, Sweeps, Try, orphan_entries, orphans_by}
 use Rattle.ert_defs.specs.declared.entry.Actor.TheVariants.{Wheel}
 use Rattle.ert_table.specs.Held.{is_held}
-use Rattle.ert_table.specs.Making.{Makes}
+use Rattle.ert_table.specs.Calls.{IsMade}
 use Rattle.ert_table.specs.Takes.{Appends, TakesPlace}
 use Rattle.ert_table.specs.declared.view.View.{View}
 use Rattle.ert_table.proofs.Calls.{step_takes_place, takes_place_then}
@@ -117,7 +117,7 @@ all_swept g v by process w p q next u number some none left =
     (sym (ap (λ (r : Row). r.dest) is) ∙ dest)))
 
 pub sweeps_all : (g : Settings) (v : View) (by process : ℕ) (p q : Part) (u : View) → SweepsSome g v by process p q u
-    → Makes g v (Sweeps g by p.number process) u
+    → IsMade g v (Sweeps g by p.number process) u
 sweeps_all g v by process p q u some = record {
   entries = orphan_entries by p.number some.tries;
   allowed = record { tries = some.tries; may = some.may; entries = refl };

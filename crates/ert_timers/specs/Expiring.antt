@@ -11,7 +11,7 @@ use Rattle.ert_defs.specs.declared.memory.NoMemory.{NoMemory}
 use Rattle.ert_defs.specs.declared.settings.Settings.{Settings}
 use Rattle.ert_defs.specs.declared.timer.Status.{Status}
 use Rattle.ert_answers.specs.WheelCalls.{Try, expires_by, expiry_entries, hits, Advances}
-use Rattle.ert_table.specs.Making.{Makes}
+use Rattle.ert_table.specs.Calls.{IsMade}
 use Rattle.ert_table.specs.Takes.{Appends, TakesPlace}
 use Rattle.ert_table.specs.declared.view.View.{View}
 use Rattle.ert_timers.specs.Changes.{let_go}
@@ -74,13 +74,13 @@ pub record ExpiresSome (g : Settings) (v : View) (p q : Part) (to : ℕ) (due : 
 -- an advance: the timers that expired by it come last in the list, and in the scheduler's
 pub record HasExpired (g : Settings) (v : View) (w to : ℕ) (old new : Queue) (u : View) : Type 0 where
   pub gained : List Row
-  pub call : Makes g v (Advances g w (Ok (to, length gained))) u
+  pub call : IsMade g v (Advances g w (Ok (to, length gained))) u
   pub fired : new.rows ≡ old.rows ++ gained
   pub waits : fired_in g u.front w ≡ fired_in g v.front w ++ gained
 
 -- want of memory: nothing expired
 pub record HasNotExpired (g : Settings) (v : View) (w : ℕ) (e : NoMemory) (old new : Queue) (u : View) : Type 0 where
-  pub call : Makes g v (Advances g w (Err e)) u
+  pub call : IsMade g v (Advances g w (Err e)) u
   pub fired : new.rows ≡ old.rows
 
 abbrev pub IsAdvanced : Settings → View → ℕ → Result ℕ NoMemory → Queue → Queue → View → Type 0

@@ -16,7 +16,7 @@ impl WheelPart {
     ghost use Rattle.ert_answers.specs.declared.answers.StartErr.TheVariants.{NoMemory};
     ghost use Rattle.ert_defs.specs.States.{state};
     ghost use Rattle.ert_table.specs.Desks.{settings_of, view_of, front_of, Belongs, IsDeadlineOf};
-    ghost use Rattle.ert_table.specs.Making.{Makes};
+    ghost use Rattle.ert_table.specs.Calls.{IsMade};
     ghost use Rattle.ert_timers.specs.Changes.{IsFree};
     ghost use Rattle.ert_timers.specs.Parts.{HoldsCaller, Stands, slot_at, last_timer};
     ghost use Rattle.ert_timers.specs.Starting.{HoldsTimer, Orphans, Arms, Ends, LooksAt, LooksAtSome, TakesSlot};
@@ -40,7 +40,7 @@ impl WheelPart {
         ensures belongs { Belongs desk.now pass.new }
         ensures number { self.new.number ≡ self.old.number }
         ensures stands { Stands (settings_of desk.now) (front_of pass.new) self.new }
-        ensures call { Makes (settings_of desk.now) (view_of pass.old) (Starts (settings_of desk.now) by self.old.number start.now result) (view_of pass.new) }
+        ensures call { IsMade (settings_of desk.now) (view_of pass.old) (Starts (settings_of desk.now) by self.old.number start.now result) (view_of pass.new) }
         ensures memory { result ≢ Err NoMemory }
     {
         let Some(deadline) = look_ahead(desk, pass, by, start) else {

@@ -7,7 +7,7 @@ impl WheelPart {
     ghost use Rattle.ert_answers.specs.WheelCalls.{Sweeps, IsSwept};
     ghost use Rattle.ert_defs.specs.States.{state};
     ghost use Rattle.ert_table.specs.Desks.{settings_of, view_of, front_of, Belongs};
-    ghost use Rattle.ert_table.specs.Making.{Makes};
+    ghost use Rattle.ert_table.specs.Calls.{IsMade};
     ghost use Rattle.ert_timers.specs.Parts.{HoldsCaller, Stands};
 
     /// Cancels all timers of a process that has exited, and holds their slots free.
@@ -22,7 +22,7 @@ impl WheelPart {
         ensures belongs { Belongs desk.now pass.new }
         ensures number { self.new.number ≡ self.old.number }
         ensures stands { Stands (settings_of desk.now) (front_of pass.new) self.new }
-        ensures call { Makes (settings_of desk.now) (view_of pass.old) (Sweeps (settings_of desk.now) by self.old.number process) (view_of pass.new) }
+        ensures call { IsMade (settings_of desk.now) (view_of pass.old) (Sweeps (settings_of desk.now) by self.old.number process) (view_of pass.new) }
         ensures swept { IsSwept (state (settings_of desk.now) (front_of pass.new)) self.old.number process }
     {
         while let Some(row) = self.newest_of(process) {

@@ -1,11 +1,11 @@
 -- What each call on chains does, in the form in which the calls meet it.
 
-use Rattle.std.proofs.Common.{map, ◌≡◌, ℕ, ◌+◌, ◌-◌, ◌<◌, ◌≤◌, ◌^◌, Bool, true, false, cond, List, Option, Some, None, length, get_or, sym, subst, ◌∙◌, ap, inl, inr, refl, arith}
+use Rattle.std.proofs.Common.{map, ◌≡◌, ℕ, ◌+◌, ◌<◌, ◌≤◌, ◌^◌, true, cond, List, Option, Some, None, length, get_or, sym, subst, ◌∙◌, ap, inl, inr, arith}
 use Rattle.std.proofs.lemmas.Bool.{lt-ltb, le-ltb}
 use Rattle.std.proofs.lemmas.List.{get_or_read}
 use Rattle.std.proofs.lemmas.List.FromFn.{get_or-map-range_with_len, length-map-range_with_len}
 use Rattle.std.specs.List.{range_with_len}
-use Rattle.ert_wheel.proofs.Parts.{IsSlot, IsHead, slot_is, head_is, node_is, CanPut, put_chains, take_chains}
+use Rattle.ert_wheel.proofs.Parts.{IsSlot, IsHead, slot_is, head_is, node_is, put_chains, take_chains}
 use Rattle.ert_wheel.specs.Chained.{Shape, Spliced, Unspliced}
 use Rattle.ert_wheel.specs.Links.{next_at, prev_at, alone, no_link}
 use Rattle.ert_wheel.specs.Rings.{Rings, HasLinks, Place, order_of, shape, AreChains, MayTake, Puts, Takes, slot_at, Finds}
@@ -19,7 +19,7 @@ pub puts : (old : Rings) (slots homes : ℕ) (before lent after : List Link) (sl
     → Puts old (record { slots = slots; homes = homes; links = after }) slot home
 puts old slots homes before lent after slot home is e low in_range spliced =
     let P : Rings → Type 0 = λ r. slot < r.slots → home < r.homes
-        → Puts r (record { slots = slots; homes = homes; links = after }) slot home in
+    → Puts r (record { slots = slots; homes = homes; links = after }) slot home in
     subst P is
     (λ low in_range places order are out fits above. put_chains _ places slot home order after
     (record { are = are; low = low; in_range = in_range; out = out; fits = fits; above = above })
@@ -33,7 +33,7 @@ pub takes : (old : Rings) (slots homes : ℕ) (before lent after : List Link) (s
     → Takes old (record { slots = slots; homes = homes; links = after }) slot
 takes old slots homes before lent after slot is e low unspliced =
     let P : Rings → Type 0 = λ r. slot < r.slots
-        → Takes r (record { slots = slots; homes = homes; links = after }) slot in
+    → Takes r (record { slots = slots; homes = homes; links = after }) slot in
     subst P is
     (λ low places place are has. take_chains _ places slot place after are low has
     (subst (λ (l : List Link). Unspliced (next_at l) (prev_at l) (next_at after) (prev_at after) slot) e unspliced))
@@ -53,7 +53,7 @@ pub before_low : (old : Rings) (slots homes : ℕ) (before lent : List Link) (sl
 before_low old slots homes before lent slot is e may has =
     let P : Rings → Type 0 = λ r. prev_at r.links slot < r.slots + r.homes in
     let known : prev_at before slot < slots + homes =
-        subst P (sym is) (before_in_range old may.places slot may.place may.are may.low may.in_place) in
+    subst P (sym is) (before_in_range old may.places slot may.place may.are may.low may.in_place) in
     subst (λ (l : List Link). prev_at l slot < length l) (sym e) (omega (arith, has.len))
 
 -- no slot of the chain is between a node and the next
@@ -64,11 +64,11 @@ greatest_of : (r : Rings) (places : ℕ → Option Place) (x home bound : ℕ) �
 greatest_of r places x home bound are on at_home top j p low has same lower =
     let s : IsSlot r.slots r.homes places j p = slot_is r.slots r.homes places j p low has in
     let e : (shape r.slots r.homes places).home j ≡ (shape r.slots r.homes places).home x =
-        s.at_home ∙ same ∙ sym at_home in
+    s.at_home ∙ same ∙ sym at_home in
     let below : (shape r.slots r.homes places).top j < (shape r.slots r.homes places).top x =
-        omega (arith, s.top, top) in
+    omega (arith, s.top, top) in
     let found : (shape r.slots r.homes places).top j < (shape r.slots r.homes places).low (next_at r.links x) =
-        are.chained.least x j on low s.on e below in
+    are.chained.least x j on low s.on e below in
     omega (arith, s.top)
 
 -- a look from a node finds the next of its chain
@@ -79,26 +79,26 @@ finds : (r : Rings) (places : ℕ → Option Place) (x home bound : ℕ) → Are
 finds r places x home bound are on at_home top =
     let n : ℕ = next_at r.links x in
     let down : (shape r.slots r.homes places).low n ≤ (shape r.slots r.homes places).top x = are.chained.down x on in
-    elim (node_is r.slots r.homes places n (are.chained.after_on x on))
-    [ inl (p, s) ↦
-        let some : Some n ≡ slot_at r.slots n = sym (ap (λ b. cond b (Some n) None) (lt-ltb n r.slots s.low)) in
-        let e : order_of (places n) ≡ p.order = ap order_of s.has in
-        subst (λ (f : Option ℕ). Finds r places home bound f) some
-        (record {
-          stands = (s.low, record { place = p; has = s.has; at_home = sym s.at_home ∙ are.chained.home x on ∙ at_home });
-          down = omega (arith, s.bound);
-          greatest = λ j p low has same lower.
-              omega (arith, s.bound, greatest_of r places x home bound are on at_home top j p low has same lower);
-        })
-    | inr h ↦
-        let none : None ≡ slot_at r.slots n = sym (ap (λ b. cond b (Some n) None) (le-ltb n r.slots h.high)) in
-        subst (λ (f : Option ℕ). Finds r places home bound f) none
-        (record {
-          stands = tt;
-          down = omega arith;
-          greatest = λ j p low has same lower.
-              omega (arith, h.bound, greatest_of r places x home bound are on at_home top j p low has same lower);
-        })
+    elim (node_is r.slots r.homes places n (are.chained.after_on x on)) [
+      | inl (p, s) ↦
+          let some : Some n ≡ slot_at r.slots n = sym (ap (λ b. cond b (Some n) None) (lt-ltb n r.slots s.low)) in
+          let e : order_of (places n) ≡ p.order = ap order_of s.has in
+          subst (λ (f : Option ℕ). Finds r places home bound f) some
+          (record {
+            stands = (s.low, record { place = p; has = s.has; at_home = sym s.at_home ∙ are.chained.home x on ∙ at_home });
+            down = omega (arith, s.bound);
+            greatest = λ j p low has same lower.
+                omega (arith, s.bound, greatest_of r places x home bound are on at_home top j p low has same lower);
+          })
+      | inr h ↦
+          let none : None ≡ slot_at r.slots n = sym (ap (λ b. cond b (Some n) None) (le-ltb n r.slots h.high)) in
+          subst (λ (f : Option ℕ). Finds r places home bound f) none
+          (record {
+            stands = tt;
+            down = omega arith;
+            greatest = λ j p low has same lower.
+                omega (arith, h.bound, greatest_of r places x home bound are on at_home top j p low has same lower);
+          })
     ]
 
 -- a look from a home's head, and from a slot
@@ -106,7 +106,7 @@ newest_at : (r : Rings) (home : ℕ) → home < r.homes → (places : ℕ → Op
     → Finds r places home (2 ^ 64) (slot_at r.slots (next_at r.links (r.slots + home)))
 newest_at r home low places are =
     let h : IsHead r.slots r.homes places (r.slots + home) =
-        head_is r.slots r.homes places (r.slots + home) (omega arith) (omega arith) in
+    head_is r.slots r.homes places (r.slots + home) (omega arith) (omega arith) in
     let same : (shape r.slots r.homes places).home (r.slots + home) ≡ home = omega (arith, h.at_home) in
     finds r places (r.slots + home) home (2 ^ 64) are h.on same h.top
 
@@ -124,15 +124,15 @@ pub finds_newest : (r : Rings) (slots homes : ℕ) (links : List Link) (home : �
     → AreChains r places → Finds r places home (2 ^ 64) found
 finds_newest r slots homes links home link found is has low read e places are =
     let P : Rings → Type 0 = λ r. home < r.homes → found ≡ slot_at r.slots link.next → AreChains r places
-        → Finds r places home (2 ^ 64) found in
+    → Finds r places home (2 ^ 64) found in
     subst P is
     (λ low e are.
-        let same : link ≡ get_or links (slots + home) no_link =
-            get_or_read links (slots + home) link (omega (arith, has.len)) read no_link in
-        let is_found : found ≡ slot_at slots (next_at links (slots + home)) =
-            e ∙ ap (λ (l : Link). slot_at slots l.next) same in
-        subst (λ (f : Option ℕ). Finds (record { slots = slots; homes = homes; links = links }) places home (2 ^ 64) f)
-        (sym is_found) (newest_at _ home low places are))
+    let same : link ≡ get_or links (slots + home) no_link =
+    get_or_read links (slots + home) link (omega (arith, has.len)) read no_link in
+    let is_found : found ≡ slot_at slots (next_at links (slots + home)) =
+    e ∙ ap (λ (l : Link). slot_at slots l.next) same in
+    subst (λ (f : Option ℕ). Finds (record { slots = slots; homes = homes; links = links }) places home (2 ^ 64) f)
+    (sym is_found) (newest_at _ home low places are))
     low e are
 
 pub finds_older : (r : Rings) (slots homes : ℕ) (links : List Link) (slot : ℕ) (link : Link) (found : Option ℕ)
@@ -142,15 +142,15 @@ pub finds_older : (r : Rings) (slots homes : ℕ) (links : List Link) (slot : �
     (place : Place) → AreChains r places → places slot ≡ Some place → Finds r places place.home place.order found
 finds_older r slots homes links slot link found is has low read e places place are in_place =
     let P : Rings → Type 0 = λ r. slot < r.slots → found ≡ slot_at r.slots link.next → AreChains r places
-        → Finds r places place.home place.order found in
+    → Finds r places place.home place.order found in
     subst P is
     (λ low e are.
-        let same : link ≡ get_or links slot no_link =
-            get_or_read links slot link (omega (arith, has.len)) read no_link in
-        let is_found : found ≡ slot_at slots (next_at links slot) =
-            e ∙ ap (λ (l : Link). slot_at slots l.next) same in
-        subst (λ (f : Option ℕ). Finds (record { slots = slots; homes = homes; links = links }) places place.home place.order f)
-        (sym is_found) (older_at _ slot low places place are in_place))
+    let same : link ≡ get_or links slot no_link =
+    get_or_read links slot link (omega (arith, has.len)) read no_link in
+    let is_found : found ≡ slot_at slots (next_at links slot) =
+    e ∙ ap (λ (l : Link). slot_at slots l.next) same in
+    subst (λ (f : Option ℕ). Finds (record { slots = slots; homes = homes; links = links }) places place.home place.order f)
+    (sym is_found) (older_at _ slot low places place are in_place))
     low e are
 
 -- nodes that are alone
@@ -174,9 +174,9 @@ pub empty_chains : (slots homes : ℕ)
 empty_chains slots homes =
     let a : Shape = shape slots homes (λ _. None) in
     let next : (x : ℕ) → a.on x ≡ true → next_at (map alone (range_with_len 0 (slots + homes))) x ≡ x =
-        λ x on. next_alone (slots + homes) x (only_heads slots homes x on).few in
+    λ x on. next_alone (slots + homes) x (only_heads slots homes x on).few in
     let prev : (x : ℕ) → a.on x ≡ true → prev_at (map alone (range_with_len 0 (slots + homes))) x ≡ x =
-        λ x on. prev_alone (slots + homes) x (only_heads slots homes x on).few in
+    λ x on. prev_alone (slots + homes) x (only_heads slots homes x on).few in
     record {
       orders = λ j p h. (let none : None ≡ Some p = h in cc);
       once = λ i j p q h k e. (let none : None ≡ Some p = h in cc);

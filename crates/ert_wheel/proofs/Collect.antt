@@ -1,9 +1,9 @@
 -- The rows of one chain are collected, from the newest to the oldest.
 
-use Rattle.std.proofs.Common.{◌≡◌, ◌≢◌, ◌⊎◌, ℕ, ◌+◌, ◌<◌, ◌≤◌, ◌^◌, Bool, true, false, ◌&&◌, cond, nat_eq, nat_le, List, Option, Some, None, IfSome, All, [], ◌∷◌, ◌++◌, length, get_or, map, eqb, sym, subst, ◌∙◌, ap, inl, inr, refl, arith, length-append}
+use Rattle.std.proofs.Common.{◌≡◌, ◌≢◌, ℕ, ◌+◌, ◌<◌, ◌≤◌, ◌^◌, Bool, true, false, ◌&&◌, cond, nat_eq, nat_le, List, Option, Some, None, IfSome, [], ◌∷◌, ◌++◌, length, get_or, sym, subst, ◌∙◌, ap, inl, inr, refl, arith}
 use Rattle.std.proofs.Math.ListN.{get_or-eq_default}
 use Rattle.std.proofs.lemmas.Bool.{cases_eq, cases_lt, eq-eqb, ne_eqb, and_right, le-leb, lt-leb}
-use Rattle.std.proofs.lemmas.Bool.Decides.{nat_tests, eqb_tells}
+use Rattle.std.proofs.lemmas.Bool.Decides.{eqb_tells}
 use Rattle.std.proofs.lemmas.List.Elements.{All-push}
 use Rattle.std.proofs.lemmas.List.Sums.{sum_by_push}
 use Rattle.ert_wheel.proofs.Views.{place_is, kept_in}
@@ -34,9 +34,9 @@ pub record IsWalked (keys : List (Option Key)) (home : Key → ℕ) (bucket to :
 -- a slot that has a key is one of the slots
 pub key_low : (keys : List (Option Key)) (slot : ℕ) (key : Key) → key_in keys slot ≡ Some key → slot < length keys
 key_low keys slot key has =
-    elim (cases_lt slot (length keys))
-    [ inl low ↦ low
-    | inr high ↦ let none : None ≡ Some key = sym (get_or-eq_default keys None high) ∙ has in cc
+    elim (cases_lt slot (length keys)) [
+      | inl low ↦ low
+      | inr high ↦ let none : None ≡ Some key = sym (get_or-eq_default keys None high) ∙ has in cc
     ]
 
 -- what a look found is a slot of the bucket
@@ -46,7 +46,7 @@ found chains keys home bucket bound None f = tt
 found chains keys home bucket bound (Some slot) f =
     let s : StandsIn (places home keys) bucket slot = f.stands.1 in
     let k : (k : Key) × (key_in keys slot ≡ Some k) × (record { home = home k; order = k.order } ≡ s.place) =
-        place_is home (key_in keys slot) s.place s.has in
+    place_is home (key_in keys slot) s.place s.has in
     record { key = k.0; has = k.1; at_home = ap (λ (p : Place). p.home) k.2 ∙ s.at_home }
 
 -- no key passes a test that is false at it
@@ -62,9 +62,9 @@ passing_same p q (Some k) h = ap (λ b. cond b 1 0) (h k refl)
 -- above the first bound there is none
 above_first : (due : Bool) (h b o bound : ℕ) → (h ≡ b → o < bound) → ((due && nat_eq h b) && nat_le bound o) ≡ false
 above_first due h b o bound below =
-    elim (eqb_tells h b)
-    [ inl (t, e) ↦ and_right (due && nat_eq h b) (nat_le bound o) (lt-leb bound o (below e))
-    | inr (f, e) ↦ ap (λ c. c && nat_le bound o) (and_right due (nat_eq h b) f)
+    elim (eqb_tells h b) [
+      | inl (t, e) ↦ and_right (due && nat_eq h b) (nat_le bound o) (lt-leb bound o (below e))
+      | inr (f, e) ↦ ap (λ c. c && nat_le bound o) (and_right due (nat_eq h b) f)
     ]
 
 -- the walk begins at the newest
@@ -76,11 +76,11 @@ walk_starts chains keys home bucket to next old may f = record {
       let bound : ℕ = bound_of (places home keys) next in
       let none : passing (is_due_from home bucket to bound) (key_in keys j) ≡ 0 =
       passing_none (is_due_from home bucket to bound) (key_in keys j) (λ k has.
-          let at_place : places home keys j ≡ Some (record { home = home k; order = k.order }) = ap (place_of home) has in
-          let low : j < chains.slots = omega (arith, may.slots, key_low keys j k has) in
-          above_first (nat_le k.deadline to) (home k) bucket k.order bound (λ e.
-              f.greatest j (record { home = home k; order = k.order }) low at_place e
-              (may.are.orders j (record { home = home k; order = k.order }) at_place))) in
+      let at_place : places home keys j ≡ Some (record { home = home k; order = k.order }) = ap (place_of home) has in
+      let low : j < chains.slots = omega (arith, may.slots, key_low keys j k has) in
+      above_first (nat_le k.deadline to) (home k) bucket k.order bound (λ e.
+      f.greatest j (record { home = home k; order = k.order }) low at_place e
+      (may.are.orders j (record { home = home k; order = k.order }) at_place))) in
       omega (arith, none);
   are_rows = may.are_rows;
   stands = found chains keys home bucket (2 ^ 64) next f;
@@ -90,17 +90,17 @@ walk_starts chains keys home bucket to next old may f = record {
 same_test : (due : Bool) (h b o k bound : ℕ) → bound ≤ k → o ≢ k → (h ≡ b → o < k → o < bound)
     → ((due && nat_eq h b) && nat_le (k + 1) o) ≡ ((due && nat_eq h b) && nat_le bound o)
 same_test due h b o k bound down other greatest =
-    elim (eqb_tells h b)
-    [ inl (t, e) ↦
-        let same : nat_le (k + 1) o ≡ nat_le bound o =
-            elim (cases_lt o k)
-            [ inl less ↦ lt-leb (k + 1) o (omega arith) ∙ sym (lt-leb bound o (greatest e less))
+    elim (eqb_tells h b) [
+      | inl (t, e) ↦
+          let same : nat_le (k + 1) o ≡ nat_le bound o =
+          elim (cases_lt o k) [
+            | inl less ↦ lt-leb (k + 1) o (omega arith) ∙ sym (lt-leb bound o (greatest e less))
             | inr more ↦ le-leb (k + 1) o (omega arith) ∙ sym (le-leb bound o (omega arith))
-            ] in
-        ap (λ c. (due && nat_eq h b) && c) same
-    | inr (f, e) ↦
-        ap (λ c. c && nat_le (k + 1) o) (and_right due (nat_eq h b) f)
-        ∙ sym (ap (λ c. c && nat_le bound o) (and_right due (nat_eq h b) f))
+          ] in
+          ap (λ c. (due && nat_eq h b) && c) same
+      | inr (f, e) ↦
+          ap (λ c. c && nat_le (k + 1) o) (and_right due (nat_eq h b) f)
+          ∙ sym (ap (λ c. c && nat_le bound o) (and_right due (nat_eq h b) f))
     ]
 
 -- at the key itself
@@ -111,9 +111,9 @@ here_test true h b k bound down e =
     let low : nat_le (k + 1) k ≡ false = lt-leb (k + 1) k (omega arith) in
     let up : nat_le bound k ≡ true = le-leb bound k down in
     let x : ◌≡◌ {A = ℕ} (cond (nat_eq h b && nat_le (k + 1) k) 1 0) 0 =
-        ap (λ c. cond c 1 0) (and_right (nat_eq h b) (nat_le (k + 1) k) low) in
+    ap (λ c. cond c 1 0) (and_right (nat_eq h b) (nat_le (k + 1) k) low) in
     let y : ◌≡◌ {A = ℕ} (cond (nat_eq h b && nat_le bound k) 1 0) 1 =
-        ap (λ c. cond (c && nat_le bound k) 1 0) t ∙ ap (λ c. cond c 1 0) up in
+    ap (λ c. cond (c && nat_le bound k) 1 0) t ∙ ap (λ c. cond c 1 0) up in
     omega (arith, x, y)
 here_test false h b k bound down e = refl
 
@@ -127,25 +127,25 @@ step_at : (keys : List (Option Key)) (home : Key → ℕ) (bucket to bound slot 
 step_at keys home bucket to bound slot j key None has at_home down is once greatest =
     let ne : slot ≢ j = λ e. (let none : Some key ≡ None = sym has ∙ ap (key_in keys) e ∙ is in cc) in
     let x : ◌≡◌ {A = ℕ} (cond (nat_eq slot j && nat_le key.deadline to) 1 0) 0 =
-        ap (λ c. cond (c && nat_le key.deadline to) 1 0) (ne_eqb slot j ne) in
+    ap (λ c. cond (c && nat_le key.deadline to) 1 0) (ne_eqb slot j ne) in
     omega (arith, x)
 step_at keys home bucket to bound slot j key (Some k) has at_home down is once greatest =
-    elim (cases_eq slot j)
-    [ inl e ↦
-        let some : Some key ≡ Some k = sym has ∙ ap (key_in keys) e ∙ is in
-        let same : key ≡ k = cc in
-        let x : ◌≡◌ {A = ℕ} (cond (nat_eq slot j && nat_le key.deadline to) 1 0) (cond (nat_le key.deadline to) 1 0) =
-            ap (λ c. cond (c && nat_le key.deadline to) 1 0) (eq-eqb slot j e) in
-        let y = here_test (nat_le key.deadline to) (home key) bucket key.order bound down at_home in
-        subst (λ (l : Key). passing (is_due_from home bucket to (key.order + 1)) (Some l) + cond (nat_eq slot j && nat_le key.deadline to) 1 0
-        ≡ passing (is_due_from home bucket to bound) (Some l)) same (omega (arith, x, y))
-    | inr ne ↦
-        let x : ◌≡◌ {A = ℕ} (cond (nat_eq slot j && nat_le key.deadline to) 1 0) 0 =
-            ap (λ c. cond (c && nat_le key.deadline to) 1 0) (ne_eqb slot j ne) in
-        let other : k.order ≢ key.order = λ e. ne (sym (once k refl e)) in
-        let y : ◌≡◌ {A = ℕ} (cond (is_due_from home bucket to (key.order + 1) k) 1 0) (cond (is_due_from home bucket to bound k) 1 0) =
-            ap (λ c. cond c 1 0) (same_test (nat_le k.deadline to) (home k) bucket k.order key.order bound down other (greatest k refl)) in
-        omega (arith, x, y)
+    elim (cases_eq slot j) [
+      | inl e ↦
+          let some : Some key ≡ Some k = sym has ∙ ap (key_in keys) e ∙ is in
+          let same : key ≡ k = cc in
+          let x : ◌≡◌ {A = ℕ} (cond (nat_eq slot j && nat_le key.deadline to) 1 0) (cond (nat_le key.deadline to) 1 0) =
+          ap (λ c. cond (c && nat_le key.deadline to) 1 0) (eq-eqb slot j e) in
+          let y = here_test (nat_le key.deadline to) (home key) bucket key.order bound down at_home in
+          subst (λ (l : Key). passing (is_due_from home bucket to (key.order + 1)) (Some l) + cond (nat_eq slot j && nat_le key.deadline to) 1 0
+          ≡ passing (is_due_from home bucket to bound) (Some l)) same (omega (arith, x, y))
+      | inr ne ↦
+          let x : ◌≡◌ {A = ℕ} (cond (nat_eq slot j && nat_le key.deadline to) 1 0) 0 =
+          ap (λ c. cond (c && nat_le key.deadline to) 1 0) (ne_eqb slot j ne) in
+          let other : k.order ≢ key.order = λ e. ne (sym (once k refl e)) in
+          let y : ◌≡◌ {A = ℕ} (cond (is_due_from home bucket to (key.order + 1) k) 1 0) (cond (is_due_from home bucket to bound k) 1 0) =
+          ap (λ c. cond c 1 0) (same_test (nat_le k.deadline to) (home k) bucket k.order key.order bound down other (greatest k refl)) in
+          omega (arith, x, y)
     ]
 
 -- one step of the walk: the row of the slot is added where it is due
@@ -161,18 +161,18 @@ walk_steps chains keys home bucket to slot key next old now new may w has f more
     let at_home : home key ≡ bucket = ap home (sym same) ∙ w.stands.at_home in
     let bound : ℕ = bound_of (places home keys) next in
     let here : bound_of (places home keys) (Some slot) ≡ key.order + 1 =
-        ap (λ (o : Option Key). order_of (place_of home o) + 1) has in
+    ap (λ (o : Option Key). order_of (place_of home o) + 1) has in
     let g : Finds chains (places home keys) bucket key.order next =
-        subst (λ (b : ℕ). Finds chains (places home keys) b key.order next) at_home f in
+    subst (λ (b : ℕ). Finds chains (places home keys) b key.order next) at_home f in
     record {
       each = λ j.
           let was : times j now ≡ times j old + passing (is_due_from home bucket to (key.order + 1)) (key_in keys j) =
           subst (λ (b : ℕ). times j now ≡ times j old + passing (is_due_from home bucket to b) (key_in keys j)) here (w.each j) in
           let step = step_at keys home bucket to bound slot j key (key_in keys j) has at_home g.down refl
-              (λ k is e. may.are.once j slot (record { home = home k; order = k.order }) (record { home = home key; order = key.order })
-              (ap (place_of home) is) (ap (place_of home) has) e)
-              (λ k is at less. g.greatest j (record { home = home k; order = k.order })
-              (omega (arith, may.slots, key_low keys j k is)) (ap (place_of home) is) at less) in
+          (λ k is e. may.are.once j slot (record { home = home k; order = k.order }) (record { home = home key; order = key.order })
+          (ap (place_of home) is) (ap (place_of home) has) e)
+          (λ k is at less. g.greatest j (record { home = home k; order = k.order })
+          (omega (arith, may.slots, key_low keys j k is)) (ap (place_of home) is) at less) in
           omega (arith, was, step, more j);
       are_rows = rows;
       stands = found chains keys home bucket key.order next g;
@@ -215,9 +215,9 @@ at_key : (chains : Rings) (keys : List Key) (home : Key → ℕ) (bucket to slot
     → AtKey chains keys home bucket to slot next old now (get_or keys slot d)
 at_key chains keys home bucket to slot here next old now d t =
     let w : IsWalked (kept_keys keys) home bucket to (Some slot) old now =
-        subst (λ (o : Option ℕ). IsWalked (kept_keys keys) home bucket to o old now) t.is t.walked in
+    subst (λ (o : Option ℕ). IsWalked (kept_keys keys) home bucket to o old now) t.is t.walked in
     let has : key_in (kept_keys keys) slot ≡ Some (get_or keys slot d) =
-        w.stands.has ∙ ap (λ (k : Key). Some k) (kept_in keys slot d w.stands.key w.stands.has).1 in
+    w.stands.has ∙ ap (λ (k : Key). Some k) (kept_in keys slot d w.stands.key w.stands.has).1 in
     let key : Key = get_or keys slot d in
     record {
       walked = w;
@@ -234,7 +234,7 @@ walk_adds chains keys home bucket to slot here next old now d t due =
     let key : Key = get_or keys slot d in
     walk_steps chains (kept_keys keys) home bucket to slot key next old now (now ++ row_at slot key ∷ []) t.may a.walked a.has a.follows
     (λ j. times_push now (row_at slot key) j ∙ ap (λ b. times j now + cond b 1 0)
-        (sym (ap (λ b. nat_eq slot j && b) (le-leb key.deadline to due) ∙ and_true (nat_eq slot j))))
+    (sym (ap (λ b. nat_eq slot j && b) (le-leb key.deadline to due) ∙ and_true (nat_eq slot j))))
     (All-push (λ row. key_in (kept_keys keys) row.slot ≡ Some (key_of row)) now (row_at slot key) a.walked.are_rows a.has)
 
 -- and nothing where it isn't
@@ -246,9 +246,9 @@ walk_leaves chains keys home bucket to slot here next old now d t later =
     let key : Key = get_or keys slot d in
     walk_steps chains (kept_keys keys) home bucket to slot key next old now now t.may a.walked a.has a.follows
     (λ j.
-        let none : ◌≡◌ {A = ℕ} (cond (nat_eq slot j && nat_le key.deadline to) 1 0) 0 =
-            ap (λ b. cond b 1 0) (and_right (nat_eq slot j) (nat_le key.deadline to) (lt-leb key.deadline to later)) in
-        omega (arith, none))
+    let none : ◌≡◌ {A = ℕ} (cond (nat_eq slot j && nat_le key.deadline to) 1 0) 0 =
+    ap (λ b. cond b 1 0) (and_right (nat_eq slot j) (nat_le key.deadline to) (lt-leb key.deadline to later)) in
+    omega (arith, none))
     a.walked.are_rows
 
 -- the orders don't depend on the homes
@@ -267,5 +267,5 @@ walk_falls chains keys home bucket to slot here next old now d t =
     let a = at_key chains keys home bucket to slot here next old now d t in
     let key : Key = get_or keys slot d in
     let e : bound_of (places (λ _. 0) (kept_keys keys)) here ≡ key.order + 1 =
-        ap (bound_of (places (λ _. 0) (kept_keys keys))) t.is ∙ ap (λ (o : Option Key). order_of (place_of (λ _. 0) o) + 1) a.has in
+    ap (bound_of (places (λ _. 0) (kept_keys keys))) t.is ∙ ap (λ (o : Option Key). order_of (place_of (λ _. 0) o) + 1) a.has in
     omega (arith, a.follows.down, bound_same (λ _. 0) home (kept_keys keys) next)

@@ -1,15 +1,14 @@
 -- Rows of different slots are at most as many as slots.
 
-use Rattle.std.proofs.Common.{◌≡◌, ℕ, ◌+◌, ◌<◌, ◌≤◌, Bool, true, false, ◌||◌, ◌&&◌, cond, nat_eq, nat_le, eqb, List, Option, Some, None, All, [], ◌∷◌, ◌++◌, length, length-append, get_or, map, sym, ◌∙◌, ap, inl, inr, refl, arith}
+use Rattle.std.proofs.Common.{◌≡◌, ℕ, ◌+◌, ◌<◌, ◌≤◌, Bool, true, false, ◌&&◌, cond, nat_eq, nat_le, eqb, List, Option, Some, None, [], ◌∷◌, ◌++◌, length, length-append, get_or, map, sym, ap, inl, inr, refl, arith}
 use Rattle.std.proofs.lemmas.Bool.{eqb-true, or_cases}
 use Rattle.std.proofs.lemmas.Bool.Decides.{eqb_tells}
 use Rattle.std.proofs.lemmas.List.{length-map}
 use Rattle.std.proofs.lemmas.List.Elements.{All-head, All-tail}
 use Rattle.std.proofs.lemmas.List.Sums.{sum_by-cons}
-use Rattle.std.proofs.lemmas.Map.Keys.{IsDistinct-cons}
 use Rattle.std.proofs.lemmas.Map.Steps.{length-le_from_distinct_below}
 use Rattle.std.specs.List.{IsDistinct, AllByRecursion, list_any}
-use Rattle.ert_wheel.proofs.Collect.{key_low, is_due_from, IsWalked, Turns, walk_adds}
+use Rattle.ert_wheel.proofs.Collect.{key_low, IsWalked, Turns, walk_adds}
 use Rattle.ert_wheel.specs.Rings.{Rings, bound_of}
 use Rattle.ert_wheel.specs.Rows.{key_in, key_of, row_at, times, passing}
 use Rattle.ert_wheel.specs.Walks.{AreRows, is_due_in, MayCollect}
@@ -26,14 +25,15 @@ none_equal : (slot : ℕ) (rows : List Row) → times slot rows ≡ 0
     → AllByRecursion (λ y. eqb slot y ≡ false) (map (λ row. row.slot) rows)
 none_equal slot [] h = tt
 none_equal slot (row ∷ rows) h =
-    elim (eqb_tells row.slot slot)
-    [ inl (t, e) ↦
-        let one : ◌≡◌ {A = ℕ} (cond (nat_eq row.slot slot) 1 0) 1 = ap (λ b. cond b 1 0) t in
-        absurd (omega (arith, times-cons row rows slot))
-    | inr (f, ne) ↦
-        let none : ◌≡◌ {A = ℕ} (cond (nat_eq row.slot slot) 1 0) 0 = ap (λ b. cond b 1 0) f in
-        (elim (eqb_tells slot row.slot) [ inl (t, e) ↦ absurd (ne (sym e)) | inr (g, n) ↦ g ],
-        none_equal slot rows (omega (arith, times-cons row rows slot)))
+    elim (eqb_tells row.slot slot) [
+      | inl (t, e) ↦
+          let one : ◌≡◌ {A = ℕ} (cond (nat_eq row.slot slot) 1 0) 1 = ap (λ b. cond b 1 0) t in
+          absurd (omega (arith, times-cons row rows slot))
+      | inr (f, ne) ↦
+          let none : ◌≡◌ {A = ℕ} (cond (nat_eq row.slot slot) 1 0) 0 = ap (λ b. cond b 1 0) f in (
+            elim (eqb_tells slot row.slot) [ inl (t, e) ↦ absurd (ne (sym e)) | inr (g, n) ↦ g ],
+            none_equal slot rows (omega (arith, times-cons row rows slot)),
+          )
     ]
 
 -- where each slot stands at most once, the slots are different
@@ -42,28 +42,29 @@ unfolding IsDistinct
 distinct [] once = tt
 distinct (row ∷ rows) once =
     let one : ◌≡◌ {A = ℕ} (cond (nat_eq row.slot row.slot) 1 0) 1 =
-        elim (eqb_tells row.slot row.slot) [ inl (t, e) ↦ ap (λ b. cond b 1 0) t | inr (f, ne) ↦ absurd (ne refl) ] in
-    (none_equal row.slot rows (omega (arith, times-cons row rows row.slot, once row.slot)),
-    distinct rows (λ j. omega (arith, times-cons row rows j, once j)))
+    elim (eqb_tells row.slot row.slot) [ inl (t, e) ↦ ap (λ b. cond b 1 0) t | inr (f, ne) ↦ absurd (ne refl) ] in (
+      none_equal row.slot rows (omega (arith, times-cons row rows row.slot, once row.slot)),
+      distinct rows (λ j. omega (arith, times-cons row rows j, once j)),
+    )
 
 -- the slots of a wheel's rows are slots of the wheel
 slots_low : (keys : List (Option Key)) (rows : List Row) → AreRows keys rows → (q : ℕ)
     → list_any (eqb q) (map (λ row. row.slot) rows) ≡ true → q < length keys
 slots_low keys [] are q h = cc
 slots_low keys (row ∷ rows) are q h =
-    elim (or_cases (eqb q row.slot) (list_any (eqb q) (map (λ row. row.slot) rows)) h)
-    [ inl e ↦
-        let low : row.slot < length keys =
-            key_low keys row.slot (key_of row) (All-head (λ row. key_in keys row.slot ≡ Some (key_of row)) row rows are) in
-        omega (arith, eqb-true q row.slot e)
-    | inr more ↦ slots_low keys rows (All-tail (λ row. key_in keys row.slot ≡ Some (key_of row)) row rows are) q more
+    elim (or_cases (eqb q row.slot) (list_any (eqb q) (map (λ row. row.slot) rows)) h) [
+      | inl e ↦
+          let low : row.slot < length keys =
+          key_low keys row.slot (key_of row) (All-head (λ row. key_in keys row.slot ≡ Some (key_of row)) row rows are) in
+          omega (arith, eqb-true q row.slot e)
+      | inr more ↦ slots_low keys rows (All-tail (λ row. key_in keys row.slot ≡ Some (key_of row)) row rows are) q more
     ]
 
 pub few_rows : (keys : List (Option Key)) (rows : List Row) → AreRows keys rows → ((j : ℕ) → times j rows ≤ 1)
     → length rows ≤ length keys
 few_rows keys rows are once =
     let few : length (map (λ (row : Row). row.slot) rows) ≤ length keys =
-        length-le_from_distinct_below (map (λ row. row.slot) rows) (length keys) (distinct rows once) (slots_low keys rows are) in
+    length-le_from_distinct_below (map (λ row. row.slot) rows) (length keys) (distinct rows once) (slots_low keys rows are) in
     omega (arith, length-map rows (λ (row : Row). row.slot))
 
 -- a stronger test passes less often
@@ -77,8 +78,12 @@ passing_both a b (Some key) =
 walk_fits : (chains : Rings) (keys : List (Option Key)) (home : Key → ℕ) (bucket to : ℕ) (next : Option ℕ) (old now : List Row)
     → MayCollect chains keys home bucket to old → IsWalked keys home bucket to next old now → length now ≤ length keys
 walk_fits chains keys home bucket to next old now may w =
-    few_rows keys now w.are_rows (λ j. omega (arith, w.each j, may.once j,
-    passing_both (is_due_in home bucket to) (λ key. nat_le (bound_of (places home keys) next) key.order) (key_in keys j)))
+    few_rows keys now w.are_rows (λ j. omega (
+      arith,
+      w.each j,
+      may.once j,
+      passing_both (is_due_in home bucket to) (λ key. nat_le (bound_of (places home keys) next) key.order) (key_in keys j),
+    ))
 
 -- so there is room for a row that is added
 pub walk_room : (chains : Rings) (keys : List Key) (home : Key → ℕ) (bucket to slot : ℕ) (here next : Option ℕ) (old now : List Row) (d : Key)
@@ -86,6 +91,6 @@ pub walk_room : (chains : Rings) (keys : List Key) (home : Key → ℕ) (bucket 
     → length now + 1 ≤ length keys
 walk_room chains keys home bucket to slot here next old now d t due =
     let fits : length (now ++ row_at slot (get_or keys slot d) ∷ []) ≤ length (kept_keys keys) =
-        walk_fits chains (kept_keys keys) home bucket to next old (now ++ row_at slot (get_or keys slot d) ∷ []) t.may
-        (walk_adds chains keys home bucket to slot here next old now d t due) in
+    walk_fits chains (kept_keys keys) home bucket to next old (now ++ row_at slot (get_or keys slot d) ∷ []) t.may
+    (walk_adds chains keys home bucket to slot here next old now d t due) in
     omega (arith, length-append now (row_at slot (get_or keys slot d) ∷ []), length-map keys kept)

@@ -1,7 +1,7 @@
 -- A wheel that was just made.
 
-use Rattle.std.proofs.Common.{◌≡◌, ℕ, ◌+◌, ◌-◌, ◌<◌, ◌≤◌, ◌^◌, Option, Some, None, List, [], ◌∷◌, map, replicate, length, get_or, count_by, zero, suc, sym, subst, ◌∙◌, ap, inl, inr, refl, arith}
-use Rattle.std.proofs.Math.ListN.{get_or-map, get_or-eq_default}
+use Rattle.std.proofs.Common.{◌≡◌, ℕ, ◌+◌, ◌-◌, ◌<◌, ◌≤◌, ◌^◌, Option, None, List, ◌∷◌, replicate, length, count_by, zero, suc, sym, subst, ◌∙◌, ap, inl, inr, refl, arith}
+use Rattle.std.proofs.Math.ListN.{get_or-eq_default}
 use Rattle.std.proofs.lemmas.Bool.{cases_lt}
 use Rattle.std.proofs.lemmas.List.{length-replicate, get_or-replicate}
 use Rattle.std.proofs.lemmas.List.Folds.{sum_by-replicate}
@@ -9,8 +9,7 @@ use Rattle.std.proofs.lemmas.Nat.{pow_pos}
 use Rattle.std.specs.Int.{IsPowerOfTwo}
 use Rattle.std.specs.Option.{is_some}
 use Rattle.ert_wheel.specs.Rings.{Rings, Place, AreChains}
-use Rattle.ert_wheel.specs.Rows.{key_in}
-use Rattle.ert_wheel.specs.Wheels.{kept, kept_keys, home_by, place_of, places, IsWheel}
+use Rattle.ert_wheel.specs.Wheels.{kept_keys, home_by, place_of, places, IsWheel}
 use Rattle.ert_wheel.specs.declared.row.Key.{Key}
 
 -- what stands for a slot without a row
@@ -25,11 +24,11 @@ kept_none (suc n) = ap (λ (s : List (Option Key)). None ∷ s) (kept_none n)
 -- and so no slot has a place
 no_place : (home : Key → ℕ) (n j : ℕ) → places home (replicate n None) j ≡ None
 no_place home n j =
-    elim (cases_lt j n)
-    [ inl low ↦ ap (place_of home) (get_or-replicate n j None None low)
-    | inr high ↦
-        let short : length (replicate {A = Option Key} n None) ≤ j = omega (arith, length-replicate {A = Option Key} n None) in
-        ap (place_of home) (get_or-eq_default (replicate n None) None short)
+    elim (cases_lt j n) [
+      | inl low ↦ ap (place_of home) (get_or-replicate n j None None low)
+      | inr high ↦
+          let short : length (replicate {A = Option Key} n None) ≤ j = omega (arith, length-replicate {A = Option Key} n None) in
+          ap (place_of home) (get_or-eq_default (replicate n None) None short)
     ]
 
 pub opened : (slots buckets : ℕ) (keys : List Key) (chains : Rings) → keys ≡ replicate slots no_key

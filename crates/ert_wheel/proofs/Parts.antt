@@ -1,16 +1,13 @@
 -- Chains by their places: what is at a node, and a slot put in or taken out.
 
-use Rattle.std.proofs.Common.{map, ◌≡◌, ◌≢◌, ◌⊎◌, ℕ, ◌+◌, ◌-◌, ◌<◌, ◌≤◌, ◌^◌, Bool, true, false, cond, List, Option, Some, None, IfSome, nat_lt, nat_eq, length, sym, subst, ◌∙◌, ap, inl, inr, refl, arith}
-use Rattle.std.proofs.lemmas.Bool.{cases_eq, cases_lt, lt-ltb, le-ltb, ltb-true, eq-eqb, ne_eqb, true≢false, false≢true}
-use Rattle.std.proofs.lemmas.List.{with_items_is}
-use Rattle.std.proofs.lemmas.List.FromFn.{get_or-map-range_with_len}
-use Rattle.std.specs.List.{range_with_len}
+use Rattle.std.proofs.Common.{◌≡◌, ◌≢◌, ◌⊎◌, ℕ, ◌+◌, ◌-◌, ◌<◌, ◌≤◌, ◌^◌, true, cond, List, Option, Some, None, nat_lt, sym, subst, ◌∙◌, ap, inl, inr, refl, arith}
+use Rattle.std.proofs.lemmas.Bool.{cases_eq, cases_lt, lt-ltb, le-ltb, ltb-true, eq-eqb, ne_eqb, false≢true}
 use Rattle.std.specs.Option.{is_some}
 use Rattle.ert_wheel.proofs.Splice.{GoesIn, inserted}
 use Rattle.ert_wheel.proofs.Unsplice.{GoesOut, removed}
-use Rattle.ert_wheel.specs.Chained.{Shape, Chained, Changed, Spliced, Unspliced}
-use Rattle.ert_wheel.specs.Links.{next_at, prev_at, alone, no_link}
-use Rattle.ert_wheel.specs.Rings.{Rings, Place, home_of, order_of, by_node, shape, AreChains, with_place, Puts, Takes, StandsIn, slot_at, bound_of, Finds}
+use Rattle.ert_wheel.specs.Chained.{Shape, Changed, Spliced, Unspliced}
+use Rattle.ert_wheel.specs.Links.{next_at, prev_at}
+use Rattle.ert_wheel.specs.Rings.{Rings, Place, home_of, order_of, by_node, shape, AreChains, with_place}
 use Rattle.ert_wheel.specs.declared.links.Link.{Link}
 
 -- what a slot has, and what a head has
@@ -74,14 +71,14 @@ pub node_is : (slots homes : ℕ) (places : ℕ → Option Place) (x : ℕ)
     → (shape slots homes places).on x ≡ true
     → ((p : Place) × IsSlot slots homes places x p) ⊎ IsHead slots homes places x
 node_is slots homes places x on =
-    elim (cases_lt x slots)
-    [ inl low ↦
-        let found : (p : Place) × (places x ≡ Some p) =
-            some_place (places x) (sym (by_slot slots is_some (λ x. nat_lt x (slots + homes)) places x low) ∙ on) in
-        inl (found.0, slot_is slots homes places x found.0 low found.1)
-    | inr high ↦
-        inr (head_is slots homes places x high
-        (ltb-true x (slots + homes) (sym (by_head slots is_some (λ x. nat_lt x (slots + homes)) places x high) ∙ on)))
+    elim (cases_lt x slots) [
+      | inl low ↦
+          let found : (p : Place) × (places x ≡ Some p) =
+          some_place (places x) (sym (by_slot slots is_some (λ x. nat_lt x (slots + homes)) places x low) ∙ on) in
+          inl (found.0, slot_is slots homes places x found.0 low found.1)
+      | inr high ↦
+          inr (head_is slots homes places x high
+          (ltb-true x (slots + homes) (sym (by_head slots is_some (λ x. nat_lt x (slots + homes)) places x high) ∙ on)))
     ]
 
 -- a change of one place
@@ -110,23 +107,23 @@ has_place : (places : ℕ → Option Place) (slot : ℕ) (new : Place) (j : ℕ)
     → with_place places slot (Some new) j ≡ Some p
     → ((j ≡ slot) × (new ≡ p)) ⊎ ((j ≢ slot) × (places j ≡ Some p))
 has_place places slot new j p h =
-    elim (cases_eq j slot)
-    [ inl e ↦
-        let at_slot : Some new ≡ Some p =
-            sym (ap (with_place places slot (Some new)) e ∙ with_place_here places slot (Some new)) ∙ h in
-        inl (e, cc)
-    | inr ne ↦ inr (ne, sym (with_place_there places slot (Some new) j ne) ∙ h)
+    elim (cases_eq j slot) [
+      | inl e ↦
+          let at_slot : Some new ≡ Some p =
+          sym (ap (with_place places slot (Some new)) e ∙ with_place_here places slot (Some new)) ∙ h in
+          inl (e, cc)
+      | inr ne ↦ inr (ne, sym (with_place_there places slot (Some new) j ne) ∙ h)
     ]
 
 -- who has one after one was given up
 kept_place : (places : ℕ → Option Place) (slot : ℕ) (j : ℕ) (p : Place)
     → with_place places slot None j ≡ Some p → places j ≡ Some p
 kept_place places slot j p h =
-    elim (cases_eq j slot)
-    [ inl e ↦
-        let none : None ≡ Some p = sym (ap (with_place places slot None) e ∙ with_place_here places slot None) ∙ h in
-        cc
-    | inr ne ↦ sym (with_place_there places slot None j ne) ∙ h
+    elim (cases_eq j slot) [
+      | inl e ↦
+          let none : None ≡ Some p = sym (ap (with_place places slot None) e ∙ with_place_here places slot None) ∙ h in
+          cc
+      | inr ne ↦ sym (with_place_there places slot None j ne) ∙ h
     ]
 
 -- what is needed to give a slot a place
@@ -145,10 +142,10 @@ highest : (r : Rings) (places : ℕ → Option Place) (slot home order : ℕ) �
     → x ≢ r.slots + home → (shape r.slots r.homes places).top x ≤ order
 highest r places slot home order can x on same ne =
     let h : IsHead r.slots r.homes places (r.slots + home) =
-        head_is r.slots r.homes places (r.slots + home) (omega arith) (omega (arith, can.in_range)) in
-    elim (node_is r.slots r.homes places x on)
-    [ inl (p, s) ↦ omega (arith, s.top, can.above x p s.has)
-    | inr t ↦ absurd (ne (omega (arith, same, t.at_home, h.at_home, t.high)))
+    head_is r.slots r.homes places (r.slots + home) (omega arith) (omega (arith, can.in_range)) in
+    elim (node_is r.slots r.homes places x on) [
+      | inl (p, s) ↦ omega (arith, s.top, can.above x p s.has)
+      | inr t ↦ absurd (ne (omega (arith, same, t.at_home, h.at_home, t.high)))
     ]
 
 goes_in : (r : Rings) (places : ℕ → Option Place) (slot home order : ℕ) → CanPut r places slot home order
@@ -157,7 +154,7 @@ goes_in : (r : Rings) (places : ℕ → Option Place) (slot home order : ℕ) �
 goes_in r places slot home order can =
     let new : Option Place = Some (record { home = home; order = order }) in
     let h : IsHead r.slots r.homes places (r.slots + home) =
-        head_is r.slots r.homes places (r.slots + home) (omega arith) (omega (arith, can.in_range)) in
+    head_is r.slots r.homes places (r.slots + home) (omega arith) (omega (arith, can.in_range)) in
     let a : Shape = shape r.slots r.homes places in
     let b : Shape = shape r.slots r.homes (with_place places slot new) in
     let same : home ≡ a.home (r.slots + home) = omega (arith, h.at_home) in
@@ -185,16 +182,16 @@ pub put_chains : (r : Rings) (places : ℕ → Option Place) (slot home order : 
 put_chains r places slot home order links can spliced = record {
   orders = λ j p h. elim (has_place places slot _ j p h)
       [ inl t ↦ omega (arith, ap (λ (q : Place). q.order) t.1, can.fits) | inr t ↦ can.are.orders j p t.1 ];
-  once = λ i j p q h k e. elim (has_place places slot _ i p h)
-      [ inl s ↦ elim (has_place places slot _ j q k)
-          [ inl t ↦ s.0 ∙ sym t.0
-          | inr t ↦ absurd (omega (arith, ap (λ (q : Place). q.order) s.1, can.above j q t.1))
-          ]
-      | inr s ↦ elim (has_place places slot _ j q k)
-          [ inl t ↦ absurd (omega (arith, ap (λ (q : Place). q.order) t.1, can.above i p s.1))
-          | inr t ↦ can.are.once i j p q s.1 t.1 e
-          ]
-      ];
+  once = λ i j p q h k e. elim (has_place places slot _ i p h) [
+    | inl s ↦ elim (has_place places slot _ j q k) [
+      | inl t ↦ s.0 ∙ sym t.0
+      | inr t ↦ absurd (omega (arith, ap (λ (q : Place). q.order) s.1, can.above j q t.1))
+    ]
+    | inr s ↦ elim (has_place places slot _ j q k) [
+      | inl t ↦ absurd (omega (arith, ap (λ (q : Place). q.order) t.1, can.above i p s.1))
+      | inr t ↦ can.are.once i j p q s.1 t.1 e
+    ]
+  ];
   chained = inserted (record { old = can.are.chained; goes = goes_in r places slot home order can; links = spliced });
 }
 
@@ -211,10 +208,10 @@ goes_out r places slot place are low has =
       low = (changed_at r.slots (λ p. order_of p + 1) (λ _. 0) places slot None low).there;
       held = s.on;
       rank = omega (arith, s.bound, s.top);
-      once = λ j down on e. elim (node_is r.slots r.homes places j on)
-          [ inl (p, t) ↦ are.once j slot p place t.has has (sym t.top ∙ e ∙ s.top)
-          | inr t ↦ absurd (omega (arith, t.high))
-          ];
+      once = λ j down on e. elim (node_is r.slots r.homes places j on) [
+        | inl (p, t) ↦ are.once j slot p place t.has has (sym t.top ∙ e ∙ s.top)
+        | inr t ↦ absurd (omega (arith, t.high))
+      ];
     }
 
 -- the chains with a slot taken out

@@ -1,6 +1,6 @@
 -- A slot is put into a chain, behind its head.
 
-use Rattle.std.proofs.Common.{◌≡◌, ◌≢◌, ◌⊎◌, ℕ, ◌+◌, ◌<◌, ◌≤◌, Bool, true, false, sym, subst, ◌∙◌, ap, inl, inr, refl, arith}
+use Rattle.std.proofs.Common.{◌≡◌, ◌≢◌, ◌⊎◌, ℕ, ◌+◌, ◌<◌, ◌≤◌, Bool, true, false, sym, subst, ◌∙◌, ap, inl, inr, arith}
 use Rattle.std.proofs.lemmas.Bool.{cases_eq, true≢false}
 use Rattle.ert_wheel.specs.Chained.{Shape, Chained, Changed, Spliced}
 
@@ -83,9 +83,9 @@ cases_on : {a b : Shape} {after before after' before' : ℕ → ℕ} {head slot 
     (i : Inserts a b after before after' before' head slot order) (j : ℕ) → j < b.slots → b.on j ≡ true
     → (j ≡ slot) ⊎ StillOn a b slot j
 cases_on {slot = slot} i j low on =
-    elim (cases_eq j slot)
-    [ inl e ↦ inl e
-    | inr ne ↦ inr (record {
+    elim (cases_eq j slot) [
+      | inl e ↦ inl e
+      | inr ne ↦ inr (record {
         apart = ne;
         low = omega (arith, i.goes.slots);
         on = sym (i.goes.on.there j ne) ∙ on;
@@ -102,12 +102,12 @@ least_slot {b = b} i j (inl e) home lower =
     absurd (omega (arith, ap b.top e))
 least_slot {a = a} {b = b} {after = after} {after' = after'} {head = head} {slot = slot} i j (inr s) home lower =
     let apart : after head ≢ slot =
-        on_apart a.on (after head) slot (i.old.after_on head i.goes.head_on) i.goes.off in
+    on_apart a.on (after head) slot (i.old.after_on head i.goes.head_on) i.goes.off in
     let same : a.home j ≡ a.home head = sym s.home ∙ home ∙ i.goes.home.here in
     let below : a.top j < a.top head = omega (arith, s.top, i.goes.top.here, i.goes.below_head) in
     let found : a.top j < a.low (after head) = i.old.least head j i.goes.head_on s.low s.on same below in
     let e : b.low (after' slot) ≡ a.low (after head) =
-        ap b.low i.links.slot_after ∙ i.goes.low.there (after head) apart in
+    ap b.low i.links.slot_after ∙ i.goes.low.there (after head) apart in
     omega (arith, e, s.top)
 
 -- the next lower rank after the head
@@ -133,7 +133,7 @@ least_other : {a b : Shape} {after before after' before' : ℕ → ℕ} {head sl
 least_other {a = a} {b = b} {head = head} {order = order} i x j ns nh on (inl e) home lower =
     let was : a.on x ≡ true = sym (i.goes.on.there x ns) ∙ on in
     let same : a.home x ≡ a.home head =
-        sym (i.goes.home.there x ns) ∙ sym home ∙ ap b.home e ∙ i.goes.home.here in
+    sym (i.goes.home.there x ns) ∙ sym home ∙ ap b.home e ∙ i.goes.home.here in
     let high : a.top x ≤ order = i.goes.highest x was same nh in
     absurd (omega (arith, ap b.top e, i.goes.top.here, i.goes.top.there x ns))
 least_other {a = a} {b = b} {after = after} {after' = after'} {head = head} {slot = slot} i x j ns nh on (inr s) home lower =
@@ -143,7 +143,7 @@ least_other {a = a} {b = b} {after = after} {after' = after'} {head = head} {slo
     let below : a.top j < a.top x = omega (arith, s.top, i.goes.top.there x ns) in
     let found : a.top j < a.low (after x) = i.old.least x j was s.low s.on same below in
     let e : b.low (after' x) ≡ a.low (after x) =
-        ap b.low (i.links.others_after x ns nh) ∙ i.goes.low.there (after x) apart in
+    ap b.low (i.links.others_after x ns nh) ∙ i.goes.low.there (after x) apart in
     omega (arith, e, s.top)
 
 least : {a b : Shape} {after before after' before' : ℕ → ℕ} {head slot order : ℕ}
@@ -151,13 +151,13 @@ least : {a b : Shape} {after before after' before' : ℕ → ℕ} {head slot ord
     → b.on j ≡ true → b.home j ≡ b.home x → b.top j < b.top x → b.top j < b.low (after' x)
 least {a = a} {b = b} {after' = after'} {head = head} {slot = slot} i x j on low held home lower =
     let at_j : (j ≡ slot) ⊎ StillOn a b slot j = cases_on i j low held in
-    elim (cases_eq x slot)
-    [ inl e ↦ subst (λ (y : ℕ). b.top j < b.low (after' y)) (sym e)
-        (least_slot i j at_j (home ∙ ap b.home e) (subst (λ (y : ℕ). b.top j < b.top y) e lower))
-    | inr ns ↦ elim (cases_eq x head)
-        [ inl e ↦ subst (λ (y : ℕ). b.top j < b.low (after' y)) (sym e) (least_head i j at_j (home ∙ ap b.home e))
+    elim (cases_eq x slot) [
+      | inl e ↦ subst (λ (y : ℕ). b.top j < b.low (after' y)) (sym e)
+          (least_slot i j at_j (home ∙ ap b.home e) (subst (λ (y : ℕ). b.top j < b.top y) e lower))
+      | inr ns ↦ elim (cases_eq x head) [
+        | inl e ↦ subst (λ (y : ℕ). b.top j < b.low (after' y)) (sym e) (least_head i j at_j (home ∙ ap b.home e))
         | inr nh ↦ least_other i x j ns nh on at_j home lower
-        ]
+      ]
     ]
 
 -- the chains after a slot was put in

@@ -1,8 +1,8 @@
 -- The buckets of times: which are visited, and that none is visited twice.
 
-use Rattle.std.proofs.Common.{◌≡◌, ◌≢◌, ℕ, ◌+◌, ◌-◌, ◌*◌, ◌/◌, ◌%◌, ◌<◌, ◌≤◌, ◌^◌, Bool, true, false, ◌||◌, max, min, nat_eq, zero, suc, sym, subst, ◌∙◌, ap, inl, inr, refl, arith, bit_and}
+use Rattle.std.proofs.Common.{◌≡◌, ◌≢◌, ℕ, ◌+◌, ◌-◌, ◌/◌, ◌%◌, ◌<◌, ◌≤◌, ◌^◌, Bool, true, false, ◌||◌, max, min, nat_eq, zero, suc, sym, ◌∙◌, ap, inl, inr, refl, arith, bit_and}
 use Rattle.std.proofs.Math.Nat.{mod-eq_of_lt, mod-eq-sub-mul-div, mul-le-mul_left, mul-div-le}
-use Rattle.std.proofs.lemmas.Bool.{cases_eq, cases_lt, cases_order, eq-eqb, ne_eqb, or_right, or_left}
+use Rattle.std.proofs.lemmas.Bool.{cases_eq, cases_lt, eq-eqb, ne_eqb, or_right, or_left}
 use Rattle.std.proofs.lemmas.Nat.{and_mask}
 use Rattle.std.specs.Int.{IsPowerOfTwo}
 use Rattle.ert_wheel.proofs.Views.{bucket_low}
@@ -18,9 +18,9 @@ bucket_mod mask time (k, e) =
 -- two times with one remainder are at least so many apart
 apart_mod : (n a b : ℕ) → a < b → a % n ≡ b % n → a + n ≤ b
 apart_mod n a b lt e =
-    elim (cases_lt (a / n) (b / n))
-    [ inl less ↦ omega (arith, mod-eq-sub-mul-div a n, mod-eq-sub-mul-div b n, mul-div-le a n, mul-div-le b n, mul-le-mul_left n less)
-    | inr more ↦ absurd (omega (arith, mod-eq-sub-mul-div a n, mod-eq-sub-mul-div b n, mul-div-le a n, mul-div-le b n, mul-le-mul_left n more))
+    elim (cases_lt (a / n) (b / n)) [
+      | inl less ↦ omega (arith, mod-eq-sub-mul-div a n, mod-eq-sub-mul-div b n, mul-div-le a n, mul-div-le b n, mul-le-mul_left n less)
+      | inr more ↦ absurd (omega (arith, mod-eq-sub-mul-div a n, mod-eq-sub-mul-div b n, mul-div-le a n, mul-div-le b n, mul-le-mul_left n more))
     ]
 
 -- so times nearer than that have different buckets
@@ -28,7 +28,7 @@ pub buckets_apart : (mask a b : ℕ) → IsPowerOfTwo (mask + 1) → a < b → b
     → bucket_of mask a ≢ bucket_of mask b
 buckets_apart mask a b power lt near e =
     let far : a + (mask + 1) ≤ b =
-        apart_mod (mask + 1) a b lt (sym (bucket_mod mask a power) ∙ e ∙ bucket_mod mask b power) in
+    apart_mod (mask + 1) a b lt (sym (bucket_mod mask a power) ∙ e ∙ bucket_mod mask b power) in
     absurd (omega arith)
 
 -- a bucket's own bucket is itself
@@ -65,7 +65,7 @@ not_met : (mask first n k : ℕ) → IsPowerOfTwo (mask + 1) → n < mask + 1 �
 not_met mask first n zero power narrow low = refl
 not_met mask first n (suc k) power narrow low =
     let ne : bucket_of mask (first + n) ≢ bucket_of mask (first + k) =
-        λ e. buckets_apart mask (first + k) (first + n) power (omega arith) (omega arith) (sym e) in
+    λ e. buckets_apart mask (first + k) (first + n) power (omega arith) (omega arith) (sym e) in
     let test : nat_eq (bucket_of mask (first + n)) (bucket_of mask (first + k)) ≡ false = ne_eqb _ _ ne in
     ap (λ b. b || is_met mask first k (bucket_of mask (first + n))) test
     ∙ not_met mask first n k power narrow (omega arith)
@@ -80,7 +80,7 @@ pub met : (mask first n t bucket : ℕ) → first ≤ t → t < first + n → bu
     → is_met mask first n bucket ≡ true
 met mask first zero t bucket low high e = absurd (omega arith)
 met mask first (suc n) t bucket low high e =
-    elim (cases_eq t (first + n))
-    [ inl same ↦ or_left _ _ (eq-eqb bucket (bucket_of mask (first + n)) (sym e ∙ ap (bucket_of mask) same))
-    | inr ne ↦ or_right _ _ (met mask first n t bucket low (omega arith) e)
+    elim (cases_eq t (first + n)) [
+      | inl same ↦ or_left _ _ (eq-eqb bucket (bucket_of mask (first + n)) (sym e ∙ ap (bucket_of mask) same))
+      | inr ne ↦ or_right _ _ (met mask first n t bucket low (omega arith) e)
     ]

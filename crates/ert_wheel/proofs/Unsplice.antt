@@ -1,6 +1,6 @@
 -- A slot is taken out of its chain.
 
-use Rattle.std.proofs.Common.{◌≡◌, ◌≢◌, ◌⊎◌, ℕ, ◌+◌, ◌<◌, ◌≤◌, Bool, true, false, sym, subst, ◌∙◌, ap, inl, inr, refl, arith}
+use Rattle.std.proofs.Common.{◌≡◌, ◌≢◌, ℕ, ◌+◌, ◌<◌, ◌≤◌, true, false, sym, subst, ◌∙◌, ap, inl, inr, arith}
 use Rattle.std.proofs.lemmas.Bool.{cases_eq, true≢false}
 use Rattle.ert_wheel.specs.Chained.{Shape, Chained, Changed, Unspliced}
 
@@ -99,7 +99,7 @@ least_before {a = a} {b = b} {after = after} {before = before} {after' = after'}
     let back : after (before slot) ≡ slot = r.old.after_before slot r.goes.held in
     let same : a.home slot ≡ a.home (before slot) = sym (ap a.home back) ∙ r.old.home (before slot) on in
     let near : a.top j < a.low slot =
-        subst (λ (y : ℕ). a.top j < a.low y) back (r.old.least (before slot) j on low held home lower) in
+    subst (λ (y : ℕ). a.top j < a.low y) back (r.old.least (before slot) j on low held home lower) in
     let other : a.top j ≢ a.top slot = λ e. ne (r.goes.once j low held e) in
     let below : a.top j < a.top slot = omega (arith, r.goes.rank) in
     r.old.least slot j r.goes.held low held (home ∙ sym same) below
@@ -113,20 +113,20 @@ least {a = a} {b = b} {after = after} {before = before} {after' = after'} {befor
     let down : j < a.slots = omega (arith, r.goes.slots) in
     let same : a.home j ≡ a.home x = sym t.home ∙ home ∙ s.home in
     let below : a.top j < a.top x = omega (arith, s.top, t.top) in
-    elim (cases_eq x (before slot))
-    [ inl e ↦
-        let found : a.top j < a.low (after slot) =
-            least_before r j (subst (λ (y : ℕ). a.on y ≡ true) e s.on) down t.on t.apart (same ∙ ap a.home e)
-            (subst (λ (y : ℕ). a.top j < a.top y) e below) in
-        let l : b.low (after' x) ≡ a.low (after slot) =
-            ap (λ (y : ℕ). b.low (after' y)) e ∙ ap b.low r.links.forth.here ∙ r.goes.low (after slot) (after_apart r) in
-        omega (arith, t.top)
-    | inr ne ↦
-        let apart : after x ≢ slot = λ e. ne (sym (r.old.before_after x s.on) ∙ ap before e) in
-        let found : a.top j < a.low (after x) = r.old.least x j s.on down t.on same below in
-        let l : b.low (after' x) ≡ a.low (after x) =
-            ap b.low (r.links.forth.there x ne) ∙ r.goes.low (after x) apart in
-        omega (arith, t.top)
+    elim (cases_eq x (before slot)) [
+      | inl e ↦
+          let found : a.top j < a.low (after slot) =
+          least_before r j (subst (λ (y : ℕ). a.on y ≡ true) e s.on) down t.on t.apart (same ∙ ap a.home e)
+          (subst (λ (y : ℕ). a.top j < a.top y) e below) in
+          let l : b.low (after' x) ≡ a.low (after slot) =
+          ap (λ (y : ℕ). b.low (after' y)) e ∙ ap b.low r.links.forth.here ∙ r.goes.low (after slot) (after_apart r) in
+          omega (arith, t.top)
+      | inr ne ↦
+          let apart : after x ≢ slot = λ e. ne (sym (r.old.before_after x s.on) ∙ ap before e) in
+          let found : a.top j < a.low (after x) = r.old.least x j s.on down t.on same below in
+          let l : b.low (after' x) ≡ a.low (after x) =
+          ap b.low (r.links.forth.there x ne) ∙ r.goes.low (after x) apart in
+          omega (arith, t.top)
     ]
 
 -- the chains after a slot was taken out

@@ -1,17 +1,17 @@
 -- A wheel's keys as they are seen, and its chains after a key was written.
 
-use Rattle.std.proofs.Common.{◌≡◌, ◌≢◌, ◌⊎◌, ℕ, ◌+◌, ◌-◌, ◌<◌, ◌≤◌, ◌^◌, ◌%◌, Bool, true, false, cond, max, min, List, Option, Some, None, IsSome, IfSome, nat_lt, map, replicate, length, get_or, set, count_by, option_map, sym, subst, ◌∙◌, ap, inl, inr, refl, arith, bit_and, get_or-set_same, get_or-set_other}
-use Rattle.std.proofs.lemmas.Bool.{cases_eq, cases_lt, lt-ltb, le-ltb, ltb-true}
-use Rattle.std.proofs.lemmas.List.{get_or-map, get_or_read, length-map, length-set, map-set, set-get_or, get_or-replicate}
-use Rattle.std.proofs.lemmas.List.Sums.{sum_by-set, count_by-le-length, get_or-le-sum_by}
+use Rattle.std.proofs.Common.{◌≡◌, ℕ, ◌+◌, ◌-◌, ◌<◌, ◌≤◌, ◌^◌, ◌%◌, cond, List, Option, Some, None, length, get_or, set, count_by, sym, subst, ◌∙◌, ap, inl, inr, refl, arith, bit_and, get_or-set_same, get_or-set_other}
+use Rattle.std.proofs.lemmas.Bool.{cases_eq, cases_lt, lt-ltb, le-ltb}
+use Rattle.std.proofs.lemmas.List.{get_or-map, length-map, map-set}
+use Rattle.std.proofs.lemmas.List.Sums.{sum_by-set}
 use Rattle.std.proofs.lemmas.Nat.{and_mask}
 use Rattle.std.proofs.Math.ListN.{get_or-eq_default}
 use Rattle.std.specs.Int.{IsPowerOfTwo}
 use Rattle.std.specs.Option.{is_some}
 use Rattle.ert_wheel.proofs.Parts.{with_place_here, with_place_there}
-use Rattle.ert_wheel.specs.Rings.{Rings, Place, AreChains, with_place, MayPut, Puts, MayTake, Takes}
-use Rattle.ert_wheel.specs.Rows.{key_in, key_of, row_at}
-use Rattle.ert_wheel.specs.Wheels.{kept, kept_keys, bucket_of, home_by, place_of, places, IsWheel}
+use Rattle.ert_wheel.specs.Rings.{Rings, Place, AreChains, with_place}
+use Rattle.ert_wheel.specs.Rows.{key_in}
+use Rattle.ert_wheel.specs.Wheels.{kept, kept_keys, bucket_of, place_of, places}
 use Rattle.ert_wheel.specs.declared.row.Key.{Key}
 
 -- what a slot that was read is seen as
@@ -29,24 +29,24 @@ kept_high key high = ap (λ b. cond b (Some key) None) (le-ltb key.deadline (2 ^
 -- a key that is seen has a deadline in range
 pub low_of_kept : (key seen : Key) → kept key ≡ Some seen → (key ≡ seen) × (key.deadline < 2 ^ 64 - 1)
 low_of_kept key seen h =
-    elim (cases_lt key.deadline (2 ^ 64 - 1))
-    [ inl low ↦ let e : Some key ≡ Some seen = sym (kept_low key low) ∙ h in (cc, low)
-    | inr high ↦ let e : None ≡ Some seen = sym (kept_high key high) ∙ h in cc
+    elim (cases_lt key.deadline (2 ^ 64 - 1)) [
+      | inl low ↦ let e : Some key ≡ Some seen = sym (kept_low key low) ∙ h in (cc, low)
+      | inr high ↦ let e : None ≡ Some seen = sym (kept_high key high) ∙ h in cc
     ]
 
 -- each key that is seen is one that is stored
 pub kept_in : (keys : List Key) (slot : ℕ) (d seen : Key) → key_in (kept_keys keys) slot ≡ Some seen
     → (slot < length keys) × (seen ≡ get_or keys slot d) × (seen.deadline < 2 ^ 64 - 1)
 kept_in keys slot d seen h =
-    elim (cases_lt slot (length keys))
-    [ inl low ↦
-        let k : (get_or keys slot d ≡ seen) × ((get_or keys slot d).deadline < 2 ^ 64 - 1) =
-            low_of_kept (get_or keys slot d) seen (sym (get_or-map kept keys slot d None low) ∙ h) in
-        (low, sym k.0, subst (λ (key : Key). key.deadline < 2 ^ 64 - 1) k.0 k.1)
-    | inr high ↦
-        let long : length (kept_keys keys) ≤ slot = omega (arith, length-map keys kept) in
-        let e : None ≡ Some seen = sym (get_or-eq_default (kept_keys keys) None long) ∙ h in
-        cc
+    elim (cases_lt slot (length keys)) [
+      | inl low ↦
+          let k : (get_or keys slot d ≡ seen) × ((get_or keys slot d).deadline < 2 ^ 64 - 1) =
+          low_of_kept (get_or keys slot d) seen (sym (get_or-map kept keys slot d None low) ∙ h) in
+          (low, sym k.0, subst (λ (key : Key). key.deadline < 2 ^ 64 - 1) k.0 k.1)
+      | inr high ↦
+          let long : length (kept_keys keys) ≤ slot = omega (arith, length-map keys kept) in
+          let e : None ≡ Some seen = sym (get_or-eq_default (kept_keys keys) None long) ∙ h in
+          cc
     ]
 
 -- a write of a key, as it is seen
@@ -64,11 +64,11 @@ place_is home (Some k) p h = (k, refl, cc)
 places_set : (home : Key → ℕ) (keys : List (Option Key)) (slot : ℕ) (key : Option Key) → slot < length keys
     → (j : ℕ) → with_place (places home keys) slot (place_of home key) j ≡ places home (set keys slot key) j
 places_set home keys slot key low j =
-    elim (cases_eq j slot)
-    [ inl e ↦ ap (with_place (places home keys) slot (place_of home key)) e
+    elim (cases_eq j slot) [
+      | inl e ↦ ap (with_place (places home keys) slot (place_of home key)) e
           ∙ with_place_here (places home keys) slot (place_of home key)
           ∙ ap (place_of home) (sym (get_or-set_same keys slot key None low) ∙ ap (key_in (set keys slot key)) (sym e))
-    | inr ne ↦ with_place_there (places home keys) slot (place_of home key) j ne
+      | inr ne ↦ with_place_there (places home keys) slot (place_of home key) j ne
           ∙ ap (place_of home) (sym (get_or-set_other keys slot j key None ne))
     ]
 

@@ -1,10 +1,9 @@
 -- What each call that changes a wheel does, in the form in which the calls meet it.
 
-use Rattle.std.proofs.Common.{◌≡◌, ◌≢◌, ℕ, ◌+◌, ◌-◌, ◌<◌, ◌≤◌, ◌^◌, Bool, true, false, cond, nat_le, max, min, List, Option, Some, None, IsSome, IfSome, map, replicate, length, get_or, set, count_by, sym, subst, ◌∙◌, ap, inl, inr, refl, arith}
+use Rattle.std.proofs.Common.{◌≡◌, ℕ, ◌+◌, ◌-◌, ◌<◌, ◌≤◌, ◌^◌, cond, nat_le, max, List, Option, Some, None, IfSome, map, length, get_or, set, count_by, sym, subst, ◌∙◌, ap, inl, inr, refl, arith}
 use Rattle.std.proofs.lemmas.Bool.Decides.{leb_tells}
 use Rattle.std.proofs.lemmas.List.{ext_get_or, get_or-map, length-map, length-set, set-get_or}
 use Rattle.std.proofs.lemmas.List.Sums.{count_by-le-length}
-use Rattle.std.specs.Int.{IsPowerOfTwo}
 use Rattle.std.specs.Option.{is_some}
 use Rattle.ert_wheel.proofs.Views.{kept_low, kept_high, kept_set, key_read, chains_set, counts_more, counts_less, bucket_low, place_is}
 use Rattle.ert_wheel.specs.Rings.{Rings, Place, AreChains, MayPut, Puts, MayTake, Takes}
@@ -35,9 +34,9 @@ orders_below : (home : Key → ℕ) (keys : List (Option Key)) (order : ℕ)
     → places home keys j ≡ Some p → p.order < order
 orders_below home keys order newest j p h =
     let k : (k : Key) × (key_in keys j ≡ Some k) × (record { home = home k; order = k.order } ≡ p) =
-        place_is home (key_in keys j) p h in
+    place_is home (key_in keys j) p h in
     let below : k.0.order < order =
-        subst (λ (o : Option Key). IfSome o (λ key. key.order < order)) k.1 (newest j) in
+    subst (λ (o : Option Key). IfSome o (λ key. key.order < order)) k.1 (newest j) in
     omega (arith, ap (λ (q : Place). q.order) k.2)
 
 -- the count of rows leaves room for one more where a slot has none
@@ -48,9 +47,15 @@ count_fits mask next count keys chains seen slot key w is low vacant =
     let P : List (Option Key) → Type 0 = λ s. (slot < length s) × (key_in s slot ≡ None) in
     let at : P (kept_keys keys) = subst P (sym is) (low, vacant) in
     let more : count_by is_some (set (kept_keys keys) slot (Some key)) ≡ count_by is_some (kept_keys keys) + 1 =
-        counts_more (kept_keys keys) slot key at.0 at.1 in
-    omega (arith, w.counts, w.few, length-map keys kept, length-set (kept_keys keys) slot (Some key),
-    count_by-le-length is_some (set (kept_keys keys) slot (Some key)))
+    counts_more (kept_keys keys) slot key at.0 at.1 in
+    omega (
+      arith,
+      w.counts,
+      w.few,
+      length-map keys kept,
+      length-set (kept_keys keys) slot (Some key),
+      count_by-le-length is_some (set (kept_keys keys) slot (Some key)),
+    )
 
 -- what a row that is put in needs
 pub record CanInsert (seen : List (Option Key)) (slot : ℕ) (key : Key) : Type 0 where
@@ -67,9 +72,9 @@ pub inserted_wheel : (mask next count : ℕ) (keys : List Key) (chains new : Rin
     → IsWheel mask next (count + 1) (set keys slot key) new
 inserted_wheel mask next count keys chains new seen slot key home w is can e slots homes puts =
     let at : CanInsert (kept_keys keys) slot key =
-        subst (λ (s : List (Option Key)). CanInsert s slot key) (sym is) can in
+    subst (λ (s : List (Option Key)). CanInsert s slot key) (sym is) can in
     let written : kept_keys (set keys slot key) ≡ set (kept_keys keys) slot (Some key) =
-        kept_set keys slot key (Some key) (kept_low key at.deadline) in
+    kept_set keys slot key (Some key) (kept_low key at.deadline) in
     let h : Key → ℕ = home_by mask next in
     let puts_key : Puts chains new slot (h key) = subst (λ (n : ℕ). Puts chains new slot n) e puts in
     record {
@@ -103,7 +108,7 @@ in_keys : (keys : List Key) (seen : List (Option Key)) (slot : ℕ) (key : Key) 
     → slot < length keys
 in_keys keys seen slot key r =
     let low : slot < length (kept_keys keys) =
-        subst (λ (s : List (Option Key)). slot < length s) (sym r.is) r.low in
+    subst (λ (s : List (Option Key)). slot < length s) (sym r.is) r.low in
     omega (arith, length-map keys kept)
 
 held_key : (keys : List Key) (seen : List (Option Key)) (slot : ℕ) (key : Key) → Reads keys seen slot key
@@ -128,7 +133,7 @@ pub count_holds : (mask next count : ℕ) (keys : List Key) (chains : Rings) (se
     → IsWheel mask next count keys chains → Reads keys seen slot key → key.deadline < 2 ^ 64 - 1 → 1 ≤ count
 count_holds mask next count keys chains seen slot key w r low =
     let n : slot < length (kept_keys keys) =
-        omega (arith, length-map keys kept, in_keys keys seen slot key r) in
+    omega (arith, length-map keys kept, in_keys keys seen slot key r) in
     omega (arith, w.counts, counts_less (kept_keys keys) slot key n (held_key keys seen slot key r low))
 
 -- the wheel with a row taken out
@@ -138,13 +143,13 @@ pub removed_wheel : (mask next count : ℕ) (keys : List Key) (chains new : Ring
     → IsWheel mask next (count - 1) (set keys slot gone) new
 removed_wheel mask next count keys chains new seen slot key gone w r low high slots homes takes =
     let n : slot < length (kept_keys keys) =
-        omega (arith, length-map keys kept, in_keys keys seen slot key r) in
+    omega (arith, length-map keys kept, in_keys keys seen slot key r) in
     let held : key_in (kept_keys keys) slot ≡ Some key = held_key keys seen slot key r low in
     let written : kept_keys (set keys slot gone) ≡ set (kept_keys keys) slot None =
-        kept_set keys slot gone None (kept_high gone high) in
+    kept_set keys slot gone None (kept_high gone high) in
     let h : Key → ℕ = home_by mask next in
     let less : count_by is_some (set (kept_keys keys) slot None) + 1 ≡ count_by is_some (kept_keys keys) =
-        counts_less (kept_keys keys) slot key n held in
+    counts_less (kept_keys keys) slot key n held in
     let counted : count - 1 ≡ count_by is_some (set (kept_keys keys) slot None) = omega (arith, w.counts) in
     record {
       slots = length-set keys slot gone ∙ w.slots ∙ sym slots;
@@ -170,7 +175,7 @@ pub vacant_view : (keys : List Key) (seen : List (Option Key)) (slot : ℕ) (key
     → 2 ^ 64 - 1 ≤ key.deadline → seen ≡ set seen slot None
 vacant_view keys seen slot key r high =
     let none : key_in (kept_keys keys) slot ≡ None =
-        key_read keys slot key (in_keys keys seen slot key r) r.read ∙ kept_high key high in
+    key_read keys slot key (in_keys keys seen slot key r) r.read ∙ kept_high key high in
     let same : key_in seen slot ≡ None = subst (λ (s : List (Option Key)). key_in s slot ≡ None) r.is none in
     sym (set-get_or seen slot None) ∙ ap (set seen slot) same
 
@@ -188,7 +193,7 @@ pub passed_wheel : (mask next next' to count : ℕ) (keys : List Key) (chains : 
     → next' < 2 ^ 64 - 1 → IsWheel mask next' count keys chains
 passed_wheel mask next next' to count keys chains seen w is none up low fits =
     let at : (j : ℕ) → IfSome (key_in (kept_keys keys) j) (λ key. to < key.deadline) =
-        subst (λ (s : List (Option Key)). (j : ℕ) → IfSome (key_in s j) (λ key. to < key.deadline)) (sym is) none in
+    subst (λ (s : List (Option Key)). (j : ℕ) → IfSome (key_in s j) (λ key. to < key.deadline)) (sym is) none in
     record {
       slots = w.slots;
       few = w.few;
@@ -210,18 +215,18 @@ left_of : (to : ℕ) (was : Option Key) (count : ℕ) (now : Option Key) → cou
     → (count ≡ 0 → now ≡ was) → (0 < count → now ≡ None) → now ≡ left_at to was
 left_of to None count now e stays gone = stays e
 left_of to (Some key) count now e stays gone =
-    elim (leb_tells key.deadline to)
-    [ inl (t, due) ↦
-        let one : ◌≡◌ {A = ℕ} (cond (nat_le key.deadline to) 1 0) 1 = ap (λ b. cond b 1 0) t in
-        gone (omega (arith, e, one)) ∙ sym (ap (λ b. cond b None (Some key)) t)
-    | inr (f, later) ↦
-        let none : ◌≡◌ {A = ℕ} (cond (nat_le key.deadline to) 1 0) 0 = ap (λ b. cond b 1 0) f in
-        stays (e ∙ none) ∙ sym (ap (λ b. cond b None (Some key)) f)
+    elim (leb_tells key.deadline to) [
+      | inl (t, due) ↦
+          let one : ◌≡◌ {A = ℕ} (cond (nat_le key.deadline to) 1 0) 1 = ap (λ b. cond b 1 0) t in
+          gone (omega (arith, e, one)) ∙ sym (ap (λ b. cond b None (Some key)) t)
+      | inr (f, later) ↦
+          let none : ◌≡◌ {A = ℕ} (cond (nat_le key.deadline to) 1 0) 0 = ap (λ b. cond b 1 0) f in
+          stays (e ∙ none) ∙ sym (ap (λ b. cond b None (Some key)) f)
     ]
 
 pub taken_out : (to : ℕ) (old now : List (Option Key)) (rows : List Row) → TakesOut old now rows
     → ((j : ℕ) → times j rows ≡ due_at to (key_in old j)) → now ≡ map (left_at to) old
 taken_out to old now rows t each =
     ext_get_or None now (map (left_at to) old) (t.len ∙ sym (length-map old (left_at to))) (λ j low.
-        left_of to (key_in old j) (times j rows) (key_in now j) (each j) (t.stays j) (t.gone j)
-        ∙ sym (get_or-map (left_at to) old j None None (omega (arith, t.len))))
+    left_of to (key_in old j) (times j rows) (key_in now j) (each j) (t.stays j) (t.gone j)
+    ∙ sym (get_or-map (left_at to) old j None None (omega (arith, t.len))))

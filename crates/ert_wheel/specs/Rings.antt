@@ -1,6 +1,6 @@
 -- Chains of slots, for whoever knows where each slot belongs.
 
-use Rattle.std.specs.Prelude.{◌≡◌, ℕ, ◌+◌, ◌-◌, ◌<◌, ◌≤◌, ◌^◌, Bool, List, Option, Some, None, nat_lt, nat_eq, if◌then◌else◌, length, IfSome}
+use Rattle.std.specs.Prelude.{◌≡◌, ℕ, ◌+◌, ◌-◌, ◌<◌, ◌≤◌, ◌^◌, List, Option, Some, None, nat_lt, nat_eq, if◌then◌else◌, length, IfSome}
 use Rattle.std.specs.Option.{is_some}
 use Rattle.ert_wheel.specs.Chained.{Shape, Chained}
 use Rattle.ert_wheel.specs.Links.{next_at, prev_at}

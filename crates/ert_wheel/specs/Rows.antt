@@ -1,6 +1,6 @@
 -- A wheel as its user sees it: the key of each slot that has a row.
 
-use Rattle.std.specs.Prelude.{◌≡◌, ℕ, Bool, ◌||◌, ◌&&◌, List, Option, Some, None, cond, nat_lt, nat_le, nat_eq, count_by, slice_index_or, option_map}
+use Rattle.std.specs.Prelude.{ℕ, Bool, ◌||◌, ◌&&◌, List, Option, Some, None, cond, nat_lt, nat_le, nat_eq, count_by, slice_index_or}
 use Rattle.ert_wheel.specs.declared.row.Key.{Key}
 use Rattle.ert_wheel.specs.declared.row.Row.{Row}
 

@@ -1,6 +1,6 @@
 ghost use Rattle.std.specs.Prelude.{◌≡◌, IfOk};
 
-use crate::links::{alone, link_in, unlink, Link};
+use crate::links::{Link, alone, link_in, unlink};
 use ert_defs::NoMemory;
 use std::alloc::Global;
 use std::marker::Model;

@@ -1,7 +1,7 @@
 ghost use Rattle.std.specs.Prelude.{◌≡◌, IfOk, replicate};
 
 use crate::chains::Chains;
-use crate::row::{Key, Row, LAST, VACANT};
+use crate::row::{Key, LAST, Row, VACANT};
 use crate::walk::{bucket, collect, span};
 use ert_defs::NoMemory;
 use std::alloc::Global;

@@ -3,7 +3,7 @@ use Rattle.ert_answers.specs.ClockCalls.{TellsOffset}
 use Rattle.ert_defs.specs.Entries.{off_entry}
 use Rattle.ert_table.specs.Desks.{settings_of, view_of}
 use Rattle.ert_table.specs.Takes.{Appends}
-use Rattle.ert_table.proofs.Makings.{step_makes}
+use Rattle.ert_table.proofs.Makings.{step_made}
 use Rattle.ert_calls.proofs.Looks.{off_alone}
 use Rattle.ert_calls.proofs.clock_calls.time_offset.Goals as goal
 
@@ -16,4 +16,4 @@ returns-clause-call c =
     let offset_state = c.load_offset.result.1 in
     let step : Appends g v (off_entry c.args.by offset offset_state) w =
     subst (λ e. Appends g v e w) (off_alone g v.actors c.args.by offset offset_state c.requires.user) c.load_offset.ensures.step in
-    step_makes g v (off_entry c.args.by offset offset_state) w (TellsOffset g c.args.by c.load_offset.result) refl step
+    step_made g v (off_entry c.args.by offset offset_state) w (TellsOffset g c.args.by c.load_offset.result) refl step

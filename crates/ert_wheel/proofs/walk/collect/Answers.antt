@@ -1,9 +1,8 @@
-use Rattle.std.proofs.Common.{ℕ, refl, subst, sym, ◌∙◌, List, Option, None, arith, ◌≡◌, ◌<◌}
-use Rattle.ert_wheel.proofs.Collect.{IsWalked, Turns, walk_starts, walk_adds, walk_leaves, walk_falls, walk_ends}
+use Rattle.std.proofs.Common.{ℕ, refl, subst, sym, ◌∙◌, List, Option, arith}
+use Rattle.ert_wheel.proofs.Collect.{IsWalked, walk_starts, walk_adds, walk_leaves, walk_falls, walk_ends}
 use Rattle.ert_wheel.proofs.Lists.{walk_room}
 use Rattle.ert_wheel.proofs.walk.collect.Goals as goal
 use Rattle.ert_wheel.specs.Wheels.{kept_keys, places}
-use Rattle.ert_wheel.specs.declared.row.Key.{Key}
 use Rattle.ert_wheel.specs.declared.row.Row.{Row}
 
 pub loop-next-init : goal.loop-next-init
@@ -18,9 +17,9 @@ pub push_reserved-requires : goal.push_reserved-requires
 push_reserved-requires c =
     let may = c.requires.may in
     let room = walk_room c.args.chains.now c.args.keys.now may.home c.args.bucket c.args.to c.in-Some.slot c.loop-next.next c.older-next.result
-        c.args.rows.now.items c.loop-next.rows.items (record { deadline = 0; order = 0 })
-        (record { may = may.may; walked = c.loop-next.invariant.walks may.home may.may; is = c.in-Some.is; older = c.older-next.ensures })
-        c.if-deadline-to.true in
+    c.args.rows.now.items c.loop-next.rows.items (record { deadline = 0; order = 0 })
+    (record { may = may.may; walked = c.loop-next.invariant.walks may.home may.may; is = c.in-Some.is; older = c.older-next.ensures })
+    c.if-deadline-to.true in
     omega (arith, room, c.requires.room, c.loop-next.invariant.room, c.loop-next.rows.ok.0)
 
 pub loop-next-smaller-then-deadline-to : goal.loop-next-smaller-then-deadline-to

@@ -1,4 +1,4 @@
-use Rattle.std.proofs.Common.{◌+◌, max, min, ap, ◌∙◌, arith}
+use Rattle.std.proofs.Common.{arith}
 use Rattle.ert_wheel.proofs.Times.{spans_all, spans_some}
 use Rattle.ert_wheel.proofs.walk.span.Goals as goal
 

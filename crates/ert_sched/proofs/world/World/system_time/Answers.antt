@@ -1,20 +1,22 @@
 use Rattle.std.proofs.Common.{rules, FitsSigned, w64, to_z-of_z}
-use Rattle.ert_sched.proofs.Calls.{system_goes}
+use Rattle.ert_sched.proofs.Calls.{system_does}
 use Rattle.ert_sched.proofs.world.World.system_time.Goals as goal
 
 pub invariant_of-self : goal.invariant_of-self
 invariant_of-self c =
-    (system_goes c.args.self.now c.self.inside.desk c.self.inside.pass c.system_time.new.pass c.self.inside.keeper c.system_time.result
+    (system_does c.args.self.now c.self.inside.desk c.self.inside.pass c.system_time.new.pass c.self.inside.keeper c.system_time.result
     c.self.view_is c.self.invariant c.system_time.ensures.belongs c.system_time.ensures.call).0.fit
 
 pub returns-clause-value : goal.returns-clause-value
 returns-clause-value c =
     let fits : FitsSigned w64 c.system_time.result = search rules in
     simp to_z-of_z
-    (system_goes c.args.self.now c.self.inside.desk c.self.inside.pass c.system_time.new.pass c.self.inside.keeper c.system_time.result
+    (system_does c.args.self.now c.self.inside.desk c.self.inside.pass c.system_time.new.pass c.self.inside.keeper c.system_time.result
     c.self.view_is c.self.invariant c.system_time.ensures.belongs c.system_time.ensures.call).1
 
-pub returns-clause-entries : goal.returns-clause-entries
-returns-clause-entries c =
-    (system_goes c.args.self.now c.self.inside.desk c.self.inside.pass c.system_time.new.pass c.self.inside.keeper c.system_time.result
-    c.self.view_is c.self.invariant c.system_time.ensures.belongs c.system_time.ensures.call).0.extends
+pub returns-clause-call : goal.returns-clause-call
+returns-clause-call c =
+    let fits : FitsSigned w64 c.system_time.result = search rules in
+    simp to_z-of_z
+    (system_does c.args.self.now c.self.inside.desk c.self.inside.pass c.system_time.new.pass c.self.inside.keeper c.system_time.result
+    c.self.view_is c.self.invariant c.system_time.ensures.belongs c.system_time.ensures.call).0.goes

@@ -4,7 +4,7 @@ use Rattle.ert_defs.specs.Words.{word_count}
 use Rattle.ert_defs.specs.declared.entry.Actor.TheVariants.{Caller}
 use Rattle.ert_defs.specs.declared.entry.Entry.{Entry}
 use Rattle.ert_table.specs.Acts.{Acts}
-use Rattle.ert_table.specs.Settlings.{arm_entry}
+use Rattle.ert_defs.specs.Entries.{arm_entry}
 use Rattle.ert_table.proofs.ArmActs.{arm_is, arm_acts}
 use Rattle.ert_table.proofs.OneStep.{may_store_at}
 use Rattle.ert_table.proofs.WordPlaces.{slot_place-high}

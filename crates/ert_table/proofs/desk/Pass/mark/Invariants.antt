@@ -1,6 +1,6 @@
 use Rattle.std.proofs.Common.{nat_eq, true, false}
 use Rattle.ert_table.specs.Desks.{settings_of}
-use Rattle.ert_table.specs.Entries.{mark_entry}
+use Rattle.ert_defs.specs.Entries.{mark_entry}
 use Rattle.ert_table.proofs.desk.Pass.mark.Given as goal
 
 abbrev pub ghosts-exit_as : goal.ghosts-exit_as

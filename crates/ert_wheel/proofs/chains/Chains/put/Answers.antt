@@ -1,4 +1,4 @@
-use Rattle.std.proofs.Common.{◌≡◌, List, sym, subst, arith}
+use Rattle.std.proofs.Common.{List, sym, subst, arith}
 use Rattle.std.proofs.lemmas.List.{with_items_is}
 use Rattle.ert_wheel.proofs.Calls.{puts}
 use Rattle.ert_wheel.proofs.chains.Chains.put.Goals as goal

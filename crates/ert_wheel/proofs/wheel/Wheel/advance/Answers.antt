@@ -1,4 +1,4 @@
-use Rattle.std.proofs.Common.{◌≡◌, List, subst, sym, ◌∙◌, arith}
+use Rattle.std.proofs.Common.{List, subst, ◌∙◌}
 use Rattle.std.proofs.lemmas.List.{take_all}
 use Rattle.ert_wheel.proofs.Writes.{TakesOut, taken_out}
 use Rattle.ert_wheel.proofs.wheel.Wheel.advance.Goals as goal

@@ -1,0 +1,2 @@
+pub mod KeeperTrials
+pub mod Readiness

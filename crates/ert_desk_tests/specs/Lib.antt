@@ -1,0 +1,4 @@
+pub mod CallsTrial
+pub mod KeeperTrial
+pub mod MailTrial
+pub mod TableTrial

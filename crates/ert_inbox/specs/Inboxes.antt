@@ -1,0 +1,35 @@
+-- The inbox of a scheduler, as callers see it, and when it stands for a history.
+
+use Rattle.std.specs.Prelude.{◌≡◌, ℕ, ◌<◌, true, List, Option, None}
+use Rattle.ert_defs.specs.Mails.{SchedState}
+use Rattle.ert_defs.specs.States.{state}
+use Rattle.ert_defs.specs.declared.entry.Actor.TheVariants.{Inbox, Sched, Caller}
+use Rattle.ert_defs.specs.declared.entry.Entry.{Entry}
+use Rattle.ert_defs.specs.declared.mail.Request.{Request}
+use Rattle.ert_defs.specs.declared.settings.Settings.{Settings}
+use Rattle.ert_table.specs.Held.{is_held}
+use Rattle.ert_table.specs.declared.view.View.{View}
+
+-- the inbox of a scheduler: the requests that wait for it
+pub record Waiting : Type 0 where
+  pub wheel : ℕ
+  pub requests : List Request
+
+-- an inbox stands for a history
+pub record Stands (g : Settings) (h : List Entry) (q : Waiting) : Type 0 where
+  pub in_range : q.wheel < g.schedulers
+  pub requests : q.requests ≡ (state g h).inboxes q.wheel
+
+-- a pass holds the inbox of a scheduler, and a caller in range or the scheduler itself
+pub record IsAskers (g : Settings) (v : View) (by w : ℕ) : Type 0 where
+  pub caller : is_held v.actors (Caller by) ≡ true
+  pub below : by < g.callers
+  pub inbox : is_held v.actors (Inbox w) ≡ true
+
+pub record IsScheds (g : Settings) (v : View) (w : ℕ) : Type 0 where
+  pub sched : is_held v.actors (Sched w) ≡ true
+  pub inbox : is_held v.actors (Inbox w) ≡ true
+
+-- what a scheduler has after it took this into its hand
+abbrev pub picked : Option Request → SchedState → SchedState
+picked got s = record { hand = got; result = None; fired = s.fired }

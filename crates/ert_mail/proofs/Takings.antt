@@ -1,0 +1,86 @@
+-- The steps of a take.
+
+use Rattle.std.proofs.Common.{◌≡◌, ℕ, Bool, true, false, [], ◌∷◌, Option, Some, None, refl, ap, subst, ◌∙◌, eq-eqb}
+use Rattle.ert_defs.specs.Entries.{mark_entry, take_entry}
+use Rattle.ert_defs.specs.Mails.{MailState, first_of, others_of}
+use Rattle.ert_defs.specs.declared.entry.Actor.TheVariants.{MailOf, Caller}
+use Rattle.ert_defs.specs.declared.entry.Entry.{Entry}
+use Rattle.ert_defs.specs.declared.mail.Mail.{Mail}
+use Rattle.ert_defs.specs.declared.settings.Settings.{Settings}
+use Rattle.ert_answers.specs.MailCalls.{Takes}
+use Rattle.ert_answers.specs.declared.answers.Taken.{Taken}
+use Rattle.ert_answers.specs.declared.answers.Taken.TheVariants.{Mail as First, Empty, Exited}
+use Rattle.ert_table.specs.Calls.{IsMade}
+use Rattle.ert_table.specs.Held.{is_held}
+use Rattle.ert_table.specs.Takes.{MayStep, Appends}
+use Rattle.ert_table.proofs.Makings.{step_made}
+use Rattle.ert_table.proofs.Parts.{two_steps, held_on}
+use Rattle.ert_table.specs.declared.view.View.{View}
+use Rattle.ert_mail.specs.Mailboxes.{Mailbox, Stands, IsCallers}
+use Rattle.ert_mail.proofs.Standing.{stands_step, stands_apart}
+
+-- a pass holds after a step what it held
+pub callers_on : (g : Settings) (v : View) (e : Entry) (w : View) (by p : ℕ) → Appends g v e w → IsCallers g v by p → IsCallers g w by p
+callers_on g v e w by p step holds = record {
+  caller = held_on g v e w (Caller by) step holds.caller;
+  below = holds.below;
+  mail = held_on g v e w (MailOf p) step holds.mail;
+}
+
+-- a mailbox stands after its process was looked at
+pub stands_marked : (g : Settings) (v u : View) (by : ℕ) (was : Bool) (m : Mailbox) → is_held v.actors (MailOf m.process) ≡ true
+    → Stands g v.front m → Appends g v (mark_entry (Caller by) m.process false was) u → Stands g u.front m
+stands_marked g v u by was m held stands step = stands_apart g v (mark_entry (Caller by) m.process false was) u m held refl stands step
+
+pub exited_made : (g : Settings) (v u : View) (by p : ℕ) → Appends g v (mark_entry (Caller by) p false true) u → IsMade g v (Takes g by p Exited) u
+exited_made g v u by p step = step_made g v (mark_entry (Caller by) p false true) u (Takes g by p Exited) refl step
+
+-- the first message may be taken
+pub may_take : (g : Settings) (u : View) (by : ℕ) (m : Mailbox) (got : Option Mail) → IsCallers g u by m.process → Stands g u.front m
+    → got ≡ first_of m.held.queue → MayStep g u (take_entry by m.process got)
+may_take g u by m got holds stands first = record {
+  ours = (holds.caller, holds.mail);
+  keeps = (holds.below, refl, stands.in_range);
+  known = first ∙ ap (λ (has : MailState). first_of has.queue) stands.held;
+}
+
+-- the answer by the first message
+abbrev taken_of : Option Mail → Taken
+taken_of None = Empty
+taken_of (Some mail) = First mail
+
+taken_made : (g : Settings) (v u w : View) (by p : ℕ) (got : Option Mail) → Appends g v (mark_entry (Caller by) p false false) u
+    → Appends g u (take_entry by p got) w → IsMade g v (Takes g by p (taken_of got)) w
+taken_made g v u w by p None mark take = record {
+  entries = mark_entry (Caller by) p false false ∷ (take_entry by p None ∷ []);
+  allowed = refl;
+  call = two_steps g v (mark_entry (Caller by) p false false) u (take_entry by p None) w mark take;
+}
+taken_made g v u w by p (Some mail) mark take = record {
+  entries = mark_entry (Caller by) p false false ∷ (take_entry by p (Some mail) ∷ []);
+  allowed = refl;
+  call = two_steps g v (mark_entry (Caller by) p false false) u (take_entry by p (Some mail)) w mark take;
+}
+
+pub first_made : (g : Settings) (v u w : View) (by p : ℕ) (got : Option Mail) (mail : Mail) → got ≡ Some mail
+    → Appends g v (mark_entry (Caller by) p false false) u → Appends g u (take_entry by p got) w → IsMade g v (Takes g by p (First mail)) w
+first_made g v u w by p got mail is mark take =
+    subst (λ answer. IsMade g v (Takes g by p answer) w) (ap taken_of is) (taken_made g v u w by p got mark take)
+
+pub empty_made : (g : Settings) (v u w : View) (by p : ℕ) (got : Option Mail) → got ≡ None
+    → Appends g v (mark_entry (Caller by) p false false) u → Appends g u (take_entry by p got) w → IsMade g v (Takes g by p Empty) w
+empty_made g v u w by p got is mark take =
+    subst (λ answer. IsMade g v (Takes g by p answer) w) (ap taken_of is) (taken_made g v u w by p got mark take)
+
+-- a mailbox stands after its first message was taken off
+abbrev without_first : MailState → MailState
+without_first has = record { queue = others_of has.queue; monitors = has.monitors; next = has.next }
+
+pub stands_taken : (g : Settings) (u w : View) (by : ℕ) (m n : Mailbox) (got : Option Mail) → is_held u.actors (MailOf m.process) ≡ true
+    → Stands g u.front m → Appends g u (take_entry by m.process got) w → n.process ≡ m.process
+    → n.held.queue ≡ others_of m.held.queue → n.held.monitors ≡ m.held.monitors → n.held.next ≡ m.held.next → n.delivered ≡ m.delivered
+    → Stands g w.front n
+stands_taken g u w by m n got held stands step process queue monitors next delivered =
+    stands_step g u (take_entry by m.process got) w m n without_first held stands step
+    (λ s. rw (eq-eqb m.process m.process refl) refl) (rw (eq-eqb m.process m.process refl) refl) process
+    queue monitors next delivered

@@ -1,0 +1,98 @@
+-- The steps of the calls on monitors.
+
+use Rattle.std.proofs.Common.{◌≡◌, ℕ, ◌+◌, ◌≤◌, ℤ, Bool, true, List, [], ◌∷◌, ◌++◌, length, Ok, Err, inl, inr, refl, sym, ap, subst, ◌∙◌, eq-eqb}
+use Rattle.std.proofs.lemmas.Bool.{cases_lt}
+use Rattle.std.proofs.lemmas.List.{map-append}
+use Rattle.ert_defs.specs.Entries.{off_entry, watch_entry, unwatch_entry, tell_entry}
+use Rattle.ert_defs.specs.Mails.{MailState, changes_of, told_of, without}
+use Rattle.ert_defs.specs.declared.entry.Actor.TheVariants.{MailOf, Caller}
+use Rattle.ert_defs.specs.declared.settings.OffsetState.{OffsetState}
+use Rattle.ert_defs.specs.declared.settings.Settings.{Settings}
+use Rattle.ert_answers.specs.MailCalls.{Monitors, Demonitors, Tells}
+use Rattle.ert_answers.specs.declared.answers.MonitorErr.TheVariants.{Full}
+use Rattle.ert_table.specs.Calls.{IsMade}
+use Rattle.ert_table.specs.Held.{is_held}
+use Rattle.ert_table.specs.Takes.{Appends}
+use Rattle.ert_table.proofs.Makings.{step_made}
+use Rattle.ert_table.specs.declared.view.View.{View}
+use Rattle.ert_mail.specs.Mailboxes.{Mailbox, Stands, AreMany, monitor_of, monitors_of}
+use Rattle.ert_mail.specs.declared.monitors.Monitor.{Monitor}
+use Rattle.ert_mail.proofs.Standing.{stands_step, stands_apart}
+
+pub unwatch_made : (g : Settings) (v w : View) (by p monitor : ℕ) (was : Bool) → Appends g v (unwatch_entry by p monitor was) w
+    → IsMade g v (Demonitors g by p monitor was) w
+unwatch_made g v w by p monitor was step =
+    step_made g v (unwatch_entry by p monitor was) w (Demonitors g by p monitor was) refl step
+
+abbrev unwatched : ℕ → MailState → MailState
+unwatched monitor has = record { queue = has.queue; monitors = without monitor has.monitors; next = has.next }
+
+pub stands_unwatched : (g : Settings) (v w : View) (by monitor : ℕ) (was : Bool) (m n : Mailbox) → is_held v.actors (MailOf m.process) ≡ true
+    → Stands g v.front m → Appends g v (unwatch_entry by m.process monitor was) w → n.process ≡ m.process
+    → n.held.queue ≡ m.held.queue → n.held.monitors ≡ without monitor m.held.monitors → n.held.next ≡ m.held.next → n.delivered ≡ m.delivered
+    → Stands g w.front n
+stands_unwatched g v w by monitor was m n held stands step process queue monitors next delivered =
+    stands_step g v (unwatch_entry by m.process monitor was) w m n (unwatched monitor) held stands step
+    (λ s. rw (eq-eqb m.process m.process refl) refl) (rw (eq-eqb m.process m.process refl) refl) process queue monitors next delivered
+
+pub full_made : (g : Settings) (v w : View) (by : ℕ) (m : Mailbox) (offset : ℤ) (offset_state : OffsetState) → Stands g v.front m → AreMany m.held
+    → Appends g v (off_entry (Caller by) offset offset_state) w → IsMade g v (Monitors g by m.process (Err Full)) w
+full_made g v w by m offset offset_state stands many step =
+    step_made g v (off_entry (Caller by) offset offset_state) w (Monitors g by m.process (Err Full))
+    (record { offset = offset; offset_state = offset_state; full = subst AreMany stands.held many; entries = refl }) step
+
+pub stands_full : (g : Settings) (v w : View) (by : ℕ) (m : Mailbox) (offset : ℤ) (offset_state : OffsetState) → is_held v.actors (MailOf m.process) ≡ true
+    → Stands g v.front m → Appends g v (off_entry (Caller by) offset offset_state) w → Stands g w.front m
+stands_full g v w by m offset offset_state held stands step = stands_apart g v (off_entry (Caller by) offset offset_state) w m held refl stands step
+
+pub not_many : (m : MailState) → (AreMany m → ⊥) → m.next ≤ 4294967295
+not_many m few = elim (cases_lt 4294967295 m.next) [
+  | inl high ↦ absurd (few (inr high))
+  | inr low ↦ low
+]
+
+pub watch_made : (g : Settings) (v w : View) (by p number : ℕ) (offset : ℤ) → number ≤ 4294967295
+    → Appends g v (watch_entry by p number offset) w → IsMade g v (Monitors g by p (Ok number)) w
+watch_made g v w by p number offset low step =
+    step_made g v (watch_entry by p number offset) w (Monitors g by p (Ok number)) (record { offset = offset; low = low; entries = refl }) step
+
+abbrev watched : ℕ → ℤ → MailState → MailState
+watched number offset has = record {
+  queue = has.queue;
+  monitors = has.monitors ++ (record { number = number; told = offset }) ∷ [];
+  next = number + 1;
+}
+
+pub stands_watched : (g : Settings) (v w : View) (by : ℕ) (made : Monitor) (old new : List Monitor) (m n : Mailbox) → is_held v.actors (MailOf m.process) ≡ true
+    → Stands g v.front m → Appends g v (watch_entry by m.process made.number made.told) w → n.process ≡ m.process
+    → m.held.monitors ≡ monitors_of old → n.held.monitors ≡ monitors_of new → new ≡ old ++ made ∷ []
+    → n.held.queue ≡ m.held.queue → n.held.next ≡ made.number + 1 → n.delivered ≡ m.delivered
+    → Stands g w.front n
+stands_watched g v w by made old new m n held stands step process before after one_more queue next delivered =
+    stands_step g v (watch_entry by m.process made.number made.told) w m n (watched made.number made.told) held stands step
+    (λ s. rw (eq-eqb m.process m.process refl) refl) (rw (eq-eqb m.process m.process refl) refl) process queue
+    (after ∙ (ap monitors_of one_more ∙ (map-append monitor_of old (made ∷ []) ∙ ap (λ ms. ms ++ monitor_of made ∷ []) (sym before))))
+    next delivered
+
+pub tell_made : (g : Settings) (v w : View) (by put : ℕ) (m : Mailbox) (offset : ℤ) → Stands g v.front m → put ≡ length (changes_of offset m.held.monitors)
+    → Appends g v (tell_entry by m.process offset) w → IsMade g v (Tells g by m.process (Ok put)) w
+tell_made g v w by put m offset stands put_is step =
+    step_made g v (tell_entry by m.process offset) w (Tells g by m.process (Ok put))
+    (record {
+      offset = offset;
+      put_is = put_is ∙ ap (λ (has : MailState). length (changes_of offset has.monitors)) stands.held;
+      entries = refl;
+    }) step
+
+abbrev told_all : ℤ → MailState → MailState
+told_all offset has =
+    record { queue = has.queue ++ changes_of offset has.monitors; monitors = told_of offset has.monitors; next = has.next }
+
+pub stands_told : (g : Settings) (v w : View) (by : ℕ) (offset : ℤ) (m n : Mailbox) → is_held v.actors (MailOf m.process) ≡ true
+    → Stands g v.front m → Appends g v (tell_entry by m.process offset) w → n.process ≡ m.process
+    → n.held.queue ≡ m.held.queue ++ changes_of offset m.held.monitors → n.held.monitors ≡ told_of offset m.held.monitors
+    → n.held.next ≡ m.held.next → n.delivered ≡ m.delivered
+    → Stands g w.front n
+stands_told g v w by offset m n held stands step process queue monitors next delivered =
+    stands_step g v (tell_entry by m.process offset) w m n (told_all offset) held stands step
+    (λ s. rw (eq-eqb m.process m.process refl) refl) (rw (eq-eqb m.process m.process refl) refl) process queue monitors next delivered

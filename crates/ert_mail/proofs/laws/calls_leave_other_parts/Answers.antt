@@ -1,0 +1,20 @@
+use Rattle.ert_mail.proofs.LawsHold.{takes_only, monitors_only, demonitors_only, tells_only, handing_only, answers_only}
+use Rattle.ert_mail.proofs.laws.calls_leave_other_parts.Goals as goal
+
+pub returns-clause-takes : goal.returns-clause-takes
+returns-clause-takes c = takes_only
+
+pub returns-clause-monitors : goal.returns-clause-monitors
+returns-clause-monitors c = monitors_only
+
+pub returns-clause-demonitors : goal.returns-clause-demonitors
+returns-clause-demonitors c = demonitors_only
+
+pub returns-clause-tells : goal.returns-clause-tells
+returns-clause-tells c = tells_only
+
+pub returns-clause-hands_over : goal.returns-clause-hands_over
+returns-clause-hands_over c = handing_only
+
+pub returns-clause-answers : goal.returns-clause-answers
+returns-clause-answers c = answers_only

@@ -1,0 +1,54 @@
+-- Laws of mailboxes. The functions of src/laws.rt carry them as contracts, so that they are proved.
+
+use Rattle.std.specs.Prelude.{◌≡◌, ℕ, Bool, List, [], ◌∷◌, Option, Result}
+use Rattle.ert_defs.specs.Actors.{of}
+use Rattle.ert_defs.specs.States.{State}
+use Rattle.ert_defs.specs.Timers.{Row}
+use Rattle.ert_defs.specs.declared.entry.Actor.{Actor}
+use Rattle.ert_defs.specs.declared.entry.Actor.TheVariants.{Sched, MailOf, Caller}
+use Rattle.ert_defs.specs.declared.entry.Entry.{Entry}
+use Rattle.ert_defs.specs.declared.mail.Request.{Request}
+use Rattle.ert_defs.specs.declared.memory.NoMemory.{NoMemory}
+use Rattle.ert_defs.specs.declared.settings.Settings.{Settings}
+use Rattle.ert_answers.specs.MailCalls.{HandsOver, Takes, Monitors, Demonitors, Tells}
+use Rattle.ert_answers.specs.RequestCalls.{Answers}
+use Rattle.ert_answers.specs.declared.answers.Handed.{Handed}
+use Rattle.ert_answers.specs.declared.answers.MonitorErr.{MonitorErr}
+use Rattle.ert_answers.specs.declared.answers.Taken.{Taken}
+use Rattle.ert_table.specs.Calls.{AreOnlyOf}
+use Rattle.ert_table.specs.Views.{Begins}
+use Rattle.ert_mail.specs.Mailboxes.{Mailbox, Stands}
+
+-- a mailbox that stands for a history stands for each longer one that has no more entries of the mailbox:
+-- where others have made theirs, and where a pass that holds it was joined to another
+abbrev pub LawOfStanding : Type 0
+LawOfStanding = (g : Settings) (f h : List Entry) (m : Mailbox) → Begins f h → of h (MailOf m.process) ≡ of f (MailOf m.process)
+    → Stands g f m → Stands g h m
+
+-- these entries are of an actor and of the mailbox of a process alone
+abbrev pub AreWithMail : Actor → ℕ → List Entry → Type 0
+AreWithMail by process es = AreOnlyOf (by ∷ (MailOf process ∷ [])) es
+
+abbrev pub LawOfTakes : Type 0
+LawOfTakes = (g : Settings) (by process : ℕ) (answer : Taken) (s : State) (es : List Entry) → Takes g by process answer s es
+    → AreWithMail (Caller by) process es
+
+abbrev pub LawOfMonitors : Type 0
+LawOfMonitors = (g : Settings) (by process : ℕ) (answer : Result ℕ MonitorErr) (s : State) (es : List Entry) → Monitors g by process answer s es
+    → AreWithMail (Caller by) process es
+
+abbrev pub LawOfDemonitors : Type 0
+LawOfDemonitors = (g : Settings) (by process monitor : ℕ) (answer : Bool) (s : State) (es : List Entry) → Demonitors g by process monitor answer s es
+    → AreWithMail (Caller by) process es
+
+abbrev pub LawOfTells : Type 0
+LawOfTells = (g : Settings) (by process : ℕ) (answer : Result ℕ NoMemory) (s : State) (es : List Entry) → Tells g by process answer s es
+    → AreWithMail (Caller by) process es
+
+abbrev pub LawOfHandingOver : Type 0
+LawOfHandingOver = (g : Settings) (w : ℕ) (fired : Row) (answer : Result Handed NoMemory) (s : State) (es : List Entry)
+    → HandsOver g w fired answer s es → AreWithMail (Sched w) fired.dest es
+
+abbrev pub LawOfAnswers : Type 0
+LawOfAnswers = (g : Settings) (w : ℕ) (request : Request) (answer : Result (Option ℕ) NoMemory) (s : State) (es : List Entry)
+    → Answers g w request answer s es → AreWithMail (Sched w) request.reply_to es

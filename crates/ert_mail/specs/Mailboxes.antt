@@ -1,0 +1,115 @@
+-- The mailbox of a process, as callers see it, and when it stands for a history.
+
+use Rattle.std.specs.Prelude.{◌≡◌, ◌⊎◌, ℕ, ◌<◌, ◌≤◌, Bool, true, false, ◌&&◌, List, [], ◌∷◌, length, map, filter, Option, None, Result, Ok, Err}
+use Rattle.ert_defs.specs.Actors.{is_with}
+use Rattle.ert_defs.specs.Mails.{MailState, Monitor, SchedState, no_mail, others_of}
+use Rattle.ert_defs.specs.States.{state}
+use Rattle.ert_defs.specs.declared.entry.Actor.TheVariants.{Sched, MailOf, Caller}
+use Rattle.ert_defs.specs.declared.entry.Entry.{Entry}
+use Rattle.ert_defs.specs.declared.entry.Event.{Event}
+use Rattle.ert_defs.specs.declared.entry.Event.TheVariants.{Deliver}
+use Rattle.ert_defs.specs.declared.mail.Mail.{Mail}
+use Rattle.ert_defs.specs.declared.memory.NoMemory.{NoMemory}
+use Rattle.ert_defs.specs.declared.settings.Settings.{Settings}
+use Rattle.ert_answers.specs.MailCalls.{Monitors}
+use Rattle.ert_answers.specs.declared.answers.Handed.{Handed}
+use Rattle.ert_answers.specs.declared.answers.MonitorErr.{MonitorErr}
+use Rattle.ert_answers.specs.declared.answers.MonitorErr.TheVariants.{Full, NoMemory as WantOfMemory}
+use Rattle.ert_answers.specs.declared.answers.Taken.{Taken}
+use Rattle.ert_answers.specs.declared.answers.Taken.TheVariants.{Mail as First, Empty, Exited}
+use Rattle.ert_table.specs.Calls.{IsMade, IsOmitted}
+use Rattle.ert_table.specs.Held.{is_held}
+use Rattle.ert_table.specs.declared.view.View.{View}
+use Rattle.ert_mail.specs.declared.monitors.Monitor.{Monitor as KeptMonitor}
+
+-- the mailbox of a process: what the process has, how many messages of expired timers were ever put into
+-- it, and for how many more messages it has room
+pub record Mailbox : Type 0 where
+  pub process : ℕ
+  pub held : MailState
+  pub delivered : ℕ
+  pub room : ℕ
+
+-- the monitors that are kept
+abbrev pub monitor_of : KeptMonitor → Monitor
+monitor_of m = record { number = m.number; told = m.told }
+
+abbrev pub monitors_of : List KeptMonitor → List Monitor
+monitors_of ms = map monitor_of ms
+
+-- a mailbox of which this is kept
+abbrev pub seen : ℕ → List Mail → List KeptMonitor → ℕ → ℕ → ℕ → Mailbox
+seen process queue monitors next delivered room = record {
+  process = process;
+  held = record { queue = queue; monitors = monitors_of monitors; next = next };
+  delivered = delivered;
+  room = room;
+}
+
+-- whether the message of an expired timer is put into the mailbox of a process
+abbrev pub is_delivery : Event → Bool
+is_delivery (Deliver timer) = true
+is_delivery _ = false
+
+abbrev pub delivers_to : ℕ → Entry → Bool
+delivers_to p e = is_with e.with (MailOf p) && is_delivery e.event
+
+-- how many were in a history
+abbrev pub deliveries : ℕ → List Entry → ℕ
+deliveries p h = length (filter (delivers_to p) h)
+
+-- a mailbox stands for a history
+pub record Stands (g : Settings) (h : List Entry) (m : Mailbox) : Type 0 where
+  pub in_range : m.process < g.processes
+  pub held : m.held ≡ (state g h).mails m.process
+  pub delivered : m.delivered ≡ deliveries m.process h
+
+-- a mailbox is what it was, but for its room
+pub record IsSame (old new : Mailbox) : Type 0 where
+  pub process : new.process ≡ old.process
+  pub held : new.held ≡ old.held
+  pub delivered : new.delivered ≡ old.delivered
+
+-- the mailbox of a process that has nothing yet
+pub record IsEmpty (number : ℕ) (m : Mailbox) : Type 0 where
+  pub process : m.process ≡ number
+  pub held : m.held ≡ no_mail
+  pub delivered : m.delivered ≡ 0
+
+-- a pass holds the mailbox of a process, and a caller in range or a scheduler in range
+pub record IsCallers (g : Settings) (v : View) (by process : ℕ) : Type 0 where
+  pub caller : is_held v.actors (Caller by) ≡ true
+  pub below : by < g.callers
+  pub mail : is_held v.actors (MailOf process) ≡ true
+
+pub record IsScheds (g : Settings) (v : View) (w process : ℕ) : Type 0 where
+  pub sched : is_held v.actors (Sched w) ≡ true
+  pub below : w < g.schedulers
+  pub mail : is_held v.actors (MailOf process) ≡ true
+
+-- what a queue was before an answer and is after it: the first message was taken, there was none, or it
+-- wasn't looked at
+abbrev pub IsTaken : List Mail → Taken → List Mail → Type 0
+IsTaken before (First mail) after = before ≡ mail ∷ after
+IsTaken before Empty after = (before ≡ []) × (after ≡ [])
+IsTaken before Exited after = after ≡ before
+
+-- a monitor is made, or none can be; for want of memory no step is taken
+abbrev pub IsMonitor : Settings → View → ℕ → ℕ → Result ℕ MonitorErr → View → Type 0
+IsMonitor g v by process (Ok number) w = IsMade g v (Monitors g by process (Ok number)) w
+IsMonitor g v by process (Err Full) w = IsMade g v (Monitors g by process (Err Full)) w
+IsMonitor g v by process (Err WantOfMemory) w = IsOmitted g v (Monitors g by process (Err WantOfMemory)) w
+
+-- no further monitor can be made: 64 stand, or the number 4294967295 was given
+abbrev pub AreMany : MailState → Type 0
+AreMany m = (64 ≤ length m.monitors) ⊎ (4294967295 < m.next)
+
+-- what a scheduler has after its first expired timer was handed over, or wasn't for want of memory
+abbrev pub handed : Result Handed NoMemory → SchedState → SchedState
+handed (Ok how) s = record { hand = s.hand; result = s.result; fired = others_of s.fired }
+handed (Err e) s = s
+
+-- and after the request in its hand was answered, or wasn't
+abbrev pub answered : Result (Option ℕ) NoMemory → SchedState → SchedState
+answered (Ok left) s = record { hand = None; result = None; fired = s.fired }
+answered (Err e) s = s

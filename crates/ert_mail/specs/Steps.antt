@@ -1,0 +1,38 @@
+-- What the steps of the calls of a scheduler make of what it has and of a mailbox.
+
+use Rattle.std.specs.Prelude.{◌≡◌, ℕ, [], ◌∷◌, ◌++◌, Option, Ok}
+use Rattle.ert_defs.specs.Mails.{MailState, message_of, answer_of}
+use Rattle.ert_defs.specs.States.{state}
+use Rattle.ert_defs.specs.Timers.{Row}
+use Rattle.ert_defs.specs.declared.mail.Request.{Request}
+use Rattle.ert_defs.specs.declared.settings.Settings.{Settings}
+use Rattle.ert_answers.specs.MailCalls.{handed_entries}
+use Rattle.ert_answers.specs.RequestCalls.{HasAnswered}
+use Rattle.ert_answers.specs.declared.answers.Handed.{Handed}
+use Rattle.ert_answers.specs.declared.answers.Handed.TheVariants.{Put, Dropped}
+use Rattle.ert_table.specs.Calls.{IsMade}
+use Rattle.ert_table.specs.Takes.{TakesPlace}
+use Rattle.ert_table.specs.declared.view.View.{View}
+use Rattle.ert_mail.specs.Mailboxes.{handed, answered, deliveries}
+
+-- what a process has after an expired timer was handed over to it
+abbrev pub with_fired : Handed → Row → MailState → MailState
+with_fired Put fired m = record { queue = m.queue ++ message_of fired ∷ []; monitors = m.monitors; next = m.next }
+with_fired Dropped fired m = m
+
+-- an expired timer was handed over, and so changed what its scheduler and its destination have
+pub record IsHanded (g : Settings) (v : View) (fired : Row) (how : Handed) (w : View) : Type 0 where
+  pub call : TakesPlace g v (handed_entries fired.timer.wheel fired how) w
+  pub sched : (state g w.front).scheds fired.timer.wheel ≡ handed (Ok how) ((state g v.front).scheds fired.timer.wheel)
+  pub mails : (state g w.front).mails fired.dest ≡ with_fired how fired ((state g v.front).mails fired.dest)
+
+-- what a process has after its request was answered
+abbrev pub with_answer : Request → Option ℕ → MailState → MailState
+with_answer request left m = record { queue = m.queue ++ answer_of request left; monitors = m.monitors; next = m.next }
+
+-- a request was answered by a scheduler, and so changed what that and the asker have
+pub record IsReplied (g : Settings) (v : View) (n : ℕ) (request : Request) (left : Option ℕ) (w : View) : Type 0 where
+  pub call : IsMade g v (HasAnswered g n request left) w
+  pub sched : (state g w.front).scheds n ≡ answered (Ok left) ((state g v.front).scheds n)
+  pub mails : (state g w.front).mails request.reply_to ≡ with_answer request left ((state g v.front).mails request.reply_to)
+  pub undelivered : deliveries request.reply_to w.front ≡ deliveries request.reply_to v.front

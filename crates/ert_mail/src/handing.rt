@@ -1,0 +1,42 @@
+//! The steps by which an expired timer is handed over.
+ghost use Rattle.std.specs.Prelude.{◌≡◌, ◌<◌, Some};
+ghost use Rattle.ert_defs.specs.Mails.{first_of, message_of};
+ghost use Rattle.ert_table.specs.Desks.{settings_of, view_of, state_of, Belongs};
+ghost use Rattle.ert_mail.specs.Mailboxes.{IsScheds};
+ghost use Rattle.ert_mail.specs.Steps.{IsHanded};
+
+use ert_answers::Handed;
+use ert_defs::{Actor, Fired, Kind, Mail};
+use ert_table::{Desk, Pass, Settle};
+
+/// Looks whether the destination of its scheduler's first expired timer has exited, and then records that
+/// its message is put, or that it is thrown away.
+pub(crate) fn hand_over(desk: &Desk, pass: &mut Pass, fired: &Fired) -> Handed
+    requires belongs { Belongs desk.now pass.old }
+    requires holds { IsScheds (settings_of desk.now) (view_of pass.old) fired.now.timer.wheel fired.now.dest }
+    requires in_range { fired.now.dest < (settings_of desk.now).processes }
+    requires first { first_of ((state_of desk.now pass.old).scheds fired.now.timer.wheel).fired ≡ Some fired.now }
+    ensures belongs { Belongs desk.now pass.new }
+    ensures steps { IsHanded (settings_of desk.now) (view_of pass.old) fired.now result (view_of pass.new) }
+{
+    let by = Actor::Sched(fired.timer.wheel);
+    if pass.mark(desk, by, fired.dest, false) {
+        pass.settle(desk, by, fired.timer, fired.deadline, Settle::Drop);
+        return Handed::Dropped;
+    }
+    pass.settle(desk, by, fired.timer, fired.deadline, Settle::Deliver);
+    Handed::Put
+}
+
+/// The message of an expired timer.
+pub(crate) fn message_of(fired: &Fired) -> Mail
+    ensures { result ≡ message_of fired.now }
+{
+    match fired.kind {
+        Kind::Wrapped => Mail::Timeout {
+            timer: fired.timer,
+            msg: fired.msg,
+        },
+        Kind::Bare => Mail::Bare { msg: fired.msg },
+    }
+}

@@ -1,0 +1,40 @@
+//! The mailbox of a process: its messages, and its monitors of the time offset.
+//!
+//! **What it is.** One thread at a time has a process's part, and with it a pass that holds the actor of that
+//! mailbox, beside the caller or the scheduler who acts. What the part keeps is data of its own and no word
+//! that others see: the messages, first to last, the monitors in order of number, each with the offset that
+//! the process was last told, the number of the next monitor, and how many messages of timers were ever put.
+//! Each change of it is recorded by a step on the desk, on a word that is read at the same time: an exit, the
+//! time or the offset.
+//!
+//! | call | made by | steps | answer |
+//! |---|---|---|---|
+//! | `take` | a caller | looks whether the process has exited; if not, records what was taken | the first message, Empty or Exited |
+//! | `deliver` | a scheduler | looks whether the process has exited; then hands over the timer | Put or Dropped |
+//! | `answer` | a scheduler | those of a cancel or a read; records the answer | what was left |
+//! | `monitor` | a caller | reads the offset, which counts as told | the number, or Full |
+//! | `demonitor` | a caller | records that it was removed | whether it stood |
+//! | `tell` | a caller | reads the offset | how many messages were put |
+//!
+//! **What it promises.** The part stands for the front of the pass before and after each call: its messages,
+//! monitors, numbers and count are those of the history. Each call makes just the entries that it may make
+//! with its answer (`ert_answers`, `specs/MailCalls` and `specs/RequestCalls`). Where a call also changes what
+//! the scheduler has, it tells what that is then. A part stands on while others act (`mailboxes_stand_on`).
+//!
+//! **Memory.** A call that may put something makes room first, and takes no step where it finds none. So after
+//! want of memory nothing has changed: a request is still in the hand, and its timer as it was. `take` and
+//! `demonitor` take no memory. Messages stand in a ring: to put or to take one moves no other.
+//!
+//! It stands on `ert_defs`, `ert_laws`, `ert_answers`, `ert_table` and `ert_calls`.
+#![tactic(auto)]
+
+mod handing;
+mod laws;
+mod monitors;
+mod part;
+mod replies;
+mod watching;
+
+pub use ert_answers::{Handed, MonitorErr, Taken};
+pub use laws::{calls_leave_other_parts, mailboxes_stand_on};
+pub use part::MailPart;

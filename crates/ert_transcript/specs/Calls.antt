@@ -1,0 +1,114 @@
+-- The call that an op is, by caller n, in a way: which pieces of history it allows with its reply. Want of
+-- memory is no reply.
+
+use Rattle.std.specs.Prelude.{◌≡◌, ℕ, ℤ, FitsSigned, Bool, true, false, List, [], ◌∷◌, Option, Ok, Err}
+use Rattle.std.specs.Int.{w64}
+use Rattle.ert_answers.specs.Chains.{Serves, AdvancesWheel, Delivers, Turns, Exits}
+use Rattle.ert_answers.specs.ClockCalls.{Ticks, Finalizes, TellsTime, TellsOffset, TellsSystemTime}
+use Rattle.ert_answers.specs.MailCalls.{Takes, Monitors, Demonitors, Tells}
+use Rattle.ert_answers.specs.RequestCalls.{inbox_for, Asks}
+use Rattle.ert_answers.specs.TimerCalls.{Reads, Cancels, Starts}
+use Rattle.ert_answers.specs.Ways.{Way}
+use Rattle.ert_answers.specs.WheelCalls.{TellsAlive}
+use Rattle.ert_answers.specs.declared.answers.MonitorErr.TheVariants.{Full as NoMore}
+use Rattle.ert_answers.specs.declared.answers.StartErr.TheVariants.{BadArg, Full}
+use Rattle.ert_answers.specs.declared.answers.Taken.TheVariants.{Mail as Taking, Empty, Exited}
+use Rattle.ert_clock.specs.declared.clock.ClockErr.TheVariants.{OffsetWide}
+use Rattle.ert_defs.specs.Lines.{end_time}
+use Rattle.ert_defs.specs.declared.entry.Actor.TheVariants.{Keeper, Wheel, Inbox, MailOf, Caller}
+use Rattle.ert_defs.specs.declared.entry.Entry.{Entry}
+use Rattle.ert_defs.specs.declared.mail.Request.{Request}
+use Rattle.ert_defs.specs.declared.mail.RequestKind.{RequestKind}
+use Rattle.ert_defs.specs.declared.mail.RequestKind.TheVariants.{Cancel as ToCancel, Read as ToRead}
+use Rattle.ert_defs.specs.declared.settings.Mode.{Mode}
+use Rattle.ert_defs.specs.declared.settings.Reading.{Reading}
+use Rattle.ert_defs.specs.declared.settings.Settings.{Settings}
+use Rattle.ert_defs.specs.declared.timer.Kind.{Kind}
+use Rattle.ert_defs.specs.declared.timer.Kind.TheVariants.{Wrapped, Bare}
+use Rattle.ert_defs.specs.declared.timer.Start.{Start}
+use Rattle.ert_defs.specs.declared.timer.When.{When}
+use Rattle.ert_transcript.specs.Labels.{Labels, ref_of}
+use Rattle.ert_transcript.specs.declared.op.Op.{Op}
+use Rattle.ert_transcript.specs.declared.op.Op.TheVariants as ops
+use Rattle.ert_transcript.specs.declared.reply.Reply.{Reply}
+use Rattle.ert_transcript.specs.declared.reply.Reply.TheVariants.{Tick, TickWide, Check, CheckWide, Finalize, FinalizeWide, Time, System, Offset, Info, Convert, ConvertTooWide, StartOk, StartBadArg, StartFull, SendAfterOk, SendAfterBadArg, SendAfterFull, Cancel, CancelQuiet, Read, CancelAsync, ReadAsync, Serve, Advance, Deliver, Turn, Received, ReceivedEmpty, ReceivedExited, Exit, Alive, Monitor, MonitorFull, Demonitor, Notify}
+use Rattle.ert_units.specs.Conversions.{converted}
+
+-- the arguments of ops
+abbrev pub reading_of : ℤ → ℤ → Reading
+reading_of mono sys = record { mono = mono; sys = sys }
+
+abbrev pub start_of : When → ℕ → ℕ → Kind → Start
+start_of when dest msg kind = record { when = when; dest = dest; msg = msg; kind = kind }
+
+abbrev pub request_of : RequestKind → Labels → ℕ → ℕ → Bool → Request
+request_of kind ls l process info = record { kind = kind; timer = ref_of ls l; reply_to = process; info = info }
+
+-- the settings are told, with the offset as it is read
+pub record TellsSettings (g : Settings) (start end : ℤ) (mode : Mode) (correction : Bool) : Type 0 where
+  pub starts : start ≡ g.start
+  pub ends : end ≡ end_time g
+  pub of_mode : mode ≡ g.mode
+  pub corrects : correction ≡ g.correction
+
+-- a converted time, or that it doesn't fit 64 bits; no entry is made
+abbrev pub Converts : ℤ → ℕ → ℕ → Reply → List Entry → Type 0
+Converts time from to (Convert value) m = (value ≡ converted time from to) × FitsSigned w64 value × (m ≡ [])
+Converts time from to ConvertTooWide m = (FitsSigned w64 (converted time from to) → ⊥) × (m ≡ [])
+Converts time from to reply m = ⊥
+
+-- a request is put into the inbox of its scheduler
+abbrev pub AsksFor : Settings → Way → ℕ → Request → List Entry → List Entry → Type 0
+AsksFor g way n request h m = way (Inbox (inbox_for g request) ∷ []) (Asks g n (inbox_for g request) request (Ok tt)) h m
+
+-- what an op allows with its reply: the piece that comes after a history, with these labels
+abbrev pub Calls : Settings → Way → ℕ → Labels → Op → Reply → List Entry → List Entry → Type 0
+Calls g way n ls (ops.Tick mono sys) (Tick now shift) h m =
+    way (Keeper ∷ []) (Ticks g n (reading_of mono sys) false (Ok (record { now = now; shift = shift }))) h m
+Calls g way n ls (ops.Tick mono sys) (TickWide value) h m =
+    way (Keeper ∷ []) (Ticks g n (reading_of mono sys) false (Err (OffsetWide value))) h m
+Calls g way n ls (ops.Check mono sys) (Check now shift) h m =
+    way (Keeper ∷ []) (Ticks g n (reading_of mono sys) true (Ok (record { now = now; shift = shift }))) h m
+Calls g way n ls (ops.Check mono sys) (CheckWide value) h m =
+    way (Keeper ∷ []) (Ticks g n (reading_of mono sys) true (Err (OffsetWide value))) h m
+Calls g way n ls (ops.Finalize mono sys) (Finalize old now shift) h m =
+    way (Keeper ∷ []) (Finalizes g n (reading_of mono sys) (Ok (old, record { now = now; shift = shift }))) h m
+Calls g way n ls (ops.Finalize mono sys) (FinalizeWide value) h m =
+    way (Keeper ∷ []) (Finalizes g n (reading_of mono sys) (Err (OffsetWide value))) h m
+Calls g way n ls (ops.Notify p) (Notify put) h m = way (MailOf p ∷ []) (Tells g n p (Ok put)) h m
+Calls g way n ls ops.Time (Time now) h m = way [] (TellsTime g (Caller n) now) h m
+Calls g way n ls ops.System (System time) h m = way [] (TellsSystemTime g (Caller n) time) h m
+Calls g way n ls ops.Offset (Offset offset state) h m = way [] (TellsOffset g (Caller n) (offset, state)) h m
+Calls g way n ls ops.Info (Info start end mode correction offset state) h m =
+    TellsSettings g start end mode correction × way [] (TellsOffset g (Caller n) (offset, state)) h m
+Calls g way n ls (ops.Convert time from to) reply h m = Converts time from to reply m
+Calls g way n ls (ops.Start l w when p msg) (StartOk timer) h m =
+    way (Wheel w ∷ []) (Starts g n w (start_of when p msg Wrapped) (Ok timer)) h m
+Calls g way n ls (ops.Start l w when p msg) StartBadArg h m =
+    way (Wheel w ∷ []) (Starts g n w (start_of when p msg Wrapped) (Err BadArg)) h m
+Calls g way n ls (ops.Start l w when p msg) StartFull h m =
+    way (Wheel w ∷ []) (Starts g n w (start_of when p msg Wrapped) (Err Full)) h m
+Calls g way n ls (ops.SendAfter l w when p msg) (SendAfterOk timer) h m =
+    way (Wheel w ∷ []) (Starts g n w (start_of when p msg Bare) (Ok timer)) h m
+Calls g way n ls (ops.SendAfter l w when p msg) SendAfterBadArg h m =
+    way (Wheel w ∷ []) (Starts g n w (start_of when p msg Bare) (Err BadArg)) h m
+Calls g way n ls (ops.SendAfter l w when p msg) SendAfterFull h m =
+    way (Wheel w ∷ []) (Starts g n w (start_of when p msg Bare) (Err Full)) h m
+Calls g way n ls (ops.Cancel l) (Cancel left) h m = way [] (Cancels g (Caller n) (ref_of ls l) left) h m
+Calls g way n ls (ops.CancelQuiet l) CancelQuiet h m = (left : Option ℕ) × way [] (Cancels g (Caller n) (ref_of ls l) left) h m
+Calls g way n ls (ops.Read l) (Read left) h m = way [] (Reads g (Caller n) (ref_of ls l) left) h m
+Calls g way n ls (ops.CancelAsync l p info) CancelAsync h m = AsksFor g way n (request_of ToCancel ls l p info) h m
+Calls g way n ls (ops.ReadAsync l p info) ReadAsync h m = AsksFor g way n (request_of ToRead ls l p info) h m
+Calls g way n ls (ops.Serve w) (Serve served) h m = Serves g way w (Ok served) h m
+Calls g way n ls (ops.Advance w) (Advance to fired) h m = AdvancesWheel g way w (Ok (to, fired)) h m
+Calls g way n ls (ops.Deliver w) (Deliver put dropped) h m = Delivers g way w (Ok (put, dropped)) h m
+Calls g way n ls (ops.Turn w) (Turn turned) h m = Turns g way w (Ok turned) h m
+Calls g way n ls (ops.Receive p) (Received mail) h m = way (MailOf p ∷ []) (Takes g n p (Taking mail)) h m
+Calls g way n ls (ops.Receive p) ReceivedEmpty h m = way (MailOf p ∷ []) (Takes g n p Empty) h m
+Calls g way n ls (ops.Receive p) ReceivedExited h m = way (MailOf p ∷ []) (Takes g n p Exited) h m
+Calls g way n ls (ops.Exit p) (Exit was_alive) h m = Exits g way n p was_alive h m
+Calls g way n ls (ops.Alive p) (Alive alive) h m = way [] (TellsAlive g (Caller n) p alive) h m
+Calls g way n ls (ops.Monitor p) (Monitor number) h m = way (MailOf p ∷ []) (Monitors g n p (Ok number)) h m
+Calls g way n ls (ops.Monitor p) MonitorFull h m = way (MailOf p ∷ []) (Monitors g n p (Err NoMore)) h m
+Calls g way n ls (ops.Demonitor p k) (Demonitor stood) h m = way (MailOf p ∷ []) (Demonitors g n p k stood) h m
+Calls g way n ls op reply h m = ⊥

@@ -1,0 +1,52 @@
+-- Words and parts of lines.
+
+use Rattle.std.specs.Prelude.{ℕ, ℤ, Bool, true, false, List, ◌++◌, codes, Option, Some, None}
+use Rattle.std.specs.Fmt.{signed_decimal}
+use Rattle.ert_defs.specs.declared.settings.Mode.{Mode}
+use Rattle.ert_defs.specs.declared.settings.Mode.TheVariants.{No, Single, Multi}
+use Rattle.ert_defs.specs.declared.settings.OffsetState.{OffsetState}
+use Rattle.ert_defs.specs.declared.settings.OffsetState.TheVariants.{Preliminary, Final, Volatile}
+
+-- one text, and then another
+infixr 20 ◌⋅◌
+abbrev pub ◌⋅◌ : List ℕ → List ℕ → List ℕ
+xs ⋅ ys = xs ++ ys
+
+-- the word for a state of the offset
+unfoldable pub state_word : OffsetState → List ℕ
+state_word Preliminary = codes "preliminary"
+state_word Final = codes "final"
+state_word Volatile = codes "volatile"
+
+-- the word for a time warp mode
+unfoldable pub mode_word : Mode → List ℕ
+mode_word No = codes "no"
+mode_word Single = codes "single"
+mode_word Multi = codes "multi"
+
+-- the word for whether something is so
+unfoldable pub bool_word : Bool → List ℕ
+bool_word true = codes "true"
+bool_word false = codes "false"
+
+-- the end of a line that tells a time, and the new offset where it moved
+abbrev pub moved_text : ℤ → Option ℤ → List ℕ
+moved_text now None = signed_decimal now ⋅ codes "\n"
+moved_text now (Some offset) = signed_decimal now ⋅ codes " offset " ⋅ signed_decimal offset ⋅ codes "\n"
+
+-- the parts of the line of the settings
+unfoldable pub info_front : ℤ → ℤ → Mode → List ℕ
+info_front start end mode = codes "info start " ⋅ signed_decimal start ⋅ codes " end " ⋅ signed_decimal end ⋅ codes " mode " ⋅ mode_word mode
+
+unfoldable pub info_middle : Bool → List ℕ
+info_middle correction = codes " correction " ⋅ bool_word correction
+
+abbrev pub offset_text : ℤ → OffsetState → List ℕ
+offset_text offset state = signed_decimal offset ⋅ codes " " ⋅ state_word state ⋅ codes "\n"
+
+unfoldable pub info_back : ℤ → OffsetState → List ℕ
+info_back offset state = codes " offset " ⋅ signed_decimal offset ⋅ codes " state " ⋅ state_word state ⋅ codes "\n"
+
+-- the last line of a transcript
+abbrev pub end_line : ℤ → List ℕ
+end_line now = codes "end " ⋅ signed_decimal now ⋅ codes "\n"

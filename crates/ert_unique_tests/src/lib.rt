@@ -1,0 +1,12 @@
+//! Tests of unique integers and timestamps, by their public calls. They stand apart from the crate that they
+//! test, so that it is proved once, and not a second time with its tests.
+#![tactic(auto)]
+
+#[cfg(test)]
+mod stamps;
+#[cfg(test)]
+mod threads;
+#[cfg(test)]
+mod together;
+#[cfg(test)]
+mod two_passes;

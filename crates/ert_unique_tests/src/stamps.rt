@@ -1,0 +1,21 @@
+//! Timestamps that were computed by hand.
+
+use ert_unique::{Stamp, stamp_of};
+
+#[test]
+fn stamps_of_times(rt: HostRuntime) {
+    for (system, mega, secs, micro) in [
+        (1_767_225_610_400_000_000, 1_767, 225_610, 400_000),
+        (0, 0, 0, 0),
+        (999, 0, 0, 0),
+        (1_000, 0, 0, 1),
+        (999_999_999_999_999, 0, 999_999, 999_999),
+        (1_000_000_000_000_000, 1, 0, 0),
+        (i64::MAX, 9_223, 372_036, 854_775),
+    ] {
+        assert_eq!(rt; stamp_of(system), Some(Stamp { mega, secs, micro }));
+    }
+    for system in [-1, -999, -1_000, i64::MIN] {
+        assert_eq!(rt; stamp_of(system), None);
+    }
+}
