@@ -157,10 +157,6 @@ pub record Stands (g : Settings) (h : List Entry) (p : Part) : Type 0 where
   pub holds : Holds g (state g h) p
   pub counted : IsCounted h p
 
--- a part is tidy for a history: each row that it holds is armed
-abbrev pub IsTidy : Settings → List Entry → Part → Type 0
-IsTidy g h p = (k : ℕ) (key : Key) → key_in p.keys k ≡ Some key → (state g h).status (last_timer p.number p.slots k) ≡ Some Armed
-
 -- a pass holds a wheel with a caller in range, or with its scheduler
 pub record HoldsCaller (g : Settings) (v : View) (by w : ℕ) : Type 0 where
   pub caller : is_held v.actors (Caller by) ≡ true

@@ -83,7 +83,7 @@ impl WheelPart {
     ghost use Rattle.std.specs.FinSet as set;
     ghost use Rattle.std.specs.Prelude.{◌≡◌, ◌↔◌, ◌<◌, ◌≤◌, ◌^◌, ◌-◌, IfOk, IfSome, IfNone, IsNone, IsSome, IsTrue, ℕ, false, true, length, count_by, [], Some, None, option_map, slice_set};
     ghost use Rattle.ert_defs.specs.Settings.{IsChecked};
-    ghost use Rattle.ert_timers.specs.Parts.{Stands, IsTidy, held_row, last_timer};
+    ghost use Rattle.ert_timers.specs.Parts.{Stands, held_row, last_timer};
     ghost use Rattle.ert_timers.specs.Expiring.{AreDue};
     ghost use Rattle.ert_timers.specs.Changes.{IsFree, freed, picked, kept, dropped, let_go, given_back, LostRow, NextOf};
     ghost use Rattle.ert_wheel.specs.Rows.{key_in, key_of, row_at};
@@ -94,12 +94,12 @@ impl WheelPart {
         requires in_range { wheel < settings.now.schedulers }
         ensures number { IfOk result (λ part. part.number ≡ wheel) }
         ensures stands { IfOk result (Stands settings.now []) }
-        ensures tidy { IfOk result (IsTidy settings.now []) }
     {
         let slots = no_slots(alloc, settings.slots)?;
         let rows = Wheel::new(alloc, settings.slots)?;
         let owners = Chains::new(alloc, settings.slots, settings.processes)?;
         let free = FreeSlots::new(alloc, settings.slots)?;
+        let due = Vec::with_capacity(alloc, settings.slots as usize)?;
         Ok(WheelPart {
             number: wheel,
             processes: settings.processes,
@@ -110,7 +110,7 @@ impl WheelPart {
             arms: 0,
             expires: 0,
             orphans: 0,
-            due: Vec::with_capacity(alloc, settings.slots as usize)?,
+            due,
             alloc,
         })
     }
