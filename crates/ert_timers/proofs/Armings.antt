@@ -1,7 +1,7 @@
 -- A timer is armed in a slot that a part holds free.
 
-use Rattle.std.proofs.Common.{◌≡◌, ◌≢◌, ℕ, zero, suc, ◌+◌, ◌<◌, ◌≤◌, ℤ, Bool, true, false, cond, ◌&&◌, ◌||◌, nat_eq, List, [], ◌∷◌, ◌++◌, length, Option, Some, None, inl, inr, refl, sym, ap, subst, ◌∙◌, arith, get_or, set, get_or-set_same, get_or-set_other, length-append, eq-eqb, ne_eqb}
-use Rattle.std.proofs.lemmas.Bool.{cases_eq, cases_lt}
+use Rattle.std.proofs.Common.{◌≡◌, ◌≢◌, ℕ, zero, suc, ◌+◌, ◌<◌, Bool, true, false, cond, ◌&&◌, nat_eq, List, [], ◌∷◌, ◌++◌, length, Option, Some, None, inl, inr, refl, sym, ap, subst, ◌∙◌, arith, set, get_or-set_same, get_or-set_other, length-append, eq-eqb, ne_eqb}
+use Rattle.std.proofs.lemmas.Bool.{cases_eq}
 use Rattle.std.proofs.lemmas.List.{length-set}
 use Rattle.std.proofs.lemmas.List.Elements.{All-get_or}
 use Rattle.std.proofs.lemmas.Option.{get_or_from_slice_get, slice_get_within}
@@ -11,31 +11,29 @@ use Rattle.ert_defs.specs.Actors.{has_actor}
 use Rattle.ert_defs.specs.Entries.{arm_entry}
 use Rattle.ert_defs.specs.Legal.{Legal}
 use Rattle.ert_defs.specs.Milliseconds.{deadline_of}
-use Rattle.ert_defs.specs.States.{State, opening, next, state}
-use Rattle.ert_defs.specs.Timers.{Row, row_from, is_taken, same_timer, status_after}
+use Rattle.ert_defs.specs.States.{State, next, state}
+use Rattle.ert_defs.specs.Timers.{Row, row_from, is_taken, same_timer}
 use Rattle.ert_defs.proofs.FiredTimers.{same_timer_self, same_timer-false}
 use Rattle.ert_defs.proofs.Rows.{IsRow, rows_hold}
-use Rattle.ert_defs.proofs.Runs.{legal_first, look_stays, state-append}
+use Rattle.ert_defs.proofs.Runs.{look_stays, state-append}
 use Rattle.ert_defs.specs.declared.entry.Actor.TheVariants.{Wheel, Caller}
 use Rattle.ert_defs.specs.declared.entry.Entry.{Entry}
 use Rattle.ert_defs.specs.declared.settings.Settings.{Settings}
 use Rattle.ert_defs.specs.declared.timer.Start.{Start}
-use Rattle.ert_defs.specs.declared.timer.Status.{Status}
 use Rattle.ert_defs.specs.declared.timer.Status.TheVariants.{Armed, Expired}
 use Rattle.ert_defs.specs.declared.timer.TimerRef.{TimerRef}
-use Rattle.ert_table.specs.Held.{is_held}
 use Rattle.ert_table.specs.Takes.{Appends, MayStep}
 use Rattle.ert_table.specs.declared.view.View.{View}
 use Rattle.ert_table.proofs.Parts.{stepped}
 use Rattle.ert_timers.specs.Changes.{IsFree, kept, slot_for}
-use Rattle.ert_timers.specs.Parts.{HoldsCaller, Part, HoldsRows, Holds, Stands, slot_at, last_timer, held_row, unused, is_arm, is_expire, is_orphan}
+use Rattle.ert_timers.specs.Parts.{HoldsCaller, Part, HoldsRows, Stands, slot_at, last_timer, held_row, unused, is_arm, is_expire, is_orphan}
 use Rattle.ert_timers.specs.Starting.{Arms, HoldsTimer}
 use Rattle.ert_timers.specs.declared.part.Slot.{Slot}
 use Rattle.ert_timers.proofs.Keeping.{key_kept, key_new}
 use Rattle.ert_timers.proofs.Later.{IsLater, later_before, unexpired_before}
 use Rattle.ert_timers.proofs.Rows.{row_wheel}
 use Rattle.ert_timers.proofs.Standing.{count_same}
-use Rattle.ert_timers.proofs.Tried.{count_more, self}
+use Rattle.ert_timers.proofs.Tried.{count_more}
 use Rattle.ert_wheel.specs.Rows.{key_in}
 use Rattle.ert_wheel.specs.declared.row.Key.{Key}
 
@@ -101,54 +99,55 @@ rows_armed : (g : Settings) (h : List Entry) (w k : ℕ) (slots : List Slot) (ke
     → HoldsRows t w (set slots k slot) (set keys k (Some key))
 rows_armed g h w k slots keys slot key s t timer row legal holds later unexpired armed named row_is order low wide vacant fresh = record {
   each = λ j seen is.
-      elim (cases_eq j k)
-      [ inl here ↦
-          subst (λ m. slice_get (t.rows w) seen.order ≡ Some (held_row w (set slots k slot) m seen)) (sym here)
-          (subst (λ (x : Key). slice_get (t.rows w) x.order ≡ Some (held_row w (set slots k slot) k x)) (key_new keys k j key seen wide is here)
-          (ap (λ rows. slice_get rows key.order) rows_are
-          ∙ (ap (slice_get ((state g h).rows w ++ row ∷ [])) order ∙ (at_end ((state g h).rows w) row ∙ ap (λ (r : Row). Some r) row_is))))
-      | inr other ↦
-          ap (λ rows. slice_get rows seen.order) rows_are
-          ∙ (at_front ((state g h).rows w) row seen.order (held_row w slots j seen) (holds.each j seen (key_kept keys k j key seen wide is other))
-          ∙ ap (λ (x : Slot). let r : Row = record {
-            timer = record { wheel = w; slot = j; generation = x.generation };
-            deadline = seen.deadline;
-            dest = x.dest;
-            msg = x.msg;
-            kind = x.kind;
-          } in Some r) (sym (get_or-set_other slots k j slot unused other)))
+      elim (cases_eq j k) [
+        | inl here ↦
+            subst (λ m. slice_get (t.rows w) seen.order ≡ Some (held_row w (set slots k slot) m seen)) (sym here)
+            (subst (λ (x : Key). slice_get (t.rows w) x.order ≡ Some (held_row w (set slots k slot) k x)) (key_new keys k j key seen wide is here)
+            (ap (λ rows. slice_get rows key.order) rows_are
+            ∙ (ap (slice_get ((state g h).rows w ++ row ∷ [])) order ∙ (at_end ((state g h).rows w) row ∙ ap (λ (r : Row). Some r) row_is))))
+        | inr other ↦
+            ap (λ rows. slice_get rows seen.order) rows_are
+            ∙ (at_front ((state g h).rows w) row seen.order (held_row w slots j seen) (holds.each j seen (key_kept keys k j key seen wide is other))
+            ∙ ap (λ (x : Slot). let r : Row = record {
+              timer = record { wheel = w; slot = j; generation = x.generation };
+              deadline = seen.deadline;
+              dest = x.dest;
+              msg = x.msg;
+              kind = x.kind;
+            } in Some r) (sym (get_or-set_other slots k j slot unused other)))
       ];
   unexpired = λ j seen is.
-      elim (cases_eq j k)
-      [ inl here ↦ λ expired.
-          (let armed_here : t.status (last_timer w (set slots k slot) j) ≡ Some Armed =
+      elim (cases_eq j k) [
+        | inl here ↦ λ expired.
+            (let armed_here : t.status (last_timer w (set slots k slot) j) ≡ Some Armed =
             ap t.status (ap (last_timer w (set slots k slot)) here ∙ sym named) ∙ armed.here in
-          cc)
-      | inr other ↦
-          let same : last_timer w (set slots k slot) j ≡ last_timer w slots j = kept_timer j other in
-          let apart : last_timer w slots j ≢ timer = λ e. other (ap (λ (r : TimerRef). r.slot) (e ∙ named)) in
-          λ expired. unexpired j seen (key_kept keys k j key seen wide is other)
-          (sym (armed.other (last_timer w slots j) apart) ∙ (ap t.status (sym same) ∙ expired))
+            cc)
+        | inr other ↦
+            let same : last_timer w (set slots k slot) j ≡ last_timer w slots j = kept_timer j other in
+            let apart : last_timer w slots j ≢ timer = λ e. other (ap (λ (r : TimerRef). r.slot) (e ∙ named)) in
+            λ expired. unexpired j seen (key_kept keys k j key seen wide is other)
+            (sym (armed.other (last_timer w slots j) apart) ∙ (ap t.status (sym same) ∙ expired))
       ];
   armed = λ n x at is.
-      elim (place_of ((state g h).rows w) row n x (ap (λ rows. slice_get rows n) (sym rows_are) ∙ at))
-      [ old less there ↦
-          let was : s.status x.timer ≡ Some Armed = sym (armed.other x.timer (fresh n x there)) ∙ is in
-          let held = holds.armed n x there (later.armed x.timer (row_wheel g h w n x legal there) was) in
-          let other : x.timer.slot ≢ k =
-          λ same. (let none : ◌≡◌ {A = Option Key} None (Some (record { deadline = x.deadline; order = n })) = sym vacant ∙ (ap (key_in keys) (sym same) ∙ held) in cc) in
-          get_or-set_other keys k x.timer.slot (Some key) None other ∙ held
-      | new here same ↦
-          let x_is : x ≡ held_row w (set slots k slot) k key = sym same ∙ row_is in
-          ap (λ (r : Row). key_in (set keys k (Some key)) r.timer.slot) x_is
-          ∙ (get_or-set_same keys k (Some key) None wide
-          ∙ subst (λ m. Some key ≡ Some (record { deadline = x.deadline; order = m })) (order ∙ sym here)
-          (subst (λ (d : ℕ). Some key ≡ Some (record { deadline = d; order = key.order })) (sym (ap (λ (r : Row). r.deadline) x_is)) refl))
+      elim (place_of ((state g h).rows w) row n x (ap (λ rows. slice_get rows n) (sym rows_are) ∙ at)) [
+        | old less there ↦
+            let was : s.status x.timer ≡ Some Armed = sym (armed.other x.timer (fresh n x there)) ∙ is in
+            let held = holds.armed n x there (later.armed x.timer (row_wheel g h w n x legal there) was) in
+            let other : x.timer.slot ≢ k =
+            λ same. (let none : ◌≡◌ {A = Option Key} None (Some (record { deadline = x.deadline; order = n })) = sym vacant ∙ (ap (key_in keys) (sym same) ∙ held) in cc) in
+            get_or-set_other keys k x.timer.slot (Some key) None other ∙ held
+        | new here same ↦
+            let x_is : x ≡ held_row w (set slots k slot) k key = sym same ∙ row_is in
+            ap (λ (r : Row). key_in (set keys k (Some key)) r.timer.slot) x_is
+            ∙ (get_or-set_same keys k (Some key) None wide
+            ∙ subst (λ m. Some key ≡ Some (record { deadline = x.deadline; order = m })) (order ∙ sym here)
+            (subst (λ (d : ℕ). Some key ≡ Some (record { deadline = d; order = key.order })) (sym (ap (λ (r : Row). r.deadline) x_is)) refl))
       ];
 }
   where
     rows_are : t.rows w ≡ (state g h).rows w ++ row ∷ []
     rows_are = armed.rows ∙ ap (λ l. l ++ row ∷ []) later.rows
+
     kept_timer : (j : ℕ) → j ≢ k → last_timer w (set slots k slot) j ≡ last_timer w slots j
     kept_timer j other = ap (λ (x : Slot). let r : TimerRef = record { wheel = w; slot = j; generation = x.generation } in r)
         (get_or-set_other slots k j slot unused other)
@@ -160,7 +159,7 @@ old_apart g h w k last timer legal last_is slot generation n row at same =
     let rows : List Row = (state g h).rows w in
     let is : IsRow w ((state g h).last w) row =
     subst (IsRow w ((state g h).last w)) (get_or_from_slice_get rows n row row at)
-        (All-get_or (IsRow w ((state g h).last w)) rows n row (slice_get_within rows n row at) (rows_hold g h w legal).each) in
+    (All-get_or (IsRow w ((state g h).last w)) rows n row (slice_get_within rows n row at) (rows_hold g h w legal).each) in
     let slot_is : (state g h).last w row.timer.slot ≡ last =
     ap ((state g h).last w) (ap (λ (t : TimerRef). t.slot) same ∙ slot) ∙ last_is in
     let generation_is : row.timer.generation ≡ last + 1 = ap (λ (t : TimerRef). t.generation) same ∙ generation in
@@ -183,12 +182,12 @@ arms g v by p q k deadline start timer u stands holds free due part timer_is ste
     let later = later_before g v (arm_entry by timer start) u w step holds.wheel in
     let look : s.looked (Caller by) ≡ (state g v.front).looked (Caller by) =
     ap (λ (x : State). x.looked (Caller by)) (state-append g v.front step.between)
-        ∙ look_stays g (Caller by) (state g v.front) step.between (step.others (Caller by) holds.caller) in
+    ∙ look_stays g (Caller by) (state g v.front) step.between (step.others (Caller by) holds.caller) in
     let row : Row = record { timer = timer; deadline = deadline; dest = start.dest; msg = start.msg; kind = start.kind } in
     let wheel : timer.wheel ≡ w = ap (λ (t : TimerRef). t.wheel) named in
     let armed : IsArmed w s (state g u.front) timer row =
     subst (λ t. IsArmed w s t timer row) (sym (stepped g v (arm_entry by timer start) u step))
-        (armed_next g s by w deadline timer start wheel (ap (deadline_of g start) look ∙ due)) in
+    (armed_next g s by w deadline timer start wheel (ap (deadline_of g start) look ∙ due)) in
     let generation : timer.generation ≡ (slot_at p.slots k).generation + 1 =
     ap (λ (t : TimerRef). t.generation) named ∙ ap (λ (x : Slot). x.generation) slot_same in
     let slot_is : timer.slot ≡ k = ap (λ (t : TimerRef). t.slot) named in
@@ -196,13 +195,13 @@ arms g v by p q k deadline start timer u stands holds free due part timer_is ste
     sym (stands.holds.lasts k (subst (λ n. k < n) stands.holds.many free.low)) in
     let row_is : row ≡ held_row w (set p.slots k slot) k key =
     ap (λ t. let x : Row = record { timer = t; deadline = deadline; dest = start.dest; msg = start.msg; kind = start.kind } in x) named
-        ∙ ap (λ (x : Slot). let y : Row = record {
-          timer = last_timer w (set p.slots k slot) k;
-          deadline = deadline;
-          dest = x.dest;
-          msg = x.msg;
-          kind = x.kind;
-        } in y) (sym slot_same) in
+    ∙ ap (λ (x : Slot). let y : Row = record {
+      timer = last_timer w (set p.slots k slot) k;
+      deadline = deadline;
+      dest = x.dest;
+      msg = x.msg;
+      kind = x.kind;
+    } in y) (sym slot_same) in
     let has : has_actor (arm_entry by timer start) (Wheel w) ≡ true = eq-eqb timer.wheel w wheel in
     record {
       step = step;
@@ -220,13 +219,13 @@ arms g v by p q k deadline start timer u stands holds free due part timer_is ste
               armed named row_is stands.holds.arms free.low wide free.vacant
               (old_apart g v.front w k (slot_at p.slots k).generation timer stands.legal last_is slot_is generation);
           lasts = λ j high.
-              elim (cases_eq j k)
-              [ inl here ↦ ap (λ m. (slot_at (set p.slots k slot) m).generation) here
+              elim (cases_eq j k) [
+                | inl here ↦ ap (λ m. (slot_at (set p.slots k slot) m).generation) here
                     ∙ (ap (λ (x : Slot). x.generation) slot_same
                     ∙ (sym generation
                     ∙ (sym (cond_is_true (nat_eq timer.slot j) timer.generation (s.last w j) (eq-eqb timer.slot j (slot_is ∙ sym here)))
                     ∙ sym (armed.last j))))
-              | inr other ↦ ap (λ (x : Slot). x.generation) (get_or-set_other p.slots k j slot unused other)
+                | inr other ↦ ap (λ (x : Slot). x.generation) (get_or-set_other p.slots k j slot unused other)
                     ∙ (stands.holds.lasts j high
                     ∙ (sym (later.last j)
                     ∙ (sym (cond_false (nat_eq timer.slot j) timer.generation (s.last w j) (ne_eqb timer.slot j (λ e. other (sym e ∙ slot_is))))
@@ -237,7 +236,7 @@ arms g v by p q k deadline start timer u stands holds free due part timer_is ste
               let other : j ≢ k = λ here. (let out : sets.contains p.free j ≡ false = ap (sets.contains p.free) here ∙ free.away in cc) in
               let same : last_timer w (set p.slots k slot) j ≡ last_timer w p.slots j =
               ap (λ (x : Slot). let t : TimerRef = record { wheel = w; slot = j; generation = x.generation } in t)
-                  (get_or-set_other p.slots k j slot unused other) in
+              (get_or-set_other p.slots k j slot unused other) in
               let apart : last_timer w p.slots j ≢ timer = λ e. other (ap (λ (t : TimerRef). t.slot) e ∙ slot_is) in
               ap (λ t. is_taken ((state g u.front).status t)) same
               ∙ (ap is_taken (armed.other (last_timer w p.slots j) apart)

@@ -1,14 +1,12 @@
 -- The rows that are due, while they are tried one after the other.
 
-use Rattle.std.proofs.Common.{◌≡◌, ◌≢◌, ℕ, zero, suc, ◌+◌, ◌<◌, ◌≤◌, ℤ, pos, ◌≤ℤ◌, Bool, true, false, cond, ◌&&◌, ◌||◌, nat_eq, nat_lt, nat_le, List, [], ◌∷◌, ◌++◌, length, take, drop, All, AllPairs, Contains, Option, Some, None, IfSome, refl, sym, ap, subst, ◌∙◌, arith, drop-cons, set, get_or, get_or-set_same, get_or-set_other, inl, inr, eqb-true, eq-eqb, ne_eqb, ◌⊎◌}
-use Rattle.std.proofs.lemmas.Bool.{cases_eq, cases_lt, le-leb, lt-leb, leb-true, ltb-true}
+use Rattle.std.proofs.Common.{◌≡◌, ◌≢◌, ℕ, zero, suc, ◌+◌, ◌<◌, ◌≤◌, ℤ, pos, ◌≤ℤ◌, Bool, true, false, cond, nat_eq, nat_lt, nat_le, List, [], ◌∷◌, ◌++◌, length, take, drop, All, Option, Some, None, IfSome, refl, sym, ap, subst, ◌∙◌, arith, drop-cons, set, get_or, get_or-set_same, get_or-set_other, inl, inr, eq-eqb, ne_eqb, ◌⊎◌}
+use Rattle.std.proofs.lemmas.Bool.{cases_eq, cases_lt, le-leb, leb-true, ltb-true}
 use Rattle.std.proofs.lemmas.Bool.Decides.{nat_tests}
 use Rattle.std.proofs.lemmas.Int.{ints}
-use Rattle.std.proofs.lemmas.List.{length-take}
 use Rattle.std.proofs.lemmas.List.Elements.{All-head, All-tail, All-cons, All-nil}
 use Rattle.std.specs.List.{slice_get}
 use Rattle.ert_defs.specs.Legal.{AllSettled, IsNext}
-use Rattle.ert_defs.specs.Milliseconds.{down}
 use Rattle.ert_defs.specs.States.{State, state}
 use Rattle.ert_defs.specs.Timers.{Row}
 use Rattle.ert_defs.proofs.Lists.{pairs_head, pairs_tail}
@@ -20,7 +18,7 @@ use Rattle.ert_defs.specs.declared.timer.Status.TheVariants.{Armed}
 use Rattle.ert_defs.specs.declared.timer.TimerRef.{TimerRef}
 use Rattle.ert_timers.specs.Changes.{let_go}
 use Rattle.ert_timers.specs.Expiring.{AreDue, IsReady, timer_of}
-use Rattle.ert_timers.specs.Parts.{Part, Stands, last_timer, held_row}
+use Rattle.ert_timers.specs.Parts.{Part, last_timer}
 use Rattle.ert_wheel.specs.Rows.{key_in, key_of, times, due_at, comes_before, row_at}
 use Rattle.ert_wheel.specs.declared.row.Key.{Key}
 use Rattle.ert_wheel.specs.declared.row.Row.{Row as WheelRow}
@@ -71,11 +69,11 @@ settled_by status test (r ∷ rows) each = (each 0 r refl, settled_by status tes
 slot_in : (k : ℕ) (rows : List WheelRow) → 1 ≤ times k rows → (P : WheelRow → Type 0) → All P rows → (row : WheelRow) × (row.slot ≡ k) × P row
 slot_in k [] once P all = absurd (omega (arith, once))
 slot_in k (r ∷ rows) once P all =
-    elim (cases_eq r.slot k)
-    [ inl same ↦ (r, same, All-head P r rows all)
-    | inr other ↦
-        let none : ◌≡◌ {A = ℕ} (cond (nat_eq r.slot k) 1 0) 0 = ap (λ b. cond b 1 0) (ne_eqb r.slot k other) in
-        slot_in k rows (omega (arith, once, times-cons r rows k)) P (All-tail P r rows all)
+    elim (cases_eq r.slot k) [
+      | inl same ↦ (r, same, All-head P r rows all)
+      | inr other ↦
+          let none : ◌≡◌ {A = ℕ} (cond (nat_eq r.slot k) 1 0) 0 = ap (λ b. cond b 1 0) (ne_eqb r.slot k other) in
+          slot_in k rows (omega (arith, once, times-cons r rows k)) P (All-tail P r rows all)
     ]
 
 due_some : (to : ℕ) (o : Option Key) (key : Key) → o ≡ Some key → key.deadline ≤ to → due_at to o ≡ 1
@@ -94,11 +92,11 @@ some_due to o key is due = at (nat_le key.deadline to) refl
 due_none : (to : ℕ) (o : Option Key) → due_at to o ≡ 0 → IfSome o (λ key. to < key.deadline)
 due_none to None is = tt
 due_none to (Some key) is =
-    elim (cases_lt to key.deadline)
-    [ inl low ↦ low
-    | inr high ↦
-        let one : ◌≡◌ {A = ℕ} (due_at to (Some key)) 1 = due_some to (Some key) key refl high in
-        absurd (omega (arith, one, is))
+    elim (cases_lt to key.deadline) [
+      | inl low ↦ low
+      | inr high ↦
+          let one : ◌≡◌ {A = ℕ} (due_at to (Some key)) 1 = due_some to (Some key) key refl high in
+          absurd (omega (arith, one, is))
     ]
 
 due_most : (to : ℕ) (o : Option Key) → due_at to o ≤ 1
@@ -136,14 +134,14 @@ module _ (g : Settings) (h : List Entry) (p : Part) (to : ℕ) (r : WheelRow) (r
       let due : due_at to (key_in p.keys row.timer.slot) ≡ 1 = due_some to (key_in p.keys row.timer.slot) key held (omega (arith, low, first_due)) in
       let apart : r.slot ≢ row.timer.slot =
       λ same. (let e : Some (key_of r) ≡ Some key = sym first_held ∙ (ap (key_in p.keys) same ∙ held) in
-        other (sym (ap (λ (k : Key). k.order) (some_same (key_of r) key e)))) in
+      other (sym (ap (λ (k : Key). k.order) (some_same (key_of r) key e)))) in
       let none : ◌≡◌ {A = ℕ} (cond (nat_eq r.slot row.timer.slot) 1 0) 0 = ap (λ b. cond b 1 0) (ne_eqb r.slot row.timer.slot apart) in
       let found =
       slot_in row.timer.slot rest (omega (arith, ready.due.each row.timer.slot, times-cons r rest row.timer.slot, none, due))
-          (λ y. (key_in p.keys y.slot ≡ Some (key_of y)) × (comes_before y r ≡ false))
-          (both (λ y. key_in p.keys y.slot ≡ Some (key_of y)) (λ y. comes_before y r ≡ false) rest
-          (All-tail (λ row. key_in p.keys row.slot ≡ Some (key_of row)) r rest ready.due.held)
-          (pairs_head (λ x y. comes_before y x ≡ false) r rest ready.due.in_order)) in
+      (λ y. (key_in p.keys y.slot ≡ Some (key_of y)) × (comes_before y r ≡ false))
+      (both (λ y. key_in p.keys y.slot ≡ Some (key_of y)) (λ y. comes_before y r ≡ false) rest
+      (All-tail (λ row. key_in p.keys row.slot ≡ Some (key_of row)) r rest ready.due.held)
+      (pairs_head (λ x y. comes_before y x ≡ false) r rest ready.due.in_order)) in
       let keys : Some (key_of found.0) ≡ Some key = sym found.2.0 ∙ (ap (key_in p.keys) found.1 ∙ held) in
       let same : comes_before found.0 r ≡ comes_before (row_at row.timer.slot key) r = ap (λ (k : Key). comes_before (row_at row.timer.slot k) r) (some_same (key_of found.0) key keys) in
       let bad : true ≡ false = sym (same ∙ before) ∙ found.2.1 in
@@ -191,14 +189,14 @@ module _ (g : Settings) (h : List Entry) (p : Part) (to : ℕ) (r : WheelRow) (r
   pub due_left : (hit : Bool) → AreDue (let_go p r.slot hit) to rest
   due_left hit = record {
     each = λ k.
-        elim (cases_eq k r.slot)
-        [ inl same ↦ ap (λ n. times n rest) same ∙ (first_once
+        elim (cases_eq k r.slot) [
+          | inl same ↦ ap (λ n. times n rest) same ∙ (first_once
               ∙ sym (ap (due_at to) (ap (key_in (set p.keys r.slot None)) same ∙ get_or-set_same p.keys r.slot None None low)))
-        | inr other ↦
-            let apart : r.slot ≢ k = λ e. other (sym e) in
-            let none : ◌≡◌ {A = ℕ} (cond (nat_eq r.slot k) 1 0) 0 = ap (λ b. cond b 1 0) (ne_eqb r.slot k apart) in
-            let before : times k rest ≡ due_at to (key_in p.keys k) = omega (arith, ready.due.each k, times-cons r rest k, none) in
-            before ∙ ap (due_at to) (sym (get_or-set_other p.keys r.slot k None None other))
+          | inr other ↦
+              let apart : r.slot ≢ k = λ e. other (sym e) in
+              let none : ◌≡◌ {A = ℕ} (cond (nat_eq r.slot k) 1 0) 0 = ap (λ b. cond b 1 0) (ne_eqb r.slot k apart) in
+              let before : times k rest ≡ due_at to (key_in p.keys k) = omega (arith, ready.due.each k, times-cons r rest k, none) in
+              before ∙ ap (due_at to) (sym (get_or-set_other p.keys r.slot k None None other))
         ];
     held = stay rest first_once (All-tail (λ row. key_in p.keys row.slot ≡ Some (key_of row)) r rest ready.due.held);
     in_order = pairs_tail (λ x y. comes_before y x ≡ false) r rest ready.due.in_order;
@@ -206,13 +204,14 @@ module _ (g : Settings) (h : List Entry) (p : Part) (to : ℕ) (r : WheelRow) (r
     where
       low : r.slot < length p.keys
       low = key_low p.keys r.slot (key_of r) first_held
+
       stay : (rows : List WheelRow) → times r.slot rows ≡ 0 → All (λ row. key_in p.keys row.slot ≡ Some (key_of row)) rows
           → All (λ row. key_in (set p.keys r.slot None) row.slot ≡ Some (key_of row)) rows
       stay [] none held = All-nil (λ row. key_in (set p.keys r.slot None) row.slot ≡ Some (key_of row))
       stay (y ∷ rows) none held =
           let other : y.slot ≢ r.slot =
           λ same. (let one : ◌≡◌ {A = ℕ} (cond (nat_eq y.slot r.slot) 1 0) 1 = ap (λ b. cond b 1 0) (eq-eqb y.slot r.slot same) in
-            absurd (omega (arith, none, times-cons y rows r.slot, one))) in
+          absurd (omega (arith, none, times-cons y rows r.slot, one))) in
           All-cons (λ row. key_in (set p.keys r.slot None) row.slot ≡ Some (key_of row)) y rows
           (get_or-set_other p.keys r.slot y.slot None None other
           ∙ All-head (λ row. key_in p.keys row.slot ≡ Some (key_of row)) y rows held)

@@ -1,26 +1,23 @@
 -- What the fields of a part keep, as each of its small calls changes them.
 
-use Rattle.std.proofs.Common.{◌≡◌, ◌≢◌, ℕ, ◌+◌, ◌*◌, ◌^◌, ◌<◌, ◌≤◌, Bool, true, false, cond, not, ◌&&◌, ◌||◌, nat_eq, nat_lt, List, [], ◌∷◌, length, replicate, count_by, Option, Some, None, IsSome, option_map, refl, sym, ap, subst, ◌∙◌, arith, inl, inr, get_or, set, get_or-set_same, get_or-set_other, eqb-true, eq-eqb}
+use Rattle.std.proofs.Common.{◌≡◌, ℕ, ◌+◌, ◌<◌, ◌≤◌, Bool, true, false, not, ◌&&◌, ◌||◌, nat_eq, List, length, count_by, Option, Some, None, IsSome, refl, sym, ap, subst, ◌∙◌, arith, inl, inr, set, get_or-set_same, get_or-set_other, eqb-true, eq-eqb}
 use Rattle.std.proofs.lemmas.Bool.{and_parts, cases_eq}
-use Rattle.std.proofs.lemmas.List.{length-set, set-get_or, get_or-replicate, length-replicate}
-use Rattle.std.proofs.lemmas.List.Elements.{All-set, All-from_get_or}
-use Rattle.std.proofs.lemmas.List.Folds.{sum_by-replicate}
-use Rattle.std.proofs.lemmas.List.Sums.{sum_by-set, sum_by-le}
+use Rattle.std.proofs.lemmas.List.{length-set, set-get_or}
+use Rattle.std.proofs.lemmas.List.Sums.{sum_by-le}
 use Rattle.std.specs.Cmp.{nat_cmp_total, unsigned_tied}
 use Rattle.std.specs.FinSet as sets
-use Rattle.std.specs.List.{sum_by}
 use Rattle.std.specs.Option.{is_some}
 use Rattle.std.specs.Ordering.{nat_cmp}
 use Rattle.ert_timers.specs.Changes.{LostRow, dropped}
-use Rattle.ert_timers.specs.Parts.{AreFit, Part, slot_at, owner_of, owners_of, unused}
+use Rattle.ert_timers.specs.Parts.{AreFit, Part, slot_at, owner_of, owners_of}
 use Rattle.ert_timers.specs.declared.part.Slot.{Slot}
 use Rattle.ert_timers.proofs.Rows.{key_left}
-use Rattle.ert_wheel.specs.Rings.{Rings, Place, AreChains, Puts, Takes, with_place}
+use Rattle.ert_wheel.specs.Rings.{Rings, Place, AreChains, Takes, with_place}
 use Rattle.ert_wheel.specs.Rows.{key_in}
 use Rattle.ert_wheel.specs.declared.row.Key.{Key}
 use Rattle.ert_wheel.proofs.Collect.{key_low}
 use Rattle.ert_wheel.proofs.Parts.{with_place_here, with_place_there}
-use Rattle.ert_wheel.proofs.Views.{counts_more, counts_less}
+use Rattle.ert_wheel.proofs.Views.{counts_less}
 use Rattle.ert_words.specs.Free.{Free}
 
 -- how often the slots were used
@@ -47,12 +44,12 @@ place_some slots k (Some key) p is = (key, refl, cc)
 pub owners_set : (slots : List Slot) (keys : List (Option Key)) (k : ℕ) (key : Option Key) → k < length keys
     → (j : ℕ) → with_place (owners_of slots keys) k (owner_of slots k key) j ≡ owners_of slots (set keys k key) j
 owners_set slots keys k key low j =
-    elim (cases_eq j k)
-    [ inl same ↦ ap (with_place (owners_of slots keys) k (owner_of slots k key)) same
+    elim (cases_eq j k) [
+      | inl same ↦ ap (with_place (owners_of slots keys) k (owner_of slots k key)) same
           ∙ (with_place_here (owners_of slots keys) k (owner_of slots k key)
           ∙ (ap (owner_of slots k) (sym (get_or-set_same keys k key None low))
           ∙ ap (owners_of slots (set keys k key)) (sym same)))
-    | inr other ↦ with_place_there (owners_of slots keys) k (owner_of slots k key) j other
+      | inr other ↦ with_place_there (owners_of slots keys) k (owner_of slots k key) j other
           ∙ ap (owner_of slots j) (sym (get_or-set_other keys k j key None other))
     ]
 
@@ -85,9 +82,9 @@ fit_dropped processes slots keys free owners new a x o k key fit held same homes
   where
     at : (j : ℕ) → key_in keys j ≡ None → k < length keys → key_in (set keys k None) j ≡ None
     at j vacant low =
-        elim (cases_eq j k)
-        [ inl same ↦ ap (key_in (set keys k None)) same ∙ get_or-set_same keys k None None low
-        | inr other ↦ get_or-set_other keys k j None None other ∙ vacant
+        elim (cases_eq j k) [
+          | inl same ↦ ap (key_in (set keys k None)) same ∙ get_or-set_same keys k None None low
+          | inr other ↦ get_or-set_other keys k j None None other ∙ vacant
         ]
 
 -- a slot with a row isn't held free, and less is counted once the row has gone

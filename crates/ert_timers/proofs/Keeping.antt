@@ -1,28 +1,22 @@
 -- A timer is put in; the newest row of a process; a part of a new desk.
 
-use Rattle.std.proofs.Common.{◌≡◌, ◌≢◌, ℕ, ◌+◌, ◌*◌, ◌^◌, ◌<◌, ◌≤◌, Bool, true, false, cond, List, [], ◌∷◌, length, replicate, count_by, Option, Some, None, IsNone, IfNone, IfSome, option_map, refl, sym, ap, subst, ◌∙◌, arith, inl, inr, get_or, set, get_or-set_same, get_or-set_other}
-use Rattle.std.proofs.lemmas.Bool.{cases_eq, cases_lt}
-use Rattle.std.proofs.lemmas.List.{length-set, get_or-replicate, length-replicate}
-use Rattle.std.proofs.lemmas.List.Elements.{All-set, All-from_get_or}
-use Rattle.std.proofs.lemmas.List.Folds.{sum_by-replicate}
+use Rattle.std.proofs.Common.{◌≡◌, ◌≢◌, ℕ, ◌+◌, ◌^◌, ◌<◌, ◌≤◌, Bool, true, false, List, length, Option, Some, None, IsNone, IfNone, IfSome, option_map, refl, sym, ap, subst, ◌∙◌, arith, inl, inr, get_or, set, get_or-set_same, get_or-set_other}
+use Rattle.std.proofs.lemmas.Bool.{cases_eq}
+use Rattle.std.proofs.lemmas.List.{length-set}
+use Rattle.std.proofs.lemmas.List.Elements.{All-set}
 use Rattle.std.proofs.lemmas.List.Sums.{sum_by-set}
 use Rattle.std.proofs.lemmas.Option.{get_or_from_slice_get, slice_get_read}
 use Rattle.std.specs.Bool.{OnTrue}
 use Rattle.std.specs.FinSet as sets
-use Rattle.std.specs.List.{sum_by}
-use Rattle.std.specs.Option.{is_some}
 use Rattle.std.specs.Ordering.{nat_cmp}
-use Rattle.ert_defs.specs.Settings.{IsChecked}
-use Rattle.ert_defs.specs.States.{State, opening}
-use Rattle.ert_defs.specs.declared.settings.Settings.{Settings}
 use Rattle.ert_defs.specs.declared.timer.Start.{Start}
 use Rattle.ert_timers.specs.Changes.{IsFree, LostRow, NextOf, picked, slot_for, kept}
-use Rattle.ert_timers.specs.Parts.{AreFit, Part, Holds, HoldsRows, Stands, slot_at, owner_of, owners_of, unused}
+use Rattle.ert_timers.specs.Parts.{AreFit, Part, slot_at, owner_of, owners_of, unused}
 use Rattle.ert_timers.specs.declared.part.Slot.{Slot}
 use mir.Val.{bool_byte}
-use Rattle.ert_timers.proofs.Fit.{fit_picked, uses_of, armed_few, owners_set, place_some, taken_out}
-use Rattle.ert_wheel.specs.Rings.{Rings, Place, AreChains, Finds, Puts, bound_of, with_place}
-use Rattle.ert_wheel.specs.Rows.{key_in, key_of, row_at}
+use Rattle.ert_timers.proofs.Fit.{fit_picked, uses_of, armed_few, place_some, taken_out}
+use Rattle.ert_wheel.specs.Rings.{Rings, Place, AreChains, Finds, Puts, with_place}
+use Rattle.ert_wheel.specs.Rows.{key_in, row_at}
 use Rattle.ert_wheel.specs.declared.row.Key.{Key}
 use Rattle.ert_wheel.specs.declared.row.Row.{Row}
 use Rattle.ert_wheel.proofs.Collect.{key_low}
@@ -63,18 +57,18 @@ owners_kept : (slots : List Slot) (keys : List (Option Key)) (k : ℕ) (slot : S
     → (j : ℕ) → with_place (owners_of slots keys) k (Some (record { home = slot.dest; order = key.order })) j
     ≡ owners_of (set slots k slot) (set keys k (Some key)) j
 owners_kept slots keys k slot key low wide j =
-    elim (cases_eq j k)
-    [ inl same ↦
-        ap (with_place (owners_of slots keys) k (Some (record { home = slot.dest; order = key.order }))) same
-        ∙ (with_place_here (owners_of slots keys) k (Some (record { home = slot.dest; order = key.order }))
-        ∙ (ap (λ (s : Slot). let p : Place = record { home = s.dest; order = key.order } in Some p) (sym (get_or-set_same slots k slot unused low))
-        ∙ (ap (owner_of (set slots k slot) k) (sym (get_or-set_same keys k (Some key) None wide))
-        ∙ ap (owners_of (set slots k slot) (set keys k (Some key))) (sym same))))
-    | inr other ↦
-        with_place_there (owners_of slots keys) k (Some (record { home = slot.dest; order = key.order })) j other
-        ∙ (ap (owner_of slots j) (sym (get_or-set_other keys k j (Some key) None other))
-        ∙ ap (λ (s : Slot). option_map (λ (key : Key). let p : Place = record { home = s.dest; order = key.order } in p) (key_in (set keys k (Some key)) j))
-            (sym (slot_other slots k j slot other)))
+    elim (cases_eq j k) [
+      | inl same ↦
+          ap (with_place (owners_of slots keys) k (Some (record { home = slot.dest; order = key.order }))) same
+          ∙ (with_place_here (owners_of slots keys) k (Some (record { home = slot.dest; order = key.order }))
+          ∙ (ap (λ (s : Slot). let p : Place = record { home = s.dest; order = key.order } in Some p) (sym (get_or-set_same slots k slot unused low))
+          ∙ (ap (owner_of (set slots k slot) k) (sym (get_or-set_same keys k (Some key) None wide))
+          ∙ ap (owners_of (set slots k slot) (set keys k (Some key))) (sym same))))
+      | inr other ↦
+          with_place_there (owners_of slots keys) k (Some (record { home = slot.dest; order = key.order })) j other
+          ∙ (ap (owner_of slots j) (sym (get_or-set_other keys k j (Some key) None other))
+          ∙ ap (λ (s : Slot). option_map (λ (key : Key). let p : Place = record { home = s.dest; order = key.order } in p) (key_in (set keys k (Some key)) j))
+          (sym (slot_other slots k j slot other)))
     ]
 
 place_below : (slots : List Slot) (keys : List (Option Key)) (a : ℕ) → ((k : ℕ) (key : Key) → key_in keys k ≡ Some key → key.order < a)
@@ -107,16 +101,16 @@ fit_kept p free owners new k start deadline fit same can dest slots homes puts =
       sum = omega (arith, fit.sum, sum_by-set uses_of p.slots k slot unused can.low);
       tally = omega (arith, fit.tally, counts_more p.keys k key wide can.vacant);
       orders = λ j seen is.
-          elim (cases_eq j k)
-          [ inl here ↦ subst (λ (x : Key). x.order < p.arms + 1) (key_new p.keys k j key seen wide is here) (omega arith)
-          | inr other ↦ omega (arith, fit.orders j seen (key_kept p.keys k j key seen wide is other))
+          elim (cases_eq j k) [
+            | inl here ↦ subst (λ (x : Key). x.order < p.arms + 1) (key_new p.keys k j key seen wide is here) (omega arith)
+            | inr other ↦ omega (arith, fit.orders j seen (key_kept p.keys k j key seen wide is other))
           ];
       dests = λ j seen is.
-          elim (cases_eq j k)
-          [ inl here ↦ subst (λ (s : Slot). s.dest < p.processes)
-              (sym (ap (slot_at (set p.slots k slot)) here ∙ get_or-set_same p.slots k slot unused can.low)) dest
-          | inr other ↦ subst (λ (s : Slot). s.dest < p.processes) (sym (slot_other p.slots k j slot other))
-              (fit.dests j seen (key_kept p.keys k j key seen wide is other))
+          elim (cases_eq j k) [
+            | inl here ↦ subst (λ (s : Slot). s.dest < p.processes)
+                (sym (ap (slot_at (set p.slots k slot)) here ∙ get_or-set_same p.slots k slot unused can.low)) dest
+            | inr other ↦ subst (λ (s : Slot). s.dest < p.processes) (sym (slot_other p.slots k j slot other))
+                (fit.dests j seen (key_kept p.keys k j key seen wide is other))
           ];
       chained =
           subst (λ (places : ℕ → Option Place). AreChains new places) (λ i j. owners_kept p.slots p.keys k slot key can.low wide j i)

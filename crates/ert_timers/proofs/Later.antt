@@ -1,12 +1,11 @@
 -- What stays of the timers of a wheel while none of them is armed.
 
-use Rattle.std.proofs.Common.{◌≡◌, ◌≢◌, ℕ, ◌+◌, zero, Bool, true, false, cond, ◌&&◌, ◌||◌, nat_eq, List, [], ◌∷◌, ◌++◌, count_by, Option, Some, None, refl, sym, ap, subst, ◌∙◌, arith, eq-eqb}
+use Rattle.std.proofs.Common.{◌≡◌, ◌≢◌, ℕ, ◌+◌, Bool, true, false, cond, ◌&&◌, ◌||◌, List, [], ◌∷◌, ◌++◌, Option, Some, None, refl, sym, ap, subst, ◌∙◌, arith, eq-eqb}
 use Rattle.std.proofs.lemmas.List.Sums.{sum_by-append}
 use Rattle.ert_defs.specs.Actors.{same_actor, is_with, has_actor, IsFree}
-use Rattle.ert_defs.specs.Legal.{Can, Keeps, LegalFrom, Legal}
+use Rattle.ert_defs.specs.Legal.{Keeps, LegalFrom, Legal}
 use Rattle.ert_defs.specs.States.{State, opening, next, run, state}
 use Rattle.ert_defs.specs.Timers.{Row, rows_after, last_after, status_after, settled_as, handed_as, same_timer, is_taken}
-use Rattle.ert_defs.proofs.FiredTimers.{same_timer_self}
 use Rattle.ert_defs.proofs.Runs.{free_first, free_rest, legal_first, legal_then, rows_stay, last_stays, state-append}
 use Rattle.ert_defs.proofs.Slots.{same_timer-true}
 use Rattle.ert_defs.proofs.Statuses.{Forward, arms, forward_after, forward_not_armed, forward_free, forward_stays, free_stays}
@@ -68,7 +67,7 @@ later_entry : (g : Settings) (w : ℕ) (s : State) (e : Entry) → is_arm e.even
 later_entry g w s e unmet =
     let moved : (r : TimerRef) → Forward (s.status r) ((next g s e).status r) =
     λ r. forward_after r (has_actor e (Wheel r.wheel)) (s.status r) e.event
-        (and_none (has_actor e (Wheel r.wheel)) (arms e.event r) (arms_none e.event r unmet)) in
+    (and_none (has_actor e (Wheel r.wheel)) (arms e.event r) (arms_none e.event r unmet)) in
     record {
       rows = cond_is (has_actor e (Wheel w)) (s.rows w) (rows_after g (s.looked e.by) w (s.rows w) e.event)
           (rows_unarmed g (s.looked e.by) w (s.rows w) e.event unmet);

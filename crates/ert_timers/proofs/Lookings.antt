@@ -1,23 +1,19 @@
 -- A slot is looked at, and all slots are.
 
-use Rattle.std.proofs.Common.{◌≡◌, ◌≢◌, ◌⊎◌, ℕ, zero, suc, ◌+◌, ◌<◌, ◌≤◌, Bool, true, false, cond, ◌||◌, nat_eq, nat_lt, List, [], ◌∷◌, ◌++◌, length, Option, Some, None, IfNone, IfSome, option_map, inl, inr, refl, sym, ap, subst, ◌∙◌, arith, set, append-nil, append_assoc, length-append, eq-eqb, ne_eqb}
-use Rattle.std.proofs.lemmas.Bool.{cases_eq, cases_lt, ltb-true, lt-ltb}
+use Rattle.std.proofs.Common.{◌≡◌, ◌≢◌, ◌⊎◌, ℕ, suc, ◌+◌, ◌<◌, ◌≤◌, Bool, true, false, cond, ◌||◌, nat_lt, List, [], ◌∷◌, ◌++◌, length, Option, Some, None, IfNone, IfSome, option_map, inl, inr, refl, sym, ap, subst, ◌∙◌, arith, append-nil, length-append, eq-eqb, ne_eqb}
+use Rattle.std.proofs.lemmas.Bool.{cases_lt, lt-ltb}
 use Rattle.std.specs.Cmp.{nat_cmp_total, unsigned_tied}
 use Rattle.std.specs.FinSet as sets
 use Rattle.std.specs.Ordering.{nat_cmp}
 use Rattle.ert_defs.specs.Entries.{probe_entry}
-use Rattle.ert_defs.specs.Legal.{Legal}
-use Rattle.ert_defs.specs.States.{State, next, state}
+use Rattle.ert_defs.specs.States.{State, state}
 use Rattle.ert_defs.specs.Timers.{is_taken, timer_at}
-use Rattle.ert_defs.specs.declared.entry.Actor.{Actor}
-use Rattle.ert_defs.specs.declared.entry.Actor.TheVariants.{Wheel, Caller}
+use Rattle.ert_defs.specs.declared.entry.Actor.TheVariants.{Caller}
 use Rattle.ert_defs.specs.declared.entry.Entry.{Entry}
 use Rattle.ert_defs.specs.declared.settings.Settings.{Settings}
 use Rattle.ert_defs.specs.declared.timer.Status.{Status}
-use Rattle.ert_defs.specs.declared.timer.Status.TheVariants.{Armed, Expired}
-use Rattle.ert_defs.specs.declared.timer.TimerRef.{TimerRef}
+use Rattle.ert_defs.specs.declared.timer.Status.TheVariants.{Armed}
 use Rattle.ert_calls.proofs.Looks.{can_step, look_stepped}
-use Rattle.ert_table.specs.Held.{is_held}
 use Rattle.ert_table.specs.Settlings.{Shown}
 use Rattle.ert_table.specs.Takes.{Appends, TakesPlace}
 use Rattle.ert_table.specs.declared.view.View.{View}
@@ -25,13 +21,12 @@ use Rattle.ert_table.proofs.Calls.{step_takes_place, takes_place_then}
 use Rattle.ert_table.proofs.Parts.{stepped}
 use Rattle.ert_table.proofs.SlotFacts.{slots_kept}
 use Rattle.ert_timers.specs.Changes.{IsFree, dropped, freed, picked}
-use Rattle.ert_timers.specs.Parts.{HoldsCaller, Part, Stands, slot_at, last_timer, is_arm, is_expire, is_orphan}
-use Rattle.ert_timers.specs.Starting.{LooksAt, LooksAtSome, TakesSlot, FindsSlot, AreFull, probes_from, status_shown}
+use Rattle.ert_timers.specs.Parts.{HoldsCaller, Part, Stands, slot_at, last_timer, is_expire, is_orphan}
+use Rattle.ert_timers.specs.Starting.{LooksAt, LooksAtSome, TakesSlot, AreFull, probes_from, status_shown}
 use Rattle.ert_timers.proofs.Fit.{taken_was}
 use Rattle.ert_timers.proofs.Later.{later_before}
 use Rattle.ert_timers.proofs.Standing.{count_same, holds_freed, stands_step}
 use Rattle.ert_timers.proofs.Tried.{stands_gone}
-use Rattle.ert_wheel.specs.Rows.{key_in}
 
 -- what a load of a slot found
 pub status_is : (shown : Option Shown) → option_map (λ (x : Shown). x.0) shown ≡ status_shown shown
@@ -106,9 +101,9 @@ looks_free g v by p q r k found u stands holds low step none gone back =
     let counts = stands.counted in
     let left : Stands g u.front (dropped p k) =
     stands_gone g v e u p k p.expires p.orphans stands (subst (λ n. k < n) (sym stands.holds.wide) low) step holds.wheel refl (λ j other. refl)
-        (not_armed ((state g u.front).status (last_timer p.number p.slots k)) free)
-        (counts.expires ∙ sym (count_same g v e u p.number is_expire step holds.wheel refl))
-        (counts.orphans ∙ sym (count_same g v e u p.number is_orphan step holds.wheel refl)) in
+    (not_armed ((state g u.front).status (last_timer p.number p.slots k)) free)
+    (counts.expires ∙ sym (count_same g v e u p.number is_expire step holds.wheel refl))
+    (counts.orphans ∙ sym (count_same g v e u p.number is_orphan step holds.wheel refl)) in
     record {
       found = found;
       step = step;
@@ -159,8 +154,7 @@ full-push q r k [] found slots same full last =
     let e : k + 0 ≡ k = omega arith in
     (subst (λ n. sets.contains r.free n ≡ false → (is_taken found ≡ true) ⊎ ((slot_at r.slots n).generation ≡ 262143)) e last, tt)
 full-push q r k (x ∷ founds) found slots same full last =
-    let e : k + suc (length founds) ≡ (k + 1) + length founds = omega arith in
-    (
+    let e : k + suc (length founds) ≡ (k + 1) + length founds = omega arith in (
       λ away. subst (λ s. (is_taken x ≡ true) ⊎ ((slot_at s k).generation ≡ 262143)) (sym slots) (full.0 (sym (same k (omega arith)) ∙ away)),
       full-push q r (k + 1) founds found slots (λ j low. same j (omega (arith, low, e))) full.1
           (subst (λ n. sets.contains r.free n ≡ false → (is_taken found ≡ true) ⊎ ((slot_at r.slots n).generation ≡ 262143)) e last),
@@ -236,8 +230,11 @@ takes_then g v by p p' q r n None u same many some none left held is free =
       stands = subst (λ (x : Part). Stands g u.front x) (sym left) here.stands;
       number = ap (λ (x : Part). x.number) left ∙ here.number;
       slots = ap (λ (x : Part). x.slots) left ∙ here.slots;
-      finds = (here.count ∙ many, subst (λ (x : Part). AreFull x 0 here.founds) (sym left) here.full,
-          λ j. ap (λ (x : Part). sets.contains x.free j) left ∙ none j);
+      finds = (
+        here.count ∙ many,
+        subst (λ (x : Part). AreFull x 0 here.founds) (sym left) here.full,
+        λ j. ap (λ (x : Part). sets.contains x.free j) left ∙ none j,
+      );
       usable = tt;
       look = here.look;
     }

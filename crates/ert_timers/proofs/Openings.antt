@@ -1,6 +1,6 @@
 -- The part of a new desk.
 
-use Rattle.std.proofs.Common.{◌≡◌, ◌≢◌, ℕ, ◌+◌, ◌*◌, ◌<◌, ◌≤◌, Bool, true, false, cond, nat_lt, List, [], ◌∷◌, length, replicate, count_by, Option, Some, None, refl, sym, ap, subst, ◌∙◌, arith, inl, inr, get_or}
+use Rattle.std.proofs.Common.{◌≡◌, ℕ, ◌<◌, ◌≤◌, cond, nat_lt, List, [], length, replicate, count_by, Option, Some, None, refl, sym, ap, subst, ◌∙◌, arith, inl, inr}
 use Rattle.std.proofs.lemmas.Bool.{cases_lt, ltb-true}
 use Rattle.std.proofs.lemmas.List.{get_or-replicate, length-replicate}
 use Rattle.std.proofs.Math.ListN.{get_or-eq_default}
@@ -9,9 +9,8 @@ use Rattle.std.proofs.lemmas.List.Folds.{sum_by-replicate}
 use Rattle.std.specs.FinSet as sets
 use Rattle.std.specs.List.{sum_by}
 use Rattle.std.specs.Option.{is_some}
-use Rattle.ert_defs.specs.Settings.{IsChecked}
 use Rattle.ert_defs.specs.declared.settings.Settings.{Settings}
-use Rattle.ert_timers.specs.Parts.{AreFit, Part, Holds, HoldsRows, IsCounted, Stands, slot_at, owner_of, owners_of, unused}
+use Rattle.ert_timers.specs.Parts.{AreFit, Part, Stands, slot_at, owner_of, unused}
 use Rattle.ert_timers.specs.declared.part.Slot.{Slot}
 use Rattle.ert_timers.proofs.Fit.{uses_of}
 use Rattle.ert_wheel.specs.Rings.{Rings, Place, AreChains}
@@ -22,17 +21,17 @@ use Rattle.ert_words.specs.Free.{Free}
 -- there is no key
 pub key_nowhere : (n k : ℕ) → key_in (replicate n None) k ≡ None
 key_nowhere n k =
-    elim (cases_lt k n)
-    [ inl low ↦ get_or-replicate n k None None low
-    | inr high ↦ get_or-eq_default (replicate n None) None (omega (arith, length-replicate n (let o : Option Key = None in o)))
+    elim (cases_lt k n) [
+      | inl low ↦ get_or-replicate n k None None low
+      | inr high ↦ get_or-eq_default (replicate n None) None (omega (arith, length-replicate n (let o : Option Key = None in o)))
     ]
 
 -- no slot was used
 slot_nowhere : (n k : ℕ) → slot_at (replicate n unused) k ≡ unused
 slot_nowhere n k =
-    elim (cases_lt k n)
-    [ inl low ↦ get_or-replicate n k unused unused low
-    | inr high ↦ get_or-eq_default (replicate n unused) unused (omega (arith, length-replicate n unused))
+    elim (cases_lt k n) [
+      | inl low ↦ get_or-replicate n k unused unused low
+      | inr high ↦ get_or-eq_default (replicate n unused) unused (omega (arith, length-replicate n unused))
     ]
 
 no_keys : (n : ℕ) → count_by is_some (let keys : List (Option Key) = replicate n None in keys) ≡ 0

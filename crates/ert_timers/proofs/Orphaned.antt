@@ -1,8 +1,8 @@
 -- A timer is cancelled for the exit of its destination.
 
-use Rattle.std.proofs.Common.{◌≡◌, ◌≢◌, ℕ, ◌+◌, ◌<◌, Bool, true, false, cond, ◌||◌, ◌&&◌, nat_eq, List, [], ◌∷◌, ◌++◌, length, Option, Some, None, inl, inr, refl, sym, ap, subst, ◌∙◌, arith, set}
+use Rattle.std.proofs.Common.{◌≡◌, ◌≢◌, ℕ, ◌+◌, ◌<◌, Bool, true, false, cond, ◌||◌, [], ◌∷◌, ◌++◌, Option, Some, None, inl, inr, refl, sym, ap, subst, ◌∙◌, arith, set}
 use Rattle.ert_defs.specs.Entries.{probe_entry, orphan_entry, mark_entry}
-use Rattle.ert_defs.specs.States.{State, exited_after, state}
+use Rattle.ert_defs.specs.States.{State, state}
 use Rattle.ert_defs.specs.declared.entry.Actor.TheVariants.{Wheel, Caller}
 use Rattle.ert_defs.specs.declared.entry.Entry.{Entry}
 use Rattle.ert_defs.specs.declared.settings.Settings.{Settings}
@@ -14,13 +14,13 @@ use Rattle.ert_answers.specs.WheelCalls.{orphans_by}
 use Rattle.ert_calls.proofs.Looks.{can_step}
 use Rattle.ert_table.specs.Held.{is_held}
 use Rattle.ert_table.specs.Settlings.{Settles, hit_entry}
-use Rattle.ert_table.specs.Takes.{Appends, MayStep, TakesPlace}
+use Rattle.ert_table.specs.Takes.{Appends, MayStep}
 use Rattle.ert_table.specs.declared.carry.Settle.TheVariants.{Orphan as ToOrphan}
 use Rattle.ert_table.specs.declared.view.View.{View}
 use Rattle.ert_table.proofs.Calls.{step_takes_place, takes_place_then}
 use Rattle.ert_table.proofs.Parts.{stepped}
 use Rattle.ert_timers.specs.Changes.{given_back}
-use Rattle.ert_timers.specs.Parts.{HoldsCaller, Part, Stands, slot_at, last_timer, held_row, is_arm, is_expire, is_orphan}
+use Rattle.ert_timers.specs.Parts.{HoldsCaller, Part, Stands, slot_at, last_timer, held_row, is_expire, is_orphan}
 use Rattle.ert_timers.specs.Starting.{HoldsTimer, Orphans, Ends, IsSettled}
 use Rattle.ert_timers.proofs.Later.{unexpired_step}
 use Rattle.ert_timers.proofs.Standing.{count_same, holds_freed, takes_none, stands_step}

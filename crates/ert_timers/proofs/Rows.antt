@@ -1,7 +1,6 @@
 -- The rows that a part holds, while the state goes on and rows go.
 
-use Rattle.std.proofs.Common.{◌≡◌, ◌≢◌, ℕ, ◌+◌, ◌<◌, ◌≤◌, Bool, true, false, cond, List, [], ◌∷◌, ◌++◌, length, Option, Some, None, IsSome, refl, sym, ap, subst, ◌∙◌, arith, get_or, set, get_or-set_same, get_or-set_other}
-use Rattle.std.proofs.lemmas.Bool.{cases_eq}
+use Rattle.std.proofs.Common.{◌≡◌, ◌≢◌, ℕ, ◌<◌, List, length, Option, Some, None, sym, ap, ◌∙◌, get_or, set, get_or-set_same, get_or-set_other}
 use Rattle.std.proofs.lemmas.List.Elements.{All-get_or}
 use Rattle.std.proofs.lemmas.Option.{get_or_from_slice_get, slice_get_within}
 use Rattle.std.specs.List.{slice_get}
@@ -12,8 +11,7 @@ use Rattle.ert_defs.proofs.Rows.{IsRow, rows_hold}
 use Rattle.ert_defs.specs.declared.entry.Entry.{Entry}
 use Rattle.ert_defs.specs.declared.settings.Settings.{Settings}
 use Rattle.ert_defs.specs.declared.timer.Status.TheVariants.{Armed, Expired}
-use Rattle.ert_defs.specs.declared.timer.TimerRef.{TimerRef}
-use Rattle.ert_timers.specs.Parts.{HoldsRows, slot_at, last_timer, held_row}
+use Rattle.ert_timers.specs.Parts.{HoldsRows, last_timer, held_row}
 use Rattle.ert_timers.specs.declared.part.Slot.{Slot}
 use Rattle.ert_timers.proofs.Later.{IsLater}
 use Rattle.ert_wheel.specs.Rows.{key_in}
@@ -25,7 +23,7 @@ pub key_left : (keys : List (Option Key)) (k j : ℕ) (key : Key) → k < length
 key_left keys k j key low is =
     let other : j ≢ k =
     λ same. (let none : key_in (set keys k None) j ≡ None = ap (key_in (set keys k None)) same ∙ get_or-set_same keys k None None low in
-      let no : Some key ≡ None = sym is ∙ none in cc) in
+    let no : Some key ≡ None = sym is ∙ none in cc) in
     (other, sym (get_or-set_other keys k j None None other) ∙ is)
 
 -- a timer of a wheel has the number of the wheel

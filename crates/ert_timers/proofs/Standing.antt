@@ -1,12 +1,10 @@
 -- When a part stands for the front after a step of its own.
 
-use Rattle.std.proofs.Common.{◌≡◌, ◌≢◌, ℕ, ◌+◌, ◌<◌, ◌≤◌, Bool, true, false, cond, ◌&&◌, ◌||◌, nat_eq, nat_lt, List, [], ◌∷◌, ◌++◌, length, Option, Some, None, refl, sym, ap, subst, ◌∙◌, arith, set, inl, inr, eqb-true}
-use Rattle.std.proofs.lemmas.Bool.{cases_eq}
+use Rattle.std.proofs.Common.{◌≡◌, ◌≢◌, ℕ, Bool, true, false, cond, ◌&&◌, ◌||◌, nat_eq, nat_lt, List, length, Option, Some, None, refl, sym, ap, ◌∙◌, arith, eqb-true}
 use Rattle.std.specs.Cmp.{nat_cmp_total, unsigned_tied}
 use Rattle.std.specs.FinSet as sets
 use Rattle.std.specs.Ordering.{nat_cmp}
 use Rattle.ert_defs.specs.Actors.{has_actor}
-use Rattle.ert_defs.specs.Legal.{Legal}
 use Rattle.ert_defs.specs.States.{State, state}
 use Rattle.ert_defs.specs.Timers.{is_taken}
 use Rattle.ert_defs.specs.declared.entry.Actor.TheVariants.{Wheel}
@@ -21,10 +19,9 @@ use Rattle.ert_table.specs.Held.{is_held}
 use Rattle.ert_table.specs.Takes.{Appends}
 use Rattle.ert_table.specs.declared.view.View.{View}
 use Rattle.ert_timers.specs.Changes.{freed}
-use Rattle.ert_timers.specs.Parts.{Part, HoldsRows, Holds, IsCounted, Stands, slot_at, last_timer, is_arm, is_expire, is_orphan, count_of}
+use Rattle.ert_timers.specs.Parts.{Part, HoldsRows, Holds, Stands, slot_at, last_timer, is_arm, is_expire, is_orphan, count_of}
 use Rattle.ert_timers.proofs.Later.{IsLater, later_step, expires, unexpired_step, count_step}
-use Rattle.ert_timers.proofs.Rows.{rows_later, rows_dropped}
-use Rattle.ert_wheel.specs.Rows.{key_in}
+use Rattle.ert_timers.proofs.Rows.{rows_later}
 use Rattle.ert_wheel.specs.declared.row.Key.{Key}
 
 -- the part with these keys and counts fits a later state

@@ -1,8 +1,8 @@
 -- A start, of what its steps told.
 
-use Rattle.std.proofs.Common.{◌≡◌, ◌≢◌, ◌⊎◌, ℕ, zero, suc, ◌+◌, ◌<◌, ◌≤◌, Bool, true, false, List, [], ◌∷◌, ◌++◌, length, Option, Some, None, Result, Ok, Err, inl, inr, refl, sym, ap, subst, ◌∙◌, arith, append_assoc}
+use Rattle.std.proofs.Common.{◌≡◌, ◌⊎◌, ℕ, zero, suc, ◌+◌, ◌<◌, true, false, List, [], ◌∷◌, ◌++◌, length, Option, Some, None, Ok, Err, inl, inr, refl, sym, ap, subst, ◌∙◌, arith}
 use Rattle.std.specs.FinSet as sets
-use Rattle.ert_defs.specs.Entries.{look_entry, probe_entry, arm_entry, mark_entry}
+use Rattle.ert_defs.specs.Entries.{look_entry, arm_entry, mark_entry}
 use Rattle.ert_defs.specs.Milliseconds.{deadline_of}
 use Rattle.ert_defs.specs.States.{State, state}
 use Rattle.ert_defs.specs.Timers.{is_taken}
@@ -16,13 +16,13 @@ use Rattle.ert_answers.specs.TimerCalls.{AreProbes, AreTaken, Starts}
 use Rattle.ert_answers.specs.declared.answers.StartErr.TheVariants.{BadArg, Full}
 use Rattle.ert_calls.proofs.Looks.{look_stepped}
 use Rattle.ert_table.specs.Calls.{IsMade}
-use Rattle.ert_table.specs.Takes.{Appends, TakesPlace}
+use Rattle.ert_table.specs.Takes.{TakesPlace}
 use Rattle.ert_table.specs.declared.view.View.{View}
 use Rattle.ert_table.proofs.Calls.{step_takes_place, takes_place_then}
 use Rattle.ert_timers.specs.Looking.{LooksAhead}
-use Rattle.ert_timers.specs.Parts.{HoldsCaller, Part, Stands, slot_at, last_timer}
+use Rattle.ert_timers.specs.Parts.{HoldsCaller, Part, Stands, slot_at}
 use Rattle.ert_timers.specs.Starting.{AreFull, Arms, Ends, TakesSlot, probes_from}
-use Rattle.ert_timers.proofs.Standing.{IsCalm, stands_step}
+use Rattle.ert_timers.proofs.Standing.{stands_step}
 
 -- a start that is refused for its time
 pub bad_arg : (g : Settings) (v : View) (by w : ℕ) (start : Start) (deadline : Option ℕ) (u : View) → deadline ≡ None
@@ -52,10 +52,14 @@ are_taken by w s q k zero [] many none lasts full = refl
 are_taken by w s q k (suc n) [] many none lasts full = absurd (omega (arith, many))
 are_taken by w s q k zero (found ∷ founds) many none lasts full = absurd (omega (arith, many))
 are_taken by w s q k (suc n) (found ∷ founds) many none lasts full =
-    let e : k + 1 ≡ suc k = omega arith in
-    (found, probes_from by w (k + 1) founds, refl, one (full.0 (none k)),
-    subst (λ m. AreTaken by w s m n (probes_from by w (k + 1) founds)) e
-    (are_taken by w s q (k + 1) n founds (omega (arith, many)) none (λ j low. lasts j (omega (arith, low))) full.1))
+    let e : k + 1 ≡ suc k = omega arith in (
+      found,
+      probes_from by w (k + 1) founds,
+      refl,
+      one (full.0 (none k)),
+      subst (λ m. AreTaken by w s m n (probes_from by w (k + 1) founds)) e
+          (are_taken by w s q (k + 1) n founds (omega (arith, many)) none (λ j low. lasts j (omega (arith, low))) full.1),
+    )
   where
     one : (is_taken found ≡ true) ⊎ ((slot_at q.slots k).generation ≡ 262143) → (is_taken found ≡ true) ⊎ (s.last w k ≡ 262143)
     one (inl taken) = inl taken

@@ -1,10 +1,10 @@
 -- The loop over the timers of a process.
 
-use Rattle.std.proofs.Common.{◌≡◌, ◌≢◌, ℕ, zero, suc, ◌+◌, ◌<◌, Bool, true, false, cond, ◌||◌, List, [], ◌∷◌, ◌++◌, length, map, count_by, Option, Some, None, refl, sym, ap, subst, ◌∙◌, arith, set, append-nil, append_assoc}
+use Rattle.std.proofs.Common.{◌≡◌, ◌≢◌, ℕ, suc, ◌+◌, ◌<◌, true, false, List, [], ◌∷◌, ◌++◌, count_by, Option, Some, None, refl, sym, ap, subst, ◌∙◌, arith, set, append-nil, append_assoc}
 use Rattle.std.proofs.lemmas.List.{map-append}
 use Rattle.std.specs.List.{slice_get}
 use Rattle.std.specs.Option.{is_some}
-use Rattle.ert_defs.specs.States.{State, next, run, state}
+use Rattle.ert_defs.specs.States.{State, next, state}
 use Rattle.ert_defs.specs.Timers.{Row, row_of}
 use Rattle.ert_defs.proofs.Runs.{exit_stays, state-append}
 use Rattle.ert_defs.specs.declared.entry.Entry.{Entry}
@@ -20,14 +20,13 @@ use Rattle.ert_table.specs.Takes.{Appends, TakesPlace}
 use Rattle.ert_table.specs.declared.view.View.{View}
 use Rattle.ert_table.proofs.Calls.{step_takes_place, takes_place_then}
 use Rattle.ert_timers.specs.Changes.{NextOf}
-use Rattle.ert_timers.specs.Parts.{HoldsCaller, Part, Stands, slot_at, last_timer, held_row, is_arm}
+use Rattle.ert_timers.specs.Parts.{HoldsCaller, Part, Stands, last_timer, held_row, is_arm}
 use Rattle.ert_timers.specs.Starting.{HoldsTimer, IsSettled, Orphans}
 use Rattle.ert_timers.specs.Sweeping.{SweepsSome}
 use Rattle.ert_timers.proofs.Later.{later_step}
 use Rattle.ert_timers.proofs.Rows.{armed_row}
 use Rattle.ert_timers.proofs.Tried.{held_found}
-use Rattle.ert_wheel.specs.Rows.{key_in, key_of}
-use Rattle.ert_wheel.specs.declared.row.Key.{Key}
+use Rattle.ert_wheel.specs.Rows.{key_of}
 use Rattle.ert_wheel.specs.declared.row.Row.{Row as WheelRow}
 use Rattle.ert_wheel.proofs.Collect.{key_low}
 use Rattle.ert_wheel.proofs.Views.{counts_less}
@@ -76,10 +75,10 @@ sweeps_more g v by process p q r row timer u w some holds next is one =
     let e : Entry = orphans_by by p.number t.timer t.missed in
     let step : Appends g u e w = subst (λ n. Appends g u (orphans_by by n t.timer t.missed) w) some.number one.step in
     let found : row_of ((state g u.front).rows q.number) (last_timer q.number q.slots row.slot)
-        ≡ Some (held_row q.number q.slots row.slot (key_of row)) = held_found g u.front q row.slot (key_of row) some.stands next.1 in
+    ≡ Some (held_row q.number q.slots row.slot (key_of row)) = held_found g u.front q row.slot (key_of row) some.stands next.1 in
     let here : row_of rows timer.timer ≡ Some timer =
     subst (λ (x : Row). row_of rows x.timer ≡ Some x) (sym is)
-        (ap (λ l. row_of l (last_timer q.number q.slots row.slot)) (sym some.rows ∙ ap (state g u.front).rows (sym some.number)) ∙ found) in
+    (ap (λ l. row_of l (last_timer q.number q.slots row.slot)) (sym some.rows ∙ ap (state g u.front).rows (sym some.number)) ∙ found) in
     let dest : timer.dest ≡ process = ap (λ (x : Row). x.dest) is ∙ next.2 in
     record {
       tries = some.tries ++ t ∷ [];

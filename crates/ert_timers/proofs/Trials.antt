@@ -1,6 +1,6 @@
 -- The loop over the due rows of an advance, and the whole call.
 
-use Rattle.std.proofs.Common.{◌≡◌, ◌≢◌, ℕ, ◌+◌, ◌-◌, ◌<◌, ◌≤◌, ℤ, pos, Bool, true, false, ◌||◌, nat_eq, List, [], ◌∷◌, ◌++◌, length, All, drop, map, Option, Some, None, Result, Ok, Err, inl, inr, refl, sym, ap, subst, ◌∙◌, arith, get_or, append_assoc, append-nil, length-append, drop-cons, add-one}
+use Rattle.std.proofs.Common.{◌≡◌, ℕ, ◌+◌, ℤ, true, false, ◌||◌, nat_eq, List, [], ◌∷◌, ◌++◌, length, All, drop, Option, Some, None, Result, Ok, Err, inr, refl, sym, ap, subst, ◌∙◌, arith, append_assoc, append-nil, length-append}
 use Rattle.std.proofs.lemmas.List.{map-append}
 use Rattle.std.proofs.lemmas.Bool.Decides.{nat_tests}
 use Rattle.std.proofs.lemmas.List.Sorted.{sorted_far}
@@ -9,7 +9,7 @@ use Rattle.std.specs.Result.{IsErr}
 use Rattle.std.specs.List.Sorted.{IsSortedBy}
 use Rattle.ert_defs.specs.Entries.{look_entry, advanced_entry}
 use Rattle.ert_defs.specs.Milliseconds.{down}
-use Rattle.ert_defs.specs.States.{State, look_after, state}
+use Rattle.ert_defs.specs.States.{look_after, state}
 use Rattle.ert_defs.specs.Timers.{Row}
 use Rattle.ert_defs.specs.declared.entry.Actor.TheVariants.{Wheel, Sched}
 use Rattle.ert_defs.specs.declared.entry.Entry.{Entry}
@@ -27,7 +27,7 @@ use Rattle.ert_timers.specs.FiredLists.{Queue}
 use Rattle.ert_timers.specs.Looking.{LooksDown}
 use Rattle.ert_timers.specs.Parts.{HoldsSched, Part, Stands, last_timer}
 use Rattle.ert_timers.proofs.Dues.{due_left, none_due}
-use Rattle.ert_timers.proofs.Standing.{IsCalm, stands_step}
+use Rattle.ert_timers.proofs.Standing.{stands_step}
 use Rattle.ert_timers.proofs.Tried.{self, waits_by}
 use Rattle.ert_wheel.specs.Rows.{key_in, key_of, times, due_at, comes_before}
 use Rattle.ert_wheel.specs.declared.row.Row.{Row as WheelRow}
@@ -83,8 +83,8 @@ expires_more g v p q r to due n row old mid new u w some held next one =
     let e : Entry = expires_by q.number t.timer t.missed in
     let look : (state g w.front).looked (Sched q.number) ≡ (state g u.front).looked (Sched q.number) =
     subst (λ a. (state g w.front).looked a ≡ (state g u.front).looked a) (by_sched q.number t.timer t.missed)
-        (look_stepped g u e w one.step (subst (λ a. is_held u.actors a ≡ true) (sym (by_sched q.number t.timer t.missed)) held)
-        ∙ no_look q.number t.timer t.missed ((state g u.front).looked e.by)) in
+    (look_stepped g u e w one.step (subst (λ a. is_held u.actors a ≡ true) (sym (by_sched q.number t.timer t.missed)) held)
+    ∙ no_look q.number t.timer t.missed ((state g u.front).looked e.by)) in
     record {
       tries = some.tries ++ t ∷ [];
       gained = some.gained ++ fired_as (timer_of q row) one.missed;
@@ -116,7 +116,7 @@ expired_all g v p q to due n old new u w x looks some last sched =
     let has : (nat_eq p.number p.number || false) ≡ true = ap (λ b. b || false) (self p.number) in
     let tail : TakesPlace g u (expiry_entries p.number some.tries ++ advanced_entry p.number to ∷ []) x =
     takes_place_then g u w x (expiry_entries p.number some.tries) (advanced_entry p.number to ∷ []) some.call
-        (step_takes_place g w (advanced_entry p.number to) x last) in
+    (step_takes_place g w (advanced_entry p.number to) x last) in
     record {
       gained = some.gained;
       call = record {
@@ -181,8 +181,8 @@ pub has_expired : (g : Settings) (v : View) (p p' q : Part) (k to : ℕ) (due : 
 has_expired g v p p' q k to due n old old' new u w x number same rows looks some last holds =
     let all =
     expired_all g v p q to due n old' new u w x (subst (λ m. LooksDown g v (Sched m) to u) number looks)
-        (subst (λ (y : Part). ExpiresSome g u y q to due n old' new w) same some)
-        (subst (λ m. Appends g w (advanced_entry m to) x) number last) holds.sched in
+    (subst (λ (y : Part). ExpiresSome g u y q to due n old' new w) same some)
+    (subst (λ m. Appends g w (advanced_entry m to) x) number last) holds.sched in
     record {
       gained = all.gained;
       call = all.call;

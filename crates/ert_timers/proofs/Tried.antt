@@ -1,29 +1,25 @@
 -- The part after the timer of a row was tried, and the row has gone.
 
-use Rattle.std.proofs.Common.{◌≡◌, ◌≢◌, ℕ, zero, suc, ◌+◌, ◌<◌, ◌≤◌, Bool, true, false, cond, ◌&&◌, ◌||◌, nat_eq, List, [], ◌∷◌, ◌++◌, length, All, AllPairs, Option, Some, None, refl, sym, ap, subst, ◌∙◌, arith, set, get_or, eq-eqb, append-nil}
+use Rattle.std.proofs.Common.{◌≡◌, ◌≢◌, ℕ, zero, suc, ◌+◌, ◌<◌, ◌≤◌, Bool, true, false, cond, ◌&&◌, ◌||◌, nat_eq, List, [], ◌∷◌, ◌++◌, length, AllPairs, Some, None, refl, sym, ap, subst, ◌∙◌, arith, set, get_or, eq-eqb, append-nil}
 use Rattle.std.proofs.lemmas.List.{length-set}
 use Rattle.std.proofs.lemmas.List.Elements.{All-get_or}
 use Rattle.std.proofs.lemmas.Option.{get_or_from_slice_get, slice_get_within}
 use Rattle.std.specs.List.{slice_get}
 use Rattle.ert_defs.specs.Actors.{has_actor}
 use Rattle.ert_defs.specs.Entries.{probe_entry, expire_entry}
-use Rattle.ert_defs.specs.Legal.{Legal}
 use Rattle.ert_defs.specs.Mails.{SchedState, with_row, sched_after}
-use Rattle.ert_defs.specs.States.{State, next, state}
+use Rattle.ert_defs.specs.States.{State, state}
 use Rattle.ert_defs.specs.Timers.{Row, row_of, same_timer}
 use Rattle.ert_defs.proofs.FiredTimers.{same_timer_self, same_timer-false}
 use Rattle.ert_defs.proofs.Lists.{pairs_head, pairs_tail}
 use Rattle.ert_defs.proofs.Rows.{Differ, rows_hold}
 use Rattle.ert_defs.proofs.Runs.{sched_stays, state-append}
-use Rattle.ert_defs.specs.declared.entry.Actor.{Actor}
 use Rattle.ert_defs.specs.declared.entry.Actor.TheVariants.{Wheel, Sched}
 use Rattle.ert_defs.specs.declared.entry.Entry.{Entry}
 use Rattle.ert_defs.specs.declared.entry.Event.{Event}
 use Rattle.ert_defs.specs.declared.settings.Settings.{Settings}
-use Rattle.ert_defs.specs.declared.timer.Status.{Status}
-use Rattle.ert_defs.specs.declared.timer.Status.TheVariants.{Armed, Expired}
+use Rattle.ert_defs.specs.declared.timer.Status.TheVariants.{Armed}
 use Rattle.ert_defs.specs.declared.timer.TimerRef.{TimerRef}
-use Rattle.ert_answers.specs.WheelCalls.{expires_by}
 use Rattle.ert_table.specs.Held.{is_held}
 use Rattle.ert_table.specs.Settlings.{HasRow, Settles}
 use Rattle.ert_table.specs.Takes.{Appends}
@@ -31,11 +27,11 @@ use Rattle.ert_table.specs.declared.carry.Settle.TheVariants.{Expire as ToExpire
 use Rattle.ert_table.specs.declared.view.View.{View}
 use Rattle.ert_table.proofs.Parts.{stepped}
 use Rattle.ert_timers.specs.Changes.{let_go}
-use Rattle.ert_timers.specs.Expiring.{Expires, fired_in, fired_as, timer_of}
+use Rattle.ert_timers.specs.Expiring.{Expires, fired_in, timer_of}
 use Rattle.ert_timers.specs.FiredLists.{Queue}
-use Rattle.ert_timers.specs.Parts.{HoldsSched, Part, HoldsRows, Holds, IsCounted, Stands, slot_at, last_timer, held_row, is_arm, is_expire, is_orphan, count_of}
+use Rattle.ert_timers.specs.Parts.{HoldsSched, Part, Stands, last_timer, held_row, is_arm, is_expire, is_orphan, count_of}
 use Rattle.ert_timers.specs.declared.part.Slot.{Slot}
-use Rattle.ert_timers.proofs.Later.{IsLater, later_before, later_step, expires, unexpired_step, count_step}
+use Rattle.ert_timers.proofs.Later.{later_before, later_step, expires, unexpired_step, count_step}
 use Rattle.ert_timers.proofs.Rows.{key_left, rows_dropped}
 use Rattle.ert_timers.proofs.Standing.{holds_with, count_same}
 use Rattle.ert_wheel.specs.Rows.{key_in, key_of}
@@ -53,7 +49,7 @@ row_of_place (r ∷ rows) (suc n) row apart at =
     let there : get_or rows n row ≡ row = get_or_from_slice_get rows n row row at in
     let other : r.timer ≢ row.timer =
     subst (λ (x : Row). r.timer ≢ x.timer) there
-        (All-get_or (Differ r) rows n row (slice_get_within rows n row at) (pairs_head Differ r rows apart)) in
+    (All-get_or (Differ r) rows n row (slice_get_within rows n row at) (pairs_head Differ r rows apart)) in
     rw (same_timer-false r.timer row.timer other) (row_of_place rows n row (pairs_tail Differ r rows apart) at)
 
 -- the row of a held timer is found by its reference

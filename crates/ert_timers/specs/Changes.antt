@@ -1,6 +1,6 @@
 -- How the calls of a part change what it keeps.
 
-use Rattle.std.specs.Prelude.{◌≡◌, ℕ, ◌+◌, ◌<◌, ◌≤◌, Bool, true, false, cond, nat_lt, length, count_by, Option, Some, None, slice_set}
+use Rattle.std.specs.Prelude.{◌≡◌, ℕ, ◌+◌, ◌<◌, ◌≤◌, Bool, false, cond, nat_lt, length, count_by, Option, Some, None, slice_set}
 use Rattle.std.specs.FinSet as set
 use Rattle.std.specs.Option.{is_some}
 use Rattle.ert_defs.specs.declared.timer.Start.{Start}

@@ -1,9 +1,9 @@
 -- An advance of a part: its due rows are tried, one after the other.
 
-use Rattle.std.specs.Prelude.{◌≡◌, ℕ, ◌+◌, ◌≤◌, pos, Bool, true, false, List, [], ◌∷◌, ◌++◌, All, length, take, drop, Option, Some, None, Result, Ok, Err}
+use Rattle.std.specs.Prelude.{◌≡◌, ℕ, ◌+◌, ◌≤◌, pos, Bool, true, false, List, [], ◌∷◌, ◌++◌, All, length, drop, Option, Some, None, Result, Ok, Err}
 use Rattle.std.specs.List.{AllPairs}
 use Rattle.ert_defs.specs.Milliseconds.{down}
-use Rattle.ert_defs.specs.States.{State, state}
+use Rattle.ert_defs.specs.States.{state}
 use Rattle.ert_defs.specs.Timers.{Row}
 use Rattle.ert_defs.specs.declared.entry.Actor.TheVariants.{Sched}
 use Rattle.ert_defs.specs.declared.entry.Entry.{Entry}

@@ -1,11 +1,8 @@
 -- The timers of a process that has exited are cancelled, one after the other.
 
-use Rattle.std.specs.Prelude.{◌≡◌, ◌≢◌, ℕ, true, List, Option, Some, None}
-use Rattle.ert_defs.specs.States.{State, state}
-use Rattle.ert_defs.specs.Timers.{Row}
-use Rattle.ert_defs.specs.declared.entry.Entry.{Entry}
+use Rattle.std.specs.Prelude.{◌≡◌, ℕ, true, List}
+use Rattle.ert_defs.specs.States.{state}
 use Rattle.ert_defs.specs.declared.settings.Settings.{Settings}
-use Rattle.ert_defs.specs.declared.timer.TimerRef.{TimerRef}
 use Rattle.ert_answers.specs.WheelCalls.{Try, AllMaySweep, orphan_entries}
 use Rattle.ert_table.specs.Takes.{TakesPlace}
 use Rattle.ert_table.specs.declared.view.View.{View}

@@ -23,7 +23,12 @@ impl WheelPart {
     /// milliseconds since the start time, rounded down.
     ///
     /// All memory is taken before the first timer expires: after NoMemory none has.
-    pub fn advance(&mut self, desk: &Desk, pass: &mut Pass, fired: &mut FiredList) -> Result<u64, NoMemory>
+    pub fn advance(
+        &mut self,
+        desk: &Desk,
+        pass: &mut Pass,
+        fired: &mut FiredList,
+    ) -> Result<u64, NoMemory>
         requires belongs { Belongs desk.now pass.old }
         requires holds { HoldsSched (view_of pass.old) self.old.number }
         requires stands { Stands (settings_of desk.now) (front_of pass.old) self.old }
@@ -42,7 +47,14 @@ impl WheelPart {
     }
 
     /// Tries all rows that are due at `to`, in order.
-    fn expire_all(&mut self, desk: &Desk, pass: &mut Pass, to: u64, due: &[Row], fired: &mut FiredList)
+    fn expire_all(
+        &mut self,
+        desk: &Desk,
+        pass: &mut Pass,
+        to: u64,
+        due: &[Row],
+        fired: &mut FiredList,
+    )
         requires belongs { Belongs desk.now pass.old }
         requires holds { HoldsSched (view_of pass.old) self.old.number }
         requires ready { IsReady (settings_of desk.now) (front_of pass.old) self.old to due.now }

@@ -2,7 +2,7 @@ ghost use Rattle.std.specs.Prelude.{◌≡◌, IfOk, replicate};
 ghost use Rattle.ert_timers.specs.Parts.{unused};
 
 use crate::fired_list::FiredList;
-use ert_defs::{Fired, Kind, NoMemory, Settings, Start, TimerRef, LAST_GENERATION};
+use ert_defs::{Fired, Kind, LAST_GENERATION, NoMemory, Settings, Start, TimerRef};
 use ert_wheel::{Chains, Row, Wheel};
 use ert_words::FreeSlots;
 use std::alloc::Global;

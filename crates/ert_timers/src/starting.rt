@@ -129,7 +129,15 @@ impl WheelPart {
     }
 
     /// Cancels a timer that has just been armed, where its destination is seen to have exited.
-    fn end(&mut self, desk: &Desk, pass: &mut Pass, by: u32, timer: TimerRef, dest: u32, deadline: u64)
+    fn end(
+        &mut self,
+        desk: &Desk,
+        pass: &mut Pass,
+        by: u32,
+        timer: TimerRef,
+        dest: u32,
+        deadline: u64,
+    )
         requires belongs { Belongs desk.now pass.old }
         requires holds { HoldsCaller (settings_of desk.now) (view_of pass.old) by self.old.number }
         requires stands { Stands (settings_of desk.now) (front_of pass.old) self.old }

@@ -1,6 +1,6 @@
-use Rattle.std.proofs.Common.{◌≡◌, ◌≤◌, List, length, true, sym, ap, subst, ◌∙◌, refl, arith}
+use Rattle.std.proofs.Common.{◌≡◌, List, length, sym, ap, subst, ◌∙◌, arith}
 use Rattle.ert_table.specs.Desks.{settings_of, view_of}
-use Rattle.ert_timers.specs.Expiring.{AreDue, IsReady}
+use Rattle.ert_timers.specs.Expiring.{IsReady}
 use Rattle.ert_timers.specs.Looking.{LooksDown}
 use Rattle.ert_timers.specs.Parts.{Part, HoldsSched, Stands}
 use Rattle.ert_timers.proofs.Dues.{no_row}
@@ -35,8 +35,8 @@ load_time-requires-clause-may c = λ now.
     let first : c.find_due.new.self.number ≡ c.args.self.now.number = ap (λ (p : Part). p.number) c.find_due.ensures.part in
     let held : HoldsSched w c.expire_all.new.self.number =
     still_held u w c.find_due.new.self.number c.expire_all.new.self.number
-        (still_held (view_of c.args.pass.now) u c.args.self.now.number c.find_due.new.self.number c.requires.holds
-        c.look_down-to.ensures.looks.step.actors first) some.call.actors some.number in
+    (still_held (view_of c.args.pass.now) u c.args.self.now.number c.find_due.new.self.number c.requires.holds
+    c.look_down-to.ensures.looks.step.actors first) some.call.actors some.number in
     may_end g w c.expire_all.new.self c.look_down-to.result c.number.result _ some.ready (no_row due (length due) (omega arith)) held
     (c.number.ensures ∙ sym (some.number ∙ first))
 
@@ -50,8 +50,8 @@ returns-clause-stands c =
     let number : c.expire_all.new.self.number ≡ c.number.result = some.number ∙ (first ∙ sym c.number.ensures) in
     let held : HoldsSched w c.number.result =
     still_held u w c.find_due.new.self.number c.number.result
-        (still_held (view_of c.args.pass.now) u c.args.self.now.number c.find_due.new.self.number c.requires.holds
-        c.look_down-to.ensures.looks.step.actors first) some.call.actors (c.number.ensures ∙ sym first) in
+    (still_held (view_of c.args.pass.now) u c.args.self.now.number c.find_due.new.self.number c.requires.holds
+    c.look_down-to.ensures.looks.step.actors first) some.call.actors (c.number.ensures ∙ sym first) in
     stands_ended g w c.expire_all.new.self c.keep_list.new.self c.number.result c.look_down-to.result (view_of c.load_time.new.self)
     some.ready.stands c.keep_list.ensures number held.wheel c.load_time.ensures.step
 

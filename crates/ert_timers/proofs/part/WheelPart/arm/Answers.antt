@@ -1,4 +1,4 @@
-use Rattle.std.proofs.Common.{◌≡◌, ◌<◌, sym, subst}
+use Rattle.std.proofs.Common.{◌<◌, sym, subst}
 use Rattle.ert_table.specs.Desks.{settings_of, view_of}
 use Rattle.ert_timers.proofs.Armings.{arms, may_arm}
 use Rattle.ert_timers.proofs.part.WheelPart.arm.Goals as goal

@@ -1,4 +1,4 @@
-use Rattle.std.proofs.Common.{◌≡◌, Bool, true, false, List, Option, None, refl, sym, subst, ◌∙◌}
+use Rattle.std.proofs.Common.{◌≡◌, true, List, Option, None, refl, sym, subst, ◌∙◌}
 use Rattle.ert_timers.specs.Changes.{LostRow}
 use Rattle.ert_timers.specs.Parts.{AreFit, Part}
 use Rattle.ert_timers.proofs.Fit.{some_key, none_key, set_none, fit_dropped, fit_lost}

@@ -1,4 +1,4 @@
-use Rattle.std.proofs.Common.{◌≡◌, true, false, refl, sym, ap, subst, ◌∙◌}
+use Rattle.std.proofs.Common.{false, refl, ap, subst, ◌∙◌}
 use Rattle.ert_defs.specs.States.{state}
 use Rattle.ert_defs.specs.Entries.{mark_entry}
 use Rattle.ert_defs.specs.declared.entry.Actor.TheVariants.{Caller}
@@ -29,7 +29,7 @@ orphan-requires-clause-exited c =
     let u = view_of c.mark.new.self in
     ap (state g u.front).exited c.requires.dest
     ∙ exited_seen g v c.args.by c.args.dest u
-        (subst (λ b. Appends g v (mark_entry (Caller c.args.by) c.args.dest false b) u) c.if-not-mark.false c.mark.ensures.step)
+    (subst (λ b. Appends g v (mark_entry (Caller c.args.by) c.args.dest false b) u) c.if-not-mark.false c.mark.ensures.step)
 
 pub returns-clause-call : goal.returns-clause-call
 returns-clause-call c =

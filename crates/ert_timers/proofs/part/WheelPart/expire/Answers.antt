@@ -1,4 +1,4 @@
-use Rattle.std.proofs.Common.{◌≡◌, ◌<◌, ◌≤◌, ◌+◌, true, false, cond, sym, subst, refl, append-nil, arith}
+use Rattle.std.proofs.Common.{true, false, sym, subst, append-nil, arith}
 use Rattle.ert_defs.specs.States.{state}
 use Rattle.ert_defs.specs.Timers.{Row}
 use Rattle.ert_table.specs.Desks.{settings_of, view_of}

@@ -1,7 +1,7 @@
-use Rattle.std.proofs.Common.{◌≡◌, ◌<◌, ◌≤◌, ◌+◌, List, [], ◌∷◌, length, drop, true, sym, ap, subst, ◌∙◌, refl, arith, get_or}
+use Rattle.std.proofs.Common.{◌+◌, drop, ap, subst, arith, get_or}
 use Rattle.ert_table.specs.Desks.{settings_of, view_of}
-use Rattle.ert_timers.specs.Expiring.{AreDue, ExpiresSome, IsReady}
-use Rattle.ert_timers.specs.Parts.{Part, HoldsSched}
+use Rattle.ert_timers.specs.Expiring.{AreDue, IsReady}
+use Rattle.ert_timers.specs.Parts.{Part}
 use Rattle.ert_timers.proofs.Trials.{expires_none, expires_more, still_held}
 use Rattle.ert_timers.proofs.Dues.{is_next, first_held, next_row, no_row, none_left}
 use Rattle.ert_timers.proofs.part.WheelPart.expire_all.Goals as goal
@@ -49,7 +49,7 @@ expire-requires-clause-low c =
     let ready = c.loop-row.invariant.call.ready in
     let held =
     first_held g h c.loop-row.self c.args.to (get_or due n none) (drop (n + 1) due)
-        (subst (IsReady g h c.loop-row.self c.args.to) (next_row due n none c.loop-row-test.true) ready) in
+    (subst (IsReady g h c.loop-row.self c.args.to) (next_row due n none c.loop-row-test.true) ready) in
     omega (arith, ready.stands.holds.wide, ready.stands.holds.many, key_low c.loop-row.self.keys _ _ held)
 
 pub loop-row-preserved : goal.loop-row-preserved

@@ -1,4 +1,3 @@
-use Rattle.std.proofs.Common.{◌≡◌}
 use Rattle.ert_table.specs.Desks.{settings_of, view_of, Belongs}
 use Rattle.ert_timers.specs.Expiring.{ExpiresSome}
 use Rattle.ert_timers.specs.Parts.{HoldsSched}

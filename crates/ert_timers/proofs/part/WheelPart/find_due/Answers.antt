@@ -1,4 +1,4 @@
-use Rattle.std.proofs.Common.{sym, subst}
+use Rattle.std.proofs.Common.{subst}
 use Rattle.ert_timers.specs.Expiring.{AreDue}
 use Rattle.ert_timers.specs.Parts.{Part}
 use Rattle.ert_timers.proofs.Trials.{are_due}

@@ -1,5 +1,5 @@
 use Rattle.std.proofs.Common.{◌≡◌, ◌<◌, length, None, sym, subst}
-use Rattle.ert_timers.specs.Parts.{Part, slot_at}
+use Rattle.ert_timers.specs.Parts.{Part}
 use Rattle.ert_timers.specs.declared.part.Slot.{Slot}
 use Rattle.ert_timers.proofs.Fit.{fit_put}
 use Rattle.ert_timers.proofs.Keeping.{slot_read}

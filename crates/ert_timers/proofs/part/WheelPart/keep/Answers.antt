@@ -1,4 +1,4 @@
-use Rattle.std.proofs.Common.{◌≡◌, ℕ, ◌+◌, ◌<◌, ◌≤◌, length, List, Option, refl, sym, ap, subst, set, arith}
+use Rattle.std.proofs.Common.{◌≡◌, ◌+◌, ◌<◌, List, Option, refl, sym, subst, set, arith}
 use Rattle.ert_timers.specs.Changes.{IsFree, slot_for}
 use Rattle.ert_timers.specs.Parts.{Part, AreFit, slot_at}
 use Rattle.ert_timers.specs.declared.part.Slot.{Slot}
@@ -34,8 +34,8 @@ invariant_of-self c =
     let read : slot_at p.slots.items k ≡ c.index.result.now = slot_read p.slots.items k c.index.result.now free.low c.index.ensures in
     let start = c.args.start.now in
     subst (λ (slot : Slot). AreFit p.processes (set p.slots.items k (slot_for (slot.generation + 1) start)) c.insert.new.self p.free c.put.new.self
-        (p.arms + 1) p.expires p.orphans) read
+    (p.arms + 1) p.expires p.orphans) read
     (subst (λ (keys : List (Option Key)). AreFit p.processes (set p.slots.items k (slot_for ((slot_at p.slots.items k).generation + 1) start)) keys
-        p.free c.put.new.self (p.arms + 1) p.expires p.orphans) (sym c.insert.ensures)
+    p.free c.put.new.self (p.arms + 1) p.expires p.orphans) (sym c.insert.ensures)
     (fit_kept seen p.free p.owners c.put.new.self k start c.args.deadline c.self.invariant refl free dest c.put.ensures.slots
     c.put.ensures.homes c.put.ensures.chains))

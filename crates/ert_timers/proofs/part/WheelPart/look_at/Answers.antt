@@ -1,4 +1,4 @@
-use Rattle.std.proofs.Common.{◌≡◌, ◌<◌, length, true, false, None, sym, ap, subst, ◌∙◌, get_or-set_same}
+use Rattle.std.proofs.Common.{◌<◌, length, None, sym, ap, subst, ◌∙◌, get_or-set_same}
 use Rattle.std.specs.FinSet as sets
 use Rattle.ert_table.specs.Desks.{settings_of, view_of}
 use Rattle.ert_timers.specs.Parts.{Part}
@@ -28,7 +28,7 @@ free_slot-requires-clause-vacant c =
     let p = c.args.self.now in
     ap (λ (q : Part). key_in q.keys c.args.slot) c.drop_row.ensures.left
     ∙ get_or-set_same p.keys c.args.slot None None
-        (subst (λ n. c.args.slot < n) (c.requires.stands.holds.many ∙ sym c.requires.stands.holds.wide) c.requires.low)
+    (subst (λ n. c.args.slot < n) (c.requires.stands.holds.many ∙ sym c.requires.stands.holds.wide) c.requires.low)
 
 pub returns-clause-call : goal.returns-clause-call
 returns-clause-call c =

@@ -1,4 +1,4 @@
-use Rattle.std.proofs.Common.{◌≡◌, ◌<◌, ◌≤◌, ◌+◌, length, false, refl, sym, ap, subst, ◌∙◌, arith}
+use Rattle.std.proofs.Common.{length, ap, subst, arith}
 use Rattle.ert_table.specs.Desks.{settings_of, view_of}
 use Rattle.ert_timers.specs.Starting.{LooksAtSome}
 use Rattle.ert_timers.proofs.Lookings.{looks_none, looks_more}

@@ -1,4 +1,3 @@
-use Rattle.std.proofs.Common.{◌≡◌, ◌≤◌, length}
 use Rattle.ert_table.specs.Desks.{settings_of, view_of, Belongs}
 use Rattle.ert_timers.specs.Starting.{LooksAtSome}
 use Rattle.ert_timers.specs.Parts.{HoldsCaller}

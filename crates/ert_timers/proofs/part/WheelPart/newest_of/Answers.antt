@@ -1,11 +1,10 @@
-use Rattle.std.proofs.Common.{◌≡◌, ℕ, ◌^◌, ◌<◌, ◌≤◌, Option, Some, None, sym, subst, ◌∙◌, arith}
+use Rattle.std.proofs.Common.{◌^◌, Option, Some, None, sym, subst, arith}
 use Rattle.ert_timers.specs.Changes.{NextOf}
 use Rattle.ert_timers.specs.Parts.{Part, owners_of}
 use Rattle.ert_timers.proofs.Fit.{armed_few}
 use Rattle.ert_timers.proofs.Keeping.{next_none, next_some}
 use Rattle.ert_timers.proofs.part.WheelPart.newest_of.Goals as goal
 use Rattle.ert_wheel.specs.Rings.{Finds}
-use Rattle.ert_wheel.specs.Rows.{key_in}
 use Rattle.ert_wheel.specs.declared.row.Row.{Row}
 
 pub returns-in_err-slot : goal.returns-in_err-slot

@@ -1,4 +1,4 @@
-use Rattle.std.proofs.Common.{◌≡◌, refl, sym, ap, ◌∙◌}
+use Rattle.std.proofs.Common.{refl}
 use Rattle.ert_timers.proofs.Openings.{fit_open, stands_open}
 use Rattle.ert_timers.proofs.part.WheelPart.open.Goals as goal
 

@@ -1,4 +1,4 @@
-use Rattle.std.proofs.Common.{◌≡◌, ℕ, false, Option, IfNone, IfSome, refl, sym, subst}
+use Rattle.std.proofs.Common.{◌≡◌, ℕ, false, IfNone, refl, subst}
 use Rattle.std.specs.FinSet as sets
 use Rattle.ert_timers.specs.Parts.{Part}
 use Rattle.ert_timers.proofs.Keeping.{pick_fit, pick_none, pick_usable}

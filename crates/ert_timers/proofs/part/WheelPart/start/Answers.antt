@@ -1,7 +1,6 @@
-use Rattle.std.proofs.Common.{◌≡◌, refl, sym, ap, subst, ◌∙◌, Some, None}
+use Rattle.std.proofs.Common.{refl, ap, ◌∙◌}
 use Rattle.ert_table.specs.Desks.{settings_of, view_of}
-use Rattle.ert_timers.specs.Parts.{HoldsCaller, Part, Stands}
-use Rattle.ert_timers.specs.Starting.{TakesSlot}
+use Rattle.ert_timers.specs.Parts.{Part}
 use Rattle.ert_timers.proofs.Orphaned.{still_caller}
 use Rattle.ert_timers.proofs.Starts.{bad_arg, ahead_stands, is_full, due_ahead, is_started}
 use Rattle.ert_timers.proofs.part.WheelPart.start.Goals as goal

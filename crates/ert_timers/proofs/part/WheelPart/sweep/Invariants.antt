@@ -1,4 +1,4 @@
-use Rattle.std.proofs.Common.{◌≡◌, count_by}
+use Rattle.std.proofs.Common.{count_by}
 use Rattle.std.specs.Option.{is_some}
 use Rattle.ert_table.specs.Desks.{settings_of, view_of, Belongs}
 use Rattle.ert_timers.specs.Sweeping.{SweepsSome}
