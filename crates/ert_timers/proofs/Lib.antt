@@ -12,3 +12,4 @@ pub mod Armings
 pub mod Lookings
 pub mod Starts
 pub mod Swept
+pub mod Forgotten

@@ -17,6 +17,7 @@
 //! | `start` | looks at the time, takes a free slot, stores its word, asks whether the destination has exited | constant where a slot is known to be free; else each slot is looked at once, and all that can be used again are known from then on |
 //! | `advance` | looks at the time, and tries each due timer in order of deadline and then of start | the due timers and the buckets that are visited |
 //! | `sweep` | tries each timer of a process that has exited | those timers |
+//! | `forget` | drops the row of a timer that the pass has seen settled, and holds its slot free | constant |
 //! | `tally` | counts | none |
 //!
 //! Each timer is tried once, by one exchange, and then its row goes. No call waits for anybody. Only `open`
