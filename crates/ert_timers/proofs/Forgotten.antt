@@ -1,6 +1,6 @@
 -- The row of a timer goes that was seen settled.
 
-use Rattle.std.proofs.Common.{◌≡◌, ◌≢◌, ℕ, ◌+◌, ◌<◌, ◌≤◌, Bool, true, false, List, length, Option, Some, None, refl, sym, ap, subst, ◌∙◌, arith, set, get_or-set_same, option_map}
+use Rattle.std.proofs.Common.{◌≡◌, ◌≢◌, ℕ, ◌+◌, ◌<◌, false, List, length, Option, Some, None, refl, sym, ap, ◌∙◌, arith, set, option_map}
 use Rattle.std.proofs.lemmas.List.{length-set}
 use Rattle.ert_defs.specs.States.{State, state}
 use Rattle.ert_defs.specs.declared.entry.Entry.{Entry}
@@ -9,7 +9,6 @@ use Rattle.ert_defs.specs.declared.timer.Status.TheVariants.{Armed}
 use Rattle.ert_defs.specs.declared.timer.TimerRef.{TimerRef}
 use Rattle.ert_timers.specs.Changes.{given_back}
 use Rattle.ert_timers.specs.Parts.{Part, Stands, last_timer}
-use Rattle.ert_timers.specs.Sweeping.{IsHeld}
 use Rattle.ert_timers.proofs.Later.{IsLater}
 use Rattle.ert_timers.proofs.Rows.{key_left, rows_dropped}
 use Rattle.ert_timers.proofs.Standing.{holds_freed, holds_with, takes_none}
@@ -29,8 +28,8 @@ forgot g h p k key stands held settled =
     let later = same_state p.number s in
     let gone =
     holds_with g s s p (set p.keys k None) p.expires (p.orphans + 0) stands.holds later (length-set p.keys k None)
-        (rows_dropped g h p.number p.slots p.keys s stands.legal stands.holds.rows later k low settled
-        (λ j seen is. stands.holds.rows.unexpired j seen (key_left p.keys k j seen low is).1)) in
+    (rows_dropped g h p.number p.slots p.keys s stands.legal stands.holds.rows later k low settled
+    (λ j seen is. stands.holds.rows.unexpired j seen (key_left p.keys k j seen low is).1)) in
     let same : p.orphans + 0 ≡ p.orphans = omega arith in
     record {
       legal = stands.legal;

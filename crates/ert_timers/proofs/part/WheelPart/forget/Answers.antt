@@ -1,7 +1,6 @@
-use Rattle.std.proofs.Common.{◌≡◌, ◌≢◌, ◌<◌, ◌≤◌, length, Option, Some, None, refl, sym, ap, subst, ◌∙◌, arith, get_or-set_same}
+use Rattle.std.proofs.Common.{◌≡◌, None, refl, sym, ap, subst, ◌∙◌, arith, get_or-set_same}
 use Rattle.ert_defs.specs.States.{state}
 use Rattle.ert_defs.specs.Timers.{Row}
-use Rattle.ert_defs.specs.declared.timer.Status.TheVariants.{Armed}
 use Rattle.ert_defs.specs.declared.timer.TimerRef.{TimerRef}
 use Rattle.ert_table.specs.Desks.{view_of}
 use Rattle.ert_timers.specs.Parts.{Part, Stands, last_timer, slot_at}
@@ -31,7 +30,7 @@ returns-clause-stands c = λ g named.
     let slot : c.in-Some.row.slot ≡ k = ap (λ (r : WheelRow). r.slot) (sym told.2) in
     let last : c.args.timer ≡ last_timer p.number p.slots k =
     is_last p c.args.timer k c.timer.result.timer.generation (c.if-timer-number.false ∙ c.number.ensures) refl c.if-timer.false
-        (ap (λ (r : Row). r.timer.generation) c.timer.ensures ∙ ap (λ n. (slot_at p.slots n).generation) slot) in
+    (ap (λ (r : Row). r.timer.generation) c.timer.ensures ∙ ap (λ n. (slot_at p.slots n).generation) slot) in
     subst (λ (q : Part). Stands g h q) (sym c.give_back.ensures)
     (forgot g h p k told.0 (c.requires.stands g named) told.1 (λ armed. c.requires.settled g named (ap (state g h).status last ∙ armed)))
 
