@@ -1,0 +1,203 @@
+-- What the fields of a part keep, as each of its small calls changes them.
+
+use Rattle.std.proofs.Common.{◌≡◌, ℕ, ◌+◌, ◌<◌, ◌≤◌, Bool, true, false, not, ◌&&◌, ◌||◌, nat_eq, List, length, count_by, Option, Some, None, IsSome, refl, sym, ap, subst, ◌∙◌, arith, inl, inr, set, get_or-set_same, get_or-set_other, eqb-true, eq-eqb}
+use Rattle.std.proofs.lemmas.Bool.{and_parts, cases_eq}
+use Rattle.std.proofs.lemmas.List.{length-set, set-get_or}
+use Rattle.std.proofs.lemmas.List.Sums.{sum_by-le}
+use Rattle.std.specs.Cmp.{nat_cmp_total, unsigned_tied}
+use Rattle.std.specs.FinSet as sets
+use Rattle.std.specs.Option.{is_some}
+use Rattle.std.specs.Ordering.{nat_cmp}
+use Rattle.ert_timers.specs.Changes.{LostRow, dropped}
+use Rattle.ert_timers.specs.Parts.{AreFit, Part, slot_at, owner_of, owners_of}
+use Rattle.ert_timers.specs.declared.part.Slot.{Slot}
+use Rattle.ert_timers.proofs.Rows.{key_left}
+use Rattle.ert_wheel.specs.Rings.{Rings, Place, AreChains, Takes, with_place}
+use Rattle.ert_wheel.specs.Rows.{key_in}
+use Rattle.ert_wheel.specs.declared.row.Key.{Key}
+use Rattle.ert_wheel.proofs.Collect.{key_low}
+use Rattle.ert_wheel.proofs.Parts.{with_place_here, with_place_there}
+use Rattle.ert_wheel.proofs.Views.{counts_less}
+use Rattle.ert_words.specs.Free.{Free}
+
+-- how often the slots were used
+abbrev pub uses_of : Slot → ℕ
+uses_of s = s.generation
+
+-- no count can get high
+pub armed_few : (processes : ℕ) (slots : List Slot) (keys : List (Option Key)) (free : Free) (owners : Rings) (a x o : ℕ)
+    → AreFit processes slots keys free owners a x o → a ≤ 17179803648
+armed_few processes slots keys free owners a x o fit =
+    omega (arith, fit.sum, fit.few, sum_by-le uses_of 262143 slots fit.uses)
+
+-- a slot without a row has none to drop
+pub set_none : (keys : List (Option Key)) (k : ℕ) → key_in keys k ≡ None → set keys k None ≡ keys
+set_none keys k vacant = subst (λ key. set keys k key ≡ keys) vacant (set-get_or keys k None)
+
+-- what a place or none stands for is a place
+pub place_some : (slots : List Slot) (k : ℕ) (o : Option Key) (p : Place) → owner_of slots k o ≡ Some p
+    → (key : Key) × (o ≡ Some key) × (p ≡ record { home = (slot_at slots k).dest; order = key.order })
+place_some slots k None p is = absurd cc
+place_some slots k (Some key) p is = (key, refl, cc)
+
+-- the places after the key of a slot was written
+pub owners_set : (slots : List Slot) (keys : List (Option Key)) (k : ℕ) (key : Option Key) → k < length keys
+    → (j : ℕ) → with_place (owners_of slots keys) k (owner_of slots k key) j ≡ owners_of slots (set keys k key) j
+owners_set slots keys k key low j =
+    elim (cases_eq j k) [
+      | inl same ↦ ap (with_place (owners_of slots keys) k (owner_of slots k key)) same
+          ∙ (with_place_here (owners_of slots keys) k (owner_of slots k key)
+          ∙ (ap (owner_of slots k) (sym (get_or-set_same keys k key None low))
+          ∙ ap (owners_of slots (set keys k key)) (sym same)))
+      | inr other ↦ with_place_there (owners_of slots keys) k (owner_of slots k key) j other
+          ∙ ap (owner_of slots j) (sym (get_or-set_other keys k j key None other))
+    ]
+
+-- the row of a slot goes
+pub fit_dropped : (processes : ℕ) (slots : List Slot) (keys : List (Option Key)) (free : Free) (owners new : Rings) (a x o k : ℕ) (key : Key)
+    → AreFit processes slots keys free owners a x o → key_in keys k ≡ Some key → new.slots ≡ owners.slots → new.homes ≡ owners.homes
+    → Takes owners new k → AreFit processes slots (set keys k None) free new a x o
+fit_dropped processes slots keys free owners new a x o k key fit held same homes takes =
+    let low : k < length keys = key_low keys k key held in
+    record {
+      few = fit.few;
+      wide = length-set keys k None ∙ fit.wide;
+      all_slots = fit.all_slots;
+      owned = same ∙ fit.owned;
+      homes = homes ∙ fit.homes;
+      few_homes = fit.few_homes;
+      vacant = λ j is. at j (fit.vacant j is) low;
+      below = fit.below;
+      unspent = fit.unspent;
+      uses = fit.uses;
+      sum = fit.sum;
+      tally = omega (arith, fit.tally, counts_less keys k key low held);
+      orders = λ j seen is. fit.orders j seen (key_left keys k j seen low is).1;
+      dests = λ j seen is. fit.dests j seen (key_left keys k j seen low is).1;
+      chained =
+          subst (λ (places : ℕ → Option Place). AreChains new places) (λ i j. owners_set slots keys k None low j i)
+          (takes (owners_of slots keys) (record { home = (slot_at slots k).dest; order = key.order }) fit.chained
+          (ap (owner_of slots k) held));
+    }
+  where
+    at : (j : ℕ) → key_in keys j ≡ None → k < length keys → key_in (set keys k None) j ≡ None
+    at j vacant low =
+        elim (cases_eq j k) [
+          | inl same ↦ ap (key_in (set keys k None)) same ∙ get_or-set_same keys k None None low
+          | inr other ↦ get_or-set_other keys k j None None other ∙ vacant
+        ]
+
+-- a slot with a row isn't held free, and less is counted once the row has gone
+pub fit_lost : (p : Part) (owners : Rings) (free : Free) (k : ℕ) (key : Key) → AreFit p.processes p.slots p.keys free owners p.arms p.expires p.orphans
+    → free.held ≡ p.free → key_in p.keys k ≡ Some key → LostRow (dropped p k) k
+fit_lost p owners free k key fit same held =
+    let low : k < length p.keys = key_low p.keys k key held in
+    record {
+      away = ap (λ s. sets.contains s k) (sym same) ∙ at (sets.contains free.held k) refl;
+      vacant = get_or-set_same p.keys k None None low;
+      room = omega (arith, fit.tally, counts_less p.keys k key low held);
+      few = armed_few p.processes p.slots p.keys free owners p.arms p.expires p.orphans fit;
+    }
+  where
+    at : (b : Bool) → sets.contains free.held k ≡ b → sets.contains free.held k ≡ false
+    at true is =
+        let none : Some key ≡ None = sym held ∙ fit.vacant k is in
+        absurd cc
+    at false is = is
+
+pub some_key : (o : Option Key) → IsSome o → (key : Key) × (o ≡ Some key)
+some_key None is = absurd cc
+some_key (Some key) is = (key, refl)
+
+pub none_key : (o : Option Key) → (IsSome o → ⊥) → o ≡ None
+none_key None not = refl
+none_key (Some key) not = absurd (not refl)
+
+-- with other counts, which are few enough
+pub fit_counted : (processes : ℕ) (slots : List Slot) (keys : List (Option Key)) (free : Free) (owners : Rings) (a x o y p : ℕ)
+    → AreFit processes slots keys free owners a x o → (y + p) + count_by is_some keys ≤ a
+    → AreFit processes slots keys free owners a y p
+fit_counted processes slots keys free owners a x o y p fit few = record {
+  few = fit.few;
+  wide = fit.wide;
+  all_slots = fit.all_slots;
+  owned = fit.owned;
+  homes = fit.homes;
+  few_homes = fit.few_homes;
+  vacant = fit.vacant;
+  below = fit.below;
+  unspent = fit.unspent;
+  uses = fit.uses;
+  sum = fit.sum;
+  tally = few;
+  orders = fit.orders;
+  dests = fit.dests;
+  chained = fit.chained;
+}
+
+-- with other free slots, which were free before or can be
+pub fit_free : (processes : ℕ) (slots : List Slot) (keys : List (Option Key)) (free new : Free) (owners : Rings) (a x o : ℕ)
+    → AreFit processes slots keys free owners a x o → new.slots ≡ free.slots
+    → ((j : ℕ) → sets.contains new.held j ≡ true → (key_in keys j ≡ None) × (j < length slots) × ((slot_at slots j).generation < 262143))
+    → AreFit processes slots keys new owners a x o
+fit_free processes slots keys free new owners a x o fit same can = record {
+  few = fit.few;
+  wide = fit.wide;
+  all_slots = same ∙ fit.all_slots;
+  owned = fit.owned;
+  homes = fit.homes;
+  few_homes = fit.few_homes;
+  vacant = λ j is. (can j is).0;
+  below = λ j is. (can j is).1;
+  unspent = λ j is. (can j is).2;
+  uses = fit.uses;
+  sum = fit.sum;
+  tally = fit.tally;
+  orders = fit.orders;
+  dests = fit.dests;
+  chained = fit.chained;
+}
+
+-- a set with one more
+put_or : (s : sets.FinSet nat_cmp) (k j : ℕ) → sets.contains (sets.insert s k) j ≡ true → (nat_eq j k || sets.contains s j) ≡ true
+put_or s k j is = sym (sets.contains-insert nat_cmp_total s k j ∙ (λ i. unsigned_tied j k i || sets.contains s j)) ∙ is
+
+or_cases : (b c : Bool) (P : Type 0) → (b ≡ true → P) → (c ≡ true → P) → (b || c) ≡ true → P
+or_cases true c P f h is = f refl
+or_cases false c P f h is = h is
+
+pub fit_put : (processes : ℕ) (slots : List Slot) (keys : List (Option Key)) (free new : Free) (owners : Rings) (a x o k : ℕ)
+    → AreFit processes slots keys free owners a x o → new ≡ record free { held = sets.insert free.held k }
+    → k < length slots → key_in keys k ≡ None → (slot_at slots k).generation < 262143
+    → AreFit processes slots keys new owners a x o
+fit_put processes slots keys free new owners a x o k fit is low vacant unspent =
+    fit_free processes slots keys free new owners a x o fit (ap (λ (f : Free). f.slots) is) (λ j held.
+    or_cases (nat_eq j k) (sets.contains free.held j) ((key_in keys j ≡ None) × (j < length slots) × ((slot_at slots j).generation < 262143))
+    (λ same. (let e : k ≡ j = sym (eqb-true j k same) in (
+      subst (λ n. key_in keys n ≡ None) e vacant,
+      subst (λ n. n < length slots) e low,
+      subst (λ n. (slot_at slots n).generation < 262143) e unspent,
+    )))
+    (λ was. (fit.vacant j was, fit.below j was, fit.unspent j was))
+    (put_or free.held k j (ap (λ (f : Free). sets.contains f.held j) (sym is) ∙ held)))
+
+-- a set with one less
+taken_and : (s : sets.FinSet nat_cmp) (k j : ℕ) → sets.contains (sets.remove s k) j ≡ (not (nat_eq j k) && sets.contains s j)
+taken_and s k j = sets.contains-remove nat_cmp_total s k j ∙ (λ i. not (unsigned_tied j k i) && sets.contains s j)
+
+pub taken_out : (s : sets.FinSet nat_cmp) (k : ℕ) → sets.contains (sets.remove s k) k ≡ false
+taken_out s k =
+    let same : nat_eq k k ≡ true = eq-eqb k k refl in
+    taken_and s k k ∙ ap (λ b. not b && sets.contains s k) same
+
+pub taken_was : (s : sets.FinSet nat_cmp) (k j : ℕ) → sets.contains (sets.remove s k) j ≡ true → sets.contains s j ≡ true
+taken_was s k j is = (and_parts (not (nat_eq j k)) (sets.contains s j) (sym (taken_and s k j) ∙ is)).1
+
+pub fit_picked : (processes : ℕ) (slots : List Slot) (keys : List (Option Key)) (free new : Free) (owners : Rings) (a x o k : ℕ)
+    → AreFit processes slots keys free owners a x o → new ≡ record free { held = sets.remove free.held k }
+    → AreFit processes slots keys new owners a x o
+fit_picked processes slots keys free new owners a x o k fit is =
+    fit_free processes slots keys free new owners a x o fit (ap (λ (f : Free). f.slots) is) (λ j held.
+    let was : sets.contains free.held j ≡ true =
+    taken_was free.held k j (ap (λ (f : Free). sets.contains f.held j) (sym is) ∙ held) in
+    (fit.vacant j was, fit.below j was, fit.unspent j was))

@@ -1,0 +1,15 @@
+pub mod Later
+pub mod Rows
+pub mod Standing
+pub mod Fit
+pub mod Keeping
+pub mod Openings
+pub mod Tried
+pub mod Dues
+pub mod Trials
+pub mod Orphaned
+pub mod Armings
+pub mod Lookings
+pub mod Starts
+pub mod Swept
+pub mod Forgotten

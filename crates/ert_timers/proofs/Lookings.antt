@@ -1,0 +1,252 @@
+-- A slot is looked at, and all slots are.
+
+use Rattle.std.proofs.Common.{◌≡◌, ◌≢◌, ◌⊎◌, ℕ, suc, ◌+◌, ◌<◌, ◌≤◌, Bool, true, false, cond, ◌||◌, nat_lt, List, [], ◌∷◌, ◌++◌, length, Option, Some, None, IfNone, IfSome, option_map, inl, inr, refl, sym, ap, subst, ◌∙◌, arith, append-nil, length-append, eq-eqb, ne_eqb}
+use Rattle.std.proofs.lemmas.Bool.{cases_lt, lt-ltb}
+use Rattle.std.specs.Cmp.{nat_cmp_total, unsigned_tied}
+use Rattle.std.specs.FinSet as sets
+use Rattle.std.specs.Ordering.{nat_cmp}
+use Rattle.ert_defs.specs.Entries.{probe_entry}
+use Rattle.ert_defs.specs.States.{State, state}
+use Rattle.ert_defs.specs.Timers.{is_taken, timer_at}
+use Rattle.ert_defs.specs.declared.entry.Actor.TheVariants.{Caller}
+use Rattle.ert_defs.specs.declared.entry.Entry.{Entry}
+use Rattle.ert_defs.specs.declared.settings.Settings.{Settings}
+use Rattle.ert_defs.specs.declared.timer.Status.{Status}
+use Rattle.ert_defs.specs.declared.timer.Status.TheVariants.{Armed}
+use Rattle.ert_calls.proofs.Looks.{can_step, look_stepped}
+use Rattle.ert_table.specs.Settlings.{Shown}
+use Rattle.ert_table.specs.Takes.{Appends, TakesPlace}
+use Rattle.ert_table.specs.declared.view.View.{View}
+use Rattle.ert_table.proofs.Calls.{step_takes_place, takes_place_then}
+use Rattle.ert_table.proofs.Parts.{stepped}
+use Rattle.ert_table.proofs.SlotFacts.{slots_kept}
+use Rattle.ert_timers.specs.Changes.{IsFree, dropped, freed, picked}
+use Rattle.ert_timers.specs.Parts.{HoldsCaller, Part, Stands, slot_at, last_timer, is_expire, is_orphan}
+use Rattle.ert_timers.specs.Starting.{LooksAt, LooksAtSome, TakesSlot, AreFull, probes_from, status_shown}
+use Rattle.ert_timers.proofs.Fit.{taken_was}
+use Rattle.ert_timers.proofs.Later.{later_before}
+use Rattle.ert_timers.proofs.Standing.{count_same, holds_freed, stands_step}
+use Rattle.ert_timers.proofs.Tried.{stands_gone}
+
+-- what a load of a slot found
+pub status_is : (shown : Option Shown) → option_map (λ (x : Shown). x.0) shown ≡ status_shown shown
+status_is None = refl
+status_is (Some shown) = refl
+
+pub probe_is : (g : Settings) (v : View) (by w w' k : ℕ) (shown : Option Shown) (u : View) → w' ≡ w
+    → Appends g v (probe_entry (Caller by) w' k (option_map (λ (x : Shown). x.0) shown)) u
+    → Appends g v (probe_entry (Caller by) w k (status_shown shown)) u
+probe_is g v by w w' k shown u number step =
+    subst (λ n. Appends g v (probe_entry (Caller by) n k (status_shown shown)) u) number
+    (subst (λ x. Appends g v (probe_entry (Caller by) w' k x) u) (status_is shown) step)
+
+-- what was found is the status of the slot's last timer, before and after the look
+pub found_is : (g : Settings) (v : View) (by : ℕ) (p : Part) (k : ℕ) (found : Option Status) (u : View) → Stands g v.front p
+    → HoldsCaller g v by p.number → k < g.slots → Appends g v (probe_entry (Caller by) p.number k found) u
+    → found ≡ (state g u.front).status (last_timer p.number p.slots k)
+found_is g v by p k found u stands holds low step =
+    let e : Entry = probe_entry (Caller by) p.number k found in
+    let s : State = state g (v.front ++ step.between) in
+    let later = later_before g v e u p.number step holds.wheel in
+    let last : s.last p.number k ≡ (slot_at p.slots k).generation = later.last k ∙ sym (stands.holds.lasts k low) in
+    (can_step g v e u step).found
+    ∙ (ap (λ n. s.status (timer_at p.number k n)) last
+    ∙ ap (λ (t : State). t.status (last_timer p.number p.slots k)) (sym (stepped g v e u step)))
+
+-- a slot was found taken
+pub looks_taken : (g : Settings) (v : View) (by : ℕ) (p : Part) (k : ℕ) (found : Option Status) (u : View) → Stands g v.front p
+    → HoldsCaller g v by p.number → Appends g v (probe_entry (Caller by) p.number k found) u → is_taken found ≡ true → LooksAt g v by p p k u
+looks_taken g v by p k found u stands holds step taken = record {
+  found = found;
+  step = step;
+  stands = stands_step g v (probe_entry (Caller by) p.number k found) u p stands step holds.wheel (record { arm = refl; expire = refl; orphan = refl });
+  number = refl;
+  slots = refl;
+  others = λ j other. refl;
+  full = λ away. inl taken;
+}
+
+not_armed : (x : Option Status) → is_taken x ≡ false → x ≢ Some Armed
+not_armed x free is = (let bad : true ≡ false = sym (ap is_taken is) ∙ free in cc)
+
+put_other : (s : sets.FinSet nat_cmp) (k j : ℕ) (b : Bool) → j ≢ k → sets.contains (cond b (sets.insert s k) s) j ≡ sets.contains s j
+put_other s k j false other = refl
+put_other s k j true other =
+    sets.contains-insert nat_cmp_total s k j
+    ∙ ((λ i. unsigned_tied j k i || sets.contains s j) ∙ ap (λ b. b || sets.contains s j) (ne_eqb j k other))
+
+put_here : (s : sets.FinSet nat_cmp) (k : ℕ) → sets.contains (sets.insert s k) k ≡ true
+put_here s k =
+    sets.contains-insert nat_cmp_total s k k
+    ∙ ((λ i. unsigned_tied k k i || sets.contains s k) ∙ ap (λ b. b || sets.contains s k) (eq-eqb k k refl))
+
+spent : (n : ℕ) (s : sets.FinSet nat_cmp) (k : ℕ) → n ≤ 262143 → sets.contains (cond (nat_lt n 262143) (sets.insert s k) s) k ≡ false → n ≡ 262143
+spent n s k high away = at (nat_lt n 262143) refl away
+  where
+    at : (b : Bool) → nat_lt n 262143 ≡ b → sets.contains (cond b (sets.insert s k) s) k ≡ false → n ≡ 262143
+    at true low away = (let here = put_here s k in absurd cc)
+    at false low away =
+        elim (cases_lt n 262143) [ inl less ↦ (let t = lt-ltb n 262143 less in absurd cc) | inr more ↦ omega (arith, more, high) ]
+
+-- a slot was found not taken: it has no row from then on, and is held free unless it is spent
+pub looks_free : (g : Settings) (v : View) (by : ℕ) (p q r : Part) (k : ℕ) (found : Option Status) (u : View) → Stands g v.front p
+    → HoldsCaller g v by p.number → k < g.slots → Appends g v (probe_entry (Caller by) p.number k found) u → is_taken found ≡ false → q ≡ dropped p k → r ≡ freed q k → LooksAt g v by p r k u
+looks_free g v by p q r k found u stands holds low step none gone back =
+    let few : (slot_at p.slots k).generation ≤ 262143 =
+    omega (arith, stands.holds.lasts k low, (slots_kept g v.front stands.legal).lasts p.number k) in
+    let e : Entry = probe_entry (Caller by) p.number k found in
+    let is = found_is g v by p k found u stands holds low step in
+    let free : is_taken ((state g u.front).status (last_timer p.number p.slots k)) ≡ false = ap is_taken (sym is) ∙ none in
+    let all : r ≡ freed (dropped p k) k = back ∙ ap (λ (x : Part). freed x k) gone in
+    let counts = stands.counted in
+    let left : Stands g u.front (dropped p k) =
+    stands_gone g v e u p k p.expires p.orphans stands (subst (λ n. k < n) (sym stands.holds.wide) low) step holds.wheel refl (λ j other. refl)
+    (not_armed ((state g u.front).status (last_timer p.number p.slots k)) free)
+    (counts.expires ∙ sym (count_same g v e u p.number is_expire step holds.wheel refl))
+    (counts.orphans ∙ sym (count_same g v e u p.number is_orphan step holds.wheel refl)) in
+    record {
+      found = found;
+      step = step;
+      stands = subst (λ (x : Part). Stands g u.front x) (sym all) (record {
+        legal = left.legal;
+        holds = holds_freed g (state g u.front) (dropped p k) k left.holds free;
+        counted = record { arms = left.counted.arms; expires = left.counted.expires; orphans = left.counted.orphans };
+      });
+      number = ap (λ (x : Part). x.number) all;
+      slots = ap (λ (x : Part). x.slots) all;
+      others = λ j other. ap (λ (x : Part). sets.contains x.free j) all
+          ∙ put_other p.free k j (nat_lt (slot_at p.slots k).generation 262143) other;
+      full = λ away. inr (spent (slot_at p.slots k).generation p.free k few (ap (λ (x : Part). sets.contains x.free k) (sym all) ∙ away));
+    }
+
+-- nothing was looked at yet
+pub looks_none : (g : Settings) (v : View) (by : ℕ) (p : Part) → Stands g v.front p → ((k : ℕ) → sets.contains p.free k ≡ false)
+    → LooksAtSome g v by p p 0 v
+looks_none g v by p stands none = record {
+  founds = [];
+  call = record { actors = refl; legal = stands.legal; later = []; grown = sym (append-nil v.front); ours = refl };
+  count = refl;
+  stands = stands;
+  number = refl;
+  slots = refl;
+  full = tt;
+  above = λ j high. none j;
+  look = refl;
+}
+
+probes-push : (by w k : ℕ) (founds : List (Option Status)) (found : Option Status)
+    → probes_from by w k (founds ++ found ∷ []) ≡ probes_from by w k founds ++ probe_entry (Caller by) w (k + length founds) found ∷ []
+probes-push by w k [] found =
+    let e : k ≡ k + 0 = omega arith in
+    ap (λ n. probe_entry (Caller by) w n found ∷ []) e
+probes-push by w k (x ∷ founds) found =
+    let e : (k + 1) + length founds ≡ k + suc (length founds) = omega arith in
+    ap (λ l. probe_entry (Caller by) w k x ∷ l)
+    (probes-push by w (k + 1) founds found
+    ∙ ap (λ n. probes_from by w (k + 1) founds ++ probe_entry (Caller by) w n found ∷ []) e)
+
+full-push : (q r : Part) (k : ℕ) (founds : List (Option Status)) (found : Option Status) → r.slots ≡ q.slots
+    → ((j : ℕ) → j < k + length founds → sets.contains r.free j ≡ sets.contains q.free j)
+    → AreFull q k founds
+    → (sets.contains r.free (k + length founds) ≡ false → (is_taken found ≡ true) ⊎ ((slot_at r.slots (k + length founds)).generation ≡ 262143))
+    → AreFull r k (founds ++ found ∷ [])
+full-push q r k [] found slots same full last =
+    let e : k + 0 ≡ k = omega arith in
+    (subst (λ n. sets.contains r.free n ≡ false → (is_taken found ≡ true) ⊎ ((slot_at r.slots n).generation ≡ 262143)) e last, tt)
+full-push q r k (x ∷ founds) found slots same full last =
+    let e : k + suc (length founds) ≡ (k + 1) + length founds = omega arith in (
+      λ away. subst (λ s. (is_taken x ≡ true) ⊎ ((slot_at s k).generation ≡ 262143)) (sym slots) (full.0 (sym (same k (omega arith)) ∙ away)),
+      full-push q r (k + 1) founds found slots (λ j low. same j (omega (arith, low, e))) full.1
+          (subst (λ n. sets.contains r.free n ≡ false → (is_taken found ≡ true) ⊎ ((slot_at r.slots n).generation ≡ 262143)) e last),
+    )
+
+-- one more was looked at
+pub looks_more : (g : Settings) (v : View) (by : ℕ) (p q r : Part) (n : ℕ) (u w : View) → LooksAtSome g v by p q n u
+    → HoldsCaller g u by q.number → LooksAt g u by q r n w → LooksAtSome g v by p r (n + 1) w
+looks_more g v by p q r n u w some holds one =
+    let e : Entry = probe_entry (Caller by) p.number n one.found in
+    let step : Appends g u e w = subst (λ m. Appends g u (probe_entry (Caller by) m n one.found) w) some.number one.step in
+    record {
+      founds = some.founds ++ one.found ∷ [];
+      call = subst (λ es. TakesPlace g v es w)
+          (ap (λ m. probes_from by p.number 0 some.founds ++ probe_entry (Caller by) p.number m one.found ∷ []) (here 0)
+          ∙ sym (probes-push by p.number 0 some.founds one.found))
+          (takes_place_then g v u w (probes_from by p.number 0 some.founds) (e ∷ []) some.call (step_takes_place g u e w step));
+      count = length-append some.founds (one.found ∷ []) ∙ ap (λ m. m + 1) some.count;
+      stands = one.stands;
+      number = one.number ∙ some.number;
+      slots = one.slots ∙ some.slots;
+      full = full-push q r 0 some.founds one.found one.slots (λ j low. one.others j (omega (arith, low, some.count))) some.full
+          (subst (λ m. sets.contains r.free m ≡ false → (is_taken one.found ≡ true) ⊎ ((slot_at r.slots m).generation ≡ 262143)) (here 0)
+          (λ away. subst (λ s. (is_taken one.found ≡ true) ⊎ ((slot_at s n).generation ≡ 262143)) (sym one.slots) (one.full away)));
+      above = λ j high. one.others j (omega (arith, high)) ∙ some.above j (omega (arith, high));
+      look = look_stepped g u (probe_entry (Caller by) q.number n one.found) w one.step holds.caller ∙ some.look;
+    }
+  where
+    here : (z : ℕ) → n ≡ 0 + length some.founds
+    here z = omega (arith, some.count)
+
+-- the part stands when a slot is held free no more
+picked_stands : (g : Settings) (v : View) (p q : Part) (k : ℕ) → Stands g v.front p → q ≡ picked p k → Stands g v.front q
+picked_stands g v p q k stands is = subst (λ (x : Part). Stands g v.front x) (sym is) (record {
+  legal = stands.legal;
+  holds = record {
+    number = stands.holds.number;
+    processes = stands.holds.processes;
+    many = stands.holds.many;
+    wide = stands.holds.wide;
+    rows = stands.holds.rows;
+    lasts = stands.holds.lasts;
+    arms = stands.holds.arms;
+    free = λ j held. stands.holds.free j (taken_was p.free k j held);
+  };
+  counted = record { arms = stands.counted.arms; expires = stands.counted.expires; orphans = stands.counted.orphans };
+})
+
+-- a slot was held free
+pub takes_first : (g : Settings) (v : View) (by : ℕ) (p q : Part) (k : ℕ) → Stands g v.front p → q ≡ picked p k → IsFree q k
+    → sets.contains p.free k ≡ true → TakesSlot g v by p q (Some k) v
+takes_first g v by p q k stands is free held = record {
+  founds = [];
+  call = record { actors = refl; legal = stands.legal; later = []; grown = sym (append-nil v.front); ours = refl };
+  stands = picked_stands g v p q k stands is;
+  number = ap (λ (x : Part). x.number) is;
+  slots = ap (λ (x : Part). x.slots) is;
+  finds = free;
+  usable = ap (λ (x : Part). is_taken ((state g v.front).status (last_timer x.number x.slots k))) is ∙ stands.holds.free k held;
+  look = refl;
+}
+
+-- none was, and all were looked at
+pub takes_then : (g : Settings) (v : View) (by : ℕ) (p p' q r : Part) (n : ℕ) (slot : Option ℕ) (u : View) → p' ≡ p → n ≡ length p.slots
+    → LooksAtSome g v by p' q n u → IfNone slot ((k : ℕ) → sets.contains q.free k ≡ false) → IfNone slot (r ≡ q)
+    → IfSome slot (λ k. sets.contains q.free k ≡ true) → IfSome slot (λ k. r ≡ picked q k) → IfSome slot (IsFree r)
+    → TakesSlot g v by p r slot u
+takes_then g v by p p' q r n None u same many some none left held is free =
+    let here = subst (λ (x : Part). LooksAtSome g v by x q n u) same some in
+    record {
+      founds = here.founds;
+      call = here.call;
+      stands = subst (λ (x : Part). Stands g u.front x) (sym left) here.stands;
+      number = ap (λ (x : Part). x.number) left ∙ here.number;
+      slots = ap (λ (x : Part). x.slots) left ∙ here.slots;
+      finds = (
+        here.count ∙ many,
+        subst (λ (x : Part). AreFull x 0 here.founds) (sym left) here.full,
+        λ j. ap (λ (x : Part). sets.contains x.free j) left ∙ none j,
+      );
+      usable = tt;
+      look = here.look;
+    }
+takes_then g v by p p' q r n (Some k) u same many some none left held is free =
+    let here = subst (λ (x : Part). LooksAtSome g v by x q n u) same some in
+    record {
+      founds = here.founds;
+      call = here.call;
+      stands = picked_stands g u q r k here.stands is;
+      number = ap (λ (x : Part). x.number) is ∙ here.number;
+      slots = ap (λ (x : Part). x.slots) is ∙ here.slots;
+      finds = free;
+      usable = ap (λ (x : Part). is_taken ((state g u.front).status (last_timer x.number x.slots k))) is ∙ here.stands.holds.free k held;
+      look = here.look;
+    }

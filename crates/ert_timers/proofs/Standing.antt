@@ -1,0 +1,123 @@
+-- When a part stands for the front after a step of its own.
+
+use Rattle.std.proofs.Common.{◌≡◌, ◌≢◌, ℕ, Bool, true, false, cond, ◌&&◌, ◌||◌, nat_eq, nat_lt, List, length, Option, Some, None, refl, sym, ap, ◌∙◌, arith, eqb-true}
+use Rattle.std.specs.Cmp.{nat_cmp_total, unsigned_tied}
+use Rattle.std.specs.FinSet as sets
+use Rattle.std.specs.Ordering.{nat_cmp}
+use Rattle.ert_defs.specs.Actors.{has_actor}
+use Rattle.ert_defs.specs.States.{State, state}
+use Rattle.ert_defs.specs.Timers.{is_taken}
+use Rattle.ert_defs.specs.declared.entry.Actor.TheVariants.{Wheel}
+use Rattle.ert_defs.specs.declared.entry.Entry.{Entry}
+use Rattle.ert_defs.specs.declared.entry.Event.{Event}
+use Rattle.ert_defs.specs.declared.entry.Event.TheVariants.{Expire}
+use Rattle.ert_defs.specs.declared.settings.Settings.{Settings}
+use Rattle.ert_defs.specs.declared.timer.Status.{Status}
+use Rattle.ert_defs.specs.declared.timer.Status.TheVariants.{Armed, Expired, Delivered, Cancelled, Orphaned, Dropped}
+use Rattle.ert_defs.specs.declared.timer.TimerRef.{TimerRef}
+use Rattle.ert_table.specs.Held.{is_held}
+use Rattle.ert_table.specs.Takes.{Appends}
+use Rattle.ert_table.specs.declared.view.View.{View}
+use Rattle.ert_timers.specs.Changes.{freed}
+use Rattle.ert_timers.specs.Parts.{Part, HoldsRows, Holds, Stands, slot_at, last_timer, is_arm, is_expire, is_orphan, count_of}
+use Rattle.ert_timers.proofs.Later.{IsLater, later_step, expires, unexpired_step, count_step}
+use Rattle.ert_timers.proofs.Rows.{rows_later}
+use Rattle.ert_wheel.specs.declared.row.Key.{Key}
+
+-- the part with these keys and counts fits a later state
+pub holds_with : (g : Settings) (s t : State) (p : Part) (keys : List (Option Key)) (expired orphaned : ℕ) → Holds g s p
+    → IsLater p.number s t → length keys ≡ length p.keys → HoldsRows t p.number p.slots keys
+    → Holds g t (record p { keys = keys; expires = expired; orphans = orphaned })
+holds_with g s t p keys expired orphaned holds later wide rows = record {
+  number = holds.number;
+  processes = holds.processes;
+  many = holds.many;
+  wide = wide ∙ holds.wide;
+  rows = rows;
+  lasts = λ k low. holds.lasts k low ∙ sym (later.last k);
+  arms = holds.arms ∙ ap length (sym later.rows);
+  free = λ k is. later.free (last_timer p.number p.slots k) refl (holds.free k is);
+}
+
+-- a slot is in the set after it was put in, or was before
+held_or : (s : sets.FinSet nat_cmp) (k j : ℕ) (b : Bool) → sets.contains (cond b (sets.insert s k) s) j ≡ true
+    → (nat_eq j k || sets.contains s j) ≡ true
+held_or s k j true is = sym (sets.contains-insert nat_cmp_total s k j ∙ (λ i. unsigned_tied j k i || sets.contains s j)) ∙ is
+held_or s k j false is = at (nat_eq j k)
+  where
+    at : (b : Bool) → (b || sets.contains s j) ≡ true
+    at true = refl
+    at false = is
+
+or_cases : (b c : Bool) (P : Type 0) → (b ≡ true → P) → (c ≡ true → P) → (b || c) ≡ true → P
+or_cases true c P f h is = f refl
+or_cases false c P f h is = h is
+
+-- a slot whose timer takes it no more can be held free
+pub holds_freed : (g : Settings) (t : State) (p : Part) (k : ℕ) → Holds g t p
+    → is_taken (t.status (last_timer p.number p.slots k)) ≡ false → Holds g t (freed p k)
+holds_freed g t p k holds none = record {
+  number = holds.number;
+  processes = holds.processes;
+  many = holds.many;
+  wide = holds.wide;
+  rows = holds.rows;
+  lasts = holds.lasts;
+  arms = holds.arms;
+  free = λ j is.
+      or_cases (nat_eq j k) (sets.contains p.free j) (is_taken (t.status (last_timer p.number p.slots j)) ≡ false)
+      (λ same. ap (λ n. is_taken (t.status (last_timer p.number p.slots n))) (eqb-true j k same) ∙ none)
+      (λ was. holds.free j was)
+      (held_or p.free k j (nat_lt (slot_at p.slots k).generation 262143) is);
+}
+
+-- a timer that isn't armed and hasn't expired takes no slot
+pub takes_none : (x : Option Status) → x ≢ Some Armed → x ≢ Some Expired → is_taken x ≡ false
+takes_none None a b = refl
+takes_none (Some Armed) a b = absurd (a refl)
+takes_none (Some Expired) a b = absurd (b refl)
+takes_none (Some Delivered) a b = refl
+takes_none (Some Cancelled) a b = refl
+takes_none (Some Orphaned) a b = refl
+takes_none (Some Dropped) a b = refl
+
+-- the counts go on by the step alone
+pub count_same : (g : Settings) (v : View) (e : Entry) (u : View) (w : ℕ) (test : Event → Bool) → Appends g v e u
+    → is_held v.actors (Wheel w) ≡ true → test e.event ≡ false → count_of test w u.front ≡ count_of test w v.front
+count_same g v e u w test step held unmet =
+    let none : (has_actor e (Wheel w) && test e.event) ≡ false = at (has_actor e (Wheel w)) in
+    let nought : ◌≡◌ {A = ℕ} (cond (has_actor e (Wheel w) && test e.event) 1 0) 0 = ap (λ b. cond b 1 0) none in
+    omega (arith, count_step g v e u w test step held)
+  where
+    at : (b : Bool) → (b && test e.event) ≡ false
+    at true = unmet
+    at false = refl
+
+no_expire : (event : Event) → is_expire event ≡ false → (r : TimerRef) → expires event r ≡ false
+no_expire (Expire timer) unmet r = absurd cc
+no_expire _ unmet r = refl
+
+-- no timer is armed, expires or is cancelled for an exit by an event
+pub record IsCalm (event : Event) : Type 0 where
+  pub arm : is_arm event ≡ false
+  pub expire : is_expire event ≡ false
+  pub orphan : is_orphan event ≡ false
+
+-- after such a step the part stands as it is
+pub stands_step : (g : Settings) (v : View) (e : Entry) (u : View) (p : Part) → Stands g v.front p → Appends g v e u
+    → is_held v.actors (Wheel p.number) ≡ true → IsCalm e.event → Stands g u.front p
+stands_step g v e u p stands step held calm = record {
+  legal = step.legal;
+  holds =
+      let later = later_step g v e u p.number step held calm.arm in
+      holds_with g (state g v.front) (state g u.front) p p.keys p.expires p.orphans stands.holds later refl
+      (rows_later g v.front p.number p.slots p.keys (state g u.front) stands.legal stands.holds.rows later
+      (λ k key is.
+      unexpired_step g v e u (last_timer p.number p.slots k) step held (no_expire e.event calm.expire (last_timer p.number p.slots k))
+      (stands.holds.rows.unexpired k key is)));
+  counted = record {
+    arms = stands.counted.arms ∙ sym (count_same g v e u p.number is_arm step held calm.arm);
+    expires = stands.counted.expires ∙ sym (count_same g v e u p.number is_expire step held calm.expire);
+    orphans = stands.counted.orphans ∙ sym (count_same g v e u p.number is_orphan step held calm.orphan);
+  };
+}

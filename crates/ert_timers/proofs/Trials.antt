@@ -1,0 +1,225 @@
+-- The loop over the due rows of an advance, and the whole call.
+
+use Rattle.std.proofs.Common.{◌≡◌, ℕ, ◌+◌, ℤ, true, false, ◌||◌, nat_eq, List, [], ◌∷◌, ◌++◌, length, All, drop, Option, Some, None, Result, Ok, Err, inr, refl, sym, ap, subst, ◌∙◌, arith, append_assoc, append-nil, length-append}
+use Rattle.std.proofs.lemmas.List.{map-append}
+use Rattle.std.proofs.lemmas.Bool.Decides.{nat_tests}
+use Rattle.std.proofs.lemmas.List.Sorted.{sorted_far}
+use Rattle.std.specs.Cmp.{IsStrictWeakOrder}
+use Rattle.std.specs.Result.{IsErr}
+use Rattle.std.specs.List.Sorted.{IsSortedBy}
+use Rattle.ert_defs.specs.Entries.{look_entry, advanced_entry}
+use Rattle.ert_defs.specs.Milliseconds.{down}
+use Rattle.ert_defs.specs.States.{look_after, state}
+use Rattle.ert_defs.specs.Timers.{Row}
+use Rattle.ert_defs.specs.declared.entry.Actor.TheVariants.{Wheel, Sched}
+use Rattle.ert_defs.specs.declared.entry.Entry.{Entry}
+use Rattle.ert_defs.specs.declared.memory.NoMemory.{NoMemory}
+use Rattle.ert_defs.specs.declared.settings.Settings.{Settings}
+use Rattle.ert_defs.specs.declared.timer.Status.{Status}
+use Rattle.ert_answers.specs.WheelCalls.{Try, expires_by, expiry_entries, hit_by, hits}
+use Rattle.ert_calls.proofs.Looks.{look_stepped}
+use Rattle.ert_table.specs.Held.{is_held}
+use Rattle.ert_table.specs.Takes.{Appends, MayStep, TakesPlace}
+use Rattle.ert_table.specs.declared.view.View.{View}
+use Rattle.ert_table.proofs.Calls.{step_takes_place, takes_place_then}
+use Rattle.ert_timers.specs.Expiring.{Expires, ExpiresSome, HasExpired, HasNotExpired, IsAdvanced, IsReady, AreDue, fired_as, fired_in, timer_of}
+use Rattle.ert_timers.specs.FiredLists.{Queue}
+use Rattle.ert_timers.specs.Looking.{LooksDown}
+use Rattle.ert_timers.specs.Parts.{HoldsSched, Part, Stands, last_timer}
+use Rattle.ert_timers.proofs.Dues.{due_left, none_due}
+use Rattle.ert_timers.proofs.Standing.{stands_step}
+use Rattle.ert_timers.proofs.Tried.{self, waits_by}
+use Rattle.ert_wheel.specs.Rows.{key_in, key_of, times, due_at, comes_before}
+use Rattle.ert_wheel.specs.declared.row.Row.{Row as WheelRow}
+
+-- nothing was tried yet
+pub expires_none : (g : Settings) (v : View) (p : Part) (to : ℕ) (due : List WheelRow) (q : Queue) → IsReady g v.front p to due
+    → ExpiresSome g v p p to due 0 q q v
+expires_none g v p to due q ready = record {
+  tries = [];
+  gained = [];
+  call = record {
+    actors = refl;
+    legal = ready.stands.legal;
+    later = [];
+    grown = sym (append-nil v.front);
+    ours = refl;
+  };
+  number = refl;
+  ready = ready;
+  count = refl;
+  fired = sym (append-nil q.rows);
+  waits = sym (append-nil (fired_in g v.front p.number));
+  room = omega arith;
+}
+
+-- the entry of a try is no look
+no_look : (w : ℕ) (timer : _) (missed : Option (Option Status)) (last : ℤ) → look_after last (expires_by w timer missed).event ≡ last
+no_look w timer None last = refl
+no_look w timer (Some found) last = refl
+
+by_sched : (w : ℕ) (timer : _) (missed : Option (Option Status)) → (expires_by w timer missed).by ≡ Sched w
+by_sched w timer None = refl
+by_sched w timer (Some found) = refl
+
+fired_count : (row : Row) (missed : Option (Option Status)) → length (fired_as row missed) ≡ hit_by missed
+fired_count row None = refl
+fired_count row (Some found) = refl
+
+hits-push : (tries : List Try) (t : Try) → hits (tries ++ t ∷ []) ≡ hits tries + hit_by t.missed
+hits-push [] t = omega arith
+hits-push (x ∷ tries) t = omega (arith, hits-push tries t)
+
+-- one more was tried
+pub expires_more : (g : Settings) (v : View) (p q r : Part) (to : ℕ) (due : List WheelRow) (n : ℕ) (row : WheelRow) (old mid new : Queue) (u w : View)
+    → ExpiresSome g v p q to due n old mid u → is_held u.actors (Sched q.number) ≡ true → drop n due ≡ row ∷ drop (n + 1) due
+    → Expires g u q r row mid new w → ExpiresSome g v p r to due (n + 1) old new w
+expires_more g v p q r to due n row old mid new u w some held next one =
+    let t : Try = record { timer = last_timer q.number q.slots row.slot; missed = one.missed } in
+    let step : Appends g u (expires_by p.number t.timer t.missed) w =
+    subst (λ k. Appends g u (expires_by k t.timer t.missed) w) some.number one.step in
+    let ready : IsReady g u.front q to (row ∷ drop (n + 1) due) = subst (IsReady g u.front q to) next some.ready in
+    let mine : r.number ≡ q.number = ap (λ (x : Part). x.number) one.part in
+    let e : Entry = expires_by q.number t.timer t.missed in
+    let look : (state g w.front).looked (Sched q.number) ≡ (state g u.front).looked (Sched q.number) =
+    subst (λ a. (state g w.front).looked a ≡ (state g u.front).looked a) (by_sched q.number t.timer t.missed)
+    (look_stepped g u e w one.step (subst (λ a. is_held u.actors a ≡ true) (sym (by_sched q.number t.timer t.missed)) held)
+    ∙ no_look q.number t.timer t.missed ((state g u.front).looked e.by)) in
+    record {
+      tries = some.tries ++ t ∷ [];
+      gained = some.gained ++ fired_as (timer_of q row) one.missed;
+      call = subst (λ es. TakesPlace g v es w) (sym (map-append (λ (x : Try). expires_by p.number x.timer x.missed) some.tries (t ∷ [])))
+          (takes_place_then g v u w (expiry_entries p.number some.tries) (expires_by p.number t.timer t.missed ∷ []) some.call
+          (step_takes_place g u (expires_by p.number t.timer t.missed) w step));
+      number = mine ∙ some.number;
+      ready = record {
+        stands = one.stands;
+        told = some.ready.told ∙ (ap (down g) (sym look) ∙ ap (λ k. down g ((state g w.front).looked (Sched k))) (sym mine));
+        due = subst (λ (x : Part). AreDue x to (drop (n + 1) due)) (sym one.part) (due_left g u.front q to row (drop (n + 1) due) ready _);
+      };
+      count = length-append some.gained (fired_as (timer_of q row) one.missed)
+          ∙ omega (arith, some.count, fired_count (timer_of q row) one.missed, hits-push some.tries t);
+      fired = one.fired ∙ (ap (λ l. l ++ fired_as (timer_of q row) one.missed) some.fired
+          ∙ append_assoc old.rows some.gained (fired_as (timer_of q row) one.missed));
+      waits = subst (λ k. fired_in g w.front k ≡ fired_in g u.front k ++ fired_as (timer_of q row) one.missed) some.number one.waits
+          ∙ (ap (λ l. l ++ fired_as (timer_of q row) one.missed) some.waits
+          ∙ append_assoc (fired_in g v.front p.number) some.gained (fired_as (timer_of q row) one.missed));
+      room = omega (arith, some.room, one.room);
+    }
+
+-- an advance: the look, the tries, and the record of the end
+pub expired_all : (g : Settings) (v : View) (p q : Part) (to : ℕ) (due : List WheelRow) (n : ℕ) (old new : Queue) (u w x : View)
+    → LooksDown g v (Sched p.number) to u → ExpiresSome g u p q to due n old new w → Appends g w (advanced_entry p.number to) x
+    → is_held v.actors (Sched p.number) ≡ true → HasExpired g v p.number to old new x
+expired_all g v p q to due n old new u w x looks some last sched =
+    let look : Entry = look_entry (Sched p.number) looks.now in
+    let has : (nat_eq p.number p.number || false) ≡ true = ap (λ b. b || false) (self p.number) in
+    let tail : TakesPlace g u (expiry_entries p.number some.tries ++ advanced_entry p.number to ∷ []) x =
+    takes_place_then g u w x (expiry_entries p.number some.tries) (advanced_entry p.number to ∷ []) some.call
+    (step_takes_place g w (advanced_entry p.number to) x last) in
+    record {
+      gained = some.gained;
+      call = record {
+        entries = look ∷ (expiry_entries p.number some.tries ++ advanced_entry p.number to ∷ []);
+        allowed = record { now = looks.now; tries = some.tries; fired = some.count; entries = refl };
+        call = takes_place_then g v u x (look ∷ []) (expiry_entries p.number some.tries ++ advanced_entry p.number to ∷ [])
+            (step_takes_place g v look u looks.step) tail;
+      };
+      fired = some.fired;
+      waits = waits_by g w (advanced_entry p.number to) x p.number last
+          (subst (λ actors. is_held actors (Sched p.number) ≡ true) (sym (some.call.actors ∙ looks.step.actors)) sched) has
+          ∙ (some.waits ∙ ap (λ l. l ++ some.gained) (waits_by g v look u p.number looks.step sched has));
+    }
+
+-- the part stands after the look
+pub looked_stands : (g : Settings) (v : View) (p : Part) (to : ℕ) (u : View) → Stands g v.front p → HoldsSched v p.number
+    → LooksDown g v (Sched p.number) to u → Stands g u.front p
+looked_stands g v p to u stands holds looks =
+    stands_step g v (look_entry (Sched p.number) looks.now) u p stands looks.step holds.wheel
+    (record { arm = refl; expire = refl; orphan = refl })
+
+-- what is ready after the look
+pub ready_looked : (g : Settings) (v : View) (p : Part) (to : ℕ) (due : List WheelRow) (u : View) → Stands g v.front p → HoldsSched v p.number
+    → LooksDown g v (Sched p.number) to u → AreDue p to due → IsReady g u.front p to due
+ready_looked g v p to due u stands holds looks due_are = record {
+  stands = looked_stands g v p to u stands holds looks;
+  told = looks.told ∙ ap (down g) (sym (look_stepped g v (look_entry (Sched p.number) looks.now) u looks.step holds.sched));
+  due = due_are;
+}
+
+-- the part stands when the end is recorded
+pub stands_ended : (g : Settings) (v : View) (p q : Part) (w to : ℕ) (u : View) → Stands g v.front p → q ≡ p → p.number ≡ w
+    → is_held v.actors (Wheel w) ≡ true → Appends g v (advanced_entry w to) u → Stands g u.front q
+stands_ended g v p q w to u stands same number held step =
+    subst (λ (x : Part). Stands g u.front x) (sym same)
+    (stands_step g v (advanced_entry w to) u p stands step (subst (λ n. is_held v.actors (Wheel n) ≡ true) (sym number) held)
+    (record { arm = refl; expire = refl; orphan = refl }))
+
+-- a pass holds the same actors after a step
+pub still_held : (v u : View) (w k : ℕ) → HoldsSched v w → u.actors ≡ v.actors → k ≡ w → HoldsSched u k
+still_held v u w k holds same number =
+    subst (HoldsSched u) (sym number) (record {
+      sched = subst (λ actors. is_held actors (Sched w) ≡ true) (sym same) holds.sched;
+      wheel = subst (λ actors. is_held actors (Wheel w) ≡ true) (sym same) holds.wheel;
+    })
+
+-- the end may be recorded
+pub may_end : (g : Settings) (v : View) (p : Part) (to k : ℕ) (rows : List WheelRow) → IsReady g v.front p to rows → rows ≡ []
+    → HoldsSched v p.number → k ≡ p.number → MayStep g v (advanced_entry k to)
+may_end g v p to k rows ready none holds number =
+    let done : IsReady g v.front p to [] = subst (IsReady g v.front p to) none ready in
+    subst (λ n. MayStep g v (advanced_entry n to)) (sym number) (record {
+      ours = (holds.sched, holds.wheel);
+      keeps = (refl, refl, done.stands.holds.number);
+      known = (done.told, none_due g v.front p to done);
+    })
+
+-- the whole call, of what the code has
+pub has_expired : (g : Settings) (v : View) (p p' q : Part) (k to : ℕ) (due : List WheelRow) (n : ℕ) (old old' new : Queue) (u w x : View)
+    → k ≡ p.number → p' ≡ p → old'.rows ≡ old.rows → LooksDown g v (Sched k) to u → ExpiresSome g u p' q to due n old' new w
+    → Appends g w (advanced_entry k to) x → HoldsSched v p.number → HasExpired g v p.number to old new x
+has_expired g v p p' q k to due n old old' new u w x number same rows looks some last holds =
+    let all =
+    expired_all g v p q to due n old' new u w x (subst (λ m. LooksDown g v (Sched m) to u) number looks)
+    (subst (λ (y : Part). ExpiresSome g u y q to due n old' new w) same some)
+    (subst (λ m. Appends g w (advanced_entry m to) x) number last) holds.sched in
+    record {
+      gained = all.gained;
+      call = all.call;
+      fired = all.fired ∙ ap (λ l. l ++ all.gained) rows;
+      waits = all.waits;
+    }
+
+-- there was no memory
+pub not_expired : (g : Settings) (v : View) (w k to : ℕ) (e : NoMemory) (old new : Queue) (u : View) → k ≡ w → LooksDown g v (Sched k) to u
+    → new.rows ≡ old.rows → HasNotExpired g v w e old new u
+not_expired g v w k to e old new u number looks rows =
+    let here = subst (λ m. LooksDown g v (Sched m) to u) number looks in
+    record {
+      call = record {
+        entries = look_entry (Sched w) here.now ∷ [];
+        allowed = inr (here.now, refl);
+        call = step_takes_place g v (look_entry (Sched w) here.now) u here.step;
+      };
+      fired = rows;
+    }
+
+pub when_err : (g : Settings) (v : View) (w : ℕ) (r : Result ℕ NoMemory) (old new : Queue) (u : View) → IsErr r
+    → ((e : NoMemory) → HasNotExpired g v w e old new u) → IsAdvanced g v w r old new u
+when_err g v w (Ok to) old new u is f = absurd cc
+when_err g v w (Err e) old new u is f = f e
+
+-- the due rows that the wheel tells
+pub are_due : (p : Part) (to : ℕ) (rows : List WheelRow) → ((k : ℕ) → times k rows ≡ due_at to (key_in p.keys k))
+    → All (λ row. key_in p.keys row.slot ≡ Some (key_of row)) rows → IsSortedBy comes_before rows → AreDue p to rows
+are_due p to rows each held sorted = record {
+  each = each;
+  held = held;
+  in_order = λ i j d less low. sorted_far comes_before weak rows sorted i j d (omega (arith, less)) low;
+}
+  where
+    weak : IsStrictWeakOrder comes_before
+    weak = record {
+      one_way = λ x y. grind (arith, nat_tests);
+      chain = λ x y z. grind (arith, nat_tests);
+    }

@@ -1,0 +1,20 @@
+use Rattle.std.proofs.Common.{◌<◌, sym, subst}
+use Rattle.ert_table.specs.Desks.{settings_of, view_of}
+use Rattle.ert_timers.proofs.Armings.{arms, may_arm}
+use Rattle.ert_timers.proofs.part.WheelPart.arm.Goals as goal
+
+pub keep-timer-requires-clause-dest : goal.keep-timer-requires-clause-dest
+keep-timer-requires-clause-dest c =
+    subst (λ n. c.args.start.now.dest < n) (sym c.requires.stands.holds.processes) c.requires.dest
+
+pub arm-requires-clause-may : goal.arm-requires-clause-may
+arm-requires-clause-may c =
+    may_arm (settings_of c.args.desk.now) (view_of c.args.pass.now) c.args.by c.args.self.now c.keep-timer.new.self c.args.slot c.args.deadline
+    c.args.start.now c.keep-timer.result c.requires.stands c.requires.holds c.requires.free c.requires.usable c.requires.dest
+    c.requires.deadline c.keep-timer.ensures.kept c.keep-timer.ensures.timer
+
+pub returns-clause-call : goal.returns-clause-call
+returns-clause-call c =
+    arms (settings_of c.args.desk.now) (view_of c.args.pass.now) c.args.by c.args.self.now c.keep-timer.new.self c.args.slot c.args.deadline
+    c.args.start.now c.keep-timer.result (view_of c.arm.new.self) c.requires.stands c.requires.holds c.requires.free c.requires.deadline
+    c.keep-timer.ensures.kept c.keep-timer.ensures.timer c.arm.ensures.step

@@ -1,0 +1,75 @@
+use Rattle.std.proofs.Common.{◌+◌, drop, ap, subst, arith, get_or}
+use Rattle.ert_table.specs.Desks.{settings_of, view_of}
+use Rattle.ert_timers.specs.Expiring.{AreDue, IsReady}
+use Rattle.ert_timers.specs.Parts.{Part}
+use Rattle.ert_timers.proofs.Trials.{expires_none, expires_more, still_held}
+use Rattle.ert_timers.proofs.Dues.{is_next, first_held, next_row, no_row, none_left}
+use Rattle.ert_timers.proofs.part.WheelPart.expire_all.Goals as goal
+use Rattle.ert_wheel.specs.declared.row.Row.{Row}
+use Rattle.ert_wheel.proofs.Collect.{key_low}
+
+none : Row
+none = record { deadline = 0; order = 0; slot = 0 }
+
+pub loop-row-init : goal.loop-row-init
+loop-row-init c = record {
+  belongs = c.requires.belongs;
+  holds = c.requires.holds;
+  call = expires_none (settings_of c.args.desk.now) (view_of c.args.pass.now) c.args.self.now c.args.to c.args.due.now c.args.fired.now
+      c.requires.ready;
+}
+
+pub expire-requires-clause-first : goal.expire-requires-clause-first
+unfolding none
+expire-requires-clause-first c =
+    let due = c.args.due.now in
+    let n = c.loop-row.row-index in
+    let h = (view_of c.loop-row.pass).front in
+    let g = settings_of c.args.desk.now in
+    is_next g h c.loop-row.self c.args.to (get_or due n none) (drop (n + 1) due)
+    (subst (IsReady g h c.loop-row.self c.args.to) (next_row due n none c.loop-row-test.true) c.loop-row.invariant.call.ready)
+
+pub expire-requires-clause-held : goal.expire-requires-clause-held
+unfolding none
+expire-requires-clause-held c =
+    let due = c.args.due.now in
+    let n = c.loop-row.row-index in
+    let h = (view_of c.loop-row.pass).front in
+    let g = settings_of c.args.desk.now in
+    first_held g h c.loop-row.self c.args.to (get_or due n none) (drop (n + 1) due)
+    (subst (IsReady g h c.loop-row.self c.args.to) (next_row due n none c.loop-row-test.true) c.loop-row.invariant.call.ready)
+
+pub expire-requires-clause-low : goal.expire-requires-clause-low
+unfolding none
+expire-requires-clause-low c =
+    let due = c.args.due.now in
+    let n = c.loop-row.row-index in
+    let h = (view_of c.loop-row.pass).front in
+    let g = settings_of c.args.desk.now in
+    let ready = c.loop-row.invariant.call.ready in
+    let held =
+    first_held g h c.loop-row.self c.args.to (get_or due n none) (drop (n + 1) due)
+    (subst (IsReady g h c.loop-row.self c.args.to) (next_row due n none c.loop-row-test.true) ready) in
+    omega (arith, ready.stands.holds.wide, ready.stands.holds.many, key_low c.loop-row.self.keys _ _ held)
+
+pub loop-row-preserved : goal.loop-row-preserved
+unfolding none
+loop-row-preserved c =
+    let due = c.args.due.now in
+    let n = c.loop-row.row-index in
+    let g = settings_of c.args.desk.now in
+    let one = c.expire.ensures.call in
+    record {
+      belongs = c.expire.ensures.belongs;
+      holds = still_held (view_of c.loop-row.pass) (view_of c.expire.new.pass) c.loop-row.self.number c.expire.new.self.number
+          c.loop-row.invariant.holds one.step.actors (ap (λ (p : Part). p.number) one.part);
+      call = expires_more g (view_of c.args.pass.now) c.args.self.now c.loop-row.self c.expire.new.self c.args.to due n (get_or due n none)
+          c.args.fired.now c.loop-row.fired c.expire.new.fired (view_of c.loop-row.pass) (view_of c.expire.new.pass)
+          c.loop-row.invariant.call c.loop-row.invariant.holds.sched (next_row due n none c.loop-row-test.true) one;
+    }
+
+pub go_on-requires : goal.go_on-requires
+go_on-requires c =
+    none_left c.loop-row.self c.args.to
+    (subst (AreDue c.loop-row.self c.args.to) (no_row c.args.due.now c.loop-row.row-index c.loop-row-test.false)
+    c.loop-row.invariant.call.ready.due)

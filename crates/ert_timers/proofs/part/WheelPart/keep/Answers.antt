@@ -1,0 +1,41 @@
+use Rattle.std.proofs.Common.{◌≡◌, ◌+◌, ◌<◌, List, Option, refl, sym, subst, set, arith}
+use Rattle.ert_timers.specs.Changes.{IsFree, slot_for}
+use Rattle.ert_timers.specs.Parts.{Part, AreFit, slot_at}
+use Rattle.ert_timers.specs.declared.part.Slot.{Slot}
+use Rattle.ert_timers.proofs.Fit.{armed_few}
+use Rattle.ert_timers.proofs.Keeping.{orders_if, slot_read, fit_kept}
+use Rattle.ert_timers.proofs.part.WheelPart.keep.Goals as goal
+use Rattle.ert_wheel.specs.declared.row.Key.{Key}
+
+pub overflow_add-self : goal.overflow_add-self
+overflow_add-self c =
+    let p = c.self.inside in
+    omega (arith, armed_few p.processes p.slots.items p.wheel p.free p.owners p.arms p.expires p.orphans c.self.invariant)
+
+pub insert-requires-clause-newest : goal.insert-requires-clause-newest
+insert-requires-clause-newest c = orders_if c.self.inside.wheel c.self.inside.arms c.self.invariant.orders
+
+pub invariant_of-self : goal.invariant_of-self
+invariant_of-self c =
+    let p = c.self.inside in
+    let seen : Part = record {
+      number = p.number;
+      processes = p.processes;
+      slots = p.slots.items;
+      keys = p.wheel;
+      free = p.free.held;
+      arms = p.arms;
+      expires = p.expires;
+      orphans = p.orphans;
+    } in
+    let k = c.args.slot in
+    let free = subst (λ (q : Part). IsFree q k) (sym c.self.view_is) c.requires.free in
+    let dest = subst (λ (q : Part). c.args.start.now.dest < q.processes) (sym c.self.view_is) c.requires.dest in
+    let read : slot_at p.slots.items k ≡ c.index.result.now = slot_read p.slots.items k c.index.result.now free.low c.index.ensures in
+    let start = c.args.start.now in
+    subst (λ (slot : Slot). AreFit p.processes (set p.slots.items k (slot_for (slot.generation + 1) start)) c.insert.new.self p.free c.put.new.self
+    (p.arms + 1) p.expires p.orphans) read
+    (subst (λ (keys : List (Option Key)). AreFit p.processes (set p.slots.items k (slot_for ((slot_at p.slots.items k).generation + 1) start)) keys
+    p.free c.put.new.self (p.arms + 1) p.expires p.orphans) (sym c.insert.ensures)
+    (fit_kept seen p.free p.owners c.put.new.self k start c.args.deadline c.self.invariant refl free dest c.put.ensures.slots
+    c.put.ensures.homes c.put.ensures.chains))

@@ -1,0 +1,16 @@
+use Rattle.std.proofs.Common.{refl}
+use Rattle.ert_timers.proofs.Openings.{fit_open, stands_open}
+use Rattle.ert_timers.proofs.part.WheelPart.open.Goals as goal
+
+pub invariant_of-result : goal.invariant_of-result
+invariant_of-result c =
+    let g = c.args.settings.now in
+    let counts = c.requires.checked.counts in
+    fit_open g.processes g.slots c.in_ok-slots.slots.items c.in_ok-rows.rows c.in_ok-free.free c.in_ok-owners.owners counts.slots_high
+    counts.processes_high c.in_ok-slots.ensures c.in_ok-rows.ensures c.in_ok-free.ensures.slots c.in_ok-free.ensures.every
+    c.in_ok-owners.ensures.slots c.in_ok-owners.ensures.homes c.in_ok-owners.ensures.empty
+
+pub returns-clause-stands : goal.returns-clause-stands
+returns-clause-stands c =
+    let g = c.args.settings.now in
+    stands_open g c.args.wheel g.slots _ c.requires.in_range refl refl refl c.in_ok-slots.ensures c.in_ok-rows.ensures refl refl refl

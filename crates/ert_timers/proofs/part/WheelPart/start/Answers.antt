@@ -1,0 +1,89 @@
+use Rattle.std.proofs.Common.{refl, ap, ◌∙◌}
+use Rattle.ert_table.specs.Desks.{settings_of, view_of}
+use Rattle.ert_timers.specs.Parts.{Part}
+use Rattle.ert_timers.proofs.Orphaned.{still_caller}
+use Rattle.ert_timers.proofs.Starts.{bad_arg, ahead_stands, is_full, due_ahead, is_started}
+use Rattle.ert_timers.proofs.part.WheelPart.start.Goals as goal
+
+pub take_slot-requires-clause-holds : goal.take_slot-requires-clause-holds
+take_slot-requires-clause-holds c =
+    still_caller (settings_of c.args.desk.now) (view_of c.args.pass.now) (view_of c.look_ahead.new.pass) c.args.by c.args.self.now.number
+    c.args.self.now.number c.requires.holds c.look_ahead.ensures.looks.step.actors refl
+
+pub take_slot-requires-clause-stands : goal.take_slot-requires-clause-stands
+take_slot-requires-clause-stands c =
+    ahead_stands (settings_of c.args.desk.now) (view_of c.args.pass.now) c.args.by c.args.start.now c.look_ahead.result
+    (view_of c.look_ahead.new.pass) c.args.self.now c.requires.stands c.requires.holds c.look_ahead.ensures.looks
+
+pub arm-timer-requires-clause-holds : goal.arm-timer-requires-clause-holds
+arm-timer-requires-clause-holds c =
+    still_caller (settings_of c.args.desk.now) (view_of c.args.pass.now) (view_of c.take_slot.new.pass) c.args.by c.args.self.now.number
+    c.take_slot.new.self.number c.requires.holds
+    (c.take_slot.ensures.call.call.actors ∙ c.look_ahead.ensures.looks.step.actors) c.take_slot.ensures.call.number
+
+pub arm-timer-requires-clause-stands : goal.arm-timer-requires-clause-stands
+arm-timer-requires-clause-stands c = c.take_slot.ensures.call.stands
+
+pub arm-timer-requires-clause-free : goal.arm-timer-requires-clause-free
+arm-timer-requires-clause-free c = c.in-Some-take_slot.ensures.call.finds
+
+pub arm-timer-requires-clause-usable : goal.arm-timer-requires-clause-usable
+arm-timer-requires-clause-usable c = c.in-Some-take_slot.ensures.call.usable
+
+pub arm-timer-requires-clause-deadline : goal.arm-timer-requires-clause-deadline
+arm-timer-requires-clause-deadline c =
+    due_ahead (settings_of c.args.desk.now) (view_of c.args.pass.now) c.args.by c.args.self.now c.take_slot.new.self c.args.start.now
+    c.look_ahead.result c.in-Some.deadline c.take_slot.result (view_of c.look_ahead.new.pass) (view_of c.take_slot.new.pass) c.requires.holds
+    c.in-Some.is c.look_ahead.ensures.looks c.take_slot.ensures.call
+
+pub end-requires-clause-holds : goal.end-requires-clause-holds
+end-requires-clause-holds c =
+    still_caller (settings_of c.args.desk.now) (view_of c.args.pass.now) (view_of c.arm-timer.new.pass) c.args.by c.args.self.now.number
+    c.arm-timer.new.self.number c.requires.holds
+    (c.arm-timer.ensures.call.step.actors ∙ (c.take_slot.ensures.call.call.actors ∙ c.look_ahead.ensures.looks.step.actors))
+    (ap (λ (p : Part). p.number) c.arm-timer.ensures.call.part ∙ c.take_slot.ensures.call.number)
+
+pub end-requires-clause-stands : goal.end-requires-clause-stands
+end-requires-clause-stands c = c.arm-timer.ensures.call.stands
+
+pub end-requires-clause-held : goal.end-requires-clause-held
+end-requires-clause-held c = c.arm-timer.ensures.call.holds
+
+pub end-requires-clause-dest : goal.end-requires-clause-dest
+end-requires-clause-dest c = c.arm-timer.ensures.call.dest
+
+pub returns-clause-call : goal.returns-clause-call
+returns-clause-call c =
+    is_started (settings_of c.args.desk.now) (view_of c.args.pass.now) c.args.by c.args.self.now c.take_slot.new.self c.arm-timer.new.self
+    c.end.new.self c.args.start.now c.look_ahead.result c.take_slot.result c.in-Some-take_slot.slot c.in-Some.deadline c.arm-timer.result
+    (view_of c.look_ahead.new.pass) (view_of c.take_slot.new.pass) (view_of c.arm-timer.new.pass) (view_of c.end.new.pass)
+    c.look_ahead.ensures.looks c.take_slot.ensures.call c.arm-timer.ensures.call c.end.ensures.call
+
+pub returns-clause-number : goal.returns-clause-number
+returns-clause-number c =
+    c.end.ensures.call.number ∙ (ap (λ (p : Part). p.number) c.arm-timer.ensures.call.part ∙ c.take_slot.ensures.call.number)
+
+pub returns-clause-stands : goal.returns-clause-stands
+returns-clause-stands c = c.end.ensures.call.stands
+
+pub returns-in_default-clause-call : goal.returns-in_default-clause-call
+returns-in_default-clause-call c =
+    bad_arg (settings_of c.args.desk.now) (view_of c.args.pass.now) c.args.by c.args.self.now.number c.args.start.now c.look_ahead.result
+    (view_of c.look_ahead.new.pass) c.in_default.is c.look_ahead.ensures.looks
+
+pub returns-in_default-clause-stands : goal.returns-in_default-clause-stands
+returns-in_default-clause-stands c =
+    ahead_stands (settings_of c.args.desk.now) (view_of c.args.pass.now) c.args.by c.args.start.now c.look_ahead.result
+    (view_of c.look_ahead.new.pass) c.args.self.now c.requires.stands c.requires.holds c.look_ahead.ensures.looks
+
+pub returns-in_default-take_slot-clause-number : goal.returns-in_default-take_slot-clause-number
+returns-in_default-take_slot-clause-number c = c.take_slot.ensures.call.number
+
+pub returns-in_default-take_slot-clause-stands : goal.returns-in_default-take_slot-clause-stands
+returns-in_default-take_slot-clause-stands c = c.take_slot.ensures.call.stands
+
+pub returns-in_default-take_slot-clause-call : goal.returns-in_default-take_slot-clause-call
+returns-in_default-take_slot-clause-call c =
+    is_full (settings_of c.args.desk.now) (view_of c.args.pass.now) c.args.by c.args.self.now c.take_slot.new.self c.args.start.now
+    c.look_ahead.result c.in-Some.deadline c.take_slot.result (view_of c.look_ahead.new.pass) (view_of c.take_slot.new.pass) c.requires.stands
+    c.in-Some.is c.in_default-take_slot.is c.look_ahead.ensures.looks c.take_slot.ensures.call

@@ -1,0 +1,35 @@
+-- How what callers see of a part is stored: as tuples of its fields.
+
+use Rattle.std.specs.Prelude.{◌≡◌, ℕ, Bool, true, false, refl}
+use Rattle.std.specs.Coded.{Coded, code_by, coded×, coded_ℕ, coded_bool}
+use Rattle.ert_defs.specs.declared.timer.Kind.{Kind}
+use Rattle.ert_defs.specs.declared.timer.Kind.TheVariants.{Wrapped, Bare}
+use Rattle.ert_timers.specs.declared.part.Slot.{Slot}
+use Rattle.ert_wheel.specs.declared.row.Key.{Key}
+
+pub is_bare : Kind → Bool
+is_bare Wrapped = false
+is_bare Bare = true
+
+pub kind_by : Bool → Kind
+kind_by false = Wrapped
+kind_by true = Bare
+
+pub kind_back : (kind : Kind) → kind_by (is_bare kind) ≡ kind
+unfolding is_bare kind_by
+kind_back Wrapped = refl
+kind_back Bare = refl
+
+abbrev pub kind_code : Coded Kind
+kind_code = code_by Bool coded_bool is_bare kind_by kind_back
+
+abbrev pub slot_code : Coded Slot
+slot_code =
+    code_by (ℕ × (ℕ × (ℕ × Kind))) (coded× coded_ℕ (coded× coded_ℕ (coded× coded_ℕ kind_code)))
+    (λ s. (s.generation, (s.dest, (s.msg, s.kind))))
+    (λ t. record { generation = t.0; dest = t.1.0; msg = t.1.1.0; kind = t.1.1.1 }) (λ _. refl)
+
+abbrev pub key_code : Coded Key
+key_code =
+    code_by (ℕ × ℕ) (coded× coded_ℕ coded_ℕ) (λ k. (k.deadline, k.order))
+    (λ p. record { deadline = p.0; order = p.1 }) (λ _. refl)

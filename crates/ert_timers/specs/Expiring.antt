@@ -1,0 +1,88 @@
+-- An advance of a part: its due rows are tried, one after the other.
+
+use Rattle.std.specs.Prelude.{◌≡◌, ℕ, ◌+◌, ◌≤◌, pos, Bool, true, false, List, [], ◌∷◌, ◌++◌, All, length, drop, Option, Some, None, Result, Ok, Err}
+use Rattle.std.specs.List.{AllPairs}
+use Rattle.ert_defs.specs.Milliseconds.{down}
+use Rattle.ert_defs.specs.States.{state}
+use Rattle.ert_defs.specs.Timers.{Row}
+use Rattle.ert_defs.specs.declared.entry.Actor.TheVariants.{Sched}
+use Rattle.ert_defs.specs.declared.entry.Entry.{Entry}
+use Rattle.ert_defs.specs.declared.memory.NoMemory.{NoMemory}
+use Rattle.ert_defs.specs.declared.settings.Settings.{Settings}
+use Rattle.ert_defs.specs.declared.timer.Status.{Status}
+use Rattle.ert_answers.specs.WheelCalls.{Try, expires_by, expiry_entries, hits, Advances}
+use Rattle.ert_table.specs.Calls.{IsMade}
+use Rattle.ert_table.specs.Takes.{Appends, TakesPlace}
+use Rattle.ert_table.specs.declared.view.View.{View}
+use Rattle.ert_timers.specs.Changes.{let_go}
+use Rattle.ert_timers.specs.FiredLists.{Queue}
+use Rattle.ert_timers.specs.Parts.{Part, Stands, last_timer, held_row}
+use Rattle.ert_wheel.specs.Rows.{key_in, key_of, times, due_at, comes_before}
+use Rattle.ert_wheel.specs.declared.row.Row.{Row as WheelRow}
+
+-- the expired timers of a scheduler after a history
+abbrev pub fired_in : Settings → List Entry → ℕ → List Row
+fired_in g h w = ((state g h).scheds w).fired
+
+-- the timer of a row
+abbrev pub timer_of : Part → WheelRow → Row
+timer_of p row = held_row p.number p.slots row.slot (key_of row)
+
+-- what a try adds to the list, and whether it hit
+abbrev pub fired_as : Row → Option (Option Status) → List Row
+fired_as row None = row ∷ []
+fired_as row (Some found) = []
+
+abbrev pub is_hit : Option (Option Status) → Bool
+is_hit None = true
+is_hit (Some found) = false
+
+-- a row is tried, and goes; where its timer expired, that is added to the list
+pub record Expires (g : Settings) (v : View) (p q : Part) (row : WheelRow) (old new : Queue) (u : View) : Type 0 where
+  pub missed : Option (Option Status)
+  pub step : Appends g v (expires_by p.number (last_timer p.number p.slots row.slot) missed) u
+  pub part : q ≡ let_go p row.slot (is_hit missed)
+  pub stands : Stands g u.front q
+  pub fired : new.rows ≡ old.rows ++ fired_as (timer_of p row) missed
+  pub waits : fired_in g u.front p.number ≡ fired_in g v.front p.number ++ fired_as (timer_of p row) missed
+  pub room : old.room ≤ new.room + 1
+
+-- these are the rows that are due, in order
+pub record AreDue (p : Part) (to : ℕ) (rows : List WheelRow) : Type 0 where
+  pub each : (k : ℕ) → times k rows ≡ due_at to (key_in p.keys k)
+  pub held : All (λ row. key_in p.keys row.slot ≡ Some (key_of row)) rows
+  pub in_order : AllPairs (λ x y. comes_before y x ≡ false) rows
+
+-- they are due by the last look of the scheduler, for which the part stands
+pub record IsReady (g : Settings) (h : List Entry) (p : Part) (to : ℕ) (rows : List WheelRow) : Type 0 where
+  pub stands : Stands g h p
+  pub told : pos to ≡ down g ((state g h).looked (Sched p.number))
+  pub due : AreDue p to rows
+
+-- so many of the due rows have been tried
+pub record ExpiresSome (g : Settings) (v : View) (p q : Part) (to : ℕ) (due : List WheelRow) (n : ℕ) (old new : Queue) (u : View) : Type 0 where
+  pub tries : List Try
+  pub gained : List Row
+  pub call : TakesPlace g v (expiry_entries p.number tries) u
+  pub number : q.number ≡ p.number
+  pub ready : IsReady g u.front q to (drop n due)
+  pub count : length gained ≡ hits tries
+  pub fired : new.rows ≡ old.rows ++ gained
+  pub waits : fired_in g u.front p.number ≡ fired_in g v.front p.number ++ gained
+  pub room : old.room ≤ new.room + n
+
+-- an advance: the timers that expired by it come last in the list, and in the scheduler's
+pub record HasExpired (g : Settings) (v : View) (w to : ℕ) (old new : Queue) (u : View) : Type 0 where
+  pub gained : List Row
+  pub call : IsMade g v (Advances g w (Ok (to, length gained))) u
+  pub fired : new.rows ≡ old.rows ++ gained
+  pub waits : fired_in g u.front w ≡ fired_in g v.front w ++ gained
+
+-- want of memory: nothing expired
+pub record HasNotExpired (g : Settings) (v : View) (w : ℕ) (e : NoMemory) (old new : Queue) (u : View) : Type 0 where
+  pub call : IsMade g v (Advances g w (Err e)) u
+  pub fired : new.rows ≡ old.rows
+
+abbrev pub IsAdvanced : Settings → View → ℕ → Result ℕ NoMemory → Queue → Queue → View → Type 0
+IsAdvanced g v w (Ok to) old new u = HasExpired g v w to old new u
+IsAdvanced g v w (Err e) old new u = HasNotExpired g v w e old new u

@@ -1,0 +1,28 @@
+-- The look with which a call of a part begins.
+
+use Rattle.std.specs.Prelude.{◌≡◌, ℕ, ℤ, pos, negsuc, ◌+ℤ◌, Option, None}
+use Rattle.ert_defs.specs.Entries.{look_entry}
+use Rattle.ert_defs.specs.Milliseconds.{down, deadline_at, deadline_of}
+use Rattle.ert_defs.specs.declared.entry.Actor.{Actor}
+use Rattle.ert_defs.specs.declared.entry.Actor.TheVariants.{Caller}
+use Rattle.ert_defs.specs.declared.settings.Settings.{Settings}
+use Rattle.ert_defs.specs.declared.timer.Start.{Start}
+use Rattle.ert_table.specs.Takes.{Appends}
+use Rattle.ert_table.specs.declared.view.View.{View}
+
+-- an actor looks at the time, and is told the whole milliseconds, rounded down
+pub record LooksDown (g : Settings) (v : View) (by : Actor) (to : ℕ) (u : View) : Type 0 where
+  pub now : ℤ
+  pub step : Appends g v (look_entry by now) u
+  pub told : pos to ≡ down g now
+
+-- a caller looks at the time, and is told the deadline of a start
+pub record LooksAhead (g : Settings) (v : View) (by : ℕ) (start : Start) (deadline : Option ℕ) (u : View) : Type 0 where
+  pub now : ℤ
+  pub step : Appends g v (look_entry (Caller by) now) u
+  pub told : deadline ≡ deadline_of g start now
+
+-- the deadline so many milliseconds after others
+abbrev pub deadline_after : ℕ → ℤ → Option ℕ
+deadline_after from (pos n) = deadline_at (pos from +ℤ pos n)
+deadline_after from (negsuc n) = None

@@ -1,0 +1,168 @@
+-- The timers of one scheduler: what its part keeps, and when the part stands for a history.
+
+use Rattle.std.specs.Prelude.{◌≡◌, ◌≢◌, ℕ, ◌+◌, ◌<◌, ◌≤◌, Bool, true, false, ◌&&◌, List, All, length, count_by, sum_by, slice_index_or, Option, Some, None, option_map, refl}
+use Rattle.std.specs.Coded.{Coded, code_by, coded×, coded_ℕ, coded_list, coded_option}
+use Rattle.std.specs.FinSet as set
+use Rattle.std.specs.List.{slice_get}
+use Rattle.std.specs.Option.{is_some}
+use Rattle.std.specs.Ordering.{nat_cmp}
+use Rattle.ert_defs.specs.Actors.{has_actor}
+use Rattle.ert_defs.specs.Legal.{Legal}
+use Rattle.ert_defs.specs.States.{State, state}
+use Rattle.ert_defs.specs.Timers.{Row, is_taken, timer_at}
+use Rattle.ert_defs.specs.declared.entry.Actor.TheVariants.{Wheel, Sched, Caller}
+use Rattle.ert_defs.specs.declared.entry.Entry.{Entry}
+use Rattle.ert_defs.specs.declared.entry.Event.{Event}
+use Rattle.ert_defs.specs.declared.entry.Event.TheVariants.{Arm, Expire, Orphan}
+use Rattle.ert_defs.specs.declared.settings.Settings.{Settings}
+use Rattle.ert_defs.specs.declared.timer.Kind.TheVariants.{Wrapped}
+use Rattle.ert_defs.specs.declared.timer.Status.TheVariants.{Armed, Expired}
+use Rattle.ert_defs.specs.declared.timer.TimerRef.{TimerRef}
+use Rattle.ert_table.specs.Held.{is_held}
+use Rattle.ert_table.specs.declared.view.View.{View}
+use Rattle.ert_timers.specs.Codes.{slot_code, key_code}
+use Rattle.ert_timers.specs.declared.part.Slot.{Slot}
+use Rattle.ert_wheel.specs.Rings.{Rings, Place, AreChains}
+use Rattle.ert_wheel.specs.Rows.{key_in}
+use Rattle.ert_wheel.specs.declared.row.Key.{Key}
+use Rattle.ert_words.specs.Free.{Free}
+
+-- the part of one scheduler's timers: its number, the number of processes, by slot what is kept of the last
+-- timer, by slot the key of the row that is held as armed, the slots that are held free, and how many
+-- timers were armed, expired and were cancelled for an exit
+pub record Part : Type 0 where
+  pub number : ℕ
+  pub processes : ℕ
+  pub slots : List Slot
+  pub keys : List (Option Key)
+  pub free : set.FinSet nat_cmp
+  pub arms : ℕ
+  pub expires : ℕ
+  pub orphans : ℕ
+
+abbrev pub part_code : Coded Part
+part_code =
+    code_by (ℕ × (ℕ × (List Slot × (List (Option Key) × (set.FinSet nat_cmp × (ℕ × (ℕ × ℕ)))))))
+    (coded× coded_ℕ (coded× coded_ℕ (coded× (coded_list slot_code) (coded× (coded_list (coded_option key_code))
+    (coded× (set.code coded_ℕ) (coded× coded_ℕ (coded× coded_ℕ coded_ℕ)))))))
+    (λ p. (p.number, (p.processes, (p.slots, (p.keys, (p.free, (p.arms, (p.expires, p.orphans))))))))
+    (λ t. record {
+      number = t.0;
+      processes = t.1.0;
+      slots = t.1.1.0;
+      keys = t.1.1.1.0;
+      free = t.1.1.1.1.0;
+      arms = t.1.1.1.1.1.0;
+      expires = t.1.1.1.1.1.1.0;
+      orphans = t.1.1.1.1.1.1.1;
+    })
+    (λ _. refl)
+
+-- a slot that was never used
+abbrev pub unused : Slot
+unused = record { generation = 0; dest = 0; msg = 0; kind = Wrapped }
+
+-- what is kept of the last timer of a slot
+abbrev pub slot_at : List Slot → ℕ → Slot
+slot_at slots k = slice_index_or slots k unused
+
+-- the last timer of a slot
+abbrev pub last_timer : ℕ → List Slot → ℕ → TimerRef
+last_timer w slots k = timer_at w k (slot_at slots k).generation
+
+-- the row of a slot, by its key
+abbrev pub held_row : ℕ → List Slot → ℕ → Key → Row
+held_row w slots k key = record {
+  timer = last_timer w slots k;
+  deadline = key.deadline;
+  dest = (slot_at slots k).dest;
+  msg = (slot_at slots k).msg;
+  kind = (slot_at slots k).kind;
+}
+
+-- where the timer of a slot belongs: to its process, in order of arming
+abbrev pub owner_of : List Slot → ℕ → Option Key → Option Place
+owner_of slots k = option_map (λ key. record { home = (slot_at slots k).dest; order = key.order })
+
+abbrev pub owners_of : List Slot → List (Option Key) → ℕ → Option Place
+owners_of slots keys k = owner_of slots k (key_in keys k)
+
+-- what the fields of a part keep, whatever the history
+pub record AreFit (processes : ℕ) (slots : List Slot) (keys : List (Option Key)) (free : Free) (owners : Rings) (armed expired orphaned : ℕ) : Type 0 where
+  pub few : length slots ≤ 65536
+  pub wide : length keys ≡ length slots
+  pub all_slots : free.slots ≡ length slots
+  pub owned : owners.slots ≡ length slots
+  pub homes : owners.homes ≡ processes
+  pub few_homes : processes ≤ 1024
+  -- a slot that is held free has no row, and can be used again
+  pub vacant : (k : ℕ) → set.contains free.held k ≡ true → key_in keys k ≡ None
+  pub below : (k : ℕ) → set.contains free.held k ≡ true → k < length slots
+  pub unspent : (k : ℕ) → set.contains free.held k ≡ true → (slot_at slots k).generation < 262143
+  -- each timer was one use of a slot
+  pub uses : All (λ (slot : Slot). slot.generation ≤ 262143) slots
+  pub sum : armed ≡ sum_by (λ (slot : Slot). slot.generation) slots
+  -- a timer that expired or was cancelled for an exit has no row any more
+  pub tally : (expired + orphaned) + count_by is_some keys ≤ armed
+  pub orders : (k : ℕ) (key : Key) → key_in keys k ≡ Some key → key.order < armed
+  -- the rows of each process are in a chain
+  pub dests : (k : ℕ) (key : Key) → key_in keys k ≡ Some key → (slot_at slots k).dest < processes
+  pub chained : AreChains owners (owners_of slots keys)
+
+-- the rows that are held: each is the last of its slot, at the place of its order among the timers of the
+-- wheel, and hasn't expired; and each armed timer is held
+pub record HoldsRows (s : State) (w : ℕ) (slots : List Slot) (keys : List (Option Key)) : Type 0 where
+  pub each : (k : ℕ) (key : Key) → key_in keys k ≡ Some key → slice_get (s.rows w) key.order ≡ Some (held_row w slots k key)
+  pub unexpired : (k : ℕ) (key : Key) → key_in keys k ≡ Some key → s.status (last_timer w slots k) ≢ Some Expired
+  pub armed : (n : ℕ) (row : Row) → slice_get (s.rows w) n ≡ Some row → s.status row.timer ≡ Some Armed
+      → key_in keys row.timer.slot ≡ Some (record { deadline = row.deadline; order = n })
+
+-- a part fits a state
+pub record Holds (g : Settings) (s : State) (p : Part) : Type 0 where
+  pub number : p.number < g.schedulers
+  pub processes : p.processes ≡ g.processes
+  pub many : length p.slots ≡ g.slots
+  pub wide : length p.keys ≡ g.slots
+  pub rows : HoldsRows s p.number p.slots p.keys
+  pub lasts : (k : ℕ) → k < g.slots → (slot_at p.slots k).generation ≡ s.last p.number k
+  pub arms : p.arms ≡ length (s.rows p.number)
+  pub free : (k : ℕ) → set.contains p.free k ≡ true → is_taken (s.status (last_timer p.number p.slots k)) ≡ false
+
+-- whether a timer is armed, expires, or is cancelled for an exit
+abbrev pub is_arm : Event → Bool
+is_arm (Arm timer start) = true
+is_arm _ = false
+
+abbrev pub is_expire : Event → Bool
+is_expire (Expire timer) = true
+is_expire _ = false
+
+abbrev pub is_orphan : Event → Bool
+is_orphan (Orphan timer) = true
+is_orphan _ = false
+
+-- how many entries of a wheel are of one kind
+abbrev pub count_of : (Event → Bool) → ℕ → List Entry → ℕ
+count_of test w h = count_by (λ e. has_actor e (Wheel w) && test e.event) h
+
+-- the counts of a part are those of a history
+pub record IsCounted (h : List Entry) (p : Part) : Type 0 where
+  pub arms : p.arms ≡ count_of is_arm p.number h
+  pub expires : p.expires ≡ count_of is_expire p.number h
+  pub orphans : p.orphans ≡ count_of is_orphan p.number h
+
+-- a part stands for a history
+pub record Stands (g : Settings) (h : List Entry) (p : Part) : Type 0 where
+  pub legal : Legal g h
+  pub holds : Holds g (state g h) p
+  pub counted : IsCounted h p
+
+-- a pass holds a wheel with a caller in range, or with its scheduler
+pub record HoldsCaller (g : Settings) (v : View) (by w : ℕ) : Type 0 where
+  pub caller : is_held v.actors (Caller by) ≡ true
+  pub wheel : is_held v.actors (Wheel w) ≡ true
+  pub by_high : by < g.callers
+
+pub record HoldsSched (v : View) (w : ℕ) : Type 0 where
+  pub sched : is_held v.actors (Sched w) ≡ true
+  pub wheel : is_held v.actors (Wheel w) ≡ true

@@ -1,0 +1,114 @@
+-- A start of a part: the slots that are looked at, the arming, and what follows from an exit.
+
+use Rattle.std.specs.Prelude.{◌≡◌, ◌≢◌, ◌⊎◌, ℕ, ◌+◌, ◌<◌, ◌≤◌, Bool, true, false, List, [], ◌∷◌, length, Option, Some, None, IfSome}
+use Rattle.std.specs.FinSet as set
+use Rattle.ert_defs.specs.Entries.{probe_entry, arm_entry, mark_entry}
+use Rattle.ert_defs.specs.States.{state}
+use Rattle.ert_defs.specs.Timers.{is_taken}
+use Rattle.ert_defs.specs.declared.entry.Actor.TheVariants.{Caller}
+use Rattle.ert_defs.specs.declared.entry.Entry.{Entry}
+use Rattle.ert_defs.specs.declared.settings.Settings.{Settings}
+use Rattle.ert_defs.specs.declared.timer.Start.{Start}
+use Rattle.ert_defs.specs.declared.timer.Status.{Status}
+use Rattle.ert_defs.specs.declared.timer.Status.TheVariants.{Armed}
+use Rattle.ert_defs.specs.declared.timer.TimerRef.{TimerRef}
+use Rattle.ert_answers.specs.TimerCalls.{Closes}
+use Rattle.ert_answers.specs.WheelCalls.{orphans_by}
+use Rattle.ert_table.specs.Settlings.{Shown}
+use Rattle.ert_table.specs.Takes.{Appends, TakesPlace}
+use Rattle.ert_table.specs.declared.view.View.{View}
+use Rattle.ert_timers.specs.Changes.{IsFree, kept, given_back}
+use Rattle.ert_timers.specs.Expiring.{is_hit}
+use Rattle.ert_timers.specs.Parts.{Part, Stands, last_timer, slot_at}
+use Rattle.ert_wheel.specs.Rows.{key_in}
+
+-- a timer with this deadline is held
+pub record HoldsTimer (p : Part) (timer : TimerRef) (deadline : ℕ) : Type 0 where
+  pub order : ℕ
+  pub low : timer.slot < length p.slots
+  pub held : key_in p.keys timer.slot ≡ Some (record { deadline = deadline; order = order })
+  pub named : timer ≡ last_timer p.number p.slots timer.slot
+
+-- what was missed wasn't armed
+abbrev pub IsSettled : Option (Option Status) → Type 0
+IsSettled None = Unit {0}
+IsSettled (Some found) = found ≢ Some Armed
+
+-- a timer is cancelled for the exit of its destination, or was settled before, and its slot is held free
+pub record Orphans (g : Settings) (v : View) (by : ℕ) (p q : Part) (timer : TimerRef) (u : View) : Type 0 where
+  pub missed : Option (Option Status)
+  pub step : Appends g v (orphans_by by p.number timer missed) u
+  pub settled : IsSettled missed
+  pub part : q ≡ given_back p timer.slot (is_hit missed)
+  pub stands : Stands g u.front q
+
+-- a timer is armed in a slot
+pub record Arms (g : Settings) (v : View) (by : ℕ) (p q : Part) (slot deadline : ℕ) (start : Start) (timer : TimerRef) (u : View) : Type 0 where
+  pub step : Appends g v (arm_entry by timer start) u
+  pub part : q ≡ kept p slot start deadline
+  pub stands : Stands g u.front q
+  pub holds : HoldsTimer q timer deadline
+  pub dest : (slot_at q.slots timer.slot).dest ≡ start.dest
+
+-- it is seen whether the destination had exited, and then the timer is cancelled for that
+pub record Ends (g : Settings) (v : View) (by : ℕ) (p q : Part) (dest : ℕ) (timer : TimerRef) (u : View) : Type 0 where
+  pub was : Bool
+  pub closing : List Entry
+  pub closes : Closes was by timer closing
+  pub call : TakesPlace g v (mark_entry (Caller by) dest false was ∷ closing) u
+  pub number : q.number ≡ p.number
+  pub stands : Stands g u.front q
+
+-- the status of what is shown of a slot
+abbrev pub status_shown : Option Shown → Option Status
+status_shown None = None
+status_shown (Some shown) = Some shown.0
+
+-- a slot was looked at: where it was found neither taken nor spent it is held free from then on, and no
+-- other slot is that wasn't
+pub record LooksAt (g : Settings) (v : View) (by : ℕ) (p q : Part) (k : ℕ) (u : View) : Type 0 where
+  pub found : Option Status
+  pub step : Appends g v (probe_entry (Caller by) p.number k found) u
+  pub stands : Stands g u.front q
+  pub number : q.number ≡ p.number
+  pub slots : q.slots ≡ p.slots
+  pub others : (j : ℕ) → j ≢ k → set.contains q.free j ≡ set.contains p.free j
+  pub full : set.contains q.free k ≡ false → (is_taken found ≡ true) ⊎ ((slot_at p.slots k).generation ≡ 262143)
+
+-- the entries of looks at slots in order, from one on
+abbrev pub probes_from : ℕ → ℕ → ℕ → List (Option Status) → List Entry
+probes_from by w k [] = []
+probes_from by w k (found ∷ founds) = probe_entry (Caller by) w k found ∷ probes_from by w (k + 1) founds
+
+-- each slot from one on was found taken, or is spent, unless it is held free
+abbrev pub AreFull : Part → ℕ → List (Option Status) → Type 0
+AreFull q k [] = Unit {0}
+AreFull q k (found ∷ founds) =
+    (set.contains q.free k ≡ false → (is_taken found ≡ true) ⊎ ((slot_at q.slots k).generation ≡ 262143)) × AreFull q (k + 1) founds
+
+-- so many slots were looked at, in order; no slot from there on is held free
+pub record LooksAtSome (g : Settings) (v : View) (by : ℕ) (p q : Part) (n : ℕ) (u : View) : Type 0 where
+  pub founds : List (Option Status)
+  pub call : TakesPlace g v (probes_from by p.number 0 founds) u
+  pub count : length founds ≡ n
+  pub stands : Stands g u.front q
+  pub number : q.number ≡ p.number
+  pub slots : q.slots ≡ p.slots
+  pub full : AreFull q 0 founds
+  pub above : (j : ℕ) → n ≤ j → set.contains q.free j ≡ false
+  pub look : (state g u.front).looked (Caller by) ≡ (state g v.front).looked (Caller by)
+
+-- a slot that can take a timer is found, after looks at some slots; or none is after looks at all
+abbrev pub FindsSlot : Part → Part → Option ℕ → List (Option Status) → Type 0
+FindsSlot p q (Some slot) founds = IsFree q slot
+FindsSlot p q None founds = (length founds ≡ length p.slots) × AreFull q 0 founds × ((j : ℕ) → set.contains q.free j ≡ false)
+
+pub record TakesSlot (g : Settings) (v : View) (by : ℕ) (p q : Part) (slot : Option ℕ) (u : View) : Type 0 where
+  pub founds : List (Option Status)
+  pub call : TakesPlace g v (probes_from by p.number 0 founds) u
+  pub stands : Stands g u.front q
+  pub number : q.number ≡ p.number
+  pub slots : q.slots ≡ p.slots
+  pub finds : FindsSlot p q slot founds
+  pub usable : IfSome slot (λ k. is_taken ((state g u.front).status (last_timer q.number q.slots k)) ≡ false)
+  pub look : (state g u.front).looked (Caller by) ≡ (state g v.front).looked (Caller by)

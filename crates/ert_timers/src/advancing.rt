@@ -1,0 +1,92 @@
+//! Timers that expire.
+ghost use Rattle.std.specs.Prelude.{◌≡◌, ◌<◌, length};
+
+use crate::fired_list::FiredList;
+use crate::looking::look_down;
+use crate::part::WheelPart;
+use ert_defs::{Actor, NoMemory};
+use ert_table::{Desk, Pass, Settle, TimeCarry};
+use ert_wheel::Row;
+
+impl WheelPart {
+    ghost use Rattle.std.specs.Prelude.{◌≡◌, ◌<◌, ◌≤◌, Some, length};
+    ghost use Rattle.ert_defs.specs.Legal.{IsNext};
+    ghost use Rattle.ert_defs.specs.States.{state};
+    ghost use Rattle.ert_defs.specs.declared.entry.Actor.TheVariants.{Sched};
+    ghost use Rattle.ert_table.specs.Desks.{settings_of, view_of, front_of, Belongs};
+    ghost use Rattle.ert_timers.specs.Expiring.{Expires, ExpiresSome, IsReady, IsAdvanced};
+    ghost use Rattle.ert_timers.specs.Parts.{HoldsSched, Stands, last_timer};
+    ghost use Rattle.ert_wheel.specs.Rows.{key_in, key_of};
+
+    /// Lets every timer expire whose deadline has come, by the time that the call itself looks up. Their
+    /// timers are added to `fired`, in order of deadline and then of start. The answer is that time, in whole
+    /// milliseconds since the start time, rounded down.
+    ///
+    /// All memory is taken before the first timer expires: after NoMemory none has.
+    pub fn advance(
+        &mut self,
+        desk: &Desk,
+        pass: &mut Pass,
+        fired: &mut FiredList,
+    ) -> Result<u64, NoMemory>
+        requires belongs { Belongs desk.now pass.old }
+        requires holds { HoldsSched (view_of pass.old) self.old.number }
+        requires stands { Stands (settings_of desk.now) (front_of pass.old) self.old }
+        ensures belongs { Belongs desk.now pass.new }
+        ensures number { self.new.number ≡ self.old.number }
+        ensures stands { Stands (settings_of desk.now) (front_of pass.new) self.new }
+        ensures call { IsAdvanced (settings_of desk.now) (view_of pass.old) self.old.number result fired.old fired.new (view_of pass.new) }
+    {
+        let sched = Actor::Sched(self.number());
+        let to = look_down(desk, pass, sched);
+        let due = self.find_due(to, fired)?;
+        self.expire_all(desk, pass, to, &due, fired);
+        self.keep_list(due);
+        pass.load_time(desk, sched, &TimeCarry::Advanced { to });
+        Ok(to)
+    }
+
+    /// Tries all rows that are due at `to`, in order.
+    fn expire_all(
+        &mut self,
+        desk: &Desk,
+        pass: &mut Pass,
+        to: u64,
+        due: &[Row],
+        fired: &mut FiredList,
+    )
+        requires belongs { Belongs desk.now pass.old }
+        requires holds { HoldsSched (view_of pass.old) self.old.number }
+        requires ready { IsReady (settings_of desk.now) (front_of pass.old) self.old to due.now }
+        requires room { length due.now ≤ fired.old.room }
+        ensures belongs { Belongs desk.now pass.new }
+        ensures call { ExpiresSome (settings_of desk.now) (view_of pass.old) self.old self.new to due.now (length due.now) fired.old fired.new (view_of pass.new) }
+    {
+        for row in due {
+            self.expire(desk, pass, *row, fired);
+        }
+        self.go_on(to);
+    }
+
+    /// Tries to let a timer expire, and drops its row.
+    fn expire(&mut self, desk: &Desk, pass: &mut Pass, row: Row, fired: &mut FiredList)
+        requires belongs { Belongs desk.now pass.old }
+        requires holds { HoldsSched (view_of pass.old) self.old.number }
+        requires stands { Stands (settings_of desk.now) (front_of pass.old) self.old }
+        requires held { key_in self.old.keys row.slot ≡ Some (key_of row) }
+        requires low { row.slot < length self.old.slots }
+        requires first { IsNext (settings_of desk.now) (state (settings_of desk.now) (front_of pass.old)) (Sched self.old.number) (last_timer self.old.number self.old.slots row.slot) }
+        requires room { 0 < fired.old.room }
+        ensures belongs { Belongs desk.now pass.new }
+        ensures call { Expires (settings_of desk.now) (view_of pass.old) self.old self.new row fired.old fired.new (view_of pass.new) }
+    {
+        let timer = self.timer(row);
+        let sched = Actor::Sched(self.number());
+        let hit = pass.settle(desk, sched, timer.timer, timer.deadline, Settle::Expire);
+        self.let_go(row.slot, hit);
+        if !hit {
+            return;
+        }
+        fired.push(timer);
+    }
+}

@@ -1,0 +1,41 @@
+//! One scheduler's timers, on the desk.
+//!
+//! **What it is.** A `WheelPart` is what one thread at a time has of the timers of one scheduler, and with it
+//! a pass that holds the wheel. The state that all threads share of a timer is the word of its slot on the
+//! desk (`ert_table`): status, deadline and generation. The part keeps what has no word, by slot: the
+//! destination, the message and the kind of the last timer, and its generation. A timer that is held as armed
+//! also stands in two structures over the same slots: in a hashed wheel (`ert_wheel`), which tells what is
+//! due, and in a chain for each process, so that an exit costs in proportion to the timers of that process.
+//! Its order in both is how many timers of the wheel were armed before it.
+//!
+//! **What others do.** Any thread may cancel a timer by one exchange on its word, and tells the part nothing.
+//! So a held timer may be settled already. An advance finds that out when its own exchange misses; a start
+//! finds it out when it runs out of free slots and looks at every slot.
+//!
+//! | call | what it does | work |
+//! |---|---|---|
+//! | `start` | looks at the time, takes a free slot, stores its word, asks whether the destination has exited | constant where a slot is known to be free; else each slot is looked at once, and all that can be used again are known from then on |
+//! | `advance` | looks at the time, and tries each due timer in order of deadline and then of start | the due timers and the buckets that are visited |
+//! | `sweep` | tries each timer of a process that has exited | those timers |
+//! | `forget` | drops the row of a timer that the pass has seen settled, and holds its slot free | constant |
+//! | `tally` | counts | none |
+//!
+//! Each timer is tried once, by one exchange, and then its row goes. No call waits for anybody. Only `open`
+//! takes memory, and `advance` for its list of expired timers, before the first of them expires.
+//!
+//! **What it promises.** The part stands for the front of its pass (`specs/Parts`, `Stands`). Each call keeps
+//! that, and takes place with exactly the entries that `ert_answers` says for its answer.
+//!
+//! It stands on `ert_defs`, `ert_answers`, `ert_words`, `ert_wheel`, `ert_table` and `ert_calls`.
+#![tactic(auto)]
+
+mod advancing;
+mod fired_list;
+mod looking;
+mod part;
+mod starting;
+mod sweeping;
+
+pub use ert_answers::StartErr;
+pub use fired_list::FiredList;
+pub use part::{Tally, WheelPart};

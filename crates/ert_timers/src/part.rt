@@ -1,0 +1,314 @@
+ghost use Rattle.std.specs.Prelude.{◌≡◌, IfOk, replicate};
+ghost use Rattle.ert_timers.specs.Parts.{unused};
+
+use crate::fired_list::FiredList;
+use ert_defs::{Fired, Kind, LAST_GENERATION, NoMemory, Settings, Start, TimerRef};
+use ert_wheel::{Chains, Row, Wheel};
+use ert_words::FreeSlots;
+use std::alloc::Global;
+use std::marker::Model;
+use std::mem;
+
+/// What is kept of the last timer of a slot.
+#[derive(Clone, Copy)]
+pub struct Slot {
+    /// How often the slot was used.
+    pub(crate) generation: u32,
+    pub(crate) dest: u32,
+    pub(crate) msg: u64,
+    pub(crate) kind: Kind,
+}
+
+/// The timers of one scheduler: what is kept of each, and the wheel that tells which are due.
+#[derive(Drop)]
+pub struct WheelPart {
+    /// The number of the scheduler and of its wheel.
+    number: u32,
+    /// How many processes the desk has.
+    processes: u32,
+    slots: Vec<Slot>,
+    /// The timers that are held as armed.
+    wheel: Wheel,
+    /// The same timers, in a chain for each process that they go to.
+    owners: Chains,
+    /// The slots that are known to be free.
+    free: FreeSlots,
+    /// How many timers were armed. That is also the order of the next one.
+    arms: u64,
+    /// How many expired, and how many were cancelled because their destination had exited.
+    expires: u64,
+    orphans: u64,
+    /// The due rows of an advance, kept for the next one.
+    due: Vec<Row>,
+    alloc: Global,
+}
+
+/// How many timers of a wheel there were.
+#[derive(Clone, Copy, Debug, PartialEq, Eq)]
+pub struct Tally {
+    /// How many were armed.
+    pub arms: u64,
+    /// How many expired.
+    pub expires: u64,
+    /// How many were cancelled because their destination had exited.
+    pub orphans: u64,
+    /// How many the part still holds as armed.
+    pub rows: u64,
+}
+
+impl Model for WheelPart {
+    ghost use Rattle.ert_timers.specs.Parts.{Part, part_code, AreFit};
+
+    ghost Value = { Part };
+
+    ghost coded = { part_code };
+
+    ghost view = { λ p. record {
+      number = p.number;
+      processes = p.processes;
+      slots = p.slots.items;
+      keys = p.wheel;
+      free = p.free.held;
+      arms = p.arms;
+      expires = p.expires;
+      orphans = p.orphans;
+    } };
+
+    ghost invariant = { λ p. AreFit p.processes p.slots.items p.wheel p.free p.owners p.arms p.expires p.orphans };
+}
+
+impl WheelPart {
+    ghost use Rattle.std.specs.Bool.{OnTrue};
+    ghost use Rattle.std.specs.Option.{is_some};
+    ghost use Rattle.std.specs.FinSet as set;
+    ghost use Rattle.std.specs.Prelude.{◌≡◌, ◌↔◌, ◌<◌, ◌≤◌, ◌^◌, ◌-◌, IfOk, IfSome, IfNone, IsNone, IsSome, IsTrue, ℕ, false, true, length, count_by, [], Some, None, option_map, slice_set};
+    ghost use Rattle.ert_defs.specs.Settings.{IsChecked};
+    ghost use Rattle.ert_timers.specs.Parts.{Stands, held_row, last_timer};
+    ghost use Rattle.ert_timers.specs.Expiring.{AreDue};
+    ghost use Rattle.ert_timers.specs.Changes.{IsFree, freed, picked, kept, dropped, let_go, given_back, LostRow, NextOf};
+    ghost use Rattle.ert_wheel.specs.Rows.{key_in, key_of, row_at};
+
+    /// The part of a wheel of a desk that has just been opened. It has no timer.
+    pub fn open(alloc: Global, settings: &Settings, wheel: u32) -> Result<WheelPart, NoMemory>
+        requires checked { IsChecked settings.now }
+        requires in_range { wheel < settings.now.schedulers }
+        ensures number { IfOk result (λ part. part.number ≡ wheel) }
+        ensures stands { IfOk result (Stands settings.now []) }
+    {
+        let slots = no_slots(alloc, settings.slots)?;
+        let rows = Wheel::new(alloc, settings.slots)?;
+        let owners = Chains::new(alloc, settings.slots, settings.processes)?;
+        let free = FreeSlots::new(alloc, settings.slots)?;
+        let due = Vec::with_capacity(alloc, settings.slots as usize)?;
+        Ok(WheelPart {
+            number: wheel,
+            processes: settings.processes,
+            slots,
+            wheel: rows,
+            owners,
+            free,
+            arms: 0,
+            expires: 0,
+            orphans: 0,
+            due,
+            alloc,
+        })
+    }
+
+    /// The number of the scheduler and of its wheel.
+    pub fn number(&self) -> u32
+        ensures { result ≡ self.now.number }
+    {
+        self.number
+    }
+
+    /// The counts of the wheel's timers. The first three are those of the history that the part stands for.
+    pub fn tally(&self) -> Tally
+        ensures arms { result.arms ≡ self.now.arms }
+        ensures expires { result.expires ≡ self.now.expires }
+        ensures orphans { result.orphans ≡ self.now.orphans }
+        ensures rows { result.rows ≡ count_by is_some self.now.keys }
+    {
+        Tally {
+            arms: self.arms,
+            expires: self.expires,
+            orphans: self.orphans,
+            rows: self.wheel.len() as u64,
+        }
+    }
+
+    /// How many slots there are.
+    pub(crate) fn slot_count(&self) -> u32
+        ensures { result ≡ length self.now.slots }
+    {
+        self.slots.len() as u32
+    }
+
+    /// The row of a slot; None where the slot has none.
+    pub(crate) fn row(&self, slot: u32) -> Option<Row>
+        requires { slot < length self.now.slots }
+        ensures { result ≡ option_map (row_at slot) (key_in self.now.keys slot) }
+    {
+        self.wheel.row(slot)
+    }
+
+    /// The timer of a row.
+    pub(crate) fn timer(&self, row: Row) -> Fired
+        requires { row.slot < length self.now.slots }
+        ensures { result ≡ held_row self.now.number self.now.slots row.slot (key_of row) }
+    {
+        let last = self.slots[row.slot as usize];
+        Fired {
+            timer: TimerRef {
+                wheel: self.number,
+                slot: row.slot,
+                generation: last.generation,
+            },
+            deadline: row.deadline,
+            dest: last.dest,
+            msg: last.msg,
+            kind: last.kind,
+        }
+    }
+
+    /// The newest row of a process; None where the process has none.
+    pub(crate) fn newest_of(&self, process: u32) -> Option<Row>
+        requires { process < self.now.processes }
+        ensures { NextOf self.now process result }
+    {
+        let slot = self.owners.newest(process)?;
+        self.wheel.row(slot)
+    }
+
+    /// The rows with a deadline up to `to`, in order of deadline and then of start, with room for their timers
+    /// in the list.
+    pub(crate) fn find_due(&mut self, to: u64, fired: &mut FiredList) -> Result<Vec<Row>, NoMemory>
+        ensures part { self.new ≡ self.old }
+        ensures due { IfOk result (λ due. AreDue self.old to due.items) }
+        ensures fired { fired.new.rows ≡ fired.old.rows }
+        ensures room { IfOk result (λ due. length due.items ≤ fired.new.room) }
+    {
+        let mut due = mem::replace(&mut self.due, Vec::new(self.alloc));
+        due.clear();
+        due.reserve(self.slots.len())?;
+        self.wheel.due(to, &mut due);
+        fired.reserve(due.len())?;
+        Ok(due)
+    }
+
+    /// Tells the wheel that nothing is due up to `to`.
+    pub(crate) fn go_on(&mut self, to: u64)
+        requires { (slot : ℕ) → IfSome (key_in self.old.keys slot) (λ key. to < key.deadline) }
+        ensures { self.new ≡ self.old }
+    {
+        self.wheel.pass(to);
+    }
+
+    /// Keeps the vector of an advance for the next one.
+    pub(crate) fn keep_list(&mut self, due: Vec<Row>)
+        ensures { self.new ≡ self.old }
+    {
+        self.due = due;
+    }
+
+    /// Takes a slot out that is held free; None exactly where none is.
+    pub(crate) fn pick(&mut self) -> Option<u32>
+        ensures none { IfNone result ((slot : ℕ) → set.contains self.old.free slot ≡ false) }
+        ensures unchanged { IfNone result (self.new ≡ self.old) }
+        ensures held { IfSome result (λ slot. set.contains self.old.free slot ≡ true) }
+        ensures picked { IfSome result (λ slot. self.new ≡ picked self.old slot) }
+        ensures usable { IfSome result (IsFree self.new) }
+    {
+        self.free.pick()
+    }
+
+    /// Holds a slot free from now on, unless it was used as often as it can be.
+    pub(crate) fn free_slot(&mut self, slot: u32)
+        requires low { slot < length self.old.slots }
+        requires away { set.contains self.old.free slot ≡ false }
+        requires vacant { key_in self.old.keys slot ≡ None }
+        ensures { self.new ≡ freed self.old slot }
+    {
+        if self.slots[slot as usize].generation < LAST_GENERATION {
+            self.free.put(slot);
+        }
+    }
+
+    /// Drops the row of a slot, and tells whether there was one.
+    pub(crate) fn drop_row(&mut self, slot: u32) -> bool
+        requires { slot < length self.old.slots }
+        ensures found { IsTrue result ↔ IsSome (key_in self.old.keys slot) }
+        ensures left { self.new ≡ dropped self.old slot }
+        ensures lost { OnTrue result (LostRow self.new slot) }
+    {
+        if !self.wheel.remove(slot) {
+            return false;
+        }
+        self.owners.take(slot);
+        true
+    }
+
+    /// Drops the row of a timer that was tried, and counts whether it expired.
+    pub(crate) fn let_go(&mut self, slot: u32, expired: bool)
+        requires low { slot < length self.old.slots }
+        requires held { IsSome (key_in self.old.keys slot) }
+        ensures { self.new ≡ let_go self.old slot expired }
+    {
+        self.drop_row(slot);
+        self.expires += u64::from(expired);
+    }
+
+    /// Drops the row of a timer that has been settled but hasn't expired, counts whether it was cancelled
+    /// for an exit, and holds its slot free.
+    pub(crate) fn give_back(&mut self, slot: u32, orphaned: bool)
+        requires low { slot < length self.old.slots }
+        requires held { IsSome (key_in self.old.keys slot) }
+        ensures { self.new ≡ given_back self.old slot orphaned }
+    {
+        self.drop_row(slot);
+        self.orphans += u64::from(orphaned);
+        self.free_slot(slot);
+    }
+
+    /// Puts in the timer of a start, in a slot that was held free.
+    pub(crate) fn keep(&mut self, slot: u32, start: &Start, deadline: u64) -> TimerRef
+        requires free { IsFree self.old slot }
+        requires dest { start.now.dest < self.old.processes }
+        requires deadline { deadline ≤ 8796093022207 }
+        ensures kept { self.new ≡ kept self.old slot start.now deadline }
+        ensures timer { result ≡ last_timer self.new.number self.new.slots slot }
+    {
+        let order = self.arms;
+        let generation = self.slots[slot as usize].generation + 1;
+        self.slots[slot as usize] = Slot {
+            generation,
+            dest: start.dest,
+            msg: start.msg,
+            kind: start.kind,
+        };
+        self.arms += 1;
+        self.owners.put(slot, start.dest);
+        self.wheel.insert(Row {
+            deadline,
+            order,
+            slot,
+        });
+        TimerRef {
+            wheel: self.number,
+            slot,
+            generation,
+        }
+    }
+}
+
+fn no_slots(alloc: Global, slots: u32) -> Result<Vec<Slot>, NoMemory>
+    ensures { IfOk result (λ made. made.items ≡ replicate slots unused) }
+{
+    let unused = Slot {
+        generation: 0,
+        dest: 0,
+        msg: 0,
+        kind: Kind::Wrapped,
+    };
+    Ok(vec![in alloc; unused; slots as usize]?)
+}

@@ -1,0 +1,183 @@
+//! Timers that are started.
+ghost use Rattle.std.specs.Prelude.{◌≡◌};
+ghost use Rattle.ert_defs.specs.Timers as timers;
+ghost use Rattle.ert_timers.specs.Starting.{status_shown};
+
+use crate::looking::look_ahead;
+use crate::part::WheelPart;
+use ert_answers::StartErr;
+use ert_defs::{Actor, Start, Status, TimerRef};
+use ert_table::{Desk, Pass, Settle, TimerCarry};
+
+impl WheelPart {
+    ghost use Rattle.std.specs.FinSet as set;
+    ghost use Rattle.std.specs.Prelude.{◌≡◌, ◌≢◌, ◌<◌, ◌≤◌, ℕ, true, false, length, Err};
+    ghost use Rattle.ert_answers.specs.TimerCalls.{Starts};
+    ghost use Rattle.ert_answers.specs.declared.answers.StartErr.TheVariants.{NoMemory};
+    ghost use Rattle.ert_defs.specs.States.{state};
+    ghost use Rattle.ert_table.specs.Desks.{settings_of, view_of, front_of, Belongs, IsDeadlineOf};
+    ghost use Rattle.ert_table.specs.Calls.{IsMade};
+    ghost use Rattle.ert_timers.specs.Changes.{IsFree};
+    ghost use Rattle.ert_timers.specs.Parts.{HoldsCaller, Stands, slot_at, last_timer};
+    ghost use Rattle.ert_timers.specs.Starting.{HoldsTimer, Orphans, Arms, Ends, LooksAt, LooksAtSome, TakesSlot};
+
+    /// Starts a timer for a caller (`erlang` module reference, `start_timer`), by the time that the call
+    /// itself looks up.
+    ///
+    /// Where no slot is known to be free, every slot is looked at. A timer for a process that has exited is
+    /// started, and cancelled at once. No memory is taken.
+    pub fn start(
+        &mut self,
+        desk: &Desk,
+        pass: &mut Pass,
+        by: u32,
+        start: &Start,
+    ) -> Result<TimerRef, StartErr>
+        requires belongs { Belongs desk.now pass.old }
+        requires holds { HoldsCaller (settings_of desk.now) (view_of pass.old) by self.old.number }
+        requires stands { Stands (settings_of desk.now) (front_of pass.old) self.old }
+        requires dest { start.now.dest < (settings_of desk.now).processes }
+        ensures belongs { Belongs desk.now pass.new }
+        ensures number { self.new.number ≡ self.old.number }
+        ensures stands { Stands (settings_of desk.now) (front_of pass.new) self.new }
+        ensures call { IsMade (settings_of desk.now) (view_of pass.old) (Starts (settings_of desk.now) by self.old.number start.now result) (view_of pass.new) }
+        ensures memory { result ≢ Err NoMemory }
+    {
+        let Some(deadline) = look_ahead(desk, pass, by, start) else {
+            return Err(StartErr::BadArg);
+        };
+        let Some(slot) = self.take_slot(desk, pass, by) else {
+            return Err(StartErr::Full);
+        };
+        let timer = self.arm(desk, pass, by, slot, start, deadline);
+        self.end(desk, pass, by, timer, start.dest, deadline);
+        Ok(timer)
+    }
+
+    /// A slot that can take a timer. Where none is known to be free, every slot is looked at.
+    fn take_slot(&mut self, desk: &Desk, pass: &mut Pass, by: u32) -> Option<u32>
+        requires belongs { Belongs desk.now pass.old }
+        requires holds { HoldsCaller (settings_of desk.now) (view_of pass.old) by self.old.number }
+        requires stands { Stands (settings_of desk.now) (front_of pass.old) self.old }
+        ensures belongs { Belongs desk.now pass.new }
+        ensures call { TakesSlot (settings_of desk.now) (view_of pass.old) by self.old self.new result (view_of pass.new) }
+    {
+        if let Some(slot) = self.pick() {
+            return Some(slot);
+        }
+        self.look_at_all(desk, pass, by);
+        self.pick()
+    }
+
+    /// Looks at every slot, where none is held free, and holds those free that can take a timer.
+    fn look_at_all(&mut self, desk: &Desk, pass: &mut Pass, by: u32)
+        requires belongs { Belongs desk.now pass.old }
+        requires holds { HoldsCaller (settings_of desk.now) (view_of pass.old) by self.old.number }
+        requires stands { Stands (settings_of desk.now) (front_of pass.old) self.old }
+        requires none { (slot : ℕ) → set.contains self.old.free slot ≡ false }
+        ensures belongs { Belongs desk.now pass.new }
+        ensures call { LooksAtSome (settings_of desk.now) (view_of pass.old) by self.old self.new (length self.old.slots) (view_of pass.new) }
+    {
+        for slot in 0..self.slot_count() {
+            self.look_at(desk, pass, by, slot);
+        }
+    }
+
+    /// Looks at a slot that isn't held free, and holds it free where it can take a timer.
+    fn look_at(&mut self, desk: &Desk, pass: &mut Pass, by: u32, slot: u32)
+        requires belongs { Belongs desk.now pass.old }
+        requires holds { HoldsCaller (settings_of desk.now) (view_of pass.old) by self.old.number }
+        requires stands { Stands (settings_of desk.now) (front_of pass.old) self.old }
+        requires low { slot < length self.old.slots }
+        requires away { set.contains self.old.free slot ≡ false }
+        ensures belongs { Belongs desk.now pass.new }
+        ensures call { LooksAt (settings_of desk.now) (view_of pass.old) by self.old self.new slot (view_of pass.new) }
+    {
+        let wheel = self.number();
+        let carry = TimerCarry::Probe { wheel, slot };
+        let shown = pass.load_timer(desk, Actor::Caller(by), &carry);
+        if is_taken(shown) {
+            return;
+        }
+        self.drop_row(slot);
+        self.free_slot(slot);
+    }
+
+    /// Arms a timer in a slot that can take it, by the caller's last look.
+    fn arm(
+        &mut self,
+        desk: &Desk,
+        pass: &mut Pass,
+        by: u32,
+        slot: u32,
+        start: &Start,
+        deadline: u64,
+    ) -> TimerRef
+        requires belongs { Belongs desk.now pass.old }
+        requires holds { HoldsCaller (settings_of desk.now) (view_of pass.old) by self.old.number }
+        requires stands { Stands (settings_of desk.now) (front_of pass.old) self.old }
+        requires free { IsFree self.old slot }
+        requires usable { timers.is_taken ((state (settings_of desk.now) (front_of pass.old)).status (last_timer self.old.number self.old.slots slot)) ≡ false }
+        requires dest { start.now.dest < (settings_of desk.now).processes }
+        requires deadline { IsDeadlineOf desk.now pass.old by start.now deadline }
+        ensures belongs { Belongs desk.now pass.new }
+        ensures call { Arms (settings_of desk.now) (view_of pass.old) by self.old self.new slot deadline start.now result (view_of pass.new) }
+    {
+        let timer = self.keep(slot, start, deadline);
+        pass.arm(desk, by, timer, start, deadline);
+        timer
+    }
+
+    /// Cancels a timer that has just been armed, where its destination is seen to have exited.
+    fn end(
+        &mut self,
+        desk: &Desk,
+        pass: &mut Pass,
+        by: u32,
+        timer: TimerRef,
+        dest: u32,
+        deadline: u64,
+    )
+        requires belongs { Belongs desk.now pass.old }
+        requires holds { HoldsCaller (settings_of desk.now) (view_of pass.old) by self.old.number }
+        requires stands { Stands (settings_of desk.now) (front_of pass.old) self.old }
+        requires held { HoldsTimer self.old timer deadline }
+        requires dest { (slot_at self.old.slots timer.slot).dest ≡ dest }
+        requires in_range { dest < (settings_of desk.now).processes }
+        ensures belongs { Belongs desk.now pass.new }
+        ensures call { Ends (settings_of desk.now) (view_of pass.old) by self.old self.new dest timer (view_of pass.new) }
+    {
+        if !pass.mark(desk, Actor::Caller(by), dest, false) {
+            return;
+        }
+        self.orphan(desk, pass, by, timer, deadline);
+    }
+
+    /// Tries to cancel a timer because its destination has exited, and holds its slot free.
+    pub(crate) fn orphan(
+        &mut self,
+        desk: &Desk,
+        pass: &mut Pass,
+        by: u32,
+        timer: TimerRef,
+        deadline: u64,
+    )
+        requires belongs { Belongs desk.now pass.old }
+        requires holds { HoldsCaller (settings_of desk.now) (view_of pass.old) by self.old.number }
+        requires stands { Stands (settings_of desk.now) (front_of pass.old) self.old }
+        requires held { HoldsTimer self.old timer deadline }
+        requires exited { (state (settings_of desk.now) (front_of pass.old)).exited (slot_at self.old.slots timer.slot).dest ≡ true }
+        ensures belongs { Belongs desk.now pass.new }
+        ensures call { Orphans (settings_of desk.now) (view_of pass.old) by self.old self.new timer (view_of pass.new) }
+    {
+        let hit = pass.settle(desk, Actor::Caller(by), timer, deadline, Settle::Orphan);
+        self.give_back(timer.slot, hit);
+    }
+}
+
+/// Whether the last timer of a slot takes it, by what the slot shows.
+fn is_taken(shown: Option<(Status, u64, u32)>) -> bool
+    ensures { result ≡ timers.is_taken (status_shown shown) }
+{
+    matches!(shown, Some((Status::Armed | Status::Expired, _, _)))
+}

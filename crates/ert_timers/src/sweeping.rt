@@ -1,0 +1,64 @@
+//! Timers of processes that have exited.
+use crate::part::WheelPart;
+use ert_defs::TimerRef;
+use ert_table::{Desk, Pass};
+
+impl WheelPart {
+    ghost use Rattle.std.specs.Prelude.{◌≡◌, ◌≢◌, ◌<◌, true, Some};
+    ghost use Rattle.ert_answers.specs.WheelCalls.{Sweeps, IsSwept};
+    ghost use Rattle.ert_defs.specs.States.{state};
+    ghost use Rattle.ert_table.specs.Desks.{settings_of, view_of, front_of, Belongs};
+    ghost use Rattle.ert_table.specs.Calls.{IsMade};
+    ghost use Rattle.ert_timers.specs.Parts.{HoldsCaller, Stands};
+    ghost use Rattle.ert_timers.specs.Sweeping.{IsHeld};
+    ghost use Rattle.ert_defs.specs.declared.settings.Settings.{Settings};
+    ghost use Rattle.ert_defs.specs.declared.timer.Status.TheVariants.{Armed};
+
+    /// Cancels all timers of a process that has exited, and holds their slots free.
+    ///
+    /// It does work for the timers of that process alone, and takes no memory.
+    pub fn sweep(&mut self, desk: &Desk, pass: &mut Pass, by: u32, process: u32)
+        requires belongs { Belongs desk.now pass.old }
+        requires holds { HoldsCaller (settings_of desk.now) (view_of pass.old) by self.old.number }
+        requires stands { Stands (settings_of desk.now) (front_of pass.old) self.old }
+        requires in_range { process < (settings_of desk.now).processes }
+        requires exited { (state (settings_of desk.now) (front_of pass.old)).exited process ≡ true }
+        ensures belongs { Belongs desk.now pass.new }
+        ensures number { self.new.number ≡ self.old.number }
+        ensures stands { Stands (settings_of desk.now) (front_of pass.new) self.new }
+        ensures call { IsMade (settings_of desk.now) (view_of pass.old) (Sweeps (settings_of desk.now) by self.old.number process) (view_of pass.new) }
+        ensures swept { IsSwept (state (settings_of desk.now) (front_of pass.new)) self.old.number process }
+    {
+        while let Some(row) = self.newest_of(process) {
+            let timer = self.timer(row);
+            self.orphan(desk, pass, by, timer.timer, timer.deadline);
+        }
+    }
+
+    /// Drops the row of a timer that the pass has seen settled, where the row is held, and holds its slot
+    /// free. So a start that follows finds the slot at once.
+    ///
+    /// It makes no entry, and takes no memory.
+    pub fn forget(&mut self, pass: &Pass, timer: TimerRef)
+        requires stands { (g : Settings) → (view_of pass.now).settings ≡ Some g → Stands g (front_of pass.now) self.old }
+        requires settled { (g : Settings) → (view_of pass.now).settings ≡ Some g → (state g (front_of pass.now)).status timer ≢ Some Armed }
+        ensures number { self.new.number ≡ self.old.number }
+        ensures stands { (g : Settings) → (view_of pass.now).settings ≡ Some g → Stands g (front_of pass.now) self.new }
+        ensures forgotten { IsHeld self.new timer → ⊥ }
+    {
+        let _seen = pass;
+        if timer.wheel != self.number() {
+            return;
+        }
+        if timer.slot >= self.slot_count() {
+            return;
+        }
+        let Some(row) = self.row(timer.slot) else {
+            return;
+        };
+        if self.timer(row).timer.generation != timer.generation {
+            return;
+        }
+        self.give_back(timer.slot, false);
+    }
+}
