@@ -1,5 +1,10 @@
+pub mod CountSteps
+pub mod CountTotals
+pub mod Counted
+pub mod Counting
 pub mod Expiries
 pub mod Few
+pub mod FiredCounts
 pub mod Handing
 pub mod Histories
 pub mod LookBack
@@ -9,6 +14,8 @@ pub mod OwnTells
 pub mod Permissions
 pub mod Requests
 pub mod RowRanges
+pub mod SlotUses
 pub mod TimerLives
 pub mod Told
+pub mod Totals
 pub mod Waiting

@@ -1,6 +1,6 @@
 //! The laws of the model: what a stranger may expect of each legal history. What the clock may do, the lives
-//! of timers, the order of messages, what a message tells of a change of the time offset, and what the numbers in
-//! a history name. Worked histories test the definitions.
+//! of timers and how many have which status, the order of messages, what a message tells of a change of the time
+//! offset, and what the numbers in a history name. Worked histories test the definitions.
 //!
 //! It stands on `ert_defs` alone. Its functions do nothing: each has laws as its contract, so that they are
 //! proved wherever this crate is. They stand apart from the model so that a change of a law proves nothing anew
@@ -9,6 +9,7 @@
 
 mod changes;
 mod clock_laws;
+mod counts;
 mod lives;
 mod mail_order;
 mod ranges;
@@ -19,6 +20,7 @@ pub use clock_laws::{
     clock_is_permitted, clock_looks_back, no_timer_expires_early, time_never_falls,
     times_stay_in_range,
 };
+pub use counts::{statuses_are_counted, timers_are_counted, timers_are_uses_of_slots};
 pub use lives::{expired_timers_wait_once, timers_have_six_lives};
 pub use mail_order::{mailboxes_keep_order, timer_messages_come_in_order};
 pub use ranges::{

@@ -21,7 +21,8 @@ use Rattle.ert_table.specs.Takes.{MayStep, Appends}
 use Rattle.ert_table.proofs.Calls.{step_takes_place, takes_place_then}
 use Rattle.ert_table.proofs.Parts.{AreByThemselves, mail_own, sched_own, own_after, stepped}
 use Rattle.ert_table.specs.declared.view.View.{View}
-use Rattle.ert_mail.specs.Mailboxes.{IsScheds, answered, deliveries}
+use Rattle.ert_laws.specs.Counts.{deliveries}
+use Rattle.ert_mail.specs.Mailboxes.{IsScheds, answered}
 use Rattle.ert_mail.specs.Steps.{IsReplied, with_answer}
 use Rattle.ert_mail.proofs.Standing.{deliveries_after, mails_before}
 use Rattle.ert_mail.proofs.Handings.{scheds_before}

@@ -32,7 +32,7 @@ use Rattle.ert_laws.proofs.Histories.{by_entries}
 use Rattle.ert_laws.proofs.RowRanges.{rows_placed}
 use Rattle.ert_laws.proofs.TimerLives.{entries_move}
 use Rattle.ert_table.proofs.SlotFacts.{row_in_range}
-use Rattle.ert_mail.specs.Mailboxes.{is_delivery, delivers_to, deliveries}
+use Rattle.ert_laws.specs.Counts.{is_delivery, delivers_to, deliveries}
 
 -- the timers that were delivered, in order
 abbrev put_first : Event → List TimerRef → List TimerRef

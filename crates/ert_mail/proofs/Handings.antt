@@ -25,7 +25,8 @@ use Rattle.ert_table.specs.Takes.{MayStep, Appends}
 use Rattle.ert_table.proofs.Parts.{part_before, stepped, two_steps, held_on}
 use Rattle.ert_table.specs.declared.carry.Settle.TheVariants.{Deliver as ToDeliver, Drop as ToDrop}
 use Rattle.ert_table.specs.declared.view.View.{View}
-use Rattle.ert_mail.specs.Mailboxes.{Mailbox, Stands, IsScheds, deliveries, handed}
+use Rattle.ert_laws.specs.Counts.{deliveries}
+use Rattle.ert_mail.specs.Mailboxes.{Mailbox, Stands, IsScheds, handed}
 use Rattle.ert_mail.specs.Steps.{IsHanded, with_fired}
 use Rattle.ert_mail.proofs.Counts.{deliveries_few}
 use Rattle.ert_mail.proofs.Standing.{deliveries_after, mails_before}

@@ -16,7 +16,7 @@ use Rattle.ert_answers.specs.declared.answers.Taken.TheVariants.{Mail, Empty, Ex
 use Rattle.ert_table.specs.Calls.{AreOnlyOf}
 use Rattle.ert_table.proofs.Parts.{free_later, of_one, of_both}
 use Rattle.ert_mail.specs.Laws.{AreWithMail, LawOfStanding, LawOfTakes, LawOfMonitors, LawOfDemonitors, LawOfTells, LawOfHandingOver, LawOfAnswers}
-use Rattle.ert_mail.specs.Mailboxes.{delivers_to, deliveries}
+use Rattle.ert_laws.specs.Counts.{delivers_to, deliveries}
 use Rattle.ert_mail.proofs.AnswerSteps.{AreAsked, asked}
 use Rattle.ert_mail.proofs.Standing.{undelivered}
 

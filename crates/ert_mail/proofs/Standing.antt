@@ -13,7 +13,8 @@ use Rattle.ert_table.proofs.Calls.{step_takes_place}
 use Rattle.ert_table.proofs.Holders.{or_false}
 use Rattle.ert_table.proofs.Parts.{not_of, entries_after, part_before, stepped}
 use Rattle.ert_table.specs.declared.view.View.{View}
-use Rattle.ert_mail.specs.Mailboxes.{Mailbox, Stands, deliveries, delivers_to}
+use Rattle.ert_laws.specs.Counts.{deliveries, delivers_to}
+use Rattle.ert_mail.specs.Mailboxes.{Mailbox, Stands}
 
 -- what isn't of a process's mailbox isn't delivered to it
 pub undelivered : (p : ℕ) (e : Entry) → has_actor e (MailOf p) ≡ false → delivers_to p e ≡ false

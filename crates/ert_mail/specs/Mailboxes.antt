@@ -1,16 +1,14 @@
 -- The mailbox of a process, as callers see it, and when it stands for a history.
 
-use Rattle.std.specs.Prelude.{◌≡◌, ◌⊎◌, ℕ, ◌<◌, ◌≤◌, Bool, true, false, ◌&&◌, List, [], ◌∷◌, length, map, filter, Option, None, Result, Ok, Err}
-use Rattle.ert_defs.specs.Actors.{is_with}
+use Rattle.std.specs.Prelude.{◌≡◌, ◌⊎◌, ℕ, ◌<◌, ◌≤◌, true, List, [], ◌∷◌, length, map, Option, None, Result, Ok, Err}
 use Rattle.ert_defs.specs.Mails.{MailState, Monitor, SchedState, no_mail, others_of}
 use Rattle.ert_defs.specs.States.{state}
 use Rattle.ert_defs.specs.declared.entry.Actor.TheVariants.{Sched, MailOf, Caller}
 use Rattle.ert_defs.specs.declared.entry.Entry.{Entry}
-use Rattle.ert_defs.specs.declared.entry.Event.{Event}
-use Rattle.ert_defs.specs.declared.entry.Event.TheVariants.{Deliver}
 use Rattle.ert_defs.specs.declared.mail.Mail.{Mail}
 use Rattle.ert_defs.specs.declared.memory.NoMemory.{NoMemory}
 use Rattle.ert_defs.specs.declared.settings.Settings.{Settings}
+use Rattle.ert_laws.specs.Counts.{deliveries}
 use Rattle.ert_answers.specs.MailCalls.{Monitors}
 use Rattle.ert_answers.specs.declared.answers.Handed.{Handed}
 use Rattle.ert_answers.specs.declared.answers.MonitorErr.{MonitorErr}
@@ -45,18 +43,6 @@ seen process queue monitors next delivered room = record {
   delivered = delivered;
   room = room;
 }
-
--- whether the message of an expired timer is put into the mailbox of a process
-abbrev pub is_delivery : Event → Bool
-is_delivery (Deliver timer) = true
-is_delivery _ = false
-
-abbrev pub delivers_to : ℕ → Entry → Bool
-delivers_to p e = is_with e.with (MailOf p) && is_delivery e.event
-
--- how many were in a history
-abbrev pub deliveries : ℕ → List Entry → ℕ
-deliveries p h = length (filter (delivers_to p) h)
 
 -- a mailbox stands for a history
 pub record Stands (g : Settings) (h : List Entry) (m : Mailbox) : Type 0 where

@@ -13,7 +13,8 @@ use Rattle.ert_answers.specs.declared.answers.Handed.TheVariants.{Put, Dropped}
 use Rattle.ert_table.specs.Calls.{IsMade}
 use Rattle.ert_table.specs.Takes.{TakesPlace}
 use Rattle.ert_table.specs.declared.view.View.{View}
-use Rattle.ert_mail.specs.Mailboxes.{handed, answered, deliveries}
+use Rattle.ert_laws.specs.Counts.{deliveries}
+use Rattle.ert_mail.specs.Mailboxes.{handed, answered}
 
 -- what a process has after an expired timer was handed over to it
 abbrev pub with_fired : Handed → Row → MailState → MailState
