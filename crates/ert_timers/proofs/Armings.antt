@@ -26,13 +26,16 @@ use Rattle.ert_table.specs.Takes.{Appends, MayStep}
 use Rattle.ert_table.specs.declared.view.View.{View}
 use Rattle.ert_table.proofs.Parts.{stepped}
 use Rattle.ert_timers.specs.Changes.{IsFree, kept, slot_for}
-use Rattle.ert_timers.specs.Parts.{HoldsCaller, Part, HoldsRows, Stands, slot_at, last_timer, held_row, unused, is_arm, is_expire, is_orphan}
+use Rattle.ert_laws.specs.Counts.{is_arm, is_expire, is_orphan}
+use Rattle.ert_timers.specs.Parts.{HoldsCaller, Part, HoldsRows, Stands, slot_at, last_timer, held_row, unused}
 use Rattle.ert_timers.specs.Starting.{Arms, HoldsTimer}
+use Rattle.ert_timers.specs.Tidy.{KeepsTidy}
 use Rattle.ert_timers.specs.declared.part.Slot.{Slot}
 use Rattle.ert_timers.proofs.Keeping.{key_kept, key_new}
 use Rattle.ert_timers.proofs.Later.{IsLater, later_before, unexpired_before}
 use Rattle.ert_timers.proofs.Rows.{row_wheel}
 use Rattle.ert_timers.proofs.Standing.{count_same}
+use Rattle.ert_timers.proofs.Tidied.{next_whole, stays_armed}
 use Rattle.ert_timers.proofs.Tried.{count_more}
 use Rattle.ert_wheel.specs.Rows.{key_in}
 use Rattle.ert_wheel.specs.declared.row.Key.{Key}
@@ -165,6 +168,39 @@ old_apart g h w k last timer legal last_is slot generation n row at same =
     let generation_is : row.timer.generation ≡ last + 1 = ap (λ (t : TimerRef). t.generation) same ∙ generation in
     absurd (omega (arith, is.within, slot_is, generation_is))
 
+-- its own timer is armed then
+armed_self : (g : Settings) (s : State) (by : ℕ) (timer : TimerRef) (start : Start)
+    → (next g s (arm_entry by timer start)).status timer ≡ Some Armed
+armed_self g s by timer start =
+    let self : nat_eq timer.wheel timer.wheel ≡ true = eq-eqb timer.wheel timer.wheel refl in
+    ap (λ b. cond ((nat_eq timer.wheel timer.wheel) && b) (Some Armed) (s.status timer)) (same_timer_self timer) ∙ rw self refl
+
+-- a tidy part stays so
+tidy_armed : (g : Settings) (v : View) (by : ℕ) (p : Part) (k deadline : ℕ) (start : Start) (timer : TimerRef) (u : View)
+    → Appends g v (arm_entry by timer start) u
+    → timer ≡ last_timer p.number (set p.slots k (slot_for ((slot_at p.slots k).generation + 1) start)) k → k < length p.keys
+    → KeepsTidy g v p (kept p k start deadline) u
+tidy_armed g v by p k deadline start timer u step named wide whole tidy j seen is =
+    let slots : List Slot = set p.slots k (slot_for ((slot_at p.slots k).generation + 1) start) in
+    let e : Entry = arm_entry by timer start in
+    let s : State = state g v.front in
+    let goes : (r : TimerRef) → (state g u.front).status r ≡ (next g s e).status r =
+    λ r. ap (λ (t : State). t.status r) (next_whole g v e u whole step) in
+    elim (cases_eq j k) [
+      | inl here ↦
+          ap (λ n. (state g u.front).status (last_timer p.number slots n)) here
+          ∙ (ap (state g u.front).status (sym named) ∙ (goes timer ∙ armed_self g s by timer start))
+      | inr other ↦
+          let r : TimerRef = last_timer p.number p.slots j in
+          let same : last_timer p.number slots j ≡ r =
+          ap (λ (x : Slot). let t : TimerRef = record { wheel = p.number; slot = j; generation = x.generation } in t)
+          (get_or-set_other p.slots k j (slot_for ((slot_at p.slots k).generation + 1) start) unused other) in
+          ap (state g u.front).status same
+          ∙ (goes r
+          ∙ stays_armed r (has_actor e (Wheel r.wheel)) (s.status r) e.event refl
+          (tidy j seen (key_kept p.keys k j (record { deadline = deadline; order = p.arms }) seen wide is other)))
+    ]
+
 -- the part stands with the new timer
 pub arms : (g : Settings) (v : View) (by : ℕ) (p q : Part) (k deadline : ℕ) (start : Start) (timer : TimerRef) (u : View) → Stands g v.front p
     → HoldsCaller g v by p.number → IsFree p k → deadline_of g start ((state g v.front).looked (Caller by)) ≡ Some deadline
@@ -257,6 +293,7 @@ arms g v by p q k deadline start timer u stands holds free due part timer_is ste
       }));
       dest = ap (λ (x : Part). (slot_at x.slots timer.slot).dest) part
           ∙ (ap (λ n. (slot_at (set p.slots k slot) n).dest) slot_is ∙ ap (λ (x : Slot). x.dest) slot_same);
+      tidy = subst (λ (x : Part). KeepsTidy g v p x u) (sym part) (tidy_armed g v by p k deadline start timer u step named wide);
     }
   where
     cond_is_true : (b : Bool) (x y : ℕ) → b ≡ true → cond b x y ≡ x

@@ -22,7 +22,7 @@ use Rattle.ert_table.specs.Held.{is_held}
 use Rattle.ert_table.specs.Takes.{Appends}
 use Rattle.ert_table.proofs.Parts.{stepped}
 use Rattle.ert_table.specs.declared.view.View.{View}
-use Rattle.ert_timers.specs.Parts.{is_arm, count_of}
+use Rattle.ert_laws.specs.Counts.{entries_of, is_arm}
 
 -- a later state in which no timer of a wheel was armed since
 pub record IsLater (w : ℕ) (s t : State) : Type 0 where
@@ -63,7 +63,7 @@ was_armed (Some Orphaned) y h is = absurd (forward_not_armed (Some Orphaned) y h
 was_armed (Some Dropped) y h is = absurd (forward_not_armed (Some Dropped) y h (λ is. cc) is)
 
 -- after an entry that arms nothing
-later_entry : (g : Settings) (w : ℕ) (s : State) (e : Entry) → is_arm e.event ≡ false → IsLater w s (next g s e)
+pub later_entry : (g : Settings) (w : ℕ) (s : State) (e : Entry) → is_arm e.event ≡ false → IsLater w s (next g s e)
 later_entry g w s e unmet =
     let moved : (r : TimerRef) → Forward (s.status r) ((next g s e).status r) =
     λ r. forward_after r (has_actor e (Wheel r.wheel)) (s.status r) e.event
@@ -169,7 +169,7 @@ expires_not g by with (Expire timer) r keeps free = at (same_timer timer r) refl
     at false is = is
 expires_not g by with _ r keeps free = refl
 
-unexpired_free : (g : Settings) (r : TimerRef) (s : State) (m : List Entry) → LegalFrom g s m → IsFree m (Wheel r.wheel)
+pub unexpired_free : (g : Settings) (r : TimerRef) (s : State) (m : List Entry) → LegalFrom g s m → IsFree m (Wheel r.wheel)
     → s.status r ≢ Some Expired → (run g s m).status r ≢ Some Expired
 unexpired_free g r s [] legal free h = h
 unexpired_free g r s (e ∷ m) legal free h =
@@ -196,7 +196,7 @@ unexpired_step g v e u r step held unmet h =
     (unexpired_event r (has_actor e (Wheel r.wheel)) ((state g (v.front ++ step.between)).status r) e.event unmet
     (unexpired_before g v e u r step held h))
 
-none_counted : (test : Event → Bool) (w : ℕ) (m : List Entry) → IsFree m (Wheel w) → count_of test w m ≡ 0
+pub none_counted : (test : Event → Bool) (w : ℕ) (m : List Entry) → IsFree m (Wheel w) → entries_of test w m ≡ 0
 none_counted test w [] free = refl
 none_counted test w (e ∷ m) free =
     let none : has_actor e (Wheel w) ≡ false = free_first (Wheel w) e m free in
@@ -205,10 +205,10 @@ none_counted test w (e ∷ m) free =
 -- a count of the entries of a wheel goes on by the step alone
 pub count_step : (g : Settings) (v : View) (e : Entry) (u : View) (w : ℕ) (test : Event → Bool) → Appends g v e u
     → is_held v.actors (Wheel w) ≡ true
-    → count_of test w u.front ≡ count_of test w v.front + cond (has_actor e (Wheel w) && test e.event) 1 0
+    → entries_of test w u.front ≡ entries_of test w v.front + cond (has_actor e (Wheel w) && test e.event) 1 0
 count_step g v e u w test step held =
     let one : Entry → ℕ = λ e. cond (has_actor e (Wheel w) && test e.event) 1 0 in
-    let grown : count_of test w u.front ≡ count_of test w ((v.front ++ step.between) ++ e ∷ []) = ap (count_of test w) step.grown in
+    let grown : entries_of test w u.front ≡ entries_of test w ((v.front ++ step.between) ++ e ∷ []) = ap (entries_of test w) step.grown in
     let outer = sum_by-append one (v.front ++ step.between) (e ∷ []) in
     let inner = sum_by-append one v.front step.between in
     let none = none_counted test w step.between (step.others (Wheel w) held) in

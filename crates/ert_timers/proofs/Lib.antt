@@ -1,5 +1,6 @@
 pub mod Later
 pub mod Rows
+pub mod Tidied
 pub mod Standing
 pub mod Fit
 pub mod Keeping
@@ -10,6 +11,10 @@ pub mod Trials
 pub mod Orphaned
 pub mod Armings
 pub mod Lookings
+pub mod Dropped
 pub mod Starts
 pub mod Swept
 pub mod Forgotten
+pub mod LawsHold
+pub mod Counted
+pub mod Cancelled

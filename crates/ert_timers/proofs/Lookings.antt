@@ -8,12 +8,14 @@ use Rattle.std.specs.Ordering.{nat_cmp}
 use Rattle.ert_defs.specs.Entries.{probe_entry}
 use Rattle.ert_defs.specs.States.{State, state}
 use Rattle.ert_defs.specs.Timers.{is_taken, timer_at}
-use Rattle.ert_defs.specs.declared.entry.Actor.TheVariants.{Caller}
+use Rattle.ert_defs.specs.declared.entry.Actor.{Actor}
+use Rattle.ert_defs.specs.declared.entry.Actor.TheVariants.{Wheel, Caller}
 use Rattle.ert_defs.specs.declared.entry.Entry.{Entry}
 use Rattle.ert_defs.specs.declared.settings.Settings.{Settings}
 use Rattle.ert_defs.specs.declared.timer.Status.{Status}
 use Rattle.ert_defs.specs.declared.timer.Status.TheVariants.{Armed}
 use Rattle.ert_calls.proofs.Looks.{can_step, look_stepped}
+use Rattle.ert_table.specs.Held.{is_held}
 use Rattle.ert_table.specs.Settlings.{Shown}
 use Rattle.ert_table.specs.Takes.{Appends, TakesPlace}
 use Rattle.ert_table.specs.declared.view.View.{View}
@@ -21,11 +23,14 @@ use Rattle.ert_table.proofs.Calls.{step_takes_place, takes_place_then}
 use Rattle.ert_table.proofs.Parts.{stepped}
 use Rattle.ert_table.proofs.SlotFacts.{slots_kept}
 use Rattle.ert_timers.specs.Changes.{IsFree, dropped, freed, picked}
-use Rattle.ert_timers.specs.Parts.{HoldsCaller, Part, Stands, slot_at, last_timer, is_expire, is_orphan}
+use Rattle.ert_laws.specs.Counts.{is_expire, is_orphan}
+use Rattle.ert_timers.specs.Parts.{HoldsCaller, Part, Stands, slot_at, last_timer}
 use Rattle.ert_timers.specs.Starting.{LooksAt, LooksAtSome, TakesSlot, AreFull, probes_from, status_shown}
+use Rattle.ert_timers.specs.Tidy.{KeepsTidy}
 use Rattle.ert_timers.proofs.Fit.{taken_was}
 use Rattle.ert_timers.proofs.Later.{later_before}
 use Rattle.ert_timers.proofs.Standing.{count_same, holds_freed, stands_step}
+use Rattle.ert_timers.proofs.Tidied.{tidy_calm, tidy_gone, tidy_then}
 use Rattle.ert_timers.proofs.Tried.{stands_gone}
 
 -- what a load of a slot found
@@ -41,13 +46,13 @@ probe_is g v by w w' k shown u number step =
     (subst (λ x. Appends g v (probe_entry (Caller by) w' k x) u) (status_is shown) step)
 
 -- what was found is the status of the slot's last timer, before and after the look
-pub found_is : (g : Settings) (v : View) (by : ℕ) (p : Part) (k : ℕ) (found : Option Status) (u : View) → Stands g v.front p
-    → HoldsCaller g v by p.number → k < g.slots → Appends g v (probe_entry (Caller by) p.number k found) u
+pub found_is : (g : Settings) (v : View) (by : Actor) (p : Part) (k : ℕ) (found : Option Status) (u : View) → Stands g v.front p
+    → is_held v.actors (Wheel p.number) ≡ true → k < g.slots → Appends g v (probe_entry by p.number k found) u
     → found ≡ (state g u.front).status (last_timer p.number p.slots k)
-found_is g v by p k found u stands holds low step =
-    let e : Entry = probe_entry (Caller by) p.number k found in
+found_is g v by p k found u stands held low step =
+    let e : Entry = probe_entry by p.number k found in
     let s : State = state g (v.front ++ step.between) in
-    let later = later_before g v e u p.number step holds.wheel in
+    let later = later_before g v e u p.number step held in
     let last : s.last p.number k ≡ (slot_at p.slots k).generation = later.last k ∙ sym (stands.holds.lasts k low) in
     (can_step g v e u step).found
     ∙ (ap (λ n. s.status (timer_at p.number k n)) last
@@ -64,6 +69,7 @@ looks_taken g v by p k found u stands holds step taken = record {
   slots = refl;
   others = λ j other. refl;
   full = λ away. inl taken;
+  tidy = tidy_calm g v (probe_entry (Caller by) p.number k found) u p step (λ r. refl);
 }
 
 not_armed : (x : Option Status) → is_taken x ≡ false → x ≢ Some Armed
@@ -95,7 +101,7 @@ looks_free g v by p q r k found u stands holds low step none gone back =
     let few : (slot_at p.slots k).generation ≤ 262143 =
     omega (arith, stands.holds.lasts k low, (slots_kept g v.front stands.legal).lasts p.number k) in
     let e : Entry = probe_entry (Caller by) p.number k found in
-    let is = found_is g v by p k found u stands holds low step in
+    let is = found_is g v (Caller by) p k found u stands holds.wheel low step in
     let free : is_taken ((state g u.front).status (last_timer p.number p.slots k)) ≡ false = ap is_taken (sym is) ∙ none in
     let all : r ≡ freed (dropped p k) k = back ∙ ap (λ (x : Part). freed x k) gone in
     let counts = stands.counted in
@@ -117,6 +123,8 @@ looks_free g v by p q r k found u stands holds low step none gone back =
       others = λ j other. ap (λ (x : Part). sets.contains x.free j) all
           ∙ put_other p.free k j (nat_lt (slot_at p.slots k).generation 262143) other;
       full = λ away. inr (spent (slot_at p.slots k).generation p.free k few (ap (λ (x : Part). sets.contains x.free k) (sym all) ∙ away));
+      tidy = subst (λ (x : Part). KeepsTidy g v p x u) (sym all)
+          (tidy_gone g v e u p k step (subst (λ n. k < n) (sym stands.holds.wide) low) (λ j other. refl));
     }
 
 -- nothing was looked at yet
@@ -132,6 +140,7 @@ looks_none g v by p stands none = record {
   full = tt;
   above = λ j high. none j;
   look = refl;
+  tidy = λ whole tidy. tidy;
 }
 
 probes-push : (by w k : ℕ) (founds : List (Option Status)) (found : Option Status)
@@ -181,6 +190,7 @@ looks_more g v by p q r n u w some holds one =
           (λ away. subst (λ s. (is_taken one.found ≡ true) ⊎ ((slot_at s n).generation ≡ 262143)) (sym one.slots) (one.full away)));
       above = λ j high. one.others j (omega (arith, high)) ∙ some.above j (omega (arith, high));
       look = look_stepped g u (probe_entry (Caller by) q.number n one.found) w one.step holds.caller ∙ some.look;
+      tidy = tidy_then g v p q u r w some.call.actors some.tidy one.tidy;
     }
   where
     here : (z : ℕ) → n ≡ 0 + length some.founds
@@ -215,6 +225,7 @@ takes_first g v by p q k stands is free held = record {
   finds = free;
   usable = ap (λ (x : Part). is_taken ((state g v.front).status (last_timer x.number x.slots k))) is ∙ stands.holds.free k held;
   look = refl;
+  tidy = subst (λ (x : Part). KeepsTidy g v p x v) (sym is) (λ whole tidy. tidy);
 }
 
 -- none was, and all were looked at
@@ -237,6 +248,7 @@ takes_then g v by p p' q r n None u same many some none left held is free =
       );
       usable = tt;
       look = here.look;
+      tidy = subst (λ (x : Part). KeepsTidy g v p x u) (sym left) here.tidy;
     }
 takes_then g v by p p' q r n (Some k) u same many some none left held is free =
     let here = subst (λ (x : Part). LooksAtSome g v by x q n u) same some in
@@ -249,4 +261,5 @@ takes_then g v by p p' q r n (Some k) u same many some none left held is free =
       finds = free;
       usable = ap (λ (x : Part). is_taken ((state g u.front).status (last_timer x.number x.slots k))) is ∙ here.stands.holds.free k held;
       look = here.look;
+      tidy = subst (λ (x : Part). KeepsTidy g v p x u) (sym is) here.tidy;
     }

@@ -3,6 +3,7 @@
 use Rattle.std.proofs.Common.{◌≡◌, ◌≢◌, ℕ, ◌+◌, ◌<◌, Bool, true, false, cond, ◌||◌, [], ◌∷◌, ◌++◌, Option, Some, None, inl, inr, refl, sym, ap, subst, ◌∙◌, arith, set}
 use Rattle.ert_defs.specs.Entries.{probe_entry, orphan_entry, mark_entry}
 use Rattle.ert_defs.specs.States.{State, state}
+use Rattle.ert_defs.specs.Timers.{same_timer}
 use Rattle.ert_defs.specs.declared.entry.Actor.TheVariants.{Wheel, Caller}
 use Rattle.ert_defs.specs.declared.entry.Entry.{Entry}
 use Rattle.ert_defs.specs.declared.settings.Settings.{Settings}
@@ -20,17 +21,20 @@ use Rattle.ert_table.specs.declared.view.View.{View}
 use Rattle.ert_table.proofs.Calls.{step_takes_place, takes_place_then}
 use Rattle.ert_table.proofs.Parts.{stepped}
 use Rattle.ert_timers.specs.Changes.{given_back}
-use Rattle.ert_timers.specs.Parts.{HoldsCaller, Part, Stands, slot_at, last_timer, held_row, is_expire, is_orphan}
+use Rattle.ert_laws.specs.Counts.{is_expire, is_orphan}
+use Rattle.ert_timers.specs.Parts.{HoldsCaller, Part, Stands, slot_at, last_timer, held_row}
 use Rattle.ert_timers.specs.Starting.{HoldsTimer, Orphans, Ends, IsSettled}
+use Rattle.ert_timers.specs.Tidy.{KeepsTidy}
 use Rattle.ert_timers.proofs.Later.{unexpired_step}
 use Rattle.ert_timers.proofs.Standing.{count_same, holds_freed, takes_none, stands_step}
-use Rattle.ert_timers.proofs.Tried.{count_more, held_found, self, stands_gone}
+use Rattle.ert_timers.proofs.Tidied.{settles, tidy_calm, tidy_gone, tidy_then}
+use Rattle.ert_timers.proofs.Tried.{count_more, held_found, self, stands_gone, two_slots}
 use Rattle.ert_wheel.specs.Rows.{key_in}
 use Rattle.ert_wheel.specs.declared.row.Key.{Key}
 use Rattle.ert_wheel.proofs.Collect.{key_low}
 
 -- the part once the slot of a timer that takes it no more is held free
-back : (g : Settings) (v : View) (e : Entry) (u : View) (p : Part) (k : ℕ) (key : Key) (hit : Bool) → Stands g v.front p
+pub back : (g : Settings) (v : View) (e : Entry) (u : View) (p : Part) (k : ℕ) (key : Key) (hit : Bool) → Stands g v.front p
     → key_in p.keys k ≡ Some key → Appends g v e u → is_held v.actors (Wheel p.number) ≡ true
     → ((state g u.front).status (last_timer p.number p.slots k) ≢ Some Armed)
     → ((state g u.front).status (last_timer p.number p.slots k) ≢ Some Expired)
@@ -113,6 +117,21 @@ may_orphan g v by p timer deadline stands has holds exited =
       };
     })
 
+orphans_other : (by w : ℕ) (timer r : TimerRef) (missed : Option (Option Status)) → same_timer timer r ≡ false
+    → settles (orphans_by by w timer missed).event r ≡ false
+orphans_other by w timer r None other = other
+orphans_other by w timer r (Some found) other = refl
+
+-- a tidy part stays so
+pub tidy_orphaned : (g : Settings) (v : View) (by : ℕ) (p q : Part) (timer : TimerRef) (deadline : ℕ) (u : View) → HoldsTimer p timer deadline
+    → Orphans g v by p q timer u → KeepsTidy g v p q u
+tidy_orphaned g v by p q timer deadline u has one =
+    subst (λ (x : Part). KeepsTidy g v p x u) (sym one.part)
+    (tidy_gone g v (orphans_by by p.number timer one.missed) u p timer.slot one.step
+    (key_low p.keys timer.slot (record { deadline = deadline; order = has.order }) has.held) (λ j other.
+    orphans_other by p.number timer (last_timer p.number p.slots j) one.missed
+    (ap (λ t. same_timer t (last_timer p.number p.slots j)) has.named ∙ two_slots p.number p.slots timer.slot j other)))
+
 or_first : (b c : Bool) → b ≡ true → (b || c) ≡ true
 or_first true c is = refl
 or_first false c is = absurd cc
@@ -144,6 +163,7 @@ ends_alive g v by p dest timer was u stands holds not step =
       call = step_takes_place g v (mark_entry (Caller by) dest false false) u here;
       number = refl;
       stands = marked_stands g v by dest was u p stands holds step;
+      tidy = tidy_calm g v (mark_entry (Caller by) dest false false) u p here (λ r. refl);
     }
 
 closing_is : (by w : ℕ) (timer : TimerRef) (missed : Option (Option Status)) → timer.wheel ≡ w → IsSettled missed
@@ -167,6 +187,8 @@ ends_exited g v by p q dest deadline timer was u w is has step orphans =
           (step_takes_place g u (orphans_by by p.number timer orphans.missed) w orphans.step);
       number = ap (λ (x : Part). x.number) orphans.part;
       stands = orphans.stands;
+      tidy = tidy_then g v p p u q w step.actors (tidy_calm g v (mark_entry (Caller by) dest false was) u p step (λ r. refl))
+          (tidy_orphaned g u by p q timer deadline w has orphans);
     }
 
 -- a pass holds the same actors after a step

@@ -19,7 +19,8 @@ use Rattle.ert_table.specs.Held.{is_held}
 use Rattle.ert_table.specs.Takes.{Appends}
 use Rattle.ert_table.specs.declared.view.View.{View}
 use Rattle.ert_timers.specs.Changes.{freed}
-use Rattle.ert_timers.specs.Parts.{Part, HoldsRows, Holds, Stands, slot_at, last_timer, is_arm, is_expire, is_orphan, count_of}
+use Rattle.ert_laws.specs.Counts.{entries_of, is_arm, is_expire, is_orphan}
+use Rattle.ert_timers.specs.Parts.{Part, HoldsRows, Holds, Stands, slot_at, last_timer}
 use Rattle.ert_timers.proofs.Later.{IsLater, later_step, expires, unexpired_step, count_step}
 use Rattle.ert_timers.proofs.Rows.{rows_later}
 use Rattle.ert_wheel.specs.declared.row.Key.{Key}
@@ -83,7 +84,7 @@ takes_none (Some Dropped) a b = refl
 
 -- the counts go on by the step alone
 pub count_same : (g : Settings) (v : View) (e : Entry) (u : View) (w : ℕ) (test : Event → Bool) → Appends g v e u
-    → is_held v.actors (Wheel w) ≡ true → test e.event ≡ false → count_of test w u.front ≡ count_of test w v.front
+    → is_held v.actors (Wheel w) ≡ true → test e.event ≡ false → entries_of test w u.front ≡ entries_of test w v.front
 count_same g v e u w test step held unmet =
     let none : (has_actor e (Wheel w) && test e.event) ≡ false = at (has_actor e (Wheel w)) in
     let nought : ◌≡◌ {A = ℕ} (cond (has_actor e (Wheel w) && test e.event) 1 0) 0 = ap (λ b. cond b 1 0) none in

@@ -22,7 +22,9 @@ use Rattle.ert_table.proofs.Calls.{step_takes_place, takes_place_then}
 use Rattle.ert_timers.specs.Looking.{LooksAhead}
 use Rattle.ert_timers.specs.Parts.{HoldsCaller, Part, Stands, slot_at}
 use Rattle.ert_timers.specs.Starting.{AreFull, Arms, Ends, TakesSlot, probes_from}
+use Rattle.ert_timers.specs.Tidy.{KeepsTidy}
 use Rattle.ert_timers.proofs.Standing.{stands_step}
+use Rattle.ert_timers.proofs.Tidied.{tidy_calm, tidy_then}
 
 -- a start that is refused for its time
 pub bad_arg : (g : Settings) (v : View) (by w : ℕ) (start : Start) (deadline : Option ℕ) (u : View) → deadline ≡ None
@@ -120,3 +122,22 @@ is_started g v by p q r s start deadline slot k d timer u x y z looks takes arms
       };
       call = takes_place_then g v u z (look ∷ []) (probes ++ (arm_entry by timer start ∷ tail)) (step_takes_place g v look u looks.step) three;
     }
+
+-- a tidy part stays so: after the look
+pub tidy_ahead : (g : Settings) (v : View) (by : ℕ) (start : Start) (deadline : Option ℕ) (u : View) (p : Part) → LooksAhead g v by start deadline u
+    → KeepsTidy g v p p u
+tidy_ahead g v by start deadline u p looks = tidy_calm g v (look_entry (Caller by) looks.now) u p looks.step (λ r. refl)
+
+-- after the search for a slot
+pub tidy_searched : (g : Settings) (v : View) (by : ℕ) (p q : Part) (start : Start) (deadline : Option ℕ) (slot : Option ℕ) (u x : View)
+    → LooksAhead g v by start deadline u → TakesSlot g u by p q slot x → KeepsTidy g v p q x
+tidy_searched g v by p q start deadline slot u x looks takes =
+    tidy_then g v p p u q x looks.step.actors (tidy_ahead g v by start deadline u p looks) takes.tidy
+
+-- and at the end
+pub tidy_started : (g : Settings) (v : View) (by : ℕ) (p q r s : Part) (start : Start) (deadline : Option ℕ) (slot : Option ℕ) (k d : ℕ)
+    (timer : TimerRef) (u x y z : View) → LooksAhead g v by start deadline u → TakesSlot g u by p q slot x → Arms g x by q r k d start timer y
+    → Ends g y by r s start.dest timer z → KeepsTidy g v p s z
+tidy_started g v by p q r s start deadline slot k d timer u x y z looks takes arms ends =
+    tidy_then g v p q x s z (takes.call.actors ∙ looks.step.actors) (tidy_searched g v by p q start deadline slot u x looks takes)
+    (tidy_then g x q r y s z arms.step.actors arms.tidy ends.tidy)

@@ -20,11 +20,14 @@ use Rattle.ert_table.specs.Takes.{Appends, TakesPlace}
 use Rattle.ert_table.specs.declared.view.View.{View}
 use Rattle.ert_table.proofs.Calls.{step_takes_place, takes_place_then}
 use Rattle.ert_timers.specs.Changes.{NextOf}
-use Rattle.ert_timers.specs.Parts.{HoldsCaller, Part, Stands, last_timer, held_row, is_arm}
+use Rattle.ert_laws.specs.Counts.{is_arm}
+use Rattle.ert_timers.specs.Parts.{HoldsCaller, Part, Stands, last_timer, held_row}
 use Rattle.ert_timers.specs.Starting.{HoldsTimer, IsSettled, Orphans}
 use Rattle.ert_timers.specs.Sweeping.{SweepsSome}
 use Rattle.ert_timers.proofs.Later.{later_step}
+use Rattle.ert_timers.proofs.Orphaned.{tidy_orphaned}
 use Rattle.ert_timers.proofs.Rows.{armed_row}
+use Rattle.ert_timers.proofs.Tidied.{tidy_then}
 use Rattle.ert_timers.proofs.Tried.{held_found}
 use Rattle.ert_wheel.specs.Rows.{key_of}
 use Rattle.ert_wheel.specs.declared.row.Row.{Row as WheelRow}
@@ -42,6 +45,7 @@ sweeps_none g v by process p stands exited = record {
   number = refl;
   rows = refl;
   exited = exited;
+  tidy = λ whole tidy. tidy;
 }
 
 may-push : (rows : List Row) (process : ℕ) (tries : List Try) (t : Try) → AllMaySweep rows process tries → MaySweep rows process t.timer t.missed
@@ -92,6 +96,8 @@ sweeps_more g v by process p q r row timer u w some holds next is one =
       exited = ap (λ (s : State). s.exited process) (ap (state g) step.grown ∙ ap (state g) (append_assoc u.front step.between (e ∷ []))
           ∙ state-append g u.front (step.between ++ e ∷ []))
           ∙ exit_stays g process (state g u.front) (step.between ++ e ∷ []) some.exited;
+      tidy = tidy_then g v p q u r w some.call.actors some.tidy
+          (tidy_orphaned g u by q r timer.timer timer.deadline w (next_held q process row timer next is) one);
     }
 
 swept_rows : (status : TimerRef → Option Status) (process : ℕ) (rows : List Row)

@@ -1,6 +1,6 @@
 -- The loop over the due rows of an advance, and the whole call.
 
-use Rattle.std.proofs.Common.{◌≡◌, ℕ, ◌+◌, ℤ, true, false, ◌||◌, nat_eq, List, [], ◌∷◌, ◌++◌, length, All, drop, Option, Some, None, Result, Ok, Err, inr, refl, sym, ap, subst, ◌∙◌, arith, append_assoc, append-nil, length-append}
+use Rattle.std.proofs.Common.{◌≡◌, ℕ, ◌+◌, ◌≤◌, ℤ, true, false, ◌||◌, nat_eq, List, [], ◌∷◌, ◌++◌, length, All, drop, Option, Some, None, Result, Ok, Err, inr, refl, sym, ap, subst, ◌∙◌, arith, append_assoc, append-nil, length-append}
 use Rattle.std.proofs.lemmas.List.{map-append}
 use Rattle.std.proofs.lemmas.Bool.Decides.{nat_tests}
 use Rattle.std.proofs.lemmas.List.Sorted.{sorted_far}
@@ -10,27 +10,31 @@ use Rattle.std.specs.List.Sorted.{IsSortedBy}
 use Rattle.ert_defs.specs.Entries.{look_entry, advanced_entry}
 use Rattle.ert_defs.specs.Milliseconds.{down}
 use Rattle.ert_defs.specs.States.{look_after, state}
-use Rattle.ert_defs.specs.Timers.{Row}
+use Rattle.ert_defs.specs.Timers.{Row, same_timer}
 use Rattle.ert_defs.specs.declared.entry.Actor.TheVariants.{Wheel, Sched}
 use Rattle.ert_defs.specs.declared.entry.Entry.{Entry}
 use Rattle.ert_defs.specs.declared.memory.NoMemory.{NoMemory}
 use Rattle.ert_defs.specs.declared.settings.Settings.{Settings}
 use Rattle.ert_defs.specs.declared.timer.Status.{Status}
+use Rattle.ert_defs.specs.declared.timer.TimerRef.{TimerRef}
 use Rattle.ert_answers.specs.WheelCalls.{Try, expires_by, expiry_entries, hit_by, hits}
 use Rattle.ert_calls.proofs.Looks.{look_stepped}
 use Rattle.ert_table.specs.Held.{is_held}
 use Rattle.ert_table.specs.Takes.{Appends, MayStep, TakesPlace}
 use Rattle.ert_table.specs.declared.view.View.{View}
 use Rattle.ert_table.proofs.Calls.{step_takes_place, takes_place_then}
-use Rattle.ert_timers.specs.Expiring.{Expires, ExpiresSome, HasExpired, HasNotExpired, IsAdvanced, IsReady, AreDue, fired_as, fired_in, timer_of}
+use Rattle.ert_timers.specs.Expiring.{Expires, ExpiresSome, HasExpired, HasNotExpired, HasTried, HasNotTried, IsTried, IsAdvanced, IsReady, AreDue, fired_as, fired_in, timer_of}
 use Rattle.ert_timers.specs.FiredLists.{Queue}
 use Rattle.ert_timers.specs.Looking.{LooksDown}
 use Rattle.ert_timers.specs.Parts.{HoldsSched, Part, Stands, last_timer}
-use Rattle.ert_timers.proofs.Dues.{due_left, none_due}
+use Rattle.ert_timers.specs.Tidy.{KeepsTidy}
+use Rattle.ert_timers.proofs.Dues.{due_left, first_held, no_row, none_due}
 use Rattle.ert_timers.proofs.Standing.{stands_step}
-use Rattle.ert_timers.proofs.Tried.{self, waits_by}
+use Rattle.ert_timers.proofs.Tidied.{settles, tidy_calm, tidy_gone, tidy_then}
+use Rattle.ert_timers.proofs.Tried.{self, two_slots, waits_by}
 use Rattle.ert_wheel.specs.Rows.{key_in, key_of, times, due_at, comes_before}
 use Rattle.ert_wheel.specs.declared.row.Row.{Row as WheelRow}
+use Rattle.ert_wheel.proofs.Collect.{key_low}
 
 -- nothing was tried yet
 pub expires_none : (g : Settings) (v : View) (p : Part) (to : ℕ) (due : List WheelRow) (q : Queue) → IsReady g v.front p to due
@@ -51,6 +55,7 @@ expires_none g v p to due q ready = record {
   fired = sym (append-nil q.rows);
   waits = sym (append-nil (fired_in g v.front p.number));
   room = omega arith;
+  tidy = λ whole tidy. tidy;
 }
 
 -- the entry of a try is no look
@@ -65,6 +70,11 @@ by_sched w timer (Some found) = refl
 fired_count : (row : Row) (missed : Option (Option Status)) → length (fired_as row missed) ≡ hit_by missed
 fired_count row None = refl
 fired_count row (Some found) = refl
+
+tries_other : (w : ℕ) (timer r : TimerRef) (missed : Option (Option Status)) → same_timer timer r ≡ false
+    → settles (expires_by w timer missed).event r ≡ false
+tries_other w timer r None other = other
+tries_other w timer r (Some found) other = refl
 
 hits-push : (tries : List Try) (t : Try) → hits (tries ++ t ∷ []) ≡ hits tries + hit_by t.missed
 hits-push [] t = omega arith
@@ -105,30 +115,10 @@ expires_more g v p q r to due n row old mid new u w some held next one =
           ∙ (ap (λ l. l ++ fired_as (timer_of q row) one.missed) some.waits
           ∙ append_assoc (fired_in g v.front p.number) some.gained (fired_as (timer_of q row) one.missed));
       room = omega (arith, some.room, one.room);
-    }
-
--- an advance: the look, the tries, and the record of the end
-pub expired_all : (g : Settings) (v : View) (p q : Part) (to : ℕ) (due : List WheelRow) (n : ℕ) (old new : Queue) (u w x : View)
-    → LooksDown g v (Sched p.number) to u → ExpiresSome g u p q to due n old new w → Appends g w (advanced_entry p.number to) x
-    → is_held v.actors (Sched p.number) ≡ true → HasExpired g v p.number to old new x
-expired_all g v p q to due n old new u w x looks some last sched =
-    let look : Entry = look_entry (Sched p.number) looks.now in
-    let has : (nat_eq p.number p.number || false) ≡ true = ap (λ b. b || false) (self p.number) in
-    let tail : TakesPlace g u (expiry_entries p.number some.tries ++ advanced_entry p.number to ∷ []) x =
-    takes_place_then g u w x (expiry_entries p.number some.tries) (advanced_entry p.number to ∷ []) some.call
-    (step_takes_place g w (advanced_entry p.number to) x last) in
-    record {
-      gained = some.gained;
-      call = record {
-        entries = look ∷ (expiry_entries p.number some.tries ++ advanced_entry p.number to ∷ []);
-        allowed = record { now = looks.now; tries = some.tries; fired = some.count; entries = refl };
-        call = takes_place_then g v u x (look ∷ []) (expiry_entries p.number some.tries ++ advanced_entry p.number to ∷ [])
-            (step_takes_place g v look u looks.step) tail;
-      };
-      fired = some.fired;
-      waits = waits_by g w (advanced_entry p.number to) x p.number last
-          (subst (λ actors. is_held actors (Sched p.number) ≡ true) (sym (some.call.actors ∙ looks.step.actors)) sched) has
-          ∙ (some.waits ∙ ap (λ l. l ++ some.gained) (waits_by g v look u p.number looks.step sched has));
+      tidy = tidy_then g v p q u r w some.call.actors some.tidy
+          (subst (λ (x : Part). KeepsTidy g u q x w) (sym one.part)
+          (tidy_gone g u e w q row.slot one.step (key_low q.keys row.slot (key_of row) (first_held g u.front q to row (drop (n + 1) due) ready))
+          (λ j other. tries_other q.number t.timer (last_timer q.number q.slots j) t.missed (two_slots q.number q.slots row.slot j other))));
     }
 
 -- the part stands after the look
@@ -174,21 +164,57 @@ may_end g v p to k rows ready none holds number =
       known = (done.told, none_due g v.front p to done);
     })
 
--- the whole call, of what the code has
-pub has_expired : (g : Settings) (v : View) (p p' q : Part) (k to : ℕ) (due : List WheelRow) (n : ℕ) (old old' new : Queue) (u w x : View)
-    → k ≡ p.number → p' ≡ p → old'.rows ≡ old.rows → LooksDown g v (Sched k) to u → ExpiresSome g u p' q to due n old' new w
-    → Appends g w (advanced_entry k to) x → HoldsSched v p.number → HasExpired g v p.number to old new x
-has_expired g v p p' q k to due n old old' new u w x number same rows looks some last holds =
-    let all =
-    expired_all g v p q to due n old' new u w x (subst (λ m. LooksDown g v (Sched m) to u) number looks)
-    (subst (λ (y : Part). ExpiresSome g u y q to due n old' new w) same some)
-    (subst (λ m. Appends g w (advanced_entry m to) x) number last) holds.sched in
+-- all due rows were tried, of what the code has
+pub has_tried : (g : Settings) (v : View) (p p' q q' : Part) (k to : ℕ) (due : List WheelRow) (n : ℕ) (old old' new : Queue) (u w : View)
+    → k ≡ p.number → p' ≡ p → q' ≡ q → old'.rows ≡ old.rows → LooksDown g v (Sched k) to u → ExpiresSome g u p' q to due n old' new w
+    → length due ≤ n → HoldsSched v p.number → HasTried g v p q' to old new w
+has_tried g v p p' q q' k to due n old old' new u w number first last rows down tried high holds =
+    let looks : LooksDown g v (Sched p.number) to u = subst (λ m. LooksDown g v (Sched m) to u) number down in
+    let some : ExpiresSome g u p q to due n old' new w = subst (λ (y : Part). ExpiresSome g u y q to due n old' new w) first tried in
+    let look : Entry = look_entry (Sched p.number) looks.now in
+    let has : (nat_eq p.number p.number || false) ≡ true = ap (λ b. b || false) (self p.number) in
     record {
-      gained = all.gained;
-      call = all.call;
-      fired = all.fired ∙ ap (λ l. l ++ all.gained) rows;
-      waits = all.waits;
+      now = looks.now;
+      tries = some.tries;
+      gained = some.gained;
+      call = takes_place_then g v u w (look ∷ []) (expiry_entries p.number some.tries) (step_takes_place g v look u looks.step) some.call;
+      number = ap (λ (x : Part). x.number) last ∙ some.number;
+      ready = subst (λ (x : Part). IsReady g w.front x to []) (sym last) (subst (IsReady g w.front q to) (no_row due n high) some.ready);
+      count = some.count;
+      fired = some.fired ∙ ap (λ l. l ++ some.gained) rows;
+      waits = some.waits ∙ ap (λ l. l ++ some.gained) (waits_by g v look u p.number looks.step holds.sched has);
+      tidy = subst (λ (x : Part). KeepsTidy g v p x w) (sym last)
+          (tidy_then g v p p u q w looks.step.actors (tidy_calm g v look u p looks.step (λ r. refl)) some.tidy);
     }
+
+-- the end is recorded
+pub has_expired : (g : Settings) (v : View) (p q : Part) (k to : ℕ) (old new : Queue) (u x : View) → k ≡ p.number → HasTried g v p q to old new u
+    → Appends g u (advanced_entry k to) x → HoldsSched v p.number → HasExpired g v p.number to old new x
+has_expired g v p q k to old new u x number tried step holds =
+    let last : Appends g u (advanced_entry p.number to) x = subst (λ m. Appends g u (advanced_entry m to) x) number step in
+    let look : Entry = look_entry (Sched p.number) tried.now in
+    let has : (nat_eq p.number p.number || false) ≡ true = ap (λ b. b || false) (self p.number) in
+    record {
+      gained = tried.gained;
+      call = record {
+        entries = look ∷ (expiry_entries p.number tried.tries ++ advanced_entry p.number to ∷ []);
+        allowed = record { now = tried.now; tries = tried.tries; fired = tried.count; entries = refl };
+        call = takes_place_then g v u x (look ∷ expiry_entries p.number tried.tries) (advanced_entry p.number to ∷ []) tried.call
+            (step_takes_place g u (advanced_entry p.number to) x last);
+      };
+      fired = tried.fired;
+      waits = waits_by g u (advanced_entry p.number to) x p.number last
+          (subst (λ actors. is_held actors (Sched p.number) ≡ true) (sym tried.call.actors) holds.sched) has
+          ∙ tried.waits;
+    }
+
+-- a tidy part stays so when it is
+pub tidy_ended : (g : Settings) (u : View) (q : Part) (k to : ℕ) (x : View) → Appends g u (advanced_entry k to) x → KeepsTidy g u q q x
+tidy_ended g u q k to x step = tidy_calm g u (advanced_entry k to) x q step (λ r. refl)
+
+pub tidy_after : (g : Settings) (v : View) (p q : Part) (k to : ℕ) (old new : Queue) (u x : View) → HasTried g v p q to old new u
+    → Appends g u (advanced_entry k to) x → KeepsTidy g v p q x
+tidy_after g v p q k to old new u x tried step = tidy_then g v p q u q x tried.call.actors tried.tidy (tidy_ended g u q k to x step)
 
 -- there was no memory
 pub not_expired : (g : Settings) (v : View) (w k to : ℕ) (e : NoMemory) (old new : Queue) (u : View) → k ≡ w → LooksDown g v (Sched k) to u
@@ -203,6 +229,24 @@ not_expired g v w k to e old new u number looks rows =
       };
       fired = rows;
     }
+
+-- nothing was tried then
+pub has_not_tried : (g : Settings) (v : View) (p q : Part) (k to : ℕ) (e : NoMemory) (old new : Queue) (u : View) → Stands g v.front p
+    → HoldsSched v p.number → k ≡ p.number → q ≡ p → LooksDown g v (Sched k) to u → new.rows ≡ old.rows → HasNotTried g v p q e old new u
+has_not_tried g v p q k to e old new u stands holds number same down rows =
+    let looks : LooksDown g v (Sched p.number) to u = subst (λ m. LooksDown g v (Sched m) to u) number down in
+    record {
+      call = not_expired g v p.number k to e old new u number down rows;
+      number = ap (λ (x : Part). x.number) same;
+      stands = subst (λ (x : Part). Stands g u.front x) (sym same) (looked_stands g v p to u stands holds looks);
+      tidy = subst (λ (x : Part). KeepsTidy g v p x u) (sym same)
+          (tidy_calm g v (look_entry (Sched p.number) looks.now) u p looks.step (λ r. refl));
+    }
+
+pub when_none : (g : Settings) (v : View) (p q : Part) (r : Result ℕ NoMemory) (old new : Queue) (u : View) → IsErr r
+    → ((e : NoMemory) → HasNotTried g v p q e old new u) → IsTried g v p q r old new u
+when_none g v p q (Ok to) old new u is f = absurd cc
+when_none g v p q (Err e) old new u is f = f e
 
 pub when_err : (g : Settings) (v : View) (w : ℕ) (r : Result ℕ NoMemory) (old new : Queue) (u : View) → IsErr r
     → ((e : NoMemory) → HasNotExpired g v w e old new u) → IsAdvanced g v w r old new u

@@ -29,7 +29,8 @@ use Rattle.ert_table.proofs.Parts.{stepped}
 use Rattle.ert_timers.specs.Changes.{let_go}
 use Rattle.ert_timers.specs.Expiring.{Expires, fired_in, timer_of}
 use Rattle.ert_timers.specs.FiredLists.{Queue}
-use Rattle.ert_timers.specs.Parts.{HoldsSched, Part, Stands, last_timer, held_row, is_arm, is_expire, is_orphan, count_of}
+use Rattle.ert_laws.specs.Counts.{entries_of, is_arm, is_expire, is_orphan}
+use Rattle.ert_timers.specs.Parts.{HoldsSched, Part, Stands, last_timer, held_row}
 use Rattle.ert_timers.specs.declared.part.Slot.{Slot}
 use Rattle.ert_timers.proofs.Later.{later_before, later_step, expires, unexpired_step, count_step}
 use Rattle.ert_timers.proofs.Rows.{key_left, rows_dropped}
@@ -70,7 +71,7 @@ held_has_row g h p k key stands held = record {
 -- a count goes on by one by a step with the wheel that is counted
 pub count_more : (g : Settings) (v : View) (e : Entry) (u : View) (w : ℕ) (test : Event → Bool) → Appends g v e u
     → is_held v.actors (Wheel w) ≡ true → has_actor e (Wheel w) ≡ true → test e.event ≡ true
-    → count_of test w u.front ≡ count_of test w v.front + 1
+    → entries_of test w u.front ≡ entries_of test w v.front + 1
 count_more g v e u w test step held has is =
     let one : ◌≡◌ {A = ℕ} (cond (has_actor e (Wheel w) && test e.event) 1 0) 1 =
     ap (λ b. cond (b && test e.event) 1 0) has ∙ ap (λ b. cond b 1 0) is in
@@ -81,7 +82,7 @@ pub stands_gone : (g : Settings) (v : View) (e : Entry) (u : View) (p : Part) (k
     → k < length p.keys → Appends g v e u → is_held v.actors (Wheel p.number) ≡ true → is_arm e.event ≡ false
     → ((j : ℕ) → j ≢ k → expires e.event (last_timer p.number p.slots j) ≡ false)
     → (state g u.front).status (last_timer p.number p.slots k) ≢ Some Armed
-    → expired ≡ count_of is_expire p.number u.front → orphaned ≡ count_of is_orphan p.number u.front
+    → expired ≡ entries_of is_expire p.number u.front → orphaned ≡ entries_of is_orphan p.number u.front
     → Stands g u.front (record p { keys = set p.keys k None; expires = expired; orphans = orphaned })
 stands_gone g v e u p k expired orphaned stands low step wheel unarmed others settled expires_are orphans_are =
     let later = later_step g v e u p.number step wheel unarmed in

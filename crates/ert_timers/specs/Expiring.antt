@@ -1,7 +1,8 @@
 -- An advance of a part: its due rows are tried, one after the other.
 
-use Rattle.std.specs.Prelude.{◌≡◌, ℕ, ◌+◌, ◌≤◌, pos, Bool, true, false, List, [], ◌∷◌, ◌++◌, All, length, drop, Option, Some, None, Result, Ok, Err}
+use Rattle.std.specs.Prelude.{◌≡◌, ℕ, ◌+◌, ◌≤◌, ℤ, pos, Bool, true, false, List, [], ◌∷◌, ◌++◌, All, length, drop, Option, Some, None, Result, Ok, Err}
 use Rattle.std.specs.List.{AllPairs}
+use Rattle.ert_defs.specs.Entries.{look_entry}
 use Rattle.ert_defs.specs.Milliseconds.{down}
 use Rattle.ert_defs.specs.States.{state}
 use Rattle.ert_defs.specs.Timers.{Row}
@@ -17,6 +18,7 @@ use Rattle.ert_table.specs.declared.view.View.{View}
 use Rattle.ert_timers.specs.Changes.{let_go}
 use Rattle.ert_timers.specs.FiredLists.{Queue}
 use Rattle.ert_timers.specs.Parts.{Part, Stands, last_timer, held_row}
+use Rattle.ert_timers.specs.Tidy.{KeepsTidy}
 use Rattle.ert_wheel.specs.Rows.{key_in, key_of, times, due_at, comes_before}
 use Rattle.ert_wheel.specs.declared.row.Row.{Row as WheelRow}
 
@@ -70,6 +72,7 @@ pub record ExpiresSome (g : Settings) (v : View) (p q : Part) (to : ℕ) (due : 
   pub fired : new.rows ≡ old.rows ++ gained
   pub waits : fired_in g u.front p.number ≡ fired_in g v.front p.number ++ gained
   pub room : old.room ≤ new.room + n
+  pub tidy : KeepsTidy g v p q u
 
 -- an advance: the timers that expired by it come last in the list, and in the scheduler's
 pub record HasExpired (g : Settings) (v : View) (w to : ℕ) (old new : Queue) (u : View) : Type 0 where
@@ -82,6 +85,30 @@ pub record HasExpired (g : Settings) (v : View) (w to : ℕ) (old new : Queue) (
 pub record HasNotExpired (g : Settings) (v : View) (w : ℕ) (e : NoMemory) (old new : Queue) (u : View) : Type 0 where
   pub call : IsMade g v (Advances g w (Err e)) u
   pub fired : new.rows ≡ old.rows
+
+-- a look, and then each due row was tried
+pub record HasTried (g : Settings) (v : View) (p q : Part) (to : ℕ) (old new : Queue) (u : View) : Type 0 where
+  pub now : ℤ
+  pub tries : List Try
+  pub gained : List Row
+  pub call : TakesPlace g v (look_entry (Sched p.number) now ∷ expiry_entries p.number tries) u
+  pub number : q.number ≡ p.number
+  pub ready : IsReady g u.front q to []
+  pub count : length gained ≡ hits tries
+  pub fired : new.rows ≡ old.rows ++ gained
+  pub waits : fired_in g u.front p.number ≡ fired_in g v.front p.number ++ gained
+  pub tidy : KeepsTidy g v p q u
+
+-- want of memory: nothing was tried
+pub record HasNotTried (g : Settings) (v : View) (p q : Part) (e : NoMemory) (old new : Queue) (u : View) : Type 0 where
+  pub call : HasNotExpired g v p.number e old new u
+  pub number : q.number ≡ p.number
+  pub stands : Stands g u.front q
+  pub tidy : KeepsTidy g v p q u
+
+abbrev pub IsTried : Settings → View → Part → Part → Result ℕ NoMemory → Queue → Queue → View → Type 0
+IsTried g v p q (Ok to) old new u = HasTried g v p q to old new u
+IsTried g v p q (Err e) old new u = HasNotTried g v p q e old new u
 
 abbrev pub IsAdvanced : Settings → View → ℕ → Result ℕ NoMemory → Queue → Queue → View → Type 0
 IsAdvanced g v w (Ok to) old new u = HasExpired g v w to old new u

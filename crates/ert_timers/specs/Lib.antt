@@ -1,8 +1,11 @@
 pub mod Changes
 pub mod Codes
+pub mod Dropping
 pub mod Expiring
 pub mod FiredLists
+pub mod Laws
 pub mod Looking
 pub mod Parts
 pub mod Starting
 pub mod Sweeping
+pub mod Tidy

@@ -18,6 +18,7 @@ use Rattle.ert_defs.specs.declared.settings.Settings.{Settings}
 use Rattle.ert_defs.specs.declared.timer.Kind.TheVariants.{Wrapped}
 use Rattle.ert_defs.specs.declared.timer.Status.TheVariants.{Armed, Expired}
 use Rattle.ert_defs.specs.declared.timer.TimerRef.{TimerRef}
+use Rattle.ert_laws.specs.Counts.{entries_of, is_arm, is_expire, is_orphan}
 use Rattle.ert_table.specs.Held.{is_held}
 use Rattle.ert_table.specs.declared.view.View.{View}
 use Rattle.ert_timers.specs.Codes.{slot_code, key_code}
@@ -128,28 +129,11 @@ pub record Holds (g : Settings) (s : State) (p : Part) : Type 0 where
   pub arms : p.arms ≡ length (s.rows p.number)
   pub free : (k : ℕ) → set.contains p.free k ≡ true → is_taken (s.status (last_timer p.number p.slots k)) ≡ false
 
--- whether a timer is armed, expires, or is cancelled for an exit
-abbrev pub is_arm : Event → Bool
-is_arm (Arm timer start) = true
-is_arm _ = false
-
-abbrev pub is_expire : Event → Bool
-is_expire (Expire timer) = true
-is_expire _ = false
-
-abbrev pub is_orphan : Event → Bool
-is_orphan (Orphan timer) = true
-is_orphan _ = false
-
--- how many entries of a wheel are of one kind
-abbrev pub count_of : (Event → Bool) → ℕ → List Entry → ℕ
-count_of test w h = count_by (λ e. has_actor e (Wheel w) && test e.event) h
-
 -- the counts of a part are those of a history
 pub record IsCounted (h : List Entry) (p : Part) : Type 0 where
-  pub arms : p.arms ≡ count_of is_arm p.number h
-  pub expires : p.expires ≡ count_of is_expire p.number h
-  pub orphans : p.orphans ≡ count_of is_orphan p.number h
+  pub arms : p.arms ≡ entries_of is_arm p.number h
+  pub expires : p.expires ≡ entries_of is_expire p.number h
+  pub orphans : p.orphans ≡ entries_of is_orphan p.number h
 
 -- a part stands for a history
 pub record Stands (g : Settings) (h : List Entry) (p : Part) : Type 0 where

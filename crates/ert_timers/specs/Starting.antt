@@ -20,6 +20,7 @@ use Rattle.ert_table.specs.declared.view.View.{View}
 use Rattle.ert_timers.specs.Changes.{IsFree, kept, given_back}
 use Rattle.ert_timers.specs.Expiring.{is_hit}
 use Rattle.ert_timers.specs.Parts.{Part, Stands, last_timer, slot_at}
+use Rattle.ert_timers.specs.Tidy.{KeepsTidy}
 use Rattle.ert_wheel.specs.Rows.{key_in}
 
 -- a timer with this deadline is held
@@ -49,6 +50,7 @@ pub record Arms (g : Settings) (v : View) (by : ℕ) (p q : Part) (slot deadline
   pub stands : Stands g u.front q
   pub holds : HoldsTimer q timer deadline
   pub dest : (slot_at q.slots timer.slot).dest ≡ start.dest
+  pub tidy : KeepsTidy g v p q u
 
 -- it is seen whether the destination had exited, and then the timer is cancelled for that
 pub record Ends (g : Settings) (v : View) (by : ℕ) (p q : Part) (dest : ℕ) (timer : TimerRef) (u : View) : Type 0 where
@@ -58,6 +60,7 @@ pub record Ends (g : Settings) (v : View) (by : ℕ) (p q : Part) (dest : ℕ) (
   pub call : TakesPlace g v (mark_entry (Caller by) dest false was ∷ closing) u
   pub number : q.number ≡ p.number
   pub stands : Stands g u.front q
+  pub tidy : KeepsTidy g v p q u
 
 -- the status of what is shown of a slot
 abbrev pub status_shown : Option Shown → Option Status
@@ -74,6 +77,7 @@ pub record LooksAt (g : Settings) (v : View) (by : ℕ) (p q : Part) (k : ℕ) (
   pub slots : q.slots ≡ p.slots
   pub others : (j : ℕ) → j ≢ k → set.contains q.free j ≡ set.contains p.free j
   pub full : set.contains q.free k ≡ false → (is_taken found ≡ true) ⊎ ((slot_at p.slots k).generation ≡ 262143)
+  pub tidy : KeepsTidy g v p q u
 
 -- the entries of looks at slots in order, from one on
 abbrev pub probes_from : ℕ → ℕ → ℕ → List (Option Status) → List Entry
@@ -97,6 +101,7 @@ pub record LooksAtSome (g : Settings) (v : View) (by : ℕ) (p q : Part) (n : �
   pub full : AreFull q 0 founds
   pub above : (j : ℕ) → n ≤ j → set.contains q.free j ≡ false
   pub look : (state g u.front).looked (Caller by) ≡ (state g v.front).looked (Caller by)
+  pub tidy : KeepsTidy g v p q u
 
 -- a slot that can take a timer is found, after looks at some slots; or none is after looks at all
 abbrev pub FindsSlot : Part → Part → Option ℕ → List (Option Status) → Type 0
@@ -112,3 +117,4 @@ pub record TakesSlot (g : Settings) (v : View) (by : ℕ) (p q : Part) (slot : O
   pub finds : FindsSlot p q slot founds
   pub usable : IfSome slot (λ k. is_taken ((state g u.front).status (last_timer q.number q.slots k)) ≡ false)
   pub look : (state g u.front).looked (Caller by) ≡ (state g v.front).looked (Caller by)
+  pub tidy : KeepsTidy g v p q u

@@ -8,6 +8,7 @@ use Rattle.ert_answers.specs.WheelCalls.{Try, AllMaySweep, orphan_entries}
 use Rattle.ert_table.specs.Takes.{TakesPlace}
 use Rattle.ert_table.specs.declared.view.View.{View}
 use Rattle.ert_timers.specs.Parts.{Part, Stands, last_timer}
+use Rattle.ert_timers.specs.Tidy.{KeepsTidy}
 use Rattle.ert_wheel.specs.Rows.{key_in}
 
 -- some of them were tried
@@ -19,6 +20,7 @@ pub record SweepsSome (g : Settings) (v : View) (by process : ℕ) (p q : Part) 
   pub number : q.number ≡ p.number
   pub rows : (state g u.front).rows p.number ≡ (state g v.front).rows p.number
   pub exited : (state g u.front).exited process ≡ true
+  pub tidy : KeepsTidy g v p q u
 
 -- a timer is held: it is the last of its slot, which has a row
 pub record IsHeld (p : Part) (timer : TimerRef) : Type 0 where

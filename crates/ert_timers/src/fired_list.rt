@@ -63,7 +63,7 @@ impl FiredList {
         self.timers.pop_front()
     }
 
-    /// IsMade room for more timers.
+    /// Makes room for more timers.
     pub(crate) fn reserve(&mut self, count: usize) -> Result<(), NoMemory>
         ensures rows { self.new.rows ≡ self.old.rows }
         ensures room { OnOk result (count ≤ self.new.room) }

@@ -16,6 +16,7 @@
 //! |---|---|---|
 //! | `start` | looks at the time, takes a free slot, stores its word, asks whether the destination has exited | constant where a slot is known to be free; else each slot is looked at once, and all that can be used again are known from then on |
 //! | `advance` | looks at the time, and tries each due timer in order of deadline and then of start | the due timers and the buckets that are visited |
+//! | `advance_all` | does the same, and then looks at each timer that is left | every slot once |
 //! | `sweep` | tries each timer of a process that has exited | those timers |
 //! | `forget` | drops the row of a timer that the pass has seen settled, and holds its slot free | constant |
 //! | `tally` | counts | none |
@@ -26,11 +27,17 @@
 //! **What it promises.** The part stands for the front of its pass (`specs/Parts`, `Stands`). Each call keeps
 //! that, and takes place with exactly the entries that `ert_answers` says for its answer.
 //!
+//! A part is tidy where each timer that it holds is armed (`specs/Tidy`); then it holds as many as are. A new part
+//! is tidy, and each call of a pass that holds every actor leaves a tidy part tidy. `forget` makes a part tidy
+//! again after a cancel, and `advance_all` makes any part tidy.
+//!
 //! It stands on `ert_defs`, `ert_answers`, `ert_words`, `ert_wheel`, `ert_table` and `ert_calls`.
 #![tactic(auto)]
 
 mod advancing;
+mod dropping;
 mod fired_list;
+mod laws;
 mod looking;
 mod part;
 mod starting;
@@ -38,4 +45,8 @@ mod sweeping;
 
 pub use ert_answers::StartErr;
 pub use fired_list::FiredList;
+pub use laws::{
+    calls_leave_other_parts, cancels_leave_other_timers_tidy, parts_stand_on,
+    tidy_parts_hold_what_is_armed,
+};
 pub use part::{Tally, WheelPart};

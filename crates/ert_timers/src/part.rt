@@ -2,12 +2,14 @@ ghost use Rattle.std.specs.Prelude.{◌≡◌, IfOk, replicate};
 ghost use Rattle.ert_timers.specs.Parts.{unused};
 
 use crate::fired_list::FiredList;
-use ert_defs::{Fired, Kind, LAST_GENERATION, NoMemory, Settings, Start, TimerRef};
+use ert_defs::{Fired, Kind, NoMemory, Settings, TimerRef};
 use ert_wheel::{Chains, Row, Wheel};
 use ert_words::FreeSlots;
 use std::alloc::Global;
 use std::marker::Model;
 use std::mem;
+
+mod changes;
 
 /// What is kept of the last timer of a slot.
 #[derive(Clone, Copy)]
@@ -78,14 +80,14 @@ impl Model for WheelPart {
 }
 
 impl WheelPart {
-    ghost use Rattle.std.specs.Bool.{OnTrue};
     ghost use Rattle.std.specs.Option.{is_some};
-    ghost use Rattle.std.specs.FinSet as set;
-    ghost use Rattle.std.specs.Prelude.{◌≡◌, ◌↔◌, ◌<◌, ◌≤◌, ◌^◌, ◌-◌, IfOk, IfSome, IfNone, IsNone, IsSome, IsTrue, ℕ, false, true, length, count_by, [], Some, None, option_map, slice_set};
+    ghost use Rattle.std.specs.Prelude.{◌≡◌, ◌<◌, ◌≤◌, IfOk, IfSome, ℕ, length, count_by, [], option_map};
     ghost use Rattle.ert_defs.specs.Settings.{IsChecked};
-    ghost use Rattle.ert_timers.specs.Parts.{Stands, held_row, last_timer};
+    ghost use Rattle.ert_defs.specs.States.{state};
+    ghost use Rattle.ert_timers.specs.Parts.{Stands, held_row};
     ghost use Rattle.ert_timers.specs.Expiring.{AreDue};
-    ghost use Rattle.ert_timers.specs.Changes.{IsFree, freed, picked, kept, dropped, let_go, given_back, LostRow, NextOf};
+    ghost use Rattle.ert_timers.specs.Changes.{NextOf};
+    ghost use Rattle.ert_timers.specs.Tidy.{IsTidy};
     ghost use Rattle.ert_wheel.specs.Rows.{key_in, key_of, row_at};
 
     /// The part of a wheel of a desk that has just been opened. It has no timer.
@@ -94,6 +96,7 @@ impl WheelPart {
         requires in_range { wheel < settings.now.schedulers }
         ensures number { IfOk result (λ part. part.number ≡ wheel) }
         ensures stands { IfOk result (Stands settings.now []) }
+        ensures tidy { IfOk result (IsTidy (state settings.now [])) }
     {
         let slots = no_slots(alloc, settings.slots)?;
         let rows = Wheel::new(alloc, settings.slots)?;
@@ -209,95 +212,6 @@ impl WheelPart {
         ensures { self.new ≡ self.old }
     {
         self.due = due;
-    }
-
-    /// Takes a slot out that is held free; None exactly where none is.
-    pub(crate) fn pick(&mut self) -> Option<u32>
-        ensures none { IfNone result ((slot : ℕ) → set.contains self.old.free slot ≡ false) }
-        ensures unchanged { IfNone result (self.new ≡ self.old) }
-        ensures held { IfSome result (λ slot. set.contains self.old.free slot ≡ true) }
-        ensures picked { IfSome result (λ slot. self.new ≡ picked self.old slot) }
-        ensures usable { IfSome result (IsFree self.new) }
-    {
-        self.free.pick()
-    }
-
-    /// Holds a slot free from now on, unless it was used as often as it can be.
-    pub(crate) fn free_slot(&mut self, slot: u32)
-        requires low { slot < length self.old.slots }
-        requires away { set.contains self.old.free slot ≡ false }
-        requires vacant { key_in self.old.keys slot ≡ None }
-        ensures { self.new ≡ freed self.old slot }
-    {
-        if self.slots[slot as usize].generation < LAST_GENERATION {
-            self.free.put(slot);
-        }
-    }
-
-    /// Drops the row of a slot, and tells whether there was one.
-    pub(crate) fn drop_row(&mut self, slot: u32) -> bool
-        requires { slot < length self.old.slots }
-        ensures found { IsTrue result ↔ IsSome (key_in self.old.keys slot) }
-        ensures left { self.new ≡ dropped self.old slot }
-        ensures lost { OnTrue result (LostRow self.new slot) }
-    {
-        if !self.wheel.remove(slot) {
-            return false;
-        }
-        self.owners.take(slot);
-        true
-    }
-
-    /// Drops the row of a timer that was tried, and counts whether it expired.
-    pub(crate) fn let_go(&mut self, slot: u32, expired: bool)
-        requires low { slot < length self.old.slots }
-        requires held { IsSome (key_in self.old.keys slot) }
-        ensures { self.new ≡ let_go self.old slot expired }
-    {
-        self.drop_row(slot);
-        self.expires += u64::from(expired);
-    }
-
-    /// Drops the row of a timer that has been settled but hasn't expired, counts whether it was cancelled
-    /// for an exit, and holds its slot free.
-    pub(crate) fn give_back(&mut self, slot: u32, orphaned: bool)
-        requires low { slot < length self.old.slots }
-        requires held { IsSome (key_in self.old.keys slot) }
-        ensures { self.new ≡ given_back self.old slot orphaned }
-    {
-        self.drop_row(slot);
-        self.orphans += u64::from(orphaned);
-        self.free_slot(slot);
-    }
-
-    /// Puts in the timer of a start, in a slot that was held free.
-    pub(crate) fn keep(&mut self, slot: u32, start: &Start, deadline: u64) -> TimerRef
-        requires free { IsFree self.old slot }
-        requires dest { start.now.dest < self.old.processes }
-        requires deadline { deadline ≤ 8796093022207 }
-        ensures kept { self.new ≡ kept self.old slot start.now deadline }
-        ensures timer { result ≡ last_timer self.new.number self.new.slots slot }
-    {
-        let order = self.arms;
-        let generation = self.slots[slot as usize].generation + 1;
-        self.slots[slot as usize] = Slot {
-            generation,
-            dest: start.dest,
-            msg: start.msg,
-            kind: start.kind,
-        };
-        self.arms += 1;
-        self.owners.put(slot, start.dest);
-        self.wheel.insert(Row {
-            deadline,
-            order,
-            slot,
-        });
-        TimerRef {
-            wheel: self.number,
-            slot,
-            generation,
-        }
     }
 }
 

@@ -4,13 +4,15 @@ use ert_defs::TimerRef;
 use ert_table::{Desk, Pass};
 
 impl WheelPart {
-    ghost use Rattle.std.specs.Prelude.{◌≡◌, ◌≢◌, ◌<◌, true, Some};
+    ghost use Rattle.std.specs.Prelude.{◌≡◌, ◌≢◌, ◌<◌, false, true, Some};
     ghost use Rattle.ert_answers.specs.WheelCalls.{Sweeps, IsSwept};
     ghost use Rattle.ert_defs.specs.States.{state};
     ghost use Rattle.ert_table.specs.Desks.{settings_of, view_of, front_of, Belongs};
     ghost use Rattle.ert_table.specs.Calls.{IsMade};
+    ghost use Rattle.ert_timers.specs.Changes.{given_back};
     ghost use Rattle.ert_timers.specs.Parts.{HoldsCaller, Stands};
     ghost use Rattle.ert_timers.specs.Sweeping.{IsHeld};
+    ghost use Rattle.ert_timers.specs.Tidy.{IsTidy, IsTidyBut, KeepsTidy};
     ghost use Rattle.ert_defs.specs.declared.settings.Settings.{Settings};
     ghost use Rattle.ert_defs.specs.declared.timer.Status.TheVariants.{Armed};
 
@@ -28,6 +30,7 @@ impl WheelPart {
         ensures stands { Stands (settings_of desk.now) (front_of pass.new) self.new }
         ensures call { IsMade (settings_of desk.now) (view_of pass.old) (Sweeps (settings_of desk.now) by self.old.number process) (view_of pass.new) }
         ensures swept { IsSwept (state (settings_of desk.now) (front_of pass.new)) self.old.number process }
+        ensures tidy { KeepsTidy (settings_of desk.now) (view_of pass.old) self.old self.new (view_of pass.new) }
     {
         while let Some(row) = self.newest_of(process) {
             let timer = self.timer(row);
@@ -45,6 +48,9 @@ impl WheelPart {
         ensures number { self.new.number ≡ self.old.number }
         ensures stands { (g : Settings) → (view_of pass.now).settings ≡ Some g → Stands g (front_of pass.now) self.new }
         ensures forgotten { IsHeld self.new timer → ⊥ }
+        ensures held { IsHeld self.old timer → self.new ≡ given_back self.old timer.slot false }
+        ensures away { (IsHeld self.old timer → ⊥) → self.new ≡ self.old }
+        ensures tidy { (g : Settings) → (view_of pass.now).settings ≡ Some g → IsTidyBut (state g (front_of pass.now)) self.old timer → IsTidy (state g (front_of pass.now)) self.new }
     {
         let _seen = pass;
         if timer.wheel != self.number() {

@@ -2,7 +2,7 @@ use Rattle.std.proofs.Common.{refl, ap, ◌∙◌}
 use Rattle.ert_table.specs.Desks.{settings_of, view_of}
 use Rattle.ert_timers.specs.Parts.{Part}
 use Rattle.ert_timers.proofs.Orphaned.{still_caller}
-use Rattle.ert_timers.proofs.Starts.{bad_arg, ahead_stands, is_full, due_ahead, is_started}
+use Rattle.ert_timers.proofs.Starts.{bad_arg, ahead_stands, is_full, due_ahead, is_started, tidy_ahead, tidy_searched, tidy_started}
 use Rattle.ert_timers.proofs.part.WheelPart.start.Goals as goal
 
 pub take_slot-requires-clause-holds : goal.take_slot-requires-clause-holds
@@ -87,3 +87,21 @@ returns-in_default-take_slot-clause-call c =
     is_full (settings_of c.args.desk.now) (view_of c.args.pass.now) c.args.by c.args.self.now c.take_slot.new.self c.args.start.now
     c.look_ahead.result c.in-Some.deadline c.take_slot.result (view_of c.look_ahead.new.pass) (view_of c.take_slot.new.pass) c.requires.stands
     c.in-Some.is c.in_default-take_slot.is c.look_ahead.ensures.looks c.take_slot.ensures.call
+
+pub returns-clause-tidy : goal.returns-clause-tidy
+returns-clause-tidy c =
+    tidy_started (settings_of c.args.desk.now) (view_of c.args.pass.now) c.args.by c.args.self.now c.take_slot.new.self c.arm-timer.new.self
+    c.end.new.self c.args.start.now c.look_ahead.result c.take_slot.result c.in-Some-take_slot.slot c.in-Some.deadline c.arm-timer.result
+    (view_of c.look_ahead.new.pass) (view_of c.take_slot.new.pass) (view_of c.arm-timer.new.pass) (view_of c.end.new.pass)
+    c.look_ahead.ensures.looks c.take_slot.ensures.call c.arm-timer.ensures.call c.end.ensures.call
+
+pub returns-in_default-clause-tidy : goal.returns-in_default-clause-tidy
+returns-in_default-clause-tidy c =
+    tidy_ahead (settings_of c.args.desk.now) (view_of c.args.pass.now) c.args.by c.args.start.now c.look_ahead.result
+    (view_of c.look_ahead.new.pass) c.args.self.now c.look_ahead.ensures.looks
+
+pub returns-in_default-take_slot-clause-tidy : goal.returns-in_default-take_slot-clause-tidy
+returns-in_default-take_slot-clause-tidy c =
+    tidy_searched (settings_of c.args.desk.now) (view_of c.args.pass.now) c.args.by c.args.self.now c.take_slot.new.self c.args.start.now
+    c.look_ahead.result c.take_slot.result (view_of c.look_ahead.new.pass) (view_of c.take_slot.new.pass) c.look_ahead.ensures.looks
+    c.take_slot.ensures.call

@@ -61,3 +61,6 @@ pub returns-clause-call : goal.returns-clause-call
 returns-clause-call c =
     sweeps_all (settings_of c.args.desk.now) (view_of c.args.pass.now) c.args.by c.args.process c.args.self.now c.loop-row.self
     (view_of c.loop-row.pass) c.loop-row.invariant.call
+
+pub returns-clause-tidy : goal.returns-clause-tidy
+returns-clause-tidy c = c.loop-row.invariant.call.tidy

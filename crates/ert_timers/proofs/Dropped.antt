@@ -1,0 +1,262 @@
+-- Rows are looked at, and those of settled timers go.
+
+use Rattle.std.proofs.Common.{◌≡◌, ◌≢◌, ℕ, ◌+◌, ◌<◌, ◌≤◌, Bool, true, false, not, ◌||◌, option_map, List, [], ◌∷◌, ◌++◌, length, Option, Some, None, inl, inr, refl, sym, ap, subst, ◌∙◌, arith, append-nil}
+use Rattle.std.proofs.lemmas.Bool.{cases_eq}
+use Rattle.std.proofs.lemmas.List.{map-append}
+use Rattle.std.proofs.lemmas.List.Elements.{All-nil}
+use Rattle.std.specs.Option.{is_some}
+use Rattle.ert_defs.specs.Actors.{has_actor}
+use Rattle.ert_defs.specs.Entries.{look_entry, probe_entry}
+use Rattle.ert_defs.specs.Laws.{is_armed}
+use Rattle.ert_defs.specs.Milliseconds.{down}
+use Rattle.ert_defs.specs.States.{State, state}
+use Rattle.ert_defs.specs.declared.entry.Actor.TheVariants.{Wheel, Sched}
+use Rattle.ert_defs.specs.declared.entry.Entry.{Entry}
+use Rattle.ert_defs.specs.declared.settings.Settings.{Settings}
+use Rattle.ert_defs.specs.declared.timer.Status.{Status}
+use Rattle.ert_defs.specs.declared.timer.Status.TheVariants.{Armed, Expired, Delivered, Cancelled, Orphaned, Dropped}
+use Rattle.ert_defs.specs.declared.timer.TimerRef.{TimerRef}
+use Rattle.ert_answers.specs.WheelCalls.{Try, expires_by, expiry_entries, hits}
+use Rattle.ert_calls.proofs.Looks.{look_stepped}
+use Rattle.ert_table.specs.Held.{IsWhole}
+use Rattle.ert_table.specs.Settlings.{Shown}
+use Rattle.ert_table.specs.Takes.{Appends, MayStep, TakesPlace}
+use Rattle.ert_table.specs.declared.view.View.{View}
+use Rattle.ert_table.proofs.Calls.{step_takes_place, takes_place_then}
+use Rattle.ert_timers.specs.Changes.{given_back}
+use Rattle.ert_timers.specs.Dropping.{DropsRow, DropsRows, MissesSome}
+use Rattle.ert_timers.specs.Expiring.{HasTried, fired_in}
+use Rattle.ert_timers.specs.FiredLists.{Queue}
+use Rattle.ert_timers.specs.Starting.{status_shown}
+use Rattle.ert_laws.specs.Counts.{is_expire, is_orphan}
+use Rattle.ert_timers.specs.Parts.{HoldsSched, Part, Stands, last_timer}
+use Rattle.ert_timers.specs.Tidy.{IsTidy}
+use Rattle.ert_timers.proofs.Later.{unexpired_step}
+use Rattle.ert_timers.proofs.Lookings.{found_is, status_is}
+use Rattle.ert_timers.proofs.Orphaned.{back}
+use Rattle.ert_timers.proofs.Rows.{key_left}
+use Rattle.ert_timers.proofs.Standing.{count_same, stands_step}
+use Rattle.ert_timers.proofs.Tidied.{next_whole, stays_armed}
+use Rattle.ert_timers.proofs.Tried.{self, stands_gone, waits_by}
+use Rattle.ert_wheel.specs.Rows.{key_in, key_of, due_at}
+use Rattle.ert_wheel.specs.declared.row.Key.{Key}
+use Rattle.ert_wheel.proofs.Collect.{key_low}
+
+armed_is : (x : Option Status) → is_armed x ≡ true → x ≡ Some Armed
+armed_is None is = absurd cc
+armed_is (Some Armed) is = refl
+armed_is (Some Expired) is = absurd cc
+armed_is (Some Delivered) is = absurd cc
+armed_is (Some Cancelled) is = absurd cc
+armed_is (Some Orphaned) is = absurd cc
+armed_is (Some Dropped) is = absurd cc
+
+unarmed : (x : Option Status) → is_armed x ≡ false → x ≢ Some Armed
+unarmed x not is = (let bad : true ≡ false = sym (ap is_armed is) ∙ not in cc)
+
+some_of : {X : Type 0} (f : Key → X) (o : Option Key) (b : Bool) → is_some (option_map f o) ≡ not b → b ≡ false → (key : Key) × (o ≡ Some key)
+some_of f None true is unmet = absurd cc
+some_of f None false is unmet = absurd cc
+some_of f (Some key) b is unmet = (key, refl)
+
+-- whether a slot has a row, as the row tells
+pub told_some : {X : Type 0} (f : Key → X) (o : Option Key) (row : Option X) (b : Bool) → row ≡ option_map f o → is_some row ≡ not b → b ≡ false
+    → (key : Key) × (o ≡ Some key)
+told_some f o row b told is unmet = some_of f o b (ap is_some (sym told) ∙ is) unmet
+
+none_of : {X : Type 0} (f : Key → X) (o : Option Key) (b : Bool) → is_some (option_map f o) ≡ not b → b ≡ true → o ≡ None
+none_of f None b is met = refl
+none_of f (Some key) true is met = absurd cc
+none_of f (Some key) false is met = absurd cc
+
+pub told_none : {X : Type 0} (f : Key → X) (o : Option Key) (row : Option X) (b : Bool) → row ≡ option_map f o → is_some row ≡ not b → b ≡ true
+    → o ≡ None
+told_none f o row b told is met = none_of f o b (ap is_some (sym told) ∙ is) met
+
+-- a look of a scheduler, of what the code has
+pub sched_probe : (g : Settings) (v : View) (w w' k : ℕ) (shown : Option Shown) (u : View) → w' ≡ w
+    → Appends g v (probe_entry (Sched w') w' k (option_map (λ (x : Shown). x.0) shown)) u
+    → Appends g v (probe_entry (Sched w) w k (status_shown shown)) u
+sched_probe g v w w' k shown u number step =
+    subst (λ n. Appends g v (probe_entry (Sched n) n k (status_shown shown)) u) number
+    (subst (λ x. Appends g v (probe_entry (Sched w') w' k x) u) (status_is shown) step)
+
+-- nothing was looked at
+pub misses_none : (g : Settings) (v : View) (p : Part) → Stands g v.front p → MissesSome g v p p v
+misses_none g v p stands = record {
+  tries = [];
+  missed = refl;
+  call = record { actors = refl; legal = stands.legal; later = []; grown = sym (append-nil v.front); ours = refl };
+  number = refl;
+  slots = refl;
+  stands = stands;
+  left = λ k key is. is;
+  waits = refl;
+  look = refl;
+}
+
+-- a scheduler may look at a slot of its own wheel
+pub may_look : (g : Settings) (v : View) (p : Part) (k w : ℕ) (found : Option Status) → Stands g v.front p → HoldsSched v p.number
+    → w ≡ p.number → k < length p.slots → MayStep g v (probe_entry (Sched w) w k found)
+may_look g v p k w found stands holds number low =
+    subst (λ n. MayStep g v (probe_entry (Sched n) n k found)) (sym number) (record {
+      ours = (holds.sched, holds.wheel);
+      keeps = (refl, refl, record { wheel_high = stands.holds.number; slot_high = subst (λ n. k < n) stands.holds.many low });
+      known = tt;
+    })
+
+module _ (g : Settings) (v : View) (p : Part) (k : ℕ) (found : Option Status) (u : View) (stands : Stands g v.front p)
+    (holds : HoldsSched v p.number) (low : k < length p.slots) (step : Appends g v (probe_entry (Sched p.number) p.number k found) u) where
+  abbrev looked : Entry
+  looked = probe_entry (Sched p.number) p.number k found
+
+  still : IsWhole g v.actors → (r : TimerRef) → (state g v.front).status r ≡ Some Armed → (state g u.front).status r ≡ Some Armed
+  still whole r is = ap (λ (t : State). t.status r) (next_whole g v looked u whole step)
+      ∙ stays_armed r (has_actor looked (Wheel r.wheel)) ((state g v.front).status r) looked.event refl is
+
+  is_found : found ≡ (state g u.front).status (last_timer p.number p.slots k)
+  is_found = found_is g v (Sched p.number) p k found u stands holds.wheel (subst (λ n. k < n) stands.holds.many low) step
+
+  look_waits : fired_in g u.front p.number ≡ fired_in g v.front p.number
+  look_waits = waits_by g v looked u p.number step holds.sched (ap (λ b. b || false) (self p.number))
+
+  -- one look
+  misses_one : (q : Part) → q.number ≡ p.number → q.slots ≡ p.slots → Stands g u.front q
+      → ((j : ℕ) (key : Key) → key_in q.keys j ≡ Some key → key_in p.keys j ≡ Some key) → MissesSome g v p q u
+  misses_one q number slots after left = record {
+    tries = (record { timer = last_timer p.number p.slots k; missed = Some found }) ∷ [];
+    missed = refl;
+    call = step_takes_place g v looked u step;
+    number = number;
+    slots = slots;
+    stands = after;
+    left = left;
+    waits = look_waits;
+    look = look_stepped g v looked u step holds.sched;
+  }
+
+  -- the timer was armed
+  pub drops_none : is_armed found ≡ true → DropsRow g v p p k u
+  drops_none armed = record {
+    misses = misses_one p refl refl
+        (stands_step g v looked u p stands step holds.wheel (record { arm = refl; expire = refl; orphan = refl })) (λ j key is. is);
+    armed = still;
+    here = λ key is. sym is_found ∙ armed_is found armed;
+  }
+
+  -- it was settled
+  pub drops_one : (q : Part) (key : Key) → key_in p.keys k ≡ Some key → is_armed found ≡ false → q ≡ given_back p k false → DropsRow g v p q k u
+  drops_one q key held settled part =
+      let wide : k < length p.keys = key_low p.keys k key held in
+      let counts = stands.counted in
+      let same : p.orphans + 0 ≡ p.orphans = omega arith in
+      let over : (state g u.front).status (last_timer p.number p.slots k) ≢ Some Armed =
+      unarmed ((state g u.front).status (last_timer p.number p.slots k)) (ap is_armed (sym is_found) ∙ settled) in
+      let after : Stands g u.front (given_back p k false) =
+      back g v looked u p k key false stands held step holds.wheel over
+      (unexpired_step g v looked u (last_timer p.number p.slots k) step holds.wheel refl (stands.holds.rows.unexpired k key held))
+      (stands_gone g v looked u p k p.expires (p.orphans + 0) stands wide step holds.wheel refl (λ j other. refl) over
+      (counts.expires ∙ sym (count_same g v looked u p.number is_expire step holds.wheel refl))
+      (same ∙ (counts.orphans ∙ sym (count_same g v looked u p.number is_orphan step holds.wheel refl)))) in
+      subst (λ (x : Part). DropsRow g v p x k u) (sym part) (record {
+        misses = misses_one (given_back p k false) refl refl after (λ j seen is. (key_left p.keys k j seen wide is).1);
+        armed = still;
+        here = λ seen is. absurd ((key_left p.keys k k seen wide is).0 refl);
+      })
+
+-- a slot without a row
+pub drops_empty : (g : Settings) (v : View) (p : Part) (k : ℕ) → Stands g v.front p → key_in p.keys k ≡ None → DropsRow g v p p k v
+drops_empty g v p k stands none = record {
+  misses = misses_none g v p stands;
+  armed = λ whole r is. is;
+  here = λ key is. (let bad : None ≡ Some key = sym none ∙ is in absurd cc);
+}
+
+hits-append : (tries more : List Try) → hits (tries ++ more) ≡ hits tries + hits more
+hits-append [] more = omega arith
+hits-append (t ∷ tries) more = omega (arith, hits-append tries more)
+
+expiries-append : (w : ℕ) (tries more : List Try) → expiry_entries w (tries ++ more) ≡ expiry_entries w tries ++ expiry_entries w more
+expiries-append w tries more = map-append (λ (t : Try). expires_by w t.timer t.missed) tries more
+
+misses_more : (g : Settings) (v : View) (p q : Part) (u : View) (r : Part) (w : View) → MissesSome g v p q u → MissesSome g u q r w
+    → MissesSome g v p r w
+misses_more g v p q u r w some more = record {
+  tries = some.tries ++ more.tries;
+  missed = hits-append some.tries more.tries ∙ omega (arith, some.missed, more.missed);
+  call = subst (λ es. TakesPlace g v es w) (sym (expiries-append p.number some.tries more.tries))
+      (takes_place_then g v u w (expiry_entries p.number some.tries) (expiry_entries p.number more.tries) some.call
+      (subst (λ n. TakesPlace g u (expiry_entries n more.tries) w) some.number more.call));
+  number = more.number ∙ some.number;
+  slots = more.slots ∙ some.slots;
+  stands = more.stands;
+  left = λ k key is. some.left k key (more.left k key is);
+  waits = subst (λ n. fired_in g w.front n ≡ fired_in g u.front n) some.number more.waits ∙ some.waits;
+  look = subst (λ n. (state g w.front).looked (Sched n) ≡ (state g u.front).looked (Sched n)) some.number more.look ∙ some.look;
+}
+
+-- no slot was looked at yet
+pub drops_first : (g : Settings) (v : View) (p : Part) → Stands g v.front p → DropsRows g v p p 0 v
+drops_first g v p stands = record {
+  misses = misses_none g v p stands;
+  below = λ whole k key low is. absurd (omega (arith, low));
+}
+
+-- one more was
+pub drops_more : (g : Settings) (v : View) (p q r : Part) (n : ℕ) (u w : View) → DropsRows g v p q n u → DropsRow g u q r n w
+    → DropsRows g v p r (n + 1) w
+drops_more g v p q r n u w some one = record {
+  misses = misses_more g v p q u r w some.misses one.misses;
+  below = λ whole k key low is.
+      elim (cases_eq k n) [
+        | inl here ↦ subst (λ m. (state g w.front).status (last_timer r.number r.slots m) ≡ Some Armed) (sym here)
+            (one.here key (ap (key_in r.keys) (sym here) ∙ is))
+        | inr other ↦
+            let same : last_timer r.number r.slots k ≡ last_timer q.number q.slots k =
+            ap (λ m. last_timer m r.slots k) one.misses.number ∙ ap (λ slots. last_timer q.number slots k) one.misses.slots in
+            one.armed (subst (IsWhole g) (sym some.misses.call.actors) whole) (last_timer r.number r.slots k)
+            (ap (state g u.front).status same
+            ∙ some.below whole k key (omega (arith, low, other)) (one.misses.left k key is))
+      ];
+}
+
+fewer_due : (to : ℕ) (a b : Option Key) → ((key : Key) → a ≡ Some key → b ≡ Some key) → 0 ≡ due_at to b → 0 ≡ due_at to a
+fewer_due to None b left none = refl
+fewer_due to (Some key) b left none = none ∙ ap (due_at to) (left key refl)
+
+-- where every slot was looked at, the part is tidy
+pub left_tidy : (g : Settings) (v : View) (p q : Part) (n : ℕ) (u : View) → DropsRows g v p q n u → Stands g v.front p → length p.slots ≤ n
+    → IsWhole g v.actors → IsTidy (state g u.front) q
+left_tidy g v p q n u rest stands all whole k key is =
+    let low : k < length p.keys = key_low p.keys k key (rest.misses.left k key is) in
+    rest.below whole k key (omega (arith, low, all, stands.holds.wide, stands.holds.many)) is
+
+-- the looks come after the tries of all due rows
+pub tried_then : (g : Settings) (v : View) (p q r : Part) (to n : ℕ) (old new : Queue) (u w : View) → HasTried g v p q to old new u
+    → DropsRows g u q r n w → length q.slots ≤ n → HasTried g v p r to old new w
+tried_then g v p q r to n old new u w tried rest all =
+    let misses = rest.misses in
+    let mine : Sched r.number ≡ Sched q.number = ap (λ m. Sched m) misses.number in
+    record {
+      now = tried.now;
+      tries = tried.tries ++ misses.tries;
+      gained = tried.gained;
+      call = subst (λ es. TakesPlace g v (look_entry (Sched p.number) tried.now ∷ es) w) (sym (expiries-append p.number tried.tries misses.tries))
+          (takes_place_then g v u w (look_entry (Sched p.number) tried.now ∷ expiry_entries p.number tried.tries)
+          (expiry_entries p.number misses.tries) tried.call
+          (subst (λ m. TakesPlace g u (expiry_entries m misses.tries) w) tried.number misses.call));
+      number = misses.number ∙ tried.number;
+      ready = record {
+        stands = misses.stands;
+        told = tried.ready.told ∙ (ap (down g) (sym misses.look) ∙ ap (λ a. down g ((state g w.front).looked a)) (sym mine));
+        due = record {
+          each = λ k. fewer_due to (key_in r.keys k) (key_in q.keys k) (misses.left k) (tried.ready.due.each k);
+          held = All-nil (λ row. key_in r.keys row.slot ≡ Some (key_of row));
+          in_order = tried.ready.due.in_order;
+        };
+      };
+      count = tried.count ∙ omega (arith, hits-append tried.tries misses.tries, misses.missed);
+      fired = tried.fired;
+      waits = subst (λ m. fired_in g w.front m ≡ fired_in g u.front m) tried.number misses.waits ∙ tried.waits;
+      tidy = λ whole before. left_tidy g u q r n w rest tried.ready.stands all (subst (IsWhole g) (sym tried.call.actors) whole);
+    }

@@ -1,0 +1,129 @@
+-- A part stands on without entries of its wheel, and each call makes entries of its actors alone.
+
+use Rattle.std.proofs.Common.{◌≡◌, ◌≢◌, ℕ, zero, suc, Bool, true, false, cond, ◌&&◌, List, [], ◌∷◌, ◌++◌, Option, Some, None, Ok, Err, inl, inr, refl, sym, ap, subst, ◌∙◌, arith}
+use Rattle.std.proofs.lemmas.List.Sums.{sum_by-append}
+use Rattle.ert_defs.specs.Actors.{has_actor, IsFree}
+use Rattle.ert_defs.specs.Legal.{Legal, LegalFrom}
+use Rattle.ert_defs.specs.States.{State, opening, state}
+use Rattle.ert_defs.proofs.Runs.{legal_then, state-append}
+use Rattle.ert_defs.specs.declared.entry.Actor.{Actor}
+use Rattle.ert_defs.specs.declared.entry.Actor.TheVariants.{Wheel, Sched, Caller}
+use Rattle.ert_defs.specs.declared.entry.Entry.{Entry}
+use Rattle.ert_defs.specs.declared.entry.Event.{Event}
+use Rattle.ert_defs.specs.declared.timer.Status.{Status}
+use Rattle.ert_defs.specs.declared.timer.Status.TheVariants.{Expired}
+use Rattle.ert_defs.specs.declared.timer.TimerRef.{TimerRef}
+use Rattle.ert_answers.specs.TimerCalls.{AreProbes, AreTaken, Closes}
+use Rattle.ert_answers.specs.WheelCalls.{Try, expires_by, expiry_entries, orphans_by, orphan_entries}
+use Rattle.ert_answers.specs.declared.answers.StartErr.TheVariants.{BadArg, Full, NoMemory}
+use Rattle.ert_table.specs.Held.{IsOurs}
+use Rattle.ert_table.proofs.Parts.{free_later, of_one, of_both}
+use Rattle.ert_timers.specs.Laws.{AreWithWheel, LawOfStanding, LawOfStarts, LawOfAdvances, LawOfSweeps}
+use Rattle.ert_laws.specs.Counts.{entries_of, is_arm, is_expire, is_orphan}
+use Rattle.ert_timers.specs.Parts.{last_timer}
+use Rattle.ert_timers.proofs.Later.{IsLater, later_free, none_counted, unexpired_free}
+use Rattle.ert_timers.proofs.Rows.{rows_later}
+use Rattle.ert_timers.proofs.Standing.{holds_with}
+
+-- a count of the entries of a wheel is the same without more of them
+same_count : (test : Event → Bool) (w : ℕ) (f m : List Entry) → IsFree m (Wheel w) → entries_of test w (f ++ m) ≡ entries_of test w f
+same_count test w f m free =
+    omega (arith, sum_by-append (λ (e : Entry). cond (has_actor e (Wheel w) && test e.event) 1 0) f m, none_counted test w m free)
+
+pub stand_on : LawOfStanding
+stand_on g f h p longer same legal stands =
+    let w : ℕ = p.number in
+    let m : List Entry = longer.later in
+    let free : IsFree m (Wheel w) = free_later (Wheel w) f h longer same in
+    let run_is : state g h ≡ _ = ap (state g) longer.grown ∙ state-append g f m in
+    let later : IsLater w (state g f) (state g h) = subst (IsLater w (state g f)) (sym run_is) (later_free g w (state g f) m free) in
+    let from : LegalFrom g (state g f) m = legal_then g (opening g) f m (subst (Legal g) longer.grown legal) in
+    let count : (test : Event → Bool) → entries_of test w f ≡ entries_of test w h =
+    λ test. sym (ap (entries_of test w) longer.grown ∙ same_count test w f m free) in
+    record {
+      legal = legal;
+      holds =
+          holds_with g (state g f) (state g h) p p.keys p.expires p.orphans stands.holds later refl
+          (rows_later g f w p.slots p.keys (state g h) stands.legal stands.holds.rows later
+          (λ k key is. subst (λ (t : State). t.status (last_timer w p.slots k) ≢ Some Expired) (sym run_is)
+          (unexpired_free g (last_timer w p.slots k) (state g f) m from free (stands.holds.rows.unexpired k key is))));
+      counted = record {
+        arms = stands.counted.arms ∙ count is_arm;
+        expires = stands.counted.expires ∙ count is_expire;
+        orphans = stands.counted.orphans ∙ count is_orphan;
+      };
+    }
+
+-- entries that are these
+same_only : (by : Actor) (w : ℕ) (es fs : List Entry) → es ≡ fs → AreWithWheel by w fs → AreWithWheel by w es
+same_only by w es fs same only = subst (AreWithWheel by w) (sym same) only
+
+only-append : (by : Actor) (w : ℕ) (es fs : List Entry) → AreWithWheel by w es → AreWithWheel by w fs → AreWithWheel by w (es ++ fs)
+only-append by w [] fs one other = other
+only-append by w (e ∷ es) fs one other = (one.0, only-append by w es fs one.1 other)
+
+alone : (by : Actor) (w : ℕ) → IsOurs (by ∷ (Wheel w ∷ [])) by None
+alone by w = of_one by (Wheel w ∷ [])
+
+paired : (by : Actor) (w n : ℕ) → n ≡ w → IsOurs (by ∷ (Wheel w ∷ [])) by (Some (Wheel n))
+paired by w n is = subst (λ m. IsOurs (by ∷ (Wheel w ∷ [])) by (Some (Wheel m))) (sym is) (of_both by (Wheel w))
+
+probes_only : (by : Actor) (w : ℕ) (es : List Entry) → AreProbes by w es → AreWithWheel by w es
+probes_only by w [] are = tt
+probes_only by w (e ∷ es) are =
+    (subst (λ (x : Entry). IsOurs (by ∷ (Wheel w ∷ [])) x.by x.with) (sym are.2) (paired by w w refl), probes_only by w es are.3)
+
+taken_only : (by w : ℕ) (s : State) (slot n : ℕ) (es : List Entry) → AreTaken by w s slot n es → AreWithWheel (Caller by) w es
+taken_only by w s slot zero es are = same_only (Caller by) w es _ are tt
+taken_only by w s slot (suc n) es are =
+    same_only (Caller by) w es _ are.2 (paired (Caller by) w w refl, taken_only by w s (suc slot) n are.1 are.4)
+
+closing_only : (was : Bool) (by w : ℕ) (timer : TimerRef) (es : List Entry) → timer.wheel ≡ w → Closes was by timer es
+    → AreWithWheel (Caller by) w es
+closing_only false by w timer es wheel closes = same_only (Caller by) w es _ closes tt
+closing_only true by w timer es wheel (inl hit) = same_only (Caller by) w es _ hit (paired (Caller by) w timer.wheel wheel, tt)
+closing_only true by w timer es wheel (inr miss) = same_only (Caller by) w es _ miss.entries (paired (Caller by) w timer.wheel wheel, tt)
+
+pub starts_only : LawOfStarts
+starts_only g by w start (Ok timer) s es starts =
+    same_only (Caller by) w es _ starts.entries (
+      alone (Caller by) w,
+      only-append (Caller by) w starts.probes _ (probes_only (Caller by) w starts.probes starts.are_probes) (
+        paired (Caller by) w timer.wheel starts.on_wheel,
+        (alone (Caller by) w, closing_only starts.was by w timer starts.closing starts.on_wheel starts.closes),
+      ),
+    )
+starts_only g by w start (Err BadArg) s es starts = same_only (Caller by) w es _ starts.entries (alone (Caller by) w, tt)
+starts_only g by w start (Err Full) s es starts =
+    same_only (Caller by) w es _ starts.entries (alone (Caller by) w, taken_only by w s 0 g.slots starts.probes starts.are_taken)
+starts_only g by w start (Err NoMemory) s es (inl none) = same_only (Caller by) w es _ none tt
+starts_only g by w start (Err NoMemory) s es (inr probed) =
+    same_only (Caller by) w es _ probed.entries (alone (Caller by) w, probes_only (Caller by) w probed.probes probed.are_probes)
+
+try_only : (w : ℕ) (timer : TimerRef) (missed : Option (Option Status))
+    → IsOurs (Sched w ∷ (Wheel w ∷ [])) (expires_by w timer missed).by (expires_by w timer missed).with
+try_only w timer None = paired (Sched w) w w refl
+try_only w timer (Some found) = paired (Sched w) w w refl
+
+tries_only : (w : ℕ) (tries : List Try) → AreWithWheel (Sched w) w (expiry_entries w tries)
+tries_only w [] = tt
+tries_only w (t ∷ tries) = (try_only w t.timer t.missed, tries_only w tries)
+
+pub advances_only : LawOfAdvances
+advances_only g w (Ok answer) s es advances =
+    same_only (Sched w) w es _ advances.entries
+    (alone (Sched w) w, only-append (Sched w) w (expiry_entries w advances.tries) _ (tries_only w advances.tries) (paired (Sched w) w w refl, tt))
+advances_only g w (Err e) s es (inl none) = same_only (Sched w) w es _ none tt
+advances_only g w (Err e) s es (inr looked) = same_only (Sched w) w es _ looked.1 (alone (Sched w) w, tt)
+
+orphan_only : (by w : ℕ) (timer : TimerRef) (missed : Option (Option Status))
+    → IsOurs (Caller by ∷ (Wheel w ∷ [])) (orphans_by by w timer missed).by (orphans_by by w timer missed).with
+orphan_only by w timer None = paired (Caller by) w w refl
+orphan_only by w timer (Some found) = paired (Caller by) w w refl
+
+orphans_only : (by w : ℕ) (tries : List Try) → AreWithWheel (Caller by) w (orphan_entries by w tries)
+orphans_only by w [] = tt
+orphans_only by w (t ∷ tries) = (orphan_only by w t.timer t.missed, orphans_only by w tries)
+
+pub sweeps_only : LawOfSweeps
+sweeps_only g by w process s es sweeps = same_only (Caller by) w es _ sweeps.entries (orphans_only by w sweeps.tries)

@@ -1,0 +1,42 @@
+use Rattle.std.proofs.Common.{List, length, sym, ap, subst, arith}
+use Rattle.ert_table.specs.Desks.{settings_of, view_of}
+use Rattle.ert_timers.specs.Expiring.{IsReady}
+use Rattle.ert_timers.specs.Looking.{LooksDown}
+use Rattle.ert_timers.specs.Parts.{Part}
+use Rattle.ert_timers.proofs.Trials.{ready_looked, still_held, has_tried, has_not_tried, when_none}
+use Rattle.ert_timers.proofs.part.WheelPart.try_due.Goals as goal
+use Rattle.ert_defs.specs.declared.entry.Actor.TheVariants.{Sched}
+use Rattle.ert_wheel.specs.declared.row.Row.{Row}
+
+pub expire_all-requires-clause-holds : goal.expire_all-requires-clause-holds
+expire_all-requires-clause-holds c =
+    still_held (view_of c.args.pass.now) (view_of c.look_down-to.new.pass) c.args.self.now.number c.find_due.new.self.number c.requires.holds
+    c.look_down-to.ensures.looks.step.actors (ap (λ (p : Part). p.number) c.find_due.ensures.part)
+
+pub expire_all-requires-clause-ready : goal.expire_all-requires-clause-ready
+expire_all-requires-clause-ready c =
+    let g = settings_of c.args.desk.now in
+    let v = view_of c.args.pass.now in
+    let u = view_of c.look_down-to.new.pass in
+    let to = c.look_down-to.result in
+    subst (λ (p : Part). IsReady g u.front p to c.deref.result.now) (sym c.find_due.ensures.part)
+    (subst (λ (rows : List Row). IsReady g u.front c.args.self.now to rows) (sym c.deref.ensures.value)
+    (ready_looked g v c.args.self.now to c.in_ok-due.due.items u c.requires.stands c.requires.holds
+    (subst (λ n. LooksDown g v (Sched n) to u) c.number.ensures c.look_down-to.ensures.looks) c.in_ok-due.ensures.due))
+
+pub returns-clause-call : goal.returns-clause-call
+returns-clause-call c =
+    let due = c.deref.result.now in
+    has_tried (settings_of c.args.desk.now) (view_of c.args.pass.now) c.args.self.now c.find_due.new.self c.expire_all.new.self
+    c.keep_list.new.self c.number.result c.look_down-to.result due (length due) c.args.fired.now c.find_due.new.fired c.expire_all.new.fired
+    (view_of c.look_down-to.new.pass) (view_of c.expire_all.new.pass) c.number.ensures c.find_due.ensures.part c.keep_list.ensures
+    c.find_due.ensures.fired c.look_down-to.ensures.looks c.expire_all.ensures.call (omega arith) c.requires.holds
+
+pub returns-in_err-due-clause-call : goal.returns-in_err-due-clause-call
+returns-in_err-due-clause-call c =
+    let g = settings_of c.args.desk.now in
+    let v = view_of c.args.pass.now in
+    let u = view_of c.look_down-to.new.pass in
+    when_none g v c.args.self.now c.find_due.new.self c.from_residual.result c.args.fired.now c.find_due.new.fired u c.from_residual.ensures.0
+    (λ e. has_not_tried g v c.args.self.now c.find_due.new.self c.number.result c.look_down-to.result e c.args.fired.now c.find_due.new.fired u
+    c.requires.stands c.requires.holds c.number.ensures c.find_due.ensures.part c.look_down-to.ensures.looks c.find_due.ensures.fired)

@@ -1,0 +1,63 @@
+-- Laws of the timers of a scheduler. The functions of src/laws.rt carry them as contracts, so that they are
+-- proved.
+
+use Rattle.std.specs.Prelude.{◌≡◌, ◌≢◌, ℕ, List, [], ◌∷◌, Option, Some, None, Result, count_by}
+use Rattle.std.specs.Option.{is_some}
+use Rattle.ert_defs.specs.Actors.{of}
+use Rattle.ert_defs.specs.Legal.{Legal}
+use Rattle.ert_defs.specs.States.{State, state}
+use Rattle.ert_defs.specs.declared.entry.Actor.{Actor}
+use Rattle.ert_defs.specs.declared.entry.Actor.TheVariants.{Wheel, Sched, Caller}
+use Rattle.ert_defs.specs.declared.entry.Entry.{Entry}
+use Rattle.ert_defs.specs.declared.memory.NoMemory.{NoMemory}
+use Rattle.ert_defs.specs.declared.settings.Settings.{Settings}
+use Rattle.ert_defs.specs.declared.timer.Start.{Start}
+use Rattle.ert_defs.specs.declared.timer.Status.TheVariants.{Armed}
+use Rattle.ert_defs.specs.declared.timer.TimerRef.{TimerRef}
+use Rattle.ert_answers.specs.TimerCalls.{Cancels, Starts}
+use Rattle.ert_answers.specs.WheelCalls.{Advances, Sweeps}
+use Rattle.ert_answers.specs.declared.answers.StartErr.{StartErr}
+use Rattle.ert_laws.specs.Counts.{count_at}
+use Rattle.ert_table.specs.Calls.{AreOnlyOf, IsMade}
+use Rattle.ert_table.specs.Held.{IsWhole}
+use Rattle.ert_table.specs.Views.{Begins}
+use Rattle.ert_table.specs.declared.view.View.{View}
+use Rattle.ert_timers.specs.Parts.{Part, Stands}
+use Rattle.ert_timers.specs.Tidy.{IsTidy, IsTidyBut}
+
+-- a part that stands for a history stands for each longer legal one that has no more entries of the wheel:
+-- where others have made theirs, and where a pass that holds it was joined to another
+abbrev pub LawOfStanding : Type 0
+LawOfStanding = (g : Settings) (f h : List Entry) (p : Part) → Begins f h → of h (Wheel p.number) ≡ of f (Wheel p.number) → Legal g h
+    → Stands g f p → Stands g h p
+
+-- these entries are of an actor and of a wheel alone
+abbrev pub AreWithWheel : Actor → ℕ → List Entry → Type 0
+AreWithWheel by w es = AreOnlyOf (by ∷ (Wheel w ∷ [])) es
+
+abbrev pub LawOfStarts : Type 0
+LawOfStarts = (g : Settings) (by w : ℕ) (start : Start) (answer : Result TimerRef StartErr) (s : State) (es : List Entry)
+    → Starts g by w start answer s es → AreWithWheel (Caller by) w es
+
+abbrev pub LawOfAdvances : Type 0
+LawOfAdvances = (g : Settings) (w : ℕ) (answer : Result (ℕ × ℕ) NoMemory) (s : State) (es : List Entry) → Advances g w answer s es
+    → AreWithWheel (Sched w) w es
+
+abbrev pub LawOfSweeps : Type 0
+LawOfSweeps = (g : Settings) (by w process : ℕ) (s : State) (es : List Entry) → Sweeps g by w process s es → AreWithWheel (Caller by) w es
+
+-- a tidy part holds as many rows as there are armed timers of its wheel
+abbrev pub LawOfTidyCounts : Type 0
+LawOfTidyCounts = (g : Settings) (h : List Entry) (p : Part) → Stands g h p → IsTidy (state g h) p
+    → count_by is_some p.keys ≡ count_at (state g h) Armed p.number
+
+-- what a cancel by a pass that holds every actor leaves: where it answers a number its timer isn't armed any
+-- more; and a tidy part is tidy but for that timer then, and wholly so where the answer is none
+pub record IsLeftBy (g : Settings) (v : View) (timer : TimerRef) (answer : Option ℕ) (u : View) : Type 0 where
+  pub settled : (left : ℕ) → answer ≡ Some left → (state g u.front).status timer ≢ Some Armed
+  pub others : (p : Part) → IsTidy (state g v.front) p → IsTidyBut (state g u.front) p timer
+  pub missed : (p : Part) → answer ≡ None → Stands g v.front p → IsTidy (state g v.front) p → IsTidy (state g u.front) p
+
+abbrev pub LawOfCancels : Type 0
+LawOfCancels = (g : Settings) (v : View) (by : Actor) (timer : TimerRef) (answer : Option ℕ) (u : View) → IsWhole g v.actors
+    → IsMade g v (Cancels g by timer answer) u → IsLeftBy g v timer answer u

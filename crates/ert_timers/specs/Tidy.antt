@@ -1,0 +1,26 @@
+-- When a part is tidy: it holds as armed exactly the timers that are.
+
+use Rattle.std.specs.Prelude.{◌≡◌, ◌≢◌, ℕ, count_by, Some}
+use Rattle.ert_defs.specs.Laws.{is_armed}
+use Rattle.ert_defs.specs.States.{State, state}
+use Rattle.ert_defs.specs.declared.settings.Settings.{Settings}
+use Rattle.ert_defs.specs.declared.timer.Status.TheVariants.{Armed}
+use Rattle.ert_defs.specs.declared.timer.TimerRef.{TimerRef}
+use Rattle.ert_table.specs.Held.{IsWhole}
+use Rattle.ert_table.specs.declared.view.View.{View}
+use Rattle.ert_timers.specs.Parts.{Part, last_timer}
+use Rattle.ert_wheel.specs.Rows.{key_in}
+use Rattle.ert_wheel.specs.declared.row.Key.{Key}
+
+-- each row that is held is of a timer that is armed
+abbrev pub IsTidy : State → Part → Type 0
+IsTidy s p = (k : ℕ) (key : Key) → key_in p.keys k ≡ Some key → s.status (last_timer p.number p.slots k) ≡ Some Armed
+
+-- each is, but maybe that of one timer
+abbrev pub IsTidyBut : State → Part → TimerRef → Type 0
+IsTidyBut s p timer = (k : ℕ) (key : Key) → key_in p.keys k ≡ Some key → last_timer p.number p.slots k ≢ timer
+    → s.status (last_timer p.number p.slots k) ≡ Some Armed
+
+-- a call by a pass that holds every actor leaves a tidy part tidy
+abbrev pub KeepsTidy : Settings → View → Part → Part → View → Type 0
+KeepsTidy g v p q u = IsWhole g v.actors → IsTidy (state g v.front) p → IsTidy (state g u.front) q
