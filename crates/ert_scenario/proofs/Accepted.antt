@@ -2,13 +2,12 @@
 
 use Rattle.std.proofs.Common.{◌≡◌, ◌≤◌, ℕ, List, length, Option, Some, None, Ok, Err, cond, ltb, ap, sym, arith, refl}
 use Rattle.std.proofs.lemmas.Bool.Decides.{nat_tests}
-use Rattle.serde_json.specs.Data.{Data}
 use Rattle.ert_defs.specs.declared.settings.Settings.{Settings}
 use Rattle.ert_scenario.specs.Kinds.{Found}
 use Rattle.ert_scenario.specs.Scenarios.{Plan, Verdict, refused, over, judged, judged_all}
-use Rattle.ert_scenario.specs.Walks.{first_shape, first_range, founds_of, ops_of}
+use Rattle.ert_scenario.specs.Walks.{first_shape, first_range, ops_of}
 use Rattle.ert_scenario.specs.declared.fault.Fault.TheVariants as faults
-use Rattle.ert_scenario.specs.declared.op.Op.{Op}
+use Rattle.ert_ops.specs.declared.op.Op.{Op}
 use Rattle.ert_scenario.specs.declared.scenario.ScenarioErr.{ScenarioErr}
 use Rattle.ert_scenario.specs.declared.scenario.ScenarioErr.TheVariants.{Shape, Range, Limit}
 
@@ -47,11 +46,11 @@ accepts (Ok settings) founds plan h =
     }
 
 -- the ops were an array
-pub record AcceptsAll (settings : Found Settings) (items : Found (List Data)) (plan : Plan) : Type 0 where
-  pub values : List Data
-  pub listed : items ≡ Ok values
-  pub accepted : Accepts settings (founds_of values) plan
+pub record AcceptsAll (settings : Found Settings) (founds : Found (List (Found Op))) (plan : Plan) : Type 0 where
+  pub values : List (Found Op)
+  pub listed : founds ≡ Ok values
+  pub accepted : Accepts settings values plan
 
-pub accepts_all : (settings : Found Settings) (items : Found (List Data)) (plan : Plan) → judged_all settings items ≡ Ok plan → AcceptsAll settings items plan
-accepts_all settings (Ok values) plan h = record { values = values; listed = refl; accepted = accepts settings (founds_of values) plan h }
+pub accepts_all : (settings : Found Settings) (founds : Found (List (Found Op))) (plan : Plan) → judged_all settings founds ≡ Ok plan → AcceptsAll settings founds plan
+accepts_all settings (Ok values) plan h = record { values = values; listed = refl; accepted = accepts settings values plan h }
 accepts_all settings (Err fault) plan h = absurd (cc)

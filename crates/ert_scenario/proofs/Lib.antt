@@ -1,9 +1,15 @@
 pub mod Accepted
 pub mod Checked
+pub mod Faults
 pub mod Founds
+pub mod Judged
+pub mod Kept
 pub mod Least
 pub mod Listed
 pub mod Members
+pub mod Migrated
 pub mod Parts
 pub mod Refused
+pub mod Tested
 pub mod Valid
+pub mod Wholes

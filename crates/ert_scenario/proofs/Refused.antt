@@ -6,12 +6,12 @@ use Rattle.std.specs.Str.{IsUtf8, is_utf8}
 use Rattle.serde_json.specs.Data.{Data}
 use Rattle.serde_json.specs.Read.{read}
 use Rattle.ert_defs.specs.declared.settings.Settings.{Settings}
-use Rattle.ert_scenario.specs.Fields.{settings_of, op_items}
+use Rattle.ert_scenario.specs.Fields.{settings_of}
 use Rattle.ert_scenario.specs.Kinds.{Found}
-use Rattle.ert_scenario.specs.Scenarios.{Plan, Verdict, IsValue, IsScenario, HasRefusal, refused, over, judged, judged_all, verdict_of}
-use Rattle.ert_scenario.specs.Walks.{first_shape, first_range, founds_of}
+use Rattle.ert_scenario.specs.Scenarios.{Plan, Verdict, IsValue, IsScenario, HasRefusal, refused, over, judged, judged_all, op_founds, verdict_of}
+use Rattle.ert_scenario.specs.Walks.{first_shape, first_range}
 use Rattle.ert_scenario.specs.declared.fault.Fault.TheVariants as faults
-use Rattle.ert_scenario.specs.declared.op.Op.{Op}
+use Rattle.ert_ops.specs.declared.op.Op.{Op}
 use Rattle.ert_scenario.specs.declared.scenario.Scenario.{Scenario}
 use Rattle.ert_scenario.specs.declared.scenario.ScenarioErr.{ScenarioErr}
 use Rattle.ert_scenario.specs.declared.scenario.ScenarioErr.TheVariants.{Json, Shape, Range, Limit, NoMemory}
@@ -41,13 +41,13 @@ NamesPlace-judged (Ok settings) founds =
     (NamesPlace-refused Range (first_range 1 founds) _ (λ _. tt)
     (NamesPlace-refused Limit (over founds) _ (λ _. tt) tt))
 
-NamesPlace-judged_all : (settings : Found Settings) (items : Found (List Data)) → NamesPlace (judged_all settings items)
-NamesPlace-judged_all settings (Ok items) = NamesPlace-judged settings (founds_of items)
+NamesPlace-judged_all : (settings : Found Settings) (founds : Found (List (Found Op))) → NamesPlace (judged_all settings founds)
+NamesPlace-judged_all settings (Ok founds) = NamesPlace-judged settings founds
 NamesPlace-judged_all settings (Err fault) = tt
 
 names_place : (d : Data) (e : ScenarioErr) → verdict_of d ≡ Err e → HasPlace e
 unfolding verdict_of
-names_place d e is = let P : Verdict → Type 0 = NamesPlace in subst P is (NamesPlace-judged_all (settings_of d) (op_items d))
+names_place d e is = let P : Verdict → Type 0 = NamesPlace in subst P is (NamesPlace-judged_all (settings_of d) (op_founds d))
 
 HasRefusal-value : (bytes : List ℕ) (d : Data) (e : ScenarioErr) → IsValue bytes d → HasPlace e → verdict_of d ≡ Err e → HasRefusal bytes e
 HasRefusal-value bytes d Json value named is = absurd named

@@ -1,6 +1,6 @@
 -- The fields of a scenario, and the settings that they give.
 
-use Rattle.std.specs.Prelude.{ℕ, ℤ, pos, List, [], ◌∷◌, codes, Bool, true, false, ◌&&◌, Option, Ok, Err, if◌then◌else◌}
+use Rattle.std.specs.Prelude.{ℕ, ℤ, pos, List, [], ◌∷◌, codes, Bool, true, false, ◌&&◌, ◌||◌, Option, Ok, Err, if◌then◌else◌}
 use Rattle.std.specs.Ordering.{int_eq}
 use Rattle.std.specs.Str.{bytes_eq}
 use Rattle.serde_json.specs.Data.{Data, Members, no_members, member}
@@ -9,24 +9,36 @@ use Rattle.ert_defs.specs.declared.settings.Mode.{Mode}
 use Rattle.ert_defs.specs.declared.settings.Mode.TheVariants.{No, Single, Multi}
 use Rattle.ert_defs.specs.declared.settings.Reading.{Reading}
 use Rattle.ert_defs.specs.declared.settings.Settings.{Settings}
-use Rattle.ert_scenario.specs.Kinds.{Found, ◌>>=◌, both, of_kind, in_range, integer, boolean, text, listed, called, or_absent, reading}
+use Rattle.ert_scenario.specs.Kinds.{Found, ◌>>=◌, both, of_kind, in_range, integer, word, boolean, text, listed, called, or_absent, reading}
 use Rattle.ert_scenario.specs.Ranges.{is_checked}
 use Rattle.ert_scenario.specs.declared.fault.Fault.TheVariants.{Shape}
+use Rattle.ert_scenario.specs.declared.fields.Sizes.{Sizes}
+use Rattle.ert_scenario.specs.declared.fields.ClockFields.{ClockFields}
 use Rattle.ert_scenario.specs.declared.fields.Head.{Head}
+use Rattle.ert_scenario.specs.declared.format.Format.{Format}
+use Rattle.ert_scenario.specs.declared.format.Format.TheVariants.{One, Two}
 
--- the name of each field
-abbrev pub field_names : List (List ℕ)
-field_names = codes "format" ∷ codes "start" ∷ codes "mode" ∷ codes "correction" ∷ codes "first" ∷ codes "ops" ∷ []
+-- the name of each field of the clock
+abbrev pub clock_fields : List (List ℕ)
+clock_fields = codes "mode" ∷ codes "correction" ∷ codes "start" ∷ codes "first" ∷ []
+
+-- the name of each other field
+abbrev pub other_fields : List (List ℕ)
+other_fields = codes "schedulers" ∷ codes "processes" ∷ codes "slots" ∷ codes "format" ∷ codes "ops" ∷ []
 
 -- whether it is one of these names
 abbrev pub is_among : List (List ℕ) → List ℕ → Bool
 is_among [] name = false
 is_among (one ∷ others) name = if bytes_eq name one then true else is_among others name
 
+-- whether it is the name of a field
+abbrev pub is_field : List ℕ → Bool
+is_field name = is_among clock_fields name || is_among other_fields name
+
 -- whether each member is a field
 unfoldable pub are_fields : Members → Bool
 are_fields no_members = true
-are_fields (member name d members) = is_among field_names name && are_fields members
+are_fields (member name d members) = is_field name && are_fields members
 
 -- an object that has no other members than fields
 unfoldable pub only_fields : Data → Found (Unit {0})
@@ -60,32 +72,55 @@ times d = both (field (codes "start") start_time d) (field (codes "first") readi
 unfoldable pub modes : Data → Found (Mode × Bool)
 modes d = both (field (codes "mode") time_warp_mode d) (field (codes "correction") time_correction d)
 
--- the fields other than the ops, not yet tested for their ranges
+-- the fields of the clock
+unfoldable pub clock_of : Data → Found ClockFields
+clock_of d = both (times d) (modes d) >>= (λ p. Ok (record { start = p.0.0; first = p.0.1; mode = p.1.0; correction = p.1.1 }))
+
+-- a count, which is this one where it is absent
+unfoldable pub count : ℕ → Option Data → Found ℕ
+count absent value = or_absent absent word value
+
+-- how many schedulers, processes, and timer slots of each scheduler there are
+unfoldable pub sizes_of : Data → Found Sizes
+sizes_of d =
+    both (field (codes "schedulers") (count 1) d) (both (field (codes "processes") (count 1) d) (field (codes "slots") (count 1024) d))
+    >>= (λ p. Ok (record { schedulers = p.0; processes = p.1.0; slots = p.1.1 }))
+
+-- the format, which is 1 or 2
+unfoldable pub one_or_two : Option Data → Found (Unit {0})
+one_or_two value = integer value >>= (λ format. in_range (int_eq format (pos 1) || int_eq format (pos 2)) tt)
+
+-- the fields that settings are made of, not yet tested for their ranges
 abbrev pub head_of : Data → Found Head
 head_of d =
-    both (only_fields d) (both (field (codes "format") integer d) (both (times d) (modes d)))
-    >>= (λ p. Ok (record { format = p.1.0; start = p.1.1.0.0; first = p.1.1.0.1; mode = p.1.1.1.0; correction = p.1.1.1.1 }))
+    both (both (only_fields d) (field (codes "format") one_or_two d)) (both (clock_of d) (sizes_of d))
+    >>= (λ p. Ok (record { clock = p.1.0; sizes = p.1.1 }))
 
--- the settings that the fields give; those that have no field have their defaults
+-- the settings that the fields give, for one caller
 abbrev pub settings_with : Head → Settings
 settings_with head = record {
-  mode = head.mode;
-  correction = head.correction;
-  start = head.start;
-  schedulers = 1;
-  processes = 1;
-  slots = 1024;
+  mode = head.clock.mode;
+  correction = head.clock.correction;
+  start = head.clock.start;
+  schedulers = head.sizes.schedulers;
+  processes = head.sizes.processes;
+  slots = head.sizes.slots;
   callers = 1;
-  first = head.first;
+  first = head.clock.first;
 }
-
--- whether the format is 1, and a service can be opened with the settings
-abbrev pub is_in_range : Head → Bool
-is_in_range head = int_eq head.format (pos 1) && is_checked (settings_with head)
 
 -- the settings
 unfoldable pub settings_of : Data → Found Settings
-settings_of d = head_of d >>= (λ head. in_range (is_in_range head) (settings_with head))
+settings_of d = head_of d >>= (λ head. in_range (is_checked (settings_with head)) (settings_with head))
+
+-- the format that this integer names; other integers are read as 2
+abbrev pub format_by : Found ℤ → Format
+format_by (Ok format) = if int_eq format (pos 1) then One else Two
+format_by (Err fault) = Two
+
+-- the format that the ops are read by
+unfoldable pub format_of : Data → Format
+format_of d = format_by (field (codes "format") integer d)
 
 -- the values of the ops
 abbrev pub op_items : Data → Found (List Data)

@@ -1,6 +1,6 @@
 -- What an argument or a field is read as, or the fault that it has.
 
-use Rattle.std.specs.Prelude.{ℕ, ℤ, List, [], ◌∷◌, Bool, true, false, Option, Some, None, Result, Ok, Err, option_map, option_and_then, if◌then◌else◌}
+use Rattle.std.specs.Prelude.{ℕ, ℤ, pos, negsuc, nat_lt, List, [], ◌∷◌, Bool, true, false, Option, Some, None, Result, Ok, Err, option_map, option_and_then, if◌then◌else◌}
 use Rattle.std.specs.Str.{bytes_eq}
 use Rattle.serde_json.specs.Data.{Data, Items, no_items, item}
 use Rattle.serde_json.specs.Find.{as_number, as_i64, as_u64, as_bool, as_str, as_array}
@@ -45,6 +45,15 @@ in_range false x = Err Range
 unfoldable pub integer : Option Data → Found ℤ
 integer value = of_kind (option_and_then as_i64 (option_and_then as_number value))
 
+-- an integer from 0 to below 2^32
+abbrev pub word_of : ℤ → Found ℕ
+word_of (pos n) = in_range (nat_lt n 4294967296) n
+word_of (negsuc n) = Err Range
+
+-- a number that the JSON crate gives as an integer of 64 bits; outside of 0 to 2^32 - 1 it is a range fault
+unfoldable pub word : Option Data → Found ℕ
+word value = integer value >>= word_of
+
 -- items as a list
 unfoldable pub list_of : Items → List Data
 list_of no_items = []
@@ -85,6 +94,14 @@ abbrev pub ◌▹◌ : {A B : Type 0} → (Option Data → Found A) → (List Da
 unfoldable pub end : List Data → Found (Unit {0})
 end [] = Ok tt
 end (d ∷ ds) = Err Shape
+
+-- one argument alone, from 0 to below 2^32
+abbrev pub one_word : List Data → Found ℕ
+one_word args = (word ▹ end) args >>= (λ p. Ok p.0)
+
+-- two such arguments
+abbrev pub two_words : List Data → Found (ℕ × ℕ)
+two_words args = (word ▹ word ▹ end) args >>= (λ p. Ok (p.0, p.1.0))
 
 -- what is read where there is a value, and this where there is none
 abbrev pub or_absent : {X : Type 0} → X → (Option Data → Found X) → Option Data → Found X

@@ -1,5 +1,7 @@
 pub mod Fields
 pub mod Kinds
+pub mod Labels
+pub mod Migration
 pub mod Places
 pub mod Ranges
 pub mod Rows

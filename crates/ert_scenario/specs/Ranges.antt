@@ -1,13 +1,12 @@
--- The ranges of settings and of ops; of those that a row or a field needs, as tests.
+-- The ranges of settings and of ops, as tests.
 
-use Rattle.std.specs.Prelude.{◌*◌, pos, negsuc, ℤ, List, [], ◌∷◌, Bool, ◌&&◌, int_lt, int_le, nat_le}
+use Rattle.std.specs.Prelude.{◌*◌, ℕ, pos, negsuc, ℤ, Bool, true, ◌&&◌, int_lt, int_le, nat_le, nat_lt}
 use Rattle.std.specs.Int.{int_rem_euclid}
 use Rattle.std.specs.Ordering.{int_eq}
-use Rattle.ert_defs.specs.Readings.{IsValid}
 use Rattle.ert_defs.specs.declared.settings.Reading.{Reading}
 use Rattle.ert_defs.specs.declared.settings.Settings.{Settings}
-use Rattle.ert_scenario.specs.declared.op.Op.{Op}
-use Rattle.ert_scenario.specs.declared.op.Op.TheVariants.{Tick, Check, Finalize, Time, System, Offset, Info, Convert}
+use Rattle.ert_ops.specs.declared.op.Op.{Op}
+use Rattle.ert_ops.specs.declared.op.Op.TheVariants.{Tick, Check, Finalize, Notify, Time, System, Offset, Info, Convert, Start, SendAfter, Cancel, CancelQuiet, Read, CancelAsync, ReadAsync, Serve, Advance, Deliver, Turn, Receive, Exit, Alive, Monitor, Demonitor}
 
 -- whether a reading is valid
 unfoldable pub is_reading : Reading → Bool
@@ -31,18 +30,46 @@ has_counts g = (nat_le 1 g.schedulers && nat_le g.schedulers 64)
 unfoldable pub is_checked : Settings → Bool
 is_checked g = is_start g.start && (is_reading g.first && has_counts g)
 
--- the arguments of an op are in range, where a service was opened with the settings
-abbrev pub IsOpInRange : Settings → Op → Type 0
-IsOpInRange g (Tick mono sys) = IsValid (record { mono = mono; sys = sys })
-IsOpInRange g (Check mono sys) = IsValid (record { mono = mono; sys = sys })
-IsOpInRange g (Finalize mono sys) = IsValid (record { mono = mono; sys = sys })
-IsOpInRange g Time = Unit {0}
-IsOpInRange g System = Unit {0}
-IsOpInRange g Offset = Unit {0}
-IsOpInRange g Info = Unit {0}
-IsOpInRange g (Convert time from to) = Unit {0}
+-- whether it is a label
+abbrev pub is_label : ℕ → Bool
+is_label label = nat_le label 999999
 
--- the arguments of all ops are
-abbrev pub IsInRange : Settings → List Op → Type 0
-IsInRange g [] = Unit {0}
-IsInRange g (op ∷ ops) = IsOpInRange g op × IsInRange g ops
+-- whether it is a scheduler of the service
+abbrev pub is_sched : Settings → ℕ → Bool
+is_sched g sched = nat_lt sched g.schedulers
+
+-- whether it is a process of the service
+abbrev pub is_process : Settings → ℕ → Bool
+is_process g process = nat_lt process g.processes
+
+-- whether a start has a label, a scheduler and a process
+abbrev pub is_started : Settings → ℕ → ℕ → ℕ → Bool
+is_started g label wheel dest = is_label label && (is_sched g wheel && is_process g dest)
+
+-- whether the arguments of an op are in range, where a service was opened with the settings
+unfoldable pub is_op : Settings → Op → Bool
+is_op g (Tick mono sys) = is_reading (record { mono = mono; sys = sys })
+is_op g (Check mono sys) = is_reading (record { mono = mono; sys = sys })
+is_op g (Finalize mono sys) = is_reading (record { mono = mono; sys = sys })
+is_op g (Notify process) = is_process g process
+is_op g Time = true
+is_op g System = true
+is_op g Offset = true
+is_op g Info = true
+is_op g (Convert time from to) = true
+is_op g (Start label wheel when dest msg) = is_started g label wheel dest
+is_op g (SendAfter label wheel when dest msg) = is_started g label wheel dest
+is_op g (Cancel label) = is_label label
+is_op g (CancelQuiet label) = is_label label
+is_op g (Read label) = is_label label
+is_op g (CancelAsync label process info) = is_label label && is_process g process
+is_op g (ReadAsync label process info) = is_label label && is_process g process
+is_op g (Serve sched) = is_sched g sched
+is_op g (Advance sched) = is_sched g sched
+is_op g (Deliver sched) = is_sched g sched
+is_op g (Turn sched) = is_sched g sched
+is_op g (Receive process) = is_process g process
+is_op g (Exit process) = is_process g process
+is_op g (Alive process) = is_process g process
+is_op g (Monitor process) = is_process g process
+is_op g (Demonitor process monitor) = is_process g process && nat_le monitor 4294967295

@@ -5,11 +5,11 @@ use Rattle.std.specs.Str.{IsUtf8}
 use Rattle.serde_json.specs.Data.{Data}
 use Rattle.serde_json.specs.Read.{read}
 use Rattle.ert_defs.specs.declared.settings.Settings.{Settings}
-use Rattle.ert_scenario.specs.Fields.{settings_of, op_items}
-use Rattle.ert_scenario.specs.Kinds.{Found}
-use Rattle.ert_scenario.specs.Walks.{founds_of, first_shape, first_range, ops_of}
+use Rattle.ert_ops.specs.declared.op.Op.{Op}
+use Rattle.ert_scenario.specs.Fields.{settings_of, format_of, op_items}
+use Rattle.ert_scenario.specs.Kinds.{Found, ◌>>=◌}
+use Rattle.ert_scenario.specs.Walks.{raws_of, founds_of, first_shape, first_range, ops_of}
 use Rattle.ert_scenario.specs.declared.fault.Fault.TheVariants as faults
-use Rattle.ert_scenario.specs.declared.op.Op.{Op}
 use Rattle.ert_scenario.specs.declared.scenario.Scenario.{Scenario}
 use Rattle.ert_scenario.specs.declared.scenario.ScenarioErr.{ScenarioErr}
 use Rattle.ert_scenario.specs.declared.scenario.ScenarioErr.TheVariants.{Json, Shape, Range, Limit, NoMemory}
@@ -47,13 +47,17 @@ judged (Ok settings) founds =
     (Ok (record { settings = settings; ops = ops_of founds }))))
 
 -- the same, where the ops are an array
-abbrev pub judged_all : Found Settings → Found (List Data) → Verdict
-judged_all settings (Ok items) = judged settings (founds_of items)
+abbrev pub judged_all : Found Settings → Found (List (Found Op)) → Verdict
+judged_all settings (Ok founds) = judged settings founds
 judged_all settings (Err fault) = Err (Shape 0)
+
+-- what the ops of a value are
+abbrev pub op_founds : Data → Found (List (Found Op))
+op_founds d = op_items d >>= (λ items. Ok (founds_of (settings_of d) (raws_of (format_of d) items)))
 
 -- the verdict on a value
 unfoldable pub verdict_of : Data → Verdict
-verdict_of d = judged_all (settings_of d) (op_items d)
+verdict_of d = judged_all (settings_of d) (op_founds d)
 
 -- the bytes are one JSON value, and this one
 pub record IsValue (bytes : List ℕ) (d : Data) : Type 0 where

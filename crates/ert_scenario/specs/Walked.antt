@@ -1,24 +1,37 @@
--- What is known in the middle of the walk over the ops.
+-- What is known of the walk over the ops of a value.
 
-use Rattle.std.specs.Prelude.{◌≡◌, ℕ, List, ◌++◌, Option, Some, None}
+use Rattle.std.specs.Prelude.{◌≡◌, ◌+◌, ℕ, List, ◌∷◌, ◌++◌, map, length, Option, Some, None, Ok, Err}
+use Rattle.ert_ops.specs.declared.op.Op.{Op}
 use Rattle.ert_scenario.specs.Kinds.{Found}
-use Rattle.ert_scenario.specs.Walks.{first_shape, first_range, ops_of}
-use Rattle.ert_scenario.specs.declared.op.Op.{Op}
+use Rattle.ert_scenario.specs.Walks.{first_shape}
+use Rattle.ert_scenario.specs.declared.fault.Fault.TheVariants as faults
 use Rattle.ert_scenario.specs.declared.scenario.ScenarioErr.{ScenarioErr}
 use Rattle.ert_scenario.specs.declared.scenario.ScenarioErr.TheVariants.{Json, Shape, Range, Limit, NoMemory}
 use Rattle.ert_scenario.specs.declared.walk.Walk.{Walk}
 
--- with the ops kept, and the place of the first range fault, the rest decides as all do; the rest
--- begins at place k
+-- the ops, as they are found without a fault
+abbrev pub without_fault : List Op → List (Found Op)
+without_fault ops = map Ok ops
+
+-- all begins with these ops, and then has a range fault at this place
+abbrev pub IsCut : List Op → ℕ → List (Found Op) → Type 0
+IsCut ops place all = (later : List (Found Op)) × (all ≡ without_fault ops ++ Err faults.Range ∷ later) × (place ≡ 1 + length ops)
+
+-- of all, the rest begins at place k; the ops before it are these, or those before a range fault
 pub record Stands (ops : List Op) (range : Option ℕ) (k : ℕ) (rest all : List (Found Op)) : Type 0 where
   pub shape : first_shape 1 all ≡ first_shape k rest
-  pub faulty : (place : ℕ) → range ≡ Some place → first_range 1 all ≡ Some place
-  pub faultless : range ≡ None → first_range 1 all ≡ first_range k rest
-  pub all_ops : range ≡ None → ops_of all ≡ ops ++ ops_of rest
+  pub faulty : (place : ℕ) → range ≡ Some place → IsCut ops place all
+  pub faultless : range ≡ None → (all ≡ without_fault ops ++ rest) × (k ≡ 1 + length ops)
 
 -- the same of a walk
 abbrev pub StandsAt : Walk → ℕ → List (Found Op) → List (Found Op) → Type 0
 StandsAt walk k rest all = Stands walk.ops.items walk.range k rest all
+
+-- a walk is over: no place has a shape fault
+pub record IsOver (ops : List Op) (range : Option ℕ) (all : List (Found Op)) : Type 0 where
+  pub shape : first_shape 1 all ≡ None
+  pub faulty : (place : ℕ) → range ≡ Some place → IsCut ops place all
+  pub faultless : range ≡ None → all ≡ without_fault ops
 
 -- the error is that of a shape fault at this place, or of memory
 abbrev pub IsShapeAt : ScenarioErr → Option ℕ → Type 0

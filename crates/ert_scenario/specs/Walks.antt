@@ -2,14 +2,22 @@
 
 use Rattle.std.specs.Prelude.{ℕ, ◌+◌, List, [], ◌∷◌, map, Option, Some, None, Ok, Err}
 use Rattle.serde_json.specs.Data.{Data}
+use Rattle.ert_defs.specs.declared.settings.Settings.{Settings}
+use Rattle.ert_ops.specs.declared.op.Op.{Op}
 use Rattle.ert_scenario.specs.Kinds.{Found}
+use Rattle.ert_scenario.specs.Labels.{tested}
 use Rattle.ert_scenario.specs.Rows.{op_of}
 use Rattle.ert_scenario.specs.declared.fault.Fault.TheVariants.{Shape, Range}
-use Rattle.ert_scenario.specs.declared.op.Op.{Op}
+use Rattle.ert_scenario.specs.declared.format.Format.{Format}
 
--- what each of the values is as an op
-abbrev pub founds_of : List Data → List (Found Op)
-founds_of items = map op_of items
+-- what each of the values is as an op of the format
+abbrev pub raws_of : Format → List Data → List (Found Op)
+raws_of format items = map (op_of format) items
+
+-- the same, tested where a service can be opened with the settings; where it can't, only shapes count
+abbrev pub founds_of : Found Settings → List (Found Op) → List (Found Op)
+founds_of (Ok g) raws = tested g [] raws
+founds_of (Err fault) raws = raws
 
 -- the least place with a shape fault, where the list begins at place k
 abbrev pub first_shape : ℕ → List (Found Op) → Option ℕ

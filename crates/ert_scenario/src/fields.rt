@@ -4,23 +4,37 @@ ghost use Rattle.std.specs.Prelude.{◌≡◌, map, option_map, string_bytes};
 ghost use Rattle.std.specs.BTreeMap.{keys};
 ghost use Rattle.std.specs.List.{list_all};
 ghost use Rattle.serde_json.specs.View.{view};
-ghost use Rattle.ert_scenario.specs.Fields.{field_names, is_among, only_fields, mode_names, start_time, time_warp_mode, time_correction, times, modes, head_of, settings_with, is_in_range, settings_of, op_items};
+ghost use Rattle.ert_scenario.specs.Fields.{clock_fields, is_field, is_among, only_fields, mode_names, start_time, time_warp_mode, time_correction, count, times, modes, clock_of, sizes_of, head_of, settings_with, one_or_two, settings_of, op_items};
 ghost use Rattle.ert_scenario.specs.Kinds.{found_map, called};
 ghost use Rattle.ert_scenario.specs.Ranges.{is_checked};
 
 use crate::fault::Fault;
-use crate::kinds::{boolean, both, in_range, integer, listed, reading, text};
+use crate::kinds::{boolean, both, in_range, integer, listed, reading, text, word};
 use ert_defs::{Mode, Reading, Settings};
 use serde_json::{Map, Value};
 
-/// The fields other than the ops, not yet tested for their ranges.
+/// The fields that settings are made of, not yet tested for their ranges.
 #[derive(Clone, Copy)]
 pub(crate) struct Head {
-    format: i64,
+    clock: ClockFields,
+    sizes: Sizes,
+}
+
+/// The fields of the clock.
+#[derive(Clone, Copy)]
+pub(crate) struct ClockFields {
     start: i64,
     first: Reading,
     mode: Mode,
     correction: bool,
+}
+
+/// How many schedulers, processes, and timer slots of each scheduler there are.
+#[derive(Clone, Copy)]
+pub(crate) struct Sizes {
+    schedulers: u32,
+    processes: u32,
+    slots: u32,
 }
 
 /// The settings that a value gives.
@@ -29,7 +43,8 @@ pub(crate) fn settings_of(value: &Value) -> Result<Settings, Fault>
     ensures { result ≡ settings_of (view value.now) }
 {
     let head = head_of(value)?;
-    in_range(is_in_range(head), settings_with(head))
+    let settings = settings_with(head);
+    in_range(is_checked(settings), settings)
 }
 
 /// The values of the ops.
@@ -39,15 +54,32 @@ pub(crate) fn op_items(value: &Value) -> Result<&[Value], Fault>
     listed(value.get("ops"))
 }
 
-/// The fields other than the ops.
+/// The fields that settings are made of, of an object that has the right fields and a format.
 fn head_of(value: &Value) -> Result<Head, Fault>
     ensures { result ≡ head_of (view value.now) }
 {
-    let format = integer(value.get("format"));
-    let fields = both(format, both(times(value), modes(value)));
-    let ((), (format, ((start, first), (mode, correction)))) = both(only_fields(value), fields)?;
-    Ok(Head {
-        format,
+    let fields = both(clock_of(value), sizes_of(value));
+    let names = both(only_fields(value), one_or_two(value.get("format")));
+    let (((), ()), (clock, sizes)) = both(names, fields)?;
+    Ok(Head { clock, sizes })
+}
+
+/// The format, which is 1 or 2.
+#[tactic(auto, unfolding(crate::specs::Fields::one_or_two))]
+fn one_or_two(value: Option<&Value>) -> Result<(), Fault>
+    ensures { result ≡ one_or_two (option_map (λ v. view v.now) value.entry) }
+{
+    let format = integer(value)?;
+    in_range(format == 1 || format == 2, ())
+}
+
+/// The fields of the clock.
+#[tactic(auto, unfolding(crate::specs::Fields::clock_of))]
+fn clock_of(value: &Value) -> Result<ClockFields, Fault>
+    ensures { result ≡ clock_of (view value.now) }
+{
+    let ((start, first), (mode, correction)) = both(times(value), modes(value))?;
+    Ok(ClockFields {
         start,
         first,
         mode,
@@ -72,6 +104,33 @@ fn modes(value: &Value) -> Result<(Mode, bool), Fault>
         time_warp_mode(value.get("mode")),
         time_correction(value.get("correction")),
     )
+}
+
+/// The counts.
+#[tactic(auto, unfolding(crate::specs::Fields::sizes_of))]
+fn sizes_of(value: &Value) -> Result<Sizes, Fault>
+    ensures { result ≡ sizes_of (view value.now) }
+{
+    let schedulers = count(1, value.get("schedulers"));
+    let processes = count(1, value.get("processes"));
+    let slots = count(1024, value.get("slots"));
+    let (schedulers, (processes, slots)) = both(schedulers, both(processes, slots))?;
+    Ok(Sizes {
+        schedulers,
+        processes,
+        slots,
+    })
+}
+
+/// A count, which is this one where it is absent.
+#[tactic(auto, unfolding(crate::specs::Fields::count))]
+fn count(absent: u32, value: Option<&Value>) -> Result<u32, Fault>
+    ensures { result ≡ count absent (option_map (λ v. view v.now) value.entry) }
+{
+    match value {
+        None => Ok(absent),
+        Some(_) => word(value),
+    }
 }
 
 /// The start time, which is 0 where it is absent.
@@ -132,42 +191,43 @@ fn only_fields(value: &Value) -> Result<(), Fault>
 
 /// Whether each member is a field.
 fn are_fields(members: &Map<String, Value>) -> bool
-    ensures { result ≡ list_all (λ name. is_among field_names (string_bytes name)) (keys members.now) }
+    ensures { result ≡ list_all (λ name. is_field (string_bytes name)) (keys members.now) }
 {
     members.keys().all(|name| is_field(name.as_str()))
 }
 
 /// Whether it is the name of a field.
 fn is_field(name: &str) -> bool
-    ensures { result ≡ is_among field_names name.now }
+    ensures { result ≡ is_field name.now }
 {
-    matches!(
-        name,
-        "format" | "start" | "mode" | "correction" | "first" | "ops"
-    )
+    is_clock_field(name)
+        || matches!(
+            name,
+            "schedulers" | "processes" | "slots" | "format" | "ops"
+        )
 }
 
-/// The settings that the fields give; those that have no field have their defaults.
+/// Whether it is the name of a field of the clock.
+fn is_clock_field(name: &str) -> bool
+    ensures { result ≡ is_among clock_fields name.now }
+{
+    matches!(name, "mode" | "correction" | "start" | "first")
+}
+
+/// The settings that the fields give, for one caller.
 fn settings_with(head: Head) -> Settings
     ensures { result ≡ settings_with head }
 {
     Settings {
-        mode: head.mode,
-        correction: head.correction,
-        start: head.start,
-        schedulers: 1,
-        processes: 1,
-        slots: 1024,
+        mode: head.clock.mode,
+        correction: head.clock.correction,
+        start: head.clock.start,
+        schedulers: head.sizes.schedulers,
+        processes: head.sizes.processes,
+        slots: head.sizes.slots,
         callers: 1,
-        first: head.first,
+        first: head.clock.first,
     }
-}
-
-/// Whether the format is 1, and a service can be opened with the settings.
-fn is_in_range(head: Head) -> bool
-    ensures { result ≡ is_in_range head }
-{
-    head.format == 1 && is_checked(settings_with(head))
 }
 
 /// Whether a service can be opened with the settings.

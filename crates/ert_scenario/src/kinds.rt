@@ -2,7 +2,7 @@
 
 ghost use Rattle.std.specs.Prelude.{◌≡◌, map, option_map};
 ghost use Rattle.serde_json.specs.View.{view};
-ghost use Rattle.ert_scenario.specs.Kinds.{found_map, both, of_kind, in_range, integer, natural, boolean, listed, text, head, tail, end, reading_from, reading};
+ghost use Rattle.ert_scenario.specs.Kinds.{found_map, both, of_kind, in_range, integer, word_of, word, natural, boolean, listed, text, head, tail, end, one_word, two_words, reading_from, reading};
 
 use crate::fault::Fault;
 use ert_defs::Reading;
@@ -45,6 +45,25 @@ pub(crate) fn integer(value: Option<&Value>) -> Result<i64, Fault>
     ensures { result ≡ integer (option_map (λ v. view v.now) value.entry) }
 {
     of_kind(value.and_then(Value::as_i64))
+}
+
+/// A natural below 2^32: an integer outside of that is a range fault.
+#[tactic(auto, unfolding(crate::specs::Kinds::word))]
+pub(crate) fn word(value: Option<&Value>) -> Result<u32, Fault>
+    ensures { result ≡ word (option_map (λ v. view v.now) value.entry) }
+{
+    word_of(integer(value)?)
+}
+
+/// The same of an integer.
+#[tactic(auto, using(crate::proofs::Wholes::word_fits, crate::proofs::Wholes::word_misses))]
+fn word_of(number: i64) -> Result<u32, Fault>
+    ensures { result ≡ word_of number }
+{
+    let Ok(word) = u32::try_from(number) else {
+        return Err(Fault::Range);
+    };
+    Ok(word)
 }
 
 /// A natural below 2^64. A number with a fraction or an exponent is none.
@@ -93,6 +112,25 @@ pub(crate) fn next(args: &[Value]) -> (Option<&Value>, &[Value])
         [first, others @ ..] => (Some(first), others),
         [] => (None, args),
     }
+}
+
+/// One argument alone, a natural below 2^32.
+pub(crate) fn one_word(args: &[Value]) -> Result<u32, Fault>
+    ensures { result ≡ one_word (map view args.now) }
+{
+    let (value, args) = next(args);
+    let (number, ()) = both(word(value), end(args))?;
+    Ok(number)
+}
+
+/// Two such arguments.
+pub(crate) fn two_words(args: &[Value]) -> Result<(u32, u32), Fault>
+    ensures { result ≡ two_words (map view args.now) }
+{
+    let (first, args) = next(args);
+    let (second, args) = next(args);
+    let (first, (second, ())) = both(word(first), both(word(second), end(args)))?;
+    Ok((first, second))
 }
 
 /// No further argument.

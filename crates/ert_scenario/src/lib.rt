@@ -1,28 +1,40 @@
 //! Reads a scenario, which is what a service is opened with and the list of ops that are run on it, from
-//! bytes of JSON.
+//! bytes of JSON, in format 1 or 2.
 //!
 //! It stands on `serde_json`, which reads the bytes, on `ert_defs`, which has the settings and the test of
-//! a reading, and on `ert_units`, which has the units of time. `specs/Scenarios` says which bytes are a
-//! scenario and which refusal other bytes have, as a function of the JSON value: of the fields
-//! (`specs/Fields`), of a row for each op (`specs/Rows`) and of the kinds of their values (`specs/Kinds`,
-//! `specs/Units`). The code is made of the same parts: a new op is a variant of `Op`, a row, and a
-//! function that reads its arguments.
+//! a reading, on `ert_units`, which has the units of time, and on `ert_ops`, which has the ops.
+//! `specs/Scenarios` says which bytes are a scenario and which refusal other bytes have, as a function of
+//! the JSON value: of the fields (`specs/Fields`), of a row for each op (`specs/Rows`), of the kinds of
+//! their values (`specs/Kinds`, `specs/Units`), and of the ranges of their numbers and the labels of earlier
+//! starts (`specs/Ranges`, `specs/Labels`). The code is made of the same parts. The rows stand in groups: the
+//! ops of a group may stand in the same lists, and one group is those in which the formats differ. A new op is
+//! a variant of `Op`, a row, a function that reads its arguments, and a line of the ranges.
+//!
+//! Reading goes in two steps, each in time proportional to the ops. The walk finds what each value is, and the
+//! first fault of shape; then the ops are tested for their ranges, with a flag for each label.
 //!
 //! All bytes have one answer, and `read_scenario` gives it, unless memory runs out. A fault is told with
-//! the least place that has it.
+//! the least place that has it. `migrate` makes a value of format 1 one of format 2 that is the same scenario.
 #![tactic(auto)]
 
 mod fault;
 mod fields;
+mod format;
 mod kinds;
+mod labels;
 mod laws;
-mod op;
+mod migration;
+mod ranges;
 mod rows;
 mod scanning;
 mod scenario;
 mod units;
 mod walk;
 
-pub use laws::{least_places, one_verdict, scenarios_are_valid, some_verdict};
-pub use op::Op;
+pub use ert_ops::Op;
+pub use laws::{
+    least_places, migrated_is_the_same, one_verdict, range_faults_of_ops, scenarios_are_valid,
+    some_verdict,
+};
+pub use migration::migrate;
 pub use scenario::{Scenario, ScenarioErr, read_scenario};

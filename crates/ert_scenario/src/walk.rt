@@ -2,11 +2,11 @@ ghost use Rattle.std.specs.Prelude.{◌+◌, ◌≡◌, ◌∷◌, [], List, Non
 ghost use Rattle.ert_scenario.specs.Kinds.{Found};
 ghost use Rattle.ert_scenario.specs.Walks.{first_shape};
 ghost use Rattle.ert_scenario.specs.Walked.{StandsAt, IsShapeAt};
-ghost use Rattle.ert_scenario.specs.declared.op.Op.{Op as AnOp};
+ghost use Rattle.ert_ops.specs.declared.op.Op.{Op as AnOp};
 
 use crate::fault::Fault;
-use crate::op::Op;
 use crate::scenario::ScenarioErr;
+use ert_ops::Op;
 use std::alloc::Global;
 
 /// The walk over the ops of a scenario.

@@ -4,6 +4,10 @@
 #![tactic(auto)]
 
 #[cfg(test)]
+mod formats;
+#[cfg(test)]
+mod ops;
+#[cfg(test)]
 mod scenario;
 #[cfg(test)]
 mod spelling;

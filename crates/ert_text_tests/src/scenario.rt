@@ -49,12 +49,26 @@ fn with_fields(alloc: Global, fields: &str) -> Result<String, AllocError> {
 #[test]
 fn refuses_fields(rt: HostRuntime) -> Result<(), Fail> {
     let rows = [
-        (r#""speed":1"#, SHAPE),
+        (r#""extra":1"#, SHAPE),
+        (r#""race":{"turns":0,"keeper":[],"callers":[]}"#, SHAPE),
+        (r#""callers":1"#, SHAPE),
         (r#""Start":0"#, SHAPE),
         (r#""format":1.0"#, SHAPE),
         (r#""format":1e0"#, SHAPE),
         (r#""format":"1""#, SHAPE),
         (r#""format":3"#, RANGE),
+        (r#""format":0"#, RANGE),
+        (r#""schedulers":"1""#, SHAPE),
+        (r#""schedulers":9223372036854775808"#, SHAPE),
+        (r#""schedulers":0"#, RANGE),
+        (r#""schedulers":65"#, RANGE),
+        (r#""schedulers":4294967297"#, RANGE),
+        (r#""processes":null"#, SHAPE),
+        (r#""processes":-1"#, RANGE),
+        (r#""processes":1025"#, RANGE),
+        (r#""slots":1.0"#, SHAPE),
+        (r#""slots":65537"#, RANGE),
+        (r#""slots":65536,"schedulers":5"#, RANGE),
         (r#""start":null"#, SHAPE),
         (r#""start":-0"#, SHAPE),
         (r#""start":9223372036854775808"#, SHAPE),
@@ -83,6 +97,7 @@ fn refuses_fields(rt: HostRuntime) -> Result<(), Fail> {
         (r#""format":3,"correction":0,"ops":[[]]"#, SHAPE),
         (r#""start":1,"ops":[["time"],[]]"#, ScenarioErr::Shape(2)),
         (r#""start":1,"ops":[["tick",-1,0]]"#, RANGE),
+        (r#""format":3,"ops":[["cancel_async",1,0]]"#, OP_SHAPE),
     ];
     for (fields, want) in rows {
         let text = with_fields(rt.alloc(), fields)?;
@@ -95,7 +110,8 @@ fn refuses_fields(rt: HostRuntime) -> Result<(), Fail> {
     Ok(())
 }
 
-fn with_ops(alloc: Global, ops: &str) -> Result<String, AllocError> {
+/// A scenario of format 1 with these ops.
+pub(crate) fn with_ops(alloc: Global, ops: &str) -> Result<String, AllocError> {
     format!(in alloc; "{{\"format\":1,\"first\":[0,0],\"ops\":{ops}}}")
 }
 
@@ -150,6 +166,10 @@ fn refuses_ops(rt: HostRuntime) -> Result<(), Fail> {
         (r#"[["tick",4611686018427387904,0]]"#, OP_RANGE),
         (r#"[["tick",0,2305843009213693952]]"#, OP_RANGE),
         (
+            r#"[["time"],["system"],["info"],["jump"]]"#,
+            ScenarioErr::Shape(4),
+        ),
+        (
             r#"[["time"],["tick",0,-2305843009213693952],["tick",-1,0]]"#,
             ScenarioErr::Range(2),
         ),
@@ -165,6 +185,27 @@ fn refuses_ops(rt: HostRuntime) -> Result<(), Fail> {
             Some(want),
             "at {ops}"
         );
+    }
+    Ok(())
+}
+
+#[test]
+fn accepts_counts(rt: HostRuntime) -> Result<(), Fail> {
+    let rows = [
+        (r#""format":1"#, (1, 1, 1024)),
+        (r#""schedulers":4,"slots":65536"#, (4, 1, 65_536)),
+        (
+            r#""schedulers":64,"processes":1024,"slots":4096"#,
+            (64, 1024, 4096),
+        ),
+        (r#""format":2,"processes":2,"slots":1"#, (1, 2, 1)),
+    ];
+    for (fields, want) in rows {
+        let text = with_fields(rt.alloc(), fields)?;
+        let settings = read_scenario(rt.alloc(), text.as_bytes())?.settings;
+        let counts = (settings.schedulers, settings.processes, settings.slots);
+        assert_eq!(rt; counts, want, "at {fields}");
+        assert_eq!(rt; settings.callers, 1);
     }
     Ok(())
 }

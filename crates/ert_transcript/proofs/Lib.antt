@@ -5,6 +5,7 @@ pub mod Cancels
 pub mod Chains
 pub mod Clocks
 pub mod Due
+pub mod Fronts
 pub mod Hands
 pub mod Mailing
 pub mod Many
@@ -12,8 +13,8 @@ pub mod Meets
 pub mod OpsDone
 pub mod Readings
 pub mod Refusals
-pub mod Serves
 pub mod Runs
+pub mod Serves
 pub mod Shown
 pub mod Starts
 pub mod StartsAgree

@@ -21,7 +21,7 @@ use Rattle.ert_transcript.specs.PlainClock.{tick_piece, check_piece, finalize_pi
 use Rattle.ert_transcript.specs.PlainMail.{receive_piece, alive_piece, exit_piece, may_watch, monitor_piece, demonitor_piece, notify_piece}
 use Rattle.ert_transcript.specs.PlainTimers.{cancelling, reading}
 use Rattle.ert_transcript.specs.PlainTurns.{ask_piece, serve_op, advance_op, deliver_op, turn_op}
-use Rattle.ert_transcript.specs.declared.op.Op.TheVariants as ops
+use Rattle.ert_ops.specs.declared.op.Op.TheVariants as ops
 use Rattle.ert_transcript.specs.declared.reply.Reply.{Reply}
 use Rattle.ert_transcript.specs.declared.reply.Reply.TheVariants.{Tick, TickWide, Check, CheckWide, Finalize, FinalizeWide, Time, System, Offset, Info, Cancel, CancelQuiet, Read, CancelAsync, ReadAsync, Serve, Advance, Deliver, Turn, Received, ReceivedEmpty, ReceivedExited, Exit, Alive, Monitor, MonitorFull, Demonitor, Notify}
 

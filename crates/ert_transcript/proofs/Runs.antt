@@ -27,20 +27,21 @@ use Rattle.ert_transcript.proofs.Taken.{count_pairs}
 use Rattle.ert_transcript.proofs.StartsAgree.{IsAgreed, agreed, start_op, send_after_op}
 use Rattle.ert_transcript.specs.Calls.{Calls}
 use Rattle.ert_transcript.specs.Labels.{Labels, label_of, bind}
-use Rattle.ert_transcript.specs.Counts.{has_status, count_in, counts_of, plain_after}
-use Rattle.ert_transcript.specs.Laws.{labels_in, AreOps, LawOfOneText, LawOfOneTranscript, LawOfCounts}
-use Rattle.ert_transcript.specs.PlainTimers.{count_of}
+use Rattle.ert_laws.specs.Counts.{count_of, has_status, count_in, counts_of}
+use Rattle.ert_ops.specs.Labels.{labels_in, AreOps}
+use Rattle.ert_transcript.specs.Counts.{plain_after}
+use Rattle.ert_transcript.specs.Laws.{LawOfOneText, LawOfOneTranscript, LawOfCounts}
 use Rattle.ert_transcript.specs.Lines.{line_of}
 use Rattle.ert_transcript.specs.Texts.{end_line}
 use Rattle.ert_transcript.specs.Plain.{piece_of, plain_lines}
 use Rattle.ert_transcript.specs.Scripts.{labels_after, Script, lines_of, IsTranscript}
-use Rattle.ert_transcript.specs.declared.op.Op.{Op}
-use Rattle.ert_transcript.specs.declared.op.Op.TheVariants as ops
+use Rattle.ert_ops.specs.declared.op.Op.{Op}
+use Rattle.ert_ops.specs.declared.op.Op.TheVariants as ops
 use Rattle.ert_transcript.specs.declared.reply.Reply.{Reply}
 use Rattle.ert_transcript.specs.declared.reply.Reply.TheVariants as replies
 
 -- the label that an op starts a timer with is free
-abbrev IsFreeFor : Op → Labels → Type 0
+abbrev pub IsFreeFor : Op → Labels → Type 0
 IsFreeFor (ops.Start l w when p msg) ls = IsFreeLabel l ls
 IsFreeFor (ops.SendAfter l w when p msg) ls = IsFreeLabel l ls
 IsFreeFor _ ls = Unit {0}
@@ -103,7 +104,7 @@ op_agrees g n ls cl h m c (ops.Demonitor p k) reply few free other a legal does 
 
 -- the labels of the ops to come are free
 
-abbrev AreFree : List ℕ → Labels → Type 0
+abbrev pub AreFree : List ℕ → Labels → Type 0
 AreFree [] ls = Unit {0}
 AreFree (l ∷ rest) ls = IsFreeLabel l ls × AreFree rest ls
 
@@ -118,12 +119,12 @@ free_rest l t (k ∷ rest) ls free apart = (
   free_rest l t rest ls free.1 (All-tail (λ (k : ℕ). l ≢ k) k rest apart),
 )
 
-free_first : (op : Op) (rest : List Op) (ls : Labels) → AreFree (labels_in (op ∷ rest)) ls → IsFreeFor op ls
+pub free_first : (op : Op) (rest : List Op) (ls : Labels) → AreFree (labels_in (op ∷ rest)) ls → IsFreeFor op ls
 free_first (ops.Start l w when p msg) rest ls free = free.0
 free_first (ops.SendAfter l w when p msg) rest ls free = free.0
 free_first _ rest ls free = tt
 
-abbrev Apart : List ℕ → Type 0
+abbrev pub Apart : List ℕ → Type 0
 Apart labels = AllPairs (λ (l : ℕ) k. l ≢ k) labels
 
 start_free : (l w : ℕ) (when : When) (p msg : ℕ) (reply : Reply) (rest : List ℕ) (ls : Labels) → Apart (l ∷ rest) → AreFree (l ∷ rest) ls
@@ -136,13 +137,13 @@ send_free : (l w : ℕ) (when : When) (p msg : ℕ) (reply : Reply) (rest : List
 send_free l w when p msg (replies.SendAfterOk t) rest ls apart free = free_rest l t rest ls free.1 (pairs_head (λ (l : ℕ) k. l ≢ k) l rest apart)
 send_free l w when p msg _ rest ls apart free = free.1
 
-free_later : (op : Op) (reply : Reply) (rest : List Op) (ls : Labels) → Apart (labels_in (op ∷ rest)) → AreFree (labels_in (op ∷ rest)) ls
+pub free_later : (op : Op) (reply : Reply) (rest : List Op) (ls : Labels) → Apart (labels_in (op ∷ rest)) → AreFree (labels_in (op ∷ rest)) ls
     → AreFree (labels_in rest) (labels_after ls op reply)
 free_later (ops.Start l w when p msg) reply rest ls apart free = start_free l w when p msg reply (labels_in rest) ls apart free
 free_later (ops.SendAfter l w when p msg) reply rest ls apart free = send_free l w when p msg reply (labels_in rest) ls apart free
 free_later _ reply rest ls apart free = free
 
-apart_later : (op : Op) (rest : List Op) → Apart (labels_in (op ∷ rest)) → Apart (labels_in rest)
+pub apart_later : (op : Op) (rest : List Op) → Apart (labels_in (op ∷ rest)) → Apart (labels_in rest)
 apart_later (ops.Start l w when p msg) rest apart = pairs_tail (λ (l : ℕ) k. l ≢ k) l (labels_in rest) apart
 apart_later (ops.SendAfter l w when p msg) rest apart = pairs_tail (λ (l : ℕ) k. l ≢ k) l (labels_in rest) apart
 apart_later _ rest apart = apart
@@ -193,7 +194,7 @@ lines_agree g n ls cl (op ∷ list) rs after h m c few apart free other agrees l
 
 -- at the opening both agree
 
-none_free : (labels : List ℕ) → AreFree labels []
+pub none_free : (labels : List ℕ) → AreFree labels []
 none_free [] = tt
 none_free (l ∷ labels) = (tt, none_free labels)
 
@@ -217,7 +218,8 @@ opened g = record {
   names = λ x. unbound_name g [] 0 x;
 }
 
-done : (g : Settings) (list : List Op) (text : List ℕ) → AreOps list → (t : IsTranscript g list text)
+-- a script run from the opening on
+pub done : (g : Settings) (list : List Op) (text : List ℕ) → AreOps list → (t : IsTranscript g list text)
     → AreDone g [] [] list t.replies t.labels (state g t.entries) (opening g)
 done g list text are t =
     lines_agree g 0 [] [] list t.replies t.labels [] t.entries (opening g) (omega (arith, are.few)) are.apart (none_free (labels_in list))

@@ -24,8 +24,8 @@ use Rattle.ert_transcript.specs.Pieces.{Piece}
 use Rattle.ert_transcript.specs.Plain.{slot_of, piece_of}
 use Rattle.ert_transcript.specs.PlainTimers.{looks, arm_entries, starting}
 use Rattle.ert_transcript.specs.Scripts.{labels_after}
-use Rattle.ert_transcript.specs.declared.op.Op.{Op}
-use Rattle.ert_transcript.specs.declared.op.Op.TheVariants as ops
+use Rattle.ert_ops.specs.declared.op.Op.{Op}
+use Rattle.ert_ops.specs.declared.op.Op.TheVariants as ops
 use Rattle.ert_transcript.specs.declared.reply.Reply.{Reply}
 use Rattle.ert_transcript.specs.declared.reply.Reply.TheVariants.{StartOk, StartBadArg, StartFull, SendAfterOk, SendAfterBadArg, SendAfterFull}
 

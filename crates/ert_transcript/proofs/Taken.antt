@@ -20,7 +20,8 @@ use Rattle.ert_transcript.proofs.Bound.{IsName, timers_same}
 use Rattle.ert_transcript.proofs.Meets.{IsKept}
 use Rattle.ert_transcript.proofs.Shown.{Names, SameRow, Pairs, Shows}
 use Rattle.ert_transcript.specs.Labels.{Labels}
-use Rattle.ert_transcript.specs.PlainTimers.{count_of, taken_of}
+use Rattle.ert_laws.specs.Counts.{count_of}
+use Rattle.ert_transcript.specs.PlainTimers.{taken_of}
 
 -- 1 where a test passes
 abbrev one_if : Bool → ℕ

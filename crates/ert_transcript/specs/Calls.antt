@@ -28,8 +28,8 @@ use Rattle.ert_defs.specs.declared.timer.Kind.TheVariants.{Wrapped, Bare}
 use Rattle.ert_defs.specs.declared.timer.Start.{Start}
 use Rattle.ert_defs.specs.declared.timer.When.{When}
 use Rattle.ert_transcript.specs.Labels.{Labels, ref_of}
-use Rattle.ert_transcript.specs.declared.op.Op.{Op}
-use Rattle.ert_transcript.specs.declared.op.Op.TheVariants as ops
+use Rattle.ert_ops.specs.declared.op.Op.{Op}
+use Rattle.ert_ops.specs.declared.op.Op.TheVariants as ops
 use Rattle.ert_transcript.specs.declared.reply.Reply.{Reply}
 use Rattle.ert_transcript.specs.declared.reply.Reply.TheVariants.{Tick, TickWide, Check, CheckWide, Finalize, FinalizeWide, Time, System, Offset, Info, Convert, ConvertTooWide, StartOk, StartBadArg, StartFull, SendAfterOk, SendAfterBadArg, SendAfterFull, Cancel, CancelQuiet, Read, CancelAsync, ReadAsync, Serve, Advance, Deliver, Turn, Received, ReceivedEmpty, ReceivedExited, Exit, Alive, Monitor, MonitorFull, Demonitor, Notify}
 use Rattle.ert_units.specs.Conversions.{converted}

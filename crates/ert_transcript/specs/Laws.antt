@@ -1,25 +1,19 @@
 -- The laws of transcripts: what every script run of a list of ops prints.
 
-use Rattle.std.specs.Prelude.{◌≡◌, ◌≢◌, ℕ, ◌≤◌, AllPairs, List, [], ◌∷◌, length}
+use Rattle.std.specs.Prelude.{◌≡◌, ℕ, List, [], ◌++◌, take}
+use Rattle.ert_answers.specs.Ways.{alone}
+use Rattle.ert_defs.specs.Legal.{Legal}
 use Rattle.ert_defs.specs.States.{state}
+use Rattle.ert_defs.specs.declared.entry.Entry.{Entry}
 use Rattle.ert_defs.specs.declared.settings.Settings.{Settings}
-use Rattle.ert_transcript.specs.Counts.{counts_of, plain_counts}
+use Rattle.ert_laws.specs.Counts.{counts_of}
+use Rattle.ert_transcript.specs.Counts.{plain_counts}
 use Rattle.ert_transcript.specs.Plain.{plain_text}
-use Rattle.ert_transcript.specs.Scripts.{IsTranscript}
-use Rattle.ert_transcript.specs.declared.op.Op.{Op}
-use Rattle.ert_transcript.specs.declared.op.Op.TheVariants.{Start, SendAfter}
-
--- the labels of the starts among ops, in order
-abbrev pub labels_in : List Op → List ℕ
-labels_in [] = []
-labels_in (Start l w when p msg ∷ ops) = l ∷ labels_in ops
-labels_in (SendAfter l w when p msg ∷ ops) = l ∷ labels_in ops
-labels_in (_ ∷ ops) = labels_in ops
-
--- ops of a scenario: no two starts have one label, and there are at most 100,000
-pub record AreOps (ops : List Op) : Type 0 where
-  pub apart : AllPairs (λ (l : ℕ) k. l ≢ k) (labels_in ops)
-  pub few : length ops ≤ 100000
+use Rattle.ert_transcript.specs.Labels.{Labels}
+use Rattle.ert_transcript.specs.Scripts.{Script, lines_of, IsTranscript}
+use Rattle.ert_transcript.specs.declared.reply.Reply.{Reply}
+use Rattle.ert_ops.specs.Labels.{AreOps}
+use Rattle.ert_ops.specs.declared.op.Op.{Op}
 
 -- what every script run of the ops prints is what the plain service prints
 abbrev pub LawOfOneText : Type 0
@@ -34,3 +28,13 @@ LawOfOneTranscript = (g : Settings) (ops : List Op) (text other : List ℕ) → 
 abbrev pub LawOfCounts : Type 0
 LawOfCounts = (g : Settings) (ops : List Op) (text : List ℕ) → AreOps ops → (t : IsTranscript g ops text)
     → counts_of g (state g t.entries) ≡ plain_counts g ops
+
+-- a text is the first part of another
+abbrev pub IsFront : List ℕ → List ℕ → Type 0
+IsFront text whole = (rest : List ℕ) × (text ++ rest ≡ whole)
+
+-- the lines of a script run of some first ops are the first part of what all ops print
+abbrev pub LawOfFronts : Type 0
+LawOfFronts = (g : Settings) (ops : List Op) (n : ℕ) (entries : List Entry) (replies : List Reply) (labels : Labels) → AreOps ops
+    → Legal g entries → Script g (alone g) 0 [] (take n ops) replies labels [] entries
+    → IsFront (lines_of [] (take n ops) replies) (plain_text g ops)

@@ -18,8 +18,8 @@ use Rattle.ert_transcript.specs.PlainMail.{receive_piece, alive_piece, exit_piec
 use Rattle.ert_transcript.specs.PlainTimers.{starting, cancelling, reading}
 use Rattle.ert_transcript.specs.PlainTurns.{ask_piece, serve_op, advance_op, deliver_op, turn_op}
 use Rattle.ert_transcript.specs.Scripts.{labels_after}
-use Rattle.ert_transcript.specs.declared.op.Op.{Op}
-use Rattle.ert_transcript.specs.declared.op.Op.TheVariants as ops
+use Rattle.ert_ops.specs.declared.op.Op.{Op}
+use Rattle.ert_ops.specs.declared.op.Op.TheVariants as ops
 use Rattle.ert_transcript.specs.declared.reply.Reply.TheVariants as replies
 
 -- what an op does to the plain service

@@ -1,6 +1,6 @@
 -- The plain service: starting, cancelling and reading timers.
 
-use Rattle.std.specs.Prelude.{ℕ, ◌+◌, Bool, true, false, cond, nat_le, List, [], ◌∷◌, Option, Some, None}
+use Rattle.std.specs.Prelude.{ℕ, Bool, true, false, cond, nat_le, List, [], ◌∷◌, Option, Some, None}
 use Rattle.ert_answers.specs.TimerCalls.{read_entries, cancel_entries}
 use Rattle.ert_defs.specs.Entries.{look_entry, arm_entry, mark_entry, orphan_entry}
 use Rattle.ert_defs.specs.Legal.{left_by}
@@ -15,14 +15,10 @@ use Rattle.ert_defs.specs.declared.timer.Kind.TheVariants.{Wrapped, Bare}
 use Rattle.ert_defs.specs.declared.timer.Start.{Start}
 use Rattle.ert_defs.specs.declared.timer.Status.{Status}
 use Rattle.ert_defs.specs.declared.timer.TimerRef.{TimerRef}
+use Rattle.ert_laws.specs.Counts.{count_of}
 use Rattle.ert_transcript.specs.Pieces.{Piece}
 use Rattle.ert_transcript.specs.declared.reply.Reply.{Reply}
 use Rattle.ert_transcript.specs.declared.reply.Reply.TheVariants.{StartOk, StartBadArg, StartFull, SendAfterOk, SendAfterBadArg, SendAfterFull, Read}
-
--- how many of these rows have a status that passes a test
-abbrev pub count_of : (Option Status → Bool) → (TimerRef → Option Status) → List Row → ℕ
-count_of test status [] = 0
-count_of test status (r ∷ rows) = cond (test (status r.timer)) 1 0 + count_of test status rows
 
 -- how many take a slot: those that are armed, and those that have expired and aren't handed over
 abbrev pub taken_of : (TimerRef → Option Status) → List Row → ℕ

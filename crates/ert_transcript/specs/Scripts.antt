@@ -10,8 +10,8 @@ use Rattle.ert_transcript.specs.Calls.{Calls}
 use Rattle.ert_transcript.specs.Labels.{Labels, label_of, bind}
 use Rattle.ert_transcript.specs.Lines.{line_of}
 use Rattle.ert_transcript.specs.Texts.{end_line}
-use Rattle.ert_transcript.specs.declared.op.Op.{Op}
-use Rattle.ert_transcript.specs.declared.op.Op.TheVariants as ops
+use Rattle.ert_ops.specs.declared.op.Op.{Op}
+use Rattle.ert_ops.specs.declared.op.Op.TheVariants as ops
 use Rattle.ert_transcript.specs.declared.reply.Reply.{Reply}
 use Rattle.ert_transcript.specs.declared.reply.Reply.TheVariants as replies
 

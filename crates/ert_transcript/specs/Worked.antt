@@ -8,7 +8,7 @@ use Rattle.ert_defs.specs.declared.settings.Settings.{Settings}
 use Rattle.ert_transcript.specs.Counts.{plain_counts, settled_line}
 use Rattle.ert_transcript.specs.Plain.{plain_text}
 use Rattle.ert_transcript.specs.Scripts.{IsTranscript}
-use Rattle.ert_transcript.specs.declared.op.Op.{Op}
+use Rattle.ert_ops.specs.declared.op.Op.{Op}
 
 -- settings and ops
 pub record Scenario : Type 0 where

@@ -4,8 +4,8 @@ use Rattle.std.specs.Prelude.{ℕ, zero, suc, pos, true, false, List, [], ◌∷
 use Rattle.ert_defs.specs.declared.settings.Mode.TheVariants.{Multi}
 use Rattle.ert_defs.specs.declared.timer.When.TheVariants.{After}
 use Rattle.ert_transcript.specs.Worked.{Scenario, plain, corrected, later}
-use Rattle.ert_transcript.specs.declared.op.Op.{Op}
-use Rattle.ert_transcript.specs.declared.op.Op.TheVariants.{Tick, Check, Notify, System, Info, Start, SendAfter, Cancel, CancelQuiet, Read, CancelAsync, ReadAsync, Serve, Turn, Receive, Exit, Monitor, Demonitor}
+use Rattle.ert_ops.specs.declared.op.Op.{Op}
+use Rattle.ert_ops.specs.declared.op.Op.TheVariants.{Tick, Check, Notify, System, Info, Start, SendAfter, Cancel, CancelQuiet, Read, CancelAsync, ReadAsync, Serve, Turn, Receive, Exit, Monitor, Demonitor}
 
 -- requests wait for their scheduler, and what no label names is told by its label
 abbrev pub requests : Scenario

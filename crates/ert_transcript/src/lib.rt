@@ -8,11 +8,10 @@
 #![tactic(auto)]
 
 mod laws;
-mod op;
 mod reply;
 mod worked;
 
-pub use laws::one_transcript;
-pub use op::Op;
+pub use ert_ops::Op;
+pub use laws::{first_lines, one_transcript};
 pub use reply::Reply;
 pub use worked::transcripts_are_judged;

@@ -15,7 +15,7 @@ use Rattle.ert_defs.specs.declared.timer.When.TheVariants.{After}
 use Rattle.ert_transcript.specs.Calls.{start_of}
 use Rattle.ert_transcript.specs.Scripts.{Script}
 use Rattle.ert_transcript.specs.Worked.{plain}
-use Rattle.ert_transcript.specs.declared.op.Op.TheVariants as ops
+use Rattle.ert_ops.specs.declared.op.Op.TheVariants as ops
 use Rattle.ert_transcript.specs.declared.reply.Reply.TheVariants.{StartOk, Cancel}
 use Rattle.ert_transcript.specs.Texts.{state_word, mode_word, bool_word, info_front, info_middle, info_back}
 use Rattle.ert_transcript.proofs.worked.transcripts_are_judged.Goals as goal

@@ -3,8 +3,8 @@ use ert_units::Unit;
 
 /// One op of a scenario, with the call of the `erlang` module reference that it is like.
 ///
-/// A label stands for the timer that the start with this label armed. A label of no such start stands for
-/// a reference that never named a timer.
+/// A label, 0 to 999,999, stands for the timer that the start with this label armed. A label of no such
+/// start stands for a reference that never named a timer. Processes and schedulers are numbered from 0.
 #[derive(Clone, Copy, Debug, PartialEq, Eq)]
 pub enum Op {
     /// `["tick",mono,sys]`: the clock takes this reading, in nanoseconds, and checks itself where a check
@@ -53,7 +53,7 @@ pub enum Op {
         dest: u32,
         msg: u64,
     },
-    /// `["send_after",label,..]`, as a start: a timer is started that sends its message alone
+    /// `["send_after",label,..]`, as a start, in format 2: a timer is started that sends its message alone
     /// (`send_after`).
     SendAfter {
         label: u32,
@@ -66,8 +66,8 @@ pub enum Op {
     Cancel {
         label: u32,
     },
-    /// `["cancel_quiet",label]`: a timer is cancelled, and what was left isn't told (`cancel_timer`, option
-    /// `info`).
+    /// `["cancel_quiet",label]`, in format 2: a timer is cancelled, and what was left isn't told
+    /// (`cancel_timer`, option `info`).
     CancelQuiet {
         label: u32,
     },
@@ -76,7 +76,8 @@ pub enum Op {
         label: u32,
     },
     /// `["cancel_async",label,process,info]`: the scheduler of a timer is asked to cancel it, and to tell the
-    /// process what was left where `info` is true (`cancel_timer`, options `async` and `info`).
+    /// process what was left where `info` is true (`cancel_timer`, options `async` and `info`). In format 1
+    /// the op has no `info`, and it is true.
     CancelAsync {
         label: u32,
         process: u32,

@@ -1,0 +1,48 @@
+-- The value of format 2 that says what a value of format 1 says.
+
+use Rattle.std.specs.Prelude.{◌≡◌, ℕ, pos, List, [], ◌∷◌, ◌++◌, map, codes, Bool, true, false, ◌||◌, Ok, Err, if◌then◌else◌}
+use Rattle.std.specs.Str.{bytes_eq}
+use Rattle.serde_json.specs.Data.{Data, null, boolean, number, string, array, object, unsigned, put}
+use Rattle.serde_json.specs.View.{items_of}
+use Rattle.ert_scenario.specs.Fields.{field, op_items}
+use Rattle.ert_scenario.specs.Kinds.{Found, integer, list_of, text, head}
+
+-- whether it is the name of an op that asks a scheduler
+abbrev pub is_ask : Found (List ℕ) → Bool
+is_ask (Ok name) = bytes_eq name (codes "cancel_async") || bytes_eq name (codes "read_async")
+is_ask (Err fault) = false
+
+-- the items of an op: one that asks a scheduler gets `true` as its last argument
+unfoldable pub migrated_items : List Data → List Data
+migrated_items items = if is_ask (text (head items)) then items ++ boolean true ∷ [] else items
+
+-- an op
+unfoldable pub migrated_op : Data → Data
+migrated_op null = null
+migrated_op (boolean b) = boolean b
+migrated_op (number n) = number n
+migrated_op (string s) = string s
+migrated_op (array ds) = array (items_of (migrated_items (list_of ds)))
+migrated_op (object ms) = object ms
+
+-- an object, with this field
+unfoldable pub with_field : List ℕ → Data → Data → Data
+with_field name field null = null
+with_field name field (boolean b) = boolean b
+with_field name field (number n) = number n
+with_field name field (string s) = string s
+with_field name field (array ds) = array ds
+with_field name field (object ms) = object (put name field ms)
+
+-- a value whose field `ops` is this: where it is an array, its ops are migrated, and `format` is 2
+abbrev pub migrated_with : Found (List Data) → Data → Data
+migrated_with (Ok items) d = with_field (codes "format") (number (unsigned 2)) (with_field (codes "ops") (array (items_of (map migrated_op items))) d)
+migrated_with (Err fault) d = d
+
+-- a value
+unfoldable pub migrated : Data → Data
+migrated d = migrated_with (op_items d) d
+
+-- the field `format` of a value is this integer
+abbrev pub IsOfFormat : ℕ → Data → Type 0
+IsOfFormat format d = field (codes "format") integer d ≡ Ok (pos format)
