@@ -1,1 +1,5 @@
+pub mod Counted
+pub mod Lived
+pub mod Openings
+pub mod Parts
 pub mod Worlds

@@ -1,52 +1,76 @@
-use ert_calls::{monotonic_time, system_time, time_offset};
-use ert_clock::{ClockErr, Moved};
-use ert_defs::{Actor, NoMemory, OffsetState, Reading, Settings};
+ghost use Rattle.std.specs.Prelude.{◌≡◌, [], IfOk};
+ghost use Rattle.ert_defs.specs.Settings.{IsChecked};
+
+use crate::opening::{open_inboxes, open_mails, open_scheds, open_wheels};
+use crate::sched_part::SchedPart;
+use ert_defs::{NoMemory, Settings, TimerRef};
+use ert_inbox::InboxPart;
 use ert_keeper::KeeperPart;
+use ert_mail::MailPart;
 use ert_table::{Desk, Pass};
+use ert_timers::WheelPart;
 use std::alloc::Global;
 use std::marker::Model;
 
-/// The clock and timer service, for one thread: a desk, the pass with every actor, and the clock's part.
-/// Its calls are made by caller 0.
+/// Who makes the calls that no scheduler makes.
+pub(crate) const CALLER: u32 = 0;
+
+/// The clock and timer service, for one thread: a desk, the pass with every actor, and every part.
+///
+/// The calls of schedulers are made by the scheduler that is named, and all others by caller 0.
 #[derive(Drop)]
 pub struct World {
-    desk: Desk,
-    pass: Pass,
-    keeper: KeeperPart,
+    pub(crate) desk: Desk,
+    pub(crate) pass: Pass,
+    pub(crate) keeper: KeeperPart,
+    pub(crate) wheels: Vec<WheelPart>,
+    pub(crate) inboxes: Vec<InboxPart>,
+    pub(crate) mails: Vec<MailPart>,
+    pub(crate) scheds: Vec<SchedPart>,
+    pub(crate) labels: Vec<(u32, TimerRef)>,
 }
 
 impl Model for World {
+    ghost use Rattle.ert_sched.specs.Parts.{parts_of};
     ghost use Rattle.ert_sched.specs.Worlds.{Service, seen, AreFit};
+    ghost use Rattle.std.specs.Coded.{codes};
+    ghost use Rattle.ert_timers.specs.Parts.{part_code};
 
     ghost Value = { Service };
 
-    ghost view = { λ w. seen w.desk w.pass w.keeper };
+    ghost coded = { Prim.hlevel (codes, part_code) };
 
-    ghost invariant = { λ w. AreFit w.desk w.pass w.keeper };
+    ghost view = { λ w. seen w.desk w.pass w.keeper w.labels.items w.wheels.items };
+
+    ghost invariant = { λ w. AreFit w.desk w.pass (parts_of w.keeper w.wheels.items w.inboxes.items w.mails.items w.scheds.items) };
 }
 
-/// Who makes the calls.
-const CALLER: u32 = 0;
-
 impl World {
-    ghost use Rattle.std.specs.Prelude.{◌≡◌, ◌+ℤ◌, [], IfOk};
-    ghost use Rattle.ert_defs.specs.Settings.{IsChecked};
-    ghost use Rattle.ert_clock.specs.Ticks.{act_of, Gives, FinalizesFrom};
+    ghost use Rattle.std.specs.Prelude.{◌≡◌, ◌≢◌, ◌∷◌, ◌++◌, All, OnOk, OnErr};
     ghost use Rattle.ert_table.specs.Desks.{settings_of, KnowsAll};
-    ghost use Rattle.ert_sched.specs.Worlds.{StandsFor, Goes};
-    ghost use Rattle.ert_answers.specs.ClockCalls.{Ticks, Finalizes, TellsTime, TellsOffset, TellsSystemTime};
-    ghost use Rattle.ert_defs.specs.declared.entry.Actor.TheVariants.{Caller};
+    ghost use Rattle.ert_sched.specs.Lived.{IsLived};
+    ghost use Rattle.ert_sched.specs.Openings.{IsOpened};
+    ghost use Rattle.ert_sched.specs.Worlds.{StandsFor};
 
     /// Opens a service. Its history is empty.
     pub fn open(alloc: Global, settings: &Settings) -> Result<World, NoMemory>
         requires { IsChecked settings.now }
-        ensures { IfOk result (λ world. StandsFor settings.now [] world) }
+        ensures { IfOk result (IsOpened settings.now) }
     {
         let (desk, pass) = Desk::open(alloc, settings)?;
+        let wheels = open_wheels(alloc, settings)?;
+        let inboxes = open_inboxes(alloc, settings.schedulers)?;
+        let mails = open_mails(alloc, settings.processes)?;
+        let scheds = open_scheds(alloc, settings.schedulers)?;
         Ok(World {
             desk,
             pass,
             keeper: KeeperPart::open(settings),
+            wheels,
+            inboxes,
+            mails,
+            scheds,
+            labels: Vec::new(alloc),
         })
     }
 
@@ -65,72 +89,32 @@ impl World {
         self.keeper.clock().now()
     }
 
-    /// Takes one reading of the OS clocks. `force` asks for a check of the clock, as if one were due.
-    ///
-    /// It is refused where the clock refuses it (`ClockErr`), and then it makes no entry.
-    pub fn tick(&mut self, reading: Reading, force: bool) -> Result<Moved, ClockErr>
-        ensures gives { Gives self.old.clock reading (act_of force) result self.new.clock }
-        ensures call { Goes self.old (λ g. Ticks g 0 reading force result) self.new }
-        ensures settings { self.new.settings ≡ self.old.settings }
+    /// Binds a label to a timer, as the last of the labels. No entry is made.
+    pub fn bind(&mut self, label: u32, timer: TimerRef) -> Result<(), NoMemory>
+        requires { All (λ pair. pair.0 ≢ label) self.old.labels }
+        ensures last { OnOk result (self.new ≡ record self.old { labels = self.old.labels ++ (label, timer) ∷ [] }) }
+        ensures err { OnErr result (self.new ≡ self.old) }
     {
-        self.keeper
-            .tick(&self.desk, &mut self.pass, CALLER, reading, force)
+        self.labels.reserve(1)?;
+        self.labels.push_reserved((label, timer));
+        Ok(())
     }
 
-    /// Finalizes the time offset (`erlang:system_flag(time_offset, finalize)`), and answers the state
-    /// before. Only a preliminary offset moves.
-    ///
-    /// It is refused where the clock refuses it (`ClockErr`), and then it makes no entry.
-    pub fn finalize(&mut self, reading: Reading) -> Result<(OffsetState, Moved), ClockErr>
-        ensures gives { FinalizesFrom self.old.clock.face.state self.old.clock reading result self.new.clock }
-        ensures call { Goes self.old (λ g. Finalizes g 0 reading result) self.new }
-        ensures settings { self.new.settings ≡ self.old.settings }
+    /// The labels that were bound, in order, each with its timer.
+    pub fn labels(&self) -> &[(u32, TimerRef)]
+        ensures { result.now ≡ self.now.labels }
     {
-        self.keeper
-            .finalize(&self.desk, &mut self.pass, CALLER, reading)
+        &self.labels
     }
 
-    /// Monotonic time, in nanoseconds (`erlang:monotonic_time`).
-    pub fn monotonic_time(&mut self) -> i64
-        ensures value { result ≡ self.old.clock.face.time }
-        ensures call { Goes self.old (λ g. TellsTime g (Caller 0) result) self.new }
-        ensures settings { self.new.settings ≡ self.old.settings }
-        ensures clock { self.new.clock ≡ self.old.clock }
-    {
-        monotonic_time(&self.desk, &mut self.pass, Actor::Caller(CALLER))
-    }
-
-    /// The time offset, in nanoseconds, with its state (`erlang:time_offset`).
-    pub fn time_offset(&mut self) -> (i64, OffsetState)
-        ensures value { result.0 ≡ self.old.clock.face.offset }
-        ensures state { result.1 ≡ self.old.clock.face.state }
-        ensures call { Goes self.old (λ g. TellsOffset g (Caller 0) result) self.new }
-        ensures settings { self.new.settings ≡ self.old.settings }
-        ensures clock { self.new.clock ≡ self.old.clock }
-    {
-        time_offset(&self.desk, &mut self.pass, Actor::Caller(CALLER))
-    }
-
-    /// System time, in nanoseconds: monotonic time plus the time offset (`erlang:system_time`).
-    pub fn system_time(&mut self) -> i64
-        ensures value { result ≡ self.old.clock.face.time +ℤ self.old.clock.face.offset }
-        ensures call { Goes self.old (λ g. TellsSystemTime g (Caller 0) result) self.new }
-        ensures settings { self.new.settings ≡ self.old.settings }
-        ensures clock { self.new.clock ≡ self.old.clock }
-    {
-        system_time(&self.desk, &mut self.pass, Actor::Caller(CALLER))
-    }
-
-    /// Ends the service for one thread, and gives out its desk and the pass with every actor.
+    /// Ends the service for one thread, and gives out its desk and the pass with every actor. Its history is
+    /// legal, each of its timers has one of six lives, and its mail is in order.
     pub fn into_desk(self) -> (Desk, Pass)
         ensures settings { settings_of result.0 ≡ self.settings }
         ensures history { KnowsAll result.0 result.1 self.history }
+        ensures lived { IsLived self.settings self.history }
     {
-        let World {
-            desk,
-            pass,
-            keeper: _,
-        } = self;
+        let World { desk, pass, .. } = self;
         (desk, pass)
     }
 }

@@ -1,6 +1,8 @@
 use Rattle.ert_answers.specs.ClockCalls.{Finalizes}
-use Rattle.ert_table.specs.Desks.{settings_of, view_of}
-use Rattle.ert_sched.proofs.Calls.{reads_by, does}
+use Rattle.ert_defs.specs.States.{state}
+use Rattle.ert_table.specs.Desks.{settings_of, view_of, front_of}
+use Rattle.ert_sched.proofs.Calls.{keeper_called, reads_by}
+use Rattle.ert_sched.proofs.Calm.{finalizes_quiet}
 use Rattle.ert_sched.proofs.world.World.finalize.Goals as goal
 
 pub finalize-requires-clause-least : goal.finalize-requires-clause-least
@@ -10,12 +12,12 @@ finalize-requires-clause-least c =
 
 pub invariant_of-self : goal.invariant_of-self
 invariant_of-self c =
-    (does c.args.self.now c.self.inside.desk c.self.inside.pass c.finalize.new.pass c.self.inside.keeper c.finalize.new.self
-    (λ g. Finalizes g 0 c.args.reading c.finalize.result) c.self.view_is c.self.invariant c.finalize.ensures.belongs c.finalize.ensures.call
-    c.finalize.ensures.stands).fit
+    (keeper_called c.args.self.now c.self.inside c.finalize.new.pass c.finalize.new.self (λ g. Finalizes g 0 c.args.reading c.finalize.result) c.self.view_is c.self.invariant c.finalize.ensures.belongs
+    c.finalize.ensures.stands c.finalize.ensures.call (finalizes_quiet (settings_of c.self.inside.desk) 0 c.args.reading c.finalize.result (state (settings_of c.self.inside.desk) (front_of c.self.inside.pass))
+    c.finalize.ensures.call.entries c.finalize.ensures.call.allowed)).fit
 
 pub returns-clause-call : goal.returns-clause-call
 returns-clause-call c =
-    (does c.args.self.now c.self.inside.desk c.self.inside.pass c.finalize.new.pass c.self.inside.keeper c.finalize.new.self
-    (λ g. Finalizes g 0 c.args.reading c.finalize.result) c.self.view_is c.self.invariant c.finalize.ensures.belongs c.finalize.ensures.call
-    c.finalize.ensures.stands).goes
+    (keeper_called c.args.self.now c.self.inside c.finalize.new.pass c.finalize.new.self (λ g. Finalizes g 0 c.args.reading c.finalize.result) c.self.view_is c.self.invariant c.finalize.ensures.belongs
+    c.finalize.ensures.stands c.finalize.ensures.call (finalizes_quiet (settings_of c.self.inside.desk) 0 c.args.reading c.finalize.result (state (settings_of c.self.inside.desk) (front_of c.self.inside.pass))
+    c.finalize.ensures.call.entries c.finalize.ensures.call.allowed)).goes

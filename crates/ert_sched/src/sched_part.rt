@@ -1,0 +1,30 @@
+use ert_defs::Request;
+use ert_timers::FiredList;
+use std::alloc::Global;
+
+/// What a scheduler has: the request that it is about to answer, and its expired timers whose messages it
+/// hasn't handed over, in order of expiry.
+#[derive(Drop)]
+pub struct SchedPart {
+    /// The number of the scheduler and of its wheel.
+    pub wheel: u32,
+    pub hand: Option<Request>,
+    pub fired: FiredList,
+}
+
+impl SchedPart {
+    ghost use Rattle.std.specs.Prelude.{◌≡◌, [], None};
+
+    /// The part of a scheduler on a desk that has just been opened. It has nothing.
+    pub fn open(alloc: Global, wheel: u32) -> SchedPart
+        ensures number { result.wheel ≡ wheel }
+        ensures hand { result.hand ≡ None }
+        ensures fired { result.fired.rows ≡ [] }
+    {
+        SchedPart {
+            wheel,
+            hand: None,
+            fired: FiredList::new(alloc),
+        }
+    }
+}
