@@ -1,5 +1,7 @@
+pub mod Clocks
 pub mod Faults
 pub mod Host
 pub mod Known
 pub mod Memory
+pub mod Readings
 pub mod Writing

@@ -3,7 +3,7 @@ ghost use Rattle.ert_io.specs.Faults.{one_more};
 
 use crate::failed::Failed;
 
-/// The calls of a source or a sink in memory: which of them are to fail, how many were made, and how
+/// The calls of a source, a sink or a clock in memory: which of them are to fail, how many were made, and how
 /// many failed. Both counts stop at the last value of their type.
 #[derive(Debug, Drop)]
 pub(crate) struct Calls {

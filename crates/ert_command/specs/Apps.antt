@@ -1,0 +1,25 @@
+-- The program's commands, as `clap` is told them.
+
+use Rattle.std.specs.Prelude.{ℕ, Some, true, codes}
+use Rattle.clap.specs.Words.{App, Rule, Text, new_app, new_rule, with_rule, with_subcommand}
+use Rattle.clap.specs.declared.builder.ValueParser.TheVariants.{Unsigned}
+
+-- an argument that is a number in a range
+abbrev pub number : Text → ℕ → ℕ → Rule
+number id low high = record (new_rule id) { parser = Some (Unsigned low high); required = true }
+
+abbrev pub live : App
+live = with_rule (new_app (codes "live")) (number (codes "n") 1 1000)
+
+abbrev pub stress : App
+stress = with_rule (with_rule (new_app (codes "stress")) (number (codes "seed") 0 999999999)) (number (codes "n") 1 100000)
+
+abbrev pub bare : App
+bare =
+    let made : App = new_app (codes "ertime") in
+    record made {
+      top = record made.top { no_binary_name = true; disable_help_flag = true; disable_help_subcommand = true; subcommand_required = true };
+    }
+
+abbrev pub app : App
+app = with_subcommand (with_subcommand (with_subcommand (with_subcommand bare (new_app (codes "run")).top) (new_app (codes "race")).top) live.top) stress.top
