@@ -6,11 +6,11 @@ use Rattle.std.specs.declared.alloc.Global.{Global}
 use Rattle.ert_io.specs.Known.{then, before, IsAtEnd}
 use Rattle.ert_scenario.specs.Scenarios.{Plan, IsScenario, HasRefusal}
 use Rattle.ert_cli.specs.Refusals.{refusal_line}
-use Rattle.ert_cli.specs.Runs.{RunsOn, WritesPart}
+use Rattle.ert_cli.specs.Runs.{RunsOn, transcript}
 use Rattle.ert_io.specs.Writing.{WritesFront}
 use Rattle.ert_scenario.specs.declared.scenario.ScenarioErr.{ScenarioErr}
-use Rattle.ert_script.specs.declared.output.RunErr.{RunErr}
-use Rattle.ert_script.specs.declared.output.RunErr.TheVariants.{WriteFault as OutputFailed, NoMemory as OutOfMemory}
+use Rattle.ert_lines.specs.declared.output.RunErr.{RunErr}
+use Rattle.ert_lines.specs.declared.output.RunErr.TheVariants.{WriteFault as OutputFailed, NoMemory as OutOfMemory}
 use Rattle.ert_cli.specs.declared.ending.EndStatus.{EndStatus}
 use Rattle.ert_cli.specs.declared.ending.Ended.{Ended}
 use Rattle.ert_table.specs.declared.desk.Desk.{Desk}
@@ -59,7 +59,7 @@ pub record Refuses (left left_new taken taken_new : Option (List ℕ)) : Type 0 
 pub record PartRun (bytes : List ℕ) (taken taken_new : Option (List ℕ)) : Type 0 where
   pub plan : Plan
   pub is : IsScenario bytes plan
-  pub writes : WritesPart plan taken taken_new
+  pub writes : WritesFront taken taken_new (transcript plan)
 
 -- the first part of the line of a refusal was written
 pub record PartRefused (bytes : List ℕ) (taken taken_new : Option (List ℕ)) : Type 0 where

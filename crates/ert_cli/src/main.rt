@@ -6,12 +6,18 @@
 //! which reads, `ert_script`, which runs the ops on a world, `ert_io`, and `ert_table`, whose desk it returns.
 #![tactic(auto)]
 
+#[cfg(test)]
+mod clock_rows;
 mod ending;
 mod program;
 mod refusal;
+#[cfg(test)]
+mod refused_rows;
 mod running;
 #[cfg(test)]
 mod tests;
+#[cfg(test)]
+mod timer_rows;
 
 pub use ending::{EndStatus, Ended};
 use ert_io::{StdSink, StdSource};

@@ -11,8 +11,8 @@ use crate::ending::{EndStatus, Ended};
 use crate::refusal::write_refusal;
 use crate::running::run;
 use ert_io::{ReadErr, Sink, Source, read_all, write_all};
+use ert_lines::write_page;
 use ert_scenario::{ScenarioErr, one_verdict, read_scenario, scenarios_are_valid};
-use ert_script::write_page;
 use std::alloc::Global;
 
 // The most bytes of an input.
@@ -33,8 +33,9 @@ pub fn ertime<R: AllocGlobal, I: Source, O: Sink>(
 ) -> Ended
     requires { O.room output.old ≡ None }
 
-    // The input was read to its end, it is a scenario, and it was run on the desk: what was written is its
-    // transcript, and the history of the pass is that of the same script run.
+    // The input was read to its end, it is a scenario, and it was run on the desk: what was written is the
+    // transcript of the scenario, a function of its settings and ops, and the history of the pass is that of a
+    // script run with this text.
     ensures done { result.status ≡ EndStatus.Done
         → (is_run words.now ≡ true) × IsSomeAnd result.desk (λ r. Did (I.left input.old) (I.left input.new) (O.taken output.old) (O.taken output.new) r) }
     ensures no_desk { result.status ≢ EndStatus.Done → result.desk ≡ None }

@@ -1,21 +1,24 @@
 ghost use Rattle.std.specs.Prelude.{◌≡◌, ◌≤◌, None, IfOk, OnOk, OnErr, IsErrOf};
 ghost use Rattle.ert_io.specs.Faults.{Rose};
 ghost use Rattle.ert_defs.specs.Settings.{IsChecked};
-ghost use Rattle.ert_scenario.specs.Ranges.{IsInRange};
+ghost use Rattle.ert_ops.specs.Labels.{AreOps};
+ghost use Rattle.ert_ops.specs.Ranges.{IsInRange};
 ghost use Rattle.ert_scenario.specs.Scenarios.{plan_of};
 ghost use Rattle.ert_io.specs.Known.{then};
 ghost use Rattle.ert_transcript.specs.Texts.{end_line};
 ghost use Rattle.ert_io.specs.Writing.{WritesFront};
-ghost use Rattle.ert_cli.specs.Runs.{RunsOn, WritesPart};
+ghost use Rattle.ert_cli.specs.Runs.{RunsOn, transcript};
 
 use ert_io::Sink;
+use ert_lines::{RunErr, write_end, write_page};
 use ert_scenario::Scenario;
 use ert_sched::World;
-use ert_script::{RunErr, run_ops, write_end, write_page};
+use ert_script::run_ops;
 use ert_table::{Desk, Pass};
 use std::alloc::Global;
 
-/// Runs the ops of a scenario on a new world, writes its transcript, and gives the world's desk.
+/// Runs the ops of a scenario on a new world, writes its transcript, and gives the world's desk. Where the
+/// output fails, or memory, the first part of the transcript was written.
 pub fn run<O: Sink>(
     alloc: Global,
     scenario: &Scenario,
@@ -24,8 +27,9 @@ pub fn run<O: Sink>(
     requires room { O.room output.old ≡ None }
     requires checked { IsChecked scenario.now.settings }
     requires ranges { IsInRange scenario.now.settings scenario.now.ops.items }
+    requires labels { AreOps scenario.now.ops.items }
     ensures ok { IfOk result (λ r. RunsOn (plan_of scenario.now) (O.taken output.old) (O.taken output.new) r) }
-    ensures err { OnErr result (WritesPart (plan_of scenario.now) (O.taken output.old) (O.taken output.new)) }
+    ensures err { OnErr result (WritesFront (O.taken output.old) (O.taken output.new) (transcript (plan_of scenario.now))) }
     ensures later { O.faults output.old ≤ O.faults output.new }
     ensures cause { IsErrOf result RunErr.WriteFault → Rose (O.faults output.old) (O.faults output.new) }
 {

@@ -1,101 +1,119 @@
 -- A run as far as it has come.
 
-use Rattle.std.proofs.Common.{◌≡◌, ℕ, ◌+◌, ◌<◌, List, [], ◌∷◌, ◌++◌, take, length, get_or, Option, Some, None, zero, suc, arith, refl, sym, subst, ap, ◌∙◌, append_assoc, append-nil}
+use Rattle.std.proofs.Common.{◌≡◌, ℕ, ◌+◌, ◌<◌, List, [], ◌∷◌, ◌++◌, take, drop, length, get_or, Option, Some, None, zero, suc, arith, refl, sym, subst, ap, ◌∙◌, append_assoc, append-nil}
 use Rattle.std.specs.Prelude.{Result, Ok, Err, OnOk, OnErr, ◌≤◌}
 use Rattle.std.proofs.lemmas.List.{take_more, take_all}
+use Rattle.ert_answers.specs.Ways.{alone}
 use Rattle.ert_io.specs.Known.{then}
-use Rattle.ert_defs.specs.Legal.{LegalFrom}
-use Rattle.ert_defs.specs.States.{State, opening, run, state}
-use Rattle.ert_defs.proofs.Runs.{run-append, state-append, legal_then}
+use Rattle.ert_io.specs.Writing.{WritesFront}
 use Rattle.ert_defs.specs.declared.entry.Entry.{Entry}
 use Rattle.ert_defs.specs.declared.settings.Settings.{Settings}
-use Rattle.ert_sched.proofs.Calls.{unchanged}
-use Rattle.ert_sched.specs.Worlds.{Service, StandsFor, GoesOn}
-use Rattle.ert_scenario.specs.Ranges.{IsOpInRange, IsInRange}
-use Rattle.ert_scenario.specs.declared.op.Op.{Op}
-use Rattle.ert_script.specs.declared.reply.Reply.{Reply}
-use Rattle.ert_script.specs.Lines.{line_of, lines_of}
-use Rattle.ert_script.specs.Scripts.{Allows, ScriptRun, Does, RunsFor, Runs}
-use Rattle.ert_io.specs.Writing.{WritesFront}
-use Rattle.ert_script.specs.Written.{Moves, WritesRun, WritesSome}
-
--- the lines of replies and one more
-pub lines-snoc : (rs : List Reply) (r : Reply) → lines_of (rs ++ r ∷ []) ≡ lines_of rs ++ line_of r
-lines-snoc [] r = append-nil (line_of r)
-lines-snoc (x ∷ rs) r = ap (λ (t : List ℕ). line_of x ++ t) (lines-snoc rs r) ∙ sym (append_assoc (line_of x) (lines_of rs) (line_of r))
+use Rattle.ert_lines.specs.Written.{Moves}
+use Rattle.ert_ops.specs.Ranges.{IsOpInRange, IsInRange}
+use Rattle.ert_ops.specs.declared.op.Op.{Op}
+use Rattle.ert_sched.specs.Worlds.{Service, StandsFor}
+use Rattle.ert_script.proofs.Labels.{MayGoOn, others_may_at}
+use Rattle.ert_script.specs.Scripts.{Does, Runs}
+use Rattle.ert_script.specs.Written.{WritesRun, WritesSome}
+use Rattle.ert_transcript.specs.Calls.{Calls}
+use Rattle.ert_transcript.specs.Labels.{Labels, label_of}
+use Rattle.ert_transcript.specs.Lines.{line_of}
+use Rattle.ert_transcript.specs.Scripts.{Script, labels_after, lines_of}
+use Rattle.ert_transcript.specs.declared.reply.Reply.{Reply}
 
 -- known bytes, and then two texts
 pub then_then : (known : Option (List ℕ)) (a b : List ℕ) → then (then known a) b ≡ then known (a ++ b)
 then_then None a b = refl
 then_then (Some xs) a b = ap (λ (t : List ℕ). Some t) (append_assoc xs a b)
 
--- a script run and one more op
-pub run_more : (g : Settings) (s : State) (ops : List Op) (es : List Entry) (rs : List Reply) (op : Op) (r : Reply) (piece : List Entry)
-    → ScriptRun g s ops es rs → Allows g op r (run g s es) piece → LegalFrom g (run g s es) piece
-    → ScriptRun g s (ops ++ op ∷ []) (es ++ piece) (rs ++ r ∷ [])
-run_more g s [] es rs op r piece ran allowed legal = (
-  piece,
-  [],
-  r,
-  [],
-  ap (λ (x : List Entry). x ++ piece) ran.0 ∙ sym (append-nil piece),
-  ap (λ (x : List Reply). x ++ r ∷ []) ran.1,
-  subst (λ (x : List Entry). Allows g op r (run g s x) piece) ran.0 allowed,
-  subst (λ (x : List Entry). LegalFrom g (run g s x) piece) ran.0 legal,
-  (refl, refl),
-)
-run_more g s (o ∷ ops) es rs op r piece ran allowed legal =
-    let first : List Entry = ran.0 in
-    let later : List Entry = ran.1 in
-    let is : es ≡ first ++ later = ran.4 in
-    let on : run g s es ≡ run g (run g s first) later = ap (λ (x : List Entry). run g s x) is ∙ run-append g s first later in (
-      first,
-      later ++ piece,
-      ran.2,
-      ran.3 ++ r ∷ [],
-      ap (λ (x : List Entry). x ++ piece) is ∙ append_assoc first later piece,
-      ap (λ (x : List Reply). x ++ r ∷ []) ran.5,
-      ran.6,
-      ran.7,
-      run_more g (run g s first) ops later ran.3 op r piece ran.8
-          (subst (λ (x : State). Allows g op r x piece) on allowed) (subst (λ (x : State). LegalFrom g x piece) on legal),
-    )
-
--- the world did a list of ops, and then one more
-pub runs_more : (old now new : Service) (ops : List Op) (rs : List Reply) (op : Op) (r : Reply)
-    → Runs old ops rs now → Does now op r new → Runs old (ops ++ op ∷ []) (rs ++ r ∷ []) new
-runs_more old now new ops rs op r runs does = λ g h st.
-    let far : RunsFor g h ops rs now = runs g h st in
-    let d : GoesOn g (h ++ far.entries) (Allows g op r) new = does g (h ++ far.entries) far.stands in
-    let at : state g (h ++ far.entries) ≡ run g (state g h) far.entries = state-append g h far.entries in
-    let legal : LegalFrom g (state g (h ++ far.entries)) d.piece = legal_then g (opening g) (h ++ far.entries) d.piece d.stands.clock.legal in
-    record {
-      entries = far.entries ++ d.piece;
-      runs = run_more g (state g h) ops far.entries rs op r d.piece far.runs
-          (subst (λ (x : State). Allows g op r x d.piece) at d.allowed) (subst (λ (x : State). LegalFrom g x d.piece) at legal);
-      stands = subst (λ (x : List Entry). StandsFor g x new) (append_assoc h far.entries d.piece) d.stands;
-    }
-
--- no op was done
-pub runs_none : (w : Service) → Runs w [] [] w
-runs_none w = λ g h st. record { entries = []; runs = (refl, refl); stands = unchanged g h w st }
-
--- a run so far: the ops done, and their lines: what was written of them and what waits to be
-pub record IsSoFar (start : Service) (ops : List Op) (w : Service) (old now : Option (List ℕ)) (page : List ℕ) : Type 0 where
-  pub replies : List Reply
-  pub front : List ℕ
-  pub runs : Runs start ops replies w
-  pub taken : now ≡ then old front
-  pub whole : front ++ page ≡ lines_of replies
-
 -- known bytes, and then nothing
 pub then-nil : (known : Option (List ℕ)) → known ≡ then known []
 then-nil None = refl
 then-nil (Some xs) = ap (λ (t : List ℕ). Some t) (sym (append-nil xs))
 
+-- a script run and one more op
+script_more : (g : Settings) (ls : Labels) (list : List Op) (rs : List Reply) (after : Labels) (h m piece : List Entry) (op : Op) (r : Reply)
+    → Script g (alone g) 0 ls list rs after h m → Calls g (alone g) 0 after op r (h ++ m) piece
+    → Script g (alone g) 0 ls (list ++ op ∷ []) (rs ++ r ∷ []) (labels_after after op r) h (m ++ piece)
+script_more g ls [] rs after h m piece op r ran called =
+    let whole : h ++ m ≡ h = ap (λ (x : List Entry). h ++ x) ran.2 ∙ append-nil h in (
+      piece,
+      [],
+      r,
+      [],
+      ap (λ (x : List Entry). x ++ piece) ran.2 ∙ sym (append-nil piece),
+      ap (λ (x : List Reply). x ++ r ∷ []) ran.0,
+      subst (λ (x : Labels). Calls g (alone g) 0 x op r h piece) ran.1
+          (subst (λ (x : List Entry). Calls g (alone g) 0 after op r x piece) whole called),
+      (refl, ap (λ (x : Labels). labels_after x op r) ran.1, refl),
+    )
+script_more g ls (o ∷ list) rs after h m piece op r ran called =
+    let first : List Entry = ran.0 in
+    let later : List Entry = ran.1 in
+    let whole : h ++ m ≡ (h ++ first) ++ later = ap (λ (x : List Entry). h ++ x) ran.4 ∙ sym (append_assoc h first later) in (
+      first,
+      later ++ piece,
+      ran.2,
+      ran.3 ++ r ∷ [],
+      ap (λ (x : List Entry). x ++ piece) ran.4 ∙ append_assoc first later piece,
+      ap (λ (x : List Reply). x ++ r ∷ []) ran.5,
+      ran.6,
+      script_more g (labels_after ls o ran.2) list ran.3 after (h ++ first) later piece op r ran.7
+          (subst (λ (x : List Entry). Calls g (alone g) 0 after op r x piece) whole called),
+    )
+
+-- its lines, and one more
+lines_more : (g : Settings) (ls : Labels) (list : List Op) (rs : List Reply) (after : Labels) (h m : List Entry) (op : Op) (r : Reply)
+    → Script g (alone g) 0 ls list rs after h m
+    → lines_of ls (list ++ op ∷ []) (rs ++ r ∷ []) ≡ lines_of ls list rs ++ line_of (label_of (labels_after after op r)) r
+lines_more g ls [] rs after h m op r ran =
+    ap (λ (x : List Reply). lines_of ls (op ∷ []) (x ++ r ∷ [])) ran.0 ∙ append-nil (line_of (label_of (labels_after ls op r)) r)
+    ∙ ap (λ (x : Labels). line_of (label_of (labels_after x op r)) r) (sym ran.1)
+lines_more g ls (o ∷ list) rs after h m op r ran =
+    let first : List ℕ = line_of (label_of (labels_after ls o ran.2)) ran.2 in
+    ap (λ (x : List Reply). lines_of ls (o ∷ list ++ op ∷ []) (x ++ r ∷ [])) ran.5
+    ∙ ap (λ (t : List ℕ). first ++ t) (lines_more g (labels_after ls o ran.2) list ran.3 after (h ++ ran.0) ran.1 op r ran.7)
+    ∙ sym (append_assoc first (lines_of (labels_after ls o ran.2) list ran.3) (line_of (label_of (labels_after after op r)) r))
+    ∙ ap (λ (x : List Reply). lines_of ls (o ∷ list) x ++ line_of (label_of (labels_after after op r)) r) (sym ran.5)
+
+-- before the first op a world has done nothing
+runs_none : (w : Service) → Runs w [] [] w
+runs_none w = record { grows = record { piece = []; grown = sym (append-nil w.history); made = (refl, refl, refl) }; settings = refl; tidy = λ i below tidy. tidy }
+
+-- a run and one more op
+runs_more : (start v w : Service) (list : List Op) (rs : List Reply) (op : Op) (r : Reply) → Runs start list rs v → Does v op r w
+    → Runs start (list ++ op ∷ []) (rs ++ r ∷ []) w
+runs_more start v w list rs op r ran done =
+    let one : List Entry = ran.grows.piece in
+    let more : List Entry = done.grows.piece in
+    let called : Calls start.settings (alone start.settings) 0 v.labels op r (start.history ++ one) more =
+    subst (λ (x : Settings). Calls x (alone x) 0 v.labels op r (start.history ++ one) more) ran.settings
+    (subst (λ (x : List Entry). Calls v.settings (alone v.settings) 0 v.labels op r x more) ran.grows.grown done.grows.made) in
+    record {
+      grows = record {
+        piece = one ++ more;
+        grown = done.grows.grown ∙ ap (λ (x : List Entry). x ++ more) ran.grows.grown ∙ append_assoc start.history one more;
+        made = subst (λ (x : Labels). Script start.settings (alone start.settings) 0 start.labels (list ++ op ∷ []) (rs ++ r ∷ []) x start.history (one ++ more))
+            (sym done.labels)
+            (script_more start.settings start.labels list rs v.labels start.history one more op r ran.grows.made called);
+      };
+      settings = done.settings ∙ ran.settings;
+      tidy = λ i below tidy. done.tidy i (subst (λ (x : Settings). i < x.schedulers) (sym ran.settings) below) (ran.tidy i below tidy);
+    }
+
+-- the ops of a list were done, and came to a world; a first part of their lines was written, and this page
+-- waits
+pub record IsSoFar (start : Service) (list : List Op) (v : Service) (old now : Option (List ℕ)) (page : List ℕ) : Type 0 where
+  pub replies : List Reply
+  pub front : List ℕ
+  pub runs : Runs start list replies v
+  pub stands : StandsFor v.settings v.history v
+  pub taken : now ≡ then old front
+  pub whole : front ++ page ≡ lines_of start.labels list replies
+
 -- before the first op nothing was done and nothing written
-pub so_far_first : (w : Service) (old : Option (List ℕ)) → IsSoFar w [] w old old []
-so_far_first w old = record { replies = []; front = []; runs = runs_none w; taken = then-nil old; whole = refl }
+pub so_far_first : (w : Service) (old : Option (List ℕ)) → StandsFor w.settings w.history w → IsSoFar w [] w old old []
+so_far_first w old stands = record { replies = []; front = []; runs = runs_none w; stands = stands; taken = then-nil old; whole = refl }
 
 -- what is written of what waits, at the end of what was written
 joined : (old now new : Option (List ℕ)) (front part : List ℕ) → now ≡ then old front → new ≡ then now part → new ≡ then old (front ++ part)
@@ -106,92 +124,112 @@ lined : (front page line part rest lines : List ℕ) → front ++ page ≡ lines
 lined front page line part rest lines e f =
     append_assoc front part rest ∙ ap (λ (t : List ℕ). front ++ t) f ∙ sym (append_assoc front page line) ∙ ap (λ (t : List ℕ). t ++ line) e
 
+-- the line that was put is that of the op, by the labels after it
+line_put : (start v w : Service) (list : List Op) (rs : List Reply) (op : Op) (r : Reply) → Runs start list rs v → Does v op r w
+    → lines_of start.labels list rs ++ line_of (label_of w.labels) r ≡ lines_of start.labels (list ++ op ∷ []) (rs ++ r ∷ [])
+line_put start v w list rs op r ran done =
+    ap (λ (x : Labels). lines_of start.labels list rs ++ line_of (label_of x) r) done.labels
+    ∙ sym (lines_more start.settings start.labels list rs v.labels start.history ran.grows.piece op r ran.grows.made)
+
 -- one more op was done and its line put
-goes_on : (start v v' : Service) (ops : List Op) (old now new : Option (List ℕ)) (page page' : List ℕ) (op : Op) (r : Reply)
-    → IsSoFar start ops v old now page → Does v op r v' → Moves now new (page ++ line_of r) page' → IsSoFar start (ops ++ op ∷ []) v' old new page'
-goes_on start v v' ops old now new page page' op r far does moves = record {
+goes_on : (start v w : Service) (list : List Op) (old now new : Option (List ℕ)) (page rest : List ℕ) (op : Op) (r : Reply)
+    → IsSoFar start list v old now page → Does v op r w → StandsFor w.settings w.history w → Moves now new (page ++ line_of (label_of w.labels) r) rest
+    → IsSoFar start (list ++ op ∷ []) w old new rest
+goes_on start v w list old now new page rest op r far done stands moves = record {
   replies = far.replies ++ r ∷ [];
   front = far.front ++ moves.part;
-  runs = runs_more start v v' ops far.replies op r far.runs does;
+  runs = runs_more start v w list far.replies op r far.runs done;
+  stands = stands;
   taken = joined old now new far.front moves.part far.taken moves.taken;
-  whole = lined far.front page (line_of r) moves.part page' (lines_of far.replies) far.whole moves.whole ∙ sym (lines-snoc far.replies r);
+  whole = lined far.front page (line_of (label_of w.labels) r) moves.part rest (lines_of start.labels list far.replies) far.whole moves.whole
+      ∙ line_put start v w list far.replies op r far.runs done;
 }
 
 -- the op at an index, of the list that the loop goes over
-at_index : (ops : List Op) (i : ℕ) (d : Op) → i < length ops → take (i + 1) ops ≡ take i ops ++ get_or ops i d ∷ []
-at_index ops i d below = take_more ops i d below
+at_index : (list : List Op) (i : ℕ) (d : Op) → i < length list → take (i + 1) list ≡ take i list ++ get_or list i d ∷ []
+at_index list i d below = take_more list i d below
 
 -- an op of a list whose ops are in range is in range
-op_in_range : (g : Settings) (ops : List Op) (i : ℕ) (d : Op) → IsInRange g ops → i < length ops → IsOpInRange g (get_or ops i d)
+op_in_range : (g : Settings) (list : List Op) (i : ℕ) (d : Op) → IsInRange g list → i < length list → IsOpInRange g (get_or list i d)
 op_in_range g [] i d all below = absurd (omega arith)
-op_in_range g (op ∷ ops) zero d all below = all.0
-op_in_range g (op ∷ ops) (suc i) d all below = op_in_range g ops i d all.1 (omega arith)
+op_in_range g (op ∷ list) zero d all below = all.0
+op_in_range g (op ∷ list) (suc i) d all below = op_in_range g list i d all.1 (omega arith)
 
-pub op_may : (g : Settings) (v : Service) (ops : List Op) (i : ℕ) (d : Op) → i < length ops → v.settings ≡ g → IsInRange g ops
-    → IsOpInRange v.settings (get_or ops i d)
-op_may g v ops i d below same all =
-    subst (λ (x : Settings). IsOpInRange x (get_or ops i d)) (sym same) (op_in_range g ops i d all below)
+pub op_may : (g : Settings) (v : Service) (list : List Op) (i : ℕ) (d : Op) → i < length list → v.settings ≡ g → IsInRange g list
+    → IsOpInRange v.settings (get_or list i d)
+op_may g v list i d below same all =
+    subst (λ (x : Settings). IsOpInRange x (get_or list i d)) (sym same) (op_in_range g list i d all below)
 
-pub goes_on_at : (start v v' : Service) (ops : List Op) (i : ℕ) (d : Op) (old now new : Option (List ℕ)) (page page' : List ℕ) (r : Reply)
-    → i < length ops → IsSoFar start (take i ops) v old now page
-    → Does v (get_or ops i d) r v' → Moves now new (page ++ line_of r) page' → IsSoFar start (take (i + 1) ops) v' old new page'
-goes_on_at start v v' ops i d old now new page page' r below far does moves =
-    subst (λ (os : List Op). IsSoFar start os v' old new page') (sym (at_index ops i d below))
-    (goes_on start v v' (take i ops) old now new page page' (get_or ops i d) r far does moves)
+pub goes_on_at : (start v w : Service) (list : List Op) (i : ℕ) (d : Op) (old now new : Option (List ℕ)) (page rest : List ℕ) (r : Reply)
+    → i < length list → IsSoFar start (take i list) v old now page
+    → Does v (get_or list i d) r w → StandsFor w.settings w.history w → Moves now new (page ++ line_of (label_of w.labels) r) rest
+    → IsSoFar start (take (i + 1) list) w old new rest
+goes_on_at start v w list i d old now new page rest r below far done stands moves =
+    subst (λ (os : List Op). IsSoFar start os w old new rest) (sym (at_index list i d below))
+    (goes_on start v w (take i list) old now new page rest (get_or list i d) r far done stands moves)
+
+-- the labels that the rest may bind, after one more op
+pub may_at : (v w : Service) (list : List Op) (i : ℕ) (d : Op) (r : Reply) → i < length list → MayGoOn (drop i list) v.labels
+    → Does v (get_or list i d) r w → MayGoOn (drop (i + 1) list) w.labels
+may_at v w list i d r below may done =
+    subst (λ (ls : Labels). MayGoOn (drop (i + 1) list) ls) (sym done.labels) (others_may_at list i d v.labels r below may)
 
 -- the output stopped while the line of one more op was put
-pub breaks_at : (start v v' : Service) (ops : List Op) (i : ℕ) (d : Op) (old now new : Option (List ℕ)) (page : List ℕ) (r : Reply)
-    → i < length ops → IsSoFar start (take i ops) v old now page
-    → Does v (get_or ops i d) r v' → WritesFront now new (page ++ line_of r) → WritesSome start ops old new
-breaks_at start v v' ops i d old now new page r below far does w = record {
-  done = i + 1;
-  replies = far.replies ++ r ∷ [];
-  reached = v';
-  runs = subst (λ (os : List Op). Runs start os (far.replies ++ r ∷ []) v') (sym (at_index ops i d below))
-      (runs_more start v v' (take i ops) far.replies (get_or ops i d) r far.runs does);
-  writes = record {
-    front = far.front ++ w.front;
-    others = w.others;
-    taken = joined old now new far.front w.front far.taken w.taken;
-    whole = lined far.front page (line_of r) w.front w.others (lines_of far.replies) far.whole w.whole ∙ sym (lines-snoc far.replies r);
-  };
-}
+pub breaks_at : (start v w : Service) (list : List Op) (i : ℕ) (d : Op) (old now new : Option (List ℕ)) (page : List ℕ) (r : Reply)
+    → i < length list → IsSoFar start (take i list) v old now page
+    → Does v (get_or list i d) r w → StandsFor w.settings w.history w → WritesFront now new (page ++ line_of (label_of w.labels) r)
+    → WritesSome start list old new
+breaks_at start v w list i d old now new page r below far done stands written =
+    let all : IsSoFar start (take (i + 1) list) w old new written.others =
+    goes_on_at start v w list i d old now new page written.others r below far done stands
+    (record { part = written.front; taken = written.taken; whole = written.whole }) in
+    record {
+      done = i + 1;
+      replies = all.replies;
+      reached = w;
+      runs = all.runs;
+      stands = stands;
+      writes = record { front = all.front; others = written.others; taken = all.taken; whole = all.whole };
+    }
 
 -- the run stopped before one more op
-pub stops_at : (start v : Service) (ops : List Op) (i : ℕ) (old now : Option (List ℕ)) (page : List ℕ)
-    → IsSoFar start (take i ops) v old now page → WritesSome start ops old now
-stops_at start v ops i old now page far = record {
+pub stops_at : (start v : Service) (list : List Op) (i : ℕ) (old now : Option (List ℕ)) (page : List ℕ)
+    → IsSoFar start (take i list) v old now page → WritesSome start list old now
+stops_at start v list i old now page far = record {
   done = i;
   replies = far.replies;
   reached = v;
   runs = far.runs;
+  stands = far.stands;
   writes = record { front = far.front; others = page; taken = far.taken; whole = far.whole };
 }
 
 -- the run of all ops, where the index has come to the end
-far_last : (start v : Service) (ops : List Op) (i : ℕ) (old now : Option (List ℕ)) (page : List ℕ)
-    → length ops ≤ i → IsSoFar start (take i ops) v old now page → IsSoFar start ops v old now page
-far_last start v ops i old now page over far = subst (λ (os : List Op). IsSoFar start os v old now page) (take_all i ops over) far
+far_last : (start v : Service) (list : List Op) (i : ℕ) (old now : Option (List ℕ)) (page : List ℕ)
+    → length list ≤ i → IsSoFar start (take i list) v old now page → IsSoFar start list v old now page
+far_last start v list i old now page over far = subst (λ (os : List Op). IsSoFar start os v old now page) (take_all i list over) far
 
 -- all ops were done, and the page was written
-pub ends : (start v : Service) (ops : List Op) (i : ℕ) (old now new : Option (List ℕ)) (page : List ℕ)
-    → length ops ≤ i → IsSoFar start (take i ops) v old now page → new ≡ then now page → WritesRun start ops v old new
-ends start v ops i old now new page over far taken =
-    let all : IsSoFar start ops v old now page = far_last start v ops i old now page over far in
+pub ends : (start v : Service) (list : List Op) (i : ℕ) (old now new : Option (List ℕ)) (page : List ℕ)
+    → length list ≤ i → IsSoFar start (take i list) v old now page → new ≡ then now page → WritesRun start list v old new
+ends start v list i old now new page over far taken =
+    let all : IsSoFar start list v old now page = far_last start v list i old now page over far in
     record {
       replies = all.replies;
       runs = all.runs;
+      stands = all.stands;
       writes = joined old now new all.front page all.taken taken ∙ ap (λ (t : List ℕ). then old t) all.whole;
     }
 
 -- the output stopped at the last page
-pub breaks_last : (start v : Service) (ops : List Op) (i : ℕ) (old now new : Option (List ℕ)) (page : List ℕ)
-    → IsSoFar start (take i ops) v old now page → WritesFront now new page → WritesSome start ops old new
-breaks_last start v ops i old now new page far w = record {
+pub breaks_last : (start v : Service) (list : List Op) (i : ℕ) (old now new : Option (List ℕ)) (page : List ℕ)
+    → IsSoFar start (take i list) v old now page → WritesFront now new page → WritesSome start list old new
+breaks_last start v list i old now new page far w = record {
   done = i;
   replies = far.replies;
   reached = v;
   runs = far.runs;
+  stands = far.stands;
   writes = record {
     front = far.front ++ w.front;
     others = w.others;

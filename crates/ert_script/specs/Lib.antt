@@ -1,4 +1,2 @@
-pub mod Lines
 pub mod Scripts
-pub mod Transcripts
 pub mod Written

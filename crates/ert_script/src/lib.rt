@@ -1,19 +1,18 @@
 //! Runs a list of ops on a world, and writes the text of their replies.
 //!
-//! It stands on `ert_sched`, whose calls it makes, on `ert_scenario` for the ops and on `ert_io` for the
-//! output. `reply_op` does one op; `run_ops` does a list of them and writes one line for each, in large
-//! pieces. What they did is a script run: a piece of history for each op, all of them legal together.
+//! It stands on `ert_sched`, whose calls it makes, on `ert_transcript`, whose definitions say which history
+//! an op allows with its reply, and on `ert_lines` for the text. `reply_op` does one op, and binds the label
+//! of a start once its timer was started. `run_ops` does a list of them and writes one line for each, in
+//! large pieces. What they did is a script run: a piece of history for each op, with its reply.
 #![tactic(auto)]
 
-mod laws;
-mod line;
-mod output;
+mod binding;
+mod clock_ops;
+mod mail_ops;
 mod reply;
 mod run;
-mod words;
+mod sched_ops;
+mod timer_ops;
 
-pub use laws::one_transcript;
-pub use line::write_end;
-pub use output::{RunErr, write_page};
-pub use reply::{Reply, reply_op};
+pub use reply::reply_op;
 pub use run::run_ops;

@@ -1,16 +1,19 @@
-ghost use Rattle.std.specs.Prelude.{◌≡◌, ◌≤◌, None, OnOk, OnErr, IsErrOf};
+ghost use Rattle.std.specs.Prelude.{◌≡◌, ◌≤◌, [], None, OnOk, OnErr, IsErrOf};
 ghost use Rattle.ert_io.specs.Faults.{Rose};
-ghost use Rattle.ert_scenario.specs.Ranges.{IsInRange};
+ghost use Rattle.ert_ops.specs.Labels.{AreOps};
+ghost use Rattle.ert_ops.specs.Ranges.{IsInRange};
+ghost use Rattle.ert_sched.specs.Worlds.{StandsFor};
 ghost use Rattle.ert_script.specs.Written.{WritesRun, WritesSome};
 
-use crate::output::{RunErr, put, write_page};
 use crate::reply::reply_op;
 use ert_io::Sink;
-use ert_scenario::Op;
+use ert_lines::{Names, RunErr, put, write_page};
+use ert_ops::Op;
 use ert_sched::World;
 use std::alloc::Global;
 
-/// Does the ops one after the other, as caller 0, and writes one line for each. The sink tells no room.
+/// Does the ops one after the other on a world without labels, and writes one line for each. The sink tells
+/// no room.
 pub fn run_ops<K: Sink>(
     alloc: Global,
     world: &mut World,
@@ -19,21 +22,33 @@ pub fn run_ops<K: Sink>(
 ) -> Result<(), RunErr>
     requires room { K.room sink.old ≡ None }
     requires ranges { IsInRange world.old.settings ops.now }
+    requires labels { AreOps ops.now }
+    requires new { world.old.labels ≡ [] }
     ensures ok { OnOk result (WritesRun world.old ops.now world.new (K.taken sink.old) (K.taken sink.new)) }
 
     // After a failed write, or without memory, the lines of some first ops may be there, in part.
     ensures err { OnErr result (WritesSome world.old ops.now (K.taken sink.old) (K.taken sink.new)) }
-    ensures settings { world.new.settings ≡ world.old.settings }
     ensures room { K.room sink.new ≡ None }
     ensures later { K.faults sink.old ≤ K.faults sink.new }
     ensures cause { IsErrOf result RunErr.WriteFault → Rose (K.faults sink.old) (K.faults sink.new) }
 {
+    history_stands(world);
+    let mut names = Names::new(alloc);
     let mut page = String::new(alloc);
     for op in ops {
-        let Ok(reply) = reply_op(world, op) else {
+        let Ok(reply) = reply_op(world, &mut names, op) else {
             return Err(RunErr::NoMemory);
         };
-        put(sink, &mut page, &reply)?;
+        history_stands(world);
+        put(sink, &mut page, &reply, &names)?;
     }
     write_page(sink, &mut page)
+}
+
+// The history of every world is legal, and its clock stands for it. The call brings this into reach, and
+// costs nothing.
+fn history_stands(world: &World)
+    ensures { StandsFor world.now.settings world.now.history world.now }
+{
+    let _ = world.settings();
 }

@@ -1,7 +1,7 @@
 use Rattle.std.proofs.Common.{rules, List, subst, FitsSigned, w64, to_z-of_z}
 use Rattle.std.proofs.lemmas.Result.{err_from_is_err_and}
 use Rattle.ert_scenario.specs.Scenarios.{plan_of}
-use Rattle.ert_scenario.specs.declared.op.Op.{Op}
+use Rattle.ert_ops.specs.declared.op.Op.{Op}
 use Rattle.ert_script.specs.Written.{WritesRun, WritesSome}
 use Rattle.ert_cli.proofs.Transcripts.{ends, breaks_last, breaks}
 use Rattle.ert_cli.proofs.running.run.Goals as goal
@@ -10,7 +10,7 @@ pub returns-in_err-run_ops-clause-err : goal.returns-in_err-run_ops-clause-err
 returns-in_err-run_ops-clause-err g c =
     let p = err_from_is_err_and c.from_residual.result c.from_residual.ensures.1 in
     rw p.1
-    (breaks (plan_of c.args.scenario.now) c.in-Ok.world _ _ c.in-Ok.ensures
+    (breaks (plan_of c.args.scenario.now) c.in-Ok.world _ _ c.requires.labels c.in-Ok.ensures
     (subst (λ (ops : List Op). WritesSome c.in-Ok.world ops (g.O.Sink.taken c.args.output.now) (g.O.Sink.taken c.run_ops.new.sink))
     c.deref.ensures.value c.in_err-run_ops.ensures.err))
 
@@ -22,7 +22,7 @@ returns-in_err-finish-clause-err g c =
     c.deref.ensures.value c.in_ok-run_ops.ensures.ok in
     let p = err_from_is_err_and c.from_residual-in_err-finish.result c.from_residual-in_err-finish.ensures.1 in
     rw p.1
-    (breaks_last (plan_of c.args.scenario.now) c.in-Ok.world c.run_ops.new.world _ _ _ c.in-Ok.ensures ran (rw c.published.ensures at told))
+    (breaks_last (plan_of c.args.scenario.now) c.in-Ok.world c.run_ops.new.world _ _ _ c.requires.labels c.in-Ok.ensures ran (rw c.published.ensures at told))
 
 pub returns-clause-ok : goal.returns-clause-ok
 returns-clause-ok g c =
@@ -30,5 +30,5 @@ returns-clause-ok g c =
     let told = simp to_z-of_z at c.in_ok-finish.ensures.ok in
     let ran = subst (λ (ops : List Op). WritesRun c.in-Ok.world ops c.run_ops.new.world (g.O.Sink.taken c.args.output.now) (g.O.Sink.taken c.run_ops.new.sink))
     c.deref.ensures.value c.in_ok-run_ops.ensures.ok in
-    ends (plan_of c.args.scenario.now) c.in-Ok.world c.run_ops.new.world _ _ _ _ c.in-Ok.ensures ran (rw c.published.ensures at told)
+    ends (plan_of c.args.scenario.now) c.in-Ok.world c.run_ops.new.world _ _ _ _ c.requires.labels c.in-Ok.ensures ran (rw c.published.ensures at told)
     c.into_desk.ensures.settings c.into_desk.ensures.history

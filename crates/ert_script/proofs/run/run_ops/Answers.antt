@@ -1,24 +1,32 @@
-use Rattle.std.proofs.Common.{arith, refl, sym, subst, ◌∙◌}
+use Rattle.std.proofs.Common.{arith, sym, subst}
 use Rattle.std.proofs.lemmas.Result.{err_from_is_err_and}
-use Rattle.ert_scenario.specs.Ranges.{IsOpInRange}
-use Rattle.ert_scenario.specs.declared.op.Op.{Op}
-use Rattle.ert_script.specs.Scripts.{Does}
-use Rattle.ert_script.proofs.Runs.{so_far_first, op_may, goes_on_at, breaks_at, ends, breaks_last, ok_map, err_map}
+use Rattle.ert_lines.specs.Names.{IsIndexOf}
+use Rattle.ert_ops.specs.Ranges.{IsOpInRange}
+use Rattle.ert_ops.specs.declared.op.Op.{Op}
+use Rattle.ert_script.specs.Scripts.{Does, MayBind}
+use Rattle.ert_script.proofs.Labels.{MayGoOn, all_may, may_bind_at}
+use Rattle.ert_script.proofs.Runs.{so_far_first, op_may, goes_on_at, may_at, breaks_at, ends, breaks_last, ok_map, err_map}
+use Rattle.ert_transcript.specs.Labels.{Labels}
 use Rattle.ert_script.proofs.run.run_ops.Goals as goal
 
 pub loop-op-init : goal.loop-op-init
 loop-op-init g c = record {
-  so_far = rw c.new-page.ensures.bytes (so_far_first c.args.world.now (g.K.Sink.taken c.args.sink.now));
-  settings = refl;
+  so_far = rw c.new-page.ensures.bytes (so_far_first c.args.world.now (g.K.Sink.taken c.args.sink.now) c.history_stands.ensures);
+  may = subst (λ (ls : Labels). MayGoOn c.args.ops.now ls) (sym c.requires.new) (all_may c.args.ops.now c.requires.labels);
+  index = subst (λ (ls : Labels). IsIndexOf ls c.new-names.result) (sym c.requires.new) c.new-names.ensures;
   room = c.requires.room;
   later = omega arith;
 }
 
 pub reply_op-requires : goal.reply_op-requires
-reply_op-requires g c =
-    subst (λ (op : Op). IsOpInRange c.loop-op.world.settings op) (sym c.op-item.is)
-    (op_may c.args.world.now.settings c.loop-op.world c.args.ops.now c.loop-op.op-index c.op-item.result c.loop-op-test.true
-    c.loop-op.invariant.settings c.requires.ranges)
+reply_op-requires g c = record {
+  range = subst (λ (op : Op). IsOpInRange c.loop-op.world.settings op) (sym c.op-item.is)
+      (op_may c.args.world.now.settings c.loop-op.world c.args.ops.now c.loop-op.op-index c.op-item.result c.loop-op-test.true
+      c.loop-op.invariant.so_far.runs.settings c.requires.ranges);
+  unbound = subst (λ (op : Op). MayBind c.loop-op.world.labels op) (sym c.op-item.is)
+      (may_bind_at c.args.ops.now c.loop-op.op-index c.op-item.result c.loop-op.world.labels c.loop-op-test.true c.loop-op.invariant.may);
+  index = c.loop-op.invariant.index;
+}
 
 pub returns-in_err-put-clause-err : goal.returns-in_err-put-clause-err
 returns-in_err-put-clause-err g c =
@@ -26,18 +34,23 @@ returns-in_err-put-clause-err g c =
     rw p.1
     (breaks_at c.args.world.now c.loop-op.world c.reply_op.new.world c.args.ops.now c.loop-op.op-index c.op-item.result _ _ _ _ c.in-Ok.reply
     c.loop-op-test.true c.loop-op.invariant.so_far
-    (subst (λ (op : Op). Does c.loop-op.world op c.in-Ok.reply c.reply_op.new.world) c.op-item.is c.in-Ok.ensures.ok) c.in_err-put.ensures.err)
+    (subst (λ (op : Op). Does c.loop-op.world op c.in-Ok.reply c.reply_op.new.world) c.op-item.is c.in-Ok.ensures.ok) c.history_stands-in-loop-op.ensures
+    (c.in_err-put.ensures.err c.reply_op.new.world.labels c.in-Ok.ensures.index))
 
 pub loop-op-preserved : goal.loop-op-preserved
-loop-op-preserved g c = record {
-  so_far =
-      goes_on_at c.args.world.now c.loop-op.world c.reply_op.new.world c.args.ops.now c.loop-op.op-index c.op-item.result _ _ _ _ _ c.in-Ok.reply
-      c.loop-op-test.true c.loop-op.invariant.so_far
-      (subst (λ (op : Op). Does c.loop-op.world op c.in-Ok.reply c.reply_op.new.world) c.op-item.is c.in-Ok.ensures.ok) c.in_ok-put.ensures.ok;
-  settings = c.reply_op.ensures.settings ∙ c.loop-op.invariant.settings;
-  room = c.put.ensures.room;
-  later = omega (arith, c.loop-op.invariant.later, c.put.ensures.later);
-}
+loop-op-preserved g c =
+    let done = subst (λ (op : Op). Does c.loop-op.world op c.in-Ok.reply c.reply_op.new.world) c.op-item.is c.in-Ok.ensures.ok in
+    record {
+      so_far =
+          goes_on_at c.args.world.now c.loop-op.world c.reply_op.new.world c.args.ops.now c.loop-op.op-index c.op-item.result _ _ _ _ _ c.in-Ok.reply
+          c.loop-op-test.true c.loop-op.invariant.so_far done c.history_stands-in-loop-op.ensures
+          (c.in_ok-put.ensures.ok c.reply_op.new.world.labels c.in-Ok.ensures.index);
+      may = may_at c.loop-op.world c.reply_op.new.world c.args.ops.now c.loop-op.op-index c.op-item.result c.in-Ok.reply c.loop-op-test.true
+          c.loop-op.invariant.may done;
+      index = c.in-Ok.ensures.index;
+      room = c.put.ensures.room;
+      later = omega (arith, c.loop-op.invariant.later, c.put.ensures.later);
+    }
 
 pub returns-clause-ok : goal.returns-clause-ok
 returns-clause-ok g c =

@@ -1,0 +1,13 @@
+-- The keys by which an index finds the label of a timer.
+
+use Rattle.std.specs.Prelude.{ℕ}
+use Rattle.std.specs.Ordering.{nat_cmp, ordering_then}
+use Rattle.std.specs.declared.cmp.Ordering.{Ordering}
+use Rattle.ert_defs.specs.declared.timer.TimerRef.{TimerRef}
+
+-- the key of a reference, and the order of keys
+abbrev pub key_of : TimerRef → ℕ × ℕ × ℕ
+key_of r = (r.wheel, r.slot, r.generation)
+
+abbrev pub key_cmp : ℕ × ℕ × ℕ → ℕ × ℕ × ℕ → Ordering
+key_cmp x y = ordering_then (ordering_then (nat_cmp x.0 y.0) (nat_cmp x.1 y.1)) (nat_cmp x.2 y.2)

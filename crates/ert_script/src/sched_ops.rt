@@ -1,0 +1,44 @@
+//! The ops of schedulers.
+ghost use Rattle.std.specs.Prelude.{◌<◌, IfOk};
+ghost use Rattle.ert_ops.specs.declared.op.Op.{Op};
+ghost use Rattle.ert_script.specs.Scripts.{Does};
+
+use ert_defs::NoMemory;
+use ert_sched::World;
+use ert_transcript::Reply;
+
+/// A scheduler answers one request.
+pub fn serve(world: &mut World, sched: u32) -> Result<Reply, NoMemory>
+    requires { sched < world.old.settings.schedulers }
+    ensures { IfOk result (λ reply. Does world.old (Op.Serve sched) reply world.new) }
+{
+    let served = world.serve(sched)?;
+    Ok(Reply::Serve { served })
+}
+
+/// A scheduler lets its due timers expire.
+pub fn advance(world: &mut World, sched: u32) -> Result<Reply, NoMemory>
+    requires { sched < world.old.settings.schedulers }
+    ensures { IfOk result (λ reply. Does world.old (Op.Advance sched) reply world.new) }
+{
+    let (to, fired) = world.advance(sched)?;
+    Ok(Reply::Advance { to, fired })
+}
+
+/// A scheduler hands over the messages of its expired timers.
+pub fn deliver(world: &mut World, sched: u32) -> Result<Reply, NoMemory>
+    requires { sched < world.old.settings.schedulers }
+    ensures { IfOk result (λ reply. Does world.old (Op.Deliver sched) reply world.new) }
+{
+    let (put, dropped) = world.deliver(sched)?;
+    Ok(Reply::Deliver { put, dropped })
+}
+
+/// A scheduler does these three, one after the other.
+pub fn turn(world: &mut World, sched: u32) -> Result<Reply, NoMemory>
+    requires { sched < world.old.settings.schedulers }
+    ensures { IfOk result (λ reply. Does world.old (Op.Turn sched) reply world.new) }
+{
+    let turned = world.turn(sched)?;
+    Ok(Reply::Turn { turned })
+}
