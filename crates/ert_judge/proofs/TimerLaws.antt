@@ -19,7 +19,7 @@ use Rattle.ert_defs.specs.declared.timer.Start.{Start}
 use Rattle.ert_defs.specs.declared.timer.Status.{Status}
 use Rattle.ert_defs.specs.declared.timer.Status.TheVariants.{Armed, Expired, Delivered, Cancelled, Orphaned, Dropped}
 use Rattle.ert_defs.specs.declared.timer.TimerRef.{TimerRef}
-use Rattle.ert_state.specs.Parts.{rows_in, status_at, with_moved, armed, with_armed, timers_after}
+use Rattle.ert_state.specs.Parts.{rows_in, status_at, with_moved, armed, with_armed, timers_after, ArmsNew}
 use Rattle.ert_judge.specs.Shown.{deadline_by}
 use Rattle.ert_state.specs.Wheels.{timers_at, timer_in, rows_of, status_in, last_in, moved, IsOwn}
 use Rattle.ert_state.specs.declared.wheels.Timer.{Timer}
@@ -45,6 +45,12 @@ arms_next g s by with (Arm timer start) ws last known = record {
   due = known.due;
 }
 arms_next g s by with _ ws last known = tt
+
+-- so it has a later generation than the last of its slot
+pub new_of_next : (ws : List (List Timer)) (g : Settings) (look : ℤ) (event : Event) → ArmsNext ws g look event
+    → ArmsNew event ws
+new_of_next ws g look (Arm timer start) is = (let next = is.generation in omega arith)
+new_of_next ws g look _ is = tt
 
 -- the wheel of a timer in range is one of those that are kept
 wheel_low : (g : Settings) (ws : List (List Timer)) (timer : TimerRef) → length ws ≡ g.schedulers

@@ -38,7 +38,7 @@ impl Judge {
     ghost use Rattle.ert_defs.specs.declared.entry.Entry as entries;
     ghost use Rattle.ert_defs.specs.declared.settings.Settings as settings;
     ghost use Rattle.ert_clock.specs.Faces.{face_of};
-    ghost use Rattle.ert_state.specs.Parts.{looks_in, look_of, sched_at, exited_at};
+    ghost use Rattle.ert_state.specs.Parts.{looks_in, look_of, sched_at, exited_at, ArmsNew};
     ghost use Rattle.ert_judge.specs.Shown.{ClockIs, shown, IsOpening, OwnTimers, last_status, HasAdvanced, MayFollow, ClockFollows, deadline_by, Follows, StandsFor};
     ghost use Rattle.ert_state.specs.Wheels.{timers_at, IsFirstDue};
 
@@ -220,7 +220,8 @@ impl Judge {
     /// Goes on by an entry that is legal. A part that reads another goes on before that one does, so that it
     /// finds it as it was before the entry.
     fn follow(&mut self, entry: &Entry) -> Result<(), NoMemory>
-        requires { MayFollow self.old.settings (face_of self.old.clock.face) entry.now.event }
+        requires clock { MayFollow self.old.settings (face_of self.old.clock.face) entry.now.event }
+        requires arms { ArmsNew entry.now.event self.old.timers }
         ensures { OnOk result (Follows self.old entry.now self.new) }
     {
         let event = &entry.event;

@@ -1,2 +1,8 @@
+mod ArmedLaws
+mod FindLaws
+mod IndexLaws
 mod MonitorLaws
+mod MoveLaws
+mod PairLaws
+mod PlaceLaws
 pub mod WheelLaws

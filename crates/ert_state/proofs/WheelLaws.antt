@@ -132,7 +132,7 @@ last_more true false m n l = refl
 last_more false c m n l = refl
 
 -- the last generation of a slot where there is one more timer
-last_push : (ts : List Timer) (t : Timer) (k : ℕ)
+pub last_push : (ts : List Timer) (t : Timer) (k : ℕ)
     → last_in (ts ++ t ∷ []) k ≡ cond (nat_eq t.row.timer.slot k) (max (last_in ts k) t.row.timer.generation) (last_in ts k)
 last_push [] t k = last_first (nat_eq t.row.timer.slot k) t.row.timer.generation
 last_push (u ∷ ts) t k =

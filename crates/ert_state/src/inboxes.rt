@@ -1,15 +1,16 @@
 ghost use Rattle.std.specs.Prelude.{◌≡◌, OnOk};
 ghost use Rattle.ert_defs.specs.Mails.{inbox_after};
 
-use crate::lists::{drop_first, first, push};
+use crate::lists::{drop_first, first, put};
 use ert_defs::{Actor, Event, NoMemory, Request};
 use std::alloc::Global;
+use std::collections::VecDeque;
 use std::marker::Model;
 
 /// The requests that wait for one scheduler.
 #[derive(Drop)]
 struct Inbox {
-    requests: Vec<Request>,
+    requests: VecDeque<Request>,
 }
 
 impl Model for Inbox {
@@ -27,7 +28,7 @@ impl Inbox {
         ensures { OnOk result (self.new ≡ inbox_after self.old event.now) }
     {
         match *event {
-            Event::Ask { request, .. } => push(&mut self.requests, request),
+            Event::Ask { request, .. } => put(&mut self.requests, request),
             Event::Pick { .. } => {
                 drop_first(&mut self.requests);
                 Ok(())
@@ -64,7 +65,7 @@ impl Inboxes {
         let mut inboxes = Vec::new(alloc);
         for _ in 0..schedulers {
             let inbox = Inbox {
-                requests: Vec::new(alloc),
+                requests: VecDeque::new(alloc),
             };
             if inboxes.push(inbox).is_err() {
                 return Err(NoMemory);

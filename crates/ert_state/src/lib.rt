@@ -1,10 +1,13 @@
-//! The state of the model, kept as plain lists: what an auditor of histories walks with.
+//! The state of the model, kept so that an auditor of histories finds each part of it without a scan.
 //!
 //! The model of `ert_defs` says what the state is after an entry. Here each part of that state has a type,
 //! and goes on by an event by its own rule: the clock, the last looks, the timers of each wheel, the exits,
-//! the mailboxes, the inboxes and the schedulers. A part is a list of cells, one for each number in range.
-//! Its `follow` says exactly which list it becomes (`specs/Parts`); what it is asked, it finds in one cell,
-//! for a timer by a scan of the timers of one wheel. It stands on `ert_defs`, and on the numbers of `ert_clock`.
+//! the mailboxes, the inboxes and the schedulers. A part stands for a list of cells, one for each number in
+//! range, and its `follow` says exactly which list it becomes (`specs/Parts`). Queues are taken off at the
+//! front. A wheel's timers stand in order of arming, and beside them what finds them (`specs/Indexes`): the
+//! place of each by slot and generation, the last generation of each slot, and the armed ones in order of
+//! deadline and then of arming. So an entry takes time that grows with the logarithm of what stands, but for
+//! the at most 64 monitors of a process. It stands on `ert_defs`, and on the numbers of `ert_clock`.
 #![tactic(auto)]
 
 mod clock;

@@ -3,10 +3,11 @@ ghost use Rattle.ert_defs.specs.Legal.{stands_in};
 ghost use Rattle.ert_defs.specs.Mails.{mail_after, message_of, answer_by, changes_of, told_of, without};
 ghost use Rattle.ert_state.specs.Parts.{monitors_of, scheds_in, with_message, with_answer, unwatched, watched, told_all};
 
-use crate::lists::{drop_first, first, push};
+use crate::lists::{drop_first, first, push, put};
 use crate::schedulers::Schedulers;
 use ert_defs::{Actor, Event, Fired, Kind, Mail, NoMemory, Request, RequestKind};
 use std::alloc::Global;
+use std::collections::VecDeque;
 use std::marker::Model;
 
 /// A monitor of the time offset, with the offset that its process was last told.
@@ -32,7 +33,7 @@ impl Monitor {
 /// What one process has.
 #[derive(Drop)]
 struct Mailbox {
-    queue: Vec<Mail>,
+    queue: VecDeque<Mail>,
     /// In order of number.
     monitors: Vec<Monitor>,
     /// The number of the next monitor.
@@ -79,7 +80,7 @@ impl Mailbox {
         ensures { OnOk result (self.new ≡ with_message row self.old) }
     {
         match row {
-            Some(row) => push(&mut self.queue, message_of(row)),
+            Some(row) => put(&mut self.queue, message_of(row)),
             None => Ok(()),
         }
     }
@@ -89,7 +90,7 @@ impl Mailbox {
         ensures { OnOk result (self.new ≡ with_answer request left self.old) }
     {
         match request {
-            Some(request) if request.info => push(&mut self.queue, answer_by(request, left)),
+            Some(request) if request.info => put(&mut self.queue, answer_by(request, left)),
             _ => Ok(()),
         }
     }
@@ -148,7 +149,11 @@ fn answer_by(request: Request, left: Option<u64>) -> Mail
 }
 
 /// Puts a message for each monitor that an offset is new to.
-fn put_changes(queue: &mut Vec<Mail>, monitors: &[Monitor], offset: i64) -> Result<(), NoMemory>
+fn put_changes(
+    queue: &mut VecDeque<Mail>,
+    monitors: &[Monitor],
+    offset: i64,
+) -> Result<(), NoMemory>
     ensures { OnOk result (queue.new.items ≡ queue.old.items ++ changes_of offset (monitors_of monitors.now)) }
 {
     for monitor in monitors {
@@ -157,7 +162,7 @@ fn put_changes(queue: &mut Vec<Mail>, monitors: &[Monitor], offset: i64) -> Resu
                 monitor: monitor.number,
                 offset,
             };
-            push(queue, change)?;
+            put(queue, change)?;
         }
     }
     Ok(())
@@ -207,7 +212,7 @@ impl Mailboxes {
         let mut mailboxes = Vec::new(alloc);
         for _ in 0..processes {
             let mailbox = Mailbox {
-                queue: Vec::new(alloc),
+                queue: VecDeque::new(alloc),
                 monitors: Vec::new(alloc),
                 next: 0,
             };

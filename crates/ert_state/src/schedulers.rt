@@ -2,10 +2,11 @@ ghost use Rattle.std.specs.Prelude.{◌≡◌, OnOk};
 ghost use Rattle.ert_defs.specs.Mails.{sched_after, is_about};
 ghost use Rattle.ert_state.specs.Parts.{rows_in, noted, expired, held};
 
-use crate::lists::{drop_first, first, push};
+use crate::lists::{drop_first, first, put};
 use crate::timers::Timers;
 use ert_defs::{Actor, Event, Fired, NoMemory, Request, TimerRef};
 use std::alloc::Global;
+use std::collections::VecDeque;
 use std::marker::Model;
 
 /// What one scheduler has.
@@ -16,7 +17,7 @@ struct Scheduler {
     /// The result of its last step on that.
     outcome: Option<Option<u64>>,
     /// Its expired timers that are not handed over, in order of expiry.
-    fired: Vec<Fired>,
+    fired: VecDeque<Fired>,
 }
 
 impl Model for Scheduler {
@@ -68,7 +69,7 @@ impl Scheduler {
         ensures { OnOk result (self.new ≡ expired row self.old) }
     {
         match row {
-            Some(row) => push(&mut self.fired, row),
+            Some(row) => put(&mut self.fired, row),
             None => Ok(()),
         }
     }
@@ -121,7 +122,7 @@ impl Schedulers {
             let scheduler = Scheduler {
                 hand: None,
                 outcome: None,
-                fired: Vec::new(alloc),
+                fired: VecDeque::new(alloc),
             };
             if schedulers.push(scheduler).is_err() {
                 return Err(NoMemory);

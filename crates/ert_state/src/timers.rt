@@ -19,10 +19,10 @@ impl Model for Timers {
 }
 
 impl Timers {
-    ghost use Rattle.std.specs.Prelude.{◌≡◌, ◌↔◌, IfOk, OnOk, IsTrue, replicate, [], true, nat_le};
+    ghost use Rattle.std.specs.Prelude.{◌≡◌, ◌≢◌, ◌<◌, ◌↔◌, IfOk, OnOk, IsTrue, replicate, [], true, nat_le};
     ghost use Rattle.ert_defs.specs.Timers.{row_of};
     ghost use Rattle.ert_state.specs.Wheels.{timers_at, timer_in, last_in, is_settled, IsFirstDue};
-    ghost use Rattle.ert_state.specs.Parts.{status_at, rows_in, timers_after, with_moved, with_armed};
+    ghost use Rattle.ert_state.specs.Parts.{status_at, rows_in, timers_after, with_moved, with_armed, ArmsNew};
 
     /// So many wheels with no timers.
     pub fn new(alloc: Global, schedulers: u32) -> Result<Timers, NoMemory>
@@ -88,8 +88,10 @@ impl Timers {
         }
     }
 
-    /// Goes on by an event. A timer that is armed by it gets this deadline.
+    /// Goes on by an event. A timer that is armed by it gets this deadline, and has a later generation than
+    /// the last of its slot.
     pub fn follow(&mut self, event: &Event, deadline: Option<u64>) -> Result<(), NoMemory>
+        requires { ArmsNew event.now self.old }
         ensures { OnOk result (self.new ≡ timers_after deadline event.now self.old) }
     {
         match *event {
@@ -118,8 +120,9 @@ impl Timers {
         }
     }
 
-    /// Moves a timer from one status to another, where it has the first.
+    /// Moves a timer from one status to another, where it has the first. No timer is armed again.
     fn settle(&mut self, timer: TimerRef, from: Status, to: Status)
+        requires { to ≢ Status.Armed }
         ensures { self.new ≡ with_moved timer from to self.old }
     {
         if let Some(wheel) = self.wheels.get_mut(timer.wheel as usize) {
@@ -129,6 +132,7 @@ impl Timers {
 
     /// Arms a timer, where it has a deadline.
     fn arm(&mut self, timer: TimerRef, start: Start, deadline: Option<u64>) -> Result<(), NoMemory>
+        requires { last_in (timers_at self.old timer.wheel) timer.slot < timer.generation }
         ensures { OnOk result (self.new ≡ with_armed timer start deadline self.old) }
     {
         let Some(deadline) = deadline else {

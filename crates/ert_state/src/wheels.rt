@@ -1,9 +1,10 @@
-ghost use Rattle.std.specs.Prelude.{◌≡◌, ◌↔◌, ◌<◌, IsTrue, nat_le, nat_lt, length};
-ghost use Rattle.ert_state.specs.Wheels.{timer_in, last_in, is_settled, moved, moved_one, IsDueAs, IsFirstDue, IsFirstAt};
+ghost use Rattle.std.specs.Prelude.{◌≡◌, ◌↔◌, ◌<◌, ◌≤ℤ◌, ℕ, pos, IsTrue, true, OnOk, OnErr, get_or, length};
+ghost use Rattle.ert_state.specs.Indexes.{PutsPlace, Sets};
 
 use crate::lists::push;
 use ert_defs::{Fired, NoMemory, Status, TimerRef};
 use std::alloc::Global;
+use std::collections::{BTreeMap, BTreeSet};
 use std::marker::Model;
 
 /// A timer of a wheel.
@@ -13,24 +14,35 @@ pub struct Timer {
     pub status: Status,
 }
 
-/// The timers of one wheel, in order of arming.
+/// The timers of one wheel, in order of arming, with what finds them. None of them is ever taken off.
 #[derive(Drop)]
 pub struct Wheel {
     timers: Vec<Timer>,
+    /// The place of each timer, by its slot and its generation. A place may stand here for which there was
+    /// no memory for the timer itself.
+    places: BTreeMap<(u32, u32), usize>,
+    /// The last generation of each slot, 0 where there is none.
+    generations: Vec<u32>,
+    /// The deadline and the place of each armed timer.
+    armed: BTreeSet<(u64, usize)>,
 }
 
 impl Model for Wheel {
     ghost use Rattle.std.specs.Prelude.{List};
     ghost use Rattle.ert_state.specs.declared.wheels.Timer.{Timer};
+    ghost use Rattle.ert_state.specs.Indexes.{IsIndexed};
 
     ghost Value = { List Timer };
 
     ghost view = { λ w. w.timers.items };
+
+    ghost invariant = { λ w. IsIndexed w.timers.items w.places w.generations.items w.armed };
 }
 
 impl Wheel {
-    ghost use Rattle.std.specs.Prelude.{◌≡◌, ◌++◌, ◌∷◌, [], pos, IsSome, OnOk, ◌↔◌, IsTrue, nat_le};
+    ghost use Rattle.std.specs.Prelude.{◌≡◌, ◌≢◌, ◌<◌, ◌++◌, ◌∷◌, [], OnOk, OnErr, MatchOption, slice_get, ◌↔◌, IsTrue, nat_le};
     ghost use Rattle.ert_state.specs.Wheels.{timer_in, last_in, is_settled, moved, IsFirstDue};
+    ghost use Rattle.ert_state.specs.Indexes.{IsUnknown, StandsAt, HasNoneBefore};
 
     /// A wheel with no timers.
     pub fn new(alloc: Global) -> Wheel
@@ -38,6 +50,22 @@ impl Wheel {
     {
         Wheel {
             timers: Vec::new(alloc),
+            places: BTreeMap::new(alloc),
+            generations: Vec::new(alloc),
+            armed: BTreeSet::new(alloc),
+        }
+    }
+
+    /// The place of a reference's timer, and the timer.
+    fn locate(&self, wanted: TimerRef) -> Option<(usize, Timer)>
+        ensures { MatchOption result (IsUnknown self.now wanted) (λ found. StandsAt self.now wanted found.0 found.1) }
+    {
+        let place = *self.places.get(&(wanted.slot, wanted.generation))?;
+        let timer = *self.timers.get(place)?;
+        if timer.row.timer == wanted {
+            Some((place, timer))
+        } else {
+            None
         }
     }
 
@@ -45,147 +73,140 @@ impl Wheel {
     pub fn find(&self, timer: TimerRef) -> Option<Timer>
         ensures { result ≡ timer_in self.now timer }
     {
-        find(&self.timers, timer)
+        let (_, found) = self.locate(timer)?;
+        Some(found)
     }
 
     /// The last generation of a slot, 0 where there is none.
     pub fn last(&self, slot: u32) -> u32
         ensures { result ≡ last_in self.now slot }
     {
-        last(&self.timers, slot)
+        match self.generations.get(slot as usize) {
+            Some(generation) => *generation,
+            None => 0,
+        }
     }
 
-    /// Whether none of the timers with a deadline up to this one is armed.
+    /// Whether none of the timers with a deadline up to this one is armed: the first that is armed tells.
     pub fn is_settled_to(&self, deadline: u64) -> bool
         ensures { result ≡ is_settled (λ d. nat_le d deadline) self.now }
     {
-        are_settled_to(&self.timers, deadline)
+        match self.armed.first() {
+            Some(first) => first.0 > deadline,
+            None => true,
+        }
     }
 
     /// Whether a timer is due by this many milliseconds, and no armed one comes before it.
     pub fn is_first(&self, timer: TimerRef, now: i128) -> bool
         ensures { IsTrue result ↔ IsFirstDue self.now timer now }
     {
-        is_first(&self.timers, timer, now)
+        match self.locate(timer) {
+            Some((place, found)) => is_due(found, now) && self.has_none_before(place, found),
+            None => false,
+        }
     }
 
-    /// Puts an armed timer last.
-    pub fn arm(&mut self, row: Fired) -> Result<(), NoMemory>
-        ensures { OnOk result (self.new ≡ self.old ++ (record { row = row; status = Status.Armed }) ∷ []) }
+    /// Whether no armed timer comes before that at a place, by deadline and then by arming: the first tells.
+    fn has_none_before(&self, place: usize, timer: Timer) -> bool
+        requires { slice_get self.now place ≡ Some timer }
+        ensures { IsTrue result ↔ HasNoneBefore self.now place timer.row.deadline }
     {
+        let deadline = timer.row.deadline;
+        match self.armed.first() {
+            Some(first) => deadline < first.0 || (deadline == first.0 && place <= first.1),
+            None => true,
+        }
+    }
+
+    /// Puts an armed timer last. It has a later generation than its slot's last; without memory for it the
+    /// timers stay as they were.
+    pub fn arm(&mut self, row: Fired) -> Result<(), NoMemory>
+        requires { last_in self.old row.timer.slot < row.timer.generation }
+        ensures armed { OnOk result (self.new ≡ self.old ++ (record { row = row; status = Status.Armed }) ∷ []) }
+        ensures kept { OnErr result (self.new ≡ self.old) }
+    {
+        let place = self.timers.len();
         let timer = Timer {
             row,
             status: Status::Armed,
         };
-        push(&mut self.timers, timer)
+        make_room(&mut self.generations, row.timer.slot)?;
+        put_place(&mut self.places, row.timer, place)?;
+        push(&mut self.timers, timer)?;
+        match put_armed(&mut self.armed, row.deadline, place) {
+            Ok(()) => {
+                self.generations[row.timer.slot as usize] = row.timer.generation;
+                Ok(())
+            }
+            Err(error) => {
+                self.timers.pop();
+                Err(error)
+            }
+        }
     }
 
-    /// Moves a timer from one status to another, where it has the first.
+    /// Moves a timer from one status to another, where it has the first. No timer is armed again.
     pub fn settle(&mut self, timer: TimerRef, from: Status, to: Status)
+        requires { to ≢ Status.Armed }
         ensures { self.new ≡ moved timer from to self.old }
     {
-        settle(&mut self.timers, timer, from, to);
-    }
-}
-
-/// The first timer of a reference.
-fn find(timers: &[Timer], wanted: TimerRef) -> Option<Timer>
-    ensures { result ≡ timer_in timers.now wanted }
-{
-    for timer in timers {
-        if timer.row.timer == wanted {
-            return Some(*timer);
+        let Some((place, found)) = self.locate(timer) else {
+            return;
+        };
+        if found.status == from {
+            self.timers[place].status = to;
+            self.armed.remove(&(found.row.deadline, place));
         }
     }
-    None
 }
 
-/// The last generation of a slot.
-fn last(timers: &[Timer], slot: u32) -> u32
-    ensures { result ≡ last_in timers.now slot }
+/// Whether a timer is due by this many milliseconds.
+fn is_due(timer: Timer, now: i128) -> bool
+    ensures { IsTrue result ↔ (pos timer.row.deadline ≤ℤ now) }
 {
-    let mut last = 0;
-    for timer in timers {
-        if timer.row.timer.slot == slot {
-            last = timer.row.timer.generation.max(last);
-        }
+    timer.row.deadline as i128 <= now
+}
+
+/// Makes room for the generation of a slot.
+fn make_room(generations: &mut Vec<u32>, slot: u32) -> Result<(), NoMemory>
+    ensures room { OnOk result (slot < length generations.new.items) }
+    ensures kept { (k : ℕ) → get_or generations.new.items k 0 ≡ get_or generations.old.items k 0 }
+{
+    let wanted = slot as usize + 1;
+    if generations.len() < wanted {
+        generations.resize(wanted, 0)?;
     }
-    last
+    Ok(())
 }
 
-/// Moves the timers of a reference from one status to another.
-fn settle(timers: &mut [Timer], wanted: TimerRef, from: Status, to: Status)
-    ensures { timers.new ≡ moved wanted from to timers.old }
+/// Puts the place of a timer among those by slot and generation. Without memory these stay as they were.
+fn put_place(
+    places: &mut BTreeMap<(u32, u32), usize>,
+    timer: TimerRef,
+    place: usize,
+) -> Result<(), NoMemory>
+    ensures put { OnOk result (PutsPlace places.old places.new timer.slot timer.generation place) }
+    ensures kept { OnErr result (places.new.entries ≡ places.old.entries) }
 {
-    for timer in timers {
-        *timer = moved_one(*timer, wanted, from, to);
-    }
-}
-
-/// A timer, moved from one status to another where it has the reference and the first status.
-fn moved_one(timer: Timer, wanted: TimerRef, from: Status, to: Status) -> Timer
-    ensures { result ≡ moved_one wanted from to timer }
-{
-    if timer.row.timer == wanted && timer.status == from {
-        Timer {
-            row: timer.row,
-            status: to,
-        }
-    } else {
-        timer
+    match places.insert((timer.slot, timer.generation), place) {
+        Ok(_) => Ok(()),
+        Err(_) => Err(NoMemory),
     }
 }
 
-/// Whether one of these timers has the reference, is due, and no armed one comes before it.
-fn is_first(timers: &[Timer], wanted: TimerRef, now: i128) -> bool
-    ensures { IsTrue result ↔ IsFirstDue timers.now wanted now }
+/// Puts the deadline and the place of an armed timer among those of the others. Without memory these stay as
+/// they were.
+fn put_armed(
+    armed: &mut BTreeSet<(u64, usize)>,
+    deadline: u64,
+    place: usize,
+) -> Result<(), NoMemory>
+    ensures put { OnOk result (Sets armed.old armed.new deadline place true) }
+    ensures kept { OnErr result (armed.new.keys ≡ armed.old.keys) }
 {
-    for i in 0..timers.len() {
-        if is_first_at(timers, i, wanted, now) {
-            return true;
-        }
+    match armed.insert((deadline, place)) {
+        Ok(_) => Ok(()),
+        Err(_) => Err(NoMemory),
     }
-    false
-}
-
-/// Whether the timer at a place has the reference, is due, and no armed one comes before it.
-fn is_first_at(timers: &[Timer], place: usize, wanted: TimerRef, now: i128) -> bool
-    requires { place < length timers.now }
-    ensures { IsTrue result ↔ IsFirstAt timers.now place wanted now }
-{
-    let timer = timers[place];
-    is_due(timer, wanted, now)
-        && are_settled_to(&timers[..place], timer.row.deadline)
-        && are_settled_before(&timers[place + 1..], timer.row.deadline)
-}
-
-/// Whether a timer has the reference and is due.
-fn is_due(timer: Timer, wanted: TimerRef, now: i128) -> bool
-    ensures { IsTrue result ↔ IsDueAs timer wanted now }
-{
-    timer.row.timer == wanted && timer.row.deadline as i128 <= now
-}
-
-/// Whether none of these timers with a deadline up to this one is armed.
-fn are_settled_to(timers: &[Timer], deadline: u64) -> bool
-    ensures { result ≡ is_settled (λ d. nat_le d deadline) timers.now }
-{
-    for timer in timers {
-        if timer.status == Status::Armed && timer.row.deadline <= deadline {
-            return false;
-        }
-    }
-    true
-}
-
-/// Whether none of these timers with an earlier deadline than this one is armed.
-fn are_settled_before(timers: &[Timer], deadline: u64) -> bool
-    ensures { result ≡ is_settled (λ d. nat_lt d deadline) timers.now }
-{
-    for timer in timers {
-        if timer.status == Status::Armed && timer.row.deadline < deadline {
-            return false;
-        }
-    }
-    true
 }

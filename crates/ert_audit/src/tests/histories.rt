@@ -287,7 +287,7 @@ pub const CANCELS: [(&str, &str, &str); 11] = [
 ];
 
 /// Timers that expire, and wheels that have settled what was due.
-pub const EXPIRIES: [(&str, &str, &str); 16] = [
+pub const EXPIRIES: [(&str, &str, &str); 21] = [
     (
         "no false 0 1 1 1 1 0 0",
         "k c0 tick 0 1000000 plain 1000000\nc0 - look 1000000\nc0 w0 arm 0 0 1 after 5 0 7 wrapped\nk c0 tick 0 6000000 plain 6000000\ns0 - look 6000000\ns0 w0 expire 0 0 1\ns0 w0 advanced 0 6",
@@ -364,6 +364,31 @@ pub const EXPIRIES: [(&str, &str, &str); 16] = [
         "illegal 4",
     ),
     ("no false 0 2 2 2 2 0 0", "s1 w0 advanced 0 0", "illegal 2"),
+    (
+        "no false 0 2 2 2 2 0 0",
+        "c0 w0 arm 0 0 1 after 3 0 7 bare\nc0 w0 arm 0 1 1 after 5 0 8 bare\nc0 - cancel 0 0 1 3\nk c0 tick 0 6000000 plain 6000000\ns0 - look 6000000\ns0 w0 expire 0 1 1\ns0 w0 advanced 0 6",
+        "legal 7",
+    ),
+    (
+        "no false 0 2 2 2 2 0 0",
+        "c0 w0 arm 0 0 1 after 3 0 7 bare\nc0 - cancel 0 0 1 3\nc0 w0 arm 0 0 2 after 9 0 8 bare\nc0 - peek 0 0 1 none\nc0 - peek 0 0 2 9\nk c0 tick 0 6000000 plain 6000000\ns0 - look 6000000\ns0 w0 advanced 0 6",
+        "legal 8",
+    ),
+    (
+        "no false 0 2 2 2 2 0 0",
+        "c0 w0 arm 0 0 1 after 3 0 7 bare\nc0 - cancel 0 0 1 3\nc0 w0 arm 0 0 2 after 9 0 8 bare\nc0 - peek 0 0 1 9",
+        "illegal 5",
+    ),
+    (
+        "no false 0 2 2 2 2 0 0",
+        "c0 w0 arm 0 0 1 after 5 0 7 bare\nc0 w0 arm 0 1 1 after 5 0 8 bare\nc0 - cancel 0 0 1 5\nc0 w0 arm 0 0 2 after 5 0 9 bare\nk c0 tick 0 6000000 plain 6000000\ns0 - look 6000000\ns0 w0 expire 0 0 2",
+        "illegal 8",
+    ),
+    (
+        "no false 0 2 2 2 2 0 0",
+        "c0 w0 arm 0 0 1 after 5 0 7 bare\nc0 w0 arm 0 1 1 after 5 0 8 bare\nc0 - cancel 0 0 1 5\nc0 w0 arm 0 0 2 after 5 0 9 bare\nk c0 tick 0 6000000 plain 6000000\ns0 - look 6000000\ns0 w0 expire 0 1 1\ns0 w0 expire 0 0 2\ns0 w0 advanced 0 6",
+        "legal 9",
+    ),
 ];
 
 /// Timers that are orphaned, delivered and dropped, exits, and messages that are taken.

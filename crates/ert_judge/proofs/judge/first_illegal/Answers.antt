@@ -1,10 +1,14 @@
 use Rattle.std.proofs.Common.{rules}
 use Rattle.ert_judge.proofs.Opens.{stands_open}
-use Rattle.ert_judge.proofs.Walks.{walk_on, walk_stops, placed}
+use Rattle.ert_judge.proofs.Walks.{walk_on, walk_stops, placed, arms_new}
 use Rattle.ert_judge.proofs.judge.first_illegal.Goals as goal
 
 pub loop-i-init : goal.loop-i-init
 loop-i-init c = stands_open c.args.settings.now c.in_ok-judge.judge c.in_ok-judge.ensures
+
+pub follow-requires-clause-arms : goal.follow-requires-clause-arms
+follow-requires-clause-arms c =
+    arms_new c.args.settings.now _ c.loop-i.judge _ c.can.result c.loop-i.invariant c.can.ensures (search rules)
 
 pub loop-i-preserved : goal.loop-i-preserved
 loop-i-preserved c =
