@@ -1,0 +1,5 @@
+pub mod Joined
+pub mod Least
+pub mod Lent
+pub mod Own
+pub mod Scheds

@@ -1,0 +1,103 @@
+//! An inbox behind its lock.
+use crate::names::DeskName;
+use crate::seats::{CallerSeat, SchedSeat};
+use ert_defs::{Actor, NoMemory, Request};
+use ert_inbox::InboxPart;
+use ert_table::{Desk, Pass};
+use std::marker::{Model, PhantomData};
+
+/// The inbox of a scheduler, with the pass that has its actor.
+#[derive(Drop)]
+pub struct LockedInbox<L: DeskName> {
+    part: InboxPart,
+    pass: Pass,
+    of: PhantomData<L>,
+}
+
+impl<L: DeskName> Model for LockedInbox<L> {
+    ghost use Rattle.std.specs.Prelude.{ℕ};
+    ghost use Rattle.ert_locks.specs.Names.{IsInbox};
+
+    ghost Value = { ℕ };
+
+    ghost view = { λ k. k.part.wheel };
+
+    ghost invariant = { λ k. IsInbox L.table L.settings k.part k.pass };
+}
+
+impl<L: DeskName> LockedInbox<L> {
+    ghost use Rattle.std.specs.Prelude.{◌≡◌, ◌<◌, [], ◌∷◌, None};
+    ghost use Rattle.ert_answers.specs.RequestCalls.{Asks, Picks};
+    ghost use Rattle.ert_answers.specs.Ways.{Grows, beside};
+    ghost use Rattle.ert_defs.specs.declared.entry.Actor.TheVariants.{Inbox, Sched, Caller};
+    ghost use Rattle.ert_locks.specs.Names.{IsDesk, IsInbox};
+    ghost use Rattle.ert_table.specs.Desks.{front_of};
+
+    pub fn new(part: InboxPart, pass: Pass) -> LockedInbox<L>
+        requires { IsInbox L.table L.settings part pass }
+        ensures { result ≡ part.wheel }
+    {
+        LockedInbox {
+            part,
+            pass,
+            of: PhantomData,
+        }
+    }
+
+    /// The part and its pass.
+    pub fn into_parts(self) -> (InboxPart, Pass)
+        ensures fits { IsInbox L.table L.settings result.0 result.1 }
+        ensures number { result.0.wheel ≡ self }
+    {
+        let LockedInbox { part, pass, .. } = self;
+        (part, pass)
+    }
+
+    /// The number of the scheduler.
+    pub fn number(&self) -> u32
+        ensures { result ≡ self.now }
+    {
+        self.part.wheel()
+    }
+
+    /// Puts a request last, for a caller (`cancel_timer` and `read_timer`, option `async`).
+    ///
+    /// After want of memory nothing has changed.
+    pub fn ask(
+        &mut self,
+        desk: &Desk,
+        seat: CallerSeat<L>,
+        request: Request,
+    ) -> (CallerSeat<L>, Result<(), NoMemory>)
+        requires desk { IsDesk L.table L.settings desk.now }
+        requires in_range { request.reply_to < L.settings.processes }
+        ensures same { self.new ≡ self.old }
+        ensures number { result.0.number ≡ seat.number }
+        ensures call { Grows (beside L.settings (Caller seat.number) (Inbox self.old ∷ []) (Asks L.settings seat.number self.old request result.1)) (front_of seat.pass) (front_of result.0.pass) }
+    {
+        let by = seat.number;
+        self.pass.join(desk, seat.pass);
+        let answer = self.part.ask(desk, &mut self.pass, by, request);
+        let pass = self.pass.split(desk, Actor::Caller(by));
+        (CallerSeat::new(by, pass), answer)
+    }
+
+    /// Takes the first request into the empty hand of the scheduler of this inbox; None where there is none.
+    pub fn pick(&mut self, desk: &Desk, seat: SchedSeat<L>) -> (SchedSeat<L>, Option<Request>)
+        requires desk { IsDesk L.table L.settings desk.now }
+        requires own { self.old ≡ seat.part.wheel }
+        requires empty { seat.part.hand ≡ None }
+        ensures same { self.new ≡ self.old }
+        ensures number { result.0.part.wheel ≡ seat.part.wheel }
+        ensures hand { result.0.part.hand ≡ result.1 }
+        ensures call { Grows (beside L.settings (Sched seat.part.wheel) (Inbox seat.part.wheel ∷ []) (Picks L.settings seat.part.wheel result.1)) (front_of seat.pass) (front_of result.0.pass) }
+    {
+        let SchedSeat { mut part, pass, .. } = seat;
+        let wheel = part.wheel;
+        self.pass.join(desk, pass);
+        let got = self.part.pick(desk, &mut self.pass);
+        part.hand = got;
+        let pass = self.pass.split(desk, Actor::Sched(wheel));
+        (SchedSeat::new(part, pass), got)
+    }
+}

@@ -1,0 +1,96 @@
+//! The steps of a scheduler on a mailbox.
+ghost use Rattle.std.specs.Prelude.{◌≡◌};
+ghost use Rattle.ert_locks.specs.Hands.{hand_left, rows_left};
+
+use super::LockedMail;
+use crate::names::DeskName;
+use crate::seats::SchedSeat;
+use ert_defs::{Actor, Fired, NoMemory, Request};
+use ert_mail::Handed;
+use ert_table::Desk;
+use ert_timers::FiredList;
+
+impl<L: DeskName> LockedMail<L> {
+    ghost use Rattle.std.specs.Prelude.{◌≡◌, [], ◌∷◌, Some, OnOk};
+    ghost use Rattle.ert_answers.specs.Chains.{Hands};
+    ghost use Rattle.ert_answers.specs.RequestCalls.{Answers};
+    ghost use Rattle.ert_answers.specs.Ways.{Grows, beside};
+    ghost use Rattle.ert_defs.specs.Mails.{first_of, others_of};
+    ghost use Rattle.ert_defs.specs.declared.entry.Actor.TheVariants.{MailOf, Sched};
+    ghost use Rattle.ert_locks.specs.Names.{IsDesk};
+    ghost use Rattle.ert_table.specs.Desks.{front_of};
+
+    /// Answers the request in the hand of a scheduler, of which this mailbox's process is to get the answer,
+    /// and empties the hand. It tells the whole milliseconds that were left of the timer.
+    ///
+    /// After want of memory nothing has changed.
+    pub fn answer(
+        &mut self,
+        desk: &Desk,
+        seat: SchedSeat<L>,
+        request: &Request,
+    ) -> (SchedSeat<L>, Result<Option<u64>, NoMemory>)
+        requires desk { IsDesk L.table L.settings desk.now }
+        requires own { self.old ≡ request.now.reply_to }
+        requires hand { seat.part.hand ≡ Some request.now }
+        ensures same { self.new ≡ self.old }
+        ensures number { result.0.part.wheel ≡ seat.part.wheel }
+        ensures call { Grows (beside L.settings (Sched seat.part.wheel) (MailOf request.now.reply_to ∷ []) (Answers L.settings seat.part.wheel request.now result.1)) (front_of seat.pass) (front_of result.0.pass) }
+    {
+        let SchedSeat { mut part, pass, .. } = seat;
+        let wheel = part.wheel;
+        self.pass.join(desk, pass);
+        let left = self.part.answer(desk, &mut self.pass, wheel, request);
+        part.hand = hand_after(part.hand, &left);
+        let pass = self.pass.split(desk, Actor::Sched(wheel));
+        (SchedSeat::new(part, pass), left)
+    }
+
+    /// Hands over the first expired timer of a scheduler, whose destination is this mailbox's process.
+    ///
+    /// After want of memory nothing has changed.
+    pub fn hand_over(
+        &mut self,
+        desk: &Desk,
+        seat: SchedSeat<L>,
+        fired: &Fired,
+    ) -> (SchedSeat<L>, Result<Handed, NoMemory>)
+        requires desk { IsDesk L.table L.settings desk.now }
+        requires own { self.old ≡ fired.now.dest }
+        requires first { first_of seat.part.fired.rows ≡ Some fired.now }
+        ensures same { self.new ≡ self.old }
+        ensures number { result.0.part.wheel ≡ seat.part.wheel }
+        ensures fired { OnOk result.1 (result.0.part.fired.rows ≡ others_of seat.part.fired.rows) }
+        ensures call { Grows (Hands L.settings (beside L.settings (Sched seat.part.wheel)) seat.part.wheel result.1) (front_of seat.pass) (front_of result.0.pass) }
+    {
+        let SchedSeat { mut part, pass, .. } = seat;
+        let wheel = part.wheel;
+        self.pass.join(desk, pass);
+        let handed = self.part.deliver(desk, &mut self.pass, fired);
+        drop_handed(&mut part.fired, &handed);
+        let pass = self.pass.split(desk, Actor::Sched(wheel));
+        (SchedSeat::new(part, pass), handed)
+    }
+}
+
+/// What is in a scheduler's hand after its request was answered, or wasn't for want of memory.
+fn hand_after(hand: Option<Request>, left: &Result<Option<u64>, NoMemory>) -> Option<Request>
+    ensures { result ≡ hand_left left.now hand }
+{
+    match left {
+        Ok(_) => None,
+        Err(_) => hand,
+    }
+}
+
+/// Drops the first expired timer, if it was handed over.
+fn drop_handed(fired: &mut FiredList, handed: &Result<Handed, NoMemory>)
+    ensures { fired.new.rows ≡ rows_left handed.now fired.old.rows }
+{
+    match handed {
+        Ok(_) => {
+            fired.pop();
+        }
+        Err(_) => {}
+    }
+}

@@ -1,0 +1,99 @@
+ghost use Rattle.std.specs.Prelude.{◌≡◌, vec_len};
+ghost use Rattle.ert_locks.specs.Names.{IsDesk};
+
+use crate::opening::{lock_inboxes, lock_mails, lock_wheels, seat_callers, seat_scheds};
+use ert_defs::{Actor, NoMemory, TimerRef};
+use ert_locks::{
+    CallerSeat, DeskName, LockedInbox, LockedKeeper, LockedMail, LockedWheel, SchedSeat,
+};
+use ert_sched::Parts;
+use ert_table::{Desk, Pass};
+use std::alloc::Global;
+use std::sync::Mutex;
+
+/// The clock and timer service for many threads, on the desk that `L` names.
+#[derive(Drop)]
+pub struct Service<L: DeskName> {
+    pub(crate) desk: Desk,
+    pub(crate) keeper: Mutex<LockedKeeper<L>>,
+    pub(crate) wheels: Vec<Mutex<LockedWheel<L>>>,
+    pub(crate) inboxes: Vec<Mutex<LockedInbox<L>>>,
+    pub(crate) mails: Vec<Mutex<LockedMail<L>>>,
+    pub(crate) labels: Vec<(u32, TimerRef)>,
+    ghost named: { IsDesk L.table L.settings desk },
+    ghost wheels_counted: { vec_len wheels ≡ L.settings.schedulers },
+    ghost inboxes_counted: { vec_len inboxes ≡ L.settings.schedulers },
+    ghost mails_counted: { vec_len mails ≡ L.settings.processes },
+}
+
+/// A service that was opened: what threads share, the seats of its threads, in order of number, and the pass
+/// of which all were divided.
+#[derive(Drop)]
+pub struct Opened<L: DeskName> {
+    pub service: Service<L>,
+    pub rest: Pass,
+    pub scheds: Vec<SchedSeat<L>>,
+    pub callers: Vec<CallerSeat<L>>,
+}
+
+impl<L: DeskName> Service<L> {
+    ghost use Rattle.std.specs.Prelude.{◌≡◌, IfOk};
+    ghost use Rattle.ert_sched.specs.Parts.{parts_of};
+    ghost use Rattle.ert_sched.specs.Worlds.{AreFit};
+    ghost use Rattle.ert_shared.specs.Dividing.{AreSeated, IsPassOf};
+    ghost use Rattle.ert_table.specs.Desks.{front_of};
+
+    /// Opens a service on the desk of a world that was taken apart, which `L` names. Each part gets its lock
+    /// and each thread its seat; no entry is made.
+    ///
+    /// After want of memory the parts are given up.
+    pub fn open(alloc: Global, parts: Parts) -> Result<Opened<L>, NoMemory>
+        requires desk { IsDesk L.table L.settings parts.desk }
+        requires fit { AreFit parts.desk parts.pass (parts_of parts.keeper parts.wheels.items parts.inboxes.items parts.mails.items parts.scheds.items) }
+        ensures rest { IfOk result (λ o. IsPassOf L.table L.settings o.rest) }
+        ensures front { IfOk result (λ o. front_of o.rest ≡ front_of parts.pass) }
+        ensures labels { IfOk result (λ o. o.service.labels.items ≡ parts.labels.items) }
+        ensures scheds { IfOk result (λ o. AreSeated (λ s. s.part.wheel) (λ s. front_of s.pass) L.settings.schedulers (front_of parts.pass) o.scheds.items) }
+        ensures callers { IfOk result (λ o. AreSeated (λ s. s.number) (λ s. front_of s.pass) L.settings.callers (front_of parts.pass) o.callers.items) }
+    {
+        let Parts {
+            desk,
+            mut pass,
+            keeper,
+            wheels,
+            inboxes,
+            mails,
+            scheds,
+            labels,
+            ..
+        } = parts;
+        let own = pass.split(&desk, Actor::Keeper);
+        let keeper = LockedKeeper::new(keeper, own);
+        let wheels = lock_wheels(alloc, &desk, &mut pass, wheels)?;
+        let inboxes = lock_inboxes(alloc, &desk, &mut pass, inboxes)?;
+        let mails = lock_mails(alloc, &desk, &mut pass, mails)?;
+        let scheds = seat_scheds(alloc, &desk, &mut pass, scheds)?;
+        let callers = seat_callers(alloc, &desk, &mut pass)?;
+        let service = Service {
+            desk,
+            keeper: Mutex::new(keeper),
+            wheels,
+            inboxes,
+            mails,
+            labels,
+        };
+        Ok(Opened {
+            service,
+            rest: pass,
+            scheds,
+            callers,
+        })
+    }
+
+    /// The desk, for the calls that take no lock (`ert_calls`).
+    pub fn desk(&self) -> &Desk
+        ensures { IsDesk L.table L.settings result.now }
+    {
+        &self.desk
+    }
+}
