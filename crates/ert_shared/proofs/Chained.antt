@@ -1,17 +1,17 @@
 -- Steps one after the other are a call, whatever the way.
 
-use Rattle.std.proofs.Common.{◌≡◌, ◌⊎◌, ℕ, zero, suc, ◌+◌, ◌<◌, ◌≤◌, Bool, true, false, cond, ◌||◌, ◌&&◌, nat_lt, List, [], ◌∷◌, ◌++◌, length, filter, Option, Some, None, Result, Ok, Err, inl, inr, refl, sym, ap, subst, ◌∙◌, arith, append-nil, append_assoc, lt-ltb, eq-eqb}
+use Rattle.std.proofs.Common.{◌≡◌, ℕ, suc, ◌+◌, ◌<◌, ◌≤◌, Bool, true, false, ◌||◌, ◌&&◌, List, [], ◌∷◌, ◌++◌, length, filter, Option, Some, None, Ok, Err, inl, inr, refl, sym, ap, subst, ◌∙◌, arith, append-nil, append_assoc, lt-ltb, eq-eqb}
 use Rattle.std.specs.Prelude.{nat_eq, not}
-use Rattle.ert_answers.proofs.Growing.{grows_then, grows_as, grows_none, grows_more}
+use Rattle.ert_answers.proofs.Growing.{grows_then, grows_as, grows_more}
 use Rattle.ert_answers.specs.Chains.{Holds, Serves, ServesMany, ServesAll, times, AdvancesWheel, Hands, HandsMany, Delivers, puts, drops, Turns, SweepsWheel, SweepsWheels, Exits}
 use Rattle.ert_answers.specs.RequestCalls.{Picks, Answers}
 use Rattle.ert_answers.specs.WheelCalls.{MarksExit}
-use Rattle.ert_answers.specs.Ways.{Growth, Way, Grows, Then, Many}
+use Rattle.ert_answers.specs.Ways.{Growth, Way, Grows, Many}
 use Rattle.ert_answers.specs.declared.answers.Handed.{Handed}
 use Rattle.ert_answers.specs.declared.answers.Turned.{Turned}
 use Rattle.ert_defs.proofs.Runs.{state-append, exit_stays}
 use Rattle.ert_defs.specs.Entries.{mark_entry}
-use Rattle.ert_defs.specs.Mails.{SchedState, first_of, others_of}
+use Rattle.ert_defs.specs.Mails.{first_of}
 use Rattle.ert_defs.specs.States.{State, next, run, state}
 use Rattle.ert_defs.specs.Timers.{Row}
 use Rattle.ert_defs.specs.declared.entry.Actor.{Actor}
@@ -223,6 +223,6 @@ pub rows_few : (g : Settings) (p : Pass) (part : SchedPart) → g.slots ≤ 6553
 rows_few g p part high named stands =
     legal_by g p.seat.me.0.settings (front_of p) le_prop named p.legal
     (λ legal.
-        let low : length ((state g (front_of p)).scheds part.wheel).fired ≤ g.slots = fired_few g (front_of p) part.wheel legal in
-        let same : length part.fired.rows ≡ length ((state g (front_of p)).scheds part.wheel).fired = ap (λ (l : List Row). length l) stands.fired in
-        omega (arith, low, same, high))
+    let low : length ((state g (front_of p)).scheds part.wheel).fired ≤ g.slots = fired_few g (front_of p) part.wheel legal in
+    let same : length part.fired.rows ≡ length ((state g (front_of p)).scheds part.wheel).fired = ap (λ (l : List Row). length l) stands.fired in
+    omega (arith, low, same, high))

@@ -1,6 +1,6 @@
 -- How a pass is divided, one actor of a sort after the other.
 
-use Rattle.std.proofs.Common.{◌≡◌, ◌≢◌, ℕ, zero, suc, ◌+◌, ◌<◌, ◌≤◌, Bool, true, false, List, [], ◌∷◌, ◌++◌, length, slice_index_or, refl, sym, ap, subst, ◌∙◌, arith, eqb-true, eq-eqb, length-append}
+use Rattle.std.proofs.Common.{◌≡◌, ◌≢◌, ℕ, suc, ◌+◌, ◌<◌, ◌≤◌, Bool, true, false, List, [], ◌∷◌, ◌++◌, length, slice_index_or, refl, sym, ap, subst, ◌∙◌, arith, eqb-true, eq-eqb, length-append}
 use Rattle.std.specs.Prelude.{nat_eq}
 use Rattle.std.proofs.lemmas.List.{get_or_push, get_or_append_left}
 use Rattle.ert_defs.specs.Actors.{same_actor}
@@ -8,7 +8,7 @@ use Rattle.ert_defs.specs.declared.entry.Actor.{Actor}
 use Rattle.ert_defs.specs.declared.entry.Entry.{Entry}
 use Rattle.ert_defs.specs.declared.settings.Settings.{Settings}
 use Rattle.ert_sched.specs.Parts.{AreOrdered}
-use Rattle.ert_shared.specs.Dividing.{KeepsBut, AreSeated, Divides}
+use Rattle.ert_shared.specs.Dividing.{AreSeated, Divides}
 use Rattle.ert_table.proofs.Holders.{held_but_other}
 use Rattle.ert_table.specs.Held.{is_held, actors_but}
 

@@ -1,3 +1,6 @@
 pub mod Chained
+pub mod Closed
 pub mod Divided
+pub mod Gathered
+pub mod Joined
 pub mod OpenedParts

@@ -1,11 +1,10 @@
 -- The parts of a world that was taken apart, told of by the name of its desk.
 
-use Rattle.std.proofs.Common.{◌≡◌, ℕ, ◌<◌, true, false, List, [], ◌∷◌, refl, sym, ap, subst, ◌∙◌}
+use Rattle.std.proofs.Common.{◌≡◌, true, false, List, [], ◌∷◌, refl, sym, subst}
 use Rattle.atomic_table.specs.Seated.{TableId}
-use Rattle.ert_clock.specs.Shown.{Stands as ClockStands}
 use Rattle.ert_defs.specs.Actors.{same_actor}
 use Rattle.ert_defs.specs.declared.entry.Actor.{Actor}
-use Rattle.ert_defs.specs.declared.entry.Actor.TheVariants.{Keeper, Wheel, Inbox, Sched, MailOf, Caller}
+use Rattle.ert_defs.specs.declared.entry.Actor.TheVariants.{Keeper}
 use Rattle.ert_defs.specs.declared.entry.Entry.{Entry}
 use Rattle.ert_defs.specs.declared.settings.Settings.{Settings}
 use Rattle.ert_locks.proofs.Lent.{is_of}
@@ -13,7 +12,7 @@ use Rattle.ert_locks.specs.Names.{IsDesk, IsKeeper}
 use Rattle.ert_sched.specs.Parts.{AllParts, Stand}
 use Rattle.ert_sched.specs.Worlds.{AreFit}
 use Rattle.ert_table.proofs.Holders.{held_but_other}
-use Rattle.ert_table.specs.Desks.{settings_of, front_of, actors_of, Belongs}
+use Rattle.ert_table.specs.Desks.{front_of, actors_of, Belongs}
 use Rattle.ert_table.specs.Held.{is_held, actors_but, IsActor, IsWhole}
 use Rattle.ert_table.specs.declared.desk.Desk.{Desk}
 use Rattle.ert_table.specs.declared.desk.Pass.{Pass}

@@ -1,2 +1,4 @@
 pub mod Dividing
 pub mod Fronts
+pub mod Gathering
+pub mod Joining

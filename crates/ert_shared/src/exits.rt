@@ -16,12 +16,7 @@ impl<L: DeskName> Service<L> {
 
     /// Lets a process exit, cancels its timers in all wheels, one after the other, and answers true; false,
     /// and no more, where it had exited before (`exit`). No memory is taken.
-    pub fn exit<R: Wait>(
-        &self,
-        rt: &R,
-        seat: CallerSeat<L>,
-        process: u32,
-    ) -> (CallerSeat<L>, bool)
+    pub fn exit<R: Wait>(&self, rt: &R, seat: CallerSeat<L>, process: u32) -> (CallerSeat<L>, bool)
         requires { process < L.settings.processes }
         ensures number { result.0.number ≡ seat.number }
         ensures call { Grows (Exits L.settings (beside L.settings (Caller seat.number)) seat.number process result.1) (front_of seat.pass) (front_of result.0.pass) }
@@ -41,19 +36,16 @@ impl<L: DeskName> Service<L> {
         ensures call { Grows (beside L.settings (Caller seat.number) [] (MarksExit L.settings (Caller seat.number) process result.1)) (front_of seat.pass) (front_of result.0.pass) }
     {
         let CallerSeat {
-            number, mut pass, ..
+            number,
+            mut pass,
+            ..
         } = seat;
         let new = mark_exit(&self.desk, &mut pass, Actor::Caller(number), process);
         (CallerSeat::new(number, pass), new)
     }
 
     /// Cancels all timers of a process that has exited.
-    fn sweep_all<R: Wait>(
-        &self,
-        rt: &R,
-        seat: CallerSeat<L>,
-        process: u32,
-    ) -> CallerSeat<L>
+    fn sweep_all<R: Wait>(&self, rt: &R, seat: CallerSeat<L>, process: u32) -> CallerSeat<L>
         requires in_range { process < L.settings.processes }
         requires exited { HasExited L.settings (front_of seat.pass) process }
         ensures number { result.number ≡ seat.number }
@@ -67,13 +59,7 @@ impl<L: DeskName> Service<L> {
     }
 
     /// Cancels the timers of a process that has exited, in one wheel.
-    fn sweep<R: Wait>(
-        &self,
-        rt: &R,
-        seat: CallerSeat<L>,
-        wheel: u32,
-        process: u32,
-    ) -> CallerSeat<L>
+    fn sweep<R: Wait>(&self, rt: &R, seat: CallerSeat<L>, wheel: u32, process: u32) -> CallerSeat<L>
         requires wheel { wheel < L.settings.schedulers }
         requires in_range { process < L.settings.processes }
         requires exited { HasExited L.settings (front_of seat.pass) process }

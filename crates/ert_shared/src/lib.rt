@@ -18,15 +18,18 @@
 #![tactic(auto)]
 
 mod clock_calls;
+mod closing;
 mod exits;
 mod gates;
+mod joining;
 mod mail_calls;
 mod opening;
+mod rooms;
 mod sched_steps;
 mod service;
 mod turns;
 
 pub use ert_answers::Turned;
-pub use gates::{FreeGate, Gate, LedgerGate};
 pub use ert_locks::{CallerSeat, DeskName, SchedSeat};
+pub use gates::{FreeGate, Gate, LedgerGate};
 pub use service::{Opened, Service};

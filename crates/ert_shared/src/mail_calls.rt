@@ -52,12 +52,7 @@ impl<L: DeskName> Service<L> {
 
     /// Takes the first message of a process (`receive`): Exited where the process has exited, whatever it
     /// has, and Empty where it has none.
-    pub fn take<R: Wait>(
-        &self,
-        rt: &R,
-        seat: CallerSeat<L>,
-        process: u32,
-    ) -> (CallerSeat<L>, Taken)
+    pub fn take<R: Wait>(&self, rt: &R, seat: CallerSeat<L>, process: u32) -> (CallerSeat<L>, Taken)
         requires { process < L.settings.processes }
         ensures number { result.0.number ≡ seat.number }
         ensures call { Grows (beside L.settings (Caller seat.number) (MailOf process ∷ []) (Takes L.settings seat.number process result.1)) (front_of seat.pass) (front_of result.0.pass) }

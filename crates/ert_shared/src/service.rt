@@ -1,12 +1,15 @@
 ghost use Rattle.std.specs.Prelude.{◌≡◌, vec_len};
 ghost use Rattle.ert_locks.specs.Names.{IsDesk};
 
+use crate::closing::{gather_inboxes, gather_mails, gather_wheels};
+use crate::joining::{join_callers, join_scheds};
 use crate::opening::{lock_inboxes, lock_mails, lock_wheels, seat_callers, seat_scheds};
+use crate::rooms::Rooms;
 use ert_defs::{Actor, NoMemory, TimerRef};
 use ert_locks::{
     CallerSeat, DeskName, LockedInbox, LockedKeeper, LockedMail, LockedWheel, SchedSeat,
 };
-use ert_sched::Parts;
+use ert_sched::{Parts, World};
 use ert_table::{Desk, Pass};
 use std::alloc::Global;
 use std::sync::Mutex;
@@ -20,6 +23,7 @@ pub struct Service<L: DeskName> {
     pub(crate) inboxes: Vec<Mutex<LockedInbox<L>>>,
     pub(crate) mails: Vec<Mutex<LockedMail<L>>>,
     pub(crate) labels: Vec<(u32, TimerRef)>,
+    rooms: Rooms<L>,
     ghost named: { IsDesk L.table L.settings desk },
     ghost wheels_counted: { vec_len wheels ≡ L.settings.schedulers },
     ghost inboxes_counted: { vec_len inboxes ≡ L.settings.schedulers },
@@ -37,11 +41,14 @@ pub struct Opened<L: DeskName> {
 }
 
 impl<L: DeskName> Service<L> {
-    ghost use Rattle.std.specs.Prelude.{◌≡◌, IfOk};
+    ghost use Rattle.std.specs.Prelude.{◌≡◌, IfOk, All};
+    ghost use Rattle.ert_defs.specs.declared.entry.Actor.TheVariants.{Caller, Sched};
     ghost use Rattle.ert_sched.specs.Parts.{parts_of};
     ghost use Rattle.ert_sched.specs.Worlds.{AreFit};
     ghost use Rattle.ert_shared.specs.Dividing.{AreSeated, IsPassOf};
+    ghost use Rattle.ert_shared.specs.Joining.{AreNumbered, HasOwn};
     ghost use Rattle.ert_table.specs.Desks.{front_of};
+    ghost use Rattle.ert_table.specs.Views.{Begins};
 
     /// Opens a service on the desk of a world that was taken apart, which `L` names. Each part gets its lock
     /// and each thread its seat; no entry is made.
@@ -67,6 +74,7 @@ impl<L: DeskName> Service<L> {
             labels,
             ..
         } = parts;
+        let rooms = Rooms::new(alloc, &desk)?;
         let own = pass.split(&desk, Actor::Keeper);
         let keeper = LockedKeeper::new(keeper, own);
         let wheels = lock_wheels(alloc, &desk, &mut pass, wheels)?;
@@ -81,12 +89,59 @@ impl<L: DeskName> Service<L> {
             inboxes,
             mails,
             labels,
+            rooms,
         };
         Ok(Opened {
             service,
             rest: pass,
             scheds,
             callers,
+        })
+    }
+
+    /// Closes the service: the passes are joined, the parts are taken from their locks, and a world is put
+    /// together of them, with the labels. No entry is made, and no memory is taken.
+    ///
+    /// It takes the pass that `open` gave and all seats, in order of number. The world's history begins with
+    /// what each of them knew, and has no other entries of a seat's actor.
+    pub fn close(self, rest: Pass, scheds: Vec<SchedSeat<L>>, callers: Vec<CallerSeat<L>>) -> World
+        requires rest { IsPassOf L.table L.settings rest }
+        requires scheds { AreNumbered (λ s. s.part.wheel) L.settings.schedulers scheds.items }
+        requires callers { AreNumbered (λ s. s.number) L.settings.callers callers.items }
+        ensures settings { result.settings ≡ L.settings }
+        ensures labels { result.labels ≡ self.labels.items }
+        ensures rest { Begins (front_of rest) result.history }
+        ensures scheds { All (λ s. HasOwn (Sched s.part.wheel) (front_of s.pass) result.history) scheds.items }
+        ensures callers { All (λ s. HasOwn (Caller s.number) (front_of s.pass) result.history) callers.items }
+    {
+        let Service {
+            desk,
+            keeper,
+            wheels,
+            inboxes,
+            mails,
+            labels,
+            rooms,
+            ..
+        } = self;
+        let mut pass = rest;
+        let (keeper, own) = keeper.into_inner().into_parts();
+        pass.join(&desk, own);
+        let wheels = gather_wheels(&desk, &mut pass, wheels, rooms.wheel_places, rooms.wheels);
+        let inboxes = gather_inboxes(&desk, &mut pass, inboxes, rooms.inbox_places, rooms.inboxes);
+        let mails = gather_mails(&desk, &mut pass, mails, rooms.mail_places, rooms.mails);
+        let scheds = join_scheds(&desk, &mut pass, scheds, rooms.scheds);
+        join_callers(&desk, &mut pass, callers);
+        World::from_parts(Parts {
+            settings: *desk.settings(),
+            desk,
+            pass,
+            keeper,
+            wheels,
+            inboxes,
+            mails,
+            scheds,
+            labels,
         })
     }
 

@@ -1,9 +1,8 @@
-use Rattle.std.proofs.Common.{◌≡◌, ◌+◌, ◌≤◌, ◌∷◌, [], ◌++◌, true, length, rules, arith, refl, sym, ap, subst, ◌∙◌}
-use Rattle.std.specs.Vec.Iter.{into_iter_items, into_iter_len}
+use Rattle.std.proofs.Common.{◌≡◌, true, length, rules, arith, sym, ap, subst, ◌∙◌}
+use Rattle.std.specs.Vec.Iter.{into_iter_items}
 use Rattle.ert_inbox.specs.Inboxes.{Waiting as Item, Stands}
 use Rattle.ert_defs.specs.declared.entry.Actor.TheVariants.{Inbox}
-use Rattle.ert_shared.proofs.Divided.{next_of, divides_next, seats_more, seats_none}
-use Rattle.ert_shared.specs.Dividing.{AreSeated}
+use Rattle.ert_shared.proofs.Divided.{next_of, divides_next}
 use Rattle.ert_table.specs.Desks.{front_of, actors_of}
 use Rattle.ert_table.specs.Held.{is_held, actors_but}
 use Rattle.ert_shared.proofs.opening.lock_inboxes.Goals as goal
@@ -23,11 +22,11 @@ loop-part-preserved g c =
     let short = ap length steps in
     let was = c.loop-part.invariant.remaining in
     record {
-    belongs = c.split-own.ensures.belongs;
-    front = c.split-own.ensures.front ∙ c.loop-part.invariant.front;
-    divides = divides_next (λ (p : Item). p.wheel) (Stands g.L.DeskName.settings (front_of c.args.pass.now)) Inbox g.L.DeskName.settings.schedulers (actors_of c.args.pass.now) (actors_of c.loop-part.pass) (actors_of c.split-own.new.self)
-        c.loop-part.locks.len c.push_reserved.new.self.len c.in-Some.part (into_iter_items c.loop-part.part-iterator) (into_iter_items c.next.new.self) (λ m n other. other) c.push_reserved.ensures.len
-        c.in-Some.ensures.steps.0 (c.split-own.ensures.rest ∙ ap (λ n. actors_but (actors_of c.loop-part.pass) (Inbox n)) c.wheel.ensures) c.loop-part.invariant.divides;
-    remaining = omega arith;
-    room = search rules;
+      belongs = c.split-own.ensures.belongs;
+      front = c.split-own.ensures.front ∙ c.loop-part.invariant.front;
+      divides = divides_next (λ (p : Item). p.wheel) (Stands g.L.DeskName.settings (front_of c.args.pass.now)) Inbox g.L.DeskName.settings.schedulers (actors_of c.args.pass.now) (actors_of c.loop-part.pass) (actors_of c.split-own.new.self)
+          c.loop-part.locks.len c.push_reserved.new.self.len c.in-Some.part (into_iter_items c.loop-part.part-iterator) (into_iter_items c.next.new.self) (λ m n other. other) c.push_reserved.ensures.len
+          c.in-Some.ensures.steps.0 (c.split-own.ensures.rest ∙ ap (λ n. actors_but (actors_of c.loop-part.pass) (Inbox n)) c.wheel.ensures) c.loop-part.invariant.divides;
+      remaining = omega arith;
+      room = search rules;
     }

@@ -1,9 +1,8 @@
-use Rattle.std.proofs.Common.{◌≡◌, ◌+◌, ◌<◌, ◌≤◌, ◌∷◌, [], ◌++◌, true, length, rules, arith, refl, sym, ap, subst, ◌∙◌}
+use Rattle.std.proofs.Common.{◌+◌, ◌<◌, rules, arith, sym, ap, subst, ◌∙◌}
 use Rattle.ert_defs.specs.declared.entry.Actor.TheVariants.{Caller}
-use Rattle.ert_shared.proofs.Divided.{held_next, seats_more, seats_none}
+use Rattle.ert_shared.proofs.Divided.{held_next, seats_more}
 use Rattle.ert_shared.specs.Dividing.{AreSeated}
 use Rattle.ert_table.specs.Desks.{front_of, actors_of}
-use Rattle.ert_table.specs.Held.{is_held}
 use Rattle.ert_shared.proofs.opening.seat_callers.Goals as goal
 
 pub split-own-requires-clause-held : goal.split-own-requires-clause-held

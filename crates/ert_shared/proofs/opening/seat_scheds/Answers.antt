@@ -1,12 +1,11 @@
-use Rattle.std.proofs.Common.{◌≡◌, ◌+◌, ◌≤◌, ◌∷◌, [], ◌++◌, true, length, rules, arith, refl, sym, ap, subst, ◌∙◌}
-use Rattle.std.specs.Vec.Iter.{into_iter_items, into_iter_len}
+use Rattle.std.proofs.Common.{◌+◌, length, rules, arith, sym, ap, subst, ◌∙◌}
+use Rattle.std.specs.Vec.Iter.{into_iter_items}
 use Rattle.ert_sched.specs.declared.sched_part.SchedPart.{SchedPart as Item}
 use Rattle.ert_sched.specs.Parts.{SchedStands as Stands}
 use Rattle.ert_defs.specs.declared.entry.Actor.TheVariants.{Sched}
-use Rattle.ert_shared.proofs.Divided.{next_of, divides_next, seats_more, seats_none}
+use Rattle.ert_shared.proofs.Divided.{next_of, divides_next, seats_more}
 use Rattle.ert_shared.specs.Dividing.{AreSeated}
 use Rattle.ert_table.specs.Desks.{front_of, actors_of}
-use Rattle.ert_table.specs.Held.{is_held, actors_but}
 use Rattle.ert_shared.proofs.opening.seat_scheds.Goals as goal
 
 pub split-own-requires-clause-held : goal.split-own-requires-clause-held
@@ -24,15 +23,15 @@ loop-part-preserved g c =
     let short = ap length steps in
     let was = c.loop-part.invariant.remaining in
     record {
-    belongs = c.split-own.ensures.belongs;
-    front = c.split-own.ensures.front ∙ c.loop-part.invariant.front;
-    divides = divides_next (λ (p : Item). p.wheel) (Stands g.L.DeskName.settings (front_of c.args.pass.now)) Sched g.L.DeskName.settings.schedulers (actors_of c.args.pass.now) (actors_of c.loop-part.pass) (actors_of c.split-own.new.self)
-        c.loop-part.seats.len c.push_reserved.new.self.len c.in-Some.part (into_iter_items c.loop-part.part-iterator) (into_iter_items c.next.new.self) (λ m n other. other) c.push_reserved.ensures.len
-        c.in-Some.ensures.steps.0 c.split-own.ensures.rest c.loop-part.invariant.divides;
-    remaining = omega arith;
-    room = search rules;
-    seated = subst (λ k. AreSeated (λ s. s.part.wheel) (λ s. front_of s.pass) k (front_of c.args.pass.now) c.push_reserved.new.self.items) (sym c.push_reserved.ensures.len)
-        (subst (λ l. AreSeated (λ s. s.part.wheel) (λ s. front_of s.pass) (c.loop-part.seats.len + 1) (front_of c.args.pass.now) l) (sym c.push_reserved.ensures.items)
-        (seats_more (λ s. s.part.wheel) (λ s. front_of s.pass) c.loop-part.seats.len (front_of c.args.pass.now) c.loop-part.seats.items c.new.result c.loop-part.invariant.seated
-        (ap (λ p. p.wheel) c.new.ensures.part ∙ next.named) (ap (λ p. front_of p) c.new.ensures.pass ∙ (c.split-own.ensures.new_front ∙ c.loop-part.invariant.front))));
+      belongs = c.split-own.ensures.belongs;
+      front = c.split-own.ensures.front ∙ c.loop-part.invariant.front;
+      divides = divides_next (λ (p : Item). p.wheel) (Stands g.L.DeskName.settings (front_of c.args.pass.now)) Sched g.L.DeskName.settings.schedulers (actors_of c.args.pass.now) (actors_of c.loop-part.pass) (actors_of c.split-own.new.self)
+          c.loop-part.seats.len c.push_reserved.new.self.len c.in-Some.part (into_iter_items c.loop-part.part-iterator) (into_iter_items c.next.new.self) (λ m n other. other) c.push_reserved.ensures.len
+          c.in-Some.ensures.steps.0 c.split-own.ensures.rest c.loop-part.invariant.divides;
+      remaining = omega arith;
+      room = search rules;
+      seated = subst (λ k. AreSeated (λ s. s.part.wheel) (λ s. front_of s.pass) k (front_of c.args.pass.now) c.push_reserved.new.self.items) (sym c.push_reserved.ensures.len)
+          (subst (λ l. AreSeated (λ s. s.part.wheel) (λ s. front_of s.pass) (c.loop-part.seats.len + 1) (front_of c.args.pass.now) l) (sym c.push_reserved.ensures.items)
+          (seats_more (λ s. s.part.wheel) (λ s. front_of s.pass) c.loop-part.seats.len (front_of c.args.pass.now) c.loop-part.seats.items c.new.result c.loop-part.invariant.seated
+          (ap (λ p. p.wheel) c.new.ensures.part ∙ next.named) (ap (λ p. front_of p) c.new.ensures.pass ∙ (c.split-own.ensures.new_front ∙ c.loop-part.invariant.front))));
     }

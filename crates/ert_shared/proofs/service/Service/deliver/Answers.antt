@@ -1,4 +1,4 @@
-use Rattle.std.proofs.Common.{◌≡◌, ◌<◌, ◌≤◌, ◌+◌, List, [], ◌∷◌, ◌++◌, length, Some, Ok, inl, inr, rules, sym, ap, subst, ◌∙◌, add-zero}
+use Rattle.std.proofs.Common.{◌≡◌, ◌≤◌, ◌+◌, [], ◌∷◌, ◌++◌, Some, Ok, inr, rules, sym, ap, subst, ◌∙◌, add-zero}
 use Rattle.std.specs.Prelude.{OnOk}
 use Rattle.ert_answers.specs.Chains.{Hands, puts, drops}
 use Rattle.ert_answers.specs.Ways.{Grows, beside}

@@ -1,4 +1,4 @@
-use Rattle.std.proofs.Common.{◌≡◌, ◌⊎◌, ◌<◌, ◌≤◌, ◌+◌, List, length}
+use Rattle.std.proofs.Common.{◌≡◌, ◌⊎◌, ◌≤◌, ◌+◌, List, length}
 use Rattle.ert_answers.specs.Chains.{HandsMany, puts, drops}
 use Rattle.ert_answers.specs.Ways.{Grows, beside}
 use Rattle.ert_answers.specs.declared.answers.Handed.{Handed}

@@ -1,4 +1,4 @@
-use Rattle.std.proofs.Common.{◌≡◌, sym, subst, ap}
+use Rattle.std.proofs.Common.{sym, subst}
 use Rattle.ert_answers.specs.WheelCalls.{MarksExit}
 use Rattle.ert_defs.specs.declared.entry.Actor.TheVariants.{Caller}
 use Rattle.ert_shared.proofs.Chained.{marked}

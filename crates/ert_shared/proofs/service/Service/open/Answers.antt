@@ -1,7 +1,7 @@
-use Rattle.std.proofs.Common.{◌≡◌, ◌<◌, true, refl, sym, ap, subst, ◌∙◌, rules}
-use Rattle.ert_defs.specs.declared.entry.Actor.TheVariants.{Keeper, Wheel, Inbox, Sched, MailOf, Caller}
+use Rattle.std.proofs.Common.{refl, ◌∙◌}
+use Rattle.ert_defs.specs.declared.entry.Actor.TheVariants.{Wheel, Inbox, Sched, MailOf, Caller}
 use Rattle.ert_sched.specs.Parts.{parts_of}
-use Rattle.ert_shared.proofs.OpenedParts.{stand_at, keeper_at, held_at}
+use Rattle.ert_shared.proofs.OpenedParts.{stand_at, held_at}
 use Rattle.ert_shared.proofs.service.Service.open.Goals as goal
 
 pub lock_wheels-requires-clause-parts : goal.lock_wheels-requires-clause-parts

@@ -1,4 +1,4 @@
-use Rattle.std.proofs.Common.{◌≡◌, ◌<◌, true, Ok, rules, subst, ◌∙◌}
+use Rattle.std.proofs.Common.{◌≡◌, true, Ok, rules, subst, ◌∙◌}
 use Rattle.ert_answers.specs.Chains.{Serves, ServesMany}
 use Rattle.ert_answers.specs.Ways.{Grows, beside}
 use Rattle.ert_defs.specs.declared.entry.Actor.TheVariants.{Sched}

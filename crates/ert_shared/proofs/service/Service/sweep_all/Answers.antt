@@ -1,5 +1,5 @@
-use Rattle.std.proofs.Common.{◌≡◌, ◌+◌, rules, sym, subst, ◌∙◌}
-use Rattle.ert_answers.specs.Chains.{SweepsWheel, SweepsWheels}
+use Rattle.std.proofs.Common.{rules, subst, ◌∙◌}
+use Rattle.ert_answers.specs.Chains.{SweepsWheel}
 use Rattle.ert_answers.specs.Ways.{Grows, beside}
 use Rattle.ert_defs.specs.declared.entry.Actor.TheVariants.{Caller}
 use Rattle.ert_shared.proofs.Chained.{still_exited, swept_none, swept_more}
