@@ -1,0 +1,12 @@
+pub mod Deadlines
+pub mod Onward
+pub mod Growing
+pub mod Plain
+pub mod Pushing
+pub mod Reading
+pub mod Starting
+pub mod Steps
+pub mod Stopping
+pub mod Still
+pub mod Tables
+pub mod Passing

@@ -1,0 +1,154 @@
+-- A turn goes through the intervals one after the other.
+
+use Rattle.std.proofs.Common.{◌≡◌, ◌⊎◌, ℕ, ◌+◌, ◌<◌, ◌≤◌, zero, suc, set, Bool, true, false, List, [], ◌∷◌, length, slice_index_or, Result, Ok, Err, refl, sym, ap, subst, ◌∙◌, inl, inr, arith, length-append}
+use Rattle.std.proofs.lemmas.Bool.{cases_eq}
+use Rattle.ert_interval.proofs.Tables.{either}
+use Rattle.ert_defs.specs.Legal.{Legal}
+use Rattle.ert_defs.specs.declared.memory.NoMemory.{NoMemory}
+use Rattle.ert_interval.specs.Calls.{Still, IsOf, Passed, PassedBy, PassesOne, PassesAll, PassesSome, Unmoved, timers, Counts}
+use Rattle.ert_interval.specs.Intervals.{IsKept, AreKept}
+use Rattle.ert_interval.specs.declared.interval.Interval.{Interval}
+use Rattle.ert_interval.proofs.Onward.{ends_stay}
+use Rattle.ert_sched.specs.Worlds.{Service}
+
+-- the first so many intervals were gone through
+pub record PassesTo (w upto : ℕ) (new : Service) (is js : List Interval) (armed : ℕ) : Type 0 where
+  pub counted : length js ≡ length is
+  pub started : timers js ≡ timers is + armed
+  pub passed : (m : ℕ) (d : Interval) → m < upto → m < length is → IsOf w (slice_index_or is m d)
+      → (b : Bool) × Passed new (slice_index_or is m d) (slice_index_or js m d) b
+  pub untouched : (m : ℕ) (d : Interval) → upto ≤ m → slice_index_or js m d ≡ slice_index_or is m d
+  pub others : (m : ℕ) (d : Interval) → m < length is → (IsOf w (slice_index_or is m d) → ⊥) → slice_index_or js m d ≡ slice_index_or is m d
+
+passed_stays : (a b : Service) (i j : Interval) (armed : Bool) → Still a b → Legal a.settings a.history → Legal b.settings b.history
+    → IsKept a.settings a.history j → Passed a i j armed → Passed b i j armed
+passed_stays a b i j armed still legal_a legal kept passed = record {
+  same = passed.same;
+  fires = passed.fires;
+  ends = ends_stay a b j j.state still legal_a legal kept.used passed.ends;
+}
+
+abbrev pub counted_by : Bool → ℕ
+counted_by true = 1
+counted_by false = 0
+
+pub passes_none : (w : ℕ) (a : Service) (is : List Interval) → PassesTo w 0 a is is 0
+passes_none w a is = record {
+  counted = refl;
+  started = omega arith;
+  passed = λ m d low high of_wheel. absurd (omega (arith, low));
+  untouched = λ m d low. refl;
+  others = λ m d low other. refl;
+}
+
+-- one more
+pub passes_more : (w n : ℕ) (a b : Service) (is js ks : List Interval) (armed next : ℕ) (one : Bool) → PassesTo w n a is js armed
+    → PassesOne (Ok one) n w b js ks → Still a b → AreKept a js → Legal b.settings b.history → timers ks ≡ timers js + counted_by one
+    → next ≡ armed + counted_by one → PassesTo w (n + 1) b is ks next
+passes_more w n a b is js ks armed next one to step still kept legal count sum = record {
+  counted = step.counted ∙ to.counted;
+  started = omega (arith, count, to.started, sum);
+  passed = λ m d low high of_wheel. elim (cases_eq m n) [
+    | inl same ↦ subst (λ x. IsOf w (slice_index_or is x d) → (o : Bool) × Passed b (slice_index_or is x d) (slice_index_or ks x d) o) (sym same)
+        (λ of_n.
+        let at : slice_index_or js n d ≡ slice_index_or is n d = to.untouched n d (omega arith) in
+        (one, subst (λ i. Passed b i (slice_index_or ks n d) one) at (step.one d (subst (IsOf w) (sym at) of_n))))
+        of_wheel
+    | inr not ↦
+        let p = to.passed m d (omega (arith, low, not)) high of_wheel in
+        let j : Interval = slice_index_or js m d in (
+          p.0,
+          subst (λ k. Passed b (slice_index_or is m d) k p.0) (sym (step.others m d not))
+              (passed_stays a b (slice_index_or is m d) j p.0 still kept.legal legal (kept.each m d (subst (λ x. m < x) (sym to.counted) high)) p.1),
+        )
+  ];
+  untouched = λ m d low. step.others m d (omega (arith, low)) ∙ to.untouched m d (omega (arith, low));
+  others = λ m d high other. elim (cases_eq m n) [
+    | inl same ↦
+        let at : slice_index_or js m d ≡ slice_index_or is m d = to.others m d high other in
+        subst (λ x. slice_index_or ks x d ≡ slice_index_or js x d) (sym same)
+        (step.other d (λ of_n. other (subst (IsOf w) (ap (λ x. slice_index_or js x d) (sym same) ∙ at) of_n))).1 ∙ at
+    | inr not ↦ step.others m d not ∙ to.others m d high other
+  ];
+}
+
+pub passes_all : (w n : ℕ) (b : Service) (is js : List Interval) (armed : ℕ) → PassesTo w n b is js armed → length is ≤ n → PassesAll w b is js armed
+passes_all w n b is js armed to high = record {
+  counted = to.counted;
+  started = to.started;
+  passed = λ m d low of_wheel. to.passed m d (omega (arith, low, high)) low of_wheel;
+  others = to.others;
+}
+
+-- or no memory for the next
+pub passes_some : (w n : ℕ) (a b : Service) (is js ks : List Interval) (armed : ℕ) (e : NoMemory) → PassesTo w n a is js armed
+    → PassesOne (Err e) n w b js ks → Still a b → AreKept a js → Legal b.settings b.history → PassesSome w b is ks
+passes_some w n a b is js ks armed e to step still kept legal = record {
+  counted = step.counted ∙ to.counted;
+  passed = λ m d high of_wheel. elim (cases_eq m n) [
+    | inl same ↦ subst (λ x. IsOf w (slice_index_or is x d) → Unmoved (slice_index_or is x d) (slice_index_or ks x d)
+        ⊎ ((o : Bool) × Passed b (slice_index_or is x d) (slice_index_or ks x d) o)) (sym same)
+        (λ of_n.
+        let at : slice_index_or js n d ≡ slice_index_or is n d = to.untouched n d (omega arith) in
+        inl (subst (λ i. Unmoved i (slice_index_or ks n d)) at (step.one d (subst (IsOf w) (sym at) of_n))))
+        of_wheel
+    | inr not ↦ elim (either m n not) [
+      | inl low ↦
+          let p = to.passed m d low high of_wheel in
+          let j : Interval = slice_index_or js m d in
+          inr (
+            p.0,
+            subst (λ k. Passed b (slice_index_or is m d) k p.0) (sym (step.others m d not))
+                (passed_stays a b (slice_index_or is m d) j p.0 still kept.legal legal (kept.each m d (subst (λ x. m < x) (sym to.counted) high)) p.1),
+          )
+      | inr more ↦
+          let at : slice_index_or ks m d ≡ slice_index_or is m d = step.others m d not ∙ to.untouched m d (omega (arith, more)) in
+          inl (subst (Unmoved (slice_index_or is m d)) (sym at) (unmoved_self (slice_index_or is m d)))
+    ]
+  ];
+  others = λ m d high other. elim (cases_eq m n) [
+    | inl same ↦
+        let at : slice_index_or js m d ≡ slice_index_or is m d = to.others m d high other in
+        subst (λ x. slice_index_or ks x d ≡ slice_index_or js x d) (sym same)
+        (step.other d (λ of_n. other (subst (IsOf w) (ap (λ x. slice_index_or js x d) (sym same) ∙ at) of_n))).1 ∙ at
+    | inr not ↦ step.others m d not ∙ to.others m d high other
+  ];
+}
+  where
+    unmoved_self : (i : Interval) → Unmoved i i
+    unmoved_self i = record {
+      same = record { wheel = refl; first = refl; period = refl; dest = refl; msg = refl };
+      state = refl;
+      last = refl;
+      deadline = refl;
+      firings = refl;
+    }
+
+-- how many timers there are with another interval at one place
+pub timers_set : (xs : List Interval) (n : ℕ) (j d : Interval) → n < length xs
+    → timers (set xs n j) + length (slice_index_or xs n d).firings.items ≡ timers xs + length j.firings.items
+timers_set [] n j d low = absurd (omega (arith, low))
+timers_set (x ∷ xs) zero j d low = omega arith
+timers_set (x ∷ xs) (suc n) j d low = let more = timers_set xs n j d (omega (arith, low)) in omega (arith, more)
+
+pub counts_by : (answer : Result Bool NoMemory) (w : Service) (is : List Interval) (n : ℕ) (i j : Interval) → n < length is → i ≡ slice_index_or is n i
+    → PassedBy answer w i j → Counts answer is (set is n j)
+counts_by (Ok true) w is n i j low at passed =
+    let both = timers_set is n j i low in
+    let more : length j.firings.items ≡ length i.firings.items + 1 = ap length passed.fires.1 ∙ length-append i.firings.items (passed.fires.0 ∷ []) in
+    let here : length i.firings.items ≡ length (slice_index_or is n i).firings.items = ap (λ (x : Interval). length x.firings.items) at in
+    omega (arith, both, more, here)
+counts_by (Ok false) w is n i j low at passed =
+    let both = timers_set is n j i low in
+    let more : length j.firings.items ≡ length i.firings.items = ap length passed.fires in
+    let here : length i.firings.items ≡ length (slice_index_or is n i).firings.items = ap (λ (x : Interval). length x.firings.items) at in
+    omega (arith, both, more, here)
+counts_by (Err e) w is n i j low at unmoved =
+    let both = timers_set is n j i low in
+    let more : length j.firings.items ≡ length i.firings.items = ap length unmoved.firings in
+    let here : length i.firings.items ≡ length (slice_index_or is n i).firings.items = ap (λ (x : Interval). length x.firings.items) at in
+    omega (arith, both, more, here)
+
+pub count_is : (one : Bool) (is js : List Interval) → Counts (Ok one) is js → timers js ≡ timers is + counted_by one
+count_is true is js counts = counts
+count_is false is js counts = omega (arith, counts)

@@ -1,0 +1,198 @@
+-- What the start of a timer leaves.
+
+use Rattle.std.proofs.Common.{◌≡◌, ◌≢◌, ℕ, ◌+◌, ◌≤◌, ℤ, Bool, true, false, cond, List, [], ◌∷◌, ◌++◌, All, Option, Some, None, Ok, Err, refl, sym, ap, subst, ◌∙◌, arith, append_assoc, eq-eqb, lt-ltb}
+use Rattle.std.proofs.lemmas.Bool.{le-leb}
+use Rattle.ert_answers.specs.TimerCalls.{Starts, Closes, AreTaken}
+use Rattle.ert_answers.specs.declared.answers.StartErr.{StartErr}
+use Rattle.ert_answers.specs.declared.answers.StartErr.TheVariants.{BadArg, Full, NoMemory}
+use Rattle.ert_defs.specs.Actors.{has_actor}
+use Rattle.ert_defs.specs.Entries.{look_entry, arm_entry, mark_entry}
+use Rattle.ert_defs.specs.Legal.{Legal, LegalFrom, Can, IsSlot, names_timer}
+use Rattle.ert_defs.specs.Milliseconds.{deadline_of}
+use Rattle.ert_defs.specs.States.{State, state, run, next}
+use Rattle.ert_defs.specs.Timers.{Row, row_of, row_from, same_timer}
+use Rattle.ert_defs.specs.declared.entry.Actor.TheVariants.{Wheel, Caller}
+use Rattle.ert_defs.specs.declared.entry.Entry.{Entry}
+use Rattle.ert_defs.specs.declared.settings.Settings.{Settings}
+use Rattle.ert_defs.specs.declared.timer.Start.{Start}
+use Rattle.ert_defs.specs.declared.timer.Status.TheVariants.{Armed}
+use Rattle.ert_defs.specs.declared.timer.TimerRef.{TimerRef}
+use Rattle.ert_defs.proofs.FiredTimers.{row_named, same_timer_self}
+use Rattle.ert_defs.proofs.Rows.{IsRow, rows_hold}
+use Rattle.ert_defs.proofs.Runs.{legal_first, legal_then, state-append}
+use Rattle.ert_defs.proofs.Settlings.{armed_first}
+use Rattle.ert_defs.proofs.Slots.{ordered, ordered_next}
+use Rattle.ert_defs.proofs.Standing.{of_row}
+use Rattle.ert_interval.specs.Calls.{Still, AreStill, IsFull}
+use Rattle.ert_interval.specs.Intervals.{HasFired, IsGoing}
+use Rattle.ert_interval.proofs.Plain.{ArePlain, plain_spares, starts_plain}
+use Rattle.ert_interval.proofs.Reading.{piece_legal, piece_state}
+use Rattle.ert_interval.proofs.Steps.{row_stays, fired_stays, used_stays, going_stays, none_from}
+use Rattle.ert_interval.proofs.Still.{still_armed, still_lives, still_full, still_append, probes_still, taken_still, full_from}
+use Rattle.ert_sched.specs.Worlds.{Service, Goes, By}
+
+-- a row at the end is found, where there was none before
+row_last : (rows : List Row) (row : Row) → row_of rows row.timer ≡ None → row_of (rows ++ row ∷ []) row.timer ≡ Some row
+row_last [] row none = rw (same_timer_self row.timer) refl
+row_last (x ∷ rows) row none = at (same_timer x.timer row.timer) (row_last rows row) none
+  where
+    at : (b : Bool) → (row_of rows row.timer ≡ None → row_of (rows ++ row ∷ []) row.timer ≡ Some row)
+        → cond b (Some x) (row_of rows row.timer) ≡ None → cond b (Some x) (row_of (rows ++ row ∷ []) row.timer) ≡ Some row
+    at true more h = absurd cc
+    at false more h = more h
+
+-- a timer of the next generation has no row yet
+row_new : (rows : List Row) (w : ℕ) (last : ℕ → ℕ) (timer : TimerRef) (o : Option Row) → All (IsRow w last) rows
+    → timer.generation ≡ last timer.slot + 1 → row_of rows timer ≡ o → row_of rows timer ≡ None
+row_new rows w last timer None each new is = is
+row_new rows w last timer (Some row) each new is =
+    let is_row : IsRow w last row = of_row (IsRow w last) rows timer row each is in
+    let named : row.timer ≡ timer = row_named rows row timer is in
+    let within : timer.generation ≤ last timer.slot = subst (λ (t : TimerRef). t.generation ≤ last t.slot) named is_row.within in
+    absurd (omega arith)
+
+abbrev row_at : TimerRef → Start → ℕ → Row
+row_at timer start deadline = record { timer = timer; deadline = deadline; dest = start.dest; msg = start.msg; kind = start.kind }
+
+-- a timer has just been armed
+armed_row : (g : Settings) (h : List Entry) (timer : TimerRef) (start : Start) (deadline : ℕ) → Legal g h → Can g (state g h) (arm_entry 0 timer start)
+    → deadline_of g start ((state g h).looked (Caller 0)) ≡ Some deadline
+    → row_of ((next g (state g h) (arm_entry 0 timer start)).rows timer.wheel) timer ≡ Some (row_at timer start deadline)
+armed_row g h timer start deadline legal can due =
+    let s : State = state g h in
+    let has : has_actor (arm_entry 0 timer start) (Wheel timer.wheel) ≡ true = eq-eqb timer.wheel timer.wheel refl in
+    let none : row_of (s.rows timer.wheel) timer ≡ None =
+    row_new (s.rows timer.wheel) timer.wheel (s.last timer.wheel) timer (row_of (s.rows timer.wheel) timer) (rows_hold g h timer.wheel legal).each
+    can.known.generation refl in
+    let rows : (next g s (arm_entry 0 timer start)).rows timer.wheel ≡ s.rows timer.wheel ++ row_at timer start deadline ∷ [] =
+    rw has (ap (λ d. s.rows timer.wheel ++ row_from timer start d) due) in
+    ap (λ l. row_of l timer) rows ∙ row_last (s.rows timer.wheel) (row_at timer start deadline) none
+
+armed_status : (g : Settings) (s : State) (timer : TimerRef) (start : Start) → (next g s (arm_entry 0 timer start)).status timer ≡ Some Armed
+armed_status g s timer start =
+    rw (eq-eqb timer.wheel timer.wheel refl, eq-eqb timer.slot timer.slot refl, eq-eqb timer.generation timer.generation refl) refl
+
+names : (g : Settings) (timer : TimerRef) → IsSlot g timer.wheel timer.slot → 1 ≤ timer.generation → timer.generation ≤ 262143 → names_timer g timer ≡ true
+names g timer slot low high =
+    rw (lt-ltb timer.wheel g.schedulers slot.wheel_high, lt-ltb timer.slot g.slots slot.slot_high, le-leb 1 timer.generation low, le-leb timer.generation 262143 high) refl
+
+-- a timer was started
+pub record HasStarted (a b : Service) (w : ℕ) (start : Start) (timer : TimerRef) (deadline : ℕ) : Type 0 where
+  pub on : timer.wheel ≡ w
+  pub named : names_timer a.settings timer ≡ true
+  pub before : List Entry
+  pub behind : List Entry
+  pub parted : b.history ≡ before ++ behind
+  pub early : (r : TimerRef) → HasFired ((state a.settings a.history).status r) → HasFired ((state a.settings before).status r)
+  pub unarmed : (state a.settings before).status timer ≡ None
+  pub new : (state a.settings a.history).status timer ≡ None
+  pub row : row_of ((state a.settings b.history).rows timer.wheel) timer ≡ Some (row_at timer start deadline)
+  pub going : IsGoing ((state a.settings b.history).status timer) ((state a.settings b.history).exited start.dest)
+  pub used : (state a.settings b.history).status timer ≢ None
+  pub lives : (state a.settings a.history).exited start.dest ≡ false → ((state a.settings b.history).status timer ≡ Some Armed) × Still a b
+
+closed : (was : Bool) (timer : TimerRef) (closing : List Entry) → was ≡ false → Closes was 0 timer closing → closing ≡ []
+closed was timer closing is closes = subst (λ b. Closes b 0 timer closing) is closes
+
+pub started : (a b : Service) (w : ℕ) (start : Start) (timer : TimerRef) (deadline : ℕ) → Goes a (By a (λ g. Starts g 0 w start (Ok timer))) b
+    → Legal b.settings b.history → ((look : ℤ) → deadline_of a.settings start look ≡ Some deadline) → HasStarted a b w start timer deadline
+started a b w start timer deadline goes legal_b due =
+    let g : Settings = a.settings in
+    let st = goes.grows.made in
+    let pre : List Entry = look_entry (Caller 0) st.now ∷ st.probes in
+    let arm : Entry = arm_entry 0 timer start in
+    let mark : Entry = mark_entry (Caller 0) start.dest false st.was in
+    let post : List Entry = mark ∷ st.closing in
+    let h1 : List Entry = a.history ++ pre in
+    let s1 : State = state g h1 in
+    let parted : b.history ≡ h1 ++ (arm ∷ post) =
+    goes.grows.grown ∙ (ap (λ l. a.history ++ l) st.entries ∙ sym (append_assoc a.history pre (arm ∷ post))) in
+    let legal : Legal g (h1 ++ (arm ∷ post)) = subst (Legal g) parted (subst (λ k. Legal k b.history) goes.settings legal_b) in
+    let legal_h1 : Legal g h1 = legal_first g _ h1 (arm ∷ post) legal in
+    let legal_a : Legal g a.history = legal_first g _ a.history pre legal_h1 in
+    let legal_pre : LegalFrom g (state g a.history) pre = legal_then g _ a.history pre legal_h1 in
+    let legal_rest : LegalFrom g s1 (arm ∷ post) = legal_then g _ h1 (arm ∷ post) legal in
+    let can = legal_rest.0 in
+    let s2 : State = next g s1 arm in
+    let end : state g b.history ≡ run g s2 post = ap (state g) parted ∙ state-append g h1 (arm ∷ post) in
+    let at1 : s1 ≡ run g (state g a.history) pre = state-append g a.history pre in
+    let plain : ArePlain (arm ∷ post) = plain_then (look_entry (Caller 0) st.now ∷ st.probes) (arm ∷ post)
+    (subst ArePlain st.entries (starts_plain g 0 w start (Ok timer) (state g a.history) goes.grows.piece st)) in
+    let unarmed : s1.status timer ≡ None = armed_first s1 timer timer (ordered g h1 legal_h1) can.known.generation (same_timer_self timer) in
+    let status : s2.status timer ≡ Some Armed = armed_status g s1 timer start in
+    let row2 : row_of (s2.rows timer.wheel) timer ≡ Some (row_at timer start deadline) =
+    armed_row g h1 timer start deadline legal_h1 can (due (s1.looked (Caller 0))) in
+    let going2 : IsGoing (s2.status timer) (s2.exited start.dest) = subst (λ x. IsGoing x (s2.exited start.dest)) (sym status) tt in
+    let used2 : s1.status timer ≡ None → s2.status timer ≢ None = λ was none. (let clash : Some Armed ≡ None = sym status ∙ none in absurd cc) in
+    let still_pre : AreStill pre = (refl, probes_still (Caller 0) w st.probes st.are_probes) in
+    record {
+      on = st.on_wheel;
+      named = names g timer can.keeps.2 (omega (arith, can.known.generation)) can.known.unspent;
+      before = h1;
+      behind = arm ∷ post;
+      parted = parted;
+      early = λ r fired. subst (λ (s : State). HasFired (s.status r)) (sym at1)
+          (fired_stays g (state g a.history) pre r (ordered g a.history legal_a) legal_pre fired);
+      unarmed = unarmed;
+      new = none_from ((state g a.history).status timer) (λ some.
+          subst (λ (s : State). s.status timer ≢ None) (sym at1)
+          (used_stays g (state g a.history) pre timer (ordered g a.history legal_a) legal_pre some) unarmed);
+      row = subst (λ (s : State). row_of (s.rows timer.wheel) timer ≡ Some (row_at timer start deadline)) (sym end)
+          (row_stays g s2 post timer (row_at timer start deadline) row2);
+      going = subst (λ (s : State). IsGoing (s.status timer) (s.exited start.dest)) (sym end)
+          (going_stays g s2 post timer (row_at timer start deadline) legal_rest.1 (plain_spares timer post plain.1) row2 going2);
+      used = subst (λ (s : State). s.status timer ≢ None) (sym end)
+          (used_post g s2 post timer start h1 s1 refl legal_h1 can legal_rest.1 (used2 unarmed));
+      lives = λ alive.
+          let alive1 : s1.exited start.dest ≡ false =
+          subst (λ (s : State). s.exited start.dest ≡ false) (sym at1) (still_lives g (state g a.history) pre start.dest still_pre alive) in
+          let was : st.was ≡ false = legal_rest.1.0.found ∙ alive1 in
+          let none : st.closing ≡ [] = closed st.was timer st.closing was st.closes in
+          let still_rest : AreStill (arm ∷ (mark ∷ [])) = (refl, (refl, tt)) in
+          let still_es : AreStill goes.grows.piece =
+          subst AreStill (sym st.entries) (still_append pre (arm ∷ post) still_pre (subst (λ l. AreStill (arm ∷ (mark ∷ l))) (sym none) still_rest)) in (
+            subst (λ (s : State). s.status timer ≡ Some Armed) (sym end)
+                (still_armed g s2 post timer (subst (λ l. AreStill (mark ∷ l)) (sym none) (refl, tt)) status),
+            record { piece = goes.grows.piece; grown = goes.grows.grown; still = still_es; settings = goes.settings },
+          );
+    }
+  where
+    plain_then : (es fs : List Entry) → ArePlain (es ++ fs) → ArePlain fs
+    plain_then [] fs plain = plain
+    plain_then (e ∷ es) fs plain = plain_then es fs plain.1
+
+    used_post : (g : Settings) (s2 : State) (post : List Entry) (timer : TimerRef) (start : Start) (h1 : List Entry) (s1 : State) → s1 ≡ state g h1 → Legal g h1
+        → Can g (state g h1) (arm_entry 0 timer start) → LegalFrom g (next g (state g h1) (arm_entry 0 timer start)) post
+        → (next g (state g h1) (arm_entry 0 timer start)).status timer ≢ None
+        → (run g (next g (state g h1) (arm_entry 0 timer start)) post).status timer ≢ None
+    used_post g s2 post timer start h1 s1 is legal can legal_post used =
+        used_stays g (next g (state g h1) (arm_entry 0 timer start)) post timer (ordered_next g (state g h1) (arm_entry 0 timer start) (ordered g h1 legal) can)
+        legal_post used
+
+taken_all : (g : Settings) (s : State) (w : ℕ) (now : ℤ) (probes : List Entry) → LegalFrom g s (look_entry (Caller 0) now ∷ probes)
+    → AreTaken 0 w s 0 g.slots probes → IsFull g s w
+taken_all g s w now probes legal taken k low =
+    full_from g s (next g s (look_entry (Caller 0) now)) w 0 g.slots probes (λ j. refl) legal.1 taken k (omega arith) (omega (arith, low))
+
+-- a start that found no free slot leaves a full wheel
+pub refused_full : (a b : Service) (w : ℕ) (start : Start) (deadline : ℕ) (e : StartErr) → Goes a (By a (λ g. Starts g 0 w start (Err e))) b
+    → Legal b.settings b.history → ((look : ℤ) → deadline_of a.settings start look ≡ Some deadline) → (e ≡ NoMemory → ⊥)
+    → IsFull b.settings (state b.settings b.history) w × Still a b
+refused_full a b w start deadline BadArg goes legal due memory =
+    let st = goes.grows.made in
+    let clash : Some deadline ≡ None = sym (due st.now) ∙ st.refused in
+    absurd cc
+refused_full a b w start deadline NoMemory goes legal due memory = absurd (memory refl)
+refused_full a b w start deadline Full goes legal due memory =
+    let g : Settings = a.settings in
+    let s : State = state g a.history in
+    let st = goes.grows.made in
+    let es : List Entry = look_entry (Caller 0) st.now ∷ st.probes in
+    let legal_es : LegalFrom g s es = subst (LegalFrom g s) st.entries (piece_legal a b goes.grows.piece goes.settings goes.grows.grown legal) in
+    let still : AreStill es = (refl, taken_still 0 w s 0 g.slots st.probes st.are_taken) in
+    let end : state b.settings b.history ≡ run g s es = piece_state a b goes.grows.piece goes.settings goes.grows.grown ∙ ap (run g s) st.entries in
+    let full : IsFull g (run g s es) w = still_full g s es w legal_es still (taken_all g s w st.now st.probes legal_es st.are_taken) in (
+      subst (λ (k : Settings). IsFull k (state b.settings b.history) w) (sym goes.settings)
+          (subst (λ (t : State). IsFull g t w) (sym end) full),
+      record { piece = goes.grows.piece; grown = goes.grows.grown; still = subst AreStill (sym st.entries) still; settings = goes.settings },
+    )

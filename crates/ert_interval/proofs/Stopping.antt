@@ -1,0 +1,118 @@
+-- What a stop leaves.
+
+use Rattle.std.proofs.Common.{◌≡◌, ◌≢◌, ◌↔◌, ℕ, ℤ, true, false, List, [], ◌∷◌, ◌++◌, Option, Some, None, refl, sym, ap, subst, ◌∙◌}
+use Rattle.ert_answers.specs.TimerCalls.{Cancels, cancel_entries}
+use Rattle.ert_defs.specs.Entries.{look_entry, peek_entry, cancel_entry}
+use Rattle.ert_defs.specs.Legal.{Legal, LegalFrom}
+use Rattle.ert_defs.specs.States.{State, state, run}
+use Rattle.ert_defs.specs.Timers.{Row, row_of, settled_as}
+use Rattle.ert_defs.specs.declared.entry.Actor.TheVariants.{Caller}
+use Rattle.ert_defs.specs.declared.entry.Entry.{Entry}
+use Rattle.ert_defs.specs.declared.settings.Settings.{Settings}
+use Rattle.ert_defs.specs.declared.timer.Status.{Status}
+use Rattle.ert_defs.specs.declared.timer.Status.TheVariants.{Armed, Expired, Delivered, Cancelled, Orphaned, Dropped}
+use Rattle.ert_defs.specs.declared.timer.TimerRef.{TimerRef}
+use Rattle.ert_defs.proofs.FiredTimers.{same_timer_self, same_timer-false}
+use Rattle.ert_interval.specs.Intervals.{IsKept, IsOpen, row_for}
+use Rattle.ert_interval.specs.declared.interval.Interval.{Interval}
+use Rattle.ert_interval.specs.declared.interval.IntervalState.{IntervalState}
+use Rattle.ert_interval.specs.declared.interval.IntervalState.TheVariants.{Running, Waiting, Stopped, Ended}
+use Rattle.ert_interval.specs.Calls.{StopsOpen, StopsIn}
+use Rattle.ert_interval.specs.Spared.{CancelsOnly, CancelOnly}
+use Rattle.ert_defs.specs.declared.entry.Event.{Event}
+use Rattle.ert_defs.specs.declared.entry.Event.TheVariants.{Look, Peek, Cancel}
+use Rattle.ert_interval.proofs.Steps.{spares, AllSpare, asks, NoneAsks}
+use Rattle.ert_interval.proofs.Growing.{with_state, kept_with}
+use Rattle.ert_interval.proofs.Reading.{piece_legal, left_armed}
+use Rattle.ert_sched.specs.Worlds.{Service, Goes, By}
+
+settled_other : (x : Option Status) → settled_as Cancelled x ≢ Some Armed
+settled_other None = λ is. absurd cc
+settled_other (Some Armed) = λ is. absurd cc
+settled_other (Some Expired) = λ is. absurd cc
+settled_other (Some Delivered) = λ is. absurd cc
+settled_other (Some Dropped) = λ is. absurd cc
+settled_other (Some Cancelled) = λ is. absurd cc
+settled_other (Some Orphaned) = λ is. absurd cc
+
+-- what a cancel of a timer that has a row answers and leaves
+pub record IsCancelled (g : Settings) (s : State) (timer : TimerRef) (left : Option ℕ) (es : List Entry) : Type 0 where
+  pub none : (left ≡ None) ↔ (s.status timer ≢ Some Armed)
+  pub after : (run g s es).status timer ≢ Some Armed
+
+cancels_at : (g : Settings) (s : State) (timer : TimerRef) (row : Row) (now : ℤ) (found left : Option ℕ) (es : List Entry)
+    → es ≡ look_entry (Caller 0) now ∷ cancel_entries true (Caller 0) timer found left → (found ≡ None → left ≡ None) → LegalFrom g s es
+    → row_of (s.rows timer.wheel) timer ≡ Some row → IsCancelled g s timer left es
+cancels_at g s timer row now None left es is quiet legal stands =
+    let fs : List Entry = look_entry (Caller 0) now ∷ (peek_entry (Caller 0) timer None ∷ []) in
+    let legal_f : LegalFrom g s fs = subst (LegalFrom g s) is legal in
+    let both = left_armed g now (s.status timer) (row_of (s.rows timer.wheel) timer) row stands in
+    let other : s.status timer ≢ Some Armed = both.0 (sym legal_f.1.0.found) in
+    record {
+      none = (λ _. other, λ _. quiet refl);
+      after = subst (λ l. (run g s l).status timer ≢ Some Armed) (sym is) other;
+    }
+cancels_at g s timer row now (Some n) left es is quiet legal stands =
+    let fs : List Entry = look_entry (Caller 0) now ∷ (peek_entry (Caller 0) timer (Some n) ∷ (cancel_entry (Caller 0) timer left ∷ [])) in
+    let legal_f : LegalFrom g s fs = subst (LegalFrom g s) is legal in
+    let both = left_armed g now (s.status timer) (row_of (s.rows timer.wheel) timer) row stands in
+    let found = legal_f.1.1.0.found in
+    let left_none : (run g s fs).status timer ≢ Some Armed = rw (same_timer_self timer) (settled_other (s.status timer)) in
+    record {
+      none = (λ none. both.0 (sym found ∙ none), λ other. found ∙ both.1 other);
+      after = subst (λ l. (run g s l).status timer ≢ Some Armed) (sym is) left_none;
+    }
+
+pub cancelled : (a b : Service) (i : Interval) (left : Option ℕ) → Legal b.settings b.history → IsKept a.settings a.history i
+    → (goes : Goes a (By a (λ g. Cancels g (Caller 0) i.last left)) b)
+    → IsCancelled a.settings (state a.settings a.history) i.last left goes.grows.piece
+cancelled a b i left legal kept goes =
+    let c = goes.grows.made in
+    cancels_at a.settings (state a.settings a.history) i.last (row_for i i.last i.deadline) c.now c.found left goes.grows.piece
+    (c.entries ∙ ap (λ x. look_entry (Caller 0) c.now ∷ cancel_entries x (Caller 0) i.last c.found left) kept.named) c.quiet
+    (piece_legal a b goes.grows.piece goes.settings goes.grows.grown legal) kept.row
+
+pub stopped_none : (a b : Service) (i : Interval) (left : Option ℕ) → Legal b.settings b.history → IsKept a.settings a.history i
+    → Goes a (By a (λ g. Cancels g (Caller 0) i.last left)) b → (left ≡ None) ↔ ((state a.settings a.history).status i.last ≢ Some Armed)
+stopped_none a b i left legal kept goes = (cancelled a b i left legal kept goes).none
+
+pub stopped_kept : (a b : Service) (i : Interval) (left : Option ℕ) → Legal a.settings a.history → Legal b.settings b.history
+    → IsKept a.settings a.history i → Goes a (By a (λ g. Cancels g (Caller 0) i.last left)) b → IsKept b.settings b.history (with_state i Stopped)
+stopped_kept a b i left legal_a legal kept goes =
+    let g : Settings = a.settings in
+    let m : List Entry = goes.grows.piece in
+    let legal_m : Legal g (a.history ++ m) = subst (Legal g) goes.grows.grown (subst (λ x. Legal x b.history) goes.settings legal) in
+    subst (λ x. IsKept x b.history (with_state i Stopped)) (sym goes.settings)
+    (subst (λ l. IsKept g l (with_state i Stopped)) (sym goes.grows.grown)
+    (kept_with g a.history m i Stopped legal_m kept (cancelled a b i left legal kept goes).after))
+
+pub stops_open : (old : Service) (i : Interval) (left : Option ℕ) (new : Service) (j : Interval) (st : IntervalState) → IsOpen st → StopsOpen old i left new j
+    → StopsIn st old i left new j
+stops_open old i left new j Running is_open stops = stops
+stops_open old i left new j Waiting is_open stops = stops
+stops_open old i left new j Stopped is_open stops = absurd is_open
+stops_open old i left new j Ended is_open stops = absurd is_open
+
+-- entries that cancel only one timer spare another
+pub cancel_spares : (timer r : TimerRef) (es : List Entry) → CancelOnly timer es → timer ≢ r → AllSpare r es × NoneAsks es
+cancel_spares timer r [] only other = (tt, tt)
+cancel_spares timer r (e ∷ es) only other =
+    let rest = cancel_spares timer r es only.1 other in
+    let one = at e.event only.0 in
+    ((one.0, rest.0), (one.1, rest.1))
+  where
+    at : (event : Event) → CancelsOnly timer event → spares r event × (asks event ≡ false)
+    at (Look now) only = (tt, refl)
+    at (Peek t left) only = (tt, refl)
+    at (Cancel t left) only = (same_timer-false t r (λ same. other (sym only ∙ same)), refl)
+    at _ only = absurd only
+
+pub cancel_asks : (timer : TimerRef) (es : List Entry) → CancelOnly timer es → NoneAsks es
+cancel_asks timer [] only = tt
+cancel_asks timer (e ∷ es) only = (at e.event only.0, cancel_asks timer es only.1)
+  where
+    at : (event : Event) → CancelsOnly timer event → asks event ≡ false
+    at (Look now) only = refl
+    at (Peek t left) only = refl
+    at (Cancel t left) only = refl
+    at _ only = absurd only

@@ -1,0 +1,12 @@
+use Rattle.ert_interval.proofs.Plain.{exits_plain}
+use Rattle.ert_interval.proofs.Tables.{all_kept}
+use Rattle.ert_interval.proofs.intervals.IntervalWorld.exit.Goals as goal
+
+pub returns-clause-kept : goal.returns-clause-kept
+returns-clause-kept c =
+    let a = c.args.self.now.world in
+    let b = c.exit-exited.new.self in
+    let goes = c.exit-exited.ensures.call in
+    all_kept a b goes.grows.piece c.args.self.now.intervals.items goes.settings goes.grows.grown
+    (exits_plain a.settings c.args.process c.exit-exited.result a.history goes.grows.piece goes.grows.made)
+    c.settings-settings.ensures.stands.clock.legal c.requires.kept

@@ -1,0 +1,34 @@
+use Rattle.std.proofs.Common.{subst, ◌∙◌}
+use Rattle.ert_interval.specs.Calls.{IsNewOrSame}
+use Rattle.ert_defs.specs.States.{state}
+use Rattle.ert_interval.proofs.Onward.{still_kept}
+use Rattle.ert_interval.proofs.Plain.{still_plain, plain_asks}
+use Rattle.ert_interval.proofs.Passing.{counts_by}
+use Rattle.ert_interval.proofs.Tables.{set_kept, idle_then, still_none, any_default}
+use Rattle.ert_interval.proofs.intervals.IntervalWorld.go_on_one.Goals as goal
+use Rattle.ert_interval.proofs.intervals.IntervalWorld.go_on_one.Goals.{then-interval-sched-via-then-interval-sched, then-interval-sched-via-else-interval-sched+then-not-is_open}
+
+pub returns-then-interval-sched-clause-still : goal.returns-then-interval-sched-clause-still
+returns-then-interval-sched-clause-still c = elim c.then-interval-sched.branch [
+  | then-interval-sched-via-then-interval-sched w ↦ rw w.self-is (still_none c.args.self.now.world)
+  | then-interval-sched-via-else-interval-sched+then-not-is_open w ↦ rw w.self-is (still_none c.args.self.now.world)
+]
+
+pub returns-clause-kept : goal.returns-clause-kept
+returns-clause-kept c =
+    let a = c.args.self.now.world in
+    let b = c.go_on.new.world in
+    let is = c.args.self.now.intervals.items in
+    let still = c.go_on.ensures.still in
+    let value = c.index_mut-interval.ensures.value in
+    set_kept a b is c.args.number c.go_on.new.interval c.requires.kept c.requires.number c.go_on.ensures.legal
+    (idle_then a b still.piece still.settings still.grown (plain_asks still.piece (still_plain still.piece still.still)) c.requires.kept.idle)
+    (λ m d not low. still_kept a b _ still c.go_on.ensures.legal (c.requires.kept.each m d low))
+    c.go_on.ensures.kept
+    (λ d. subst (λ i. IsNewOrSame (state a.settings a.history) i c.go_on.new.interval)
+    (value ∙ any_default is c.args.number c.index_mut-interval.result.now d c.requires.number) c.go_on.ensures.timer)
+
+pub returns-clause-count : goal.returns-clause-count
+returns-clause-count c =
+    counts_by c.go_on.result c.go_on.new.world c.args.self.now.intervals.items c.args.number c.index_mut-interval.result.now c.go_on.new.interval
+    c.requires.number c.index_mut-interval.ensures.value c.go_on.ensures.passed

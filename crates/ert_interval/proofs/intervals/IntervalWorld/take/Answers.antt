@@ -1,0 +1,13 @@
+use Rattle.ert_defs.specs.States.{state}
+use Rattle.ert_interval.proofs.Plain.{takes_plain}
+use Rattle.ert_interval.proofs.Tables.{all_kept}
+use Rattle.ert_interval.proofs.intervals.IntervalWorld.take.Goals as goal
+
+pub returns-clause-kept : goal.returns-clause-kept
+returns-clause-kept c =
+    let a = c.args.self.now.world in
+    let b = c.take-taken.new.self in
+    let goes = c.take-taken.ensures.call in
+    all_kept a b goes.grows.piece c.args.self.now.intervals.items goes.settings goes.grows.grown
+    (takes_plain a.settings 0 c.args.process c.take-taken.result (state a.settings a.history) goes.grows.piece goes.grows.made)
+    c.settings-settings.ensures.stands.clock.legal c.requires.kept

@@ -1,0 +1,13 @@
+use Rattle.ert_defs.specs.States.{state}
+use Rattle.ert_interval.proofs.Plain.{ticks_plain}
+use Rattle.ert_interval.proofs.Tables.{all_kept}
+use Rattle.ert_interval.proofs.intervals.IntervalWorld.tick.Goals as goal
+
+pub returns-clause-kept : goal.returns-clause-kept
+returns-clause-kept c =
+    let a = c.args.self.now.world in
+    let b = c.tick-moved.new.self in
+    let goes = c.tick-moved.ensures.call in
+    all_kept a b goes.grows.piece c.args.self.now.intervals.items goes.settings goes.grows.grown
+    (ticks_plain a.settings 0 c.args.reading c.args.force c.tick-moved.result (state a.settings a.history) goes.grows.piece goes.grows.made)
+    c.settings-settings.ensures.stands.clock.legal c.requires.kept

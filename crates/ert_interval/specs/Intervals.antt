@@ -1,0 +1,106 @@
+-- What every interval of a service keeps.
+
+use Rattle.std.specs.Prelude.{◌≡◌, ◌≢◌, ◌⊎◌, ℕ, suc, ◌+◌, ◌*◌, ◌<◌, ◌≤◌, pos, ◌+ℤ◌, ◌-ℤ◌, Bool, true, List, [], ◌∷◌, ◌++◌, length, slice_index_or, Option, Some, None}
+use Rattle.ert_defs.specs.Legal.{Legal, names_timer}
+use Rattle.ert_defs.specs.Milliseconds.{deadline_at}
+use Rattle.ert_defs.specs.States.{State, state}
+use Rattle.ert_defs.specs.Timers.{Row, row_of}
+use Rattle.ert_defs.specs.declared.entry.Entry.{Entry}
+use Rattle.ert_defs.specs.declared.settings.Settings.{Settings}
+use Rattle.ert_defs.specs.declared.timer.Kind.TheVariants.{Wrapped}
+use Rattle.ert_defs.specs.declared.timer.Status.{Status}
+use Rattle.ert_defs.specs.declared.timer.Status.TheVariants.{Armed, Expired, Delivered, Cancelled, Orphaned, Dropped}
+use Rattle.ert_defs.specs.declared.timer.TimerRef.{TimerRef}
+use Rattle.ert_interval.specs.Deadlines.{base}
+use Rattle.ert_interval.specs.declared.interval.Interval.{Interval}
+use Rattle.ert_interval.specs.declared.interval.IntervalState.{IntervalState}
+use Rattle.ert_interval.specs.declared.interval.IntervalState.TheVariants.{Running, Waiting, Stopped, Ended}
+use Rattle.ert_sched.specs.Worlds.{Service}
+
+-- a turn goes on with an interval in this state
+abbrev pub IsOpen : IntervalState → Type 0
+IsOpen Running = Unit {0}
+IsOpen Waiting = Unit {0}
+IsOpen Stopped = ⊥
+IsOpen Ended = ⊥
+
+-- a timer has expired, and maybe its message was put or thrown away
+abbrev pub HasFired : Option Status → Type 0
+HasFired (Some Expired) = Unit {0}
+HasFired (Some Delivered) = Unit {0}
+HasFired (Some Dropped) = Unit {0}
+HasFired _ = ⊥
+
+-- the row of a timer of an interval that has this deadline
+abbrev pub row_for : Interval → TimerRef → ℕ → Row
+row_for i r deadline = record { timer = r; deadline = deadline; dest = i.dest; msg = i.msg; kind = Wrapped }
+
+-- a reference names a row of the history: that of the start `At` this many periods after the first
+pub record IsFiring (g : Settings) (s : State) (i : Interval) (j : ℕ) (r : TimerRef) : Type 0 where
+  pub wheel : r.wheel ≡ i.wheel
+  pub deadline : ℕ
+  pub due : deadline_at ((i.first +ℤ pos (j * i.period)) -ℤ base g) ≡ Some deadline
+  pub row : row_of (s.rows r.wheel) r ≡ Some (row_for i r deadline)
+
+-- a timer was armed after another had expired
+pub record IsAfter (g : Settings) (h : List Entry) (r next : TimerRef) : Type 0 where
+  pub before : List Entry
+  pub behind : List Entry
+  pub parted : h ≡ before ++ behind
+  pub fired : HasFired ((state g before).status r)
+  pub unarmed : (state g before).status next ≡ None
+
+-- the timers of an interval: each names its row, and each but the last has fired before the next was armed
+pub record AreFirings (g : Settings) (h : List Entry) (i : Interval) : Type 0 where
+  pub each : (j : ℕ) (d : TimerRef) → j < length i.firings.items → IsFiring g (state g h) i j (slice_index_or i.firings.items j d)
+  pub fired : (j : ℕ) (d : TimerRef) → suc j < length i.firings.items → HasFired ((state g h).status (slice_index_or i.firings.items j d))
+  pub after : (j : ℕ) (d : TimerRef) → suc j < length i.firings.items
+      → IsAfter g h (slice_index_or i.firings.items j d) (slice_index_or i.firings.items (suc j) d)
+
+-- the last timer of an interval is armed, or has fired, or was cancelled for the exit of its destination
+abbrev pub IsGoing : Option Status → Bool → Type 0
+IsGoing None exited = ⊥
+IsGoing (Some Cancelled) exited = ⊥
+IsGoing (Some Orphaned) exited = exited ≡ true
+IsGoing (Some Armed) exited = Unit {0}
+IsGoing (Some Expired) exited = Unit {0}
+IsGoing (Some Delivered) exited = Unit {0}
+IsGoing (Some Dropped) exited = Unit {0}
+
+-- an interval is at its end: its destination has exited, or its next deadline is above the greatest
+abbrev pub IsAtEnd : State → Interval → Type 0
+IsAtEnd s i = (s.exited i.dest ≡ true) ⊎ (8796093022207 < i.deadline + i.period)
+
+-- what is so of an interval in each state
+abbrev pub IsIn : State → Interval → IntervalState → Type 0
+IsIn s i Running = IsGoing (s.status i.last) (s.exited i.dest)
+IsIn s i Waiting = IsGoing (s.status i.last) (s.exited i.dest) × (s.status i.last ≢ Some Armed)
+IsIn s i Stopped = s.status i.last ≢ Some Armed
+IsIn s i Ended = (s.status i.last ≢ Some Armed) × IsAtEnd s i
+
+-- an interval of a history
+pub record IsKept (g : Settings) (h : List Entry) (i : Interval) : Type 0 where
+  pub wheel : i.wheel < g.schedulers
+  pub dest : i.dest < g.processes
+  pub before : List TimerRef
+  pub ends : i.firings.items ≡ before ++ i.last ∷ []
+  pub due : deadline_at ((i.first +ℤ pos (length before * i.period)) -ℤ base g) ≡ Some i.deadline
+  pub firings : AreFirings g h i
+  pub used : (state g h).status i.last ≢ None
+  pub named : names_timer g i.last ≡ true
+  pub on : i.last.wheel ≡ i.wheel
+  pub row : row_of ((state g h).rows i.last.wheel) i.last ≡ Some (row_for i i.last i.deadline)
+  pub is_in : IsIn (state g h) i i.state
+
+-- no request waits or is in a hand
+abbrev pub HasNoRequests : State → Type 0
+HasNoRequests s = (w : ℕ) → (s.inboxes w ≡ []) × ((s.scheds w).hand ≡ None)
+
+-- the intervals of a world
+pub record AreKept (w : Service) (is : List Interval) : Type 0 where
+  pub legal : Legal w.settings w.history
+  pub idle : HasNoRequests (state w.settings w.history)
+  pub each : (n : ℕ) (d : Interval) → n < length is → IsKept w.settings w.history (slice_index_or is n d)
+  pub few : length is ≤ 4294967295
+  -- no two have one timer
+  pub apart : (m n : ℕ) (d : Interval) → m < n → n < length is → (slice_index_or is m d).last ≢ (slice_index_or is n d).last

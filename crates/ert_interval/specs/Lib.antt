@@ -1,0 +1,5 @@
+pub mod Calls
+pub mod Deadlines
+pub mod Intervals
+pub mod Spared
+pub mod Turns

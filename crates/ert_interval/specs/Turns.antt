@@ -1,0 +1,28 @@
+-- What a turn answers, and how it moves the world and the intervals.
+
+use Rattle.std.specs.Prelude.{◌≡◌, ◌⊎◌, ℕ, List, Result, Ok, Err}
+use Rattle.ert_answers.specs.Chains.{Turns}
+use Rattle.ert_answers.specs.Ways.{alone}
+use Rattle.ert_answers.specs.declared.answers.Turned.{Turned}
+use Rattle.ert_defs.specs.declared.memory.NoMemory.{NoMemory}
+use Rattle.ert_interval.specs.Calls.{Still, PassesAll, PassesSome}
+use Rattle.ert_interval.specs.declared.interval.Interval.{Interval}
+use Rattle.ert_interval.specs.declared.turns.IntervalTurn.{IntervalTurn}
+use Rattle.ert_sched.specs.Worlds.{Service, Goes}
+
+-- the world makes its turn, and then its history grows by what the intervals do
+pub record TurnsTo (w : ℕ) (turned : Turned) (old new : Service) : Type 0 where
+  pub between : Service
+  pub turn : Goes old (Turns old.settings (alone old.settings) w (Ok turned)) between
+  pub still : Still between new
+
+-- the world's turn had no memory, and no interval has gone on; or the turn of the intervals had none
+abbrev pub HasStopped : ℕ → NoMemory → Service → List Interval → Service → List Interval → Type 0
+HasStopped w e old is new js =
+    (Goes old (Turns old.settings (alone old.settings) w (Err e)) new × (js ≡ is))
+    ⊎ (((turned : Turned) × TurnsTo w turned old new) × PassesSome w new is js)
+
+-- `turn`
+abbrev pub TurnsBy : ℕ → Result IntervalTurn NoMemory → Service → List Interval → Service → List Interval → Type 0
+TurnsBy w (Ok t) old is new js = TurnsTo w t.turned old new × PassesAll w new is js t.armed
+TurnsBy w (Err e) old is new js = HasStopped w e old is new js

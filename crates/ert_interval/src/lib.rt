@@ -1,0 +1,42 @@
+//! Intervals: timers that fire again and again, at fixed absolute times.
+//!
+//! **What it is.** An interval has a first deadline and a period. Its timers have the deadlines
+//! `first`, `first + period`, `first + 2 * period`.. , whatever the time is when they are started. So none is
+//! skipped and none drifts. A turn of the wheel's scheduler starts the next timer of each interval whose last
+//! one isn't armed any more: one for each interval in a turn, so late ones catch up turn by turn.
+//!
+//! One interval over a late turn, with `first` 10 and a period of 5 (milliseconds):
+//!
+//! ```text
+//! deadlines    10        15        20        25        30
+//! turn at 10    fires 10, arms 15
+//! (no turn from 10 to 27)
+//! turn at 27              fires 15, arms 20
+//! turn at 27                        fires 20, arms 25
+//! turn at 27                                  fires 25, arms 30
+//! turn at 27                                            fires none: 30 is armed
+//! ```
+//!
+//! It differs from `timer:send_interval`, whose messages come from a process of its own: here each firing is
+//! a timer of a wheel, whose reference can be had (`IntervalWorld::firings`), and no message is sent but by
+//! a turn.
+//!
+//! **What it promises.** Each call keeps `AreKept` (specs/Intervals): the `j`-th timer of an interval has a
+//! row in the history with the deadline of `first + j * period`, each but the last has expired, and had
+//! before the next was armed, and a stopped interval has no armed timer. Each call says how the states move
+//! (specs/Calls and specs/Turns).
+//!
+//! The first test of the crate `ert_interval_tests` is an example of its use.
+//!
+//! **Cost.** A turn reads the last timer of each Running or Waiting interval of its wheel, in order of
+//! number, and passes over the others.
+#![tactic(auto)]
+
+mod going;
+mod interval;
+mod intervals;
+mod turns;
+
+pub use interval::IntervalState;
+pub use intervals::{IntervalErr, IntervalWorld};
+pub use turns::IntervalTurn;

@@ -1,0 +1,7 @@
+pub mod Books
+pub mod Fitting
+pub mod Handing
+pub mod Messages
+pub mod Promised
+pub mod Registrars
+pub mod Waiting

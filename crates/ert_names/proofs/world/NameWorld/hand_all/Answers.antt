@@ -1,0 +1,85 @@
+use Rattle.std.proofs.Common.{◌≡◌, ◌≤◌, true, false, Some, None, Ok, Err, length, [], ◌∷◌, ◌++◌, rules, refl, subst, ◌∙◌, arith}
+use Rattle.ert_defs.specs.declared.memory.NoMemory.{NoMemory}
+use Rattle.ert_names.specs.Handing.{waiting, HandsNext, HandsOne, HandsNone}
+use Rattle.ert_names.specs.Registered.{Registered}
+use Rattle.ert_names.proofs.Handing.{hands_none, counted_none, hands_more, counted_true, counted_false, few_none, few_true, few_false, hands_all}
+use Rattle.ert_names.proofs.Waiting.{few_waiting}
+use Rattle.ert_names.proofs.world.NameWorld.hand_all.Goals as goal
+
+pub loop-was_handed-init : goal.loop-was_handed-init
+loop-was_handed-init c =
+    let few : length (waiting c.args.self.now.world) ≤ 68719214592 =
+    subst (λ (w : Registered). length (waiting w.world) ≤ 68719214592) c.self.view_is
+    (few_waiting (length c.self.inside.rows.items) c.self.inside.world c.settings-settings.ensures.stands c.self.invariant) in
+    record {
+      messages = [];
+      some = hands_none c.args.self.now;
+      counted = counted_none c.args.self.now;
+      few = few_none (length (waiting c.args.self.now.world)) few;
+      clock = refl;
+    }
+
+pub returns-in_err-was_handed-clause-call : goal.returns-in_err-was_handed-clause-call
+returns-in_err-was_handed-clause-call c =
+    let e : NoMemory = c.in_err-was_handed.field-0.0 in
+    let result : c.hand_next.result ≡ Err e = search rules in
+    let answer : c.from_residual.result ≡ Err e = search rules in
+    let same : c.hand_next.new.self ≡ c.loop-was_handed.self =
+    subst (λ r. HandsNext c.loop-was_handed.self r c.hand_next.new.self) result c.hand_next.ensures.call in
+    rw (answer, same) (record { messages = c.loop-was_handed.invariant.messages; hands = c.loop-was_handed.invariant.some })
+
+pub loop-was_handed-preserved-then-was_handed : goal.loop-was_handed-preserved-then-was_handed
+loop-was_handed-preserved-then-was_handed c =
+    let result : c.hand_next.result ≡ Ok (Some true) = search rules in
+    let one : HandsOne c.loop-was_handed.self true c.hand_next.new.self =
+    subst (λ r. HandsNext c.loop-was_handed.self r c.hand_next.new.self) result c.hand_next.ensures.call in
+    let i = c.loop-was_handed.invariant in
+    record {
+      messages = i.messages ++ one.message ∷ [];
+      some = hands_more c.args.self.now c.loop-was_handed.self c.hand_next.new.self i.messages one.message i.some one.hands;
+      counted = counted_true c.args.self.now c.loop-was_handed.self i.messages one.message c.loop-was_handed.handed c.loop-was_handed.lost i.counted
+          i.some.names i.some.rows one.is_handed one.known;
+      few = few_true c.loop-was_handed.handed c.loop-was_handed.lost (length (waiting c.loop-was_handed.self.world)) (length (waiting c.hand_next.new.self.world))
+          i.few one.fewer;
+      clock = c.hand_next.ensures.clock ∙ i.clock;
+    }
+
+pub loop-was_handed-smaller-then-was_handed : goal.loop-was_handed-smaller-then-was_handed
+loop-was_handed-smaller-then-was_handed c =
+    let result : c.hand_next.result ≡ Ok (Some true) = search rules in
+    let one : HandsOne c.loop-was_handed.self true c.hand_next.new.self =
+    subst (λ r. HandsNext c.loop-was_handed.self r c.hand_next.new.self) result c.hand_next.ensures.call in
+    let fewer = one.fewer in
+    omega (arith, fewer)
+
+pub loop-was_handed-preserved : goal.loop-was_handed-preserved
+loop-was_handed-preserved c =
+    let result : c.hand_next.result ≡ Ok (Some false) = search rules in
+    let one : HandsOne c.loop-was_handed.self false c.hand_next.new.self =
+    subst (λ r. HandsNext c.loop-was_handed.self r c.hand_next.new.self) result c.hand_next.ensures.call in
+    let i = c.loop-was_handed.invariant in
+    record {
+      messages = i.messages ++ one.message ∷ [];
+      some = hands_more c.args.self.now c.loop-was_handed.self c.hand_next.new.self i.messages one.message i.some one.hands;
+      counted = counted_false c.args.self.now c.loop-was_handed.self i.messages one.message c.loop-was_handed.handed c.loop-was_handed.lost i.counted
+          i.some.names i.some.rows one.is_handed one.known;
+      few = few_false c.loop-was_handed.handed c.loop-was_handed.lost (length (waiting c.loop-was_handed.self.world)) (length (waiting c.hand_next.new.self.world))
+          i.few one.fewer;
+      clock = c.hand_next.ensures.clock ∙ i.clock;
+    }
+
+pub loop-was_handed-smaller : goal.loop-was_handed-smaller
+loop-was_handed-smaller c =
+    let result : c.hand_next.result ≡ Ok (Some false) = search rules in
+    let one : HandsOne c.loop-was_handed.self false c.hand_next.new.self =
+    subst (λ r. HandsNext c.loop-was_handed.self r c.hand_next.new.self) result c.hand_next.ensures.call in
+    let fewer = one.fewer in
+    omega (arith, fewer)
+
+pub returns-clause-call : goal.returns-clause-call
+returns-clause-call c =
+    let result : c.hand_next.result ≡ Ok None = search rules in
+    let none : HandsNone c.loop-was_handed.self c.hand_next.new.self =
+    subst (λ r. HandsNext c.loop-was_handed.self r c.hand_next.new.self) result c.hand_next.ensures.call in
+    let i = c.loop-was_handed.invariant in
+    hands_all c.args.self.now c.loop-was_handed.self c.hand_next.new.self i.messages c.loop-was_handed.handed c.loop-was_handed.lost i.some i.counted none

@@ -1,0 +1,72 @@
+use Rattle.std.proofs.Common.{◌≡◌, ℕ, ◌<◌, length, true, false, [], ◌∷◌, ◌++◌, Some, None, rules, refl, sym, ap, subst, ◌∙◌, arith}
+use Rattle.std.proofs.lemmas.List.{length-map}
+use Rattle.ert_names.specs.Calls.{mail_of}
+use Rattle.ert_names.specs.Handing.{TakesNext, HandsNone, HandsOne}
+use Rattle.ert_names.specs.declared.named.NamedMail.{NamedMail}
+use Rattle.ert_names.specs.Registered.{Registered, seen, row_of}
+use Rattle.ert_names.proofs.Handing.{posted_row, sent, unsent}
+use Rattle.ert_names.proofs.world.NameWorld.hand_next.Goals as goal
+
+pub invariant_of-self-in_default : goal.invariant_of-self-in_default
+invariant_of-self-in_default c =
+    let n = length c.self.inside.rows.items in
+    let result : c.take_message.result ≡ None = search rules in
+    (subst (λ m. TakesNext n c.self.inside.world m c.take_message.new.world) result (c.take_message.ensures.call n c.self.invariant)).1
+
+pub returns-in_default-clause-call : goal.returns-in_default-clause-call
+returns-in_default-clause-call c =
+    let n = length c.self.inside.rows.items in
+    let result : c.take_message.result ≡ None = search rules in
+    let none = (subst (λ m. TakesNext n c.self.inside.world m c.take_message.new.world) result (c.take_message.ensures.call n c.self.invariant)).0 in
+    let after = seen c.take_message.new.world c.self.inside.registry c.self.inside.rows.items c.reserve.new.self.items in
+    subst (λ (w : Registered). HandsNone w after) c.self.view_is
+    (record { alone = record { goes = none.goes; names = refl; rows = refl; mail = c.reserve.ensures.items }; empty = none.empty })
+
+pub index-row-requires : goal.index-row-requires
+index-row-requires c =
+    let n = length c.self.inside.rows.items in
+    let result : c.take_message.result ≡ Some (c.in-Some.timer, c.in-Some.place) = search rules in
+    let next = (subst (λ m. TakesNext n c.self.inside.world m c.take_message.new.world) result (c.take_message.ensures.call n c.self.invariant)).0 in
+    let low : c.in-Some.place < n = next.known in
+    let ok = c.self.inside.rows.ok in
+    omega (arith, ok, low)
+
+pub invariant_of-self-in_default-process : goal.invariant_of-self-in_default-process
+invariant_of-self-in_default-process c =
+    let n = length c.self.inside.rows.items in
+    let result : c.take_message.result ≡ Some (c.in-Some.timer, c.in-Some.place) = search rules in
+    (subst (λ m. TakesNext n c.self.inside.world m c.take_message.new.world) result (c.take_message.ensures.call n c.self.invariant)).1
+
+pub returns-in_default-process-clause-call : goal.returns-in_default-process-clause-call
+returns-in_default-process-clause-call c =
+    let n = length c.self.inside.rows.items in
+    let result : c.take_message.result ≡ Some (c.in-Some.timer, c.in-Some.place) = search rules in
+    let next = (subst (λ m. TakesNext n c.self.inside.world m c.take_message.new.world) result (c.take_message.ensures.call n c.self.invariant)).0 in
+    let found : c.process.result ≡ None = search rules in
+    let before = seen c.self.inside.world c.self.inside.registry c.self.inside.rows.items c.self.inside.mail.items in
+    let after = seen c.take_message.new.world c.self.inside.registry c.self.inside.rows.items c.reserve.new.self.items in
+    let goes_to = posted_row c.self.inside.registry c.self.inside.rows.items c.in-Some.timer c.in-Some.place c.index-row.result.now c.as_str.result.now None
+    next.known c.index-row.ensures c.as_str.ensures.value (sym found ∙ c.process.ensures) in
+    subst (λ (w : Registered). HandsOne w false after) c.self.view_is
+    (unsent before after n (c.in-Some.timer, c.in-Some.place) (sym (length-map c.self.inside.rows.items row_of)) next refl refl goes_to c.reserve.ensures.items)
+
+pub invariant_of-self-2 : goal.invariant_of-self-2
+invariant_of-self-2 c =
+    let n = length c.self.inside.rows.items in
+    let result : c.take_message.result ≡ Some (c.in-Some.timer, c.in-Some.place) = search rules in
+    (subst (λ m. TakesNext n c.self.inside.world m c.take_message.new.world) result (c.take_message.ensures.call n c.self.invariant)).1
+
+pub returns-clause-call : goal.returns-clause-call
+returns-clause-call c =
+    let n = length c.self.inside.rows.items in
+    let result : c.take_message.result ≡ Some (c.in-Some.timer, c.in-Some.place) = search rules in
+    let next = (subst (λ m. TakesNext n c.self.inside.world m c.take_message.new.world) result (c.take_message.ensures.call n c.self.invariant)).0 in
+    let found : c.process.result ≡ Some c.in-Some-process.process = search rules in
+    let before = seen c.self.inside.world c.self.inside.registry c.self.inside.rows.items c.self.inside.mail.items in
+    let after = seen c.take_message.new.world c.self.inside.registry c.self.inside.rows.items c.push_reserved.new.self.items in
+    let mail : ℕ × NamedMail = (c.in-Some-process.process, mail_of c.in-Some.timer (row_of c.index-row.result.now)) in
+    let goes_to = posted_row c.self.inside.registry c.self.inside.rows.items c.in-Some.timer c.in-Some.place c.index-row.result.now c.as_str.result.now
+    (Some c.in-Some-process.process) next.known c.index-row.ensures c.as_str.ensures.value (sym found ∙ c.process.ensures) in
+    let put = c.push_reserved.ensures.items ∙ ap (λ l. l ++ mail ∷ []) c.reserve.ensures.items in
+    subst (λ (w : Registered). HandsOne w true after) c.self.view_is
+    (sent before after n (c.in-Some.timer, c.in-Some.place) mail (sym (length-map c.self.inside.rows.items row_of)) next refl refl goes_to put)

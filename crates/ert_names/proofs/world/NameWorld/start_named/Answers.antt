@@ -1,0 +1,86 @@
+use Rattle.std.proofs.Common.{◌≡◌, ◌≢◌, ◌+◌, ◌<◌, [], ◌∷◌, ◌++◌, length, map, Result, Ok, Err, string_bytes, rules, refl, sym, ap, subst, ◌∙◌, arith}
+use Rattle.ert_answers.specs.TimerCalls.{Starts}
+use Rattle.ert_answers.specs.declared.answers.StartErr.{StartErr}
+use Rattle.ert_answers.specs.declared.answers.StartErr.TheVariants.{NoMemory}
+use Rattle.ert_defs.specs.declared.timer.TimerRef.{TimerRef}
+use Rattle.ert_names.specs.Calls.{HasStarted, StartsAt, StartsNamed, start_at}
+use Rattle.ert_names.specs.Fits.{FitsRows}
+use Rattle.ert_names.specs.Registered.{Registered, Row, seen, row_of}
+use Rattle.ert_names.proofs.Fitting.{fits_by, fits_more, starts_fit, refused_start_fits}
+use Rattle.ert_names.proofs.Handing.{refused_named, map_more, place_is, place_of, longer_by}
+use Rattle.ert_sched.specs.Worlds.{Goes, By}
+use Rattle.ert_names.proofs.world.NameWorld.start_named.Goals as goal
+
+pub invariant_of-self-in_err-timer : goal.invariant_of-self-in_err-timer
+invariant_of-self-in_err-timer c =
+    let n = length c.self.inside.rows.items in
+    let w = c.self.inside.world in
+    let start = start_at c.args.when c.len.result in
+    let e : StartErr = c.in_err-timer.field-0.0 in
+    let result : c.start.result ≡ Err e = search rules in
+    let goes : Goes w (By w (λ g. Starts g 0 c.args.wheel start (Err e))) c.start.new.self =
+    subst (λ r. Goes w (By w (λ g. Starts g 0 c.args.wheel start r)) c.start.new.self) result c.start.ensures.call in
+    subst (λ (l : _). FitsRows (length l) c.start.new.self) (sym c.reserve.ensures.items)
+    (fits_by n w c.start.new.self (λ g. Starts g 0 c.args.wheel start (Err e)) (λ s es. refused_start_fits n w.settings 0 c.args.wheel start e s es) goes
+    c.self.invariant)
+
+pub returns-in_err-timer-clause-call : goal.returns-in_err-timer-clause-call
+returns-in_err-timer-clause-call c =
+    let w = c.self.inside.world in
+    let start = start_at c.args.when c.len.result in
+    let e : StartErr = c.in_err-timer.field-0.0 in
+    let result : c.start.result ≡ Err e = search rules in
+    let answer : c.from_residual.result ≡ Err e = search rules in
+    let before = seen c.self.inside.world c.self.inside.registry c.self.inside.rows.items c.self.inside.mail.items in
+    let after = seen c.start.new.self c.self.inside.registry c.reserve.new.self.items c.self.inside.mail.items in
+    let row : Row = record { name = c.args.name.now; msg = c.args.msg; kind = c.args.kind } in
+    let place : c.len.result ≡ length before.rows = place_is c.len.result c.reserve.new.self.items c.self.inside.rows.items (c.len.ensures ∙ c.reserve.new.self.ok.0) c.reserve.ensures.items in
+    let goes : Goes w (By w (λ g. Starts g 0 c.args.wheel start (Err e))) c.start.new.self =
+    subst (λ r. Goes w (By w (λ g. Starts g 0 c.args.wheel start r)) c.start.new.self) result c.start.ensures.call in
+    rw answer
+    (subst (λ (w : Registered). StartsNamed w c.args.wheel c.args.when row (Err e) after) c.self.view_is
+    (refused_named before after c.args.wheel c.args.when row e (subst (λ (r : Result TimerRef StartErr). r ≢ Err NoMemory) result c.start.ensures.memory)
+    (record {
+      goes = subst (λ k. Goes w (By w (λ g. Starts g 0 c.args.wheel (start_at c.args.when k) (Err e))) c.start.new.self) place goes;
+      names = refl;
+      rows = ap (map row_of) c.reserve.ensures.items;
+      mail = refl;
+    })))
+
+pub invariant_of-self-2 : goal.invariant_of-self-2
+invariant_of-self-2 c =
+    let n = length c.self.inside.rows.items in
+    let w = c.self.inside.world in
+    let start = start_at c.args.when c.len.result in
+    let place : c.len.result ≡ n = place_of c.len.result c.reserve.new.self.items c.self.inside.rows.items (c.len.ensures ∙ c.reserve.new.self.ok.0) c.reserve.ensures.items in
+    let longer : length c.push_reserved.new.self.items ≡ n + 1 =
+    longer_by c.push_reserved.new.self.items c.self.inside.rows.items (record { name = c.in-Ok.name; msg = c.args.msg; kind = c.args.kind })
+    (c.push_reserved.ensures.items ∙ ap (λ l. l ++ (record { name = c.in-Ok.name; msg = c.args.msg; kind = c.args.kind }) ∷ []) c.reserve.ensures.items) in
+    let low : start.msg < n + 1 = omega (arith, place) in
+    subst (λ k. FitsRows k c.start.new.self) (sym longer)
+    (fits_by (n + 1) w c.start.new.self (λ g. Starts g 0 c.args.wheel start c.start.result)
+    (λ s es. starts_fit (n + 1) w.settings 0 c.args.wheel start c.start.result s es (λ is. (refl, low))) c.start.ensures.call
+    (fits_more n (n + 1) w (omega arith) c.self.invariant))
+
+pub returns-clause-call : goal.returns-clause-call
+returns-clause-call c =
+    let w = c.self.inside.world in
+    let start = start_at c.args.when c.len.result in
+    let timer = c.in_ok-timer.timer in
+    let result : c.start.result ≡ Ok timer = search rules in
+    let before = seen c.self.inside.world c.self.inside.registry c.self.inside.rows.items c.self.inside.mail.items in
+    let after = seen c.start.new.self c.self.inside.registry c.push_reserved.new.self.items c.self.inside.mail.items in
+    let row : Row = record { name = c.args.name.now; msg = c.args.msg; kind = c.args.kind } in
+    let place : c.len.result ≡ length before.rows = place_is c.len.result c.reserve.new.self.items c.self.inside.rows.items (c.len.ensures ∙ c.reserve.new.self.ok.0) c.reserve.ensures.items in
+    let goes : Goes w (By w (λ g. Starts g 0 c.args.wheel start (Ok timer))) c.start.new.self =
+    subst (λ r. Goes w (By w (λ g. Starts g 0 c.args.wheel start r)) c.start.new.self) result c.start.ensures.call in
+    let text : string_bytes c.in-Ok.name ≡ c.args.name.now = c.in-Ok.ensures.ok in
+    subst (λ (w : Registered). HasStarted w row (StartsAt w c.args.wheel c.args.when (Ok timer)) after) c.self.view_is
+    (record {
+      goes = subst (λ k. Goes w (By w (λ g. Starts g 0 c.args.wheel (start_at c.args.when k) (Ok timer))) c.start.new.self) place goes;
+      names = refl;
+      rows = ap (map row_of) (c.push_reserved.ensures.items ∙ ap (λ l. l ++ (record { name = c.in-Ok.name; msg = c.args.msg; kind = c.args.kind }) ∷ []) c.reserve.ensures.items)
+          ∙ (map_more c.self.inside.rows.items (record { name = c.in-Ok.name; msg = c.args.msg; kind = c.args.kind })
+          ∙ ap (λ t. map row_of c.self.inside.rows.items ++ (record { name = t; msg = c.args.msg; kind = c.args.kind }) ∷ []) text);
+      mail = refl;
+    })

@@ -1,0 +1,39 @@
+use Rattle.std.proofs.Common.{◌≡◌, true, None, rules, refl, sym, subst, ◌∙◌}
+use Rattle.ert_names.specs.Calls.{LooksAt, first_for, others_for}
+use Rattle.ert_names.specs.Registered.{Registered, seen}
+use Rattle.ert_names.proofs.Handing.{none_goes}
+use Rattle.ert_sched.specs.Worlds.{Goes, By}
+use Rattle.std.specs.Prelude.{length}
+use Rattle.ert_answers.specs.WheelCalls.{TellsAlive}
+use Rattle.ert_defs.specs.declared.entry.Actor.TheVariants.{Caller}
+use Rattle.ert_names.proofs.Fitting.{fits_by, alive_fits}
+use Rattle.ert_names.proofs.world.NameWorld.take_named.Goals as goal
+
+pub invariant_of-self : goal.invariant_of-self
+invariant_of-self c =
+    let n = length c.self.inside.rows.items in
+    let w = c.self.inside.world in
+    fits_by n w c.is_alive.new.self (λ g. TellsAlive g (Caller 0) c.args.process c.is_alive.result)
+    (λ s es. alive_fits n w.settings (Caller 0) c.args.process c.is_alive.result s es) c.is_alive.ensures.call c.self.invariant
+
+pub invariant_of-self-2 : goal.invariant_of-self-2
+invariant_of-self-2 c =
+    let n = length c.self.inside.rows.items in
+    let w = c.self.inside.world in
+    fits_by n w c.is_alive.new.self (λ g. TellsAlive g (Caller 0) c.args.process c.is_alive.result)
+    (λ s es. alive_fits n w.settings (Caller 0) c.args.process c.is_alive.result s es) c.is_alive.ensures.call c.self.invariant
+
+pub returns-in-None-clause-call : goal.returns-in-None-clause-call
+returns-in-None-clause-call c =
+    let w = c.self.inside.world in
+    let ms = c.self.inside.mail.items in
+    let result : c.first_mail.result ≡ None = search rules in
+    let none : first_for c.args.process ms ≡ None = sym c.first_mail.ensures.value ∙ result in
+    let lives : Goes w (By w (λ g. TellsAlive g (Caller 0) c.args.process true)) c.is_alive.new.self =
+    subst (λ b. Goes w (By w (λ g. TellsAlive g (Caller 0) c.args.process b)) c.is_alive.new.self) c.if-not-is_alive.false c.is_alive.ensures.call in
+    let between = seen c.is_alive.new.self c.self.inside.registry c.self.inside.rows.items ms in
+    let after = none_goes c.args.process ms none in
+    rw c.first_mail.ensures.mail
+    (subst (λ (w : Registered). (first_for c.args.process w.mail ≡ None) × LooksAt w c.args.process true (record between { mail = others_for c.args.process ms }))
+    c.self.view_is
+    (none, record { goes = lives; names = refl; rows = refl; mail = after }))

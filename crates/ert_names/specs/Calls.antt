@@ -1,0 +1,210 @@
+-- How each call changes the names, the rows and the named mail, and how it makes the world's history grow.
+
+use Rattle.std.specs.Prelude.{◌≡◌, ◌≢◌, ◌⊎◌, ℕ, zero, suc, ◌+◌, All, Bool, ◌<◌, ◌≤◌, true, false, cond, nat_eq, List, [], ◌∷◌, ◌++◌, length, slice_index_or, filter_map, Option, Some, None, option_map, Result, Ok, Err, codes}
+use Rattle.std.specs.FinMap as map
+use Rattle.std.specs.List.{remove}
+use Rattle.ert_answers.specs.Chains.{Turns}
+use Rattle.ert_answers.specs.MailCalls.{Takes}
+use Rattle.ert_answers.specs.TimerCalls.{Starts}
+use Rattle.ert_answers.specs.WheelCalls.{TellsAlive}
+use Rattle.ert_answers.specs.Ways.{Growth, Then, Many, alone}
+use Rattle.ert_answers.specs.declared.answers.StartErr.{StartErr}
+use Rattle.ert_answers.specs.declared.answers.StartErr.TheVariants as starts
+use Rattle.ert_answers.specs.declared.answers.Taken.TheVariants.{Mail as OneMail, Empty as NoMail}
+use Rattle.ert_answers.specs.declared.answers.Turned.{Turned}
+use Rattle.ert_defs.specs.States.{state}
+use Rattle.ert_defs.specs.declared.entry.Actor.TheVariants.{Caller}
+use Rattle.ert_defs.specs.declared.mail.Mail.TheVariants.{Timeout}
+use Rattle.ert_defs.specs.declared.memory.NoMemory.{NoMemory as WantOfMemory}
+use Rattle.ert_defs.specs.declared.settings.Settings.{Settings}
+use Rattle.ert_defs.specs.declared.timer.Kind.TheVariants.{Wrapped}
+use Rattle.ert_defs.specs.declared.timer.Start.{Start}
+use Rattle.ert_defs.specs.declared.timer.TimerRef.{TimerRef}
+use Rattle.ert_defs.specs.declared.timer.When.{When}
+use Rattle.ert_names.specs.Names.{Names, IsWithout, Unnamed}
+use Rattle.ert_names.specs.Registered.{Registered, Row}
+use Rattle.ert_names.specs.declared.named.NameErr.{NameErr}
+use Rattle.ert_names.specs.declared.named.NameErr.TheVariants.{BadArg, NoMemory}
+use Rattle.ert_names.specs.declared.named.NamedMail.{NamedMail}
+use Rattle.ert_names.specs.declared.named.NamedTaken.{NamedTaken}
+use Rattle.ert_names.specs.declared.named.NamedTaken.TheVariants.{Mail, Empty, Exited}
+use Rattle.ert_names.specs.declared.named.NamedTurn.{NamedTurn}
+use Rattle.ert_sched.specs.Worlds.{Goes, By}
+
+-- the world makes a call, and the names, the rows and the named mail stay
+pub record GoesAlone (old : Registered) (call : Growth) (new : Registered) : Type 0 where
+  pub goes : Goes old.world call new.world
+  pub names : new.names ≡ old.names
+  pub rows : new.rows ≡ old.rows
+  pub mail : new.mail ≡ old.mail
+
+-- it is seen whether a process has exited: `alive` where it hasn't
+abbrev pub LooksAt : Registered → ℕ → Bool → Registered → Type 0
+LooksAt old process alive new = GoesAlone old (By old.world (λ g. TellsAlive g (Caller 0) process alive)) new
+
+-- a text that may be a name: 1 to 255 bytes, and not `undefined`
+pub record IsName (name : List ℕ) : Type 0 where
+  pub some : 1 ≤ length name
+  pub few : length name ≤ 255
+  pub defined : name ≢ codes "undefined"
+
+-- a name and a process that may be put together, if the process hasn't exited
+pub record AreFree (names : Names) (name : List ℕ) (process : ℕ) : Type 0 where
+  pub may : IsName name
+  pub unused : map.get names name ≡ None
+  pub not_registrar : process ≢ 0
+  pub unnamed : Unnamed names process
+
+-- a name was given to a process that lives
+pub record HasRegistered (old : Registered) (name : List ℕ) (process : ℕ) (new : Registered) : Type 0 where
+  pub free : AreFree old.names name process
+  pub lives : Goes old.world (By old.world (λ g. TellsAlive g (Caller 0) process true)) new.world
+  pub names : new.names ≡ map.insert old.names name process
+  pub rows : new.rows ≡ old.rows
+  pub mail : new.mail ≡ old.mail
+
+-- a name wasn't given: it or the process may not be put together, and nothing changed; or the process was seen
+-- to have exited
+abbrev pub IsBadName : Registered → List ℕ → ℕ → Registered → Type 0
+IsBadName old name process new =
+    ((AreFree old.names name process → ⊥) × (new ≡ old)) ⊎ (AreFree old.names name process × LooksAt old process false new)
+
+-- `register`: want of memory comes only where the name could have been given
+abbrev pub Registers : Registered → List ℕ → ℕ → Result (Unit {0}) NameErr → Registered → Type 0
+Registers old name process (Ok _) new = HasRegistered old name process new
+Registers old name process (Err BadArg) new = IsBadName old name process new
+Registers old name process (Err NoMemory) new = AreFree old.names name process × LooksAt old process true new
+
+-- `exit`: where the process hadn't exited before, its name goes
+abbrev pub DropsName : Bool → Names → ℕ → Names → Type 0
+DropsName true old process new = IsWithout old process new
+DropsName false old process new = new ≡ old
+
+pub record HasExited (old : Registered) (process : ℕ) (answer : Bool) (call : Growth) (new : Registered) : Type 0 where
+  pub goes : Goes old.world call new.world
+  pub names : DropsName answer old.names process new.names
+  pub rows : new.rows ≡ old.rows
+  pub mail : new.mail ≡ old.mail
+
+-- what the world starts for a name: a wrapped timer for the registrar, whose message is the place of its row
+abbrev pub start_at : When → ℕ → Start
+start_at when place = record { when = when; dest = 0; msg = place; kind = Wrapped }
+
+abbrev pub StartsAt : Registered → ℕ → When → Result TimerRef StartErr → Growth
+StartsAt old wheel when answer = By old.world (λ g. Starts g 0 wheel (start_at when (length old.rows)) answer)
+
+-- a timer was started for a name: its row is the last
+pub record HasStarted (old : Registered) (row : Row) (call : Growth) (new : Registered) : Type 0 where
+  pub goes : Goes old.world call new.world
+  pub names : new.names ≡ old.names
+  pub rows : new.rows ≡ old.rows ++ row ∷ []
+  pub mail : new.mail ≡ old.mail
+
+-- `start_named`: a refusal leaves no row, and want of memory changes nothing
+abbrev pub StartsNamed : Registered → ℕ → When → Row → Result TimerRef StartErr → Registered → Type 0
+StartsNamed old wheel when row (Ok timer) new = HasStarted old row (StartsAt old wheel when (Ok timer)) new
+StartsNamed old wheel when row (Err starts.NoMemory) new = new ≡ old
+StartsNamed old wheel when row (Err e) new = GoesAlone old (StartsAt old wheel when (Err e)) new
+
+-- the row at a place
+abbrev pub row_at : List Row → ℕ → Option Row
+row_at [] place = None
+row_at (r ∷ rows) zero = Some r
+row_at (r ∷ rows) (suc place) = row_at rows place
+
+-- the message of a named timer, as the registrar has it: the timer and the place of its row
+abbrev pub Message : Type 0
+Message = TimerRef × ℕ
+
+-- the mail of a row's timer
+abbrev pub mail_of : TimerRef → Row → NamedMail
+mail_of timer row = record { timer = timer; msg = row.msg; kind = row.kind }
+
+-- the mail of a message and its process: the one that has the name of its row
+abbrev pub posted_by : Names → TimerRef → Option Row → Option (ℕ × NamedMail)
+posted_by names timer None = None
+posted_by names timer (Some row) = option_map (λ process. (process, mail_of timer row)) (map.get names row.name)
+
+abbrev pub posted : Names → List Row → Message → Option (ℕ × NamedMail)
+posted names rows message = posted_by names message.0 (row_at rows message.1)
+
+-- the messages that a call takes from the registrar, one after the other
+abbrev pub TakesFirst : Settings → Message → Growth
+TakesFirst g message = alone g [] (Takes g 0 0 (OneMail (Timeout message.0 message.1)))
+
+abbrev pub TakesMany : Settings → List Message → Growth
+TakesMany g messages = Many (TakesFirst g) messages
+
+-- the registrar is found to have no message
+abbrev pub FindsNone : Settings → Growth
+FindsNone g = alone g [] (Takes g 0 0 NoMail)
+
+-- messages are handed over: each becomes the last of the named mail, where a process has its name now
+pub record HandsOver (old : Registered) (messages : List Message) (call : Growth) (new : Registered) : Type 0 where
+  pub goes : Goes old.world call new.world
+  pub names : new.names ≡ old.names
+  pub rows : new.rows ≡ old.rows
+  pub mail : new.mail ≡ old.mail ++ filter_map (posted old.names old.rows) messages
+
+-- so many messages were handed over, and so many were lost
+pub record AreCounted (old : Registered) (messages : List Message) (handed lost : ℕ) : Type 0 where
+  pub handed_is : handed ≡ length (filter_map (posted old.names old.rows) messages)
+  pub taken_are : handed + lost ≡ length messages
+  -- each is the message of a row: so what is lost has a name that no process has
+  pub known : All (λ message. message.1 < length old.rows) messages
+
+-- a turn is done: the scheduler's, and then all messages of the registrar are handed over
+pub record HasTurned (old : Registered) (sched : ℕ) (t : NamedTurn) (new : Registered) : Type 0 where
+  pub messages : List Message
+  pub hands : HandsOver old messages
+      (Then (Turns old.world.settings (alone old.world.settings) sched (Ok t.turned))
+      (Then (TakesMany old.world.settings messages) (FindsNone old.world.settings))) new
+  pub counted : AreCounted old messages t.handed t.lost
+  pub empty : ((state new.world.settings new.world.history).mails 0).queue ≡ []
+
+-- there is no memory for the scheduler's turn
+-- or for the next message: those before it were handed over, and it and the others wait
+pub record HasStopped (old : Registered) (sched : ℕ) (new : Registered) : Type 0 where
+  pub turned : Turned
+  pub messages : List Message
+  pub hands : HandsOver old messages
+      (Then (Turns old.world.settings (alone old.world.settings) sched (Ok turned)) (TakesMany old.world.settings messages)) new
+
+-- `turn`
+abbrev pub TurnsNamed : Registered → ℕ → Result NamedTurn WantOfMemory → Registered → Type 0
+TurnsNamed old sched (Ok t) new = HasTurned old sched t new
+TurnsNamed old sched (Err e) new =
+    GoesAlone old (Turns old.world.settings (alone old.world.settings) sched (Err e)) new ⊎ HasStopped old sched new
+
+-- the first mail of a process among all that waits, and what is left without it
+abbrev pub first_for : ℕ → List (ℕ × NamedMail) → Option NamedMail
+first_for process [] = None
+first_for process (m ∷ ms) = cond (nat_eq m.0 process) (Some m.1) (first_for process ms)
+
+abbrev pub others_for : ℕ → List (ℕ × NamedMail) → List (ℕ × NamedMail)
+others_for process [] = []
+others_for process (m ∷ ms) = cond (nat_eq m.0 process) ms (m ∷ others_for process ms)
+
+-- the first so many mails are for other processes
+abbrev pub ArePast : ℕ → ℕ → List (ℕ × NamedMail) → Type 0
+ArePast process zero ms = Unit {0}
+ArePast process (suc k) [] = Unit {0}
+ArePast process (suc k) (m ∷ ms) = (nat_eq m.0 process ≡ false) × ArePast process k ms
+
+-- the place of the first mail of a process
+abbrev pub IsPlace : ℕ → List (ℕ × NamedMail) → Option ℕ → Type 0
+IsPlace process ms None = (first_for process ms ≡ None) × (others_for process ms ≡ ms)
+IsPlace process ms (Some k) = (k < length ms) × ((d : ℕ × NamedMail) → first_for process ms ≡ Some (slice_index_or ms k d).1) × (others_for process ms ≡ remove ms k)
+
+-- a process that lives takes its first mail
+pub record HasTaken (old : Registered) (process : ℕ) (new : Registered) : Type 0 where
+  pub lives : Goes old.world (By old.world (λ g. TellsAlive g (Caller 0) process true)) new.world
+  pub names : new.names ≡ old.names
+  pub rows : new.rows ≡ old.rows
+  pub mail : new.mail ≡ others_for process old.mail
+
+-- `take_named`
+abbrev pub TakesNamed : Registered → ℕ → NamedTaken → Registered → Type 0
+TakesNamed old process (Mail mail) new = (first_for process old.mail ≡ Some mail) × HasTaken old process new
+TakesNamed old process Empty new = (first_for process old.mail ≡ None) × LooksAt old process true new
+TakesNamed old process Exited new = LooksAt old process false new

@@ -1,0 +1,71 @@
+-- How the messages of the registrar are handed over, one after the other.
+
+use Rattle.std.specs.Prelude.{◌≡◌, ℕ, ◌+◌, ◌<◌, Bool, List, [], ◌∷◌, length, Option, Some, None, is_some, Result, Ok, Err}
+use Rattle.ert_answers.specs.Ways.{Then}
+use Rattle.ert_answers.specs.declared.answers.Taken.{Taken}
+use Rattle.ert_answers.specs.declared.answers.Taken.TheVariants.{Mail as OneMail}
+use Rattle.ert_defs.specs.States.{state}
+use Rattle.ert_defs.specs.declared.mail.Mail.{Mail}
+use Rattle.ert_defs.specs.declared.mail.Mail.TheVariants.{Timeout}
+use Rattle.ert_defs.specs.declared.memory.NoMemory.{NoMemory}
+use Rattle.ert_names.specs.Calls.{GoesAlone, HandsOver, AreCounted, Message, TakesFirst, TakesMany, FindsNone, posted}
+use Rattle.ert_names.specs.Fits.{FitsRows}
+use Rattle.ert_names.specs.Registered.{Registered}
+use Rattle.ert_sched.specs.Worlds.{Service, Goes}
+
+-- the messages that wait for the registrar
+abbrev pub waiting : Service → List Mail
+waiting w = ((state w.settings w.history).mails 0).queue
+
+-- what was taken, where it is the message of a wrapped timer
+abbrev pub timeout_of : Taken → Option Message
+timeout_of (OneMail (Timeout timer msg)) = Some (timer, msg)
+timeout_of _ = None
+
+-- the first message is taken, and it is of one of so many rows
+pub record HasNext (n : ℕ) (old : Service) (message : Message) (new : Service) : Type 0 where
+  pub goes : Goes old (TakesFirst old.settings message) new
+  pub known : message.1 < n
+  pub first : waiting old ≡ Timeout message.0 message.1 ∷ waiting new
+
+-- none waits
+pub record HasNone (old new : Service) : Type 0 where
+  pub goes : Goes old (FindsNone old.settings) new
+  pub empty : waiting new ≡ []
+
+abbrev pub TakesNext : ℕ → Service → Option Message → Service → Type 0
+TakesNext n old (Some message) new = HasNext n old message new × FitsRows n new
+TakesNext n old None new = HasNone old new × FitsRows n new
+
+-- one message is handed over, or lost
+pub record HandsOne (old : Registered) (handed : Bool) (new : Registered) : Type 0 where
+  pub message : Message
+  pub hands : HandsOver old (message ∷ []) (TakesFirst old.world.settings message) new
+  pub is_handed : handed ≡ is_some (posted old.names old.rows message)
+  pub known : message.1 < length old.rows
+  pub fewer : length (waiting old.world) ≡ length (waiting new.world) + 1
+
+pub record HandsNone (old new : Registered) : Type 0 where
+  pub alone : GoesAlone old (FindsNone old.world.settings) new
+  pub empty : waiting new.world ≡ []
+
+abbrev pub HandsNext : Registered → Result (Option Bool) NoMemory → Registered → Type 0
+HandsNext old (Ok (Some handed)) new = HandsOne old handed new
+HandsNext old (Ok None) new = HandsNone old new
+HandsNext old (Err e) new = new ≡ old
+
+-- all are
+pub record HandsThem (old : Registered) (answer : ℕ × ℕ) (new : Registered) : Type 0 where
+  pub messages : List Message
+  pub hands : HandsOver old messages (Then (TakesMany old.world.settings messages) (FindsNone old.world.settings)) new
+  pub counted : AreCounted old messages answer.0 answer.1
+  pub empty : waiting new.world ≡ []
+
+-- or some
+pub record HandsSome (old new : Registered) : Type 0 where
+  pub messages : List Message
+  pub hands : HandsOver old messages (TakesMany old.world.settings messages) new
+
+abbrev pub HandsAll : Registered → Result (ℕ × ℕ) NoMemory → Registered → Type 0
+HandsAll old (Ok answer) new = HandsThem old answer new
+HandsAll old (Err e) new = HandsSome old new

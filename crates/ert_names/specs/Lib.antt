@@ -1,0 +1,7 @@
+pub mod Calls
+pub mod Fits
+pub mod Handing
+pub mod Names
+pub mod Openings
+pub mod Promised
+pub mod Registered

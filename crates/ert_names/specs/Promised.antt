@@ -1,0 +1,42 @@
+-- What every history of a world of names has: it is legal, and its registrar has the messages of named timers
+-- alone, which no exit settles.
+
+use Rattle.std.specs.Prelude.{◌≡◌, ◌≢◌, ℕ, ◌<◌, false, All, List, ◌∷◌, ◌++◌, Some}
+use Rattle.ert_defs.specs.Legal.{IsFirst}
+use Rattle.ert_defs.specs.States.{state}
+use Rattle.ert_defs.specs.Timers.{Row, row_of}
+use Rattle.ert_defs.specs.declared.entry.Entry.{Entry}
+use Rattle.ert_defs.specs.declared.entry.Event.{Event}
+use Rattle.ert_defs.specs.declared.entry.Event.TheVariants.{Orphan, Drop}
+use Rattle.ert_defs.specs.declared.mail.Mail.{Mail}
+use Rattle.ert_defs.specs.declared.mail.Mail.TheVariants.{Timeout}
+use Rattle.ert_defs.specs.declared.settings.Settings.{Settings}
+use Rattle.ert_defs.specs.declared.timer.Kind.TheVariants.{Wrapped}
+use Rattle.ert_sched.specs.Lived.{IsLived}
+use Rattle.ert_sched.specs.Worlds.{Service}
+
+-- a row for the registrar is that of a wrapped timer, whose message is the place of one of so many rows
+abbrev pub IsForName : ℕ → Row → Type 0
+IsForName n row = row.dest ≡ 0 → (row.kind ≡ Wrapped) × (row.msg < n)
+
+-- a message of such a timer
+abbrev pub IsNamed : ℕ → Mail → Type 0
+IsNamed n (Timeout timer msg) = msg < n
+IsNamed n _ = ⊥
+
+-- an event after a history that settles a timer for an exit, or throws its message away, is of a timer for
+-- another process than the registrar
+abbrev pub SparesNamed : Settings → List Entry → Event → Type 0
+SparesNamed g f (Orphan timer) = (row : Row) × (row_of ((state g f).rows timer.wheel) timer ≡ Some row) × (row.dest ≢ 0)
+SparesNamed g f (Drop timer) = (first : IsFirst ((state g f).scheds timer.wheel).fired timer) × (first.row.dest ≢ 0)
+SparesNamed g f _ = Unit {0}
+
+-- a world in which so many timers were started for a name
+pub record IsPromised (n : ℕ) (w : Service) : Type 0 where
+  -- legal, each timer with one of six lives: so its message is put once at most; and what was put into a mailbox
+  -- is, in order, what was taken from it and then what stands in it
+  pub lived : IsLived w.settings w.history
+  pub registrar_lives : (state w.settings w.history).exited 0 ≡ false
+  pub rows : (i : ℕ) → All (IsForName n) ((state w.settings w.history).rows i)
+  pub messages : All (IsNamed n) ((state w.settings w.history).mails 0).queue
+  pub spared : (f m : List Entry) (e : Entry) → w.history ≡ f ++ (e ∷ m) → SparesNamed w.settings f e.event

@@ -1,0 +1,28 @@
+-- What callers see of a world of names.
+
+use Rattle.std.specs.Prelude.{ℕ, List, map, string_bytes}
+use Rattle.ert_defs.specs.declared.timer.Kind.{Kind}
+use Rattle.ert_names.specs.Names.{Names}
+use Rattle.ert_names.specs.declared.named.NamedMail.{NamedMail}
+use Rattle.ert_names.specs.declared.named.NamedRow.{NamedRow}
+use Rattle.ert_sched.specs.Worlds.{Service}
+
+-- what stays of a start for a name: the name's bytes, the message and the kind
+pub record Row : Type 0 where
+  pub name : List ℕ
+  pub msg : ℕ
+  pub kind : Kind
+
+abbrev pub row_of : NamedRow → Row
+row_of r = record { name = string_bytes r.name; msg = r.msg; kind = r.kind }
+
+-- the world, the process of each name, the rows in order of starting, and the named mail that waits, in order,
+-- each with its process
+pub record Registered : Type 0 where
+  pub world : Service
+  pub names : Names
+  pub rows : List Row
+  pub mail : List (ℕ × NamedMail)
+
+abbrev pub seen : Service → Names → List NamedRow → List (ℕ × NamedMail) → Registered
+seen world names rows mail = record { world = world; names = names; rows = map row_of rows; mail = mail }

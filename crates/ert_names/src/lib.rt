@@ -1,0 +1,31 @@
+//! Registered names (`erlang` module reference, `register`), and timers that are started for a name.
+//!
+//! **What it is.** A world (`ert_sched`) with the names of processes beside it. A timer that is started for a
+//! name goes to the process that has the name when its message is handed over, and not to the one that had it
+//! at the start. Process 0 is the registrar: the world sends the messages for names to it, each with the place
+//! of its row, where name, message and kind stand. A turn of a scheduler then hands them over.
+//!
+//! **What it promises.** Each call says how the names, the rows and the named mail change, and how the world's
+//! history grows (`specs/Calls.antt`). `NameWorld::world` says what every history has: it is legal, each timer
+//! has one life and so one message, the registrar lives and has the messages of named timers alone, and no exit
+//! settles one of these (`specs/Promised.antt`).
+//!
+//! The first test of the crate `ert_names_tests` is an example of its use.
+//!
+//! **What it costs.** To register, to look up and to hand over goes with the logarithm of how many names there
+//! are, in std's ordered maps; a name stands in memory twice. A row stays for the life of the world: some 40 bytes
+//! and the bytes of its name, for each start. A turn looks at the messages of the registrar alone. To take
+//! named mail goes over what waits for all processes.
+#![tactic(auto)]
+
+mod named;
+mod named_calls;
+mod names;
+mod registry;
+mod turns;
+mod world;
+mod world_calls;
+
+pub use ert_defs::NoMemory;
+pub use named::{NameErr, NamedMail, NamedTaken, NamedTurn};
+pub use world::NameWorld;
