@@ -1,0 +1,5 @@
+//! The service as a static library for C.
+#![tactic(auto)]
+
+mod handle;
+mod loose;
