@@ -11,8 +11,9 @@ use std::marker::Model;
 use std::ptr;
 
 /// Where a boxed world lies, if there is one.
+///
+/// It can't be dropped, so a service can't be forgotten.
 #[repr(C)]
-#[derive(Drop)]
 pub struct Place {
     at: *mut u8,
     pub(crate) ghost value: { Option Service } by { Prim.hlevel (codes, part_code) },
@@ -25,7 +26,7 @@ impl Model for Place {
 }
 
 impl Place {
-    ghost use Rattle.std.specs.Prelude.{◌≡◌, true, None, Some};
+    ghost use Rattle.std.specs.Prelude.{◌≡◌, true, false, None, Some};
     ghost use Rattle.std.specs.Borrow.{sem};
     ghost use Rattle.ert_c.specs.Lending.{place_follows};
     ghost use Rattle.ert_c.specs.Places.{is_there};
@@ -57,6 +58,13 @@ impl Place {
             at: at.cast(),
             alloc,
         }
+    }
+
+    /// Lets go of the place of no world.
+    pub(crate) fn end(self)
+        requires { is_there self.value ≡ false }
+    {
+        let Place { at: _ } = self;
     }
 
     /// The world, for the time of a call.
