@@ -26,3 +26,8 @@ pub record IsOutOfRange (status : ℤ) (kept : Type 0) (old new : Service) : Typ
 pub record IfBelow (n limit : ℕ) (call refused : Type 0) : Type 0 where
   pub below : n < limit → call
   pub above : limit ≤ n → refused
+
+-- what C passed is refused by this status, and nothing has changed
+pub record IsRefusedAs (why status : ℤ) (old new : Service) : Type 0 where
+  pub told : status ≡ why
+  pub unchanged : new ≡ old
