@@ -1,6 +1,6 @@
 -- How a call through a handle is shown.
 
-use Rattle.std.proofs.Common.{◌≡◌, ◌<◌, ◌≤◌, ℤ, Option, Some, None, Result, Ok, MatchOption, inr, refl, subst, sym, true, false, arith}
+use Rattle.std.proofs.Common.{◌≡◌, ◌<◌, ℤ, Option, Some, None, Result, Ok, MatchOption, inr, refl, subst, sym, false, arith}
 use Rattle.std.specs.Prelude.{⊤}
 use Rattle.ert_sched.specs.Worlds.{Service}
 use Rattle.ert_c.specs.Calls.{AtProcess, AsksBy}
@@ -9,24 +9,13 @@ use Rattle.ert_c.specs.Told.{request_kind_at, request_of, IsAsked}
 use Rattle.ert_c.specs.declared.mail_calls.ErtRequest.{ErtRequest}
 use Rattle.ert_defs.specs.declared.mail.RequestKind.{RequestKind}
 use Rattle.ert_defs.specs.declared.memory.NoMemory.{NoMemory as WantOfMemory}
-use Rattle.ert_c.specs.Through.{Through, Answers, IsRefusedAs}
+use Rattle.ert_c.specs.Through.{Through, IsRefusedAs}
 use Rattle.ert_c.specs.Opened.{IsRead, Opens}
 use Rattle.ert_c.specs.declared.opening.ErtSettings.{ErtSettings}
-use Rattle.ert_c.specs.declared.status.TheConstants.{CLOSED, NO_MEMORY, BAD_KIND}
+use Rattle.ert_c.specs.declared.status.TheConstants.{NO_MEMORY, BAD_KIND}
 use Rattle.ert_defs.specs.declared.settings.Settings.{Settings}
 
--- where nothing is there it is none
-pub away : (o : Option Service) → is_there o ≡ false → o ≡ None
-away None h = refl
-away (Some w) h = cc
-
--- a closed handle is answered as closed
-pub through_closed : (kept : Type 0) (call : Service → Service → Type 0) (old new : Option Service) (status : ℤ) → is_there old ≡ false
-    → new ≡ old → status ≡ CLOSED → kept → Through kept call old status new
-through_closed kept call None new status h same told k = (told, same, k)
-through_closed kept call (Some w) new status h same told k = cc
-
--- and a call is made by the service that was lent
+-- a call is made by the service that was lent
 pub through : (kept : Type 0) (call : Service → Service → Type 0) (old new : Option Service) (status : ℤ) (was now : Service) → old ≡ Some was
     → new ≡ Some now → call was now → Through kept call old status new
 through kept call old new status was now is becomes made =

@@ -1,6 +1,6 @@
 -- What a service does by the calls on timers, mailboxes and turns.
 
-use Rattle.std.specs.Prelude.{◌≡◌, ◌≢◌, ◌<◌, ℕ, ℤ, Bool, Option, Some, None, MatchOption, Result, Err}
+use Rattle.std.specs.Prelude.{◌≡◌, ◌≢◌, ℕ, ℤ, Bool, Option, Result, Err}
 use Rattle.ert_answers.specs.Chains.{Exits, Serves, AdvancesWheel, Delivers, Turns}
 use Rattle.ert_answers.specs.MailCalls.{Takes, Monitors, Demonitors, Tells}
 use Rattle.ert_answers.specs.RequestCalls.{Asks, inbox_for}

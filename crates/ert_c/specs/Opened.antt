@@ -1,6 +1,6 @@
 -- What C passes to open a service, and what that means.
 
-use Rattle.std.specs.Prelude.{◌≡◌, ◌≢◌, ◌⊎◌, ℕ, ℤ, pos, Bool, cond, nat_eq, not, Option, Some, None, Result, Ok, Err}
+use Rattle.std.specs.Prelude.{◌≡◌, ◌≢◌, ◌⊎◌, ℕ, ℤ, cond, nat_eq, not, Option, Some, None, Result, Ok, Err}
 use Rattle.ert_defs.specs.Settings.{IsChecked, Checks}
 use Rattle.ert_defs.specs.declared.settings.Mode.{Mode}
 use Rattle.ert_defs.specs.declared.settings.Mode.TheVariants.{No, Single, Multi}

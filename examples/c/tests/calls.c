@@ -156,11 +156,20 @@ static void clock_calls(void) {
 static void wide_offset(void) {
     ert_world w = ERT_INIT;
     ert_settings settings = plain;
-    settings.mode = ERT_MULTI_WARP;
-    settings.start = -(INT64_C(1) << 58);
-    settings.first.sys = (INT64_C(1) << 61) - 1;
-    settings.start -= settings.start % MILLISECOND;
+    settings.mode = ERT_SINGLE_WARP;
+    settings.first.mono = 0;
+    settings.first.sys = 0;
+    uint32_t before = 7;
+    int64_t time;
+    ert_moved moved = {7, 7, 7};
     IS(ert_world_open(&w, &settings), ERT_OK);
+    /* System time would be 3 * 2^61 below monotonic time. */
+    ert_reading apart = {(INT64_C(1) << 62) - 1, -(INT64_C(1) << 61) + 1};
+    IS(ert_world_finalize(&w, &apart, &before, &moved), ERT_OFFSET_WIDE);
+    IS(before, 7);
+    IS(moved.now, 7);
+    IS(ert_world_monotonic_time(&w, &time), ERT_OK);
+    IS(time, 0);
     IS(ert_world_close(&w), ERT_OK);
 }
 

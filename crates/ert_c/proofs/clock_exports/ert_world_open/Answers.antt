@@ -1,4 +1,4 @@
-use Rattle.std.proofs.Common.{◌≡◌, ◌∙◌, rules, false}
+use Rattle.std.proofs.Common.{◌≡◌, ◌∙◌, false}
 use Rattle.ert_c.proofs.Ways.{opens_nothing}
 use Rattle.ert_c.proofs.clock_exports.ert_world_open.Goals as goal
 use Rattle.ert_c.specs.Places.{is_there}

@@ -1,4 +1,4 @@
-use Rattle.std.proofs.Common.{◌≡◌, ◌<◌, Option, Some, refl, sym, subst, ◌∙◌, rules, FitsSigned, w32, to_z-of_z}
+use Rattle.std.proofs.Common.{◌<◌, Some, refl, sym, subst, ◌∙◌, rules, FitsSigned, w32, to_z-of_z}
 use Rattle.ert_c.proofs.Ways.{asks_through}
 use Rattle.ert_c.proofs.mail_exports.ert_world_ask.Goals as goal
 use Rattle.ert_c.specs.Calls.{AsksBy}

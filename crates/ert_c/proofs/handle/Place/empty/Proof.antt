@@ -1,12 +1,10 @@
 -- `empty` owns nothing at null.
 use Rattle.std.proofs.Common.{[], ◌∷◌, refl, None}
-use base.Logic.{id⊢}
 use base.Fml.{ftrue}
-use types.Kit.{‵, raw, ◌$◌, ◌∵◌, !, qed, done, move, keep, drop, use1, join, suffices}
-use types.Run.{enter, of_opd, lit, no_more, and_then, returns}
+use types.Kit.{‵, raw, ◌$◌, ◌∵◌, !, qed, done, drop, use1, suffices}
+use types.Run.{enter, lit, no_more, and_then, returns}
 use types.ByLocal.{alloc_all, pass_all, free_all, look_at, sets}
 use types.Part.{agg}
-use contract.Running.{tables}
 use denote.RawPtr.{null_ptr}
 use denote.Steps.{nothing}
 use denote.Triple.Entry.{on_entry}

@@ -1,5 +1,5 @@
 -- `end` lets go of a place that owns nothing.
-use Rattle.std.proofs.Common.{◌≡◌, List, [], ◌∷◌, ◌++◌, refl, sym, subst, false}
+use Rattle.std.proofs.Common.{List, [], ◌∷◌, ◌++◌, refl, sym, subst}
 use mir.Val.{Val, vunit}
 use base.Logic.{SProp, ent, id⊢}
 use prog.Wp.{WpFn}

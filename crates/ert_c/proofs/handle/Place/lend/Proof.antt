@@ -8,7 +8,7 @@ use base.Logic.{SProp, ent, sep, never, fst∗, id⊢}
 use base.Fml.{Fml, GName, ftrue, flft, fsep}
 use prog.Wp.{Env}
 use types.Logic.{sem}
-use types.Kit.{‵, raw, ◌⊛◌, some, later, at_ret, ◌$◌, ◌∵◌, !, qed, by, move, keep, use1, split, join, pick, await, fsplit, fsplit3, fjoin, fpack, rewrite, suffices, frame, group, done}
+use types.Kit.{‵, raw, ◌⊛◌, some, later, at_ret, ◌$◌, ◌∵◌, !, qed, move, keep, use1, split, join, pick, await, fsplit, fsplit3, fjoin, fpack, rewrite, suffices, frame, group, done}
 use types.Part.{whole, sub, look_in}
 use types.Run.{enter, stop, fld, load, of_opd, addr, first, blocks, exec, returns}
 use types.ByLocal.{alloc_all, pass_all, free_all, look_at, get, through, sets, sets_last, env}

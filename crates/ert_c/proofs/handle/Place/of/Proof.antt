@@ -2,7 +2,6 @@
 use Rattle.std.proofs.Common.{◌≡◌, List, [], ◌∷◌, ◌++◌, refl, sym, subst, Some}
 use mir.Val.{Val, vptr}
 use base.Logic.{SProp, ent, emp, id⊢}
-use base.Fml.{ftrue}
 use prog.Wp.{WpFn}
 use types.Kit.{‵, raw, ◌⊛◌, ◌$◌, ◌∵◌, !, qed, by, move, keep, split, fsplit, fjoin, suffices, use0, use1}
 use types.Run.{enter, stop, fld, of_opd, no_more, and_then, returns}
