@@ -25,7 +25,9 @@ impl Clocks {
 }
 
 fn main() -> Result<(), Box<dyn Error>> {
-    let clocks = Clocks { begun: Instant::now() };
+    let clocks = Clocks {
+        begun: Instant::now(),
+    };
     let mut world = World::open(&Settings::new(clocks.read()?))?;
     let late = world.start(SCHED, &Start::after(60_000, PROCESS, LATE))?;
     world.start(SCHED, &Start::after(20, PROCESS, BEAT))?;

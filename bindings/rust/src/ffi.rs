@@ -159,8 +159,13 @@ unsafe extern "C" {
     pub fn ert_world_demonitor(world: *mut ert_world, process: u32, monitor: u32) -> i32;
     pub fn ert_world_tell(world: *mut ert_world, process: u32, told: *mut u32) -> i32;
     pub fn ert_world_serve(world: *mut ert_world, sched: u32, served: *mut u32) -> i32;
-    pub fn ert_world_advance(world: *mut ert_world, sched: u32, advanced: *mut ert_advanced) -> i32;
-    pub fn ert_world_deliver(world: *mut ert_world, sched: u32, delivered: *mut ert_delivered) -> i32;
+    pub fn ert_world_advance(world: *mut ert_world, sched: u32, advanced: *mut ert_advanced)
+    -> i32;
+    pub fn ert_world_deliver(
+        world: *mut ert_world,
+        sched: u32,
+        delivered: *mut ert_delivered,
+    ) -> i32;
     pub fn ert_world_turn(world: *mut ert_world, sched: u32, turned: *mut ert_turned) -> i32;
     pub fn ert_world_next_due(world: *mut ert_world, sched: u32, due: *mut u64) -> i32;
 }

@@ -3,9 +3,10 @@
 //! A [`World`] is a service. It reads no clock, starts no thread and never waits: pass it readings by
 //! [`World::tick`], let its schedulers make turns, and take the messages of its processes. `ertime.h` says
 //! what each call does; this crate makes the rest of what a caller owes true: a handle isn't copied, is
-//! closed when it is dropped, and is in one call at a time.
+//! closed when it is dropped, and is in one call at a time. The build script links the library from the folder
+//! that the environment variable `ERTIME_LIB_DIR` names.
 //!
-//! ```no_run
+//! ```
 //! use ertime::{Reading, Settings, Start, World};
 //!
 //! let reading = Reading { mono: 0, sys: 0 };
@@ -87,12 +88,20 @@ fn error(status: i32) -> Error {
 }
 
 fn done(status: i32) -> Result<(), Error> {
-    if status == ffi::ERT_OK { Ok(()) } else { Err(error(status)) }
+    if status == ffi::ERT_OK {
+        Ok(())
+    } else {
+        Err(error(status))
+    }
 }
 
 /// Some value where the call was made, and None where it answered that there is none.
 fn done_or(status: i32, none: i32) -> Result<bool, Error> {
-    if status == none { Ok(false) } else { done(status).map(|()| true) }
+    if status == none {
+        Ok(false)
+    } else {
+        done(status).map(|()| true)
+    }
 }
 
 /// The time warp modes.
@@ -204,23 +213,49 @@ impl Start {
 /// A message.
 #[derive(Clone, Copy, Debug, PartialEq, Eq)]
 pub enum Mail {
-    Timeout { timer: Timer, msg: u64 },
-    Bare { msg: u64 },
+    Timeout {
+        timer: Timer,
+        msg: u64,
+    },
+    Bare {
+        msg: u64,
+    },
     /// The answer to a request: the milliseconds that were left, or None where the timer wasn't armed.
-    CancelDone { timer: Timer, left: Option<u64> },
-    ReadDone { timer: Timer, left: Option<u64> },
+    CancelDone {
+        timer: Timer,
+        left: Option<u64>,
+    },
+    ReadDone {
+        timer: Timer,
+        left: Option<u64>,
+    },
     /// The time offset changed.
-    Change { monitor: u32, offset: i64 },
+    Change {
+        monitor: u32,
+        offset: i64,
+    },
 }
 
 fn mail(m: ffi::ert_mail) -> Mail {
     let left = (m.has_left != 0).then_some(m.left);
     match m.tag {
-        1 => Mail::Timeout { timer: m.timer, msg: m.msg },
+        1 => Mail::Timeout {
+            timer: m.timer,
+            msg: m.msg,
+        },
         2 => Mail::Bare { msg: m.msg },
-        3 => Mail::CancelDone { timer: m.timer, left },
-        4 => Mail::ReadDone { timer: m.timer, left },
-        _ => Mail::Change { monitor: m.monitor, offset: m.offset },
+        3 => Mail::CancelDone {
+            timer: m.timer,
+            left,
+        },
+        4 => Mail::ReadDone {
+            timer: m.timer,
+            left,
+        },
+        _ => Mail::Change {
+            monitor: m.monitor,
+            offset: m.offset,
+        },
     }
 }
 
@@ -256,7 +291,10 @@ impl World {
             first: settings.first,
         };
         let mut world = World {
-            handle: Box::new(ffi::ert_world { at_: ptr::null_mut(), live_: false }),
+            handle: Box::new(ffi::ert_world {
+                at_: ptr::null_mut(),
+                live_: false,
+            }),
         };
         done(unsafe { ffi::ert_world_open(&mut *world.handle, &settings) })?;
         Ok(world)
@@ -265,7 +303,9 @@ impl World {
     /// Takes a reading of the clocks of the operating system.
     pub fn tick(&mut self, reading: Reading, force: bool) -> Result<Moved, Error> {
         let mut moved = ffi::ert_moved::default();
-        done(unsafe { ffi::ert_world_tick(&mut *self.handle, &reading, force.into(), &mut moved) })?;
+        done(unsafe {
+            ffi::ert_world_tick(&mut *self.handle, &reading, force.into(), &mut moved)
+        })?;
         Ok(moved.into())
     }
 
@@ -337,7 +377,12 @@ impl World {
 
     /// Asks the scheduler of a timer to cancel or to read it. The answer comes to `reply_to`, if it is Some
     /// process; else none is sent.
-    pub fn ask(&mut self, kind: RequestKind, timer: &Timer, reply_to: Option<u32>) -> Result<(), Error> {
+    pub fn ask(
+        &mut self,
+        kind: RequestKind,
+        timer: &Timer,
+        reply_to: Option<u32>,
+    ) -> Result<(), Error> {
         let request = ffi::ert_request {
             kind: kind as u32,
             timer: *timer,
