@@ -5,6 +5,7 @@ use crate::closing::{gather_inboxes, gather_mails, gather_wheels};
 use crate::joining::{join_callers, join_scheds};
 use crate::opening::{lock_inboxes, lock_mails, lock_wheels, seat_callers, seat_scheds};
 use crate::rooms::Rooms;
+use crossbeam_utils::CachePadded;
 use ert_defs::{Actor, NoMemory, TimerRef};
 use ert_locks::{
     CallerSeat, DeskName, LockedInbox, LockedKeeper, LockedMail, LockedWheel, SchedSeat,
@@ -14,14 +15,17 @@ use ert_table::{Desk, Pass};
 use std::alloc::Global;
 use std::sync::Mutex;
 
+/// A lock on cache lines of its own, so that threads at different parts don't write lines of each other's.
+pub(crate) type PaddedLock<T> = CachePadded<Mutex<T>>;
+
 /// The clock and timer service for many threads, on the desk that `L` names.
 #[derive(Drop)]
 pub struct Service<L: DeskName> {
     pub(crate) desk: Desk,
-    pub(crate) keeper: Mutex<LockedKeeper<L>>,
-    pub(crate) wheels: Vec<Mutex<LockedWheel<L>>>,
-    pub(crate) inboxes: Vec<Mutex<LockedInbox<L>>>,
-    pub(crate) mails: Vec<Mutex<LockedMail<L>>>,
+    pub(crate) keeper: PaddedLock<LockedKeeper<L>>,
+    pub(crate) wheels: Vec<PaddedLock<LockedWheel<L>>>,
+    pub(crate) inboxes: Vec<PaddedLock<LockedInbox<L>>>,
+    pub(crate) mails: Vec<PaddedLock<LockedMail<L>>>,
     pub(crate) labels: Vec<(u32, TimerRef)>,
     rooms: Rooms<L>,
     ghost named: { IsDesk L.table L.settings desk },
@@ -84,7 +88,7 @@ impl<L: DeskName> Service<L> {
         let callers = seat_callers(alloc, &desk, &mut pass)?;
         let service = Service {
             desk,
-            keeper: Mutex::new(keeper),
+            keeper: CachePadded::new(Mutex::new(keeper)),
             wheels,
             inboxes,
             mails,
@@ -125,7 +129,7 @@ impl<L: DeskName> Service<L> {
             ..
         } = self;
         let mut pass = rest;
-        let (keeper, own) = keeper.into_inner().into_parts();
+        let (keeper, own) = keeper.into_inner().into_inner().into_parts();
         pass.join(&desk, own);
         let wheels = gather_wheels(&desk, &mut pass, wheels, rooms.wheel_places, rooms.wheels);
         let inboxes = gather_inboxes(&desk, &mut pass, inboxes, rooms.inbox_places, rooms.inboxes);
