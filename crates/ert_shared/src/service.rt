@@ -47,6 +47,7 @@ pub struct Opened<L: DeskName> {
 impl<L: DeskName> Service<L> {
     ghost use Rattle.std.specs.Prelude.{◌≡◌, IfOk, All};
     ghost use Rattle.ert_defs.specs.declared.entry.Actor.TheVariants.{Caller, Sched};
+    ghost use Rattle.ert_sched.specs.Lived.{IsLived};
     ghost use Rattle.ert_sched.specs.Parts.{parts_of};
     ghost use Rattle.ert_sched.specs.Worlds.{AreFit};
     ghost use Rattle.ert_shared.specs.Dividing.{AreSeated, IsPassOf};
@@ -107,13 +108,15 @@ impl<L: DeskName> Service<L> {
     /// together of them, with the labels. No entry is made, and no memory is taken.
     ///
     /// It takes the pass that `open` gave and all seats, in order of number. The world's history begins with
-    /// what each of them knew, and has no other entries of a seat's actor.
+    /// what each of them knew, and has no other entries of a seat's actor. It is legal, each of its timers has
+    /// one of six lives, and its mail is in order.
     pub fn close(self, rest: Pass, scheds: Vec<SchedSeat<L>>, callers: Vec<CallerSeat<L>>) -> World
         requires rest { IsPassOf L.table L.settings rest }
         requires scheds { AreNumbered (λ s. s.part.wheel) L.settings.schedulers scheds.items }
         requires callers { AreNumbered (λ s. s.number) L.settings.callers callers.items }
         ensures settings { result.settings ≡ L.settings }
         ensures labels { result.labels ≡ self.labels.items }
+        ensures lived { IsLived result.settings result.history }
         ensures rest { Begins (front_of rest) result.history }
         ensures scheds { All (λ s. HasOwn (Sched s.part.wheel) (front_of s.pass) result.history) scheds.items }
         ensures callers { All (λ s. HasOwn (Caller s.number) (front_of s.pass) result.history) callers.items }
