@@ -8,8 +8,9 @@
 //! - `operations` has the operations by name, and `selecting` those that a command line names.
 //! - `measuring` tells which measurements an operation has. Each is a function that makes a row: those of a
 //!   `World` stand in `clock_rows`, `timer_rows`, `expiry_rows` and `mail_rows`, over a `Rig`, a world whose
-//!   wheels take timers in turn.
-//! - `stopwatch` and `passes` time the work of some passes, and `table` writes the rows.
+//!   wheels take timers in turn; those of several threads in `service_rows` and `unique_rows`.
+//! - `stopwatch` and `passes` time the work of some passes, `memory` tells what timers take, and `table` writes
+//!   the rows.
 #![tactic(auto)]
 
 mod bench_err;
@@ -23,13 +24,15 @@ mod passes;
 mod program;
 mod rig;
 mod selecting;
+mod service_rows;
 mod stopwatch;
 mod table;
 mod timer_rows;
+mod unique_rows;
 
 pub use bench_err::BenchErr;
 use ert_io::{HostClock, StdSink};
-pub use operations::Operation;
+pub use operations::{OPERATIONS, Operation};
 pub use program::{BenchStatus, bench};
 use std::io::ErrorKind;
 use std::process::ExitCode;

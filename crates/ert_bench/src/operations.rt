@@ -1,3 +1,7 @@
+ghost use Rattle.std.specs.Prelude.{◌≡◌, ◌≢◌, IfSome, IfNone};
+ghost use Rattle.ert_bench.specs.Names.{name_of};
+ghost use Rattle.ert_bench.specs.declared.operations.Operation.{Operation as TheOperation};
+
 /// What can be measured.
 #[derive(Clone, Copy, Debug, PartialEq, Eq)]
 pub enum Operation {
@@ -5,9 +9,9 @@ pub enum Operation {
     MonotonicTime,
     /// System time is read.
     SystemTime,
-    /// A timer is started and cancelled.
+    /// A timer of five seconds is started and cancelled, while others are outstanding.
     StartCancel,
-    /// Timers are started.
+    /// Timers are started, until so many are outstanding.
     Start,
     /// Timers are read, in random order.
     Read,
@@ -15,37 +19,51 @@ pub enum Operation {
     Cancel,
     /// Timers that are due in one millisecond expire, are delivered, and their messages are taken.
     ExpireAtOnce,
-    /// Timers that are due over a minute do, with an advance each millisecond.
+    /// Timers that are due over a minute do, with an advance of each wheel each millisecond.
     ExpireSpread,
     /// Timers are cancelled by requests, in random order.
     CancelAsync,
-    /// Processes with one timer each exit.
+    /// Processes with one timer each exit, while others are outstanding.
     Exit,
     /// The clock takes readings.
     Tick,
     /// A process is told of a new offset for 64 monitors.
     Tell,
+    /// Threads start and cancel timers, each on a wheel of its own.
+    OwnWheels,
+    /// Threads start and cancel timers, all on one wheel.
+    OneWheel,
+    /// Threads read monotonic time while one more takes readings.
+    TimeBesideTicks,
+    /// Threads draw monotonic unique integers.
+    Unique,
 }
 
-impl Operation {
-    /// All operations, in the order of the table.
-    pub const ALL: [Operation; 12] = [
-        Operation::MonotonicTime,
-        Operation::SystemTime,
-        Operation::StartCancel,
-        Operation::Start,
-        Operation::Read,
-        Operation::Cancel,
-        Operation::ExpireAtOnce,
-        Operation::ExpireSpread,
-        Operation::CancelAsync,
-        Operation::Exit,
-        Operation::Tick,
-        Operation::Tell,
-    ];
+/// All operations, in the order of the table.
+pub const OPERATIONS: [Operation; 16] = [
+    Operation::MonotonicTime,
+    Operation::SystemTime,
+    Operation::StartCancel,
+    Operation::Start,
+    Operation::Read,
+    Operation::Cancel,
+    Operation::ExpireAtOnce,
+    Operation::ExpireSpread,
+    Operation::CancelAsync,
+    Operation::Exit,
+    Operation::Tick,
+    Operation::Tell,
+    Operation::OwnWheels,
+    Operation::OneWheel,
+    Operation::TimeBesideTicks,
+    Operation::Unique,
+];
 
+impl Operation {
     /// The name in the table and on the command line.
-    pub fn name(self) -> &'static str {
+    pub fn name(self) -> &'static str
+        ensures { result.now ≡ name_of self }
+    {
         match self {
             Operation::MonotonicTime => "monotonic_time",
             Operation::SystemTime => "system_time",
@@ -59,25 +77,23 @@ impl Operation {
             Operation::Exit => "exit",
             Operation::Tick => "tick",
             Operation::Tell => "tell",
+            Operation::OwnWheels => "own_wheels",
+            Operation::OneWheel => "one_wheel",
+            Operation::TimeBesideTicks => "time_beside_ticks",
+            Operation::Unique => "unique",
         }
     }
 
-    /// The operation of a name; None where there is none.
-    pub fn named(word: &str) -> Option<Operation> {
-        match word {
-            "monotonic_time" => Some(Operation::MonotonicTime),
-            "system_time" => Some(Operation::SystemTime),
-            "start_cancel" => Some(Operation::StartCancel),
-            "start" => Some(Operation::Start),
-            "read" => Some(Operation::Read),
-            "cancel" => Some(Operation::Cancel),
-            "expire_at_once" => Some(Operation::ExpireAtOnce),
-            "expire_spread" => Some(Operation::ExpireSpread),
-            "cancel_async" => Some(Operation::CancelAsync),
-            "exit" => Some(Operation::Exit),
-            "tick" => Some(Operation::Tick),
-            "tell" => Some(Operation::Tell),
-            _ => None,
+    /// The operation of a name; None where no operation has it.
+    pub fn named(word: &str) -> Option<Operation>
+        ensures some { IfSome result (λ operation. name_of operation ≡ word.now) }
+        ensures none { IfNone result ((operation : TheOperation) → name_of operation ≢ word.now) }
+    {
+        for operation in &OPERATIONS {
+            if operation.name() == word {
+                return Some(*operation);
+            }
         }
+        None
     }
 }

@@ -1,3 +1,6 @@
+ghost use Rattle.std.specs.Prelude.{◌≡◌, ◌++◌, OnOk, string_bytes};
+ghost use Rattle.ert_bench.specs.Tables.{table_text, row_lines, row_line, time_column, bytes_column};
+
 use std::alloc::AllocError;
 use std::fmt::Write;
 
@@ -16,11 +19,23 @@ pub(crate) struct Row {
     pub bytes: Option<u64>,
 }
 
-const HEADING: &str = "operation          timers threads    median     least  bytes\n";
-
 /// Appends the table of the rows.
-pub(crate) fn write_table(page: &mut String, rows: &[Row]) -> Result<(), AllocError> {
-    page.push_str(HEADING)?;
+#[tactic(auto, using(crate::proofs::Texts::joined))]
+pub(crate) fn write_table(page: &mut String, rows: &[Row]) -> Result<(), AllocError>
+    ensures { OnOk result (string_bytes page.new ≡ string_bytes page.old ++ table_text rows.now) }
+{
+    write!(
+        page,
+        "operation          timers threads    median     least  bytes\n"
+    )?;
+    write_rows(page, rows)
+}
+
+/// Appends the lines of the rows.
+#[tactic(auto, using(crate::proofs::Texts::all_rows))]
+fn write_rows(page: &mut String, rows: &[Row]) -> Result<(), AllocError>
+    ensures { OnOk result (string_bytes page.new ≡ string_bytes page.old ++ row_lines rows.now) }
+{
     for row in rows {
         write_row(page, row)?;
     }
@@ -28,7 +43,9 @@ pub(crate) fn write_table(page: &mut String, rows: &[Row]) -> Result<(), AllocEr
 }
 
 /// Appends the line of a row.
-fn write_row(page: &mut String, row: &Row) -> Result<(), AllocError> {
+fn write_row(page: &mut String, row: &Row) -> Result<(), AllocError>
+    ensures { OnOk result (string_bytes page.new ≡ string_bytes page.old ++ row_line row.now) }
+{
     write!(
         page,
         "{:<17}{:>8}{:>8}",
@@ -40,12 +57,16 @@ fn write_row(page: &mut String, row: &Row) -> Result<(), AllocError> {
 }
 
 /// Appends nanoseconds with one digit behind the point.
-fn write_time(page: &mut String, tenths: u64) -> Result<(), AllocError> {
+fn write_time(page: &mut String, tenths: u64) -> Result<(), AllocError>
+    ensures { OnOk result (string_bytes page.new ≡ string_bytes page.old ++ time_column tenths) }
+{
     write!(page, "{:>8}.{}", tenths / 10, tenths % 10)
 }
 
 /// Appends the bytes of a timer, and ends the line.
-fn write_bytes(page: &mut String, bytes: Option<u64>) -> Result<(), AllocError> {
+fn write_bytes(page: &mut String, bytes: Option<u64>) -> Result<(), AllocError>
+    ensures { OnOk result (string_bytes page.new ≡ string_bytes page.old ++ bytes_column bytes) }
+{
     match bytes {
         Some(bytes) => write!(page, "{bytes:>7}\n"),
         None => write!(page, "      -\n"),

@@ -2,7 +2,6 @@
 ghost use Rattle.std.specs.Prelude.{◌<◌};
 
 use crate::bench_err::BenchErr;
-use crate::memory::resident;
 use crate::passes::{PASSES, Passes};
 use crate::rig::Rig;
 use crate::stopwatch::Stopwatch;
@@ -13,10 +12,12 @@ use rand::seq::SliceRandom;
 use rand_core::SeedableRng;
 use rand_xoshiro::Xoshiro256PlusPlus;
 use std::alloc::{AllocError, Global};
-use std::rt::Files;
 
 /// Over how many milliseconds deadlines are spread.
 pub(crate) const SPREAD: u32 = 60_000;
+
+/// The wait of a timer that is started and cancelled again, in milliseconds.
+const TIMEOUT: u32 = 5_000;
 
 /// How many timers a pass starts and cancels.
 const CALLS: u32 = 200_000;
@@ -37,7 +38,7 @@ pub(crate) fn mix(timers: &mut [TimerRef]) {
     timers.shuffle(&mut random);
 }
 
-/// A timer is started and cancelled while others are outstanding.
+/// A timer of five seconds is started and cancelled, while others are outstanding.
 pub(crate) fn start_cancel<C: OsClock>(
     alloc: Global,
     watch: &mut Stopwatch<C>,
@@ -47,11 +48,10 @@ pub(crate) fn start_cancel<C: OsClock>(
     let mut timers = Vec::with_capacity(alloc, others as usize)?;
     rig.start_all(&spread_waits(alloc, others)?, &mut timers)?;
     let mut passes = Passes::new(alloc, CALLS);
-    let waits = spread_waits(alloc, CALLS)?;
     for _ in 0..PASSES {
         watch.start()?;
-        for wait in &waits {
-            let timer = rig.start(*wait, 0)?;
+        for _ in 0..CALLS {
+            let timer = rig.start(TIMEOUT, 0)?;
             rig.cancel(timer)?;
         }
         passes.add(watch.elapsed()?)?;
@@ -170,21 +170,4 @@ pub(crate) fn exit<C: OsClock>(
         passes.add(watch.elapsed()?)?;
     }
     Ok(passes)
-}
-
-/// The bytes of memory for each timer, where so many are outstanding, with all that their world has.
-pub(crate) fn bytes_of_timers<R: Files + AllocGlobal>(rt: &R, count: u32) -> Result<u64, BenchErr> {
-    let waits = spread_waits(rt.alloc(), count)?;
-    let before = resident(rt)?;
-    let mut rig = Rig::open(rt.alloc(), count, Mode::No)?;
-    for wait in &waits {
-        rig.start(*wait, 0)?;
-    }
-    let after = resident(rt)?;
-    Ok(
-        after
-            .saturating_sub(before)
-            .checked_div(count as u64)
-            .unwrap_or(0),
-    )
 }
