@@ -1,0 +1,5 @@
+//! Laws of outcomes.
+
+/// x
+pub fn outcomes_are_legal()
+{}
