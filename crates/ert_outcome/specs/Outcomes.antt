@@ -2,7 +2,7 @@
 -- then do at once.
 
 use Rattle.std.specs.Prelude.{◌≡◌, ℕ, suc, ◌<◌, All, List, [], ◌∷◌, ◌++◌}
-use Rattle.ert_answers.specs.Ways.{alone, beside}
+use Rattle.ert_answers.specs.Ways.{Growth, Then, alone, beside}
 use Rattle.ert_defs.specs.Legal.{Legal}
 use Rattle.ert_defs.specs.States.{state}
 use Rattle.ert_defs.specs.declared.entry.Actor.TheVariants.{Caller}
@@ -29,16 +29,16 @@ DoLists g labels k (ops ∷ lists) (d ∷ dids) h stretch =
     DoesList g labels k ops d h stretch × DoLists g labels (suc k) lists dids h stretch
 DoLists g labels k _ _ h stretch = ⊥
 
--- a race comes after a history: first each caller does its list and each scheduler its turns, all at once, and
--- nobody else makes an entry; then each scheduler makes one turn more, alone
-pub record Raced (g : Settings) (labels : Labels) (race : Race) (dids : List Did) (h m : List Entry) : Type 0 where
-  pub second : List Entry
-  pub third : List Entry
-  pub parted : m ≡ second ++ third
-  pub done : DoLists g labels 0 (lists_of race) dids h second
-  pub turned : (w : ℕ) → w < g.schedulers → MakesTurns g w race.turns h second
-  pub makers : All (λ (e : Entry). IsMaker g e.by) second
-  pub closed : MakesRound g g.schedulers (h ++ second) third
+-- all act at once in a stretch after a history: each caller does its list and each scheduler makes its turns,
+-- and nobody else makes an entry
+pub record ActAtOnce (g : Settings) (labels : Labels) (race : Race) (dids : List Did) (h stretch : List Entry) : Type 0 where
+  pub done : DoLists g labels 0 (lists_of race) dids h stretch
+  pub turned : (w : ℕ) → w < g.schedulers → MakesTurns g w race.turns h stretch
+  pub makers : All (λ (e : Entry). IsMaker g e.by) stretch
+
+-- a race: all act at once, and then each scheduler makes one turn more, alone
+abbrev pub Races : Settings → Labels → Race → List Did → Growth
+Races g labels race dids = Then (ActAtOnce g labels race dids) (MakesRound g g.schedulers)
 
 -- a history and a text are an outcome: the history is legal, it is a script run of the ops and then the race,
 -- and the text is the report of the replies, of all timers at the end, and of the time then
@@ -51,5 +51,5 @@ pub record IsOutcome (g : Settings) (ops : List Op) (race : Race) (h : List Entr
   pub labels : Labels
   pub began : Script g (alone g) 0 [] ops replies labels [] first
   pub dids : List Did
-  pub raced : Raced g labels race dids first later
+  pub raced : Races g labels race dids first later
   pub reads : text ≡ report ops replies labels dids (counts_of g (state g h)) (state g h).clock.now

@@ -37,7 +37,11 @@ abbrev pub lists_text : Labels → ℕ → List Did → List ℕ
 lists_text labels k [] = []
 lists_text labels k (d ∷ dids) = heading k ⋅ lines_by labels d.replies ⋅ lists_text labels (suc k) dids
 
--- the report; a message is printed with the label of its timer, whichever list bound it
+-- the report behind the lines of the ops; a message is printed with the label of its timer, whichever list
+-- bound it
+abbrev pub behind : Labels → List Did → Counts → ℤ → List ℕ
+behind labels dids counts now = lists_text (all_labels labels dids) 0 dids ⋅ settled_line counts ⋅ end_line now
+
+-- the report
 abbrev pub report : List Op → List Reply → Labels → List Did → Counts → ℤ → List ℕ
-report ops replies labels dids counts now =
-    lines_of [] ops replies ⋅ lists_text (all_labels labels dids) 0 dids ⋅ settled_line counts ⋅ end_line now
+report ops replies labels dids counts now = lines_of [] ops replies ⋅ behind labels dids counts now

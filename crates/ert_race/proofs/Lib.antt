@@ -1,2 +1,4 @@
+pub mod AtOnce
 pub mod Reported
 pub mod Rounds
+pub mod Worked

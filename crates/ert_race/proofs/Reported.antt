@@ -7,7 +7,7 @@ use Rattle.ert_lines.specs.Names.{IsIndexOf}
 use Rattle.ert_lines.specs.declared.names.Names.{Names}
 use Rattle.ert_outcome.specs.Reports.{Did, all_labels, lines_by, heading, lists_text}
 use Rattle.ert_race.specs.Lists.{did_of, dids_of}
-use Rattle.ert_race.specs.declared.done.ListDone.{ListDone}
+use Rattle.ert_workers.specs.declared.list.ListDone.{ListDone}
 use Rattle.ert_transcript.specs.Labels.{Labels, bind, label_of}
 use Rattle.ert_transcript.specs.Lines.{line_of}
 use Rattle.ert_transcript.specs.declared.reply.Reply.{Reply}

@@ -1,13 +1,17 @@
 -- The last turns of a race, as far as they have come.
 
-use Rattle.std.proofs.Common.{◌≡◌, ℕ, ◌+◌, ◌<◌, ◌≤◌, Ok, below_more, refl, sym, ap, subst, ◌∙◌, arith}
+use Rattle.std.proofs.Common.{◌≡◌, ℕ, ◌+◌, ◌<◌, ◌≤◌, List, Ok, below_more, refl, sym, ap, subst, ◌∙◌, arith}
+use Rattle.ert_answers.proofs.Growing.{grows_then}
 use Rattle.ert_answers.specs.Chains.{Turns}
 use Rattle.ert_answers.specs.Ways.{Grows, alone}
 use Rattle.ert_answers.specs.declared.answers.Turned.{Turned}
 use Rattle.ert_defs.specs.declared.settings.Settings.{Settings}
 use Rattle.ert_outcome.proofs.Rounds.{round_none, round_then}
 use Rattle.ert_outcome.specs.Made.{MakesRound}
-use Rattle.ert_race.specs.Ends.{EndsRound}
+use Rattle.ert_outcome.specs.Outcomes.{ActAtOnce}
+use Rattle.ert_outcome.specs.Reports.{Did}
+use Rattle.ert_ops.specs.Races.{Race}
+use Rattle.ert_race.specs.Ends.{RunsAtOnce, EndsRound, RacesTo}
 use Rattle.ert_sched.specs.Worlds.{Service, Goes, IsTidyAt}
 
 -- so many schedulers have made their last turn, and their wheels are tidy
@@ -49,3 +53,15 @@ ends start w n over far =
       labels = far.labels;
       tidy = λ i low. far.tidy i (subst (λ k. i < k) (sym all) (subst (λ (g : Settings). i < g.schedulers) far.settings low));
     }
+
+-- a race is what all do at once, and then the last turns
+pub races_to : (old seen v w : Service) (race : Race) (dids : List Did) → old ≡ seen → RunsAtOnce seen race dids v → EndsRound v w → RacesTo old race dids w
+races_to old seen v w race dids same one last =
+    subst (λ (s : Service). RacesTo s race dids w) (sym same)
+    (record {
+      grows = grows_then (ActAtOnce seen.settings seen.labels race dids) (MakesRound seen.settings seen.settings.schedulers) seen.history v.history w.history one.grows
+          (subst (λ (g : Settings). Grows (MakesRound g g.schedulers) v.history w.history) one.settings last.grows);
+      settings = last.settings ∙ one.settings;
+      labels = last.labels ∙ one.labels;
+      tidy = last.tidy;
+    })

@@ -2,7 +2,7 @@
 
 use Rattle.std.specs.Prelude.{List, map}
 use Rattle.ert_outcome.specs.Reports.{Did}
-use Rattle.ert_race.specs.declared.done.ListDone.{ListDone}
+use Rattle.ert_workers.specs.declared.list.ListDone.{ListDone}
 
 abbrev pub did_of : ListDone → Did
 did_of d = record { replies = d.replies.items; own = d.own.items }

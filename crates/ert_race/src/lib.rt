@@ -9,9 +9,11 @@
 //! for the text.
 #![tactic(auto)]
 
-mod done;
 mod naming;
+mod race;
 mod report;
 mod round;
+mod workers;
 
-pub use done::ListDone;
+pub use ert_workers::ListDone;
+pub use race::{RaceEnd, race_on};

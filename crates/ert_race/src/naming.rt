@@ -5,7 +5,7 @@ ghost use Rattle.ert_outcome.specs.Reports.{all_labels};
 ghost use Rattle.ert_race.specs.Lists.{dids_of};
 ghost use Rattle.ert_transcript.specs.Labels.{Labels};
 
-use crate::done::ListDone;
+use ert_workers::ListDone;
 use ert_defs::{NoMemory, TimerRef};
 use ert_lines::Names;
 use std::alloc::Global;

@@ -7,7 +7,7 @@ ghost use Rattle.ert_sched.specs.Counted.{numbers_of};
 ghost use Rattle.ert_transcript.specs.Counts.{settled_line};
 ghost use Rattle.ert_transcript.specs.Labels.{Labels};
 
-use crate::done::ListDone;
+use ert_workers::ListDone;
 use ert_lines::{Names, write_line};
 use ert_sched::Counts;
 use ert_transcript::Reply;
