@@ -12,4 +12,4 @@
 
 mod laws;
 
-pub use laws::outcomes_are_legal;
+pub use laws::{lists_are_done_whole, outcomes_keep_the_laws};

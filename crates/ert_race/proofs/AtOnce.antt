@@ -1,6 +1,6 @@
 -- All act at once: what the seats knew at the end, seen in the history of the world that was put together.
 
-use Rattle.std.proofs.Common.{◌≡◌, ℕ, zero, suc, ◌+◌, ◌<◌, All, List, [], ◌∷◌, ◌++◌, length, map, slice_index_or, Ok, refl, sym, ap, subst, ◌∙◌, arith}
+use Rattle.std.proofs.Common.{◌≡◌, ℕ, zero, suc, ◌+◌, ◌<◌, All, List, [], ◌∷◌, ◌++◌, length, map, slice_index_or, Ok, Vec, Global, refl, sym, ap, subst, ◌∙◌, arith}
 use Rattle.ert_answers.specs.Ways.{Growth, Grows, Many, beside}
 use Rattle.ert_answers.specs.Chains.{Turns}
 use Rattle.ert_defs.specs.Legal.{Legal}
@@ -10,12 +10,13 @@ use Rattle.ert_defs.specs.declared.entry.Entry.{Entry}
 use Rattle.ert_defs.specs.declared.settings.Settings.{Settings}
 use Rattle.ert_lines.specs.Names.{IsIndexOf}
 use Rattle.ert_lines.specs.declared.names.Names.{Names}
-use Rattle.ert_ops.specs.Races.{Race, lists_of}
+use Rattle.ert_ops.specs.Races.{Race, lists_of, race_of}
+use Rattle.ert_ops.specs.declared.race.RaceLists.{RaceLists}
 use Rattle.ert_ops.specs.declared.op.Op.{Op}
 use Rattle.ert_outcome.proofs.Makings.{made, makers}
 use Rattle.ert_outcome.specs.Made.{Makes, MakesTurns}
 use Rattle.ert_outcome.specs.Outcomes.{DoesList, DoLists, ActAtOnce}
-use Rattle.ert_race.proofs.Worked.{At, at_low}
+use Rattle.ert_race.proofs.Worked.{At, at_low, length_mapped}
 use Rattle.ert_race.specs.Lists.{did_of, dids_of}
 use Rattle.ert_race.specs.Worked.{list_at, ListsDone, TurnsDone}
 use Rattle.ert_shared.specs.Joining.{HasOwn}
@@ -48,8 +49,9 @@ in_order g labels k (ops ∷ lists) (d ∷ dones) f m same each = (
       (λ i e low. subst (λ n. DoesList g labels n (list_at lists i) (did_of (slice_index_or dones i e)) f m) (at_more k i) (each (suc i) e (omega (arith, low)))),
 )
 
-length_lists : (race : Race) → length (lists_of race) ≡ suc (length race.callers)
-length_lists race = refl
+-- how many callers beside the first a race has
+pub count_callers : (g : Settings) (r : RaceLists) → g.callers ≡ suc (length r.callers.items) → g.callers ≡ suc (length (race_of r).callers)
+count_callers g r many = many ∙ ap (λ n. suc n) (sym (length_mapped (λ (ops : Vec Op Global). ops.items) r.callers.items))
 
 module _ {S C : Type 0} (wheel : S → ℕ) (sched_front : S → List Entry) (number : C → ℕ) (caller_front : C → List Entry) (g : Settings) (labels : Labels) (known : Names) (race : Race) (f h : List Entry) (scheds : List S) (callers : List C) (dones : List ListDone) where
   pub at_once : IsIndexOf labels known → Begins f h → Legal g h → g.callers ≡ suc (length race.callers)

@@ -2,3 +2,4 @@ pub mod AtOnce
 pub mod Reported
 pub mod Rounds
 pub mod Worked
+pub mod Written

@@ -94,3 +94,9 @@ text_more page now head new labels lists i d low before titled lined =
   where
     from_zero : (n i : ℕ) → n ≡ i → 0 + n ≡ i
     from_zero n i is = omega (arith, is)
+
+-- the parts of a page, one after the other
+pub page_of : (first second third page lists settled end : List ℕ) → first ≡ [] → second ≡ first ++ lists → third ≡ second ++ settled → page ≡ third ++ end
+    → page ≡ lists ++ (settled ++ end)
+page_of first second third page lists settled end none one two three =
+    three ∙ (ap (λ l. l ++ end) (two ∙ ap (λ l. l ++ settled) (one ∙ ap (λ l. l ++ lists) none)) ∙ append_assoc lists settled end)

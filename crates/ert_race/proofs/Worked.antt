@@ -35,7 +35,7 @@ at_mapped f [] k low d e = absurd (omega arith)
 at_mapped f (x ∷ xs) zero low d e = refl
 at_mapped f (x ∷ xs) (suc k) low d e = at_mapped f xs k (omega (arith, low)) d e
 
-length_mapped : {X Y : Type 0} (f : X → Y) (xs : List X) → length (map f xs) ≡ length xs
+pub length_mapped : {X Y : Type 0} (f : X → Y) (xs : List X) → length (map f xs) ≡ length xs
 length_mapped f [] = refl
 length_mapped f (x ∷ xs) = ap (λ n. suc n) (length_mapped f xs)
 
@@ -134,8 +134,5 @@ if_ok_both (Err e) P Q R both p q = tt
 
 -- what holds where a result is Ok holds of its value
 pub if_ok_at : {T E : Type 0} (r : Result T E) (x : T) (P : T → Type 0) → IfOk r P → r ≡ Ok x → P x
-if_ok_at (Ok y) x P holds is = subst P (the_value is) holds
-  where
-    the_value : Ok y ≡ Ok x → y ≡ x
-    the_value is = cc
+if_ok_at (Ok y) x P holds is = let same : y ≡ x = cc in subst P same holds
 if_ok_at (Err e) x P holds is = absurd cc

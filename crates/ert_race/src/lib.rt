@@ -13,7 +13,10 @@ mod naming;
 mod race;
 mod report;
 mod round;
+mod run;
+mod standing;
 mod workers;
 
 pub use ert_workers::ListDone;
 pub use race::{RaceEnd, race_on};
+pub use run::run_race;

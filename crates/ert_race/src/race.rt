@@ -7,12 +7,13 @@ ghost use Rattle.ert_race.specs.Ends.{RunsAtOnce, RacesTo};
 ghost use Rattle.ert_race.specs.Lists.{dids_of};
 ghost use Rattle.ert_race.specs.Worked.{ListsDone, TurnsDone};
 ghost use Rattle.ert_sched.specs.Parts.{parts_of};
-ghost use Rattle.ert_sched.specs.Worlds.{AreFit, StandsFor, seen};
+ghost use Rattle.ert_sched.specs.Worlds.{AreFit, seen};
 ghost use Rattle.ert_shared.specs.Dividing.{AreSeated};
 ghost use Rattle.ert_table.specs.Desks.{front_of};
 
 use crate::naming::name_pairs;
 use crate::round::last_round;
+use crate::standing::history_stands;
 use crate::workers::{do_lists, make_turns};
 use ert_defs::NoMemory;
 use ert_lines::Names;
@@ -110,15 +111,11 @@ fn work_at_once<L: DeskName + Send + Sync, R: Threads + Wait + Sync, G: Gate + S
     thread::join(
         rt,
         || make_turns(rt, alloc, service, scheds, race.turns, gate),
-        || requires { (L.settings.callers ≡ suc (length race.now.callers.items)) × MayDoAll L.settings (lists_of (race_of race.now)) } {
+        || requires { (L.settings.callers ≡ suc (length race.now.callers.items)) × MayDoAll L.settings (lists_of (race_of race.now)) }
+            ensures { (f : List Entry) → AreSeated (λ s. s.number) (λ s. front_of s.pass) L.settings.callers f callers.items
+                → IfOk result (λ r. ListsDone (λ s. s.number) (λ s. front_of s.pass) L.settings known.entry.now (lists_of (race_of race.entry.now)) f r.0.items r.1.items) }
+        {
             do_lists(rt, alloc, service, callers, race, known, gate)
         },
     )
-}
-
-// The history of every world is legal. The call brings this into reach, and costs nothing.
-fn history_stands(world: &World)
-    ensures { StandsFor world.now.settings world.now.history world.now }
-{
-    let _ = world.settings();
 }

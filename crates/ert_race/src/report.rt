@@ -3,13 +3,10 @@ ghost use Rattle.std.specs.Prelude.{◌≡◌, ◌++◌, OnOk, string_bytes};
 ghost use Rattle.ert_lines.specs.Names.{IsIndexOf};
 ghost use Rattle.ert_outcome.specs.Reports.{heading, lines_by, lists_text};
 ghost use Rattle.ert_race.specs.Lists.{dids_of};
-ghost use Rattle.ert_sched.specs.Counted.{numbers_of};
-ghost use Rattle.ert_transcript.specs.Counts.{settled_line};
 ghost use Rattle.ert_transcript.specs.Labels.{Labels};
 
 use ert_workers::ListDone;
 use ert_lines::{Names, write_line};
-use ert_sched::Counts;
 use ert_transcript::Reply;
 use std::alloc::AllocError;
 use std::fmt::Write;
@@ -46,20 +43,4 @@ fn write_replies(page: &mut String, replies: &[Reply], names: &Names) -> Result<
         write_line(page, reply, names)?;
     }
     Ok(())
-}
-
-/// Appends the line of how many timers have which status.
-pub fn write_settled(page: &mut String, counts: &Counts) -> Result<(), AllocError>
-    ensures { OnOk result (string_bytes page.new ≡ string_bytes page.old ++ settled_line (numbers_of counts.now)) }
-{
-    write!(
-        page,
-        "settled armed {} expired {} delivered {} dropped {} cancelled {} orphaned {}\n",
-        counts.armed,
-        counts.expired,
-        counts.delivered,
-        counts.dropped,
-        counts.cancelled,
-        counts.orphaned,
-    )
 }

@@ -6,7 +6,7 @@ use Rattle.ert_defs.specs.declared.settings.Settings.{Settings}
 use Rattle.ert_lines.specs.Names.{IsIndexOf}
 use Rattle.ert_ops.specs.Races.{race_of}
 use Rattle.ert_outcome.specs.Outcomes.{ActAtOnce}
-use Rattle.ert_race.proofs.AtOnce.{at_once}
+use Rattle.ert_race.proofs.AtOnce.{at_once, count_callers}
 use Rattle.ert_race.proofs.Worked.{if_ok_at}
 use Rattle.ert_race.specs.Lists.{dids_of}
 use Rattle.ert_table.specs.Desks.{front_of}
@@ -38,7 +38,7 @@ returns g c =
     (c.work_at_once-scheds.ensures.done f c.in_ok-service.ensures.callers) c.in_ok-callers.was in
     let grown = at_once (λ s. s.part.wheel) (λ s. front_of s.pass) (λ s. s.number) (λ s. front_of s.pass) s c.args.parts.labels.items c.in_ok-known.known
     (race_of c.args.race.now) f h c.in_ok-scheds.scheds.items c.in_ok-callers.callers.items c.in_ok-callers.lists.items
-    index longer legal ? turned c.close-world.ensures.scheds done c.close-world.ensures.callers in
+    index longer legal (count_callers s c.args.race.now c.requires.callers) turned c.close-world.ensures.scheds done c.close-world.ensures.callers in
     record {
       grows = subst (λ (x : Settings). Grows (ActAtOnce x c.args.parts.labels.items (race_of c.args.race.now) (dids_of c.in_ok-callers.lists.items)) f h)
           (sym c.requires.desk.settings_is) grown;
