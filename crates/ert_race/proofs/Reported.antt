@@ -1,14 +1,12 @@
 -- Lists that are gone over, with one more item.
 
-use Rattle.std.proofs.Common.{◌≡◌, ℕ, suc, zero, ◌+◌, ◌<◌, ◌≤◌, List, [], ◌∷◌, ◌++◌, length, take, map, slice_index_or, refl, sym, ap, subst, ◌∙◌, arith, append-nil, append_assoc, length-append}
-use Rattle.std.proofs.lemmas.List.{take_more, take_all}
+use Rattle.std.proofs.Common.{◌≡◌, ℕ, suc, zero, ◌+◌, ◌<◌, List, [], ◌∷◌, ◌++◌, length, take, slice_index_or, refl, sym, ap, ◌∙◌, arith, append-nil, append_assoc}
+use Rattle.std.proofs.lemmas.List.{take_more}
 use Rattle.ert_defs.specs.declared.timer.TimerRef.{TimerRef}
-use Rattle.ert_lines.specs.Names.{IsIndexOf}
-use Rattle.ert_lines.specs.declared.names.Names.{Names}
 use Rattle.ert_outcome.specs.Reports.{Did, all_labels, lines_by, heading, lists_text}
 use Rattle.ert_race.specs.Lists.{did_of, dids_of}
 use Rattle.ert_workers.specs.declared.list.ListDone.{ListDone}
-use Rattle.ert_transcript.specs.Labels.{Labels, bind, label_of}
+use Rattle.ert_transcript.specs.Labels.{Labels, label_of}
 use Rattle.ert_transcript.specs.Lines.{line_of}
 use Rattle.ert_transcript.specs.declared.reply.Reply.{Reply}
 

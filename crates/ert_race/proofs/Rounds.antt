@@ -1,6 +1,6 @@
 -- The last turns of a race, as far as they have come.
 
-use Rattle.std.proofs.Common.{◌≡◌, ℕ, ◌+◌, ◌<◌, ◌≤◌, List, Ok, below_more, refl, sym, ap, subst, ◌∙◌, arith}
+use Rattle.std.proofs.Common.{◌≡◌, ℕ, ◌+◌, ◌<◌, ◌≤◌, List, Ok, below_more, refl, sym, subst, ◌∙◌, arith}
 use Rattle.ert_answers.proofs.Growing.{grows_then}
 use Rattle.ert_answers.specs.Chains.{Turns}
 use Rattle.ert_answers.specs.Ways.{Grows, alone}

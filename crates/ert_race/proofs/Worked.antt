@@ -1,6 +1,6 @@
 -- The lists and the turns of all, from what each thread left.
 
-use Rattle.std.proofs.Common.{◌≡◌, ℕ, zero, suc, ◌+◌, ◌<◌, List, [], ◌∷◌, length, map, slice_index_or, Ok, Err, refl, sym, ap, subst, ◌∙◌, arith}
+use Rattle.std.proofs.Common.{◌≡◌, ℕ, zero, suc, ◌<◌, List, [], ◌∷◌, length, map, slice_index_or, Ok, Err, refl, sym, ap, subst, ◌∙◌, arith}
 use Rattle.std.specs.Prelude.{IfOk, OnOk, Result}
 use Rattle.ert_defs.specs.declared.entry.Entry.{Entry}
 use Rattle.ert_defs.specs.declared.memory.NoMemory.{NoMemory}
@@ -61,7 +61,7 @@ module _ {S D : Type 0} (number : S → ℕ) (front : S → List Entry) (seat : 
   pub lists_done : (done : D → Result ListDone NoMemory) (known : Names) (lists : List (List Op)) (dones : List ListDone)
       → AreSeated number front g.callers f old → length ds ≡ length old
       → ((k : ℕ) (d : D) (s : S) → k < length old → CallerWorked g known lists (number (slice_index_or old k s)) (front (slice_index_or old k s))
-          (number (seat (slice_index_or ds k d))) (front (seat (slice_index_or ds k d))) (done (slice_index_or ds k d)))
+      (number (seat (slice_index_or ds k d))) (front (seat (slice_index_or ds k d))) (done (slice_index_or ds k d)))
       → new ≡ map seat ds → map list_ok dones ≡ map done ds
       → ListsDone number front g known lists f new dones
   lists_done done known lists dones seated many worked seats_are dones_are = record {
@@ -97,7 +97,7 @@ module _ {S D : Type 0} (number : S → ℕ) (front : S → List Entry) (seat : 
   pub turns_done : (done : D → Result (Unit {0}) NoMemory) (turns : ℕ)
       → AreSeated number front g.schedulers f old → length ds ≡ length old
       → ((k : ℕ) (d : D) (s : S) → k < length old → SchedWorked g turns (number (slice_index_or old k s)) (front (slice_index_or old k s))
-          (number (seat (slice_index_or ds k d))) (front (seat (slice_index_or ds k d))) (done (slice_index_or ds k d)))
+      (number (seat (slice_index_or ds k d))) (front (seat (slice_index_or ds k d))) (done (slice_index_or ds k d)))
       → new ≡ map seat ds → map turns_ok new ≡ map done ds
       → TurnsDone number front g turns f new
   turns_done done turns seated many worked seats_are dones_are = record {

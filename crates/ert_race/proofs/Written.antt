@@ -1,8 +1,8 @@
 -- What a race wrote, as an outcome has it.
 
-use Rattle.std.proofs.Common.{◌≡◌, ◌≢◌, ℕ, zero, suc, ◌+◌, ◌<◌, ◌≤◌, List, [], ◌∷◌, ◌++◌, length, take, AllPairs, Option, inl, inr, refl, sym, ap, subst, ◌∙◌, arith, append_assoc, append-nil, length-append, get_or}
+use Rattle.std.proofs.Common.{◌≡◌, ◌≢◌, ℕ, ◌+◌, List, [], ◌∷◌, ◌++◌, length, take, AllPairs, Option, inl, inr, refl, sym, ap, subst, ◌∙◌, arith, append-nil, length-append, get_or}
 use Rattle.std.proofs.lemmas.List.{get_or_append_left, take_all}
-use Rattle.ert_answers.specs.Ways.{Grows, alone}
+use Rattle.ert_answers.specs.Ways.{alone}
 use Rattle.ert_defs.specs.Legal.{Legal}
 use Rattle.ert_defs.specs.Lines.{Face}
 use Rattle.ert_defs.specs.States.{state}
@@ -17,9 +17,9 @@ use Rattle.ert_ops.specs.Races.{Race}
 use Rattle.ert_ops.specs.declared.op.Op.{Op}
 use Rattle.ert_ops.specs.declared.op.Op.TheVariants as ops
 use Rattle.ert_outcome.specs.Outcomes.{Races, IsOutcome}
-use Rattle.ert_outcome.specs.Reports.{Did, behind, report}
+use Rattle.ert_outcome.specs.Reports.{Did, behind}
 use Rattle.ert_race.specs.Ends.{RacesTo}
-use Rattle.ert_race.specs.Written.{IsBeginning, MayWrite, ReportsFit, RacesOn, StopsRace}
+use Rattle.ert_race.specs.Written.{MayWrite, ReportsFit, RacesOn, StopsRace}
 use Rattle.ert_sched.specs.Lived.{IsLived}
 use Rattle.ert_sched.specs.Openings.{IsOpened}
 use Rattle.ert_sched.specs.Worlds.{Service, StandsFor}
@@ -89,7 +89,7 @@ lines_fit g list race start room opened fits n rs v ran stands =
 pub outcome_of : (g : Settings) (list : List Op) (race : Race) (start v w : Service) (rs : List Reply) (dids : List Did) → IsOpened g start → Runs start list rs v
     → RacesTo v race dids w → StandsFor w.settings w.history w
     → IsOutcome g list race w.history
-        (lines_of start.labels list rs ++ behind w.labels dids (counts_of w.settings (state w.settings w.history)) w.clock.face.time)
+    (lines_of start.labels list rs ++ behind w.labels dids (counts_of w.settings (state w.settings w.history)) w.clock.face.time)
 outcome_of g list race start v w rs dids opened ran raced stands = record {
   legal = subst (λ (x : Settings). Legal x w.history) named stands.clock.legal;
   first = v.history;
@@ -172,8 +172,11 @@ pub breaks : (g : Settings) (list : List Op) (race : Race) (start v w : Service)
     → StopsRace g list race old new
 breaks g list race start v w dids page old mid new opened ran raced stands told_all part = record {
   text = lines_of start.labels list ran.replies ++ page;
-  may = inr (w.history, subst (λ (t : List ℕ). IsOutcome g list race w.history (lines_of start.labels list ran.replies ++ t)) (sym told_all)
-      (outcome_of g list race start v w ran.replies dids opened ran.runs raced stands));
+  may = inr (
+    w.history,
+    subst (λ (t : List ℕ). IsOutcome g list race w.history (lines_of start.labels list ran.replies ++ t)) (sym told_all)
+        (outcome_of g list race start v w ran.replies dids opened ran.runs raced stands),
+  );
   writes = front_after old mid new (lines_of start.labels list ran.replies) page ran.writes part;
 }
 
@@ -185,5 +188,8 @@ pub page_fits : (g : Settings) (list : List Op) (race : Race) (start v w : Servi
 page_fits g list race start v w dids page old mid opened ran raced stands told_all fits =
     let text : List ℕ = lines_of start.labels list ran.replies in
     rest_fits old mid text page ran.writes
-    (fits (text ++ page) (inr (w.history, subst (λ (t : List ℕ). IsOutcome g list race w.history (text ++ t)) (sym told_all)
-    (outcome_of g list race start v w ran.replies dids opened ran.runs raced stands))))
+    (fits (text ++ page) (inr (
+      w.history,
+      subst (λ (t : List ℕ). IsOutcome g list race w.history (text ++ t)) (sym told_all)
+          (outcome_of g list race start v w ran.replies dids opened ran.runs raced stands),
+    )))

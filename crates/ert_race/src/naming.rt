@@ -5,9 +5,9 @@ ghost use Rattle.ert_outcome.specs.Reports.{all_labels};
 ghost use Rattle.ert_race.specs.Lists.{dids_of};
 ghost use Rattle.ert_transcript.specs.Labels.{Labels};
 
-use ert_workers::ListDone;
 use ert_defs::{NoMemory, TimerRef};
 use ert_lines::Names;
+use ert_workers::ListDone;
 use std::alloc::Global;
 
 /// An index of the labels of the ops, and then of those that the lists bound, list after list.

@@ -81,8 +81,7 @@ fn run_at_once<L: DeskName + Send + Sync, R: Threads + Wait + Sync, G: Gate + Sy
         scheds,
         callers,
     } = Service::<L>::open(alloc, parts)?;
-    let (scheds, callers) =
-        work_at_once(rt, alloc, &service, scheds, callers, race, &known, gate);
+    let (scheds, callers) = work_at_once(rt, alloc, &service, scheds, callers, race, &known, gate);
     let scheds = scheds?;
     let (callers, lists) = callers?;
     let world = service.close(rest, scheds, callers);
@@ -100,7 +99,10 @@ fn work_at_once<L: DeskName + Send + Sync, R: Threads + Wait + Sync, G: Gate + S
     race: &RaceLists,
     known: &Names,
     gate: &G,
-) -> (Result<Vec<SchedSeat<L>>, NoMemory>, Result<(Vec<CallerSeat<L>>, Vec<ListDone>), NoMemory>)
+) -> (
+    Result<Vec<SchedSeat<L>>, NoMemory>,
+    Result<(Vec<CallerSeat<L>>, Vec<ListDone>), NoMemory>,
+)
     requires callers { L.settings.callers ≡ suc (length race.now.callers.items) }
     requires may { MayDoAll L.settings (lists_of (race_of race.now)) }
     ensures turned { (f : List Entry) → AreSeated (λ s. s.part.wheel) (λ s. front_of s.pass) L.settings.schedulers f scheds.items
@@ -111,11 +113,10 @@ fn work_at_once<L: DeskName + Send + Sync, R: Threads + Wait + Sync, G: Gate + S
     thread::join(
         rt,
         || make_turns(rt, alloc, service, scheds, race.turns, gate),
-        || requires { (L.settings.callers ≡ suc (length race.now.callers.items)) × MayDoAll L.settings (lists_of (race_of race.now)) }
+        ||
+            requires { (L.settings.callers ≡ suc (length race.now.callers.items)) × MayDoAll L.settings (lists_of (race_of race.now)) }
             ensures { (f : List Entry) → AreSeated (λ s. s.number) (λ s. front_of s.pass) L.settings.callers f callers.items
                 → IfOk result (λ r. ListsDone (λ s. s.number) (λ s. front_of s.pass) L.settings known.entry.now (lists_of (race_of race.entry.now)) f r.0.items r.1.items) }
-        {
-            do_lists(rt, alloc, service, callers, race, known, gate)
-        },
+        { do_lists(rt, alloc, service, callers, race, known, gate) },
     )
 }

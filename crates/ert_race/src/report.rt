@@ -5,9 +5,9 @@ ghost use Rattle.ert_outcome.specs.Reports.{heading, lines_by, lists_text};
 ghost use Rattle.ert_race.specs.Lists.{dids_of};
 ghost use Rattle.ert_transcript.specs.Labels.{Labels};
 
-use ert_workers::ListDone;
 use ert_lines::{Names, write_line};
 use ert_transcript::Reply;
+use ert_workers::ListDone;
 use std::alloc::AllocError;
 use std::fmt::Write;
 

@@ -99,9 +99,11 @@ fn run_callers<L: DeskName + Send + Sync, R: Threads + Wait + Sync, G: Gate + Sy
     ensures worked { IfOk result (λ v. (k : ℕ) (d : _) (s : _) → k < length callers.items
         → CallerWorked L.settings known.now (lists_of (race_of race.now)) (slice_index_or callers.items k s).number (front_of (slice_index_or callers.items k s).pass) (slice_index_or v.items k d).seat.number (front_of (slice_index_or v.items k d).seat.pass) (slice_index_or v.items k d).done) }
 {
-    Ok(thread::map_vec(rt, callers, &|seat| {
-        work_as_caller(rt, alloc, service, seat, race, known, gate)
-    })?)
+    Ok(thread::map_vec(
+        rt,
+        callers,
+        &|seat| { work_as_caller(rt, alloc, service, seat, race, known, gate) },
+    )?)
 }
 
 /// Each scheduler makes its turns, in a thread of its own where one can be made.
@@ -116,9 +118,11 @@ fn run_scheds<L: DeskName + Send + Sync, R: Threads + Wait + Sync, G: Gate + Syn
     ensures worked { IfOk result (λ v. (k : ℕ) (d : _) (s : _) → k < length scheds.items
         → SchedWorked L.settings turns (slice_index_or scheds.items k s).part.wheel (front_of (slice_index_or scheds.items k s).pass) (slice_index_or v.items k d).seat.part.wheel (front_of (slice_index_or v.items k d).seat.pass) (slice_index_or v.items k d).done) }
 {
-    Ok(thread::map_vec(rt, scheds, &|seat| {
-        work_as_sched(rt, service, seat, turns, gate)
-    })?)
+    Ok(thread::map_vec(
+        rt,
+        scheds,
+        &|seat| { work_as_sched(rt, service, seat, turns, gate) },
+    )?)
 }
 
 /// Takes the seats and what came of the lists apart.

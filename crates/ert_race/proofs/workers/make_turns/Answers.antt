@@ -6,5 +6,5 @@ pub returns : goal.returns
 returns g c = λ f seated.
     if_ok_both c.collect_scheds.result _ _ _
     (λ r seats done. turns_done (λ s. s.part.wheel) (λ s. front_of s.pass) (λ d. d.seat) g.L.DeskName.settings f c.args.scheds.items c.in_ok-all.all.items r.items
-        (λ d. d.done) c.args.turns seated c.in_ok-all.ensures.counted c.in_ok-all.ensures.worked seats done)
+    (λ d. d.done) c.args.turns seated c.in_ok-all.ensures.counted c.in_ok-all.ensures.worked seats done)
     c.collect_scheds.ensures.seats c.collect_scheds.ensures.done
