@@ -3,7 +3,7 @@ ghost use Rattle.std.specs.Prelude.{◌<◌};
 
 use crate::bench_err::BenchErr;
 use crate::passes::{PASSES, Passes};
-use crate::rig::Rig;
+use crate::rig::{PROCESSES, Rig};
 use crate::stopwatch::Stopwatch;
 use ert_defs::{Mode, TimerRef};
 use ert_io::OsClock;
@@ -154,17 +154,17 @@ pub(crate) fn exit<C: OsClock>(
     others: u32,
 ) -> Result<Passes, BenchErr> {
     let waits = spread_waits(alloc, others)?;
-    let mut passes = Passes::new(alloc, 1_023);
+    let mut passes = Passes::new(alloc, PROCESSES - 1);
     let mut timers = Vec::with_capacity(alloc, others as usize)?;
     for _ in 0..PASSES {
         let mut rig = Rig::open(alloc, others, Mode::No)?;
         timers.clear();
         rig.start_all(&waits, &mut timers)?;
-        for process in 1..1_024 {
+        for process in 1..PROCESSES {
             rig.start(SPREAD, process)?;
         }
         watch.start()?;
-        for process in 1..1_024 {
+        for process in 1..PROCESSES {
             rig.exit(process)?;
         }
         passes.add(watch.elapsed()?)?;

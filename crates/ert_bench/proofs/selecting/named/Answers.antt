@@ -1,4 +1,4 @@
-use Rattle.std.proofs.Common.{◌≡◌, ◌<◌, length, slice_index_or, string_bytes, rules}
+use Rattle.std.proofs.Common.{◌≡◌, slice_index_or, string_bytes, rules}
 use Rattle.ert_bench.proofs.Listed.{no_name}
 use Rattle.ert_bench.proofs.selecting.named.Goals as goal
 
