@@ -5,9 +5,8 @@ use base.Logic.{ent, id⊢}
 use base.Fml.{ftrue}
 use types.Logic.{Logic, sem}
 use denote.RawPtr.{Ptr}
-use Rattle.libc.specs.Heap.{chunk}
 use Rattle.std_alloc.specs.Box.Ownership.{box_owns}
-use Rattle.ert_c.specs.Places.{held}
+use Rattle.ert_c.specs.Places.{chunk, held}
 use Rattle.ert_sched.specs.Worlds.{Service}
 use Rattle.ert_sched.specs.contracts.world.World as world
 

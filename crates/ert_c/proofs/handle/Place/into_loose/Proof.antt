@@ -24,14 +24,13 @@ use Rattle.std.proofs.raw_atomic.Walks.{proved_at, leaves}
 use Rattle.std.specs.contracts.alloc.Global as heap
 use Rattle.std.proofs.alloc.Global.TheLaws as heap_laws
 use Rattle.std.specs.contracts.impls.GlobalAllocator.TheImpl.{ghosts}
-use Rattle.libc.specs.Heap.{chunk}
 use Rattle.std_alloc.specs.Box.Ownership.{box_owns}
 use Rattle.ert_sched.specs.Worlds.{Service}
 use Rattle.ert_sched.specs.contracts.world.World as world
 use Rattle.ert_c.proofs.Carried.{word, word_good, there, place_out}
 use Rattle.ert_c.proofs.Helds.{some_held}
 use Rattle.ert_c.proofs.Values.{both, al, loose_good, loose_in}
-use Rattle.ert_c.specs.Places.{held, is_there}
+use Rattle.ert_c.specs.Places.{chunk, held, is_there}
 use Rattle.ert_c.specs.contracts.handle.Place as place
 use Rattle.ert_c.specs.contracts.handle.Place.into_loose as f
 use Rattle.ert_c.proofs.handle.Place.into_loose.Statement.{statement}

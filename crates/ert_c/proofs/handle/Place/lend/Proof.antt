@@ -25,14 +25,13 @@ use denote.Steps.{nothing, heard, opens}
 use denote.Triple.Walked.{Stays, stay_dropped, walk_of, says, ends_at, Goes-spent_ref}
 use Rattle.std.proofs.VecSteps.Shapes.{after}
 use Rattle.std.proofs.raw_atomic.Walks.{proved}
-use Rattle.libc.specs.Heap.{chunk}
 use Rattle.std_alloc.specs.Box.Ownership.{box_owns}
 use Rattle.ert_sched.specs.Worlds.{Service}
 use Rattle.ert_sched.specs.contracts.world.World as world
 use Rattle.ert_c.proofs.Carried.{word, there, place_out, place_in}
 use Rattle.ert_c.proofs.Helds.{held_some, some_held}
 use Rattle.ert_c.specs.Lending.{with_world}
-use Rattle.ert_c.specs.Places.{held, is_there}
+use Rattle.ert_c.specs.Places.{chunk, held, is_there}
 use Rattle.ert_c.specs.contracts.handle.Place as place
 use Rattle.ert_c.specs.contracts.handle.Place.lend as f
 use Rattle.ert_c.proofs.handle.Place.lend.Statement.{statement}
