@@ -11,6 +11,7 @@ pub mod Listed
 pub mod Members
 pub mod Migrated
 pub mod Parts
+pub mod QuickLemmas
 pub mod Refused
 pub mod Scanned
 pub mod Tested

@@ -27,6 +27,7 @@ mod labels;
 mod laws;
 mod lists;
 mod migration;
+mod quick;
 mod ranges;
 mod rows;
 mod scanning;
