@@ -1,5 +1,5 @@
 //! How a service is closed: the passes are joined, and the parts are put in order of number.
-ghost use Rattle.std.specs.Prelude.{◌≡◌, ◌≤◌, ◌+◌, ℕ, [], vec_len, length};
+ghost use Rattle.std.specs.Prelude.{◌≡◌, ◌<◌, ◌≤◌, [], vec_len, slice_set, Some};
 ghost use Rattle.std.specs.Vec.{vec_capacity};
 ghost use Rattle.ert_defs.specs.Legal.{Legal};
 ghost use Rattle.ert_defs.specs.declared.entry.Actor.TheVariants.{Wheel, Inbox, MailOf};
@@ -10,18 +10,18 @@ ghost use Rattle.ert_shared.specs.Gathering.{IsSeen, AreIn, AreEmpty, somes};
 ghost use Rattle.ert_table.specs.Desks.{view_of, front_of, Belongs};
 ghost use Rattle.ert_timers.specs.Parts as wheels;
 
+use crate::service::PaddedLock;
 use ert_inbox::InboxPart;
 use ert_locks::{DeskName, LockedInbox, LockedMail, LockedWheel};
 use ert_mail::MailPart;
 use ert_table::{Desk, Pass};
 use ert_timers::WheelPart;
-use std::sync::Mutex;
 
 /// Takes the wheels from their locks, joins their passes, and puts them in order of number.
 pub(crate) fn gather_wheels<L: DeskName>(
     desk: &Desk,
     pass: &mut Pass,
-    locks: Vec<Mutex<LockedWheel<L>>>,
+    locks: Vec<PaddedLock<LockedWheel<L>>>,
     places: Vec<Option<WheelPart>>,
     parts: Vec<WheelPart>,
 ) -> Vec<WheelPart>
@@ -39,10 +39,10 @@ pub(crate) fn gather_wheels<L: DeskName>(
 {
     let mut places = places;
     for lock in locks {
-        let (part, own) = lock.into_inner().into_parts();
+        let (part, own) = lock.into_inner().into_inner().into_parts();
         pass.join(desk, own);
-        let number = part.number() as usize;
-        places[number] = Some(part);
+        let number = part.number();
+        put(&mut places, number, part);
     }
     take_all(places, parts)
 }
@@ -51,7 +51,7 @@ pub(crate) fn gather_wheels<L: DeskName>(
 pub(crate) fn gather_inboxes<L: DeskName>(
     desk: &Desk,
     pass: &mut Pass,
-    locks: Vec<Mutex<LockedInbox<L>>>,
+    locks: Vec<PaddedLock<LockedInbox<L>>>,
     places: Vec<Option<InboxPart>>,
     parts: Vec<InboxPart>,
 ) -> Vec<InboxPart>
@@ -69,10 +69,10 @@ pub(crate) fn gather_inboxes<L: DeskName>(
 {
     let mut places = places;
     for lock in locks {
-        let (part, own) = lock.into_inner().into_parts();
+        let (part, own) = lock.into_inner().into_inner().into_parts();
         pass.join(desk, own);
-        let number = part.wheel() as usize;
-        places[number] = Some(part);
+        let number = part.wheel();
+        put(&mut places, number, part);
     }
     take_all(places, parts)
 }
@@ -81,7 +81,7 @@ pub(crate) fn gather_inboxes<L: DeskName>(
 pub(crate) fn gather_mails<L: DeskName>(
     desk: &Desk,
     pass: &mut Pass,
-    locks: Vec<Mutex<LockedMail<L>>>,
+    locks: Vec<PaddedLock<LockedMail<L>>>,
     places: Vec<Option<MailPart>>,
     parts: Vec<MailPart>,
 ) -> Vec<MailPart>
@@ -99,12 +99,20 @@ pub(crate) fn gather_mails<L: DeskName>(
 {
     let mut places = places;
     for lock in locks {
-        let (part, own) = lock.into_inner().into_parts();
+        let (part, own) = lock.into_inner().into_inner().into_parts();
         pass.join(desk, own);
-        let number = part.process() as usize;
-        places[number] = Some(part);
+        let number = part.process();
+        put(&mut places, number, part);
     }
     take_all(places, parts)
+}
+
+/// Puts a part into the place of its number.
+fn put<P: Drop>(places: &mut Vec<Option<P>>, number: u32, part: P)
+    requires { number < vec_len places.old }
+    ensures { places.new.items ≡ slice_set places.old.items number (Some part) }
+{
+    places[number as usize] = Some(part);
 }
 
 /// Takes the parts out of their places, in order, into a vector with room for them.
