@@ -7,6 +7,7 @@ pub mod Lists
 pub mod Migration
 pub mod Places
 pub mod Quick
+pub mod QuickMembers
 pub mod Ranges
 pub mod Rows
 pub mod Scenarios

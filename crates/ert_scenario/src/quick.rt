@@ -1,115 +1,120 @@
-//! The quick way to a scenario without a fault: one pass over the tokens of a text, which keeps the ops and no
-//! tree of values.
+//! The quick way to a scenario: one pass over the tokens of a text, which keeps the ops and no tree of values.
+//! It gives nothing wherever anything is unusual, and says nothing of faults.
 
-ghost use Rattle.std.specs.Prelude.{◌≡◌, ◌<◌, ◌∷◌, [], ℕ, true, false, Some, length, option_map, IsTrue, IfOk, IfSome};
-ghost use Rattle.json.specs.Json.{value as json_value, items as json_items};
-ghost use Rattle.json.specs.Reads.{token_of};
-ghost use Rattle.json.specs.Token.{begin_array};
-ghost use Rattle.serde_json.specs.Data.{number as number_data};
-ghost use Rattle.serde_json.specs.Read.{number_of, number_from, of_items, converted};
-ghost use Rattle.serde_json.specs.View.{view, items_view};
-ghost use Rattle.ert_scenario.specs.Quick.{scalar_of, ReadsOp, ReadsOps};
+ghost use Rattle.std.specs.Prelude.{◌≡◌, false, Some, IsTrue, IfOk, IfErr, IfSome};
+ghost use Rattle.serde_json.specs.Data.{Members, object};
+ghost use Rattle.serde_json.specs.Read.{read as read_text};
+ghost use Rattle.ert_scenario.specs.QuickMembers.{IsSeenAs, IsPlanOf, IsPlanWith, plain};
+ghost use Rattle.ert_scenario.specs.Scenarios.{plan_of, IsScenario};
 
-use crate::doer::Doer;
-use crate::format::Format;
-use crate::rows::op_from;
+mod members;
+mod ops;
+mod tokens;
+
+use self::members::{Seen, read_object};
+use crate::fields::{Top, top_of};
+use crate::format::{Format, format_of};
+use crate::scenario::{MAX_OPS, Scenario, ScenarioErr, first_range, is_over};
+use crate::walk::Walk;
+use ert_defs::Settings;
 use ert_ops::Op;
-use fast_float::Numeral;
-use json::{Reader, Token};
+use json::{Reader, Scratch};
 use serde_json::Value;
 use std::alloc::{AllocError, Global};
 
-/// The ops of an array, each an array of numbers, strings and other values that aren't arrays or objects.
-pub(crate) fn read_ops(alloc: Global, reader: &mut Reader<'_>, format: Format) -> Result<Option<Vec<Op>>, AllocError>
-    ensures { IfOk result (λ o. IfSome o (λ ops. ReadsOps format reader.old reader.new ops.items)) }
+/// No op is written in fewer bytes, with the comma after it.
+const OP_BYTES: usize = 9;
+
+/// The scenario without a race that bytes are. There is none where they are no such scenario, and where they are
+/// one that is written in an unusual way.
+pub(crate) fn read_quickly(alloc: Global, bytes: &[u8]) -> Result<Option<Scenario>, ScenarioErr>
+    ensures ok { IfOk result (λ o. IfSome o (λ s. IsScenario false bytes.now (plan_of s))) }
+    ensures err { IfErr result (λ e. e ≡ ScenarioErr.NoMemory) }
 {
-    let mut ops = Vec::new(alloc);
-    if !takes_begin_array(reader) {
+    let Ok(text) = simdutf8::basic::from_utf8(bytes) else {
         return Ok(None);
+    };
+    match read_seen(alloc, text) {
+        Ok(Some(seen)) => scenario_of(alloc, seen),
+        Ok(None) => Ok(None),
+        Err(_) => Err(ScenarioErr::NoMemory),
     }
-    let mut args = Vec::new(alloc);
-    'ops: while !reader.take_end_array() {
-        match read_op(alloc, reader, format, &mut args)? {
-            Some(op) => ops.push(op)?,
-            None => return Ok(None),
-        }
-    }
-    Ok(Some(ops))
 }
 
-/// The next op. Its items are read into this buffer.
-fn read_op(alloc: Global, reader: &mut Reader<'_>, format: Format, args: &mut Vec<Value>) -> Result<Option<Op>, AllocError>
-    ensures read { IfOk result (λ o. IfSome o (λ op. ReadsOp format reader.old reader.new op)) }
-    ensures shorter { IfOk result (λ o. IfSome o (λ op. length reader.new < length reader.old)) }
+/// The members of the object that a text is.
+fn read_seen(alloc: Global, text: &str) -> Result<Option<Seen>, AllocError>
+    ensures { IfOk result (λ o. IfSome o (λ seen. (all : Members)
+        × (read_text text.now ≡ Some (object all)) × IsSeenAs seen all)) }
 {
-    args.clear();
-    if !takes_begin_array(reader) || !read_items(alloc, reader, args)? {
+    let mut scratch = Scratch::new(alloc);
+    let mut reader = Reader::new(text, &mut scratch)?;
+    let room = MAX_OPS.min(text.len() / OP_BYTES);
+    let Some(seen) = read_object(alloc, &mut reader, room)? else {
         return Ok(None);
+    };
+    match reader.next() {
+        Some(_) => Ok(None),
+        None => Ok(Some(seen)),
     }
-    Ok(op_from(format, Doer::Everyone, args).ok())
 }
 
-/// Takes the bracket that opens an array, where it is next.
-fn takes_begin_array(reader: &mut Reader<'_>) -> bool
-    ensures { IsTrue result → reader.old ≡ begin_array ∷ reader.new }
+/// The scenario of these members.
+fn scenario_of(alloc: Global, seen: Seen) -> Result<Option<Scenario>, ScenarioErr>
+    ensures ok { IfOk result (λ o. IfSome o (λ s. IsPlanOf seen (plan_of s))) }
+    ensures err { IfErr result (λ e. e ≡ ScenarioErr.NoMemory) }
 {
-    matches!(reader.next(), Some(Token::BeginArray))
-}
-
-/// The items of an array after the bracket that opens it, where none is an array or an object.
-fn read_items(alloc: Global, reader: &mut Reader<'_>, items: &mut Vec<Value>) -> Result<bool, AllocError>
-    requires { items.old.items ≡ [] }
-    ensures read { IfOk result (λ all. IsTrue all → (depth : ℕ)
-        → converted of_items (json_items (json_value depth) (length reader.old) reader.old)
-        ≡ Some (items_view items.new.items, reader.new)) }
-    ensures shorter { IfOk result (λ all. IsTrue all → length reader.new < length reader.old) }
-{
-    'items: while !reader.take_end_array() {
-        let Some(token) = reader.next() else {
-            return Ok(false);
-        };
-        match scalar(alloc, token)? {
-            Some(value) => items.push(value)?,
-            None => return Ok(false),
-        }
-    }
-    Ok(true)
-}
-
-/// The value of a token. A number with a fraction, with an exponent, or of more than 64 bits has none here.
-fn scalar(alloc: Global, token: Token<'_>) -> Result<Option<Value>, AllocError>
-    ensures { IfOk result (λ o. IfSome o (λ v. scalar_of (token_of token.entry) ≡ Some (view v))) }
-{
-    match token {
-        Token::String(text) => Ok(Some(Value::String(String::from_str(alloc, text)?))),
-        Token::Bool(b) => Ok(Some(Value::Bool(b))),
-        Token::Number(text) => Ok(integer(text)),
+    let Seen {
+        fields,
+        format,
+        ops,
+        ..
+    } = seen;
+    let value = Value::Object(fields);
+    match top_of(&value, false) {
+        Ok(top) if is_format(format, format_of(&value)) => scenario_with(alloc, top, ops),
         _ => Ok(None),
     }
 }
 
-/// The value of a number's text that is an integer of 64 bits.
-fn integer(text: &str) -> Option<Value>
-    ensures { IfSome result (λ v. option_map number_data (number_of text.now) ≡ Some (view v)) }
+/// Whether there is a format, and it is this one.
+fn is_format(format: Option<Format>, other: Format) -> bool
+    ensures { IsTrue result → format ≡ Some other }
 {
-    let bytes = text.as_bytes();
-    match bytes {
-        [b'-', ..] => negative(&Numeral::scan(&bytes[1..])),
-        _ => unsigned(&Numeral::scan(bytes)),
+    match format {
+        Some(Format::One) => matches!(other, Format::One),
+        Some(Format::Two) => matches!(other, Format::Two),
+        None => false,
     }
 }
 
-fn unsigned(numeral: &Numeral<'_>) -> Option<Value>
-    ensures { IfSome result (λ v. option_map number_data (number_from false numeral.now) ≡ Some (view v)) }
+/// The scenario with these settings and ops.
+fn scenario_with(alloc: Global, top: Top, ops: Vec<Op>) -> Result<Option<Scenario>, ScenarioErr>
+    ensures ok { IfOk result (λ o. IfSome o (λ s. IsPlanWith top ops.items (plan_of s))) }
+    ensures err { IfErr result (λ e. e ≡ ScenarioErr.NoMemory) }
 {
-    numeral.to_u64().map(Value::from)
+    let walk = Walk {
+        ops,
+        range: None,
+        place: 1,
+    };
+    if first_range(alloc, &top.settings, &walk)?.is_some()
+        || is_over(walk.ops.len(), 0, top.turns)
+    {
+        return Ok(None);
+    }
+    Ok(Some(scenario_without_race(top, walk.ops)))
 }
 
-fn negative(numeral: &Numeral<'_>) -> Option<Value>
-    ensures { IfSome result (λ v. option_map number_data (number_from true numeral.now) ≡ Some (view v)) }
+/// The scenario with these settings, for one caller.
+fn scenario_without_race(top: Top, ops: Vec<Op>) -> Scenario
+    ensures { plan_of result ≡ plain top.settings ops.items }
 {
-    match numeral.to_i64(true) {
-        Some(n) if n < 0 => Some(Value::from(n)),
-        _ => None,
+    Scenario {
+        settings: Settings {
+            callers: 1,
+            ..top.settings
+        },
+        ops,
+        race: None,
     }
 }
