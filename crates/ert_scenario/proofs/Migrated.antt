@@ -19,7 +19,6 @@ use Rattle.ert_ops.specs.Races.{Race}
 use Rattle.ert_scenario.specs.declared.fault.Fault.TheVariants as faults
 use Rattle.ert_scenario.specs.declared.doer.Doer.{Doer}
 use Rattle.ert_scenario.specs.declared.doer.Doer.TheVariants.{Everyone, Keeper, Caller}
-use Rattle.ert_scenario.specs.declared.format.Format.{Format}
 use Rattle.ert_scenario.specs.declared.format.Format.TheVariants.{One, Two}
 use Rattle.ert_scenario.proofs.Cut.{splits, callers_ops}
 use Rattle.ert_scenario.proofs.Listed.{list_of_items}

@@ -1,14 +1,14 @@
 -- What is read of tokens, by the grammar and under the conversion to data.
 
-use Rattle.std.proofs.Common.{◌≡◌, ◌<◌, ◌≤◌, ◌-◌, ◌+◌, ℕ, zero, suc, List, [], ◌∷◌, ◌++◌, map, length, Option, Some, None, option_map, Ok, sym, subst, ap, ap₂, ◌∙◌, refl, arith}
+use Rattle.std.proofs.Common.{◌≡◌, ◌<◌, ◌≤◌, ◌-◌, ℕ, suc, List, [], ◌∷◌, ◌++◌, map, length, Option, Some, None, option_map, Ok, sym, ap, ap₂, ◌∙◌, refl, arith}
 use Rattle.std.proofs.lemmas.List.{map-append}
 use Rattle.json.specs.Json as json
 use Rattle.json.specs.Json.{value, items, after_end_array, parse_map}
 use Rattle.json.specs.Token as tokens
 use Rattle.json.specs.Token.{Token}
 use Rattle.json.proofs.Grammar.{value_is, value-begin_array}
-use Rattle.serde_json.specs.Data.{Data, array, Items, no_items, item, number}
-use Rattle.serde_json.specs.Read.{number_of, of_json, of_items, converted}
+use Rattle.serde_json.specs.Data.{Data, array, Items, no_items, item}
+use Rattle.serde_json.specs.Read.{of_json, of_items, converted}
 use Rattle.serde_json.specs.View.{view, items_of, items_view}
 use Rattle.serde_json.specs.declared.value.Value.{Value}
 use Rattle.ert_scenario.proofs.Reading.{converted-array, item_read, items_over, items_before, items_before-no_items, one_more_item, none_before}

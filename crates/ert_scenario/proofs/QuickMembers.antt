@@ -1,6 +1,6 @@
 -- The members of an object, one after another, and the verdict on the object.
 
-use Rattle.std.proofs.Common.{◌≡◌, ◌<◌, ◌≤◌, ◌-◌, ◌+◌, ℕ, suc, List, [], ◌∷◌, ◌++◌, Bool, true, false, ◌&&◌, Option, Some, None, is_some, Result, Ok, Err, length, codes, bytes_eq, sym, subst, ap, ap₂, ◌∙◌, refl, arith}
+use Rattle.std.proofs.Common.{◌≡◌, ◌<◌, ◌≤◌, ◌-◌, ◌+◌, ℕ, suc, List, [], ◌∷◌, Bool, true, false, ◌&&◌, Option, Some, None, is_some, Result, Ok, Err, length, codes, bytes_eq, sym, subst, ap, ◌∙◌, refl, arith}
 use Rattle.std.specs.Prelude.{IfOk, IfSome}
 use Rattle.std.proofs.lemmas.List.{append-nil}
 use Rattle.std.proofs.lemmas.Slice.Eq.{bytes_eq-Decides}
@@ -8,20 +8,19 @@ use Rattle.json.specs.Json.{value, members, read_key, parse_map}
 use Rattle.json.specs.Token.{Token, begin_object}
 use Rattle.json.proofs.Grammar.{value-begin_object, read_key-shorter}
 use Rattle.serde_json.specs.Data.{Data, array, object, Members, no_members, put}
-use Rattle.serde_json.specs.Find.{get, get_member}
+use Rattle.serde_json.specs.Find.{get_member}
 use Rattle.serde_json.specs.Read.{of_json, of_members, converted}
 use Rattle.serde_json.specs.View.{items_of, members_view}
 use Rattle.ert_scenario.proofs.Reading.{converted-object, member_read, members_over}
 use Rattle.serde_json.proofs.Views.{get_member-put, get_member-put_other}
 use Rattle.ert_ops.specs.declared.op.Op.{Op}
-use Rattle.ert_scenario.specs.Fields.{is_field, are_named, only_named, field, times, modes, clock_of, sizes_of, one_or_two, settings_of, top_of, format_of}
-use Rattle.ert_scenario.specs.Kinds.{Found, ◌>>=◌, of_kind, integer, listed}
+use Rattle.ert_scenario.specs.Fields.{is_field, are_named, only_named, times, modes, clock_of, sizes_of, settings_of, top_of, format_of}
+use Rattle.ert_scenario.specs.Kinds.{Found, of_kind, listed}
 use Rattle.ert_scenario.specs.Labels.{tested}
 use Rattle.ert_scenario.specs.Lists.{lists_of}
 use Rattle.ert_scenario.specs.Quick.{ReadsOps}
 use Rattle.ert_scenario.specs.QuickMembers.{alone, AreOps, IsSeen, IsSeenAs, ReadsMember, IsPlanWith, plain}
-use Rattle.ert_defs.specs.declared.settings.Settings.{Settings}
-use Rattle.ert_scenario.specs.Scenarios.{Plan, is_over, with_callers, judged, judged_all, verdict_of}
+use Rattle.ert_scenario.specs.Scenarios.{Plan, is_over, with_callers, judged, verdict_of}
 use Rattle.ert_scenario.specs.Walked.{without_fault, IsOver}
 use Rattle.ert_scenario.specs.Walks.{raws_of, all_raws, first_shape, first_range, ops_of}
 use Rattle.ert_scenario.specs.declared.doer.Doer.TheVariants.{Everyone}

@@ -1,6 +1,6 @@
 -- What one pass over the tokens of a text finds.
 
-use Rattle.std.specs.Prelude.{◌≡◌, ◌∷◌, ℕ, suc, List, Option, Some, None, Ok, option_map}
+use Rattle.std.specs.Prelude.{◌≡◌, ℕ, suc, List, Option, Some, None, Ok, option_map}
 use Rattle.json.specs.Json.{value}
 use Rattle.json.specs.Token as tokens
 use Rattle.json.specs.Token.{Token}

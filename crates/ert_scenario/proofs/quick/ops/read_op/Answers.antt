@@ -1,4 +1,4 @@
-use Rattle.std.proofs.Common.{◌≡◌, ◌∷◌, map, true, sym, subst, ap, ◌∙◌, arith, rules}
+use Rattle.std.proofs.Common.{◌≡◌, ◌∷◌, map, true, sym, subst, ap, ◌∙◌, arith}
 use Rattle.json.specs.Token.{begin_array}
 use Rattle.serde_json.specs.View.{view}
 use Rattle.ert_scenario.specs.Quick.{ReadsOp}

@@ -1,4 +1,4 @@
-use Rattle.std.proofs.Common.{◌≡◌, ◌<◌, ◌∷◌, length, Some, None, true, sym, subst, arith}
+use Rattle.std.proofs.Common.{◌≡◌, ◌<◌, ◌∷◌, length, None, true, sym, subst, arith}
 use Rattle.json.specs.Json.{after_end_array}
 use Rattle.json.specs.Token.{begin_array}
 use Rattle.ert_scenario.specs.Quick.{ReadsOp, ReadsOps}
