@@ -16,6 +16,11 @@
 //! the ops of all lists one after the other, in the order of their places; those of a race are cut out of them
 //! at the end.
 //!
+//! A scenario without a race that has no fault, and is written as programs write it, is read in one pass over
+//! the tokens of its text, with no value (`quick`), by the same functions for an op's arguments, the fields, the
+//! ranges and the labels. Wherever anything is unusual, that pass gives nothing; then the value is read, and
+//! the two steps alone tell faults.
+//!
 //! All bytes have one answer, and `read_scenario` gives it, unless memory runs out. A fault is told with
 //! the least place that has it. `migrate` makes a value of format 1 one of format 2 that is the same scenario.
 #![tactic(auto)]
@@ -30,6 +35,7 @@ mod labels;
 mod laws;
 mod lists;
 mod migration;
+mod quick;
 mod ranges;
 mod rows;
 mod scanning;

@@ -1,6 +1,6 @@
 use Rattle.serde_json.specs.View.{view}
 use Rattle.ert_scenario.proofs.Refused.{refused_bytes}
-use Rattle.ert_scenario.proofs.scenario.read_scenario.Goals as goal
+use Rattle.ert_scenario.proofs.scenario.read_slowly.Goals as goal
 
 pub returns-in-Ok-clause-err : goal.returns-in-Ok-clause-err
 returns-in-Ok-clause-err c =
