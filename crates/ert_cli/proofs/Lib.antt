@@ -1,1 +1,3 @@
+pub mod Made
+pub mod Ranges
 pub mod Transcripts

@@ -1,3 +1,5 @@
 pub mod Endings
 pub mod Refusals
 pub mod Runs
+pub mod Streams
+pub mod Stresses

@@ -14,13 +14,14 @@ mod refusal;
 #[cfg(test)]
 mod refused_rows;
 mod running;
+mod stressing;
 #[cfg(test)]
 mod tests;
 #[cfg(test)]
 mod timer_rows;
 
 pub use ending::{EndStatus, Ended};
-use ert_io::{StdSink, StdSource};
+use ert_io::{HostClock, StdSink, StdSource};
 pub use program::ertime;
 use std::io::ErrorKind;
 use std::process::ExitCode;
@@ -38,7 +39,8 @@ fn main(rt: HostRuntime) -> ExitCode {
     };
     let mut input = StdSource::new(rt.reader());
     let mut output = StdSink::new(io::writer(&rt));
-    let ended = ertime(&rt, words.as_slice(), &mut input, &mut output);
+    let mut clock = HostClock::new(&rt);
+    let ended = ertime(&rt, words.as_slice(), &mut input, &mut output, &mut clock);
     ExitCode::from(ended.status.code())
 }
 
