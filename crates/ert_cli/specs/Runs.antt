@@ -1,6 +1,6 @@
 -- What `run` leaves.
 
-use Rattle.std.specs.Prelude.{◌≡◌, ◌≢◌, ◌≤◌, ◌⊎◌, ℕ, List, Option, Some, None, length, IfSome, IsSomeAnd}
+use Rattle.std.specs.Prelude.{◌≡◌, ◌≢◌, ◌≤◌, ◌⊎◌, ℕ, false, List, Option, Some, None, length, IfSome, IsSomeAnd}
 use Rattle.ert_command.specs.declared.command.Command.{Command}
 use Rattle.ert_command.specs.declared.command.Command.TheVariants.{Run}
 use Rattle.ert_io.specs.Faults.{Rose}
@@ -43,7 +43,7 @@ pub record Did (left left_new : Option (List ℕ)) (old new : Told) (r : Desk ×
   pub bytes : List ℕ
   pub takes : TakesAll left left_new bytes
   pub plan : Plan
-  pub is : IsScenario bytes plan
+  pub is : IsScenario false bytes plan
   pub ran : RunsOn plan old new r
 
 -- all bytes were read, they have a refusal, and its line was written
@@ -51,19 +51,19 @@ pub record Refuses (left left_new : Option (List ℕ)) (old new : Told) : Type 0
   pub bytes : List ℕ
   pub takes : TakesAll left left_new bytes
   pub why : ScenarioErr
-  pub is : HasRefusal bytes why
+  pub is : HasRefusal false bytes why
   pub writes : new ≡ took old (refusal_line why)
 
 -- the first part of a scenario's transcript was written
 pub record PartRun (bytes : List ℕ) (old new : Told) : Type 0 where
   pub plan : Plan
-  pub is : IsScenario bytes plan
+  pub is : IsScenario false bytes plan
   pub writes : TakesFront old new (transcript plan)
 
 -- the first part of the line of a refusal was written
 pub record PartRefused (bytes : List ℕ) (old new : Told) : Type 0 where
   pub why : ScenarioErr
-  pub is : HasRefusal bytes why
+  pub is : HasRefusal false bytes why
   pub writes : TakesFront old new (refusal_line why)
 
 -- all bytes were read, and the first part of what they ask for was written
@@ -91,14 +91,14 @@ pub record RunEnds (i j : Input) (o p : Output) (e : Ended) : Type 0 where
   pub others : (e.status ≢ Usage) × (e.status ≢ ClockFault)
   -- where nothing fails and the input is a scenario, only want of memory keeps it from being done
   pub complete : (Rose i.faults j.faults → ⊥) → (Rose o.faults p.faults → ⊥)
-      → (bytes : List ℕ) (plan : Plan) → i.left ≡ Some bytes → length bytes ≤ 16777216 → IsScenario bytes plan
+      → (bytes : List ℕ) (plan : Plan) → i.left ≡ Some bytes → length bytes ≤ 16777216 → IsScenario false bytes plan
       → (e.status ≡ Done) ⊎ (e.status ≡ NoMemory)
 
 -- where the output tells its room, the transcript or the line of a refusal that the input asks for fits it
 pub record InputFits (left : Option (List ℕ)) (room : Option ℕ) : Type 0 where
-  pub done : (rest : Option (List ℕ)) (bytes : List ℕ) (plan : Plan) → TakesAll left rest bytes → IsScenario bytes plan
+  pub done : (rest : Option (List ℕ)) (bytes : List ℕ) (plan : Plan) → TakesAll left rest bytes → IsScenario false bytes plan
       → HasRoom room (length (transcript plan))
-  pub refused : (rest : Option (List ℕ)) (bytes : List ℕ) (why : ScenarioErr) → TakesAll left rest bytes → HasRefusal bytes why
+  pub refused : (rest : Option (List ℕ)) (bytes : List ℕ) (why : ScenarioErr) → TakesAll left rest bytes → HasRefusal false bytes why
       → HasRoom room (length (refusal_line why))
 
 -- where the output tells its room, the command is `run`, and all that it may write fits

@@ -1,5 +1,5 @@
 //! The command `run`.
-ghost use Rattle.std.specs.Prelude.{◌≡◌, ◌≢◌, ◌≤◌, ◌⊎◌, ℕ, List, Some, None, length, IfOk, OnOk, OnErr, IsErrOf, IsSomeAnd};
+ghost use Rattle.std.specs.Prelude.{◌≡◌, ◌≢◌, ◌≤◌, ◌⊎◌, ℕ, false, List, Some, None, length, IfOk, OnOk, OnErr, IsErrOf, IsSomeAnd};
 ghost use Rattle.ert_defs.specs.Settings.{IsChecked};
 ghost use Rattle.ert_io.specs.Faults.{Rose};
 ghost use Rattle.ert_io.specs.Known.{HasRoom};
@@ -41,7 +41,7 @@ pub fn run<I: Source, O: Sink>(alloc: Global, input: &mut I, output: &mut O) -> 
         ⊎ Stops (I.left input.old) (I.left input.new) (told (O.taken output.old) (O.room output.old)) (told (O.taken output.new) (O.room output.new)) }
     ensures others { (result.status ≢ EndStatus.Usage) × (result.status ≢ EndStatus.ClockFault) }
     ensures complete { (Rose (I.faults input.old) (I.faults input.new) → ⊥) → (Rose (O.faults output.old) (O.faults output.new) → ⊥)
-        → (bytes : List ℕ) (plan : Plan) → I.left input.old ≡ Some bytes → length bytes ≤ 16777216 → IsScenario bytes plan
+        → (bytes : List ℕ) (plan : Plan) → I.left input.old ≡ Some bytes → length bytes ≤ 16777216 → IsScenario false bytes plan
         → (result.status ≡ EndStatus.Done) ⊎ (result.status ≡ EndStatus.NoMemory) }
     ensures later { I.faults input.old ≤ I.faults input.new }
     ensures later_out { O.faults output.old ≤ O.faults output.new }
@@ -49,7 +49,7 @@ pub fn run<I: Source, O: Sink>(alloc: Global, input: &mut I, output: &mut O) -> 
     one_verdict();
     scenarios_are_valid();
     match read_all(alloc, input, MAX_INPUT) {
-        Ok(bytes) => match read_scenario(alloc, &bytes) {
+        Ok(bytes) => match read_scenario(alloc, &bytes, false) {
             Ok(scenario) => Ended::of_run(run_scenario(alloc, &scenario, output)),
             Err(ScenarioErr::NoMemory) => Ended::without_desk(EndStatus::NoMemory),
             Err(refusal) => Ended::without_desk(refuse(alloc, &refusal, output)),

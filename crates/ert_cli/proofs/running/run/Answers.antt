@@ -1,4 +1,4 @@
-use Rattle.std.proofs.Common.{rules, inl, inr}
+use Rattle.std.proofs.Common.{rules, inl, inr, false}
 use Rattle.ert_scenario.specs.Scenarios.{plan_of}
 use Rattle.ert_cli.specs.Runs.{TakesAll}
 use Rattle.ert_cli.proofs.Transcripts.{stopped}
@@ -11,15 +11,15 @@ run_scenario-requires-clause-fits g c =
 
 pub run_scenario-requires-clause-checked : goal.run_scenario-requires-clause-checked
 run_scenario-requires-clause-checked g c =
-    c.scenarios_are_valid.ensures.settings _ (plan_of c.in-Ok-read_scenario.scenario) c.in-Ok-read_scenario.ensures.ok
+    c.scenarios_are_valid.ensures.settings false _ (plan_of c.in-Ok-read_scenario.scenario) c.in-Ok-read_scenario.ensures.ok
 
 pub run_scenario-requires-clause-ranges : goal.run_scenario-requires-clause-ranges
 run_scenario-requires-clause-ranges g c =
-    c.scenarios_are_valid.ensures.ops _ (plan_of c.in-Ok-read_scenario.scenario) c.in-Ok-read_scenario.ensures.ok
+    c.scenarios_are_valid.ensures.ops false _ (plan_of c.in-Ok-read_scenario.scenario) c.in-Ok-read_scenario.ensures.ok
 
 pub run_scenario-requires-clause-labels : goal.run_scenario-requires-clause-labels
 run_scenario-requires-clause-labels g c =
-    c.scenarios_are_valid.ensures.labels _ (plan_of c.in-Ok-read_scenario.scenario) c.in-Ok-read_scenario.ensures.ok
+    c.scenarios_are_valid.ensures.labels false _ (plan_of c.in-Ok-read_scenario.scenario) c.in-Ok-read_scenario.ensures.ok
 
 pub returns-in-Ok-read_scenario-clause-stops : goal.returns-in-Ok-read_scenario-clause-stops
 returns-in-Ok-read_scenario-clause-stops g c = λ how.
