@@ -1,3 +1,5 @@
+pub mod LiveEndings
+pub mod LivedThrough
 pub mod Made
 pub mod Ranges
 pub mod Transcripts

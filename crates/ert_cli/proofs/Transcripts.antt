@@ -50,7 +50,7 @@ stands_for g start v list rs opened ran stands =
     (subst (λ (x : List Entry). StandsFor v.settings x v) (ran.grows.grown ∙ ap (λ (x : List Entry). x ++ ran.grows.piece) opened.stands.history) stands)
 
 -- its labels at first are none, and the time at the end is that of its history
-reads_of : (g : Settings) (start v : Service) (list : List Op) (rs : List Reply) → IsOpened g start → (ran : Runs start list rs v)
+pub reads_of : (g : Settings) (start v : Service) (list : List Op) (rs : List Reply) → IsOpened g start → (ran : Runs start list rs v)
     → StandsFor v.settings v.history v
     → lines_of start.labels list rs ++ end_line v.clock.face.time ≡ lines_of [] list rs ++ end_line (state g ran.grows.piece).clock.now
 reads_of g start v list rs opened ran stands =
@@ -58,7 +58,7 @@ reads_of g start v list rs opened ran stands =
     ∙ ap (λ (f : Face). lines_of [] list rs ++ end_line f.time) (stands_for g start v list rs opened ran stands).clock.face
 
 -- so it is the transcript
-transcript_is : (plan : Plan) (start v : Service) (rs : List Reply) → AreOps plan.ops → IsOpened plan.settings start → (ran : Runs start plan.ops rs v)
+pub transcript_is : (plan : Plan) (start v : Service) (rs : List Reply) → AreOps plan.ops → IsOpened plan.settings start → (ran : Runs start plan.ops rs v)
     → StandsFor v.settings v.history v → lines_of start.labels plan.ops rs ++ end_line v.clock.face.time ≡ transcript plan
 transcript_is plan start v rs are opened ran stands =
     one_text plan.settings plan.ops (lines_of start.labels plan.ops rs ++ end_line v.clock.face.time) are (record {
@@ -71,7 +71,7 @@ transcript_is plan start v rs are opened ran stands =
     })
 
 -- the script run that a world did
-pub script_run : (plan : Plan) (start w : Service) (rs : List Reply) → AreOps plan.ops → IsOpened plan.settings start → (ran : Runs start plan.ops rs w)
+abbrev pub script_run : (plan : Plan) (start w : Service) (rs : List Reply) → AreOps plan.ops → IsOpened plan.settings start → (ran : Runs start plan.ops rs w)
     → StandsFor w.settings w.history w → IsTranscript plan.settings plan.ops (transcript plan)
 script_run plan start w rs are opened ran stands =
     let there : StandsFor plan.settings ran.grows.piece w = stands_for plan.settings start w plan.ops rs opened ran stands in

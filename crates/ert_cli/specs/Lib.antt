@@ -1,4 +1,5 @@
 pub mod Endings
+pub mod Lives
 pub mod Refusals
 pub mod Runs
 pub mod Streams

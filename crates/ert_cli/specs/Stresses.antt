@@ -1,11 +1,11 @@
 -- What `stress` leaves.
 
-use Rattle.std.specs.Prelude.{◌≡◌, ◌≢◌, ◌⊎◌, ℕ, List, [], None, IsSomeAnd}
+use Rattle.std.specs.Prelude.{◌≡◌, ◌≢◌, ◌⊎◌, ℕ, ℤ, List, [], None, IsSomeAnd}
 use Rattle.ert_defs.specs.States.{opening, state}
 use Rattle.ert_generate.specs.Generated.{generated}
 use Rattle.ert_io.specs.Faults.{Rose}
 use Rattle.ert_io.specs.Told.{Told, took, TakesFront}
-use Rattle.ert_laws.specs.Counts.{counts_of}
+use Rattle.ert_laws.specs.Counts.{Counts, counts_of}
 use Rattle.ert_scenario.specs.Scenarios.{Plan}
 use Rattle.ert_sched.specs.Counted.{AreTidy}
 use Rattle.ert_sched.specs.Lived.{IsLived}
@@ -21,9 +21,13 @@ use Rattle.ert_cli.specs.Streams.{Output}
 use Rattle.ert_cli.specs.declared.ending.Ended.{Ended}
 use Rattle.ert_cli.specs.declared.ending.EndStatus.TheVariants.{Done, WriteFault, NoMemory}
 
--- how many timers of a plan have which status in the end, and when that is
-abbrev pub summary : Plan → List ℕ
-summary plan = settled_line (plain_counts plan.settings plan.ops) ⋅ end_line (plain_after plan.settings (opening plan.settings) [] plan.ops).clock.now
+-- how many timers have which status, and when that is
+unfoldable pub summary_of : Counts → ℤ → List ℕ
+summary_of counts now = settled_line counts ⋅ end_line now
+
+-- the summary of a plan: what its settings and its ops leave
+unfoldable pub summary : Plan → List ℕ
+summary plan = summary_of (plain_counts plan.settings plan.ops) (plain_after plan.settings (opening plan.settings) [] plan.ops).clock.now
 
 -- the plan was run on a desk, and the summary was written: it tells the timers of the history of the pass,
 -- which has every actor and is just the entries of a script run

@@ -9,6 +9,7 @@
 #[cfg(test)]
 mod clock_rows;
 mod ending;
+mod living;
 mod program;
 mod refusal;
 #[cfg(test)]

@@ -6,9 +6,7 @@ ghost use Rattle.ert_io.specs.Faults.{Rose};
 ghost use Rattle.ert_io.specs.Told.{told, TakesFront};
 ghost use Rattle.ert_laws.specs.Counts.{counts_of};
 ghost use Rattle.ert_sched.specs.Counted.{AreTidy};
-ghost use Rattle.ert_transcript.specs.Counts.{settled_line};
-ghost use Rattle.ert_transcript.specs.Texts.{◌⋅◌, end_line};
-ghost use Rattle.ert_cli.specs.Stresses.{summary, CountsOn, HasRun};
+ghost use Rattle.ert_cli.specs.Stresses.{summary, summary_of, CountsOn, HasRun};
 
 use ert_defs::NoMemory;
 use ert_generate::{generate, generated_scenarios_are_valid};
@@ -66,7 +64,7 @@ fn run_generated(alloc: Global, seed: u64, n: u64) -> Result<World, NoMemory>
 fn write_summary(page: &mut String, world: &World) -> Result<(), AllocError>
     requires { AreTidy world.now }
     ensures { OnOk result (string_bytes page.new ≡ string_bytes page.old
-        ++ (settled_line (counts_of world.now.settings (state world.now.settings world.now.history)) ⋅ end_line world.now.clock.face.time)) }
+        ++ summary_of (counts_of world.now.settings (state world.now.settings world.now.history)) world.now.clock.face.time) }
 {
     let counts = world.counts();
     write_settled(page, &counts)?;
