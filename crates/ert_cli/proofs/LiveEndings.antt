@@ -1,20 +1,19 @@
 -- How `live` ends, by what the readings made and whether it was written.
 
 use Rattle.std.proofs.Common.{◌≡◌, ◌<◌, ◌⊎◌, ℕ, List, [], ◌∷◌, ◌++◌, length, Option, None, Some, refl, inl, inr, sym, subst, ◌∙◌, arith}
-use Rattle.std.specs.Prelude.{All}
 use Rattle.ert_defs.specs.Readings.{IsValid}
 use Rattle.ert_defs.specs.declared.settings.Reading.{Reading}
 use Rattle.ert_io.specs.Faults.{Rose}
 use Rattle.ert_io.specs.Told.{took, TakesFront}
 use Rattle.ert_cli.specs.Endings.{without_desk}
-use Rattle.ert_cli.specs.Lives.{readings_before, LiveRefused, Watched, LiveEnds}
+use Rattle.ert_cli.specs.Lives.{AreValid, readings_before, LiveRefused, Watched, LiveEnds}
 use Rattle.ert_cli.specs.Streams.{Clock, Output}
 use Rattle.ert_cli.specs.declared.ending.Ended.{Ended}
 use Rattle.ert_cli.specs.declared.ending.EndStatus.TheVariants.{Done, Refused, WriteFault, ClockFault, NoMemory}
 
 -- a reading that stands among the first of valid ones is valid
 among : (taken readings later rest : List Reading) (bad : Reading) → (taken ++ bad ∷ []) ++ rest ≡ readings ++ later → length taken < length readings
-    → All IsValid readings → IsValid bad
+    → AreValid readings → IsValid bad
 among taken [] later rest bad same below all = absurd (omega arith)
 among [] (r ∷ readings) later rest bad same below all = let is : r ≡ bad = cc in subst IsValid is all.0
 among (x ∷ taken) (r ∷ readings) later rest bad same below all =
@@ -23,7 +22,7 @@ among (x ∷ taken) (r ∷ readings) later rest bad same below all =
 
 -- so no reading of valid ones is refused
 none_refused : (n : ℕ) (left now : Option (List Reading)) (text : List ℕ) (readings later : List Reading) → LiveRefused n left now text
-    → left ≡ Some (readings ++ later) → length readings ≡ n → All IsValid readings → ⊥
+    → left ≡ Some (readings ++ later) → length readings ≡ n → AreValid readings → ⊥
 none_refused n left None text readings later refused told many all =
     let same : None ≡ Some (readings ++ later) = sym refused.given ∙ told in cc
 none_refused n left (Some rest) text readings later refused told many all =
@@ -33,7 +32,7 @@ none_refused n left (Some rest) text readings later refused told many all =
     refused.not_valid (among refused.readings readings later rest refused.bad same (omega arith) all)
 
 completes : (n : ℕ) (c d : Clock) (e : Ended) (text : List ℕ) → Watched n c d e text → (Rose c.faults d.faults → ⊥) → (readings later : List Reading)
-    → c.left ≡ Some (readings ++ later) → length readings ≡ n → All IsValid readings → (e.status ≡ Done) ⊎ (e.status ≡ NoMemory)
+    → c.left ≡ Some (readings ++ later) → length readings ≡ n → AreValid readings → (e.status ≡ Done) ⊎ (e.status ≡ NoMemory)
 completes n c d e text made sound readings later told many all =
     elim made.only [
       inl done ↦ inl done

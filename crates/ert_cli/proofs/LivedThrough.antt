@@ -1,8 +1,7 @@
 -- Readings that a world lived through.
 
 use Rattle.std.proofs.Common.{◌≡◌, ◌<◌, ◌+◌, ◌⊎◌, ℕ, ℤ, List, [], ◌∷◌, ◌++◌, length, length-append, Option, None, Some, refl, inl, inr, sym, ap, subst, ◌∙◌, append_assoc, append-nil, arith}
-use Rattle.std.specs.Prelude.{All, IsSomeAnd}
-use Rattle.ert_answers.specs.Ways.{Way}
+use Rattle.ert_answers.specs.Ways.{Way, alone}
 use Rattle.ert_defs.specs.Lines.{Face}
 use Rattle.ert_defs.specs.Readings.{IsValid}
 use Rattle.ert_defs.specs.States.{state}
@@ -29,7 +28,7 @@ use Rattle.ert_transcript.specs.declared.reply.Reply.{Reply}
 use Rattle.ert_transcript.specs.declared.reply.Reply.TheVariants as replies
 use Rattle.ert_cli.proofs.Transcripts.{script_of, stands_for}
 use Rattle.ert_cli.specs.Endings.{without_desk}
-use Rattle.ert_cli.specs.Lives.{live_settings, live_ops, live_part, live_lines, refused_reading, IsLive, AreLive, readings_before, LiveDone, LiveRefused, LiveStopped, Watched, Lived, Tells}
+use Rattle.ert_cli.specs.Lives.{AreValid, live_settings, live_ops, live_part, live_lines, refused_reading, IsLive, AreLive, readings_before, LiveDone, LiveRefused, LiveStopped, Watched, Lived, Tells}
 use Rattle.ert_cli.specs.Streams.{Clock}
 use Rattle.ert_cli.specs.declared.ending.Ended.{Ended}
 use Rattle.ert_cli.specs.declared.ending.EndStatus.TheVariants.{Done, Refused, ClockFault}
@@ -95,7 +94,7 @@ lived_more first others r w v u reply text text_new lived ticked tells =
       reads = tells.writes
           ∙ ap (λ (t : List ℕ). t ++ (live_part (replies.Time tells.now) ++ live_part (replies.System tells.time))) lived.reads
           ∙ sym (three_more rs reply (replies.Time tells.now) (replies.System tells.time)
-            (tick_prints _ _ _ _ r.mono r.sys reply _ _ ticked.grows.made));
+            (tick_prints w.settings (alone w.settings) 0 w.labels r.mono r.sys reply w.history ticked.grows.piece ticked.grows.made));
     }
 
 -- its history is a script run of their ops
@@ -120,30 +119,33 @@ before_more : (taken : List Reading) (r : Reading) (known : Option (List Reading
 before_more taken r None = refl
 before_more taken r (Some rs) = ap (λ (t : List Reading). Some t) (sym (append_assoc taken (r ∷ []) rs))
 
-all_more : (rs : List Reading) (r : Reading) → All IsValid rs → IsValid r → All IsValid (rs ++ r ∷ [])
+all_more : (rs : List Reading) (r : Reading) → AreValid rs → IsValid r → AreValid (rs ++ r ∷ [])
 all_more [] r all valid = (valid, tt)
 all_more (x ∷ rs) r all valid = (all.0, all_more rs r all.1 valid)
 
 -- so many valid readings were taken so far, and a world lived through them
-pub record IsWatched (first : Reading) (count : ℕ) (left now : Option (List Reading)) (w : Service) (text : List ℕ) : Type 0 where
+pub record IsWatched (count : ℕ) (left now : Option (List Reading)) (w : Service) (text : List ℕ) : Type 0 where
+  pub first : Reading
   pub others : List Reading
   pub counted : length (first ∷ others) ≡ count
   pub given : left ≡ readings_before (first ∷ others) now
-  pub valid : All IsValid (first ∷ others)
+  pub valid : AreValid (first ∷ others)
   pub lived : Lived first others w text
 
 pub watched_first : (first : Reading) (left now : Option (List Reading)) (w : Service) (text : List ℕ) → IsValid first
-    → left ≡ reading_before first now → Lived first [] w text → IsWatched first 1 left now w text
+    → left ≡ reading_before first now → Lived first [] w text → IsWatched 1 left now w text
 watched_first first left now w text valid given lived =
-    record { others = []; counted = refl; given = given; valid = (valid, tt); lived = lived }
+    record { first = first; others = []; counted = refl; given = given; valid = (valid, tt); lived = lived }
 
-pub watched_more : (first : Reading) (count : ℕ) (left mid now : Option (List Reading)) (w u : Service) (text text_new : List ℕ) (r : Reading)
-    → (far : IsWatched first count left mid w text) → IsValid r → mid ≡ reading_before r now → Lived first (far.others ++ r ∷ []) u text_new
-    → IsWatched first (count + 1) left now u text_new
-watched_more first count left mid now w u text text_new r far valid given lived =
+pub watched_more : (count : ℕ) (left mid now : Option (List Reading)) (w u : Service) (text text_new : List ℕ) (r : Reading)
+    → (far : IsWatched count left mid w text) → IsValid r → mid ≡ reading_before r now → Lived far.first (far.others ++ r ∷ []) u text_new
+    → IsWatched (count + 1) left now u text_new
+watched_more count left mid now w u text text_new r far valid given lived =
+    let first : Reading = far.first in
     let long : length (far.others ++ r ∷ []) ≡ length far.others + 1 = length-append far.others (r ∷ []) in
     let before = far.counted in
     record {
+      first = first;
       others = far.others ++ r ∷ [];
       counted = omega arith;
       given = far.given ∙ ap (λ (k : Option (List Reading)). readings_before (first ∷ far.others) k) given ∙ before_more (first ∷ far.others) r now;
@@ -177,17 +179,17 @@ stopped_first n c d text some kept rose none =
     stopped_with n c d text rose
     (record { readings = []; count = some; given = before_none c.left ∙ ap (λ (k : Option (List Reading)). readings_before [] k) (sym kept); valid = tt; are = none })
 
-pub stopped_later : (n : ℕ) (c d : Clock) (first : Reading) (count : ℕ) (now : Option (List Reading)) (w : Service) (text : List ℕ) → count < n
-    → IsWatched first count c.left now w text → d.left ≡ now → Rose c.faults d.faults → Watched n c d (without_desk ClockFault) text
-stopped_later n c d first count now w text below far kept rose =
+pub stopped_later : (n : ℕ) (c d : Clock) (count : ℕ) (now : Option (List Reading)) (w : Service) (text : List ℕ) → count < n
+    → IsWatched count c.left now w text → d.left ≡ now → Rose c.faults d.faults → Watched n c d (without_desk ClockFault) text
+stopped_later n c d count now w text below far kept rose =
     let before = far.counted in
     stopped_with n c d text rose
     (record {
-      readings = first ∷ far.others;
+      readings = far.first ∷ far.others;
       count = omega arith;
-      given = far.given ∙ ap (λ (k : Option (List Reading)). readings_before (first ∷ far.others) k) (sym kept);
+      given = far.given ∙ ap (λ (k : Option (List Reading)). readings_before (far.first ∷ far.others) k) (sym kept);
       valid = far.valid;
-      are = is_live first far.others w text far.lived;
+      are = is_live far.first far.others w text far.lived;
     })
 
 pub refused_first : (n : ℕ) (c d : Clock) (text : List ℕ) (bad : Reading) → 0 < n → c.left ≡ reading_before bad d.left → (IsValid bad → ⊥)
@@ -196,29 +198,31 @@ refused_first n c d text bad some given not whole =
     refused_with n c d text
     (record { readings = []; bad = bad; lines = []; count = some; given = given; valid = tt; not_valid = not; are = refl; whole = whole })
 
-pub refused_later : (n : ℕ) (c d : Clock) (first : Reading) (count : ℕ) (now : Option (List Reading)) (w : Service) (lines text : List ℕ) (bad : Reading)
-    → count < n → IsWatched first count c.left now w lines → now ≡ reading_before bad d.left → (IsValid bad → ⊥)
+pub refused_later : (n : ℕ) (c d : Clock) (count : ℕ) (now : Option (List Reading)) (w : Service) (lines text : List ℕ) (bad : Reading)
+    → count < n → IsWatched count c.left now w lines → now ≡ reading_before bad d.left → (IsValid bad → ⊥)
     → text ≡ lines ++ refused_reading (count + 1) → Watched n c d (without_desk Refused) text
-refused_later n c d first count now w lines text bad below far given not whole =
+refused_later n c d count now w lines text bad below far given not whole =
     let before = far.counted in
     refused_with n c d text
     (record {
-      readings = first ∷ far.others;
+      readings = far.first ∷ far.others;
       bad = bad;
       lines = lines;
       count = omega arith;
-      given = far.given ∙ ap (λ (k : Option (List Reading)). readings_before (first ∷ far.others) k) given ∙ before_more (first ∷ far.others) bad d.left;
+      given = far.given ∙ ap (λ (k : Option (List Reading)). readings_before (far.first ∷ far.others) k) given
+          ∙ before_more (far.first ∷ far.others) bad d.left;
       valid = far.valid;
       not_valid = not;
-      are = is_live first far.others w lines far.lived;
+      are = is_live far.first far.others w lines far.lived;
       whole = whole ∙ ap (λ (k : ℕ). lines ++ refused_reading (k + 1)) (sym before);
     })
 
-pub watched_all : (n : ℕ) (c d : Clock) (first : Reading) (count : ℕ) (w : Service) (lines text : List ℕ) (r : Desk × Pass) → count ≡ n
-    → IsWatched first count c.left d.left w lines → text ≡ lines ++ end_line w.clock.face.time
+pub watched_all : (n : ℕ) (c d : Clock) (count : ℕ) (w : Service) (lines text : List ℕ) (r : Desk × Pass) → count ≡ n
+    → IsWatched count c.left d.left w lines → text ≡ lines ++ end_line w.clock.face.time
     → settings_of r.0 ≡ w.settings → KnowsAll r.0 r.1 w.history → IsLived w.settings w.history
     → Watched n c d (record { status = Done; desk = Some r }) text
-watched_all n c d first count w lines text r all far whole named knows lived =
+watched_all n c d count w lines text r all far whole named knows lived =
+    let first : Reading = far.first in
     let has : Lived first far.others w lines = far.lived in
     let there = stands_for (live_settings first) has.start w (ops.Time ∷ ops.System ∷ live_ops far.others) has.replies has.opened has.runs has.stands in
     let made : LiveDone n c.left d.left text r = record {

@@ -1,6 +1,6 @@
 -- The numbers of a command are within their limits.
 
-use Rattle.std.proofs.Common.{◌≡◌, ℕ, ◌≤◌, List, [], ◌∷◌, Bool, true, false, ◌&&◌, nat_le, Option, Some, None, refl, arith, subst, codes}
+use Rattle.std.proofs.Common.{◌≡◌, ℕ, ◌≤◌, List, [], ◌∷◌, Bool, true, false, ◌&&◌, nat_le, Option, Some, None, refl, arith, sym, ap, subst, codes, ◌∙◌}
 use Rattle.std.specs.Prelude.{IfSome, if◌then◌else◌}
 use Rattle.std.specs.List.{list_all}
 use Rattle.std.specs.Str.{bytes_eq}
@@ -73,3 +73,15 @@ in_limits words = chosen (list_all is_plain_word words) (form_of words) None (λ
 
 pub of_command : (words : List (List ℕ)) (command : Command) → command_of words ≡ Some command → IsInLimits command
 of_command words command e = subst (λ (c : Option Command). IfSome c IsInLimits) e (in_limits words)
+
+-- the command that was found is the one that the words are
+pub found_is : (words : List (List ℕ)) (found : Option Command) (command made : Command) → found ≡ command_of words → found ≡ Some command → command ≡ made
+    → command_of words ≡ Some made
+found_is words found command made asked is same = sym asked ∙ is ∙ ap (λ (x : Command). Some x) same
+
+-- and no other
+pub same_stress : (seed n other m : ℕ) → Some (Stress seed n) ≡ Some (Stress other m) → (seed ≡ other) × (n ≡ m)
+same_stress seed n other m e = (cc, cc)
+
+pub same_live : (n m : ℕ) → Some (Live n) ≡ Some (Live m) → n ≡ m
+same_live n m e = cc

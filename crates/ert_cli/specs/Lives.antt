@@ -1,6 +1,6 @@
 -- What `live` leaves.
 
-use Rattle.std.specs.Prelude.{◌≡◌, ◌≢◌, ◌<◌, ◌+◌, ◌⊎◌, ℕ, ℤ, pos, true, List, [], ◌∷◌, ◌++◌, All, length, codes, decimal, Option, Some, None, option_map, IsSomeAnd}
+use Rattle.std.specs.Prelude.{◌≡◌, ◌≢◌, ◌<◌, ◌+◌, ◌⊎◌, ℕ, ℤ, pos, true, List, [], ◌∷◌, ◌++◌, length, codes, decimal, Option, Some, None, option_map, IsSomeAnd}
 use Rattle.std.specs.Fmt.{signed_decimal}
 use Rattle.ert_answers.specs.Ways.{alone}
 use Rattle.ert_defs.specs.Legal.{Legal}
@@ -29,6 +29,11 @@ use Rattle.ert_transcript.specs.declared.reply.Reply.TheVariants as replies
 use Rattle.ert_cli.specs.Streams.{Clock, Output}
 use Rattle.ert_cli.specs.declared.ending.Ended.{Ended}
 use Rattle.ert_cli.specs.declared.ending.EndStatus.TheVariants.{Done, Refused, WriteFault, ClockFault, NoMemory}
+
+-- readings that are all valid
+abbrev pub AreValid : List Reading → Type 0
+AreValid [] = Unit {0}
+AreValid (r ∷ rs) = IsValid r × AreValid rs
 
 -- the settings of the service that the first reading opens
 abbrev pub live_settings : Reading → Settings
@@ -80,7 +85,7 @@ pub record LiveDone (n : ℕ) (left left_new : Option (List Reading)) (text : Li
   pub lines : List ℕ
   pub count : length (first ∷ others) ≡ n
   pub given : left ≡ readings_before (first ∷ others) left_new
-  pub valid : All IsValid (first ∷ others)
+  pub valid : AreValid (first ∷ others)
   pub is : IsLive first others lines
   pub whole : text ≡ lines ⋅ end_line (state (live_settings first) is.entries).clock.now
   pub settings : settings_of r.0 ≡ live_settings first
@@ -95,7 +100,7 @@ pub record LiveRefused (n : ℕ) (left left_new : Option (List Reading)) (text :
   pub lines : List ℕ
   pub count : length readings < n
   pub given : left ≡ readings_before (readings ++ bad ∷ []) left_new
-  pub valid : All IsValid readings
+  pub valid : AreValid readings
   pub not_valid : IsValid bad → ⊥
   pub are : AreLive readings lines
   pub whole : text ≡ lines ⋅ refused_reading (length readings + 1)
@@ -105,7 +110,7 @@ pub record LiveStopped (n : ℕ) (left left_new : Option (List Reading)) (text :
   pub readings : List Reading
   pub count : length readings < n
   pub given : left ≡ readings_before readings left_new
-  pub valid : All IsValid readings
+  pub valid : AreValid readings
   pub are : AreLive readings text
 
 -- what the readings made: an end, and the text that it writes
@@ -138,7 +143,7 @@ pub record LiveEnds (n : ℕ) (c d : Clock) (o p : Output) (e : Ended) : Type 0 
   pub only : (e.status ≡ Done) ⊎ (e.status ≡ Refused) ⊎ (e.status ≡ ClockFault) ⊎ (e.status ≡ WriteFault) ⊎ (e.status ≡ NoMemory)
   -- where nothing fails and the readings are valid, only want of memory keeps it from being done
   pub complete : (Rose c.faults d.faults → ⊥) → (Rose o.faults p.faults → ⊥)
-      → (readings later : List Reading) → c.left ≡ Some (readings ++ later) → length readings ≡ n → All IsValid readings
+      → (readings later : List Reading) → c.left ≡ Some (readings ++ later) → length readings ≡ n → AreValid readings
       → (e.status ≡ Done) ⊎ (e.status ≡ NoMemory)
 
 -- a world lived through some readings, of which the first opened it: it did their ops, and the text is its lines

@@ -4,6 +4,6 @@ use Rattle.ert_cli.proofs.living.watch.Given as goal
 
 abbrev pub invariant-readings : goal.invariant-readings
 invariant-readings g l = record {
-  so_far : IsWatched l.first l.taken (g.C.OsClock.left l.fn.clock) (g.C.OsClock.left l.clock) l.world (string_bytes l.page);
+  so_far : IsWatched l.taken (g.C.OsClock.left l.fn.clock) (g.C.OsClock.left l.clock) l.world (string_bytes l.page);
   later : g.C.OsClock.faults l.fn.clock ≤ g.C.OsClock.faults l.clock;
 }
