@@ -35,10 +35,10 @@ completes : (n : ℕ) (c d : Clock) (e : Ended) (text : List ℕ) → Watched n 
     → c.left ≡ Some (readings ++ later) → length readings ≡ n → AreValid readings → (e.status ≡ Done) ⊎ (e.status ≡ NoMemory)
 completes n c d e text made sound readings later told many all =
     elim made.only [
-      inl done ↦ inl done
-    | inr other ↦ elim other [
-        inl refused ↦ absurd (none_refused n c.left d.left text readings later (made.refused refused) told many all)
-      | inr failed ↦ absurd (sound (made.clock_fault failed).0)
+      | inl done ↦ inl done
+      | inr other ↦ elim other [
+        | inl refused ↦ absurd (none_refused n c.left d.left text readings later (made.refused refused) told many all)
+        | inr failed ↦ absurd (sound (made.clock_fault failed).0)
       ]
     ]
 
@@ -50,16 +50,16 @@ written n c d o p e text made writes = record {
   refused = λ how. (text, writes, made.refused how);
   clock_fault = λ how. ((made.clock_fault how).0, (text, writes, (made.clock_fault how).1));
   write_fault = λ how. elim made.only [
-    inl done ↦ cc
-  | inr other ↦ elim other [ inl refused ↦ cc | inr failed ↦ cc ]
+    | inl done ↦ cc
+    | inr other ↦ elim other [ inl refused ↦ cc | inr failed ↦ cc ]
   ];
   no_memory = λ how. elim made.only [
-    inl done ↦ cc
-  | inr other ↦ elim other [ inl refused ↦ cc | inr failed ↦ cc ]
+    | inl done ↦ cc
+    | inr other ↦ elim other [ inl refused ↦ cc | inr failed ↦ cc ]
   ];
   only = elim made.only [
-    inl done ↦ inl done
-  | inr other ↦ elim other [ inl refused ↦ inr (inl refused) | inr failed ↦ inr (inr (inl failed)) ]
+    | inl done ↦ inl done
+    | inr other ↦ elim other [ inl refused ↦ inr (inl refused) | inr failed ↦ inr (inr (inl failed)) ]
   ];
   complete = λ sound whole readings later told many all. completes n c d e text made sound readings later told many all;
 }

@@ -83,7 +83,7 @@ lived_more first others r w v u reply text text_new lived ticked tells =
     let one = runs_more lived.start w v list rs (ops.Tick r.mono r.sys) reply lived.runs ticked in
     let two = runs_more lived.start v tells.mid (list ++ ops.Tick r.mono r.sys ∷ []) (rs ++ reply ∷ []) ops.Time (replies.Time tells.now) one tells.first in
     let three = runs_more lived.start tells.mid u ((list ++ ops.Tick r.mono r.sys ∷ []) ++ ops.Time ∷ []) ((rs ++ reply ∷ []) ++ replies.Time tells.now ∷ [])
-      ops.System (replies.System tells.time) two tells.second in
+    ops.System (replies.System tells.time) two tells.second in
     let all : List Reply = ((rs ++ reply ∷ []) ++ replies.Time tells.now ∷ []) ++ replies.System tells.time ∷ [] in
     record {
       start = lived.start;
@@ -94,7 +94,7 @@ lived_more first others r w v u reply text text_new lived ticked tells =
       reads = tells.writes
           ∙ ap (λ (t : List ℕ). t ++ (live_part (replies.Time tells.now) ++ live_part (replies.System tells.time))) lived.reads
           ∙ sym (three_more rs reply (replies.Time tells.now) (replies.System tells.time)
-            (tick_prints w.settings (alone w.settings) 0 w.labels r.mono r.sys reply w.history ticked.grows.piece ticked.grows.made));
+          (tick_prints w.settings (alone w.settings) 0 w.labels r.mono r.sys reply w.history ticked.grows.piece ticked.grows.made));
     }
 
 -- its history is a script run of their ops

@@ -54,7 +54,7 @@ summary_is plan w are ran =
     ∙ ap (λ (f : Face). summary_of (counts_of plan.settings s) f.time) ran.stands.clock.face
     ∙ ap (λ (n : Counts). summary_of n s.clock.now) (counts_agree plan.settings plan.ops (transcript plan) are ran.is)
     ∙ ap (λ (c : Clock). summary_of (plain_counts plan.settings plan.ops) c.now)
-      (done plan.settings plan.ops (transcript plan) are ran.is).shows.clock
+    (done plan.settings plan.ops (transcript plan) are ran.is).shows.clock
 
 -- the summary was written, and the desk was given out
 pub counts_on : (plan : Plan) (w : Service) (old new : Told) (r : Desk × Pass) → AreOps plan.ops → HasRun plan w

@@ -34,10 +34,10 @@ pub fn ertime<R: AllocGlobal, I: Source, O: Sink, C: OsClock>(
     requires { AllFits (asked words.now) (I.left input.old) (O.room output.old) }
     ensures run { asked words.now ≡ Some Run
         → RunEnds (input_of (I.left input.old) (I.faults input.old)) (input_of (I.left input.new) (I.faults input.new))
-            (output_of (O.taken output.old) (O.room output.old) (O.faults output.old)) (output_of (O.taken output.new) (O.room output.new) (O.faults output.new)) result }
+        (output_of (O.taken output.old) (O.room output.old) (O.faults output.old)) (output_of (O.taken output.new) (O.room output.new) (O.faults output.new)) result }
     ensures live { (n : ℕ) → asked words.now ≡ Some (Live n)
         → LiveEnds n (clock_of (C.left clock.old) (C.faults clock.old)) (clock_of (C.left clock.new) (C.faults clock.new))
-            (output_of (O.taken output.old) (O.room output.old) (O.faults output.old)) (output_of (O.taken output.new) (O.room output.new) (O.faults output.new)) result }
+        (output_of (O.taken output.old) (O.room output.old) (O.faults output.old)) (output_of (O.taken output.new) (O.room output.new) (O.faults output.new)) result }
     ensures stress { (seed n : ℕ) → asked words.now ≡ Some (Stress seed n)
         → StressEnds seed n (output_of (O.taken output.old) (O.room output.old) (O.faults output.old)) (output_of (O.taken output.new) (O.room output.new) (O.faults output.new)) result }
     ensures usage { IsOther (asked words.now)

@@ -181,8 +181,7 @@ fn stops_at_a_fault(rt: HostRuntime) -> Result<(), Fail> {
 // The first draw of seed 1 chooses a turn, and that of seed 0 a receive.
 #[test]
 fn counts_made_scenarios(rt: HostRuntime) -> Result<(), Fail> {
-    let none =
-        "settled armed 0 expired 0 delivered 0 dropped 0 cancelled 0 orphaned 0\nend 0\n";
+    let none = "settled armed 0 expired 0 delivered 0 dropped 0 cancelled 0 orphaned 0\nend 0\n";
     for seed in ["1", "0"] {
         let (ended, written) = run(&rt, &["stress", seed, "1"], "", (1, 0), 100)?;
         assert_eq!(rt; ended, EndStatus::Done);
@@ -224,7 +223,7 @@ fn refuses_a_long_input(rt: HostRuntime) -> Result<(), Fail> {
         let mut input = Spaces { left: count };
         let mut output = MemSink::new(rt.alloc(), 100, Vec::new(rt.alloc()));
         let mut clock = no_clock(rt.alloc());
-    let ended = ertime(&rt, words.as_slice(), &mut input, &mut output, &mut clock);
+        let ended = ertime(&rt, words.as_slice(), &mut input, &mut output, &mut clock);
         assert_eq!(rt; ended.status, status);
         assert_eq!(rt; output.bytes(), line.as_bytes());
     }
