@@ -4,7 +4,6 @@ use Rattle.std.specs.Prelude.{◌≡◌, ℕ, ◌⊎◌, Bool, List, Option, Som
 use Rattle.std.specs.declared.alloc.Global.{Global}
 use Rattle.ert_command.specs.Commands.{command_of}
 use Rattle.ert_command.specs.declared.command.Command.{Command}
-use Rattle.ert_command.specs.declared.command.Command.TheVariants.{Race}
 use Rattle.ert_io.specs.Faults.{Rose}
 use Rattle.ert_io.specs.Told.{took, TakesFront}
 use Rattle.ert_lines.specs.declared.output.RunErr.{RunErr}
@@ -41,10 +40,6 @@ end_of (Err OutOfMemory) = without_desk NoMemory
 -- the command that the words of a command line are
 abbrev pub asked : List (String Global) → Option Command
 asked words = command_of (map string_bytes words)
-
--- a command line that the program answers with the usage line: it is none of its forms, or `race`
-abbrev pub IsOther : Option Command → Type 0
-IsOther command = (command ≡ None) ⊎ (command ≡ Some Race)
 
 -- the usage line was written, or a first part of it
 pub record UsageEnds (o p : Output) (e : Ended) : Type 0 where

@@ -1,5 +1,6 @@
 pub mod Endings
 pub mod Lives
+pub mod Races
 pub mod Refusals
 pub mod Runs
 pub mod Streams

@@ -1,6 +1,6 @@
 -- What `run` leaves.
 
-use Rattle.std.specs.Prelude.{◌≡◌, ◌≢◌, ◌≤◌, ◌⊎◌, ℕ, false, List, Option, Some, None, length, IfSome, IsSomeAnd}
+use Rattle.std.specs.Prelude.{◌≡◌, ◌≢◌, ◌≤◌, ◌⊎◌, ℕ, Bool, false, List, Option, Some, None, length, IfSome, IsSomeAnd}
 use Rattle.ert_command.specs.declared.command.Command.{Command}
 use Rattle.ert_command.specs.declared.command.Command.TheVariants.{Run}
 use Rattle.ert_io.specs.Faults.{Rose}
@@ -46,12 +46,12 @@ pub record Did (left left_new : Option (List ℕ)) (old new : Told) (r : Desk ×
   pub is : IsScenario false bytes plan
   pub ran : RunsOn plan old new r
 
--- all bytes were read, they have a refusal, and its line was written
-pub record Refuses (left left_new : Option (List ℕ)) (old new : Told) : Type 0 where
+-- all bytes were read, they have a refusal where a race is wanted or not, and its line was written
+pub record Refuses (race : Bool) (left left_new : Option (List ℕ)) (old new : Told) : Type 0 where
   pub bytes : List ℕ
   pub takes : TakesAll left left_new bytes
   pub why : ScenarioErr
-  pub is : HasRefusal false bytes why
+  pub is : HasRefusal race bytes why
   pub writes : new ≡ took old (refusal_line why)
 
 -- the first part of a scenario's transcript was written
@@ -61,16 +61,16 @@ pub record PartRun (bytes : List ℕ) (old new : Told) : Type 0 where
   pub writes : TakesFront old new (transcript plan)
 
 -- the first part of the line of a refusal was written
-pub record PartRefused (bytes : List ℕ) (old new : Told) : Type 0 where
+pub record PartRefused (race : Bool) (bytes : List ℕ) (old new : Told) : Type 0 where
   pub why : ScenarioErr
-  pub is : HasRefusal false bytes why
+  pub is : HasRefusal race bytes why
   pub writes : TakesFront old new (refusal_line why)
 
 -- all bytes were read, and the first part of what they ask for was written
 pub record Stops (left left_new : Option (List ℕ)) (old new : Told) : Type 0 where
   pub bytes : List ℕ
   pub takes : TakesAll left left_new bytes
-  pub part : PartRun bytes old new ⊎ PartRefused bytes old new
+  pub part : PartRun bytes old new ⊎ PartRefused false bytes old new
 
 -- more bytes were read than an input may have
 pub record TakesMore (left left_new : Option (List ℕ)) : Type 0 where
@@ -82,7 +82,7 @@ pub record TakesMore (left left_new : Option (List ℕ)) : Type 0 where
 pub record RunEnds (i j : Input) (o p : Output) (e : Ended) : Type 0 where
   pub done : e.status ≡ Done → IsSomeAnd e.desk (Did i.left j.left o.told p.told)
   pub no_desk : e.status ≢ Done → e.desk ≡ None
-  pub refused : e.status ≡ Refused → Refuses i.left j.left o.told p.told
+  pub refused : e.status ≡ Refused → Refuses false i.left j.left o.told p.told
   pub read_fault : e.status ≡ ReadFault → Rose i.faults j.faults × (p ≡ o)
   pub too_long : e.status ≡ TooLong → TakesMore i.left j.left × (p ≡ o)
   -- after a failed write, or without memory, the first part of what would have been written stands

@@ -21,7 +21,7 @@ use ert_table::{Desk, Pass};
 use std::alloc::Global;
 
 // The most bytes of an input.
-const MAX_INPUT: usize = 16_777_216;
+pub(crate) const MAX_INPUT: usize = 16_777_216;
 
 /// Reads a scenario to the end of the input, runs it on a new world, and writes its transcript. At Done it
 /// returns the world's desk. Input that is no scenario is refused by a line.
@@ -31,7 +31,7 @@ pub fn run<I: Source, O: Sink>(alloc: Global, input: &mut I, output: &mut O) -> 
         → IsSomeAnd result.desk (λ r. Did (I.left input.old) (I.left input.new) (told (O.taken output.old) (O.room output.old)) (told (O.taken output.new) (O.room output.new)) r) }
     ensures no_desk { result.status ≢ EndStatus.Done → result.desk ≡ None }
     ensures refused { result.status ≡ EndStatus.Refused
-        → Refuses (I.left input.old) (I.left input.new) (told (O.taken output.old) (O.room output.old)) (told (O.taken output.new) (O.room output.new)) }
+        → Refuses false (I.left input.old) (I.left input.new) (told (O.taken output.old) (O.room output.old)) (told (O.taken output.new) (O.room output.new)) }
     ensures read_fault { result.status ≡ EndStatus.ReadFault → Rose (I.faults input.old) (I.faults input.new) × (output.new ≡ output.old) }
     ensures too_long { result.status ≡ EndStatus.TooLong → TakesMore (I.left input.old) (I.left input.new) × (output.new ≡ output.old) }
     ensures cause { result.status ≡ EndStatus.WriteFault → Rose (O.faults output.old) (O.faults output.new) }
