@@ -1,3 +1,7 @@
 pub mod Endings
+pub mod Lives
+pub mod Races
 pub mod Refusals
 pub mod Runs
+pub mod Streams
+pub mod Stresses

@@ -7,16 +7,19 @@ use ert_table::{Desk, Pass};
 /// How a run of the program ended.
 #[derive(Clone, Copy, Debug, PartialEq, Eq)]
 pub enum EndStatus {
-    /// The scenario was read and run, and its transcript written.
+    /// The whole job was done: a scenario was read to its end and run, all readings were taken, or a made
+    /// scenario was run. The transcript or report stands there.
     Done,
     /// The command line is none that the program has; the usage line was written.
     Usage,
-    /// The input is no scenario; the line of its refusal was written.
+    /// The input is no scenario, or the last reading isn't valid; the line of the refusal was written.
     Refused,
     /// The input failed. Nothing was written.
     ReadFault,
     /// The output failed. The first part of what was to be written stands there.
     WriteFault,
+    /// The clock failed. The lines of the readings before it were written.
+    ClockFault,
     /// Memory ran out. The first part of what was to be written may stand there.
     NoMemory,
     /// The input is longer than 16,777,216 bytes. Nothing was written.
@@ -34,6 +37,7 @@ impl EndStatus {
             EndStatus::Refused => 3,
             EndStatus::ReadFault => 4,
             EndStatus::WriteFault => 5,
+            EndStatus::ClockFault => 6,
             EndStatus::NoMemory => 7,
             EndStatus::TooLong => 8,
         }
@@ -44,7 +48,7 @@ impl EndStatus {
 #[derive(Drop)]
 pub struct Ended {
     pub status: EndStatus,
-    /// The desk that the scenario was run on, with the pass that holds every actor of it. It is there at
+    /// The desk that the calls were made on, with the pass that holds every actor of it. It is there at
     /// Done, and only there. `Desk::close` reads its words.
     pub desk: Option<(Desk, Pass)>,
 }

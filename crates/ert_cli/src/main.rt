@@ -3,24 +3,29 @@
 //!
 //! `ertime` is the whole program over any source and sink of bytes; its contract says what each status
 //! means. `main` only hands it the command line and the standard streams. It stands on `ert_scenario`,
-//! which reads, `ert_script`, which runs the ops on a world, `ert_io`, and `ert_table`, whose desk it returns.
+//! which reads, `ert_script`, which runs the ops on a world, `ert_race`, which lets threads run lists of them,
+//! `ert_io`, and `ert_table`, whose desk it returns.
 #![tactic(auto)]
 
 #[cfg(test)]
 mod clock_rows;
 mod ending;
+mod living;
 mod program;
+mod racing;
 mod refusal;
 #[cfg(test)]
 mod refused_rows;
 mod running;
+mod stressing;
 #[cfg(test)]
 mod tests;
 #[cfg(test)]
 mod timer_rows;
 
 pub use ending::{EndStatus, Ended};
-use ert_io::{StdSink, StdSource};
+use ert_io::{HostClock, StdSink, StdSource};
+use ert_shared::FreeGate;
 pub use program::ertime;
 use std::io::ErrorKind;
 use std::process::ExitCode;
@@ -38,7 +43,15 @@ fn main(rt: HostRuntime) -> ExitCode {
     };
     let mut input = StdSource::new(rt.reader());
     let mut output = StdSink::new(io::writer(&rt));
-    let ended = ertime(&rt, words.as_slice(), &mut input, &mut output);
+    let mut clock = HostClock::new(&rt);
+    let ended = ertime(
+        &rt,
+        words.as_slice(),
+        &mut input,
+        &mut output,
+        &mut clock,
+        &FreeGate,
+    );
     ExitCode::from(ended.status.code())
 }
 

@@ -2,12 +2,15 @@ ghost use Rattle.std.specs.Prelude.{◌≤◌};
 
 use crate::clock_rows::{self, FINALIZED};
 use crate::{EndStatus, ertime, refused_rows, timer_rows};
-use ert_io::{Failed, MemSink, MemSource, Source};
+use ert_io::{Failed, MemClock, MemSink, MemSource, Source};
 use std::alloc::{AllocError, Global};
 use std::test::Fail;
 
 const LEAP: &str =
     r#"{"format":1,"correction":false,"first":[0,10000000000],"ops":[["tick",0,12000000000],["tick",0,11000000000],["time"],["tick",0,13000000000],["system"]]}"#;
+
+const LEAP_TEXT: &str =
+    "tick 2000000000\ntick 2000000000\ntime 2000000000\ntick 3000000000\nsystem 13000000000\nend 3000000000\n";
 
 const USAGE: &str = "usage: ertime run | race | live N | stress SEED N\n";
 
@@ -17,6 +20,11 @@ fn strings(alloc: Global, words: &[&str]) -> Result<Vec<String>, AllocError> {
         all.push(String::from_str(alloc, word)?)?;
     }
     Ok(all)
+}
+
+// A clock with no reading.
+fn no_clock(alloc: Global) -> MemClock {
+    MemClock::new(Vec::new(alloc), Vec::new(alloc))
 }
 
 // The status and the output of the program over these words and this text. The read and the write of the
@@ -35,7 +43,8 @@ fn run(
     let mut input = MemSource::new(text.as_bytes().to_vec(rt.alloc())?, reads);
     let writes = vec![in rt.alloc(); fails.1]?;
     let mut output = MemSink::new(rt.alloc(), piece, writes);
-    let ended = ertime(rt, words.as_slice(), &mut input, &mut output);
+    let mut clock = no_clock(rt.alloc());
+    let ended = ertime(rt, words.as_slice(), &mut input, &mut output, &mut clock);
     Ok((
         ended.status,
         String::from_utf8_lossy(rt.alloc(), output.bytes())?,
@@ -113,7 +122,8 @@ fn gives_its_desk_back(rt: HostRuntime) -> Result<(), Fail> {
     let text = format!(in rt.alloc(); "{{\"format\":1,{fields},\"ops\":[{ops}]}}")?;
     let mut input = MemSource::new(text.as_bytes().to_vec(rt.alloc())?, Vec::new(rt.alloc()));
     let mut output = MemSink::new(rt.alloc(), 100, Vec::new(rt.alloc()));
-    let ended = ertime(&rt, words.as_slice(), &mut input, &mut output);
+    let mut clock = no_clock(rt.alloc());
+    let ended = ertime(&rt, words.as_slice(), &mut input, &mut output, &mut clock);
     assert_eq!(rt; ended.status, EndStatus::Done);
     let (desk, pass) = ended.desk.ok_or("there is no desk")?;
     let words = desk.close(rt.alloc(), pass)?;
@@ -124,7 +134,15 @@ fn gives_its_desk_back(rt: HostRuntime) -> Result<(), Fail> {
 
 #[test]
 fn refuses_other_command_lines(rt: HostRuntime) -> Result<(), Fail> {
-    let lines: [&[&str]; 5] = [&[], &[""], &["run", "run"], &["ru"], &["--help"]];
+    let lines: [&[&str]; 7] = [
+        &[],
+        &[""],
+        &["run", "run"],
+        &["live", "0"],
+        &["live", "+5"],
+        &["stress", "1", "100001"],
+        &["--help"],
+    ];
     for words in lines {
         let (ended, written) = run(&rt, words, LEAP, (1, 0), 100)?;
         assert_eq!(rt; ended, EndStatus::Usage);
@@ -135,9 +153,16 @@ fn refuses_other_command_lines(rt: HostRuntime) -> Result<(), Fail> {
 
 #[test]
 fn stops_at_a_fault(rt: HostRuntime) -> Result<(), Fail> {
-    let (ended, written) = run(&rt, &["run"], LEAP, (0, 21), 1)?;
-    assert_eq!(rt; ended, EndStatus::WriteFault);
-    assert_eq!(rt; written.as_str(), "tick 2000000000\ntick");
+    // The text has 98 bytes, and each write takes one.
+    for failing in 1..=98 {
+        let (ended, written) = run(&rt, &["run"], LEAP, (0, failing), 1)?;
+        assert_eq!(rt; ended, EndStatus::WriteFault);
+        assert_eq!(rt; written.len(), failing as usize - 1);
+        assert!(rt; LEAP_TEXT.starts_with(written.as_str()));
+    }
+    let (ended, written) = run(&rt, &["run"], LEAP, (0, 99), 1)?;
+    assert_eq!(rt; ended, EndStatus::Done);
+    assert_eq!(rt; written.as_str(), LEAP_TEXT);
 
     let (ended, written) = run(&rt, &["run"], LEAP, (1, 0), 1)?;
     assert_eq!(rt; ended, EndStatus::ReadFault);
@@ -150,6 +175,22 @@ fn stops_at_a_fault(rt: HostRuntime) -> Result<(), Fail> {
     let (ended, written) = run(&rt, &[], "", (0, 1), 1)?;
     assert_eq!(rt; ended, EndStatus::WriteFault);
     assert_eq!(rt; written.as_str(), "");
+    Ok(())
+}
+
+// The first draw of seed 1 chooses a turn, and that of seed 0 a receive.
+#[test]
+fn counts_made_scenarios(rt: HostRuntime) -> Result<(), Fail> {
+    let none = "settled armed 0 expired 0 delivered 0 dropped 0 cancelled 0 orphaned 0\nend 0\n";
+    for seed in ["1", "0"] {
+        let (ended, written) = run(&rt, &["stress", seed, "1"], "", (1, 0), 100)?;
+        assert_eq!(rt; ended, EndStatus::Done);
+        assert_eq!(rt; written.as_str(), none);
+    }
+    let (_, once) = run(&rt, &["stress", "7", "100000"], "", (1, 0), 100)?;
+    let (ended, again) = run(&rt, &["stress", "7", "100000"], "", (1, 0), 7)?;
+    assert_eq!(rt; ended, EndStatus::Done);
+    assert_eq!(rt; once.as_str(), again.as_str());
     Ok(())
 }
 
@@ -181,7 +222,8 @@ fn refuses_a_long_input(rt: HostRuntime) -> Result<(), Fail> {
         let words = strings(rt.alloc(), &["run"])?;
         let mut input = Spaces { left: count };
         let mut output = MemSink::new(rt.alloc(), 100, Vec::new(rt.alloc()));
-        let ended = ertime(&rt, words.as_slice(), &mut input, &mut output);
+        let mut clock = no_clock(rt.alloc());
+        let ended = ertime(&rt, words.as_slice(), &mut input, &mut output, &mut clock);
         assert_eq!(rt; ended.status, status);
         assert_eq!(rt; output.bytes(), line.as_bytes());
     }

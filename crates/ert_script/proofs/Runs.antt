@@ -68,11 +68,11 @@ lines_more g ls (o ∷ list) rs after h m op r ran =
     ∙ ap (λ (x : List Reply). lines_of ls (o ∷ list) x ++ line_of (label_of (labels_after after op r)) r) (sym ran.5)
 
 -- before the first op a world has done nothing
-runs_none : (w : Service) → Runs w [] [] w
+pub runs_none : (w : Service) → Runs w [] [] w
 runs_none w = record { grows = record { piece = []; grown = sym (append-nil w.history); made = (refl, refl, refl) }; settings = refl; tidy = λ i below tidy. tidy }
 
 -- a run and one more op
-runs_more : (start v w : Service) (list : List Op) (rs : List Reply) (op : Op) (r : Reply) → Runs start list rs v → Does v op r w
+pub runs_more : (start v w : Service) (list : List Op) (rs : List Reply) (op : Op) (r : Reply) → Runs start list rs v → Does v op r w
     → Runs start (list ++ op ∷ []) (rs ++ r ∷ []) w
 runs_more start v w list rs op r ran done =
     let one : List Entry = ran.grows.piece in

@@ -16,6 +16,7 @@ mod sched_ops;
 mod settled;
 mod timer_ops;
 
+pub use clock_ops::tick;
 pub use reply::reply_op;
 pub use run::{do_ops, run_ops};
 pub use settled::write_settled;

@@ -1,34 +1,48 @@
-use Rattle.std.proofs.Common.{rules, List, subst, FitsSigned, w64, to_z-of_z}
-use Rattle.std.proofs.lemmas.Result.{err_from_is_err_and}
+use Rattle.std.proofs.Common.{rules, inl, inr, false}
 use Rattle.ert_scenario.specs.Scenarios.{plan_of}
-use Rattle.ert_ops.specs.declared.op.Op.{Op}
-use Rattle.ert_script.specs.Written.{WritesRun, WritesSome}
-use Rattle.ert_cli.proofs.Transcripts.{ends, breaks_last, breaks}
+use Rattle.ert_cli.specs.Runs.{TakesAll}
+use Rattle.ert_cli.proofs.Transcripts.{stopped}
 use Rattle.ert_cli.proofs.running.run.Goals as goal
 
-pub returns-in_err-run_ops-clause-err : goal.returns-in_err-run_ops-clause-err
-returns-in_err-run_ops-clause-err g c =
-    let p = err_from_is_err_and c.from_residual.result c.from_residual.ensures.1 in
-    rw p.1
-    (breaks (plan_of c.args.scenario.now) c.in-Ok.world _ _ c.requires.labels c.in-Ok.ensures
-    (subst (λ (ops : List Op). WritesSome c.in-Ok.world ops (g.O.Sink.taken c.args.output.now) (g.O.Sink.taken c.run_ops.new.sink))
-    c.deref.ensures.value c.in_err-run_ops.ensures.err))
+pub run_scenario-requires-clause-fits : goal.run_scenario-requires-clause-fits
+run_scenario-requires-clause-fits g c =
+    let takes : TakesAll (g.I.Source.left c.args.input.now) (g.I.Source.left c.read_all.new.source) c.deref.result.now = search rules in
+    c.requires.done _ _ (plan_of c.in-Ok-read_scenario.scenario) takes c.in-Ok-read_scenario.ensures.ok
 
-pub returns-in_err-finish-clause-err : goal.returns-in_err-finish-clause-err
-returns-in_err-finish-clause-err g c =
-    let now : FitsSigned w64 c.published.result = search rules in
-    let told = simp to_z-of_z at c.in_err-finish.ensures.err in
-    let ran = subst (λ (ops : List Op). WritesRun c.in-Ok.world ops c.run_ops.new.world (g.O.Sink.taken c.args.output.now) (g.O.Sink.taken c.run_ops.new.sink))
-    c.deref.ensures.value c.in_ok-run_ops.ensures.ok in
-    let p = err_from_is_err_and c.from_residual-in_err-finish.result c.from_residual-in_err-finish.ensures.1 in
-    rw p.1
-    (breaks_last (plan_of c.args.scenario.now) c.in-Ok.world c.run_ops.new.world _ _ _ c.requires.labels c.in-Ok.ensures ran (rw c.published.ensures at told))
+pub run_scenario-requires-clause-checked : goal.run_scenario-requires-clause-checked
+run_scenario-requires-clause-checked g c =
+    c.scenarios_are_valid.ensures.settings false _ (plan_of c.in-Ok-read_scenario.scenario) c.in-Ok-read_scenario.ensures.ok
 
-pub returns-clause-ok : goal.returns-clause-ok
-returns-clause-ok g c =
-    let now : FitsSigned w64 c.published.result = search rules in
-    let told = simp to_z-of_z at c.in_ok-finish.ensures.ok in
-    let ran = subst (λ (ops : List Op). WritesRun c.in-Ok.world ops c.run_ops.new.world (g.O.Sink.taken c.args.output.now) (g.O.Sink.taken c.run_ops.new.sink))
-    c.deref.ensures.value c.in_ok-run_ops.ensures.ok in
-    ends (plan_of c.args.scenario.now) c.in-Ok.world c.run_ops.new.world _ _ _ _ c.requires.labels c.in-Ok.ensures ran (rw c.published.ensures at told)
-    c.into_desk.ensures.settings c.into_desk.ensures.history
+pub run_scenario-requires-clause-ranges : goal.run_scenario-requires-clause-ranges
+run_scenario-requires-clause-ranges g c =
+    c.scenarios_are_valid.ensures.ops false _ (plan_of c.in-Ok-read_scenario.scenario) c.in-Ok-read_scenario.ensures.ok
+
+pub run_scenario-requires-clause-labels : goal.run_scenario-requires-clause-labels
+run_scenario-requires-clause-labels g c =
+    c.scenarios_are_valid.ensures.labels false _ (plan_of c.in-Ok-read_scenario.scenario) c.in-Ok-read_scenario.ensures.ok
+
+pub returns-in-Ok-read_scenario-clause-stops : goal.returns-in-Ok-read_scenario-clause-stops
+returns-in-Ok-read_scenario-clause-stops g c = λ how.
+    let takes : TakesAll (g.I.Source.left c.args.input.now) (g.I.Source.left c.read_all.new.source) c.deref.result.now = search rules in
+    record {
+      bytes = c.deref.result.now;
+      takes = takes;
+      part = inl (record {
+        plan = plan_of c.in-Ok-read_scenario.scenario;
+        is = c.in-Ok-read_scenario.ensures.ok;
+        writes = stopped c.run_scenario.result _ c.run_scenario.ensures.err (inl (rw c.of_run.ensures at how));
+      });
+    }
+
+pub returns-in-Ok-read_scenario-clause-no_memory : goal.returns-in-Ok-read_scenario-clause-no_memory
+returns-in-Ok-read_scenario-clause-no_memory g c = λ how.
+    let takes : TakesAll (g.I.Source.left c.args.input.now) (g.I.Source.left c.read_all.new.source) c.deref.result.now = search rules in
+    inr (record {
+      bytes = c.deref.result.now;
+      takes = takes;
+      part = inl (record {
+        plan = plan_of c.in-Ok-read_scenario.scenario;
+        is = c.in-Ok-read_scenario.ensures.ok;
+        writes = stopped c.run_scenario.result _ c.run_scenario.ensures.err (inr (rw c.of_run.ensures at how));
+      });
+    })
