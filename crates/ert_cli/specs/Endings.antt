@@ -44,7 +44,7 @@ pub record Did (left left_new taken taken_new : Option (List ℕ)) (r : Desk × 
   pub bytes : List ℕ
   pub takes : TakesAll left left_new bytes
   pub plan : Plan
-  pub is : IsScenario bytes plan
+  pub is : IsScenario false bytes plan
   pub ran : RunsOn plan taken taken_new r
 
 -- all bytes were read, they have a refusal, and its line was written
@@ -52,19 +52,19 @@ pub record Refuses (left left_new taken taken_new : Option (List ℕ)) : Type 0 
   pub bytes : List ℕ
   pub takes : TakesAll left left_new bytes
   pub why : ScenarioErr
-  pub is : HasRefusal bytes why
+  pub is : HasRefusal false bytes why
   pub writes : taken_new ≡ then taken (refusal_line why)
 
 -- the first part of a scenario's transcript was written
 pub record PartRun (bytes : List ℕ) (taken taken_new : Option (List ℕ)) : Type 0 where
   pub plan : Plan
-  pub is : IsScenario bytes plan
+  pub is : IsScenario false bytes plan
   pub writes : WritesFront taken taken_new (transcript plan)
 
 -- the first part of the line of a refusal was written
 pub record PartRefused (bytes : List ℕ) (taken taken_new : Option (List ℕ)) : Type 0 where
   pub why : ScenarioErr
-  pub is : HasRefusal bytes why
+  pub is : HasRefusal false bytes why
   pub writes : WritesFront taken taken_new (refusal_line why)
 
 -- all bytes were read, and the first part of what they ask for was written

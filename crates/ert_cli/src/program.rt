@@ -60,7 +60,7 @@ pub fn ertime<R: AllocGlobal, I: Source, O: Sink>(
     // Where nothing fails and the input is a scenario, only want of memory keeps it from being done.
     ensures complete { is_run words.now ≡ true
         → (Rose (I.faults input.old) (I.faults input.new) → ⊥) → (Rose (O.faults output.old) (O.faults output.new) → ⊥)
-        → (bytes : List ℕ) (plan : Plan) → I.left input.old ≡ Some bytes → length bytes ≤ 16777216 → IsScenario bytes plan
+        → (bytes : List ℕ) (plan : Plan) → I.left input.old ≡ Some bytes → length bytes ≤ 16777216 → IsScenario false bytes plan
         → (result.status ≡ EndStatus.Done) ⊎ (result.status ≡ EndStatus.NoMemory) }
     ensures later { I.faults input.old ≤ I.faults input.new }
     ensures later_out { O.faults output.old ≤ O.faults output.new }
@@ -71,7 +71,7 @@ pub fn ertime<R: AllocGlobal, I: Source, O: Sink>(
         return Ended::without_desk(usage(output));
     }
     match read_all(rt.alloc(), input, MAX_INPUT) {
-        Ok(bytes) => match read_scenario(rt.alloc(), &bytes) {
+        Ok(bytes) => match read_scenario(rt.alloc(), &bytes, false) {
             Ok(scenario) => Ended::of_run(run(rt.alloc(), &scenario, output)),
             Err(ScenarioErr::NoMemory) => Ended::without_desk(EndStatus::NoMemory),
             Err(refusal) => Ended::without_desk(refused(rt.alloc(), &refusal, output)),

@@ -1,6 +1,6 @@
 -- The scenario of a seed.
 
-use Rattle.std.specs.Prelude.{ℕ, pos, false}
+use Rattle.std.specs.Prelude.{ℕ, pos, false, None}
 use Rattle.ert_defs.specs.declared.settings.Mode.TheVariants.{Multi}
 use Rattle.ert_defs.specs.declared.settings.Settings.{Settings}
 use Rattle.ert_scenario.specs.Scenarios.{Plan}
@@ -19,6 +19,6 @@ generated_settings = record {
   first = record { mono = pos 0; sys = pos 0 };
 }
 
--- the scenario of a seed with n ops
+-- the scenario of a seed with n ops, and no race
 abbrev pub generated : ℕ → ℕ → Plan
-generated seed n = record { settings = generated_settings; ops = next_ops n (first seed) }
+generated seed n = record { settings = generated_settings; ops = next_ops n (first seed); race = None }

@@ -29,6 +29,7 @@ pub fn generate(alloc: Global, seed: u64, n: u64) -> Result<Scenario, NoMemory>
     Ok(Scenario {
         settings: SETTINGS,
         ops: ops_of(alloc, seed, n)?,
+        race: None,
     })
 }
 

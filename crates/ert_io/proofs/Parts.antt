@@ -5,7 +5,7 @@ use Rattle.std.proofs.Math.Seq.{take-add}
 use Rattle.ert_io.specs.Known.{then, more_by}
 
 -- bytes appended after bytes are both, appended
-then-then : (known : Option (List ℕ)) (first second : List ℕ) → then (then known first) second ≡ then known (first ++ second)
+pub then-then : (known : Option (List ℕ)) (first second : List ℕ) → then (then known first) second ≡ then known (first ++ second)
 then-then None first second = refl
 then-then (Some xs) first second = ap Some (append_assoc xs first second)
 

@@ -4,4 +4,5 @@ pub mod Host
 pub mod Known
 pub mod Memory
 pub mod Readings
+pub mod Told
 pub mod Writing

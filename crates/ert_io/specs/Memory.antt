@@ -3,6 +3,8 @@
 use Rattle.std.specs.Prelude.{ℕ, List, drop}
 use Rattle.ert_io.specs.declared.mem_source.MemSource.{MemSource}
 use Rattle.ert_io.specs.declared.mem_sink.MemSink.{MemSink}
+use Rattle.ert_io.specs.declared.sure_source.SureSource.{SureSource}
+use Rattle.ert_io.specs.declared.sure_sink.SureSink.{SureSink}
 
 -- the bytes that a source has left
 abbrev pub left_of : MemSource → List ℕ
@@ -31,3 +33,14 @@ writes_of s = s.calls.made
 -- the numbers of the writes that are to fail
 abbrev pub failing_writes : MemSink → List ℕ
 failing_writes s = s.calls.fails.items
+
+-- the bytes that a source which never fails has left
+abbrev pub sure_left : SureSource → List ℕ
+sure_left s = drop s.next s.bytes.items
+
+-- the bytes that a sink which never fails took, and its room
+abbrev pub sure_taken : SureSink → List ℕ
+sure_taken s = s.taken.items
+
+abbrev pub sure_room : SureSink → ℕ
+sure_room s = s.room

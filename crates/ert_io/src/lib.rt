@@ -8,8 +8,9 @@
 //! the clauses hold either way.
 //!
 //! `StdSource` and `StdSink` stand over std's readers and writers, `HostClock` over the machine's clocks,
-//! and `MemSource`, `MemSink` and `MemClock` over memory, with failures that a test chooses. `read_all` reads to the end of a source within a limit,
-//! and `write_all` writes all of some bytes: each tells exactly what was moved.
+//! and `MemSource`, `MemSink` and `MemClock` over memory, with failures that a test chooses. `SureSource`
+//! and `SureSink` never fail; `SureSink` alone tells its room. `read_all` reads to the end of a source within
+//! a limit, and `write_all` writes all of some bytes: each tells exactly what was moved.
 #![tactic(auto)]
 
 mod calls;
@@ -23,6 +24,8 @@ mod os_clock;
 mod reading;
 mod sink;
 mod source;
+mod sure_sink;
+mod sure_source;
 mod writing;
 
 pub use failed::Failed;
@@ -35,4 +38,6 @@ pub use os_clock::OsClock;
 pub use reading::{ReadErr, read_all};
 pub use sink::Sink;
 pub use source::Source;
+pub use sure_sink::SureSink;
+pub use sure_source::SureSource;
 pub use writing::{WriteErr, write_all};

@@ -17,7 +17,8 @@ use std::fmt::Write;
 /// Appends the line of a reply. A message is told with the label of its timer: the first that was bound to
 /// it, or its slot where there is none.
 pub fn write_line(page: &mut String, reply: &Reply, names: &Names) -> Result<(), AllocError>
-    ensures { (labels : Labels) → IsIndexOf labels names.now
+    ensures named { OnOk result (string_bytes page.new ≡ string_bytes page.old ++ line_of (label_by names.now) reply.now) }
+    ensures labelled { (labels : Labels) → IsIndexOf labels names.now
         → OnOk result (string_bytes page.new ≡ string_bytes page.old ++ line_of (label_of labels) reply.now) }
 {
     write_named(page, reply, names)

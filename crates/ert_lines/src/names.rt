@@ -18,7 +18,7 @@ pub struct Names {
 
 impl Names {
     ghost use Rattle.std.specs.Prelude.{◌≡◌, [], OnOk, OnErr};
-    ghost use Rattle.ert_lines.specs.Names.{IsIndexOf, label_by};
+    ghost use Rattle.ert_lines.specs.Names.{IsIndexOf, first_ref, label_by};
     ghost use Rattle.ert_transcript.specs.Labels.{Labels, bind, ref_of};
 
     /// An index of no label.
@@ -44,6 +44,13 @@ impl Names {
                 generation: 0,
             },
         }
+    }
+
+    /// The timer of a label: that of the first start with it. None where it isn't bound.
+    pub fn find(&self, label: u32) -> Option<TimerRef>
+        ensures { (labels : Labels) → IsIndexOf labels self.now → result ≡ first_ref labels label }
+    {
+        self.references.get(&label).copied()
     }
 
     /// The label of a timer: the first that was bound to it, and its slot where there is none. Of a reference

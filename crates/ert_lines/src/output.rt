@@ -1,11 +1,11 @@
-ghost use Rattle.std.specs.Prelude.{◌≡◌, ◌≤◌, ◌++◌, OnOk, OnErr, IsErrOf, None, Ok, Err, string_bytes, codes};
+ghost use Rattle.std.specs.Prelude.{◌≡◌, ◌≤◌, ◌++◌, OnOk, OnErr, IsErrOf, Err, length, string_bytes, codes};
 ghost use Rattle.ert_io.specs.Faults.{Rose};
-ghost use Rattle.ert_io.specs.Known.{then};
-ghost use Rattle.ert_lines.specs.Names.{IsIndexOf};
+ghost use Rattle.ert_io.specs.Known.{HasRoom};
+ghost use Rattle.ert_io.specs.Told.{told, took, TakesFront};
+ghost use Rattle.ert_lines.specs.Names.{IsIndexOf, label_by};
+ghost use Rattle.ert_lines.specs.Written.{Moves};
 ghost use Rattle.ert_transcript.specs.Labels.{Labels, label_of};
 ghost use Rattle.ert_transcript.specs.Lines.{line_of};
-ghost use Rattle.ert_io.specs.Writing.{WritesFront};
-ghost use Rattle.ert_lines.specs.Written.{Moves};
 
 use crate::line::write_line;
 use crate::names::Names;
@@ -24,19 +24,19 @@ pub enum RunErr {
 // How many bytes a page gathers before it is written, so that many lines take one write.
 const PAGE: usize = 65_536;
 
-/// Appends the line of a reply to the page, and writes the page out where it is full.
+/// Appends the line of a reply to the page, and writes the page out where it is full. A sink that tells its
+/// room has room for both.
 pub fn put<O: Sink>(
     output: &mut O,
     page: &mut String,
     reply: &Reply,
     names: &Names,
 ) -> Result<(), RunErr>
-    requires { O.room output.old ≡ None }
-    ensures ok { (labels : Labels) → IsIndexOf labels names.now
-        → OnOk result (Moves (O.taken output.old) (O.taken output.new) (string_bytes page.old ++ line_of (label_of labels) reply.now) (string_bytes page.new)) }
-    ensures err { (labels : Labels) → IsIndexOf labels names.now
-        → OnErr result (WritesFront (O.taken output.old) (O.taken output.new) (string_bytes page.old ++ line_of (label_of labels) reply.now)) }
-    ensures room { O.room output.new ≡ None }
+    requires { HasRoom (O.room output.old) (length (string_bytes page.old ++ line_of (label_by names.now) reply.now)) }
+    ensures ok { (labels : Labels) → IsIndexOf labels names.now → OnOk result
+        (Moves (told (O.taken output.old) (O.room output.old)) (told (O.taken output.new) (O.room output.new)) (string_bytes page.old ++ line_of (label_of labels) reply.now) (string_bytes page.new)) }
+    ensures err { (labels : Labels) → IsIndexOf labels names.now → OnErr result
+        (TakesFront (told (O.taken output.old) (O.room output.old)) (told (O.taken output.new) (O.room output.new)) (string_bytes page.old ++ line_of (label_of labels) reply.now)) }
     ensures later { O.faults output.old ≤ O.faults output.new }
     ensures cause { IsErrOf result RunErr.WriteFault → Rose (O.faults output.old) (O.faults output.new) }
 {
@@ -49,14 +49,13 @@ pub fn put<O: Sink>(
     write_page(output, page)
 }
 
-/// Writes the page out, and leaves it empty.
+/// Writes the page out, and leaves it empty. A sink that tells its room has room for it.
 pub fn write_page<O: Sink>(output: &mut O, page: &mut String) -> Result<(), RunErr>
-    requires { O.room output.old ≡ None }
-    ensures ok { OnOk result (O.taken output.new ≡ then (O.taken output.old) (string_bytes page.old)) }
+    requires { HasRoom (O.room output.old) (length (string_bytes page.old)) }
+    ensures ok { OnOk result (told (O.taken output.new) (O.room output.new) ≡ took (told (O.taken output.old) (O.room output.old)) (string_bytes page.old)) }
     ensures empty { OnOk result (string_bytes page.new ≡ codes "") }
-    ensures err { OnErr result (WritesFront (O.taken output.old) (O.taken output.new) (string_bytes page.old)) }
+    ensures err { OnErr result (TakesFront (told (O.taken output.old) (O.room output.old)) (told (O.taken output.new) (O.room output.new)) (string_bytes page.old)) }
     ensures only { OnErr result (result ≡ Err RunErr.WriteFault) }
-    ensures room { O.room output.new ≡ None }
     ensures later { O.faults output.old ≤ O.faults output.new }
     ensures cause { OnErr result (Rose (O.faults output.old) (O.faults output.new)) }
 {

@@ -7,14 +7,15 @@ use Rattle.ert_defs.specs.declared.settings.Settings.{Settings}
 use Rattle.ert_ops.specs.Ranges.{IsOpInRange}
 use Rattle.ert_ops.specs.declared.op.Op.{Op}
 use Rattle.ert_ops.specs.declared.op.Op.TheVariants.{Tick, Check, Finalize, Notify, Time, System, Offset, Info, Convert, Start, SendAfter, Cancel, CancelQuiet, Read, CancelAsync, ReadAsync, Serve, Advance, Deliver, Turn, Receive, Exit, Alive, Monitor, Demonitor}
-use Rattle.ert_scenario.specs.Fields.{settings_of, format_of, op_items}
+use Rattle.ert_scenario.specs.Fields.{top_of, format_of}
 use Rattle.ert_scenario.specs.Kinds.{Found, ◌>>=◌, in_range}
 use Rattle.ert_scenario.specs.Labels.{label_of, has, is_new, with_label, tested}
-use Rattle.ert_scenario.specs.Places.{fault_of, fault_in, founds_in, HasRangeFault, raw_at, IsRead, IsStartAt}
+use Rattle.ert_scenario.specs.Places.{fault_of, fault_in, op_founds, founds_in, HasRangeFault, raw_at, settings_in, IsRead, IsStartAt}
 use Rattle.ert_scenario.specs.Ranges.{is_label, is_process, is_started, is_op}
-use Rattle.ert_scenario.specs.Scenarios.{op_founds}
-use Rattle.ert_scenario.specs.Walks.{raws_of, founds_of}
+use Rattle.ert_scenario.specs.Lists.{OpValues, lists_of}
+use Rattle.ert_scenario.specs.Walks.{all_raws, founds_of}
 use Rattle.ert_scenario.specs.declared.fault.Fault.TheVariants as faults
+use Rattle.ert_scenario.specs.declared.fields.Top.{Top}
 use Rattle.ert_scenario.proofs.Checked.{Decides-reading}
 use Rattle.ert_scenario.proofs.Valid.{in_range_tested}
 
@@ -152,18 +153,20 @@ has_from labels (Err fault ∷ raws) (suc i) label h given none =
 
 -- ---- the laws
 
-founds_read : (items : Found (List Data)) (settings : Found Settings) (g : Settings) (make : List Data → List (Found Op)) (raws : List (Found Op)) → settings ≡ Ok g
-    → (items >>= (λ xs. Ok (make xs))) ≡ Ok raws → founds_in (items >>= (λ xs. Ok (founds_of settings (make xs)))) ≡ tested g [] raws
-founds_read (Ok xs) settings g make raws opens h =
-    let same : make xs ≡ raws = cc in
-    ap (λ (s : Found Settings). founds_of s (make xs)) opens ∙ ap (tested g []) same
-founds_read (Err fault) settings g make raws opens h = absurd (cc)
+founds_read : (lists : Found OpValues) (found : Found Top) (g : Settings) (make : OpValues → List (Found Op)) (raws : List (Found Op)) → settings_in found ≡ Ok g
+    → (lists >>= (λ l. Ok (make l))) ≡ Ok raws → founds_in (lists >>= (λ l. Ok (founds_of found (make l)))) ≡ tested g [] raws
+founds_read (Ok l) (Ok top) g make raws opens h =
+    let same : make l ≡ raws = cc in
+    let ours : top.settings ≡ g = cc in
+    ap (λ (s : Settings). tested s [] (make l)) ours ∙ ap (tested g []) same
+founds_read (Ok l) (Err fault) g make raws opens h = absurd (cc)
+founds_read (Err fault) found g make raws opens h = absurd (cc)
 
 -- the fault at a place, where the op was read
-fault_at : (d : Data) (g : Settings) (raws : List (Found Op)) (i : ℕ) (op : Op) → IsRead d g raws → raw_at raws i ≡ Some (Ok op)
-    → fault_in (founds_in (op_founds d)) i ≡ fault_of (in_range (is_op g op && is_new (labels_before [] raws i) (label_of op)) op)
-fault_at d g raws i op read here =
-    ap (λ (xs : List (Found Op)). fault_in xs i) (founds_read (op_items d) (settings_of d) g (raws_of (format_of d)) raws read.opens read.ops)
+fault_at : (race : Bool) (d : Data) (g : Settings) (raws : List (Found Op)) (i : ℕ) (op : Op) → IsRead race d g raws → raw_at raws i ≡ Some (Ok op)
+    → fault_in (founds_in (op_founds race d)) i ≡ fault_of (in_range (is_op g op && is_new (labels_before [] raws i) (label_of op)) op)
+fault_at race d g raws i op read here =
+    ap (λ (xs : List (Found Op)). fault_in xs i) (founds_read (lists_of race d) (top_of race d) g (all_raws (format_of d)) raws read.opens read.ops)
     ∙ at_tested g [] raws i op here
 
 fails_left : (a b : Bool) (op : Op) → (a ≡ true → ⊥) → fault_of (in_range (a && b) op) ≡ Some faults.Range
@@ -183,17 +186,17 @@ no_fault true true op e f h = cc
 no_fault true false op e f h = true≢false (sym f)
 no_fault false b op e f h = true≢false (sym e)
 
-pub out_of_range : (d : Data) (g : Settings) (raws : List (Found Op)) (i : ℕ) (op : Op) → IsRead d g raws → raw_at raws i ≡ Some (Ok op) → (IsOpInRange g op → ⊥)
-    → HasRangeFault d (suc i)
-out_of_range d g raws i op read here not =
-    fault_at d g raws i op read here ∙ fails_left (is_op g op) (is_new (labels_before [] raws i) (label_of op)) op (λ h. not (in_range_tested g op h))
+pub out_of_range : (race : Bool) (d : Data) (g : Settings) (raws : List (Found Op)) (i : ℕ) (op : Op) → IsRead race d g raws → raw_at raws i ≡ Some (Ok op) → (IsOpInRange g op → ⊥)
+    → HasRangeFault race d (suc i)
+out_of_range race d g raws i op read here not =
+    fault_at race d g raws i op read here ∙ fails_left (is_op g op) (is_new (labels_before [] raws i) (label_of op)) op (λ h. not (in_range_tested g op h))
 
-pub label_again : (d : Data) (g : Settings) (raws : List (Found Op)) (i j label : ℕ) → IsRead d g raws → j < i → IsStartAt raws j label → IsStartAt raws i label
-    → HasRangeFault d (suc i)
-label_again d g raws i j label read low earlier later =
+pub label_again : (race : Bool) (d : Data) (g : Settings) (raws : List (Found Op)) (i j label : ℕ) → IsRead race d g raws → j < i → IsStartAt raws j label → IsStartAt raws i label
+    → HasRangeFault race d (suc i)
+label_again race d g raws i j label read low earlier later =
     let taken : has (labels_before [] raws i) label ≡ true = has_earlier [] raws i j label earlier.op low earlier.here earlier.has in
     let old : is_new (labels_before [] raws i) (label_of later.op) ≡ false = ap (is_new (labels_before [] raws i)) later.has ∙ ap not taken in
-    fault_at d g raws i later.op read later.here ∙ fails_right (is_op g later.op) (is_new (labels_before [] raws i) (label_of later.op)) later.op old
+    fault_at race d g raws i later.op read later.here ∙ fails_right (is_op g later.op) (is_new (labels_before [] raws i) (label_of later.op)) later.op old
 
 new_unless : (labels : List ℕ) (o : Option ℕ) → ((label : ℕ) → o ≡ Some label → has labels label ≡ true → ⊥) → is_new labels o ≡ true
 new_unless labels None h = refl
@@ -203,10 +206,10 @@ new_unless labels (Some label) h = unless (has labels label) (h label refl)
     unless true h = absurd (h refl)
     unless false h = refl
 
-pub no_other : (d : Data) (g : Settings) (raws : List (Found Op)) (i : ℕ) (op : Op) → IsRead d g raws → raw_at raws i ≡ Some (Ok op) → IsOpInRange g op
-    → ((j label : ℕ) → j < i → IsStartAt raws j label → IsStartAt raws i label → ⊥) → HasRangeFault d (suc i) → ⊥
-no_other d g raws i op read here fits none h =
+pub no_other : (race : Bool) (d : Data) (g : Settings) (raws : List (Found Op)) (i : ℕ) (op : Op) → IsRead race d g raws → raw_at raws i ≡ Some (Ok op) → IsOpInRange g op
+    → ((j label : ℕ) → j < i → IsStartAt raws j label → IsStartAt raws i label → ⊥) → HasRangeFault race d (suc i) → ⊥
+no_other race d g raws i op read here fits none h =
     let new : is_new (labels_before [] raws i) (label_of op) ≡ true =
     new_unless (labels_before [] raws i) (label_of op)
     (λ label e taken. has_from [] raws i label taken (λ f. true≢false (sym f)) (λ j low s. none j label low s (record { op = op; here = here; has = e }))) in
-    no_fault (is_op g op) (is_new (labels_before [] raws i) (label_of op)) op (passes_test g op fits) new (sym (fault_at d g raws i op read here) ∙ h)
+    no_fault (is_op g op) (is_new (labels_before [] raws i) (label_of op)) op (passes_test g op fits) new (sym (fault_at race d g raws i op read here) ∙ h)

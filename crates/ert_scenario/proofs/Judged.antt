@@ -1,70 +1,65 @@
 -- The verdict on what the walk found.
 
-use Rattle.std.proofs.Common.{◌≡◌, ◌≢◌, ◌<◌, ◌≤◌, ℕ, List, [], map, length, Option, Some, None, Ok, Err, cond, ltb, sym, ◌∙◌, refl, arith}
-use Rattle.std.proofs.lemmas.Bool.Decides.{nat_tests}
+use Rattle.std.proofs.Common.{◌≡◌, ◌≢◌, ℕ, List, [], length, true, false, Option, Some, None, Ok, Err, cond, sym, ap, ◌∙◌, refl}
 use Rattle.std.proofs.lemmas.List.{length-map}
-use Rattle.serde_json.specs.View.{view}
-use Rattle.serde_json.specs.declared.value.Value.{Value}
-use Rattle.ert_defs.specs.declared.settings.Settings.{Settings}
 use Rattle.ert_ops.specs.declared.op.Op.{Op}
 use Rattle.ert_scenario.specs.Kinds.{Found}
 use Rattle.ert_scenario.specs.Labels.{tested}
-use Rattle.ert_scenario.specs.Scenarios.{over, judged}
-use Rattle.ert_scenario.specs.Walks.{raws_of, first_shape, first_range, ops_of}
+use Rattle.ert_scenario.specs.Lists.{OpValues, list_count}
+use Rattle.ert_scenario.specs.Scenarios.{Plan, is_over, over, planned, judged}
+use Rattle.ert_scenario.specs.Walks.{first_shape, first_range}
 use Rattle.ert_scenario.specs.Walked.{IsOver, IsShapeAt}
-use Rattle.ert_scenario.specs.Rows.{op_of}
+use Rattle.ert_scenario.specs.declared.fields.Top.{Top}
 use Rattle.ert_scenario.specs.declared.format.Format.{Format}
 use Rattle.ert_scenario.specs.declared.scenario.ScenarioErr.{ScenarioErr}
 use Rattle.ert_scenario.specs.declared.scenario.ScenarioErr.TheVariants.{Json, Shape, Range, Limit, NoMemory}
-use Rattle.ert_scenario.proofs.Tested.{first_shape-tested, length-tested, ops_of_all}
+use Rattle.ert_scenario.proofs.Tested.{first_shape-tested, length-tested, whole_walk}
 
 -- what ends the walk is the verdict
-pub ends_walk : (g : Settings) (raws : List (Found Op)) (e : ScenarioErr) → IsShapeAt e (first_shape 1 raws) → e ≢ NoMemory
-    → judged (Ok g) (tested g [] raws) ≡ Err e
-ends_walk g raws Json h other = absurd h
-ends_walk g raws (Shape place) h other =
-    let same : first_shape 1 (tested g [] raws) ≡ Some place = first_shape-tested g [] raws 1 ∙ h in
+pub ends_walk : (format : Format) (lists : OpValues) (top : Top) (raws : List (Found Op)) (e : ScenarioErr) → IsShapeAt e (first_shape 1 raws) → e ≢ NoMemory
+    → judged format lists (Ok top) (tested top.settings [] raws) ≡ Err e
+ends_walk format lists top raws Json h other = absurd h
+ends_walk format lists top raws (Shape place) h other =
+    let same : first_shape 1 (tested top.settings [] raws) ≡ Some place = first_shape-tested top.settings [] raws 1 ∙ h in
     rw same refl
-ends_walk g raws (Range place) h other = absurd h
-ends_walk g raws (Limit place) h other = absurd h
-ends_walk g raws NoMemory h other = absurd (other refl)
+ends_walk format lists top raws (Range place) h other = absurd h
+ends_walk format lists top raws (Limit place) h other = absurd h
+ends_walk format lists top raws NoMemory h other = absurd (other refl)
 
 -- a range fault of an op
-pub judged_range : (g : Settings) (raws : List (Found Op)) (place : ℕ) → first_shape 1 raws ≡ None → Some place ≡ first_range 1 (tested g [] raws)
-    → judged (Ok g) (tested g [] raws) ≡ Err (Range place)
-judged_range g raws place shape range =
-    let same : first_shape 1 (tested g [] raws) ≡ None = first_shape-tested g [] raws 1 ∙ shape in
-    let found : first_range 1 (tested g [] raws) ≡ Some place = sym range in
+pub judged_range : (format : Format) (lists : OpValues) (top : Top) (raws : List (Found Op)) (place : ℕ) → first_shape 1 raws ≡ None
+    → Some place ≡ first_range 1 (tested top.settings [] raws) → judged format lists (Ok top) (tested top.settings [] raws) ≡ Err (Range place)
+judged_range format lists top raws place shape range =
+    let same : first_shape 1 (tested top.settings [] raws) ≡ None = first_shape-tested top.settings [] raws 1 ∙ shape in
+    let found : first_range 1 (tested top.settings [] raws) ≡ Some place = sym range in
     rw (same, found) refl
 
-over_many : (n : ℕ) → 100000 < n → cond {A = Option ℕ} (ltb 100000 n) (Some 0) None ≡ Some 0
-over_many n h = grind (arith, nat_tests)
+-- as many ops as the walk kept, where there is no range fault
+length_kept : (top : Top) (ops : List Op) (range : Option ℕ) (raws : List (Found Op)) → IsOver ops range raws → first_range 1 (tested top.settings [] raws) ≡ None
+    → length (tested top.settings [] raws) ≡ length ops
+length_kept top ops range raws walk none =
+    length-tested top.settings [] raws ∙ ap length (whole_walk top.settings ops range raws walk none) ∙ length-map ops Ok
 
-over_few : (n : ℕ) → n ≤ 100000 → cond {A = Option ℕ} (ltb 100000 n) (Some 0) None ≡ None
-over_few n h = grind (arith, nat_tests)
+over_at : (top : Top) (lists : OpValues) (ops : List Op) (founds : List (Found Op)) → length founds ≡ length ops
+    → over top lists.race founds ≡ cond (is_over (length ops) (list_count lists.race) top.turns) (Some 0) None
+over_at top lists ops founds n = ap (λ k. cond (is_over k (list_count lists.race) top.turns) (Some 0) None) n
 
-length-raws : (format : Format) (items : List Value) → length (raws_of format (map view items)) ≡ length items
-length-raws format items = length-map (map view items) (op_of format) ∙ length-map items view
-
--- too many ops
-pub judged_limit : (g : Settings) (format : Format) (items : List Value) → first_shape 1 (raws_of format (map view items)) ≡ None
-    → first_range 1 (tested g [] (raws_of format (map view items))) ≡ None → 100000 < length items
-    → judged (Ok g) (tested g [] (raws_of format (map view items))) ≡ Err (Limit 0)
-judged_limit g format items shape range many =
-    let raws = raws_of format (map view items) in
-    let same : first_shape 1 (tested g [] raws) ≡ None = first_shape-tested g [] raws 1 ∙ shape in
-    let n : length (tested g [] raws) ≡ length items = length-tested g [] raws ∙ length-raws format items in
-    let limit : over (tested g [] raws) ≡ Some 0 = over_many (length (tested g [] raws)) (omega arith) in
-    rw (same, range, limit) refl
+-- too much of something
+pub judged_limit : (format : Format) (lists : OpValues) (top : Top) (ops : List Op) (range : Option ℕ) (raws : List (Found Op)) → IsOver ops range raws
+    → first_range 1 (tested top.settings [] raws) ≡ None → is_over (length ops) (list_count lists.race) top.turns ≡ true
+    → judged format lists (Ok top) (tested top.settings [] raws) ≡ Err (Limit 0)
+judged_limit format lists top ops range raws walk none many =
+    let same : first_shape 1 (tested top.settings [] raws) ≡ None = first_shape-tested top.settings [] raws 1 ∙ walk.shape in
+    let limit : over top lists.race (tested top.settings [] raws) ≡ Some 0 =
+    over_at top lists ops (tested top.settings [] raws) (length_kept top ops range raws walk none) ∙ ap (λ b. cond b (Some 0) None) many in
+    rw (same, none, limit) refl
 
 -- a scenario
-pub judged_ok : (g : Settings) (format : Format) (items : List Value) (ops : List Op) (range : Option ℕ) → IsOver ops range (raws_of format (map view items))
-    → first_range 1 (tested g [] (raws_of format (map view items))) ≡ None → length items ≤ 100000
-    → judged (Ok g) (tested g [] (raws_of format (map view items))) ≡ Ok (record { settings = g; ops = ops })
-judged_ok g format items ops met walk range few =
-    let raws = raws_of format (map view items) in
-    let same : first_shape 1 (tested g [] raws) ≡ None = first_shape-tested g [] raws 1 ∙ walk.shape in
-    let n : length (tested g [] raws) ≡ length items = length-tested g [] raws ∙ length-raws format items in
-    let limit : over (tested g [] raws) ≡ None = over_few (length (tested g [] raws)) (omega arith) in
-    let kept : ops_of (tested g [] raws) ≡ ops = ops_of_all g ops met raws walk range in
-    rw (same, range, limit, kept) refl
+pub judged_ok : (format : Format) (lists : OpValues) (top : Top) (ops : List Op) (range : Option ℕ) (raws : List (Found Op)) (plan : Plan) → IsOver ops range raws
+    → first_range 1 (tested top.settings [] raws) ≡ None → is_over (length ops) (list_count lists.race) top.turns ≡ false → plan ≡ planned format lists top
+    → judged format lists (Ok top) (tested top.settings [] raws) ≡ Ok plan
+judged_ok format lists top ops range raws plan walk none few made =
+    let same : first_shape 1 (tested top.settings [] raws) ≡ None = first_shape-tested top.settings [] raws 1 ∙ walk.shape in
+    let limit : over top lists.race (tested top.settings [] raws) ≡ None =
+    over_at top lists ops (tested top.settings [] raws) (length_kept top ops range raws walk none) ∙ ap (λ b. cond b (Some 0) None) few in
+    rw (same, none, limit) (ap Ok (sym made))

@@ -1,103 +1,359 @@
 -- A value and its migrated value are the same scenario.
 
-use Rattle.std.proofs.Common.{◌≡◌, ◌+◌, ℕ, List, [], ◌∷◌, map, Bool, true, false, ◌&&◌, Some, None, Ok, Err, Ordering, Less, Equal, Greater, nat_cmp, codes, bytes_eq, sym, subst, ap, ◌∙◌, refl, true≢false}
+use Rattle.std.proofs.Common.{◌≡◌, ◌+◌, ℕ, List, [], ◌∷◌, map, Bool, true, false, ◌&&◌, Option, Some, None, option_map, Ok, Err, Ordering, Less, Equal, Greater, nat_cmp, codes, bytes_eq, cond, sym, subst, ap, ◌∙◌, refl, true≢false}
+use Rattle.std.proofs.lemmas.List.{length-map}
+use Rattle.std.proofs.lemmas.Map.Text.{is_eq-slice_cmp}
 use Rattle.std.proofs.lemmas.Slice.Eq.{bytes_eq-Decides}
 use Rattle.std.specs.Cmp.Lexicographic.{slice_cmp}
-use Rattle.std.specs.Ordering.{match_ordering}
+use Rattle.std.specs.List.{list_all}
+use Rattle.std.specs.Ordering.{match_ordering, is_eq}
 use Rattle.serde_json.specs.Data.{Data, null, boolean, number, string, array, object, unsigned, Members, no_members, member, put}
-use Rattle.serde_json.specs.Find.{get_member}
-use Rattle.serde_json.specs.View.{items_of}
+use Rattle.serde_json.specs.Find.{get, get_member}
 use Rattle.serde_json.proofs.Views.{get_member-put, get_member-put_other}
-use Rattle.ert_defs.specs.declared.settings.Settings.{Settings}
+use Rattle.ert_ops.specs.Races.{Race}
 use Rattle.ert_ops.specs.declared.op.Op.{Op}
-use Rattle.ert_scenario.specs.Fields.{is_field, are_fields, only_fields, field, times, modes, clock_of, sizes_of, one_or_two, settings_of, format_of, op_items}
-use Rattle.ert_scenario.specs.Kinds.{Found, of_kind, in_range, integer, listed}
-use Rattle.ert_scenario.specs.Labels.{label_of, is_new, with_label, tested}
-use Rattle.ert_scenario.specs.Migration.{IsOfFormat, migrated_op, with_field, migrated_with, migrated}
-use Rattle.ert_scenario.specs.Ranges.{is_op}
-use Rattle.ert_scenario.specs.Scenarios.{Plan, IsValue, IsScenario, judged_all, op_founds, verdict_of}
+use Rattle.ert_scenario.specs.Fields.{is_among, race_fields, is_field, are_named, only_named, field, times, modes, clock_of, sizes_of, one_or_two, settings_of, race_turns, top_of, format_of}
+use Rattle.ert_scenario.specs.Kinds.{Found, found_map, ◌>>=◌, both, of_kind, in_range, integer, listed, list_of, is_array, arrays}
+use Rattle.ert_scenario.specs.Lists.{RaceValues, OpValues, race_lists, lists_in, lists_of, list_count}
+use Rattle.ert_scenario.specs.Migration.{IsOfFormat, migrated_op, each, migrated_list, with_field, changed_to, changed, migrated_race, migrated}
+use Rattle.ert_scenario.specs.Scenarios.{Plan, IsValue, IsScenario, with_callers, planned_race, planned, judged, judged_all, verdict_of}
+use Rattle.ert_scenario.specs.Labels.{tested}
 use Rattle.ert_scenario.specs.Walked.{without_fault}
-use Rattle.ert_scenario.specs.Walks.{raws_of, first_range, ops_of}
+use Rattle.ert_scenario.specs.Walks.{raws_of, all_raws, ops_of}
+use Rattle.ert_scenario.specs.declared.doer.Doer.TheVariants.{Everyone}
+use Rattle.ert_scenario.specs.declared.fault.Fault.TheVariants.{Shape}
+use Rattle.ert_scenario.specs.declared.fields.Top.{Top}
+use Rattle.ert_scenario.specs.declared.format.Format.{Format}
 use Rattle.ert_scenario.specs.declared.format.Format.TheVariants.{One, Two}
+use Rattle.ert_scenario.proofs.Founds.{both_seen}
 use Rattle.ert_scenario.proofs.Least.{verdict_at}
 use Rattle.ert_scenario.proofs.Listed.{list_of_items}
-use Rattle.ert_scenario.proofs.Migrated.{ops_kept}
-use Rattle.ert_scenario.proofs.Valid.{tested_plan}
+use Rattle.ert_scenario.proofs.Migrated.{moved_race, moved_lists, all_kept}
+use Rattle.ert_scenario.proofs.Valid.{whole, tested_plan}
 
 -- ---- the members of an object
 
 apart : (a b : List ℕ) → bytes_eq a b ≡ false → a ≡ b → ⊥
 apart a b h e = true≢false (sym ((bytes_eq-Decides a b).1 e) ∙ h)
 
-fields_put_at : (o : Ordering) (k l : List ℕ) (d e : Data) (ms : Members) → slice_cmp nat_cmp k l ≡ o → is_field k ≡ true → are_fields (put k d ms) ≡ are_fields ms
-    → are_fields (match_ordering o (member k d (member l e ms)) (member l d ms) (member l e (put k d ms))) ≡ are_fields (member l e ms)
-unfolding are_fields
-fields_put_at Less k l d e ms is named later = rw named refl
-fields_put_at Equal k l d e ms is named later = refl
-fields_put_at Greater k l d e ms is named later = rw later refl
+named_twice : (a b : Bool) → (a && (a && b)) ≡ (a && b)
+named_twice true b = refl
+named_twice false b = refl
 
--- a member that is a field changes nothing of that all are
-fields_put : (k : List ℕ) (d : Data) (ms : Members) → is_field k ≡ true → are_fields (put k d ms) ≡ are_fields ms
-unfolding are_fields
-fields_put k d no_members named = rw named refl
-fields_put k d (member l e ms) named = fields_put_at _ k l d e ms refl named (fields_put k d ms named)
+named_other : (a b c : Bool) → (a && c) ≡ c → (a && (b && c)) ≡ (b && c)
+named_other true b c h = refl
+named_other false true c h = h
+named_other false false c h = refl
 
--- ---- an object, migrated
+has_named_at : (o : Ordering) (is : List ℕ → Bool) (k l : List ℕ) (e v : Data) (ms : Members) → slice_cmp nat_cmp k l ≡ o
+    → (get_member k ms ≡ Some v → (is k && are_named is ms) ≡ are_named is ms) → match_ordering o (get_member k ms) (Some e) (get_member k ms) ≡ Some v
+    → (is k && (is l && are_named is ms)) ≡ (is l && are_named is ms)
+has_named_at Less is k l e v ms h later found = named_other (is k) (is l) (are_named is ms) (later found)
+has_named_at Equal is k l e v ms h later found =
+    let same : k ≡ l = (bytes_eq-Decides k l).0 (sym (is_eq-slice_cmp k l) ∙ ap is_eq h) in
+    ap (λ (n : List ℕ). is n && (is l && are_named is ms)) same ∙ named_twice (is l) (are_named is ms)
+has_named_at Greater is k l e v ms h later found = named_other (is k) (is l) (are_named is ms) (later found)
+
+-- the name of a member is one of those of all
+has_named : (is : List ℕ → Bool) (k : List ℕ) (v : Data) (ms : Members) → get_member k ms ≡ Some v → (is k && are_named is ms) ≡ are_named is ms
+unfolding are_named
+has_named is k v no_members found = absurd (cc)
+has_named is k v (member l e ms) found = has_named_at (slice_cmp nat_cmp k l) is k l e v ms refl (has_named is k v ms) found
+
+put_named_at : (o : Ordering) (is : List ℕ → Bool) (k l : List ℕ) (d e : Data) (ms : Members) → slice_cmp nat_cmp k l ≡ o
+    → (are_named is (put k d ms) ≡ (is k && are_named is ms)) → are_named is (match_ordering o (member k d (member l e ms)) (member l d ms) (member l e (put k d ms)))
+    ≡ (is k && are_named is (member l e ms))
+unfolding are_named
+put_named_at Less is k l d e ms h later = refl
+put_named_at Equal is k l d e ms h later =
+    let same : k ≡ l = (bytes_eq-Decides k l).0 (sym (is_eq-slice_cmp k l) ∙ ap is_eq h) in
+    sym (ap (λ (n : List ℕ). is n && (is l && are_named is ms)) same ∙ named_twice (is l) (are_named is ms))
+put_named_at Greater is k l d e ms h later = ap (λ rest. is l && rest) later ∙ swapped (is l) (is k) (are_named is ms)
+  where
+    swapped : (a b c : Bool) → (a && (b && c)) ≡ (b && (a && c))
+    swapped true b c = refl
+    swapped false true c = refl
+    swapped false false c = refl
+
+-- the names of the members with one put
+put_named : (is : List ℕ → Bool) (k : List ℕ) (d : Data) (ms : Members) → are_named is (put k d ms) ≡ (is k && are_named is ms)
+unfolding are_named
+put_named is k d no_members = refl
+put_named is k d (member l e ms) = put_named_at (slice_cmp nat_cmp k l) is k l d e ms refl (put_named is k d ms)
+
+-- ---- a value with a field changed
+
+other_at : (k name : List ℕ) (change : Data → Data) (o : Option Data) (d : Data) → bytes_eq k name ≡ false → get k (changed_to name change o d) ≡ get k d
+unfolding with_field
+other_at k name change None d h = refl
+other_at k name change (Some v) null h = refl
+other_at k name change (Some v) (boolean b) h = refl
+other_at k name change (Some v) (number n) h = refl
+other_at k name change (Some v) (string s) h = refl
+other_at k name change (Some v) (array ds) h = refl
+other_at k name change (Some v) (object ms) h = get_member-put_other k name (change v) ms (apart k name h)
+
+other_field : (k name : List ℕ) (change : Data → Data) (d : Data) → bytes_eq k name ≡ false → get k (changed name change d) ≡ get k d
+unfolding changed
+other_field k name change d h = other_at k name change (get name d) d h
+
+same_at : (name : List ℕ) (change : Data → Data) (o : Option Data) (d : Data) → get name d ≡ o → get name (changed_to name change o d) ≡ option_map change o
+unfolding with_field
+same_at name change None d h = h
+same_at name change (Some v) null h = absurd (cc)
+same_at name change (Some v) (boolean b) h = absurd (cc)
+same_at name change (Some v) (number n) h = absurd (cc)
+same_at name change (Some v) (string s) h = absurd (cc)
+same_at name change (Some v) (array ds) h = absurd (cc)
+same_at name change (Some v) (object ms) h = get_member-put name (change v) ms
+
+this_field : (name : List ℕ) (change : Data → Data) (d : Data) → get name (changed name change d) ≡ option_map change (get name d)
+unfolding changed
+this_field name change d = same_at name change (get name d) d refl
+
+named_at : (is : List ℕ → Bool) (name : List ℕ) (change : Data → Data) (o : Option Data) (d : Data) → get name d ≡ o
+    → only_named is (changed_to name change o d) ≡ only_named is d
+unfolding with_field only_named of_kind
+named_at is name change None d h = refl
+named_at is name change (Some v) null h = refl
+named_at is name change (Some v) (boolean b) h = refl
+named_at is name change (Some v) (number n) h = refl
+named_at is name change (Some v) (string s) h = refl
+named_at is name change (Some v) (array ds) h = refl
+named_at is name change (Some v) (object ms) h = let same : are_named is (put name (change v) ms) ≡ are_named is ms = put_named is name (change v) ms ∙ has_named is name v ms h in rw same refl
+
+same_names : (is : List ℕ → Bool) (name : List ℕ) (change : Data → Data) (d : Data) → only_named is (changed name change d) ≡ only_named is d
+unfolding changed
+same_names is name change d = named_at is name change (get name d) d refl
+
+-- ---- a list changed
+
+each_listed : (change : Data → Data) (o : Option Data) → listed (option_map (each change) o) ≡ found_map (map change) (listed o)
+unfolding listed of_kind each
+each_listed change None = refl
+each_listed change (Some null) = refl
+each_listed change (Some (boolean b)) = refl
+each_listed change (Some (number n)) = refl
+each_listed change (Some (string s)) = refl
+each_listed change (Some (object ms)) = refl
+each_listed change (Some (array ds)) = ap Ok (list_of_items (map change (list_of ds)))
+
+array_each : (change : Data → Data) (d : Data) → is_array (each change d) ≡ is_array d
+unfolding each
+array_each change null = refl
+array_each change (boolean b) = refl
+array_each change (number n) = refl
+array_each change (string s) = refl
+array_each change (array ds) = refl
+array_each change (object ms) = refl
+
+all_arrays_each : (ds : List Data) → list_all is_array (map migrated_list ds) ≡ list_all is_array ds
+all_arrays_each [] = refl
+all_arrays_each (d ∷ ds) = ap (λ b. b && list_all is_array (map migrated_list ds)) (array_each migrated_op d) ∙ ap (λ rest. is_array d && rest) (all_arrays_each ds)
+
+arrays_from : (found : Found (List Data)) → (found_map (map migrated_list) found >>= (λ lists. cond (list_all is_array lists) (Ok lists) (Err Shape)))
+    ≡ found_map (map migrated_list) (found >>= (λ lists. cond (list_all is_array lists) (Ok lists) (Err Shape)))
+arrays_from (Ok ds) = ap (λ b. cond b (Ok (map migrated_list ds)) (Err Shape)) (all_arrays_each ds) ∙ moved_if (list_all is_array ds) ds
+  where
+    moved_if : (is : Bool) (ds : List Data) → cond is (Ok (map migrated_list ds)) (Err Shape) ≡ found_map (map migrated_list) (cond is (Ok ds) (Err Shape))
+    moved_if true ds = refl
+    moved_if false ds = refl
+arrays_from (Err fault) = refl
+
+each_arrays : (o : Option Data) → arrays (option_map (each migrated_list) o) ≡ found_map (map migrated_list) (arrays o)
+unfolding arrays
+each_arrays o =
+    ap (λ (found : Found (List Data)). found >>= (λ lists. cond (list_all is_array lists) (Ok lists) (Err Shape))) (each_listed migrated_list o) ∙ arrays_from (listed o)
+
+-- ---- a race
+
+abbrev TURNS : List ℕ
+TURNS = codes "turns"
+
+abbrev KEEPER : List ℕ
+KEEPER = codes "keeper"
+
+abbrev CALLERS : List ℕ
+CALLERS = codes "callers"
+
+turns_moved : (race : Data) → get TURNS (migrated_race race) ≡ get TURNS race
+turns_moved race =
+    other_field TURNS CALLERS (each migrated_list) (changed KEEPER migrated_list race) refl ∙ other_field TURNS KEEPER migrated_list race refl
+
+keeper_moved : (race : Data) → get KEEPER (migrated_race race) ≡ option_map migrated_list (get KEEPER race)
+keeper_moved race =
+    other_field KEEPER CALLERS (each migrated_list) (changed KEEPER migrated_list race) refl ∙ this_field KEEPER migrated_list race
+
+callers_moved : (race : Data) → get CALLERS (migrated_race race) ≡ option_map (each migrated_list) (get CALLERS race)
+callers_moved race =
+    this_field CALLERS (each migrated_list) (changed KEEPER migrated_list race)
+    ∙ ap (option_map (each migrated_list)) (other_field CALLERS KEEPER migrated_list race refl)
+
+names_moved : (race : Data) → only_named (is_among race_fields) (migrated_race race) ≡ only_named (is_among race_fields) race
+names_moved race =
+    same_names (is_among race_fields) CALLERS (each migrated_list) (changed KEEPER migrated_list race)
+    ∙ same_names (is_among race_fields) KEEPER migrated_list race
+
+-- two lists, made those of a race
+abbrev race_with : List Data × List Data → RaceValues
+race_with p = record { keeper = p.0; callers = p.1 }
+
+abbrev both_moved : List Data × List Data → List Data × List Data
+both_moved p = (map migrated_op p.0, map migrated_list p.1)
+
+then_race : (found : Found (List Data × List Data)) → (found_map both_moved found >>= (λ p. Ok (race_with p))) ≡ found_map moved_race (found >>= (λ p. Ok (race_with p)))
+then_race (Ok p) = refl
+then_race (Err fault) = refl
+
+lists_in_moved : (race : Data) → lists_in (migrated_race race) ≡ found_map moved_race (lists_in race)
+lists_in_moved race =
+    let keeper : listed (get KEEPER (migrated_race race)) ≡ found_map (map migrated_op) (listed (get KEEPER race)) = ap listed (keeper_moved race) ∙ each_listed migrated_op (get KEEPER race) in
+    let callers : arrays (get CALLERS (migrated_race race)) ≡ found_map (map migrated_list) (arrays (get CALLERS race)) = ap arrays (callers_moved race) ∙ each_arrays (get CALLERS race) in
+    ap (λ (found : Found (List Data)). both found (arrays (get CALLERS (migrated_race race))) >>= (λ p. Ok (race_with p))) keeper
+    ∙ ap (λ (found : Found (List Data)). both (found_map (map migrated_op) (listed (get KEEPER race))) found >>= (λ p. Ok (race_with p))) callers
+    ∙ ap (λ (found : Found (List Data × List Data)). found >>= (λ p. Ok (race_with p)))
+    (sym (both_seen (map migrated_op) (map migrated_list) (listed (get KEEPER race)) (arrays (get CALLERS race))))
+    ∙ then_race (both (listed (get KEEPER race)) (arrays (get CALLERS race)))
+
+race_lists_moved : (o : Option Data) → race_lists (option_map migrated_race o) ≡ found_map moved_race (race_lists o)
+unfolding race_lists of_kind
+race_lists_moved None = refl
+race_lists_moved (Some race) = lists_in_moved race
+
+race_turns_moved : (o : Option Data) → race_turns (option_map migrated_race o) ≡ race_turns o
+unfolding race_turns of_kind
+race_turns_moved None = refl
+race_turns_moved (Some race) = rw (names_moved race, turns_moved race) refl
+
+-- ---- a value
 
 abbrev OPS : List ℕ
 OPS = codes "ops"
 
+abbrev RACE : List ℕ
+RACE = codes "race"
+
 abbrev FORMAT : List ℕ
 FORMAT = codes "format"
 
--- the members, with these ops and format 2
-abbrev moved : Data → Members → Members
-moved ops ms = put FORMAT (number (unsigned 2)) (put OPS ops ms)
+-- with its lists migrated
+abbrev with_lists : Data → Data
+with_lists d = changed RACE migrated_race (changed OPS migrated_list d)
 
-other_get : (ops : Data) (ms : Members) (name : List ℕ) → bytes_eq name FORMAT ≡ false → bytes_eq name OPS ≡ false → get_member name (moved ops ms) ≡ get_member name ms
-other_get ops ms name e f =
-    get_member-put_other name FORMAT (number (unsigned 2)) (put OPS ops ms) (apart name FORMAT e) ∙ get_member-put_other name OPS ops ms (apart name OPS f)
+object_at : (name : List ℕ) (change : Data → Data) (o : Option Data) (ms : Members) → (new : Members) × (changed_to name change o (object ms) ≡ object new)
+unfolding with_field
+object_at name change None ms = (ms, refl)
+object_at name change (Some v) ms = (put name (change v) ms, refl)
 
-ops_get : (ops : Data) (ms : Members) → get_member OPS (moved ops ms) ≡ Some ops
-ops_get ops ms = get_member-put_other OPS FORMAT (number (unsigned 2)) (put OPS ops ms) (apart OPS FORMAT refl) ∙ get_member-put OPS ops ms
+-- an object stays one
+stays_object : (name : List ℕ) (change : Data → Data) (ms : Members) → (new : Members) × (changed name change (object ms) ≡ object new)
+unfolding changed
+stays_object name change ms = object_at name change (get name (object ms)) ms
 
-format_get : (ops : Data) (ms : Members) → get_member FORMAT (moved ops ms) ≡ Some (number (unsigned 2))
-format_get ops ms = get_member-put FORMAT (number (unsigned 2)) (put OPS ops ms)
+-- the migrated value of an object
+record IsMoved (d : Data) : Type 0 where
+  pub members : Members
+  pub lists : with_lists d ≡ object members
+  pub is : migrated d ≡ object (put FORMAT (number (unsigned 2)) members)
 
-fields_moved : (ops : Data) (ms : Members) → only_fields (object (moved ops ms)) ≡ only_fields (object ms)
-unfolding only_fields of_kind
-fields_moved ops ms =
-    let same : are_fields (moved ops ms) ≡ are_fields ms = fields_put FORMAT (number (unsigned 2)) (put OPS ops ms) refl ∙ fields_put OPS ops ms refl in
-    rw same refl
+moved_object : (ms : Members) → IsMoved (object ms)
+unfolding migrated with_field
+moved_object ms =
+    let first = stays_object OPS migrated_list ms in
+    let then = stays_object RACE migrated_race first.0 in
+    let both : with_lists (object ms) ≡ object then.0 = ap (changed RACE migrated_race) first.1 ∙ then.1 in
+    record { members = then.0; lists = both; is = ap (with_field FORMAT (number (unsigned 2))) both }
 
-clock_moved : (ops : Data) (ms : Members) → clock_of (object (moved ops ms)) ≡ clock_of (object ms)
+has_format : (d : Data) → IsOfFormat 1 d → IsMoved d
+unfolding integer of_kind
+has_format null h = absurd (cc)
+has_format (boolean b) h = absurd (cc)
+has_format (number n) h = absurd (cc)
+has_format (string s) h = absurd (cc)
+has_format (array ds) h = absurd (cc)
+has_format (object ms) h = moved_object ms
+
+no_ops : {X : Type 0} (rest : Found RaceValues) (make : List Data × RaceValues → Found X) (x : X) → (both (Err Shape) rest >>= make) ≡ Ok x → ⊥
+unfolding both
+no_ops rest make x h = cc
+
+-- a value that has lists is an object
+has_lists : (race : Bool) (d : Data) (lists : OpValues) → lists_of race d ≡ Ok lists → IsMoved d
+unfolding lists_of listed of_kind
+has_lists false null lists h = absurd (cc)
+has_lists false (boolean b) lists h = absurd (cc)
+has_lists false (number n) lists h = absurd (cc)
+has_lists false (string s) lists h = absurd (cc)
+has_lists false (array ds) lists h = absurd (cc)
+has_lists false (object ms) lists h = moved_object ms
+has_lists true null lists h = absurd (no_ops _ _ lists h)
+has_lists true (boolean b) lists h = absurd (no_ops _ _ lists h)
+has_lists true (number n) lists h = absurd (no_ops _ _ lists h)
+has_lists true (string s) lists h = absurd (no_ops _ _ lists h)
+has_lists true (array ds) lists h = absurd (no_ops _ _ lists h)
+has_lists true (object ms) lists h = moved_object ms
+
+kept_field : (d : Data) (k : List ℕ) → IsMoved d → bytes_eq k FORMAT ≡ false → get k (migrated d) ≡ get k (with_lists d)
+kept_field d k m h =
+    ap (get k) m.is ∙ get_member-put_other k FORMAT (number (unsigned 2)) m.members (apart k FORMAT h) ∙ ap (get k) (sym m.lists)
+
+other_kept : (d : Data) (k : List ℕ) → IsMoved d → bytes_eq k FORMAT ≡ false → bytes_eq k RACE ≡ false → bytes_eq k OPS ≡ false → get k (migrated d) ≡ get k d
+other_kept d k m e f g =
+    kept_field d k m e ∙ other_field k RACE migrated_race (changed OPS migrated_list d) f ∙ other_field k OPS migrated_list d g
+
+ops_moved : (d : Data) → IsMoved d → get OPS (migrated d) ≡ option_map migrated_list (get OPS d)
+ops_moved d m = kept_field d OPS m refl ∙ other_field OPS RACE migrated_race (changed OPS migrated_list d) refl ∙ this_field OPS migrated_list d
+
+race_moved : (d : Data) → IsMoved d → get RACE (migrated d) ≡ option_map migrated_race (get RACE d)
+race_moved d m =
+    kept_field d RACE m refl ∙ this_field RACE migrated_race (changed OPS migrated_list d)
+    ∙ ap (option_map migrated_race) (other_field RACE OPS migrated_list d refl)
+
+format_moved : (d : Data) → IsMoved d → get FORMAT (migrated d) ≡ Some (number (unsigned 2))
+format_moved d m = ap (get FORMAT) m.is ∙ get_member-put FORMAT (number (unsigned 2)) m.members
+
+fields_moved : (race : Bool) (d : Data) → IsMoved d → only_named (is_field race) (migrated d) ≡ only_named (is_field race) d
+unfolding only_named of_kind
+fields_moved race d m =
+    let same : are_named (is_field race) (put FORMAT (number (unsigned 2)) m.members) ≡ are_named (is_field race) m.members = put_named (is_field race) FORMAT (number (unsigned 2)) m.members in
+    ap (only_named (is_field race)) m.is ∙ rw same refl ∙ ap (only_named (is_field race)) (sym m.lists)
+    ∙ same_names (is_field race) RACE migrated_race (changed OPS migrated_list d) ∙ same_names (is_field race) OPS migrated_list d
+
+clock_moved : (d : Data) → IsMoved d → clock_of (migrated d) ≡ clock_of d
 unfolding clock_of times modes
-clock_moved ops ms =
-    rw (other_get ops ms (codes "start") refl refl, other_get ops ms (codes "first") refl refl, other_get ops ms (codes "mode") refl refl, other_get ops ms (codes "correction") refl refl)
+clock_moved d m =
+    rw (other_kept d (codes "start") m refl refl refl, other_kept d (codes "first") m refl refl refl, other_kept d (codes "mode") m refl refl refl, other_kept d (codes "correction") m refl refl refl)
     refl
 
-sizes_moved : (ops : Data) (ms : Members) → sizes_of (object (moved ops ms)) ≡ sizes_of (object ms)
+sizes_moved : (d : Data) → IsMoved d → sizes_of (migrated d) ≡ sizes_of d
 unfolding sizes_of
-sizes_moved ops ms =
-    rw (other_get ops ms (codes "schedulers") refl refl, other_get ops ms (codes "processes") refl refl, other_get ops ms (codes "slots") refl refl) refl
+sizes_moved d m =
+    rw (other_kept d (codes "schedulers") m refl refl refl, other_kept d (codes "processes") m refl refl refl, other_kept d (codes "slots") m refl refl refl) refl
 
 one_of_format : (d : Data) → IsOfFormat 1 d → field FORMAT one_or_two d ≡ Ok tt
 unfolding one_or_two in_range
 one_of_format d h = rw h refl
 
-two_moved : (ops : Data) (ms : Members) → field FORMAT one_or_two (object (moved ops ms)) ≡ Ok tt
+two_moved : (d : Data) → IsMoved d → field FORMAT one_or_two (migrated d) ≡ Ok tt
 unfolding one_or_two in_range integer of_kind
-two_moved ops ms = rw (format_get ops ms) refl
+two_moved d m = rw (format_moved d m) refl
 
-settings_moved : (ops : Data) (ms : Members) → IsOfFormat 1 (object ms) → settings_of (object (moved ops ms)) ≡ settings_of (object ms)
+settings_moved : (race : Bool) (d : Data) → IsOfFormat 1 d → IsMoved d → settings_of race (migrated d) ≡ settings_of race d
 unfolding settings_of
-settings_moved ops ms h =
-    let formats : field FORMAT one_or_two (object (moved ops ms)) ≡ field FORMAT one_or_two (object ms) = two_moved ops ms ∙ sym (one_of_format (object ms) h) in
-    rw (fields_moved ops ms, formats, clock_moved ops ms, sizes_moved ops ms) refl
+settings_moved race d h m =
+    let formats : field FORMAT one_or_two (migrated d) ≡ field FORMAT one_or_two d = two_moved d m ∙ sym (one_of_format d h) in
+    rw (fields_moved race d m, formats, clock_moved d m, sizes_moved d m) refl
 
-format_moved : (ops : Data) (ms : Members) → IsOfFormat 2 (object (moved ops ms))
+top_moved : (race : Bool) (d : Data) → IsOfFormat 1 d → IsMoved d → top_of race (migrated d) ≡ top_of race d
+unfolding top_of
+top_moved false d h m = rw (settings_moved false d h m) refl
+top_moved true d h m =
+    let turns : field RACE race_turns (migrated d) ≡ field RACE race_turns d = ap race_turns (race_moved d m) ∙ race_turns_moved (get RACE d) in
+    rw (settings_moved true d h m, turns) refl
+
+is_two : (d : Data) → IsMoved d → IsOfFormat 2 (migrated d)
 unfolding integer of_kind
-format_moved ops ms = rw (format_get ops ms) refl
+is_two d m = rw (format_moved d m) refl
 
 reads_two : (d : Data) → IsOfFormat 2 d → format_of d ≡ Two
 unfolding format_of
@@ -107,81 +363,81 @@ reads_one : (d : Data) → IsOfFormat 1 d → format_of d ≡ One
 unfolding format_of
 reads_one d h = rw h refl
 
-items_moved : (items : List Data) (ms : Members) → op_items (object (moved (array (items_of items)) ms)) ≡ Ok items
-unfolding listed of_kind
-items_moved items ms = rw (ops_get (array (items_of items)) ms, list_of_items items) refl
+abbrev alone : List Data → OpValues
+alone ops = record { ops = ops; race = None }
 
--- ---- the ops
+then_alone : (found : Found (List Data)) → (found_map (map migrated_op) found >>= (λ ops. Ok (alone ops))) ≡ found_map moved_lists (found >>= (λ ops. Ok (alone ops)))
+then_alone (Ok ops) = refl
+then_alone (Err fault) = refl
 
-whole_step : (fits : Bool) (op : Op) (raws rest : List (Found Op)) (k : ℕ) → first_range k (in_range fits op ∷ rest) ≡ None
-    → (first_range (k + 1) rest ≡ None → raws ≡ without_fault (ops_of rest)) → Ok op ∷ raws ≡ without_fault (ops_of (in_range fits op ∷ rest))
-unfolding in_range
-whole_step true op raws rest k h later = ap (λ (xs : List (Found Op)). Ok op ∷ xs) (later h)
-whole_step false op raws rest k h later = absurd (cc)
+abbrev together : List Data × RaceValues → OpValues
+together p = record { ops = p.0; race = Some p.1 }
 
--- where no test fails, the raw ops have no fault
-whole : (g : Settings) (labels : List ℕ) (raws : List (Found Op)) (k : ℕ) → first_range k (tested g labels raws) ≡ None → raws ≡ without_fault (ops_of (tested g labels raws))
-whole g labels [] k h = refl
-whole g labels (Ok op ∷ raws) k h =
-    whole_step (is_op g op && is_new labels (label_of op)) op raws (tested g (with_label labels (label_of op)) raws) k h (whole g (with_label labels (label_of op)) raws (k + 1))
-whole g labels (Err fault ∷ raws) k h = absurd (cc)
+then_together : (found : Found (List Data × RaceValues))
+    → (found_map (λ p. (map migrated_op p.0, moved_race p.1)) found >>= (λ p. Ok (together p))) ≡ found_map moved_lists (found >>= (λ p. Ok (together p)))
+then_together (Ok p) = refl
+then_together (Err fault) = refl
 
--- ---- the value
+lists_moved : (race : Bool) (d : Data) → IsMoved d → lists_of race (migrated d) ≡ found_map moved_lists (lists_of race d)
+unfolding lists_of
+lists_moved false d m =
+    ap (λ (found : Found (List Data)). found >>= (λ ops. Ok (alone ops))) (ap listed (ops_moved d m) ∙ each_listed migrated_op (get OPS d)) ∙ then_alone (listed (get OPS d))
+lists_moved true d m =
+    let ops : listed (get OPS (migrated d)) ≡ found_map (map migrated_op) (listed (get OPS d)) = ap listed (ops_moved d m) ∙ each_listed migrated_op (get OPS d) in
+    let race : race_lists (get RACE (migrated d)) ≡ found_map moved_race (race_lists (get RACE d)) = ap race_lists (race_moved d m) ∙ race_lists_moved (get RACE d) in
+    ap (λ (found : Found (List Data)). both found (race_lists (get RACE (migrated d))) >>= (λ p. Ok (together p))) ops
+    ∙ ap (λ (found : Found RaceValues). both (found_map (map migrated_op) (listed (get OPS d))) found >>= (λ p. Ok (together p))) race
+    ∙ ap (λ (found : Found (List Data × RaceValues)). found >>= (λ p. Ok (together p))) (sym (both_seen (map migrated_op) moved_race (listed (get OPS d)) (race_lists (get RACE d))))
+    ∙ then_together (both (listed (get OPS d)) (race_lists (get RACE d)))
 
--- a value whose ops are an array is an object, and its migrated value has these members
-record IsMoved (d : Data) (items : List Data) : Type 0 where
-  pub members : Members
-  pub was : d ≡ object members
-  pub is : migrated d ≡ object (moved (array (items_of (map migrated_op items))) members)
+-- ---- the verdict
 
-moved_object : (ms : Members) (items : List Data) → op_items (object ms) ≡ Ok items → migrated (object ms) ≡ object (moved (array (items_of (map migrated_op items))) ms)
-unfolding migrated with_field
-moved_object ms items h = ap (λ (found : Found (List Data)). migrated_with found (object ms)) h
+same_count : (race : Option RaceValues) → list_count (option_map moved_race race) ≡ list_count race
+same_count None = refl
+same_count (Some race) = length-map race.callers migrated_list
 
-is_moved : (d : Data) (items : List Data) → op_items d ≡ Ok items → IsMoved d items
-unfolding listed of_kind
-is_moved null items h = absurd (cc)
-is_moved (boolean b) items h = absurd (cc)
-is_moved (number n) items h = absurd (cc)
-is_moved (string s) items h = absurd (cc)
-is_moved (array ds) items h = absurd (cc)
-is_moved (object ms) items h = record { members = ms; was = refl; is = moved_object ms items h }
+plan_with : ℕ → Top → List Op → Option Race → Plan
+plan_with lists top ops race = record { settings = with_callers (1 + lists) top.settings; ops = ops; race = race }
 
-same_founds : (ops : Data) (ms : Members) (items moves : List Data) → IsOfFormat 1 (object ms) → op_items (object ms) ≡ Ok items → op_items (object (moved ops ms)) ≡ Ok moves
-    → raws_of Two moves ≡ raws_of One items → op_founds (object (moved ops ms)) ≡ op_founds (object ms)
-same_founds ops ms items moves h was is same =
-    let two : format_of (object (moved ops ms)) ≡ Two = reads_two (object (moved ops ms)) (format_moved ops ms) in
-    let one : format_of (object ms) ≡ One = reads_one (object ms) h in
-    rw (was, is, two, one, same, settings_moved ops ms h) refl
-
-same_verdict : (ops : Data) (ms : Members) → IsOfFormat 1 (object ms) → op_founds (object (moved ops ms)) ≡ op_founds (object ms)
-    → verdict_of (object (moved ops ms)) ≡ verdict_of (object ms)
-unfolding verdict_of
-same_verdict ops ms h same =
-    ap (λ (settings : Found Settings). judged_all settings (op_founds (object (moved ops ms)))) (settings_moved ops ms h)
-    ∙ ap (judged_all (settings_of (object ms))) same
+-- where no op of the value has a fault, the migrated lists have the verdict of the lists
+same_judged : (lists : OpValues) (top : Top) (ops : List Op) → all_raws One lists ≡ without_fault ops
+    → judged_all Two (Ok (moved_lists lists)) (Ok top) ≡ judged_all One (Ok lists) (Ok top)
+unfolding plan_with
+same_judged lists top ops h =
+    let k = all_kept top.turns lists ops h in
+    let founds = tested top.settings [] (all_raws One lists) in
+    let plans : planned Two (moved_lists lists) top ≡ planned One lists top =
+    ap (λ n. plan_with n top (ops_of (raws_of Two Everyone (map migrated_op lists.ops))) (option_map (planned_race Two top.turns) (option_map moved_race lists.race))) (same_count lists.race)
+    ∙ ap (λ (xs : List Op). plan_with (list_count lists.race) top xs (option_map (planned_race Two top.turns) (option_map moved_race lists.race))) k.ops
+    ∙ ap (plan_with (list_count lists.race) top (ops_of (raws_of One Everyone lists.ops))) k.race in
+    ap (λ (raws : List (Found Op)). judged Two (moved_lists lists) (Ok top) (tested top.settings [] raws)) k.raws ∙ rw (plans, same_count lists.race) refl
 
 -- a value of format 1 that is a scenario is the same one when it is migrated
-pub migrated_same : (d : Data) (plan : Plan) → IsOfFormat 1 d → verdict_of d ≡ Ok plan → verdict_of (migrated d) ≡ Ok plan
-migrated_same d plan one h =
-    let t = tested_plan d plan h in
-    let m = is_moved d t.items t.listed in
-    let moves = map migrated_op t.items in
-    let raws : raws_of One t.items ≡ without_fault plan.ops =
-    ap (λ f. raws_of f t.items) (sym (reads_one d one)) ∙ sym t.read ∙ whole plan.settings [] t.raws 1 t.range ∙ ap without_fault (sym t.ops) in
-    let kept : raws_of Two moves ≡ raws_of One t.items = ops_kept plan.ops t.items raws ∙ sym raws in
-    let of_one : IsOfFormat 1 (object m.members) = subst (IsOfFormat 1) m.was one in
-    let was : op_items (object m.members) ≡ Ok t.items = ap op_items (sym m.was) ∙ t.listed in
-    let same = same_founds (array (items_of moves)) m.members t.items moves of_one was (items_moved moves m.members) kept in
-    ap verdict_of m.is ∙ same_verdict (array (items_of moves)) m.members of_one same ∙ ap verdict_of (sym m.was) ∙ h
+pub migrated_same : (race : Bool) (d : Data) (plan : Plan) → IsOfFormat 1 d → verdict_of race d ≡ Ok plan → verdict_of race (migrated d) ≡ Ok plan
+unfolding verdict_of
+migrated_same race d plan one h =
+    let t = tested_plan race d plan h in
+    let m = has_format d one in
+    let reads : format_of d ≡ One = reads_one d one in
+    let two : format_of (migrated d) ≡ Two = reads_two (migrated d) (is_two d m) in
+    let ours : lists_of race (migrated d) ≡ Ok (moved_lists t.lists) = lists_moved race d m ∙ ap (found_map moved_lists) t.listed in
+    let top : top_of race (migrated d) ≡ Ok t.top = top_moved race d one m ∙ t.opens in
+    let clean : all_raws One t.lists ≡ without_fault _ = ap (λ f. all_raws f t.lists) (sym reads) ∙ whole t.top.settings [] (all_raws (format_of d) t.lists) 1 t.range in
+    let before : judged_all One (Ok t.lists) (Ok t.top) ≡ Ok plan = verdict_parts (format_of d) (lists_of race d) (top_of race d) t.lists t.top plan reads t.listed t.opens h in
+    rw (two, ours, top) (same_judged t.lists t.top _ clean ∙ before)
+  where
+    verdict_parts : (format : Format) (found : Found OpValues) (opened : Found Top) (lists : OpValues) (top : Top) (plan : Plan) → format ≡ One → found ≡ Ok lists → opened ≡ Ok top
+        → judged_all format found opened ≡ Ok plan → judged_all One (Ok lists) (Ok top) ≡ Ok plan
+    verdict_parts format found opened lists top plan e f g h =
+        let p = subst (λ o. judged_all o found opened ≡ Ok plan) e h in
+        let q = subst (λ (l : Found OpValues). judged_all One l opened ≡ Ok plan) f p in
+        subst (λ (t : Found Top). judged_all One (Ok lists) t ≡ Ok plan) g q
 
 -- and its format is 2
-pub migrated_two : (d : Data) (plan : Plan) → verdict_of d ≡ Ok plan → IsOfFormat 2 (migrated d)
-migrated_two d plan h =
-    let t = tested_plan d plan h in
-    let m = is_moved d t.items t.listed in
-    subst (IsOfFormat 2) (sym m.is) (format_moved (array (items_of (map migrated_op t.items))) m.members)
+pub migrated_two : (race : Bool) (d : Data) (plan : Plan) → verdict_of race d ≡ Ok plan → IsOfFormat 2 (migrated d)
+migrated_two race d plan h = let t = tested_plan race d plan h in is_two d (has_lists race d t.lists t.listed)
 
 -- so a text of it is the same scenario
-pub text_same : (bytes other : List ℕ) (d : Data) (plan : Plan) → IsValue bytes d → IsOfFormat 1 d → IsScenario bytes plan → IsValue other (migrated d) → IsScenario other plan
-text_same bytes other d plan value one is moved = (migrated d, moved, migrated_same d plan one (verdict_at bytes d (Ok plan) value is))
+pub text_same : (race : Bool) (bytes other : List ℕ) (d : Data) (plan : Plan) → IsValue bytes d → IsOfFormat 1 d → IsScenario race bytes plan → IsValue other (migrated d)
+    → IsScenario race other plan
+text_same race bytes other d plan value one is moved = (migrated d, moved, migrated_same race d plan one (verdict_at race bytes d (Ok plan) value is))

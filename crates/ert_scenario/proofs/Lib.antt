@@ -1,5 +1,7 @@
 pub mod Accepted
 pub mod Checked
+pub mod Cut
+pub mod Done
 pub mod Faults
 pub mod Founds
 pub mod Judged
@@ -10,6 +12,7 @@ pub mod Members
 pub mod Migrated
 pub mod Parts
 pub mod Refused
+pub mod Scanned
 pub mod Tested
 pub mod Valid
 pub mod Wholes

@@ -5,11 +5,13 @@ use Rattle.std.proofs.lemmas.Str.{IsUtf8-from_is_utf8, is_utf8-from_IsUtf8}
 use Rattle.std.specs.Str.{IsUtf8, is_utf8}
 use Rattle.serde_json.specs.Data.{Data}
 use Rattle.serde_json.specs.Read.{read}
-use Rattle.ert_defs.specs.declared.settings.Settings.{Settings}
-use Rattle.ert_scenario.specs.Fields.{settings_of}
+use Rattle.ert_scenario.specs.Fields.{top_of, format_of}
 use Rattle.ert_scenario.specs.Kinds.{Found}
-use Rattle.ert_scenario.specs.Scenarios.{Plan, Verdict, IsValue, IsScenario, HasRefusal, refused, over, judged, judged_all, op_founds, verdict_of}
-use Rattle.ert_scenario.specs.Walks.{first_shape, first_range}
+use Rattle.ert_scenario.specs.Lists.{OpValues, lists_of}
+use Rattle.ert_scenario.specs.Scenarios.{Plan, Verdict, IsValue, IsScenario, HasRefusal, refused, over, judged, judged_all, verdict_of}
+use Rattle.ert_scenario.specs.Walks.{all_raws, founds_of, first_shape, first_range}
+use Rattle.ert_scenario.specs.declared.fields.Top.{Top}
+use Rattle.ert_scenario.specs.declared.format.Format.{Format}
 use Rattle.ert_scenario.specs.declared.fault.Fault.TheVariants as faults
 use Rattle.ert_ops.specs.declared.op.Op.{Op}
 use Rattle.ert_scenario.specs.declared.scenario.Scenario.{Scenario}
@@ -33,52 +35,52 @@ NamesPlace-refused : (why : ℕ → ScenarioErr) (found : Option ℕ) (otherwise
 NamesPlace-refused why None otherwise names h = h
 NamesPlace-refused why (Some place) otherwise names h = names place
 
-NamesPlace-judged : (settings : Found Settings) (founds : List (Found Op)) → NamesPlace (judged settings founds)
-NamesPlace-judged (Err faults.Shape) founds = tt
-NamesPlace-judged (Err faults.Range) founds = NamesPlace-refused Shape (first_shape 1 founds) _ (λ _. tt) tt
-NamesPlace-judged (Ok settings) founds =
+NamesPlace-judged : (format : Format) (lists : OpValues) (found : Found Top) (founds : List (Found Op)) → NamesPlace (judged format lists found founds)
+NamesPlace-judged format lists (Err faults.Shape) founds = tt
+NamesPlace-judged format lists (Err faults.Range) founds = NamesPlace-refused Shape (first_shape 1 founds) _ (λ _. tt) tt
+NamesPlace-judged format lists (Ok top) founds =
     NamesPlace-refused Shape (first_shape 1 founds) _ (λ _. tt)
     (NamesPlace-refused Range (first_range 1 founds) _ (λ _. tt)
-    (NamesPlace-refused Limit (over founds) _ (λ _. tt) tt))
+    (NamesPlace-refused Limit (over top lists.race founds) _ (λ _. tt) tt))
 
-NamesPlace-judged_all : (settings : Found Settings) (founds : Found (List (Found Op))) → NamesPlace (judged_all settings founds)
-NamesPlace-judged_all settings (Ok founds) = NamesPlace-judged settings founds
-NamesPlace-judged_all settings (Err fault) = tt
+NamesPlace-judged_all : (format : Format) (lists : Found OpValues) (found : Found Top) → NamesPlace (judged_all format lists found)
+NamesPlace-judged_all format (Ok lists) found = NamesPlace-judged format lists found (founds_of found (all_raws format lists))
+NamesPlace-judged_all format (Err fault) found = tt
 
-names_place : (d : Data) (e : ScenarioErr) → verdict_of d ≡ Err e → HasPlace e
+names_place : (race : Bool) (d : Data) (e : ScenarioErr) → verdict_of race d ≡ Err e → HasPlace e
 unfolding verdict_of
-names_place d e is = let P : Verdict → Type 0 = NamesPlace in subst P is (NamesPlace-judged_all (settings_of d) (op_founds d))
+names_place race d e is = let P : Verdict → Type 0 = NamesPlace in subst P is (NamesPlace-judged_all (format_of d) (lists_of race d) (top_of race d))
 
-HasRefusal-value : (bytes : List ℕ) (d : Data) (e : ScenarioErr) → IsValue bytes d → HasPlace e → verdict_of d ≡ Err e → HasRefusal bytes e
-HasRefusal-value bytes d Json value named is = absurd named
-HasRefusal-value bytes d (Shape place) value named is = (d, value, is)
-HasRefusal-value bytes d (Range place) value named is = (d, value, is)
-HasRefusal-value bytes d (Limit place) value named is = (d, value, is)
-HasRefusal-value bytes d NoMemory value named is = absurd named
+HasRefusal-value : (race : Bool) (bytes : List ℕ) (d : Data) (e : ScenarioErr) → IsValue bytes d → HasPlace e → verdict_of race d ≡ Err e → HasRefusal race bytes e
+HasRefusal-value race bytes d Json value named is = absurd named
+HasRefusal-value race bytes d (Shape place) value named is = (d, value, is)
+HasRefusal-value race bytes d (Range place) value named is = (d, value, is)
+HasRefusal-value race bytes d (Limit place) value named is = (d, value, is)
+HasRefusal-value race bytes d NoMemory value named is = absurd named
 
 -- what refuses the value refuses the bytes
-pub refused_bytes : (bytes : List ℕ) (d : Data) (answer : Result Scenario ScenarioErr) → IsValue bytes d
-    → IfErr answer (λ e. e ≢ NoMemory → verdict_of d ≡ Err e) → IfErr answer (λ e. e ≢ NoMemory → HasRefusal bytes e)
-refused_bytes bytes d (Ok s) value h = tt
-refused_bytes bytes d (Err e) value h = λ other. HasRefusal-value bytes d e value (names_place d e (h other)) (h other)
+pub refused_bytes : (race : Bool) (bytes : List ℕ) (d : Data) (answer : Result Scenario ScenarioErr) → IsValue bytes d
+    → IfErr answer (λ e. e ≢ NoMemory → verdict_of race d ≡ Err e) → IfErr answer (λ e. e ≢ NoMemory → HasRefusal race bytes e)
+refused_bytes race bytes d (Ok s) value h = tt
+refused_bytes race bytes d (Err e) value h = λ other. HasRefusal-value race bytes d e value (names_place race d e (h other)) (h other)
 
 -- all bytes have a verdict
-record Decided (bytes : List ℕ) : Type 0 where
-  pub verdict : ((plan : Plan) × IsScenario bytes plan) ⊎ ((e : ScenarioErr) × HasRefusal bytes e)
+record Decided (race : Bool) (bytes : List ℕ) : Type 0 where
+  pub verdict : ((plan : Plan) × IsScenario race bytes plan) ⊎ ((e : ScenarioErr) × HasRefusal race bytes e)
 
-by_verdict : (bytes : List ℕ) (d : Data) (verdict : Verdict) → IsValue bytes d → verdict_of d ≡ verdict → Decided bytes
-by_verdict bytes d (Ok plan) value is = record { verdict = inl (plan, (d, value, is)) }
-by_verdict bytes d (Err e) value is = record { verdict = inr (e, HasRefusal-value bytes d e value (names_place d e is) is) }
+by_verdict : (race : Bool) (bytes : List ℕ) (d : Data) (verdict : Verdict) → IsValue bytes d → verdict_of race d ≡ verdict → Decided race bytes
+by_verdict race bytes d (Ok plan) value is = record { verdict = inl (plan, (d, value, is)) }
+by_verdict race bytes d (Err e) value is = record { verdict = inr (e, HasRefusal-value race bytes d e value (names_place race d e is) is) }
 
-by_value : (bytes : List ℕ) (found : Option Data) → IsUtf8 bytes → read bytes ≡ found → Decided bytes
-by_value bytes (Some d) text is = by_verdict bytes d (verdict_of d) (record { utf8 = text; reads = is }) refl
-by_value bytes None text is =
+by_value : (race : Bool) (bytes : List ℕ) (found : Option Data) → IsUtf8 bytes → read bytes ≡ found → Decided race bytes
+by_value race bytes (Some d) text is = by_verdict race bytes d (verdict_of race d) (record { utf8 = text; reads = is }) refl
+by_value race bytes None text is =
     record { verdict = inr (Json, λ d value. let other : Some d ≡ None = sym value.reads ∙ is in absurd (cc)) }
 
-by_text : (bytes : List ℕ) (is : Bool) → is_utf8 bytes ≡ is → Decided bytes
-by_text bytes true is = by_value bytes (read bytes) (IsUtf8-from_is_utf8 bytes is) refl
-by_text bytes false is =
+by_text : (race : Bool) (bytes : List ℕ) (is : Bool) → is_utf8 bytes ≡ is → Decided race bytes
+by_text race bytes true is = by_value race bytes (read bytes) (IsUtf8-from_is_utf8 bytes is) refl
+by_text race bytes false is =
     record { verdict = inr (Json, λ d value. let other : true ≡ false = sym (is_utf8-from_IsUtf8 bytes value.utf8) ∙ is in absurd (cc)) }
 
-pub decided : (bytes : List ℕ) → ((plan : Plan) × IsScenario bytes plan) ⊎ ((e : ScenarioErr) × HasRefusal bytes e)
-decided bytes = (by_text bytes (is_utf8 bytes) refl).verdict
+pub decided : (race : Bool) (bytes : List ℕ) → ((plan : Plan) × IsScenario race bytes plan) ⊎ ((e : ScenarioErr) × HasRefusal race bytes e)
+decided race bytes = (by_text race bytes (is_utf8 bytes) refl).verdict

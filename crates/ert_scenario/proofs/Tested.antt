@@ -159,7 +159,7 @@ cut_has_fault g labels (op ∷ ops) later k h =
     (cut_has_fault g (with_label labels (label_of op)) ops later (k + 1)) h
 
 -- where there is no range fault, the walk has met none
-whole_walk : (g : Settings) (ops : List Op) (range : Option ℕ) (all : List (Found Op)) → IsOver ops range all → first_range 1 (tested g [] all) ≡ None → all ≡ without_fault ops
+pub whole_walk : (g : Settings) (ops : List Op) (range : Option ℕ) (all : List (Found Op)) → IsOver ops range all → first_range 1 (tested g [] all) ≡ None → all ≡ without_fault ops
 whole_walk g ops None all over h = over.faultless refl
 whole_walk g ops (Some place) all over h =
     let cut = over.faulty place refl in

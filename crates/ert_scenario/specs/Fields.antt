@@ -1,4 +1,4 @@
--- The fields of a scenario, and the settings that they give.
+-- The fields of a scenario but for its lists of ops: the settings, and the turns of a race.
 
 use Rattle.std.specs.Prelude.{ℕ, ℤ, pos, List, [], ◌∷◌, codes, Bool, true, false, ◌&&◌, ◌||◌, Option, Ok, Err, if◌then◌else◌}
 use Rattle.std.specs.Ordering.{int_eq}
@@ -9,12 +9,13 @@ use Rattle.ert_defs.specs.declared.settings.Mode.{Mode}
 use Rattle.ert_defs.specs.declared.settings.Mode.TheVariants.{No, Single, Multi}
 use Rattle.ert_defs.specs.declared.settings.Reading.{Reading}
 use Rattle.ert_defs.specs.declared.settings.Settings.{Settings}
-use Rattle.ert_scenario.specs.Kinds.{Found, ◌>>=◌, both, of_kind, in_range, integer, word, boolean, text, listed, called, or_absent, reading}
+use Rattle.ert_scenario.specs.Kinds.{Found, ◌>>=◌, both, of_kind, in_range, integer, word, count_of, boolean, text, called, or_absent, reading}
 use Rattle.ert_scenario.specs.Ranges.{is_checked}
 use Rattle.ert_scenario.specs.declared.fault.Fault.TheVariants.{Shape}
 use Rattle.ert_scenario.specs.declared.fields.Sizes.{Sizes}
 use Rattle.ert_scenario.specs.declared.fields.ClockFields.{ClockFields}
 use Rattle.ert_scenario.specs.declared.fields.Head.{Head}
+use Rattle.ert_scenario.specs.declared.fields.Top.{Top}
 use Rattle.ert_scenario.specs.declared.format.Format.{Format}
 use Rattle.ert_scenario.specs.declared.format.Format.TheVariants.{One, Two}
 
@@ -31,18 +32,18 @@ abbrev pub is_among : List (List ℕ) → List ℕ → Bool
 is_among [] name = false
 is_among (one ∷ others) name = if bytes_eq name one then true else is_among others name
 
--- whether it is the name of a field
-abbrev pub is_field : List ℕ → Bool
-is_field name = is_among clock_fields name || is_among other_fields name
+-- whether it is the name of a field; `race` is one where a race is wanted
+abbrev pub is_field : Bool → List ℕ → Bool
+is_field race name = is_among clock_fields name || (is_among other_fields name || (race && bytes_eq name (codes "race")))
 
--- whether each member is a field
-unfoldable pub are_fields : Members → Bool
-are_fields no_members = true
-are_fields (member name d members) = is_field name && are_fields members
+-- whether each member has such a name
+unfoldable pub are_named : (List ℕ → Bool) → Members → Bool
+are_named is no_members = true
+are_named is (member name d members) = is name && are_named is members
 
--- an object that has no other members than fields
-unfoldable pub only_fields : Data → Found (Unit {0})
-only_fields d = of_kind (as_object d) >>= (λ members. if are_fields members then Ok tt else Err Shape)
+-- an object that has no members with other names
+unfoldable pub only_named : (List ℕ → Bool) → Data → Found (Unit {0})
+only_named is d = of_kind (as_object d) >>= (λ members. if are_named is members then Ok tt else Err Shape)
 
 -- the value of a field, as this kind
 abbrev pub field : {X : Type 0} → List ℕ → (Option Data → Found X) → Data → Found X
@@ -91,9 +92,9 @@ unfoldable pub one_or_two : Option Data → Found (Unit {0})
 one_or_two value = integer value >>= (λ format. in_range (int_eq format (pos 1) || int_eq format (pos 2)) tt)
 
 -- the fields that settings are made of, not yet tested for their ranges
-abbrev pub head_of : Data → Found Head
-head_of d =
-    both (both (only_fields d) (field (codes "format") one_or_two d)) (both (clock_of d) (sizes_of d))
+abbrev pub head_of : Bool → Data → Found Head
+head_of race d =
+    both (both (only_named (is_field race) d) (field (codes "format") one_or_two d)) (both (clock_of d) (sizes_of d))
     >>= (λ p. Ok (record { clock = p.1.0; sizes = p.1.1 }))
 
 -- the settings that the fields give, for one caller
@@ -109,9 +110,22 @@ settings_with head = record {
   first = head.clock.first;
 }
 
--- the settings
-unfoldable pub settings_of : Data → Found Settings
-settings_of d = head_of d >>= (λ head. in_range (is_checked (settings_with head)) (settings_with head))
+-- the settings, for one caller
+unfoldable pub settings_of : Bool → Data → Found Settings
+settings_of race d = head_of race d >>= (λ head. in_range (is_checked (settings_with head)) (settings_with head))
+
+-- the name of each field of a race
+abbrev pub race_fields : List (List ℕ)
+race_fields = codes "turns" ∷ codes "keeper" ∷ codes "callers" ∷ []
+
+-- how many turns each scheduler makes in a race, which has no other fields
+unfoldable pub race_turns : Option Data → Found ℕ
+race_turns value = of_kind value >>= (λ race. both (only_named (is_among race_fields) race) (field (codes "turns") count_of race) >>= (λ p. Ok p.1))
+
+-- what stands at place 0 beside the lists of ops, with the turns of a race where one is wanted
+unfoldable pub top_of : Bool → Data → Found Top
+top_of false d = settings_of false d >>= (λ settings. Ok (record { settings = settings; turns = 0 }))
+top_of true d = both (settings_of true d) (field (codes "race") race_turns d) >>= (λ p. Ok (record { settings = p.0; turns = p.1 }))
 
 -- the format that this integer names; other integers are read as 2
 abbrev pub format_by : Found ℤ → Format
@@ -121,7 +135,3 @@ format_by (Err fault) = Two
 -- the format that the ops are read by
 unfoldable pub format_of : Data → Format
 format_of d = format_by (field (codes "format") integer d)
-
--- the values of the ops
-abbrev pub op_items : Data → Found (List Data)
-op_items d = field (codes "ops") listed d

@@ -1,6 +1,7 @@
 -- What an argument or a field is read as, or the fault that it has.
 
-use Rattle.std.specs.Prelude.{ℕ, ℤ, pos, negsuc, nat_lt, List, [], ◌∷◌, Bool, true, false, Option, Some, None, Result, Ok, Err, option_map, option_and_then, if◌then◌else◌}
+use Rattle.std.specs.Prelude.{ℕ, ℤ, pos, negsuc, nat_lt, List, [], ◌∷◌, Bool, true, false, Option, Some, None, is_some, Result, Ok, Err, option_map, option_and_then, if◌then◌else◌}
+use Rattle.std.specs.List.{list_all}
 use Rattle.std.specs.Str.{bytes_eq}
 use Rattle.serde_json.specs.Data.{Data, Items, no_items, item}
 use Rattle.serde_json.specs.Find.{as_number, as_i64, as_u64, as_bool, as_str, as_array}
@@ -54,6 +55,15 @@ word_of (negsuc n) = Err Range
 unfoldable pub word : Option Data → Found ℕ
 word value = integer value >>= word_of
 
+-- an integer that isn't negative
+abbrev pub natural_of : ℤ → Found ℕ
+natural_of (pos n) = Ok n
+natural_of (negsuc n) = Err Range
+
+-- a number that the JSON crate gives as an integer of 64 bits; a negative one is a range fault
+unfoldable pub count_of : Option Data → Found ℕ
+count_of value = integer value >>= natural_of
+
 -- items as a list
 unfoldable pub list_of : Items → List Data
 list_of no_items = []
@@ -70,6 +80,23 @@ boolean value = of_kind (option_and_then as_bool value)
 -- the items of an array
 unfoldable pub listed : Option Data → Found (List Data)
 listed value = of_kind (option_map list_of (option_and_then as_array value))
+
+-- the list, where there is one
+abbrev pub or_empty : Found (List Data) → List Data
+or_empty (Ok ds) = ds
+or_empty (Err fault) = []
+
+-- the items of a value that is an array; others have none
+abbrev pub items_in : Data → List Data
+items_in d = or_empty (listed (Some d))
+
+-- whether it is an array
+abbrev pub is_array : Data → Bool
+is_array d = is_some (as_array d)
+
+-- the items of an array, each of which is an array
+unfoldable pub arrays : Option Data → Found (List Data)
+arrays value = listed value >>= (λ lists. if list_all is_array lists then Ok lists else Err Shape)
 
 -- the text of a string
 unfoldable pub text : Option Data → Found (List ℕ)

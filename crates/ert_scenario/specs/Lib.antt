@@ -1,6 +1,9 @@
+pub mod Cuts
+pub mod Doers
 pub mod Fields
 pub mod Kinds
 pub mod Labels
+pub mod Lists
 pub mod Migration
 pub mod Places
 pub mod Ranges

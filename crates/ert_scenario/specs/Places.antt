@@ -1,16 +1,17 @@
 -- The fault at each place of a value, read off by index: another reading of the verdict's places.
 
-use Rattle.std.specs.Prelude.{◌≡◌, ◌<◌, ℕ, zero, suc, List, [], ◌∷◌, length, Option, Some, None, Ok, Err}
+use Rattle.std.specs.Prelude.{◌≡◌, ◌<◌, ◌⊎◌, ℕ, zero, suc, Bool, List, [], ◌∷◌, length, Option, Some, None, Ok, Err}
 use Rattle.serde_json.specs.Data.{Data}
 use Rattle.ert_defs.specs.declared.settings.Settings.{Settings}
 use Rattle.ert_ops.specs.declared.op.Op.{Op}
-use Rattle.ert_scenario.specs.Fields.{settings_of, format_of, op_items}
-use Rattle.ert_scenario.specs.Kinds.{Found, ◌>>=◌, both}
+use Rattle.ert_scenario.specs.Fields.{top_of, format_of}
+use Rattle.ert_scenario.specs.Kinds.{Found, found_map, ◌>>=◌, both}
 use Rattle.ert_scenario.specs.Labels.{label_of}
-use Rattle.ert_scenario.specs.Scenarios.{op_founds}
-use Rattle.ert_scenario.specs.Walks.{raws_of}
+use Rattle.ert_scenario.specs.Lists.{OpValues, lists_of, list_count}
+use Rattle.ert_scenario.specs.Walks.{all_raws, founds_of}
 use Rattle.ert_scenario.specs.declared.fault.Fault.{Fault}
 use Rattle.ert_scenario.specs.declared.fault.Fault.TheVariants.{Shape, Range}
+use Rattle.ert_scenario.specs.declared.fields.Top.{Top}
 
 -- the fault, where there is one
 abbrev pub fault_of : {X : Type 0} → Found X → Option Fault
@@ -23,27 +24,42 @@ fault_in [] i = None
 fault_in (found ∷ rest) zero = fault_of found
 fault_in (found ∷ rest) (suc i) = fault_in rest i
 
--- what the ops are; no ops where they aren't an array
+-- what the ops of all lists are, one list after the other
+abbrev pub op_founds : Bool → Data → Found (List (Found Op))
+op_founds race d = lists_of race d >>= (λ lists. Ok (founds_of (top_of race d) (all_raws (format_of d) lists)))
+
+-- what the ops are; no ops where the lists aren't arrays
 abbrev pub founds_in : Found (List (Found Op)) → List (Found Op)
 founds_in (Ok founds) = founds
 founds_in (Err fault) = []
 
 -- the fault at a place: 0 is the object with its fields, and the ops have the places 1, 2 and so on
-abbrev pub fault_by : Found Settings → Found (List (Found Op)) → ℕ → Option Fault
-fault_by settings founds zero = fault_of (both settings founds)
-fault_by settings founds (suc i) = fault_in (founds_in founds) i
+abbrev pub fault_by : Found Top → Found (List (Found Op)) → ℕ → Option Fault
+fault_by top founds zero = fault_of (both top founds)
+fault_by top founds (suc i) = fault_in (founds_in founds) i
 
 -- the place has a shape fault
-abbrev pub HasShapeFault : Data → ℕ → Type 0
-HasShapeFault d place = fault_by (settings_of d) (op_founds d) place ≡ Some Shape
+abbrev pub HasShapeFault : Bool → Data → ℕ → Type 0
+HasShapeFault race d place = fault_by (top_of race d) (op_founds race d) place ≡ Some Shape
 
 -- the place has a range fault
-abbrev pub HasRangeFault : Data → ℕ → Type 0
-HasRangeFault d place = fault_by (settings_of d) (op_founds d) place ≡ Some Range
+abbrev pub HasRangeFault : Bool → Data → ℕ → Type 0
+HasRangeFault race d place = fault_by (top_of race d) (op_founds race d) place ≡ Some Range
 
--- how many ops the value has
-abbrev pub op_count : Data → ℕ
-op_count d = length (founds_in (op_founds d))
+-- how many callers' lists there are; none where the lists aren't arrays
+abbrev pub count_in : Found OpValues → ℕ
+count_in (Ok lists) = list_count lists.race
+count_in (Err fault) = 0
+
+-- how many turns there are; none where place 0 has a fault
+abbrev pub turns_in : Found Top → ℕ
+turns_in (Ok top) = top.turns
+turns_in (Err fault) = 0
+
+-- a value has more than 100,000 ops in all lists together, more than 16 callers' lists, or more than 10,000
+-- turns
+abbrev pub IsTooMuch : Bool → Data → Type 0
+IsTooMuch race d = (100000 < length (founds_in (op_founds race d))) ⊎ ((16 < count_in (lists_of race d)) ⊎ (10000 < turns_in (top_of race d)))
 
 -- the place has it, and no lesser place has
 pub record IsLeast (Has : ℕ → Type 0) (place : ℕ) : Type 0 where
@@ -60,10 +76,14 @@ raw_at [] i = None
 raw_at (raw ∷ rest) zero = Some raw
 raw_at (raw ∷ rest) (suc i) = raw_at rest i
 
--- a value gives these settings, and its ops are these before they are tested
-pub record IsRead (d : Data) (g : Settings) (raws : List (Found Op)) : Type 0 where
-  pub opens : settings_of d ≡ Ok g
-  pub ops : (op_items d >>= (λ items. Ok (raws_of (format_of d) items))) ≡ Ok raws
+-- the settings that stand at place 0, for one caller
+abbrev pub settings_in : Found Top → Found Settings
+settings_in top = found_map (λ t. t.settings) top
+
+-- a value gives these settings, and the ops of all its lists are these before they are tested
+pub record IsRead (race : Bool) (d : Data) (g : Settings) (raws : List (Found Op)) : Type 0 where
+  pub opens : settings_in (top_of race d) ≡ Ok g
+  pub ops : (lists_of race d >>= (λ lists. Ok (all_raws (format_of d) lists))) ≡ Ok raws
 
 -- the op at this index is a start with this label
 pub record IsStartAt (raws : List (Found Op)) (i label : ℕ) : Type 0 where

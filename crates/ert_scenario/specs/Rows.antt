@@ -11,6 +11,8 @@ use Rattle.ert_ops.specs.declared.op.Op.TheVariants.{Tick, Check, Finalize, Noti
 use Rattle.ert_scenario.specs.Kinds.{Found, ◌>>=◌, ◌▹◌, integer, word, natural, boolean, called, one_word, two_words, reading_from, listed, text, head, tail, end}
 use Rattle.ert_scenario.specs.Units.{time_unit}
 use Rattle.ert_scenario.specs.declared.fault.Fault.TheVariants.{Shape}
+use Rattle.ert_scenario.specs.declared.doer.Doer.{Doer}
+use Rattle.ert_scenario.specs.declared.doer.Doer.TheVariants.{Everyone, Keeper, Caller}
 use Rattle.ert_scenario.specs.declared.format.Format.{Format}
 use Rattle.ert_scenario.specs.declared.format.Format.TheVariants.{One, Two}
 use Rattle.ert_scenario.specs.declared.rows.timers.Origin.{Origin}
@@ -150,9 +152,15 @@ rows_of Two = rows_of_two
 
 -- ---- all ops
 
--- the groups whose ops may stand in the list `ops`
-abbrev pub op_groups : Format → List (List Row)
-op_groups format = keeper_rows ∷ shared_rows ∷ sched_rows ∷ clock_rows ∷ process_rows ∷ timer_rows ∷ rows_of format ∷ []
+-- the groups whose ops may stand in a caller's list
+abbrev pub caller_groups : Format → List (List Row)
+caller_groups format = shared_rows ∷ clock_rows ∷ process_rows ∷ timer_rows ∷ rows_of format ∷ []
+
+-- the groups whose ops may stand in a list
+abbrev pub groups_of : Doer → Format → List (List Row)
+groups_of Everyone format = keeper_rows ∷ sched_rows ∷ caller_groups format
+groups_of Keeper format = keeper_rows ∷ shared_rows ∷ []
+groups_of Caller format = caller_groups format
 
 -- what the row of this name reads, where there is one
 abbrev pub row_in : List ℕ → List Row → List Data → Option (Found Op)
@@ -170,5 +178,5 @@ named name [] args = Err Shape
 named name (rows ∷ groups) args = or_next (row_in name rows args) (named name groups args)
 
 -- the op that a value is, before the ranges of its numbers are tested
-unfoldable pub op_of : Format → Data → Found Op
-op_of format d = listed (Some d) >>= (λ items. text (head items) >>= (λ name. named name (op_groups format) (tail items)))
+unfoldable pub op_of : Format → Doer → Data → Found Op
+op_of format doer d = listed (Some d) >>= (λ items. text (head items) >>= (λ name. named name (groups_of doer format) (tail items)))

@@ -1,15 +1,20 @@
 -- Which bytes are a scenario, and which refusal other bytes have.
 
-use Rattle.std.specs.Prelude.{◌≡◌, ℕ, List, length, Option, Some, None, Result, Ok, Err, nat_lt, if◌then◌else◌}
+use Rattle.std.specs.Prelude.{◌≡◌, ◌+◌, ℕ, List, map, length, Bool, ◌||◌, Option, Some, None, option_map, Result, Ok, Err, nat_lt, if◌then◌else◌}
 use Rattle.std.specs.Str.{IsUtf8}
 use Rattle.serde_json.specs.Data.{Data}
 use Rattle.serde_json.specs.Read.{read}
 use Rattle.ert_defs.specs.declared.settings.Settings.{Settings}
+use Rattle.ert_ops.specs.Races.{Race, race_of}
 use Rattle.ert_ops.specs.declared.op.Op.{Op}
-use Rattle.ert_scenario.specs.Fields.{settings_of, format_of, op_items}
-use Rattle.ert_scenario.specs.Kinds.{Found, ◌>>=◌}
-use Rattle.ert_scenario.specs.Walks.{raws_of, founds_of, first_shape, first_range, ops_of}
+use Rattle.ert_scenario.specs.Fields.{top_of, format_of}
+use Rattle.ert_scenario.specs.Kinds.{Found, items_in}
+use Rattle.ert_scenario.specs.Lists.{RaceValues, OpValues, lists_of, list_count}
+use Rattle.ert_scenario.specs.Walks.{raws_of, all_raws, founds_of, first_shape, first_range, ops_of}
+use Rattle.ert_scenario.specs.declared.doer.Doer.TheVariants.{Everyone, Keeper, Caller}
 use Rattle.ert_scenario.specs.declared.fault.Fault.TheVariants as faults
+use Rattle.ert_scenario.specs.declared.fields.Top.{Top}
+use Rattle.ert_scenario.specs.declared.format.Format.{Format}
 use Rattle.ert_scenario.specs.declared.scenario.Scenario.{Scenario}
 use Rattle.ert_scenario.specs.declared.scenario.ScenarioErr.{ScenarioErr}
 use Rattle.ert_scenario.specs.declared.scenario.ScenarioErr.TheVariants.{Json, Shape, Range, Limit, NoMemory}
@@ -18,10 +23,11 @@ use Rattle.ert_scenario.specs.declared.scenario.ScenarioErr.TheVariants.{Json, S
 pub record Plan : Type 0 where
   pub settings : Settings
   pub ops : List Op
+  pub race : Option Race
 
 -- the plan of a scenario
 abbrev pub plan_of : Scenario → Plan
-plan_of s = record { settings = s.settings; ops = s.ops.items }
+plan_of s = record { settings = s.settings; ops = s.ops.items; race = option_map race_of s.race }
 
 -- a plan, or why there is none
 abbrev pub Verdict : Type 0
@@ -32,32 +38,52 @@ abbrev pub refused : (ℕ → ScenarioErr) → Option ℕ → Verdict → Verdic
 refused why None otherwise = otherwise
 refused why (Some place) otherwise = Err (why place)
 
--- place 0, where there are more than 100,000 ops
-abbrev pub over : List (Found Op) → Option ℕ
-over founds = if nat_lt 100000 (length founds) then Some 0 else None
+-- whether there are more than so many ops, callers' lists or turns
+abbrev pub is_over : ℕ → ℕ → ℕ → Bool
+is_over ops lists turns = nat_lt 100000 ops || (nat_lt 16 lists || nat_lt 10000 turns)
 
--- the verdict on what was found at place 0 and at the ops
-abbrev pub judged : Found Settings → List (Found Op) → Verdict
-judged (Err faults.Shape) founds = Err (Shape 0)
-judged (Err faults.Range) founds = refused Shape (first_shape 1 founds) (Err (Range 0))
-judged (Ok settings) founds =
+-- place 0, where there are too many of something
+abbrev pub over : Top → Option RaceValues → List (Found Op) → Option ℕ
+over top race founds = if is_over (length founds) (list_count race) top.turns then Some 0 else None
+
+-- the settings for so many callers
+abbrev pub with_callers : ℕ → Settings → Settings
+with_callers callers g = record g { callers = callers }
+
+-- the ops of a race whose ops have no fault
+abbrev pub planned_race : Format → ℕ → RaceValues → Race
+planned_race format turns race = record {
+  turns = turns;
+  keeper = ops_of (raws_of format Keeper race.keeper);
+  callers = map (λ list. ops_of (raws_of format Caller (items_in list))) race.callers;
+}
+
+-- the plan of lists whose ops have no fault: there is a caller for each list of callers, and one more
+abbrev pub planned : Format → OpValues → Top → Plan
+planned format lists top = record {
+  settings = with_callers (1 + list_count lists.race) top.settings;
+  ops = ops_of (raws_of format Everyone lists.ops);
+  race = option_map (planned_race format top.turns) lists.race;
+}
+
+-- the verdict on what was found at place 0 and at the ops of these lists
+abbrev pub judged : Format → OpValues → Found Top → List (Found Op) → Verdict
+judged format lists (Err faults.Shape) founds = Err (Shape 0)
+judged format lists (Err faults.Range) founds = refused Shape (first_shape 1 founds) (Err (Range 0))
+judged format lists (Ok top) founds =
     refused Shape (first_shape 1 founds)
     (refused Range (first_range 1 founds)
-    (refused Limit (over founds)
-    (Ok (record { settings = settings; ops = ops_of founds }))))
+    (refused Limit (over top lists.race founds)
+    (Ok (planned format lists top))))
 
--- the same, where the ops are an array
-abbrev pub judged_all : Found Settings → Found (List (Found Op)) → Verdict
-judged_all settings (Ok founds) = judged settings founds
-judged_all settings (Err fault) = Err (Shape 0)
+-- the same, where the lists are arrays
+abbrev pub judged_all : Format → Found OpValues → Found Top → Verdict
+judged_all format (Ok lists) top = judged format lists top (founds_of top (all_raws format lists))
+judged_all format (Err fault) top = Err (Shape 0)
 
--- what the ops of a value are
-abbrev pub op_founds : Data → Found (List (Found Op))
-op_founds d = op_items d >>= (λ items. Ok (founds_of (settings_of d) (raws_of (format_of d) items)))
-
--- the verdict on a value
-unfoldable pub verdict_of : Data → Verdict
-verdict_of d = judged_all (settings_of d) (op_founds d)
+-- the verdict on a value, where a race is wanted or not
+unfoldable pub verdict_of : Bool → Data → Verdict
+verdict_of race d = judged_all (format_of d) (lists_of race d) (top_of race d)
 
 -- the bytes are one JSON value, and this one
 pub record IsValue (bytes : List ℕ) (d : Data) : Type 0 where
@@ -65,17 +91,17 @@ pub record IsValue (bytes : List ℕ) (d : Data) : Type 0 where
   pub reads : read bytes ≡ Some d
 
 -- the bytes are a value with this verdict
-abbrev pub Judges : List ℕ → Verdict → Type 0
-Judges bytes verdict = (d : Data) × IsValue bytes d × (verdict_of d ≡ verdict)
+abbrev pub Judges : Bool → List ℕ → Verdict → Type 0
+Judges race bytes verdict = (d : Data) × IsValue bytes d × (verdict_of race d ≡ verdict)
 
--- the bytes are this scenario
-abbrev pub IsScenario : List ℕ → Plan → Type 0
-IsScenario bytes plan = Judges bytes (Ok plan)
+-- the bytes are this scenario, which has a race where one is wanted, and else none
+abbrev pub IsScenario : Bool → List ℕ → Plan → Type 0
+IsScenario race bytes plan = Judges race bytes (Ok plan)
 
 -- the bytes are refused for this reason; want of memory is never one
-abbrev pub HasRefusal : List ℕ → ScenarioErr → Type 0
-HasRefusal bytes Json = (d : Data) → IsValue bytes d → ⊥
-HasRefusal bytes (Shape place) = Judges bytes (Err (Shape place))
-HasRefusal bytes (Range place) = Judges bytes (Err (Range place))
-HasRefusal bytes (Limit place) = Judges bytes (Err (Limit place))
-HasRefusal bytes NoMemory = ⊥
+abbrev pub HasRefusal : Bool → List ℕ → ScenarioErr → Type 0
+HasRefusal race bytes Json = (d : Data) → IsValue bytes d → ⊥
+HasRefusal race bytes (Shape place) = Judges race bytes (Err (Shape place))
+HasRefusal race bytes (Range place) = Judges race bytes (Err (Range place))
+HasRefusal race bytes (Limit place) = Judges race bytes (Err (Limit place))
+HasRefusal race bytes NoMemory = ⊥

@@ -24,8 +24,8 @@ pub record Stands (ops : List Op) (range : Option ℕ) (k : ℕ) (rest all : Lis
   pub faultless : range ≡ None → (all ≡ without_fault ops ++ rest) × (k ≡ 1 + length ops)
 
 -- the same of a walk
-abbrev pub StandsAt : Walk → ℕ → List (Found Op) → List (Found Op) → Type 0
-StandsAt walk k rest all = Stands walk.ops.items walk.range k rest all
+abbrev pub StandsAt : Walk → List (Found Op) → List (Found Op) → Type 0
+StandsAt walk rest all = Stands walk.ops.items walk.range walk.place rest all
 
 -- a walk is over: no place has a shape fault
 pub record IsOver (ops : List Op) (range : Option ℕ) (all : List (Found Op)) : Type 0 where

@@ -1,22 +1,39 @@
 -- The ops one after another: the first places with a fault, and the ops.
 
-use Rattle.std.specs.Prelude.{ℕ, ◌+◌, List, [], ◌∷◌, map, Option, Some, None, Ok, Err}
+use Rattle.std.specs.Prelude.{ℕ, ◌+◌, List, [], ◌∷◌, ◌++◌, map, Option, Some, None, Ok, Err}
 use Rattle.serde_json.specs.Data.{Data}
-use Rattle.ert_defs.specs.declared.settings.Settings.{Settings}
 use Rattle.ert_ops.specs.declared.op.Op.{Op}
-use Rattle.ert_scenario.specs.Kinds.{Found}
+use Rattle.ert_scenario.specs.Kinds.{Found, items_in}
 use Rattle.ert_scenario.specs.Labels.{tested}
+use Rattle.ert_scenario.specs.Lists.{RaceValues, OpValues}
 use Rattle.ert_scenario.specs.Rows.{op_of}
 use Rattle.ert_scenario.specs.declared.fault.Fault.TheVariants.{Shape, Range}
+use Rattle.ert_scenario.specs.declared.doer.Doer.{Doer}
+use Rattle.ert_scenario.specs.declared.doer.Doer.TheVariants.{Everyone, Keeper, Caller}
+use Rattle.ert_scenario.specs.declared.fields.Top.{Top}
 use Rattle.ert_scenario.specs.declared.format.Format.{Format}
 
--- what each of the values is as an op of the format
-abbrev pub raws_of : Format → List Data → List (Found Op)
-raws_of format items = map (op_of format) items
+-- what each of the values is as an op of the format, in the list of this doer
+abbrev pub raws_of : Format → Doer → List Data → List (Found Op)
+raws_of format doer items = map (op_of format doer) items
+
+-- the same of callers' lists, one list after the other
+abbrev pub caller_raws : Format → List Data → List (Found Op)
+caller_raws format [] = []
+caller_raws format (list ∷ lists) = raws_of format Caller (items_in list) ++ caller_raws format lists
+
+-- of a race: the list of the clock's thread comes first
+abbrev pub race_raws : Format → Option RaceValues → List (Found Op)
+race_raws format None = []
+race_raws format (Some race) = raws_of format Keeper race.keeper ++ caller_raws format race.callers
+
+-- of all lists, in the order of their places: the field `ops` comes before the race
+abbrev pub all_raws : Format → OpValues → List (Found Op)
+all_raws format lists = raws_of format Everyone lists.ops ++ race_raws format lists.race
 
 -- the same, tested where a service can be opened with the settings; where it can't, only shapes count
-abbrev pub founds_of : Found Settings → List (Found Op) → List (Found Op)
-founds_of (Ok g) raws = tested g [] raws
+abbrev pub founds_of : Found Top → List (Found Op) → List (Found Op)
+founds_of (Ok top) raws = tested top.settings [] raws
 founds_of (Err fault) raws = raws
 
 -- the least place with a shape fault, where the list begins at place k

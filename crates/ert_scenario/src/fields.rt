@@ -1,17 +1,26 @@
-//! The fields of a scenario, and the settings that they give.
+//! The fields of a scenario but for its lists of ops: the settings, and the turns of a race.
 
-ghost use Rattle.std.specs.Prelude.{◌≡◌, map, option_map, string_bytes};
+ghost use Rattle.std.specs.Prelude.{◌≡◌, option_map, string_bytes};
 ghost use Rattle.std.specs.BTreeMap.{keys};
 ghost use Rattle.std.specs.List.{list_all};
 ghost use Rattle.serde_json.specs.View.{view};
-ghost use Rattle.ert_scenario.specs.Fields.{clock_fields, is_field, is_among, only_fields, mode_names, start_time, time_warp_mode, time_correction, count, times, modes, clock_of, sizes_of, head_of, settings_with, one_or_two, settings_of, op_items};
-ghost use Rattle.ert_scenario.specs.Kinds.{found_map, called};
+ghost use Rattle.ert_scenario.specs.Fields.{clock_fields, other_fields, race_fields, is_field, is_among, only_named, mode_names, start_time, time_warp_mode, time_correction, count, times, modes, clock_of, sizes_of, head_of, settings_with, one_or_two, settings_of, race_turns, top_of};
+ghost use Rattle.ert_scenario.specs.Kinds.{called};
 ghost use Rattle.ert_scenario.specs.Ranges.{is_checked};
 
 use crate::fault::Fault;
-use crate::kinds::{boolean, both, in_range, integer, listed, reading, text, word};
+use crate::kinds::{boolean, both, count_of, in_range, integer, present, reading, text, word};
 use ert_defs::{Mode, Reading, Settings};
 use serde_json::{Map, Value};
+
+/// What stands at place 0 beside the lists of ops.
+#[derive(Clone, Copy)]
+pub(crate) struct Top {
+    /// Those that a service is opened with, for one caller.
+    pub(crate) settings: Settings,
+    /// How many turns each scheduler makes in a race; 0 where none is wanted.
+    pub(crate) turns: u64,
+}
 
 /// The fields that settings are made of, not yet tested for their ranges.
 #[derive(Clone, Copy)]
@@ -37,29 +46,45 @@ pub(crate) struct Sizes {
     slots: u32,
 }
 
-/// The settings that a value gives.
-#[tactic(auto, unfolding(crate::specs::Fields::settings_of))]
-pub(crate) fn settings_of(value: &Value) -> Result<Settings, Fault>
-    ensures { result ≡ settings_of (view value.now) }
+/// What stands at place 0 beside the lists of ops, with the turns of a race where one is wanted.
+#[tactic(auto, unfolding(crate::specs::Fields::top_of))]
+pub(crate) fn top_of(value: &Value, race: bool) -> Result<Top, Fault>
+    ensures { result ≡ top_of race (view value.now) }
 {
-    let head = head_of(value)?;
+    let settings = settings_of(value, race);
+    if !race {
+        return settings.map(|settings| Top { settings, turns: 0 });
+    }
+    let (settings, turns) = both(settings, race_turns(value.get("race")))?;
+    Ok(Top { settings, turns })
+}
+
+/// The settings that a value gives, for one caller.
+#[tactic(auto, unfolding(crate::specs::Fields::settings_of))]
+fn settings_of(value: &Value, race: bool) -> Result<Settings, Fault>
+    ensures { result ≡ settings_of race (view value.now) }
+{
+    let head = head_of(value, race)?;
     let settings = settings_with(head);
     in_range(is_checked(settings), settings)
 }
 
-/// The values of the ops.
-pub(crate) fn op_items(value: &Value) -> Result<&[Value], Fault>
-    ensures { found_map (λ items. map view items.now) result ≡ op_items (view value.now) }
+/// How many turns each scheduler makes in a race, which has no other fields than its own.
+#[tactic(auto, unfolding(crate::specs::Fields::race_turns))]
+fn race_turns(value: Option<&Value>) -> Result<u64, Fault>
+    ensures { result ≡ race_turns (option_map (λ v. view v.now) value.entry) }
 {
-    listed(value.get("ops"))
+    let race = present(value)?;
+    let ((), turns) = both(only_race_fields(race), count_of(race.get("turns")))?;
+    Ok(turns)
 }
 
 /// The fields that settings are made of, of an object that has the right fields and a format.
-fn head_of(value: &Value) -> Result<Head, Fault>
-    ensures { result ≡ head_of (view value.now) }
+fn head_of(value: &Value, race: bool) -> Result<Head, Fault>
+    ensures { result ≡ head_of race (view value.now) }
 {
     let fields = both(clock_of(value), sizes_of(value));
-    let names = both(only_fields(value), one_or_two(value.get("format")));
+    let names = both(only_fields(value, race), one_or_two(value.get("format")));
     let (((), ()), (clock, sizes)) = both(names, fields)?;
     Ok(Head { clock, sizes })
 }
@@ -179,32 +204,63 @@ fn time_correction(value: Option<&Value>) -> Result<bool, Fault>
 }
 
 /// An object that has no other members than fields.
-#[tactic(auto, using(crate::proofs::Members::are_fields_view), unfolding(crate::specs::Fields::only_fields, crate::specs::Kinds::of_kind))]
-fn only_fields(value: &Value) -> Result<(), Fault>
-    ensures { result ≡ only_fields (view value.now) }
+#[tactic(auto, using(crate::proofs::Members::are_named_view), unfolding(crate::specs::Fields::only_named, crate::specs::Kinds::of_kind))]
+fn only_fields(value: &Value, race: bool) -> Result<(), Fault>
+    ensures { result ≡ only_named (is_field race) (view value.now) }
 {
     match value.as_object() {
-        Some(members) if are_fields(members) => Ok(()),
+        Some(members) if are_fields(members, race) => Ok(()),
+        _ => Err(Fault::Shape),
+    }
+}
+
+/// The same of the value of the field `race`.
+#[tactic(auto, using(crate::proofs::Members::are_named_view), unfolding(crate::specs::Fields::only_named, crate::specs::Kinds::of_kind))]
+fn only_race_fields(value: &Value) -> Result<(), Fault>
+    ensures { result ≡ only_named (is_among race_fields) (view value.now) }
+{
+    match value.as_object() {
+        Some(members) if are_race_fields(members) => Ok(()),
         _ => Err(Fault::Shape),
     }
 }
 
 /// Whether each member is a field.
-fn are_fields(members: &Map<String, Value>) -> bool
-    ensures { result ≡ list_all (λ name. is_field (string_bytes name)) (keys members.now) }
+fn are_fields(members: &Map<String, Value>, race: bool) -> bool
+    ensures { result ≡ list_all (λ name. is_field race (string_bytes name)) (keys members.now) }
 {
-    members.keys().all(|name| is_field(name.as_str()))
+    members.keys().all(|name| is_field(name.as_str(), race))
 }
 
-/// Whether it is the name of a field.
-fn is_field(name: &str) -> bool
-    ensures { result ≡ is_field name.now }
+/// Whether each member is a field of a race.
+fn are_race_fields(members: &Map<String, Value>) -> bool
+    ensures { result ≡ list_all (λ name. is_among race_fields (string_bytes name)) (keys members.now) }
 {
-    is_clock_field(name)
-        || matches!(
-            name,
-            "schedulers" | "processes" | "slots" | "format" | "ops"
-        )
+    members.keys().all(|name| is_race_field(name.as_str()))
+}
+
+/// Whether it is the name of a field; `race` is one where a race is wanted.
+fn is_field(name: &str, race: bool) -> bool
+    ensures { result ≡ is_field race name.now }
+{
+    is_clock_field(name) || is_other_field(name) || (race && name == "race")
+}
+
+/// Whether it is the name of a field of a race.
+fn is_race_field(name: &str) -> bool
+    ensures { result ≡ is_among race_fields name.now }
+{
+    matches!(name, "turns" | "keeper" | "callers")
+}
+
+/// Whether it is the name of a field that is neither of the clock nor `race`.
+fn is_other_field(name: &str) -> bool
+    ensures { result ≡ is_among other_fields name.now }
+{
+    matches!(
+        name,
+        "schedulers" | "processes" | "slots" | "format" | "ops"
+    )
 }
 
 /// Whether it is the name of a field of the clock.

@@ -1,8 +1,9 @@
 //! What an argument or a field is read as: a function for each kind of value, and those that join them.
 
 ghost use Rattle.std.specs.Prelude.{◌≡◌, map, option_map};
+ghost use Rattle.std.specs.List.{list_all};
 ghost use Rattle.serde_json.specs.View.{view};
-ghost use Rattle.ert_scenario.specs.Kinds.{found_map, both, of_kind, in_range, integer, word_of, word, natural, boolean, listed, text, head, tail, end, one_word, two_words, reading_from, reading};
+ghost use Rattle.ert_scenario.specs.Kinds.{found_map, both, of_kind, in_range, integer, word_of, word, natural_of, count_of, natural, boolean, listed, items_in, is_array, arrays, text, head, tail, end, one_word, two_words, reading_from, reading};
 
 use crate::fault::Fault;
 use ert_defs::Reading;
@@ -74,6 +75,35 @@ pub(crate) fn natural(value: Option<&Value>) -> Result<u64, Fault>
     of_kind(value.and_then(Value::as_u64))
 }
 
+/// A value that is there.
+#[tactic(auto, unfolding(crate::specs::Kinds::of_kind))]
+pub(crate) fn present(value: Option<&Value>) -> Result<&Value, Fault>
+    ensures { found_map (λ v. view v.now) result ≡ of_kind (option_map (λ v. view v.now) value.entry) }
+{
+    match value {
+        Some(value) => Ok(value),
+        None => Err(Fault::Shape),
+    }
+}
+
+/// An integer that counts something: a negative one is a range fault.
+#[tactic(auto, unfolding(crate::specs::Kinds::count_of))]
+pub(crate) fn count_of(value: Option<&Value>) -> Result<u64, Fault>
+    ensures { result ≡ count_of (option_map (λ v. view v.now) value.entry) }
+{
+    natural_of(integer(value)?)
+}
+
+/// The same of an integer.
+fn natural_of(number: i64) -> Result<u64, Fault>
+    ensures { result ≡ natural_of number }
+{
+    let Ok(natural) = u64::try_from(number) else {
+        return Err(Fault::Range);
+    };
+    Ok(natural)
+}
+
 /// `true` or `false`.
 #[tactic(auto, unfolding(crate::specs::Kinds::boolean))]
 pub(crate) fn boolean(value: Option<&Value>) -> Result<bool, Fault>
@@ -92,6 +122,37 @@ pub(crate) fn listed(value: Option<&Value>) -> Result<&[Value], Fault>
         Some(items) => Ok(items.as_slice()),
         None => Err(Fault::Shape),
     }
+}
+
+/// The items of a value that is an array; others have none.
+pub(crate) fn items_in(value: &Value) -> &[Value]
+    ensures { map view result.now ≡ items_in (view value.now) }
+{
+    match listed(Some(value)) {
+        Ok(items) => items,
+        Err(_) => &[],
+    }
+}
+
+/// The items of an array, each of which is an array.
+#[tactic(auto, using(crate::proofs::Listed::all_arrays), unfolding(crate::specs::Kinds::arrays))]
+pub(crate) fn arrays(value: Option<&Value>) -> Result<&[Value], Fault>
+    ensures { found_map (λ items. map view items.now) result
+        ≡ arrays (option_map (λ v. view v.now) value.entry) }
+{
+    let lists = listed(value)?;
+    if are_arrays(lists) {
+        Ok(lists)
+    } else {
+        Err(Fault::Shape)
+    }
+}
+
+/// Whether each value is an array.
+fn are_arrays(values: &[Value]) -> bool
+    ensures { result ≡ list_all (λ v. is_array (view v)) values.now }
+{
+    values.iter().all(|value| value.is_array())
 }
 
 /// The text of a string.

@@ -17,12 +17,15 @@
 //! the least place that has it. `migrate` makes a value of format 1 one of format 2 that is the same scenario.
 #![tactic(auto)]
 
+mod cutting;
+mod doer;
 mod fault;
 mod fields;
 mod format;
 mod kinds;
 mod labels;
 mod laws;
+mod lists;
 mod migration;
 mod ranges;
 mod rows;

@@ -1,31 +1,105 @@
 //! Values of format 1, made values of format 2.
 
-ghost use Rattle.std.specs.Prelude.{◌≡◌, map, IfOk, OnOk};
+ghost use Rattle.std.specs.Prelude.{◌≡◌, map, codes, IfOk, OnOk};
 ghost use Rattle.serde_json.specs.View.{view, members_view};
 ghost use Rattle.serde_json.specs.Data.{put as with_member};
 ghost use Rattle.ert_scenario.specs.Kinds.{text as text_of, head};
-ghost use Rattle.ert_scenario.specs.Migration.{is_ask, migrated_items, migrated_op, with_field, migrated};
+ghost use Rattle.ert_scenario.specs.Migration.{is_ask, migrated_items, migrated_op, each, migrated_list, with_field, changed, migrated_race, migrated};
 
-use crate::fields::op_items;
 use crate::kinds::{next, text};
 use ert_defs::NoMemory;
 use serde_json::{Map, Value};
 use std::alloc::{AllocError, Global};
 
 /// Makes a value of format 1 one of format 2: `format` is 2, and every `cancel_async` and `read_async` has
-/// `true` as its last argument. All else stays. Where the value is a scenario, what is made is the same one.
+/// `true` as its last argument, in the lists of a race too. All else stays. Where the value is a scenario, what
+/// is made is the same one.
 ///
-/// A value that is no object, or whose `ops` is no array, stays as it is.
+/// A value that is no object stays as it is, and so does a field that should be a list and isn't.
 #[tactic(auto, unfolding(crate::specs::Migration::migrated))]
 pub fn migrate(alloc: Global, value: Value) -> Result<Value, NoMemory>
     ensures { IfOk result (λ v. view v ≡ migrated (view value)) }
 {
-    let Ok(items) = op_items(&value) else {
+    let value = with_list(alloc, value, "ops")?;
+    let value = with_race(alloc, value)?;
+    Ok(with_field(alloc, value, "format", Value::from(2u8))?)
+}
+
+/// The value, with its race migrated.
+#[tactic(auto, unfolding(crate::specs::Migration::changed))]
+fn with_race(alloc: Global, value: Value) -> Result<Value, AllocError>
+    ensures { IfOk result (λ v. view v ≡ changed (codes "race") migrated_race (view value)) }
+{
+    let Some(race) = value.get("race") else {
         return Ok(value);
     };
-    let ops = migrated_ops(alloc, items)?;
-    let value = with_field(alloc, value, "ops", Value::Array(ops))?;
-    Ok(with_field(alloc, value, "format", Value::from(2u8))?)
+    let race = migrated_race(alloc, race)?;
+    with_field(alloc, value, "race", race)
+}
+
+/// A race, migrated.
+fn migrated_race(alloc: Global, race: &Value) -> Result<Value, AllocError>
+    ensures { IfOk result (λ v. view v ≡ migrated_race (view race.now)) }
+{
+    let race = with_list(alloc, race.clone()?, "keeper")?;
+    with_lists(alloc, race, "callers")
+}
+
+/// The value, with the list of ops in this field migrated.
+#[tactic(auto, unfolding(crate::specs::Migration::changed))]
+fn with_list(alloc: Global, value: Value, name: &str) -> Result<Value, AllocError>
+    ensures { IfOk result (λ v. view v ≡ changed name.now migrated_list (view value)) }
+{
+    let Some(list) = value.get(name) else {
+        return Ok(value);
+    };
+    let list = migrated_list(alloc, list)?;
+    with_field(alloc, value, name, list)
+}
+
+/// The value, with the lists of ops in the array in this field migrated.
+#[tactic(auto, unfolding(crate::specs::Migration::changed))]
+fn with_lists(alloc: Global, value: Value, name: &str) -> Result<Value, AllocError>
+    ensures { IfOk result (λ v. view v ≡ changed name.now (each migrated_list) (view value)) }
+{
+    let Some(lists) = value.get(name) else {
+        return Ok(value);
+    };
+    let lists = migrated_lists(alloc, lists)?;
+    with_field(alloc, value, name, lists)
+}
+
+/// An array of lists of ops, migrated.
+#[tactic(auto, unfolding(crate::specs::Migration::each))]
+fn migrated_lists(alloc: Global, value: &Value) -> Result<Value, AllocError>
+    ensures { IfOk result (λ v. view v ≡ each migrated_list (view value.now)) }
+{
+    match value {
+        Value::Array(lists) => Ok(Value::Array(all_lists(alloc, lists)?)),
+        other => other.clone(),
+    }
+}
+
+/// A list of ops, migrated.
+#[tactic(auto, unfolding(crate::specs::Migration::each))]
+fn migrated_list(alloc: Global, value: &Value) -> Result<Value, AllocError>
+    ensures { IfOk result (λ v. view v ≡ migrated_list (view value.now)) }
+{
+    match value {
+        Value::Array(ops) => Ok(Value::Array(migrated_ops(alloc, ops)?)),
+        other => other.clone(),
+    }
+}
+
+/// Lists of ops, migrated.
+fn all_lists(alloc: Global, lists: &[Value]) -> Result<Vec<Value>, AllocError>
+    ensures { IfOk result (λ v. map view v.items ≡ map migrated_list (map view lists.now)) }
+{
+    let mut migrated = Vec::with_capacity(alloc, lists.len())?;
+    for list in lists {
+        migrated.push(migrated_list(alloc, list)?)?;
+    }
+    Ok(migrated)
 }
 
 /// The ops, migrated.

@@ -2,7 +2,7 @@
 
 ghost use Rattle.std.specs.Prelude.{◌≡◌, map};
 ghost use Rattle.serde_json.specs.View.{view};
-ghost use Rattle.ert_scenario.specs.Rows.{plain, op_groups, named, op_of};
+ghost use Rattle.ert_scenario.specs.Rows.{plain, caller_groups, groups_of, named, op_of};
 
 mod clock;
 mod formats;
@@ -11,32 +11,61 @@ mod processes;
 mod scheds;
 mod timers;
 
+use crate::doer::Doer;
 use crate::fault::Fault;
 use crate::format::Format;
 use crate::kinds::{end, listed, next, text};
 use ert_ops::Op;
 use serde_json::Value;
 
-/// The op that a value is, before the ranges of its numbers are tested.
+/// The op that a value is in the list of a doer, before the ranges of its numbers are tested.
 #[tactic(auto, unfolding(crate::specs::Rows::op_of))]
-pub(crate) fn op_of(format: Format, value: &Value) -> Result<Op, Fault>
-    ensures { result ≡ op_of format (view value.now) }
+pub(crate) fn op_of(format: Format, doer: Doer, value: &Value) -> Result<Op, Fault>
+    ensures { result ≡ op_of format doer (view value.now) }
 {
     let (name, args) = next(listed(Some(value))?);
-    named(format, text(name)?, args)
+    named(format, doer, text(name)?, args)
 }
 
-/// The op of this name.
-fn named(format: Format, name: &str, args: &[Value]) -> Result<Op, Fault>
-    ensures { result ≡ named name.now (op_groups format) (map view args.now) }
+/// The op of this name in the list of a doer.
+fn named(format: Format, doer: Doer, name: &str, args: &[Value]) -> Result<Op, Fault>
+    ensures { result ≡ named name.now (groups_of doer format) (map view args.now) }
+{
+    match doer {
+        Doer::Everyone => anyones_op(format, name, args),
+        Doer::Keeper => keepers_op(name, args),
+        Doer::Caller => callers_op(format, name, args),
+    }
+}
+
+/// The op of this name, whoever does it.
+fn anyones_op(format: Format, name: &str, args: &[Value]) -> Result<Op, Fault>
+    ensures { result ≡ named name.now (groups_of Doer.Everyone format) (map view args.now) }
 {
     if let Some(found) = keeper::op(name, args) {
         return found;
     }
-    if let Some(found) = keeper::shared_op(name, args) {
+    if let Some(found) = scheds::op(name, args) {
         return found;
     }
-    if let Some(found) = scheds::op(name, args) {
+    callers_op(format, name, args)
+}
+
+/// The op of this name, where the clock's thread may do it.
+fn keepers_op(name: &str, args: &[Value]) -> Result<Op, Fault>
+    ensures { result ≡ named name.now (groups_of Doer.Keeper Format.Two) (map view args.now) }
+{
+    if let Some(found) = keeper::op(name, args) {
+        return found;
+    }
+    keeper::shared_op(name, args).unwrap_or(Err(Fault::Shape))
+}
+
+/// The op of this name, where a caller may do it.
+fn callers_op(format: Format, name: &str, args: &[Value]) -> Result<Op, Fault>
+    ensures { result ≡ named name.now (caller_groups format) (map view args.now) }
+{
+    if let Some(found) = keeper::shared_op(name, args) {
         return found;
     }
     if let Some(found) = clock::op(name, args) {

@@ -1,4 +1,4 @@
-ghost use Rattle.std.specs.Prelude.{◌+◌, ◌≡◌, ◌∷◌, [], List, None, OnOk, IfOk, IfErr};
+ghost use Rattle.std.specs.Prelude.{◌≡◌, ◌∷◌, [], List, None, OnOk, IfOk, IfErr};
 ghost use Rattle.ert_scenario.specs.Kinds.{Found};
 ghost use Rattle.ert_scenario.specs.Walks.{first_shape};
 ghost use Rattle.ert_scenario.specs.Walked.{StandsAt, IsShapeAt};
@@ -18,6 +18,8 @@ pub(crate) struct Walk {
     pub(crate) ops: Vec<Op>,
     /// The place of the first range fault.
     pub(crate) range: Option<u32>,
+    /// The place of the next op.
+    pub(crate) place: u32,
 }
 
 impl Walk {
@@ -25,21 +27,29 @@ impl Walk {
     pub(crate) fn new(alloc: Global, room: usize) -> Result<Walk, ScenarioErr>
         ensures empty { IfOk result (λ w. w.ops.items ≡ []) }
         ensures faultless { IfOk result (λ w. w.range ≡ None) }
+        ensures first { IfOk result (λ w. w.place ≡ 1) }
         ensures err { IfErr result (λ e. e ≡ ScenarioErr.NoMemory) }
     {
         match Vec::with_capacity(alloc, room) {
-            Ok(ops) => Ok(Walk { ops, range: None }),
+            Ok(ops) => Ok(Walk {
+                ops,
+                range: None,
+                place: 1,
+            }),
             Err(_) => Err(ScenarioErr::NoMemory),
         }
     }
 
     /// Takes what was found at the next place.
-    pub(crate) fn step(&mut self, place: u32, found: Result<Op, Fault>) -> Result<(), ScenarioErr>
+    pub(crate) fn step(&mut self, found: Result<Op, Fault>) -> Result<(), ScenarioErr>
         ensures goes_on { OnOk result ((rest all : List (Found AnOp))
-            → StandsAt self.old place (found ∷ rest) all → StandsAt self.new (place + 1) rest all) }
+            → StandsAt self.old (found ∷ rest) all → StandsAt self.new rest all) }
         ensures stops { IfErr result (λ e. (rest all : List (Found AnOp))
-            → StandsAt self.old place (found ∷ rest) all → IsShapeAt e (first_shape 1 all)) }
+            → StandsAt self.old (found ∷ rest) all → IsShapeAt e (first_shape 1 all)) }
     {
+        let place = self.place;
+        // No input within the limit of its length has so many ops.
+        self.place = place.checked_add(1).ok_or(ScenarioErr::NoMemory)?;
         match found {
             Ok(op) => {
                 if self.range.is_none() {

@@ -16,7 +16,9 @@ impl World {
     ghost use Rattle.ert_answers.specs.RequestCalls.{Picks, Answers};
     ghost use Rattle.ert_answers.specs.Ways.{alone};
     ghost use Rattle.ert_defs.specs.Mails.{first_of, others_of};
+    ghost use Rattle.ert_defs.specs.States.{state};
     ghost use Rattle.ert_sched.specs.Worlds.{Goes, GoesBut, By, IsTidyAt, sched_of, cancelled_by};
+    ghost use Rattle.ert_timers.specs.NextDue.{NoneArmedBefore, IsNearest, horizon_at};
 
     /// Serves one request: that in the scheduler's hand, or the first of its inbox. False comes where there is
     /// none.
@@ -127,6 +129,20 @@ impl World {
         let before = part.fired.len();
         let to = self.wheels[sched as usize].advance(&self.desk, &mut self.pass, &mut part.fired)?;
         Ok((to, (part.fired.len() - before) as u32))
+    }
+
+    /// How early a timer of the scheduler's wheel may be due, in whole milliseconds since the start time, as
+    /// `advance` answers; None where no timer is held. No entry is made.
+    ///
+    /// It tells an event loop how long it may sleep (as `uv_backend_timeout` of libuv): no armed timer is due
+    /// before it. It is the deadline of a timer, or the end of a look ahead from the published time, of
+    /// `ert_wheel::LOOK_AHEAD` milliseconds, where all are due later.
+    pub fn next_due(&self, sched: u32) -> Option<u64>
+        requires { sched < self.now.settings.schedulers }
+        ensures armed { NoneArmedBefore (state self.now.settings self.now.history) sched result }
+        ensures nearest { IsTidyAt self.now sched → IsNearest (state self.now.settings self.now.history) sched (horizon_at self.now.settings self.now.clock.face.time) result }
+    {
+        self.wheels[sched as usize].next_due(self.desk.settings(), self.keeper.clock().now())
     }
 
     /// As `advance`, and looks at every row that its wheel holds, so that the wheel is tidy then.

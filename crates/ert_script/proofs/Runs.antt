@@ -1,11 +1,12 @@
 -- A run as far as it has come.
 
-use Rattle.std.proofs.Common.{◌≡◌, ℕ, ◌+◌, ◌<◌, List, [], ◌∷◌, ◌++◌, take, drop, length, get_or, Option, Some, None, zero, suc, arith, refl, sym, subst, ap, ◌∙◌, append_assoc, append-nil}
+use Rattle.std.proofs.Common.{◌≡◌, ℕ, ◌+◌, ◌<◌, List, [], ◌∷◌, ◌++◌, take, drop, length, get_or, Option, zero, suc, arith, refl, sym, subst, ap, ◌∙◌, append_assoc, append-nil}
 use Rattle.std.specs.Prelude.{Result, Ok, Err, OnOk, OnErr, ◌≤◌}
 use Rattle.std.proofs.lemmas.List.{take_more, take_all}
 use Rattle.ert_answers.specs.Ways.{alone}
-use Rattle.ert_io.specs.Known.{then}
-use Rattle.ert_io.specs.Writing.{WritesFront}
+use Rattle.ert_io.proofs.Takes.{took-took, took-none, fits_after}
+use Rattle.ert_io.specs.Known.{HasRoom}
+use Rattle.ert_io.specs.Told.{Told, told, took, room_after, TakesFront}
 use Rattle.ert_defs.specs.declared.entry.Entry.{Entry}
 use Rattle.ert_defs.specs.declared.settings.Settings.{Settings}
 use Rattle.ert_lines.specs.Written.{Moves}
@@ -14,22 +15,12 @@ use Rattle.ert_ops.specs.declared.op.Op.{Op}
 use Rattle.ert_sched.specs.Worlds.{Service, StandsFor}
 use Rattle.ert_script.proofs.Labels.{MayGoOn, others_may_at}
 use Rattle.ert_script.specs.Scripts.{Does, Runs}
-use Rattle.ert_script.specs.Written.{WritesRun, WritesSome}
+use Rattle.ert_script.specs.Written.{RunsAll, WritesRun, WritesSome, LinesFit}
 use Rattle.ert_transcript.specs.Calls.{Calls}
 use Rattle.ert_transcript.specs.Labels.{Labels, label_of}
 use Rattle.ert_transcript.specs.Lines.{line_of}
 use Rattle.ert_transcript.specs.Scripts.{Script, labels_after, lines_of}
 use Rattle.ert_transcript.specs.declared.reply.Reply.{Reply}
-
--- known bytes, and then two texts
-pub then_then : (known : Option (List ℕ)) (a b : List ℕ) → then (then known a) b ≡ then known (a ++ b)
-then_then None a b = refl
-then_then (Some xs) a b = ap (λ (t : List ℕ). Some t) (append_assoc xs a b)
-
--- known bytes, and then nothing
-pub then-nil : (known : Option (List ℕ)) → known ≡ then known []
-then-nil None = refl
-then-nil (Some xs) = ap (λ (t : List ℕ). Some t) (sym (append-nil xs))
 
 -- a script run and one more op
 script_more : (g : Settings) (ls : Labels) (list : List Op) (rs : List Reply) (after : Labels) (h m piece : List Entry) (op : Op) (r : Reply)
@@ -103,21 +94,22 @@ runs_more start v w list rs op r ran done =
 
 -- the ops of a list were done, and came to a world; a first part of their lines was written, and this page
 -- waits
-pub record IsSoFar (start : Service) (list : List Op) (v : Service) (old now : Option (List ℕ)) (page : List ℕ) : Type 0 where
+pub record IsSoFar (start : Service) (list : List Op) (v : Service) (old now : Told) (page : List ℕ) : Type 0 where
   pub replies : List Reply
   pub front : List ℕ
   pub runs : Runs start list replies v
   pub stands : StandsFor v.settings v.history v
-  pub taken : now ≡ then old front
+  pub took : now ≡ took old front
   pub whole : front ++ page ≡ lines_of start.labels list replies
 
 -- before the first op nothing was done and nothing written
-pub so_far_first : (w : Service) (old : Option (List ℕ)) → StandsFor w.settings w.history w → IsSoFar w [] w old old []
-so_far_first w old stands = record { replies = []; front = []; runs = runs_none w; stands = stands; taken = then-nil old; whole = refl }
+pub so_far_first : (w : Service) (taken : Option (List ℕ)) (room : Option ℕ) → StandsFor w.settings w.history w
+    → IsSoFar w [] w (told taken room) (told taken room) []
+so_far_first w taken room stands = record { replies = []; front = []; runs = runs_none w; stands = stands; took = took-none taken room; whole = refl }
 
 -- what is written of what waits, at the end of what was written
-joined : (old now new : Option (List ℕ)) (front part : List ℕ) → now ≡ then old front → new ≡ then now part → new ≡ then old (front ++ part)
-joined old now new front part e f = f ∙ ap (λ (k : Option (List ℕ)). then k part) e ∙ then_then old front part
+joined : (old now new : Told) (front part : List ℕ) → now ≡ took old front → new ≡ took now part → new ≡ took old (front ++ part)
+joined old now new front part e f = f ∙ ap (λ (k : Told). took k part) e ∙ took-took old front part
 
 -- the written, the waiting and one more line
 lined : (front page line part rest lines : List ℕ) → front ++ page ≡ lines → part ++ rest ≡ page ++ line → (front ++ part) ++ rest ≡ lines ++ line
@@ -132,7 +124,7 @@ line_put start v w list rs op r ran done =
     ∙ sym (lines_more start.settings start.labels list rs v.labels start.history ran.grows.piece op r ran.grows.made)
 
 -- one more op was done and its line put
-goes_on : (start v w : Service) (list : List Op) (old now new : Option (List ℕ)) (page rest : List ℕ) (op : Op) (r : Reply)
+goes_on : (start v w : Service) (list : List Op) (old now new : Told) (page rest : List ℕ) (op : Op) (r : Reply)
     → IsSoFar start list v old now page → Does v op r w → StandsFor w.settings w.history w → Moves now new (page ++ line_of (label_of w.labels) r) rest
     → IsSoFar start (list ++ op ∷ []) w old new rest
 goes_on start v w list old now new page rest op r far done stands moves = record {
@@ -140,7 +132,7 @@ goes_on start v w list old now new page rest op r far done stands moves = record
   front = far.front ++ moves.part;
   runs = runs_more start v w list far.replies op r far.runs done;
   stands = stands;
-  taken = joined old now new far.front moves.part far.taken moves.taken;
+  took = joined old now new far.front moves.part far.took moves.took;
   whole = lined far.front page (line_of (label_of w.labels) r) moves.part rest (lines_of start.labels list far.replies) far.whole moves.whole
       ∙ line_put start v w list far.replies op r far.runs done;
 }
@@ -160,7 +152,7 @@ pub op_may : (g : Settings) (v : Service) (list : List Op) (i : ℕ) (d : Op) �
 op_may g v list i d below same all =
     subst (λ (x : Settings). IsOpInRange x (get_or list i d)) (sym same) (op_in_range g list i d all below)
 
-pub goes_on_at : (start v w : Service) (list : List Op) (i : ℕ) (d : Op) (old now new : Option (List ℕ)) (page rest : List ℕ) (r : Reply)
+pub goes_on_at : (start v w : Service) (list : List Op) (i : ℕ) (d : Op) (old now new : Told) (page rest : List ℕ) (r : Reply)
     → i < length list → IsSoFar start (take i list) v old now page
     → Does v (get_or list i d) r w → StandsFor w.settings w.history w → Moves now new (page ++ line_of (label_of w.labels) r) rest
     → IsSoFar start (take (i + 1) list) w old new rest
@@ -175,25 +167,25 @@ may_at v w list i d r below may done =
     subst (λ (ls : Labels). MayGoOn (drop (i + 1) list) ls) (sym done.labels) (others_may_at list i d v.labels r below may)
 
 -- the output stopped while the line of one more op was put
-pub breaks_at : (start v w : Service) (list : List Op) (i : ℕ) (d : Op) (old now new : Option (List ℕ)) (page : List ℕ) (r : Reply)
+pub breaks_at : (start v w : Service) (list : List Op) (i : ℕ) (d : Op) (old now new : Told) (page : List ℕ) (r : Reply)
     → i < length list → IsSoFar start (take i list) v old now page
-    → Does v (get_or list i d) r w → StandsFor w.settings w.history w → WritesFront now new (page ++ line_of (label_of w.labels) r)
+    → Does v (get_or list i d) r w → StandsFor w.settings w.history w → TakesFront now new (page ++ line_of (label_of w.labels) r)
     → WritesSome start list old new
 breaks_at start v w list i d old now new page r below far done stands written =
     let all : IsSoFar start (take (i + 1) list) w old new written.others =
     goes_on_at start v w list i d old now new page written.others r below far done stands
-    (record { part = written.front; taken = written.taken; whole = written.whole }) in
+    (record { part = written.front; took = written.took; whole = written.whole }) in
     record {
       done = i + 1;
       replies = all.replies;
       reached = w;
       runs = all.runs;
       stands = stands;
-      writes = record { front = all.front; others = written.others; taken = all.taken; whole = all.whole };
+      writes = record { front = all.front; others = written.others; took = all.took; whole = all.whole };
     }
 
 -- the run stopped before one more op
-pub stops_at : (start v : Service) (list : List Op) (i : ℕ) (old now : Option (List ℕ)) (page : List ℕ)
+pub stops_at : (start v : Service) (list : List Op) (i : ℕ) (old now : Told) (page : List ℕ)
     → IsSoFar start (take i list) v old now page → WritesSome start list old now
 stops_at start v list i old now page far = record {
   done = i;
@@ -201,29 +193,29 @@ stops_at start v list i old now page far = record {
   reached = v;
   runs = far.runs;
   stands = far.stands;
-  writes = record { front = far.front; others = page; taken = far.taken; whole = far.whole };
+  writes = record { front = far.front; others = page; took = far.took; whole = far.whole };
 }
 
 -- the run of all ops, where the index has come to the end
-far_last : (start v : Service) (list : List Op) (i : ℕ) (old now : Option (List ℕ)) (page : List ℕ)
+far_last : (start v : Service) (list : List Op) (i : ℕ) (old now : Told) (page : List ℕ)
     → length list ≤ i → IsSoFar start (take i list) v old now page → IsSoFar start list v old now page
 far_last start v list i old now page over far = subst (λ (os : List Op). IsSoFar start os v old now page) (take_all i list over) far
 
 -- all ops were done, and the page was written
-pub ends : (start v : Service) (list : List Op) (i : ℕ) (old now new : Option (List ℕ)) (page : List ℕ)
-    → length list ≤ i → IsSoFar start (take i list) v old now page → new ≡ then now page → WritesRun start list v old new
+pub ends : (start v : Service) (list : List Op) (i : ℕ) (old now new : Told) (page : List ℕ)
+    → length list ≤ i → IsSoFar start (take i list) v old now page → new ≡ took now page → WritesRun start list v old new
 ends start v list i old now new page over far taken =
     let all : IsSoFar start list v old now page = far_last start v list i old now page over far in
     record {
       replies = all.replies;
       runs = all.runs;
       stands = all.stands;
-      writes = joined old now new all.front page all.taken taken ∙ ap (λ (t : List ℕ). then old t) all.whole;
+      writes = joined old now new all.front page all.took taken ∙ ap (λ (t : List ℕ). took old t) all.whole;
     }
 
 -- the output stopped at the last page
-pub breaks_last : (start v : Service) (list : List Op) (i : ℕ) (old now new : Option (List ℕ)) (page : List ℕ)
-    → IsSoFar start (take i list) v old now page → WritesFront now new page → WritesSome start list old new
+pub breaks_last : (start v : Service) (list : List Op) (i : ℕ) (old now new : Told) (page : List ℕ)
+    → IsSoFar start (take i list) v old now page → TakesFront now new page → WritesSome start list old new
 breaks_last start v list i old now new page far w = record {
   done = i;
   replies = far.replies;
@@ -233,7 +225,7 @@ breaks_last start v list i old now new page far w = record {
   writes = record {
     front = far.front ++ w.front;
     others = w.others;
-    taken = joined old now new far.front w.front far.taken w.taken;
+    took = joined old now new far.front w.front far.took w.took;
     whole = append_assoc far.front w.front w.others ∙ ap (λ (t : List ℕ). far.front ++ t) w.whole ∙ far.whole;
   };
 }
@@ -245,3 +237,46 @@ ok_map (Err e) f p = p
 pub err_map : {T E P Q : Type 0} (r : Result T E) → (P → Q) → OnErr r P → OnErr r Q
 err_map (Ok x) f p = p
 err_map (Err e) f p = f p
+
+-- the room that is left, where the first part of some lines was written and these lines fit, holds the rest
+waiting_fits : (old now : Told) (front rest lines : List ℕ) → now ≡ took old front → front ++ rest ≡ lines → HasRoom old.room (length lines)
+    → HasRoom now.room (length rest)
+waiting_fits old now front rest lines took whole fits =
+    let room : now.room ≡ room_after (length front) old.room = ap (λ (t : Told). t.room) took in
+    subst (λ (r : Option ℕ). HasRoom r (length rest)) (sym room)
+    (fits_after old.room front rest (subst (λ (t : List ℕ). HasRoom old.room (length t)) (sym whole) fits))
+
+-- so the page and one more line fit
+pub line_fits : (start v w : Service) (list : List Op) (i : ℕ) (d : Op) (old now : Told) (page : List ℕ) (r : Reply)
+    → i < length list → LinesFit start list old.room → IsSoFar start (take i list) v old now page
+    → Does v (get_or list i d) r w → StandsFor w.settings w.history w → HasRoom now.room (length (page ++ line_of (label_of w.labels) r))
+line_fits start v w list i d old now page r below fit far done stands =
+    let op : Op = get_or list i d in
+    let line : List ℕ = line_of (label_of w.labels) r in
+    let some : List Op = take i list in
+    let ran : Runs start (some ++ op ∷ []) (far.replies ++ r ∷ []) w = runs_more start v w some far.replies op r far.runs done in
+    waiting_fits old now far.front (page ++ line) (lines_of start.labels (some ++ op ∷ []) (far.replies ++ r ∷ [])) far.took
+    (sym (append_assoc far.front page line) ∙ ap (λ (t : List ℕ). t ++ line) far.whole ∙ line_put start v w some far.replies op r far.runs done)
+    (subst (λ (os : List Op). HasRoom old.room (length (lines_of start.labels os (far.replies ++ r ∷ [])))) (at_index list i d below)
+    (fit (i + 1) (far.replies ++ r ∷ []) w
+    (subst (λ (os : List Op). Runs start os (far.replies ++ r ∷ []) w) (sym (at_index list i d below)) ran) stands))
+
+-- and so does the page
+pub page_fits : (start v : Service) (list : List Op) (i : ℕ) (old now : Told) (page : List ℕ) → LinesFit start list old.room
+    → IsSoFar start (take i list) v old now page → HasRoom now.room (length page)
+page_fits start v list i old now page fit far =
+    waiting_fits old now far.front page (lines_of start.labels (take i list) far.replies) far.took far.whole (fit i far.replies v far.runs far.stands)
+
+-- the same without a line written: before the first op, and after one more
+pub done_none : (w : Service) → StandsFor w.settings w.history w → RunsAll w [] w
+done_none w stands = record { replies = []; runs = runs_none w; stands = stands }
+
+pub done_more : (start v w : Service) (list : List Op) (i : ℕ) (d : Op) (r : Reply) → i < length list → RunsAll start (take i list) v
+    → Does v (get_or list i d) r w → StandsFor w.settings w.history w → RunsAll start (take (i + 1) list) w
+done_more start v w list i d r below far done stands =
+    subst (λ (os : List Op). RunsAll start os w) (sym (at_index list i d below))
+    (record {
+      replies = far.replies ++ r ∷ [];
+      runs = runs_more start v w (take i list) far.replies (get_or list i d) r far.runs done;
+      stands = stands;
+    })

@@ -3,7 +3,8 @@
 //! It stands on `ert_sched`, whose calls it makes, on `ert_transcript`, whose definitions say which history
 //! an op allows with its reply, and on `ert_lines` for the text. `reply_op` does one op, and binds the label
 //! of a start once its timer was started. `run_ops` does a list of them and writes one line for each, in
-//! large pieces. What they did is a script run: a piece of history for each op, with its reply.
+//! large pieces; `do_ops` does them and writes nothing, and `write_settled` tells how many timers have which
+//! status. What they did is a script run: a piece of history for each op, with its reply.
 #![tactic(auto)]
 
 mod binding;
@@ -12,7 +13,9 @@ mod mail_ops;
 mod reply;
 mod run;
 mod sched_ops;
+mod settled;
 mod timer_ops;
 
 pub use reply::reply_op;
-pub use run::run_ops;
+pub use run::{do_ops, run_ops};
+pub use settled::write_settled;

@@ -1,34 +1,35 @@
-ghost use Rattle.std.specs.Prelude.{◌≡◌, ◌≤◌, [], None, OnOk, OnErr, IsErrOf};
+ghost use Rattle.std.specs.Prelude.{◌≡◌, ◌≤◌, [], OnOk, OnErr, IsErrOf};
 ghost use Rattle.ert_io.specs.Faults.{Rose};
+ghost use Rattle.ert_io.specs.Told.{told};
 ghost use Rattle.ert_ops.specs.Labels.{AreOps};
 ghost use Rattle.ert_ops.specs.Ranges.{IsInRange};
 ghost use Rattle.ert_sched.specs.Worlds.{StandsFor};
-ghost use Rattle.ert_script.specs.Written.{WritesRun, WritesSome};
+ghost use Rattle.ert_script.specs.Written.{RunsAll, WritesRun, WritesSome, LinesFit};
 
 use crate::reply::reply_op;
+use ert_defs::NoMemory;
 use ert_io::Sink;
 use ert_lines::{Names, RunErr, put, write_page};
 use ert_ops::Op;
 use ert_sched::World;
 use std::alloc::Global;
 
-/// Does the ops one after the other on a world without labels, and writes one line for each. The sink tells
-/// no room.
+/// Does the ops one after the other on a world without labels, and writes one line for each. A sink that
+/// tells its room has room for all lines.
 pub fn run_ops<K: Sink>(
     alloc: Global,
     world: &mut World,
     ops: &[Op],
     sink: &mut K,
 ) -> Result<(), RunErr>
-    requires room { K.room sink.old ≡ None }
+    requires fits { LinesFit world.old ops.now (K.room sink.old) }
     requires ranges { IsInRange world.old.settings ops.now }
     requires labels { AreOps ops.now }
     requires new { world.old.labels ≡ [] }
-    ensures ok { OnOk result (WritesRun world.old ops.now world.new (K.taken sink.old) (K.taken sink.new)) }
+    ensures ok { OnOk result (WritesRun world.old ops.now world.new (told (K.taken sink.old) (K.room sink.old)) (told (K.taken sink.new) (K.room sink.new))) }
 
     // After a failed write, or without memory, the lines of some first ops may be there, in part.
-    ensures err { OnErr result (WritesSome world.old ops.now (K.taken sink.old) (K.taken sink.new)) }
-    ensures room { K.room sink.new ≡ None }
+    ensures err { OnErr result (WritesSome world.old ops.now (told (K.taken sink.old) (K.room sink.old)) (told (K.taken sink.new) (K.room sink.new))) }
     ensures later { K.faults sink.old ≤ K.faults sink.new }
     ensures cause { IsErrOf result RunErr.WriteFault → Rose (K.faults sink.old) (K.faults sink.new) }
 {
@@ -43,6 +44,22 @@ pub fn run_ops<K: Sink>(
         put(sink, &mut page, &reply, &names)?;
     }
     write_page(sink, &mut page)
+}
+
+/// Does the ops one after the other on a world without labels, and writes nothing.
+pub fn do_ops(alloc: Global, world: &mut World, ops: &[Op]) -> Result<(), NoMemory>
+    requires ranges { IsInRange world.old.settings ops.now }
+    requires labels { AreOps ops.now }
+    requires new { world.old.labels ≡ [] }
+    ensures { OnOk result (RunsAll world.old ops.now world.new) }
+{
+    history_stands(world);
+    let mut names = Names::new(alloc);
+    for op in ops {
+        reply_op(world, &mut names, op)?;
+        history_stands(world);
+    }
+    Ok(())
 }
 
 // The history of every world is legal, and its clock stands for it. The call brings this into reach, and

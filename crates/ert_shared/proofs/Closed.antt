@@ -15,10 +15,15 @@ use Rattle.ert_defs.specs.declared.entry.Entry.{Entry}
 use Rattle.ert_defs.specs.declared.settings.Settings.{Settings}
 use Rattle.ert_inbox.proofs.LawsHold.{stand_on as inbox_on}
 use Rattle.ert_inbox.specs.Inboxes.{Waiting, Stands as InboxStands}
+use Rattle.ert_laws.proofs.Expiries.{in_order}
+use Rattle.ert_laws.proofs.Mailboxes.{mailboxes}
+use Rattle.ert_laws.proofs.OwnTells.{messages_are_told}
+use Rattle.ert_laws.proofs.TimerLives.{lives}
 use Rattle.ert_locks.proofs.Lent.{holds_self}
 use Rattle.ert_locks.specs.Names.{IsDesk, IsOf}
 use Rattle.ert_mail.proofs.LawsHold.{stand_on as mail_on}
 use Rattle.ert_mail.specs.Mailboxes.{Mailbox, Stands as MailStands}
+use Rattle.ert_sched.specs.Lived.{IsLived}
 use Rattle.ert_sched.specs.Parts.{SchedStands, AllParts, Stand}
 use Rattle.ert_sched.specs.Worlds.{AreFit}
 use Rattle.ert_sched.specs.declared.sched_part.SchedPart.{SchedPart}
@@ -160,3 +165,13 @@ fit_of table g d p own vk vw vi vm vs parts desk belongs joined = record {
 -- what is seen of one actor has its own entries
 pub own_of : (a : Actor) (v w : View) → v.actors ≡ a ∷ [] → IsSeen v w → HasOwn a v.front w.front
 own_of a v w only seen = record { begins = seen.begins; own = seen.own a (rw only (holds_self a)) }
+
+-- a legal history has lives and mail as every one has
+pub lived_of : (g : Settings) (h : List Entry) → Legal g h → IsLived g h
+lived_of g h legal = record {
+  legal = legal;
+  lives = λ r. lives g h r legal;
+  mailboxes = λ p. mailboxes g h p legal;
+  order = λ w p. in_order g h w p legal;
+  told = λ p. messages_are_told g h p legal;
+}

@@ -4,3 +4,4 @@ pub mod Divided
 pub mod Gathered
 pub mod Joined
 pub mod OpenedParts
+pub mod Settling

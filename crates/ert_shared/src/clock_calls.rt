@@ -7,12 +7,15 @@ use ert_locks::{CallerSeat, DeskName};
 use std::sync::Wait;
 
 impl<L: DeskName> Service<L> {
-    ghost use Rattle.std.specs.Prelude.{◌≡◌, ◌≢◌, ◌<◌, [], ◌∷◌, Err};
+    ghost use Rattle.std.specs.Prelude.{◌≡◌, ◌≢◌, ◌<◌, [], ◌∷◌, Err, IfOk};
     ghost use Rattle.ert_answers.specs.ClockCalls.{Ticks, Finalizes};
     ghost use Rattle.ert_answers.specs.TimerCalls.{Starts};
     ghost use Rattle.ert_answers.specs.Ways.{Grows, beside};
     ghost use Rattle.ert_answers.specs.declared.answers.StartErr.TheVariants.{NoMemory as WantOfMemory};
+    ghost use Rattle.ert_defs.specs.States.{state};
     ghost use Rattle.ert_defs.specs.declared.entry.Actor.TheVariants.{Keeper, Wheel, Caller};
+    ghost use Rattle.ert_shared.specs.Fronts.{HasExited};
+    ghost use Rattle.ert_shared.specs.Settled.{IsSettled};
     ghost use Rattle.ert_table.specs.Desks.{front_of};
 
     /// Takes one reading of the OS clocks. `force` asks for a check of the clock, as if one were due.
@@ -50,8 +53,8 @@ impl<L: DeskName> Service<L> {
     /// Starts a timer on a wheel (`erlang` module reference, `start_timer` and `send_after`).
     ///
     /// BadArg comes where the start has no deadline at the time of the call, and Full where each slot of the
-    /// wheel is taken or spent. A timer for a process that has exited is started and cancelled at once. No
-    /// memory is taken.
+    /// wheel is taken or spent. A timer for a process that has exited is started and cancelled at once, so that
+    /// it is settled when the call returns. No memory is taken.
     pub fn start<R: Wait>(
         &self,
         rt: &R,
@@ -63,6 +66,7 @@ impl<L: DeskName> Service<L> {
         requires dest { start.now.dest < L.settings.processes }
         ensures number { result.0.number ≡ seat.number }
         ensures memory { result.1 ≢ Err WantOfMemory }
+        ensures settled { HasExited L.settings (front_of seat.pass) start.now.dest → IfOk result.1 (λ timer. IsSettled (state L.settings (front_of result.0.pass)) timer) }
         ensures call { Grows (beside L.settings (Caller seat.number) (Wheel wheel ∷ []) (Starts L.settings seat.number wheel start.now result.1)) (front_of seat.pass) (front_of result.0.pass) }
     {
         for _ in rt.forever() {

@@ -10,18 +10,18 @@ ghost use Rattle.ert_shared.specs.Gathering.{IsSeen, AreIn, AreEmpty, somes};
 ghost use Rattle.ert_table.specs.Desks.{view_of, front_of, Belongs};
 ghost use Rattle.ert_timers.specs.Parts as wheels;
 
+use crate::service::PaddedLock;
 use ert_inbox::InboxPart;
 use ert_locks::{DeskName, LockedInbox, LockedMail, LockedWheel};
 use ert_mail::MailPart;
 use ert_table::{Desk, Pass};
 use ert_timers::WheelPart;
-use std::sync::Mutex;
 
 /// Takes the wheels from their locks, joins their passes, and puts them in order of number.
 pub(crate) fn gather_wheels<L: DeskName>(
     desk: &Desk,
     pass: &mut Pass,
-    locks: Vec<Mutex<LockedWheel<L>>>,
+    locks: Vec<PaddedLock<LockedWheel<L>>>,
     places: Vec<Option<WheelPart>>,
     parts: Vec<WheelPart>,
 ) -> Vec<WheelPart>
@@ -39,7 +39,7 @@ pub(crate) fn gather_wheels<L: DeskName>(
 {
     let mut places = places;
     for lock in locks {
-        let (part, own) = lock.into_inner().into_parts();
+        let (part, own) = lock.into_inner().into_inner().into_parts();
         pass.join(desk, own);
         let number = part.number() as usize;
         places[number] = Some(part);
@@ -51,7 +51,7 @@ pub(crate) fn gather_wheels<L: DeskName>(
 pub(crate) fn gather_inboxes<L: DeskName>(
     desk: &Desk,
     pass: &mut Pass,
-    locks: Vec<Mutex<LockedInbox<L>>>,
+    locks: Vec<PaddedLock<LockedInbox<L>>>,
     places: Vec<Option<InboxPart>>,
     parts: Vec<InboxPart>,
 ) -> Vec<InboxPart>
@@ -69,7 +69,7 @@ pub(crate) fn gather_inboxes<L: DeskName>(
 {
     let mut places = places;
     for lock in locks {
-        let (part, own) = lock.into_inner().into_parts();
+        let (part, own) = lock.into_inner().into_inner().into_parts();
         pass.join(desk, own);
         let number = part.wheel() as usize;
         places[number] = Some(part);
@@ -81,7 +81,7 @@ pub(crate) fn gather_inboxes<L: DeskName>(
 pub(crate) fn gather_mails<L: DeskName>(
     desk: &Desk,
     pass: &mut Pass,
-    locks: Vec<Mutex<LockedMail<L>>>,
+    locks: Vec<PaddedLock<LockedMail<L>>>,
     places: Vec<Option<MailPart>>,
     parts: Vec<MailPart>,
 ) -> Vec<MailPart>
@@ -99,7 +99,7 @@ pub(crate) fn gather_mails<L: DeskName>(
 {
     let mut places = places;
     for lock in locks {
-        let (part, own) = lock.into_inner().into_parts();
+        let (part, own) = lock.into_inner().into_inner().into_parts();
         pass.join(desk, own);
         let number = part.process() as usize;
         places[number] = Some(part);

@@ -6,12 +6,14 @@ use ert_locks::{CallerSeat, DeskName};
 use std::sync::Wait;
 
 impl<L: DeskName> Service<L> {
-    ghost use Rattle.std.specs.Prelude.{◌≡◌, ◌<◌, [], true};
+    ghost use Rattle.std.specs.Prelude.{◌≡◌, ◌<◌, ℕ, [], true};
     ghost use Rattle.ert_answers.specs.Chains.{Exits, SweepsWheel, SweepsWheels};
     ghost use Rattle.ert_answers.specs.Ways.{Grows, beside};
     ghost use Rattle.ert_answers.specs.WheelCalls.{MarksExit};
+    ghost use Rattle.ert_defs.specs.States.{state};
     ghost use Rattle.ert_defs.specs.declared.entry.Actor.TheVariants.{Caller};
     ghost use Rattle.ert_shared.specs.Fronts.{HasExited};
+    ghost use Rattle.ert_shared.specs.Settled.{NoneFor};
     ghost use Rattle.ert_table.specs.Desks.{front_of};
 
     /// Lets a process exit, cancels its timers in all wheels, one after the other, and answers true; false,
@@ -19,6 +21,7 @@ impl<L: DeskName> Service<L> {
     pub fn exit<R: Wait>(&self, rt: &R, seat: CallerSeat<L>, process: u32) -> (CallerSeat<L>, bool)
         requires { process < L.settings.processes }
         ensures number { result.0.number ≡ seat.number }
+        ensures swept { result.1 ≡ true → (wheel : ℕ) → wheel < L.settings.schedulers → NoneFor (state L.settings (front_of seat.pass)) (state L.settings (front_of result.0.pass)) wheel process }
         ensures call { Grows (Exits L.settings (beside L.settings (Caller seat.number)) seat.number process result.1) (front_of seat.pass) (front_of result.0.pass) }
     {
         let (seat, new) = self.mark(seat, process);

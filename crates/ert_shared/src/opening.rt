@@ -12,6 +12,8 @@ ghost use Rattle.ert_table.specs.Desks.{front_of, actors_of, Belongs};
 ghost use Rattle.ert_table.specs.Held.{is_held};
 ghost use Rattle.ert_timers.specs.Parts as wheels;
 
+use crate::service::PaddedLock;
+use crossbeam_utils::CachePadded;
 use ert_defs::{Actor, NoMemory};
 use ert_inbox::InboxPart;
 use ert_locks::{CallerSeat, DeskName, LockedInbox, LockedMail, LockedWheel, SchedSeat};
@@ -28,7 +30,7 @@ pub(crate) fn lock_wheels<L: DeskName>(
     desk: &Desk,
     pass: &mut Pass,
     parts: Vec<WheelPart>,
-) -> Result<Vec<Mutex<LockedWheel<L>>>, NoMemory>
+) -> Result<Vec<PaddedLock<LockedWheel<L>>>, NoMemory>
     requires desk { IsDesk L.table L.settings desk.now }
     requires belongs { Belongs desk.now pass.old }
     requires parts { AreOrdered (λ p. p.number) (wheels.Stands L.settings (front_of pass.old)) Wheel [] L.settings.schedulers parts.items }
@@ -41,7 +43,7 @@ pub(crate) fn lock_wheels<L: DeskName>(
     let mut locks = Vec::with_capacity(alloc, parts.len())?;
     for part in parts {
         let own = pass.split(desk, Actor::Wheel(part.number()));
-        locks.push_reserved(Mutex::new(LockedWheel::new(part, own)));
+        locks.push_reserved(CachePadded::new(Mutex::new(LockedWheel::new(part, own))));
     }
     Ok(locks)
 }
@@ -52,7 +54,7 @@ pub(crate) fn lock_inboxes<L: DeskName>(
     desk: &Desk,
     pass: &mut Pass,
     parts: Vec<InboxPart>,
-) -> Result<Vec<Mutex<LockedInbox<L>>>, NoMemory>
+) -> Result<Vec<PaddedLock<LockedInbox<L>>>, NoMemory>
     requires desk { IsDesk L.table L.settings desk.now }
     requires belongs { Belongs desk.now pass.old }
     requires parts { AreOrdered (λ q. q.wheel) (inboxes.Stands L.settings (front_of pass.old)) Inbox [] L.settings.schedulers parts.items }
@@ -65,7 +67,7 @@ pub(crate) fn lock_inboxes<L: DeskName>(
     let mut locks = Vec::with_capacity(alloc, parts.len())?;
     for part in parts {
         let own = pass.split(desk, Actor::Inbox(part.wheel()));
-        locks.push_reserved(Mutex::new(LockedInbox::new(part, own)));
+        locks.push_reserved(CachePadded::new(Mutex::new(LockedInbox::new(part, own))));
     }
     Ok(locks)
 }
@@ -76,7 +78,7 @@ pub(crate) fn lock_mails<L: DeskName>(
     desk: &Desk,
     pass: &mut Pass,
     parts: Vec<MailPart>,
-) -> Result<Vec<Mutex<LockedMail<L>>>, NoMemory>
+) -> Result<Vec<PaddedLock<LockedMail<L>>>, NoMemory>
     requires desk { IsDesk L.table L.settings desk.now }
     requires belongs { Belongs desk.now pass.old }
     requires parts { AreOrdered (λ m. m.process) (mailboxes.Stands L.settings (front_of pass.old)) MailOf [] L.settings.processes parts.items }
@@ -89,7 +91,7 @@ pub(crate) fn lock_mails<L: DeskName>(
     let mut locks = Vec::with_capacity(alloc, parts.len())?;
     for part in parts {
         let own = pass.split(desk, Actor::MailOf(part.process()));
-        locks.push_reserved(Mutex::new(LockedMail::new(part, own)));
+        locks.push_reserved(CachePadded::new(Mutex::new(LockedMail::new(part, own))));
     }
     Ok(locks)
 }

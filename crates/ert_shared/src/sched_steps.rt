@@ -9,12 +9,14 @@ use ert_mail::Handed;
 use std::sync::Wait;
 
 impl<L: DeskName> Service<L> {
-    ghost use Rattle.std.specs.Prelude.{◌≡◌, ◌<◌, [], ◌∷◌, Some, None, OnOk};
+    ghost use Rattle.std.specs.Prelude.{◌≡◌, ◌<◌, [], ◌∷◌, Some, None, IfOk, OnOk};
     ghost use Rattle.ert_answers.specs.Chains.{Holds, AdvancesWheel, Hands};
     ghost use Rattle.ert_answers.specs.RequestCalls.{Picks, Answers};
     ghost use Rattle.ert_answers.specs.Ways.{Grows, beside};
     ghost use Rattle.ert_defs.specs.Mails.{first_of, others_of};
+    ghost use Rattle.ert_defs.specs.States.{state};
     ghost use Rattle.ert_defs.specs.declared.entry.Actor.TheVariants.{Inbox, Sched, MailOf};
+    ghost use Rattle.ert_shared.specs.Settled.{NoneDue};
     ghost use Rattle.ert_table.specs.Desks.{front_of};
 
     /// The request in a scheduler's hand. Where the hand is empty, the first of the inbox is taken into it.
@@ -72,7 +74,8 @@ impl<L: DeskName> Service<L> {
     }
 
     /// Lets every timer of the scheduler's wheel expire that is due, and answers the time, in whole
-    /// milliseconds since the start time, and how many expired.
+    /// milliseconds since the start time, and how many expired. After that no timer of the wheel is armed that
+    /// is due by then.
     ///
     /// After want of memory none has expired.
     pub fn advance<R: Wait>(
@@ -81,6 +84,7 @@ impl<L: DeskName> Service<L> {
         seat: SchedSeat<L>,
     ) -> (SchedSeat<L>, Result<(u64, u32), NoMemory>)
         ensures number { result.0.part.wheel ≡ seat.part.wheel }
+        ensures due { IfOk result.1 (λ answer. NoneDue (state L.settings (front_of result.0.pass)) seat.part.wheel answer.0) }
         ensures call { Grows (AdvancesWheel L.settings (beside L.settings (Sched seat.part.wheel)) seat.part.wheel result.1) (front_of seat.pass) (front_of result.0.pass) }
     {
         let wheel = seat.part.wheel;

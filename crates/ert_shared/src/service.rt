@@ -5,6 +5,7 @@ use crate::closing::{gather_inboxes, gather_mails, gather_wheels};
 use crate::joining::{join_callers, join_scheds};
 use crate::opening::{lock_inboxes, lock_mails, lock_wheels, seat_callers, seat_scheds};
 use crate::rooms::Rooms;
+use crossbeam_utils::CachePadded;
 use ert_defs::{Actor, NoMemory, TimerRef};
 use ert_locks::{
     CallerSeat, DeskName, LockedInbox, LockedKeeper, LockedMail, LockedWheel, SchedSeat,
@@ -14,14 +15,17 @@ use ert_table::{Desk, Pass};
 use std::alloc::Global;
 use std::sync::Mutex;
 
+/// A lock on cache lines of its own, so that threads at different parts don't write lines of each other's.
+pub(crate) type PaddedLock<T> = CachePadded<Mutex<T>>;
+
 /// The clock and timer service for many threads, on the desk that `L` names.
 #[derive(Drop)]
 pub struct Service<L: DeskName> {
     pub(crate) desk: Desk,
-    pub(crate) keeper: Mutex<LockedKeeper<L>>,
-    pub(crate) wheels: Vec<Mutex<LockedWheel<L>>>,
-    pub(crate) inboxes: Vec<Mutex<LockedInbox<L>>>,
-    pub(crate) mails: Vec<Mutex<LockedMail<L>>>,
+    pub(crate) keeper: PaddedLock<LockedKeeper<L>>,
+    pub(crate) wheels: Vec<PaddedLock<LockedWheel<L>>>,
+    pub(crate) inboxes: Vec<PaddedLock<LockedInbox<L>>>,
+    pub(crate) mails: Vec<PaddedLock<LockedMail<L>>>,
     pub(crate) labels: Vec<(u32, TimerRef)>,
     rooms: Rooms<L>,
     ghost named: { IsDesk L.table L.settings desk },
@@ -43,6 +47,7 @@ pub struct Opened<L: DeskName> {
 impl<L: DeskName> Service<L> {
     ghost use Rattle.std.specs.Prelude.{◌≡◌, IfOk, All};
     ghost use Rattle.ert_defs.specs.declared.entry.Actor.TheVariants.{Caller, Sched};
+    ghost use Rattle.ert_sched.specs.Lived.{IsLived};
     ghost use Rattle.ert_sched.specs.Parts.{parts_of};
     ghost use Rattle.ert_sched.specs.Worlds.{AreFit};
     ghost use Rattle.ert_shared.specs.Dividing.{AreSeated, IsPassOf};
@@ -84,7 +89,7 @@ impl<L: DeskName> Service<L> {
         let callers = seat_callers(alloc, &desk, &mut pass)?;
         let service = Service {
             desk,
-            keeper: Mutex::new(keeper),
+            keeper: CachePadded::new(Mutex::new(keeper)),
             wheels,
             inboxes,
             mails,
@@ -103,13 +108,15 @@ impl<L: DeskName> Service<L> {
     /// together of them, with the labels. No entry is made, and no memory is taken.
     ///
     /// It takes the pass that `open` gave and all seats, in order of number. The world's history begins with
-    /// what each of them knew, and has no other entries of a seat's actor.
+    /// what each of them knew, and has no other entries of a seat's actor. It is legal, each of its timers has
+    /// one of six lives, and its mail is in order.
     pub fn close(self, rest: Pass, scheds: Vec<SchedSeat<L>>, callers: Vec<CallerSeat<L>>) -> World
         requires rest { IsPassOf L.table L.settings rest }
         requires scheds { AreNumbered (λ s. s.part.wheel) L.settings.schedulers scheds.items }
         requires callers { AreNumbered (λ s. s.number) L.settings.callers callers.items }
         ensures settings { result.settings ≡ L.settings }
         ensures labels { result.labels ≡ self.labels.items }
+        ensures lived { IsLived result.settings result.history }
         ensures rest { Begins (front_of rest) result.history }
         ensures scheds { All (λ s. HasOwn (Sched s.part.wheel) (front_of s.pass) result.history) scheds.items }
         ensures callers { All (λ s. HasOwn (Caller s.number) (front_of s.pass) result.history) callers.items }
@@ -125,7 +132,7 @@ impl<L: DeskName> Service<L> {
             ..
         } = self;
         let mut pass = rest;
-        let (keeper, own) = keeper.into_inner().into_parts();
+        let (keeper, own) = keeper.into_inner().into_inner().into_parts();
         pass.join(&desk, own);
         let wheels = gather_wheels(&desk, &mut pass, wheels, rooms.wheel_places, rooms.wheels);
         let inboxes = gather_inboxes(&desk, &mut pass, inboxes, rooms.inbox_places, rooms.inboxes);

@@ -10,10 +10,12 @@ use std::sync::Wait;
 const SERVED_A_TURN: u32 = 64;
 
 impl<L: DeskName> Service<L> {
-    ghost use Rattle.std.specs.Prelude.{◌≡◌};
+    ghost use Rattle.std.specs.Prelude.{◌≡◌, OnOk};
     ghost use Rattle.ert_answers.specs.Chains.{Serves, ServesAll, Delivers, Turns};
     ghost use Rattle.ert_answers.specs.Ways.{Grows, beside};
+    ghost use Rattle.ert_defs.specs.States.{state};
     ghost use Rattle.ert_defs.specs.declared.entry.Actor.TheVariants.{Sched};
+    ghost use Rattle.ert_shared.specs.Settled.{NoneWaits};
     ghost use Rattle.ert_table.specs.Desks.{front_of};
 
     /// Serves one request: that in the scheduler's hand, or the first of its inbox. False comes where there is
@@ -71,6 +73,7 @@ impl<L: DeskName> Service<L> {
         seat: SchedSeat<L>,
     ) -> (SchedSeat<L>, Result<(u32, u32), NoMemory>)
         ensures number { result.0.part.wheel ≡ seat.part.wheel }
+        ensures none { OnOk result.1 (NoneWaits (state L.settings (front_of result.0.pass)) seat.part.wheel) }
         ensures call { Grows (Delivers L.settings (beside L.settings (Sched seat.part.wheel)) seat.part.wheel result.1) (front_of seat.pass) (front_of result.0.pass) }
     {
         let mut next = seat;
@@ -98,6 +101,7 @@ impl<L: DeskName> Service<L> {
         seat: SchedSeat<L>,
     ) -> (SchedSeat<L>, Result<Turned, NoMemory>)
         ensures number { result.0.part.wheel ≡ seat.part.wheel }
+        ensures none { OnOk result.1 (NoneWaits (state L.settings (front_of result.0.pass)) seat.part.wheel) }
         ensures call { Grows (Turns L.settings (beside L.settings (Sched seat.part.wheel)) seat.part.wheel result.1) (front_of seat.pass) (front_of result.0.pass) }
     {
         let (seat, served) = self.serve_all(rt, seat);

@@ -37,7 +37,7 @@ fn refuses_ops(rt: HostRuntime) -> Result<(), Fail> {
     ];
     for (ops, want) in rows {
         let text = with_ops(rt.alloc(), ops)?;
-        let answer = read_scenario(rt.alloc(), text.as_bytes());
+        let answer = read_scenario(rt.alloc(), text.as_bytes(), false);
         assert_eq!(rt; answer.err(), Some(want), "at {ops}");
     }
     Ok(())
@@ -76,7 +76,7 @@ fn accepts_ops(rt: HostRuntime) -> Result<(), Fail> {
         Op::CancelQuiet { label: 2 },
     ];
     let text = with_ops(rt.alloc(), ops)?;
-    let scenario = read_scenario(rt.alloc(), text.as_bytes())?;
+    let scenario = read_scenario(rt.alloc(), text.as_bytes(), false)?;
     assert_eq!(rt; scenario.ops.as_slice(), want.as_slice());
     Ok(())
 }
@@ -97,8 +97,8 @@ fn migrates(rt: HostRuntime) -> Result<(), Fail> {
     for (text, want) in rows {
         let migrated = migrate(alloc, Value::from_str(alloc, text)?)?.to_string(alloc)?;
         assert_eq!(rt; migrated.as_str(), want);
-        let before = read_scenario(alloc, text.as_bytes())?;
-        let after = read_scenario(alloc, migrated.as_bytes())?;
+        let before = read_scenario(alloc, text.as_bytes(), false)?;
+        let after = read_scenario(alloc, migrated.as_bytes(), false)?;
         assert_eq!(rt; before.settings, after.settings);
         assert_eq!(rt; before.ops.as_slice(), after.ops.as_slice());
     }

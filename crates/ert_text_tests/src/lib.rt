@@ -8,6 +8,8 @@ mod formats;
 #[cfg(test)]
 mod ops;
 #[cfg(test)]
+mod races;
+#[cfg(test)]
 mod scenario;
 #[cfg(test)]
 mod spelling;

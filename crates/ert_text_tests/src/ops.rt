@@ -40,7 +40,7 @@ fn refuses_ops_of_timers(rt: HostRuntime) -> Result<(), Fail> {
     ];
     for (ops, want) in rows {
         let text = with_ops(rt.alloc(), ops)?;
-        let answer = read_scenario(rt.alloc(), text.as_bytes());
+        let answer = read_scenario(rt.alloc(), text.as_bytes(), false);
         assert_eq!(rt; answer.err(), Some(want), "at {ops}");
     }
     Ok(())
@@ -70,7 +70,7 @@ fn refuses_ops_of_schedulers_and_processes(rt: HostRuntime) -> Result<(), Fail> 
     ];
     for (ops, want) in rows {
         let text = with_ops(rt.alloc(), ops)?;
-        let answer = read_scenario(rt.alloc(), text.as_bytes());
+        let answer = read_scenario(rt.alloc(), text.as_bytes(), false);
         assert_eq!(rt; answer.err(), Some(want), "at {ops}");
     }
     Ok(())
@@ -102,7 +102,7 @@ fn refuses_the_label_of_an_earlier_start(rt: HostRuntime) -> Result<(), Fail> {
     ];
     for (ops, want) in rows {
         let text = with_ops(rt.alloc(), ops)?;
-        let answer = read_scenario(rt.alloc(), text.as_bytes());
+        let answer = read_scenario(rt.alloc(), text.as_bytes(), false);
         assert_eq!(rt; answer.err(), want, "at {ops}");
     }
     Ok(())
@@ -147,7 +147,7 @@ fn accepts_ops_of_timers(rt: HostRuntime) -> Result<(), Fail> {
         Op::Deliver { sched: 0 },
         Op::Turn { sched: 1 },
     ];
-    let scenario = read_scenario(rt.alloc(), text.as_bytes())?;
+    let scenario = read_scenario(rt.alloc(), text.as_bytes(), false)?;
     assert_eq!(rt; scenario.ops.as_slice(), want.as_slice());
     Ok(())
 }
@@ -168,7 +168,7 @@ fn accepts_ops_of_processes(rt: HostRuntime) -> Result<(), Fail> {
         },
         Op::Notify { process: 5 },
     ];
-    let scenario = read_scenario(rt.alloc(), text.as_bytes())?;
+    let scenario = read_scenario(rt.alloc(), text.as_bytes(), false)?;
     assert_eq!(rt; scenario.ops.as_slice(), want.as_slice());
     Ok(())
 }

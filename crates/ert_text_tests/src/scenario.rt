@@ -33,12 +33,12 @@ fn refuses_texts(rt: HostRuntime) {
     ];
     for (text, want) in rows {
         assert_eq!(rt;
-            read_scenario(rt.alloc(), text.as_bytes()).err(),
+            read_scenario(rt.alloc(), text.as_bytes(), false).err(),
             Some(want),
             "at {text}"
         );
     }
-    assert_eq!(rt; read_scenario(rt.alloc(), &[255]).err(), Some(JSON));
+    assert_eq!(rt; read_scenario(rt.alloc(), &[255], false).err(), Some(JSON));
 }
 
 /// A scenario with these members after the others; of a key that is repeated the last value counts.
@@ -102,7 +102,7 @@ fn refuses_fields(rt: HostRuntime) -> Result<(), Fail> {
     for (fields, want) in rows {
         let text = with_fields(rt.alloc(), fields)?;
         assert_eq!(rt;
-            read_scenario(rt.alloc(), text.as_bytes()).err(),
+            read_scenario(rt.alloc(), text.as_bytes(), false).err(),
             Some(want),
             "at {fields}"
         );
@@ -181,7 +181,7 @@ fn refuses_ops(rt: HostRuntime) -> Result<(), Fail> {
     for (ops, want) in rows {
         let text = with_ops(rt.alloc(), ops)?;
         assert_eq!(rt;
-            read_scenario(rt.alloc(), text.as_bytes()).err(),
+            read_scenario(rt.alloc(), text.as_bytes(), false).err(),
             Some(want),
             "at {ops}"
         );
@@ -202,7 +202,7 @@ fn accepts_counts(rt: HostRuntime) -> Result<(), Fail> {
     ];
     for (fields, want) in rows {
         let text = with_fields(rt.alloc(), fields)?;
-        let settings = read_scenario(rt.alloc(), text.as_bytes())?.settings;
+        let settings = read_scenario(rt.alloc(), text.as_bytes(), false)?.settings;
         let counts = (settings.schedulers, settings.processes, settings.slots);
         assert_eq!(rt; counts, want, "at {fields}");
         assert_eq!(rt; settings.callers, 1);
@@ -229,7 +229,7 @@ fn accepts_fields(rt: HostRuntime) -> Result<(), Fail> {
     ];
     for (fields, mode, correction, start) in rows {
         let text = with_fields(rt.alloc(), fields)?;
-        let scenario = read_scenario(rt.alloc(), text.as_bytes())?;
+        let scenario = read_scenario(rt.alloc(), text.as_bytes(), false)?;
         let settings = Settings {
             mode,
             correction,
@@ -258,7 +258,7 @@ fn accepts_ops(rt: HostRuntime) -> Result<(), Fail> {
         ["convert",9223372036854775807,"millisecond","microsecond"],["convert",0,"native",1],
         ["convert",-1,"nanosecond",3]
     ]}"#;
-    let scenario = read_scenario(rt.alloc(), text.as_bytes())?;
+    let scenario = read_scenario(rt.alloc(), text.as_bytes(), false)?;
     let want = [
         Op::Tick {
             mono: 4611686018427387903,
@@ -320,7 +320,7 @@ fn limits_ops_and_nesting(rt: HostRuntime) -> Result<(), Fail> {
     for (count, last, want) in rows {
         let ops = format!(in alloc; "[{}{last}]", repeated(alloc, "[\"time\"],", count)?)?;
         let text = with_ops(alloc, ops.as_str())?;
-        let answer = read_scenario(alloc, text.as_bytes());
+        let answer = read_scenario(alloc, text.as_bytes(), false);
         assert_eq!(rt; answer.map(|scenario| scenario.ops.len()), want);
     }
     for (depth, want) in [(127, SHAPE), (128, JSON), (200, JSON)] {
@@ -329,7 +329,10 @@ fn limits_ops_and_nesting(rt: HostRuntime) -> Result<(), Fail> {
             repeated(alloc, "[", depth)?,
             repeated(alloc, "]", depth)?
         )?;
-        assert_eq!(rt; read_scenario(alloc, text.as_bytes()).err(), Some(want));
+        assert_eq!(rt;
+            read_scenario(alloc, text.as_bytes(), false).err(),
+            Some(want)
+        );
     }
     Ok(())
 }

@@ -1,6 +1,7 @@
 pub mod Later
 pub mod Rows
 pub mod Tidied
+mod Nearest
 pub mod Standing
 pub mod Fit
 pub mod Keeping

@@ -5,6 +5,7 @@ pub mod Expiring
 pub mod FiredLists
 pub mod Laws
 pub mod Looking
+pub mod NextDue
 pub mod Parts
 pub mod Starting
 pub mod Sweeping

@@ -1,7 +1,6 @@
 -- When a part is tidy: it holds as armed exactly the timers that are.
 
-use Rattle.std.specs.Prelude.{◌≡◌, ◌≢◌, ℕ, count_by, Some}
-use Rattle.ert_defs.specs.Laws.{is_armed}
+use Rattle.std.specs.Prelude.{◌≡◌, ◌≢◌, ℕ, Some}
 use Rattle.ert_defs.specs.States.{State, state}
 use Rattle.ert_defs.specs.declared.settings.Settings.{Settings}
 use Rattle.ert_defs.specs.declared.timer.Status.TheVariants.{Armed}

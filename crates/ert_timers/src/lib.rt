@@ -19,6 +19,7 @@
 //! | `advance_all` | does the same, and then looks at each timer that is left | every slot once |
 //! | `sweep` | tries each timer of a process that has exited | those timers |
 //! | `forget` | drops the row of a timer that the pass has seen settled, and holds its slot free | constant |
+//! | `next_due` | tells how early a timer may be due | the buckets of a look ahead, 1,024 at most where the wheel was advanced |
 //! | `tally` | counts | none |
 //!
 //! Each timer is tried once, by one exchange, and then its row goes. No call waits for anybody. Only `open`
@@ -40,6 +41,7 @@ mod fired_list;
 mod laws;
 mod looking;
 mod part;
+mod sleeping;
 mod starting;
 mod sweeping;
 

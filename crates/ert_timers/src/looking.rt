@@ -43,7 +43,7 @@ pub(crate) fn look_ahead(desk: &Desk, pass: &mut Pass, by: u32, start: &Start) -
 }
 
 /// The milliseconds from the start time to a time, rounded down.
-fn rounded_down(settings: &Settings, now: i64) -> u64
+pub(crate) fn rounded_down(settings: &Settings, now: i64) -> u64
     requires low { settings.now.start ≤ℤ now }
     requires high { now <ℤ end_time settings.now }
     ensures { pos result ≡ milliseconds.down settings.now now }

@@ -81,13 +81,14 @@ impl Model for WheelPart {
 
 impl WheelPart {
     ghost use Rattle.std.specs.Option.{is_some};
-    ghost use Rattle.std.specs.Prelude.{◌≡◌, ◌<◌, ◌≤◌, IfOk, IfSome, ℕ, length, count_by, [], option_map};
+    ghost use Rattle.std.specs.Prelude.{◌≡◌, ◌<◌, ◌≤◌, IfOk, IfSome, MatchOption, ℕ, length, count_by, [], option_map};
     ghost use Rattle.ert_defs.specs.Settings.{IsChecked};
     ghost use Rattle.ert_defs.specs.States.{state};
     ghost use Rattle.ert_timers.specs.Parts.{Stands, held_row};
     ghost use Rattle.ert_timers.specs.Expiring.{AreDue};
     ghost use Rattle.ert_timers.specs.Changes.{NextOf};
     ghost use Rattle.ert_timers.specs.Tidy.{IsTidy};
+    ghost use Rattle.ert_wheel.specs.NextDue.{NoRow, IsNextDue};
     ghost use Rattle.ert_wheel.specs.Rows.{key_in, key_of, row_at};
 
     /// The part of a wheel of a desk that has just been opened. It has no timer.
@@ -197,6 +198,13 @@ impl WheelPart {
         self.wheel.due(to, &mut due);
         fired.reserve(due.len())?;
         Ok(due)
+    }
+
+    /// How early the first row may be due, by a look ahead from a time in milliseconds.
+    pub(crate) fn first_due(&self, now: u64) -> Option<u64>
+        ensures { MatchOption result (NoRow self.now.keys) (IsNextDue self.now.keys now) }
+    {
+        self.wheel.next_due(now)
     }
 
     /// Tells the wheel that nothing is due up to `to`.

@@ -2,6 +2,7 @@ mod Calls
 pub mod Collect
 mod Due
 pub mod Lists
+pub mod NextDue
 mod Opening
 pub mod Parts
 mod Splice

@@ -1,11 +1,10 @@
 -- The buckets of times: which are visited, and that none is visited twice.
 
 use Rattle.std.proofs.Common.{◌≡◌, ◌≢◌, ℕ, ◌+◌, ◌-◌, ◌/◌, ◌%◌, ◌<◌, ◌≤◌, ◌^◌, Bool, true, false, ◌||◌, max, min, nat_eq, zero, suc, sym, ◌∙◌, ap, inl, inr, refl, arith, bit_and}
-use Rattle.std.proofs.Math.Nat.{mod-eq_of_lt, mod-eq-sub-mul-div, mul-le-mul_left, mul-div-le}
+use Rattle.std.proofs.Math.Nat.{add-mod-mod, mod-lt, mod-eq-sub-mul-div, mul-le-mul_left, mul-div-le}
 use Rattle.std.proofs.lemmas.Bool.{cases_eq, cases_lt, eq-eqb, ne_eqb, or_right, or_left}
 use Rattle.std.proofs.lemmas.Nat.{and_mask}
 use Rattle.std.specs.Int.{IsPowerOfTwo}
-use Rattle.ert_wheel.proofs.Views.{bucket_low}
 use Rattle.ert_wheel.specs.Walks.{Spans}
 use Rattle.ert_wheel.specs.Wheels.{bucket_of}
 
@@ -31,27 +30,28 @@ buckets_apart mask a b power lt near e =
     apart_mod (mask + 1) a b lt (sym (bucket_mod mask a power) ∙ e ∙ bucket_mod mask b power) in
     absurd (omega arith)
 
--- a bucket's own bucket is itself
-pub bucket_twice : (mask time : ℕ) → IsPowerOfTwo (mask + 1)
-    → bucket_of mask (bucket_of mask time) ≡ bucket_of mask time
-bucket_twice mask time power =
-    bucket_mod mask (bucket_of mask time) power ∙ mod-eq_of_lt (bucket_low mask time power)
+-- each bucket is that of one of so many times from any on
+bucket_from : (mask first time : ℕ) → IsPowerOfTwo (mask + 1) → first ≤ time
+    → bucket_of mask (first + (time - first) % (mask + 1)) ≡ bucket_of mask time
+bucket_from mask first time power up =
+    let sum : first + (time - first) ≡ time = omega arith in
+    bucket_mod mask (first + (time - first) % (mask + 1)) power
+    ∙ add-mod-mod first (time - first) (mask + 1) ∙ ap (λ n. n % (mask + 1)) sum
+    ∙ sym (bucket_mod mask time power)
 
--- all buckets
-pub spans_all : (mask next to : ℕ) → IsPowerOfTwo (mask + 1) → Spans mask next to 0 (mask + 1)
-spans_all mask next to power = record {
+-- the times from the first that wasn't passed: all buckets, or up to the last time
+pub spans : (mask next to last end : ℕ) → IsPowerOfTwo (mask + 1) → next < 2 ^ 64 - 1
+    → last ≡ max (min to (2 ^ 64 - 2)) next → end ≡ next + min (last - next) mask + 1 → Spans mask next to end
+spans mask next to last end power fits e is = record {
   ordered = omega arith;
   narrow = omega arith;
-  covers = λ time up low fits. (bucket_of mask time, omega arith, bucket_low mask time power, bucket_twice mask time power);
-}
-
--- the times from the first that wasn't passed
-pub spans_some : (mask next to last : ℕ) → next < 2 ^ 64 - 1 → last ≡ max (min to (2 ^ 64 - 2)) next
-    → last - next < mask → Spans mask next to next (last + 1)
-spans_some mask next to last fits e near = record {
-  ordered = omega arith;
-  narrow = omega arith;
-  covers = λ time up low below. (time, up, omega arith, refl);
+  covers = λ time up low below.
+      elim (cases_lt (last - next) mask) [
+        | inl near ↦ (time, up, omega arith, refl)
+        | inr far ↦
+            let less : (time - next) % (mask + 1) < mask + 1 = mod-lt (time - next) {m = mask + 1} (omega arith) in
+            (next + (time - next) % (mask + 1), omega arith, omega arith, bucket_from mask next time power up)
+      ];
 }
 
 -- whether a bucket is among those of so many times

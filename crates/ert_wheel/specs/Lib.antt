@@ -1,5 +1,6 @@
 pub mod Chained
 pub mod Links
+pub mod NextDue
 pub mod Rings
 pub mod Rows
 pub mod Walks

@@ -35,4 +35,4 @@ mod wheel;
 
 pub use chains::Chains;
 pub use row::{Key, Row};
-pub use wheel::Wheel;
+pub use wheel::{LOOK_AHEAD, Wheel};

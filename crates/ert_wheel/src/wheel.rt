@@ -2,10 +2,14 @@ ghost use Rattle.std.specs.Prelude.{◌≡◌, IfOk, replicate};
 
 use crate::chains::Chains;
 use crate::row::{Key, LAST, Row, VACANT};
-use crate::walk::{bucket, collect, span};
+use crate::walk::{bucket, collect, least_in, visit_end};
 use ert_defs::NoMemory;
 use std::alloc::Global;
 use std::marker::Model;
+
+/// How far `Wheel::next_due` looks ahead, in milliseconds. It looks at a bucket for each, and the heads of
+/// so many buckets are some pages of memory, which a call passes over in about a microsecond.
+pub const LOOK_AHEAD: u64 = 1_024;
 
 /// A hashed timing wheel: rows by their slots, and the due ones in order of deadline.
 ///
@@ -36,9 +40,10 @@ impl Model for Wheel {
 }
 
 impl Wheel {
-    ghost use Rattle.std.specs.Prelude.{◌≡◌, ◌↔◌, ◌<◌, ◌≤◌, ◌^◌, ℕ, Some, None, IsTrue, IsSome, IfSome, IfOk, All, count_by, length, map, option_map, replicate, slice_set, vec_capacity};
+    ghost use Rattle.std.specs.Prelude.{◌≡◌, ◌↔◌, ◌⊎◌, ◌<◌, ◌≤◌, ◌^◌, ℕ, Some, None, IsTrue, IsSome, IfSome, IfOk, MatchOption, All, count_by, length, map, option_map, replicate, slice_set, vec_capacity};
     ghost use Rattle.std.specs.List.Sorted.{IsSortedBy};
     ghost use Rattle.std.specs.Option.{is_some};
+    ghost use Rattle.ert_wheel.specs.NextDue.{NoRow, NoneBefore, IsDueAt, IsNextDue};
     ghost use Rattle.ert_wheel.specs.Rows.{key_in, key_of, row_at, times, due_at, left_at, comes_before};
 
     /// A wheel without rows, with room for one of each slot below `slots`.
@@ -131,11 +136,40 @@ impl Wheel {
         ensures capacity { vec_capacity out.new ≡ vec_capacity out.old }
     {
         out.clear();
-        let (first, end) = span(self.mask, self.next_time, to);
-        for time in first..end {
+        for time in self.next_time..visit_end(self.mask, self.next_time, to) {
             collect(&self.chains, &self.keys, bucket(self.mask, time), to, out);
         }
         out.sort_unstable();
+    }
+
+    /// How early the next row may be due, in milliseconds; None exactly where there is no row.
+    ///
+    /// No row has an earlier deadline. The answer is the least deadline where that is at most `LOOK_AHEAD`
+    /// milliseconds after `now`, and else this end of the look ahead, so that whoever sleeps until then looks
+    /// again. It visits the buckets of the times that weren't passed, as `due` does, and stops at the first
+    /// row that it can tell.
+    pub fn next_due(&self, now: u64) -> Option<u64>
+        ensures { MatchOption result (NoRow self.now) (IsNextDue self.now now) }
+    {
+        if self.is_empty() {
+            return None;
+        }
+        Some(self.least_deadline(now.saturating_add(LOOK_AHEAD)))
+    }
+
+    /// The least deadline, where it is below a bound, and else the bound.
+    fn least_deadline(&self, bound: u64) -> u64
+        ensures none_before { NoneBefore self.now result }
+        ensures near { IsDueAt self.now result ⊎ (result ≡ bound) }
+    {
+        let mut least = bound;
+        for time in self.next_time..visit_end(self.mask, self.next_time, bound) {
+            least = least_in(&self.chains, &self.keys, bucket(self.mask, time), least);
+            if least <= time {
+                return least;
+            }
+        }
+        least
     }
 
     /// Tells that nothing is left up to `to`: no later call looks at a time up to it again.

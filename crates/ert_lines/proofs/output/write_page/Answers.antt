@@ -1,7 +1,10 @@
-use Rattle.ert_io.proofs.Fronts.{taken_front}
+use Rattle.ert_io.proofs.Takes.{took_is, took_front}
 use Rattle.ert_lines.proofs.output.write_page.Goals as goal
+
+pub returns-in-Ok-clause-ok : goal.returns-in-Ok-clause-ok
+returns-in-Ok-clause-ok g c =
+    took_is _ _ _ _ _ (rw c.as_bytes.ensures.value at c.in-Ok.ensures.ok) (rw c.as_bytes.ensures.value at c.in-Ok.ensures.room)
 
 pub returns-in-Err-clause-err : goal.returns-in-Err-clause-err
 returns-in-Err-clause-err g c =
-    let e = rw c.as_bytes.ensures.value at c.in-Err.ensures.err in
-    taken_front _ _ _ _ e
+    took_front _ _ _ _ _ _ (rw c.as_bytes.ensures.value at c.in-Err.ensures.written) (rw c.as_bytes.ensures.value at c.in-Err.ensures.err) c.in-Err.ensures.room_left

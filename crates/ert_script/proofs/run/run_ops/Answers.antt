@@ -1,20 +1,21 @@
-use Rattle.std.proofs.Common.{arith, sym, subst}
+use Rattle.std.proofs.Common.{arith, sym, subst, List, ℕ, ◌++◌, length, string_bytes}
 use Rattle.std.proofs.lemmas.Result.{err_from_is_err_and}
-use Rattle.ert_lines.specs.Names.{IsIndexOf}
+use Rattle.ert_io.specs.Known.{HasRoom}
+use Rattle.ert_lines.proofs.Indexes.{found_label, same_line}
+use Rattle.ert_lines.specs.Names.{IsIndexOf, label_by}
 use Rattle.ert_ops.specs.Ranges.{IsOpInRange}
 use Rattle.ert_ops.specs.declared.op.Op.{Op}
 use Rattle.ert_script.specs.Scripts.{Does, MayBind}
 use Rattle.ert_script.proofs.Labels.{MayGoOn, all_may, may_bind_at}
-use Rattle.ert_script.proofs.Runs.{so_far_first, op_may, goes_on_at, may_at, breaks_at, ends, breaks_last, ok_map, err_map}
-use Rattle.ert_transcript.specs.Labels.{Labels}
+use Rattle.ert_script.proofs.Runs.{so_far_first, op_may, goes_on_at, may_at, breaks_at, ends, breaks_last, ok_map, err_map, line_fits, page_fits}
+use Rattle.ert_transcript.specs.Labels.{Labels, label_of}
 use Rattle.ert_script.proofs.run.run_ops.Goals as goal
 
 pub loop-op-init : goal.loop-op-init
 loop-op-init g c = record {
-  so_far = rw c.new-page.ensures.bytes (so_far_first c.args.world.now (g.K.Sink.taken c.args.sink.now) c.history_stands.ensures);
+  so_far = rw c.new-page.ensures.bytes (so_far_first c.args.world.now (g.K.Sink.taken c.args.sink.now) (g.K.Sink.room c.args.sink.now) c.history_stands.ensures);
   may = subst (λ (ls : Labels). MayGoOn c.args.ops.now ls) (sym c.requires.new) (all_may c.args.ops.now c.requires.labels);
   index = subst (λ (ls : Labels). IsIndexOf ls c.new-names.result) (sym c.requires.new) c.new-names.ensures;
-  room = c.requires.room;
   later = omega arith;
 }
 
@@ -48,7 +49,6 @@ loop-op-preserved g c =
       may = may_at c.loop-op.world c.reply_op.new.world c.args.ops.now c.loop-op.op-index c.op-item.result c.in-Ok.reply c.loop-op-test.true
           c.loop-op.invariant.may done;
       index = c.in-Ok.ensures.index;
-      room = c.put.ensures.room;
       later = omega (arith, c.loop-op.invariant.later, c.put.ensures.later);
     }
 
@@ -63,3 +63,16 @@ returns-clause-err g c =
     err_map c.write_page.result
     (breaks_last c.args.world.now c.loop-op.world c.args.ops.now c.loop-op.op-index _ _ _ _ c.loop-op.invariant.so_far)
     c.write_page.ensures.err
+
+pub put-requires : goal.put-requires
+put-requires g c =
+    subst (λ (line : List ℕ). HasRoom (g.K.Sink.room c.loop-op.sink) (length (string_bytes c.loop-op.page ++ line)))
+    (sym (same_line (label_by c.reply_op.new.names) (label_of c.reply_op.new.world.labels) c.in-Ok.reply
+    (λ t. found_label c.reply_op.new.world.labels c.reply_op.new.names t c.in-Ok.ensures.index)))
+    (line_fits c.args.world.now c.loop-op.world c.reply_op.new.world c.args.ops.now c.loop-op.op-index c.op-item.result _ _ _ c.in-Ok.reply
+    c.loop-op-test.true c.requires.fits c.loop-op.invariant.so_far
+    (subst (λ (op : Op). Does c.loop-op.world op c.in-Ok.reply c.reply_op.new.world) c.op-item.is c.in-Ok.ensures.ok) c.history_stands-in-loop-op.ensures)
+
+pub write_page-requires : goal.write_page-requires
+write_page-requires g c =
+    page_fits c.args.world.now c.loop-op.world c.args.ops.now c.loop-op.op-index _ _ _ c.requires.fits c.loop-op.invariant.so_far

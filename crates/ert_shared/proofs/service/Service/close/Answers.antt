@@ -9,6 +9,9 @@ use Rattle.ert_shared.specs.Gathering.{IsSeen}
 use Rattle.ert_shared.specs.Joining.{HasOwn}
 use Rattle.ert_table.specs.Desks.{front_of, view_of}
 use Rattle.ert_shared.proofs.service.Service.close.Goals as goal
+use Rattle.ert_defs.specs.Legal.{Legal}
+use Rattle.ert_sched.specs.Lived.{IsLived}
+use Rattle.ert_shared.proofs.Closed.{lived_of}
 
 pub from_parts-requires-clause-fit : goal.from_parts-requires-clause-fit
 from_parts-requires-clause-fit g c =
@@ -48,3 +51,9 @@ returns-clause-callers g c =
     (λ x seen. subst (λ h. HasOwn (Caller x.number) (front_of x.pass) h) (sym (ap (λ (w : Shows). w.history) c.from_parts.ensures))
     (own_of (Caller x.number) (view_of x.pass) vc x.sits.actors seen))
     c.join_callers.ensures.seats
+
+pub returns-clause-lived : goal.returns-clause-lived
+returns-clause-lived g c =
+    let s = c.args.self.desk.settings in
+    let legal = subst (λ t. Legal t (front_of c.join_callers.new.pass)) (sym c.args.self.named.settings_is) c.join_callers.ensures.legal in
+    subst (λ (w : Shows). IsLived w.settings w.history) (sym c.from_parts.ensures) (lived_of s (front_of c.join_callers.new.pass) legal)

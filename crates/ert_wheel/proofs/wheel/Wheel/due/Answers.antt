@@ -8,7 +8,7 @@ loop-time-init c =
     let w = c.self.inside in
     record {
       capacity_stays = c.clear.ensures.capacity;
-      sees = seen_start w.mask w.next_time c.span-first.result.0 _ c.args.to (kept_keys w.keys.items) c.clear.new.self.items (omega arith) c.clear.ensures.items;
+      sees = seen_start w.mask w.next_time w.next_time _ c.args.to (kept_keys w.keys.items) c.clear.new.self.items (omega arith) c.clear.ensures.items;
     }
 
 pub collect-requires-clause-may : goal.collect-requires-clause-may
@@ -16,11 +16,11 @@ collect-requires-clause-may c =
     let w = c.self.inside in
     record {
       home = home_by w.mask w.next_time;
-      may = visit_may w.mask w.next_time w.len c.span-first.result.0 c.span-first.result.1 c.args.to c.loop-time.time c.bucket.result
+      may = visit_may w.mask w.next_time w.len c.visit_end-time-end.result c.args.to c.loop-time.time c.bucket.result
           w.keys.items c.deref.result.now w.chains c.loop-time.out.items
           (record {
             wheel = c.self.invariant;
-            span = c.span-first.ensures;
+            span = c.visit_end-time-end.ensures;
             seen = c.loop-time.invariant.sees;
             low = c.loop-time.auto.time;
             high = c.loop-time-test.true;
@@ -34,11 +34,11 @@ loop-time-preserved c =
     let w = c.self.inside in
     record {
       capacity_stays = c.collect.ensures.capacity ∙ c.loop-time.invariant.capacity_stays;
-      sees = visit_more w.mask w.next_time w.len c.span-first.result.0 c.span-first.result.1 c.args.to c.loop-time.time c.bucket.result
+      sees = visit_more w.mask w.next_time w.len c.visit_end-time-end.result c.args.to c.loop-time.time c.bucket.result
           w.keys.items c.deref.result.now w.chains c.loop-time.out.items c.collect.new.rows.items
           (record {
             wheel = c.self.invariant;
-            span = c.span-first.ensures;
+            span = c.visit_end-time-end.ensures;
             seen = c.loop-time.invariant.sees;
             low = c.loop-time.auto.time;
             high = c.loop-time-test.true;
@@ -51,9 +51,9 @@ loop-time-preserved c =
 pub returns-clause-each : goal.returns-clause-each
 returns-clause-each c =
     let w = c.self.inside in
-    due_each w.mask w.next_time w.len c.span-first.result.0 c.span-first.result.1 c.args.to c.loop-time.time w.keys.items w.chains c.args.self.now
-    c.loop-time.out.items c.sort_unstable.new.self.items c.self.invariant c.span-first.ensures
-    (omega (arith, c.loop-time-test.false, c.loop-time.auto.time-end, c.span-first.ensures.ordered)) c.loop-time.invariant.sees c.self.view_is c.sort_unstable.ensures.permutation
+    due_each w.mask w.next_time w.len c.visit_end-time-end.result c.args.to c.loop-time.time w.keys.items w.chains c.args.self.now
+    c.loop-time.out.items c.sort_unstable.new.self.items c.self.invariant c.visit_end-time-end.ensures
+    (omega (arith, c.loop-time-test.false, c.loop-time.auto.time-end, c.visit_end-time-end.ensures.ordered)) c.loop-time.invariant.sees c.self.view_is c.sort_unstable.ensures.permutation
 
 pub returns-clause-rows : goal.returns-clause-rows
 returns-clause-rows c =

@@ -12,4 +12,4 @@ abbrev pub invariant-loop-time : goal.invariant-loop-time
 invariant-loop-time l =
     let w = l.self-inside in
     Sees (vec_capacity l.out) (vec_capacity l.fn.out)
-    (IsSeen w.mask w.next_time l.first (l.time - l.first) l.to (kept_keys w.keys.items) l.out.items)
+    (IsSeen w.mask w.next_time w.next_time (l.time - w.next_time) l.to (kept_keys w.keys.items) l.out.items)

@@ -1,0 +1,10 @@
+/// Who does the ops of a list, which decides what ops may stand there.
+#[derive(Clone, Copy, Debug, PartialEq, Eq)]
+pub(crate) enum Doer {
+    /// One thread does the ops of all, as in the field `ops`.
+    Everyone,
+    /// The thread of the clock.
+    Keeper,
+    /// A caller.
+    Caller,
+}

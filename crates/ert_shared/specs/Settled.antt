@@ -1,0 +1,62 @@
+-- What the calls of a service leave settled. The function of src/laws.rt carries the laws as its contract, so
+-- that they are proved.
+
+use Rattle.std.specs.Prelude.{◌≡◌, ◌≢◌, ℕ, ◌<◌, ◌≤◌, true, Contains, List, [], ◌∷◌, ◌++◌, Some, Ok}
+use Rattle.ert_answers.specs.Chains.{AdvancesWheel, Exits, Turns}
+use Rattle.ert_answers.specs.TimerCalls.{Starts}
+use Rattle.ert_answers.specs.Ways.{Grows, beside}
+use Rattle.ert_answers.specs.declared.answers.Turned.{Turned}
+use Rattle.ert_defs.specs.Laws.{has_settled}
+use Rattle.ert_defs.specs.Legal.{Legal}
+use Rattle.ert_defs.specs.States.{State, state}
+use Rattle.ert_defs.specs.Timers.{Row}
+use Rattle.ert_defs.specs.declared.entry.Actor.{Actor}
+use Rattle.ert_defs.specs.declared.entry.Actor.TheVariants.{Wheel}
+use Rattle.ert_defs.specs.declared.entry.Entry.{Entry}
+use Rattle.ert_defs.specs.declared.settings.Settings.{Settings}
+use Rattle.ert_defs.specs.declared.timer.Start.{Start}
+use Rattle.ert_defs.specs.declared.timer.Status.TheVariants.{Armed}
+use Rattle.ert_defs.specs.declared.timer.TimerRef.{TimerRef}
+
+-- no timer of a wheel is armed that is due by a time, in milliseconds after the start time
+abbrev pub NoneDue : State → ℕ → ℕ → Type 0
+NoneDue s wheel to = (row : Row) → Contains (s.rows wheel) row → row.deadline ≤ to → s.status row.timer ≢ Some Armed
+
+-- of the timers that a wheel had in an earlier state, none for a process is armed in this one
+abbrev pub NoneFor : State → State → ℕ → ℕ → Type 0
+NoneFor was s wheel process = (row : Row) → Contains (was.rows wheel) row → row.dest ≡ process → s.status row.timer ≢ Some Armed
+
+-- no expired timer waits at a scheduler
+abbrev pub NoneWaits : State → ℕ → Type 0
+NoneWaits s wheel = (s.scheds wheel).fired ≡ []
+
+-- a timer was started and has been settled
+abbrev pub IsSettled : State → TimerRef → Type 0
+IsSettled s timer = has_settled (s.status timer) ≡ true
+
+-- after an advance to a time, no timer is armed that the wheel has by then and that is due, whatever comes
+-- after the call
+abbrev pub LawOfAdvances : Type 0
+LawOfAdvances = (g : Settings) (a : Actor) (wheel to fired : ℕ) (row : Row) (f h after : List Entry) → Legal g (h ++ after)
+    → Grows (AdvancesWheel g (beside g a) wheel (Ok (to, fired))) f h
+    → Contains ((state g h).rows wheel) row → row.deadline ≤ to
+    → (state g (h ++ after)).status row.timer ≢ Some Armed
+
+-- after an exit, no timer is armed that stood for the process at its Mark, with which the first step of the
+-- call ends
+abbrev pub LawOfExits : Type 0
+LawOfExits = (g : Settings) (a : Actor) (by process wheel : ℕ) (row : Row) (f h after : List Entry) → Legal g (h ++ after)
+    → (call : Grows (Exits g (beside g a) by process true) f h) → wheel < g.schedulers
+    → Contains ((state g (f ++ call.made.before)).rows wheel) row → row.dest ≡ process
+    → (state g (h ++ after)).status row.timer ≢ Some Armed
+
+-- after a start that found its destination to have exited, its timer is settled
+abbrev pub LawOfStarts : Type 0
+LawOfStarts = (g : Settings) (a : Actor) (by wheel : ℕ) (start : Start) (timer : TimerRef) (f h after : List Entry) → Legal g (h ++ after)
+    → (call : Grows (beside g a (Wheel wheel ∷ []) (Starts g by wheel start (Ok timer))) f h) → call.made.allowed.was ≡ true
+    → IsSettled (state g (h ++ after)) timer
+
+-- after a turn no expired timer waits at the scheduler
+abbrev pub LawOfTurns : Type 0
+LawOfTurns = (g : Settings) (a : Actor) (wheel : ℕ) (t : Turned) (f h : List Entry) → Grows (Turns g (beside g a) wheel (Ok t)) f h
+    → NoneWaits (state g h) wheel

@@ -1,0 +1,237 @@
+-- The least deadline of a bucket, and of the buckets of a look ahead.
+
+use Rattle.std.proofs.Common.{◌≡◌, ◌≢◌, ℕ, ◌+◌, ◌-◌, ◌<◌, ◌≤◌, ◌^◌, ◌⊎◌, max, min, zero, suc, cond, count_by, List, [], ◌∷◌, Option, Some, None, IfSome, length, get_or, sym, subst, ◌∙◌, ap, inl, inr, refl, arith}
+use Rattle.std.proofs.lemmas.Bool.{cases_eq, cases_lt}
+use Rattle.std.proofs.lemmas.List.Sums.{sum_by-cons}
+use Rattle.std.specs.Option.{is_some}
+use Rattle.ert_wheel.proofs.Collect.{InBucket, key_low, found}
+use Rattle.ert_wheel.proofs.Views.{kept_in}
+use Rattle.ert_wheel.specs.NextDue.{NoRow, HasRow, NoneBefore, IsDueAt, IsLeastIn}
+use Rattle.ert_wheel.specs.Rings.{Rings, Place, AreChains, bound_of, order_of, Finds}
+use Rattle.ert_wheel.specs.Rows.{key_in}
+use Rattle.ert_wheel.specs.Walks.{Spans}
+use Rattle.ert_wheel.specs.Wheels.{kept_keys, bucket_of, home_by, place_of, places, IsWheel}
+use Rattle.ert_wheel.specs.declared.row.Key.{Key}
+
+-- where none is counted there is no row, and else there is one
+pub no_row : (keys : List (Option Key)) → count_by is_some keys ≡ 0 → NoRow keys
+no_row [] none slot = refl
+no_row (Some key ∷ keys) none slot =
+    absurd (omega (arith, sum_by-cons (λ (o : Option Key). cond (is_some o) 1 0) (Some key) keys))
+no_row (None ∷ keys) none zero = refl
+no_row (None ∷ keys) none (suc slot) =
+    no_row keys (omega (arith, sum_by-cons (λ (o : Option Key). cond (is_some o) 1 0) None keys)) slot
+
+pub has_row : (keys : List (Option Key)) → count_by is_some keys ≢ 0 → HasRow keys
+has_row [] some = absurd (some refl)
+has_row (Some key ∷ keys) some = record { slot = 0; key = key; has = refl }
+has_row (None ∷ keys) some =
+    let row : HasRow keys =
+    has_row keys (λ none. some (omega (arith, sum_by-cons (λ (o : Option Key). cond (is_some o) 1 0) None keys))) in
+    record { slot = suc row.slot; key = row.key; has = row.has }
+
+-- the chain was walked down to the slot that comes next
+pub record IsPassed (keys : List (Option Key)) (home : Key → ℕ) (bucket bound : ℕ) (next : Option ℕ) (least : ℕ) : Type 0 where
+  pub low : least ≤ bound
+  pub passed : (j : ℕ) (key : Key) → key_in keys j ≡ Some key → home key ≡ bucket
+      → bound_of (places home keys) next ≤ key.order → least ≤ key.deadline
+  pub near : IsDueAt keys least ⊎ (least ≡ bound)
+  pub stands : IfSome next (InBucket keys home bucket)
+
+-- the slot of a key has this place
+at_place : (keys : List (Option Key)) (home : Key → ℕ) (j : ℕ) (key : Key) → key_in keys j ≡ Some key
+    → places home keys j ≡ Some (record { home = home key; order = key.order })
+at_place keys home j key has = ap (place_of home) has
+
+-- the walk begins at the newest
+pub passes_none : (chains : Rings) (keys : List (Option Key)) (home : Key → ℕ) (bucket bound : ℕ) (next : Option ℕ)
+    → length keys ≡ chains.slots → AreChains chains (places home keys)
+    → Finds chains (places home keys) bucket (2 ^ 64) next → IsPassed keys home bucket bound next bound
+passes_none chains keys home bucket bound next slots are f = record {
+  low = omega arith;
+  passed = λ j key has same high.
+      let low : j < chains.slots = omega (arith, slots, key_low keys j key has) in
+      let place : Place = record { home = home key; order = key.order } in
+      absurd (omega (
+        arith,
+        f.greatest j place low (at_place keys home j key has) same (are.orders j place (at_place keys home j key has)),
+      ));
+  near = inr refl;
+  stands = found chains keys home bucket (2 ^ 64) next f;
+}
+
+-- a step of the walk
+passes_key : (chains : Rings) (keys : List (Option Key)) (home : Key → ℕ) (bucket bound slot least : ℕ) (key : Key) (next : Option ℕ)
+    → length keys ≡ chains.slots → AreChains chains (places home keys)
+    → IsPassed keys home bucket bound (Some slot) least → key_in keys slot ≡ Some key → home key ≡ bucket
+    → Finds chains (places home keys) bucket key.order next
+    → IsPassed keys home bucket bound next (min least key.deadline)
+passes_key chains keys home bucket bound slot least key next slots are p has at_home f =
+    let here : bound_of (places home keys) (Some slot) ≡ key.order + 1 =
+    ap (λ (o : Option Key). order_of (place_of home o) + 1) has in
+    record {
+      low = omega (arith, p.low);
+      passed = λ j other is same high.
+          let low : j < chains.slots = omega (arith, slots, key_low keys j other is) in
+          elim (cases_lt other.order key.order) [
+            | inl less ↦
+                absurd (omega (arith, f.greatest j (record { home = home other; order = other.order }) low (at_place keys home j other is) same less))
+            | inr more ↦
+                elim (cases_eq other.order key.order) [
+                  | inl e ↦
+                      let one : j ≡ slot =
+                      are.once j slot (record { home = home other; order = other.order }) (record { home = home key; order = key.order })
+                      (at_place keys home j other is) (at_place keys home slot key has) e in
+                      let some : Some other ≡ Some key = sym is ∙ ap (key_in keys) one ∙ has in
+                      let same_key : other ≡ key = cc in
+                      let it : other.deadline ≡ key.deadline = ap (λ (k : Key). k.deadline) same_key in
+                      omega arith
+                  | inr ne ↦ omega (arith, p.passed j other is same (omega (arith, here)))
+                ]
+          ];
+      near = elim (cases_lt key.deadline least) [
+        | inl less ↦ inl (record { slot = slot; key = key; has = has; at = omega arith })
+        | inr more ↦
+            let e : least ≡ min least key.deadline = omega arith in
+            subst (λ n. IsDueAt keys n ⊎ (n ≡ bound)) e p.near
+      ];
+      stands = found chains keys home bucket key.order next f;
+    }
+
+-- what a turn of the loop meets: the slot that came next, and what comes after it
+pub record Steps (chains : Rings) (keys : List Key) (home : Key → ℕ) (bucket bound slot : ℕ) (here next : Option ℕ) (least : ℕ) : Type 0 where
+  pub slots : length (kept_keys keys) ≡ chains.slots
+  pub are : AreChains chains (places home (kept_keys keys))
+  pub passed : IsPassed (kept_keys keys) home bucket bound here least
+  pub is : here ≡ Some slot
+  pub older : (places : ℕ → Option Place) (place : Place) → AreChains chains places → places slot ≡ Some place
+      → Finds chains places place.home place.order next
+
+-- the key that is read there
+record AtKey (chains : Rings) (keys : List Key) (home : Key → ℕ) (bucket bound slot : ℕ) (next : Option ℕ) (least : ℕ) (key : Key) : Type 0 where
+  passed : IsPassed (kept_keys keys) home bucket bound (Some slot) least
+  has : key_in (kept_keys keys) slot ≡ Some key
+  at_home : home key ≡ bucket
+  follows : Finds chains (places home (kept_keys keys)) (home key) key.order next
+
+at_key : (chains : Rings) (keys : List Key) (home : Key → ℕ) (bucket bound slot : ℕ) (here next : Option ℕ) (least : ℕ) (d : Key)
+    → Steps chains keys home bucket bound slot here next least
+    → AtKey chains keys home bucket bound slot next least (get_or keys slot d)
+at_key chains keys home bucket bound slot here next least d t =
+    let p : IsPassed (kept_keys keys) home bucket bound (Some slot) least =
+    subst (λ (o : Option ℕ). IsPassed (kept_keys keys) home bucket bound o least) t.is t.passed in
+    let same : p.stands.key ≡ get_or keys slot d = (kept_in keys slot d p.stands.key p.stands.has).1 in
+    let has : key_in (kept_keys keys) slot ≡ Some (get_or keys slot d) =
+    p.stands.has ∙ ap (λ (k : Key). Some k) same in
+    record {
+      passed = p;
+      has = has;
+      at_home = ap home (sym same) ∙ p.stands.at_home;
+      follows = t.older (places home (kept_keys keys)) (record { home = home (get_or keys slot d); order = (get_or keys slot d).order }) t.are (ap (place_of home) has);
+    }
+
+pub steps_on : (chains : Rings) (keys : List Key) (home : Key → ℕ) (bucket bound slot : ℕ) (here next : Option ℕ) (least : ℕ) (d : Key)
+    → Steps chains keys home bucket bound slot here next least
+    → IsPassed (kept_keys keys) home bucket bound next (min least (get_or keys slot d).deadline)
+steps_on chains keys home bucket bound slot here next least d t =
+    let a = at_key chains keys home bucket bound slot here next least d t in
+    passes_key chains (kept_keys keys) home bucket bound slot least (get_or keys slot d) next t.slots t.are a.passed a.has a.at_home
+    (subst (λ (b : ℕ). Finds chains (places home (kept_keys keys)) b (get_or keys slot d).order next) a.at_home a.follows)
+
+-- the orders don't depend on the homes
+bound_same : (g h : Key → ℕ) (keys : List (Option Key)) (next : Option ℕ)
+    → bound_of (places g keys) next ≡ bound_of (places h keys) next
+bound_same g h keys None = refl
+bound_same g h keys (Some slot) =
+    ap (λ n. n + 1) (elim (key_in keys slot) as (λ (o : Option Key). order_of (place_of g o) ≡ order_of (place_of h o))
+    [ None ↦ refl | Some key ↦ refl ])
+
+-- each turn leaves fewer orders
+pub steps_fall : (chains : Rings) (keys : List Key) (home : Key → ℕ) (bucket bound slot : ℕ) (here next : Option ℕ) (least : ℕ) (d : Key)
+    → Steps chains keys home bucket bound slot here next least
+    → bound_of (places (λ _. 0) (kept_keys keys)) next < bound_of (places (λ _. 0) (kept_keys keys)) here
+steps_fall chains keys home bucket bound slot here next least d t =
+    let a = at_key chains keys home bucket bound slot here next least d t in
+    let key : Key = get_or keys slot d in
+    let e : bound_of (places (λ _. 0) (kept_keys keys)) here ≡ key.order + 1 =
+    ap (bound_of (places (λ _. 0) (kept_keys keys))) t.is ∙ ap (λ (o : Option Key). order_of (place_of (λ _. 0) o) + 1) a.has in
+    omega (arith, a.follows.down, bound_same (λ _. 0) home (kept_keys keys) next)
+
+-- the walk ends where nothing comes next
+pub passes_all : (keys : List (Option Key)) (home : Key → ℕ) (bucket bound : ℕ) (here : Option ℕ) (least : ℕ) → here ≡ None
+    → IsPassed keys home bucket bound here least → IsLeastIn keys home bucket bound least
+passes_all keys home bucket bound here least is passed =
+    let p : IsPassed keys home bucket bound None least =
+    subst (λ (o : Option ℕ). IsPassed keys home bucket bound o least) is passed in
+    record {
+      low = p.low;
+      below = λ j key has same. p.passed j key has same (omega arith);
+      near = p.near;
+    }
+
+-- the buckets of the times before one were visited
+pub record IsLeast (mask next time bound : ℕ) (keys : List (Option Key)) (least : ℕ) : Type 0 where
+  pub low : least ≤ bound
+  pub below : (j : ℕ) (key : Key) (t : ℕ) → key_in keys j ≡ Some key → next ≤ t → t < time
+      → home_by mask next key ≡ bucket_of mask t → least ≤ key.deadline
+  pub near : IsDueAt keys least ⊎ (least ≡ bound)
+
+pub visits_none : (mask next bound : ℕ) (keys : List (Option Key)) → IsLeast mask next next bound keys bound
+visits_none mask next bound keys = record {
+  low = omega arith;
+  below = λ j key t has up low same. absurd (omega arith);
+  near = inr refl;
+}
+
+-- one more is
+visits_one : (mask next time bound bucket : ℕ) (keys : List (Option Key)) (least new : ℕ)
+    → IsLeast mask next time bound keys least → bucket ≡ bucket_of mask time
+    → IsLeastIn keys (home_by mask next) bucket least new → IsLeast mask next (time + 1) bound keys new
+visits_one mask next time bound bucket keys least new was is now = record {
+  low = omega (arith, was.low, now.low);
+  below = λ j key t has up low same.
+      elim (cases_eq t time) [
+        | inl e ↦ now.below j key has (same ∙ ap (bucket_of mask) e ∙ sym is)
+        | inr ne ↦ omega (arith, now.low, was.below j key t has up (omega arith) same)
+      ];
+  near = elim now.near [
+    | inl due ↦ inl due
+    | inr e ↦ subst (λ n. IsDueAt keys n ⊎ (n ≡ bound)) (sym e) was.near
+  ];
+}
+
+-- the same of a wheel: `lent` is the keys as they are lent
+pub visits_bucket : (mask next count time bound bucket : ℕ) (keys lent : List Key) (chains : Rings) (least new : ℕ)
+    → IsWheel mask next count keys chains → lent ≡ keys → bucket ≡ bucket_of mask time
+    → IsLeast mask next time bound (kept_keys keys) least
+    → ((home : Key → ℕ) → AreChains chains (places home (kept_keys lent))
+    → IsLeastIn (kept_keys lent) home bucket least new)
+    → IsLeast mask next (time + 1) bound (kept_keys keys) new
+visits_bucket mask next count time bound bucket keys lent chains least new w same is was looks =
+    let now : IsLeastIn (kept_keys lent) (home_by mask next) bucket least new =
+    looks (home_by mask next)
+    (subst (λ (ks : List Key). AreChains chains (places (home_by mask next) (kept_keys ks))) (sym same) w.are) in
+    visits_one mask next time bound bucket (kept_keys keys) least new was is
+    (subst (λ (ks : List Key). IsLeastIn (kept_keys ks) (home_by mask next) bucket least new) same now)
+
+-- a row that wasn't visited is due later than the time that was
+pub none_before_soon : (mask next time bound : ℕ) (keys : List (Option Key)) (least : ℕ) → next ≤ time → least ≤ time
+    → IsLeast mask next (time + 1) bound keys least → NoneBefore keys least
+none_before_soon mask next time bound keys least up soon seen j key has =
+    elim (cases_lt time key.deadline) [
+      | inl later ↦ omega arith
+      | inr due ↦ seen.below j key (max key.deadline next) has (omega arith) (omega arith) refl
+    ]
+
+-- and where all times were visited, none is before the least
+pub none_before_all : (mask next end bound : ℕ) (keys : List Key) (least : ℕ) (d : Key) → next < 2 ^ 64 - 1
+    → Spans mask next bound end → IsLeast mask next end bound (kept_keys keys) least
+    → NoneBefore (kept_keys keys) least
+none_before_all mask next end bound keys least d fits span seen j key has =
+    elim (cases_lt bound key.deadline) [
+      | inl later ↦ omega (arith, seen.low)
+      | inr due ↦
+          let low : key.deadline < 2 ^ 64 - 1 = (kept_in keys j d key has).2 in
+          let v = span.covers (max key.deadline next) (omega arith) (omega arith) (omega arith) in
+          seen.below j key v.0 has v.1 v.2 (sym v.3)
+    ]
