@@ -23,11 +23,11 @@ pub took_front : (taken taken_new : Option (List ℕ)) (room room_new : Option �
 took_front taken taken_new room room_new text n less e f =
     let long : length (take n text) ≡ n = length-take-le n text (omega arith) in
     record {
-  front = take n text;
-  others = drop n text;
-  took = took_is taken taken_new room room_new (take n text) e (f ∙ ap (λ (k : ℕ). more_by k room_new) (sym long));
-  whole = take-append-drop n text;
-}
+      front = take n text;
+      others = drop n text;
+      took = took_is taken taken_new room room_new (take n text) e (f ∙ ap (λ (k : ℕ). more_by k room_new) (sym long));
+      whole = take-append-drop n text;
+    }
 
 after_both : (room : Option ℕ) (a b : List ℕ) → room_after (length b) (room_after (length a) room) ≡ room_after (length (a ++ b)) room
 after_both None a b = refl

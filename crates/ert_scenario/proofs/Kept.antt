@@ -33,7 +33,7 @@ use Rattle.ert_scenario.proofs.Valid.{whole, tested_plan}
 
 -- ---- the members of an object
 
-apart : (a b : List ℕ) → bytes_eq a b ≡ false → a ≡ b → ⊥
+pub apart : (a b : List ℕ) → bytes_eq a b ≡ false → a ≡ b → ⊥
 apart a b h e = true≢false (sym ((bytes_eq-Decides a b).1 e) ∙ h)
 
 named_twice : (a b : Bool) → (a && (a && b)) ≡ (a && b)
@@ -76,7 +76,7 @@ put_named_at Greater is k l d e ms h later = ap (λ rest. is l && rest) later �
     swapped false false c = refl
 
 -- the names of the members with one put
-put_named : (is : List ℕ → Bool) (k : List ℕ) (d : Data) (ms : Members) → are_named is (put k d ms) ≡ (is k && are_named is ms)
+pub put_named : (is : List ℕ → Bool) (k : List ℕ) (d : Data) (ms : Members) → are_named is (put k d ms) ≡ (is k && are_named is ms)
 unfolding are_named
 put_named is k d no_members = refl
 put_named is k d (member l e ms) = put_named_at (slice_cmp nat_cmp k l) is k l d e ms refl (put_named is k d ms)

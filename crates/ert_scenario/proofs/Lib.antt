@@ -11,6 +11,9 @@ pub mod Listed
 pub mod Members
 pub mod Migrated
 pub mod Parts
+pub mod QuickLemmas
+pub mod QuickMembers
+pub mod Reading
 pub mod Refused
 pub mod Scanned
 pub mod Tested

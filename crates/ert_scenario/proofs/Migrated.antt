@@ -10,7 +10,7 @@ use Rattle.ert_ops.specs.declared.op.Op.{Op}
 use Rattle.ert_ops.specs.declared.op.Op.TheVariants.{CancelAsync, ReadAsync}
 use Rattle.ert_scenario.specs.Kinds.{Found, ◌>>=◌, both, of_kind, integer, word, boolean as boolean_of, two_words, list_of, listed, items_in, text, head, tail, end}
 use Rattle.ert_scenario.specs.Migration.{is_ask, migrated_items, migrated_op, each, migrated_list}
-use Rattle.ert_scenario.specs.Rows.{keeper_rows, shared_rows, sched_rows, clock_rows, process_rows, timer_rows, asked, rows_of_one, rows_of_two, caller_groups, groups_of, row_in, or_next, named, op_of}
+use Rattle.ert_scenario.specs.Rows.{keeper_rows, shared_rows, sched_rows, clock_rows, process_rows, timer_rows, asked, rows_of_one, rows_of_two, caller_groups, groups_of, row_in, or_next, named, op_from, op_of}
 use Rattle.ert_scenario.specs.Walked.{without_fault}
 use Rattle.ert_scenario.specs.Walks.{raws_of, caller_raws, race_raws, all_raws, ops_of}
 use Rattle.ert_scenario.specs.Lists.{RaceValues, OpValues}
@@ -19,7 +19,6 @@ use Rattle.ert_ops.specs.Races.{Race}
 use Rattle.ert_scenario.specs.declared.fault.Fault.TheVariants as faults
 use Rattle.ert_scenario.specs.declared.doer.Doer.{Doer}
 use Rattle.ert_scenario.specs.declared.doer.Doer.TheVariants.{Everyone, Keeper, Caller}
-use Rattle.ert_scenario.specs.declared.format.Format.{Format}
 use Rattle.ert_scenario.specs.declared.format.Format.TheVariants.{One, Two}
 use Rattle.ert_scenario.proofs.Cut.{splits, callers_ops}
 use Rattle.ert_scenario.proofs.Listed.{list_of_items}
@@ -168,10 +167,6 @@ name_kept doer op name args false true e f =
 name_kept doer op name args false false e f = λ h.
     let none : asks name ≡ false = rw (e, f) refl in
     subst (λ (b : Bool). named name (groups_of doer Two) (migrated_args b args) ≡ Ok op) (sym none) (other_kept doer op name args e f h)
-
--- the op that items are
-abbrev op_from : Format → Doer → List Data → Found Op
-op_from format doer items = text (head items) >>= (λ name. named name (groups_of doer format) (tail items))
 
 named_items : (doer : Doer) (op : Op) (asked : Bool) (x : Data) (args : List Data) (name : List ℕ) → text (Some x) ≡ Ok name
     → named name (groups_of doer Two) (migrated_args asked args) ≡ Ok op → op_from Two doer (cond asked ((x ∷ args) ++ boolean true ∷ []) (x ∷ args)) ≡ Ok op

@@ -6,6 +6,8 @@ pub mod Labels
 pub mod Lists
 pub mod Migration
 pub mod Places
+pub mod Quick
+pub mod QuickMembers
 pub mod Ranges
 pub mod Rows
 pub mod Scenarios

@@ -177,6 +177,10 @@ abbrev pub named : List ℕ → List (List Row) → List Data → Found Op
 named name [] args = Err Shape
 named name (rows ∷ groups) args = or_next (row_in name rows args) (named name groups args)
 
+-- the op that items are
+abbrev pub op_from : Format → Doer → List Data → Found Op
+op_from format doer items = text (head items) >>= (λ name. named name (groups_of doer format) (tail items))
+
 -- the op that a value is, before the ranges of its numbers are tested
 unfoldable pub op_of : Format → Doer → Data → Found Op
-op_of format doer d = listed (Some d) >>= (λ items. text (head items) >>= (λ name. named name (groups_of doer format) (tail items)))
+op_of format doer d = listed (Some d) >>= op_from format doer

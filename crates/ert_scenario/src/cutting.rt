@@ -26,7 +26,7 @@ pub(crate) fn scenario_from(
     requires { list_count (lists_seen lists.now).race ≤ 16 }
     ensures { IfOk result (λ s. plan_of s ≡ cut_plan top (lists_seen lists.now) ops.items) }
 {
-    let (ours, others) = front(&ops, lists.ops.len());
+    let (_, others) = front(&ops, lists.ops.len());
     let race = match &lists.race {
         Some(race) => Some(race_from(alloc, top.turns, race, others)?),
         None => None,

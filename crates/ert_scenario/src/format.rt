@@ -1,8 +1,9 @@
 //! The format of a scenario.
 
-ghost use Rattle.std.specs.Prelude.{◌≡◌};
+ghost use Rattle.std.specs.Prelude.{◌≡◌, option_map};
 ghost use Rattle.serde_json.specs.View.{view};
-ghost use Rattle.ert_scenario.specs.Fields.{format_of};
+ghost use Rattle.ert_scenario.specs.Fields.{format_by, format_of};
+ghost use Rattle.ert_scenario.specs.Kinds.{integer};
 
 use crate::kinds::integer;
 use serde_json::Value;
@@ -21,7 +22,14 @@ pub(crate) enum Format {
 pub(crate) fn format_of(value: &Value) -> Format
     ensures { result ≡ format_of (view value.now) }
 {
-    match integer(value.get("format")) {
+    format_from(value.get("format"))
+}
+
+/// The format that the value of the field `format` names.
+pub(crate) fn format_from(value: Option<&Value>) -> Format
+    ensures { result ≡ format_by (integer (option_map (λ v. view v.now) value.entry)) }
+{
+    match integer(value) {
         Ok(1) => Format::One,
         _ => Format::Two,
     }

@@ -2,7 +2,7 @@
 
 ghost use Rattle.std.specs.Prelude.{◌≡◌, map};
 ghost use Rattle.serde_json.specs.View.{view};
-ghost use Rattle.ert_scenario.specs.Rows.{plain, caller_groups, groups_of, named, op_of};
+ghost use Rattle.ert_scenario.specs.Rows.{plain, caller_groups, groups_of, named, op_from, op_of};
 
 mod clock;
 mod formats;
@@ -23,7 +23,14 @@ use serde_json::Value;
 pub(crate) fn op_of(format: Format, doer: Doer, value: &Value) -> Result<Op, Fault>
     ensures { result ≡ op_of format doer (view value.now) }
 {
-    let (name, args) = next(listed(Some(value))?);
+    op_from(format, doer, listed(Some(value))?)
+}
+
+/// The op that items are.
+pub(crate) fn op_from(format: Format, doer: Doer, items: &[Value]) -> Result<Op, Fault>
+    ensures { result ≡ op_from format doer (map view items.now) }
+{
+    let (name, args) = next(items);
     named(format, doer, text(name)?, args)
 }
 

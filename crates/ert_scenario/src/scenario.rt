@@ -14,6 +14,7 @@ use crate::fields::{Top, top_of};
 use crate::format::{Format, format_of};
 use crate::labels::{Labels, first_out};
 use crate::lists::{Lists, lists_of};
+use crate::quick::read_quickly;
 use crate::scanning::scan;
 use crate::walk::Walk;
 use ert_defs::Settings;
@@ -102,6 +103,19 @@ pub fn read_scenario(alloc: Global, bytes: &[u8], race: bool) -> Result<Scenario
     // Want of memory may come in place of any answer.
     ensures err { IfErr result (λ e. e ≢ ScenarioErr.NoMemory → HasRefusal race bytes.now e) }
 {
+    if !race {
+        if let Some(scenario) = read_quickly(alloc, bytes)? {
+            return Ok(scenario);
+        }
+    }
+    read_slowly(alloc, bytes, race)
+}
+
+/// The same, by way of a value.
+fn read_slowly(alloc: Global, bytes: &[u8], race: bool) -> Result<Scenario, ScenarioErr>
+    ensures ok { IfOk result (λ s. IsScenario race bytes.now (plan_of s)) }
+    ensures err { IfErr result (λ e. e ≢ ScenarioErr.NoMemory → HasRefusal race bytes.now e) }
+{
     match Value::from_slice(alloc, bytes) {
         Ok(value) => scenario_of(alloc, &value, race),
         Err(e) if e.is_memory() => Err(ScenarioErr::NoMemory),
@@ -170,14 +184,18 @@ fn scenario_with(
 }
 
 /// Whether there are more ops, callers' lists or turns than a scenario may have.
-fn is_over(ops: usize, lists: usize, turns: u64) -> bool
+pub(crate) fn is_over(ops: usize, lists: usize, turns: u64) -> bool
     ensures { result ≡ is_over ops lists turns }
 {
     ops > MAX_OPS || lists > MAX_LISTS || turns > MAX_TURNS
 }
 
 /// The place of the first range fault of the ops.
-fn first_range(alloc: Global, settings: &Settings, walk: &Walk) -> Result<Option<u32>, ScenarioErr>
+pub(crate) fn first_range(
+    alloc: Global,
+    settings: &Settings,
+    walk: &Walk,
+) -> Result<Option<u32>, ScenarioErr>
     ensures ok { IfOk result (λ place. (all : List (Found AnOp)) → IsOver walk.now.ops.items walk.now.range all
         → place ≡ first_range 1 (tested settings.now [] all)) }
     ensures err { IfErr result (λ e. e ≡ ScenarioErr.NoMemory) }

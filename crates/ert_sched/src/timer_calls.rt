@@ -19,6 +19,7 @@ impl World {
     /// BadArg comes where the start has no deadline at the time of the call, and Full where each slot of the
     /// wheel is taken or spent. A timer for a process that has exited is started and cancelled at once. No
     /// memory is taken.
+    #[inline]
     pub fn start(&mut self, wheel: u32, start: &Start) -> Result<TimerRef, StartErr>
         requires wheel { wheel < self.old.settings.schedulers }
         requires dest { start.now.dest < self.old.settings.processes }
@@ -31,6 +32,7 @@ impl World {
 
     /// Cancels a timer, and answers how many milliseconds were left (`cancel_timer`); None where the
     /// reference names no timer that is armed.
+    #[inline]
     pub fn cancel_timer(&mut self, timer: TimerRef) -> Option<u64>
         ensures call { Goes self.old (By self.old (λ g. Cancels g (Caller 0) timer result)) self.new }
         ensures clock { self.new.clock ≡ self.old.clock }
@@ -59,6 +61,7 @@ impl World {
 
     /// How many milliseconds are left of a timer (`read_timer`); None where the reference names no timer
     /// that is armed.
+    #[inline]
     pub fn read_timer(&mut self, timer: TimerRef) -> Option<u64>
         ensures call { Goes self.old (By self.old (λ g. Reads g (Caller 0) timer result)) self.new }
         ensures clock { self.new.clock ≡ self.old.clock }

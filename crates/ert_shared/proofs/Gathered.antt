@@ -213,3 +213,40 @@ in_more {X} number stands sort n v xs x are at stand held = record {
     held_at : (i : ℕ) → i < n + 1 → (b : Bool) → nat_eq i n ≡ b → is_held v.actors (sort i) ≡ true
     held_at i low true is = subst (λ m. is_held v.actors (sort m) ≡ true) (sym (eqb-true i n is)) held
     held_at i low false is = are.held i (below i low (differ i is))
+
+-- the parts that are put in their places so far, and how many are left
+pub record Gathers {X : Type 0} (number : X → ℕ) (stands : List Entry → X → Type 0) (sort : ℕ → Actor) (count : ℕ) (first v : View) (places : List (Option X)) (left : ℕ) : Type 0 where
+  pub seen : IsSeen first v
+  pub gathered : Gathered number stands sort count v places
+  pub full : filled places + left ≡ count
+
+-- a part that comes out of its lock, with its pass
+pub record Comes {X : Type 0} (number : X → ℕ) (stands : List Entry → X → Type 0) (sort : ℕ → Actor) (count : ℕ) (v w j : View) (x : X) : Type 0 where
+  pub actors : j.actors ≡ v.actors ++ w.actors
+  pub joined : Joined (meeting v w) j.front
+  pub own : w.actors ≡ sort (number x) ∷ []
+  pub stand : stands w.front x
+  pub low : number x < count
+
+-- one more is put
+pub gathers_more : {X : Type 0} (g : Settings) (number : X → ℕ) (stands : List Entry → X → Type 0) (sort : ℕ → Actor) (count : ℕ) (first v w j : View) (places new : List (Option X)) (x : X) (i left more : ℕ)
+    → StandsOn g number stands sort → Legal g j.front → Comes number stands sort count v w j x → i ≡ number x → new ≡ slice_set places i (Some x) → more ≡ suc left
+    → Gathers number stands sort count first v places more → Gathers number stands sort count first j new left
+gathers_more g number stands sort count first v w j places new x i left more on legal comes at is one gathers =
+    let done = put g number stands sort count v w j places x on comes.actors comes.joined legal comes.own comes.stand comes.low gathers.gathered in
+    let placed : new ≡ slice_set places (number x) (Some x) = is ∙ ap (λ k. slice_set places k (Some x)) at in
+    let filled_is : filled new ≡ suc (filled places) = ap filled placed ∙ done.more in
+    let full = gathers.full in
+    record {
+      seen = seen_then first v j gathers.seen (seen_left v w j comes.actors comes.joined);
+      gathered = subst (Gathered number stands sort count j) (sym placed) done.gathered;
+      full = omega (arith, filled_is, one, full);
+    }
+
+-- when none is left, all stand in order
+pub gathers_all : {X : Type 0} (number : X → ℕ) (stands : List Entry → X → Type 0) (sort : ℕ → Actor) (count : ℕ) (first v : View) (places : List (Option X)) (left : ℕ)
+    → Gathers number stands sort count first v places left → left ≡ 0 → AreIn number stands sort count v (somes places)
+gathers_all number stands sort count first v places left gathers none =
+    let full = gathers.full in
+    let all : filled places ≡ count = omega (arith, full, none) in
+    all_in number stands sort count v places gathers.gathered all

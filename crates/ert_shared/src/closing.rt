@@ -1,5 +1,5 @@
 //! How a service is closed: the passes are joined, and the parts are put in order of number.
-ghost use Rattle.std.specs.Prelude.{◌≡◌, ◌≤◌, ◌+◌, ℕ, [], vec_len, length};
+ghost use Rattle.std.specs.Prelude.{◌≡◌, ◌<◌, ◌≤◌, [], vec_len, slice_set, Some};
 ghost use Rattle.std.specs.Vec.{vec_capacity};
 ghost use Rattle.ert_defs.specs.Legal.{Legal};
 ghost use Rattle.ert_defs.specs.declared.entry.Actor.TheVariants.{Wheel, Inbox, MailOf};
@@ -41,8 +41,8 @@ pub(crate) fn gather_wheels<L: DeskName>(
     for lock in locks {
         let (part, own) = lock.into_inner().into_inner().into_parts();
         pass.join(desk, own);
-        let number = part.number() as usize;
-        places[number] = Some(part);
+        let number = part.number();
+        put(&mut places, number, part);
     }
     take_all(places, parts)
 }
@@ -71,8 +71,8 @@ pub(crate) fn gather_inboxes<L: DeskName>(
     for lock in locks {
         let (part, own) = lock.into_inner().into_inner().into_parts();
         pass.join(desk, own);
-        let number = part.wheel() as usize;
-        places[number] = Some(part);
+        let number = part.wheel();
+        put(&mut places, number, part);
     }
     take_all(places, parts)
 }
@@ -101,10 +101,18 @@ pub(crate) fn gather_mails<L: DeskName>(
     for lock in locks {
         let (part, own) = lock.into_inner().into_inner().into_parts();
         pass.join(desk, own);
-        let number = part.process() as usize;
-        places[number] = Some(part);
+        let number = part.process();
+        put(&mut places, number, part);
     }
     take_all(places, parts)
+}
+
+/// Puts a part into the place of its number.
+fn put<P: Drop>(places: &mut Vec<Option<P>>, number: u32, part: P)
+    requires { number < vec_len places.old }
+    ensures { places.new.items ≡ slice_set places.old.items number (Some part) }
+{
+    places[number as usize] = Some(part);
 }
 
 /// Takes the parts out of their places, in order, into a vector with room for them.

@@ -27,6 +27,7 @@ impl WheelPart {
     ///
     /// Where no slot is known to be free, every slot is looked at. A timer for a process that has exited is
     /// started, and cancelled at once. No memory is taken.
+    #[inline]
     pub fn start(
         &mut self,
         desk: &Desk,

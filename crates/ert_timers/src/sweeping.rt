@@ -42,6 +42,7 @@ impl WheelPart {
     /// free. So a start that follows finds the slot at once.
     ///
     /// It makes no entry, and takes no memory.
+    #[inline]
     pub fn forget(&mut self, pass: &Pass, timer: TimerRef)
         requires stands { (g : Settings) → (view_of pass.now).settings ≡ Some g → Stands g (front_of pass.now) self.old }
         requires settled { (g : Settings) → (view_of pass.now).settings ≡ Some g → (state g (front_of pass.now)).status timer ≢ Some Armed }

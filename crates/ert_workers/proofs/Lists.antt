@@ -1,7 +1,7 @@
 -- Lists of ops, as far as they have come.
 
 use Rattle.std.specs.Prelude.{ℤ, IfOk}
-use Rattle.std.proofs.Common.{◌≡◌, ◌≤◌, ◌<◌, ℕ, zero, suc, ◌+◌, List, [], ◌∷◌, ◌++◌, take, length, get_or, Result, Ok, Err, arith, refl, sym, subst, ap, ◌∙◌, append_assoc, append-nil}
+use Rattle.std.proofs.Common.{◌≡◌, ◌<◌, ℕ, zero, suc, ◌+◌, List, [], ◌∷◌, ◌++◌, take, length, get_or, Result, Ok, Err, arith, refl, sym, subst, ap, ◌∙◌, append_assoc, append-nil}
 use Rattle.std.proofs.lemmas.List.{take_more}
 use Rattle.ert_answers.specs.Ways.{Way, beside}
 use Rattle.ert_defs.specs.declared.entry.Actor.TheVariants.{Caller}

@@ -1,9 +1,8 @@
 -- Calls of a caller that take no lock, and labels that are looked up twice.
 
-use Rattle.std.proofs.Common.{rules, ◌≡◌, ℕ, Bool, true, false, cond, nat_eq, List, [], ◌∷◌, ◌++◌, Option, Some, None, refl, sym, ap, subst, ◌∙◌}
+use Rattle.std.proofs.Common.{rules, ◌≡◌, ℕ, Bool, true, false, cond, nat_eq, [], ◌∷◌, ◌++◌, Some, None, refl, sym, subst}
 use Rattle.ert_answers.specs.Ways.{Step, Grows, beside}
 use Rattle.ert_defs.specs.declared.entry.Actor.{Actor}
-use Rattle.ert_defs.specs.declared.entry.Entry.{Entry}
 use Rattle.ert_defs.specs.declared.settings.Settings.{Settings}
 use Rattle.ert_defs.specs.declared.timer.TimerRef.{TimerRef}
 use Rattle.ert_lines.specs.Names.{first_ref}
@@ -11,7 +10,6 @@ use Rattle.ert_locks.proofs.Lent.{steps_alone}
 use Rattle.ert_table.specs.Calls.{IsMade}
 use Rattle.ert_table.specs.Desks.{view_of, front_of}
 use Rattle.ert_table.specs.declared.desk.Pass.{Pass}
-use Rattle.ert_table.specs.declared.view.View.{View}
 use Rattle.ert_transcript.specs.Labels.{Labels, ref_of}
 
 -- a call at a desk with these settings, by a pass with one actor

@@ -1,7 +1,7 @@
 -- The turns of a scheduler, as far as they have come.
 
-use Rattle.std.proofs.Common.{◌≡◌, ℕ, ◌+◌, List, [], ◌∷◌, ◌++◌, length, Ok, refl, ap, ◌∙◌, length-append}
-use Rattle.ert_answers.proofs.Growing.{grows_none, grows_more}
+use Rattle.std.proofs.Common.{ℕ, ◌+◌, List, [], ◌∷◌, ◌++◌, Ok, ap, ◌∙◌, length-append}
+use Rattle.ert_answers.proofs.Growing.{grows_more}
 use Rattle.ert_answers.specs.Chains.{Turns}
 use Rattle.ert_answers.specs.Ways.{Grows, beside}
 use Rattle.ert_answers.specs.declared.answers.Turned.{Turned}

@@ -1,7 +1,4 @@
-use Rattle.std.proofs.Common.{rules, ◌≡◌, Ok, FitsSigned, w64, to_z-of_z, subst}
-use Rattle.ert_answers.specs.ClockCalls.{Finalizes}
-use Rattle.ert_answers.specs.Ways.{Grows, beside}
-use Rattle.ert_defs.specs.declared.entry.Actor.TheVariants.{Keeper, Caller}
+use Rattle.std.proofs.Common.{rules, FitsSigned, w64, to_z-of_z}
 use Rattle.ert_workers.proofs.clock_ops.finalize.Goals as goal
 
 pub returns-in-Ok-clause-does : goal.returns-in-Ok-clause-does

@@ -3,8 +3,7 @@ use Rattle.ert_ops.specs.Races.{IsCallersOp}
 use Rattle.ert_ops.specs.Ranges.{IsOpInRange}
 use Rattle.ert_ops.specs.declared.op.Op.{Op}
 use Rattle.ert_table.specs.Desks.{front_of}
-use Rattle.ert_transcript.specs.declared.reply.Reply.{Reply}
-use Rattle.ert_workers.specs.Works.{DoesOwn, DoesList}
+use Rattle.ert_workers.specs.Works.{DoesOwn}
 use Rattle.ert_workers.proofs.Lists.{may_do_at, list_more_at}
 use Rattle.ert_workers.proofs.list.do_list.Goals as goal
 

@@ -1,7 +1,6 @@
 use Rattle.std.proofs.Common.{[], sym, subst}
 use Rattle.ert_answers.specs.TimerCalls.{Reads}
 use Rattle.ert_answers.specs.Ways.{Grows, beside}
-use Rattle.ert_calls.specs.Left.{Tells}
 use Rattle.ert_defs.specs.declared.entry.Actor.TheVariants.{Caller}
 use Rattle.ert_table.specs.Desks.{front_of}
 use Rattle.ert_workers.proofs.Made.{made_alone}

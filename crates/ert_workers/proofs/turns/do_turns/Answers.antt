@@ -1,4 +1,4 @@
-use Rattle.std.proofs.Common.{ℕ, Ok, subst, ◌∙◌}
+use Rattle.std.proofs.Common.{ℕ, subst, ◌∙◌}
 use Rattle.ert_answers.specs.Chains.{Turns}
 use Rattle.ert_answers.specs.Ways.{Grows, beside}
 use Rattle.ert_defs.specs.declared.entry.Actor.TheVariants.{Sched}

@@ -1,0 +1,171 @@
+//! The declarations of `ertime.h`.
+#![allow(non_camel_case_types)]
+
+use std::ffi::c_void;
+
+pub const ERT_OK: i32 = 0;
+pub const ERT_NO_MEMORY: i32 = -3;
+pub const ERT_BAD_START: i32 = -6;
+pub const ERT_BAD_READING: i32 = -7;
+pub const ERT_BAD_COUNT: i32 = -8;
+pub const ERT_OFFSET_WIDE: i32 = -9;
+pub const ERT_RANGE: i32 = -10;
+pub const ERT_BAD_TIME: i32 = -11;
+pub const ERT_FULL: i32 = -12;
+pub const ERT_EMPTY: i32 = -14;
+pub const ERT_EXITED: i32 = -15;
+pub const ERT_NO_MONITOR: i32 = -17;
+
+#[repr(C)]
+#[derive(Debug)]
+pub struct ert_world {
+    pub at_: *mut c_void,
+    pub live_: bool,
+}
+
+/// A reading of the clocks of the operating system, in nanoseconds.
+#[repr(C)]
+#[derive(Clone, Copy, Debug, Default, PartialEq, Eq)]
+pub struct ert_reading {
+    pub mono: i64,
+    pub sys: i64,
+}
+
+#[repr(C)]
+pub struct ert_settings {
+    pub size: u32,
+    pub mode: u32,
+    pub correction: u32,
+    pub schedulers: u32,
+    pub processes: u32,
+    pub slots: u32,
+    pub callers: u32,
+    pub start: i64,
+    pub first: ert_reading,
+}
+
+#[repr(C)]
+#[derive(Default)]
+pub struct ert_moved {
+    pub now: i64,
+    pub shift: i64,
+    pub shifted: u32,
+}
+
+#[repr(C)]
+#[derive(Default)]
+pub struct ert_offset {
+    pub offset: i64,
+    pub state: u32,
+}
+
+/// Names a timer.
+#[repr(C)]
+#[derive(Clone, Copy, Debug, Default, PartialEq, Eq)]
+pub struct ert_timer {
+    pub wheel: u32,
+    pub slot: u32,
+    pub generation: u32,
+}
+
+#[repr(C)]
+#[derive(Clone, Copy, Debug)]
+pub struct ert_start {
+    pub when: i64,
+    pub msg: u64,
+    pub absolute: u32,
+    pub bare: u32,
+    pub dest: u32,
+}
+
+/// How far a wheel was advanced, in milliseconds since the start time, and how many timers expired.
+#[repr(C)]
+#[derive(Clone, Copy, Debug, Default, PartialEq, Eq)]
+pub struct ert_advanced {
+    pub to: u64,
+    pub fired: u32,
+}
+
+/// How many messages were put into mailboxes, and how many were thrown away.
+#[repr(C)]
+#[derive(Clone, Copy, Debug, Default, PartialEq, Eq)]
+pub struct ert_delivered {
+    pub put: u32,
+    pub dropped: u32,
+}
+
+/// What a turn did. `to` is in milliseconds since the start time.
+#[repr(C)]
+#[derive(Clone, Copy, Debug, Default, PartialEq, Eq)]
+pub struct ert_turned {
+    pub to: u64,
+    pub served: u32,
+    pub fired: u32,
+    pub put: u32,
+    pub dropped: u32,
+}
+
+#[repr(C)]
+#[derive(Default)]
+pub struct ert_mail {
+    pub tag: u32,
+    pub timer: ert_timer,
+    pub has_left: u32,
+    pub monitor: u32,
+    pub msg: u64,
+    pub left: u64,
+    pub offset: i64,
+}
+
+#[repr(C)]
+pub struct ert_request {
+    pub kind: u32,
+    pub timer: ert_timer,
+    pub reply_to: u32,
+    pub info: u32,
+}
+
+unsafe extern "C" {
+    pub fn ert_world_open(world: *mut ert_world, settings: *const ert_settings) -> i32;
+    pub fn ert_world_close(world: *mut ert_world) -> i32;
+    pub fn ert_world_tick(
+        world: *mut ert_world,
+        reading: *const ert_reading,
+        force: u32,
+        moved: *mut ert_moved,
+    ) -> i32;
+    pub fn ert_world_finalize(
+        world: *mut ert_world,
+        reading: *const ert_reading,
+        before: *mut u32,
+        moved: *mut ert_moved,
+    ) -> i32;
+    pub fn ert_world_monotonic_time(world: *mut ert_world, time: *mut i64) -> i32;
+    pub fn ert_world_system_time(world: *mut ert_world, time: *mut i64) -> i32;
+    pub fn ert_world_time_offset(world: *mut ert_world, offset: *mut ert_offset) -> i32;
+    pub fn ert_world_start(
+        world: *mut ert_world,
+        sched: u32,
+        start: *const ert_start,
+        timer: *mut ert_timer,
+    ) -> i32;
+    pub fn ert_world_cancel(world: *mut ert_world, timer: *const ert_timer, left: *mut u64) -> i32;
+    pub fn ert_world_read(world: *mut ert_world, timer: *const ert_timer, left: *mut u64) -> i32;
+    pub fn ert_world_is_alive(world: *mut ert_world, process: u32, alive: *mut u32) -> i32;
+    pub fn ert_world_exit(world: *mut ert_world, process: u32, first: *mut u32) -> i32;
+    pub fn ert_world_ask(world: *mut ert_world, request: *const ert_request) -> i32;
+    pub fn ert_world_take(world: *mut ert_world, process: u32, mail: *mut ert_mail) -> i32;
+    pub fn ert_world_monitor(world: *mut ert_world, process: u32, monitor: *mut u32) -> i32;
+    pub fn ert_world_demonitor(world: *mut ert_world, process: u32, monitor: u32) -> i32;
+    pub fn ert_world_tell(world: *mut ert_world, process: u32, told: *mut u32) -> i32;
+    pub fn ert_world_serve(world: *mut ert_world, sched: u32, served: *mut u32) -> i32;
+    pub fn ert_world_advance(world: *mut ert_world, sched: u32, advanced: *mut ert_advanced)
+    -> i32;
+    pub fn ert_world_deliver(
+        world: *mut ert_world,
+        sched: u32,
+        delivered: *mut ert_delivered,
+    ) -> i32;
+    pub fn ert_world_turn(world: *mut ert_world, sched: u32, turned: *mut ert_turned) -> i32;
+    pub fn ert_world_next_due(world: *mut ert_world, sched: u32, due: *mut u64) -> i32;
+}

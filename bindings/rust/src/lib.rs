@@ -1,0 +1,463 @@
+//! The clock and timer service of the Erlang runtime, over the static library `libert_c.a`.
+//!
+//! A [`World`] is a service. It reads no clock, starts no thread and never waits: pass it readings by
+//! [`World::tick`], let its schedulers make turns, and take the messages of its processes. `ertime.h` says
+//! what each call does; this crate makes the rest of what a caller owes true: a handle isn't copied, is
+//! closed when it is dropped, and is in one call at a time. The build script links the library from the folder
+//! that the environment variable `ERTIME_LIB_DIR` names.
+//!
+//! ```
+//! use ertime::{Reading, Settings, Start, World};
+//!
+//! let reading = Reading { mono: 0, sys: 0 };
+//! let mut world = World::open(&Settings::new(reading))?;
+//! world.start(0, &Start::after(20, 0, 7))?;
+//! world.tick(Reading { mono: 20_000_000, sys: 20_000_000 }, false)?;
+//! world.turn(0)?;
+//! assert!(world.take(0)?.is_some());
+//! # Ok::<(), ertime::Error>(())
+//! ```
+
+mod ffi;
+
+use std::fmt;
+use std::ptr;
+
+pub use ffi::{
+    ert_advanced as Advanced, ert_delivered as Delivered, ert_reading as Reading,
+    ert_timer as Timer, ert_turned as Turned,
+};
+
+/// Why a call was refused. Nothing has changed then, but where `ertime.h` says otherwise.
+#[derive(Clone, Copy, Debug, PartialEq, Eq)]
+#[non_exhaustive]
+pub enum Error {
+    NoMemory,
+    /// The start time is no multiple of a millisecond, or outside -2^58 to 2^58 nanoseconds.
+    BadStart,
+    /// `mono` isn't from 0 to below 2^62, or `sys` not between -2^61 and 2^61.
+    BadReading,
+    /// A number of schedulers, processes, slots or callers is outside its limits.
+    BadCount,
+    /// The time offset would leave its limits.
+    OffsetWide,
+    /// There is no such process or scheduler.
+    Range,
+    /// A timer can't be due at that time.
+    BadTime,
+    /// No slot of the wheel is free, or there is no place for a monitor.
+    Full,
+    /// The process has exited.
+    Exited,
+    /// A status that these bindings don't know: they are of another version than the library.
+    Unknown(i32),
+}
+
+impl fmt::Display for Error {
+    fn fmt(&self, f: &mut fmt::Formatter<'_>) -> fmt::Result {
+        match self {
+            Error::NoMemory => f.write_str("there was no memory"),
+            Error::BadStart => f.write_str("the start time is refused"),
+            Error::BadReading => f.write_str("the reading isn't valid"),
+            Error::BadCount => f.write_str("a count is outside its limits"),
+            Error::OffsetWide => f.write_str("the time offset would leave its limits"),
+            Error::Range => f.write_str("there is no such process or scheduler"),
+            Error::BadTime => f.write_str("no timer can be due then"),
+            Error::Full => f.write_str("there is no free place"),
+            Error::Exited => f.write_str("the process has exited"),
+            Error::Unknown(status) => write!(f, "unknown status {status}"),
+        }
+    }
+}
+
+impl std::error::Error for Error {}
+
+fn error(status: i32) -> Error {
+    match status {
+        ffi::ERT_NO_MEMORY => Error::NoMemory,
+        ffi::ERT_BAD_START => Error::BadStart,
+        ffi::ERT_BAD_READING => Error::BadReading,
+        ffi::ERT_BAD_COUNT => Error::BadCount,
+        ffi::ERT_OFFSET_WIDE => Error::OffsetWide,
+        ffi::ERT_RANGE => Error::Range,
+        ffi::ERT_BAD_TIME => Error::BadTime,
+        ffi::ERT_FULL => Error::Full,
+        ffi::ERT_EXITED => Error::Exited,
+        other => Error::Unknown(other),
+    }
+}
+
+fn done(status: i32) -> Result<(), Error> {
+    if status == ffi::ERT_OK {
+        Ok(())
+    } else {
+        Err(error(status))
+    }
+}
+
+/// Some value where the call was made, and None where it answered that there is none.
+fn done_or(status: i32, none: i32) -> Result<bool, Error> {
+    if status == none {
+        Ok(false)
+    } else {
+        done(status).map(|()| true)
+    }
+}
+
+/// The time warp modes.
+#[derive(Clone, Copy, Debug, PartialEq, Eq)]
+pub enum Mode {
+    No,
+    Single,
+    Multi,
+}
+
+/// What a service is opened with.
+#[derive(Clone, Copy, Debug)]
+pub struct Settings {
+    pub mode: Mode,
+    /// Whether time correction is on.
+    pub correction: bool,
+    /// Monotonic time at the opening, in nanoseconds.
+    pub start: i64,
+    pub schedulers: u32,
+    pub processes: u32,
+    /// Timer slots of each scheduler.
+    pub slots: u32,
+    pub first: Reading,
+}
+
+impl Settings {
+    /// One scheduler, one process, 1,024 slots, no time warp, and monotonic time from 0.
+    pub fn new(first: Reading) -> Settings {
+        Settings {
+            mode: Mode::No,
+            correction: true,
+            start: 0,
+            schedulers: 1,
+            processes: 1,
+            slots: 1_024,
+            first,
+        }
+    }
+}
+
+/// What a tick or a finalization did.
+#[derive(Clone, Copy, Debug, PartialEq, Eq)]
+pub struct Moved {
+    /// Monotonic time after it, in nanoseconds.
+    pub now: i64,
+    /// The new time offset, in nanoseconds, where it was set.
+    pub shift: Option<i64>,
+}
+
+impl From<ffi::ert_moved> for Moved {
+    fn from(moved: ffi::ert_moved) -> Moved {
+        Moved {
+            now: moved.now,
+            shift: (moved.shifted != 0).then_some(moved.shift),
+        }
+    }
+}
+
+/// The states of the time offset.
+#[derive(Clone, Copy, Debug, PartialEq, Eq)]
+pub enum OffsetState {
+    Preliminary,
+    Final,
+    Volatile,
+}
+
+fn state(number: u32) -> OffsetState {
+    match number {
+        0 => OffsetState::Preliminary,
+        1 => OffsetState::Final,
+        _ => OffsetState::Volatile,
+    }
+}
+
+/// What a timer is started with.
+#[derive(Clone, Copy, Debug)]
+pub struct Start {
+    start: ffi::ert_start,
+}
+
+impl Start {
+    /// A timer that is due so many milliseconds after its start.
+    pub fn after(milliseconds: i64, process: u32, msg: u64) -> Start {
+        Start {
+            start: ffi::ert_start {
+                when: milliseconds,
+                msg,
+                absolute: 0,
+                bare: 0,
+                dest: process,
+            },
+        }
+    }
+
+    /// A timer that is due at a monotonic time, in milliseconds.
+    pub fn at(milliseconds: i64, process: u32, msg: u64) -> Start {
+        let mut at = Start::after(milliseconds, process, msg);
+        at.start.absolute = 1;
+        at
+    }
+
+    /// The same timer, whose message comes without its name.
+    pub fn bare(mut self) -> Start {
+        self.start.bare = 1;
+        self
+    }
+}
+
+/// A message.
+#[derive(Clone, Copy, Debug, PartialEq, Eq)]
+pub enum Mail {
+    Timeout {
+        timer: Timer,
+        msg: u64,
+    },
+    Bare {
+        msg: u64,
+    },
+    /// The answer to a request: the milliseconds that were left, or None where the timer wasn't armed.
+    CancelDone {
+        timer: Timer,
+        left: Option<u64>,
+    },
+    ReadDone {
+        timer: Timer,
+        left: Option<u64>,
+    },
+    /// The time offset changed.
+    Change {
+        monitor: u32,
+        offset: i64,
+    },
+}
+
+fn mail(m: ffi::ert_mail) -> Mail {
+    let left = (m.has_left != 0).then_some(m.left);
+    match m.tag {
+        1 => Mail::Timeout {
+            timer: m.timer,
+            msg: m.msg,
+        },
+        2 => Mail::Bare { msg: m.msg },
+        3 => Mail::CancelDone {
+            timer: m.timer,
+            left,
+        },
+        4 => Mail::ReadDone {
+            timer: m.timer,
+            left,
+        },
+        _ => Mail::Change {
+            monitor: m.monitor,
+            offset: m.offset,
+        },
+    }
+}
+
+/// What a request asks for.
+#[derive(Clone, Copy, Debug, PartialEq, Eq)]
+pub enum RequestKind {
+    Cancel,
+    Read,
+}
+
+/// A service. It is closed when it is dropped.
+///
+/// The handle of C lies on the heap, so that a `World` can be moved.
+#[derive(Debug)]
+pub struct World {
+    handle: Box<ffi::ert_world>,
+}
+
+// What lies behind the handle shares nothing with another, and each method takes `&mut self`.
+unsafe impl Send for World {}
+
+impl World {
+    pub fn open(settings: &Settings) -> Result<World, Error> {
+        let settings = ffi::ert_settings {
+            size: size_of::<ffi::ert_settings>() as u32,
+            mode: settings.mode as u32,
+            correction: settings.correction.into(),
+            schedulers: settings.schedulers,
+            processes: settings.processes,
+            slots: settings.slots,
+            callers: 1,
+            start: settings.start,
+            first: settings.first,
+        };
+        let mut world = World {
+            handle: Box::new(ffi::ert_world {
+                at_: ptr::null_mut(),
+                live_: false,
+            }),
+        };
+        done(unsafe { ffi::ert_world_open(&mut *world.handle, &settings) })?;
+        Ok(world)
+    }
+
+    /// Takes a reading of the clocks of the operating system.
+    pub fn tick(&mut self, reading: Reading, force: bool) -> Result<Moved, Error> {
+        let mut moved = ffi::ert_moved::default();
+        done(unsafe {
+            ffi::ert_world_tick(&mut *self.handle, &reading, force.into(), &mut moved)
+        })?;
+        Ok(moved.into())
+    }
+
+    /// Finalizes the time offset, and answers the state before it.
+    pub fn finalize(&mut self, reading: Reading) -> Result<(OffsetState, Moved), Error> {
+        let mut before = 0;
+        let mut moved = ffi::ert_moved::default();
+        done(unsafe {
+            ffi::ert_world_finalize(&mut *self.handle, &reading, &mut before, &mut moved)
+        })?;
+        Ok((state(before), moved.into()))
+    }
+
+    /// Monotonic time, in nanoseconds.
+    pub fn monotonic_time(&mut self) -> i64 {
+        let mut time = 0;
+        let _open = unsafe { ffi::ert_world_monotonic_time(&mut *self.handle, &mut time) };
+        time
+    }
+
+    /// System time, in nanoseconds.
+    pub fn system_time(&mut self) -> i64 {
+        let mut time = 0;
+        let _open = unsafe { ffi::ert_world_system_time(&mut *self.handle, &mut time) };
+        time
+    }
+
+    /// The time offset, in nanoseconds, with its state.
+    pub fn time_offset(&mut self) -> (i64, OffsetState) {
+        let mut offset = ffi::ert_offset::default();
+        let _open = unsafe { ffi::ert_world_time_offset(&mut *self.handle, &mut offset) };
+        (offset.offset, state(offset.state))
+    }
+
+    /// Starts a timer on the wheel of a scheduler.
+    pub fn start(&mut self, sched: u32, start: &Start) -> Result<Timer, Error> {
+        let mut timer = Timer::default();
+        done(unsafe { ffi::ert_world_start(&mut *self.handle, sched, &start.start, &mut timer) })?;
+        Ok(timer)
+    }
+
+    /// Cancels a timer, and answers the milliseconds that were left; None where it isn't armed.
+    pub fn cancel(&mut self, timer: &Timer) -> Option<u64> {
+        let mut left = 0;
+        let status = unsafe { ffi::ert_world_cancel(&mut *self.handle, timer, &mut left) };
+        (status == ffi::ERT_OK).then_some(left)
+    }
+
+    /// The milliseconds that are left of a timer; None where it isn't armed.
+    pub fn read(&mut self, timer: &Timer) -> Option<u64> {
+        let mut left = 0;
+        let status = unsafe { ffi::ert_world_read(&mut *self.handle, timer, &mut left) };
+        (status == ffi::ERT_OK).then_some(left)
+    }
+
+    /// Whether a process hasn't exited.
+    pub fn is_alive(&mut self, process: u32) -> Result<bool, Error> {
+        let mut alive = 0;
+        done(unsafe { ffi::ert_world_is_alive(&mut *self.handle, process, &mut alive) })?;
+        Ok(alive != 0)
+    }
+
+    /// Lets a process exit, and answers whether it hadn't before.
+    pub fn exit(&mut self, process: u32) -> Result<bool, Error> {
+        let mut first = 0;
+        done(unsafe { ffi::ert_world_exit(&mut *self.handle, process, &mut first) })?;
+        Ok(first != 0)
+    }
+
+    /// Asks the scheduler of a timer to cancel or to read it. The answer comes to `reply_to`, if it is Some
+    /// process; else none is sent.
+    pub fn ask(
+        &mut self,
+        kind: RequestKind,
+        timer: &Timer,
+        reply_to: Option<u32>,
+    ) -> Result<(), Error> {
+        let request = ffi::ert_request {
+            kind: kind as u32,
+            timer: *timer,
+            reply_to: reply_to.unwrap_or(0),
+            info: reply_to.is_some().into(),
+        };
+        done(unsafe { ffi::ert_world_ask(&mut *self.handle, &request) })
+    }
+
+    /// Takes the first message of a process; None where there is none.
+    pub fn take(&mut self, process: u32) -> Result<Option<Mail>, Error> {
+        let mut first = ffi::ert_mail::default();
+        let status = unsafe { ffi::ert_world_take(&mut *self.handle, process, &mut first) };
+        Ok(done_or(status, ffi::ERT_EMPTY)?.then(|| mail(first)))
+    }
+
+    /// Makes a monitor of the time offset for a process.
+    pub fn monitor(&mut self, process: u32) -> Result<u32, Error> {
+        let mut monitor = 0;
+        done(unsafe { ffi::ert_world_monitor(&mut *self.handle, process, &mut monitor) })?;
+        Ok(monitor)
+    }
+
+    /// Removes a monitor, and answers whether it stood.
+    pub fn demonitor(&mut self, process: u32, monitor: u32) -> Result<bool, Error> {
+        let status = unsafe { ffi::ert_world_demonitor(&mut *self.handle, process, monitor) };
+        done_or(status, ffi::ERT_NO_MONITOR)
+    }
+
+    /// Tells a process the time offset where it is news, and answers by how many messages.
+    pub fn tell(&mut self, process: u32) -> Result<u32, Error> {
+        let mut told = 0;
+        done(unsafe { ffi::ert_world_tell(&mut *self.handle, process, &mut told) })?;
+        Ok(told)
+    }
+
+    /// Serves one request of a scheduler, and answers whether there was one.
+    pub fn serve(&mut self, sched: u32) -> Result<bool, Error> {
+        let mut served = 0;
+        done(unsafe { ffi::ert_world_serve(&mut *self.handle, sched, &mut served) })?;
+        Ok(served != 0)
+    }
+
+    /// Lets the due timers of a scheduler expire.
+    pub fn advance(&mut self, sched: u32) -> Result<Advanced, Error> {
+        let mut advanced = Advanced::default();
+        done(unsafe { ffi::ert_world_advance(&mut *self.handle, sched, &mut advanced) })?;
+        Ok(advanced)
+    }
+
+    /// Hands over the expired timers of a scheduler.
+    pub fn deliver(&mut self, sched: u32) -> Result<Delivered, Error> {
+        let mut delivered = Delivered::default();
+        done(unsafe { ffi::ert_world_deliver(&mut *self.handle, sched, &mut delivered) })?;
+        Ok(delivered)
+    }
+
+    /// Makes a turn of a scheduler: serves, advances and delivers.
+    pub fn turn(&mut self, sched: u32) -> Result<Turned, Error> {
+        let mut turned = Turned::default();
+        done(unsafe { ffi::ert_world_turn(&mut *self.handle, sched, &mut turned) })?;
+        Ok(turned)
+    }
+
+    /// How early a timer of a scheduler may be due, in milliseconds since the start time; None where none is
+    /// armed.
+    pub fn next_due(&mut self, sched: u32) -> Result<Option<u64>, Error> {
+        let mut due = 0;
+        let status = unsafe { ffi::ert_world_next_due(&mut *self.handle, sched, &mut due) };
+        Ok(done_or(status, ffi::ERT_EMPTY)?.then_some(due))
+    }
+}
+
+impl Drop for World {
+    fn drop(&mut self) {
+        let _status = unsafe { ffi::ert_world_close(&mut *self.handle) };
+    }
+}

@@ -1,0 +1,3 @@
+pub mod Medians
+pub mod Names
+pub mod Tables

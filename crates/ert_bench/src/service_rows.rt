@@ -1,0 +1,271 @@
+//! A service of several threads. A row's time is that of a pass by the calls of all its threads.
+ghost use Rattle.std.specs.Prelude.{◌<◌, ◌≤◌, IfOk};
+ghost use Rattle.ert_locks.specs.Names.{IsDesk};
+ghost use Rattle.ert_sched.specs.Parts.{parts_of};
+ghost use Rattle.ert_sched.specs.Worlds.{AreFit};
+
+use crate::bench_err::{BenchErr, expect};
+use crate::passes::{PASSES, Passes};
+use crate::stopwatch::Stopwatch;
+use ert_calls::{cancel_timer, monotonic_time};
+use ert_defs::{Actor, Kind, Mode, Reading, Settings, Start, When};
+use ert_io::OsClock;
+use ert_locks::{CallerSeat, DeskName};
+use ert_sched::{Parts, World};
+use ert_shared::{Opened, Service};
+use std::alloc::Global;
+use std::marker::Brand;
+use std::sync::Wait;
+use std::thread;
+use std::thread::Threads;
+
+/// How many timers each thread starts and cancels in a pass.
+const CALLS: u32 = 50_000;
+
+/// How often each thread reads the time in a pass, and how many readings the other thread takes meanwhile.
+const READS: u32 = 1_000_000;
+
+const TICKS: u32 = 20_000;
+
+/// How far the processes of two threads are apart, so that their words share no cache line.
+const APART: u32 = 16;
+
+/// What the threads share besides the desk.
+#[derive(Clone, Copy, Debug, PartialEq, Eq)]
+pub(crate) enum Sharing {
+    OwnWheels,
+    OneWheel,
+}
+
+/// The parts of a service for so many callers, with four wheels.
+fn open(alloc: Global, callers: u32) -> Result<Parts, BenchErr>
+    requires { (1 ≤ callers) × (callers ≤ 17) }
+    ensures { IfOk result (λ parts. AreFit parts.desk parts.pass (parts_of parts.keeper parts.wheels.items parts.inboxes.items parts.mails.items parts.scheds.items)) }
+{
+    let settings = Settings {
+        mode: Mode::No,
+        correction: true,
+        start: 0,
+        schedulers: 4,
+        processes: 1_024,
+        slots: 65_536,
+        callers,
+        first: Reading { mono: 0, sys: 0 },
+    };
+    Ok(World::open(alloc, &settings)?.into_parts())
+}
+
+/// So many threads start and cancel timers.
+pub(crate) fn start_cancel<R: AllocGlobal + Threads + Wait + Sync, C: OsClock>(
+    rt: &R,
+    watch: &mut Stopwatch<C>,
+    threads: u32,
+    sharing: Sharing,
+) -> Result<Passes, BenchErr>
+    requires { (1 ≤ threads) × (threads ≤ 4) }
+{
+    let parts = open(rt.alloc(), threads)?;
+    start_cancel_on::<Brand, R, C>(rt, watch, parts, threads, sharing)
+}
+
+fn start_cancel_on<L: DeskName + Send + Sync, R: AllocGlobal + Threads + Wait + Sync, C: OsClock>(
+    rt: &R,
+    watch: &mut Stopwatch<C>,
+    parts: Parts,
+    threads: u32,
+    sharing: Sharing,
+) -> Result<Passes, BenchErr>
+    requires desk { IsDesk L.table L.settings parts.desk }
+    requires fit { AreFit parts.desk parts.pass (parts_of parts.keeper parts.wheels.items parts.inboxes.items parts.mails.items parts.scheds.items) }
+    requires threads { (1 ≤ threads) × (threads ≤ 4) }
+{
+    let Opened {
+        service,
+        callers,
+        ..
+    } = Service::<L>::open(rt.alloc(), parts)?;
+    let mut seats = callers;
+    let mut passes = Passes::new(rt.alloc(), threads * CALLS);
+    for _ in 0..PASSES {
+        watch.start()?;
+        let done = thread::map_vec(
+            rt,
+            seats,
+            &|seat| { start_and_cancel(rt, &service, seat, sharing) },
+        )?;
+        passes.add(watch.elapsed()?)?;
+        seats = seats_of(rt.alloc(), done)?;
+    }
+    Ok(passes)
+}
+
+/// The seats of the threads, where each of these did all its calls.
+fn seats_of<L: DeskName>(
+    alloc: Global,
+    done: Vec<(CallerSeat<L>, bool)>,
+) -> Result<Vec<CallerSeat<L>>, BenchErr> {
+    let mut seats = Vec::with_capacity(alloc, done.len())?;
+    for (seat, all) in done {
+        expect(all)?;
+        seats.push(seat)?;
+    }
+    Ok(seats)
+}
+
+/// A thread starts and cancels its timers, and tells whether each call did what it has to.
+fn start_and_cancel<L: DeskName, R: Wait>(
+    rt: &R,
+    service: &Service<L>,
+    seat: CallerSeat<L>,
+    sharing: Sharing,
+) -> (CallerSeat<L>, bool) {
+    let wheel = match sharing {
+        Sharing::OwnWheels => seat.number,
+        Sharing::OneWheel => 0,
+    };
+    let dest = seat.number.saturating_mul(APART);
+    let settings = service.desk().settings();
+    if wheel >= settings.schedulers || dest >= settings.processes {
+        return (seat, false);
+    }
+    let start = Start {
+        when: When::After(5_000),
+        dest,
+        msg: 7,
+        kind: Kind::Wrapped,
+    };
+    let mut next = seat;
+    for _ in 0..CALLS {
+        let (seat, cancelled) = start_and_cancel_one(rt, service, next, wheel, &start);
+        next = seat;
+        if !cancelled {
+            return (next, false);
+        }
+    }
+    (next, true)
+}
+
+fn start_and_cancel_one<L: DeskName, R: Wait>(
+    rt: &R,
+    service: &Service<L>,
+    seat: CallerSeat<L>,
+    wheel: u32,
+    start: &Start,
+) -> (CallerSeat<L>, bool)
+    requires wheel { wheel < L.settings.schedulers }
+    requires dest { start.now.dest < L.settings.processes }
+{
+    let (seat, started) = service.start(rt, seat, wheel, start);
+    let Ok(timer) = started else {
+        return (seat, false);
+    };
+    let CallerSeat {
+        number,
+        mut pass,
+        ..
+    } = seat;
+    let left = cancel_timer(service.desk(), &mut pass, Actor::Caller(number), timer);
+    (CallerSeat::new(number, pass), left.is_some())
+}
+
+/// So many threads read monotonic time, while one more takes readings.
+pub(crate) fn time_beside_ticks<R: AllocGlobal + Threads + Wait + Sync, C: OsClock>(
+    rt: &R,
+    watch: &mut Stopwatch<C>,
+    threads: u32,
+) -> Result<Passes, BenchErr>
+    requires { (1 ≤ threads) × (threads ≤ 4) }
+{
+    let parts = open(rt.alloc(), threads + 1)?;
+    time_beside_ticks_on::<Brand, R, C>(rt, watch, parts, threads)
+}
+
+fn time_beside_ticks_on<
+    L: DeskName + Send + Sync,
+    R: AllocGlobal + Threads + Wait + Sync,
+    C: OsClock,
+>(rt: &R, watch: &mut Stopwatch<C>, parts: Parts, threads: u32) -> Result<Passes, BenchErr>
+    requires desk { IsDesk L.table L.settings parts.desk }
+    requires fit { AreFit parts.desk parts.pass (parts_of parts.keeper parts.wheels.items parts.inboxes.items parts.mails.items parts.scheds.items) }
+    requires threads { (1 ≤ threads) × (threads ≤ 4) }
+{
+    let Opened {
+        service,
+        callers,
+        ..
+    } = Service::<L>::open(rt.alloc(), parts)?;
+    let mut seats = callers;
+    let mut passes = Passes::new(rt.alloc(), threads * READS);
+    for pass in 0..PASSES {
+        let from = (pass * TICKS) as i64;
+        watch.start()?;
+        let done = thread::map_vec(rt, seats, &|seat| read_or_tick(rt, &service, seat, from))?;
+        passes.add(watch.elapsed()?)?;
+        seats = seats_of(rt.alloc(), done)?;
+    }
+    Ok(passes)
+}
+
+/// The first of the threads takes readings, from so many microseconds on, and the others read the time.
+fn read_or_tick<L: DeskName, R: Wait>(
+    rt: &R,
+    service: &Service<L>,
+    seat: CallerSeat<L>,
+    from: i64,
+) -> (CallerSeat<L>, bool) {
+    if seat.number == 0 {
+        take_readings(rt, service, seat, from)
+    } else {
+        read_times(service, seat)
+    }
+}
+
+fn take_readings<L: DeskName, R: Wait>(
+    rt: &R,
+    service: &Service<L>,
+    seat: CallerSeat<L>,
+    from: i64,
+) -> (CallerSeat<L>, bool) {
+    let mut next = seat;
+    for tick in 0..TICKS {
+        let now = from.saturating_add(tick as i64).saturating_mul(1_000);
+        let (seat, moved) = service.tick(
+            rt,
+            next,
+            Reading {
+                mono: now,
+                sys: now,
+            },
+            false,
+        );
+        next = seat;
+        if moved.is_err() {
+            return (next, false);
+        }
+    }
+    (next, true)
+}
+
+fn read_times<L: DeskName>(service: &Service<L>, seat: CallerSeat<L>) -> (CallerSeat<L>, bool) {
+    let mut next = seat;
+    let mut last = 0i64;
+    for _ in 0..READS {
+        let (seat, now) = read_time(service, next);
+        next = seat;
+        if now < last {
+            return (next, false);
+        }
+        last = now;
+    }
+    (next, true)
+}
+
+fn read_time<L: DeskName>(service: &Service<L>, seat: CallerSeat<L>) -> (CallerSeat<L>, i64) {
+    let CallerSeat {
+        number,
+        mut pass,
+        ..
+    } = seat;
+    let now = monotonic_time(service.desk(), &mut pass, Actor::Caller(number));
+    (CallerSeat::new(number, pass), now)
+}

@@ -1,0 +1,4 @@
+pub mod Carried
+pub mod Helds
+pub mod Values
+pub mod Ways

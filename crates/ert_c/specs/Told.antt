@@ -1,0 +1,138 @@
+-- How C is told the answers of calls on timers, mailboxes and turns. Where a call is refused, what C passed to
+-- be written is as it was.
+
+use Rattle.std.specs.Prelude.{◌≡◌, ℕ, ℤ, pos, Bool, true, false, cond, nat_eq, Option, Some, None, Result, Ok, Err}
+use Rattle.ert_answers.specs.declared.answers.MonitorErr.{MonitorErr}
+use Rattle.ert_answers.specs.declared.answers.MonitorErr.TheVariants.{Full as NoPlace, NoMemory as MonitorNoMemory}
+use Rattle.ert_answers.specs.declared.answers.StartErr.{StartErr}
+use Rattle.ert_answers.specs.declared.answers.StartErr.TheVariants.{BadArg, Full, NoMemory}
+use Rattle.ert_answers.specs.declared.answers.Taken.{Taken}
+use Rattle.ert_answers.specs.declared.answers.Taken.TheVariants.{Mail as Took, Empty, Exited}
+use Rattle.ert_answers.specs.declared.answers.Turned.{Turned}
+use Rattle.ert_defs.specs.declared.mail.Mail.{Mail}
+use Rattle.ert_defs.specs.declared.mail.Mail.TheVariants.{Timeout, Bare as BareMail, CancelDone, ReadDone, Change}
+use Rattle.ert_defs.specs.declared.mail.Request.{Request}
+use Rattle.ert_defs.specs.declared.mail.RequestKind.{RequestKind}
+use Rattle.ert_defs.specs.declared.mail.RequestKind.TheVariants.{Cancel, Read}
+use Rattle.ert_defs.specs.declared.memory.NoMemory.{NoMemory as WantOfMemory}
+use Rattle.ert_defs.specs.declared.timer.Kind.{Kind}
+use Rattle.ert_defs.specs.declared.timer.Kind.TheVariants.{Wrapped, Bare}
+use Rattle.ert_defs.specs.declared.timer.Start.{Start}
+use Rattle.ert_defs.specs.declared.timer.TimerRef.{TimerRef}
+use Rattle.ert_defs.specs.declared.timer.When.{When}
+use Rattle.ert_defs.specs.declared.timer.When.TheVariants.{After, At}
+use Rattle.ert_c.specs.ClockCalls.{is_on}
+use Rattle.ert_c.specs.declared.mail_calls.ErtMail.{ErtMail}
+use Rattle.ert_c.specs.declared.mail_calls.ErtRequest.{ErtRequest}
+use Rattle.ert_c.specs.declared.timer_calls.ErtStart.{ErtStart}
+use Rattle.ert_c.specs.declared.timer_calls.ErtTimer.{ErtTimer}
+use Rattle.ert_c.specs.declared.turn_calls.ErtAdvanced.{ErtAdvanced}
+use Rattle.ert_c.specs.declared.turn_calls.ErtDelivered.{ErtDelivered}
+use Rattle.ert_c.specs.declared.turn_calls.ErtTurned.{ErtTurned}
+use Rattle.ert_c.specs.declared.status.TheConstants.{OK, NO_MEMORY, BAD_TIME, FULL, NO_TIMER, EMPTY, EXITED, NO_MONITOR}
+
+-- a flag for C
+abbrev pub flag : Bool → ℕ
+flag true = 1
+flag false = 0
+
+abbrev pub timer_as : TimerRef → ErtTimer
+timer_as r = record { wheel = r.wheel; slot = r.slot; generation = r.generation }
+
+abbrev pub timer_of : ErtTimer → TimerRef
+timer_of r = record { wheel = r.wheel; slot = r.slot; generation = r.generation }
+
+-- what a timer is started with
+abbrev pub when_of : ErtStart → When
+when_of s = cond (is_on s.absolute) (At s.when) (After s.when)
+
+abbrev pub kind_of : ErtStart → Kind
+kind_of s = cond (is_on s.bare) Bare Wrapped
+
+abbrev pub start_of : ErtStart → Start
+start_of s = record { when = when_of s; dest = s.dest; msg = s.msg; kind = kind_of s }
+
+abbrev pub IsStarted : Result TimerRef StartErr → ErtTimer → ℤ → ErtTimer → Type 0
+IsStarted (Ok timer) old status new = (status ≡ OK) × (new ≡ timer_as timer)
+IsStarted (Err BadArg) old status new = (status ≡ BAD_TIME) × (new ≡ old)
+IsStarted (Err Full) old status new = (status ≡ FULL) × (new ≡ old)
+IsStarted (Err NoMemory) old status new = (status ≡ NO_MEMORY) × (new ≡ old)
+
+-- the milliseconds that were left of a timer
+abbrev pub IsLeft : Option ℕ → ℕ → ℤ → ℕ → Type 0
+IsLeft (Some left) old status new = (status ≡ OK) × (new ≡ left)
+IsLeft None old status new = (status ≡ NO_TIMER) × (new ≡ old)
+
+-- an answer that is yes or no
+abbrev pub IsFlag : Bool → ℤ → ℕ → Type 0
+IsFlag answer status new = (status ≡ OK) × (new ≡ flag answer)
+
+-- a number, or want of memory
+abbrev pub IsNumber : Result ℕ WantOfMemory → ℕ → ℤ → ℕ → Type 0
+IsNumber (Ok n) old status new = (status ≡ OK) × (new ≡ n)
+IsNumber (Err e) old status new = (status ≡ NO_MEMORY) × (new ≡ old)
+
+abbrev pub IsServed : Result Bool WantOfMemory → ℕ → ℤ → ℕ → Type 0
+IsServed (Ok served) old status new = (status ≡ OK) × (new ≡ flag served)
+IsServed (Err e) old status new = (status ≡ NO_MEMORY) × (new ≡ old)
+
+abbrev pub IsAdvanced : Result (ℕ × ℕ) WantOfMemory → ErtAdvanced → ℤ → ErtAdvanced → Type 0
+IsAdvanced (Ok p) old status new = (status ≡ OK) × (new ≡ record { to = p.0; fired = p.1 })
+IsAdvanced (Err e) old status new = (status ≡ NO_MEMORY) × (new ≡ old)
+
+abbrev pub IsDelivered : Result (ℕ × ℕ) WantOfMemory → ErtDelivered → ℤ → ErtDelivered → Type 0
+IsDelivered (Ok p) old status new = (status ≡ OK) × (new ≡ record { put = p.0; dropped = p.1 })
+IsDelivered (Err e) old status new = (status ≡ NO_MEMORY) × (new ≡ old)
+
+abbrev pub turned_as : Turned → ErtTurned
+turned_as t = record { to = t.to; served = t.served; fired = t.fired; put = t.put; dropped = t.dropped }
+
+abbrev pub IsTurned : Result Turned WantOfMemory → ErtTurned → ℤ → ErtTurned → Type 0
+IsTurned (Ok t) old status new = (status ≡ OK) × (new ≡ turned_as t)
+IsTurned (Err e) old status new = (status ≡ NO_MEMORY) × (new ≡ old)
+
+-- the number of a message's kind, with its fields; the others are 0
+abbrev pub no_timer : ErtTimer
+no_timer = record { wheel = 0; slot = 0; generation = 0 }
+
+abbrev pub mail_of : ℕ → ErtTimer → ℕ → Option ℕ → ErtMail
+mail_of tag timer msg (Some left) = record { tag = tag; timer = timer; has_left = 1; monitor = 0; msg = msg; left = left; offset = pos 0 }
+mail_of tag timer msg None = record { tag = tag; timer = timer; has_left = 0; monitor = 0; msg = msg; left = 0; offset = pos 0 }
+
+abbrev pub mail_as : Mail → ErtMail
+mail_as (Timeout timer msg) = mail_of 1 (timer_as timer) msg None
+mail_as (BareMail msg) = mail_of 2 no_timer msg None
+mail_as (CancelDone timer left) = mail_of 3 (timer_as timer) 0 left
+mail_as (ReadDone timer left) = mail_of 4 (timer_as timer) 0 left
+mail_as (Change monitor offset) =
+    record { tag = 5; timer = no_timer; has_left = 0; monitor = monitor; msg = 0; left = 0; offset = offset }
+
+abbrev pub IsTaken : Taken → ErtMail → ℤ → ErtMail → Type 0
+IsTaken (Took m) old status new = (status ≡ OK) × (new ≡ mail_as m)
+IsTaken Empty old status new = (status ≡ EMPTY) × (new ≡ old)
+IsTaken Exited old status new = (status ≡ EXITED) × (new ≡ old)
+
+-- what a request asks for, and the request
+abbrev pub request_kind_at : ℕ → Option RequestKind
+request_kind_at n = cond (nat_eq n 0) (Some Cancel) (cond (nat_eq n 1) (Some Read) None)
+
+abbrev pub request_of : ErtRequest → RequestKind → Request
+request_of r kind = record { kind = kind; timer = timer_of r.timer; reply_to = r.reply_to; info = is_on r.info }
+
+abbrev pub IsAsked : Result (Unit {0}) WantOfMemory → ℤ → Type 0
+IsAsked (Ok _) status = status ≡ OK
+IsAsked (Err e) status = status ≡ NO_MEMORY
+
+abbrev pub IsMonitored : Result ℕ MonitorErr → ℕ → ℤ → ℕ → Type 0
+IsMonitored (Ok n) old status new = (status ≡ OK) × (new ≡ n)
+IsMonitored (Err NoPlace) old status new = (status ≡ FULL) × (new ≡ old)
+IsMonitored (Err MonitorNoMemory) old status new = (status ≡ NO_MEMORY) × (new ≡ old)
+
+abbrev pub IsDemonitored : Bool → ℤ → Type 0
+IsDemonitored true status = status ≡ OK
+IsDemonitored false status = status ≡ NO_MONITOR
+
+-- how early a timer may be due
+abbrev pub IsDueTold : Option ℕ → ℕ → ℤ → ℕ → Type 0
+IsDueTold (Some time) old status new = (status ≡ OK) × (new ≡ time)
+IsDueTold None old status new = (status ≡ EMPTY) × (new ≡ old)

@@ -1,0 +1,155 @@
+//! Messages, requests and monitors, as C passes and is told them.
+ghost use Rattle.std.specs.Prelude.{◌≡◌};
+ghost use Rattle.ert_c.specs.Told.{no_timer, mail_of, mail_as, request_of, request_kind_at, IsTaken, IsAsked, IsMonitored, IsDemonitored};
+
+use crate::status::{EMPTY, EXITED, FULL, NO_MEMORY, NO_MONITOR, OK};
+use crate::timer_calls::ErtTimer;
+use ert_answers::{MonitorErr, Taken};
+use ert_defs::{Mail, NoMemory, Request, RequestKind};
+
+/// A message. Fields that its kind has not are 0.
+#[repr(C)]
+#[derive(Clone, Copy)]
+pub struct ErtMail {
+    /// 1 to 5: a timeout, a bare message, the answers of a cancel and of a read, a change of the offset.
+    pub tag: u32,
+    pub timer: ErtTimer,
+    /// Whether the timer was armed, in an answer of a cancel or of a read.
+    pub has_left: u32,
+    pub monitor: u32,
+    pub msg: u64,
+    /// The milliseconds that were left of the timer.
+    pub left: u64,
+    /// The new time offset, in nanoseconds.
+    pub offset: i64,
+}
+
+/// An asynchronous cancel or read.
+#[repr(C)]
+#[derive(Clone, Copy)]
+pub struct ErtRequest {
+    /// 0 to cancel, and 1 to read.
+    pub kind: u32,
+    pub timer: ErtTimer,
+    /// The process that gets the answer.
+    pub reply_to: u32,
+    /// Whether an answer is sent at all: not 0.
+    pub info: u32,
+}
+
+impl ErtRequest {
+    pub(crate) fn with_kind(&self, kind: RequestKind) -> Request
+        ensures { result ≡ request_of self.now kind }
+    {
+        Request {
+            kind,
+            timer: self.timer.read(),
+            reply_to: self.reply_to,
+            info: self.info != 0,
+        }
+    }
+}
+
+/// What a number asks for.
+pub(crate) fn request_kind_at(kind: u32) -> Option<RequestKind>
+    ensures { result ≡ request_kind_at kind }
+{
+    match kind {
+        0 => Some(RequestKind::Cancel),
+        1 => Some(RequestKind::Read),
+        _ => None,
+    }
+}
+
+fn no_timer() -> ErtTimer
+    ensures { result ≡ no_timer }
+{
+    ErtTimer {
+        wheel: 0,
+        slot: 0,
+        generation: 0,
+    }
+}
+
+fn mail_of(tag: u32, timer: ErtTimer, msg: u64, left: Option<u64>) -> ErtMail
+    ensures { result ≡ mail_of tag timer msg left }
+{
+    let has_left = match left {
+        Some(_) => 1,
+        None => 0,
+    };
+    ErtMail {
+        tag,
+        timer,
+        has_left,
+        monitor: 0,
+        msg,
+        left: left.unwrap_or(0),
+        offset: 0,
+    }
+}
+
+fn mail_as(mail: Mail) -> ErtMail
+    ensures { result ≡ mail_as mail }
+{
+    match mail {
+        Mail::Timeout { timer, msg } => mail_of(1, ErtTimer::of(timer), msg, None),
+        Mail::Bare { msg } => mail_of(2, no_timer(), msg, None),
+        Mail::CancelDone { timer, left } => mail_of(3, ErtTimer::of(timer), 0, left),
+        Mail::ReadDone { timer, left } => mail_of(4, ErtTimer::of(timer), 0, left),
+        Mail::Change { monitor, offset } => ErtMail {
+            tag: 5,
+            timer: no_timer(),
+            has_left: 0,
+            monitor,
+            msg: 0,
+            left: 0,
+            offset,
+        },
+    }
+}
+
+/// Tells C the first message.
+pub(crate) fn tell_taken(answer: Taken, mail: &mut ErtMail) -> i32
+    ensures { IsTaken answer mail.old result mail.new }
+{
+    match answer {
+        Taken::Mail(first) => {
+            *mail = mail_as(first);
+            OK
+        }
+        Taken::Empty => EMPTY,
+        Taken::Exited => EXITED,
+    }
+}
+
+/// Tells C whether a request was put into an inbox.
+pub(crate) fn tell_asked(answer: Result<(), NoMemory>) -> i32
+    ensures { IsAsked answer result }
+{
+    match answer {
+        Ok(()) => OK,
+        Err(_) => NO_MEMORY,
+    }
+}
+
+/// Tells C the number of a monitor.
+pub(crate) fn tell_monitored(answer: Result<u32, MonitorErr>, monitor: &mut u32) -> i32
+    ensures { IsMonitored answer monitor.old result monitor.new }
+{
+    match answer {
+        Ok(number) => {
+            *monitor = number;
+            OK
+        }
+        Err(MonitorErr::Full) => FULL,
+        Err(MonitorErr::NoMemory) => NO_MEMORY,
+    }
+}
+
+/// Tells C whether a monitor stood.
+pub(crate) fn tell_demonitored(answer: bool) -> i32
+    ensures { IsDemonitored answer result }
+{
+    if answer { OK } else { NO_MONITOR }
+}

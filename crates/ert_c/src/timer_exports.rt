@@ -1,0 +1,88 @@
+//! The exported calls on timers and processes.
+ghost use Rattle.std.specs.Prelude.{◌≡◌};
+ghost use Rattle.ert_c.specs.Calls.{AtProcess, StartsBy, CancelsBy, ReadsBy, TellsAliveBy, ExitsBy};
+ghost use Rattle.ert_c.specs.Told.{timer_of, start_of, IsStarted, IsLeft, IsFlag};
+ghost use Rattle.ert_c.specs.Through.{Through, Answers, IfBelow, IsOutOfRange};
+
+use crate::ert_world::ErtWorld;
+use crate::status::{CLOSED, RANGE};
+use crate::timer_calls::{ErtStart, ErtTimer, tell_flag, tell_left, tell_started};
+/// Starts a timer on the wheel of a scheduler.
+#[unsafe(no_mangle)]
+pub extern "C" fn ert_world_start(
+    world: &mut ErtWorld,
+    sched: u32,
+    start: &ErtStart,
+    timer: &mut ErtTimer,
+) -> i32
+    ensures { Through (timer.new ≡ timer.old) (λ old new. IfBelow sched old.settings.schedulers (AtProcess start.now.dest (StartsBy sched (start_of start.now)) (λ answer. IsStarted answer timer.old result timer.new) result (timer.new ≡ timer.old) old new) (IsOutOfRange result (timer.new ≡ timer.old) old new)) world.old.place.value result world.new.place.value }
+{
+    if !world.live {
+        return CLOSED;
+    }
+    let service = world.place.lend();
+    if sched >= service.settings().schedulers {
+        return RANGE;
+    }
+    if start.dest >= service.settings().processes {
+        return RANGE;
+    }
+    let answer = service.start(sched, &start.read());
+    tell_started(answer, timer)
+}
+
+/// Cancels a timer, and tells how much was left of it.
+#[unsafe(no_mangle)]
+pub extern "C" fn ert_world_cancel(world: &mut ErtWorld, timer: &ErtTimer, left: &mut u64) -> i32
+    ensures { Through (left.new ≡ left.old) (Answers (CancelsBy (timer_of timer.now)) (λ answer. IsLeft answer left.old result left.new)) world.old.place.value result world.new.place.value }
+{
+    if !world.live {
+        return CLOSED;
+    }
+    let answer = world.place.lend().cancel_timer(timer.read());
+    tell_left(answer, left)
+}
+
+/// Tells how much is left of a timer.
+#[unsafe(no_mangle)]
+pub extern "C" fn ert_world_read(world: &mut ErtWorld, timer: &ErtTimer, left: &mut u64) -> i32
+    ensures { Through (left.new ≡ left.old) (Answers (ReadsBy (timer_of timer.now)) (λ answer. IsLeft answer left.old result left.new)) world.old.place.value result world.new.place.value }
+{
+    if !world.live {
+        return CLOSED;
+    }
+    let answer = world.place.lend().read_timer(timer.read());
+    tell_left(answer, left)
+}
+
+/// Tells whether a process has not exited.
+#[unsafe(no_mangle)]
+pub extern "C" fn ert_world_is_alive(world: &mut ErtWorld, process: u32, alive: &mut u32) -> i32
+    ensures { Through (alive.new ≡ alive.old) (AtProcess process (TellsAliveBy process) (λ answer. IsFlag answer result alive.new) result (alive.new ≡ alive.old)) world.old.place.value result world.new.place.value }
+{
+    if !world.live {
+        return CLOSED;
+    }
+    let service = world.place.lend();
+    if process >= service.settings().processes {
+        return RANGE;
+    }
+    let answer = service.is_alive(process);
+    tell_flag(answer, alive)
+}
+
+/// Lets a process exit, and tells whether it had not before.
+#[unsafe(no_mangle)]
+pub extern "C" fn ert_world_exit(world: &mut ErtWorld, process: u32, first: &mut u32) -> i32
+    ensures { Through (first.new ≡ first.old) (AtProcess process (ExitsBy process) (λ answer. IsFlag answer result first.new) result (first.new ≡ first.old)) world.old.place.value result world.new.place.value }
+{
+    if !world.live {
+        return CLOSED;
+    }
+    let service = world.place.lend();
+    if process >= service.settings().processes {
+        return RANGE;
+    }
+    let answer = service.exit(process);
+    tell_flag(answer, first)
+}

@@ -1,0 +1,43 @@
+-- What an actor makes in a stretch of a history, beside others, and what each scheduler makes alone.
+
+use Rattle.std.specs.Prelude.{◌≡◌, ℕ, suc, ◌<◌, List, [], ◌∷◌, ◌++◌, length, Ok}
+use Rattle.ert_answers.specs.Chains.{Turns}
+use Rattle.ert_answers.specs.Ways.{Growth, Then, Many, alone, beside}
+use Rattle.ert_answers.specs.declared.answers.Turned.{Turned}
+use Rattle.ert_defs.specs.Actors.{IsFree}
+use Rattle.ert_defs.specs.declared.entry.Actor.{Actor}
+use Rattle.ert_defs.specs.declared.entry.Actor.TheVariants.{Keeper, Sched, Caller}
+use Rattle.ert_defs.specs.declared.entry.Entry.{Entry}
+use Rattle.ert_defs.specs.declared.settings.Settings.{Settings}
+
+-- an actor makes a call in a stretch that comes after a history, and has no entry in the stretch after it
+pub record Makes (a : Actor) (call : Growth) (h stretch : List Entry) : Type 0 where
+  pub pieces : List Entry
+  pub after : List Entry
+  pub parted : stretch ≡ pieces ++ after
+  pub made : call h pieces
+  pub away : IsFree after a
+
+-- a scheduler makes so many turns beside others
+pub record MakesTurns (g : Settings) (w count : ℕ) (h stretch : List Entry) : Type 0 where
+  pub turns : List Turned
+  pub counted : length turns ≡ count
+  pub makes : Makes (Sched w) (Many (λ t. Turns g (beside g (Sched w)) w (Ok t)) turns) h stretch
+
+-- a turn of each scheduler from one on, alone, in order of number
+abbrev pub Round : Settings → ℕ → List Turned → Growth
+Round g w [] h m = m ≡ []
+Round g w (t ∷ turns) h m = Then (Turns g (alone g) w (Ok t)) (Round g (suc w) turns) h m
+
+-- each of the first so many schedulers makes a turn, alone
+pub record MakesRound (g : Settings) (count : ℕ) (h m : List Entry) : Type 0 where
+  pub turns : List Turned
+  pub counted : length turns ≡ count
+  pub made : Round g 0 turns h m
+
+-- who makes entries: the clock, the callers and the schedulers of the settings
+abbrev pub IsMaker : Settings → Actor → Type 0
+IsMaker g Keeper = Unit {0}
+IsMaker g (Caller n) = n < g.callers
+IsMaker g (Sched w) = w < g.schedulers
+IsMaker g _ = ⊥

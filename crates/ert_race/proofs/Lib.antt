@@ -1,0 +1,5 @@
+pub mod AtOnce
+pub mod Reported
+pub mod Rounds
+pub mod Worked
+pub mod Written

@@ -1,0 +1,67 @@
+-- The last turns of a race, as far as they have come.
+
+use Rattle.std.proofs.Common.{◌≡◌, ℕ, ◌+◌, ◌<◌, ◌≤◌, List, Ok, below_more, refl, sym, subst, ◌∙◌, arith}
+use Rattle.ert_answers.proofs.Growing.{grows_then}
+use Rattle.ert_answers.specs.Chains.{Turns}
+use Rattle.ert_answers.specs.Ways.{Grows, alone}
+use Rattle.ert_answers.specs.declared.answers.Turned.{Turned}
+use Rattle.ert_defs.specs.declared.settings.Settings.{Settings}
+use Rattle.ert_outcome.proofs.Rounds.{round_none, round_then}
+use Rattle.ert_outcome.specs.Made.{MakesRound}
+use Rattle.ert_outcome.specs.Outcomes.{ActAtOnce}
+use Rattle.ert_outcome.specs.Reports.{Did}
+use Rattle.ert_ops.specs.Races.{Race}
+use Rattle.ert_race.specs.Ends.{RunsAtOnce, EndsRound, RacesTo}
+use Rattle.ert_sched.specs.Worlds.{Service, Goes, IsTidyAt}
+
+-- so many schedulers have made their last turn, and their wheels are tidy
+pub record IsRoundSoFar (start : Service) (n : ℕ) (w : Service) : Type 0 where
+  pub grows : Grows (MakesRound start.settings n) start.history w.history
+  pub settings : w.settings ≡ start.settings
+  pub labels : w.labels ≡ start.labels
+  pub tidy : (i : ℕ) → i < n → IsTidyAt w i
+  pub low : n ≤ start.settings.schedulers
+
+pub so_far_first : (w : Service) → IsRoundSoFar w 0 w
+so_far_first w = record {
+  grows = round_none w.settings w.history;
+  settings = refl;
+  labels = refl;
+  tidy = λ i low. absurd (omega arith);
+  low = omega arith;
+}
+
+-- one scheduler more
+pub so_far_more : (start v w : Service) (n : ℕ) (t : Turned) → n < start.settings.schedulers → IsRoundSoFar start n v
+    → Goes v (Turns v.settings (alone v.settings) n (Ok t)) w → IsTidyAt w n → IsRoundSoFar start (n + 1) w
+so_far_more start v w n t low far goes tidy = record {
+  grows = round_then start.settings n t start.history v.history w.history far.grows
+      (subst (λ (g : Settings). Grows (Turns g (alone g) n (Ok t)) v.history w.history) far.settings goes.grows);
+  settings = goes.settings ∙ far.settings;
+  labels = goes.labels ∙ far.labels;
+  tidy = below_more (IsTidyAt w) n
+      (λ i less. goes.tidy i (subst (λ (g : Settings). i < g.schedulers) (sym far.settings) (omega (arith, less, low))) (far.tidy i less)) tidy;
+  low = omega (arith, low);
+}
+
+pub ends : (start w : Service) (n : ℕ) → start.settings.schedulers ≤ n → IsRoundSoFar start n w → EndsRound start w
+ends start w n over far =
+    let all : n ≡ start.settings.schedulers = omega (arith, over, far.low) in
+    record {
+      grows = subst (λ k. Grows (MakesRound start.settings k) start.history w.history) all far.grows;
+      settings = far.settings;
+      labels = far.labels;
+      tidy = λ i low. far.tidy i (subst (λ k. i < k) (sym all) (subst (λ (g : Settings). i < g.schedulers) far.settings low));
+    }
+
+-- a race is what all do at once, and then the last turns
+pub races_to : (old seen v w : Service) (race : Race) (dids : List Did) → old ≡ seen → RunsAtOnce seen race dids v → EndsRound v w → RacesTo old race dids w
+races_to old seen v w race dids same one last =
+    subst (λ (s : Service). RacesTo s race dids w) (sym same)
+    (record {
+      grows = grows_then (ActAtOnce seen.settings seen.labels race dids) (MakesRound seen.settings seen.settings.schedulers) seen.history v.history w.history one.grows
+          (subst (λ (g : Settings). Grows (MakesRound g g.schedulers) v.history w.history) one.settings last.grows);
+      settings = last.settings ∙ one.settings;
+      labels = last.labels ∙ one.labels;
+      tidy = last.tidy;
+    })

@@ -1,0 +1,195 @@
+-- What a race wrote, as an outcome has it.
+
+use Rattle.std.proofs.Common.{◌≡◌, ◌≢◌, ℕ, ◌+◌, List, [], ◌∷◌, ◌++◌, length, take, AllPairs, Option, inl, inr, refl, sym, ap, subst, ◌∙◌, arith, append-nil, length-append, get_or}
+use Rattle.std.proofs.lemmas.List.{get_or_append_left, take_all}
+use Rattle.ert_answers.specs.Ways.{alone}
+use Rattle.ert_defs.specs.Legal.{Legal}
+use Rattle.ert_defs.specs.Lines.{Face}
+use Rattle.ert_defs.specs.States.{state}
+use Rattle.ert_defs.specs.declared.entry.Entry.{Entry}
+use Rattle.ert_defs.specs.declared.settings.Settings.{Settings}
+use Rattle.ert_io.proofs.Takes.{took-took, took-none, fits_after, front_after}
+use Rattle.ert_io.specs.Known.{HasRoom}
+use Rattle.ert_io.specs.Told.{Told, told, took, TakesFront}
+use Rattle.ert_laws.specs.Counts.{counts_of}
+use Rattle.ert_ops.specs.Labels.{labels_in, AreOps}
+use Rattle.ert_ops.specs.Races.{Race}
+use Rattle.ert_ops.specs.declared.op.Op.{Op}
+use Rattle.ert_ops.specs.declared.op.Op.TheVariants as ops
+use Rattle.ert_outcome.specs.Outcomes.{Races, IsOutcome}
+use Rattle.ert_outcome.specs.Reports.{Did, behind}
+use Rattle.ert_race.specs.Ends.{RacesTo}
+use Rattle.ert_race.specs.Written.{MayWrite, ReportsFit, RacesOn, StopsRace}
+use Rattle.ert_sched.specs.Lived.{IsLived}
+use Rattle.ert_sched.specs.Openings.{IsOpened}
+use Rattle.ert_sched.specs.Worlds.{Service, StandsFor}
+use Rattle.ert_script.specs.Scripts.{Runs}
+use Rattle.ert_script.specs.Written.{WritesRun, WritesSome, LinesFit}
+use Rattle.ert_table.specs.Desks.{settings_of, KnowsAll}
+use Rattle.ert_table.specs.declared.desk.Desk.{Desk}
+use Rattle.ert_table.specs.declared.desk.Pass.{Pass}
+use Rattle.ert_transcript.specs.Labels.{Labels}
+use Rattle.ert_transcript.specs.Scripts.{Script, lines_of}
+use Rattle.ert_transcript.specs.declared.reply.Reply.{Reply}
+
+-- the first of two lists of ops is one where both together are
+labels_joined : (a b : List Op) → labels_in (a ++ b) ≡ labels_in a ++ labels_in b
+labels_joined [] b = refl
+labels_joined (ops.Start l w when p msg ∷ a) b = ap (λ (ls : List ℕ). l ∷ ls) (labels_joined a b)
+labels_joined (ops.SendAfter l w when p msg ∷ a) b = ap (λ (ls : List ℕ). l ∷ ls) (labels_joined a b)
+labels_joined (_ ∷ a) b = labels_joined a b
+
+apart_front : (xs ys : List ℕ) → AllPairs (λ (l : ℕ) k. l ≢ k) (xs ++ ys) → AllPairs (λ (l : ℕ) k. l ≢ k) xs
+apart_front xs ys pairs i j d before low =
+    let long : length (xs ++ ys) ≡ length xs + length ys = length-append xs ys in
+    subst (λ (k : ℕ). get_or xs i d ≢ k) (get_or_append_left xs ys d j low)
+    (subst (λ (l : ℕ). l ≢ get_or (xs ++ ys) j d) (get_or_append_left xs ys d i (omega arith)) (pairs i j d before (omega arith)))
+
+pub first_ops : (a b : List Op) → AreOps (a ++ b) → AreOps a
+first_ops a b are = record {
+  apart = apart_front (labels_in a) (labels_in b) (subst (λ (ls : List ℕ). AllPairs (λ (l : ℕ) k. l ≢ k) ls) (labels_joined a b) are.apart);
+  few = let long : length (a ++ b) ≡ length a + length b = length-append a b in omega (arith, are.few, long);
+}
+
+-- a run from an opened world on is a script run from the empty history on
+script_of : (g : Settings) (start v : Service) (list : List Op) (rs : List Reply) → IsOpened g start → (ran : Runs start list rs v)
+    → Script g (alone g) 0 [] list rs v.labels [] ran.grows.piece
+script_of g start v list rs opened ran =
+    subst (λ (x : Settings). Script x (alone x) 0 [] list rs v.labels [] ran.grows.piece) opened.stands.settings
+    (subst (λ (x : Labels). Script start.settings (alone start.settings) 0 x list rs v.labels [] ran.grows.piece) opened.labels
+    (subst (λ (x : List Entry). Script start.settings (alone start.settings) 0 start.labels list rs v.labels x ran.grows.piece) opened.stands.history
+    ran.grows.made))
+
+-- its piece is the whole history
+whole_piece : (g : Settings) (start v : Service) (list : List Op) (rs : List Reply) → IsOpened g start → (ran : Runs start list rs v)
+    → v.history ≡ ran.grows.piece
+whole_piece g start v list rs opened ran = ran.grows.grown ∙ ap (λ (x : List Entry). x ++ ran.grows.piece) opened.stands.history
+
+-- the lines of some first ops are what a race may write
+pub beginning : (g : Settings) (list : List Op) (race : Race) (start v : Service) (n : ℕ) (rs : List Reply) → IsOpened g start → Runs start (take n list) rs v
+    → StandsFor v.settings v.history v → MayWrite g list race (lines_of start.labels (take n list) rs)
+beginning g list race start v n rs opened ran stands = inl (record {
+  done = n;
+  entries = ran.grows.piece;
+  replies = rs;
+  labels = v.labels;
+  legal = subst (λ (x : Settings). Legal x ran.grows.piece) (ran.settings ∙ opened.stands.settings)
+      (subst (λ (x : List Entry). Legal v.settings x) (whole_piece g start v (take n list) rs opened ran) stands.clock.legal);
+  runs = script_of g start v (take n list) rs opened ran;
+  reads = ap (λ (x : Labels). lines_of x (take n list) rs) opened.labels;
+})
+
+-- so those lines fit
+pub lines_fit : (g : Settings) (list : List Op) (race : Race) (start : Service) (room : Option ℕ) → IsOpened g start → ReportsFit g list race room
+    → LinesFit start list room
+lines_fit g list race start room opened fits n rs v ran stands =
+    fits (lines_of start.labels (take n list) rs) (beginning g list race start v n rs opened ran stands)
+
+-- the ops and then the race are an outcome
+pub outcome_of : (g : Settings) (list : List Op) (race : Race) (start v w : Service) (rs : List Reply) (dids : List Did) → IsOpened g start → Runs start list rs v
+    → RacesTo v race dids w → StandsFor w.settings w.history w
+    → IsOutcome g list race w.history
+    (lines_of start.labels list rs ++ behind w.labels dids (counts_of w.settings (state w.settings w.history)) w.clock.face.time)
+outcome_of g list race start v w rs dids opened ran raced stands = record {
+  legal = subst (λ (x : Settings). Legal x w.history) named stands.clock.legal;
+  first = v.history;
+  later = raced.grows.piece;
+  parted = raced.grows.grown;
+  replies = rs;
+  labels = v.labels;
+  began = subst (λ (x : List Entry). Script g (alone g) 0 [] list rs v.labels [] x) (sym (whole_piece g start v list rs opened ran)) (script_of g start v list rs opened ran);
+  dids = dids;
+  raced = subst (λ (x : Settings). Races x v.labels race dids v.history raced.grows.piece) (ran.settings ∙ opened.stands.settings) raced.grows.made;
+  reads = ap (λ (x : Labels). lines_of x list rs ++ behind w.labels dids (counts_of w.settings (state w.settings w.history)) w.clock.face.time) opened.labels
+      ∙ (ap (λ (x : Labels). lines_of [] list rs ++ behind x dids (counts_of w.settings (state w.settings w.history)) w.clock.face.time) raced.labels
+      ∙ (ap (λ (f : Face). lines_of [] list rs ++ behind v.labels dids (counts_of w.settings (state w.settings w.history)) f.time) stands.clock.face
+      ∙ ap (λ (x : Settings). lines_of [] list rs ++ behind v.labels dids (counts_of x (state x w.history)) (state x w.history).clock.now) named));
+}
+  where
+    named : w.settings ≡ g
+    named = raced.settings ∙ (ran.settings ∙ opened.stands.settings)
+
+-- the rest of what fits, fits after it
+pub rest_fits : (old new : Told) (a b : List ℕ) → new ≡ took old a → HasRoom old.room (length (a ++ b)) → HasRoom new.room (length b)
+rest_fits old new a b is fits = subst (λ (t : Told). HasRoom t.room (length b)) (sym is) (fits_after old.room a b fits)
+
+-- the race stopped behind the lines of the ops
+pub stops_behind : (g : Settings) (list : List Op) (race : Race) (start v : Service) (old new : Told) → IsOpened g start → WritesRun start list v old new
+    → StopsRace g list race old new
+stops_behind g list race start v old new opened ran =
+    let all : take (length list) list ≡ list = take_all (length list) list (omega arith) in
+    record {
+      text = lines_of start.labels (take (length list) list) ran.replies;
+      may = beginning g list race start v (length list) ran.replies opened (subst (λ (x : List Op). Runs start x ran.replies v) (sym all) ran.runs) ran.stands;
+      writes = record {
+        front = lines_of start.labels list ran.replies;
+        others = [];
+        took = ran.writes;
+        whole = append-nil (lines_of start.labels list ran.replies) ∙ ap (λ (x : List Op). lines_of start.labels x ran.replies) (sym all);
+      };
+    }
+
+-- or among them
+pub stops_among : (g : Settings) (list : List Op) (race : Race) (start : Service) (old new : Told) → IsOpened g start → WritesSome start list old new
+    → StopsRace g list race old new
+stops_among g list race start old new opened some = record {
+  text = lines_of start.labels (take some.done list) some.replies;
+  may = beginning g list race start some.reached some.done some.replies opened some.runs some.stands;
+  writes = some.writes;
+}
+
+-- or before them
+pub stops_first : (g : Settings) (list : List Op) (race : Race) (taken : Option (List ℕ)) (room : Option ℕ) → StopsRace g list race (told taken room) (told taken room)
+stops_first g list race taken room = record {
+  text = [];
+  may = inl (record { done = 0; entries = []; replies = []; labels = []; legal = tt; runs = (refl, refl, refl); reads = refl });
+  writes = record { front = []; others = []; took = took-none taken room; whole = refl };
+}
+
+-- all was written: it is an outcome, and the desk is given out
+pub ends : (g : Settings) (list : List Op) (race : Race) (start v w : Service) (dids : List Did) (page : List ℕ) (old mid new : Told) (r : Desk × Pass)
+    → IsOpened g start → WritesRun start list v old mid → RacesTo v race dids w → StandsFor w.settings w.history w
+    → page ≡ behind w.labels dids (counts_of w.settings (state w.settings w.history)) w.clock.face.time → new ≡ took mid page
+    → settings_of r.0 ≡ w.settings → KnowsAll r.0 r.1 w.history → IsLived w.settings w.history → RacesOn g list race old new r
+ends g list race start v w dids page old mid new r opened ran raced stands told_all written named all lived = record {
+  history = w.history;
+  text = lines_of start.labels list ran.replies ++ page;
+  is = subst (λ (t : List ℕ). IsOutcome g list race w.history (lines_of start.labels list ran.replies ++ t)) (sym told_all)
+      (outcome_of g list race start v w ran.replies dids opened ran.runs raced stands);
+  writes = written ∙ (ap (λ (t : Told). took t page) ran.writes ∙ took-took old (lines_of start.labels list ran.replies) page);
+  settings = named ∙ settings_are;
+  knows = all;
+  lived = subst (λ (x : Settings). IsLived x w.history) settings_are lived;
+}
+  where
+    settings_are : w.settings ≡ g
+    settings_are = raced.settings ∙ (ran.runs.settings ∙ opened.stands.settings)
+
+-- the output stopped at the page behind the lines of the ops
+pub breaks : (g : Settings) (list : List Op) (race : Race) (start v w : Service) (dids : List Did) (page : List ℕ) (old mid new : Told)
+    → IsOpened g start → WritesRun start list v old mid → RacesTo v race dids w → StandsFor w.settings w.history w
+    → page ≡ behind w.labels dids (counts_of w.settings (state w.settings w.history)) w.clock.face.time → TakesFront mid new page
+    → StopsRace g list race old new
+breaks g list race start v w dids page old mid new opened ran raced stands told_all part = record {
+  text = lines_of start.labels list ran.replies ++ page;
+  may = inr (
+    w.history,
+    subst (λ (t : List ℕ). IsOutcome g list race w.history (lines_of start.labels list ran.replies ++ t)) (sym told_all)
+        (outcome_of g list race start v w ran.replies dids opened ran.runs raced stands),
+  );
+  writes = front_after old mid new (lines_of start.labels list ran.replies) page ran.writes part;
+}
+
+-- the page fits
+pub page_fits : (g : Settings) (list : List Op) (race : Race) (start v w : Service) (dids : List Did) (page : List ℕ) (old mid : Told)
+    → IsOpened g start → WritesRun start list v old mid → RacesTo v race dids w → StandsFor w.settings w.history w
+    → page ≡ behind w.labels dids (counts_of w.settings (state w.settings w.history)) w.clock.face.time → ReportsFit g list race old.room
+    → HasRoom mid.room (length page)
+page_fits g list race start v w dids page old mid opened ran raced stands told_all fits =
+    let text : List ℕ = lines_of start.labels list ran.replies in
+    rest_fits old mid text page ran.writes
+    (fits (text ++ page) (inr (
+      w.history,
+      subst (λ (t : List ℕ). IsOutcome g list race w.history (text ++ t)) (sym told_all)
+          (outcome_of g list race start v w ran.replies dids opened ran.runs raced stands),
+    )))

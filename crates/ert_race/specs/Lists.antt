@@ -1,0 +1,11 @@
+-- What came of lists, as the outcome of a race has it.
+
+use Rattle.std.specs.Prelude.{List, map}
+use Rattle.ert_outcome.specs.Reports.{Did}
+use Rattle.ert_workers.specs.declared.list.ListDone.{ListDone}
+
+abbrev pub did_of : ListDone → Did
+did_of d = record { replies = d.replies.items; own = d.own.items }
+
+abbrev pub dids_of : List ListDone → List Did
+dids_of lists = map did_of lists

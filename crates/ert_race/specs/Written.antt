@@ -1,0 +1,55 @@
+-- What a race has written.
+
+use Rattle.std.specs.Prelude.{◌≡◌, ◌⊎◌, ℕ, List, [], take, length, Option}
+use Rattle.ert_answers.specs.Ways.{alone}
+use Rattle.ert_defs.specs.Legal.{Legal}
+use Rattle.ert_defs.specs.declared.entry.Entry.{Entry}
+use Rattle.ert_defs.specs.declared.settings.Settings.{Settings}
+use Rattle.ert_io.specs.Known.{HasRoom}
+use Rattle.ert_io.specs.Told.{Told, took, TakesFront}
+use Rattle.ert_ops.specs.Races.{Race}
+use Rattle.ert_ops.specs.declared.op.Op.{Op}
+use Rattle.ert_outcome.specs.Outcomes.{IsOutcome}
+use Rattle.ert_sched.specs.Lived.{IsLived}
+use Rattle.ert_table.specs.Desks.{settings_of, KnowsAll}
+use Rattle.ert_table.specs.declared.desk.Desk.{Desk}
+use Rattle.ert_table.specs.declared.desk.Pass.{Pass}
+use Rattle.ert_transcript.specs.Labels.{Labels}
+use Rattle.ert_transcript.specs.Scripts.{Script, lines_of}
+use Rattle.ert_transcript.specs.declared.reply.Reply.{Reply}
+
+-- a text is the lines of a script run of some first ops
+pub record IsBeginning (g : Settings) (ops : List Op) (text : List ℕ) : Type 0 where
+  pub done : ℕ
+  pub entries : List Entry
+  pub replies : List Reply
+  pub labels : Labels
+  pub legal : Legal g entries
+  pub runs : Script g (alone g) 0 [] (take done ops) replies labels [] entries
+  pub reads : text ≡ lines_of [] (take done ops) replies
+
+-- a race may write a text: it is the report of an outcome, or the lines of some first ops, where it has come no
+-- further
+abbrev pub MayWrite : Settings → List Op → Race → List ℕ → Type 0
+MayWrite g ops race text = IsBeginning g ops text ⊎ ((h : List Entry) × IsOutcome g ops race h text)
+
+-- whatever it may write fits the room
+abbrev pub ReportsFit : Settings → List Op → Race → Option ℕ → Type 0
+ReportsFit g ops race room = (text : List ℕ) → MayWrite g ops race text → HasRoom room (length text)
+
+-- a race was run on a desk: the report of an outcome was written, and the pass has every actor and for its
+-- history just that of the outcome, in which all timers and mail are as they may be
+pub record RacesOn (g : Settings) (ops : List Op) (race : Race) (old new : Told) (r : Desk × Pass) : Type 0 where
+  pub history : List Entry
+  pub text : List ℕ
+  pub is : IsOutcome g ops race history text
+  pub writes : new ≡ took old text
+  pub settings : settings_of r.0 ≡ g
+  pub knows : KnowsAll r.0 r.1 history
+  pub lived : IsLived g history
+
+-- a race has stopped: the first part of what it may write was written
+pub record StopsRace (g : Settings) (ops : List Op) (race : Race) (old new : Told) : Type 0 where
+  pub text : List ℕ
+  pub may : MayWrite g ops race text
+  pub writes : TakesFront old new text

@@ -1,0 +1,17 @@
+//! The last turns of a race.
+ghost use Rattle.std.specs.Prelude.{OnOk};
+ghost use Rattle.ert_race.specs.Ends.{EndsRound};
+
+use ert_defs::NoMemory;
+use ert_sched::World;
+
+/// Makes a turn of each scheduler, in order of number. Each looks at every row that its wheel holds, so that all
+/// wheels are tidy then.
+pub fn last_round(world: &mut World) -> Result<(), NoMemory>
+    ensures { OnOk result (EndsRound world.old world.new) }
+{
+    for sched in 0..world.settings().schedulers {
+        world.last_turn(sched)?;
+    }
+    Ok(())
+}

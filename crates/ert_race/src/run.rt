@@ -1,0 +1,79 @@
+//! A race from its settings to its report.
+ghost use Rattle.std.specs.Prelude.{◌≡◌, ◌≤◌, IfOk, OnErr, IsErrOf, string_bytes};
+ghost use Rattle.ert_defs.specs.Settings.{IsChecked};
+ghost use Rattle.ert_defs.specs.States.{state};
+ghost use Rattle.ert_io.specs.Faults.{Rose};
+ghost use Rattle.ert_io.specs.Told.{told};
+ghost use Rattle.ert_laws.specs.Counts.{counts_of};
+ghost use Rattle.ert_ops.specs.Races.{IsRace, race_of};
+ghost use Rattle.ert_ops.specs.Ranges.{IsInRange};
+ghost use Rattle.ert_outcome.specs.Reports.{behind};
+ghost use Rattle.ert_race.specs.Lists.{dids_of};
+ghost use Rattle.ert_race.specs.Written.{ReportsFit, RacesOn, StopsRace};
+ghost use Rattle.ert_sched.specs.Counted.{AreTidy};
+
+use crate::naming::name_all;
+use crate::race::{RaceEnd, race_on};
+use crate::report::write_lists;
+use crate::standing::history_stands;
+use ert_defs::{NoMemory, Settings};
+use ert_io::Sink;
+use ert_lines::{RunErr, write_end, write_page};
+use ert_ops::{Op, RaceLists};
+use ert_sched::World;
+use ert_script::{run_ops, write_settled};
+use ert_shared::Gate;
+use ert_table::{Desk, Pass};
+use std::alloc::Global;
+use std::sync::Wait;
+use std::thread::Threads;
+
+/// Runs the ops on a new world, then the race, writes the report, and gives the world's desk. A sink that tells
+/// its room has room for whatever a race may write.
+///
+/// Where the output fails, or memory, the first part of a report was written, or of the lines of the ops.
+pub fn run_race<R: Threads + Wait + Sync, G: Gate + Sync, O: Sink>(
+    rt: &R,
+    alloc: Global,
+    settings: &Settings,
+    ops: &[Op],
+    race: &RaceLists,
+    gate: &G,
+    output: &mut O,
+) -> Result<(Desk, Pass), RunErr>
+    requires fits { ReportsFit settings.now ops.now (race_of race.now) (O.room output.old) }
+    requires checked { IsChecked settings.now }
+    requires ranges { IsInRange settings.now ops.now }
+    requires race { IsRace settings.now ops.now (race_of race.now) }
+    ensures ok { IfOk result (λ r. RacesOn settings.now ops.now (race_of race.now) (told (O.taken output.old) (O.room output.old)) (told (O.taken output.new) (O.room output.new)) r) }
+    ensures err { OnErr result (StopsRace settings.now ops.now (race_of race.now) (told (O.taken output.old) (O.room output.old)) (told (O.taken output.new) (O.room output.new))) }
+    ensures later { O.faults output.old ≤ O.faults output.new }
+    ensures cause { IsErrOf result RunErr.WriteFault → Rose (O.faults output.old) (O.faults output.new) }
+{
+    let Ok(mut world) = World::open(alloc, settings) else {
+        return Err(RunErr::NoMemory);
+    };
+    run_ops(alloc, &mut world, ops, output)?;
+    let Ok(end) = race_on(rt, alloc, world, race, gate) else {
+        return Err(RunErr::NoMemory);
+    };
+    history_stands(&end.world);
+    let Ok(mut page) = report_page(alloc, &end) else {
+        return Err(RunErr::NoMemory);
+    };
+    write_page(output, &mut page)?;
+    Ok(end.world.into_desk())
+}
+
+/// The report behind the lines of the ops.
+fn report_page(alloc: Global, end: &RaceEnd) -> Result<String, NoMemory>
+    requires { AreTidy end.now.world }
+    ensures { let w = end.now.world in IfOk result (λ page. string_bytes page ≡ behind w.labels (dids_of end.now.lists.items) (counts_of w.settings (state w.settings w.history)) w.clock.face.time) }
+{
+    let names = name_all(alloc, end.world.labels(), &end.lists)?;
+    let mut page = String::new(alloc);
+    write_lists(&mut page, &end.lists, &names)?;
+    write_settled(&mut page, &end.world.counts())?;
+    write_end(&mut page, end.world.published())?;
+    Ok(page)
+}

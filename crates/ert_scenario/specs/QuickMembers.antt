@@ -1,0 +1,60 @@
+-- What one pass over the members of an object finds.
+
+use Rattle.std.specs.Prelude.{◌≡◌, ℕ, suc, List, [], false, codes, Option, Some, None, Ok}
+use Rattle.std.specs.Str.{bytes_eq}
+use Rattle.json.specs.Json.{value}
+use Rattle.json.specs.Token.{Token}
+use Rattle.serde_json.specs.Data.{Data, array, object, Members, put}
+use Rattle.serde_json.specs.Find.{get_member}
+use Rattle.serde_json.specs.Read.{of_json, converted}
+use Rattle.serde_json.specs.View.{items_of, members_view}
+use Rattle.ert_defs.specs.declared.settings.Settings.{Settings}
+use Rattle.ert_ops.specs.declared.op.Op.{Op}
+use Rattle.ert_scenario.specs.Fields.{is_field, are_named}
+use Rattle.ert_scenario.specs.Labels.{tested}
+use Rattle.ert_scenario.specs.Lists.{OpValues}
+use Rattle.ert_scenario.specs.Scenarios.{Plan, with_callers, judged, verdict_of}
+use Rattle.ert_scenario.specs.Walked.{without_fault}
+use Rattle.ert_scenario.specs.Walks.{raws_of, all_raws}
+use Rattle.ert_scenario.specs.declared.doer.Doer.TheVariants.{Everyone}
+use Rattle.ert_scenario.specs.declared.fields.Top.{Top}
+use Rattle.ert_scenario.specs.declared.format.Format.{Format}
+use Rattle.ert_scenario.specs.declared.quick.members.Seen.{Seen}
+
+-- the values of ops, without a race
+abbrev pub alone : List Data → OpValues
+alone values = record { ops = values; race = None }
+
+-- once the ops were read, the value of the field is an array of them
+abbrev pub AreOps : Option Format → List Op → Option Data → Type 0
+AreOps None ops found = Unit {0}
+AreOps (Some format) ops found = (values : List Data) × (found ≡ Some (array (items_of values))) × (raws_of format Everyone values ≡ without_fault ops)
+
+-- of all members, these were seen as they are, and the field `ops` as these ops
+pub record IsSeen (format : Option Format) (ops : List Op) (seen all : Members) : Type 0 where
+  pub others : (k : List ℕ) → bytes_eq k (codes "ops") ≡ false → get_member k all ≡ get_member k seen
+  pub named : are_named (is_field false) all ≡ are_named (is_field false) seen
+  pub listed : AreOps format ops (get_member (codes "ops") all)
+
+abbrev pub IsSeenAs : Seen → Members → Type 0
+IsSeenAs s all = IsSeen s.format s.ops.items (members_view s.fields.entries) all
+
+-- of the tokens `old` the first are the value of a member of this name, which is put to those seen before
+pub record ReadsMember (name : List ℕ) (old new : List Token) (was is : Seen) : Type 0 where
+  pub value_is : Data
+  pub reads : (depth : ℕ) → converted of_json (value (suc (suc depth)) old) ≡ Some (value_is, new)
+  pub sees : (all : Members) → IsSeenAs was all → IsSeenAs is (put name value_is all)
+
+-- the verdict on the object of these members is this plan
+abbrev pub IsPlanOf : Seen → Plan → Type 0
+IsPlanOf seen plan = (all : Members) → IsSeenAs seen all → verdict_of false (object all) ≡ Ok plan
+
+-- the verdict is this plan on each list of values that are these ops
+abbrev pub IsPlanWith : Top → List Op → Plan → Type 0
+IsPlanWith top ops plan =
+    (format : Format) (values : List Data) → all_raws format (alone values) ≡ without_fault ops
+    → judged format (alone values) (Ok top) (tested top.settings [] (all_raws format (alone values))) ≡ Ok plan
+
+-- the plan of these settings and ops, for one caller
+abbrev pub plain : Settings → List Op → Plan
+plain g ops = record { settings = with_callers 1 g; ops = ops; race = None }

@@ -1,0 +1,378 @@
+/* Each call of the library with its answers, bad input included. What is expected stands in ertime.h. */
+#include <inttypes.h>
+#include <stdio.h>
+#include <stdlib.h>
+#include <string.h>
+
+#include "ertime.h"
+
+#define MILLISECOND INT64_C(1000000)
+
+static int failed;
+
+static void expect(int line, const char *what, int64_t got, int64_t wanted) {
+    if (got != wanted) {
+        fprintf(stderr, "line %d: %s is %" PRId64 ", not %" PRId64 "\n", line, what, got, wanted);
+        failed += 1;
+    }
+}
+
+#define IS(got, wanted) expect(__LINE__, #got, (int64_t)(got), (int64_t)(wanted))
+
+static const ert_settings plain = {
+    .size = sizeof(ert_settings),
+    .mode = ERT_NO_WARP,
+    .correction = 1,
+    .schedulers = 2,
+    .processes = 3,
+    .slots = 2,
+    .callers = 1,
+    .start = 0,
+    .first = {1000 * MILLISECOND, 5000 * MILLISECOND},
+};
+
+static void tick(ert_world *world, int64_t milliseconds) {
+    ert_reading reading = {(1000 + milliseconds) * MILLISECOND, (5000 + milliseconds) * MILLISECOND};
+    ert_moved moved;
+    IS(ert_world_tick(world, &reading, 0, &moved), ERT_OK);
+    IS(moved.now, milliseconds * MILLISECOND);
+    IS(moved.shifted, 0);
+}
+
+static void closed_handles(void) {
+    ert_world w = ERT_INIT;
+    ert_reading reading = {0, 0};
+    ert_moved moved = {7, 7, 7};
+    ert_offset offset = {7, 7};
+    ert_start start = {0, 0, 0, 0, 0};
+    ert_timer timer = {7, 7, 7};
+    ert_request request = {9, {0, 0, 0}, 9, 0};
+    ert_mail mail;
+    ert_advanced advanced;
+    ert_delivered delivered;
+    ert_turned turned;
+    int64_t time = 7;
+    uint64_t left = 7;
+    uint32_t n = 7;
+    IS(ert_world_tick(&w, &reading, 0, &moved), ERT_CLOSED);
+    IS(ert_world_finalize(&w, &reading, &n, &moved), ERT_CLOSED);
+    IS(ert_world_monotonic_time(&w, &time), ERT_CLOSED);
+    IS(ert_world_system_time(&w, &time), ERT_CLOSED);
+    IS(ert_world_time_offset(&w, &offset), ERT_CLOSED);
+    IS(ert_world_start(&w, 9, &start, &timer), ERT_CLOSED);
+    IS(ert_world_cancel(&w, &timer, &left), ERT_CLOSED);
+    IS(ert_world_read(&w, &timer, &left), ERT_CLOSED);
+    IS(ert_world_is_alive(&w, 9, &n), ERT_CLOSED);
+    IS(ert_world_exit(&w, 9, &n), ERT_CLOSED);
+    IS(ert_world_ask(&w, &request), ERT_CLOSED);
+    IS(ert_world_take(&w, 9, &mail), ERT_CLOSED);
+    IS(ert_world_monitor(&w, 9, &n), ERT_CLOSED);
+    IS(ert_world_demonitor(&w, 9, 0), ERT_CLOSED);
+    IS(ert_world_tell(&w, 9, &n), ERT_CLOSED);
+    IS(ert_world_serve(&w, 9, &n), ERT_CLOSED);
+    IS(ert_world_advance(&w, 9, &advanced), ERT_CLOSED);
+    IS(ert_world_deliver(&w, 9, &delivered), ERT_CLOSED);
+    IS(ert_world_turn(&w, 9, &turned), ERT_CLOSED);
+    IS(ert_world_next_due(&w, 9, &left), ERT_CLOSED);
+    IS(ert_world_close(&w), ERT_CLOSED);
+    IS(time, 7);
+    IS(left, 7);
+    IS(n, 7);
+    IS(moved.now, 7);
+    IS(offset.offset, 7);
+    IS(timer.slot, 7);
+}
+
+static void refuse(ert_settings settings, int32_t status) {
+    ert_world w = ERT_INIT;
+    IS(ert_world_open(&w, &settings), status);
+    IS(ert_world_close(&w), ERT_CLOSED);
+}
+
+static void bad_settings(void) {
+    ert_settings s;
+    s = plain, s.size = 8, refuse(s, ERT_BAD_SIZE);
+    s = plain, s.mode = 3, refuse(s, ERT_BAD_MODE);
+    s = plain, s.start = 1, refuse(s, ERT_BAD_START);
+    s = plain, s.first.mono = -1, refuse(s, ERT_BAD_READING);
+    s = plain, s.first.sys = INT64_MIN, refuse(s, ERT_BAD_READING);
+    s = plain, s.schedulers = 65, refuse(s, ERT_BAD_COUNT);
+    s = plain, s.processes = 0, refuse(s, ERT_BAD_COUNT);
+    s = plain, s.slots = 65537, refuse(s, ERT_BAD_COUNT);
+    s = plain, s.callers = 18, refuse(s, ERT_BAD_COUNT);
+}
+
+static void open_twice(void) {
+    ert_world w = ERT_INIT;
+    IS(ert_world_open(&w, &plain), ERT_OK);
+    IS(ert_world_open(&w, &plain), ERT_OPEN);
+    IS(ert_world_close(&w), ERT_OK);
+    IS(ert_world_close(&w), ERT_CLOSED);
+    IS(ert_world_open(&w, &plain), ERT_OK);
+    IS(ert_world_close(&w), ERT_OK);
+}
+
+static void clock_calls(void) {
+    ert_world w = ERT_INIT;
+    ert_settings settings = plain;
+    settings.mode = ERT_SINGLE_WARP;
+    int64_t time;
+    ert_offset offset;
+    ert_moved moved;
+    uint32_t before;
+    IS(ert_world_open(&w, &settings), ERT_OK);
+    IS(ert_world_monotonic_time(&w, &time), ERT_OK);
+    IS(time, 0);
+    IS(ert_world_system_time(&w, &time), ERT_OK);
+    IS(time, 5000 * MILLISECOND);
+    IS(ert_world_time_offset(&w, &offset), ERT_OK);
+    IS(offset.offset, 5000 * MILLISECOND);
+    IS(offset.state, ERT_PRELIMINARY);
+    tick(&w, 40);
+    IS(ert_world_monotonic_time(&w, &time), ERT_OK);
+    IS(time, 40 * MILLISECOND);
+
+    ert_reading bad = {-1, 0};
+    moved.now = 7;
+    IS(ert_world_tick(&w, &bad, 1, &moved), ERT_BAD_READING);
+    IS(ert_world_finalize(&w, &bad, &before, &moved), ERT_BAD_READING);
+    IS(moved.now, 7);
+
+    ert_reading later = {1060 * MILLISECOND, 9060 * MILLISECOND};
+    IS(ert_world_finalize(&w, &later, &before, &moved), ERT_OK);
+    IS(before, ERT_PRELIMINARY);
+    IS(moved.now, 60 * MILLISECOND);
+    IS(moved.shifted, 1);
+    IS(moved.shift, 9000 * MILLISECOND);
+    IS(ert_world_time_offset(&w, &offset), ERT_OK);
+    IS(offset.state, ERT_FINAL);
+    IS(offset.offset, 9000 * MILLISECOND);
+    IS(ert_world_finalize(&w, &later, &before, &moved), ERT_OK);
+    IS(before, ERT_FINAL);
+    IS(moved.shifted, 0);
+    IS(ert_world_close(&w), ERT_OK);
+}
+
+static void wide_offset(void) {
+    ert_world w = ERT_INIT;
+    ert_settings settings = plain;
+    settings.mode = ERT_SINGLE_WARP;
+    settings.first.mono = 0;
+    settings.first.sys = 0;
+    uint32_t before = 7;
+    int64_t time;
+    ert_moved moved = {7, 7, 7};
+    IS(ert_world_open(&w, &settings), ERT_OK);
+    /* System time would be 3 * 2^61 below monotonic time. */
+    ert_reading apart = {(INT64_C(1) << 62) - 1, -(INT64_C(1) << 61) + 1};
+    IS(ert_world_finalize(&w, &apart, &before, &moved), ERT_OFFSET_WIDE);
+    IS(before, 7);
+    IS(moved.now, 7);
+    IS(ert_world_monotonic_time(&w, &time), ERT_OK);
+    IS(time, 0);
+    IS(ert_world_close(&w), ERT_OK);
+}
+
+static void timer_calls(void) {
+    ert_world w = ERT_INIT;
+    ert_start s = {.when = 50, .msg = 11, .dest = 1};
+    ert_timer a, b, c = {7, 7, 7};
+    ert_mail mail;
+    ert_turned turned;
+    ert_advanced advanced;
+    ert_delivered delivered;
+    uint64_t left = 7;
+    uint64_t due = 7;
+    IS(ert_world_open(&w, &plain), ERT_OK);
+    IS(ert_world_next_due(&w, 0, &due), ERT_EMPTY);
+    IS(ert_world_next_due(&w, 2, &due), ERT_RANGE);
+    IS(due, 7);
+
+    IS(ert_world_start(&w, 2, &s, &c), ERT_RANGE);
+    s.dest = 3;
+    IS(ert_world_start(&w, 0, &s, &c), ERT_RANGE);
+    s.dest = 1;
+    s.when = -1;
+    IS(ert_world_start(&w, 0, &s, &c), ERT_BAD_TIME);
+    IS(c.slot, 7);
+    s.when = 50;
+    IS(ert_world_start(&w, 0, &s, &a), ERT_OK);
+    s.when = 3000;
+    s.absolute = 1;
+    s.bare = 1;
+    s.msg = 12;
+    IS(ert_world_start(&w, 0, &s, &b), ERT_OK);
+    IS(ert_world_start(&w, 0, &s, &c), ERT_FULL);
+    IS(c.slot, 7);
+
+    IS(ert_world_next_due(&w, 0, &due), ERT_OK);
+    IS(due, 50);
+    IS(ert_world_read(&w, &a, &left), ERT_OK);
+    IS(left, 50);
+    left = 7;
+    IS(ert_world_read(&w, &c, &left), ERT_NO_TIMER);
+    IS(ert_world_cancel(&w, &c, &left), ERT_NO_TIMER);
+    IS(left, 7);
+
+    tick(&w, 49);
+    IS(ert_world_turn(&w, 0, &turned), ERT_OK);
+    IS(turned.to, 49);
+    IS(turned.fired, 0);
+    IS(ert_world_take(&w, 1, &mail), ERT_EMPTY);
+    tick(&w, 50);
+    IS(ert_world_turn(&w, 0, &turned), ERT_OK);
+    IS(turned.to, 50);
+    IS(turned.served, 0);
+    IS(turned.fired, 1);
+    IS(turned.put, 1);
+    IS(turned.dropped, 0);
+    IS(ert_world_take(&w, 1, &mail), ERT_OK);
+    IS(mail.tag, ERT_TIMEOUT);
+    IS(mail.msg, 11);
+    IS(mail.timer.wheel, a.wheel);
+    IS(mail.timer.slot, a.slot);
+    IS(mail.timer.generation, a.generation);
+    IS(ert_world_take(&w, 3, &mail), ERT_RANGE);
+    IS(ert_world_cancel(&w, &a, &left), ERT_NO_TIMER);
+
+    /* The other is due after the look ahead. */
+    IS(ert_world_next_due(&w, 0, &due), ERT_OK);
+    IS(due, 50 + 1024);
+    tick(&w, 3000);
+    IS(ert_world_next_due(&w, 0, &due), ERT_OK);
+    IS(due, 3000);
+    IS(ert_world_advance(&w, 0, &advanced), ERT_OK);
+    IS(advanced.to, 3000);
+    IS(advanced.fired, 1);
+    IS(ert_world_advance(&w, 2, &advanced), ERT_RANGE);
+    IS(ert_world_deliver(&w, 0, &delivered), ERT_OK);
+    IS(delivered.put, 1);
+    IS(delivered.dropped, 0);
+    IS(ert_world_deliver(&w, 2, &delivered), ERT_RANGE);
+    IS(ert_world_turn(&w, 2, &turned), ERT_RANGE);
+    IS(ert_world_take(&w, 1, &mail), ERT_OK);
+    IS(mail.tag, ERT_BARE);
+    IS(mail.msg, 12);
+    IS(mail.timer.slot, 0);
+    IS(ert_world_next_due(&w, 0, &due), ERT_EMPTY);
+
+    s.when = 4000;
+    IS(ert_world_start(&w, 1, &s, &b), ERT_OK);
+    IS(ert_world_cancel(&w, &b, &left), ERT_OK);
+    IS(left, 1000);
+    IS(ert_world_next_due(&w, 1, &due), ERT_EMPTY);
+    IS(ert_world_close(&w), ERT_OK);
+}
+
+static void request_calls(void) {
+    ert_world w = ERT_INIT;
+    ert_start s = {.when = 80, .msg = 5, .dest = 0};
+    ert_timer timer;
+    ert_mail mail;
+    uint32_t served = 7;
+    IS(ert_world_open(&w, &plain), ERT_OK);
+    IS(ert_world_start(&w, 1, &s, &timer), ERT_OK);
+    ert_request r = {.kind = 2, .timer = timer, .reply_to = 9, .info = 1};
+    IS(ert_world_ask(&w, &r), ERT_BAD_KIND);
+    r.kind = ERT_READ;
+    IS(ert_world_ask(&w, &r), ERT_RANGE);
+    r.reply_to = 2;
+    IS(ert_world_ask(&w, &r), ERT_OK);
+    r.kind = ERT_CANCEL;
+    IS(ert_world_ask(&w, &r), ERT_OK);
+    IS(ert_world_ask(&w, &r), ERT_OK);
+    IS(ert_world_serve(&w, 2, &served), ERT_RANGE);
+    IS(ert_world_serve(&w, 0, &served), ERT_OK);
+    IS(served, 0);
+    for (int i = 0; i < 3; i++) {
+        IS(ert_world_serve(&w, 1, &served), ERT_OK);
+        IS(served, 1);
+    }
+    IS(ert_world_take(&w, 2, &mail), ERT_OK);
+    IS(mail.tag, ERT_READ_DONE);
+    IS(mail.has_left, 1);
+    IS(mail.left, 80);
+    IS(ert_world_take(&w, 2, &mail), ERT_OK);
+    IS(mail.tag, ERT_CANCEL_DONE);
+    IS(mail.has_left, 1);
+    IS(mail.left, 80);
+    IS(ert_world_take(&w, 2, &mail), ERT_OK);
+    IS(mail.tag, ERT_CANCEL_DONE);
+    IS(mail.has_left, 0);
+    IS(mail.left, 0);
+    IS(ert_world_take(&w, 2, &mail), ERT_EMPTY);
+    IS(ert_world_close(&w), ERT_OK);
+}
+
+static void process_calls(void) {
+    ert_world w = ERT_INIT;
+    ert_start s = {.when = 80, .msg = 5, .dest = 2};
+    ert_timer timer;
+    ert_mail mail;
+    uint64_t left;
+    uint32_t flag = 7;
+    IS(ert_world_open(&w, &plain), ERT_OK);
+    IS(ert_world_is_alive(&w, 3, &flag), ERT_RANGE);
+    IS(ert_world_exit(&w, 3, &flag), ERT_RANGE);
+    IS(flag, 7);
+    IS(ert_world_is_alive(&w, 2, &flag), ERT_OK);
+    IS(flag, 1);
+    IS(ert_world_start(&w, 0, &s, &timer), ERT_OK);
+    IS(ert_world_exit(&w, 2, &flag), ERT_OK);
+    IS(flag, 1);
+    IS(ert_world_exit(&w, 2, &flag), ERT_OK);
+    IS(flag, 0);
+    IS(ert_world_is_alive(&w, 2, &flag), ERT_OK);
+    IS(flag, 0);
+    IS(ert_world_read(&w, &timer, &left), ERT_NO_TIMER);
+    IS(ert_world_take(&w, 2, &mail), ERT_EXITED);
+    IS(ert_world_close(&w), ERT_OK);
+}
+
+static void monitor_calls(void) {
+    ert_world w = ERT_INIT;
+    ert_settings settings = plain;
+    settings.mode = ERT_SINGLE_WARP;
+    uint32_t monitor = 7, told = 7, before;
+    ert_mail mail;
+    ert_moved moved;
+    IS(ert_world_open(&w, &settings), ERT_OK);
+    IS(ert_world_monitor(&w, 3, &monitor), ERT_RANGE);
+    IS(ert_world_tell(&w, 3, &told), ERT_RANGE);
+    IS(ert_world_demonitor(&w, 3, 1), ERT_RANGE);
+    IS(ert_world_monitor(&w, 0, &monitor), ERT_OK);
+    IS(ert_world_tell(&w, 0, &told), ERT_OK);
+    IS(told, 0);
+    ert_reading later = {1000 * MILLISECOND, 6000 * MILLISECOND};
+    IS(ert_world_finalize(&w, &later, &before, &moved), ERT_OK);
+    IS(ert_world_tell(&w, 0, &told), ERT_OK);
+    IS(told, 1);
+    IS(ert_world_take(&w, 0, &mail), ERT_OK);
+    IS(mail.tag, ERT_CHANGE);
+    IS(mail.monitor, monitor);
+    IS(mail.offset, 6000 * MILLISECOND);
+    IS(ert_world_demonitor(&w, 0, monitor), ERT_OK);
+    IS(ert_world_demonitor(&w, 0, monitor), ERT_NO_MONITOR);
+    for (int i = 0; i < 64; i++) {
+        IS(ert_world_monitor(&w, 1, &monitor), ERT_OK);
+    }
+    IS(ert_world_monitor(&w, 1, &monitor), ERT_FULL);
+    IS(ert_world_close(&w), ERT_OK);
+}
+
+int main(void) {
+    closed_handles();
+    bad_settings();
+    open_twice();
+    clock_calls();
+    wide_offset();
+    timer_calls();
+    request_calls();
+    process_calls();
+    monitor_calls();
+    if (failed != 0) {
+        return EXIT_FAILURE;
+    }
+    puts("every call answered as it must");
+    return EXIT_SUCCESS;
+}

@@ -1,0 +1,105 @@
+/*
+ * Want of memory: each allocation fails in turn. Linked with --wrap=malloc and --wrap=realloc; the address
+ * sanitizer tells at the end whether anything was lost.
+ */
+#include <inttypes.h>
+#include <stdio.h>
+#include <stdlib.h>
+
+#include "ertime.h"
+
+void *__real_malloc(size_t size);
+void *__real_realloc(void *block, size_t size);
+void *__wrap_malloc(size_t size);
+void *__wrap_realloc(void *block, size_t size);
+
+/* How many allocations succeed before all fail; negative: none fails. */
+static long succeed = -1;
+
+static bool fails(void) {
+    if (succeed > 0) {
+        succeed -= 1;
+        return false;
+    }
+    return succeed == 0;
+}
+
+void *__wrap_malloc(size_t size) { return fails() ? NULL : __real_malloc(size); }
+
+void *__wrap_realloc(void *block, size_t size) { return fails() ? NULL : __real_realloc(block, size); }
+
+static void expect(int line, int32_t got, int32_t wanted) {
+    if (got != wanted) {
+        fprintf(stderr, "line %d: status %" PRId32 ", not %" PRId32 "\n", line, got, wanted);
+        exit(EXIT_FAILURE);
+    }
+}
+
+#define IS(got, wanted) expect(__LINE__, got, wanted)
+
+static const ert_settings settings = {
+    .size = sizeof(ert_settings),
+    .schedulers = 2,
+    .processes = 2,
+    .slots = 3,
+    .callers = 1,
+};
+
+/* Refused for want of memory, the call can be made again. */
+static void made_again(ert_world *world, int32_t (*call)(ert_world *)) {
+    succeed = 0;
+    int32_t status = call(world);
+    succeed = -1;
+    if (status == ERT_NO_MEMORY) {
+        status = call(world);
+    }
+    IS(status, ERT_OK);
+}
+
+static ert_timer timer;
+
+static int32_t ask(ert_world *world) {
+    ert_request request = {.kind = ERT_READ, .timer = timer, .reply_to = 1, .info = 1};
+    return ert_world_ask(world, &request);
+}
+
+static int32_t monitor(ert_world *world) {
+    uint32_t number;
+    return ert_world_monitor(world, 0, &number);
+}
+
+static int32_t turn(ert_world *world) {
+    ert_turned turned;
+    return ert_world_turn(world, 0, &turned);
+}
+
+int main(void) {
+    ert_world world = ERT_INIT;
+    long refused = 0;
+    for (;; refused++) {
+        succeed = refused;
+        int32_t status = ert_world_open(&world, &settings);
+        succeed = -1;
+        if (status == ERT_OK) {
+            break;
+        }
+        IS(status, ERT_NO_MEMORY);
+        IS(ert_world_close(&world), ERT_CLOSED);
+    }
+    printf("open was refused for want of memory: %s\n", refused > 0 ? "yes" : "no");
+
+    ert_start start = {.when = 0, .msg = 7, .dest = 1};
+    ert_mail mail;
+    IS(ert_world_start(&world, 0, &start, &timer), ERT_OK);
+    made_again(&world, ask);
+    made_again(&world, monitor);
+    made_again(&world, turn);
+    IS(ert_world_take(&world, 1, &mail), ERT_OK);
+    IS((int32_t)mail.tag, ERT_READ_DONE);
+    IS(ert_world_take(&world, 1, &mail), ERT_OK);
+    IS((int32_t)mail.tag, ERT_TIMEOUT);
+    IS(ert_world_take(&world, 1, &mail), ERT_EMPTY);
+    IS(ert_world_close(&world), ERT_OK);
+    puts("each call could be made again");
+    return EXIT_SUCCESS;
+}
