@@ -1,10 +1,14 @@
 ghost use Rattle.std.specs.Prelude.{◌≤◌};
 
 use crate::clock_rows::{self, FINALIZED};
-use crate::{EndStatus, ertime, refused_rows, timer_rows};
+use crate::{EndStatus, Ended, ertime, refused_rows, timer_rows};
+use ert_defs::Reading;
 use ert_io::{Failed, MemClock, MemSink, MemSource, Source};
+use ert_shared::FreeGate;
 use std::alloc::{AllocError, Global};
+use std::sync::Wait;
 use std::test::Fail;
+use std::thread::Threads;
 
 const LEAP: &str =
     r#"{"format":1,"correction":false,"first":[0,10000000000],"ops":[["tick",0,12000000000],["tick",0,11000000000],["time"],["tick",0,13000000000],["system"]]}"#;
@@ -14,6 +18,31 @@ const LEAP_TEXT: &str =
 
 const USAGE: &str = "usage: ertime run | race | live N | stress SEED N\n";
 
+const READINGS: [(i64, i64); 3] = [
+    (5_000_000_000, 1_767_225_600_000_000_000),
+    (6_000_000_000, 1_767_225_601_000_000_000),
+    (6_500_000_000, 1_767_225_601_500_000_000),
+];
+
+const LIVE_TEXT: &str =
+    "live 0 1767225600000000000\nlive 1000000000 1767225601000000000\nlive 1500000000 1767225601500000000\nend 1500000000\n";
+
+// The call of each stream that fails, from 1, or 0 for none, and the most bytes that one write takes.
+#[derive(Clone, Copy)]
+struct Streams {
+    read: u32,
+    write: u32,
+    reading: u32,
+    piece: usize,
+}
+
+const SOUND: Streams = Streams {
+    read: 0,
+    write: 0,
+    reading: 0,
+    piece: 7,
+};
+
 fn strings(alloc: Global, words: &[&str]) -> Result<Vec<String>, AllocError> {
     let mut all = Vec::new(alloc);
     for word in words {
@@ -22,29 +51,45 @@ fn strings(alloc: Global, words: &[&str]) -> Result<Vec<String>, AllocError> {
     Ok(all)
 }
 
-// A clock with no reading.
-fn no_clock(alloc: Global) -> MemClock {
-    MemClock::new(Vec::new(alloc), Vec::new(alloc))
+fn clock_of(alloc: Global, readings: &[(i64, i64)], fails: u32) -> Result<MemClock, AllocError> {
+    let mut all = Vec::new(alloc);
+    for (mono, sys) in readings {
+        all.push(Reading {
+            mono: *mono,
+            sys: *sys,
+        })?;
+    }
+    Ok(MemClock::new(all, vec![in alloc; fails]?))
 }
 
-// The status and the output of the program over these words and this text. The read and the write of the
-// given numbers fail, and a write takes so many bytes at most.
-fn run(
-    rt: &HostRuntime,
+// The program over these words, a source and a sink, with these readings, of which one fails.
+fn run<R: AllocGlobal + Threads + Wait + Sync, I: Source>(
+    rt: &R,
     words: &[&str],
-    text: &str,
-    fails: (u32, u32),
-    piece: usize,
-) -> Result<(EndStatus, String), AllocError>
-    requires { 1 ≤ piece }
-{
+    input: &mut I,
+    output: &mut MemSink,
+    mut clock: MemClock,
+) -> Result<Ended, AllocError> {
     let words = strings(rt.alloc(), words)?;
-    let reads = vec![in rt.alloc(); fails.0]?;
-    let mut input = MemSource::new(text.as_bytes().to_vec(rt.alloc())?, reads);
-    let writes = vec![in rt.alloc(); fails.1]?;
-    let mut output = MemSink::new(rt.alloc(), piece, writes);
-    let mut clock = no_clock(rt.alloc());
-    let ended = ertime(rt, words.as_slice(), &mut input, &mut output, &mut clock);
+    Ok(ertime(rt, words.as_slice(), input, output, &mut clock, &FreeGate))
+}
+
+// The status and the output of the program over these words, this input and these readings.
+fn end_of<R: AllocGlobal + Threads + Wait + Sync>(
+    rt: &R,
+    words: &[&str],
+    text: &[u8],
+    readings: &[(i64, i64)],
+    streams: Streams,
+) -> Result<(EndStatus, String), AllocError>
+    requires { 1 ≤ streams.piece }
+{
+    let reads = vec![in rt.alloc(); streams.read]?;
+    let mut input = MemSource::new(text.to_vec(rt.alloc())?, reads);
+    let writes = vec![in rt.alloc(); streams.write]?;
+    let mut output = MemSink::new(rt.alloc(), streams.piece, writes);
+    let clock = clock_of(rt.alloc(), readings, streams.reading)?;
+    let ended = run(rt, words, &mut input, &mut output, clock)?;
     Ok((
         ended.status,
         String::from_utf8_lossy(rt.alloc(), output.bytes())?,
@@ -66,20 +111,24 @@ fn writes_transcripts_and_refusals(rt: HostRuntime) -> Result<(), Fail> {
     ] {
         for (fields, ops, lines) in rows {
             let text = scenario(rt.alloc(), format, fields, ops)?;
-            let (ended, written) = run(&rt, &["run"], text.as_str(), (0, 0), 7)?;
+            let (ended, written) = end_of(&rt, &["run"], text.as_bytes(), &[], SOUND)?;
             assert_eq!(rt; ended, status, "at {text}");
             assert_eq!(rt; written.as_str(), *lines, "at {text}");
         }
     }
     for (text, line) in refused_rows::TEXTS {
-        let (ended, written) = run(&rt, &["run"], text, (0, 0), 7)?;
+        let (ended, written) = end_of(&rt, &["run"], text.as_bytes(), &[], SOUND)?;
         assert_eq!(rt; ended, EndStatus::Refused, "at {text}");
         assert_eq!(rt; written.as_str(), line, "at {text}");
     }
+    // A byte that begins no character.
+    let (ended, written) = end_of(&rt, &["run"], &[255], &[], SOUND)?;
+    assert_eq!(rt; ended, EndStatus::Refused);
+    assert_eq!(rt; written.as_str(), "refused json\n");
     Ok(())
 }
 
-// An op, so many times.
+// A text, so many times, with commas between.
 fn repeated(alloc: Global, op: &str, count: usize) -> Result<String, AllocError> {
     let mut ops = String::from_str(alloc, op)?;
     for _ in 1..count {
@@ -93,7 +142,7 @@ fn repeated(alloc: Global, op: &str, count: usize) -> Result<String, AllocError>
 fn gives_64_monitors(rt: HostRuntime) -> Result<(), Fail> {
     let ops = repeated(rt.alloc(), r#"["monitor",0]"#, 65)?;
     let text = scenario(rt.alloc(), 1, r#""first":[0,0]"#, ops.as_str())?;
-    let (ended, written) = run(&rt, &["run"], text.as_str(), (0, 0), 100)?;
+    let (ended, written) = end_of(&rt, &["run"], text.as_bytes(), &[], SOUND)?;
     assert_eq!(rt; ended, EndStatus::Done);
     assert!(rt;
         written
@@ -107,7 +156,7 @@ fn gives_64_monitors(rt: HostRuntime) -> Result<(), Fail> {
 fn takes_100_000_ops(rt: HostRuntime) -> Result<(), Fail> {
     let ops = repeated(rt.alloc(), r#"["time"]"#, 100_001)?;
     let text = scenario(rt.alloc(), 1, r#""first":[0,0]"#, ops.as_str())?;
-    let (ended, written) = run(&rt, &["run"], text.as_str(), (0, 0), 100)?;
+    let (ended, written) = end_of(&rt, &["run"], text.as_bytes(), &[], SOUND)?;
     assert_eq!(rt; ended, EndStatus::Refused);
     assert_eq!(rt; written.as_str(), "refused limit 0\n");
     Ok(())
@@ -117,13 +166,12 @@ fn takes_100_000_ops(rt: HostRuntime) -> Result<(), Fail> {
 // seconds and final, stands in its word above 2^62, doubled.
 #[test]
 fn gives_its_desk_back(rt: HostRuntime) -> Result<(), Fail> {
-    let words = strings(rt.alloc(), &["run"])?;
     let (fields, ops, _) = FINALIZED;
-    let text = format!(in rt.alloc(); "{{\"format\":1,{fields},\"ops\":[{ops}]}}")?;
+    let text = scenario(rt.alloc(), 1, fields, ops)?;
     let mut input = MemSource::new(text.as_bytes().to_vec(rt.alloc())?, Vec::new(rt.alloc()));
     let mut output = MemSink::new(rt.alloc(), 100, Vec::new(rt.alloc()));
-    let mut clock = no_clock(rt.alloc());
-    let ended = ertime(&rt, words.as_slice(), &mut input, &mut output, &mut clock);
+    let clock = clock_of(rt.alloc(), &[], 0)?;
+    let ended = run(&rt, &["run"], &mut input, &mut output, clock)?;
     assert_eq!(rt; ended.status, EndStatus::Done);
     let (desk, pass) = ended.desk.ok_or("there is no desk")?;
     let words = desk.close(rt.alloc(), pass)?;
@@ -144,53 +192,149 @@ fn refuses_other_command_lines(rt: HostRuntime) -> Result<(), Fail> {
         &["--help"],
     ];
     for words in lines {
-        let (ended, written) = run(&rt, words, LEAP, (1, 0), 100)?;
+        let (ended, written) = end_of(&rt, words, LEAP.as_bytes(), &READINGS, SOUND)?;
         assert_eq!(rt; ended, EndStatus::Usage);
         assert_eq!(rt; written.as_str(), USAGE);
     }
+    let fails = Streams { write: 1, ..SOUND };
+    let (ended, written) = end_of(&rt, &[], &[], &[], fails)?;
+    assert_eq!(rt; ended, EndStatus::WriteFault);
+    assert_eq!(rt; written.as_str(), "");
     Ok(())
 }
 
 #[test]
-fn stops_at_a_fault(rt: HostRuntime) -> Result<(), Fail> {
+fn stops_at_a_failed_write(rt: HostRuntime) -> Result<(), Fail> {
     // The text has 98 bytes, and each write takes one.
-    for failing in 1..=98 {
-        let (ended, written) = run(&rt, &["run"], LEAP, (0, failing), 1)?;
-        assert_eq!(rt; ended, EndStatus::WriteFault);
-        assert_eq!(rt; written.len(), failing as usize - 1);
-        assert!(rt; LEAP_TEXT.starts_with(written.as_str()));
+    for write in 1..=99 {
+        let streams = Streams {
+            write,
+            piece: 1,
+            ..SOUND
+        };
+        let (ended, written) = end_of(&rt, &["run"], LEAP.as_bytes(), &[], streams)?;
+        let (status, length) = match write {
+            99 => (EndStatus::Done, 98),
+            _ => (EndStatus::WriteFault, write as usize - 1),
+        };
+        assert_eq!(rt; ended, status, "at {write}");
+        assert_eq!(rt; written.len(), length, "at {write}");
+        assert!(rt; LEAP_TEXT.starts_with(written.as_str()), "at {write}");
     }
-    let (ended, written) = run(&rt, &["run"], LEAP, (0, 99), 1)?;
-    assert_eq!(rt; ended, EndStatus::Done);
-    assert_eq!(rt; written.as_str(), LEAP_TEXT);
-
-    let (ended, written) = run(&rt, &["run"], LEAP, (1, 0), 1)?;
-    assert_eq!(rt; ended, EndStatus::ReadFault);
-    assert_eq!(rt; written.as_str(), "");
-
-    let (ended, written) = run(&rt, &["run"], "", (0, 4), 1)?;
-    assert_eq!(rt; ended, EndStatus::WriteFault);
-    assert_eq!(rt; written.as_str(), "ref");
-
-    let (ended, written) = run(&rt, &[], "", (0, 1), 1)?;
-    assert_eq!(rt; ended, EndStatus::WriteFault);
-    assert_eq!(rt; written.as_str(), "");
     Ok(())
 }
 
-// The first draw of seed 1 chooses a turn, and that of seed 0 a receive.
 #[test]
-fn counts_made_scenarios(rt: HostRuntime) -> Result<(), Fail> {
-    let none = "settled armed 0 expired 0 delivered 0 dropped 0 cancelled 0 orphaned 0\nend 0\n";
-    for seed in ["1", "0"] {
-        let (ended, written) = run(&rt, &["stress", seed, "1"], "", (1, 0), 100)?;
-        assert_eq!(rt; ended, EndStatus::Done);
-        assert_eq!(rt; written.as_str(), none);
+fn stops_at_a_failed_read(rt: HostRuntime) -> Result<(), Fail> {
+    // The first call gives the whole text, and the second its end.
+    for read in 1..=3 {
+        let streams = Streams { read, ..SOUND };
+        let (ended, written) = end_of(&rt, &["run"], LEAP.as_bytes(), &[], streams)?;
+        let (status, lines) = match read {
+            3 => (EndStatus::Done, LEAP_TEXT),
+            _ => (EndStatus::ReadFault, ""),
+        };
+        assert_eq!(rt; ended, status, "at {read}");
+        assert_eq!(rt; written.as_str(), lines, "at {read}");
     }
-    let (_, once) = run(&rt, &["stress", "7", "100000"], "", (1, 0), 100)?;
-    let (ended, again) = run(&rt, &["stress", "7", "100000"], "", (1, 0), 7)?;
-    assert_eq!(rt; ended, EndStatus::Done);
-    assert_eq!(rt; once.as_str(), again.as_str());
+    Ok(())
+}
+
+// How many readings are asked for, the readings, the one that fails, the status and the lines.
+type LiveRow = (
+    &'static str,
+    &'static [(i64, i64)],
+    u32,
+    EndStatus,
+    &'static str,
+);
+
+const LIVE_ROWS: [LiveRow; 7] = [
+    (
+        "2",
+        &READINGS,
+        0,
+        EndStatus::Done,
+        "live 0 1767225600000000000\nlive 1000000000 1767225601000000000\nend 1000000000\n",
+    ),
+    ("3", &READINGS, 0, EndStatus::Done, LIVE_TEXT),
+    ("3", &READINGS, 1, EndStatus::ClockFault, ""),
+    (
+        "3",
+        &READINGS,
+        2,
+        EndStatus::ClockFault,
+        "live 0 1767225600000000000\n",
+    ),
+    (
+        "3",
+        &READINGS,
+        3,
+        EndStatus::ClockFault,
+        "live 0 1767225600000000000\nlive 1000000000 1767225601000000000\n",
+    ),
+    (
+        "2",
+        &[(0, 0), (-1, 0)],
+        0,
+        EndStatus::Refused,
+        "live 0 0\nrefused reading 2\n",
+    ),
+    (
+        "2",
+        &[(-1, 0), (0, 0)],
+        0,
+        EndStatus::Refused,
+        "refused reading 1\n",
+    ),
+];
+
+#[test]
+fn tells_both_times_of_each_reading(rt: HostRuntime) -> Result<(), Fail> {
+    for (count, readings, reading, status, lines) in LIVE_ROWS {
+        let streams = Streams { reading, ..SOUND };
+        let (ended, written) = end_of(&rt, &["live", count], &[], readings, streams)?;
+        assert_eq!(rt; ended, status, "at {lines}");
+        assert_eq!(rt; written.as_str(), lines);
+    }
+    Ok(())
+}
+
+// The first draw of seed 1 chooses a turn, and that of seed 0 a receive. Seed 7 makes 262 starts in its first
+// 1,000 ops and 25,117 in 100,000, and there is a slot for each: a definition of the generator in another
+// language counts them so, with what becomes of them.
+const STRESS_ROWS: [(&str, &str, &str); 4] = [
+    (
+        "1",
+        "1",
+        "settled armed 0 expired 0 delivered 0 dropped 0 cancelled 0 orphaned 0\nend 0\n",
+    ),
+    (
+        "0",
+        "1",
+        "settled armed 0 expired 0 delivered 0 dropped 0 cancelled 0 orphaned 0\nend 0\n",
+    ),
+    (
+        "7",
+        "1000",
+        "settled armed 62 expired 0 delivered 179 dropped 0 cancelled 21 orphaned 0\nend 2986000000\n",
+    ),
+    (
+        "7",
+        "100000",
+        "settled armed 512 expired 0 delivered 24454 dropped 0 cancelled 151 orphaned 0\nend 259465000000\n",
+    ),
+];
+
+#[test]
+fn counts_the_timers_of_made_scenarios(rt: HostRuntime) -> Result<(), Fail> {
+    for (seed, n, lines) in STRESS_ROWS {
+        for _ in 0..2 {
+            let (ended, written) = end_of(&rt, &["stress", seed, n], &[], &[], SOUND)?;
+            assert_eq!(rt; ended, EndStatus::Done);
+            assert_eq!(rt; written.as_str(), lines);
+        }
+    }
     Ok(())
 }
 
@@ -219,13 +363,85 @@ fn refuses_a_long_input(rt: HostRuntime) -> Result<(), Fail> {
         (16_777_216, EndStatus::Refused, "refused json\n"),
         (16_777_217, EndStatus::TooLong, ""),
     ] {
-        let words = strings(rt.alloc(), &["run"])?;
         let mut input = Spaces { left: count };
         let mut output = MemSink::new(rt.alloc(), 100, Vec::new(rt.alloc()));
-        let mut clock = no_clock(rt.alloc());
-        let ended = ertime(&rt, words.as_slice(), &mut input, &mut output, &mut clock);
+        let clock = clock_of(rt.alloc(), &[], 0)?;
+        let ended = run(&rt, &["run"], &mut input, &mut output, clock)?;
         assert_eq!(rt; ended.status, status);
         assert_eq!(rt; output.bytes(), line.as_bytes());
+    }
+    Ok(())
+}
+
+// Two callers cancel one timer.
+const TWO_CANCELS: &str =
+    r#"{"format":1,"correction":false,"first":[0,0],"ops":[["start",1,0,"rel",50,0,7]],"race":{"turns":1,"keeper":[],"callers":[[["cancel",1]],[["cancel",1]]]}}"#;
+
+const REPORTS: [&str; 2] = [
+    "start ok\nkeeper\ncaller 1\ncancel 50\ncaller 2\ncancel false\nsettled armed 0 expired 0 delivered 0 dropped 0 cancelled 1 orphaned 0\nend 0\n",
+    "start ok\nkeeper\ncaller 1\ncancel false\ncaller 2\ncancel 50\nsettled armed 0 expired 0 delivered 0 dropped 0 cancelled 1 orphaned 0\nend 0\n",
+];
+
+// Both reports have 134 bytes.
+#[test]
+fn reports_a_race_or_its_front(rt: HostRuntime) -> Result<(), Fail> {
+    for (read, write, status, length) in [
+        (0, 0, EndStatus::Done, 134),
+        (1, 0, EndStatus::ReadFault, 0),
+        (2, 0, EndStatus::ReadFault, 0),
+        (0, 1, EndStatus::WriteFault, 0),
+        (0, 10, EndStatus::WriteFault, 9),
+        (0, 134, EndStatus::WriteFault, 133),
+        (0, 135, EndStatus::Done, 134),
+    ] {
+        let streams = Streams {
+            read,
+            write,
+            piece: 1,
+            ..SOUND
+        };
+        let (ended, written) = end_of(&rt, &["race"], TWO_CANCELS.as_bytes(), &[], streams)?;
+        assert_eq!(rt; ended, status);
+        assert_eq!(rt; written.len(), length);
+        assert!(rt;
+            REPORTS[0].starts_with(written.as_str()) || REPORTS[1].starts_with(written.as_str()),
+            "at {written}"
+        );
+    }
+    Ok(())
+}
+
+// The field `race` behind the others, and the line of `race`.
+const RACE_REFUSALS: [(&str, &str); 4] = [
+    ("", "refused shape 0\n"),
+    (
+        r#","race":{"turns":-1,"keeper":[],"callers":[]}"#,
+        "refused range 0\n",
+    ),
+    (
+        r#","race":{"turns":10001,"keeper":[],"callers":[]}"#,
+        "refused limit 0\n",
+    ),
+    (
+        r#","race":{"turns":0,"keeper":[],"callers":[[],[],[],[],[],[],[],[],[],[],[],[],[],[],[],[],[]]}"#,
+        "refused limit 0\n",
+    ),
+];
+
+#[test]
+fn refuses_other_races(rt: HostRuntime) -> Result<(), Fail> {
+    for (race, line) in RACE_REFUSALS {
+        let text = format!(in rt.alloc(); "{{\"format\":1,\"first\":[0,0],\"ops\":[]{race}}}")?;
+        let (ended, written) = end_of(&rt, &["race"], text.as_bytes(), &[], SOUND)?;
+        assert_eq!(rt; ended, EndStatus::Refused, "at {race}");
+        assert_eq!(rt; written.as_str(), line, "at {race}");
+        if race.is_empty() {
+            continue;
+        }
+        // `run` takes no scenario with a race.
+        let (ended, written) = end_of(&rt, &["run"], text.as_bytes(), &[], SOUND)?;
+        assert_eq!(rt; ended, EndStatus::Refused, "at {race}");
+        assert_eq!(rt; written.as_str(), "refused shape 0\n", "at {race}");
     }
     Ok(())
 }
