@@ -1,12 +1,6 @@
 //! Worked scenarios of format 1 that ask the clock alone, with their transcripts.
 
 /// The fields beside the format, the ops, and the lines.
-pub const FINALIZED: (&str, &str, &str) = (
-    r#""mode":"single","first":[0,0]"#,
-    r#"["tick",5000000000,1005000000000],["system"],["finalize",6000000000,1006000000000],["system"],["finalize",7000000000,1008000000000],["tick",7000000000,1007000000000]"#,
-    "tick 5000000000\nsystem 5000000000\nfinalize preliminary 6000000000 offset 1000000000000\nsystem 1006000000000\nfinalize final 6000000000\ntick 7000000000\nend 7000000000\n",
-);
-
 pub const ROWS: [(&str, &str, &str); 21] = [
     (
         r#""correction":false,"first":[0,10000000000]"#,
@@ -69,7 +63,11 @@ pub const ROWS: [(&str, &str, &str); 21] = [
         r#"["tick",50,0],["tick",150,0]"#,
         "tick 0\ntick 50\nend 50\n",
     ),
-    FINALIZED,
+    (
+        r#""mode":"single","first":[0,0]"#,
+        r#"["tick",5000000000,1005000000000],["system"],["finalize",6000000000,1006000000000],["system"],["finalize",7000000000,1008000000000],["tick",7000000000,1007000000000]"#,
+        "tick 5000000000\nsystem 5000000000\nfinalize preliminary 6000000000 offset 1000000000000\nsystem 1006000000000\nfinalize final 6000000000\ntick 7000000000\nend 7000000000\n",
+    ),
     (
         r#""mode":"single","correction":false,"first":[0,10000000000]"#,
         r#"["finalize",0,9000000000],["system"],["tick",0,9500000000]"#,

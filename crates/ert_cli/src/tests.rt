@@ -1,7 +1,6 @@
 ghost use Rattle.std.specs.Prelude.{◌≤◌};
 
-use crate::clock_rows::{self, FINALIZED};
-use crate::{EndStatus, Ended, ertime, refused_rows, timer_rows};
+use crate::{EndStatus, Ended, clock_rows, ertime, refused_rows, timer_rows};
 use ert_defs::Reading;
 use ert_io::{Failed, MemClock, MemSink, MemSource, Source};
 use ert_shared::FreeGate;
@@ -162,24 +161,6 @@ fn takes_100_000_ops(rt: HostRuntime) -> Result<(), Fail> {
     Ok(())
 }
 
-// The words are those of the state after the last line: the time is 7 seconds, and the offset, 1,000
-// seconds and final, stands in its word above 2^62, doubled.
-#[test]
-fn gives_its_desk_back(rt: HostRuntime) -> Result<(), Fail> {
-    let (fields, ops, _) = FINALIZED;
-    let text = scenario(rt.alloc(), 1, fields, ops)?;
-    let mut input = MemSource::new(text.as_bytes().to_vec(rt.alloc())?, Vec::new(rt.alloc()));
-    let mut output = MemSink::new(rt.alloc(), 100, Vec::new(rt.alloc()));
-    let clock = clock_of(rt.alloc(), &[], 0)?;
-    let ended = run(&rt, &["run"], &mut input, &mut output, clock)?;
-    assert_eq!(rt; ended.status, EndStatus::Done);
-    let (desk, pass) = ended.desk.ok_or("there is no desk")?;
-    let words = desk.close(rt.alloc(), pass)?;
-    assert_eq!(rt; words.time, 7_000_000_000);
-    assert_eq!(rt; words.offset, 9_223_374_036_854_775_809);
-    Ok(())
-}
-
 #[test]
 fn refuses_other_command_lines(rt: HostRuntime) -> Result<(), Fail> {
     let lines: [&[&str]; 7] = [
@@ -294,7 +275,7 @@ fn tells_both_times_of_each_reading(rt: HostRuntime) -> Result<(), Fail> {
     for (count, readings, reading, status, lines) in LIVE_ROWS {
         let streams = Streams { reading, ..SOUND };
         let (ended, written) = end_of(&rt, &["live", count], &[], readings, streams)?;
-        assert_eq!(rt; ended, status, "at {lines}");
+        assert_eq!(rt; ended, status);
         assert_eq!(rt; written.as_str(), lines);
     }
     Ok(())
