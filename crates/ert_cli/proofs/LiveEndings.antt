@@ -1,15 +1,14 @@
 -- How `live` ends, by what the readings made and whether it was written.
 
-use Rattle.std.proofs.Common.{◌≡◌, ◌<◌, ◌⊎◌, ℕ, List, [], ◌∷◌, ◌++◌, length, Option, None, Some, refl, inl, inr, sym, subst, ◌∙◌, arith}
+use Rattle.std.proofs.Common.{◌≡◌, ◌<◌, ◌⊎◌, ℕ, List, [], ◌∷◌, ◌++◌, length, Option, None, Some, inl, inr, sym, subst, ◌∙◌, arith}
 use Rattle.ert_defs.specs.Readings.{IsValid}
 use Rattle.ert_defs.specs.declared.settings.Reading.{Reading}
 use Rattle.ert_io.specs.Faults.{Rose}
-use Rattle.ert_io.specs.Told.{took, TakesFront}
-use Rattle.ert_cli.specs.Endings.{without_desk}
-use Rattle.ert_cli.specs.Lives.{AreValid, readings_before, LiveRefused, Watched, LiveEnds}
+use Rattle.ert_io.specs.Told.{took}
+use Rattle.ert_cli.specs.Lives.{AreValid, LiveRefused, Watched, LiveEnds}
 use Rattle.ert_cli.specs.Streams.{Clock, Output}
 use Rattle.ert_cli.specs.declared.ending.Ended.{Ended}
-use Rattle.ert_cli.specs.declared.ending.EndStatus.TheVariants.{Done, Refused, WriteFault, ClockFault, NoMemory}
+use Rattle.ert_cli.specs.declared.ending.EndStatus.TheVariants.{Done, NoMemory}
 
 -- a reading that stands among the first of valid ones is valid
 among : (taken readings later rest : List Reading) (bad : Reading) → (taken ++ bad ∷ []) ++ rest ≡ readings ++ later → length taken < length readings
@@ -62,31 +61,4 @@ written n c d o p e text made writes = record {
     | inr other ↦ elim other [ inl refused ↦ inr (inl refused) | inr failed ↦ inr (inr (inl failed)) ]
   ];
   complete = λ sound whole readings later told many all. completes n c d e text made sound readings later told many all;
-}
-
--- the write failed
-pub broken_off : (n : ℕ) (c d : Clock) (o p : Output) (made : Ended) (text : List ℕ) → Watched n c d made text → Rose o.faults p.faults
-    → TakesFront o.told p.told text → LiveEnds n c d o p (without_desk WriteFault)
-broken_off n c d o p made text watched rose writes = record {
-  done = λ how. cc;
-  no_desk = λ how. refl;
-  refused = λ how. cc;
-  clock_fault = λ how. cc;
-  write_fault = λ how. (rose, record { made = made; text = text; watched = watched; writes = writes });
-  no_memory = λ how. cc;
-  only = inr (inr (inr (inl refl)));
-  complete = λ sound whole readings later told many all. absurd (whole rose);
-}
-
--- memory ran out before anything was written
-pub ran_out : (n : ℕ) (c d : Clock) (o p : Output) → p ≡ o → LiveEnds n c d o p (without_desk NoMemory)
-ran_out n c d o p same = record {
-  done = λ how. cc;
-  no_desk = λ how. refl;
-  refused = λ how. cc;
-  clock_fault = λ how. cc;
-  write_fault = λ how. cc;
-  no_memory = λ how. same;
-  only = inr (inr (inr (inr refl)));
-  complete = λ sound whole readings later told many all. inr refl;
 }

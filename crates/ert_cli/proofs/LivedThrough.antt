@@ -1,21 +1,19 @@
 -- Readings that a world lived through.
 
-use Rattle.std.proofs.Common.{◌≡◌, ◌<◌, ◌+◌, ◌⊎◌, ℕ, ℤ, List, [], ◌∷◌, ◌++◌, length, length-append, Option, None, Some, refl, inl, inr, sym, ap, subst, ◌∙◌, append_assoc, append-nil, arith}
+use Rattle.std.proofs.Common.{◌≡◌, ◌<◌, ◌+◌, ℕ, ℤ, List, [], ◌∷◌, ◌++◌, length, length-append, Option, None, Some, refl, inl, inr, sym, ap, subst, ◌∙◌, append_assoc, append-nil, arith}
 use Rattle.ert_answers.specs.Ways.{Way, alone}
 use Rattle.ert_defs.specs.Lines.{Face}
 use Rattle.ert_defs.specs.Readings.{IsValid}
-use Rattle.ert_defs.specs.States.{state}
 use Rattle.ert_defs.specs.declared.entry.Entry.{Entry}
 use Rattle.ert_defs.specs.declared.settings.Reading.{Reading}
 use Rattle.ert_defs.specs.declared.settings.Settings.{Settings}
 use Rattle.ert_io.specs.Faults.{Rose}
 use Rattle.ert_io.specs.Readings.{reading_before}
-use Rattle.ert_io.specs.Told.{took, TakesFront}
 use Rattle.ert_ops.specs.declared.op.Op.{Op}
 use Rattle.ert_ops.specs.declared.op.Op.TheVariants as ops
 use Rattle.ert_sched.specs.Lived.{IsLived}
 use Rattle.ert_sched.specs.Openings.{IsOpened}
-use Rattle.ert_sched.specs.Worlds.{Service, StandsFor}
+use Rattle.ert_sched.specs.Worlds.{Service}
 use Rattle.ert_script.proofs.Runs.{runs_none, runs_more}
 use Rattle.ert_script.specs.Scripts.{Does, Runs}
 use Rattle.ert_table.specs.Desks.{settings_of, KnowsAll}
@@ -26,11 +24,11 @@ use Rattle.ert_transcript.specs.Labels.{Labels}
 use Rattle.ert_transcript.specs.Texts.{end_line}
 use Rattle.ert_transcript.specs.declared.reply.Reply.{Reply}
 use Rattle.ert_transcript.specs.declared.reply.Reply.TheVariants as replies
-use Rattle.ert_cli.proofs.Transcripts.{script_of, stands_for}
+use Rattle.ert_cli.proofs.Transcripts.{stands_for}
+use Rattle.ert_race.proofs.Written.{script_of}
 use Rattle.ert_cli.specs.Endings.{without_desk}
-use Rattle.ert_cli.specs.Lives.{AreValid, live_settings, live_ops, live_part, live_lines, refused_reading, IsLive, AreLive, readings_before, LiveDone, LiveRefused, LiveStopped, Watched, Lived, Tells}
+use Rattle.ert_cli.specs.Lives.{AreValid, live_settings, live_ops, live_part, live_lines, refused_reading, IsLive, readings_before, LiveDone, LiveRefused, LiveStopped, Watched, Lived, Tells}
 use Rattle.ert_cli.specs.Streams.{Clock}
-use Rattle.ert_cli.specs.declared.ending.Ended.{Ended}
 use Rattle.ert_cli.specs.declared.ending.EndStatus.TheVariants.{Done, Refused, ClockFault}
 
 -- lines and ops, with one more behind
@@ -172,12 +170,6 @@ refused_with n c d text refused = record {
   only = inr (inl refl);
   no_desk = λ e. refl;
 }
-
-pub stopped_first : (n : ℕ) (c d : Clock) (text : List ℕ) → 0 < n → d.left ≡ c.left → Rose c.faults d.faults → text ≡ []
-    → Watched n c d (without_desk ClockFault) text
-stopped_first n c d text some kept rose none =
-    stopped_with n c d text rose
-    (record { readings = []; count = some; given = before_none c.left ∙ ap (λ (k : Option (List Reading)). readings_before [] k) (sym kept); valid = tt; are = none })
 
 pub stopped_later : (n : ℕ) (c d : Clock) (count : ℕ) (now : Option (List Reading)) (w : Service) (text : List ℕ) → count < n
     → IsWatched count c.left now w text → d.left ≡ now → Rose c.faults d.faults → Watched n c d (without_desk ClockFault) text

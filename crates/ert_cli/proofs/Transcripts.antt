@@ -1,7 +1,6 @@
 -- What a run of all ops wrote, with the end line behind it, and the desk that it left.
 
-use Rattle.std.proofs.Common.{inl, inr, ◌≡◌, ℕ, List, [], ◌++◌, ◌+◌, take, length, length-append, Option, arith, sym, ap, subst, ◌∙◌, append_assoc}
-use Rattle.ert_answers.specs.Ways.{alone}
+use Rattle.std.proofs.Common.{inl, inr, ◌≡◌, ℕ, List, [], ◌++◌, ◌+◌, take, length, length-append, Option, arith, sym, ap, subst, ◌∙◌}
 use Rattle.ert_io.proofs.Takes.{took-took, front_after, front_of, fits_in, fits_after}
 use Rattle.ert_io.specs.Known.{HasRoom}
 use Rattle.ert_io.specs.Told.{Told, took, TakesFront}
@@ -13,6 +12,7 @@ use Rattle.ert_ops.specs.Labels.{AreOps}
 use Rattle.ert_ops.specs.declared.op.Op.{Op}
 use Rattle.ert_sched.specs.Openings.{IsOpened}
 use Rattle.ert_sched.specs.Worlds.{Service, StandsFor}
+use Rattle.ert_race.proofs.Written.{script_of}
 use Rattle.ert_scenario.specs.Scenarios.{Plan}
 use Rattle.ert_script.specs.Scripts.{Runs}
 use Rattle.ert_sched.specs.Lived.{IsLived}
@@ -24,7 +24,7 @@ use Rattle.ert_transcript.proofs.Fronts.{first_lines}
 use Rattle.ert_transcript.proofs.Runs.{one_text}
 use Rattle.ert_transcript.specs.Labels.{Labels}
 use Rattle.ert_transcript.specs.Laws.{IsFront}
-use Rattle.ert_transcript.specs.Scripts.{Script, IsTranscript, lines_of}
+use Rattle.ert_transcript.specs.Scripts.{IsTranscript, lines_of}
 use Rattle.ert_transcript.specs.Texts.{end_line}
 use Rattle.ert_transcript.specs.declared.reply.Reply.{Reply}
 use Rattle.ert_cli.specs.Endings.{end_of}
@@ -32,15 +32,6 @@ use Rattle.ert_cli.specs.Runs.{transcript, RunsOn}
 use Rattle.ert_cli.specs.declared.ending.EndStatus.TheVariants.{WriteFault, NoMemory}
 use Rattle.ert_lines.specs.declared.output.RunErr.{RunErr}
 use Rattle.std.specs.Prelude.{◌⊎◌, Result, Ok, Err, OnErr}
-
--- a run from an opened world on is a script run from the empty history on
-pub script_of : (g : Settings) (start v : Service) (list : List Op) (rs : List Reply) → IsOpened g start → (ran : Runs start list rs v)
-    → Script g (alone g) 0 [] list rs v.labels [] ran.grows.piece
-script_of g start v list rs opened ran =
-    subst (λ (x : Settings). Script x (alone x) 0 [] list rs v.labels [] ran.grows.piece) opened.stands.settings
-    (subst (λ (x : Labels). Script start.settings (alone start.settings) 0 x list rs v.labels [] ran.grows.piece) opened.labels
-    (subst (λ (x : List Entry). Script start.settings (alone start.settings) 0 start.labels list rs v.labels x ran.grows.piece) opened.stands.history
-    ran.grows.made))
 
 -- the world that it came to stands for that history
 pub stands_for : (g : Settings) (start v : Service) (list : List Op) (rs : List Reply) → IsOpened g start → (ran : Runs start list rs v)

@@ -1,10 +1,9 @@
 -- What `run` leaves.
 
-use Rattle.std.specs.Prelude.{◌≡◌, ◌≢◌, ◌≤◌, ◌⊎◌, ℕ, Bool, false, List, Option, Some, None, length, IfSome, IsSomeAnd}
+use Rattle.std.specs.Prelude.{◌≡◌, ℕ, false, List, Option, Some, length, IfSome}
 use Rattle.ert_command.specs.declared.command.Command.{Command}
 use Rattle.ert_command.specs.declared.command.Command.TheVariants.{Run}
-use Rattle.ert_io.specs.Faults.{Rose}
-use Rattle.ert_io.specs.Known.{before, IsAtEnd, HasRoom}
+use Rattle.ert_io.specs.Known.{HasRoom}
 use Rattle.ert_io.specs.Told.{Told, took, TakesFront}
 use Rattle.ert_scenario.specs.Scenarios.{Plan, IsScenario, HasRefusal}
 use Rattle.ert_scenario.specs.declared.scenario.ScenarioErr.{ScenarioErr}
@@ -14,10 +13,10 @@ use Rattle.ert_table.specs.declared.desk.Desk.{Desk}
 use Rattle.ert_table.specs.declared.desk.Pass.{Pass}
 use Rattle.ert_transcript.specs.Plain.{plain_text}
 use Rattle.ert_transcript.specs.Scripts.{IsTranscript}
+use Rattle.ert_cli.specs.Inputs.{Began, TakesAll, DidAll, StopsAt, InputEnds}
 use Rattle.ert_cli.specs.Refusals.{refusal_line}
 use Rattle.ert_cli.specs.Streams.{Input, Output}
 use Rattle.ert_cli.specs.declared.ending.Ended.{Ended}
-use Rattle.ert_cli.specs.declared.ending.EndStatus.TheVariants.{Done, Usage, Refused, ReadFault, WriteFault, ClockFault, NoMemory, TooLong}
 
 -- the transcript of a plan: the text that its settings and its ops determine
 abbrev pub transcript : Plan → List ℕ
@@ -32,67 +31,19 @@ pub record RunsOn (plan : Plan) (old new : Told) (r : Desk × Pass) : Type 0 whe
   pub history : KnowsAll r.0 r.1 is.entries
   pub lived : IsLived plan.settings is.entries
 
--- these bytes were read, they are all that there were, and no more than an input may have
-pub record TakesAll (old new : Option (List ℕ)) (bytes : List ℕ) : Type 0 where
-  pub taken : old ≡ before bytes new
-  pub short : length bytes ≤ 16777216
-  pub end : IsAtEnd new
+-- the first part of a plan's transcript was written
+abbrev pub PartRun : Began
+PartRun plan old new = TakesFront old new (transcript plan)
 
--- all bytes were read, they are a scenario, and it was run on a desk
-pub record Did (left left_new : Option (List ℕ)) (old new : Told) (r : Desk × Pass) : Type 0 where
-  pub bytes : List ℕ
-  pub takes : TakesAll left left_new bytes
-  pub plan : Plan
-  pub is : IsScenario false bytes plan
-  pub ran : RunsOn plan old new r
+abbrev pub Did : Option (List ℕ) → Option (List ℕ) → Told → Told → Desk × Pass → Type 0
+Did = DidAll false RunsOn
 
--- all bytes were read, they have a refusal where a race is wanted or not, and its line was written
-pub record Refuses (race : Bool) (left left_new : Option (List ℕ)) (old new : Told) : Type 0 where
-  pub bytes : List ℕ
-  pub takes : TakesAll left left_new bytes
-  pub why : ScenarioErr
-  pub is : HasRefusal race bytes why
-  pub writes : new ≡ took old (refusal_line why)
-
--- the first part of a scenario's transcript was written
-pub record PartRun (bytes : List ℕ) (old new : Told) : Type 0 where
-  pub plan : Plan
-  pub is : IsScenario false bytes plan
-  pub writes : TakesFront old new (transcript plan)
-
--- the first part of the line of a refusal was written
-pub record PartRefused (race : Bool) (bytes : List ℕ) (old new : Told) : Type 0 where
-  pub why : ScenarioErr
-  pub is : HasRefusal race bytes why
-  pub writes : TakesFront old new (refusal_line why)
-
--- all bytes were read, and the first part of what they ask for was written
-pub record Stops (left left_new : Option (List ℕ)) (old new : Told) : Type 0 where
-  pub bytes : List ℕ
-  pub takes : TakesAll left left_new bytes
-  pub part : PartRun bytes old new ⊎ PartRefused false bytes old new
-
--- more bytes were read than an input may have
-pub record TakesMore (left left_new : Option (List ℕ)) : Type 0 where
-  pub bytes : List ℕ
-  pub many : length bytes ≡ 16777217
-  pub taken : left ≡ before bytes left_new
+abbrev pub Stops : Option (List ℕ) → Option (List ℕ) → Told → Told → Type 0
+Stops = StopsAt false PartRun
 
 -- `run` came to an end, between two moments of the input and of the output
-pub record RunEnds (i j : Input) (o p : Output) (e : Ended) : Type 0 where
-  pub done : e.status ≡ Done → IsSomeAnd e.desk (Did i.left j.left o.told p.told)
-  pub no_desk : e.status ≢ Done → e.desk ≡ None
-  pub refused : e.status ≡ Refused → Refuses false i.left j.left o.told p.told
-  pub read_fault : e.status ≡ ReadFault → Rose i.faults j.faults × (p ≡ o)
-  pub too_long : e.status ≡ TooLong → TakesMore i.left j.left × (p ≡ o)
-  -- after a failed write, or without memory, the first part of what would have been written stands
-  pub write_fault : e.status ≡ WriteFault → Rose o.faults p.faults × Stops i.left j.left o.told p.told
-  pub no_memory : e.status ≡ NoMemory → (p ≡ o) ⊎ Stops i.left j.left o.told p.told
-  pub others : (e.status ≢ Usage) × (e.status ≢ ClockFault)
-  -- where nothing fails and the input is a scenario, only want of memory keeps it from being done
-  pub complete : (Rose i.faults j.faults → ⊥) → (Rose o.faults p.faults → ⊥)
-      → (bytes : List ℕ) (plan : Plan) → i.left ≡ Some bytes → length bytes ≤ 16777216 → IsScenario false bytes plan
-      → (e.status ≡ Done) ⊎ (e.status ≡ NoMemory)
+abbrev pub RunEnds : Input → Input → Output → Output → Ended → Type 0
+RunEnds = InputEnds false RunsOn PartRun
 
 -- where the output tells its room, the transcript or the line of a refusal that the input asks for fits it
 pub record InputFits (left : Option (List ℕ)) (room : Option ℕ) : Type 0 where

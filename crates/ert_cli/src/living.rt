@@ -1,9 +1,8 @@
 //! The command `live`.
-ghost use Rattle.std.specs.Prelude.{◌≡◌, ◌≤◌, ◌++◌, [], ◌∷◌, ℕ, List, None, IfOk, OnOk, string_bytes};
+ghost use Rattle.std.specs.Prelude.{◌≡◌, ◌≤◌, ◌++◌, [], ◌∷◌, List, None, IfOk, OnOk, string_bytes};
 ghost use Rattle.ert_defs.specs.Readings.{IsValid};
 ghost use Rattle.ert_defs.specs.declared.settings.Reading.{Reading as OneReading};
 ghost use Rattle.ert_ops.specs.declared.op.Op.TheVariants as ops;
-ghost use Rattle.ert_sched.specs.Worlds.{StandsFor};
 ghost use Rattle.ert_script.specs.Scripts.{Does};
 ghost use Rattle.ert_transcript.specs.declared.reply.Reply.TheVariants as replies;
 ghost use Rattle.ert_cli.specs.Lives.{live_settings, live_part, refused_reading, Watched, LiveEnds, Lived, Tells};
@@ -14,7 +13,7 @@ use ert_defs::{Mode, NoMemory, Reading, Settings};
 use ert_io::{OsClock, Sink};
 use ert_lines::{write_end, write_page};
 use ert_sched::World;
-use ert_script::tick;
+use ert_script::{history_stands, tick};
 use std::alloc::{AllocError, Global};
 use std::fmt::Write;
 
@@ -145,12 +144,4 @@ fn system_time(world: &mut World) -> i64
     ensures { Does world.old ops.System (replies.System result) world.new }
 {
     world.system_time()
-}
-
-// The history of every world is legal, and its clock stands for it. The call brings this into reach, and
-// costs nothing.
-fn history_stands(world: &World)
-    ensures { StandsFor world.now.settings world.now.history world.now }
-{
-    let _ = world.settings();
 }

@@ -10,8 +10,15 @@
 #[cfg(test)]
 mod clock_rows;
 mod ending;
+mod in_memory;
+#[cfg(test)]
+mod in_memory_tests;
+#[cfg(test)]
+mod live_tests;
 mod living;
 mod program;
+#[cfg(test)]
+mod race_tests;
 mod racing;
 mod refusal;
 #[cfg(test)]

@@ -7,7 +7,7 @@ ghost use Rattle.ert_ops.specs.Races.{IsRace, race_of};
 ghost use Rattle.ert_ops.specs.Ranges.{IsInRange};
 ghost use Rattle.ert_scenario.specs.Scenarios.{Plan, IsScenario, plan_of};
 ghost use Rattle.ert_cli.specs.Races.{DidRace, StopsAtRace, RacesPlan, StopsPlan};
-ghost use Rattle.ert_cli.specs.Runs.{Refuses, TakesMore};
+ghost use Rattle.ert_cli.specs.Inputs.{Refuses, TakesMore};
 
 use crate::ending::{EndStatus, Ended};
 use crate::refusal::refuse;

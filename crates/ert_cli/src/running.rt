@@ -8,7 +8,8 @@ ghost use Rattle.ert_ops.specs.Labels.{AreOps};
 ghost use Rattle.ert_ops.specs.Ranges.{IsInRange};
 ghost use Rattle.ert_scenario.specs.Scenarios.{Plan, IsScenario, plan_of};
 ghost use Rattle.ert_transcript.specs.Texts.{end_line};
-ghost use Rattle.ert_cli.specs.Runs.{RunsOn, transcript, Did, Refuses, Stops, TakesMore, InputFits};
+ghost use Rattle.ert_cli.specs.Inputs.{Refuses, TakesMore};
+ghost use Rattle.ert_cli.specs.Runs.{RunsOn, transcript, Did, Stops, InputFits};
 
 use crate::ending::{EndStatus, Ended};
 use crate::refusal::refuse;

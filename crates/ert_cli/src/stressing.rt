@@ -1,5 +1,5 @@
 //! The command `stress`.
-ghost use Rattle.std.specs.Prelude.{◌≡◌, ◌≤◌, ◌++◌, None, IfOk, OnOk, OnErr, IsErrOf, string_bytes};
+ghost use Rattle.std.specs.Prelude.{◌≡◌, ◌≤◌, ◌++◌, None, IfOk, OnOk, IsErrOf, string_bytes};
 ghost use Rattle.ert_defs.specs.States.{state};
 ghost use Rattle.ert_generate.specs.Generated.{generated};
 ghost use Rattle.ert_io.specs.Faults.{Rose};

@@ -1,5 +1,6 @@
 ghost use Rattle.std.specs.Prelude.{◌≤◌};
 
+use crate::live_tests::READINGS;
 use crate::{EndStatus, Ended, clock_rows, ertime, refused_rows, timer_rows};
 use ert_defs::Reading;
 use ert_io::{Failed, MemClock, MemSink, MemSource, Source};
@@ -9,33 +10,25 @@ use std::sync::Wait;
 use std::test::Fail;
 use std::thread::Threads;
 
-const LEAP: &str =
+// Forward and backward leaps of the OS clock, and the transcript: 98 bytes.
+pub(crate) const LEAP: &str =
     r#"{"format":1,"correction":false,"first":[0,10000000000],"ops":[["tick",0,12000000000],["tick",0,11000000000],["time"],["tick",0,13000000000],["system"]]}"#;
 
-const LEAP_TEXT: &str =
+pub(crate) const LEAP_TEXT: &str =
     "tick 2000000000\ntick 2000000000\ntime 2000000000\ntick 3000000000\nsystem 13000000000\nend 3000000000\n";
 
 const USAGE: &str = "usage: ertime run | race | live N | stress SEED N\n";
 
-const READINGS: [(i64, i64); 3] = [
-    (5_000_000_000, 1_767_225_600_000_000_000),
-    (6_000_000_000, 1_767_225_601_000_000_000),
-    (6_500_000_000, 1_767_225_601_500_000_000),
-];
-
-const LIVE_TEXT: &str =
-    "live 0 1767225600000000000\nlive 1000000000 1767225601000000000\nlive 1500000000 1767225601500000000\nend 1500000000\n";
-
 // The call of each stream that fails, from 1, or 0 for none, and the most bytes that one write takes.
 #[derive(Clone, Copy)]
-struct Streams {
-    read: u32,
-    write: u32,
-    reading: u32,
-    piece: usize,
+pub(crate) struct Streams {
+    pub(crate) read: u32,
+    pub(crate) write: u32,
+    pub(crate) reading: u32,
+    pub(crate) piece: usize,
 }
 
-const SOUND: Streams = Streams {
+pub(crate) const SOUND: Streams = Streams {
     read: 0,
     write: 0,
     reading: 0,
@@ -74,7 +67,7 @@ fn run<R: AllocGlobal + Threads + Wait + Sync, I: Source>(
 }
 
 // The status and the output of the program over these words, this input and these readings.
-fn end_of<R: AllocGlobal + Threads + Wait + Sync>(
+pub(crate) fn end_of<R: AllocGlobal + Threads + Wait + Sync>(
     rt: &R,
     words: &[&str],
     text: &[u8],
@@ -120,10 +113,13 @@ fn writes_transcripts_and_refusals(rt: HostRuntime) -> Result<(), Fail> {
         assert_eq!(rt; ended, EndStatus::Refused, "at {text}");
         assert_eq!(rt; written.as_str(), line, "at {text}");
     }
-    // A byte that begins no character.
-    let (ended, written) = end_of(&rt, &["run"], &[255], &[], SOUND)?;
-    assert_eq!(rt; ended, EndStatus::Refused);
-    assert_eq!(rt; written.as_str(), "refused json\n");
+    // A byte that begins no character, and brackets that are nested too deeply.
+    let deep = [[b'['; 200], [b']'; 200]].concat(rt.alloc())?;
+    for text in [&[255], deep.as_slice()] {
+        let (ended, written) = end_of(&rt, &["run"], text, &[], SOUND)?;
+        assert_eq!(rt; ended, EndStatus::Refused);
+        assert_eq!(rt; written.as_str(), "refused json\n");
+    }
     Ok(())
 }
 
@@ -221,104 +217,6 @@ fn stops_at_a_failed_read(rt: HostRuntime) -> Result<(), Fail> {
     Ok(())
 }
 
-// How many readings are asked for, the readings, the one that fails, the status and the lines.
-type LiveRow = (
-    &'static str,
-    &'static [(i64, i64)],
-    u32,
-    EndStatus,
-    &'static str,
-);
-
-const LIVE_ROWS: [LiveRow; 7] = [
-    (
-        "2",
-        &READINGS,
-        0,
-        EndStatus::Done,
-        "live 0 1767225600000000000\nlive 1000000000 1767225601000000000\nend 1000000000\n",
-    ),
-    ("3", &READINGS, 0, EndStatus::Done, LIVE_TEXT),
-    ("3", &READINGS, 1, EndStatus::ClockFault, ""),
-    (
-        "3",
-        &READINGS,
-        2,
-        EndStatus::ClockFault,
-        "live 0 1767225600000000000\n",
-    ),
-    (
-        "3",
-        &READINGS,
-        3,
-        EndStatus::ClockFault,
-        "live 0 1767225600000000000\nlive 1000000000 1767225601000000000\n",
-    ),
-    (
-        "2",
-        &[(0, 0), (-1, 0)],
-        0,
-        EndStatus::Refused,
-        "live 0 0\nrefused reading 2\n",
-    ),
-    (
-        "2",
-        &[(-1, 0), (0, 0)],
-        0,
-        EndStatus::Refused,
-        "refused reading 1\n",
-    ),
-];
-
-#[test]
-fn tells_both_times_of_each_reading(rt: HostRuntime) -> Result<(), Fail> {
-    for (count, readings, reading, status, lines) in LIVE_ROWS {
-        let streams = Streams { reading, ..SOUND };
-        let (ended, written) = end_of(&rt, &["live", count], &[], readings, streams)?;
-        assert_eq!(rt; ended, status);
-        assert_eq!(rt; written.as_str(), lines);
-    }
-    Ok(())
-}
-
-// The first draw of seed 1 chooses a turn, and that of seed 0 a receive. Seed 7 makes 262 starts in its first
-// 1,000 ops and 25,117 in 100,000, and there is a slot for each: a definition of the generator in another
-// language counts them so, with what becomes of them.
-const STRESS_ROWS: [(&str, &str, &str); 4] = [
-    (
-        "1",
-        "1",
-        "settled armed 0 expired 0 delivered 0 dropped 0 cancelled 0 orphaned 0\nend 0\n",
-    ),
-    (
-        "0",
-        "1",
-        "settled armed 0 expired 0 delivered 0 dropped 0 cancelled 0 orphaned 0\nend 0\n",
-    ),
-    (
-        "7",
-        "1000",
-        "settled armed 62 expired 0 delivered 179 dropped 0 cancelled 21 orphaned 0\nend 2986000000\n",
-    ),
-    (
-        "7",
-        "100000",
-        "settled armed 512 expired 0 delivered 24454 dropped 0 cancelled 151 orphaned 0\nend 259465000000\n",
-    ),
-];
-
-#[test]
-fn counts_the_timers_of_made_scenarios(rt: HostRuntime) -> Result<(), Fail> {
-    for (seed, n, lines) in STRESS_ROWS {
-        for _ in 0..2 {
-            let (ended, written) = end_of(&rt, &["stress", seed, n], &[], &[], SOUND)?;
-            assert_eq!(rt; ended, EndStatus::Done);
-            assert_eq!(rt; written.as_str(), lines);
-        }
-    }
-    Ok(())
-}
-
 // So many spaces.
 #[derive(Drop)]
 struct Spaces {
@@ -350,79 +248,6 @@ fn refuses_a_long_input(rt: HostRuntime) -> Result<(), Fail> {
         let ended = run(&rt, &["run"], &mut input, &mut output, clock)?;
         assert_eq!(rt; ended.status, status);
         assert_eq!(rt; output.bytes(), line.as_bytes());
-    }
-    Ok(())
-}
-
-// Two callers cancel one timer.
-const TWO_CANCELS: &str =
-    r#"{"format":1,"correction":false,"first":[0,0],"ops":[["start",1,0,"rel",50,0,7]],"race":{"turns":1,"keeper":[],"callers":[[["cancel",1]],[["cancel",1]]]}}"#;
-
-const REPORTS: [&str; 2] = [
-    "start ok\nkeeper\ncaller 1\ncancel 50\ncaller 2\ncancel false\nsettled armed 0 expired 0 delivered 0 dropped 0 cancelled 1 orphaned 0\nend 0\n",
-    "start ok\nkeeper\ncaller 1\ncancel false\ncaller 2\ncancel 50\nsettled armed 0 expired 0 delivered 0 dropped 0 cancelled 1 orphaned 0\nend 0\n",
-];
-
-// Both reports have 134 bytes.
-#[test]
-fn reports_a_race_or_its_front(rt: HostRuntime) -> Result<(), Fail> {
-    for (read, write, status, length) in [
-        (0, 0, EndStatus::Done, 134),
-        (1, 0, EndStatus::ReadFault, 0),
-        (2, 0, EndStatus::ReadFault, 0),
-        (0, 1, EndStatus::WriteFault, 0),
-        (0, 10, EndStatus::WriteFault, 9),
-        (0, 134, EndStatus::WriteFault, 133),
-        (0, 135, EndStatus::Done, 134),
-    ] {
-        let streams = Streams {
-            read,
-            write,
-            piece: 1,
-            ..SOUND
-        };
-        let (ended, written) = end_of(&rt, &["race"], TWO_CANCELS.as_bytes(), &[], streams)?;
-        assert_eq!(rt; ended, status);
-        assert_eq!(rt; written.len(), length);
-        assert!(rt;
-            REPORTS[0].starts_with(written.as_str()) || REPORTS[1].starts_with(written.as_str()),
-            "at {written}"
-        );
-    }
-    Ok(())
-}
-
-// The field `race` behind the others, and the line of `race`.
-const RACE_REFUSALS: [(&str, &str); 4] = [
-    ("", "refused shape 0\n"),
-    (
-        r#","race":{"turns":-1,"keeper":[],"callers":[]}"#,
-        "refused range 0\n",
-    ),
-    (
-        r#","race":{"turns":10001,"keeper":[],"callers":[]}"#,
-        "refused limit 0\n",
-    ),
-    (
-        r#","race":{"turns":0,"keeper":[],"callers":[[],[],[],[],[],[],[],[],[],[],[],[],[],[],[],[],[]]}"#,
-        "refused limit 0\n",
-    ),
-];
-
-#[test]
-fn refuses_other_races(rt: HostRuntime) -> Result<(), Fail> {
-    for (race, line) in RACE_REFUSALS {
-        let text = format!(in rt.alloc(); "{{\"format\":1,\"first\":[0,0],\"ops\":[]{race}}}")?;
-        let (ended, written) = end_of(&rt, &["race"], text.as_bytes(), &[], SOUND)?;
-        assert_eq!(rt; ended, EndStatus::Refused, "at {race}");
-        assert_eq!(rt; written.as_str(), line, "at {race}");
-        if race.is_empty() {
-            continue;
-        }
-        // `run` takes no scenario with a race.
-        let (ended, written) = end_of(&rt, &["run"], text.as_bytes(), &[], SOUND)?;
-        assert_eq!(rt; ended, EndStatus::Refused, "at {race}");
-        assert_eq!(rt; written.as_str(), "refused shape 0\n", "at {race}");
     }
     Ok(())
 }

@@ -1,4 +1,5 @@
 pub mod AtOnce
+pub mod Listed
 pub mod Reported
 pub mod Rounds
 pub mod Worked

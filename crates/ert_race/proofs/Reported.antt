@@ -2,19 +2,12 @@
 
 use Rattle.std.proofs.Common.{◌≡◌, ℕ, suc, zero, ◌+◌, ◌<◌, List, [], ◌∷◌, ◌++◌, length, take, slice_index_or, refl, sym, ap, ◌∙◌, arith, append-nil, append_assoc}
 use Rattle.std.proofs.lemmas.List.{take_more}
-use Rattle.ert_defs.specs.declared.timer.TimerRef.{TimerRef}
 use Rattle.ert_outcome.specs.Reports.{Did, all_labels, lines_by, heading, lists_text}
 use Rattle.ert_race.specs.Lists.{did_of, dids_of}
 use Rattle.ert_workers.specs.declared.list.ListDone.{ListDone}
 use Rattle.ert_transcript.specs.Labels.{Labels, label_of}
 use Rattle.ert_transcript.specs.Lines.{line_of}
 use Rattle.ert_transcript.specs.declared.reply.Reply.{Reply}
-
--- one label more
-pub bound_more : (labels pairs : Labels) (i : ℕ) (d : ℕ × TimerRef) → i < length pairs
-    → (labels ++ take i pairs) ++ slice_index_or pairs i d ∷ [] ≡ labels ++ take (i + 1) pairs
-bound_more labels pairs i d low =
-    append_assoc labels (take i pairs) (slice_index_or pairs i d ∷ []) ∙ ap (λ l. labels ++ l) (sym (take_more pairs i d low))
 
 -- the labels of one list more
 labels_last : (labels : Labels) (dids : List Did) (d : Did) → all_labels labels (dids ++ d ∷ []) ≡ all_labels labels dids ++ d.own

@@ -1,6 +1,6 @@
 -- What a race wrote, as an outcome has it.
 
-use Rattle.std.proofs.Common.{◌≡◌, ◌≢◌, ℕ, ◌+◌, List, [], ◌∷◌, ◌++◌, length, take, AllPairs, Option, inl, inr, refl, sym, ap, subst, ◌∙◌, arith, append-nil, length-append, get_or}
+use Rattle.std.proofs.Common.{◌≡◌, ◌≢◌, ℕ, ◌+◌, List, [], ◌∷◌, ◌++◌, length, take, AllPairs, Option, None, inl, inr, refl, sym, ap, subst, ◌∙◌, arith, append-nil, length-append, get_or}
 use Rattle.std.proofs.lemmas.List.{get_or_append_left, take_all}
 use Rattle.ert_answers.specs.Ways.{alone}
 use Rattle.ert_defs.specs.Legal.{Legal}
@@ -8,9 +8,9 @@ use Rattle.ert_defs.specs.Lines.{Face}
 use Rattle.ert_defs.specs.States.{state}
 use Rattle.ert_defs.specs.declared.entry.Entry.{Entry}
 use Rattle.ert_defs.specs.declared.settings.Settings.{Settings}
-use Rattle.ert_io.proofs.Takes.{took-took, took-none, fits_after, front_after}
+use Rattle.ert_io.proofs.Takes.{took-took, front_after}
 use Rattle.ert_io.specs.Known.{HasRoom}
-use Rattle.ert_io.specs.Told.{Told, told, took, TakesFront}
+use Rattle.ert_io.specs.Told.{Told, took, room_after, TakesFront}
 use Rattle.ert_laws.specs.Counts.{counts_of}
 use Rattle.ert_ops.specs.Labels.{labels_in, AreOps}
 use Rattle.ert_ops.specs.Races.{Race}
@@ -19,12 +19,12 @@ use Rattle.ert_ops.specs.declared.op.Op.TheVariants as ops
 use Rattle.ert_outcome.specs.Outcomes.{Races, IsOutcome}
 use Rattle.ert_outcome.specs.Reports.{Did, behind}
 use Rattle.ert_race.specs.Ends.{RacesTo}
-use Rattle.ert_race.specs.Written.{MayWrite, ReportsFit, RacesOn, StopsRace}
+use Rattle.ert_race.specs.Written.{MayWrite, RacesOn, StopsRace}
 use Rattle.ert_sched.specs.Lived.{IsLived}
 use Rattle.ert_sched.specs.Openings.{IsOpened}
 use Rattle.ert_sched.specs.Worlds.{Service, StandsFor}
 use Rattle.ert_script.specs.Scripts.{Runs}
-use Rattle.ert_script.specs.Written.{WritesRun, WritesSome, LinesFit}
+use Rattle.ert_script.specs.Written.{WritesRun, LinesFit}
 use Rattle.ert_table.specs.Desks.{settings_of, KnowsAll}
 use Rattle.ert_table.specs.declared.desk.Desk.{Desk}
 use Rattle.ert_table.specs.declared.desk.Pass.{Pass}
@@ -52,7 +52,7 @@ first_ops a b are = record {
 }
 
 -- a run from an opened world on is a script run from the empty history on
-script_of : (g : Settings) (start v : Service) (list : List Op) (rs : List Reply) → IsOpened g start → (ran : Runs start list rs v)
+pub script_of : (g : Settings) (start v : Service) (list : List Op) (rs : List Reply) → IsOpened g start → (ran : Runs start list rs v)
     → Script g (alone g) 0 [] list rs v.labels [] ran.grows.piece
 script_of g start v list rs opened ran =
     subst (λ (x : Settings). Script x (alone x) 0 [] list rs v.labels [] ran.grows.piece) opened.stands.settings
@@ -79,12 +79,6 @@ beginning g list race start v n rs opened ran stands = inl (record {
   reads = ap (λ (x : Labels). lines_of x (take n list) rs) opened.labels;
 })
 
--- so those lines fit
-pub lines_fit : (g : Settings) (list : List Op) (race : Race) (start : Service) (room : Option ℕ) → IsOpened g start → ReportsFit g list race room
-    → LinesFit start list room
-lines_fit g list race start room opened fits n rs v ran stands =
-    fits (lines_of start.labels (take n list) rs) (beginning g list race start v n rs opened ran stands)
-
 -- the ops and then the race are an outcome
 pub outcome_of : (g : Settings) (list : List Op) (race : Race) (start v w : Service) (rs : List Reply) (dids : List Did) → IsOpened g start → Runs start list rs v
     → RacesTo v race dids w → StandsFor w.settings w.history w
@@ -109,10 +103,6 @@ outcome_of g list race start v w rs dids opened ran raced stands = record {
     named : w.settings ≡ g
     named = raced.settings ∙ (ran.settings ∙ opened.stands.settings)
 
--- the rest of what fits, fits after it
-pub rest_fits : (old new : Told) (a b : List ℕ) → new ≡ took old a → HasRoom old.room (length (a ++ b)) → HasRoom new.room (length b)
-rest_fits old new a b is fits = subst (λ (t : Told). HasRoom t.room (length b)) (sym is) (fits_after old.room a b fits)
-
 -- the race stopped behind the lines of the ops
 pub stops_behind : (g : Settings) (list : List Op) (race : Race) (start v : Service) (old new : Told) → IsOpened g start → WritesRun start list v old new
     → StopsRace g list race old new
@@ -128,23 +118,6 @@ stops_behind g list race start v old new opened ran =
         whole = append-nil (lines_of start.labels list ran.replies) ∙ ap (λ (x : List Op). lines_of start.labels x ran.replies) (sym all);
       };
     }
-
--- or among them
-pub stops_among : (g : Settings) (list : List Op) (race : Race) (start : Service) (old new : Told) → IsOpened g start → WritesSome start list old new
-    → StopsRace g list race old new
-stops_among g list race start old new opened some = record {
-  text = lines_of start.labels (take some.done list) some.replies;
-  may = beginning g list race start some.reached some.done some.replies opened some.runs some.stands;
-  writes = some.writes;
-}
-
--- or before them
-pub stops_first : (g : Settings) (list : List Op) (race : Race) (taken : Option (List ℕ)) (room : Option ℕ) → StopsRace g list race (told taken room) (told taken room)
-stops_first g list race taken room = record {
-  text = [];
-  may = inl (record { done = 0; entries = []; replies = []; labels = []; legal = tt; runs = (refl, refl, refl); reads = refl });
-  writes = record { front = []; others = []; took = took-none taken room; whole = refl };
-}
 
 -- all was written: it is an outcome, and the desk is given out
 pub ends : (g : Settings) (list : List Op) (race : Race) (start v w : Service) (dids : List Did) (page : List ℕ) (old mid new : Told) (r : Desk × Pass)
@@ -180,16 +153,15 @@ breaks g list race start v w dids page old mid new opened ran raced stands told_
   writes = front_after old mid new (lines_of start.labels list ran.replies) page ran.writes part;
 }
 
--- the page fits
-pub page_fits : (g : Settings) (list : List Op) (race : Race) (start v w : Service) (dids : List Did) (page : List ℕ) (old mid : Told)
-    → IsOpened g start → WritesRun start list v old mid → RacesTo v race dids w → StandsFor w.settings w.history w
-    → page ≡ behind w.labels dids (counts_of w.settings (state w.settings w.history)) w.clock.face.time → ReportsFit g list race old.room
-    → HasRoom mid.room (length page)
-page_fits g list race start v w dids page old mid opened ran raced stands told_all fits =
+-- all fits where no room is told
+pub lines_fit : (start : Service) (list : List Op) (room : Option ℕ) → room ≡ None → LinesFit start list room
+lines_fit start list room untold n rs v ran stands =
+    subst (λ (r : Option ℕ). HasRoom r (length (lines_of start.labels (take n list) rs))) (sym untold) tt
+
+-- and no room is told after the lines of the ops
+pub page_fits : (start v : Service) (list : List Op) (page : List ℕ) (old mid : Told) → WritesRun start list v old mid → old.room ≡ None → HasRoom mid.room (length page)
+page_fits start v list page old mid ran untold =
     let text : List ℕ = lines_of start.labels list ran.replies in
-    rest_fits old mid text page ran.writes
-    (fits (text ++ page) (inr (
-      w.history,
-      subst (λ (t : List ℕ). IsOutcome g list race w.history (text ++ t)) (sym told_all)
-          (outcome_of g list race start v w ran.replies dids opened ran.runs raced stands),
-    )))
+    let left : mid.room ≡ room_after (length text) None =
+        ap (λ (t : Told). t.room) ran.writes ∙ ap (λ (r : Option ℕ). room_after (length text) r) untold in
+    subst (λ (r : Option ℕ). HasRoom r (length page)) (sym left) tt

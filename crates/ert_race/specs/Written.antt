@@ -1,11 +1,10 @@
 -- What a race has written.
 
-use Rattle.std.specs.Prelude.{◌≡◌, ◌⊎◌, ℕ, List, [], take, length, Option}
+use Rattle.std.specs.Prelude.{◌≡◌, ◌⊎◌, ℕ, List, [], take}
 use Rattle.ert_answers.specs.Ways.{alone}
 use Rattle.ert_defs.specs.Legal.{Legal}
 use Rattle.ert_defs.specs.declared.entry.Entry.{Entry}
 use Rattle.ert_defs.specs.declared.settings.Settings.{Settings}
-use Rattle.ert_io.specs.Known.{HasRoom}
 use Rattle.ert_io.specs.Told.{Told, took, TakesFront}
 use Rattle.ert_ops.specs.Races.{Race}
 use Rattle.ert_ops.specs.declared.op.Op.{Op}
@@ -32,10 +31,6 @@ pub record IsBeginning (g : Settings) (ops : List Op) (text : List ℕ) : Type 0
 -- further
 abbrev pub MayWrite : Settings → List Op → Race → List ℕ → Type 0
 MayWrite g ops race text = IsBeginning g ops text ⊎ ((h : List Entry) × IsOutcome g ops race h text)
-
--- whatever it may write fits the room
-abbrev pub ReportsFit : Settings → List Op → Race → Option ℕ → Type 0
-ReportsFit g ops race room = (text : List ℕ) → MayWrite g ops race text → HasRoom room (length text)
 
 -- a race was run on a desk: the report of an outcome was written, and the pass has every actor and for its
 -- history just that of the outcome, in which all timers and mail are as they may be

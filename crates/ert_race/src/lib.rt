@@ -14,7 +14,6 @@ mod race;
 mod report;
 mod round;
 mod run;
-mod standing;
 mod workers;
 
 pub use ert_workers::ListDone;

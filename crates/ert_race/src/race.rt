@@ -13,13 +13,13 @@ ghost use Rattle.ert_table.specs.Desks.{front_of};
 
 use crate::naming::name_pairs;
 use crate::round::last_round;
-use crate::standing::history_stands;
 use crate::workers::{do_lists, make_turns};
 use ert_defs::NoMemory;
 use ert_lines::Names;
 use ert_locks::{CallerSeat, DeskName, SchedSeat};
 use ert_ops::RaceLists;
 use ert_sched::{Parts, World};
+use ert_script::history_stands;
 use ert_shared::{Gate, Opened, Service};
 use ert_workers::ListDone;
 use std::alloc::Global;

@@ -1,5 +1,5 @@
 //! A race from its settings to its report.
-ghost use Rattle.std.specs.Prelude.{◌≡◌, ◌≤◌, IfOk, OnErr, IsErrOf, string_bytes};
+ghost use Rattle.std.specs.Prelude.{◌≡◌, ◌≤◌, None, IfOk, OnErr, IsErrOf, string_bytes};
 ghost use Rattle.ert_defs.specs.Settings.{IsChecked};
 ghost use Rattle.ert_defs.specs.States.{state};
 ghost use Rattle.ert_io.specs.Faults.{Rose};
@@ -9,27 +9,26 @@ ghost use Rattle.ert_ops.specs.Races.{IsRace, race_of};
 ghost use Rattle.ert_ops.specs.Ranges.{IsInRange};
 ghost use Rattle.ert_outcome.specs.Reports.{behind};
 ghost use Rattle.ert_race.specs.Lists.{dids_of};
-ghost use Rattle.ert_race.specs.Written.{ReportsFit, RacesOn, StopsRace};
+ghost use Rattle.ert_race.specs.Written.{RacesOn, StopsRace};
 ghost use Rattle.ert_sched.specs.Counted.{AreTidy};
 
 use crate::naming::name_all;
 use crate::race::{RaceEnd, race_on};
 use crate::report::write_lists;
-use crate::standing::history_stands;
 use ert_defs::{NoMemory, Settings};
 use ert_io::Sink;
 use ert_lines::{RunErr, write_end, write_page};
 use ert_ops::{Op, RaceLists};
 use ert_sched::World;
-use ert_script::{run_ops, write_settled};
+use ert_script::{history_stands, run_ops, write_settled};
 use ert_shared::Gate;
 use ert_table::{Desk, Pass};
 use std::alloc::Global;
 use std::sync::Wait;
 use std::thread::Threads;
 
-/// Runs the ops on a new world, then the race, writes the report, and gives the world's desk. A sink that tells
-/// its room has room for whatever a race may write.
+/// Runs the ops on a new world, then the race, writes the report, and gives the world's desk. The sink tells
+/// no room, for no number of bytes is known that every report fits.
 ///
 /// Where the output fails, or memory, the first part of a report was written, or of the lines of the ops.
 pub fn run_race<R: Threads + Wait + Sync, G: Gate + Sync, O: Sink>(
@@ -41,7 +40,7 @@ pub fn run_race<R: Threads + Wait + Sync, G: Gate + Sync, O: Sink>(
     gate: &G,
     output: &mut O,
 ) -> Result<(Desk, Pass), RunErr>
-    requires fits { ReportsFit settings.now ops.now (race_of race.now) (O.room output.old) }
+    requires room { O.room output.old ≡ None }
     requires checked { IsChecked settings.now }
     requires ranges { IsInRange settings.now ops.now }
     requires race { IsRace settings.now ops.now (race_of race.now) }

@@ -1,7 +1,7 @@
 -- A run as far as it has come.
 
 use Rattle.std.proofs.Common.{◌≡◌, ℕ, ◌+◌, ◌<◌, List, [], ◌∷◌, ◌++◌, take, drop, length, get_or, Option, zero, suc, arith, refl, sym, subst, ap, ◌∙◌, append_assoc, append-nil}
-use Rattle.std.specs.Prelude.{Result, Ok, Err, OnOk, OnErr, ◌≤◌}
+use Rattle.std.specs.Prelude.{Result, Ok, Err, OnErr, ◌≤◌}
 use Rattle.std.proofs.lemmas.List.{take_more, take_all}
 use Rattle.ert_answers.specs.Ways.{alone}
 use Rattle.ert_io.proofs.Takes.{took-took, took-none, fits_after}
@@ -184,18 +184,6 @@ breaks_at start v w list i d old now new page r below far done stands written =
       writes = record { front = all.front; others = written.others; took = all.took; whole = all.whole };
     }
 
--- the run stopped before one more op
-pub stops_at : (start v : Service) (list : List Op) (i : ℕ) (old now : Told) (page : List ℕ)
-    → IsSoFar start (take i list) v old now page → WritesSome start list old now
-stops_at start v list i old now page far = record {
-  done = i;
-  replies = far.replies;
-  reached = v;
-  runs = far.runs;
-  stands = far.stands;
-  writes = record { front = far.front; others = page; took = far.took; whole = far.whole };
-}
-
 -- the run of all ops, where the index has come to the end
 far_last : (start v : Service) (list : List Op) (i : ℕ) (old now : Told) (page : List ℕ)
     → length list ≤ i → IsSoFar start (take i list) v old now page → IsSoFar start list v old now page
@@ -229,10 +217,6 @@ breaks_last start v list i old now new page far w = record {
     whole = append_assoc far.front w.front w.others ∙ ap (λ (t : List ℕ). far.front ++ t) w.whole ∙ far.whole;
   };
 }
-
-pub ok_map : {T E P Q : Type 0} (r : Result T E) → (P → Q) → OnOk r P → OnOk r Q
-ok_map (Ok x) f p = f p
-ok_map (Err e) f p = p
 
 pub err_map : {T E P Q : Type 0} (r : Result T E) → (P → Q) → OnErr r P → OnErr r Q
 err_map (Ok x) f p = p

@@ -18,5 +18,5 @@ mod timer_ops;
 
 pub use clock_ops::tick;
 pub use reply::reply_op;
-pub use run::{do_ops, run_ops};
+pub use run::{do_ops, history_stands, run_ops};
 pub use settled::write_settled;

@@ -62,9 +62,9 @@ pub fn do_ops(alloc: Global, world: &mut World, ops: &[Op]) -> Result<(), NoMemo
     Ok(())
 }
 
-// The history of every world is legal, and its clock stands for it. The call brings this into reach, and
-// costs nothing.
-fn history_stands(world: &World)
+/// The history of every world is legal, and its clock stands for it. The call brings this into reach, and
+/// costs nothing.
+pub fn history_stands(world: &World)
     ensures { StandsFor world.now.settings world.now.history world.now }
 {
     let _ = world.settings();

@@ -1,5 +1,5 @@
 //! The ops on timers. Each names its timer by a label.
-ghost use Rattle.std.specs.Prelude.{◌≡◌, ◌<◌, IfOk, OnOk};
+ghost use Rattle.std.specs.Prelude.{◌<◌, IfOk, OnOk};
 ghost use Rattle.ert_lines.specs.Names.{IsIndexOf};
 ghost use Rattle.ert_ops.specs.declared.op.Op.{Op};
 ghost use Rattle.ert_script.specs.Scripts.{Does, IsUnbound};

@@ -1,7 +1,7 @@
 use Rattle.std.proofs.Common.{rules, inl, inr, true}
+use Rattle.ert_race.proofs.Listed.{wanted_of}
 use Rattle.ert_scenario.specs.Scenarios.{plan_of}
-use Rattle.ert_cli.specs.Runs.{TakesAll}
-use Rattle.ert_cli.proofs.Raced.{wanted_of}
+use Rattle.ert_cli.specs.Inputs.{TakesAll}
 use Rattle.ert_cli.proofs.Transcripts.{stopped}
 use Rattle.ert_cli.proofs.racing.race.Goals as goal
 

@@ -1,6 +1,6 @@
 use Rattle.std.proofs.Common.{rules, inl, inr, false}
 use Rattle.ert_scenario.specs.Scenarios.{plan_of}
-use Rattle.ert_cli.specs.Runs.{TakesAll}
+use Rattle.ert_cli.specs.Inputs.{TakesAll}
 use Rattle.ert_cli.proofs.Transcripts.{stopped}
 use Rattle.ert_cli.proofs.running.run.Goals as goal
 

@@ -1,7 +1,7 @@
 use Rattle.std.proofs.Common.{rules, List, ℤ, length, sym, subst, FitsSigned, w64, to_z-of_z}
 use Rattle.std.proofs.lemmas.Result.{err_from_is_err_and}
 use Rattle.ert_io.specs.Known.{HasRoom}
-use Rattle.ert_io.specs.Told.{Told, told}
+use Rattle.ert_io.specs.Told.{told}
 use Rattle.ert_scenario.specs.Scenarios.{plan_of}
 use Rattle.ert_ops.specs.declared.op.Op.{Op}
 use Rattle.ert_script.specs.Written.{WritesRun, WritesSome, LinesFit}

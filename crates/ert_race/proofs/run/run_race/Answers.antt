@@ -5,8 +5,7 @@ use Rattle.ert_race.specs.Lists.{dids_of}
 use Rattle.ert_race.proofs.run.run_race.Goals as goal
 
 pub run_ops-requires-clause-fits : goal.run_ops-requires-clause-fits
-run_ops-requires-clause-fits g c =
-    lines_fit c.args.settings.now c.args.ops.now (race_of c.args.race.now) c.in-Ok.world (g.O.Sink.room c.args.output.now) c.in-Ok.ensures c.requires.fits
+run_ops-requires-clause-fits g c = lines_fit c.in-Ok.world c.args.ops.now (g.O.Sink.room c.args.output.now) c.requires.room
 
 pub run_ops-requires-clause-labels : goal.run_ops-requires-clause-labels
 run_ops-requires-clause-labels g c = first_ops c.args.ops.now (ops_in (lists_of (race_of c.args.race.now))) c.requires.race.labels
@@ -21,9 +20,7 @@ returns-in_default-report_page-clause-err g c =
 
 pub write_page-requires : goal.write_page-requires
 write_page-requires g c =
-    page_fits c.args.settings.now c.args.ops.now (race_of c.args.race.now) c.in-Ok.world c.run_ops.new.world c.in-Ok-race_on.end.world
-    (dids_of c.in-Ok-race_on.end.lists.items) _ _ _ c.in-Ok.ensures c.in_ok-run_ops.ensures.ok c.in-Ok-race_on.ensures c.history_stands.ensures
-    c.in-Ok-report_page.ensures c.requires.fits
+    page_fits c.in-Ok.world c.run_ops.new.world c.args.ops.now _ _ _ c.in_ok-run_ops.ensures.ok c.requires.room
 
 pub returns-in_err-write_page-clause-err : goal.returns-in_err-write_page-clause-err
 returns-in_err-write_page-clause-err g c =

@@ -1,5 +1,5 @@
 use Rattle.std.proofs.Common.{true}
-use Rattle.ert_race_tests.proofs.Plans.{wanted_of}
+use Rattle.ert_race.proofs.Listed.{wanted_of}
 use Rattle.ert_scenario.specs.Scenarios.{plan_of}
 use Rattle.ert_race_tests.proofs.racing.report_of.Goals as goal
 

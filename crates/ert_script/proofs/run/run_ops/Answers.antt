@@ -7,7 +7,8 @@ use Rattle.ert_ops.specs.Ranges.{IsOpInRange}
 use Rattle.ert_ops.specs.declared.op.Op.{Op}
 use Rattle.ert_script.specs.Scripts.{Does, MayBind}
 use Rattle.ert_script.proofs.Labels.{MayGoOn, all_may, may_bind_at}
-use Rattle.ert_script.proofs.Runs.{so_far_first, op_may, goes_on_at, may_at, breaks_at, ends, breaks_last, ok_map, err_map, line_fits, page_fits}
+use Rattle.ert_lines.proofs.Texts.{ok_map}
+use Rattle.ert_script.proofs.Runs.{so_far_first, op_may, goes_on_at, may_at, breaks_at, ends, breaks_last, err_map, line_fits, page_fits}
 use Rattle.ert_transcript.specs.Labels.{Labels, label_of}
 use Rattle.ert_script.proofs.run.run_ops.Goals as goal
 
