@@ -1,3 +1,4 @@
+pub mod Endings
 pub mod Medians
 pub mod Names
 pub mod Tables

@@ -5,6 +5,7 @@ use crate::passes::Passes;
 use crate::service_rows::Sharing;
 use crate::stopwatch::Stopwatch;
 use crate::table::Row;
+use crate::timer_rows::Cancelling;
 use crate::{clock_rows, expiry_rows, mail_rows, service_rows, timer_rows, unique_rows};
 use ert_io::OsClock;
 use std::rt::Files;
@@ -56,7 +57,10 @@ fn measure_calls<R: AllocGlobal, C: OsClock>(
         Operation::SystemTime => (0, clock_rows::system_time(alloc, watch)?),
         Operation::Tick => (0, clock_rows::tick(alloc, watch)?),
         Operation::Tell => (0, mail_rows::tell(alloc, watch)?),
-        Operation::CancelAsync => (OTHERS, timer_rows::cancel_async(alloc, watch, OTHERS)?),
+        Operation::CancelAsync => {
+            let how = Cancelling::ByRequests;
+            (OTHERS, timer_rows::cancel(alloc, watch, OTHERS, how)?)
+        }
         Operation::Exit => (OTHERS, timer_rows::exit(alloc, watch, OTHERS)?),
         _ => (OTHERS, timer_rows::start_cancel(alloc, watch, OTHERS)?),
     };
@@ -79,7 +83,10 @@ fn measure_sizes<R: AllocGlobal, C: OsClock>(
                 bytes.get(at).copied(),
             ),
             Operation::Read => (timer_rows::read(alloc, watch, *size)?, None),
-            Operation::Cancel => (timer_rows::cancel(alloc, watch, *size)?, None),
+            Operation::Cancel => {
+                let how = Cancelling::ByCalls;
+                (timer_rows::cancel(alloc, watch, *size, how)?, None)
+            }
             Operation::ExpireAtOnce => (expiry_rows::expire_at_once(alloc, watch, *size)?, None),
             _ => (expiry_rows::expire_spread(alloc, watch, *size)?, None),
         };

@@ -1,4 +1,5 @@
 ghost use Rattle.std.specs.Prelude.{◌≡◌, ◌≤◌, ◌⊎◌, List, None, IsTrue, false};
+ghost use Rattle.ert_bench.specs.Endings.{code_of};
 ghost use Rattle.ert_bench.specs.Names.{AreNames, usage_line};
 ghost use Rattle.ert_bench.specs.Tables.{table_text};
 ghost use Rattle.ert_bench.specs.declared.table.Row.{Row as TheRow};
@@ -25,7 +26,7 @@ pub enum BenchStatus {
     Done,
     /// A word names no operation; the usage line was written.
     Usage,
-    /// The output failed. The first part of what was to be written stands there.
+    /// The output failed. A first part of what was to be written may stand there.
     WriteFault,
     /// A measurement was given up, since the clock failed or a call answered otherwise than it has to.
     /// Nothing was written.
@@ -36,7 +37,9 @@ pub enum BenchStatus {
 
 impl BenchStatus {
     /// The number that the process ends with.
-    pub fn code(self) -> u8 {
+    pub fn code(self) -> u8
+        ensures { result ≡ code_of self }
+    {
         match self {
             BenchStatus::Done => 0,
             BenchStatus::Usage => 2,

@@ -22,6 +22,10 @@ use std::thread::Threads;
 /// How many timers each thread starts and cancels in a pass.
 const CALLS: u32 = 50_000;
 
+/// How many slots each wheel has. A cancel by another thread tells the wheel nothing, so the starts use all
+/// slots in turn.
+const SLOTS: u32 = 1_024;
+
 /// How often each thread reads the time in a pass, and how many readings the other thread takes meanwhile.
 const READS: u32 = 1_000_000;
 
@@ -48,7 +52,7 @@ fn open(alloc: Global, callers: u32) -> Result<Parts, BenchErr>
         start: 0,
         schedulers: 4,
         processes: 1_024,
-        slots: 65_536,
+        slots: SLOTS,
         callers,
         first: Reading { mono: 0, sys: 0 },
     };

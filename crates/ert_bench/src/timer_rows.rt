@@ -101,11 +101,19 @@ pub(crate) fn read<C: OsClock>(
     Ok(passes)
 }
 
+/// How timers are cancelled: by calls, or by requests that their schedulers answer.
+#[derive(Clone, Copy)]
+pub(crate) enum Cancelling {
+    ByCalls,
+    ByRequests,
+}
+
 /// So many timers are cancelled, in random order.
 pub(crate) fn cancel<C: OsClock>(
     alloc: Global,
     watch: &mut Stopwatch<C>,
     count: u32,
+    how: Cancelling,
 ) -> Result<Passes, BenchErr>
     requires { 0 < count }
 {
@@ -118,30 +126,10 @@ pub(crate) fn cancel<C: OsClock>(
         rig.start_all(&waits, &mut timers)?;
         mix(&mut timers);
         watch.start()?;
-        rig.cancel_all(&timers)?;
-        passes.add(watch.elapsed()?)?;
-    }
-    Ok(passes)
-}
-
-/// So many timers are cancelled by requests, in random order.
-pub(crate) fn cancel_async<C: OsClock>(
-    alloc: Global,
-    watch: &mut Stopwatch<C>,
-    count: u32,
-) -> Result<Passes, BenchErr>
-    requires { 0 < count }
-{
-    let waits = spread_waits(alloc, count)?;
-    let mut passes = Passes::new(alloc, count);
-    let mut timers = Vec::with_capacity(alloc, count as usize)?;
-    for _ in 0..PASSES {
-        let mut rig = Rig::open(alloc, count, Mode::No)?;
-        timers.clear();
-        rig.start_all(&waits, &mut timers)?;
-        mix(&mut timers);
-        watch.start()?;
-        rig.cancel_all_async(&timers)?;
+        match how {
+            Cancelling::ByCalls => rig.cancel_all(&timers)?,
+            Cancelling::ByRequests => rig.cancel_all_async(&timers)?,
+        }
         passes.add(watch.elapsed()?)?;
     }
     Ok(passes)
