@@ -1,6 +1,6 @@
 -- The laws of outcomes.
 
-use Rattle.std.proofs.Common.{◌≡◌, ℕ, suc, List, [], ◌∷◌, ◌++◌, length, filter, ◌≤ℤ◌, refl, sym, ap, subst, ◌∙◌, append-nil}
+use Rattle.std.proofs.Common.{◌≡◌, ℕ, suc, List, [], ◌∷◌, ◌++◌, length, ◌≤ℤ◌, sym, ap, subst, ◌∙◌, append-nil}
 use Rattle.std.proofs.lemmas.List.Elements.{filter-append}
 use Rattle.ert_answers.specs.Ways.{Growth, Way, beside}
 use Rattle.ert_defs.proofs.Runs.{legal_first}
@@ -34,7 +34,7 @@ outcomes_keep g ops race h text checked is = record {
   mail = λ p. mailboxes g h p is.legal;
 }
 
-in_pieces : (a : Actor) (call : Growth) (h stretch : List Entry) (makes : Makes a call h stretch) → of stretch a ≡ of makes.pieces a
+pub in_pieces : (a : Actor) (call : Growth) (h stretch : List Entry) (makes : Makes a call h stretch) → of stretch a ≡ of makes.pieces a
 in_pieces a call h stretch makes =
     ap (λ (l : List Entry). of l a) makes.parted
     ∙ (filter-append (λ e. has_actor e a) makes.pieces makes.after

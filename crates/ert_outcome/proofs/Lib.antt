@@ -1,3 +1,4 @@
+pub mod Advancing
 pub mod Kept
 pub mod Makings
 pub mod Rounds

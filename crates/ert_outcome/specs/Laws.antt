@@ -1,13 +1,13 @@
 -- Laws of outcomes. The functions of src/laws.rt carry them as contracts, so that they are proved.
 
-use Rattle.std.specs.Prelude.{◌≡◌, ℕ, ◌≤ℤ◌, List, [], ◌∷◌, ◌++◌, map, length}
+use Rattle.std.specs.Prelude.{◌≡◌, ℕ, ◌≤ℤ◌, Bool, true, false, List, [], ◌∷◌, ◌++◌, map, filter, length}
 use Rattle.ert_defs.specs.Actors.{of}
-use Rattle.ert_defs.specs.Legal.{Legal}
 use Rattle.ert_defs.specs.Settings.{IsChecked}
 use Rattle.ert_defs.specs.States.{state}
 use Rattle.ert_defs.specs.declared.entry.Actor.TheVariants.{Sched, Caller}
 use Rattle.ert_defs.specs.declared.entry.Entry.{Entry}
-use Rattle.ert_defs.specs.declared.entry.Event.TheVariants.{Expire}
+use Rattle.ert_defs.specs.declared.entry.Event.{Event}
+use Rattle.ert_defs.specs.declared.entry.Event.TheVariants.{Expire, Advanced}
 use Rattle.ert_defs.specs.declared.settings.Settings.{Settings}
 use Rattle.ert_defs.specs.declared.timer.TimerRef.{TimerRef}
 use Rattle.ert_laws.specs.ClockLaws.{IsDueBy}
@@ -16,7 +16,7 @@ use Rattle.ert_laws.specs.MailOrder.{sent_to, taken_from}
 use Rattle.ert_laws.specs.Permitted.{Permitted}
 use Rattle.ert_ops.specs.Races.{Race}
 use Rattle.ert_ops.specs.declared.op.Op.{Op}
-use Rattle.ert_outcome.specs.Made.{MakesTurns}
+use Rattle.ert_outcome.specs.Made.{MakesTurns, MakesRound}
 use Rattle.ert_outcome.specs.Outcomes.{DoesList, IsOutcome}
 use Rattle.ert_outcome.specs.Reports.{Did}
 use Rattle.ert_transcript.specs.Labels.{Labels}
@@ -52,3 +52,19 @@ LawOfTurns = (g : Settings) (w count : ℕ) (h stretch : List Entry) → (turns 
 abbrev pub LawOfReplies : Type 0
 LawOfReplies = (g : Settings) (labels : Labels) (k : ℕ) (ops : List Op) (d : Did) (h stretch : List Entry)
     → DoesList g labels k ops d h stretch → length d.replies ≡ length ops
+
+-- how often it is recorded that a wheel was advanced
+abbrev pub is_advance : Event → Bool
+is_advance (Advanced wheel to) = true
+is_advance _ = false
+
+abbrev pub advances : List Entry → ℕ
+advances es = length (filter (λ (e : Entry). is_advance e.event) es)
+
+-- a scheduler advances its wheel once in each of its turns
+abbrev pub LawOfAdvances : Type 0
+LawOfAdvances = (g : Settings) (w count : ℕ) (h stretch : List Entry) → MakesTurns g w count h stretch → advances (of stretch (Sched w)) ≡ count
+
+-- and each scheduler does once in the round of last turns
+abbrev pub LawOfRounds : Type 0
+LawOfRounds = (g : Settings) (count : ℕ) (h m : List Entry) → MakesRound g count h m → advances m ≡ count
