@@ -25,12 +25,15 @@
 
 mod clock_calls;
 mod clock_exports;
+mod ert_seat;
 mod ert_world;
 mod handle;
 mod loose;
 mod mail_calls;
 mod mail_exports;
 mod opening;
+mod seat_exports;
+mod seat_place;
 mod status;
 mod timer_calls;
 mod timer_exports;
@@ -38,6 +41,7 @@ mod turn_calls;
 mod turn_exports;
 
 pub use clock_calls::{ErtMoved, ErtOffset};
+pub use ert_seat::ErtSeat;
 pub use ert_world::ErtWorld;
 pub use mail_calls::{ErtMail, ErtRequest};
 pub use opening::{ErtReading, ErtSettings};
