@@ -4,11 +4,13 @@
  *
  *     cc seats.c -Iinclude libert_c.a liblibc_c.a -pthread -o seats
  */
+#define _POSIX_C_SOURCE 199309L
 #include <inttypes.h>
 #include <pthread.h>
 #include <stdatomic.h>
 #include <stdio.h>
 #include <stdlib.h>
+#include <time.h>
 
 #include "ertime.h"
 
@@ -19,6 +21,7 @@ enum { THREADS = 4, TIMERS = 20000, ROUNDS = 50, PROCESS = 0, SCHED = 0 };
 /* The timers that were started: a thread reads the first `started` of them. */
 static ert_timer timers[TIMERS];
 static atomic_int started;
+static atomic_int at_work;
 static atomic_bool done;
 
 /* What a thread did. It is read once the thread has ended. */
@@ -49,6 +52,7 @@ static void read_time(worker *w, int64_t *last) {
 /* Two threads try to cancel the same timer: one of them, the turn, or nobody finds it armed. */
 static void *work(void *argument) {
     worker *w = argument;
+    atomic_fetch_add(&at_work, 1);
     int64_t last = INT64_MIN;
     int next = w->number / 2;
     bool finished = false;
@@ -89,6 +93,12 @@ static void tick(ert_world *world, int64_t milliseconds) {
     must("ert_world_tick", ert_world_tick(world, &reading, 0, &moved));
 }
 
+/* Lets the other threads go on for a while. */
+static void wait_a_little(void) {
+    struct timespec wait = {0, 100000};
+    nanosleep(&wait, NULL);
+}
+
 int main(void) {
     static worker workers[THREADS];
     ert_world world = ERT_INIT;
@@ -111,6 +121,10 @@ int main(void) {
         }
     }
 
+    while (atomic_load(&at_work) < THREADS) {
+        wait_a_little();
+    }
+
     int taken = 0;
     ert_turned turned;
     for (int round = 1; round <= ROUNDS; round++) {
@@ -120,6 +134,7 @@ int main(void) {
             must("ert_world_start", ert_world_start(&world, SCHED, &start, &timers[n]));
             atomic_store(&started, n + 1);
         }
+        wait_a_little();
         tick(&world, round);
         must("ert_world_turn", ert_world_turn(&world, SCHED, &turned));
         taken += take_all(&world);

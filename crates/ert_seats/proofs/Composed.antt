@@ -1,14 +1,14 @@
 -- Calls of a world one after the other are a call.
 
-use Rattle.std.proofs.Common.{◌≡◌, ◌⊎◌, ℕ, zero, suc, ◌+◌, ◌<◌, ◌≤◌, true, false, List, [], ◌∷◌, ◌++◌, length, Option, Some, None, Ok, Err, inl, inr, refl, sym, ap, subst, ◌∙◌, arith, append-nil, append_assoc, lt-ltb}
+use Rattle.std.proofs.Common.{◌≡◌, ℕ, suc, ◌+◌, ◌<◌, true, false, List, [], ◌∷◌, ◌++◌, Option, Some, None, Ok, Err, inl, inr, refl, sym, ap, subst, ◌∙◌, arith, append-nil, append_assoc, lt-ltb}
 use Rattle.ert_answers.proofs.Growing.{grows_then, grows_as, grows_more}
-use Rattle.ert_answers.specs.Chains.{Holds, Serves, ServesMany, ServesAll, times, AdvancesWheel, Hands, HandsMany, Delivers, puts, put_by, drops, dropped_by, Turns, SweepsWheel, SweepsWheels, Exits}
+use Rattle.ert_answers.specs.Chains.{Holds, Serves, ServesMany, ServesAll, times, AdvancesWheel, Hands, HandsMany, Delivers, puts, drops, Turns, SweepsWheel, SweepsWheels, Exits}
 use Rattle.ert_answers.specs.RequestCalls.{Answers}
 use Rattle.ert_answers.specs.WheelCalls.{MarksExit}
 use Rattle.ert_answers.specs.Ways.{Growth, Grows, Then, Many}
 use Rattle.ert_answers.specs.declared.answers.Handed.{Handed}
 use Rattle.ert_answers.specs.declared.answers.Turned.{Turned}
-use Rattle.ert_defs.specs.Mails.{first_of, others_of}
+use Rattle.ert_defs.specs.Mails.{first_of}
 use Rattle.ert_defs.specs.States.{state}
 use Rattle.ert_defs.specs.declared.entry.Actor.TheVariants.{Caller}
 use Rattle.ert_defs.specs.declared.entry.Entry.{Entry}

@@ -1,6 +1,6 @@
 -- What a world has after it gave a seat, and what a seat does.
 
-use Rattle.std.proofs.Common.{◌≡◌, ◌≢◌, ◌⊎◌, ⊎_elim, ℕ, ◌+◌, ◌<◌, ◌≤◌, Bool, true, false, cond, List, [], ◌∷◌, ◌++◌, length, slice_index_or, Result, Ok, Err, IfOk, inl, inr, refl, sym, ap, subst, ◌∙◌, arith, ne_eqb, eq-eqb}
+use Rattle.std.proofs.Common.{◌≡◌, ◌≢◌, ⊎_elim, ℕ, ◌+◌, ◌<◌, Bool, true, false, cond, List, [], ◌∷◌, ◌++◌, length, slice_index_or, Result, Ok, Err, IfOk, inl, inr, refl, sym, ap, subst, ◌∙◌, arith, ne_eqb, eq-eqb}
 use Rattle.std.specs.Prelude.{nat_eq, nat_le, filter}
 use Rattle.ert_defs.specs.Actors.{same_actor}
 use Rattle.ert_answers.specs.Ways.{Growth}

@@ -1,6 +1,6 @@
 -- The steps of a world's schedulers on its inboxes, mailboxes and wheels.
 
-use Rattle.std.proofs.Common.{◌≡◌, ℕ, ◌-◌, ◌<◌, ◌≤◌, List, [], ◌∷◌, ◌++◌, length, filter, slice_index_or, Option, Some, None, Result, Ok, Err, refl, sym, ap, subst, ◌∙◌, append-nil}
+use Rattle.std.proofs.Common.{◌≡◌, ℕ, ◌-◌, ◌<◌, List, [], ◌∷◌, ◌++◌, length, filter, slice_index_or, Option, Some, None, Result, Ok, refl, sym, ap, subst, ◌∙◌, append-nil}
 use Rattle.std.specs.Prelude.{slice_set}
 use Rattle.ert_answers.specs.Chains.{Hands, AdvancesWheel, SweepsWheel}
 use Rattle.ert_answers.specs.MailCalls.{HandsOver}
@@ -11,7 +11,6 @@ use Rattle.ert_answers.specs.declared.answers.Handed.{Handed}
 use Rattle.ert_defs.specs.Mails.{SchedState, first_of, others_of}
 use Rattle.ert_defs.specs.States.{State, state}
 use Rattle.ert_defs.specs.Timers.{Row}
-use Rattle.ert_defs.specs.declared.entry.Actor.{Actor}
 use Rattle.ert_defs.specs.declared.entry.Actor.TheVariants.{Inbox, Sched, MailOf, Wheel}
 use Rattle.ert_defs.specs.declared.entry.Entry.{Entry}
 use Rattle.ert_defs.specs.declared.mail.Request.{Request}

@@ -1,6 +1,6 @@
 -- The entries that a pass finds of its own after a call are those that no seat made.
 
-use Rattle.std.proofs.Common.{◌≡◌, ◌≢◌, ℕ, ◌<◌, ◌≤◌, Bool, true, false, not, ◌&&◌, List, [], ◌∷◌, filter, inl, inr, refl, sym, ap, subst, ◌∙◌, arith, ltb-false, nat_lt}
+use Rattle.std.proofs.Common.{◌≡◌, ℕ, ◌<◌, ◌≤◌, Bool, true, false, ◌&&◌, List, [], ◌∷◌, filter, inl, inr, refl, sym, ap, subst, ◌∙◌, arith, ltb-false, nat_lt}
 use Rattle.ert_defs.proofs.Runs.{legal_then}
 use Rattle.ert_defs.specs.Actors.{same_actor}
 use Rattle.ert_defs.specs.Entries.{is_ours}

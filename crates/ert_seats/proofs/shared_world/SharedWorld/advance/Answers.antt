@@ -1,4 +1,4 @@
-use Rattle.std.proofs.Common.{◌≡◌, ◌-◌, ◌≤◌, Ok, Err, rules, refl, arith}
+use Rattle.std.proofs.Common.{◌≡◌, Ok, Err, rules, refl, arith}
 use Rattle.ert_table.specs.Desks.{settings_of, view_of}
 use Rattle.ert_locks.proofs.Scheds.{few}
 use Rattle.ert_seats.proofs.Calls.{has_at, does_at}

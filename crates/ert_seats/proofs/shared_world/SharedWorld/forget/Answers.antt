@@ -1,4 +1,3 @@
-use Rattle.std.proofs.Common.{◌<◌, sym, subst, ◌∙◌, refl}
 use Rattle.ert_seats.proofs.Calls.{forgot}
 use Rattle.ert_seats.proofs.shared_world.SharedWorld.forget.Goals as goal
 
