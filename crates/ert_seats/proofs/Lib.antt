@@ -1,5 +1,6 @@
 pub mod Calls
 pub mod Composed
+pub mod Divided
 pub mod Given
 pub mod Gone
 pub mod NextDue

@@ -16,8 +16,9 @@
 //! caller that is to get the next seat, and its wheels (`specs/SharedWorlds`). A call makes that history longer by
 //! a piece in which the entries of others stand too: of its entries, those that no seat made are just what the
 //! call may make with its answer, in the state before the piece (`specs/Ways`, `beside_seats`). The relations are
-//! those of `ert_answers`, as they are of calls by one thread. A seat's history grows in the same way, by entries
-//! of its caller (`as_caller`). All these histories are beginnings of the desk's one legal history (`ert_table`).
+//! those of `ert_answers`, as they are of calls by one thread; where no seat was given out every entry is the
+//! world's own (`entries_are_divided`). A seat's history grows in the same way, by entries of its caller
+//! (`as_caller`). All these histories are beginnings of the desk's one legal history (`ert_table`).
 //!
 //! What a world has that no seat touches is as its history tells: the clock moves by the world's ticks alone, and
 //! so do wheels, inboxes, mailboxes and schedulers' lists by its calls. Timers are different: a seat may cancel
@@ -29,6 +30,7 @@
 #![tactic(auto)]
 
 mod clock_calls;
+mod laws;
 mod mail_calls;
 mod seat;
 mod seat_err;
@@ -36,6 +38,7 @@ mod shared_world;
 mod timer_calls;
 mod turns;
 
+pub use laws::entries_are_divided;
 pub use seat::Seat;
 pub use seat_err::SeatErr;
 pub use shared_world::SharedWorld;
