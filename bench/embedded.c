@@ -16,6 +16,7 @@ static int64_t nanoseconds(void) {
 }
 
 static ert_world world;
+static ert_seat seat;
 static ert_reading reading;
 
 static void must(int32_t status) {
@@ -31,10 +32,11 @@ static void open_world(void) {
         .schedulers = 1,
         .processes = 1,
         .slots = 65536,
-        .callers = 1,
+        .callers = 2,
     };
     reading = settings.first;
     must(ert_world_open(&world, &settings));
+    must(ert_seat_open(&seat, &world));
 }
 
 static void os_clock(void) {
@@ -78,6 +80,25 @@ static void read_timer(void) {
     must(ert_world_read(&world, &timer, &left));
 }
 
+static void seat_monotonic_time(void) {
+    int64_t time;
+    must(ert_seat_monotonic_time(&seat, &time));
+}
+
+static void seat_read(void) {
+    uint64_t left;
+    must(ert_seat_read(&seat, &timer, &left));
+}
+
+static void start_and_seat_cancel(void) {
+    ert_start start = {.when = 0};
+    ert_turned turned;
+    uint64_t left;
+    must(ert_world_start(&world, 0, &start, &timer));
+    must(ert_seat_cancel(&seat, &timer, &left));
+    must(ert_world_turn(&world, 0, &turned));
+}
+
 static void turn(void) {
     ert_turned turned;
     must(ert_world_turn(&world, 0, &turned));
@@ -103,24 +124,28 @@ static void measure(const char *name, void (*call)(void), int calls) {
         double each = (double)(nanoseconds() - begun) / calls;
         least = each < least ? each : least;
     }
-    printf("%-48s %9.1f\n", name, least);
+    printf("%-52s %9.1f\n", name, least);
 }
 
 int main(void) {
     open_world();
-    printf("%-48s %9s\n", "call", "ns");
+    printf("%-52s %9s\n", "call", "ns");
     measure("clock_gettime(CLOCK_MONOTONIC)", os_clock, CALLS);
     measure("ert_world_monotonic_time", monotonic_time, CALLS);
     measure("ert_world_system_time", system_time, CALLS);
     measure("ert_world_time_offset", time_offset, CALLS);
     measure("ert_world_tick, each reading 100 ns later", tick, CALLS);
     measure("ert_world_start and ert_world_cancel", start_and_cancel, CALLS);
+    measure("ert_world_start, ert_seat_cancel and ert_world_turn", start_and_seat_cancel, CALLS);
+    measure("ert_seat_monotonic_time", seat_monotonic_time, CALLS);
     timer_in(100000);
+    measure("ert_seat_read of an armed timer", seat_read, CALLS);
     measure("ert_world_read of an armed timer", read_timer, CALLS);
     measure("ert_world_turn with nothing to do", turn, CALLS);
     measure("ert_world_next_due, the timer after the look", next_due, CALLS / 100);
     timer_in(10);
     measure("ert_world_next_due, the timer in 10 milliseconds", next_due, CALLS / 10);
     must(ert_world_close(&world));
+    must(ert_seat_close(&seat));
     return EXIT_SUCCESS;
 }

@@ -11,11 +11,16 @@
  * milliseconds where the text says so. Processes, schedulers and slots are numbers from 0.
  *
  * Ownership. The caller owns the memory of a handle, which begins as ERT_INIT and isn't copied or moved while
- * it is open. What lies behind it belongs to the library from ert_world_open to ert_world_close, and comes
- * from malloc. No other call keeps a pointer that it was passed.
+ * it is open. What lies behind it belongs to the library from ert_world_open to ert_world_close, and from
+ * ert_seat_open to ert_seat_close, and comes from malloc. No other call keeps a pointer that it was passed.
  *
- * Threads. A handle is in one call at a time: a program with several threads puts a lock of its own round it.
- * Handles that were opened apart share nothing. No call may be made from a signal handler.
+ * Threads. A handle is in one call at a time. A service has one handle for every call, ert_world; where several
+ * threads make these calls, the program puts a lock of its own round it. For the calls that need none there are
+ * seats: with an ert_seat of its own a thread tells the time, cancels and reads timers and looks whether a
+ * process lives, beside all calls through the service's handle and through other seats, and waits for nobody.
+ * A service gives out settings.callers - 1 seats. Any handle may go from one thread to another, as a mutex or
+ * pthread_create takes it there. Services that were opened apart share nothing. No call may be made from a
+ * signal handler.
  *
  * Undefined, as in C: a null pointer, a pointer to less than the type says, parameters that overlap, a handle
  * that wasn't begun as ERT_INIT or was written to, and two calls at once on one handle. Everything else is
@@ -50,6 +55,7 @@ extern "C" {
 #define ERT_EXITED (-15)     /* the process has exited */
 #define ERT_BAD_KIND (-16)   /* there is no such kind of request */
 #define ERT_NO_MONITOR (-17) /* the monitor doesn't stand */
+#define ERT_NO_SEAT (-18)    /* each caller but 0 was given a seat */
 
 /* A handle of a service. Begin it with ERT_INIT, and touch no field. */
 typedef struct {
@@ -57,6 +63,12 @@ typedef struct {
     bool live_;
 } ert_world;
 #define ERT_INIT {0, false}
+
+/* A handle of a seat. Begin it with ERT_INIT, and touch no field. */
+typedef struct {
+    void *at_;
+    bool live_;
+} ert_seat;
 
 /* A reading of the clocks of the operating system, in nanoseconds: CLOCK_MONOTONIC and CLOCK_REALTIME. */
 typedef struct {
@@ -77,7 +89,7 @@ typedef struct {
     uint32_t schedulers; /* 1 to 64; each has a wheel of timers */
     uint32_t processes;  /* 1 to 1,024; each has a mailbox */
     uint32_t slots;      /* timer slots of each wheel, 1 to 65,536; at most 262,144 in all */
-    uint32_t callers;    /* 1 to 17; 1 serves, since each call through a handle is made by caller 0 */
+    uint32_t callers;    /* 1 to 17: caller 0 makes the calls through ert_world, and each other can get a seat */
     int64_t start;       /* monotonic time at the opening: a multiple of 1,000,000 from -2^58 to 2^58 */
     ert_reading first;   /* the reading that the clock opens with */
 } ert_settings;
@@ -177,10 +189,11 @@ typedef struct {
 int32_t ert_world_open(ert_world *world, const ert_settings *settings);
 
 /*
- * Closes an open handle, and gives all its memory back.
+ * Closes an open handle, and gives its memory back.
  *
  * Timers that are armed never expire then, and messages that weren't taken are gone. The library frees
- * nothing that a message's `msg` points to: take all messages first where that matters.
+ * nothing that a message's `msg` points to: take all messages first where that matters. Seats stay open: their
+ * clock stands still, and they can cancel and read timers still. What they share is freed with the last of them.
  *
  * The handle is as ERT_INIT makes it, and can be opened again. ERT_CLOSED: the handle was closed; a second
  * close is no fault. A handle that is forgotten while it is open leaks its memory.
@@ -399,12 +412,98 @@ int32_t ert_world_turn(ert_world *world, uint32_t sched, ert_turned *turned);
  *
  * No armed timer of the wheel is due before it. So an event loop may sleep for `due` less `to` milliseconds
  * after a turn (as with `uv_backend_timeout`), unless something else wakes it: `due` is the deadline of a
- * timer, or 1,024 milliseconds after the time of the last tick where every timer is due later.
+ * timer, or 1,024 milliseconds after the time of the last tick where every timer is due later. A timer that was
+ * cancelled through a seat counts until it would have been due, so `due` may come too early for its sake.
  *
  * ERT_EMPTY: no timer is armed, and `due` is as it was. ERT_RANGE: there is no such scheduler. ERT_CLOSED.
  * It changes nothing. Work for the milliseconds that it looks ahead, 1,024 after a turn, until the first timer.
  */
 int32_t ert_world_next_due(ert_world *world, uint32_t sched, uint64_t *due);
+
+/*
+ * Opens a seat of a service behind a closed handle: its next caller, for the use of one thread at a time.
+ *
+ * The call goes through both handles: make it as every call through the service's handle is made, and hand the
+ * seat to its thread afterwards. A seat is of its service for good, and outlives the close of that. Its caller
+ * isn't given out again, not even once the seat is closed.
+ *
+ * ERT_OPEN: the seat's handle is open. ERT_CLOSED: the service's is closed. ERT_NO_SEAT: each of callers 1 to
+ * settings.callers - 1 was given a seat. ERT_NO_MEMORY: the caller gets a seat by a later call. After each of
+ * these nothing has changed behind either handle. Constant work; one small allocation.
+ */
+int32_t ert_seat_open(ert_seat *seat, ert_world *world);
+
+/*
+ * Closes a seat, on any thread, and gives its memory back; with the last handle of a closed service also what
+ * all of them shared.
+ *
+ * The service and its other seats go on, and nothing that the seat did is undone: timers that it cancelled stay
+ * cancelled.
+ *
+ * The handle is as ERT_INIT makes it, and can be opened again, as another caller. ERT_CLOSED: the handle was
+ * closed; a second close is no fault. A seat that is forgotten while it is open leaks its memory.
+ */
+int32_t ert_seat_close(ert_seat *seat);
+
+/*
+ * Monotonic time, in nanoseconds, as ert_world_monotonic_time tells it.
+ *
+ * It is that of the last tick, whichever thread made it. Of two calls of which one returned before the other
+ * began, through whatever handles, the later one is never told an earlier time.
+ *
+ * ERT_CLOSED. Constant work: one load of a word that only ticks write; no memory.
+ */
+int32_t ert_seat_monotonic_time(ert_seat *seat, int64_t *time);
+
+/*
+ * System time, in nanoseconds since 1970, as ert_world_system_time tells it.
+ *
+ * Monotonic time is read first, and then the time offset. A tick may come between: then it is the sum of the
+ * time before that tick and the offset after it, which no moment had where the tick set the offset.
+ *
+ * ERT_CLOSED. Constant work: two loads; no memory.
+ */
+int32_t ert_seat_system_time(ert_seat *seat, int64_t *time);
+
+/*
+ * The time offset, in nanoseconds, with its state, as ert_world_time_offset tells it.
+ *
+ * Both are of one moment. By the next call the thread that ticks may have set another, as its state tells.
+ *
+ * ERT_CLOSED. Constant work: one load; no memory.
+ */
+int32_t ert_seat_time_offset(ert_seat *seat, ert_offset *offset);
+
+/*
+ * Cancels a timer, as ert_world_cancel does, whichever thread started it.
+ *
+ * Of all cancels and the expiry of a timer just one settles it: this call writes the milliseconds that were left
+ * to `left` exactly where it did, and then the timer's message never comes. The wheel isn't told: it holds the
+ * timer's row until that would have been due, and a start that knows no free slot looks for this one.
+ *
+ * ERT_NO_TIMER: the timer isn't armed, for it has expired, was cancelled, or never was one; `left` is as it was.
+ * ERT_CLOSED. Constant work: two loads, and one exchange where the timer is armed; no memory.
+ */
+int32_t ert_seat_cancel(ert_seat *seat, const ert_timer *timer, uint64_t *left);
+
+/*
+ * Tells how much is left of a timer, in milliseconds, as ert_world_read does, and changes nothing.
+ *
+ * Other threads may settle the timer or tick right after it was looked at, so this is what was left at one
+ * moment of the call.
+ *
+ * ERT_NO_TIMER: the timer isn't armed, and `left` is as it was. ERT_CLOSED. Constant work: two loads; no memory.
+ */
+int32_t ert_seat_read(ert_seat *seat, const ert_timer *timer, uint64_t *left);
+
+/*
+ * Tells whether a process hasn't exited: writes 1 or 0 to `alive`, as ert_world_is_alive does.
+ *
+ * 0 is told for good. 1 is so at one moment of the call: another thread may let the process exit right after.
+ *
+ * ERT_RANGE: there is no such process. ERT_CLOSED. Constant work: one load; no memory.
+ */
+int32_t ert_seat_is_alive(ert_seat *seat, uint32_t process, uint32_t *alive);
 
 #ifdef __cplusplus
 }

@@ -15,10 +15,18 @@ pub const ERT_FULL: i32 = -12;
 pub const ERT_EMPTY: i32 = -14;
 pub const ERT_EXITED: i32 = -15;
 pub const ERT_NO_MONITOR: i32 = -17;
+pub const ERT_NO_SEAT: i32 = -18;
 
 #[repr(C)]
 #[derive(Debug)]
 pub struct ert_world {
+    pub at_: *mut c_void,
+    pub live_: bool,
+}
+
+#[repr(C)]
+#[derive(Debug)]
+pub struct ert_seat {
     pub at_: *mut c_void,
     pub live_: bool,
 }
@@ -168,4 +176,12 @@ unsafe extern "C" {
     ) -> i32;
     pub fn ert_world_turn(world: *mut ert_world, sched: u32, turned: *mut ert_turned) -> i32;
     pub fn ert_world_next_due(world: *mut ert_world, sched: u32, due: *mut u64) -> i32;
+    pub fn ert_seat_open(seat: *mut ert_seat, world: *mut ert_world) -> i32;
+    pub fn ert_seat_close(seat: *mut ert_seat) -> i32;
+    pub fn ert_seat_monotonic_time(seat: *mut ert_seat, time: *mut i64) -> i32;
+    pub fn ert_seat_system_time(seat: *mut ert_seat, time: *mut i64) -> i32;
+    pub fn ert_seat_time_offset(seat: *mut ert_seat, offset: *mut ert_offset) -> i32;
+    pub fn ert_seat_cancel(seat: *mut ert_seat, timer: *const ert_timer, left: *mut u64) -> i32;
+    pub fn ert_seat_read(seat: *mut ert_seat, timer: *const ert_timer, left: *mut u64) -> i32;
+    pub fn ert_seat_is_alive(seat: *mut ert_seat, process: u32, alive: *mut u32) -> i32;
 }

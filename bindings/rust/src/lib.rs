@@ -6,6 +6,9 @@
 //! closed when it is dropped, and is in one call at a time. The build script links the library from the folder
 //! that the environment variable `ERTIME_LIB_DIR` names.
 //!
+//! A [`Seat`] is for another thread: it tells the time, cancels and reads timers beside the world, and takes no
+//! lock.
+//!
 //! ```
 //! use ertime::{Reading, Settings, Start, World};
 //!
@@ -49,6 +52,8 @@ pub enum Error {
     Full,
     /// The process has exited.
     Exited,
+    /// Each seat of [`Settings::seats`] was given out.
+    NoSeat,
     /// A status that these bindings don't know: they are of another version than the library.
     Unknown(i32),
 }
@@ -65,6 +70,7 @@ impl fmt::Display for Error {
             Error::BadTime => f.write_str("no timer can be due then"),
             Error::Full => f.write_str("there is no free place"),
             Error::Exited => f.write_str("the process has exited"),
+            Error::NoSeat => f.write_str("every seat was given out"),
             Error::Unknown(status) => write!(f, "unknown status {status}"),
         }
     }
@@ -83,6 +89,7 @@ fn error(status: i32) -> Error {
         ffi::ERT_BAD_TIME => Error::BadTime,
         ffi::ERT_FULL => Error::Full,
         ffi::ERT_EXITED => Error::Exited,
+        ffi::ERT_NO_SEAT => Error::NoSeat,
         other => Error::Unknown(other),
     }
 }
@@ -124,11 +131,13 @@ pub struct Settings {
     pub processes: u32,
     /// Timer slots of each scheduler.
     pub slots: u32,
+    /// How many seats the service can give out, 16 at most.
+    pub seats: u32,
     pub first: Reading,
 }
 
 impl Settings {
-    /// One scheduler, one process, 1,024 slots, no time warp, and monotonic time from 0.
+    /// One scheduler, one process, 1,024 slots, no seat, no time warp, and monotonic time from 0.
     pub fn new(first: Reading) -> Settings {
         Settings {
             mode: Mode::No,
@@ -137,6 +146,7 @@ impl Settings {
             schedulers: 1,
             processes: 1,
             slots: 1_024,
+            seats: 0,
             first,
         }
     }
@@ -274,7 +284,7 @@ pub struct World {
     handle: Box<ffi::ert_world>,
 }
 
-// What lies behind the handle shares nothing with another, and each method takes `&mut self`.
+// What lies behind the handle is shared with seats alone, by atomic steps, and each method takes `&mut self`.
 unsafe impl Send for World {}
 
 impl World {
@@ -286,7 +296,8 @@ impl World {
             schedulers: settings.schedulers,
             processes: settings.processes,
             slots: settings.slots,
-            callers: 1,
+            // The world's calls are made by one caller more.
+            callers: settings.seats.saturating_add(1),
             start: settings.start,
             first: settings.first,
         };
@@ -454,10 +465,85 @@ impl World {
         let status = unsafe { ffi::ert_world_next_due(&mut *self.handle, sched, &mut due) };
         Ok(done_or(status, ffi::ERT_EMPTY)?.then_some(due))
     }
+
+    /// A seat for another thread. It isn't given out again, not even once it is dropped.
+    pub fn seat(&mut self) -> Result<Seat, Error> {
+        let mut seat = Seat {
+            handle: Box::new(ffi::ert_seat {
+                at_: ptr::null_mut(),
+                live_: false,
+            }),
+        };
+        done(unsafe { ffi::ert_seat_open(&mut *seat.handle, &mut *self.handle) })?;
+        Ok(seat)
+    }
 }
 
 impl Drop for World {
     fn drop(&mut self) {
         let _status = unsafe { ffi::ert_world_close(&mut *self.handle) };
+    }
+}
+
+/// The right of a thread to tell the time, and to cancel and read timers, beside its world and all other seats
+/// and without a lock. It outlives its world, and is closed when it is dropped.
+///
+/// The handle of C lies on the heap, so that a `Seat` can be moved.
+#[derive(Debug)]
+pub struct Seat {
+    handle: Box<ffi::ert_seat>,
+}
+
+// What lies behind the handle is shared with the world and other seats by atomic steps alone, and each method
+// takes `&mut self`.
+unsafe impl Send for Seat {}
+
+impl Seat {
+    /// Monotonic time, in nanoseconds.
+    pub fn monotonic_time(&mut self) -> i64 {
+        let mut time = 0;
+        let _open = unsafe { ffi::ert_seat_monotonic_time(&mut *self.handle, &mut time) };
+        time
+    }
+
+    /// System time, in nanoseconds: monotonic time, and the time offset that was read after it.
+    pub fn system_time(&mut self) -> i64 {
+        let mut time = 0;
+        let _open = unsafe { ffi::ert_seat_system_time(&mut *self.handle, &mut time) };
+        time
+    }
+
+    /// The time offset, in nanoseconds, with its state.
+    pub fn time_offset(&mut self) -> (i64, OffsetState) {
+        let mut offset = ffi::ert_offset::default();
+        let _open = unsafe { ffi::ert_seat_time_offset(&mut *self.handle, &mut offset) };
+        (offset.offset, state(offset.state))
+    }
+
+    /// Cancels a timer, and answers the milliseconds that were left; None where it isn't armed.
+    pub fn cancel(&mut self, timer: &Timer) -> Option<u64> {
+        let mut left = 0;
+        let status = unsafe { ffi::ert_seat_cancel(&mut *self.handle, timer, &mut left) };
+        (status == ffi::ERT_OK).then_some(left)
+    }
+
+    /// The milliseconds that are left of a timer; None where it isn't armed.
+    pub fn read(&mut self, timer: &Timer) -> Option<u64> {
+        let mut left = 0;
+        let status = unsafe { ffi::ert_seat_read(&mut *self.handle, timer, &mut left) };
+        (status == ffi::ERT_OK).then_some(left)
+    }
+
+    /// Whether a process hasn't exited.
+    pub fn is_alive(&mut self, process: u32) -> Result<bool, Error> {
+        let mut alive = 0;
+        done(unsafe { ffi::ert_seat_is_alive(&mut *self.handle, process, &mut alive) })?;
+        Ok(alive != 0)
+    }
+}
+
+impl Drop for Seat {
+    fn drop(&mut self) {
+        let _status = unsafe { ffi::ert_seat_close(&mut *self.handle) };
     }
 }

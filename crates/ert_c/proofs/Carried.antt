@@ -16,7 +16,7 @@ use denote.Struct.Owning.{shape}
 use Rattle.std_alloc.proofs.ResultValues.{and_tt}
 use Rattle.ert_c.specs.Places.{held, is_there}
 use Rattle.ert_c.specs.contracts.handle.Place as place
-use Rattle.ert_sched.specs.Worlds.{Service}
+use Rattle.ert_seats.specs.SharedWorlds.{Shared}
 
 -- the machine value of a place
 abbrev pub word : Ptr → Val
@@ -30,7 +30,7 @@ pub word_good : (p : Ptr) → T (has_ty ty_ptr (ptr_val p) && true) × WT (word 
 word_good p = (and_tt (has_ty ty_ptr (ptr_val p)) (ptr_good p).0, ((ptr_good p).1, tt))
 
 -- where there is a world, this is it
-pub there : (o : Option Service) → is_there o ≡ true → (w : Service) × (o ≡ Some w)
+pub there : {W : Type 0} (o : Option W) → is_there o ≡ true → (w : W) × (o ≡ Some w)
 there None h = cc
 there (Some w) h = (w, refl)
 
@@ -41,7 +41,7 @@ module _ {M : Type 1} {𝓤 : Ura M} {𝓛 : Logic 𝓤} {K : Type 0} {Γ : List
       fsplit t $ fpick t (λ vss. fsplit t $ feq_l t (λ ev. fsplit t $ feq_l t (λ ep. drop t $ k
       (subst (λ (ps : List Val). vs ≡ vstruct (of_list (ps ++ [])) ∷ []) ep ev))))
 
-  pub place_in : K → (p : Ptr) (x : Option Service)
+  pub place_in : K → (p : Ptr) (x : Option Shared)
       → Step K 𝓛 (‵ ((place.the_row).own_val (record { at = p; value = x }) (word p ∷ [])) ∷ Γ) G (‵ (held p x) ∷ Γ) G
   place_in t p x = step (λ s.
       nothing t $ feq_i t (List Val) (ptr_val p ∷ []) (ptr_val p ∷ []) refl $ fjoin t $ feq_i t (List Val) (word p ∷ []) (word p ∷ []) refl $ fjoin t $

@@ -1,4 +1,6 @@
 pub mod Carried
 pub mod Helds
+pub mod SeatCarried
+pub mod SeatHelds
 pub mod Values
 pub mod Ways

@@ -2,7 +2,7 @@
 
 use Rattle.std.proofs.Common.{◌≡◌, ◌<◌, ℤ, Option, Some, None, Result, Ok, MatchOption, inr, refl, subst, sym, false, arith}
 use Rattle.std.specs.Prelude.{⊤}
-use Rattle.ert_sched.specs.Worlds.{Service}
+use Rattle.ert_seats.specs.SharedWorlds.{Shared}
 use Rattle.ert_c.specs.Calls.{AtProcess, AsksBy}
 use Rattle.ert_c.specs.Places.{is_there}
 use Rattle.ert_c.specs.Told.{request_kind_at, request_of, IsAsked}
@@ -16,18 +16,18 @@ use Rattle.ert_c.specs.declared.status.TheConstants.{NO_MEMORY, BAD_KIND}
 use Rattle.ert_defs.specs.declared.settings.Settings.{Settings}
 
 -- a call is made by the service that was lent
-pub through : (kept : Type 0) (call : Service → Service → Type 0) (old new : Option Service) (status : ℤ) (was now : Service) → old ≡ Some was
+pub through : (kept : Type 0) (call : Shared → Shared → Type 0) (old new : Option Shared) (status : ℤ) (was now : Shared) → old ≡ Some was
     → new ≡ Some now → call was now → Through kept call old status new
 through kept call old new status was now is becomes made =
-    subst (λ (o : Option Service). Through kept call o status new) (sym is) (now, becomes, made)
+    subst (λ (o : Option Shared). Through kept call o status new) (sym is) (now, becomes, made)
 
 -- for want of memory a closed handle stays closed
-pub opens_nothing : (c : ErtSettings) (o : Option Service) (g : Settings) → is_there o ≡ false → IsRead c (Ok g) → Opens c o NO_MEMORY o
+pub opens_nothing : (c : ErtSettings) (o : Option Shared) (g : Settings) → is_there o ≡ false → IsRead c (Ok g) → Opens c o NO_MEMORY o
 opens_nothing c None g h read = record { read = Ok g; meant = read; opens = inr (refl, refl) }
 opens_nothing c (Some w) g h read = cc
 
 -- a request that is asked for
-pub asks_through : (r : ErtRequest) (kind : RequestKind) (old new : Option Service) (was now : Service) (answer : Result (Unit {0}) WantOfMemory) (status : ℤ)
+pub asks_through : (r : ErtRequest) (kind : RequestKind) (old new : Option Shared) (was now : Shared) (answer : Result (Unit {0}) WantOfMemory) (status : ℤ)
     → old ≡ Some was → new ≡ Some now → request_kind_at r.kind ≡ Some kind → r.reply_to < was.settings.processes
     → AsksBy (request_of r kind) answer was now → IsAsked answer status
     → Through ⊤ (λ old new. MatchOption (request_kind_at r.kind) (IsRefusedAs BAD_KIND status old new) (λ kind. AtProcess r.reply_to (AsksBy (request_of r kind)) (λ answer. IsAsked answer status) status ⊤ old new)) old status new

@@ -5,7 +5,7 @@ use Rattle.ert_answers.specs.Chains.{Exits, Serves, AdvancesWheel, Delivers, Tur
 use Rattle.ert_answers.specs.MailCalls.{Takes, Monitors, Demonitors, Tells}
 use Rattle.ert_answers.specs.RequestCalls.{Asks, inbox_for}
 use Rattle.ert_answers.specs.TimerCalls.{Reads, Cancels, Starts}
-use Rattle.ert_answers.specs.Ways.{Growth, alone}
+use Rattle.ert_answers.specs.Ways.{Growth}
 use Rattle.ert_answers.specs.WheelCalls.{TellsAlive}
 use Rattle.ert_answers.specs.declared.answers.MonitorErr.{MonitorErr}
 use Rattle.ert_answers.specs.declared.answers.StartErr.{StartErr}
@@ -18,68 +18,68 @@ use Rattle.ert_defs.specs.declared.mail.Request.{Request}
 use Rattle.ert_defs.specs.declared.memory.NoMemory.{NoMemory as WantOfMemory}
 use Rattle.ert_defs.specs.declared.timer.Start.{Start}
 use Rattle.ert_defs.specs.declared.timer.TimerRef.{TimerRef}
-use Rattle.ert_sched.specs.Worlds.{Service, Goes, By, IsTidyAt}
+use Rattle.ert_seats.specs.SharedWorlds.{Shared, Goes, By, IsTidyAt, way_of}
 use Rattle.ert_timers.specs.NextDue.{NoneArmedBefore, IsNearest, horizon_at}
 use Rattle.ert_c.specs.Through.{Answers, IfBelow, IsOutOfRange}
 
 -- a service makes a call that isn't one on the clock
-pub record Makes (call : Service → Growth) (old new : Service) : Type 0 where
+pub record Makes (call : Shared → Growth) (old new : Shared) : Type 0 where
   pub goes : Goes old (call old) new
   pub clock : new.clock ≡ old.clock
 
 -- a call at a scheduler or for a process, which is refused where there is no such one
-abbrev pub AtSched : {A : Type 0} → ℕ → (A → Service → Service → Type 0) → (A → Type 0) → ℤ → Type 0 → Service → Service → Type 0
+abbrev pub AtSched : {A : Type 0} → ℕ → (A → Shared → Shared → Type 0) → (A → Type 0) → ℤ → Type 0 → Shared → Shared → Type 0
 AtSched n call tells status kept old new = IfBelow n old.settings.schedulers (Answers call tells old new) (IsOutOfRange status kept old new)
 
-abbrev pub AtProcess : {A : Type 0} → ℕ → (A → Service → Service → Type 0) → (A → Type 0) → ℤ → Type 0 → Service → Service → Type 0
+abbrev pub AtProcess : {A : Type 0} → ℕ → (A → Shared → Shared → Type 0) → (A → Type 0) → ℤ → Type 0 → Shared → Shared → Type 0
 AtProcess n call tells status kept old new = IfBelow n old.settings.processes (Answers call tells old new) (IsOutOfRange status kept old new)
 
 -- the calls, each with its answer
-pub record StartsBy (wheel : ℕ) (start : Start) (answer : Result TimerRef StartErr) (old new : Service) : Type 0 where
+pub record StartsBy (wheel : ℕ) (start : Start) (answer : Result TimerRef StartErr) (old new : Shared) : Type 0 where
   pub makes : Makes (λ w. By w (λ g. Starts g 0 wheel start answer)) old new
   pub memory : answer ≢ Err NoMemory
 
-abbrev pub CancelsBy : TimerRef → Option ℕ → Service → Service → Type 0
+abbrev pub CancelsBy : TimerRef → Option ℕ → Shared → Shared → Type 0
 CancelsBy timer answer = Makes (λ w. By w (λ g. Cancels g (Caller 0) timer answer))
 
-abbrev pub ReadsBy : TimerRef → Option ℕ → Service → Service → Type 0
+abbrev pub ReadsBy : TimerRef → Option ℕ → Shared → Shared → Type 0
 ReadsBy timer answer = Makes (λ w. By w (λ g. Reads g (Caller 0) timer answer))
 
-abbrev pub TellsAliveBy : ℕ → Bool → Service → Service → Type 0
+abbrev pub TellsAliveBy : ℕ → Bool → Shared → Shared → Type 0
 TellsAliveBy process answer = Makes (λ w. By w (λ g. TellsAlive g (Caller 0) process answer))
 
-abbrev pub ExitsBy : ℕ → Bool → Service → Service → Type 0
-ExitsBy process answer = Makes (λ w. Exits w.settings (alone w.settings) 0 process answer)
+abbrev pub ExitsBy : ℕ → Bool → Shared → Shared → Type 0
+ExitsBy process answer = Makes (λ w. Exits w.settings (way_of w) 0 process answer)
 
-abbrev pub AsksBy : Request → Result (Unit {0}) WantOfMemory → Service → Service → Type 0
+abbrev pub AsksBy : Request → Result (Unit {0}) WantOfMemory → Shared → Shared → Type 0
 AsksBy request answer = Makes (λ w. By w (λ g. Asks g 0 (inbox_for g request) request answer))
 
-abbrev pub TakesBy : ℕ → Taken → Service → Service → Type 0
+abbrev pub TakesBy : ℕ → Taken → Shared → Shared → Type 0
 TakesBy process answer = Makes (λ w. By w (λ g. Takes g 0 process answer))
 
-abbrev pub MonitorsBy : ℕ → Result ℕ MonitorErr → Service → Service → Type 0
+abbrev pub MonitorsBy : ℕ → Result ℕ MonitorErr → Shared → Shared → Type 0
 MonitorsBy process answer = Makes (λ w. By w (λ g. Monitors g 0 process answer))
 
-abbrev pub DemonitorsBy : ℕ → ℕ → Bool → Service → Service → Type 0
+abbrev pub DemonitorsBy : ℕ → ℕ → Bool → Shared → Shared → Type 0
 DemonitorsBy process monitor answer = Makes (λ w. By w (λ g. Demonitors g 0 process monitor answer))
 
-abbrev pub TellsBy : ℕ → Result ℕ WantOfMemory → Service → Service → Type 0
+abbrev pub TellsBy : ℕ → Result ℕ WantOfMemory → Shared → Shared → Type 0
 TellsBy process answer = Makes (λ w. By w (λ g. Tells g 0 process answer))
 
-abbrev pub ServesBy : ℕ → Result Bool WantOfMemory → Service → Service → Type 0
-ServesBy sched answer = Makes (λ w. Serves w.settings (alone w.settings) sched answer)
+abbrev pub ServesBy : ℕ → Result Bool WantOfMemory → Shared → Shared → Type 0
+ServesBy sched answer = Makes (λ w. Serves w.settings (way_of w) sched answer)
 
-abbrev pub AdvancesBy : ℕ → Result (ℕ × ℕ) WantOfMemory → Service → Service → Type 0
-AdvancesBy sched answer = Makes (λ w. AdvancesWheel w.settings (alone w.settings) sched answer)
+abbrev pub AdvancesBy : ℕ → Result (ℕ × ℕ) WantOfMemory → Shared → Shared → Type 0
+AdvancesBy sched answer = Makes (λ w. AdvancesWheel w.settings (way_of w) sched answer)
 
-abbrev pub DeliversBy : ℕ → Result (ℕ × ℕ) WantOfMemory → Service → Service → Type 0
-DeliversBy sched answer = Makes (λ w. Delivers w.settings (alone w.settings) sched answer)
+abbrev pub DeliversBy : ℕ → Result (ℕ × ℕ) WantOfMemory → Shared → Shared → Type 0
+DeliversBy sched answer = Makes (λ w. Delivers w.settings (way_of w) sched answer)
 
-abbrev pub TurnsBy : ℕ → Result Turned WantOfMemory → Service → Service → Type 0
-TurnsBy sched answer = Makes (λ w. Turns w.settings (alone w.settings) sched answer)
+abbrev pub TurnsBy : ℕ → Result Turned WantOfMemory → Shared → Shared → Type 0
+TurnsBy sched answer = Makes (λ w. Turns w.settings (way_of w) sched answer)
 
 -- no armed timer of the wheel is due before what is told, and nothing has changed
-pub record LooksAhead (sched : ℕ) (answer : Option ℕ) (old new : Service) : Type 0 where
+pub record LooksAhead (sched : ℕ) (answer : Option ℕ) (old new : Shared) : Type 0 where
   pub armed : NoneArmedBefore (state old.settings old.history) sched answer
   pub nearest : IsTidyAt old sched → IsNearest (state old.settings old.history) sched (horizon_at old.settings old.clock.face.time) answer
   pub unchanged : new ≡ old

@@ -3,5 +3,8 @@ pub mod ClockCalls
 pub mod Lending
 pub mod Opened
 pub mod Places
+pub mod SeatCalls
+pub mod SeatLending
+pub mod SeatPlaces
 pub mod Through
 pub mod Told

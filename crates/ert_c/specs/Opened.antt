@@ -8,8 +8,7 @@ use Rattle.ert_defs.specs.declared.settings.Reading.{Reading}
 use Rattle.ert_defs.specs.declared.settings.Settings.{Settings}
 use Rattle.ert_defs.specs.declared.settings.SettingsFault.{SettingsFault}
 use Rattle.ert_defs.specs.declared.settings.SettingsFault.TheVariants.{Start, First, Count}
-use Rattle.ert_sched.specs.Openings.{IsOpened}
-use Rattle.ert_sched.specs.Worlds.{Service}
+use Rattle.ert_seats.specs.SharedWorlds.{Shared, IsOpened}
 use Rattle.ert_c.specs.declared.opening.ErtReading.{ErtReading}
 use Rattle.ert_c.specs.declared.opening.ErtSettings.{ErtSettings}
 use Rattle.ert_c.specs.declared.opening.TheConstants.{SETTINGS_SIZE}
@@ -50,34 +49,36 @@ pub record HasFault (c : ErtSettings) (status : ℤ) : Type 0 where
   pub found : Checks (settings_as c mode) (Err fault)
   pub told : status ≡ status_of fault
 
--- what C passed means these settings, which a service can be opened with; or it is refused, by a status with
--- its cause
+-- what C passed means these settings, which a service can be opened with; or it is refused, by the status of
+-- its first cause: the size, the mode, and then what the service finds
 abbrev pub IsRead : ErtSettings → Result Settings ℤ → Type 0
 IsRead c (Ok g) = (c.size ≡ SETTINGS_SIZE) × (mode_at c.mode ≡ Some g.mode) × (g ≡ settings_as c g.mode) × IsChecked g
-IsRead c (Err status) = ((c.size ≢ SETTINGS_SIZE) × (status ≡ BAD_SIZE)) ⊎ (((mode_at c.mode ≡ None) × (status ≡ BAD_MODE)) ⊎ HasFault c status)
+IsRead c (Err status) =
+    ((c.size ≢ SETTINGS_SIZE) × (status ≡ BAD_SIZE))
+    ⊎ ((c.size ≡ SETTINGS_SIZE) × (((mode_at c.mode ≡ None) × (status ≡ BAD_MODE)) ⊎ HasFault c status))
 
 -- a service stands behind the handle: it was opened with these settings
-pub record HasOpened (g : Settings) (status : ℤ) (new : Option Service) : Type 0 where
-  pub world : Service
+pub record HasOpened (g : Settings) (status : ℤ) (new : Option Shared) : Type 0 where
+  pub world : Shared
   pub is : new ≡ Some world
   pub opened : IsOpened g world
   pub told : status ≡ OK
 
-abbrev pub OpensBy : Result Settings ℤ → ℤ → Option Service → Type 0
+abbrev pub OpensBy : Result Settings ℤ → ℤ → Option Shared → Type 0
 OpensBy (Ok g) status new = HasOpened g status new ⊎ ((status ≡ NO_MEMORY) × (new ≡ None))
 OpensBy (Err why) status new = (status ≡ why) × (new ≡ None)
 
 -- a closed handle is opened, and an open one is left as it was
-pub record OpensNew (c : ErtSettings) (status : ℤ) (new : Option Service) : Type 0 where
+pub record OpensNew (c : ErtSettings) (status : ℤ) (new : Option Shared) : Type 0 where
   pub read : Result Settings ℤ
   pub meant : IsRead c read
   pub opens : OpensBy read status new
 
-abbrev pub Opens : ErtSettings → Option Service → ℤ → Option Service → Type 0
+abbrev pub Opens : ErtSettings → Option Shared → ℤ → Option Shared → Type 0
 Opens c None status new = OpensNew c status new
 Opens c (Some w) status new = (status ≡ OPEN) × (new ≡ Some w)
 
 -- an open handle is closed, and a closed one stays so
-abbrev pub Closes : Option Service → ℤ → Option Service → Type 0
+abbrev pub Closes : {W : Type 0} → Option W → ℤ → Option W → Type 0
 Closes None status new = (status ≡ CLOSED) × (new ≡ None)
 Closes (Some w) status new = (status ≡ OK) × (new ≡ None)

@@ -8,7 +8,7 @@ use crate::clock_calls::{ErtMoved, ErtOffset, state_as, tell_finalized, tell_mov
 use crate::ert_world::ErtWorld;
 use crate::opening::{ErtReading, ErtSettings};
 use crate::status::{CLOSED, NO_MEMORY, OK, OPEN};
-use ert_sched::World;
+use ert_seats::SharedWorld;
 use std::alloc::Global;
 
 /// Opens a service.
@@ -23,7 +23,7 @@ pub extern "C" fn ert_world_open(alloc: Global, world: &mut ErtWorld, settings: 
         Ok(settings) => settings,
         Err(status) => return status,
     };
-    let Ok(opened) = World::open(alloc, &settings) else {
+    let Ok(opened) = SharedWorld::open(alloc, &settings) else {
         return NO_MEMORY;
     };
     let Ok(boxed) = Box::new(alloc, opened) else {

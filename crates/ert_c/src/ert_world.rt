@@ -4,7 +4,7 @@ ghost use Rattle.ert_c.specs.Places.{is_there};
 
 use crate::handle::Place;
 use crate::loose::Loose;
-use ert_sched::World;
+use ert_seats::SharedWorld;
 use std::alloc::Global;
 use std::mem;
 
@@ -22,7 +22,7 @@ impl ErtWorld {
     ghost use Rattle.ert_c.specs.Places.{is_there};
 
     /// Opens a closed handle.
-    pub(crate) fn fill(&mut self, world: Box<World, Global>)
+    pub(crate) fn fill(&mut self, world: Box<SharedWorld, Global>)
         requires { self.old.live ≡ false }
         ensures { self.new.place.value ≡ Some world.value }
     {
@@ -35,7 +35,7 @@ impl ErtWorld {
     }
 
     /// Closes an open handle, and gives its service out.
-    pub(crate) fn empty(&mut self, alloc: Global) -> Box<World, Global>
+    pub(crate) fn empty(&mut self, alloc: Global) -> Box<SharedWorld, Global>
         requires { self.old.live ≡ true }
         ensures closed { self.new.place.value ≡ None }
         ensures world { self.old.place.value ≡ Some result.value }

@@ -1,11 +1,11 @@
 //! A world in the caller's memory.
 ghost use Rattle.std.specs.Prelude.{Option};
-ghost use Rattle.ert_sched.specs.Worlds.{Service};
+ghost use Rattle.ert_seats.specs.SharedWorlds.{Shared};
 ghost use Rattle.ert_timers.specs.Parts.{part_code};
 ghost use Rattle.std.specs.Coded.{codes};
 
 use crate::loose::Loose;
-use ert_sched::World;
+use ert_seats::SharedWorld;
 use std::alloc::Global;
 use std::marker::Model;
 use std::ptr;
@@ -16,7 +16,7 @@ use std::ptr;
 #[repr(C)]
 pub struct Place {
     at: *mut u8,
-    pub(crate) ghost value: { Option Service } by { Prim.hlevel (codes, part_code) },
+    pub(crate) ghost value: { Option Shared } by { Prim.hlevel (codes, part_code) },
 }
 
 impl Model for Place {
@@ -41,7 +41,7 @@ impl Place {
     }
 
     /// The place of a box.
-    pub(crate) fn of(world: Loose<World, Global>) -> Place
+    pub(crate) fn of(world: Loose<SharedWorld, Global>) -> Place
         ensures { result.value ≡ Some world.value }
     {
         let Loose { at, alloc: _ } = world;
@@ -49,7 +49,7 @@ impl Place {
     }
 
     /// The box again.
-    pub(crate) fn into_loose(self, alloc: Global) -> Loose<World, Global>
+    pub(crate) fn into_loose(self, alloc: Global) -> Loose<SharedWorld, Global>
         requires { is_there self.value ≡ true }
         ensures { self.value ≡ Some result.value }
     {
@@ -68,11 +68,11 @@ impl Place {
     }
 
     /// The world, for the time of a call.
-    pub(crate) fn lend(&mut self) -> &mut World
+    pub(crate) fn lend(&mut self) -> &mut SharedWorld
         requires { is_there self.old.value ≡ true }
         ensures* writes_back { sem 𝓛 (place_follows self.entry result) }
         ensures value { self.old.value ≡ Some result.now }
     {
-        unsafe { &mut *self.at.cast::<World>() }
+        unsafe { &mut *self.at.cast::<SharedWorld>() }
     }
 }

@@ -35,3 +35,5 @@ pub const EXITED: i32 = -15;
 pub const BAD_KIND: i32 = -16;
 /// The monitor doesn't stand.
 pub const NO_MONITOR: i32 = -17;
+/// Every caller but 0 has a seat.
+pub const NO_SEAT: i32 = -18;

@@ -3,8 +3,8 @@ ghost use Rattle.std.specs.Prelude.{◌≡◌};
 ghost use Rattle.ert_c.specs.Told.{IsServed, IsAdvanced, IsDelivered, IsTurned, IsNumber, IsDueTold};
 
 use crate::status::{EMPTY, NO_MEMORY, OK};
+use ert_answers::Turned;
 use ert_defs::NoMemory;
-use ert_sched::Turned;
 
 /// How far a wheel was advanced.
 #[repr(C)]

@@ -360,6 +360,84 @@ static void monitor_calls(void) {
     IS(ert_world_close(&w), ERT_OK);
 }
 
+static void seat_calls(void) {
+    ert_world w = ERT_INIT;
+    ert_seat a = ERT_INIT, b = ERT_INIT, c = ERT_INIT;
+    ert_settings settings = plain;
+    settings.callers = 3;
+    ert_start s = {.when = 80, .msg = 5, .dest = 2};
+    ert_timer timer, none = {0, 0, 9};
+    ert_offset offset = {7, 7};
+    ert_mail mail;
+    ert_turned turned;
+    int64_t time = 7;
+    uint64_t left = 7;
+    uint32_t flag = 7;
+    IS(ert_seat_open(&a, &w), ERT_CLOSED);
+    IS(ert_seat_close(&a), ERT_CLOSED);
+    IS(ert_seat_monotonic_time(&a, &time), ERT_CLOSED);
+    IS(ert_seat_system_time(&a, &time), ERT_CLOSED);
+    IS(ert_seat_time_offset(&a, &offset), ERT_CLOSED);
+    IS(ert_seat_cancel(&a, &none, &left), ERT_CLOSED);
+    IS(ert_seat_read(&a, &none, &left), ERT_CLOSED);
+    IS(ert_seat_is_alive(&a, 9, &flag), ERT_CLOSED);
+    IS(time, 7);
+    IS(offset.offset, 7);
+    IS(left, 7);
+    IS(flag, 7);
+
+    IS(ert_world_open(&w, &settings), ERT_OK);
+    IS(ert_seat_open(&a, &w), ERT_OK);
+    IS(ert_seat_open(&a, &w), ERT_OPEN);
+    IS(ert_seat_open(&b, &w), ERT_OK);
+    IS(ert_seat_open(&c, &w), ERT_NO_SEAT);
+    IS(ert_seat_close(&c), ERT_CLOSED);
+
+    tick(&w, 30);
+    IS(ert_seat_monotonic_time(&a, &time), ERT_OK);
+    IS(time, 30 * MILLISECOND);
+    IS(ert_seat_system_time(&b, &time), ERT_OK);
+    IS(time, 5030 * MILLISECOND);
+    IS(ert_seat_time_offset(&b, &offset), ERT_OK);
+    IS(offset.offset, 5000 * MILLISECOND);
+    IS(offset.state, ERT_FINAL);
+    IS(ert_world_monotonic_time(&w, &time), ERT_OK);
+    IS(time, 30 * MILLISECOND);
+
+    IS(ert_world_start(&w, 1, &s, &timer), ERT_OK);
+    IS(ert_seat_read(&a, &timer, &left), ERT_OK);
+    IS(left, 80);
+    IS(ert_seat_read(&a, &none, &left), ERT_NO_TIMER);
+    IS(ert_seat_cancel(&b, &timer, &left), ERT_OK);
+    IS(left, 80);
+    IS(ert_seat_cancel(&a, &timer, &left), ERT_NO_TIMER);
+    IS(ert_world_cancel(&w, &timer, &left), ERT_NO_TIMER);
+    IS(left, 80);
+    IS(ert_world_start(&w, 1, &s, &timer), ERT_OK);
+    IS(ert_world_start(&w, 1, &s, &timer), ERT_OK);
+    IS(ert_world_start(&w, 1, &s, &timer), ERT_FULL);
+    tick(&w, 110);
+    IS(ert_world_turn(&w, 1, &turned), ERT_OK);
+    IS(turned.put, 2);
+    IS(ert_seat_cancel(&a, &timer, &left), ERT_NO_TIMER);
+    IS(ert_world_take(&w, 2, &mail), ERT_OK);
+
+    IS(ert_seat_is_alive(&a, 3, &flag), ERT_RANGE);
+    IS(ert_seat_is_alive(&a, 2, &flag), ERT_OK);
+    IS(flag, 1);
+    IS(ert_world_exit(&w, 2, &flag), ERT_OK);
+    IS(ert_seat_is_alive(&b, 2, &flag), ERT_OK);
+    IS(flag, 0);
+
+    IS(ert_seat_close(&b), ERT_OK);
+    IS(ert_seat_close(&b), ERT_CLOSED);
+    IS(ert_seat_open(&b, &w), ERT_NO_SEAT);
+    IS(ert_world_close(&w), ERT_OK);
+    IS(ert_seat_monotonic_time(&a, &time), ERT_OK);
+    IS(time, 110 * MILLISECOND);
+    IS(ert_seat_close(&a), ERT_OK);
+}
+
 int main(void) {
     closed_handles();
     bad_settings();
@@ -370,6 +448,7 @@ int main(void) {
     request_calls();
     process_calls();
     monitor_calls();
+    seat_calls();
     if (failed != 0) {
         return EXIT_FAILURE;
     }

@@ -42,7 +42,7 @@ static const ert_settings settings = {
     .schedulers = 2,
     .processes = 2,
     .slots = 3,
-    .callers = 1,
+    .callers = 2,
 };
 
 /* Refused for want of memory, the call can be made again. */
@@ -88,6 +88,15 @@ int main(void) {
     }
     printf("open was refused for want of memory: %s\n", refused > 0 ? "yes" : "no");
 
+    ert_seat seat = ERT_INIT;
+    succeed = 0;
+    IS(ert_seat_open(&seat, &world), ERT_NO_MEMORY);
+    succeed = -1;
+    IS(ert_seat_close(&seat), ERT_CLOSED);
+    IS(ert_seat_open(&seat, &world), ERT_OK);
+    ert_seat other = ERT_INIT;
+    IS(ert_seat_open(&other, &world), ERT_NO_SEAT);
+
     ert_start start = {.when = 0, .msg = 7, .dest = 1};
     ert_mail mail;
     IS(ert_world_start(&world, 0, &start, &timer), ERT_OK);
@@ -100,6 +109,7 @@ int main(void) {
     IS((int32_t)mail.tag, ERT_TIMEOUT);
     IS(ert_world_take(&world, 1, &mail), ERT_EMPTY);
     IS(ert_world_close(&world), ERT_OK);
+    IS(ert_seat_close(&seat), ERT_OK);
     puts("each call could be made again");
     return EXIT_SUCCESS;
 }

@@ -4,12 +4,12 @@ use Rattle.ert_c.proofs.mail_exports.ert_world_ask.Goals as goal
 use Rattle.ert_c.specs.Calls.{AsksBy}
 use Rattle.ert_defs.specs.declared.mail.Request.{Request}
 use Rattle.ert_defs.specs.declared.settings.Settings.{Settings}
-use Rattle.ert_sched.specs.Worlds.{Service}
+use Rattle.ert_seats.specs.SharedWorlds.{Shared}
 
 pub returns : goal.returns
 returns c =
-    let was : Service = c.lend-service.result.now in
-    let now : Service = c.ask-answer.new.self in
+    let was : Shared = c.lend-service.result.now in
+    let now : Shared = c.ask-answer.new.self in
     let fits : FitsSigned w32 c.tell_asked.result = search rules in
     simp to_z-of_z (asks_through c.args.request.now c.in-Some.kind c.args.world.now.place.value (Some now) was now c.ask-answer.result c.tell_asked.result c.lend-service.ensures.value refl
     (sym c.request_kind_at.ensures ∙ c.in-Some.is)

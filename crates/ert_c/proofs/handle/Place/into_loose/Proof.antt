@@ -25,8 +25,8 @@ use Rattle.std.specs.contracts.alloc.Global as heap
 use Rattle.std.proofs.alloc.Global.TheLaws as heap_laws
 use Rattle.std.specs.contracts.impls.GlobalAllocator.TheImpl.{ghosts}
 use Rattle.std_alloc.specs.Box.Ownership.{box_owns}
-use Rattle.ert_sched.specs.Worlds.{Service}
-use Rattle.ert_sched.specs.contracts.world.World as world
+use Rattle.ert_seats.specs.SharedWorlds.{Shared}
+use Rattle.ert_seats.specs.contracts.shared_world.SharedWorld as world
 use Rattle.ert_c.proofs.Carried.{word, word_good, there, place_out}
 use Rattle.ert_c.proofs.Helds.{some_held}
 use Rattle.ert_c.proofs.Values.{both, al, loose_good, loose_in}
@@ -48,7 +48,7 @@ into_loose_spec 𝓤 𝓛 𝓜 𝓡 wired =
     split ! $ move ! (1 ∷ []) $ fsplit ! $ place_out ! d z.0.4.0 (λ ws.
     move ! (1 ∷ []) $ fsplit ! $ handle_tells (al R Z LZ ghosts) ! a z.0.4.1.0 (λ h ea fits.
     -- [the handle; nothing; what is held; the tokens]
-    move ! (2 ∷ []) $ rewrite ! 0 (λ (x : Option Service). ‵ (held d.at x)) some.1 refl $
+    move ! (2 ∷ []) $ rewrite ! 0 (λ (x : Option Shared). ‵ (held d.at x)) some.1 refl $
     use1 𝓛 (‵ (box_owns chunk R d.at some.0)) (some_held 𝓛 d.at some.0) $
     in_a_block ! d.at (λ p. box_owns chunk R p some.0) (fst∗ 𝓤 (never 𝓤) (sem 𝓛 (chunk (bare (lone R.mir)) null_ptr))) (λ b o e.
     let w : Val = word (block_ptr b o) in let made = loose_good R Z LZ ghosts b o h fits in

@@ -26,8 +26,8 @@ use denote.Triple.Walked.{Stays, stay_dropped, walk_of, says, ends_at, Goes-spen
 use Rattle.std.proofs.VecSteps.Shapes.{after}
 use Rattle.std.proofs.raw_atomic.Walks.{proved}
 use Rattle.std_alloc.specs.Box.Ownership.{box_owns}
-use Rattle.ert_sched.specs.Worlds.{Service}
-use Rattle.ert_sched.specs.contracts.world.World as world
+use Rattle.ert_seats.specs.SharedWorlds.{Shared}
+use Rattle.ert_seats.specs.contracts.shared_world.SharedWorld as world
 use Rattle.ert_c.proofs.Carried.{word, there, place_out, place_in}
 use Rattle.ert_c.proofs.Helds.{held_some, some_held}
 use Rattle.ert_c.specs.Lending.{with_world}
@@ -51,7 +51,7 @@ abbrev rest : (b o rb ro : Prim.Native.Nat.ℕ) → Fml
 rest b o rb ro = fsep (chunk (bare (lone R.mir)) (block_ptr b o)) (cell_at full_share P.mir (word (block_ptr b o) ∷ []) rb ro)
 
 back : {M : Type 1} {𝓤 : seplogic.Ra.Ura.Ura M} (𝓛 : types.Logic.Logic 𝓤) (d : P.Denot) (b o rb ro : Prim.Native.Nat.ℕ)
-    → d.at ≡ block_ptr b o → (w : Service)
+    → d.at ≡ block_ptr b o → (w : Shared)
     → ent 𝓤 (sep 𝓤 (sem 𝓛 ((mem R).own_at w b o)) (sem 𝓛 (rest b o rb ro))) (sem 𝓛 ((mem P).own_at (with_world d w) rb ro))
 unfolding part_of
 back 𝓛 d b o rb ro e w =
@@ -74,7 +74,7 @@ lend_spec 𝓤 𝓛 𝓜 𝓡 wired =
     split ! $ split ! $ move ! (2 ∷ []) $ split ! $ keep ! (0 ∷ 2 ∷ []) $
     enter ! _ _ _ _ _ $ alloc_all ! (λ l. pass_all ! refl ((tt, tt), tt) $ let En : Env 𝓤 H = env fn.locals l in
     fsplit3 ! $ move ! (1 ∷ 2 ∷ 3 ∷ []) $ opens ! tt P {h = d} rb ro (λ us. move ! (1 ∷ []) $ place_out ! d us (λ ws.
-    rewrite ! 0 (λ (x : Option Service). ‵ (held d.at x)) one.1 refl $ use1 𝓛 (‵ (box_owns chunk R d.at one.0)) (some_held 𝓛 d.at one.0) $
+    rewrite ! 0 (λ (x : Option Shared). ‵ (held d.at x)) one.1 refl $ use1 𝓛 (‵ (box_owns chunk R d.at one.0)) (some_held 𝓛 d.at one.0) $
     in_a_block ! d.at (λ p. box_owns chunk R p one.0) (fst∗ 𝓤 (never 𝓤) (sem 𝓛 (chunk (bare (lone R.mir)) null_ptr))) (λ b o e. fsplit ! $
     rewrite ! 2 (λ (xs : List Val). ‵ (cell_at full_share P.mir xs rb ro)) (ws ∙ ap (λ (p : Ptr). word p ∷ []) e) refl $
     -- [the world; the right to free it; the place's cell; the open borrow, in three entries]

@@ -21,7 +21,7 @@ use Rattle.std.proofs.raw_atomic.Walks.{proved_at, leaves}
 use Rattle.std.specs.contracts.alloc.Global as heap
 use Rattle.std.proofs.alloc.Global.TheLaws as heap_laws
 use Rattle.std.specs.contracts.impls.GlobalAllocator.TheImpl.{ghosts}
-use Rattle.ert_sched.specs.contracts.world.World as world
+use Rattle.ert_seats.specs.contracts.shared_world.SharedWorld as world
 use Rattle.ert_c.proofs.Carried.{word, word_good, place_in}
 use Rattle.ert_c.proofs.Helds.{held_some}
 use Rattle.ert_c.proofs.Values.{both, Loose, loose_good, loose_out}

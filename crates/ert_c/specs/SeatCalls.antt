@@ -1,0 +1,57 @@
+-- What C is told of seats.
+
+use Rattle.std.specs.Prelude.{◌≡◌, ◌⊎◌, ℕ, ◌<◌, ◌≤◌, ℤ, Bool, Option, Some, None}
+use Rattle.ert_answers.specs.ClockCalls.{TellsTime, TellsOffset, TellsSystemTime}
+use Rattle.ert_answers.specs.TimerCalls.{Reads, Cancels}
+use Rattle.ert_answers.specs.WheelCalls.{TellsAlive}
+use Rattle.ert_c.specs.ClockCalls.{state_as}
+use Rattle.ert_c.specs.declared.clock_calls.ErtOffset.{ErtOffset}
+use Rattle.ert_c.specs.declared.status.TheConstants.{OK, CLOSED, OPEN, NO_MEMORY, NO_SEAT}
+use Rattle.ert_defs.specs.declared.entry.Actor.TheVariants.{Caller}
+use Rattle.ert_defs.specs.declared.settings.OffsetState.{OffsetState}
+use Rattle.ert_defs.specs.declared.timer.TimerRef.{TimerRef}
+use Rattle.ert_seats.specs.Seats.{Seated, Steps, BySeat, GivesSeat}
+use Rattle.ert_seats.specs.SharedWorlds.{Shared}
+
+-- a service gave its next caller a seat, and this one stands behind the seat's handle
+pub record HasSeat (old : Shared) (status : ℤ) (world : Option Shared) (seat : Option Seated) : Type 0 where
+  pub left : Shared
+  pub given : Seated
+  pub world_is : world ≡ Some left
+  pub seat_is : seat ≡ Some given
+  pub gives : GivesSeat old left given
+  pub told : status ≡ OK
+
+-- why a service gives no seat: every caller but 0 has one, or there is no memory
+abbrev pub IsSeatless : Shared → ℤ → Type 0
+IsSeatless old status = ((status ≡ NO_SEAT) × (old.settings.callers ≤ old.next)) ⊎ ((status ≡ NO_MEMORY) × (old.next < old.settings.callers))
+
+-- a seat is opened, or nothing has changed: neither what stands behind the one handle nor behind the other
+abbrev pub OpensSeat : Option Shared → Option Seated → ℤ → Option Shared → Option Seated → Type 0
+OpensSeat world (Some s) status left given = (status ≡ OPEN) × (left ≡ world) × (given ≡ Some s)
+OpensSeat None None status left given = (status ≡ CLOSED) × (left ≡ None) × (given ≡ None)
+OpensSeat (Some old) None status left given = HasSeat old status left given ⊎ (IsSeatless old status × (left ≡ Some old) × (given ≡ None))
+
+-- a seat makes a call as its caller, and C is told the answer
+pub record SeatReadsTime (status time : ℤ) (old new : Seated) : Type 0 where
+  pub told : status ≡ OK
+  pub steps : Steps old (BySeat old (λ g. TellsTime g (Caller old.number) time)) new
+
+pub record SeatReadsSystemTime (status time : ℤ) (old new : Seated) : Type 0 where
+  pub told : status ≡ OK
+  pub steps : Steps old (BySeat old (λ g. TellsSystemTime g (Caller old.number) time)) new
+
+pub record SeatReadsOffset (status : ℤ) (offset : ErtOffset) (old new : Seated) : Type 0 where
+  pub told : status ≡ OK
+  pub offset_state : OffsetState
+  pub state : offset.state ≡ state_as offset_state
+  pub steps : Steps old (BySeat old (λ g. TellsOffset g (Caller old.number) (offset.offset, offset_state))) new
+
+abbrev pub SeatCancelsBy : TimerRef → Option ℕ → Seated → Seated → Type 0
+SeatCancelsBy timer answer old new = Steps old (BySeat old (λ g. Cancels g (Caller old.number) timer answer)) new
+
+abbrev pub SeatReadsBy : TimerRef → Option ℕ → Seated → Seated → Type 0
+SeatReadsBy timer answer old new = Steps old (BySeat old (λ g. Reads g (Caller old.number) timer answer)) new
+
+abbrev pub SeatTellsAliveBy : ℕ → Bool → Seated → Seated → Type 0
+SeatTellsAliveBy process answer old new = Steps old (BySeat old (λ g. TellsAlive g (Caller old.number) process answer)) new

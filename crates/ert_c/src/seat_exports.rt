@@ -1,0 +1,127 @@
+//! The exported calls of seats.
+ghost use Rattle.std.specs.Prelude.{◌≡◌};
+ghost use Rattle.ert_c.specs.Opened.{Closes};
+ghost use Rattle.ert_c.specs.SeatCalls.{OpensSeat, SeatReadsTime, SeatReadsSystemTime, SeatReadsOffset, SeatCancelsBy, SeatReadsBy, SeatTellsAliveBy};
+ghost use Rattle.ert_c.specs.Through.{Through, Answers, IfBelow, IsOutOfRange};
+ghost use Rattle.ert_c.specs.Told.{timer_of, IsLeft, IsFlag};
+
+use crate::clock_calls::{ErtOffset, state_as};
+use crate::ert_seat::ErtSeat;
+use crate::ert_world::ErtWorld;
+use crate::status::{CLOSED, NO_MEMORY, NO_SEAT, OK, OPEN, RANGE};
+use crate::timer_calls::{ErtTimer, tell_flag, tell_left};
+use ert_seats::SeatErr;
+use std::alloc::Global;
+
+/// Gives the next caller of a service a seat.
+#[unsafe(no_mangle)]
+pub extern "C" fn ert_seat_open(alloc: Global, seat: &mut ErtSeat, world: &mut ErtWorld) -> i32
+    ensures { OpensSeat world.old.place.value seat.old.place.value result world.new.place.value seat.new.place.value }
+{
+    if seat.live {
+        return OPEN;
+    }
+    if !world.live {
+        return CLOSED;
+    }
+    match world.place.lend().seat(alloc) {
+        Ok(given) => {
+            seat.fill(given);
+            OK
+        }
+        Err(SeatErr::NoSeat) => NO_SEAT,
+        Err(SeatErr::NoMemory) => NO_MEMORY,
+    }
+}
+
+/// Closes a seat, and gives its memory back.
+#[unsafe(no_mangle)]
+pub extern "C" fn ert_seat_close(alloc: Global, seat: &mut ErtSeat) -> i32
+    ensures { Closes seat.old.place.value result seat.new.place.value }
+{
+    if !seat.live {
+        return CLOSED;
+    }
+    let _seat = seat.empty(alloc);
+    OK
+}
+
+/// Monotonic time, in nanoseconds.
+#[unsafe(no_mangle)]
+pub extern "C" fn ert_seat_monotonic_time(seat: &mut ErtSeat, time: &mut i64) -> i32
+    ensures { Through (time.new ≡ time.old) (SeatReadsTime result time.new) seat.old.place.value result seat.new.place.value }
+{
+    if !seat.live {
+        return CLOSED;
+    }
+    *time = seat.place.lend().monotonic_time();
+    OK
+}
+
+/// System time, in nanoseconds.
+#[unsafe(no_mangle)]
+pub extern "C" fn ert_seat_system_time(seat: &mut ErtSeat, time: &mut i64) -> i32
+    ensures { Through (time.new ≡ time.old) (SeatReadsSystemTime result time.new) seat.old.place.value result seat.new.place.value }
+{
+    if !seat.live {
+        return CLOSED;
+    }
+    *time = seat.place.lend().system_time();
+    OK
+}
+
+/// The time offset, in nanoseconds, with its state.
+#[unsafe(no_mangle)]
+pub extern "C" fn ert_seat_time_offset(seat: &mut ErtSeat, offset: &mut ErtOffset) -> i32
+    ensures { Through (offset.new ≡ offset.old) (SeatReadsOffset result offset.new) seat.old.place.value result seat.new.place.value }
+{
+    if !seat.live {
+        return CLOSED;
+    }
+    let (value, state) = seat.place.lend().time_offset();
+    *offset = ErtOffset {
+        offset: value,
+        state: state_as(state),
+    };
+    OK
+}
+
+/// Cancels a timer, and tells how much was left of it.
+#[unsafe(no_mangle)]
+pub extern "C" fn ert_seat_cancel(seat: &mut ErtSeat, timer: &ErtTimer, left: &mut u64) -> i32
+    ensures { Through (left.new ≡ left.old) (Answers (SeatCancelsBy (timer_of timer.now)) (λ answer. IsLeft answer left.old result left.new)) seat.old.place.value result seat.new.place.value }
+{
+    if !seat.live {
+        return CLOSED;
+    }
+    let answer = seat.place.lend().cancel_timer(timer.read());
+    tell_left(answer, left)
+}
+
+/// Tells how much is left of a timer.
+#[unsafe(no_mangle)]
+pub extern "C" fn ert_seat_read(seat: &mut ErtSeat, timer: &ErtTimer, left: &mut u64) -> i32
+    ensures { Through (left.new ≡ left.old) (Answers (SeatReadsBy (timer_of timer.now)) (λ answer. IsLeft answer left.old result left.new)) seat.old.place.value result seat.new.place.value }
+{
+    if !seat.live {
+        return CLOSED;
+    }
+    let answer = seat.place.lend().read_timer(timer.read());
+    tell_left(answer, left)
+}
+
+/// Tells whether a process has not exited.
+#[unsafe(no_mangle)]
+pub extern "C" fn ert_seat_is_alive(seat: &mut ErtSeat, process: u32, alive: &mut u32) -> i32
+    ensures { Through (alive.new ≡ alive.old) (λ old new. IfBelow process old.settings.processes (Answers (SeatTellsAliveBy process) (λ answer. IsFlag answer result alive.new) old new) (IsOutOfRange result (alive.new ≡ alive.old) old new)) seat.old.place.value result seat.new.place.value }
+{
+    if !seat.live {
+        return CLOSED;
+    }
+    let taken = seat.place.lend();
+    if process >= taken.processes() {
+        return RANGE;
+    }
+    let answer = taken.is_alive(process);
+    tell_flag(answer, alive)
+}

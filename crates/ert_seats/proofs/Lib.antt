@@ -1,0 +1,10 @@
+pub mod Calls
+pub mod Composed
+pub mod Divided
+pub mod Given
+pub mod Gone
+pub mod NextDue
+pub mod SchedCalls
+pub mod Standing
+pub mod Unseated
+pub mod Values

@@ -1,0 +1,98 @@
+-- After a call that others stepped beside, all parts stand that weren't lent to it.
+
+use Rattle.std.proofs.Common.{◌≡◌, ℕ, ◌<◌, true, false, List, [], ◌++◌, slice_index_or, refl, sym, ap, subst, ◌∙◌, append-nil}
+use Rattle.ert_clock.proofs.Stand.{stands_kept}
+use Rattle.ert_clock.specs.Shown.{Shown, Stands as ClockStands}
+use Rattle.ert_defs.proofs.Runs.{state-append, clock_stays, sched_stays}
+use Rattle.ert_defs.specs.Actors.{IsFree, of, has_actor}
+use Rattle.ert_defs.specs.Legal.{Legal}
+use Rattle.ert_defs.specs.Mails.{SchedState}
+use Rattle.ert_defs.specs.States.{State, state}
+use Rattle.ert_defs.specs.declared.entry.Actor.{Actor}
+use Rattle.ert_defs.specs.declared.entry.Actor.TheVariants.{Keeper, Wheel, Inbox, Sched, MailOf}
+use Rattle.ert_defs.specs.declared.entry.Entry.{Entry}
+use Rattle.ert_defs.specs.declared.settings.Settings.{Settings}
+use Rattle.ert_inbox.proofs.LawsHold.{stand_on as inbox_on}
+use Rattle.ert_inbox.specs.Inboxes.{Waiting, Stands as InboxStands}
+use Rattle.ert_mail.proofs.LawsHold.{stand_on as mail_on}
+use Rattle.ert_mail.specs.Mailboxes.{Mailbox, Stands as MailStands}
+use Rattle.ert_sched.specs.Parts.{AllParts, SchedStands, AreOrdered, Stand}
+use Rattle.ert_sched.specs.declared.sched_part.SchedPart.{SchedPart}
+use Rattle.ert_table.proofs.Parts.{entries_after, not_of, free_of_others, free_later}
+use Rattle.ert_table.specs.Calls.{AreOnlyOf}
+use Rattle.ert_table.specs.Held.{is_held, IsActor}
+use Rattle.ert_table.specs.Takes.{TakesPlace}
+use Rattle.ert_table.specs.Views.{Begins}
+use Rattle.ert_table.specs.declared.view.View.{View}
+use Rattle.ert_timers.proofs.LawsHold.{stand_on as wheel_on}
+use Rattle.ert_timers.specs.Parts.{Part, Stands as WheelStands}
+use Rattle.ert_seats.specs.SharedWorlds.{IsUnseated, HoldsRest}
+
+-- the front before a call begins that after it
+pub grown_by : (g : Settings) (v : View) (es : List Entry) (w : View) → TakesPlace g v es w → Begins v.front w.front
+grown_by g v es w takes = record { later = takes.later; grown = takes.grown }
+
+-- an actor that is held and wasn't lent has no more entries than before
+pub own_kept : (g : Settings) (v : View) (es : List Entry) (w : View) (lent : List Actor) (a : Actor) → TakesPlace g v es w → AreOnlyOf lent es
+    → is_held v.actors a ≡ true → is_held lent a ≡ false → of w.front a ≡ of v.front a
+own_kept g v es w lent a takes only held apart =
+    entries_after g v es w (λ e. has_actor e a) (λ e not. not_of v.actors e a not held) takes
+    ∙ (ap (λ l. of v.front a ++ l) (free_of_others lent a es apart only) ∙ append-nil (of v.front a))
+
+pub free_kept : (g : Settings) (v : View) (es : List Entry) (w : View) (lent : List Actor) (a : Actor) → (takes : TakesPlace g v es w) → AreOnlyOf lent es
+    → is_held v.actors a ≡ true → is_held lent a ≡ false → IsFree takes.later a
+unfolding grown_by
+free_kept g v es w lent a takes only held apart =
+    free_later a v.front w.front (grown_by g v es w takes) (own_kept g v es w lent a takes only held apart)
+
+clock_on : (g : Settings) (f h : List Entry) (k : Shown) → Legal g h → (more : Begins f h) → of h Keeper ≡ of f Keeper → ClockStands g f k → ClockStands g h k
+clock_on g f h k legal more same stands =
+    stands_kept g f h k stands legal
+    (ap (λ l. (state g l).clock) more.grown
+    ∙ (ap (λ (s : State). s.clock) (state-append g f more.later) ∙ clock_stays g (state g f) more.later (free_later Keeper f h more same)))
+
+sched_on : (g : Settings) (f h : List Entry) (p : SchedPart) → (more : Begins f h) → of h (Sched p.wheel) ≡ of f (Sched p.wheel) → SchedStands g f p
+    → SchedStands g h p
+sched_on g f h p more same stands =
+    let still : (state g h).scheds p.wheel ≡ (state g f).scheds p.wheel =
+    ap (λ l. (state g l).scheds p.wheel) more.grown
+    ∙ (ap (λ (s : State). s.scheds p.wheel) (state-append g f more.later)
+    ∙ sched_stays g p.wheel (state g f) more.later (free_later (Sched p.wheel) f h more same)) in
+    record {
+      in_range = stands.in_range;
+      hand = stands.hand ∙ ap (λ (s : SchedState). s.hand) (sym still);
+      fired = stands.fired ∙ ap (λ (s : SchedState). s.fired) (sym still);
+    }
+
+-- parts in order stand on, but for those that are lent
+ordered_on : {X : Type 0} (number : X → ℕ) (old new : X → Type 0) (actor : ℕ → Actor) (lent : List Actor) (count : ℕ) (xs : List X)
+    → ((x : X) → number x < count → is_held lent (actor (number x)) ≡ false → old x → new x)
+    → AreOrdered number old actor [] count xs → AreOrdered number new actor lent count xs
+ordered_on number old new actor lent count xs on ordered = record {
+  counted = ordered.counted;
+  named = ordered.named;
+  stand = λ i d low apart.
+      let is : i ≡ number (slice_index_or xs i d) = sym (ordered.named i d low) in
+      on (slice_index_or xs i d) (subst (λ n. n < count) is low) (subst (λ n. is_held lent (actor n) ≡ false) is apart) (ordered.stand i d low refl);
+}
+
+pub others_stand : (g : Settings) (v : View) (es : List Entry) (w : View) (next : ℕ) (lent : List Actor) (parts : AllParts) → TakesPlace g v es w
+    → AreOnlyOf lent es → HoldsRest g v.actors next → Stand g v.front [] parts → Stand g w.front lent parts
+others_stand g v es w next lent parts takes only holds stand =
+    let f : List Entry = v.front in
+    let h : List Entry = w.front in
+    let more : Begins f h = grown_by g v es w takes in
+    let same : (a : Actor) → IsActor g a → IsUnseated next a → is_held lent a ≡ false → of h a ≡ of f a =
+    λ a ranged mine apart. own_kept g v es w lent a takes only (holds.rest a ranged mine) apart in
+    record {
+      legal = takes.legal;
+      keeper = λ apart. clock_on g f h parts.keeper takes.legal more (same Keeper tt tt apart) (stand.keeper refl);
+      wheels = ordered_on (λ (p : Part). p.number) (WheelStands g f) (WheelStands g h) Wheel lent g.schedulers parts.wheels
+          (λ p low apart stands. wheel_on g f h p more (same (Wheel p.number) low tt apart) takes.legal stands) stand.wheels;
+      inboxes = ordered_on (λ (q : Waiting). q.wheel) (InboxStands g f) (InboxStands g h) Inbox lent g.schedulers parts.inboxes
+          (λ q low apart stands. inbox_on g f h q more (same (Inbox q.wheel) low tt apart) stands) stand.inboxes;
+      mails = ordered_on (λ (m : Mailbox). m.process) (MailStands g f) (MailStands g h) MailOf lent g.processes parts.mails
+          (λ m low apart stands. mail_on g f h m more (same (MailOf m.process) low tt apart) stands) stand.mails;
+      scheds = ordered_on (λ (p : SchedPart). p.wheel) (SchedStands g f) (SchedStands g h) Sched lent g.schedulers parts.scheds
+          (λ p low apart stands. sched_on g f h p more (same (Sched p.wheel) low tt apart) stands) stand.scheds;
+    }

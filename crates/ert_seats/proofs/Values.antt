@@ -1,0 +1,94 @@
+-- The time and the offset that a world answers are those of its clock: nobody else moves that.
+
+use Rattle.std.proofs.Common.{◌≡◌, ℤ, ◌+ℤ◌, Bool, true, false, List, [], ◌∷◌, filter, refl, sym, ap, subst, ◌∙◌}
+use Rattle.ert_answers.specs.ClockCalls.{TellsTime, TellsOffset, TellsSystemTime}
+use Rattle.ert_defs.proofs.Runs.{clock_stays, free_first, free_rest, legal_then}
+use Rattle.ert_defs.specs.Actors.{IsFree}
+use Rattle.ert_defs.specs.Clocks.{Clock, face}
+use Rattle.ert_defs.specs.Entries.{is_ours}
+use Rattle.ert_defs.specs.Legal.{Found, Legal, LegalFrom}
+use Rattle.ert_defs.specs.Lines.{Face}
+use Rattle.ert_defs.specs.States.{State, opening, next, state}
+use Rattle.ert_defs.specs.declared.entry.Actor.{Actor}
+use Rattle.ert_defs.specs.declared.entry.Actor.TheVariants.{Keeper, Caller}
+use Rattle.ert_defs.specs.declared.entry.Entry.{Entry}
+use Rattle.ert_defs.specs.declared.entry.Event.{Event}
+use Rattle.ert_defs.specs.declared.entry.Event.TheVariants.{Look, Off}
+use Rattle.ert_defs.specs.declared.settings.OffsetState.{OffsetState}
+use Rattle.ert_defs.specs.declared.settings.Settings.{Settings}
+use Rattle.ert_sched.proofs.Calm.{time_quiet, offset_quiet, system_quiet}
+use Rattle.ert_table.proofs.Holders.{free_one}
+use Rattle.ert_table.specs.Calls.{AreOnlyOf, IsMade}
+use Rattle.ert_table.specs.Desks.{settings_of, view_of, front_of, actors_of}
+use Rattle.ert_table.specs.declared.desk.Desk.{Desk}
+use Rattle.ert_table.specs.declared.desk.Pass.{Pass}
+use Rattle.ert_seats.proofs.Calls.{Has}
+use Rattle.ert_seats.proofs.Standing.{free_kept}
+use Rattle.ert_seats.specs.SharedWorlds.{Shared}
+use Rattle.ert_seats.specs.declared.shared_world.SharedWorld.TheInside.{Inside}
+
+-- what an event shows of a clock is what that shows
+abbrev Sees : Face → Event → Type 0
+Sees f (Look now) = now ≡ f.time
+Sees f (Off offset offset_state) = (offset ≡ f.offset) × (offset_state ≡ f.state)
+Sees f _ = Unit {0}
+
+abbrev AllSee : Face → List Entry → Type 0
+AllSee f [] = Unit {0}
+AllSee f (e ∷ es) = Sees f e.event × AllSee f es
+
+found_seen : (g : Settings) (s : State) (by : Actor) (event : Event) → Found g s by event → Sees (face g s.clock) event
+found_seen g s by (Look now) found = found
+found_seen g s by (Off offset offset_state) found = found
+found_seen g s by _ found = tt
+
+-- so it is at each entry of these actors, where the clock's part has none
+all_seen : (g : Settings) (actors : List Actor) (s : State) (m : List Entry) → LegalFrom g s m → IsFree m Keeper
+    → AllSee (face g s.clock) (filter (is_ours actors) m)
+all_seen g actors s [] legal free = tt
+all_seen g actors s (e ∷ m) legal free =
+    let still : (next g s e).clock ≡ s.clock = clock_stays g s (e ∷ []) (free_one e Keeper (free_first Keeper e m free)) in
+    at (is_ours actors e) refl (subst (λ (c : Clock). AllSee (face g c) (filter (is_ours actors) m)) still
+    (all_seen g actors (next g s e) m legal.1 (free_rest Keeper e m free)))
+  where
+    at : (b : Bool) → is_ours actors e ≡ b → AllSee (face g s.clock) (filter (is_ours actors) m) → AllSee (face g s.clock) (filter (is_ours actors) (e ∷ m))
+    at true is more = rw is (found_seen g s e.by e.event legal.0.found, more)
+    at false is more = rw is more
+
+seen_by : (before : Shared) (b : Inside) (d : Desk) (q : Pass) (allows : State → List Entry → Type 0) → Has before b d
+    → (made : IsMade (settings_of d) (view_of b.pass) allows (view_of q)) → AreOnlyOf (Caller 0 ∷ []) made.entries → AllSee before.clock.face made.entries
+seen_by before b d q allows has made only =
+    let g : Settings = settings_of d in
+    let free = free_kept g (view_of b.pass) made.entries (view_of q) (Caller 0 ∷ []) Keeper made.call only (has.fit.holds.rest Keeper tt tt) refl in
+    let legal = legal_then g (opening g) (front_of b.pass) made.call.later (subst (Legal g) made.call.grown made.call.legal) in
+    let shows : face g (state g (front_of b.pass)).clock ≡ before.clock.face =
+    sym (has.fit.stand.keeper refl).face ∙ ap (λ (w : Shared). w.clock.face) has.is in
+    subst (λ f. AllSee f made.entries) shows
+    (subst (λ l. AllSee (face g (state g (front_of b.pass)).clock) l) made.call.ours (all_seen g (actors_of b.pass) (state g (front_of b.pass)) made.call.later legal free))
+
+pub time_value : (before : Shared) (b : Inside) (d : Desk) (q : Pass) (now : ℤ) → Has before b d
+    → IsMade (settings_of d) (view_of b.pass) (TellsTime (settings_of d) (Caller 0) now) (view_of q) → now ≡ before.clock.face.time
+time_value before b d q now has made =
+    let g : Settings = settings_of d in
+    let s : State = state g (front_of b.pass) in
+    let all = seen_by before b d q (TellsTime g (Caller 0) now) has made (time_quiet g (Caller 0) now s made.entries made.allowed).only in
+    (subst (λ l. AllSee before.clock.face l) made.allowed all).0
+
+pub offset_value : (before : Shared) (b : Inside) (d : Desk) (q : Pass) (answer : ℤ × OffsetState) → Has before b d
+    → IsMade (settings_of d) (view_of b.pass) (TellsOffset (settings_of d) (Caller 0) answer) (view_of q)
+    → (answer.0 ≡ before.clock.face.offset) × (answer.1 ≡ before.clock.face.state)
+offset_value before b d q answer has made =
+    let g : Settings = settings_of d in
+    let s : State = state g (front_of b.pass) in
+    let all = seen_by before b d q (TellsOffset g (Caller 0) answer) has made (offset_quiet g (Caller 0) answer s made.entries made.allowed).only in
+    (subst (λ l. AllSee before.clock.face l) made.allowed all).0
+
+pub system_value : (before : Shared) (b : Inside) (d : Desk) (q : Pass) (answer : ℤ) → Has before b d
+    → IsMade (settings_of d) (view_of b.pass) (TellsSystemTime (settings_of d) (Caller 0) answer) (view_of q)
+    → answer ≡ (before.clock.face.time +ℤ before.clock.face.offset)
+system_value before b d q answer has made =
+    let g : Settings = settings_of d in
+    let s : State = state g (front_of b.pass) in
+    let all = seen_by before b d q (TellsSystemTime g (Caller 0) answer) has made (system_quiet g (Caller 0) answer s made.entries made.allowed).only in
+    let told = subst (λ l. AllSee before.clock.face l) made.allowed.entries all in
+    made.allowed.sum ∙ ap (λ (x : ℤ). x +ℤ made.allowed.offset) told.0 ∙ ap (λ (x : ℤ). before.clock.face.time +ℤ x) told.1.0.0

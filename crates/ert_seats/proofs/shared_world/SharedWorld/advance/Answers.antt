@@ -1,0 +1,42 @@
+use Rattle.std.proofs.Common.{◌≡◌, Ok, Err, rules, refl, arith}
+use Rattle.ert_table.specs.Desks.{settings_of, view_of}
+use Rattle.ert_locks.proofs.Scheds.{few}
+use Rattle.ert_seats.proofs.Calls.{has_at, does_at}
+use Rattle.ert_seats.proofs.SchedCalls.{advance_called}
+use Rattle.ert_seats.proofs.shared_world.SharedWorld.advance.Goals as goal
+
+pub invariant_of-self : goal.invariant_of-self
+invariant_of-self c =
+    (does_at c.deref.ensures (advance_called c.args.self.now c.self.inside c.deref.result.now c.advance.new.pass c.args.sched _ _ (Err c.in_err-to.field-0.0) c.index_mut.result.now c.advance.new.self
+    c.index_mut-part.result.now (record { wheel = c.index_mut-part.result.now.wheel; hand = c.index_mut-part.result.now.hand; fired = c.advance.new.fired })
+    (has_at c.deref.ensures c.self.view_is c.self.invariant) c.advance.ensures.belongs c.requires c.index_mut.ensures.value c.index_mut-part.ensures.value c.advance.ensures.number
+    c.advance.ensures.stands c.in_err-to.ensures.call refl refl refl refl)).fit
+
+pub returns-in_err-to-clause-call : goal.returns-in_err-to-clause-call
+returns-in_err-to-clause-call c =
+    let result : c.from_residual.result ≡ Err c.in_err-to.field-0.0 = search rules in
+    rw result (does_at c.deref.ensures (advance_called c.args.self.now c.self.inside c.deref.result.now c.advance.new.pass c.args.sched _ _ (Err c.in_err-to.field-0.0) c.index_mut.result.now c.advance.new.self
+    c.index_mut-part.result.now (record { wheel = c.index_mut-part.result.now.wheel; hand = c.index_mut-part.result.now.hand; fired = c.advance.new.fired })
+    (has_at c.deref.ensures c.self.view_is c.self.invariant) c.advance.ensures.belongs c.requires c.index_mut.ensures.value c.index_mut-part.ensures.value c.advance.ensures.number
+    c.advance.ensures.stands c.in_err-to.ensures.call refl refl refl refl)).goes
+
+pub overflow_cast-result : goal.overflow_cast-result
+overflow_cast-result c =
+    let counts = few (settings_of c.deref.result.now) c.index_mut.result.now.number c.len.result c.len-before.result c.in_ok-to.to c.index_mut-part.result.now
+    (record { wheel = c.index_mut-part.result.now.wheel; hand = c.index_mut-part.result.now.hand; fired = c.advance.new.fired })
+    (view_of c.self.inside.pass) (view_of c.advance.new.pass) c.deref.result.now.checked.counts.slots_high c.in_ok-to.ensures.call c.len.ensures c.len-before.ensures in
+    omega (arith, counts.1)
+
+pub invariant_of-self-2 : goal.invariant_of-self-2
+invariant_of-self-2 c =
+    (does_at c.deref.ensures (advance_called c.args.self.now c.self.inside c.deref.result.now c.advance.new.pass c.args.sched c.len.result c.len-before.result (Ok c.in_ok-to.to) c.index_mut.result.now c.advance.new.self
+    c.index_mut-part.result.now (record { wheel = c.index_mut-part.result.now.wheel; hand = c.index_mut-part.result.now.hand; fired = c.advance.new.fired })
+    (has_at c.deref.ensures c.self.view_is c.self.invariant) c.advance.ensures.belongs c.requires c.index_mut.ensures.value c.index_mut-part.ensures.value c.advance.ensures.number
+    c.advance.ensures.stands c.in_ok-to.ensures.call refl refl c.len.ensures c.len-before.ensures)).fit
+
+pub returns-clause-call : goal.returns-clause-call
+returns-clause-call c =
+    (does_at c.deref.ensures (advance_called c.args.self.now c.self.inside c.deref.result.now c.advance.new.pass c.args.sched c.len.result c.len-before.result (Ok c.in_ok-to.to) c.index_mut.result.now c.advance.new.self
+    c.index_mut-part.result.now (record { wheel = c.index_mut-part.result.now.wheel; hand = c.index_mut-part.result.now.hand; fired = c.advance.new.fired })
+    (has_at c.deref.ensures c.self.view_is c.self.invariant) c.advance.ensures.belongs c.requires c.index_mut.ensures.value c.index_mut-part.ensures.value c.advance.ensures.number
+    c.advance.ensures.stands c.in_ok-to.ensures.call refl refl c.len.ensures c.len-before.ensures)).goes

@@ -1,0 +1,4 @@
+pub mod Laws
+pub mod Seats
+pub mod SharedWorlds
+pub mod Ways
