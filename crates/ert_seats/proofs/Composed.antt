@@ -1,22 +1,20 @@
 -- Calls of a world one after the other are a call.
 
-use Rattle.std.proofs.Common.{◌≡◌, ℕ, suc, ◌+◌, ◌<◌, true, false, List, [], ◌∷◌, ◌++◌, Option, Some, None, Ok, Err, inl, inr, refl, sym, ap, subst, ◌∙◌, arith, append-nil, append_assoc, lt-ltb}
+use Rattle.std.proofs.Common.{◌≡◌, ℕ, suc, ◌+◌, ◌<◌, true, false, List, [], ◌∷◌, ◌++◌, Option, Some, Ok, Err, inl, inr, sym, ap, subst, ◌∙◌, arith, append_assoc, lt-ltb}
 use Rattle.ert_answers.proofs.Growing.{grows_then, grows_as, grows_more}
-use Rattle.ert_answers.specs.Chains.{Holds, Serves, ServesMany, ServesAll, times, AdvancesWheel, Hands, HandsMany, Delivers, puts, drops, Turns, SweepsWheel, SweepsWheels, Exits}
+use Rattle.ert_answers.specs.Chains.{Holds, Serves, ServesMany, ServesAll, times, AdvancesWheel, Hands, HandsMany, Delivers, Turns, SweepsWheel, SweepsWheels, Exits}
 use Rattle.ert_answers.specs.RequestCalls.{Answers}
 use Rattle.ert_answers.specs.WheelCalls.{MarksExit}
 use Rattle.ert_answers.specs.Ways.{Growth, Grows, Then, Many}
 use Rattle.ert_answers.specs.declared.answers.Handed.{Handed}
 use Rattle.ert_answers.specs.declared.answers.Turned.{Turned}
-use Rattle.ert_defs.specs.Mails.{first_of}
-use Rattle.ert_defs.specs.States.{state}
 use Rattle.ert_defs.specs.declared.entry.Actor.TheVariants.{Caller}
 use Rattle.ert_defs.specs.declared.entry.Entry.{Entry}
 use Rattle.ert_defs.specs.declared.mail.Request.{Request}
 use Rattle.ert_defs.specs.declared.memory.NoMemory.{NoMemory}
 use Rattle.ert_defs.specs.declared.settings.Settings.{Settings}
-use Rattle.ert_sched.proofs.Composed.{times_more, none_first, sweeps_more}
-use Rattle.ert_seats.specs.SharedWorlds.{Shared, Goes, Forgets, By, way_of, sched_of}
+use Rattle.ert_sched.proofs.Composed.{times_more, sweeps_more}
+use Rattle.ert_seats.specs.SharedWorlds.{Shared, Goes, Forgets, By, way_of}
 use Rattle.ert_seats.specs.Ways.{beside_seats}
 
 -- a call that is said of settings and seats is one of the same before another call
@@ -40,14 +38,6 @@ goes_as a b call other is goes = record {
   grows = grows_as call other a.history b.history is goes.grows;
   settings = goes.settings;
   next = goes.next;
-}
-
--- no call
-pub goes_nothing : (a : Shared) (call : Growth) → call a.history [] → Goes a call a
-goes_nothing a call none = record {
-  grows = record { piece = []; grown = sym (append-nil a.history); made = none };
-  settings = refl;
-  next = refl;
 }
 
 -- one call more of a kind
@@ -109,30 +99,7 @@ pub handed_more : (a b c : Shared) (w : ℕ) (hows : List Handed) (how : Handed)
     → Goes b (Hands b.settings (way_of b) w (Ok how)) c → Goes a (HandsMany a.settings (way_of a) w (hows ++ how ∷ [])) c
 handed_more a b c w hows how one other = goes_more a b c (λ g l how. Hands g (beside_seats g l) w (Ok how)) hows how one other
 
--- all are handed over
-pub delivered : (a b : Shared) (w : ℕ) (hows : List Handed) (put dropped : ℕ) → Goes a (HandsMany a.settings (way_of a) w hows) b
-    → put ≡ puts hows → dropped ≡ drops hows → first_of (sched_of b w).fired ≡ None
-    → Goes a (Delivers a.settings (way_of a) w (Ok (put, dropped))) b
-delivered a b w hows put dropped goes put_is dropped_is none =
-    let g : Settings = a.settings in
-    let empty : ((state g b.history).scheds w).fired ≡ [] =
-    subst (λ k. ((state k b.history).scheds w).fired ≡ []) goes.settings (none_first (sched_of b w).fired none) in
-    record {
-      grows = record {
-        piece = goes.grows.piece;
-        grown = goes.grows.grown;
-        made = record {
-          hows = hows;
-          runs = goes.grows.made;
-          put_is = put_is;
-          dropped_is = dropped_is;
-          done = subst (λ h. ((state g h).scheds w).fired ≡ []) goes.grows.grown empty;
-        };
-      };
-      settings = goes.settings;
-      next = goes.next;
-    }
-
+-- there is no memory for the next
 pub undelivered : (a b c : Shared) (w : ℕ) (hows : List Handed) (e : NoMemory) → Goes a (HandsMany a.settings (way_of a) w hows) b
     → Goes b (Hands b.settings (way_of b) w (Err e)) c → Goes a (Delivers a.settings (way_of a) w (Err e)) c
 undelivered a b c w hows e one other =
@@ -147,10 +114,6 @@ turned a b c d w t one two three =
     goes_then a b d (ServesAll a.settings (way_of a) w (Ok t.served))
     (λ g l. Then (AdvancesWheel g (beside_seats g l) w (Ok (t.to, t.fired))) (Delivers g (beside_seats g l) w (Ok (t.put, t.dropped)))) one
     (goes_then b c d (AdvancesWheel b.settings (way_of b) w (Ok (t.to, t.fired))) (λ g l. Delivers g (beside_seats g l) w (Ok (t.put, t.dropped))) two three)
-
-pub turn_unserved : (a b : Shared) (w : ℕ) (e : NoMemory) → Goes a (ServesAll a.settings (way_of a) w (Err e)) b
-    → Goes a (Turns a.settings (way_of a) w (Err e)) b
-turn_unserved a b w e one = goes_as a b _ (Turns a.settings (way_of a) w (Err e)) (λ m steps. inl steps) one
 
 pub turn_unadvanced : (a b c : Shared) (w served : ℕ) (e : NoMemory) → Goes a (ServesAll a.settings (way_of a) w (Ok served)) b
     → Goes b (AdvancesWheel b.settings (way_of b) w (Err e)) c → Goes a (Turns a.settings (way_of a) w (Err e)) c

@@ -1,6 +1,6 @@
 -- Which entries are a world's own.
 
-use Rattle.std.proofs.Common.{◌≡◌, ℕ, ◌<◌, Bool, true, false, not, ◌&&◌, nat_lt, List, [], ◌∷◌, refl, sym, ap, subst, arith, lt-ltb, ltb-true}
+use Rattle.std.proofs.Common.{◌≡◌, ◌<◌, Bool, true, false, not, ◌&&◌, nat_lt, [], ◌∷◌, refl, sym, ap, subst, arith, lt-ltb, ltb-true}
 use Rattle.ert_defs.specs.declared.entry.Actor.{Actor}
 use Rattle.ert_defs.specs.declared.entry.Actor.TheVariants.{Caller}
 use Rattle.ert_seats.specs.Laws.{LawOfNoSeats, LawOfSeats}

@@ -1,11 +1,9 @@
--- What a world has after it gave a seat, and what a seat does.
+-- What a world has after it gave a seat, or took it back.
 
 use Rattle.std.proofs.Common.{◌≡◌, ◌≢◌, ⊎_elim, ℕ, ◌+◌, ◌<◌, Bool, true, false, cond, List, [], ◌∷◌, ◌++◌, length, slice_index_or, Result, Ok, Err, IfOk, inl, inr, refl, sym, ap, subst, ◌∙◌, arith, ne_eqb, eq-eqb}
-use Rattle.std.specs.Prelude.{nat_eq, nat_le, filter}
+use Rattle.std.specs.Prelude.{nat_eq, nat_le}
 use Rattle.ert_defs.specs.Actors.{same_actor}
-use Rattle.ert_answers.specs.Ways.{Growth}
-use Rattle.ert_defs.specs.Entries.{is_ours}
-use Rattle.ert_defs.specs.States.{State, state}
+use Rattle.ert_defs.specs.States.{state}
 use Rattle.ert_defs.specs.declared.entry.Actor.{Actor}
 use Rattle.ert_defs.specs.declared.entry.Actor.TheVariants.{Keeper, Wheel, Inbox, Sched, MailOf, Caller}
 use Rattle.ert_defs.specs.declared.entry.Entry.{Entry}
@@ -17,13 +15,11 @@ use Rattle.ert_timers.specs.Tidy.{IsTidy}
 use Rattle.ert_clock.specs.Shown.{Stands as ClockStands}
 use Rattle.ert_defs.specs.declared.memory.NoMemory.{NoMemory}
 use Rattle.ert_table.proofs.Holders.{tells, or_left, same_actor-true, same_actor_self, held-append, held_first, held_then, held_one, held_but, held_but_parts, held_but_other}
-use Rattle.ert_table.specs.Calls.{IsMade}
-use Rattle.ert_table.specs.Desks.{settings_of, view_of, front_of, actors_of, Belongs}
+use Rattle.ert_table.specs.Desks.{settings_of, front_of, actors_of, Belongs}
 use Rattle.ert_table.specs.Held.{is_held, actors_but, IsActor}
 use Rattle.ert_table.specs.Views.{longer}
 use Rattle.ert_table.specs.declared.desk.Desk.{Desk}
 use Rattle.ert_table.specs.declared.desk.Pass.{Pass}
-use Rattle.ert_seats.specs.Seats.{Seated, seated, SitsAs, Steps, BySeat}
 use Rattle.ert_seats.specs.SharedWorlds.{Shared, IsUnseated, HoldsRest, AreFit, IsOpened, IsShared}
 
 lower : (n m : ℕ) → nat_eq n m ≡ false → n < m + 1 → n < m
@@ -116,11 +112,6 @@ module _ (g : Settings) (actors : List Actor) (next : ℕ) (holds : HoldsRest g 
   pub rest_again : HoldsRest g (actors_but actors (Caller next) ++ Caller next ∷ []) next
   rest_again = record { some = holds.some; most = holds.most; rest = back_held; given = still_given }
 
--- the world holds the next caller
-pub next_held : (d : Desk) (p : Pass) (next : ℕ) (parts : AllParts) → AreFit d p next parts → next < (settings_of d).callers
-    → is_held (actors_of p) (Caller next) ≡ true
-next_held d p next parts fit low = fit.holds.rest (Caller next) low (inr (omega arith))
-
 -- its parts fit still
 pub fit_after : (d e : Desk) (p q : Pass) (next : ℕ) (parts : AllParts) → d ≡ e → AreFit e p next parts → Belongs d q
     → actors_of q ≡ actors_but (actors_of p) (Caller next) → front_of q ≡ front_of p → next < (settings_of e).callers → AreFit e q (next + 1) parts
@@ -149,36 +140,3 @@ fit_again d e p q r next parts same fit belongs rest actors front = record {
   holds = subst (λ l. HoldsRest (settings_of e) l next) (sym (actors ∙ ap (λ l. l ++ Caller next ∷ []) rest)) (rest_again (settings_of e) (actors_of p) next fit.holds);
   stand = subst (λ h. Stand (settings_of e) h [] parts) (sym front) fit.stand;
 }
-
--- the parts of a seat after a call, and how its history goes on
-pub record Sat (before : Seated) (d : Desk) (q : Pass) (number : ℕ) (call : Seated → Growth) : Type 0 where
-  pub sits : SitsAs d q number
-  pub steps : Steps before (call before) (seated d q number)
-
-pub sat : (before : Seated) (d e : Desk) (p q : Pass) (number : ℕ) (allows : Settings → State → List Entry → Type 0) → d ≡ e
-    → seated e p number ≡ before → SitsAs e p number → Belongs d q → IsMade (settings_of d) (view_of p) (allows (settings_of d)) (view_of q)
-    → Sat before e q number (λ s. BySeat s allows)
-sat before d e p q number allows same is sits belongs made =
-    let made_e : IsMade (settings_of e) (view_of p) (allows (settings_of e)) (view_of q) =
-    subst (λ (x : Desk). IsMade (settings_of x) (view_of p) (allows (settings_of x)) (view_of q)) same made in
-    record {
-      sits = record {
-        belongs = subst (λ x. Belongs x q) same belongs;
-        actors = made_e.call.actors ∙ sits.actors;
-        below = sits.below;
-      };
-      steps = subst (λ s. Steps s (BySeat s allows) (seated e q number)) is (record {
-        grows = record {
-          piece = made_e.call.later;
-          grown = made_e.call.grown;
-          made = record {
-            entries = made_e.entries;
-            own = subst (λ l. filter (is_ours l) made_e.call.later ≡ made_e.entries) sits.actors made_e.call.ours;
-            allowed = made_e.allowed;
-          };
-        };
-        table = refl;
-        settings = refl;
-        number = refl;
-      });
-    }

@@ -3,6 +3,7 @@
 use Rattle.std.specs.Prelude.{◌≡◌, ℕ, ◌+◌, ◌<◌, ◌≤◌, List, [], ◌∷◌}
 use Rattle.atomic_table.specs.Seated.{TableId}
 use Rattle.ert_answers.specs.Ways.{Growth, Grows}
+use Rattle.ert_defs.specs.Legal.{Legal}
 use Rattle.ert_defs.specs.States.{State}
 use Rattle.ert_defs.specs.declared.entry.Actor.TheVariants.{Caller}
 use Rattle.ert_defs.specs.declared.entry.Entry.{Entry}
@@ -36,9 +37,10 @@ pub record SitsAs (d : Desk) (p : Pass) (number : ℕ) : Type 0 where
   pub actors : actors_of p ≡ Caller number ∷ []
   pub below : number < (settings_of d).callers
 
--- a seat makes a call: its history grows by it, and all else stays
+-- a seat makes a call: its history grows by it and is legal, and all else stays
 pub record Steps (old : Seated) (call : Growth) (new : Seated) : Type 0 where
   pub grows : Grows call old.history new.history
+  pub legal : Legal new.settings new.history
   pub table : new.table ≡ old.table
   pub settings : new.settings ≡ old.settings
   pub number : new.number ≡ old.number
