@@ -50,7 +50,7 @@ never_rose rose = omega (arith, rose)
 pub ends_in_memory : (left left_new taken taken_new : List ℕ) (room room_new : ℕ) (e : Ended) (plan : Plan) → OneScenario
     → (e.status ≡ Done → IsSomeAnd e.desk (Did (Some left) (Some left_new) (told (Some taken) (Some room)) (told (Some taken_new) (Some room_new))))
     → ((Rose 0 0 → ⊥) → (Rose 0 0 → ⊥) → (bytes : List ℕ) (plan : Plan) → Some left ≡ Some bytes → length bytes ≤ 16777216 → IsScenario false bytes plan
-        → (e.status ≡ Done) ⊎ (e.status ≡ NoMemory))
+    → (e.status ≡ Done) ⊎ (e.status ≡ NoMemory))
     → length left ≤ 16777216 → IsScenario false left plan
     → ((e.status ≡ Done) × (taken_new ≡ taken ++ transcript plan)) ⊎ (e.status ≡ NoMemory)
 ends_in_memory left left_new taken taken_new room room_new e plan one done complete short is =
@@ -69,7 +69,7 @@ pub room_told : (text bytes : List ℕ) (rest : Option (List ℕ)) (room : Optio
 room_told text bytes rest room r one never did = record {
   done = λ left others plan takes is.
       let writes = did_it text plan rest (told (Some []) None) (told (Some bytes) room) r one
-          (subst (λ (b : List ℕ). IsScenario false b plan) (all_taken text others left takes) is) did in
+      (subst (λ (b : List ℕ). IsScenario false b plan) (all_taken text others left takes) is) did in
       let both : Some bytes ≡ Some (transcript plan) = ap (λ (t : Told). t.taken) writes in
       let same : bytes ≡ transcript plan = cc in
       let long : length bytes ≡ length (transcript plan) = ap (λ (xs : List ℕ). length xs) same in

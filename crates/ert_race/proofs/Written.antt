@@ -163,5 +163,5 @@ pub page_fits : (start v : Service) (list : List Op) (page : List ℕ) (old mid 
 page_fits start v list page old mid ran untold =
     let text : List ℕ = lines_of start.labels list ran.replies in
     let left : mid.room ≡ room_after (length text) None =
-        ap (λ (t : Told). t.room) ran.writes ∙ ap (λ (r : Option ℕ). room_after (length text) r) untold in
+    ap (λ (t : Told). t.room) ran.writes ∙ ap (λ (r : Option ℕ). room_after (length text) r) untold in
     subst (λ (r : Option ℕ). HasRoom r (length page)) (sym left) tt
