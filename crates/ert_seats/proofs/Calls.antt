@@ -80,6 +80,7 @@ finish before b d q new es lent call has belongs takes only unseated back allowe
       goes = subst (λ w. Goes w (call w) (seen d q b.next new.keeper new.wheels)) has.is (record {
         grows = record { piece = takes.later; grown = takes.grown; made = allowed takes.later takes.grown (own_unseated g (view_of b.pass) es (view_of q) b.next lent has.fit.holds takes only unseated) };
         settings = refl;
+        table = refl;
         next = refl;
       });
     }

@@ -30,6 +30,7 @@ goes_then a b c first second one other = record {
   grows = grows_then first (second a.settings a.next) a.history b.history c.history one.grows
       (of_same a b c second one.settings one.next other.grows);
   settings = other.settings ∙ one.settings;
+  table = other.table ∙ one.table;
   next = other.next ∙ one.next;
 }
 
@@ -37,6 +38,7 @@ pub goes_as : (a b : Shared) (call other : Growth) → ((m : List Entry) → cal
 goes_as a b call other is goes = record {
   grows = grows_as call other a.history b.history is goes.grows;
   settings = goes.settings;
+  table = goes.table;
   next = goes.next;
 }
 
@@ -48,6 +50,7 @@ goes_more a b c call answers answer one other = record {
   grows = grows_more (call a.settings a.next) answers answer a.history b.history c.history one.grows
       (of_same a b c (λ g l. call g l answer) one.settings one.next other.grows);
   settings = other.settings ∙ one.settings;
+  table = other.table ∙ one.table;
   next = other.next ∙ one.next;
 }
 
@@ -147,6 +150,7 @@ swept_more a b c p n one other =
             (subst (λ h. SweepsWheel g (way_of a) 0 p n h last.piece) one.grows.grown last.made)));
       };
       settings = other.settings ∙ one.settings;
+      table = other.table ∙ one.table;
       next = other.next ∙ one.next;
     }
   where
@@ -166,5 +170,6 @@ pub goes_forgetting : (a b c : Shared) (call : Growth) → Goes a call b → For
 goes_forgetting a b c call goes forgets = record {
   grows = subst (λ h. Grows call a.history h) (sym forgets.history) goes.grows;
   settings = forgets.settings ∙ goes.settings;
+  table = forgets.table ∙ goes.table;
   next = forgets.next ∙ goes.next;
 }

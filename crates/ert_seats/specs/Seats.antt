@@ -49,8 +49,9 @@ pub record Steps (old : Seated) (call : Growth) (new : Seated) : Type 0 where
 abbrev pub BySeat : Seated → (Settings → State → List Entry → Type 0) → Growth
 BySeat seat allows = as_caller seat.settings seat.number [] (allows seat.settings)
 
--- a world gives its next caller a seat, which knows what the world knows; the world keeps all else
+-- a world gives its next caller a seat on its desk, which knows what the world knows; the world keeps all else
 pub record GivesSeat (old new : Shared) (seat : Seated) : Type 0 where
+  pub table : seat.table ≡ old.table
   pub settings : seat.settings ≡ old.settings
   pub history : seat.history ≡ old.history
   pub number : seat.number ≡ old.next

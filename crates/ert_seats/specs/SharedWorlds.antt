@@ -1,6 +1,7 @@
 -- What callers see of a world that gives out seats, and how its calls make its history longer.
 
 use Rattle.std.specs.Prelude.{◌≡◌, ◌≢◌, ℕ, ◌<◌, ◌≤◌, ◌⊎◌, true, false, List, [], slice_index_or, Option, Some, None}
+use Rattle.atomic_table.specs.Seated.{TableId}
 use Rattle.ert_answers.specs.Ways.{Growth, Way, Grows}
 use Rattle.ert_clock.specs.Shown.{Shown, Stands as ClockStands}
 use Rattle.ert_defs.specs.Mails.{SchedState}
@@ -22,9 +23,10 @@ use Rattle.ert_sched.specs.Parts.{AllParts, Stand}
 use Rattle.ert_sched.specs.Worlds.{Service}
 use Rattle.ert_seats.specs.Ways.{beside_seats}
 
--- what callers see of a world: its settings, the history that it knows, what its clock shows, the next caller
--- that is to get a seat, and its wheels
+-- what callers see of a world: which desk it is of, with its settings, the history that it knows, what its clock
+-- shows, the next caller that is to get a seat, and its wheels
 pub record Shared : Type 0 where
+  pub table : TableId
   pub settings : Settings
   pub history : List Entry
   pub clock : Shown
@@ -34,6 +36,7 @@ pub record Shared : Type 0 where
 -- what they see of a world with these: the history is the front of its pass
 abbrev pub seen : Desk → Pass → ℕ → Shown → List Part → Shared
 seen d p next clock wheels = record {
+  table = d.table.shared.table_id;
   settings = settings_of d;
   history = front_of p;
   clock = clock;
@@ -60,9 +63,10 @@ pub record AreFit (d : Desk) (p : Pass) (next : ℕ) (parts : AllParts) : Type 0
   pub holds : HoldsRest (settings_of d) (actors_of p) next
   pub stand : Stand (settings_of d) (front_of p) [] parts
 
--- a world makes a call: its history grows by it, and its settings and its seats stay
+-- a world makes a call: its history grows by it, and its desk, its settings and its seats stay
 pub record Goes (old : Shared) (call : Growth) (new : Shared) : Type 0 where
   pub grows : Grows call old.history new.history
+  pub table : new.table ≡ old.table
   pub settings : new.settings ≡ old.settings
   pub next : new.next ≡ old.next
 
@@ -76,6 +80,7 @@ By w allows = way_of w [] (allows w.settings)
 
 -- the row of a timer goes, and nothing else changes
 pub record Forgets (old new : Shared) : Type 0 where
+  pub table : new.table ≡ old.table
   pub history : new.history ≡ old.history
   pub settings : new.settings ≡ old.settings
   pub clock : new.clock ≡ old.clock
