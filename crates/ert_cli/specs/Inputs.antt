@@ -34,12 +34,12 @@ pub record TakesMore (left left_new : Option (List ℕ)) : Type 0 where
   pub taken : left ≡ before bytes left_new
 
 -- all bytes were read, they are a scenario, with a race or without as is wanted, and it was run
-pub record DidAll (race : Bool) (ran : Ran) (left left_new : Option (List ℕ)) (old new : Told) (r : Desk × Pass) : Type 0 where
+pub record DidAll (race : Bool) (runs : Ran) (left left_new : Option (List ℕ)) (old new : Told) (r : Desk × Pass) : Type 0 where
   pub bytes : List ℕ
   pub takes : TakesAll left left_new bytes
   pub plan : Plan
   pub is : IsScenario race bytes plan
-  pub ran : ran plan old new r
+  pub ran : runs plan old new r
 
 -- all bytes were read, they have a refusal, and its line was written
 pub record Refuses (race : Bool) (left left_new : Option (List ℕ)) (old new : Told) : Type 0 where
@@ -68,8 +68,8 @@ pub record StopsAt (race : Bool) (began : Began) (left left_new : Option (List �
   pub part : PartDone race began bytes old new ⊎ PartRefused race bytes old new
 
 -- the command came to an end, between two moments of the input and of the output
-pub record InputEnds (race : Bool) (ran : Ran) (began : Began) (i j : Input) (o p : Output) (e : Ended) : Type 0 where
-  pub done : e.status ≡ Done → IsSomeAnd e.desk (DidAll race ran i.left j.left o.told p.told)
+pub record InputEnds (race : Bool) (runs : Ran) (began : Began) (i j : Input) (o p : Output) (e : Ended) : Type 0 where
+  pub done : e.status ≡ Done → IsSomeAnd e.desk (DidAll race runs i.left j.left o.told p.told)
   pub no_desk : e.status ≢ Done → e.desk ≡ None
   pub refused : e.status ≡ Refused → Refuses race i.left j.left o.told p.told
   pub read_fault : e.status ≡ ReadFault → Rose i.faults j.faults × (p ≡ o)
