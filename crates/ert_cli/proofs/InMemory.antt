@@ -64,9 +64,9 @@ ends_in_memory left left_new taken taken_new room room_new e plan one done compl
     ]
 
 -- a run that was done into an empty sink tells the room that the input needs
-pub room_told : (text bytes : List ℕ) (rest : Option (List ℕ)) (room : Option ℕ) (r : Option (Desk × Pass)) → OneScenario → NeverBoth
+told_room : (text bytes : List ℕ) (rest : Option (List ℕ)) (room : Option ℕ) (r : Option (Desk × Pass)) → OneScenario → NeverBoth
     → IsSomeAnd r (Did (Some text) rest (told (Some []) None) (told (Some bytes) room)) → InputFits (Some text) (Some (length bytes))
-room_told text bytes rest room r one never did = record {
+told_room text bytes rest room r one never did = record {
   done = λ left others plan takes is.
       let writes = did_it text plan rest (told (Some []) None) (told (Some bytes) room) r one
       (subst (λ (b : List ℕ). IsScenario false b plan) (all_taken text others left takes) is) did in
@@ -78,3 +78,12 @@ room_told text bytes rest room r one never did = record {
       let found = text_is text rest (told (Some []) None) (told (Some bytes) room) r did in
       absurd (never false text found.0 why found.1 (subst (λ (b : List ℕ). HasRefusal false b why) (all_taken text others left takes) has));
 }
+
+pub room_told : (text bytes : List ℕ) (left rest taken taken_new : Option (List ℕ)) (room : Option ℕ) (r : Option (Desk × Pass)) → OneScenario → NeverBoth
+    → left ≡ Some text → taken ≡ Some [] → taken_new ≡ Some bytes → IsSomeAnd r (Did left rest (told taken None) (told taken_new room))
+    → InputFits (Some text) (Some (length bytes))
+room_told text bytes left rest taken taken_new room r one never here none there did =
+    told_room text bytes rest room r one never
+    (subst (λ (k : Option (List ℕ)). IsSomeAnd r (Did (Some text) rest (told (Some []) None) (told k room))) there
+    (subst (λ (k : Option (List ℕ)). IsSomeAnd r (Did (Some text) rest (told k None) (told taken_new room))) none
+    (subst (λ (k : Option (List ℕ)). IsSomeAnd r (Did k rest (told taken None) (told taken_new room))) here did)))
