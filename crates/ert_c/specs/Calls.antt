@@ -18,7 +18,7 @@ use Rattle.ert_defs.specs.declared.mail.Request.{Request}
 use Rattle.ert_defs.specs.declared.memory.NoMemory.{NoMemory as WantOfMemory}
 use Rattle.ert_defs.specs.declared.timer.Start.{Start}
 use Rattle.ert_defs.specs.declared.timer.TimerRef.{TimerRef}
-use Rattle.ert_seats.specs.SharedWorlds.{Shared, Goes, By, IsTidyAt, way_of}
+use Rattle.ert_seats.specs.SharedWorlds.{Shared, Goes, By, IsTidyAt, IsNextHeldAt, way_of}
 use Rattle.ert_timers.specs.NextDue.{NoneArmedBefore, IsNearest, horizon_at}
 use Rattle.ert_c.specs.Through.{Answers, IfBelow, IsOutOfRange}
 
@@ -78,8 +78,9 @@ DeliversBy sched answer = Makes (λ w. Delivers w.settings (way_of w) sched answ
 abbrev pub TurnsBy : ℕ → Result Turned WantOfMemory → Shared → Shared → Type 0
 TurnsBy sched answer = Makes (λ w. Turns w.settings (way_of w) sched answer)
 
--- no armed timer of the wheel is due before what is told, and nothing has changed
+-- what is told is how early a row of the wheel is due, no armed timer is due before it, and nothing has changed
 pub record LooksAhead (sched : ℕ) (answer : Option ℕ) (old new : Shared) : Type 0 where
+  pub held : IsNextHeldAt old sched answer
   pub armed : NoneArmedBefore (state old.settings old.history) sched answer
   pub nearest : IsTidyAt old sched → IsNearest (state old.settings old.history) sched (horizon_at old.settings old.clock.face.time) answer
   pub unchanged : new ≡ old

@@ -1,6 +1,7 @@
 -- When the next timer of a world's wheel may be due.
 
-use Rattle.std.proofs.Common.{◌≡◌, ℕ, ◌<◌, ◌≤ℤ◌, ◌<ℤ◌, List, Option, slice_index_or, refl, sym, ap, subst, ◌∙◌}
+use Rattle.std.proofs.Common.{◌≡◌, ℕ, ◌<◌, ◌≤ℤ◌, ◌<ℤ◌, List, length, Option, Some, slice_get, slice_index_or, refl, sym, ap, subst, ◌∙◌}
+use Rattle.std.proofs.lemmas.Option.{slice_get-get_or, get_or_from_slice_get}
 use Rattle.ert_defs.proofs.Times.{state_in_range}
 use Rattle.ert_defs.specs.Lines.{Face, end_time}
 use Rattle.ert_defs.specs.States.{State, state}
@@ -11,7 +12,7 @@ use Rattle.ert_table.specs.declared.desk.Desk.{Desk}
 use Rattle.ert_timers.specs.NextDue.{NoneArmedBefore, IsNearest}
 use Rattle.ert_timers.specs.Parts.{Part, Stands as WheelStands}
 use Rattle.ert_timers.specs.Tidy.{IsTidy}
-use Rattle.ert_seats.specs.SharedWorlds.{Shared, IsTidyAt}
+use Rattle.ert_seats.specs.SharedWorlds.{Shared, IsTidyAt, IsNextHeld}
 use Rattle.ert_seats.specs.declared.shared_world.SharedWorld.TheInside.{Inside}
 use Rattle.ert_seats.proofs.Calls.{Has, seen_at, schedulers_at}
 
@@ -53,3 +54,15 @@ nearest_in before b d i end p answer has low lent told tidy =
     let mine : IsTidy s p = subst (λ (x : Part). IsTidy s x) (sym lent) (all p) in
     subst (λ (w : Shared). IsNearest (state w.settings w.history) i end answer) has.is
     (subst (λ n. IsNearest s n end answer) named (told g (front_of b.pass) stands mine))
+
+-- so does what it tells of the rows that it holds
+pub held_in : (before : Shared) (b : Inside) (d : Desk) (i now : ℕ) (p : Part) (answer : Option ℕ) → Has before b d
+    → i < before.settings.schedulers → p ≡ slice_index_or b.wheels.items i p
+    → IsNextHeld p now answer → (e : Part) → IsNextHeld (slice_index_or before.wheels i e) now answer
+held_in before b d i now p answer has low lent told e =
+    let is : List Part = b.wheels.items in
+    let below : i < length is = subst (λ n. i < n) (sym has.fit.stand.wheels.counted) (schedulers_at has i low) in
+    let same : p ≡ slice_index_or is i e =
+    sym (get_or_from_slice_get is i p e (subst (λ (x : Part). slice_get is i ≡ Some x) (sym lent) (slice_get-get_or is i p below))) in
+    subst (λ (w : Shared). IsNextHeld (slice_index_or w.wheels i e) now answer) has.is
+    (subst (λ (x : Part). IsNextHeld x now answer) same told)

@@ -1,10 +1,11 @@
 -- What callers see of a world that gives out seats, and how its calls make its history longer.
 
-use Rattle.std.specs.Prelude.{◌≡◌, ◌≢◌, ℕ, ◌<◌, ◌≤◌, ◌⊎◌, true, false, List, [], slice_index_or, Option, Some, None}
+use Rattle.std.specs.Prelude.{◌≡◌, ◌≢◌, ℕ, ◌<◌, ◌≤◌, ◌⊎◌, true, false, List, [], slice_index_or, Option, Some, None, MatchOption}
 use Rattle.atomic_table.specs.Seated.{TableId}
 use Rattle.ert_answers.specs.Ways.{Growth, Way, Grows}
 use Rattle.ert_clock.specs.Shown.{Shown, Stands as ClockStands}
 use Rattle.ert_defs.specs.Mails.{SchedState}
+use Rattle.ert_defs.specs.Milliseconds.{down, natural}
 use Rattle.ert_defs.specs.Settings.{IsChecked}
 use Rattle.ert_defs.specs.States.{State, state}
 use Rattle.ert_defs.specs.declared.entry.Actor.{Actor}
@@ -21,6 +22,7 @@ use Rattle.ert_timers.specs.Parts.{Part}
 use Rattle.ert_timers.specs.Tidy.{IsTidy}
 use Rattle.ert_sched.specs.Parts.{AllParts, Stand}
 use Rattle.ert_sched.specs.Worlds.{Service}
+use Rattle.ert_wheel.specs.NextDue.{NoRow, IsNextDue}
 use Rattle.ert_seats.specs.Ways.{beside_seats}
 
 -- what callers see of a world: which desk it is of, with its settings, the history that it knows, what its clock
@@ -96,6 +98,15 @@ pub record StandsFor (g : Settings) (h : List Entry) (w : Shared) : Type 0 where
 -- a wheel of a world is tidy: all timers that it holds are armed
 abbrev pub IsTidyAt : Shared → ℕ → Type 0
 IsTidyAt w i = (d : Part) → IsTidy (state w.settings w.history) (slice_index_or w.wheels i d)
+
+-- how early the next row that a part holds is due, as a look ahead from a time tells
+abbrev pub IsNextHeld : Part → ℕ → Option ℕ → Type 0
+IsNextHeld p now answer = MatchOption answer (NoRow p.keys) (IsNextDue p.keys now)
+
+-- the same of a wheel of a world, from the published time; a row is held until its timer would be due, unless the
+-- world itself cancels the timer
+abbrev pub IsNextHeldAt : Shared → ℕ → Option ℕ → Type 0
+IsNextHeldAt w i answer = (d : Part) → IsNextHeld (slice_index_or w.wheels i d) (natural (down w.settings w.clock.face.time)) answer
 
 -- a world was opened: it stands for the empty history, has given out no seat, and each wheel is tidy
 pub record IsOpened (g : Settings) (w : Shared) : Type 0 where

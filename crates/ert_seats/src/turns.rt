@@ -16,7 +16,7 @@ impl SharedWorld {
     ghost use Rattle.ert_answers.specs.RequestCalls.{Picks, Answers};
     ghost use Rattle.ert_defs.specs.Mails.{first_of, others_of};
     ghost use Rattle.ert_defs.specs.States.{state};
-    ghost use Rattle.ert_seats.specs.SharedWorlds.{Goes, By, way_of, IsGone, IsTidyAt, sched_of};
+    ghost use Rattle.ert_seats.specs.SharedWorlds.{Goes, By, way_of, IsGone, IsTidyAt, IsNextHeldAt, sched_of};
     ghost use Rattle.ert_sched.specs.Worlds.{cancelled_by};
     ghost use Rattle.ert_timers.specs.NextDue.{NoneArmedBefore, IsNearest, horizon_at};
 
@@ -140,6 +140,7 @@ impl SharedWorld {
     /// `ert_wheel::LOOK_AHEAD` milliseconds, where all are due later.
     pub fn next_due(&self, sched: u32) -> Option<u64>
         requires { sched < self.now.settings.schedulers }
+        ensures held { IsNextHeldAt self.now sched result }
         ensures armed { NoneArmedBefore (state self.now.settings self.now.history) sched result }
         ensures nearest { IsTidyAt self.now sched → IsNearest (state self.now.settings self.now.history) sched (horizon_at self.now.settings self.now.clock.face.time) result }
     {
