@@ -15,6 +15,7 @@ pub record IsReady (d : Desk) (p : Pass) (clock : Shown) (part : Part) : Type 0 
   pub belongs : Belongs d p
   pub whole : IsWhole (settings_of d) (actors_of p)
   pub callers : 0 < (settings_of d).callers
+  pub second : 1 < (settings_of d).callers
   pub processes : (settings_of d).processes ≡ 2
   pub times : clocks.Stands (settings_of d) (front_of p) clock
   pub stands : timers.Stands (settings_of d) (front_of p) part

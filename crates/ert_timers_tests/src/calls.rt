@@ -23,19 +23,19 @@ pub(crate) const SETTINGS: Settings = Settings {
     first: Reading { mono: 0, sys: 0 },
 };
 
-/// A start of a timer for process 1.
-pub(crate) fn start_at(when: When, msg: u64) -> Start
-    ensures { result.dest ≡ 1 }
+/// A start of a timer.
+pub(crate) fn start_of(when: When, dest: u32, msg: u64) -> Start
+    ensures { result.dest ≡ dest }
 {
     Start {
         when,
-        dest: 1,
+        dest,
         msg,
         kind: Kind::Wrapped,
     }
 }
 
-/// What an advance gives of such a start.
+/// What an advance gives of a start for process 1.
 pub(crate) fn fired_at(timer: TimerRef, deadline: u64, msg: u64) -> Fired {
     Fired {
         timer,

@@ -10,3 +10,5 @@ mod rows;
 mod slots;
 #[cfg(test)]
 mod threads;
+#[cfg(test)]
+mod trial;

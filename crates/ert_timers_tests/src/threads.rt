@@ -6,7 +6,8 @@ ghost use Rattle.ert_table.specs.Held.{is_held};
 ghost use Rattle.ert_timers.specs.Parts.{HoldsSched, Stands};
 ghost use Rattle.ert_timers_tests.specs.Trial.{IsReady};
 
-use crate::calls::{SETTINGS, start, start_at};
+use crate::calls::SETTINGS;
+use crate::trial::Trial;
 use ert_calls::cancel_timer;
 use ert_defs::{Actor, NoMemory, Settings, TimerRef, When};
 use ert_keeper::KeeperPart;
@@ -16,20 +17,10 @@ use std::alloc::Global;
 use std::thread::join;
 
 /// Starts 64 timers that are due at once.
-fn start_many(
-    alloc: Global,
-    desk: &Desk,
-    pass: &mut Pass,
-    clock: &KeeperPart,
-    part: &mut WheelPart,
-) -> Result<Vec<TimerRef>, NoMemory>
-    requires { IsReady desk.now pass.old clock.now part.old }
-    ensures { IsReady desk.now pass.new clock.now part.new }
-{
+fn start_many(alloc: Global, trial: &mut Trial) -> Result<Vec<TimerRef>, NoMemory> {
     let mut timers = Vec::new(alloc);
     for msg in 0..64 {
-        let due = start_at(When::After(0), msg);
-        if let Ok(timer) = start(desk, pass, clock, part, &due) {
+        if let Ok(timer) = trial.start(When::After(0), msg) {
             if timers.push(timer).is_err() {
                 return Err(NoMemory);
             }
@@ -40,8 +31,7 @@ fn start_many(
 
 /// Gives the second caller a pass of its own.
 fn divide(desk: &Desk, pass: &mut Pass, clock: &KeeperPart, part: &WheelPart) -> Pass
-    requires ready { IsReady desk.now pass.old clock.now part.now }
-    requires callers { 1 < (settings_of desk.now).callers }
+    requires { IsReady desk.now pass.old clock.now part.now }
     ensures belongs { Belongs desk.now pass.new }
     ensures holds { HoldsSched (view_of pass.new) part.now.number }
     ensures stands { Stands (settings_of desk.now) (front_of pass.new) part.now }
@@ -96,13 +86,11 @@ fn each_timer_is_settled_once(rt: HostRuntime) -> Result<(), NoMemory> {
         slots: 64,
         ..SETTINGS
     };
-    let (desk, mut one) = Desk::open(rt.alloc(), &settings)?;
-    let clock = KeeperPart::open(&settings);
-    let mut part = WheelPart::open(rt.alloc(), &settings, 0)?;
-    let timers = start_many(rt.alloc(), &desk, &mut one, &clock, &mut part)?;
+    let mut trial = Trial::open(rt.alloc(), &settings)?;
+    let timers = start_many(rt.alloc(), &mut trial)?;
     assert_eq!(rt; timers.len(), 64);
+    let (desk, mut one, clock, part, fired) = trial.into_parts();
     let two = divide(&desk, &mut one, &clock, &part);
-    let fired = FiredList::new(rt.alloc());
     let cancelled = Vec::new(rt.alloc());
     let ((mut one, part, fired, to), (two, cancelled)) = join(
         &rt,

@@ -9,7 +9,7 @@ pub returns-clause-holds : goal.returns-clause-holds
 returns-clause-holds c =
     let n = c.args.part.now.number in
     let actors = actors_of c.args.pass.now in
-    let ready = c.requires.ready in
+    let ready = c.requires in
     record {
       sched = subst (λ l. is_held l (Sched n) ≡ true) (sym c.split.ensures.rest)
           (held_but_other actors (Caller 1) (Sched n) refl (ready.whole (Sched n) ready.stands.holds.number));
