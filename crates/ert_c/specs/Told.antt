@@ -105,7 +105,8 @@ IsTurned (Err e) old status new = (status ≡ NO_MEMORY) × (new ≡ old)
 abbrev pub no_timer : ErtTimer
 no_timer = record { wheel = 0; slot = 0; generation = 0 }
 
--- a message with this number of its kind, reference and value, and what was left where that is told; else 0
+-- a message with this number of its kind, reference and value, and what was left where that is told; the other
+-- fields are 0
 abbrev pub mail_of : ℕ → ErtTimer → ℕ → Option ℕ → ErtMail
 mail_of tag timer msg (Some left) = record { tag = tag; timer = timer; has_left = 1; monitor = 0; msg = msg; left = left; offset = pos 0 }
 mail_of tag timer msg None = record { tag = tag; timer = timer; has_left = 0; monitor = 0; msg = msg; left = 0; offset = pos 0 }

@@ -16,8 +16,7 @@ live = with_rule (new_app (codes "live")) (number (codes "n") 1 1000)
 abbrev pub stress : App
 stress = with_rule (with_rule (new_app (codes "stress")) (number (codes "seed") 0 999999999)) (number (codes "n") 1 100000)
 
--- the program before it has commands: it wants one, its words don't begin with its own name, and it has no
--- help
+-- the program without commands yet: one is wanted, the first word isn't its own name, and there is no help
 abbrev pub bare : App
 bare =
     let made : App = new_app (codes "ertime") in

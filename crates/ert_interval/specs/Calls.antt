@@ -129,8 +129,7 @@ pub record PassesSome (w : ℕ) (new : Service) (is js : List Interval) : Type 0
       ⊎ ((b : Bool) × Passed new (slice_index_or is n d) (slice_index_or js n d) b)
   pub others : (n : ℕ) (d : Interval) → n < length is → (IsOf w (slice_index_or is n d) → ⊥) → slice_index_or js n d ≡ slice_index_or is n d
 
--- a turn has gone through the intervals of its wheel: once through all, or only through some for want of
--- memory
+-- a turn has gone once through the intervals of its wheel, or only through some for want of memory
 abbrev pub PassesBy : Result ℕ WantOfMemory → ℕ → Service → List Interval → List Interval → Type 0
 PassesBy (Ok armed) w new is js = PassesAll w new is js armed
 PassesBy (Err e) w new is js = PassesSome w new is js

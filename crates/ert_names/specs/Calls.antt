@@ -127,8 +127,7 @@ abbrev pub posted_by : Names → TimerRef → Option Row → Option (ℕ × Name
 posted_by names timer None = None
 posted_by names timer (Some row) = option_map (λ process. (process, mail_of timer row)) (map.get names row.name)
 
--- the mail of a message of the registrar and its process; None where it has no row, or no process has the row's
--- name
+-- the mail of a message of the registrar and its process; None where there is no such row, or no such process
 abbrev pub posted : Names → List Row → Message → Option (ℕ × NamedMail)
 posted names rows message = posted_by names message.0 (row_at rows message.1)
 

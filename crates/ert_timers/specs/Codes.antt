@@ -17,7 +17,7 @@ pub kind_by : Bool → Kind
 kind_by false = Wrapped
 kind_by true = Bare
 
--- so each kind comes back
+-- each kind comes back from that
 pub kind_back : (kind : Kind) → kind_by (is_bare kind) ≡ kind
 unfolding is_bare kind_by
 kind_back Wrapped = refl

@@ -72,7 +72,7 @@ monitor_piece s p false = record {
   reply = MonitorFull;
 }
 
--- a monitor is removed, where it stands
+-- a monitor is removed, where it stands; the reply tells whether it stood
 abbrev pub demonitor_piece : State → ℕ → ℕ → Piece
 demonitor_piece s p n =
     let stood = stands_in n (s.mails p).monitors in
