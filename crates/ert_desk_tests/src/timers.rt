@@ -132,8 +132,8 @@ fn an_exit_cancels_the_timers_of_one_process(rt: HostRuntime) -> Result<(), NoMe
     run(&rt, &mut world, &exit);
     let mut world = counts(&rt, world, [3, 0, 2, 1]);
     let later = [
-        Start(After(4), 1, 0, Ok(timer(5, 2))),
-        Read(timer(5, 2), None),
+        Start(After(4), 1, 0, Ok(timer(7, 2))),
+        Read(timer(7, 2), None),
     ];
     run(&rt, &mut world, &later);
     counts(&rt, world, [4, 0, 3, 1]);

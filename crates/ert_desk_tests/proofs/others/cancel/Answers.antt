@@ -16,6 +16,6 @@ from_parts-requires-clause-fit g c =
     let made = c.cancel_timer-left.ensures.call.call in
     let parts = parts_of p.keeper p.wheels.items p.inboxes.items p.mails.items p.scheds.items in
     let done =
-        called p.desk p.pass q made.entries (Caller 0 ∷ []) parts c.into_parts-parts.ensures.fit c.cancel_timer-left.ensures.belongs made.call
-        (cancel_only d (Caller 0) c.args.timer c.cancel_timer-left.result (state d (front_of p.pass)) made.entries made.allowed) in
+    called p.desk p.pass q made.entries (Caller 0 ∷ []) parts c.into_parts-parts.ensures.fit c.cancel_timer-left.ensures.belongs made.call
+    (cancel_only d (Caller 0) c.args.timer c.cancel_timer-left.result (state d (front_of p.pass)) made.entries made.allowed) in
     record { belongs = done.belongs; whole = done.whole; stand = caller_back d (front_of q) [] parts 0 done.stand }
