@@ -2,7 +2,7 @@
 
 use Rattle.std.specs.Prelude.{◌≡◌, ◌≢◌, ◌≤◌, ◌⊎◌, ℕ, Bool, List, Option, Some, None, length, IsSomeAnd}
 use Rattle.ert_io.specs.Faults.{Rose}
-use Rattle.ert_io.specs.Known.{before, IsAtEnd}
+use Rattle.ert_io.specs.Known.{before, IsAtEnd, TakesUpTo}
 use Rattle.ert_io.specs.Told.{Told, took, TakesFront}
 use Rattle.ert_scenario.specs.Scenarios.{Plan, IsScenario, HasRefusal}
 use Rattle.ert_scenario.specs.declared.scenario.ScenarioErr.{ScenarioErr}
@@ -73,6 +73,7 @@ pub record InputEnds (race : Bool) (runs : Ran) (began : Began) (i j : Input) (o
   pub no_desk : e.status ≢ Done → e.desk ≡ None
   pub refused : e.status ≡ Refused → Refuses race i.left j.left o.told p.told
   pub read_fault : e.status ≡ ReadFault → Rose i.faults j.faults × (p ≡ o)
+  pub read_in_part : e.status ≡ ReadFault → TakesUpTo 16777216 i.left j.left
   pub too_long : e.status ≡ TooLong → TakesMore i.left j.left × (p ≡ o)
   -- after a failed write, or without memory, the first part of what would have been written stands
   pub write_fault : e.status ≡ WriteFault → Rose o.faults p.faults × StopsAt race began i.left j.left o.told p.told

@@ -2,6 +2,7 @@
 ghost use Rattle.std.specs.Prelude.{◌≡◌, ◌≢◌, ◌≤◌, ◌⊎◌, ℕ, true, List, Some, None, length, is_some, option_map, IfSome, IfOk, OnErr, IsErrOf, IsSomeAnd};
 ghost use Rattle.ert_defs.specs.Settings.{IsChecked};
 ghost use Rattle.ert_io.specs.Faults.{Rose};
+ghost use Rattle.ert_io.specs.Known.{TakesUpTo};
 ghost use Rattle.ert_io.specs.Told.{told};
 ghost use Rattle.ert_ops.specs.Races.{IsRace, race_of};
 ghost use Rattle.ert_ops.specs.Ranges.{IsInRange};
@@ -38,6 +39,7 @@ pub fn race<R: Threads + Wait + Sync, G: Gate + Sync, I: Source, O: Sink>(
     ensures refused { result.status ≡ EndStatus.Refused
         → Refuses true (I.left input.old) (I.left input.new) (told (O.taken output.old) (O.room output.old)) (told (O.taken output.new) (O.room output.new)) }
     ensures read_fault { result.status ≡ EndStatus.ReadFault → Rose (I.faults input.old) (I.faults input.new) × (output.new ≡ output.old) }
+    ensures read_in_part { result.status ≡ EndStatus.ReadFault → TakesUpTo 16777216 (I.left input.old) (I.left input.new) }
     ensures too_long { result.status ≡ EndStatus.TooLong → TakesMore (I.left input.old) (I.left input.new) × (output.new ≡ output.old) }
     ensures cause { result.status ≡ EndStatus.WriteFault → Rose (O.faults output.old) (O.faults output.new) }
     ensures stops { result.status ≡ EndStatus.WriteFault

@@ -2,7 +2,7 @@
 ghost use Rattle.std.specs.Prelude.{◌≡◌, ◌≢◌, ◌≤◌, ◌⊎◌, ℕ, false, List, Some, None, length, IfOk, OnOk, OnErr, IsErrOf, IsSomeAnd};
 ghost use Rattle.ert_defs.specs.Settings.{IsChecked};
 ghost use Rattle.ert_io.specs.Faults.{Rose};
-ghost use Rattle.ert_io.specs.Known.{HasRoom};
+ghost use Rattle.ert_io.specs.Known.{HasRoom, TakesUpTo};
 ghost use Rattle.ert_io.specs.Told.{told, took, TakesFront};
 ghost use Rattle.ert_ops.specs.Labels.{AreOps};
 ghost use Rattle.ert_ops.specs.Ranges.{IsInRange};
@@ -34,6 +34,7 @@ pub fn run<I: Source, O: Sink>(alloc: Global, input: &mut I, output: &mut O) -> 
     ensures refused { result.status ≡ EndStatus.Refused
         → Refuses false (I.left input.old) (I.left input.new) (told (O.taken output.old) (O.room output.old)) (told (O.taken output.new) (O.room output.new)) }
     ensures read_fault { result.status ≡ EndStatus.ReadFault → Rose (I.faults input.old) (I.faults input.new) × (output.new ≡ output.old) }
+    ensures read_in_part { result.status ≡ EndStatus.ReadFault → TakesUpTo 16777216 (I.left input.old) (I.left input.new) }
     ensures too_long { result.status ≡ EndStatus.TooLong → TakesMore (I.left input.old) (I.left input.new) × (output.new ≡ output.old) }
     ensures cause { result.status ≡ EndStatus.WriteFault → Rose (O.faults output.old) (O.faults output.new) }
     ensures stops { result.status ≡ EndStatus.WriteFault
