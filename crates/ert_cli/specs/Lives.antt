@@ -50,6 +50,7 @@ live_part (replies.Time now) = codes "live " ⋅ signed_decimal now
 live_part (replies.System time) = codes " " ⋅ signed_decimal time ⋅ codes "\n"
 live_part _ = []
 
+-- what replies print, one after the other
 abbrev pub live_lines : List Reply → List ℕ
 live_lines [] = []
 live_lines (r ∷ rs) = live_part r ++ live_lines rs

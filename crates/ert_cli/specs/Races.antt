@@ -24,9 +24,11 @@ pub record StopsPlan (plan : Plan) (old new : Told) : Type 0 where
   pub has : plan.race ≡ Some race
   pub writes : StopsRace plan.settings plan.ops race old new
 
+-- all bytes were read, they are a scenario with a race, and that was run
 abbrev pub DidRace : Option (List ℕ) → Option (List ℕ) → Told → Told → Desk × Pass → Type 0
 DidRace = DidAll true RacesPlan
 
+-- all bytes were read, and the first part of what they ask `race` to write was written
 abbrev pub StopsAtRace : Option (List ℕ) → Option (List ℕ) → Told → Told → Type 0
 StopsAtRace = StopsAt true StopsPlan
 

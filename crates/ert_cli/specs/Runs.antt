@@ -35,9 +35,11 @@ pub record RunsOn (plan : Plan) (old new : Told) (r : Desk × Pass) : Type 0 whe
 abbrev pub PartRun : Began
 PartRun plan old new = TakesFront old new (transcript plan)
 
+-- all bytes were read, they are a scenario without a race, and that was run
 abbrev pub Did : Option (List ℕ) → Option (List ℕ) → Told → Told → Desk × Pass → Type 0
 Did = DidAll false RunsOn
 
+-- all bytes were read, and the first part of what they ask `run` to write was written
 abbrev pub Stops : Option (List ℕ) → Option (List ℕ) → Told → Told → Type 0
 Stops = StopsAt false PartRun
 

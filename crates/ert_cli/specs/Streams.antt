@@ -19,11 +19,14 @@ pub record Clock : Type 0 where
   pub left : Option (List Reading)
   pub faults : ℕ
 
+-- the input, with these bytes left and so many failed reads
 abbrev pub input_of : Option (List ℕ) → ℕ → Input
 input_of left faults = record { left = left; faults = faults }
 
+-- the output, with these bytes taken, this room and so many failed writes
 abbrev pub output_of : Option (List ℕ) → Option ℕ → ℕ → Output
 output_of taken room faults = record { told = told taken room; faults = faults }
 
+-- the clock, with these readings left and so many failed ones
 abbrev pub clock_of : Option (List Reading) → ℕ → Clock
 clock_of left faults = record { left = left; faults = faults }

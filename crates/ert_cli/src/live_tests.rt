@@ -2,6 +2,7 @@ use crate::EndStatus;
 use crate::tests::{SOUND, Streams, end_of};
 use std::test::Fail;
 
+/// Readings of the OS clocks, monotonic and then system time, which grow alike.
 pub(crate) const READINGS: [(i64, i64); 3] = [
     (5_000_000_000, 1_767_225_600_000_000_000),
     (6_000_000_000, 1_767_225_601_000_000_000),

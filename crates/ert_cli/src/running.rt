@@ -21,7 +21,7 @@ use ert_script::run_ops;
 use ert_table::{Desk, Pass};
 use std::alloc::Global;
 
-// The most bytes of an input.
+/// The most bytes of an input.
 pub(crate) const MAX_INPUT: usize = 16_777_216;
 
 /// Reads a scenario to the end of the input, runs it on a new world, and writes its transcript. At Done it

@@ -10,16 +10,17 @@ use std::sync::Wait;
 use std::test::Fail;
 use std::thread::Threads;
 
-// Forward and backward leaps of the OS clock, and the transcript: 98 bytes.
+/// A scenario of forward and backward leaps of the OS clock.
 pub(crate) const LEAP: &str =
     r#"{"format":1,"correction":false,"first":[0,10000000000],"ops":[["tick",0,12000000000],["tick",0,11000000000],["time"],["tick",0,13000000000],["system"]]}"#;
 
+/// Its transcript: 98 bytes.
 pub(crate) const LEAP_TEXT: &str =
     "tick 2000000000\ntick 2000000000\ntime 2000000000\ntick 3000000000\nsystem 13000000000\nend 3000000000\n";
 
 const USAGE: &str = "usage: ertime run | race | live N | stress SEED N\n";
 
-// The call of each stream that fails, from 1, or 0 for none, and the most bytes that one write takes.
+/// The call of each stream that fails, from 1, or 0 for none, and the most bytes that one write takes.
 #[derive(Clone, Copy)]
 pub(crate) struct Streams {
     pub(crate) read: u32,
@@ -28,6 +29,7 @@ pub(crate) struct Streams {
     pub(crate) piece: usize,
 }
 
+/// No call fails, and a write takes 7 bytes at most.
 pub(crate) const SOUND: Streams = Streams {
     read: 0,
     write: 0,
@@ -66,7 +68,7 @@ fn run<R: AllocGlobal + Threads + Wait + Sync, I: Source>(
     Ok(ertime(rt, words.as_slice(), input, output, &mut clock, &FreeGate))
 }
 
-// The status and the output of the program over these words, this input and these readings.
+/// The status and the output of the program over these words, this input and these readings.
 pub(crate) fn end_of<R: AllocGlobal + Threads + Wait + Sync>(
     rt: &R,
     words: &[&str],
