@@ -2,8 +2,10 @@
 use crate::left::{Words, leaves};
 use crate::steps::Step::{Check, Finalize, Monotonic, Offset, System, Tick};
 use crate::steps::{SETTINGS, open, run};
-use ert_clock::{ClockErr, Moved};
-use ert_defs::{Mode, NoMemory, OffsetState, Reading, Settings};
+use ert_clock::ClockErr::BadReading;
+use ert_clock::Moved;
+use ert_defs::OffsetState::{Final, Preliminary, Volatile};
+use ert_defs::{Mode, NoMemory, Reading, Settings};
 
 const NANOSECONDS: i64 = 1_000_000_000;
 
@@ -44,13 +46,10 @@ fn a_finalization_is_published(rt: HostRuntime) -> Result<(), NoMemory> {
     let mut world = open(&rt, rt.alloc(), &settings)?;
     let steps = [
         Tick(reading(5, 1005), Ok(moved(5))),
-        Finalize(BAD, Err(ClockErr::BadReading)),
-        Finalize(
-            reading(6, 1006),
-            Ok((OffsetState::Preliminary, shifted(6, 1000))),
-        ),
-        Finalize(reading(7, 1008), Ok((OffsetState::Final, moved(6)))),
-        Finalize(BAD, Err(ClockErr::BadReading)),
+        Finalize(BAD, Err(BadReading)),
+        Finalize(reading(6, 1006), Ok((Preliminary, shifted(6, 1000)))),
+        Finalize(reading(7, 1008), Ok((Final, moved(6)))),
+        Finalize(BAD, Err(BadReading)),
         Tick(reading(7, 1007), Ok(moved(7))),
     ];
     run(&rt, &mut world, &steps);
@@ -74,9 +73,9 @@ fn a_check_is_published(rt: HostRuntime) -> Result<(), NoMemory> {
     let mut world = open(&rt, rt.alloc(), &settings)?;
     let steps = [
         Tick(reading(0, 12), Ok(moved(2))),
-        Check(BAD, Err(ClockErr::BadReading)),
+        Check(BAD, Err(BadReading)),
         Check(reading(0, 11), Ok(shifted(2, 9))),
-        Finalize(reading(0, 11), Ok((OffsetState::Volatile, moved(2)))),
+        Finalize(reading(0, 11), Ok((Volatile, moved(2)))),
     ];
     run(&rt, &mut world, &steps);
     let words = Words {
@@ -109,7 +108,7 @@ fn a_preliminary_offset_is_told(rt: HostRuntime) -> Result<(), NoMemory> {
             Ok(half),
         ),
         Monotonic(500_000),
-        Offset(7, OffsetState::Preliminary),
+        Offset(7, Preliminary),
         System(500_007),
     ];
     run(&rt, &mut world, &steps);

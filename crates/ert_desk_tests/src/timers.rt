@@ -6,8 +6,9 @@ use crate::steps::Step::{
 use crate::steps::{EIGHT_SLOTS, SETTINGS, open, run, timer, until};
 use ert_answers::Taken;
 use ert_clock::Moved;
+use ert_defs::OffsetState::Preliminary;
 use ert_defs::When::{After, At};
-use ert_defs::{Mail, NoMemory, OffsetState, Reading, TimerRef};
+use ert_defs::{Mail, NoMemory, Reading, TimerRef};
 
 /// The word of a slot has the status, the deadline and the generation of its last timer.
 #[test]
@@ -25,7 +26,7 @@ fn a_cancel_and_an_exit_are_published(rt: HostRuntime) -> Result<(), NoMemory> {
         until(1_000_000),
         Monotonic(1_000_000),
         Start(After(5), 0, 7, Ok(timer(0, 1))),
-        Finalize(second, Ok((OffsetState::Preliminary, shifted))),
+        Finalize(second, Ok((Preliminary, shifted))),
         Cancel(timer(0, 1), Some(4)),
         IsAlive(1, true),
         MarkExit(1, true),
