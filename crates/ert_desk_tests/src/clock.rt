@@ -1,7 +1,7 @@
 //! Moves of the clock, and what is published of them.
-use crate::left::{Words, leaves};
+use crate::steps::SETTINGS;
 use crate::steps::Step::{Check, Finalize, Monotonic, Offset, System, Tick};
-use crate::steps::{SETTINGS, open, run};
+use crate::worlds::{Words, play, play_to_end};
 use ert_clock::ClockErr::BadReading;
 use ert_clock::Moved;
 use ert_defs::OffsetState::{Final, Preliminary, Volatile};
@@ -43,7 +43,6 @@ fn a_finalization_is_published(rt: HostRuntime) -> Result<(), NoMemory> {
         correction: true,
         ..SETTINGS
     };
-    let mut world = open(&rt, rt.alloc(), &settings)?;
     let steps = [
         Tick(reading(5, 1005), Ok(moved(5))),
         Finalize(BAD, Err(BadReading)),
@@ -52,14 +51,13 @@ fn a_finalization_is_published(rt: HostRuntime) -> Result<(), NoMemory> {
         Finalize(BAD, Err(BadReading)),
         Tick(reading(7, 1007), Ok(moved(7))),
     ];
-    run(&rt, &mut world, &steps);
     let words = Words {
         time: 7_000_000_000,
         offset: 9_223_374_036_854_775_809,
         timers: &[0],
         processes: &[0, 0],
     };
-    leaves(&rt, rt.alloc(), world, words)
+    play_to_end(&rt, rt.alloc(), &settings, &steps, words)
 }
 
 /// A volatile offset is moved by a check alone.
@@ -70,21 +68,19 @@ fn a_check_is_published(rt: HostRuntime) -> Result<(), NoMemory> {
         first: reading(0, 10),
         ..SETTINGS
     };
-    let mut world = open(&rt, rt.alloc(), &settings)?;
     let steps = [
         Tick(reading(0, 12), Ok(moved(2))),
         Check(BAD, Err(BadReading)),
         Check(reading(0, 11), Ok(shifted(2, 9))),
         Finalize(reading(0, 11), Ok((Volatile, moved(2)))),
     ];
-    run(&rt, &mut world, &steps);
     let words = Words {
         time: 2_000_000_000,
         offset: 9_223_372_054_854_775_808,
         timers: &[0],
         processes: &[0, 0],
     };
-    leaves(&rt, rt.alloc(), world, words)
+    play_to_end(&rt, rt.alloc(), &settings, &steps, words)
 }
 
 /// OS system time was 7 nanoseconds ahead when the clock was opened.
@@ -94,7 +90,6 @@ fn a_preliminary_offset_is_told(rt: HostRuntime) -> Result<(), NoMemory> {
         first: Reading { mono: 0, sys: 7 },
         ..SETTINGS
     };
-    let mut world = open(&rt, rt.alloc(), &settings)?;
     let half = Moved {
         now: 500_000,
         shift: None,
@@ -111,6 +106,5 @@ fn a_preliminary_offset_is_told(rt: HostRuntime) -> Result<(), NoMemory> {
         Offset(7, Preliminary),
         System(500_007),
     ];
-    run(&rt, &mut world, &steps);
-    Ok(())
+    play(&rt, rt.alloc(), &settings, &steps)
 }
