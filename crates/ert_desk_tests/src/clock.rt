@@ -1,7 +1,7 @@
 //! Moves of the clock, and what is published of them.
 use crate::steps::SETTINGS;
 use crate::steps::Step::{Check, Finalize, Monotonic, Offset, System, Tick};
-use crate::worlds::{Words, play, play_to_end};
+use crate::worlds::{Left, play, play_to_end};
 use ert_clock::ClockErr::BadReading;
 use ert_clock::Moved;
 use ert_defs::OffsetState::{Final, Preliminary, Volatile};
@@ -51,13 +51,13 @@ fn a_finalization_is_published(rt: HostRuntime) -> Result<(), NoMemory> {
         Finalize(BAD, Err(BadReading)),
         Tick(reading(7, 1007), Ok(moved(7))),
     ];
-    let words = Words {
+    let left = Left {
         time: 7_000_000_000,
         offset: 9_223_374_036_854_775_809,
         timers: &[0],
         processes: &[0, 0],
     };
-    play_to_end(&rt, rt.alloc(), &settings, &steps, words)
+    play_to_end(&rt, rt.alloc(), &settings, &steps, left)
 }
 
 /// A volatile offset is moved by a check alone.
@@ -74,13 +74,13 @@ fn a_check_is_published(rt: HostRuntime) -> Result<(), NoMemory> {
         Check(reading(0, 11), Ok(shifted(2, 9))),
         Finalize(reading(0, 11), Ok((Volatile, moved(2)))),
     ];
-    let words = Words {
+    let left = Left {
         time: 2_000_000_000,
         offset: 9_223_372_054_854_775_808,
         timers: &[0],
         processes: &[0, 0],
     };
-    play_to_end(&rt, rt.alloc(), &settings, &steps, words)
+    play_to_end(&rt, rt.alloc(), &settings, &steps, left)
 }
 
 /// OS system time was 7 nanoseconds ahead when the clock was opened.

@@ -3,7 +3,7 @@ use crate::steps::Step::{
     Advance, Ask, Deliver, Demonitor, MarkExit, Monitor, Serve, Start, Take, Tell,
 };
 use crate::steps::{SETTINGS, make, timer};
-use crate::worlds::{open, play, run};
+use crate::worlds::{close, open, play, run};
 use ert_answers::{MonitorErr, Taken};
 use ert_defs::When::After;
 use ert_defs::{Mail, NoMemory};
@@ -28,6 +28,7 @@ fn requests_are_answered_in_order(rt: HostRuntime) -> Result<(), NoMemory> {
         make(&rt, &mut world, 4, Take(1, Taken::Mail(answer)));
     }
     make(&rt, &mut world, 5, Take(1, Taken::Empty));
+    close(rt.alloc(), world)?;
     Ok(())
 }
 
@@ -44,7 +45,7 @@ fn at_most_64_monitors_stand(rt: HostRuntime) -> Result<(), NoMemory> {
         Monitor(1, Ok(64)),
         Tell(1, 0),
     ];
-    run(&rt, world, &steps);
+    close(rt.alloc(), run(&rt, world, &steps))?;
     Ok(())
 }
 

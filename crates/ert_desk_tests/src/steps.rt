@@ -29,7 +29,7 @@ pub(crate) const EIGHT_SLOTS: Settings = Settings {
 };
 
 /// A call, and last what it has to answer.
-#[derive(Clone, Copy, Debug)]
+#[derive(Clone, Copy)]
 pub(crate) enum Step {
     Tick(Reading, Result<Moved, ClockErr>),
     /// A tick with a check.

@@ -4,7 +4,7 @@ use crate::steps::Step::{
     Monotonic, Read, Start, Take,
 };
 use crate::steps::{EIGHT_SLOTS, SETTINGS, timer, until};
-use crate::worlds::{Words, play, play_to_end};
+use crate::worlds::{Left, play, play_to_end};
 use ert_answers::{StartErr, Taken};
 use ert_clock::Moved;
 use ert_defs::OffsetState::Preliminary;
@@ -33,13 +33,13 @@ fn a_cancel_and_an_exit_are_published(rt: HostRuntime) -> Result<(), NoMemory> {
         MarkExit(1, false),
         IsAlive(1, false),
     ];
-    let words = Words {
+    let left = Left {
         time: 2_000_000,
         offset: 9_223_372_036_854_775_809,
         timers: &[4 + 6 * 8 + (1 << 46)],
         processes: &[0, 1],
     };
-    play_to_end(&rt, rt.alloc(), &SETTINGS, &steps, words)
+    play_to_end(&rt, rt.alloc(), &SETTINGS, &steps, left)
 }
 
 /// A reference of another wheel, slot or generation names no timer.

@@ -3,13 +3,14 @@ use crate::steps::{Step, make, same};
 use ert_calls::cancel_timer;
 use ert_defs::{Actor, NoMemory, Settings, TimerRef};
 use ert_sched::World;
+use ert_table::Words;
 use ert_timers::Tally;
 use std::alloc::Global;
 use std::process::Abort;
 
-/// The words of a desk.
+/// What a desk is left with.
 #[derive(Clone, Copy)]
-pub(crate) struct Words<'a> {
+pub(crate) struct Left<'a> {
     pub(crate) time: u64,
     pub(crate) offset: u64,
     pub(crate) timers: &'a [u64],
@@ -22,27 +23,32 @@ pub(crate) fn open(rt: &impl Abort, alloc: Global, settings: &Settings) -> Resul
     World::open(alloc, settings)
 }
 
-/// Opens a world, and makes each step.
+/// Ends a world, and gives the words of its desk.
+pub(crate) fn close(alloc: Global, world: World) -> Result<Words, NoMemory> {
+    let (desk, pass) = world.into_desk();
+    desk.close(alloc, pass)
+}
+
+/// Opens a world, makes each step, and closes it.
 pub(crate) fn play(
     rt: &impl Abort,
     alloc: Global,
     settings: &Settings,
     steps: &[Step],
 ) -> Result<(), NoMemory> {
-    run(rt, open(rt, alloc, settings)?, steps);
+    close(alloc, run(rt, open(rt, alloc, settings)?, steps))?;
     Ok(())
 }
 
-/// Opens a world, and makes each step. The desk is left with these words.
+/// Does the same. These words are left.
 pub(crate) fn play_to_end(
     rt: &impl Abort,
     alloc: Global,
     settings: &Settings,
     steps: &[Step],
-    want: Words,
+    want: Left,
 ) -> Result<(), NoMemory> {
-    let (desk, pass) = run(rt, open(rt, alloc, settings)?, steps).into_desk();
-    let words = desk.close(alloc, pass)?;
+    let words = close(alloc, run(rt, open(rt, alloc, settings)?, steps))?;
     assert!(rt; words.time == want.time, "time {}", words.time);
     assert!(rt; words.offset == want.offset, "offset {}", words.offset);
     same(rt, steps.len(), &words.timers.as_slice(), &want.timers);
