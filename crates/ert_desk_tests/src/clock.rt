@@ -1,9 +1,11 @@
 //! Moves of the clock, and what is published of them.
-use crate::left::{Words, leaves};
+use crate::steps::SETTINGS;
 use crate::steps::Step::{Check, Finalize, Monotonic, Offset, System, Tick};
-use crate::steps::{SETTINGS, open, run};
-use ert_clock::{ClockErr, Moved};
-use ert_defs::{Mode, NoMemory, OffsetState, Reading, Settings};
+use crate::worlds::{Left, play, play_to_end};
+use ert_clock::ClockErr::BadReading;
+use ert_clock::Moved;
+use ert_defs::OffsetState::{Final, Preliminary, Volatile};
+use ert_defs::{Mode, NoMemory, Reading, Settings};
 
 const NANOSECONDS: i64 = 1_000_000_000;
 
@@ -41,26 +43,21 @@ fn a_finalization_is_published(rt: HostRuntime) -> Result<(), NoMemory> {
         correction: true,
         ..SETTINGS
     };
-    let mut world = open(&rt, rt.alloc(), &settings)?;
     let steps = [
         Tick(reading(5, 1005), Ok(moved(5))),
-        Finalize(BAD, Err(ClockErr::BadReading)),
-        Finalize(
-            reading(6, 1006),
-            Ok((OffsetState::Preliminary, shifted(6, 1000))),
-        ),
-        Finalize(reading(7, 1008), Ok((OffsetState::Final, moved(6)))),
-        Finalize(BAD, Err(ClockErr::BadReading)),
+        Finalize(BAD, Err(BadReading)),
+        Finalize(reading(6, 1006), Ok((Preliminary, shifted(6, 1000)))),
+        Finalize(reading(7, 1008), Ok((Final, moved(6)))),
+        Finalize(BAD, Err(BadReading)),
         Tick(reading(7, 1007), Ok(moved(7))),
     ];
-    run(&rt, &mut world, &steps);
-    let words = Words {
+    let left = Left {
         time: 7_000_000_000,
         offset: 9_223_374_036_854_775_809,
         timers: &[0],
         processes: &[0, 0],
     };
-    leaves(&rt, rt.alloc(), world, words)
+    play_to_end(&rt, rt.alloc(), &settings, &steps, left)
 }
 
 /// A volatile offset is moved by a check alone.
@@ -71,21 +68,19 @@ fn a_check_is_published(rt: HostRuntime) -> Result<(), NoMemory> {
         first: reading(0, 10),
         ..SETTINGS
     };
-    let mut world = open(&rt, rt.alloc(), &settings)?;
     let steps = [
         Tick(reading(0, 12), Ok(moved(2))),
-        Check(BAD, Err(ClockErr::BadReading)),
+        Check(BAD, Err(BadReading)),
         Check(reading(0, 11), Ok(shifted(2, 9))),
-        Finalize(reading(0, 11), Ok((OffsetState::Volatile, moved(2)))),
+        Finalize(reading(0, 11), Ok((Volatile, moved(2)))),
     ];
-    run(&rt, &mut world, &steps);
-    let words = Words {
+    let left = Left {
         time: 2_000_000_000,
         offset: 9_223_372_054_854_775_808,
         timers: &[0],
         processes: &[0, 0],
     };
-    leaves(&rt, rt.alloc(), world, words)
+    play_to_end(&rt, rt.alloc(), &settings, &steps, left)
 }
 
 /// OS system time was 7 nanoseconds ahead when the clock was opened.
@@ -95,7 +90,6 @@ fn a_preliminary_offset_is_told(rt: HostRuntime) -> Result<(), NoMemory> {
         first: Reading { mono: 0, sys: 7 },
         ..SETTINGS
     };
-    let mut world = open(&rt, rt.alloc(), &settings)?;
     let half = Moved {
         now: 500_000,
         shift: None,
@@ -109,9 +103,8 @@ fn a_preliminary_offset_is_told(rt: HostRuntime) -> Result<(), NoMemory> {
             Ok(half),
         ),
         Monotonic(500_000),
-        Offset(7, OffsetState::Preliminary),
+        Offset(7, Preliminary),
         System(500_007),
     ];
-    run(&rt, &mut world, &steps);
-    Ok(())
+    play(&rt, rt.alloc(), &settings, &steps)
 }

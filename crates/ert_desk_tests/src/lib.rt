@@ -6,12 +6,10 @@
 #[cfg(test)]
 mod clock;
 #[cfg(test)]
-mod left;
-#[cfg(test)]
 mod mail;
-#[cfg(test)]
-mod others;
 #[cfg(test)]
 mod steps;
 #[cfg(test)]
 mod timers;
+#[cfg(test)]
+mod worlds;

@@ -2,7 +2,8 @@
 use crate::steps::Step::{
     Advance, Ask, Deliver, Demonitor, MarkExit, Monitor, Serve, Start, Take, Tell,
 };
-use crate::steps::{SETTINGS, make, open, run, timer};
+use crate::steps::{SETTINGS, make, timer};
+use crate::worlds::{close, open, play, run};
 use ert_answers::{MonitorErr, Taken};
 use ert_defs::When::After;
 use ert_defs::{Mail, NoMemory};
@@ -27,6 +28,7 @@ fn requests_are_answered_in_order(rt: HostRuntime) -> Result<(), NoMemory> {
         make(&rt, &mut world, 4, Take(1, Taken::Mail(answer)));
     }
     make(&rt, &mut world, 5, Take(1, Taken::Empty));
+    close(rt.alloc(), world)?;
     Ok(())
 }
 
@@ -43,14 +45,13 @@ fn at_most_64_monitors_stand(rt: HostRuntime) -> Result<(), NoMemory> {
         Monitor(1, Ok(64)),
         Tell(1, 0),
     ];
-    run(&rt, &mut world, &steps);
+    close(rt.alloc(), run(&rt, world, &steps))?;
     Ok(())
 }
 
 /// What it asked for is answered, what is delivered to it is thrown away, and it takes nothing.
 #[test]
 fn an_exited_process_takes_nothing(rt: HostRuntime) -> Result<(), NoMemory> {
-    let mut world = open(&rt, rt.alloc(), &SETTINGS)?;
     let steps = [
         Start(After(0), 1, 7, Ok(timer(0, 1))),
         Ask(timer(0, 1), 1, true),
@@ -61,6 +62,5 @@ fn an_exited_process_takes_nothing(rt: HostRuntime) -> Result<(), NoMemory> {
         Deliver(0, 1),
         Take(1, Taken::Exited),
     ];
-    run(&rt, &mut world, &steps);
-    Ok(())
+    play(&rt, rt.alloc(), &SETTINGS, &steps)
 }

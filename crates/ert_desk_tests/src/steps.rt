@@ -8,7 +8,6 @@ use ert_defs::{
     When,
 };
 use ert_sched::World;
-use std::alloc::Global;
 use std::fmt::Debug;
 use std::process::Abort;
 
@@ -30,7 +29,7 @@ pub(crate) const EIGHT_SLOTS: Settings = Settings {
 };
 
 /// A call, and last what it has to answer.
-#[derive(Clone, Copy, Debug)]
+#[derive(Clone, Copy)]
 pub(crate) enum Step {
     Tick(Reading, Result<Moved, ClockErr>),
     /// A tick with a check.
@@ -60,6 +59,11 @@ pub(crate) enum Step {
     Monitor(u32, Result<u32, MonitorErr>),
     Demonitor(u32, u32, bool),
     Tell(u32, u32),
+    /// A cancel of which the wheel is told nothing, as by a thread that doesn't hold it.
+    CancelAlone(TimerRef, Option<u64>),
+    /// How many timers of the wheel were armed, how many expired, how many were cancelled by an exit, and how many
+    /// it holds.
+    Counts([u64; 4]),
 }
 
 /// The clock moves on to this many nanoseconds after the start time, by OS system time alone.
@@ -75,12 +79,6 @@ pub(crate) fn timer(slot: u32, generation: u32) -> TimerRef {
         slot,
         generation,
     }
-}
-
-/// A world that was just opened.
-pub(crate) fn open(rt: &impl Abort, alloc: Global, settings: &Settings) -> Result<World, NoMemory> {
-    assert!(rt; settings.check().is_ok());
-    World::open(alloc, settings)
 }
 
 fn is_scheduler(rt: &impl Abort, world: &World, sched: u32)
@@ -100,16 +98,10 @@ pub(crate) fn same<T: PartialEq + Debug>(rt: &impl Abort, at: usize, got: &T, wa
     assert!(rt; got == want, "step {at}: {got:?}, not {want:?}");
 }
 
-/// Makes each step.
-pub(crate) fn run(rt: &impl Abort, world: &mut World, steps: &[Step]) {
-    for (at, one) in steps.iter().enumerate() {
-        make(rt, world, at, *one);
-    }
-}
-
 /// Makes one step, of which a message tells the number.
 pub(crate) fn make(rt: &impl Abort, world: &mut World, at: usize, one: Step) {
     match one {
+        Step::CancelAlone(..) | Step::Counts(_) => panic!(rt; "step {at} takes a world apart"),
         Step::Tick(reading, want) => same(rt, at, &world.tick(reading, false), &want),
         Step::Check(reading, want) => same(rt, at, &world.tick(reading, true), &want),
         Step::Finalize(reading, want) => same(rt, at, &world.finalize(reading), &want),

@@ -6,7 +6,7 @@ use Rattle.ert_sched.specs.Parts.{parts_of}
 use Rattle.ert_sched.proofs.Calls.{called}
 use Rattle.ert_sched.proofs.Cancelled.{cancel_only}
 use Rattle.ert_sched.proofs.Standing.{caller_back}
-use Rattle.ert_desk_tests.proofs.others.cancel.Goals as goal
+use Rattle.ert_desk_tests.proofs.worlds.cancel.Goals as goal
 
 pub from_parts-requires-clause-fit : goal.from_parts-requires-clause-fit
 from_parts-requires-clause-fit g c =
