@@ -1,7 +1,7 @@
 use Rattle.std.proofs.Common.{List, Option, None, sym, subst}
-use Rattle.ert_wheel_tests.proofs.Trials.{below_set}
-use Rattle.ert_wheel_tests.proofs.wheel.put.Goals as goal
-use Rattle.ert_wheel_tests.specs.Trial.{AreBelow}
+use Rattle.ert_base_tests.proofs.Trials.{below_set}
+use Rattle.ert_base_tests.proofs.wheel.put.Goals as goal
+use Rattle.ert_base_tests.specs.Trial.{AreBelow}
 use Rattle.ert_wheel.specs.declared.row.Key.{Key}
 
 pub insert-requires-clause-newest : goal.insert-requires-clause-newest

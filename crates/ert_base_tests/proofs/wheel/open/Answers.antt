@@ -1,7 +1,7 @@
 use Rattle.std.proofs.Common.{List, Option, sym, subst}
-use Rattle.ert_wheel_tests.proofs.Trials.{below_none}
-use Rattle.ert_wheel_tests.proofs.wheel.open.Goals as goal
-use Rattle.ert_wheel_tests.specs.Trial.{AreBelow}
+use Rattle.ert_base_tests.proofs.Trials.{below_none}
+use Rattle.ert_base_tests.proofs.wheel.open.Goals as goal
+use Rattle.ert_base_tests.specs.Trial.{AreBelow}
 use Rattle.ert_wheel.specs.declared.row.Key.{Key}
 
 pub returns-clause-empty : goal.returns-clause-empty

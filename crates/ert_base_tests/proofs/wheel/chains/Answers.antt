@@ -1,5 +1,5 @@
 use Rattle.std.proofs.Common.{None, refl, arith}
-use Rattle.ert_wheel_tests.proofs.wheel.chains.Goals as goal
+use Rattle.ert_base_tests.proofs.wheel.chains.Goals as goal
 
 pub put-requires : goal.put-requires
 put-requires g c =

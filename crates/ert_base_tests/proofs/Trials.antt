@@ -5,7 +5,7 @@ use Rattle.std.proofs.lemmas.Bool.{cases_eq, cases_lt}
 use Rattle.std.proofs.lemmas.List.{get_or-replicate, get_or_past, length-replicate}
 use Rattle.std.proofs.Math.ListN.{get_or-map}
 use Rattle.ert_wheel.specs.Rows.{key_in, left_at}
-use Rattle.ert_wheel_tests.specs.Trial.{AreBelow}
+use Rattle.ert_base_tests.specs.Trial.{AreBelow}
 use Rattle.ert_wheel.specs.declared.row.Key.{Key}
 
 -- nothing is held
