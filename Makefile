@@ -162,7 +162,7 @@ NAME = ertime-$(VERSION)-x86_64-linux
 EPOCH = $(or $(SOURCE_DATE_EPOCH),$(shell git log -1 --format=%ct 2>/dev/null),0)
 dist: all
 	rm -rf $(B)/dist
-	$(MAKE) install DESTDIR='$(CURDIR)/$(B)/dist/$(NAME)' prefix= exec_prefix= pc_prefix='$${pcfiledir}/../..'
+	$(MAKE) install DESTDIR='$(abspath $(B))/dist/$(NAME)' prefix= exec_prefix= pc_prefix='$$$${pcfiledir}/../..'
 	$(INSTALL_DATA) packaging/README.dist $(B)/dist/$(NAME)/README
 	cd $(B)/dist/$(NAME) && find . -type f ! -name SHA256SUMS -print0 | LC_ALL=C sort -z | xargs -0 sha256sum >SHA256SUMS
 	cd $(B)/dist && tar --sort=name --owner=0 --group=0 --numeric-owner --mtime=@$(EPOCH) -cf - $(NAME) | gzip -9n >$(NAME).tar.gz
@@ -178,8 +178,9 @@ deb: all
 	cp -R packaging/debian $(DEB)/debian
 	$(FILL) -e "s|@DATE@|$$(date -u -R -d @$(EPOCH))|" packaging/debian/changelog.in >$(DEB)/debian/changelog
 	rm $(DEB)/debian/changelog.in
-	$(MAKE) install DESTDIR='$(CURDIR)/$(DEB)/debian/tmp' prefix=/usr libdir=/usr/lib/x86_64-linux-gnu
-	cp $(B)/THIRD-PARTY LICENSE $(DEB)
+	cat $(B)/THIRD-PARTY >>$(DEB)/debian/copyright
+	$(MAKE) install DESTDIR='$(abspath $(DEB))/installed' prefix=/usr libdir=/usr/lib/x86_64-linux-gnu \
+	  zshcompletiondir=/usr/share/zsh/vendor-completions
 	cd $(DEB) && SOURCE_DATE_EPOCH=$(EPOCH) dpkg-buildpackage -b -us -uc -nc -d
 	@ls $(B)/deb/*.deb
 
