@@ -32,6 +32,9 @@ LD = ld
 OBJCOPY = objcopy
 AR = ar
 PYTHON = python3
+# Tells the loader of a library that was installed for this machine itself, where whoever installs may.
+LDCONFIG = ldconfig
+tell_loader = [ -n '$(DESTDIR)' ] || $(LDCONFIG) 2>/dev/null || :
 
 # What was proved: the programs, the library's archive, and the archive of the toolchain by which that one calls
 # malloc. `rt ci` and `packaging/prove` leave them there; other places can be given.
@@ -135,6 +138,7 @@ install: all
 	$(INSTALL_DATA) LICENSE $(B)/THIRD-PARTY docs/scenario.schema.json "$(DESTDIR)$(docdir)"
 	$(INSTALL_DATA) examples/c/event_loop.c examples/c/seats.c examples/ertime/timer_expires.json \
 	  examples/races/two_cancels.json examples/ertaudit/early_expiry.txt "$(DESTDIR)$(docdir)/examples"
+	$(tell_loader)
 
 install-strip:
 	$(MAKE) INSTALL_PROGRAM='$(INSTALL_PROGRAM) -s' install
@@ -156,6 +160,7 @@ uninstall:
 	    at=$$(dirname "$$at"); \
 	  done; \
 	done
+	$(tell_loader)
 
 # A tar archive that can be unpacked anywhere. Its files are the same whenever it is made from the same commit.
 NAME = ertime-$(VERSION)-x86_64-linux
