@@ -38,7 +38,7 @@ tell_loader = [ -n '$(DESTDIR)' ] || $(LDCONFIG) 2>/dev/null || :
 
 # What was proved: the programs, the library's archive, and the archive of the toolchain by which that one calls
 # malloc. `rt ci` and `packaging/prove` leave them there; other places can be given.
-KIT = $(patsubst %/bin/rt,%,$(realpath $(shell command -v rt)))
+KIT = $(patsubst %/bin/rt,%,$(realpath $(shell command -v rt 2>/dev/null)))
 ERTIME = crates/ert_cli/out/ert_cli
 ERTAUDIT = crates/ert_audit/out/ert_audit
 ERT_BENCH = crates/ert_bench/out/ert_bench
