@@ -71,6 +71,7 @@ pages: $(PAGES)
 PROVED = crates/ert_cli/out/ert_cli crates/ert_audit/out/ert_audit crates/ert_bench/out/ert_bench crates/ert_c/out/libert_c.a
 $(PROVED) &:
 	packaging/prove $(filter $(PROVED),$(ERTIME) $(ERTAUDIT) $(ERT_BENCH) $(ARCHIVE))
+.PRECIOUS: $(PROVED)
 
 prove:
 	packaging/prove --anew $(PROVED)
