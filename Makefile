@@ -59,6 +59,8 @@ PAGES1 = $(addsuffix .1,$(PROGRAMS))
 PAGES3 = ertime.3
 PAGES5 = ertime-scenario.5 ertime-history.5
 PAGES = $(addprefix $(B)/man/,$(PAGES1) $(PAGES3) $(PAGES5))
+EXAMPLES = examples/c/event_loop.c examples/c/seats.c examples/ertime/timer_expires.json \
+  examples/races/two_cancels.json examples/ertaudit/early_expiry.txt
 LIBRARIES = $(B)/libertime.a $(B)/$(REAL)
 
 .PHONY: all prove pages install install-strip uninstall dist deb clean
@@ -137,25 +139,24 @@ install: all
 	  $(INSTALL_DATA) completions/$$it.fish "$(DESTDIR)$(fishcompletiondir)" || exit; \
 	done
 	$(INSTALL_DATA) LICENSE $(B)/THIRD-PARTY docs/scenario.schema.json "$(DESTDIR)$(docdir)"
-	$(INSTALL_DATA) examples/c/event_loop.c examples/c/seats.c examples/ertime/timer_expires.json \
-	  examples/races/two_cancels.json examples/ertaudit/early_expiry.txt "$(DESTDIR)$(docdir)/examples"
+	$(INSTALL_DATA) $(EXAMPLES) "$(DESTDIR)$(docdir)/examples"
 	$(tell_loader)
 
 install-strip:
 	$(MAKE) INSTALL_PROGRAM='$(INSTALL_PROGRAM) -s' install
 
-# Removes the files, and then the folders that held them and are empty, up to the prefix. docdir and cmakedir hold
-# nothing else, and go whole.
+# Removes the files, and then the folders that held them and are empty, up to the prefix.
 in = $(foreach it,$(2),"$(DESTDIR)$($(1))/$(it)")
 FOLDERS = $(bindir) $(includedir) $(pkgconfigdir) $(cmakedir) $(libdir) $(mandir)/man1 $(mandir)/man3 $(mandir)/man5 \
-  $(docdir) $(bashcompletiondir) $(zshcompletiondir) $(fishcompletiondir)
+  $(docdir)/examples $(docdir) $(bashcompletiondir) $(zshcompletiondir) $(fishcompletiondir)
 uninstall:
 	rm -f $(call in,bindir,$(PROGRAMS)) $(call in,includedir,ertime.h) $(call in,pkgconfigdir,ertime.pc)
 	rm -f $(call in,libdir,libertime.a libertime.so $(SONAME) $(REAL))
 	rm -f $(call in,mandir,$(addprefix man1/,$(PAGES1)) $(addprefix man3/,$(PAGES3)) $(addprefix man5/,$(PAGES5)))
 	rm -f $(call in,bashcompletiondir,$(PROGRAMS)) $(call in,zshcompletiondir,$(addprefix _,$(PROGRAMS)))
 	rm -f $(call in,fishcompletiondir,$(addsuffix .fish,$(PROGRAMS)))
-	rm -rf "$(DESTDIR)$(docdir)" "$(DESTDIR)$(cmakedir)"
+	rm -f $(call in,cmakedir,ertime-config.cmake ertime-config-version.cmake)
+	rm -f $(call in,docdir,LICENSE THIRD-PARTY scenario.schema.json $(addprefix examples/,$(notdir $(EXAMPLES))))
 	for at in $(FOLDERS); do \
 	  while [ "$$at" != '$(prefix)' ] && [ "$$at" != / ] && { [ ! -e '$(DESTDIR)'"$$at" ] || rmdir '$(DESTDIR)'"$$at" 2>/dev/null; }; do \
 	    at=$$(dirname "$$at"); \
@@ -169,7 +170,7 @@ EPOCH = $(or $(SOURCE_DATE_EPOCH),$(shell git log -1 --format=%ct 2>/dev/null),0
 dist: all
 	rm -rf $(B)/dist
 	$(MAKE) install DESTDIR='$(abspath $(B))/dist/$(NAME)' prefix= exec_prefix= pc_prefix='$$$${pcfiledir}/../..'
-	$(INSTALL_DATA) packaging/README.dist $(B)/dist/$(NAME)/README
+	$(FILL) packaging/README.dist >$(B)/dist/$(NAME)/README
 	cd $(B)/dist/$(NAME) && find . -type f ! -name SHA256SUMS -print0 | LC_ALL=C sort -z | xargs -0 sha256sum >SHA256SUMS
 	cd $(B)/dist && tar --sort=name --owner=0 --group=0 --numeric-owner --mtime=@$(EPOCH) -cf - $(NAME) | gzip -9n >$(NAME).tar.gz
 	cd $(B)/dist && sha256sum $(NAME).tar.gz >$(NAME).tar.gz.sha256
@@ -179,6 +180,7 @@ dist: all
 # Debian's packages of what was built here: ertime, libertime$(MAJOR) and libertime-dev.
 DEB = $(B)/deb/ertime-$(VERSION)
 deb: all
+	@command -v dpkg-buildpackage dh >/dev/null || { echo 'make deb needs the packages dpkg-dev and debhelper'; exit 1; }
 	rm -rf $(B)/deb
 	mkdir -p $(DEB)
 	cp -R packaging/debian $(DEB)/debian
