@@ -52,7 +52,7 @@ int main(void) {
         .correction = 1,
         .schedulers = 1,
         .processes = 1,
-        .slots = 64,
+        .slots = 64, /* two timers at once; more slots let a service take more starts in its life */
         .callers = 1,
         .first = read_clocks(),
     };

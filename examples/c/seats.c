@@ -106,7 +106,7 @@ int main(void) {
         .size = sizeof settings,
         .schedulers = 1,
         .processes = 1,
-        .slots = TIMERS,
+        .slots = TIMERS, /* one for each start, so no start finds the wheel full */
         .callers = THREADS + 1,
     };
     must("ert_world_open", ert_world_open(&world, &settings));

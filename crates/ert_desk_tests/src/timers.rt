@@ -1,0 +1,141 @@
+//! Timers of a wheel, which takes its slots from the last one on.
+use crate::left::{Words, counts, leaves};
+use crate::steps::Step::{
+    Advance, Cancel, Deliver, Exit, Finalize, IsAlive, MarkExit, Monotonic, Read, Start, Take,
+};
+use crate::steps::{EIGHT_SLOTS, SETTINGS, open, run, timer, until};
+use ert_answers::Taken;
+use ert_clock::Moved;
+use ert_defs::When::{After, At};
+use ert_defs::{Mail, NoMemory, OffsetState, Reading, TimerRef};
+
+/// The word of a slot has the status, the deadline and the generation of its last timer.
+#[test]
+fn a_cancel_and_an_exit_are_published(rt: HostRuntime) -> Result<(), NoMemory> {
+    let mut world = open(&rt, rt.alloc(), &SETTINGS)?;
+    let second = Reading {
+        mono: 0,
+        sys: 2_000_000,
+    };
+    let shifted = Moved {
+        now: 2_000_000,
+        shift: Some(0),
+    };
+    let steps = [
+        until(1_000_000),
+        Monotonic(1_000_000),
+        Start(After(5), 0, 7, Ok(timer(0, 1))),
+        Finalize(second, Ok((OffsetState::Preliminary, shifted))),
+        Cancel(timer(0, 1), Some(4)),
+        IsAlive(1, true),
+        MarkExit(1, true),
+        MarkExit(1, false),
+        IsAlive(1, false),
+    ];
+    run(&rt, &mut world, &steps);
+    let words = Words {
+        time: 2_000_000,
+        offset: 9_223_372_036_854_775_809,
+        timers: &[4 + 6 * 8 + (1 << 46)],
+        processes: &[0, 1],
+    };
+    leaves(&rt, rt.alloc(), world, words)
+}
+
+/// A reference of another wheel, slot or generation names no timer.
+#[test]
+fn a_reference_names_one_timer(rt: HostRuntime) -> Result<(), NoMemory> {
+    let mut world = open(&rt, rt.alloc(), &SETTINGS)?;
+    let one = timer(0, 1);
+    let wheel = TimerRef { wheel: 1, ..one };
+    let steps = [
+        Start(After(5), 0, 7, Ok(one)),
+        until(500_000),
+        Cancel(wheel, None),
+        Read(wheel, None),
+        Cancel(timer(1, 1), None),
+        Read(timer(1, 1), None),
+        Cancel(timer(0, 0), None),
+        Read(timer(0, 0), None),
+        Cancel(timer(0, 2), None),
+        Read(timer(0, 2), None),
+        Cancel(timer(0, 262_144), None),
+        Read(timer(0, 262_144), None),
+        Read(one, Some(4)),
+        Cancel(one, Some(4)),
+        Read(one, None),
+        Cancel(one, None),
+    ];
+    run(&rt, &mut world, &steps);
+    Ok(())
+}
+
+/// Each use of a slot has a reference of its own.
+#[test]
+fn a_slot_is_used_three_times(rt: HostRuntime) -> Result<(), NoMemory> {
+    let mut world = open(&rt, rt.alloc(), &SETTINGS)?;
+    let steps = [
+        Start(After(4), 1, 0, Ok(timer(0, 1))),
+        Cancel(timer(0, 1), Some(4)),
+        Start(After(4), 1, 0, Ok(timer(0, 2))),
+        Cancel(timer(0, 2), Some(4)),
+        Start(After(4), 1, 0, Ok(timer(0, 3))),
+        Cancel(timer(0, 3), Some(4)),
+    ];
+    run(&rt, &mut world, &steps);
+    counts(&rt, world, [3, 0, 0, 0]);
+    Ok(())
+}
+
+/// What a process finds of a timer.
+fn timeout(timer: TimerRef, msg: u64) -> Taken {
+    Taken::Mail(Mail::Timeout { timer, msg })
+}
+
+/// All that is due expires by one advance, in order of deadline, however long the last one was ago.
+#[test]
+fn two_hours_pass_at_once(rt: HostRuntime) -> Result<(), NoMemory> {
+    let mut world = open(&rt, rt.alloc(), &EIGHT_SLOTS)?;
+    let steps = [
+        Start(After(7_200_001), 1, 1, Ok(timer(7, 1))),
+        Start(After(7_200_000), 1, 2, Ok(timer(6, 1))),
+        Start(After(1), 1, 3, Ok(timer(5, 1))),
+        Start(After(3_600_000), 1, 4, Ok(timer(4, 1))),
+        until(7_200_000_000_000),
+        Start(At(3), 1, 5, Ok(timer(3, 1))),
+        Advance(7_200_000, 4),
+        Deliver(4, 0),
+        Take(1, timeout(timer(5, 1), 3)),
+        Take(1, timeout(timer(3, 1), 5)),
+        Take(1, timeout(timer(4, 1), 4)),
+        Take(1, timeout(timer(6, 1), 2)),
+        Take(1, Taken::Empty),
+    ];
+    run(&rt, &mut world, &steps);
+    counts(&rt, world, [5, 4, 0, 1]);
+    Ok(())
+}
+
+/// An exit cancels the timers of its process alone, and one that is started later is cancelled at once.
+#[test]
+fn an_exit_cancels_the_timers_of_one_process(rt: HostRuntime) -> Result<(), NoMemory> {
+    let mut world = open(&rt, rt.alloc(), &EIGHT_SLOTS)?;
+    let exit = [
+        Start(After(5), 1, 0, Ok(timer(7, 1))),
+        Start(After(5), 0, 0, Ok(timer(6, 1))),
+        Start(After(5), 1, 0, Ok(timer(5, 1))),
+        Exit(1, true),
+        Read(timer(7, 1), None),
+        Read(timer(6, 1), Some(5)),
+        Read(timer(5, 1), None),
+    ];
+    run(&rt, &mut world, &exit);
+    let mut world = counts(&rt, world, [3, 0, 2, 1]);
+    let later = [
+        Start(After(4), 1, 0, Ok(timer(7, 2))),
+        Read(timer(7, 2), None),
+    ];
+    run(&rt, &mut world, &later);
+    counts(&rt, world, [4, 0, 3, 1]);
+    Ok(())
+}
