@@ -83,8 +83,10 @@ $(B)/symbols: include/ertime.h
 	mkdir -p $(B)
 	sed -n 's/^int32_t \(ert_[a-z_]*\)(.*/\1/p' $< >$@
 
-# Both archives as one object, in which every other name is local.
-$(B)/ertime.o: $(ARCHIVE) $(HEAP) $(B)/symbols
+# Both archives as one object, in which every other name is local. (Whoever installs may not have the toolchain on
+# the path: so nothing here depends on a file of it.)
+$(B)/ertime.o: $(ARCHIVE) $(B)/symbols
+	@[ -f '$(HEAP)' ] || { echo "there is no $(HEAP): rt isn't on the path, or HEAP has to say where it is"; exit 1; }
 	$(LD) -r --whole-archive $(ARCHIVE) $(HEAP) -o $@
 	$(OBJCOPY) --keep-global-symbols=$(B)/symbols $@
 
