@@ -2,7 +2,7 @@
  * An event loop: it sleeps until the next timer may be due, reads the clocks, makes a turn, and takes the
  * messages. One timer starts itself again, as an interval would, and another is cancelled.
  *
- *     cc event_loop.c -Iinclude libert_c.a liblibc_c.a -o event_loop
+ *     cc event_loop.c -o event_loop $(pkg-config --cflags --libs ertime)
  */
 #define _POSIX_C_SOURCE 199309L
 #include <inttypes.h>
