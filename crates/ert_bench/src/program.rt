@@ -99,8 +99,8 @@ fn write<O: Sink>(output: &mut O, text: &str) -> bool
 
 /// The status after a text was to be written.
 fn written(whole: bool, status: BenchStatus) -> BenchStatus
-    ensures { result ≡ BenchStatus.Done → status ≡ BenchStatus.Done }
-    ensures { result ≡ BenchStatus.Usage → status ≡ BenchStatus.Usage }
+    ensures done { result ≡ BenchStatus.Done → status ≡ BenchStatus.Done }
+    ensures usage { result ≡ BenchStatus.Usage → status ≡ BenchStatus.Usage }
 {
     if whole {
         status
