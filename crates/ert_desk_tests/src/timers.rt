@@ -1,13 +1,13 @@
 //! Timers of a wheel, which takes its slots from the last one on.
 use crate::steps::Step::{
     Advance, Cancel, CancelAlone, Counts, Deliver, Exit, Finalize, IsAlive, LastTurn, MarkExit,
-    Monotonic, Read, Start, Take,
+    Monotonic, Offset, Read, Start, Take,
 };
 use crate::steps::{EIGHT_SLOTS, SETTINGS, timer, until};
 use crate::worlds::{Left, play, play_to_end};
 use ert_answers::{StartErr, Taken};
 use ert_clock::Moved;
-use ert_defs::OffsetState::Preliminary;
+use ert_defs::OffsetState::{Final, Preliminary};
 use ert_defs::When::{After, At};
 use ert_defs::{Mail, NoMemory, Reading, TimerRef};
 
@@ -27,6 +27,7 @@ fn a_cancel_and_an_exit_are_published(rt: HostRuntime) -> Result<(), NoMemory> {
         Monotonic(1_000_000),
         Start(After(5), 0, 7, Ok(timer(0, 1))),
         Finalize(second, Ok((Preliminary, shifted))),
+        Offset(0, Final),
         Cancel(timer(0, 1), Some(4)),
         IsAlive(1, true),
         MarkExit(1, true),
