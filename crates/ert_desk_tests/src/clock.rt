@@ -1,7 +1,7 @@
 //! Moves of the clock, and what is published of them.
 use crate::steps::SETTINGS;
 use crate::steps::Step::{Check, Finalize, Monotonic, Offset, System, Tick};
-use crate::worlds::{Left, play, play_to_end};
+use crate::worlds::{Left, make_all, make_all_to_end};
 use ert_clock::ClockErr::BadReading;
 use ert_clock::Moved;
 use ert_defs::OffsetState::{Final, Preliminary, Volatile};
@@ -57,7 +57,7 @@ fn a_finalization_is_published(rt: HostRuntime) -> Result<(), NoMemory> {
         timers: &[0],
         processes: &[0, 0],
     };
-    play_to_end(&rt, rt.alloc(), &settings, &steps, left)
+    make_all_to_end(&rt, rt.alloc(), &settings, &steps, left)
 }
 
 /// A volatile offset is moved by a check alone.
@@ -80,7 +80,7 @@ fn a_check_is_published(rt: HostRuntime) -> Result<(), NoMemory> {
         timers: &[0],
         processes: &[0, 0],
     };
-    play_to_end(&rt, rt.alloc(), &settings, &steps, left)
+    make_all_to_end(&rt, rt.alloc(), &settings, &steps, left)
 }
 
 /// OS system time was 7 nanoseconds ahead when the clock was opened.
@@ -106,5 +106,5 @@ fn a_preliminary_offset_is_told(rt: HostRuntime) -> Result<(), NoMemory> {
         Offset(7, Preliminary),
         System(500_007),
     ];
-    play(&rt, rt.alloc(), &settings, &steps)
+    make_all(&rt, rt.alloc(), &settings, &steps)
 }

@@ -3,7 +3,7 @@ use crate::steps::Step::{
     Advance, Ask, Deliver, Demonitor, MarkExit, Monitor, Serve, Start, Take, Tell,
 };
 use crate::steps::{SETTINGS, make, timer};
-use crate::worlds::{close, open, play, run};
+use crate::worlds::{close, make_all, open, run};
 use ert_answers::{MonitorErr, Taken};
 use ert_defs::When::After;
 use ert_defs::{Mail, NoMemory};
@@ -62,5 +62,5 @@ fn an_exited_process_takes_nothing(rt: HostRuntime) -> Result<(), NoMemory> {
         Deliver(0, 1),
         Take(1, Taken::Exited),
     ];
-    play(&rt, rt.alloc(), &SETTINGS, &steps)
+    make_all(&rt, rt.alloc(), &SETTINGS, &steps)
 }

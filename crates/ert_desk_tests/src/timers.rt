@@ -1,13 +1,13 @@
 //! Timers of a wheel, which takes its slots from the last one on.
 use crate::steps::Step::{
     Advance, Cancel, CancelAlone, Counts, Deliver, Exit, Finalize, IsAlive, LastTurn, MarkExit,
-    Monotonic, Read, Start, Take,
+    Monotonic, Offset, Read, Start, Take,
 };
 use crate::steps::{EIGHT_SLOTS, SETTINGS, timer, until};
-use crate::worlds::{Left, play, play_to_end};
+use crate::worlds::{Left, make_all, make_all_to_end};
 use ert_answers::{StartErr, Taken};
 use ert_clock::Moved;
-use ert_defs::OffsetState::Preliminary;
+use ert_defs::OffsetState::{Final, Preliminary};
 use ert_defs::When::{After, At};
 use ert_defs::{Mail, NoMemory, Reading, TimerRef};
 
@@ -27,6 +27,7 @@ fn a_cancel_and_an_exit_are_published(rt: HostRuntime) -> Result<(), NoMemory> {
         Monotonic(1_000_000),
         Start(After(5), 0, 7, Ok(timer(0, 1))),
         Finalize(second, Ok((Preliminary, shifted))),
+        Offset(0, Final),
         Cancel(timer(0, 1), Some(4)),
         IsAlive(1, true),
         MarkExit(1, true),
@@ -39,7 +40,7 @@ fn a_cancel_and_an_exit_are_published(rt: HostRuntime) -> Result<(), NoMemory> {
         timers: &[4 + 6 * 8 + (1 << 46)],
         processes: &[0, 1],
     };
-    play_to_end(&rt, rt.alloc(), &SETTINGS, &steps, left)
+    make_all_to_end(&rt, rt.alloc(), &SETTINGS, &steps, left)
 }
 
 /// A reference of another wheel, slot or generation names no timer.
@@ -65,7 +66,7 @@ fn a_reference_names_one_timer(rt: HostRuntime) -> Result<(), NoMemory> {
         Read(one, None),
         Cancel(one, None),
     ];
-    play(&rt, rt.alloc(), &SETTINGS, &steps)
+    make_all(&rt, rt.alloc(), &SETTINGS, &steps)
 }
 
 /// Each use of a slot has a reference of its own.
@@ -80,7 +81,7 @@ fn a_slot_is_used_three_times(rt: HostRuntime) -> Result<(), NoMemory> {
         Cancel(timer(0, 3), Some(4)),
         Counts([3, 0, 0, 0]),
     ];
-    play(&rt, rt.alloc(), &SETTINGS, &steps)
+    make_all(&rt, rt.alloc(), &SETTINGS, &steps)
 }
 
 /// What a process finds of a timer.
@@ -107,7 +108,7 @@ fn two_hours_pass_at_once(rt: HostRuntime) -> Result<(), NoMemory> {
         Take(1, Taken::Empty),
         Counts([5, 4, 0, 1]),
     ];
-    play(&rt, rt.alloc(), &EIGHT_SLOTS, &steps)
+    make_all(&rt, rt.alloc(), &EIGHT_SLOTS, &steps)
 }
 
 /// An exit cancels the timers of its process alone, and one that is started later is cancelled at once.
@@ -126,7 +127,7 @@ fn an_exit_cancels_the_timers_of_one_process(rt: HostRuntime) -> Result<(), NoMe
         Read(timer(7, 2), None),
         Counts([4, 0, 3, 1]),
     ];
-    play(&rt, rt.alloc(), &EIGHT_SLOTS, &steps)
+    make_all(&rt, rt.alloc(), &EIGHT_SLOTS, &steps)
 }
 
 /// A slot is free again once its timer was cancelled, though the wheel wasn't told, and not while its timer has
@@ -146,7 +147,7 @@ fn a_full_wheel_looks_at_its_slots(rt: HostRuntime) -> Result<(), NoMemory> {
         Deliver(1, 0),
         Start(After(4), 1, 0, Ok(timer(0, 3))),
     ];
-    play(&rt, rt.alloc(), &SETTINGS, &steps)
+    make_all(&rt, rt.alloc(), &SETTINGS, &steps)
 }
 
 /// A wheel that wasn't told of a cancel holds the timer until a last turn looks at all that it holds.
@@ -162,5 +163,5 @@ fn a_last_turn_drops_what_was_cancelled(rt: HostRuntime) -> Result<(), NoMemory>
         Counts([2, 0, 0, 1]),
         Read(timer(6, 1), Some(5)),
     ];
-    play(&rt, rt.alloc(), &EIGHT_SLOTS, &steps)
+    make_all(&rt, rt.alloc(), &EIGHT_SLOTS, &steps)
 }

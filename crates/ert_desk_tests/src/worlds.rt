@@ -1,4 +1,4 @@
-//! Worlds that a table of steps is played on.
+//! Worlds on which the steps of a table are made.
 use crate::steps::{Step, make, same};
 use ert_calls::cancel_timer;
 use ert_defs::{Actor, NoMemory, Settings, TimerRef};
@@ -30,7 +30,7 @@ pub(crate) fn close(alloc: Global, world: World) -> Result<Words, NoMemory> {
 }
 
 /// Opens a world, makes each step, and closes it.
-pub(crate) fn play(
+pub(crate) fn make_all(
     rt: &impl Abort,
     alloc: Global,
     settings: &Settings,
@@ -41,7 +41,7 @@ pub(crate) fn play(
 }
 
 /// Does the same. These words are left.
-pub(crate) fn play_to_end(
+pub(crate) fn make_all_to_end(
     rt: &impl Abort,
     alloc: Global,
     settings: &Settings,
