@@ -1,7 +1,10 @@
 //! The commands `live` and `stress`.
-use super::{ends, sound};
+use super::{Given, ends, sound};
 use ert_program::EndStatus;
+use std::alloc::AllocError;
+use std::sync::Wait;
 use std::test::Fail;
+use std::thread::Threads;
 
 const READINGS: [(i64, i64); 3] = [
     (5_000_000_000, 1_767_225_600_000_000_000),
@@ -61,14 +64,24 @@ const LIVE_ROWS: [LiveRow; 7] = [
     ),
 ];
 
+/// Whether a row is what the program does.
+fn is_right<R: AllocGlobal + Threads + Wait + Sync>(
+    rt: &R,
+    (count, readings, reading, status, lines): LiveRow,
+) -> Result<bool, AllocError> {
+    let words = ["live", count];
+    let given = Given {
+        readings,
+        reading,
+        ..sound(&words, &[])
+    };
+    ends(rt, given, status, lines)
+}
+
 #[test]
 fn tells_both_times_of_each_reading(rt: HostRuntime) -> Result<(), Fail> {
-    for (count, readings, reading, status, lines) in LIVE_ROWS {
-        let words = ["live", count];
-        let mut given = sound(&words, &[]);
-        given.readings = readings;
-        given.reading = reading;
-        assert!(rt; ends(&rt, given, status, lines)?, "{count}: {lines}");
+    for (number, row) in LIVE_ROWS.iter().enumerate() {
+        assert!(rt; is_right(&rt, *row)?, "row {number}");
     }
     Ok(())
 }
