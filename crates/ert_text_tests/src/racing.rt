@@ -7,18 +7,18 @@ ghost use Rattle.ert_ops.specs.Ranges.{IsInRange};
 use ert_io::MemSink;
 use ert_race::run_race;
 use ert_scenario::{Scenario, read_scenario, scenarios_are_valid};
-use ert_shared::Gate;
+use ert_shared::LedgerGate;
 use std::alloc::Global;
 use std::sync::Wait;
 use std::thread::Threads;
 
 /// A sink that holds the report of a scenario with a race, over a gate. None where the text is no such
 /// scenario, or memory ran out.
-fn report_of<R: Threads + Wait + Sync, G: Gate + Sync>(
+fn report_of<R: Threads + Wait + Sync>(
     rt: &R,
     alloc: Global,
     input: &str,
-    gate: &G,
+    gate: &LedgerGate,
 ) -> Option<MemSink> {
     scenarios_are_valid();
     let Ok(scenario) = read_scenario(alloc, input.as_bytes(), true) else {
@@ -33,11 +33,11 @@ fn report_of<R: Threads + Wait + Sync, G: Gate + Sync>(
 }
 
 /// Runs the race of a scenario and writes its report; false where memory ran out.
-fn run_scenario<R: Threads + Wait + Sync, G: Gate + Sync>(
+fn run_scenario<R: Threads + Wait + Sync>(
     rt: &R,
     alloc: Global,
     scenario: &Scenario,
-    gate: &G,
+    gate: &LedgerGate,
     sink: &mut MemSink,
 ) -> bool
     requires checked { IsChecked scenario.now.settings }
@@ -61,11 +61,11 @@ fn run_scenario<R: Threads + Wait + Sync, G: Gate + Sync>(
 }
 
 /// Whether a race comes to its end, and its report is one of these.
-pub(crate) fn reports_one_of<R: Threads + Wait + Sync, G: Gate + Sync>(
+pub(crate) fn reports_one_of<R: Threads + Wait + Sync>(
     rt: &R,
     alloc: Global,
     input: &str,
-    gate: &G,
+    gate: &LedgerGate,
     reports: &[&str],
 ) -> bool {
     match report_of(rt, alloc, input, gate) {

@@ -1,12 +1,10 @@
-//! Worked races, and the reports that may come of each.
+//! Races over gates that hold a step. What comes of these races where nothing holds a thread is shown by
+//! `examples/races`.
 //!
 //! In all of them there is one scheduler. So worker 0 does the keeper list, worker 1 makes the turns, and worker
 //! 2 and the workers after it do the lists of the callers from 1 on.
 use crate::racing::reports_one_of;
-use ert_shared::{FreeGate, LedgerGate};
-
-/// How often each race is run over a gate that holds nobody.
-const RUNS: u32 = 100;
+use ert_shared::LedgerGate;
 
 /// How often a gate tries before it lets go.
 const TRIES: u64 = 20_000_000;
@@ -36,10 +34,6 @@ const RECEIVED: &str =
     "start ok\ntick 1000000\nkeeper\ncaller 1\ncancel false\nreceive timeout 1 7\n\
     settled armed 0 expired 0 delivered 1 dropped 0 cancelled 0 orphaned 0\nend 1000000\n";
 
-const NOT_YET_THERE: &str =
-    "start ok\ntick 1000000\nkeeper\ncaller 1\ncancel false\nreceive empty\n\
-    settled armed 0 expired 0 delivered 1 dropped 0 cancelled 0 orphaned 0\nend 1000000\n";
-
 // A process exits, beside a caller that starts a timer for it: the timer never stays armed.
 const EXIT_AND_START: &str = r#"{"format":1,"processes":2,"first":[0,0],"ops":[],
     "race":{"turns":0,"keeper":[],"callers":[[["exit",1]],[["start",1,0,"rel",5,1,0],["read",1]]]}}"#;
@@ -53,18 +47,10 @@ const READ_TOO_LATE: &str = "keeper\ncaller 1\nexit ok\ncaller 2\nstart ok\nread
 const READ_OR_NOT: [&str; 2] = [READ_IN_TIME, READ_TOO_LATE];
 
 // Time passes and its offset is moved, beside a caller that asks for system time: it looks up a time, and then
-// an offset. 9 s is the time before the tick with the offset after the check.
+// an offset.
 const WARP: &str =
     r#"{"format":1,"mode":"multi","correction":false,"first":[0,10000000000],"ops":[],
     "race":{"turns":0,"keeper":[["tick",0,12000000000],["check",0,11000000000]],"callers":[[["system"]]]}}"#;
-
-const AT_9: &str =
-    "keeper\ntick 2000000000\ncheck 2000000000 offset 9000000000\ncaller 1\nsystem 9000000000\n\
-    settled armed 0 expired 0 delivered 0 dropped 0 cancelled 0 orphaned 0\nend 2000000000\n";
-
-const AT_10: &str =
-    "keeper\ntick 2000000000\ncheck 2000000000 offset 9000000000\ncaller 1\nsystem 10000000000\n\
-    settled armed 0 expired 0 delivered 0 dropped 0 cancelled 0 orphaned 0\nend 2000000000\n";
 
 const AT_11: &str =
     "keeper\ntick 2000000000\ncheck 2000000000 offset 9000000000\ncaller 1\nsystem 11000000000\n\
@@ -73,24 +59,6 @@ const AT_11: &str =
 const AT_12: &str =
     "keeper\ntick 2000000000\ncheck 2000000000 offset 9000000000\ncaller 1\nsystem 12000000000\n\
     settled armed 0 expired 0 delivered 0 dropped 0 cancelled 0 orphaned 0\nend 2000000000\n";
-
-#[test]
-fn over_a_gate_that_holds_nobody(rt: HostRuntime) {
-    let rows: [(&str, &[&str]); 4] = [
-        (TWO_CANCELS, &EITHER_CANCELS),
-        (CANCEL_OR_EXPIRY, &[CANCELLED, RECEIVED, NOT_YET_THERE]),
-        (EXIT_AND_START, &READ_OR_NOT),
-        (WARP, &[AT_9, AT_10, AT_11, AT_12]),
-    ];
-    for (race, reports) in rows {
-        for _ in 0..RUNS {
-            assert!(rt;
-                reports_one_of(&rt, rt.alloc(), race, &FreeGate, reports),
-                "of {race}"
-            );
-        }
-    }
-}
 
 // Each row holds the first step of a worker until a step of another has begun. No gate lets go, so the workers
 // run at once: the first two rows hold either of two workers until the other has begun, and were these run one

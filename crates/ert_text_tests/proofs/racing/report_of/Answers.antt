@@ -1,7 +1,7 @@
 use Rattle.std.proofs.Common.{true}
 use Rattle.ert_race.proofs.Listed.{wanted_of}
 use Rattle.ert_scenario.specs.Scenarios.{plan_of}
-use Rattle.ert_race_tests.proofs.racing.report_of.Goals as goal
+use Rattle.ert_text_tests.proofs.racing.report_of.Goals as goal
 
 pub run_scenario-requires-clause-checked : goal.run_scenario-requires-clause-checked
 run_scenario-requires-clause-checked g c = λ κs bounds. c.scenarios_are_valid.ensures.settings true _ (plan_of c.in-Ok.scenario) c.in-Ok.ensures.ok
