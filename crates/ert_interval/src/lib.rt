@@ -28,7 +28,7 @@
 //! of its intervals in order of number: the read of the last timer, the look at the destination and the start
 //! of the next timer (specs/Going). So each timer that a turn starts is the new firing of an interval.
 //!
-//! The first test of the crate `ert_interval_tests` is an example of its use.
+//! The module `intervals` of the tests of the crate `ert_world_tests` is an example of its use.
 //!
 //! **Cost.** A turn reads the last timer of each Running or Waiting interval of its wheel, in order of
 //! number, and passes over the others.
