@@ -10,7 +10,6 @@ from dataclasses import dataclass
 
 from .course import Vertex, course, mono_at
 from .replay import MILLISECOND, Run, Timer
-from .scenario import READINGS
 
 SLOT = 18.0
 WIDE_SLOT = 40.0
@@ -45,8 +44,8 @@ class Axis:
         self.stretches = course(run)
         self.nows = [reading.now for reading in run.readings]
         slots = [0] * len(run.readings)
-        for op, number in zip(run.ops, run.current):
-            slots[number] += not self.is_mark(op)
+        for place, number in enumerate(run.current):
+            slots[number] += not self.is_reading(place)
         self.is_small = sum(slots) <= SMALL and len(slots) <= SMALL
         self.tail = self._tail()
         self.pieces = [self._pieces(number) for number in range(len(run.readings))]
@@ -57,10 +56,9 @@ class Axis:
         self._lay(bands)
         self._places()
 
-    @staticmethod
-    def is_mark(op: list[object]) -> bool:
-        """Whether an op stands at the left edge of a reading: it is that reading."""
-        return op[0] in READINGS
+    def is_reading(self, place: int) -> bool:
+        """Whether an op took the reading at which it stands, and so has no place in its band."""
+        return self.run.readings[self.run.current[place]].place == place
 
     def deadline_time(self, timer: Timer) -> int:
         """The Erlang monotonic time at which a timer is due."""
@@ -158,8 +156,8 @@ class Axis:
         """Where each op stands."""
         self.ops: list[float] = []
         done = [0] * len(self.lefts)
-        for op, number in zip(self.run.ops, self.run.current):
-            if self.is_mark(op):
+        for place, number in enumerate(self.run.current):
+            if self.is_reading(place):
                 self.ops.append(self.lefts[number])
             else:
                 done[number] += 1

@@ -4,7 +4,7 @@ from __future__ import annotations
 from collections import Counter
 
 from .axis import Axis
-from .replay import Timer
+from .replay import MILLISECOND, Timer
 from .svg import Drawing, num, span
 
 FATES = ("delivered", "cancelled", "orphaned", "dropped", "expired", "armed")
@@ -49,9 +49,9 @@ def cut_up(axis: Axis, timer: Timer) -> tuple[list[tuple[str, float, float]], fl
 def words_of(timer: Timer) -> str:
     """What became of a timer, in a few words."""
     if timer.fate == "delivered":
-        return f"delivered, {-timer.left} ms late" if timer.left < 0 else "delivered on time"
+        return f"delivered {span(-timer.left * MILLISECOND)} late" if timer.left < 0 else "delivered on time"
     if timer.fate == "cancelled":
-        return f"cancelled, {timer.left} ms left"
+        return f"cancelled, {span(timer.left * MILLISECOND)} left"
     return TOLD[timer.fate].split(":")[0]
 
 
@@ -192,8 +192,3 @@ def legend(drawing: Drawing, axis: Axis, top: float) -> float:
             drawing.text("soft small", x + 28, top + 13, words)
             x += 42 + len(words) * 6.2
     return top + 18 if there else top
-
-
-def deadline_words(axis: Axis, timer: Timer) -> str:
-    """The deadline of a timer as a time."""
-    return span(axis.deadline_time(timer))

@@ -178,13 +178,13 @@ def _grid(drawing: Drawing, axis: Axis, y_of: Callable[[float], float], low: int
     """The lines of equal differences, with their values."""
     step = step_of(high - low)
     value = -(-low // step) * step
-    values = [0] if is_flat else []
+    values, most = [0] if is_flat else [], max(high, -low)
     while not is_flat and value <= high:
         values.append(value)
         value += step
     for it in values:
         drawing.line("edge" if it == 0 else "grid", axis.left_edge, y_of(it), axis.right_edge, y_of(it))
-        drawing.text("soft small", axis.left_edge - 6, y_of(it) + 4, "even" if it == 0 else signed(it), "end")
+        drawing.text("soft small", axis.left_edge - 6, y_of(it) + 4, "even" if it == 0 else signed(it, most), "end")
 
 
 def _flag(drawing: Drawing, flag: Flag, y: float, top: float, height: float, x: float, anchor: str) -> None:

@@ -75,9 +75,9 @@ SHAPES = """text { font-family: system-ui, 'Segoe UI', 'Noto Sans', 'DejaVu Sans
 .title { font-size: 15px; font-weight: 600; }
 .small { font-size: 11px; }
 line, polyline, .open { fill: none !important; }
-.os { stroke-width: 8; stroke-linejoin: round; }
-.sys { stroke-width: 4; stroke-linejoin: round; }
-.mono { stroke-width: 1.4; stroke-linejoin: round; }
+.os { stroke-width: 9; stroke-linejoin: round; }
+.sys { stroke-width: 5; stroke-linejoin: round; }
+.mono { stroke-width: 2; stroke-linejoin: round; }
 .leap { stroke-dasharray: 1 3; }
 .warp { stroke-dasharray: 6 3; stroke-width: 1.4; }
 .rest { stroke-dasharray: 3 2; }
@@ -123,27 +123,26 @@ def seconds(time: int) -> str:
     return _decimal(time, 10**9, 6) + " s"
 
 
-def span(time: int) -> str:
-    """A duration in the unit that fits it."""
-    size = abs(time)
-    if size == 0:
+UNITS = ((10**3, 1, "ns"), (10**6, 10**3, "\u00b5s"), (10**9, 10**6, "ms"), (10**13, 10**9, "s"))
+HOUR = 3600 * 10**9
+
+
+def span(time: int, like: int | None = None) -> str:
+    """A duration in the unit that fits it, or that fits another one."""
+    size = abs(time if like is None else like)
+    if time == 0:
         return "0"
-    if size < 10**3:
-        return _decimal(time, 1, 0) + " ns"
-    if size < 10**6:
-        return _decimal(time, 10**3, 3) + " \u00b5s"
-    if size < 10**9:
-        return _decimal(time, 10**6, 3) + " ms"
-    if size < 10**13:
-        return _decimal(time, 10**9, 3) + " s"
-    if size < 86400 * 10**10:
-        return _decimal(time, 3600 * 10**9, 2) + " h"
-    return _decimal(time, 86400 * 10**9, 1) + " days"
+    for limit, unit, name in UNITS:
+        if size < limit:
+            return f"{_decimal(time, unit, 6)} {name}"
+    if size < 10_000 * HOUR:
+        return _decimal(time, HOUR, 2) + " h"
+    return _decimal(time, 24 * HOUR, 1) + " days"
 
 
-def signed(time: int) -> str:
+def signed(time: int, like: int | None = None) -> str:
     """A duration with its sign."""
-    return "+" + span(time) if time > 0 else span(time)
+    return "+" + span(time, like) if time > 0 else span(time, like)
 
 
 class Drawing:
