@@ -366,14 +366,14 @@ def wrong_timer(state: State, entry: Entry) -> str | None:
 
 def wrong_slot(state: State, entry: Entry) -> str | None:
     """What an arm or a probe breaks."""
-    place = entry.fields[0][:2] if entry.event == "arm" else entry.fields[:2]
+    place = place_of(entry)
     generation = state.last.get(place, 0)
-    row = state.rows.get((*place, generation))
+    row = state.rows.get((place[0], place[1], generation))
     status = row.status if row else None
     if entry.event == "probe":
         return None if entry.fields[2] == status else f"the slot's last timer is {status or 'none'}"
     if status in ("armed", "expired"):
-        return f"the slot is taken: {ref((*place, generation))} is {status}"
+        return f"the slot is taken: {ref((place[0], place[1], generation))} is {status}"
     if entry.fields[0][2] != generation + 1 or generation + 1 > MOST_USES:
         return f"the slot's next generation is {generation + 1}"
     if entry.fields[1][0] == "after" and entry.fields[1][1] < 0:

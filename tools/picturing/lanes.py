@@ -3,7 +3,7 @@ from __future__ import annotations
 
 from .inputs import BadInput, number
 from .judge import reason
-from .svg import Drawing, num, points, wide
+from .svg import Drawing, fitted, num, points, wide
 from .written import KINDS, Entry, History, TimerRef, read_history
 
 LEFT = 118.0
@@ -30,7 +30,8 @@ class Lanes:
             actors = sorted((actor for actor in seen if actor[0] == kind), key=lambda it: int(it[1:] or 0))
             rows = min(len(actors), MOST_LANES)
             for row in range(rows):
-                some = actors[len(actors) * row // rows : len(actors) * (row + 1) // rows]
+                low, high = (len(actors) * it // rows for it in (row, row + 1))
+                some = actors[low:high]
                 for actor in some:
                     self.of[actor] = len(self.names)
                 name = NAMES[kind] if kind == "k" else f"{NAMES[kind]} {some[0][1:]}"
@@ -107,7 +108,7 @@ def _lives(drawing: Drawing, board: Board) -> None:
     until = len(entries) if board.bad is None else board.bad + 1
     shown: set[tuple[str, str]] = set()
     for order, (timer, places) in enumerate(touches(board.history, until).items()):
-        corners = []
+        corners: list[tuple[float, float]] = []
         for place in places:
             at = (board.x(place), board.y(lane_of_life(entries[place])))
             if not board.is_named and corners and int(corners[-1][0]) == int(at[0]) and corners[-1][1] == at[1]:
@@ -139,7 +140,7 @@ def _entry(drawing: Drawing, board: Board, place: int) -> None:
     drawing.add("circle", ink, tip, cx=x, cy=y, r=5.5 if is_bad else 4.5)
     drawing.text(("bad" if is_bad else "soft") + " small", x, board.top - 6, str(place + 2), "middle", tip)
     words = " ".join(entry.text.split(" ")[2:])
-    drawing.text(ink + " small", x + 4, board.bottom + 16, words, "end", tip, -45)
+    drawing.text(ink + " small", x + 4, board.bottom + 16, fitted(words, x), "end", tip, -45)
 
 
 def _joined(drawing: Drawing, board: Board) -> None:
@@ -196,7 +197,8 @@ def picture_of_history(text: str, name: str, lines: list[str], source: str, titl
     if board.is_named:
         for place in range(len(history.entries)):
             _entry(drawing, board, place)
-        longest = max((len(" ".join(entry.text.split(" ")[2:])) for entry in history.entries), default=0)
+        names = (" ".join(entry.text.split(" ")[2:]) for entry in history.entries)
+        longest = max((len(fitted(words, board.x(place))) for place, words in enumerate(names)), default=0)
         y += longest * 11 * 0.6 * 0.72
     else:
         _joined(drawing, board)

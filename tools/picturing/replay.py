@@ -23,7 +23,8 @@ FORMS = {
         "offset": r"-?\d{1,20} (preliminary|final|volatile)",
         "info": r"start -?\d+ end \d+ mode (no|single|multi) correction (true|false) offset -?\d+ state [a-z]+",
         "convert": r"-?\d{1,20}|too_wide",
-        "receive": r"empty|exited|timeout \d+ \d+|message \d+|(cancel|read)_timer \d+ (\d+|false)|change \d+ -?\d{1,20}",
+        "receive": r"empty|exited|timeout \d+ \d+|message \d+|(cancel|read)_timer \d+ (\d+|false)"
+        r"|change \d+ -?\d{1,20}",
         "alive": r"true|false",
         "monitor": r"\d+|full",
         "demonitor": r"true|false",

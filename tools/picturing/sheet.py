@@ -7,7 +7,7 @@ from .axis import Axis
 from .bars import TURNS, draw_bars, legend
 from .clocks import CLOCKS, draw_clocks
 from .replay import Run
-from .svg import Drawing, span, wide
+from .svg import Drawing, fitted, span, wide
 from .wording import short
 
 WIDTH = 960.0
@@ -75,7 +75,7 @@ def _ops(drawing: Drawing, axis: Axis, top: float) -> float:
         tip = f"{json.dumps(op, separators=(',', ':'))} \u2192 {line}"
         drawing.line("mark", x, top, x, top + 9, tip)
         if is_named:
-            drawing.text("ink small", x + 3, top + 18, name, "end", tip, -45)
+            drawing.text("ink small", x + 3, top + 18, fitted(name, x), "end", tip, -45)
     return top + (22 + max(wide(name, 11) for name in names) * 0.64 if is_named else 16)
 
 

@@ -109,6 +109,12 @@ def wide(text: str, size: float = 12) -> float:
     return len(text) * size * EM
 
 
+def fitted(text: str, x: float, size: float = 11) -> str:
+    """A text that is turned by 45 degrees and ends at a place, shortened where it would begin outside the picture."""
+    most = max(4, int((x - 8) / (size * EM * 0.71)))
+    return text if len(text) <= most else text[: most - 1] + "\u2026"
+
+
 def _decimal(value: int, unit: int, digits: int) -> str:
     """A number of nanoseconds in a unit, rounded to so many decimals."""
     scaled = (abs(value) * 10**digits + unit // 2) // unit
@@ -193,7 +199,9 @@ class Drawing:
         """A rectangle."""
         self.add("rect", css, tip, x=x, y=y, width=max(0.0, width), height=height)
 
-    def text(self, css: str, x: float, y: float, words: str, anchor: str = "start", tip: str = "", turn: int = 0) -> None:
+    def text(
+        self, css: str, x: float, y: float, words: str, anchor: str = "start", tip: str = "", turn: int = 0
+    ) -> None:
         """A line of text, which may be turned about its anchor."""
         said: dict[str, float | str] = {"x": x, "y": y}
         if anchor != "start":
