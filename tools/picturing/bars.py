@@ -79,16 +79,17 @@ def mark(drawing: Drawing, fate: str, x: float, y: float) -> None:
         drawing.add("path", "mark open", d=f"M{near} {low}H{far}L{num(x)} {high}Z")
 
 
-def _bar(drawing: Drawing, axis: Axis, timer: Timer, y: float, row: float) -> None:
-    """One bar."""
+def _bar(drawing: Drawing, axis: Axis, timer: Timer, y: float, row: float) -> set[str]:
+    """One bar; and its shades."""
     parts, due, in_sight = cut_up(axis, timer)
     thick = max(1.0, row * 0.55)
     tip = tip_of(axis, timer)
     for css, start, end in parts:
         if end > start or css not in ("late", "rest"):
             drawing.box(css, start, y + (row - thick) / 2, max(end - start, 1.0), thick, tip)
+    shades = {css for css, start, end in parts if end > start}
     if row < 10:
-        return
+        return shades
     middle = y + row / 2
     if in_sight:
         drawing.line("mark", due, y + 2, due, y + row - 2, f"deadline: {timer.deadline} ms after the start time")
@@ -97,6 +98,7 @@ def _bar(drawing: Drawing, axis: Axis, timer: Timer, y: float, row: float) -> No
     mark(drawing, timer.fate, parts[0][2] if parts[1][0] == "rest" else parts[1][2], middle)
     drawing.text("ink small", axis.left_edge - 6, middle + 4, f"timer {timer.label}", "end", tip)
     drawing.text("ink small", axis.right_edge + 14, middle + 4, words_of(timer), tip=tip)
+    return shades
 
 
 def spans(found: list[tuple[float, float]]) -> list[tuple[float, float]]:
@@ -110,8 +112,8 @@ def spans(found: list[tuple[float, float]]) -> list[tuple[float, float]]:
     return made
 
 
-def _joined(drawing: Drawing, axis: Axis, timers: list[Timer], y: float, row: float) -> None:
-    """One row for many timers: of each shade the stretches where one has it."""
+def _joined(drawing: Drawing, axis: Axis, timers: list[Timer], y: float, row: float) -> set[str]:
+    """One row for many timers: of each shade the stretches where one has it; and the shades."""
     found: dict[str, list[tuple[float, float]]] = {css: [] for css in ("rest", *FATES, "late")}
     for timer in timers:
         for css, start, end in cut_up(axis, timer)[0]:
@@ -125,6 +127,7 @@ def _joined(drawing: Drawing, axis: Axis, timers: list[Timer], y: float, row: fl
         path = "".join(f"M{num(a)} {low}H{num(max(b, a + 0.5))}v{thick}H{num(a)}Z" for a, b in spans(some))
         if path:
             drawing.add("path", css, tip, d=path)
+    return {css for css, some in found.items() if some}
 
 
 def turns(drawing: Drawing, axis: Axis, top: float) -> float:
@@ -148,30 +151,29 @@ def turns(drawing: Drawing, axis: Axis, top: float) -> float:
 
 
 def draw_bars(drawing: Drawing, axis: Axis, top: float) -> float:
-    """Draws turns and timers, and tells where they end."""
+    """Draws turns, timers and what their shades mean, and tells where they end."""
     timers = axis.run.timers
-    has_turns = any(op[0] in TURNS for op in axis.run.ops)
+    top = turns(drawing, axis, top)
     if not timers:
-        return turns(drawing, axis, top) if has_turns else top
-    top = turns(drawing, axis, top) + 4
+        return top
+    top += 4
+    shades: set[str] = set()
     if len(timers) <= MOST_ROWS:
         row = ROW if len(timers) <= LABELLED else HEIGHT / len(timers)
         for number, timer in enumerate(timers):
-            _bar(drawing, axis, timer, top + number * row, row)
-        bottom = top + len(timers) * row
-    else:
-        row = HEIGHT / MOST_ROWS
-        for number in range(MOST_ROWS):
-            low, high = (len(timers) * it // MOST_ROWS for it in (number, number + 1))
-            _joined(drawing, axis, timers[low:high], top + number * row, row)
-        bottom = top + HEIGHT
-        drawing.text("ink small", axis.left_edge - 6, top + 12, f"{len(timers)} timers", "end")
-        drawing.text("soft small", axis.left_edge - 6, top + 26, "in order", "end")
-        drawing.text("soft small", axis.left_edge - 6, top + 40, "of starting", "end")
-    return bottom
+            shades |= _bar(drawing, axis, timer, top + number * row, row)
+        return legend(drawing, axis, top + len(timers) * row + 6, shades)
+    row = HEIGHT / MOST_ROWS
+    for number in range(MOST_ROWS):
+        low, high = (len(timers) * it // MOST_ROWS for it in (number, number + 1))
+        shades |= _joined(drawing, axis, timers[low:high], top + number * row, row)
+    drawing.text("ink small", axis.left_edge - 6, top + 12, f"{len(timers)} timers", "end")
+    drawing.text("soft small", axis.left_edge - 6, top + 26, "in order", "end")
+    drawing.text("soft small", axis.left_edge - 6, top + 40, "of starting", "end")
+    return legend(drawing, axis, top + HEIGHT + 6, shades)
 
 
-def legend(drawing: Drawing, axis: Axis, top: float) -> float:
+def legend(drawing: Drawing, axis: Axis, top: float, shades: set[str]) -> float:
     """What the shades and marks of the timers mean: those that are there."""
     there = Counter(timer.fate for timer in axis.run.timers)
     x = axis.left_edge
@@ -183,7 +185,6 @@ def legend(drawing: Drawing, axis: Axis, top: float) -> float:
         words = TOLD[fate] + (f" ({there[fate]})" if len(axis.run.timers) > LABELLED else "")
         drawing.text("soft small", x + 32, top + 13, words)
         x += 46 + len(words) * 6.2
-    shades = {css for timer in axis.run.timers for css, a, b in cut_up(axis, timer)[0] if b > a}
     for css, words in (("late", "after the deadline"), ("rest", "what was left to the deadline")):
         if css in shades:
             if x + 40 + len(words) * 6.2 > drawing.width:
@@ -191,4 +192,4 @@ def legend(drawing: Drawing, axis: Axis, top: float) -> float:
             drawing.box(css, x, top + 4, 22, 10)
             drawing.text("soft small", x + 28, top + 13, words)
             x += 42 + len(words) * 6.2
-    return top + 18 if there else top
+    return top + 18

@@ -19,6 +19,7 @@ MINUTE = 60_000_000_000
 LATEST = 8_796_093_022_207
 MOST_USES = 262_143
 MOST_MONITORS = 64
+UNKNOWN = "it can't follow on the lines before it"
 BY = {
     "tick": "k",
     "shift": "k",
@@ -291,11 +292,20 @@ def wanted_other(entry: Entry) -> str:
     return f"m{entry.fields[0]}" if entry.event in ("take", "unwatch", "watch", "tell") else "-"
 
 
+def process_of(entry: Entry) -> int:
+    """The process that an entry names beside a mailbox, 0 where it names none."""
+    if entry.event == "mark":
+        return int(entry.fields[0])
+    return int(entry.fields[1][2]) if entry.event in ("arm", "ask") else 0
+
+
 def wrong_actor(history: History, entry: Entry) -> str | None:
     """Whether the entry is made by, with or of somebody who can't be."""
     scheduler, slot = place_of(entry)
     if scheduler >= history.schedulers or slot >= history.slots:
         return f"there is no slot {slot} of scheduler {scheduler}"
+    if process_of(entry) >= history.processes:
+        return f"there is no process {process_of(entry)}"
     counts = {"c": history.callers, "k": 1, "m": history.processes}
     for actor in (entry.by, entry.other):
         if actor is not None and actor != "k" and int(actor[1:]) >= counts.get(actor[0], history.schedulers):
@@ -329,7 +339,10 @@ def wrong_clock(state: State, entry: Entry) -> str | None:
     if act == "finalize" and state.offset_state != "preliminary":
         return f"the offset is {state.offset_state}, so it can't be finalized"
     wanted = state.time_after(mono, sys)
-    return None if now == wanted else f"the clock makes {wanted} of this reading"
+    if now != wanted:
+        return f"the clock makes {wanted} of this reading"
+    due = state.due_after(mono, sys, act, now)
+    return "the shift that is due takes the offset past its limits" if due and abs(due[0]) >= 2**62 else None
 
 
 def wrong_timer(state: State, entry: Entry) -> str | None:
@@ -447,7 +460,7 @@ def broken(state: State, entry: Entry) -> str:
             found = wrong_turn(state, entry)
         else:
             found = wrong_timer(state, entry)
-    return found or "it can't follow on the lines before it"
+    return found or UNKNOWN
 
 
 def reason(history: History, line: int) -> str:

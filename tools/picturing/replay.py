@@ -94,7 +94,7 @@ class _Follower:
         count = settings.schedulers
         self.armed: list[list[tuple[int, int, Timer]]] = [[] for _ in range(count)]
         self.waiting: list[deque[Timer]] = [deque() for _ in range(count)]
-        self.requests: list[deque[tuple[str, int]]] = [deque() for _ in range(count)]
+        self.requests: list[deque[tuple[str, Timer | None]]] = [deque() for _ in range(count)]
         self.place = 0
         self.line = ""
 
@@ -137,7 +137,7 @@ class _Follower:
             self.ask_now(name, op[1], words)
         elif name in ("cancel_async", "read_async"):
             timer = self.labels.get(op[1])
-            self.requests[timer.scheduler if timer else 0].append((name, op[1]))
+            self.requests[timer.scheduler if timer else 0].append((name, timer))
             self.expect(words, ["ok"])
         elif name == "serve":
             self.expect(words, [str(self.serve(op[1], 1))])
@@ -220,8 +220,7 @@ class _Follower:
         """Answers so many requests at most, and tells how many."""
         served = 0
         while self.requests[scheduler] and served < most:
-            name, label = self.requests[scheduler].popleft()
-            timer = self.labels.get(label)
+            name, timer = self.requests[scheduler].popleft()
             if name == "cancel_async" and timer is not None and timer.fate == "armed":
                 self.settle(timer, "cancelled")
             served += 1

@@ -4,7 +4,7 @@ from __future__ import annotations
 import json
 
 from .axis import Axis
-from .bars import TURNS, draw_bars, legend
+from .bars import TURNS, draw_bars
 from .clocks import CLOCKS, draw_clocks
 from .replay import Run
 from .svg import Drawing, fitted, span, wide
@@ -90,7 +90,6 @@ def picture(run: Run, name: str) -> bytes:
     y = _ops(drawing, axis, y + 4)
     if run.timers or any(op[0] in TURNS for op in run.ops):
         y = draw_bars(drawing, axis, y + 6)
-        y = legend(drawing, axis, y + 6)
     if axis.is_small and axis.slot:
         words = "Shaded: ops at one reading, in order; no time passes from one to the next."
         cut = any(piece.kind == "cut" for row in axis.pieces for piece in row)

@@ -3,6 +3,7 @@ from __future__ import annotations
 
 import json
 import pathlib
+import re
 import unittest
 import xml.etree.ElementTree as ET
 from typing import Any
@@ -11,7 +12,7 @@ from picturing.axis import Axis
 from picturing.bars import cut_up, words_of
 from picturing.clocks import Differences, flags
 from picturing.inputs import BadInput, number
-from picturing.judge import reason
+from picturing.judge import UNKNOWN, State, broken, reason
 from picturing.lanes import picture_of_history
 from picturing.replay import Run, follow
 from picturing.scenario import read_scenario
@@ -123,6 +124,13 @@ class Timers(unittest.TestCase):
             with self.assertRaises(BadInput, msg=str(lines)):
                 run_of(ops, lines)
 
+    def test_request_for_a_label_of_a_later_start(self) -> None:
+        run = run_of(
+            [["cancel_async", 1, 0, True], ["start", 1, 0, "rel", 5, 0, 7], ["serve", 0]],
+            ["cancel_async ok", "start ok", "serve 1", "end 0"],
+        )
+        self.assertEqual(run.timers[0].fate, "armed")
+
     def test_wording(self) -> None:
         run = example("single_warp")
         told = [short(run, op, line) for op, line in zip(run.ops, run.lines)]
@@ -160,6 +168,22 @@ class Histories(unittest.TestCase):
         }
         for line, told in armed.items():
             self.assertEqual(reason(read_history(self.SETTINGS + self.ARMED + line, "here"), 4), told)
+
+    def test_histories_judged_by_hand(self) -> None:
+        """Each illegal one of the auditor's own short histories has its reason, and no legal entry has one."""
+        source = (EXAMPLES.parent / "crates/ert_audit/src/tests/histories.rt").read_text()
+        rows = re.findall(r'\(\s*"([^"]*)",\s*"([^"]*)",\s*"(legal|illegal) (\d+)",?\s*\)', source)
+        self.assertGreater(len(rows), 100)
+        for settings, entries, word, line in rows:
+            text = f"settings {settings}\n" + re.sub(r"\\\n\s*", "", entries).replace("\\n", "\n")
+            history = read_history(text.rstrip("\n") + "\n", "here")
+            state = State(history)
+            for place, entry in enumerate(history.entries, 2):
+                is_bad = word == "illegal" and place == int(line)
+                self.assertEqual(broken(state, entry) != UNKNOWN, is_bad, text)
+                if is_bad:
+                    break
+                state.move(entry, place)
 
     def test_examples(self) -> None:
         for path in sorted((EXAMPLES / "ertaudit").glob("*.txt")):
