@@ -49,11 +49,14 @@ class Axis:
         self.is_small = sum(slots) <= SMALL and len(slots) <= SMALL
         self.tail = self._tail()
         self.pieces = [self._pieces(number) for number in range(len(run.readings))]
+        self.is_still = not any(piece.length for row in self.pieces for piece in row)
         self._cut()
         self.slot = self._slot(sum(slots), width)
         bands = [(count + 0.6) * self.slot if count and self.slot else 0.0 for count in slots]
         self._widths(width - sum(bands))
         self._lay(bands)
+        if self.is_still and self.is_small:
+            self.right_edge = min(self.right_edge, max(self.end, left + width / 3))
         self._places()
 
     def is_reading(self, place: int) -> bool:
@@ -108,8 +111,7 @@ class Axis:
     def _slot(self, count: int, width: float) -> float:
         if not self.is_small or not count:
             return 0.0
-        is_still = not any(piece.length for row in self.pieces for piece in row)
-        return min(WIDE_SLOT if is_still else SLOT, BANDS * width / (count + 0.6 * min(count, len(self.pieces))))
+        return min(WIDE_SLOT if self.is_still else SLOT, BANDS * width / (count + 0.6 * min(count, len(self.pieces))))
 
     def _widths(self, room: float) -> None:
         """Gives each piece its width, and none less than can be seen where there are few."""

@@ -6,7 +6,7 @@ from .judge import reason
 from .svg import Drawing, fitted, num, points, wide
 from .written import KINDS, Entry, History, TimerRef, read_history
 
-LEFT = 118.0
+LEFT = 150.0
 STEP = 30.0
 LANE = 30.0
 NAMED = 80
@@ -135,7 +135,7 @@ def _entry(drawing: Drawing, board: Board, place: int) -> None:
     if entry.other is not None:
         other = board.y(entry.other)
         drawing.line("bad badline" if is_bad else "edge", x, y, x, other, tip)
-        drawing.add("circle", "page" if not is_bad else "page bad", tip, cx=x, cy=other, r=4.0)
+        drawing.add("circle", "page", tip, cx=x, cy=other, r=4.0)
         drawing.add("circle", ("bad" if is_bad else "edge") + " open", tip, cx=x, cy=other, r=4.0)
     drawing.add("circle", ink, tip, cx=x, cy=y, r=5.5 if is_bad else 4.5)
     drawing.text(("bad" if is_bad else "soft") + " small", x, board.top - 6, str(place + 2), "middle", tip)
@@ -164,7 +164,7 @@ def _head(drawing: Drawing, board: Board, name: str) -> None:
     history = board.history
     drawing.text("ink title", 16, 26, name)
     said = f"legal: {len(history.entries)} entries" if board.bad is None else f"illegal at line {board.bad + 2}"
-    drawing.text("soft" if board.bad is None else "bad", 16 + len(name) * 9.2 + 14, 26, said)
+    drawing.text("soft" if board.bad is None else "bad", 16 + len(name) * 9.6 + 16, 26, said)
     mode = {"no": "no time warp mode", "single": "single time warp mode", "multi": "multi-time warp mode"}[history.mode]
     correction = "with" if history.correction else "without"
     words = f"{mode}, {correction} time correction. From left to right: entries, by the numbers of their lines."

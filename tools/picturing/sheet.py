@@ -23,7 +23,7 @@ def _head(drawing: Drawing, run: Run, name: str) -> float:
     settings = run.settings
     said = f"{MODES[settings.mode]}, {'with' if settings.correction else 'without'} time correction"
     drawing.text("ink title", 16, 26, name)
-    drawing.text("soft", 16 + len(name) * 9.2 + 14, 26, said)
+    drawing.text("soft", 16 + len(name) * 9.6 + 16, 26, said)
     x = LEFT
     for css, words in CLOCKS:
         drawing.line(css, x, 46, x + 30, 46)
@@ -37,7 +37,7 @@ def _axis(drawing: Drawing, axis: Axis, y: float) -> float:
     """The times of the readings, where they have room; in a long run those at even distances."""
     readings = axis.run.readings
     drawing.line("edge", axis.left_edge, y, axis.right_edge, y)
-    free, words = axis.left_edge - 40, ""
+    free, last = axis.left_edge - 40, ""
     marks = [(axis.lefts[number], reading.mono) for number, reading in enumerate(readings)]
     if axis.tail and axis.is_small:
         marks.append((axis.end, readings[-1].mono + axis.tail))
@@ -46,12 +46,13 @@ def _axis(drawing: Drawing, axis: Axis, y: float) -> float:
         half = wide(label, 11) / 2
         if axis.is_small:
             drawing.line("edge", x, y, x, y + 5)
-        if x - half < free + 4 or label == words:
+        if x - half < free + 4 or label == last:
             continue
         drawing.line("edge", x, y, x, y + 5)
         drawing.text("soft small", x, y + 17, label, "middle")
-        free, words = x + half + (0 if axis.is_small else 60), label
-    drawing.text("soft small", axis.right_edge + 14, y + 5, "OS monotonic time")
+        free, last = x + half + (0 if axis.is_small else 60), label
+    words = "OS monotonic time" + (", which stands still" if axis.is_still else "")
+    drawing.text("soft small", axis.right_edge + 14, y + 5, words)
     for number, row in enumerate(axis.pieces if axis.is_small else []):
         x = axis.rights[number]
         for piece in row:

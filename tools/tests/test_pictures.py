@@ -12,10 +12,11 @@ from picturing.axis import Axis
 from picturing.bars import cut_up, words_of
 from picturing.clocks import Differences, flags
 from picturing.inputs import BadInput, number
-from picturing.judge import UNKNOWN, State, broken, reason
+from picturing.judge import UNKNOWN, broken, reason
 from picturing.lanes import picture_of_history
 from picturing.replay import Run, follow
 from picturing.scenario import read_scenario
+from picturing.service import State
 from picturing.sheet import picture
 from picturing.svg import signed, span
 from picturing.wording import short
