@@ -13,6 +13,7 @@ HEIGHT = 190.0
 FLAT = 40.0
 ROW = 16.0
 MOST_FLAGS = 24
+RIGHT = 164.0
 NAMES = {
     -1_000_000: "frozen",
     -10_000: f"{signed(-1)[0]}1 %: slow",
@@ -137,7 +138,7 @@ def draw_clocks(drawing: Drawing, axis: Axis, top: float) -> float:
     """Draws the clocks, and tells where they end."""
     differences = Differences(axis)
     found = flags(axis)
-    placed, rows = place_flags(found if len(found) <= MOST_FLAGS else [], axis.left_edge, axis.right_edge)
+    placed, rows = place_flags(found if len(found) <= MOST_FLAGS else [], axis.left_edge, drawing.width - RIGHT)
     top += rows * ROW + 6
     height = FLAT if differences.is_flat else HEIGHT
     low, high = differences.least, max(differences.most, differences.least + 1)
