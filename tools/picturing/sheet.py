@@ -91,10 +91,12 @@ def picture(run: Run, name: str) -> bytes:
     y = _ops(drawing, axis, y + 4)
     if run.timers or any(op[0] in TURNS for op in run.ops):
         y = draw_bars(drawing, axis, y + 6)
-    if axis.is_small and axis.slot:
-        words = "Shaded: ops at one reading, in order; no time passes from one to the next."
-        cut = any(piece.kind == "cut" for row in axis.pieces for piece in row)
-        words += " \u2215\u2215: a stretch of even running, cut." if cut else ""
-        drawing.text("soft small", LEFT, y + 14, words)
+    told_below = []
+    if axis.slot:
+        told_below.append("Shaded: ops at one reading, in order; no time passes from one to the next.")
+    if axis.is_small and any(piece.kind == "cut" for row in axis.pieces for piece in row):
+        told_below.append("\u2215\u2215: a long stretch in which Erlang's clocks ran evenly, cut.")
+    if told_below:
+        drawing.text("soft small", LEFT, y + 14, " ".join(told_below))
         y += 16
     return drawing.done(y + 12)
