@@ -1,9 +1,10 @@
 /*
- * ertime: the clock and timer service of the Erlang runtime, as a static library.
+ * ertime: the clock and timer service of the Erlang runtime, as a library.
  *
- * A program links `libert_c.a` and `liblibc_c.a`. The library starts no thread, takes no lock, calls nothing
- * back, reads no clock and never waits. The program reads the clocks of the operating system and passes what
- * it read, asks what is due, and fetches the messages of timers that have expired.
+ * A program is built with `cc program.c $(pkg-config --cflags --libs ertime)`. The library starts no thread,
+ * takes no lock, calls nothing back, reads no clock and never waits. The program reads the clocks of the
+ * operating system and passes what it read, asks what is due, and fetches the messages of timers that have
+ * expired.
  *
  * Conventions. Each call answers a status: ERT_OK, or a negative number that says why the call did nothing.
  * After a refusal nothing has changed, neither the service nor what the out parameters point to, except
@@ -35,6 +36,11 @@
 #ifdef __cplusplus
 extern "C" {
 #endif
+
+/* The version of this header. The shared library of one major version has one soname. */
+#define ERTIME_VERSION_MAJOR 0
+#define ERTIME_VERSION_MINOR 1
+#define ERTIME_VERSION_PATCH 0
 
 /* The statuses. */
 #define ERT_OK 0

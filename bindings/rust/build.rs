@@ -1,9 +1,24 @@
-//! Links libert_c.a and liblibc_c.a, from the folder that ERTIME_LIB_DIR names.
-fn main() {
-    println!("cargo:rerun-if-env-changed=ERTIME_LIB_DIR");
-    if let Ok(folder) = std::env::var("ERTIME_LIB_DIR") {
-        println!("cargo:rustc-link-search=native={folder}");
+//! Links the library that pkg-config finds as `ertime`.
+use std::error::Error;
+use std::process::Command;
+
+fn main() -> Result<(), Box<dyn Error>> {
+    let asked = Command::new("pkg-config")
+        .args(["--libs", "ertime"])
+        .output()
+        .map_err(|why| format!("pkg-config didn't run: {why}"))?;
+    if !asked.status.success() {
+        let said = String::from_utf8_lossy(&asked.stderr);
+        return Err(format!("pkg-config doesn't find ertime, so install it first: {said}").into());
     }
-    println!("cargo:rustc-link-lib=static=ert_c");
-    println!("cargo:rustc-link-lib=static=libc_c");
+    println!("cargo:rerun-if-changed=build.rs");
+    println!("cargo:rerun-if-env-changed=PKG_CONFIG_PATH");
+    for word in String::from_utf8(asked.stdout)?.split_whitespace() {
+        if let Some(folder) = word.strip_prefix("-L") {
+            println!("cargo:rustc-link-search=native={folder}");
+        } else if let Some(library) = word.strip_prefix("-l") {
+            println!("cargo:rustc-link-lib={library}");
+        }
+    }
+    Ok(())
 }

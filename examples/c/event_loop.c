@@ -2,7 +2,7 @@
  * An event loop: it sleeps until the next timer may be due, reads the clocks, makes a turn, and takes the
  * messages. One timer starts itself again, as an interval would, and another is cancelled.
  *
- *     cc event_loop.c -Iinclude libert_c.a liblibc_c.a -o event_loop
+ *     cc event_loop.c -o event_loop $(pkg-config --cflags --libs ertime)
  */
 #define _POSIX_C_SOURCE 199309L
 #include <inttypes.h>
@@ -52,7 +52,7 @@ int main(void) {
         .correction = 1,
         .schedulers = 1,
         .processes = 1,
-        .slots = 64,
+        .slots = 64, /* two timers at once; more slots let a service take more starts in its life */
         .callers = 1,
         .first = read_clocks(),
     };

@@ -2,7 +2,7 @@
  * Seats: a thread ticks and makes turns, and four others read the time and cancel timers beside it, each with a
  * seat of its own and no lock. At the end each timer was settled just once, by a cancel or by its message.
  *
- *     cc seats.c -Iinclude libert_c.a liblibc_c.a -pthread -o seats
+ *     cc seats.c -pthread -o seats $(pkg-config --cflags --libs ertime)
  */
 #define _POSIX_C_SOURCE 199309L
 #include <inttypes.h>
@@ -106,7 +106,7 @@ int main(void) {
         .size = sizeof settings,
         .schedulers = 1,
         .processes = 1,
-        .slots = TIMERS,
+        .slots = TIMERS, /* one for each start, so no start finds the wheel full */
         .callers = THREADS + 1,
     };
     must("ert_world_open", ert_world_open(&world, &settings));

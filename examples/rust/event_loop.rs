@@ -28,6 +28,7 @@ fn main() -> Result<(), Box<dyn Error>> {
     let clocks = Clocks {
         begun: Instant::now(),
     };
+    // 1,024 slots by default: room for far more timers than the two, and for 268 million starts.
     let mut world = World::open(&Settings::new(clocks.read()?))?;
     let late = world.start(SCHED, &Start::after(60_000, PROCESS, LATE))?;
     world.start(SCHED, &Start::after(20, PROCESS, BEAT))?;

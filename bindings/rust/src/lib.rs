@@ -1,10 +1,10 @@
-//! The clock and timer service of the Erlang runtime, over the static library `libert_c.a`.
+//! The clock and timer service of the Erlang runtime, over the C library `libertime`.
 //!
 //! A [`World`] is a service. It reads no clock, starts no thread and never waits: pass it readings by
 //! [`World::tick`], let its schedulers make turns, and take the messages of its processes. `ertime.h` says
 //! what each call does; this crate makes the rest of what a caller owes true: a handle isn't copied, is
-//! closed when it is dropped, and is in one call at a time. The build script links the library from the folder
-//! that the environment variable `ERTIME_LIB_DIR` names.
+//! closed when it is dropped, and is in one call at a time. The build script links the library that pkg-config
+//! finds as `ertime`.
 //!
 //! A [`Seat`] is for another thread: it tells the time, cancels and reads timers beside the world, and takes no
 //! lock.

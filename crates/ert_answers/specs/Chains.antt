@@ -23,6 +23,7 @@ abbrev pub HoldsBy : Option Request → Way → Settings → ℕ → Option Requ
 HoldsBy (Some request) way g w got h m = (got ≡ Some request) × (m ≡ [])
 HoldsBy None way g w got h m = way (Inbox w ∷ []) (Picks g w got) h m
 
+-- so a scheduler has a request in its hand, by what was there after a history
 abbrev pub Holds : Settings → Way → ℕ → Option Request → Growth
 Holds g way w got h m = HoldsBy ((state g h).scheds w).hand way g w got h m
 
@@ -68,22 +69,26 @@ pub record Hands (g : Settings) (way : Way) (w : ℕ) (how : Result Handed NoMem
   pub first : first_of ((state g h).scheds w).fired ≡ Some fired
   pub step : way (MailOf fired.dest ∷ []) (HandsOver g w fired how) h m
 
+-- expired timers of a scheduler are handed over one after the other, each in this way
 abbrev pub HandsMany : Settings → Way → ℕ → List Handed → Growth
 HandsMany g way w hows h m = Many (λ how. Hands g way w (Ok how)) hows h m
 
--- how many were put, and how many thrown away
+-- 1 where a message was put, and 0 where it was thrown away
 abbrev pub put_by : Handed → ℕ
 put_by Put = 1
 put_by Dropped = 0
 
+-- how many messages were put
 abbrev pub puts : List Handed → ℕ
 puts [] = 0
 puts (how ∷ hows) = put_by how + puts hows
 
+-- 1 where a message was thrown away, and 0 where it was put
 abbrev pub dropped_by : Handed → ℕ
 dropped_by Put = 0
 dropped_by Dropped = 1
 
+-- how many messages were thrown away
 abbrev pub drops : List Handed → ℕ
 drops [] = 0
 drops (how ∷ hows) = dropped_by how + drops hows

@@ -36,6 +36,7 @@ pub record Whole (g : Settings) (a : Actor) (parts : List Actor) (allows : Step)
   pub own : filter (is_ours (a ∷ [])) entries ≡ entries
   pub allowed : allows (state g (h ++ before)) entries
 
+-- the way of an actor beside others
 abbrev pub beside : Settings → Actor → Way
 beside g a parts allows h m = Whole g a parts allows h m
 

@@ -27,11 +27,12 @@ expires_by w timer (Some found) = probe_entry (Sched w) w timer.slot found
 abbrev pub expiry_entries : ℕ → List Try → List Entry
 expiry_entries w tries = map (λ t. expires_by w t.timer t.missed) tries
 
--- how many of the tries hit
+-- 1 for a hit, and 0 for a miss
 abbrev pub hit_by : Option (Option Status) → ℕ
 hit_by None = 1
 hit_by (Some found) = 0
 
+-- how many of the tries hit
 abbrev pub hits : List Try → ℕ
 hits [] = 0
 hits (t ∷ tries) = hit_by t.missed + hits tries
@@ -54,6 +55,7 @@ abbrev pub orphans_by : ℕ → ℕ → TimerRef → Option (Option Status) → 
 orphans_by by w timer None = orphan_entry by w timer
 orphans_by by w timer (Some found) = probe_entry (Caller by) w timer.slot found
 
+-- the entries of such tries
 abbrev pub orphan_entries : ℕ → ℕ → List Try → List Entry
 orphan_entries by w tries = map (λ t. orphans_by by w t.timer t.missed) tries
 
@@ -68,6 +70,7 @@ abbrev pub MaySweep : List Row → ℕ → TimerRef → Option (Option Status) �
 MaySweep rows process timer None = IsFor rows process timer
 MaySweep rows process timer (Some found) = found ≢ Some Armed
 
+-- each of these tries may be one of a sweep
 abbrev pub AllMaySweep : List Row → ℕ → List Try → Type 0
 AllMaySweep rows process [] = Unit {0}
 AllMaySweep rows process (t ∷ tries) = MaySweep rows process t.timer t.missed × AllMaySweep rows process tries

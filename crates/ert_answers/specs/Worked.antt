@@ -78,10 +78,11 @@ two = record {
   first = record { mono = pos 0; sys = pos 0 };
 }
 
--- the first timer of a wheel, and a start for a process
+-- the first timer of a wheel
 abbrev pub timer_of : ℕ → TimerRef
 timer_of w = record { wheel = w; slot = 0; generation = 1 }
 
+-- a start for a process, of a timer of 5 milliseconds
 abbrev pub start_for : ℕ → Start
 start_for process = record { when = After (pos 5); dest = process; msg = 7; kind = Wrapped }
 

@@ -1,6 +1,6 @@
 ghost use Rattle.std.specs.Prelude.{◌≡◌, ◌⊎◌, ◌≤◌, ℕ, List, Some, None, IsTrue, false, length};
 ghost use Rattle.ert_io.specs.Faults.{Rose};
-ghost use Rattle.ert_io.specs.Known.{then, before};
+ghost use Rattle.ert_io.specs.Known.{then, before, TakesUpTo};
 ghost use Rattle.ert_io.specs.Writing.{WritesFront};
 ghost use Rattle.ert_audit.specs.Audits.{IsVerdict, Judges, Stops, status_of};
 ghost use Rattle.ert_audit.specs.Verdicts.{HasVerdict, verdict_line};
@@ -28,6 +28,7 @@ pub fn audit<R: AllocGlobal, I: Source, O: Sink>(
     // The input was read to its end, its text has this verdict, and the line of that was written.
     ensures judged { IsVerdict result → Judges result (I.left input.old) (I.left input.new) (O.taken output.old) (O.taken output.new) }
     ensures read_fault { result ≡ AuditStatus.ReadFault → Rose (I.faults input.old) (I.faults input.new) × (output.new ≡ output.old) }
+    ensures read_in_part { result ≡ AuditStatus.ReadFault → TakesUpTo 16777216 (I.left input.old) (I.left input.new) }
     ensures too_long { result ≡ AuditStatus.TooLong → (output.new ≡ output.old)
         × ((taken : List ℕ) × (length taken ≡ 16777217) × (I.left input.old ≡ before taken (I.left input.new))) }
     ensures write_fault { result ≡ AuditStatus.WriteFault → Rose (O.faults output.old) (O.faults output.new) }

@@ -1,7 +1,7 @@
 use ert_defs::Reading;
 use ert_io::{Failed, HostClock, MemClock, OsClock};
 use std::io;
-use std::test::Fail;
+use std::process::Abort;
 use std::time::{Clock, Duration};
 
 // The least nanoseconds that don't fit 64 signed bits.
@@ -13,16 +13,18 @@ const YEAR_2020: i64 = 1_577_836_800_000_000_000;
 #[test]
 fn the_machine_is_read(rt: HostRuntime) {
     let mut clock = HostClock::new(&rt);
-    let first = clock.read();
-    assert!(rt;
-        first.is_ok_and(|r| r.is_valid() && r.sys > YEAR_2020),
-        "{first:?}"
-    );
-    let second = clock.read();
-    let (Ok(first), Ok(second)) = (first, second) else {
-        return assert!(rt; false, "{second:?}");
-    };
-    assert!(rt; first.mono <= second.mono);
+    let mut least = 0;
+    for _ in 0..2 {
+        let read = clock.read();
+        let Ok(reading) = read else {
+            return assert!(rt; false, "{read:?}");
+        };
+        assert!(rt;
+            reading.is_valid() && reading.sys > YEAR_2020 && reading.mono >= least,
+            "{reading:?}"
+        );
+        least = reading.mono;
+    }
 }
 
 /// Clocks that stand still.
@@ -42,31 +44,42 @@ impl Clock for Still {
     }
 }
 
-#[test]
-fn monotonic_time_counts_from_the_making(rt: HostRuntime) {
-    let still = Still {
-        monotonic: PAST_THE_END,
-        since_1970: PAST_THE_END - 1,
-    };
-    let want = Reading {
-        mono: 0,
-        sys: i64::MAX,
-    };
-    assert_eq!(rt; HostClock::new(&still).read(), Ok(want));
-    let late = Still {
-        since_1970: PAST_THE_END,
-        ..still
-    };
-    assert_eq!(rt; HostClock::new(&late).read(), Err(Failed));
+/// Reads a clock once for each of these answers.
+fn reads<C: OsClock>(rt: &impl Abort, clock: &mut C, wanted: &[Result<Reading, Failed>]) {
+    for (step, want) in wanted.iter().enumerate() {
+        let got = clock.read();
+        assert!(rt; got == *want, "reading {step}: {got:?}, not {want:?}");
+    }
 }
 
 #[test]
-fn readings_from_memory(rt: HostRuntime) -> Result<(), Fail> {
-    let readings = [Reading { mono: 5, sys: -7 }, Reading { mono: 3, sys: 9 }];
-    let mut clock = MemClock::new(readings.to_vec(rt.alloc())?, [2].to_vec(rt.alloc())?);
-    assert_eq!(rt; clock.read(), Ok(Reading { mono: 5, sys: -7 }));
-    assert_eq!(rt; clock.read(), Err(Failed));
-    assert_eq!(rt; clock.read(), Ok(Reading { mono: 3, sys: 9 }));
-    assert_eq!(rt; clock.read(), Err(Failed));
-    Ok(())
+fn monotonic_time_counts_from_the_making(rt: HostRuntime) {
+    let last = Reading {
+        mono: 0,
+        sys: i64::MAX,
+    };
+    let rows = [
+        (PAST_THE_END, PAST_THE_END - 1, Ok(last)),
+        (PAST_THE_END, PAST_THE_END, Err(Failed)),
+    ];
+    for (monotonic, since_1970, want) in rows {
+        let still = Still {
+            monotonic,
+            since_1970,
+        };
+        reads(&rt, &mut HostClock::new(&still), &[want]);
+    }
+}
+
+#[test]
+fn readings_from_memory(rt: HostRuntime) {
+    let first = Reading { mono: 5, sys: -7 };
+    let second = Reading { mono: 3, sys: 9 };
+    let readings = [first, second].to_vec(rt.alloc());
+    let fails = [2].to_vec(rt.alloc());
+    let readings = readings.expect(&rt, "there is memory");
+    let fails = fails.expect(&rt, "there is memory");
+    let mut clock = MemClock::new(readings, fails);
+    let want = [Ok(first), Err(Failed), Ok(second), Err(Failed)];
+    reads(&rt, &mut clock, &want);
 }

@@ -1,104 +1,150 @@
-use ert_io::{MemSink, MemSource, ReadErr, StdSink, StdSource, WriteErr, read_all, write_all};
+ghost use Rattle.std.specs.Prelude.{length};
+ghost use Rattle.ert_io.specs.Known.{HasRoom};
+
+use ert_io::{
+    MemSink, MemSource, ReadErr, Sink, Source, StdSink, StdSource, WriteErr, read_all, write_all,
+};
 use std::alloc::{AllocError, Global};
+use std::fmt::Display;
 use std::fs;
-use std::test::Fail;
+use std::process::Abort;
+
+const READ_FAULT: Result<&[u8], ReadErr> = Err(ReadErr::ReadFault);
+
+const TOO_LONG: Result<&[u8], ReadErr> = Err(ReadErr::TooLong);
+
+const WRITE_FAULT: Result<(), WriteErr> = Err(WriteErr::WriteFault { written: 0 });
+
+const WRITE_FAULT_AT_20: Result<(), WriteErr> = Err(WriteErr::WriteFault { written: 20 });
 
 // Bytes that don't repeat at a piece's length.
 fn pattern(alloc: Global, count: usize) -> Result<Vec<u8>, AllocError> {
     (0..count).map(|i| (i % 251) as u8).collect(alloc)
 }
 
-fn no_fails(rt: &HostRuntime) -> Vec<u32> {
-    Vec::new(rt.alloc())
+/// Reads to the end of a source.
+fn reads<S: Source>(
+    rt: &impl Abort,
+    alloc: Global,
+    step: u32,
+    source: &mut S,
+    limit: usize,
+    want: Result<&[u8], ReadErr>,
+) {
+    let got = read_all(alloc, source, limit);
+    let right = match (&got, want) {
+        (Ok(bytes), Ok(want)) => bytes.as_slice() == want,
+        (Err(error), Err(want)) => *error == want,
+        _ => false,
+    };
+    assert!(rt; right, "step {step}: at most {limit}, {:?}", got.err());
+}
+
+/// Writes all of some bytes.
+fn writes<K: Sink>(
+    rt: &impl Abort,
+    step: u32,
+    sink: &mut K,
+    bytes: &[u8],
+    want: Result<(), WriteErr>,
+)
+    requires { HasRoom (K.room sink.old) (length bytes.now) }
+{
+    let got = write_all(sink, bytes);
+    assert!(rt; got == want, "step {step}: {got:?}, not {want:?}");
 }
 
 #[test]
-fn files_are_written_and_read(rt: HostRuntime) -> Result<(), Fail> {
+fn files_are_written_and_read(rt: HostRuntime) {
     let path = "ert_io.bytes";
-    let bytes = pattern(rt.alloc(), 150_000)?;
-
-    let mut sink = StdSink::new(fs::create(&rt, path)?);
-    write_all(&mut sink, bytes.as_slice())?;
-    let mut source = StdSource::new(fs::open(&rt, path)?);
-    let read = read_all(rt.alloc(), &mut source, 150_000)?;
-    assert_eq!(rt; read.as_slice(), bytes.as_slice());
-
+    let bytes = pattern(rt.alloc(), 150_000).expect(&rt, "there is memory");
+    let all = bytes.as_slice();
+    let file = fs::create(&rt, path).expect(&rt, "a file is made");
+    writes(&rt, 1, &mut StdSink::new(file), all, Ok(()));
+    let file = fs::open(&rt, path).expect(&rt, "the file is there");
+    let mut source = StdSource::new(file);
+    reads(&rt, rt.alloc(), 2, &mut source, 150_000, Ok(all));
     // One file is open for writing alone, the other for reading alone.
-    let mut source = StdSource::new(fs::create(&rt, path)?);
-    let outcome = read_all(rt.alloc(), &mut source, 150_000);
-    assert_eq!(rt; outcome.err(), Some(ReadErr::ReadFault));
-    let mut sink = StdSink::new(fs::open(&rt, path)?);
-    let outcome = write_all(&mut sink, bytes.as_slice());
-    assert_eq!(rt; outcome.err(), Some(WriteErr::WriteFault { written: 0 }));
+    let file = fs::create(&rt, path).expect(&rt, "a file is made");
+    let mut source = StdSource::new(file);
+    reads(&rt, rt.alloc(), 3, &mut source, 150_000, READ_FAULT);
+    let file = fs::open(&rt, path).expect(&rt, "the file is there");
+    writes(&rt, 4, &mut StdSink::new(file), all, WRITE_FAULT);
+    fs::remove_file(&rt, path).expect(&rt, "the file is there");
+}
 
-    fs::remove_file(&rt, path)?;
-    Ok(())
+/// A source of so many bytes is read within a limit.
+fn reads_within(rt: &impl Abort, alloc: Global, step: u32, count: usize, limit: usize, fits: bool) {
+    let bytes = pattern(alloc, count).expect(rt, "there is memory");
+    let want = pattern(alloc, count).expect(rt, "there is memory");
+    let mut source = MemSource::new(bytes, Vec::new(alloc));
+    let all = Ok(want.as_slice());
+    reads(
+        rt,
+        alloc,
+        step,
+        &mut source,
+        limit,
+        if fits { all } else { TOO_LONG },
+    );
 }
 
 #[test]
-fn limits(rt: HostRuntime) -> Result<(), Fail> {
-    let table = [
-        (0, 0, true),
-        (1, 0, false),
-        (5, 5, true),
-        (6, 5, false),
-        (65_536, 65_536, true),
-        (65_537, 65_536, false),
-        (150_000, usize::MAX, true),
-    ];
-    for (count, limit, fits) in table {
-        let bytes = pattern(rt.alloc(), count)?;
-        let mut source = MemSource::new(bytes.clone()?, no_fails(&rt));
-        match read_all(rt.alloc(), &mut source, limit) {
-            Ok(read) => {
-                assert!(rt; fits, "{count} bytes within {limit}");
-                assert_eq!(rt; read.as_slice(), bytes.as_slice());
-            }
-            Err(error) => {
-                assert!(rt; !fits, "{count} bytes within {limit}");
-                assert_eq!(rt; error, ReadErr::TooLong);
-            }
-        }
+fn limits(rt: HostRuntime) {
+    for (step, count, limit, fits) in [
+        (1, 0, 0, true),
+        (2, 1, 0, false),
+        (3, 5, 5, true),
+        (4, 6, 5, false),
+        (5, 65_536, 65_536, true),
+        (6, 65_537, 65_536, false),
+        (7, 150_000, usize::MAX, true),
+    ] {
+        reads_within(&rt, rt.alloc(), step, count, limit, fits);
     }
-    Ok(())
+}
+
+/// Which call fails, of a source or a sink in memory.
+fn failing(rt: &impl Abort, alloc: Global, call: u32) -> Vec<u32> {
+    vec![in alloc; call].expect(rt, "there is memory")
 }
 
 #[test]
-fn a_failed_read_loses_no_byte(rt: HostRuntime) -> Result<(), Fail> {
-    let fails = vec![in rt.alloc(); 1u32]?;
-    let mut source = MemSource::new(pattern(rt.alloc(), 9)?, fails);
-    let outcome = read_all(rt.alloc(), &mut source, 9);
-    assert_eq!(rt; outcome.err(), Some(ReadErr::ReadFault));
-    let read = read_all(rt.alloc(), &mut source, 9)?;
-    assert_eq!(rt; read.as_slice(), [0, 1, 2, 3, 4, 5, 6, 7, 8].as_slice());
-    Ok(())
+fn a_failed_read_loses_no_byte(rt: HostRuntime) {
+    let bytes = pattern(rt.alloc(), 9).expect(&rt, "there is memory");
+    let mut source = MemSource::new(bytes, failing(&rt, rt.alloc(), 1));
+    let all: Result<&[u8], ReadErr> = Ok(&[0, 1, 2, 3, 4, 5, 6, 7, 8]);
+    reads(&rt, rt.alloc(), 1, &mut source, 9, READ_FAULT);
+    reads(&rt, rt.alloc(), 2, &mut source, 9, all);
 }
 
 #[test]
-fn a_failed_write_tells_how_many_were_appended(rt: HostRuntime) -> Result<(), Fail> {
-    let fails = vec![in rt.alloc(); 21u32]?;
-    let bytes = pattern(rt.alloc(), 30)?;
-    let mut sink = MemSink::new(rt.alloc(), 1, fails);
-    let outcome = write_all(&mut sink, bytes.as_slice());
-    assert_eq!(rt; outcome.err(), Some(WriteErr::WriteFault { written: 20 }));
-    assert_eq!(rt; sink.bytes(), &bytes.as_slice()[..20]);
-    write_all(&mut sink, &bytes.as_slice()[20..])?;
-    assert_eq!(rt; sink.bytes(), bytes.as_slice());
-    Ok(())
+fn a_failed_write_tells_how_many_were_appended(rt: HostRuntime) {
+    let bytes = pattern(rt.alloc(), 30).expect(&rt, "there is memory");
+    assert!(rt; bytes.len() == 30);
+    let (first, last) = bytes.as_slice().split_at(20);
+    let mut sink = MemSink::new(rt.alloc(), 1, failing(&rt, rt.alloc(), 21));
+    writes(&rt, 1, &mut sink, bytes.as_slice(), WRITE_FAULT_AT_20);
+    assert!(rt; sink.bytes() == first);
+    writes(&rt, 2, &mut sink, last, Ok(()));
+    assert!(rt; sink.bytes() == bytes.as_slice());
+}
+
+/// An error's message is this text.
+fn says<E: Display>(rt: &impl Abort, alloc: Global, error: &E, text: &str) {
+    let message = format!(in alloc; "{error}").expect(rt, "there is memory");
+    assert!(rt; message.as_str() == text, "{message}, not {text}");
 }
 
 #[test]
-fn errors_are_told_in_words(rt: HostRuntime) -> Result<(), Fail> {
-    let table = [
+fn errors_are_told_in_words(rt: HostRuntime) {
+    for (error, text) in [
         (ReadErr::ReadFault, "a read failed"),
         (ReadErr::TooLong, "there are more bytes than the limit"),
         (ReadErr::NoMemory, "out of memory"),
-    ];
-    for (error, text) in table {
-        assert_eq!(rt; format!(in rt.alloc(); "{error}")?.as_str(), text);
+    ] {
+        says(&rt, rt.alloc(), &error, text);
     }
     let error = WriteErr::WriteFault { written: 20 };
-    let text = format!(in rt.alloc(); "{error}")?;
-    assert_eq!(rt; text.as_str(), "a write failed after 20 bytes");
-    Ok(())
+    says(&rt, rt.alloc(), &error, "a write failed after 20 bytes");
 }

@@ -1,4 +1,1 @@
-pub mod Endings
-pub mod Medians
 pub mod Names
-pub mod Tables

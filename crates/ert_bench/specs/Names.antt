@@ -31,7 +31,3 @@ IsName text = (operation : Operation) × (name_of operation ≡ text)
 -- each word is the name of an operation
 abbrev pub AreNames : List (String Global) → Type 0
 AreNames words = All (λ word. IsName (string_bytes word)) words
-
--- the line of a command line that names no operation
-abbrev pub usage_line : List ℕ
-usage_line = codes "usage: ert_bench [OPERATION]..\n"

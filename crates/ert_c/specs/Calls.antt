@@ -27,54 +27,68 @@ pub record Makes (call : Shared → Growth) (old new : Shared) : Type 0 where
   pub goes : Goes old (call old) new
   pub clock : new.clock ≡ old.clock
 
--- a call at a scheduler or for a process, which is refused where there is no such one
+-- a call at a scheduler, which is refused where there is no such one
 abbrev pub AtSched : {A : Type 0} → ℕ → (A → Shared → Shared → Type 0) → (A → Type 0) → ℤ → Type 0 → Shared → Shared → Type 0
 AtSched n call tells status kept old new = IfBelow n old.settings.schedulers (Answers call tells old new) (IsOutOfRange status kept old new)
 
+-- a call for a process, which is refused where there is no such one
 abbrev pub AtProcess : {A : Type 0} → ℕ → (A → Shared → Shared → Type 0) → (A → Type 0) → ℤ → Type 0 → Shared → Shared → Type 0
 AtProcess n call tells status kept old new = IfBelow n old.settings.processes (Answers call tells old new) (IsOutOfRange status kept old new)
 
--- the calls, each with its answer
+-- caller 0 starts a timer, with this answer, which is never want of memory
 pub record StartsBy (wheel : ℕ) (start : Start) (answer : Result TimerRef StartErr) (old new : Shared) : Type 0 where
   pub makes : Makes (λ w. By w (λ g. Starts g 0 wheel start answer)) old new
   pub memory : answer ≢ Err NoMemory
 
+-- caller 0 cancels a timer: what was left of it, where it was armed
 abbrev pub CancelsBy : TimerRef → Option ℕ → Shared → Shared → Type 0
 CancelsBy timer answer = Makes (λ w. By w (λ g. Cancels g (Caller 0) timer answer))
 
+-- caller 0 reads a timer: what is left of it, where it is armed
 abbrev pub ReadsBy : TimerRef → Option ℕ → Shared → Shared → Type 0
 ReadsBy timer answer = Makes (λ w. By w (λ g. Reads g (Caller 0) timer answer))
 
+-- caller 0 sees whether a process is alive
 abbrev pub TellsAliveBy : ℕ → Bool → Shared → Shared → Type 0
 TellsAliveBy process answer = Makes (λ w. By w (λ g. TellsAlive g (Caller 0) process answer))
 
+-- caller 0 lets a process exit: whether it was alive, and then every wheel is swept
 abbrev pub ExitsBy : ℕ → Bool → Shared → Shared → Type 0
 ExitsBy process answer = Makes (λ w. Exits w.settings (way_of w) 0 process answer)
 
+-- caller 0 puts a request into the inbox of its scheduler, or there is no memory
 abbrev pub AsksBy : Request → Result (Unit {0}) WantOfMemory → Shared → Shared → Type 0
 AsksBy request answer = Makes (λ w. By w (λ g. Asks g 0 (inbox_for g request) request answer))
 
+-- caller 0 takes the first message of a process, if there is one and the process is alive
 abbrev pub TakesBy : ℕ → Taken → Shared → Shared → Type 0
 TakesBy process answer = Makes (λ w. By w (λ g. Takes g 0 process answer))
 
+-- caller 0 makes a monitor of the time offset for a process: its number, or why there is none
 abbrev pub MonitorsBy : ℕ → Result ℕ MonitorErr → Shared → Shared → Type 0
 MonitorsBy process answer = Makes (λ w. By w (λ g. Monitors g 0 process answer))
 
+-- caller 0 removes a monitor of a process: whether it stood
 abbrev pub DemonitorsBy : ℕ → ℕ → Bool → Shared → Shared → Type 0
 DemonitorsBy process monitor answer = Makes (λ w. By w (λ g. Demonitors g 0 process monitor answer))
 
+-- caller 0 has the monitors of a process told the offset: how many messages are put, or want of memory
 abbrev pub TellsBy : ℕ → Result ℕ WantOfMemory → Shared → Shared → Type 0
 TellsBy process answer = Makes (λ w. By w (λ g. Tells g 0 process answer))
 
+-- a scheduler answers a request: whether there was one, or want of memory
 abbrev pub ServesBy : ℕ → Result Bool WantOfMemory → Shared → Shared → Type 0
 ServesBy sched answer = Makes (λ w. Serves w.settings (way_of w) sched answer)
 
+-- a scheduler advances its wheel: to which millisecond and how many timers expired, or want of memory
 abbrev pub AdvancesBy : ℕ → Result (ℕ × ℕ) WantOfMemory → Shared → Shared → Type 0
 AdvancesBy sched answer = Makes (λ w. AdvancesWheel w.settings (way_of w) sched answer)
 
+-- a scheduler hands its expired timers over: how many were put and dropped, or want of memory
 abbrev pub DeliversBy : ℕ → Result (ℕ × ℕ) WantOfMemory → Shared → Shared → Type 0
 DeliversBy sched answer = Makes (λ w. Delivers w.settings (way_of w) sched answer)
 
+-- a scheduler makes a turn: what it did, or want of memory
 abbrev pub TurnsBy : ℕ → Result Turned WantOfMemory → Shared → Shared → Type 0
 TurnsBy sched answer = Makes (λ w. Turns w.settings (way_of w) sched answer)
 

@@ -25,11 +25,12 @@ state_as Preliminary = 0
 state_as Final = 1
 state_as Volatile = 2
 
--- what C finds in its struct after a tick
+-- what C finds in its struct after a tick to a time, with the new offset where it moved
 abbrev pub moved_by : ℤ → Option ℤ → ErtMoved
 moved_by now None = record { now = now; shift = pos 0; shifted = 0 }
 moved_by now (Some offset) = record { now = now; shift = offset; shifted = 1 }
 
+-- what C finds in its struct after a tick with this answer
 abbrev pub moved_as : Moved → ErtMoved
 moved_as m = moved_by m.now m.shift
 
@@ -50,23 +51,26 @@ pub record TicksBy (r : Reading) (force : Bool) (answer : Result Moved ClockErr)
   pub gives : Gives old.clock r (act_of force) answer new.clock
   pub goes : Goes old (By old (λ g. Ticks g 0 r force answer)) new
 
+-- a service makes a finalization
 pub record FinalizesBy (r : Reading) (answer : Result (OffsetState × Moved) ClockErr) (old new : Shared) : Type 0 where
   pub gives : FinalizesFrom old.clock.face.state old.clock r answer new.clock
   pub goes : Goes old (By old (λ g. Finalizes g 0 r answer)) new
 
--- C is told what the clock of a service shows
+-- C is told monotonic time, as the clock of a service shows it
 pub record ReadsTime (status time : ℤ) (old new : Shared) : Type 0 where
   pub told : status ≡ OK
   pub value : time ≡ old.clock.face.time
   pub goes : Goes old (By old (λ g. TellsTime g (Caller 0) time)) new
   pub clock : new.clock ≡ old.clock
 
+-- C is told system time: the sum of the time and the offset that the clock shows
 pub record ReadsSystemTime (status time : ℤ) (old new : Shared) : Type 0 where
   pub told : status ≡ OK
   pub value : time ≡ (old.clock.face.time +ℤ old.clock.face.offset)
   pub goes : Goes old (By old (λ g. TellsSystemTime g (Caller 0) time)) new
   pub clock : new.clock ≡ old.clock
 
+-- C is told the time offset and its state, as the clock shows them
 pub record ReadsOffset (status : ℤ) (offset : ErtOffset) (old new : Shared) : Type 0 where
   pub told : status ≡ OK
   pub value : offset.offset ≡ old.clock.face.offset

@@ -64,16 +64,18 @@ pub record HasOpened (g : Settings) (status : ℤ) (new : Option Shared) : Type 
   pub opened : IsOpened g world
   pub told : status ≡ OK
 
+-- what was read opens a service, or finds no memory for it; a refusal is told by its status
 abbrev pub OpensBy : Result Settings ℤ → ℤ → Option Shared → Type 0
 OpensBy (Ok g) status new = HasOpened g status new ⊎ ((status ≡ NO_MEMORY) × (new ≡ None))
 OpensBy (Err why) status new = (status ≡ why) × (new ≡ None)
 
--- a closed handle is opened, and an open one is left as it was
+-- behind a closed handle a service is opened with what C passed, or isn't
 pub record OpensNew (c : ErtSettings) (status : ℤ) (new : Option Shared) : Type 0 where
   pub read : Result Settings ℤ
   pub meant : IsRead c read
   pub opens : OpensBy read status new
 
+-- a closed handle is opened or stays closed, and an open one is left as it was
 abbrev pub Opens : ErtSettings → Option Shared → ℤ → Option Shared → Type 0
 Opens c None status new = OpensNew c status new
 Opens c (Some w) status new = (status ≡ OPEN) × (new ≡ Some w)

@@ -19,5 +19,6 @@ unfoldable pub held : Ptr → Option Shared → Fml
 held p (Some w) = box_owns chunk the_row p w
 held p None = ftrue
 
+-- whether something stands behind a handle
 abbrev pub is_there : {W : Type 0} → Option W → Bool
 is_there = is_some

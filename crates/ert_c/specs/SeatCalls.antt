@@ -32,26 +32,31 @@ OpensSeat world (Some s) status left given = (status ≡ OPEN) × (left ≡ worl
 OpensSeat None None status left given = (status ≡ CLOSED) × (left ≡ None) × (given ≡ None)
 OpensSeat (Some old) None status left given = HasSeat old status left given ⊎ (IsSeatless old status × (left ≡ Some old) × (given ≡ None))
 
--- a seat makes a call as its caller, and C is told the answer
+-- a seat looks up monotonic time as its caller, and C is told it
 pub record SeatReadsTime (status time : ℤ) (old new : Seated) : Type 0 where
   pub told : status ≡ OK
   pub steps : Steps old (BySeat old (λ g. TellsTime g (Caller old.number) time)) new
 
+-- a seat looks up system time as its caller, and C is told it
 pub record SeatReadsSystemTime (status time : ℤ) (old new : Seated) : Type 0 where
   pub told : status ≡ OK
   pub steps : Steps old (BySeat old (λ g. TellsSystemTime g (Caller old.number) time)) new
 
+-- a seat looks up the time offset and its state as its caller, and C is told them
 pub record SeatReadsOffset (status : ℤ) (offset : ErtOffset) (old new : Seated) : Type 0 where
   pub told : status ≡ OK
   pub offset_state : OffsetState
   pub state : offset.state ≡ state_as offset_state
   pub steps : Steps old (BySeat old (λ g. TellsOffset g (Caller old.number) (offset.offset, offset_state))) new
 
+-- a seat cancels a timer as its caller: what was left of it, where it was armed
 abbrev pub SeatCancelsBy : TimerRef → Option ℕ → Seated → Seated → Type 0
 SeatCancelsBy timer answer old new = Steps old (BySeat old (λ g. Cancels g (Caller old.number) timer answer)) new
 
+-- a seat reads a timer as its caller: what is left of it, where it is armed
 abbrev pub SeatReadsBy : TimerRef → Option ℕ → Seated → Seated → Type 0
 SeatReadsBy timer answer old new = Steps old (BySeat old (λ g. Reads g (Caller old.number) timer answer)) new
 
+-- a seat sees as its caller whether a process is alive
 abbrev pub SeatTellsAliveBy : ℕ → Bool → Seated → Seated → Type 0
 SeatTellsAliveBy process answer old new = Steps old (BySeat old (λ g. TellsAlive g (Caller old.number) process answer)) new

@@ -36,22 +36,27 @@ abbrev pub flag : Bool → ℕ
 flag true = 1
 flag false = 0
 
+-- the reference of a timer, for C
 abbrev pub timer_as : TimerRef → ErtTimer
 timer_as r = record { wheel = r.wheel; slot = r.slot; generation = r.generation }
 
+-- the reference of a timer, from C
 abbrev pub timer_of : ErtTimer → TimerRef
 timer_of r = record { wheel = r.wheel; slot = r.slot; generation = r.generation }
 
--- what a timer is started with
+-- when a timer is due, from C: at a time, or so many milliseconds after its start
 abbrev pub when_of : ErtStart → When
 when_of s = cond (is_on s.absolute) (At s.when) (After s.when)
 
+-- what a timer sends, from C
 abbrev pub kind_of : ErtStart → Kind
 kind_of s = cond (is_on s.bare) Bare Wrapped
 
+-- what a timer is started with, from C
 abbrev pub start_of : ErtStart → Start
 start_of s = record { when = when_of s; dest = s.dest; msg = s.msg; kind = kind_of s }
 
+-- the timer that was started, or why none was
 abbrev pub IsStarted : Result TimerRef StartErr → ErtTimer → ℤ → ErtTimer → Type 0
 IsStarted (Ok timer) old status new = (status ≡ OK) × (new ≡ timer_as timer)
 IsStarted (Err BadArg) old status new = (status ≡ BAD_TIME) × (new ≡ old)
@@ -72,33 +77,41 @@ abbrev pub IsNumber : Result ℕ WantOfMemory → ℕ → ℤ → ℕ → Type 0
 IsNumber (Ok n) old status new = (status ≡ OK) × (new ≡ n)
 IsNumber (Err e) old status new = (status ≡ NO_MEMORY) × (new ≡ old)
 
+-- whether a request was served, or want of memory
 abbrev pub IsServed : Result Bool WantOfMemory → ℕ → ℤ → ℕ → Type 0
 IsServed (Ok served) old status new = (status ≡ OK) × (new ≡ flag served)
 IsServed (Err e) old status new = (status ≡ NO_MEMORY) × (new ≡ old)
 
+-- to which millisecond a wheel was advanced and how many timers expired, or want of memory
 abbrev pub IsAdvanced : Result (ℕ × ℕ) WantOfMemory → ErtAdvanced → ℤ → ErtAdvanced → Type 0
 IsAdvanced (Ok p) old status new = (status ≡ OK) × (new ≡ record { to = p.0; fired = p.1 })
 IsAdvanced (Err e) old status new = (status ≡ NO_MEMORY) × (new ≡ old)
 
+-- how many messages were put and dropped, or want of memory
 abbrev pub IsDelivered : Result (ℕ × ℕ) WantOfMemory → ErtDelivered → ℤ → ErtDelivered → Type 0
 IsDelivered (Ok p) old status new = (status ≡ OK) × (new ≡ record { put = p.0; dropped = p.1 })
 IsDelivered (Err e) old status new = (status ≡ NO_MEMORY) × (new ≡ old)
 
+-- what a turn did, for C
 abbrev pub turned_as : Turned → ErtTurned
 turned_as t = record { to = t.to; served = t.served; fired = t.fired; put = t.put; dropped = t.dropped }
 
+-- what a turn did, or want of memory
 abbrev pub IsTurned : Result Turned WantOfMemory → ErtTurned → ℤ → ErtTurned → Type 0
 IsTurned (Ok t) old status new = (status ≡ OK) × (new ≡ turned_as t)
 IsTurned (Err e) old status new = (status ≡ NO_MEMORY) × (new ≡ old)
 
--- the number of a message's kind, with its fields; the others are 0
+-- the reference in a message that names no timer
 abbrev pub no_timer : ErtTimer
 no_timer = record { wheel = 0; slot = 0; generation = 0 }
 
+-- a message with this number of its kind, reference and value, and what was left where that is told; the other
+-- fields are 0
 abbrev pub mail_of : ℕ → ErtTimer → ℕ → Option ℕ → ErtMail
 mail_of tag timer msg (Some left) = record { tag = tag; timer = timer; has_left = 1; monitor = 0; msg = msg; left = left; offset = pos 0 }
 mail_of tag timer msg None = record { tag = tag; timer = timer; has_left = 0; monitor = 0; msg = msg; left = 0; offset = pos 0 }
 
+-- a message, for C: the number of its kind, with its fields; the others are 0
 abbrev pub mail_as : Mail → ErtMail
 mail_as (Timeout timer msg) = mail_of 1 (timer_as timer) msg None
 mail_as (BareMail msg) = mail_of 2 no_timer msg None
@@ -107,27 +120,32 @@ mail_as (ReadDone timer left) = mail_of 4 (timer_as timer) 0 left
 mail_as (Change monitor offset) =
     record { tag = 5; timer = no_timer; has_left = 0; monitor = monitor; msg = 0; left = 0; offset = offset }
 
+-- the message that was taken, or that there is none, or that the process has exited
 abbrev pub IsTaken : Taken → ErtMail → ℤ → ErtMail → Type 0
 IsTaken (Took m) old status new = (status ≡ OK) × (new ≡ mail_as m)
 IsTaken Empty old status new = (status ≡ EMPTY) × (new ≡ old)
 IsTaken Exited old status new = (status ≡ EXITED) × (new ≡ old)
 
--- what a request asks for, and the request
+-- what a number asks for
 abbrev pub request_kind_at : ℕ → Option RequestKind
 request_kind_at n = cond (nat_eq n 0) (Some Cancel) (cond (nat_eq n 1) (Some Read) None)
 
+-- a request of this kind, from C
 abbrev pub request_of : ErtRequest → RequestKind → Request
 request_of r kind = record { kind = kind; timer = timer_of r.timer; reply_to = r.reply_to; info = is_on r.info }
 
+-- a request was put, or want of memory
 abbrev pub IsAsked : Result (Unit {0}) WantOfMemory → ℤ → Type 0
 IsAsked (Ok _) status = status ≡ OK
 IsAsked (Err e) status = status ≡ NO_MEMORY
 
+-- the number of the monitor that was made, or why none was
 abbrev pub IsMonitored : Result ℕ MonitorErr → ℕ → ℤ → ℕ → Type 0
 IsMonitored (Ok n) old status new = (status ≡ OK) × (new ≡ n)
 IsMonitored (Err NoPlace) old status new = (status ≡ FULL) × (new ≡ old)
 IsMonitored (Err MonitorNoMemory) old status new = (status ≡ NO_MEMORY) × (new ≡ old)
 
+-- whether the monitor stood that was to be removed
 abbrev pub IsDemonitored : Bool → ℤ → Type 0
 IsDemonitored true status = status ≡ OK
 IsDemonitored false status = status ≡ NO_MONITOR

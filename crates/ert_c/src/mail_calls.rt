@@ -38,6 +38,7 @@ pub struct ErtRequest {
 }
 
 impl ErtRequest {
+    /// The request, with what its `kind` was read as.
     pub(crate) fn with_kind(&self, kind: RequestKind) -> Request
         ensures { result ≡ request_of self.now kind }
     {

@@ -36,6 +36,7 @@ pub struct ErtSettings {
 pub const SETTINGS_SIZE: u32 = 56;
 
 impl ErtReading {
+    /// The reading, as a service takes it.
     pub(crate) fn read(&self) -> Reading
         ensures { result ≡ reading_as self.now }
     {

@@ -1,11 +1,13 @@
-//! The statuses that calls answer: 0, or why a call did nothing.
+//! The statuses that calls answer: 0, or why a call was refused or stopped.
 
+/// The call has done what it says.
 pub const OK: i32 = 0;
 /// The handle is closed.
 pub const CLOSED: i32 = -1;
 /// The handle is open.
 pub const OPEN: i32 = -2;
 
+/// There is no memory for the call.
 pub const NO_MEMORY: i32 = -3;
 /// The settings have another size than these of the library.
 pub const BAD_SIZE: i32 = -4;

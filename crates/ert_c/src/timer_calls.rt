@@ -31,6 +31,7 @@ pub struct ErtStart {
 }
 
 impl ErtTimer {
+    /// The name of a timer, as C is told it.
     pub(crate) fn of(timer: TimerRef) -> ErtTimer
         ensures { result ≡ timer_as timer }
     {
@@ -41,6 +42,7 @@ impl ErtTimer {
         }
     }
 
+    /// The name of a timer, as a service takes it.
     pub(crate) fn read(&self) -> TimerRef
         ensures { result ≡ timer_of self.now }
     {
@@ -53,6 +55,7 @@ impl ErtTimer {
 }
 
 impl ErtStart {
+    /// The start, as a service takes it.
     pub(crate) fn read(&self) -> Start
         ensures { result ≡ start_of self.now }
     {

@@ -1,39 +1,12 @@
-//! The program `ertime`: it reads a scenario of the clock and timer service, and writes one line for each
-//! reply.
+//! The program `ertime`: it reads a scenario of the clock and timer service, and writes one line for each reply.
 //!
-//! `ertime` is the whole program over any source and sink of bytes; its contract says what each status
-//! means. `main` only hands it the command line and the standard streams. It stands on `ert_scenario`,
-//! which reads, `ert_script`, which runs the ops on a world, `ert_race`, which lets threads run lists of them,
-//! `ert_io`, and `ert_table`, whose desk it returns.
+//! `main` only hands the command line, the standard streams and the machine's clock to `ertime` of `ert_program`,
+//! whose contract says what each status means.
 #![tactic(auto)]
 
-#[cfg(test)]
-mod clock_rows;
-mod ending;
-mod in_memory;
-#[cfg(test)]
-mod in_memory_tests;
-#[cfg(test)]
-mod live_tests;
-mod living;
-mod program;
-#[cfg(test)]
-mod race_tests;
-mod racing;
-mod refusal;
-#[cfg(test)]
-mod refused_rows;
-mod running;
-mod stressing;
-#[cfg(test)]
-mod tests;
-#[cfg(test)]
-mod timer_rows;
-
-pub use ending::{EndStatus, Ended};
 use ert_io::{HostClock, StdSink, StdSource};
+use ert_program::{EndStatus, ertime};
 use ert_shared::FreeGate;
-pub use program::ertime;
 use std::io::ErrorKind;
 use std::process::ExitCode;
 use std::rt::Env;

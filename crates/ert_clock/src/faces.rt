@@ -89,10 +89,19 @@ fn rate_after(act: Act, state: OffsetState, error: i128) -> i16
 }
 
 /// A millionth of a number, rounded down.
+///
+/// A division of 128 bits takes several times as long as one of 64, and none is needed while a clock runs at the
+/// rate of OS monotonic time.
 pub fn millionth(product: i128) -> i128
     ensures { result ≡ int_div_euclid product (pos 1000000) }
 {
-    product.div_euclid(1_000_000)
+    if product == 0 {
+        0
+    } else if i64::MIN as i128 <= product && product <= i64::MAX as i128 {
+        (product as i64).div_euclid(1_000_000) as i128
+    } else {
+        product.div_euclid(1_000_000)
+    }
 }
 
 impl Line {

@@ -9,8 +9,6 @@
 mod command;
 mod parser;
 mod reading;
-#[cfg(test)]
-mod tests;
 
 pub use command::Command;
 pub use reading::command_of;

@@ -23,10 +23,11 @@ is_ours actors e = list_any (λ a. has_actor e a) actors
 abbrev pub entry_by : Actor → Option Actor → Event → Entry
 entry_by by with event = record { by = by; with = with; event = event }
 
--- the time is read, or the offset
+-- the time is read
 abbrev pub look_entry : Actor → ℤ → Entry
 look_entry by now = entry_by by None (Look now)
 
+-- the offset is read, with its state
 abbrev pub off_entry : Actor → ℤ → OffsetState → Entry
 off_entry by offset state = entry_by by None (Off offset state)
 
@@ -38,10 +39,11 @@ arm_entry by timer start = entry_by (Caller by) (Some (Wheel timer.wheel)) (Arm 
 abbrev pub probe_entry : Actor → ℕ → ℕ → Option Status → Entry
 probe_entry by wheel slot found = entry_by by (Some (Wheel wheel)) (Probe wheel slot found)
 
--- a timer is read, or cancelled where it is armed
+-- a timer is read: what is left of it, where it is armed
 abbrev pub peek_entry : Actor → TimerRef → Option ℕ → Entry
 peek_entry by timer left = entry_by by None (Peek timer left)
 
+-- a timer is cancelled: what was left of it, where it was armed
 abbrev pub cancel_entry : Actor → TimerRef → Option ℕ → Entry
 cancel_entry by timer left = entry_by by None (Cancel timer left)
 
@@ -53,10 +55,11 @@ expire_entry w timer = entry_by (Sched w) (Some (Wheel w)) (Expire timer)
 abbrev pub orphan_entry : ℕ → ℕ → TimerRef → Entry
 orphan_entry by w timer = entry_by (Caller by) (Some (Wheel w)) (Orphan timer)
 
--- a scheduler puts the message of an expired timer into the mailbox of a process, or throws it away
+-- a scheduler puts the message of an expired timer into the mailbox of a process
 abbrev pub deliver_entry : ℕ → ℕ → TimerRef → Entry
 deliver_entry w process timer = entry_by (Sched w) (Some (MailOf process)) (Deliver timer)
 
+-- a scheduler throws the message of an expired timer away
 abbrev pub drop_entry : ℕ → TimerRef → Entry
 drop_entry w timer = entry_by (Sched w) None (Drop timer)
 
@@ -72,10 +75,11 @@ advanced_entry w to = entry_by (Sched w) (Some (Wheel w)) (Advanced w to)
 abbrev pub ask_entry : ℕ → ℕ → Request → Entry
 ask_entry by w request = entry_by (Caller by) (Some (Inbox w)) (Ask w request)
 
--- a scheduler takes the first request of its inbox, and answers a process
+-- a scheduler takes the first request of its inbox, or finds none
 abbrev pub pick_entry : ℕ → Option Request → Entry
 pick_entry w got = entry_by (Sched w) (Some (Inbox w)) (Pick w got)
 
+-- a scheduler answers the request in its hand, with the mailbox of the process that asked
 abbrev pub answer_entry : ℕ → ℕ → Option ℕ → Entry
 answer_entry w process left = entry_by (Sched w) (Some (MailOf process)) (Answer w left)
 
@@ -83,12 +87,14 @@ answer_entry w process left = entry_by (Sched w) (Some (MailOf process)) (Answer
 abbrev pub take_entry : ℕ → ℕ → Option Mail → Entry
 take_entry by process got = entry_by (Caller by) (Some (MailOf process)) (Take process got)
 
--- a caller makes or removes a monitor of a process, or has its monitors told the offset
+-- a caller makes a monitor of a process, with this number and this offset
 abbrev pub watch_entry : ℕ → ℕ → ℕ → ℤ → Entry
 watch_entry by process monitor offset = entry_by (Caller by) (Some (MailOf process)) (Watch process monitor offset)
 
+-- a caller removes a monitor of a process; it is seen whether it stood
 abbrev pub unwatch_entry : ℕ → ℕ → ℕ → Bool → Entry
 unwatch_entry by process monitor was = entry_by (Caller by) (Some (MailOf process)) (Unwatch process monitor was)
 
+-- a caller has the monitors of a process told the offset
 abbrev pub tell_entry : ℕ → ℕ → ℤ → Entry
 tell_entry by process offset = entry_by (Caller by) (Some (MailOf process)) (Tell process offset)

@@ -162,6 +162,7 @@ abbrev pub left_by : Settings → ℤ → Option Status → Option Row → Optio
 left_by g look (Some Armed) row = option_map (λ (r : Row). left g r.deadline look) row
 left_by g look _ row = None
 
+-- the milliseconds left of a timer in a state, where it is armed, by an actor's last look
 abbrev pub left_of : Settings → State → Actor → TimerRef → Option ℕ
 left_of g s by timer = left_by g (s.looked by) (s.status timer) (row_of (s.rows timer.wheel) timer)
 

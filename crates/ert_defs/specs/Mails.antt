@@ -43,10 +43,11 @@ pub record SchedState : Type 0 where
   pub result : Option (Option ℕ)
   pub fired : List Row
 
--- nothing yet
+-- a process that has nothing yet
 abbrev pub no_mail : MailState
 no_mail = record { queue = []; monitors = []; next = 0 }
 
+-- a scheduler that has nothing: no request in its hand, and no expired timer to hand over
 abbrev pub idle_sched : SchedState
 idle_sched = record { hand = None; result = None; fired = [] }
 
@@ -55,6 +56,7 @@ abbrev pub message_by : Kind → TimerRef → ℕ → Mail
 message_by Wrapped timer msg = Timeout timer msg
 message_by Bare timer msg = BareMail msg
 
+-- the message of an expired timer, by its row
 abbrev pub message_of : Row → Mail
 message_of r = message_by r.kind r.timer r.msg
 

@@ -36,5 +36,6 @@ deadline_when g (After (pos n)) x = deadline_at (up g x +ℤ pos n)
 deadline_when g (After (negsuc n)) x = None
 deadline_when g (At v) x = deadline_at (v -ℤ int_div_euclid g.start (pos 1000000))
 
+-- the deadline of a start that is made at a time; None where it is refused
 abbrev pub deadline_of : Settings → Start → ℤ → Option ℕ
 deadline_of g start x = deadline_when g start.when x

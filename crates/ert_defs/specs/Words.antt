@@ -40,6 +40,7 @@ status_code Dropped = 6
 abbrev pub timer_word : Status → ℕ → ℕ → ℕ
 timer_word status deadline generation = (status_code status + (8 * deadline)) + (70368744177664 * generation)
 
+-- the word of a slot by the status, the row and the generation of its last timer; 0 where it had none
 abbrev pub slot_word : Option Status → Option Row → ℕ → ℕ
 slot_word (Some status) (Some row) generation = timer_word status row.deadline generation
 slot_word _ _ generation = 0

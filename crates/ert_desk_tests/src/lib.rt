@@ -1,14 +1,15 @@
-//! Tests of the crates that step on the desk, by their public calls. They stand apart from the crates that
-//! they test, so that a crate is proved once, and not a second time with its tests.
+//! Tests of the parts that step on a desk: the clock's, the timers of a scheduler, inboxes and mailboxes. A world
+//! holds them all, so they are tested by its calls, and by the words and the counts that they leave. What each
+//! call of a world answers is tested in `ert_world_tests`.
 #![tactic(auto)]
 
 #[cfg(test)]
-mod calls;
-#[cfg(test)]
-mod deliveries;
-#[cfg(test)]
-mod keeper;
+mod clock;
 #[cfg(test)]
 mod mail;
 #[cfg(test)]
-mod table;
+mod steps;
+#[cfg(test)]
+mod timers;
+#[cfg(test)]
+mod worlds;

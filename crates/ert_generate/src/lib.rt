@@ -10,8 +10,6 @@
 mod generation;
 mod generator;
 mod laws;
-#[cfg(test)]
-mod tests;
 
 pub use generation::generate;
 pub use laws::{first_draws, generated_scenarios_are_valid};

@@ -20,12 +20,13 @@ pub record Stands (g : Settings) (h : List Entry) (q : Waiting) : Type 0 where
   pub in_range : q.wheel < g.schedulers
   pub requests : q.requests ≡ (state g h).inboxes q.wheel
 
--- a pass holds the inbox of a scheduler, and a caller in range or the scheduler itself
+-- a pass holds the inbox of a scheduler, and a caller in range
 pub record IsAskers (g : Settings) (v : View) (by w : ℕ) : Type 0 where
   pub caller : is_held v.actors (Caller by) ≡ true
   pub below : by < g.callers
   pub inbox : is_held v.actors (Inbox w) ≡ true
 
+-- a pass holds the inbox of a scheduler, and the scheduler itself
 pub record IsScheds (g : Settings) (v : View) (w : ℕ) : Type 0 where
   pub sched : is_held v.actors (Sched w) ≡ true
   pub inbox : is_held v.actors (Inbox w) ≡ true

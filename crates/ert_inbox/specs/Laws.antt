@@ -19,11 +19,12 @@ abbrev pub LawOfStanding : Type 0
 LawOfStanding = (g : Settings) (f h : List Entry) (q : Waiting) → Begins f h → of h (Inbox q.wheel) ≡ of f (Inbox q.wheel)
     → Stands g f q → Stands g h q
 
--- a request is put by a caller with the inbox alone, and taken by the scheduler with it
+-- the entries of a request that is put are of its caller and of the inbox alone
 abbrev pub LawOfAsks : Type 0
 LawOfAsks = (g : Settings) (by w : ℕ) (request : Request) (answer : Result (Unit {0}) NoMemory) (s : State) (es : List Entry)
     → Asks g by w request answer s es → AreOnlyOf (Caller by ∷ (Inbox w ∷ [])) es
 
+-- those of a request that is taken are of the scheduler and of its inbox alone
 abbrev pub LawOfPicks : Type 0
 LawOfPicks = (g : Settings) (w : ℕ) (got : Option Request) (s : State) (es : List Entry) → Picks g w got s es
     → AreOnlyOf (Sched w ∷ (Inbox w ∷ [])) es

@@ -6,6 +6,7 @@ pub mod Pushing
 pub mod Reading
 pub mod Starting
 pub mod Steps
+pub mod Stepping
 pub mod Stopping
 pub mod Still
 pub mod Tables

@@ -6,6 +6,7 @@ use Rattle.ert_interval.proofs.Tables.{either}
 use Rattle.ert_defs.specs.Legal.{Legal}
 use Rattle.ert_defs.specs.declared.memory.NoMemory.{NoMemory}
 use Rattle.ert_interval.specs.Calls.{Still, IsOf, Passed, PassedBy, PassesOne, PassesAll, PassesSome, Unmoved, timers, Counts}
+use Rattle.ert_interval.specs.Going.{one_if}
 use Rattle.ert_interval.specs.Intervals.{IsKept, AreKept}
 use Rattle.ert_interval.specs.declared.interval.Interval.{Interval}
 use Rattle.ert_interval.proofs.Onward.{ends_stay}
@@ -28,10 +29,6 @@ passed_stays a b i j armed still legal_a legal kept passed = record {
   ends = ends_stay a b j j.state still legal_a legal kept.used passed.ends;
 }
 
-abbrev pub counted_by : Bool → ℕ
-counted_by true = 1
-counted_by false = 0
-
 pub passes_none : (w : ℕ) (a : Service) (is : List Interval) → PassesTo w 0 a is is 0
 passes_none w a is = record {
   counted = refl;
@@ -43,8 +40,8 @@ passes_none w a is = record {
 
 -- one more
 pub passes_more : (w n : ℕ) (a b : Service) (is js ks : List Interval) (armed next : ℕ) (one : Bool) → PassesTo w n a is js armed
-    → PassesOne (Ok one) n w b js ks → Still a b → AreKept a js → Legal b.settings b.history → timers ks ≡ timers js + counted_by one
-    → next ≡ armed + counted_by one → PassesTo w (n + 1) b is ks next
+    → PassesOne (Ok one) n w b js ks → Still a b → AreKept a js → Legal b.settings b.history → timers ks ≡ timers js + one_if one
+    → next ≡ armed + one_if one → PassesTo w (n + 1) b is ks next
 passes_more w n a b is js ks armed next one to step still kept legal count sum = record {
   counted = step.counted ∙ to.counted;
   started = omega (arith, count, to.started, sum);
@@ -149,6 +146,6 @@ counts_by (Err e) w is n i j low at unmoved =
     let here : length i.firings.items ≡ length (slice_index_or is n i).firings.items = ap (λ (x : Interval). length x.firings.items) at in
     omega (arith, both, more, here)
 
-pub count_is : (one : Bool) (is js : List Interval) → Counts (Ok one) is js → timers js ≡ timers is + counted_by one
+pub count_is : (one : Bool) (is js : List Interval) → Counts (Ok one) is js → timers js ≡ timers is + one_if one
 count_is true is js counts = counts
 count_is false is js counts = omega (arith, counts)

@@ -196,3 +196,13 @@ refused_full a b w start deadline Full goes legal due memory =
           (subst (λ (t : State). IsFull g t w) (sym end) full),
       record { piece = goes.grows.piece; grown = goes.grows.grown; still = subst AreStill (sym st.entries) still; settings = goes.settings },
     )
+
+-- a start that has a deadline, and isn't refused for want of memory, is refused for a full wheel
+pub full_start : (a b : Service) (w : ℕ) (start : Start) (deadline : ℕ) (e : StartErr) → Goes a (By a (λ g. Starts g 0 w start (Err e))) b
+    → ((look : ℤ) → deadline_of a.settings start look ≡ Some deadline) → (e ≡ NoMemory → ⊥) → Goes a (By a (λ g. Starts g 0 w start (Err Full))) b
+full_start a b w start deadline BadArg goes due memory =
+    let st = goes.grows.made in
+    let clash : Some deadline ≡ None = sym (due st.now) ∙ st.refused in
+    absurd cc
+full_start a b w start deadline NoMemory goes due memory = absurd (memory refl)
+full_start a b w start deadline Full goes due memory = goes

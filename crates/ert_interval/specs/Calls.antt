@@ -32,6 +32,7 @@ is_still (Arm timer start) = true
 is_still (Mark process false was) = true
 is_still _ = false
 
+-- none of these entries settles a timer, or lets a process exit
 abbrev pub AreStill : List Entry → Type 0
 AreStill [] = Unit {0}
 AreStill (e ∷ es) = (is_still e.event ≡ true) × AreStill es
@@ -81,6 +82,7 @@ pub record Passed (w : Service) (old new : Interval) (armed : Bool) : Type 0 whe
   pub fires : Fires armed old new
   pub ends : EndsAs w.settings (state w.settings w.history) new new.state
 
+-- a turn has gone on with an interval, or for want of memory has left it as it was
 abbrev pub PassedBy : Result Bool WantOfMemory → Service → Interval → Interval → Type 0
 PassedBy (Ok armed) w old new = Passed w old new armed
 PassedBy (Err e) w old new = Unmoved old new
@@ -127,6 +129,7 @@ pub record PassesSome (w : ℕ) (new : Service) (is js : List Interval) : Type 0
       ⊎ ((b : Bool) × Passed new (slice_index_or is n d) (slice_index_or js n d) b)
   pub others : (n : ℕ) (d : Interval) → n < length is → (IsOf w (slice_index_or is n d) → ⊥) → slice_index_or js n d ≡ slice_index_or is n d
 
+-- a turn has gone once through the intervals of its wheel, or only through some for want of memory
 abbrev pub PassesBy : Result ℕ WantOfMemory → ℕ → Service → List Interval → List Interval → Type 0
 PassesBy (Ok armed) w new is js = PassesAll w new is js armed
 PassesBy (Err e) w new is js = PassesSome w new is js
@@ -172,7 +175,7 @@ pub record StopsOpen (old : Service) (i : Interval) (left : Option ℕ) (new : S
   pub firings : j.firings.items ≡ i.firings.items
   pub state : j.state ≡ Stopped
 
--- `stop`, by the state: any other stays as it is
+-- `stop` by the state of the interval: where it is neither Running nor Waiting, it stays as it is
 abbrev pub StopsIn : IntervalState → Service → Interval → Option ℕ → Service → Interval → Type 0
 StopsIn Running old i left new j = StopsOpen old i left new j
 StopsIn Waiting old i left new j = StopsOpen old i left new j
@@ -183,6 +186,7 @@ StopsIn Ended old i left new j = (left ≡ None) × (new ≡ old) × (j ≡ i)
 abbrev pub NoneWhere : State → Interval → Option ℕ → Type 0
 NoneWhere s i left = (left ≡ None) ↔ (s.status i.last ≢ Some Armed)
 
+-- `stop` of one interval: something is left exactly where its last timer was armed
 pub record StopsOne (old : Service) (i : Interval) (left : Option ℕ) (new : Service) (j : Interval) : Type 0 where
   pub stops : StopsIn i.state old i left new j
   pub none : NoneWhere (state old.settings old.history) i left

@@ -14,6 +14,7 @@ CancelsOnly r (Peek timer left) = Unit {0}
 CancelsOnly r (Cancel timer left) = timer ≡ r
 CancelsOnly r _ = ⊥
 
+-- each of these entries reads the time or a timer, or is a cancel of this timer
 abbrev pub CancelOnly : TimerRef → List Entry → Type 0
 CancelOnly r [] = Unit {0}
 CancelOnly r (e ∷ es) = CancelsOnly r e.event × CancelOnly r es

@@ -4,7 +4,11 @@ ghost use Rattle.ert_defs.specs.Legal.{Legal};
 ghost use Rattle.ert_defs.specs.States.{state};
 ghost use Rattle.ert_interval.specs.Intervals.{IsOpen, IsKept};
 ghost use Rattle.ert_interval.specs.Calls.{Still, PassedBy, StopsOne, IsNewOrSame};
+ghost use Rattle.ert_interval.specs.Going.{GoesOn, ReadsLast, StartsNext};
 ghost use Rattle.ert_interval.specs.Spared.{Spares};
+ghost use Rattle.ert_answers.specs.WheelCalls.{TellsAlive};
+ghost use Rattle.ert_defs.specs.declared.entry.Actor.TheVariants.{Caller};
+ghost use Rattle.ert_sched.specs.Worlds.{Goes, By};
 ghost use Rattle.ert_defs.specs.declared.timer.Status.TheVariants.{Armed};
 
 use crate::interval::{Interval, IntervalState, next_deadline, start_for};
@@ -23,6 +27,7 @@ pub(crate) fn go_on(world: &mut World, interval: &mut Interval) -> Result<bool, 
     ensures kept { IsKept world.new.settings world.new.history interval.new }
     ensures timer { IsNewOrSame (state world.old.settings world.old.history) interval.old interval.new }
     ensures passed { PassedBy result world.new interval.old interval.new }
+    ensures goes { GoesOn result world.old interval.old world.new interval.new }
 {
     if is_armed(world, interval) {
         return Ok(false);
@@ -44,6 +49,7 @@ fn is_armed(world: &mut World, interval: &Interval) -> bool
     requires kept { IsKept world.old.settings world.old.history interval.now }
     ensures still { Still world.old world.new }
     ensures legal { Legal world.new.settings world.new.history }
+    ensures reads { ReadsLast interval.now result world.old world.new }
     ensures value { IsTrue result ↔ ((state world.new.settings world.new.history).status interval.now.last ≡ Some Armed) }
 {
     let left = world.read_timer(interval.last);
@@ -57,6 +63,7 @@ fn lives(world: &mut World, process: u32) -> bool
     requires process { process < world.old.settings.processes }
     ensures still { Still world.old world.new }
     ensures legal { Legal world.new.settings world.new.history }
+    ensures call { Goes world.old (By world.old (λ g. TellsAlive g (Caller 0) process result)) world.new }
     ensures value { (state world.new.settings world.new.history).exited process ≡ not result }
 {
     let lives = world.is_alive(process);
@@ -79,6 +86,7 @@ fn start_next(world: &mut World, interval: &mut Interval, deadline: u64) -> Resu
     ensures kept { IsKept world.new.settings world.new.history interval.new }
     ensures timer { IsNewOrSame (state world.old.settings world.old.history) interval.old interval.new }
     ensures passed { PassedBy result world.new interval.old interval.new }
+    ensures starts { StartsNext result world.old interval.old world.new interval.new }
 {
     interval.firings.reserve(1)?;
     let start = start_for(deadline, world.settings(), interval.dest, interval.msg);

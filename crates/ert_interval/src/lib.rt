@@ -24,9 +24,11 @@
 //! **What it promises.** Each call keeps `AreKept` (specs/Intervals): the `j`-th timer of an interval has a
 //! row in the history with the deadline of `first + j * period`, each but the last has expired, and had
 //! before the next was armed, and a stopped interval has no armed timer. Each call says how the states move
-//! (specs/Calls and specs/Turns).
+//! (specs/Calls and specs/Turns). A turn adds to the history, after the world's own turn, exactly the entries
+//! of its intervals in order of number: the read of the last timer, the look at the destination and the start
+//! of the next timer (specs/Going). So each timer that a turn starts is the new firing of an interval.
 //!
-//! The first test of the crate `ert_interval_tests` is an example of its use.
+//! The module `intervals` of the tests of the crate `ert_world_tests` is an example of its use.
 //!
 //! **Cost.** A turn reads the last timer of each Running or Waiting interval of its wheel, in order of
 //! number, and passes over the others.

@@ -18,19 +18,23 @@ impl IntervalWorld {
     ghost use Rattle.ert_answers.specs.Chains.{Turns};
     ghost use Rattle.ert_answers.specs.Ways.{alone};
     ghost use Rattle.ert_interval.specs.Calls.{Still, PassesBy, PassesOne, Counts};
+    ghost use Rattle.ert_interval.specs.Going.{Stays, StepsAll, StepsOne};
     ghost use Rattle.ert_interval.specs.Intervals.{AreKept};
     ghost use Rattle.ert_interval.specs.Turns.{TurnsBy};
-    ghost use Rattle.ert_sched.specs.Worlds.{Goes};
+    ghost use Rattle.ert_sched.specs.Worlds.{Goes, StayTidy};
 
     /// A turn of a scheduler (`World::turn`), and then one step of each interval of its wheel, in order of
     /// number.
     ///
-    /// After want of memory what was done stays done, and a later turn goes on from there.
+    /// After want of memory what was done stays done: the interval in hand has read its last timer and looked
+    /// at its destination, and has started none. A later turn goes on from there.
     pub fn turn(&mut self, sched: u32) -> Result<IntervalTurn, NoMemory>
         requires kept { AreKept self.old.world self.old.intervals.items }
         requires sched { sched < self.old.world.settings.schedulers }
         ensures kept { AreKept self.new.world self.new.intervals.items }
         ensures turns { TurnsBy sched result self.old.world self.old.intervals.items self.new.world self.new.intervals.items }
+        ensures labels { self.new.world.labels ≡ self.old.world.labels }
+        ensures tidy { StayTidy self.old.world self.new.world }
     {
         let turned = self.turn_world(sched)?;
         let armed = self.go_on_all(sched)?;
@@ -55,6 +59,8 @@ impl IntervalWorld {
         requires kept { AreKept self.old.world self.old.intervals.items }
         ensures kept { AreKept self.new.world self.new.intervals.items }
         ensures still { Still self.old.world self.new.world }
+        ensures stays { Stays self.old.world self.new.world }
+        ensures steps { StepsAll sched result self.old.world self.old.intervals.items self.new.world self.new.intervals.items }
         ensures passed { PassesBy result sched self.new.world self.old.intervals.items self.new.intervals.items }
     {
         let mut armed = 0;
@@ -72,6 +78,8 @@ impl IntervalWorld {
         requires number { number < length self.old.intervals.items }
         ensures kept { AreKept self.new.world self.new.intervals.items }
         ensures still { Still self.old.world self.new.world }
+        ensures stays { Stays self.old.world self.new.world }
+        ensures step { StepsOne result sched number self.old.world self.old.intervals.items self.new.world self.new.intervals.items }
         ensures count { Counts result self.old.intervals.items self.new.intervals.items }
         ensures one { PassesOne result number sched self.new.world self.old.intervals.items self.new.intervals.items }
     {

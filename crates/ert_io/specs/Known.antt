@@ -1,6 +1,6 @@
 -- What is known of the bytes of a source and of a sink. `None` tells nothing, and stays `None`.
 
-use Rattle.std.specs.Prelude.{◌≡◌, ℕ, ◌+◌, ◌≤◌, List, [], ◌++◌, Option, option_map, IfSome}
+use Rattle.std.specs.Prelude.{◌≡◌, ℕ, ◌+◌, ◌≤◌, List, [], ◌++◌, length, Option, option_map, IfSome}
 
 -- the known bytes, and then these
 abbrev pub then : Option (List ℕ) → List ℕ → Option (List ℕ)
@@ -21,3 +21,9 @@ IsAtEnd left = IfSome left (λ xs. xs ≡ [])
 -- there is room for n bytes, where that is known
 abbrev pub HasRoom : Option ℕ → ℕ → Type 0
 HasRoom room n = IfSome room (λ r. n ≤ r)
+
+-- at most n bytes were taken of those that were left
+pub record TakesUpTo (n : ℕ) (left left_new : Option (List ℕ)) : Type 0 where
+  pub bytes : List ℕ
+  pub few : length bytes ≤ n
+  pub taken : left ≡ before bytes left_new

@@ -38,9 +38,10 @@ failing_writes s = s.calls.fails.items
 abbrev pub sure_left : SureSource → List ℕ
 sure_left s = drop s.next s.bytes.items
 
--- the bytes that a sink which never fails took, and its room
+-- the bytes that a sink which never fails took
 abbrev pub sure_taken : SureSink → List ℕ
 sure_taken s = s.taken.items
 
+-- how many more bytes a sink which never fails has room for
 abbrev pub sure_room : SureSink → ℕ
 sure_room s = s.room

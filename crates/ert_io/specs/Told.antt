@@ -8,6 +8,7 @@ pub record Told : Type 0 where
   pub taken : Option (List ℕ)
   pub room : Option ℕ
 
+-- a sink tells that it took these bytes and has this room, each where it tells it
 abbrev pub told : Option (List ℕ) → Option ℕ → Told
 told taken room = record { taken = taken; room = room }
 

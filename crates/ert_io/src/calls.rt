@@ -13,6 +13,7 @@ pub(crate) struct Calls {
 }
 
 impl Calls {
+    /// No call was made; those with these numbers, from 1, are to fail.
     pub(crate) fn new(fails: Vec<u32>) -> Calls
         ensures { result ≡ record { fails = fails; made = 0; faults = 0 } }
     {

@@ -64,7 +64,7 @@ impl Source for MemSource {
     }
 }
 
-// Copies what stands in `from` past its first `next` bytes, as much as fits.
+/// Copies what stands in `from` past its first `next` bytes, as much as fits.
 pub(crate) fn give(from: &[u8], next: usize, to: &mut [u8]) -> usize
     requires { next ≤ length from.now }
     ensures count { result ≡ min (length from.now - next) (length to.old) }

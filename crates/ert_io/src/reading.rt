@@ -1,6 +1,6 @@
 ghost use Rattle.std.specs.Prelude.{◌≡◌, ◌≢◌, ℕ, ◌+◌, ◌<◌, ◌≤◌, List, Err, length, vec_len, IfOk, OnOk, OnErr, IsErrOf};
 ghost use Rattle.ert_io.specs.Faults.{Rose};
-ghost use Rattle.ert_io.specs.Known.{before, IsAtEnd};
+ghost use Rattle.ert_io.specs.Known.{before, IsAtEnd, TakesUpTo};
 ghost use Rattle.ert_io.specs.declared.reading.ReadErr.TheVariants.{NoMemory};
 
 use crate::source::Source;
@@ -34,14 +34,15 @@ const PIECE: usize = 65_536;
 
 /// Reads all bytes that a source has left, if they are `limit` at most.
 ///
-/// Where they are more, it takes `limit + 1` of them and answers `TooLong`. Where a read fails or no
-/// memory is left, it doesn't say how many it took.
+/// Where they are more, it takes `limit + 1` of them and answers `TooLong`. Where a read fails it has taken
+/// `limit` at most. Where no memory is left it doesn't say how many it took.
 pub fn read_all<S: Source>(alloc: Global, source: &mut S, limit: usize) -> Result<Vec<u8>, ReadErr>
     ensures bytes { IfOk result (λ v. S.left source.old ≡ before v.items (S.left source.new)) }
     ensures end { OnOk result (IsAtEnd (S.left source.new)) }
     ensures short { IfOk result (λ v. length v.items ≤ limit) }
     ensures too_long { IsErrOf result ReadErr.TooLong
         → (taken : List ℕ) × (length taken ≡ limit + 1) × (S.left source.old ≡ before taken (S.left source.new)) }
+    ensures fault { IsErrOf result ReadErr.ReadFault → TakesUpTo limit (S.left source.old) (S.left source.new) }
     ensures later { S.faults source.old ≤ S.faults source.new }
     ensures cause { IsErrOf result ReadErr.ReadFault → Rose (S.faults source.old) (S.faults source.new) }
 {
@@ -69,6 +70,8 @@ fn append_piece<S: Source>(
     ensures taken { OnOk result (before bytes.old.items (S.left source.old) ≡ before bytes.new.items (S.left source.new)) }
     ensures end { IfOk result (λ n. n ≡ 0 → IsAtEnd (S.left source.new)) }
     ensures not_long { OnErr result (result ≢ Err ReadErr.TooLong) }
+    ensures fault { IsErrOf result ReadErr.ReadFault → bytes.new ≡ bytes.old }
+    ensures kept { IsErrOf result ReadErr.ReadFault → S.left source.new ≡ S.left source.old }
     ensures later { S.faults source.old ≤ S.faults source.new }
     ensures cause { IsErrOf result ReadErr.ReadFault → Rose (S.faults source.old) (S.faults source.new) }
 {

@@ -48,7 +48,7 @@ abbrev pub LawOfChanges : Type 0
 LawOfChanges = (g : Settings) (h : List Entry) (e : Entry) (p : ℕ) → Legal g (h ++ e ∷ [])
     → All (λ sent. TellsTruly g h e p sent.mail) (sent_at p (state g h) e)
 
--- a message tells what was so at a Tell of its own in a history, if it tells of a change
+-- a history has a Tell of its own, by which a monitor of a process was told this offset
 pub record HasTell (g : Settings) (h : List Entry) (p n : ℕ) (offset : ℤ) : Type 0 where
   pub before : List Entry
   pub entry : Entry
@@ -56,6 +56,7 @@ pub record HasTell (g : Settings) (h : List Entry) (p n : ℕ) (offset : ℤ) : 
   pub stands : h ≡ before ++ (entry ∷ behind)
   pub own : IsOwnTell g before entry p n offset
 
+-- a message tells what was so at a Tell of its own in a history, if it tells of a change
 abbrev pub IsTold : Settings → List Entry → ℕ → Mail → Type 0
 IsTold g h p (Change n offset) = HasTell g h p n offset
 IsTold g h p _ = Unit {0}

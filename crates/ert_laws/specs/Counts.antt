@@ -52,6 +52,7 @@ pub record Counts : Type 0 where
   pub cancelled : ℕ
   pub orphaned : ℕ
 
+-- the timers of all wheels in a state, by their status
 abbrev pub counts_of : Settings → State → Counts
 counts_of g s = record {
   armed = count_in s Armed g.schedulers;
@@ -62,15 +63,17 @@ counts_of g s = record {
   orphaned = count_in s Orphaned g.schedulers;
 }
 
--- whether a timer is armed, expires, or is cancelled for an exit
+-- whether an event arms a timer
 abbrev pub is_arm : Event → Bool
 is_arm (Arm timer start) = true
 is_arm _ = false
 
+-- whether an event lets a timer expire
 abbrev pub is_expire : Event → Bool
 is_expire (Expire timer) = true
 is_expire _ = false
 
+-- whether an event cancels a timer for the exit of its destination
 abbrev pub is_orphan : Event → Bool
 is_orphan (Orphan timer) = true
 is_orphan _ = false
@@ -79,11 +82,12 @@ is_orphan _ = false
 abbrev pub entries_of : (Event → Bool) → ℕ → List Entry → ℕ
 entries_of test w h = count_by (λ e. has_actor e (Wheel w) && test e.event) h
 
--- whether the message of an expired timer is put into the mailbox of a process
+-- whether an event puts the message of an expired timer into a mailbox
 abbrev pub is_delivery : Event → Bool
 is_delivery (Deliver timer) = true
 is_delivery _ = false
 
+-- whether an entry puts the message of an expired timer into the mailbox of this process
 abbrev pub delivers_to : ℕ → Entry → Bool
 delivers_to p e = is_with e.with (MailOf p) && is_delivery e.event
 

@@ -46,6 +46,7 @@ abbrev pub gathered_from : {X : Type 0} → Settings → (State → Entry → Li
 gathered_from g give s [] = []
 gathered_from g give s (e ∷ es) = give s e ++ gathered_from g give (next g s e) es
 
+-- what the entries of a history give one after the other, from the opening on
 abbrev pub gathered : {X : Type 0} → Settings → (State → Entry → List X) → List Entry → List X
 gathered g give h = gathered_from g give (opening g) h
 
@@ -76,11 +77,12 @@ expired_in w s _ = []
 abbrev pub expired_of : Settings → ℕ → List Entry → List Row
 expired_of g w h = gathered g (λ s e. expired_in w s e.event) h
 
--- a timer's message was delivered, or dropped
+-- a timer's message was delivered
 abbrev pub is_delivered : Option Status → Bool
 is_delivered (Some Delivered) = true
 is_delivered _ = false
 
+-- a timer's message was delivered, or dropped
 abbrev pub is_handed_over : Option Status → Bool
 is_handed_over (Some Delivered) = true
 is_handed_over (Some Dropped) = true
@@ -92,6 +94,7 @@ pub record InTurn (g : Settings) (h : List Entry) (w : ℕ) : Type 0 where
   pub all : expired_of g w h ≡ handed ++ ((state g h).scheds w).fired
   pub over : All (λ row. is_handed_over ((state g h).status row.timer) ≡ true) handed
 
+-- in each legal history each scheduler does so
 abbrev pub LawOfTurns : Type 0
 LawOfTurns = (g : Settings) (h : List Entry) (w : ℕ) → Legal g h → InTurn g h w
 

@@ -28,11 +28,12 @@ abbrev pub PermittedFrom : Settings → State → List Entry → Type 0
 PermittedFrom g s [] = Unit {0}
 PermittedFrom g s (e ∷ es) = Moves g s.clock (next g s e).clock e.event × PermittedFrom g (next g s e) es
 
--- the number of shifts
+-- 1 for a shift, and 0 for any other event
 abbrev pub shift_count : Event → ℕ
 shift_count (Shift offset state) = 1
 shift_count _ = 0
 
+-- the number of shifts in a history
 abbrev pub shifts : List Entry → ℕ
 shifts [] = 0
 shifts (e ∷ es) = shift_count e.event + shifts es

@@ -46,10 +46,11 @@ pub record LivesAreRead : Type 0 where
 abbrev pub sent_by_timer : Sent
 sent_by_timer = record { timer = Some timer; mail = Timeout timer 7 }
 
--- the answer to a cancel, and a change of the offset: no timer sent them
+-- the answer to a cancel: no timer sent it
 abbrev pub sent_as_answer : Sent
 sent_as_answer = record { timer = None; mail = CancelDone timer (Some 5) }
 
+-- a change of the offset to -5 seconds, for monitor 0: no timer sent it
 abbrev pub sent_as_change : Sent
 sent_as_change = record { timer = None; mail = Change 0 (negsuc 4999999999) }
 
@@ -67,10 +68,11 @@ pub record MailIsRead : Type 0 where
 abbrev pub wide : Settings
 wide = record (small No) { slots = 2 }
 
--- a timer of 5 milliseconds that is started at 0 in the first slot, and then one of 2 in the second
+-- a timer of 5 milliseconds that is started at 0 in the first slot
 abbrev pub slow : Row
 slow = record { timer = timer; deadline = 5; dest = 0; msg = 7; kind = Wrapped }
 
+-- a timer of 2 milliseconds that is started after it, at 0 too, in the second slot
 abbrev pub fast : Row
 fast = record { timer = record { wheel = 0; slot = 1; generation = 1 }; deadline = 2; dest = 0; msg = 8; kind = Wrapped }
 
@@ -78,7 +80,7 @@ fast = record { timer = record { wheel = 0; slot = 1; generation = 1 }; deadline
 abbrev pub arm : Row → Entry
 arm row = by_caller (Some (Wheel 0)) (Arm row.timer (record { when = After (pos row.deadline); dest = 0; msg = row.msg; kind = Wrapped }))
 
--- both expire when the scheduler looks at 6, are delivered, and one message is taken
+-- both are started, and the scheduler looks at the time 6 milliseconds
 abbrev pub both_started : List Entry
 both_started =
     by_caller None (Look (pos 0))
@@ -90,6 +92,7 @@ both_started =
     ∷ by_sched None (Look (pos 6000000))
     ∷ []
 
+-- both expire and are delivered, and the first message is taken
 abbrev pub both_expired : List Entry
 both_expired =
     by_sched (Some (Wheel 0)) (Expire fast.timer)
@@ -103,6 +106,7 @@ both_expired =
     ∷ by_caller (Some (MailOf 0)) (Take 0 (Some (Timeout fast.timer 8)))
     ∷ []
 
+-- the history of all that
 abbrev pub both : List Entry
 both = both_started ++ both_expired
 

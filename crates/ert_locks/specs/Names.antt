@@ -17,10 +17,11 @@ use Rattle.ert_table.specs.declared.desk.Desk.{Desk}
 use Rattle.ert_table.specs.declared.desk.Pass.{Pass}
 use Rattle.ert_timers.specs.Parts.{Part, Stands as WheelStands}
 
--- a table and settings that nobody uses
+-- a table that nobody uses
 abbrev pub any_table : TableId
 any_table = record { words = 0; slots = 0; views_name = 0; atom = 0; block = 0; offset = 0; slot_names = [] }
 
+-- settings that nobody uses
 abbrev pub any_settings : Settings
 any_settings = record {
   mode = No;
@@ -44,23 +45,27 @@ pub record IsOf (table : TableId) (g : Settings) (a : Actor) (p : Pass) : Type 0
   pub named : p.seat.me.0.settings ≡ Some g
   pub actors : p.seat.me.0.actors ≡ a ∷ []
 
--- a part stands for the front of a pass that has its one actor
+-- the clock's part stands for the front of a pass that has the clock's actor alone
 pub record IsKeeper (table : TableId) (g : Settings) (part : Shown) (p : Pass) : Type 0 where
   pub sits : IsOf table g Keeper p
   pub stands : ClockStands g (front_of p) part
 
+-- the part of a wheel stands for the front of a pass that has this wheel alone
 pub record IsWheel (table : TableId) (g : Settings) (part : Part) (p : Pass) : Type 0 where
   pub sits : IsOf table g (Wheel part.number) p
   pub stands : WheelStands g (front_of p) part
 
+-- an inbox stands for the front of a pass that has this inbox alone
 pub record IsInbox (table : TableId) (g : Settings) (part : Waiting) (p : Pass) : Type 0 where
   pub sits : IsOf table g (Inbox part.wheel) p
   pub stands : InboxStands g (front_of p) part
 
+-- a mailbox stands for the front of a pass that has this mailbox alone
 pub record IsMail (table : TableId) (g : Settings) (part : Mailbox) (p : Pass) : Type 0 where
   pub sits : IsOf table g (MailOf part.process) p
   pub stands : MailStands g (front_of p) part
 
+-- a scheduler's part stands for the front of a pass that has this scheduler alone
 pub record IsSched (table : TableId) (g : Settings) (part : SchedPart) (p : Pass) : Type 0 where
   pub sits : IsOf table g (Sched part.wheel) p
   pub stands : SchedStands g (front_of p) part

@@ -33,6 +33,7 @@ impl<L: DeskName> LockedInbox<L> {
     ghost use Rattle.ert_locks.specs.Names.{IsDesk, IsInbox};
     ghost use Rattle.ert_table.specs.Desks.{front_of};
 
+    /// The inbox with the pass that has it alone, for whose front it stands.
     pub fn new(part: InboxPart, pass: Pass) -> LockedInbox<L>
         requires { IsInbox L.table L.settings part pass }
         ensures { result ≡ part.wheel }

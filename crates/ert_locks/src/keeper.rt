@@ -33,6 +33,7 @@ impl<L: DeskName> LockedKeeper<L> {
     ghost use Rattle.ert_locks.specs.Names.{IsDesk, IsKeeper};
     ghost use Rattle.ert_table.specs.Desks.{front_of};
 
+    /// The clock's part with the pass that has its actor alone, for whose front it stands.
     pub fn new(part: KeeperPart, pass: Pass) -> LockedKeeper<L>
         requires { IsKeeper L.table L.settings part pass }
     {

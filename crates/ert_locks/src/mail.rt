@@ -35,6 +35,7 @@ impl<L: DeskName> LockedMail<L> {
     ghost use Rattle.ert_locks.specs.Names.{IsDesk, IsMail};
     ghost use Rattle.ert_table.specs.Desks.{front_of};
 
+    /// The mailbox with the pass that has it alone, for whose front it stands.
     pub fn new(part: MailPart, pass: Pass) -> LockedMail<L>
         requires { IsMail L.table L.settings part pass }
         ensures { result ≡ part.process }

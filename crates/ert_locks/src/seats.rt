@@ -30,6 +30,7 @@ pub struct SchedSeat<L: DeskName> {
 }
 
 impl<L: DeskName> CallerSeat<L> {
+    /// The seat of the caller with this number, which the pass has alone.
     pub fn new(number: u32, pass: Pass) -> CallerSeat<L>
         requires sits { IsOf L.table L.settings (Caller number) pass }
         requires below { number < L.settings.callers }
@@ -45,6 +46,7 @@ impl<L: DeskName> CallerSeat<L> {
 }
 
 impl<L: DeskName> SchedSeat<L> {
+    /// The seat of the scheduler with this part, which stands for the front of the pass.
     pub fn new(part: SchedPart, pass: Pass) -> SchedSeat<L>
         requires fits { IsSched L.table L.settings part pass }
         ensures part { result.part ≡ part }

@@ -40,6 +40,7 @@ impl<L: DeskName> LockedWheel<L> {
     ghost use Rattle.ert_locks.specs.Names.{IsDesk, IsWheel};
     ghost use Rattle.ert_table.specs.Desks.{front_of};
 
+    /// The wheel with the pass that has it alone, for whose front it stands.
     pub fn new(part: WheelPart, pass: Pass) -> LockedWheel<L>
         requires { IsWheel L.table L.settings part pass }
         ensures { result ≡ part.number }

@@ -29,26 +29,32 @@ LawOfStanding = (g : Settings) (f h : List Entry) (m : Mailbox) → Begins f h �
 abbrev pub AreWithMail : Actor → ℕ → List Entry → Type 0
 AreWithMail by process es = AreOnlyOf (by ∷ (MailOf process ∷ [])) es
 
+-- the entries of a take are of its caller and of the mailbox alone
 abbrev pub LawOfTakes : Type 0
 LawOfTakes = (g : Settings) (by process : ℕ) (answer : Taken) (s : State) (es : List Entry) → Takes g by process answer s es
     → AreWithMail (Caller by) process es
 
+-- so are those of the making of a monitor
 abbrev pub LawOfMonitors : Type 0
 LawOfMonitors = (g : Settings) (by process : ℕ) (answer : Result ℕ MonitorErr) (s : State) (es : List Entry) → Monitors g by process answer s es
     → AreWithMail (Caller by) process es
 
+-- so are those of the removal of a monitor
 abbrev pub LawOfDemonitors : Type 0
 LawOfDemonitors = (g : Settings) (by process monitor : ℕ) (answer : Bool) (s : State) (es : List Entry) → Demonitors g by process monitor answer s es
     → AreWithMail (Caller by) process es
 
+-- so are those by which monitors are told the offset
 abbrev pub LawOfTells : Type 0
 LawOfTells = (g : Settings) (by process : ℕ) (answer : Result ℕ NoMemory) (s : State) (es : List Entry) → Tells g by process answer s es
     → AreWithMail (Caller by) process es
 
+-- those by which an expired timer is handed over are of the scheduler and the destination's mailbox alone
 abbrev pub LawOfHandingOver : Type 0
 LawOfHandingOver = (g : Settings) (w : ℕ) (fired : Row) (answer : Result Handed NoMemory) (s : State) (es : List Entry)
     → HandsOver g w fired answer s es → AreWithMail (Sched w) fired.dest es
 
+-- those by which a request is answered are of the scheduler and the asker's mailbox alone
 abbrev pub LawOfAnswers : Type 0
 LawOfAnswers = (g : Settings) (w : ℕ) (request : Request) (answer : Result (Option ℕ) NoMemory) (s : State) (es : List Entry)
     → Answers g w request answer s es → AreWithMail (Sched w) request.reply_to es

@@ -28,10 +28,11 @@ pub record Mailbox : Type 0 where
   pub delivered : ℕ
   pub room : ℕ
 
--- the monitors that are kept
+-- a monitor that is kept
 abbrev pub monitor_of : KeptMonitor → Monitor
 monitor_of m = record { number = m.number; told = m.told }
 
+-- the monitors that are kept, in their order
 abbrev pub monitors_of : List KeptMonitor → List Monitor
 monitors_of ms = map monitor_of ms
 
@@ -62,12 +63,13 @@ pub record IsEmpty (number : ℕ) (m : Mailbox) : Type 0 where
   pub held : m.held ≡ no_mail
   pub delivered : m.delivered ≡ 0
 
--- a pass holds the mailbox of a process, and a caller in range or a scheduler in range
+-- a pass holds the mailbox of a process, and a caller in range
 pub record IsCallers (g : Settings) (v : View) (by process : ℕ) : Type 0 where
   pub caller : is_held v.actors (Caller by) ≡ true
   pub below : by < g.callers
   pub mail : is_held v.actors (MailOf process) ≡ true
 
+-- a pass holds the mailbox of a process, and a scheduler in range
 pub record IsScheds (g : Settings) (v : View) (w process : ℕ) : Type 0 where
   pub sched : is_held v.actors (Sched w) ≡ true
   pub below : w < g.schedulers

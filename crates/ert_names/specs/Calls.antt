@@ -75,11 +75,12 @@ Registers old name process (Ok _) new = HasRegistered old name process new
 Registers old name process (Err BadArg) new = IsBadName old name process new
 Registers old name process (Err NoMemory) new = AreFree old.names name process × LooksAt old process true new
 
--- `exit`: where the process hadn't exited before, its name goes
+-- where a process hadn't exited before, its name goes when it exits
 abbrev pub DropsName : Bool → Names → ℕ → Names → Type 0
 DropsName true old process new = IsWithout old process new
 DropsName false old process new = new ≡ old
 
+-- `exit`: the world makes this call, the names change so, and the rows and the named mail stay
 pub record HasExited (old : Registered) (process : ℕ) (answer : Bool) (call : Growth) (new : Registered) : Type 0 where
   pub goes : Goes old.world call new.world
   pub names : DropsName answer old.names process new.names
@@ -90,6 +91,7 @@ pub record HasExited (old : Registered) (process : ℕ) (answer : Bool) (call : 
 abbrev pub start_at : When → ℕ → Start
 start_at when place = record { when = when; dest = 0; msg = place; kind = Wrapped }
 
+-- the world's start of such a timer by caller 0, whose row comes next
 abbrev pub StartsAt : Registered → ℕ → When → Result TimerRef StartErr → Growth
 StartsAt old wheel when answer = By old.world (λ g. Starts g 0 wheel (start_at when (length old.rows)) answer)
 
@@ -120,18 +122,20 @@ Message = TimerRef × ℕ
 abbrev pub mail_of : TimerRef → Row → NamedMail
 mail_of timer row = record { timer = timer; msg = row.msg; kind = row.kind }
 
--- the mail of a message and its process: the one that has the name of its row
+-- the mail of a timer's row and its process: the one that has the name of the row
 abbrev pub posted_by : Names → TimerRef → Option Row → Option (ℕ × NamedMail)
 posted_by names timer None = None
 posted_by names timer (Some row) = option_map (λ process. (process, mail_of timer row)) (map.get names row.name)
 
+-- the mail of a message of the registrar and its process; None where there is no such row, or no such process
 abbrev pub posted : Names → List Row → Message → Option (ℕ × NamedMail)
 posted names rows message = posted_by names message.0 (row_at rows message.1)
 
--- the messages that a call takes from the registrar, one after the other
+-- this message is taken from the registrar, as its first
 abbrev pub TakesFirst : Settings → Message → Growth
 TakesFirst g message = alone g [] (Takes g 0 0 (OneMail (Timeout message.0 message.1)))
 
+-- these messages are taken from the registrar, one after the other
 abbrev pub TakesMany : Settings → List Message → Growth
 TakesMany g messages = Many (TakesFirst g) messages
 
@@ -176,11 +180,12 @@ TurnsNamed old sched (Ok t) new = HasTurned old sched t new
 TurnsNamed old sched (Err e) new =
     GoesAlone old (Turns old.world.settings (alone old.world.settings) sched (Err e)) new ⊎ HasStopped old sched new
 
--- the first mail of a process among all that waits, and what is left without it
+-- the first mail of a process among all that waits
 abbrev pub first_for : ℕ → List (ℕ × NamedMail) → Option NamedMail
 first_for process [] = None
 first_for process (m ∷ ms) = cond (nat_eq m.0 process) (Some m.1) (first_for process ms)
 
+-- all mail that waits, without the first of a process
 abbrev pub others_for : ℕ → List (ℕ × NamedMail) → List (ℕ × NamedMail)
 others_for process [] = []
 others_for process (m ∷ ms) = cond (nat_eq m.0 process) ms (m ∷ others_for process ms)

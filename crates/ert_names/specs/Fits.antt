@@ -17,6 +17,7 @@ Fits rows (Watch process monitor offset) = ⊥
 Fits rows (Tell process offset) = ⊥
 Fits rows _ = Unit {0}
 
+-- each of these entries has such an event, where so many rows were made
 abbrev pub AllFit : ℕ → List Entry → Type 0
 AllFit rows [] = Unit {0}
 AllFit rows (e ∷ es) = Fits rows e.event × AllFit rows es

@@ -33,6 +33,7 @@ pub record HasNone (old new : Service) : Type 0 where
   pub goes : Goes old (FindsNone old.settings) new
   pub empty : waiting new ≡ []
 
+-- the registrar's first message is taken, or none waits; and the world fits so many rows still
 abbrev pub TakesNext : ℕ → Service → Option Message → Service → Type 0
 TakesNext n old (Some message) new = HasNext n old message new × FitsRows n new
 TakesNext n old None new = HasNone old new × FitsRows n new
@@ -45,27 +46,30 @@ pub record HandsOne (old : Registered) (handed : Bool) (new : Registered) : Type
   pub known : message.1 < length old.rows
   pub fewer : length (waiting old.world) ≡ length (waiting new.world) + 1
 
+-- the registrar is found to have no message, and the names, the rows and the named mail stay
 pub record HandsNone (old new : Registered) : Type 0 where
   pub alone : GoesAlone old (FindsNone old.world.settings) new
   pub empty : waiting new.world ≡ []
 
+-- the next message is handed over or lost, or there is none; for want of memory nothing changes
 abbrev pub HandsNext : Registered → Result (Option Bool) NoMemory → Registered → Type 0
 HandsNext old (Ok (Some handed)) new = HandsOne old handed new
 HandsNext old (Ok None) new = HandsNone old new
 HandsNext old (Err e) new = new ≡ old
 
--- all are
+-- all messages that wait are handed over or lost: so many of each
 pub record HandsThem (old : Registered) (answer : ℕ × ℕ) (new : Registered) : Type 0 where
   pub messages : List Message
   pub hands : HandsOver old messages (Then (TakesMany old.world.settings messages) (FindsNone old.world.settings)) new
   pub counted : AreCounted old messages answer.0 answer.1
   pub empty : waiting new.world ≡ []
 
--- or some
+-- some messages are handed over or lost, one after the other
 pub record HandsSome (old new : Registered) : Type 0 where
   pub messages : List Message
   pub hands : HandsOver old messages (TakesMany old.world.settings messages) new
 
+-- all messages are, or for want of memory only some
 abbrev pub HandsAll : Registered → Result (ℕ × ℕ) NoMemory → Registered → Type 0
 HandsAll old (Ok answer) new = HandsThem old answer new
 HandsAll old (Err e) new = HandsSome old new

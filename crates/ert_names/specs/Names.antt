@@ -32,9 +32,10 @@ other_than process (Some q) = cond (nat_eq q process) None (Some q)
 abbrev pub IsWithout : Names → ℕ → Names → Type 0
 IsWithout old process new = (name : List ℕ) → finite.get new name ≡ other_than process (finite.get old name)
 
--- what two maps of a registry have
+-- the process of each name, by what a map of names has
 abbrev pub processes_of : List (String Global × ℕ) → Names
 processes_of es = finite.from_entries (map (λ e. (string_bytes e.0, e.1)) es)
 
+-- the name of each process, by what a map of processes has
 abbrev pub names_of : List (ℕ × String Global) → Named
 names_of es = finite.from_entries (map (λ e. (e.0, string_bytes e.1)) es)

@@ -13,6 +13,7 @@ pub record Row : Type 0 where
   pub msg : ℕ
   pub kind : Kind
 
+-- what stays of a start, by the row that is kept
 abbrev pub row_of : NamedRow → Row
 row_of r = record { name = string_bytes r.name; msg = r.msg; kind = r.kind }
 
@@ -24,5 +25,6 @@ pub record Registered : Type 0 where
   pub rows : List Row
   pub mail : List (ℕ × NamedMail)
 
+-- what callers see of a world of names with these
 abbrev pub seen : Service → Names → List NamedRow → List (ℕ × NamedMail) → Registered
 seen world names rows mail = record { world = world; names = names; rows = map row_of rows; mail = mail }

@@ -14,6 +14,7 @@ pub record Race : Type 0 where
   pub keeper : List Op
   pub callers : List (List Op)
 
+-- the lists of a race that lie in memory
 abbrev pub race_of : RaceLists → Race
 race_of r = record { turns = r.turns; keeper = r.keeper.items; callers = map (λ ops. ops.items) r.callers.items }
 
@@ -39,6 +40,7 @@ abbrev pub MayDo : Settings → List Op → Type 0
 MayDo g [] = Unit {0}
 MayDo g (op ∷ ops) = IsCallersOp op × IsOpInRange g op × MayDo g ops
 
+-- callers may do these lists of ops, where a service was opened with the settings
 abbrev pub MayDoAll : Settings → List (List Op) → Type 0
 MayDoAll g [] = Unit {0}
 MayDoAll g (ops ∷ lists) = MayDo g ops × MayDoAll g lists

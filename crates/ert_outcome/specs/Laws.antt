@@ -35,6 +35,7 @@ pub record KeepsLaws (g : Settings) (h : List Entry) : Type 0 where
   -- what was put into a mailbox is, in order, what was taken from it and then what stands in it
   pub mail : (p : ℕ) → map (λ x. x.mail) (sent_to g p h) ≡ taken_from p h ++ ((state g h).mails p).queue
 
+-- the history of each outcome keeps these laws
 abbrev pub LawOfOutcomes : Type 0
 LawOfOutcomes = (g : Settings) (ops : List Op) (race : Race) (h : List Entry) (text : List ℕ) → IsChecked g → IsOutcome g ops race h text → KeepsLaws g h
 
@@ -53,11 +54,12 @@ abbrev pub LawOfReplies : Type 0
 LawOfReplies = (g : Settings) (labels : Labels) (k : ℕ) (ops : List Op) (d : Did) (h stretch : List Entry)
     → DoesList g labels k ops d h stretch → length d.replies ≡ length ops
 
--- how often it is recorded that a wheel was advanced
+-- whether an event records that a wheel was advanced
 abbrev pub is_advance : Event → Bool
 is_advance (Advanced wheel to) = true
 is_advance _ = false
 
+-- how often these entries record that a wheel was advanced
 abbrev pub advances : List Entry → ℕ
 advances es = length (filter (λ (e : Entry). is_advance e.event) es)
 

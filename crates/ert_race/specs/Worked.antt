@@ -14,10 +14,11 @@ use Rattle.ert_workers.specs.declared.list.ListDone.{ListDone}
 abbrev pub list_at : List (List Op) → ℕ → List Op
 list_at lists n = slice_index_or lists n []
 
--- a list was done, and the turns of a scheduler were made
+-- a list was done, with what came of it
 abbrev pub list_ok : ListDone → Result ListDone NoMemory
 list_ok d = Ok d
 
+-- the turns of a scheduler were made, whatever its seat
 abbrev pub turns_ok : {S : Type 0} → S → Result (Unit {0}) NoMemory
 turns_ok s = Ok tt
 

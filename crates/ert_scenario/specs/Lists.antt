@@ -46,8 +46,10 @@ list_count (Some race) = length race.callers
 
 -- ---- the lists of the code
 
+-- the values of the ops of a race that the code found
 abbrev pub race_seen : RaceItems → RaceValues
 race_seen r = record { keeper = map view r.keeper.now; callers = map view r.callers.now }
 
+-- the values of the ops of a scenario that the code found
 abbrev pub lists_seen : Lists → OpValues
 lists_seen l = record { ops = map view l.ops.now; race = option_map race_seen l.race }

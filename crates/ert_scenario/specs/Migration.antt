@@ -53,6 +53,7 @@ abbrev pub changed_to : List ℕ → (Data → Data) → Option Data → Data �
 changed_to name change None d = d
 changed_to name change (Some field) d = with_field name (change field) d
 
+-- a value with its field of this name changed, where it has one
 unfoldable pub changed : List ℕ → (Data → Data) → Data → Data
 changed name change d = changed_to name change (get name d) d
 

@@ -36,6 +36,7 @@ pub record IsSeen (format : Option Format) (ops : List Op) (seen all : Members) 
   pub named : are_named (is_field false) all ≡ are_named (is_field false) seen
   pub listed : AreOps format ops (get_member (codes "ops") all)
 
+-- of all members these were seen, by what a pass keeps of them
 abbrev pub IsSeenAs : Seen → Members → Type 0
 IsSeenAs s all = IsSeen s.format s.ops.items (members_view s.fields.entries) all
 

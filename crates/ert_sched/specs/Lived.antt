@@ -10,6 +10,7 @@ use Rattle.ert_laws.specs.Changes.{IsTold}
 use Rattle.ert_laws.specs.Lives.{life, life_to}
 use Rattle.ert_laws.specs.MailOrder.{sent_to, taken_from, is_from, is_delivered_to, expired_of, sent_by_row}
 
+-- a history of a service is legal, the life of each timer is one of six, and its mail is in order
 pub record IsLived (g : Settings) (h : List Entry) : Type 0 where
   pub legal : Legal g h
   -- the life of each timer is that of its status: one of six

@@ -26,6 +26,7 @@ pub record IsNewWheel (g : Settings) (number : ℕ) (p : Part) : Type 0 where
   pub stands : Stands g [] p
   pub tidy : IsTidy (opening g) p
 
+-- the inbox of a scheduler in which no request waits
 abbrev pub IsNewInbox : ℕ → Waiting → Type 0
 IsNewInbox number q = q ≡ record { wheel = number; requests = [] }
 

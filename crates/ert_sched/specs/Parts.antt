@@ -22,6 +22,7 @@ pub record AllParts : Type 0 where
   pub mails : List Mailbox
   pub scheds : List SchedPart
 
+-- the parts of a service that has these
 abbrev pub parts_of : Shown → List Part → List Waiting → List Mailbox → List SchedPart → AllParts
 parts_of keeper wheels inboxes mails scheds =
     record { keeper = keeper; wheels = wheels; inboxes = inboxes; mails = mails; scheds = scheds }

@@ -115,6 +115,7 @@ abbrev pub left_by : RequestKind → Option ℕ → Option ℕ
 left_by ToCancel left = left
 left_by ToRead left = None
 
+-- the same, by what the answer to a request gave; None for want of memory
 abbrev pub cancelled_by : Request → Result (Option ℕ) NoMemory → Option ℕ
 cancelled_by request (Ok left) = left_by request.kind left
 cancelled_by request (Err e) = None

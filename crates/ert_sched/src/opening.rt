@@ -11,6 +11,7 @@ use ert_mail::MailPart;
 use ert_timers::WheelPart;
 use std::alloc::Global;
 
+/// The wheels of all schedulers, in order of number: none has a timer.
 pub(crate) fn open_wheels(alloc: Global, settings: &Settings) -> Result<Vec<WheelPart>, NoMemory>
     requires { IsChecked settings.now }
     ensures { IfOk result (λ wheels. AreNew (IsNewWheel settings.now) settings.now.schedulers wheels.items) }
@@ -22,6 +23,7 @@ pub(crate) fn open_wheels(alloc: Global, settings: &Settings) -> Result<Vec<Whee
     Ok(wheels)
 }
 
+/// So many inboxes, in order of number: no request waits in one.
 pub(crate) fn open_inboxes(alloc: Global, count: u32) -> Result<Vec<InboxPart>, NoMemory>
     ensures { IfOk result (λ inboxes. AreNew IsNewInbox count inboxes.items) }
 {
@@ -32,6 +34,7 @@ pub(crate) fn open_inboxes(alloc: Global, count: u32) -> Result<Vec<InboxPart>, 
     Ok(inboxes)
 }
 
+/// So many mailboxes, in order of number: none has a message or a monitor.
 pub(crate) fn open_mails(alloc: Global, count: u32) -> Result<Vec<MailPart>, NoMemory>
     ensures { IfOk result (λ mails. AreNew IsEmpty count mails.items) }
 {
@@ -42,6 +45,7 @@ pub(crate) fn open_mails(alloc: Global, count: u32) -> Result<Vec<MailPart>, NoM
     Ok(mails)
 }
 
+/// So many schedulers, in order of number: none has a request in its hand or an expired timer.
 pub(crate) fn open_scheds(alloc: Global, count: u32) -> Result<Vec<SchedPart>, NoMemory>
     ensures { IfOk result (λ scheds. AreNew IsNewSched count scheds.items) }
 {

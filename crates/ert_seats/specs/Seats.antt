@@ -23,6 +23,7 @@ pub record Seated : Type 0 where
   pub history : List Entry
   pub number : ℕ
 
+-- what callers see of a seat with these: the history is the front of its pass
 abbrev pub seated : Desk → Pass → ℕ → Seated
 seated d p number = record {
   table = d.table.shared.table_id;

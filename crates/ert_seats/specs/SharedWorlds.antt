@@ -103,8 +103,9 @@ IsTidyAt w i = (d : Part) → IsTidy (state w.settings w.history) (slice_index_o
 abbrev pub IsNextHeld : Part → ℕ → Option ℕ → Type 0
 IsNextHeld p now answer = MatchOption answer (NoRow p.keys) (IsNextDue p.keys now)
 
--- the same of a wheel of a world, from the published time; a row is held until its timer would be due, unless the
--- world itself cancels the timer
+-- how early the next of the rows that a wheel of a world holds is due, as a look ahead from the published time
+-- tells, and None where it holds none. It holds the row of each armed timer, and may hold the row of one that was
+-- cancelled until that would have been due
 abbrev pub IsNextHeldAt : Shared → ℕ → Option ℕ → Type 0
 IsNextHeldAt w i answer = (d : Part) → IsNextHeld (slice_index_or w.wheels i d) (natural (down w.settings w.clock.face.time)) answer
 

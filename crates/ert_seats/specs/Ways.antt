@@ -16,6 +16,7 @@ pub record Own (g : Settings) (is_own : Entry → Bool) (allows : Step) (h m : L
   pub own : filter is_own m ≡ entries
   pub allowed : allows (state g h) entries
 
+-- the way of those whose entries pass a test, beside others
 abbrev pub among : Settings → (Entry → Bool) → Way
 among g is_own parts allows h m = Own g is_own allows h m
 

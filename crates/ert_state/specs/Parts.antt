@@ -34,6 +34,7 @@ pub record LastLooks : Type 0 where
   pub callers : List ℤ
   pub schedulers : List ℤ
 
+-- the last looks that are kept
 abbrev pub looks_in : Looks → LastLooks
 looks_in l = record { start = l.start; callers = l.callers.items; schedulers = l.schedulers.items }
 
@@ -127,10 +128,11 @@ scheds_after rows _ event xs = xs
 abbrev pub scheds_in : List SchedState → ℕ → SchedState
 scheds_in xs w = sched_at xs w
 
--- the monitors that are kept
+-- a monitor that is kept
 abbrev pub monitor_of : KeptMonitor → Monitor
 monitor_of m = record { number = m.number; told = m.told }
 
+-- the monitors that are kept, in their order
 abbrev pub monitors_of : List KeptMonitor → List Monitor
 monitors_of ms = map monitor_of ms
 

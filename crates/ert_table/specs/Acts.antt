@@ -61,7 +61,7 @@ Compared g step me e n now = (now.1 ≡ []) × (now.0.settings ≡ me.0.settings
 abbrev pub Meets : Settings → Sitter → Sitter → Type 0
 Meets g me now = (now ≡ me) × HasMet me.0.met me.0.front × Legal g me.0.front
 
--- settings and an entry that nobody uses
+-- settings that nobody uses
 abbrev pub any_settings : Settings
 any_settings = record {
   mode = No;
@@ -74,5 +74,6 @@ any_settings = record {
   first = record { mono = pos 0; sys = pos 0 };
 }
 
+-- an entry that nobody uses
 abbrev pub any_entry : Entry
 any_entry = record { by = Keeper; with = None; event = Look (pos 0) }

@@ -31,13 +31,15 @@ status_by code =
     (cond (nat_eq code 5) (Some Orphaned)
     (cond (nat_eq code 6) (Some Dropped) None)))))
 
--- the status, deadline and generation of the word of a slot
+-- the status in the word of a slot, None where it was never used
 abbrev pub status_in : ℕ → Option Status
 status_in n = status_by (n % 8)
 
+-- the deadline in the word of a slot, in milliseconds after the start time
 abbrev pub deadline_in : ℕ → ℕ
 deadline_in n = (n / 8) % 8796093022208
 
+-- the generation in the word of a slot
 abbrev pub generation_in : ℕ → ℕ
 generation_in n = n / 70368744177664
 
@@ -47,7 +49,7 @@ pub record HasRow (s : State) (timer : TimerRef) (deadline : ℕ) : Type 0 where
   pub stands : row_of (s.rows timer.wheel) timer ≡ Some row
   pub due : row.deadline ≡ deadline
 
--- the status that a timer has before it is settled or handed over, and the one that it gets
+-- the status that a timer has before it is settled or handed over
 abbrev pub status_from : Settle → Status
 status_from ToCancel = Armed
 status_from ToExpire = Armed
@@ -55,6 +57,7 @@ status_from ToOrphan = Armed
 status_from ToDeliver = Expired
 status_from ToDrop = Expired
 
+-- the status that a timer gets when it is settled or handed over
 abbrev pub status_to : Settle → Status
 status_to ToCancel = Cancelled
 status_to ToExpire = Expired
@@ -114,20 +117,22 @@ settle_entry g s by timer deadline how n =
 abbrev pub Shown : Type 0
 Shown = Status × ℕ × ℕ
 
--- the slot that is looked at
+-- the wheel of the slot that is looked at
 abbrev pub wheel_in : TimerCarry → ℕ
 wheel_in (ToProbe wheel slot) = wheel
 wheel_in (ToPeek timer) = timer.wheel
 
+-- the number of the slot that is looked at
 abbrev pub slot_in : TimerCarry → ℕ
 slot_in (ToProbe wheel slot) = slot
 slot_in (ToPeek timer) = timer.slot
 
--- what is shown of a slot in a state
+-- what is shown of a slot by its last timer: its status, its row and its generation
 abbrev pub shown_by : Option Status → Option Row → ℕ → Option Shown
 shown_by (Some status) (Some row) generation = Some (status, row.deadline, generation)
 shown_by _ _ generation = None
 
+-- what is shown of a slot in a state
 abbrev pub shown_in : State → ℕ → ℕ → Option Shown
 shown_in s w k =
     let timer = timer_at w k (s.last w k) in
@@ -138,6 +143,7 @@ abbrev pub left_at : Settings → ℤ → ℕ → Status → ℕ → ℕ → Opt
 left_at g look wanted Armed deadline generation = cond (nat_eq generation wanted) (Some (left g deadline look)) None
 left_at g look wanted _ deadline generation = None
 
+-- the milliseconds left of a timer of this generation, by what is shown of its slot, if anything is
 abbrev pub left_shown : Settings → ℤ → ℕ → Option Shown → Option ℕ
 left_shown g look wanted None = None
 left_shown g look wanted (Some shown) = left_at g look wanted shown.0 shown.1 shown.2

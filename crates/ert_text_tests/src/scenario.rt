@@ -1,217 +1,211 @@
+use crate::frames::{FIELDS, OPS_1, WHOLE, answer, framed, gives};
 use ert_defs::{Mode, Reading, Settings};
-use ert_scenario::{Op, ScenarioErr, read_scenario};
+use ert_scenario::ScenarioErr::{Json, Limit, Range, Shape};
+use ert_scenario::{Op, read_scenario};
 use ert_units::Unit;
 use std::alloc::{AllocError, Global};
+use std::process::Abort;
 use std::test::Fail;
-
-const JSON: ScenarioErr = ScenarioErr::Json;
-
-const SHAPE: ScenarioErr = ScenarioErr::Shape(0);
-
-const RANGE: ScenarioErr = ScenarioErr::Range(0);
-
-const OP_SHAPE: ScenarioErr = ScenarioErr::Shape(1);
-
-const OP_RANGE: ScenarioErr = ScenarioErr::Range(1);
 
 /// The latest start time: the greatest multiple of 1,000,000 up to 2^58.
 const LATEST: i64 = 288_230_376_151_000_000;
 
 #[test]
 fn refuses_texts(rt: HostRuntime) {
-    let rows = [
-        ("", JSON),
-        (r#"{"format":1"#, JSON),
-        (r#"{"format":1,"first":[0,0],"ops":[]} x"#, JSON),
-        ("\u{feff}{\"format\":1,\"first\":[0,0],\"ops\":[]}", JSON),
-        (r#"["\ud800"]"#, JSON),
-        ("[]", SHAPE),
-        ("{}", SHAPE),
-        (r#"{"first":[0,0],"ops":[]}"#, SHAPE),
-        (r#"{"format":1,"ops":[]}"#, SHAPE),
-        (r#"{"format":1,"first":[0,0]}"#, SHAPE),
+    let json = [
+        "",
+        r#"{"format":1"#,
+        r#"{"format":1,"first":[0,0],"ops":[]} x"#,
+        "\u{feff}{\"format\":1,\"first\":[0,0],\"ops\":[]}",
+        r#"["\ud800"]"#,
     ];
-    for (text, want) in rows {
-        assert_eq!(rt;
-            read_scenario(rt.alloc(), text.as_bytes(), false).err(),
-            Some(want),
-            "at {text}"
-        );
-    }
-    assert_eq!(rt; read_scenario(rt.alloc(), &[255], false).err(), Some(JSON));
-}
-
-/// A scenario with these members after the others; of a key that is repeated the last value counts.
-fn with_fields(alloc: Global, fields: &str) -> Result<String, AllocError> {
-    format!(in alloc; "{{\"format\":1,\"first\":[0,0],\"ops\":[],{fields}}}")
+    let shape_0 = [
+        "[]",
+        "{}",
+        r#"{"first":[0,0],"ops":[]}"#,
+        r#"{"format":1,"ops":[]}"#,
+        r#"{"format":1,"first":[0,0]}"#,
+    ];
+    answer(&rt, rt.alloc(), WHOLE, Err(Json), &json);
+    answer(&rt, rt.alloc(), WHOLE, Err(Shape(0)), &shape_0);
+    assert!(rt; read_scenario(rt.alloc(), &[255], false).err() == Some(Json));
 }
 
 #[test]
-fn refuses_fields(rt: HostRuntime) -> Result<(), Fail> {
-    let rows = [
-        (r#""extra":1"#, SHAPE),
-        (r#""race":{"turns":0,"keeper":[],"callers":[]}"#, SHAPE),
-        (r#""callers":1"#, SHAPE),
-        (r#""Start":0"#, SHAPE),
-        (r#""format":1.0"#, SHAPE),
-        (r#""format":1e0"#, SHAPE),
-        (r#""format":"1""#, SHAPE),
-        (r#""format":3"#, RANGE),
-        (r#""format":0"#, RANGE),
-        (r#""schedulers":"1""#, SHAPE),
-        (r#""schedulers":9223372036854775808"#, SHAPE),
-        (r#""schedulers":0"#, RANGE),
-        (r#""schedulers":65"#, RANGE),
-        (r#""schedulers":4294967297"#, RANGE),
-        (r#""processes":null"#, SHAPE),
-        (r#""processes":-1"#, RANGE),
-        (r#""processes":1025"#, RANGE),
-        (r#""slots":1.0"#, SHAPE),
-        (r#""slots":65537"#, RANGE),
-        (r#""slots":65536,"schedulers":5"#, RANGE),
-        (r#""start":null"#, SHAPE),
-        (r#""start":-0"#, SHAPE),
-        (r#""start":9223372036854775808"#, SHAPE),
-        (r#""start":-9223372036854775809"#, SHAPE),
-        (r#""start":9223372036854775807"#, RANGE),
-        (r#""start":1"#, RANGE),
-        (r#""start":-1"#, RANGE),
-        (r#""start":288230376152000000"#, RANGE),
-        (r#""mode":"Multi""#, SHAPE),
-        (r#""mode":"no_time_warp""#, SHAPE),
-        (r#""mode":1"#, SHAPE),
-        (r#""mode":null"#, SHAPE),
-        (r#""correction":"true""#, SHAPE),
-        (r#""correction":1"#, SHAPE),
-        (r#""correction":null"#, SHAPE),
-        (r#""first":7"#, SHAPE),
-        (r#""first":[0]"#, SHAPE),
-        (r#""first":[0,0,0]"#, SHAPE),
-        (r#""first":[0.5,0]"#, SHAPE),
-        (r#""first":[-1,0]"#, RANGE),
-        (r#""first":[4611686018427387904,0]"#, RANGE),
-        (r#""first":[0,2305843009213693952]"#, RANGE),
-        (r#""first":[0,-2305843009213693952]"#, RANGE),
-        (r#""ops":{}"#, SHAPE),
-        (r#""ops":[["time"]],"ops":[["wait"]]"#, OP_SHAPE),
-        (r#""format":3,"correction":0,"ops":[[]]"#, SHAPE),
-        (r#""start":1,"ops":[["time"],[]]"#, ScenarioErr::Shape(2)),
-        (r#""start":1,"ops":[["tick",-1,0]]"#, RANGE),
-        (r#""format":3,"ops":[["cancel_async",1,0]]"#, OP_SHAPE),
+fn refuses_fields(rt: HostRuntime) {
+    let shape_0 = [
+        r#""extra":1"#,
+        r#""race":{"turns":0,"keeper":[],"callers":[]}"#,
+        r#""callers":1"#,
+        r#""Start":0"#,
+        r#""format":1.0"#,
+        r#""format":1e0"#,
+        r#""format":"1""#,
+        r#""schedulers":"1""#,
+        r#""schedulers":9223372036854775808"#,
+        r#""processes":null"#,
+        r#""slots":1.0"#,
+        r#""start":null"#,
+        r#""start":-0"#,
+        r#""start":9223372036854775808"#,
+        r#""start":-9223372036854775809"#,
+        r#""mode":"Multi""#,
+        r#""mode":"no_time_warp""#,
+        r#""mode":1"#,
+        r#""mode":null"#,
+        r#""correction":"true""#,
+        r#""correction":1"#,
+        r#""correction":null"#,
+        r#""first":7"#,
+        r#""first":[0]"#,
+        r#""first":[0,0,0]"#,
+        r#""first":[0.5,0]"#,
+        r#""ops":{}"#,
+        r#""format":3,"correction":0,"ops":[[]]"#,
     ];
-    for (fields, want) in rows {
-        let text = with_fields(rt.alloc(), fields)?;
-        assert_eq!(rt;
-            read_scenario(rt.alloc(), text.as_bytes(), false).err(),
-            Some(want),
-            "at {fields}"
-        );
-    }
-    Ok(())
-}
-
-/// A scenario of format 1 with these ops.
-pub(crate) fn with_ops(alloc: Global, ops: &str) -> Result<String, AllocError> {
-    format!(in alloc; "{{\"format\":1,\"first\":[0,0],\"ops\":{ops}}}")
+    let range_0 = [
+        r#""format":3"#,
+        r#""format":0"#,
+        r#""schedulers":0"#,
+        r#""schedulers":65"#,
+        r#""schedulers":4294967297"#,
+        r#""processes":-1"#,
+        r#""processes":1025"#,
+        r#""slots":65537"#,
+        r#""slots":65536,"schedulers":5"#,
+        r#""start":9223372036854775807"#,
+        r#""start":1"#,
+        r#""start":-1"#,
+        r#""start":288230376152000000"#,
+        r#""first":[-1,0]"#,
+        r#""first":[4611686018427387904,0]"#,
+        r#""first":[0,2305843009213693952]"#,
+        r#""first":[0,-2305843009213693952]"#,
+        r#""start":1,"ops":[["tick",-1,0]]"#,
+    ];
+    let shape_1 = [
+        r#""ops":[["time"]],"ops":[["wait"]]"#,
+        r#""format":3,"ops":[["cancel_async",1,0]]"#,
+    ];
+    let shape_2 = [r#""start":1,"ops":[["time"],[]]"#];
+    answer(&rt, rt.alloc(), FIELDS, Err(Shape(0)), &shape_0);
+    answer(&rt, rt.alloc(), FIELDS, Err(Range(0)), &range_0);
+    answer(&rt, rt.alloc(), FIELDS, Err(Shape(1)), &shape_1);
+    answer(&rt, rt.alloc(), FIELDS, Err(Shape(2)), &shape_2);
 }
 
 #[test]
-fn refuses_ops(rt: HostRuntime) -> Result<(), Fail> {
-    let rows = [
-        (r#"[["wait"]]"#, OP_SHAPE),
-        (r#"[["Time"]]"#, OP_SHAPE),
-        (r#"["time"]"#, OP_SHAPE),
-        (r#"[{}]"#, OP_SHAPE),
-        (r#"[[]]"#, OP_SHAPE),
-        (r#"[[1]]"#, OP_SHAPE),
-        (r#"[["time",0]]"#, OP_SHAPE),
-        (r#"[["system",0]]"#, OP_SHAPE),
-        (r#"[["offset",[]]]"#, OP_SHAPE),
-        (r#"[["info",null]]"#, OP_SHAPE),
-        (r#"[["check",0]]"#, OP_SHAPE),
-        (r#"[["check",0,0,0]]"#, OP_SHAPE),
-        (r#"[["check",0,2305843009213693952]]"#, OP_RANGE),
-        (r#"[["finalize"]]"#, OP_SHAPE),
-        (r#"[["finalize",0,0,"now"]]"#, OP_SHAPE),
-        (r#"[["finalize",0,"0"]]"#, OP_SHAPE),
-        (r#"[["finalize",-1,0]]"#, OP_RANGE),
-        (r#"[["tick"]]"#, OP_SHAPE),
-        (r#"[["tick",0]]"#, OP_SHAPE),
-        (r#"[["tick",0,0,0]]"#, OP_SHAPE),
-        (r#"[["tick",-1,0,0]]"#, OP_SHAPE),
-        (r#"[["tick","0",0]]"#, OP_SHAPE),
-        (r#"[["tick",0,1.0]]"#, OP_SHAPE),
-        (r#"[["tick",1e0,0]]"#, OP_SHAPE),
-        (r#"[["tick",-0,0]]"#, OP_SHAPE),
-        (r#"[["tick",9223372036854775808,0]]"#, OP_SHAPE),
-        (r#"[["tick",0,-9223372036854775809]]"#, OP_SHAPE),
-        (r#"[["convert",0,1]]"#, OP_SHAPE),
-        (r#"[["convert",0,1,1,1]]"#, OP_SHAPE),
-        (r#"[["convert",0.5,1,1]]"#, OP_SHAPE),
-        (r#"[["convert",0,"Second",1]]"#, OP_SHAPE),
-        (r#"[["convert",0,"seconds",1]]"#, OP_SHAPE),
-        (r#"[["convert",0,1,""]]"#, OP_SHAPE),
-        (r#"[["convert",0,1,"1000"]]"#, OP_SHAPE),
-        (r#"[["convert",0,-1,1]]"#, OP_SHAPE),
-        (r#"[["convert",0,1.0,1]]"#, OP_SHAPE),
-        (r#"[["convert",0,1,null]]"#, OP_SHAPE),
-        (r#"[["convert",0,["second"],1]]"#, OP_SHAPE),
-        (r#"[["convert",0,18446744073709551616,1]]"#, OP_SHAPE),
-        (r#"[["convert",0,0,true]]"#, OP_SHAPE),
-        (r#"[["convert",0,0,1]]"#, OP_RANGE),
-        (r#"[["convert",0,1,9223372036854775808]]"#, OP_RANGE),
-        (r#"[["convert",0,18446744073709551615,1]]"#, OP_RANGE),
-        (r#"[["tick",9223372036854775807,0]]"#, OP_RANGE),
-        (r#"[["tick",0,-9223372036854775808]]"#, OP_RANGE),
-        (r#"[["tick",4611686018427387904,0]]"#, OP_RANGE),
-        (r#"[["tick",0,2305843009213693952]]"#, OP_RANGE),
-        (
-            r#"[["time"],["system"],["info"],["jump"]]"#,
-            ScenarioErr::Shape(4),
-        ),
-        (
-            r#"[["time"],["tick",0,-2305843009213693952],["tick",-1,0]]"#,
-            ScenarioErr::Range(2),
-        ),
-        (
-            r#"[["tick",-1,0],["time"],["time",1],["wait"]]"#,
-            ScenarioErr::Shape(3),
-        ),
+fn refuses_ops(rt: HostRuntime) {
+    let shape_1 = [
+        r#"["wait"]"#,
+        r#"["Time"]"#,
+        r#""time""#,
+        r#"{}"#,
+        r#"[]"#,
+        r#"[1]"#,
+        r#"["time",0]"#,
+        r#"["system",0]"#,
+        r#"["offset",[]]"#,
+        r#"["info",null]"#,
+        r#"["check",0]"#,
+        r#"["check",0,0,0]"#,
+        r#"["finalize"]"#,
+        r#"["finalize",0,0,"now"]"#,
+        r#"["finalize",0,"0"]"#,
+        r#"["tick"]"#,
+        r#"["tick",0]"#,
+        r#"["tick",0,0,0]"#,
+        r#"["tick",-1,0,0]"#,
+        r#"["tick","0",0]"#,
+        r#"["tick",0,1.0]"#,
+        r#"["tick",1e0,0]"#,
+        r#"["tick",-0,0]"#,
+        r#"["tick",9223372036854775808,0]"#,
+        r#"["tick",0,-9223372036854775809]"#,
+        r#"["convert",0,1]"#,
+        r#"["convert",0,1,1,1]"#,
+        r#"["convert",0.5,1,1]"#,
+        r#"["convert",0,"Second",1]"#,
+        r#"["convert",0,"seconds",1]"#,
+        r#"["convert",0,1,""]"#,
+        r#"["convert",0,1,"1000"]"#,
+        r#"["convert",0,-1,1]"#,
+        r#"["convert",0,1.0,1]"#,
+        r#"["convert",0,1,null]"#,
+        r#"["convert",0,["second"],1]"#,
+        r#"["convert",0,18446744073709551616,1]"#,
+        r#"["convert",0,0,true]"#,
     ];
-    for (ops, want) in rows {
-        let text = with_ops(rt.alloc(), ops)?;
-        assert_eq!(rt;
-            read_scenario(rt.alloc(), text.as_bytes(), false).err(),
-            Some(want),
-            "at {ops}"
-        );
-    }
-    Ok(())
+    let range_1 = [
+        r#"["check",0,2305843009213693952]"#,
+        r#"["finalize",-1,0]"#,
+        r#"["convert",0,0,1]"#,
+        r#"["convert",0,1,9223372036854775808]"#,
+        r#"["convert",0,18446744073709551615,1]"#,
+        r#"["tick",9223372036854775807,0]"#,
+        r#"["tick",0,-9223372036854775808]"#,
+        r#"["tick",4611686018427387904,0]"#,
+        r#"["tick",0,2305843009213693952]"#,
+    ];
+    let shape_4 = [r#"["time"],["system"],["info"],["jump"]"#];
+    let range_2 = [r#"["time"],["tick",0,-2305843009213693952],["tick",-1,0]"#];
+    let shape_3 = [r#"["tick",-1,0],["time"],["time",1],["wait"]"#];
+    answer(&rt, rt.alloc(), OPS_1, Err(Shape(1)), &shape_1);
+    answer(&rt, rt.alloc(), OPS_1, Err(Range(1)), &range_1);
+    answer(&rt, rt.alloc(), OPS_1, Err(Shape(4)), &shape_4);
+    answer(&rt, rt.alloc(), OPS_1, Err(Range(2)), &range_2);
+    answer(&rt, rt.alloc(), OPS_1, Err(Shape(3)), &shape_3);
+}
+
+/// What a scenario without these fields opens with.
+const PLAIN: Settings = Settings {
+    mode: Mode::No,
+    correction: true,
+    start: 0,
+    schedulers: 1,
+    processes: 1,
+    slots: 1024,
+    callers: 1,
+    first: Reading { mono: 0, sys: 0 },
+};
+
+/// A scenario with these fields has these settings.
+fn has(rt: &impl Abort, alloc: Global, fields: &str, want: &Settings) {
+    let text = framed(alloc, FIELDS, fields).expect(rt, "there is memory");
+    let scenario = read_scenario(alloc, text.as_bytes(), false).expect(rt, "it is a scenario");
+    assert!(rt;
+        scenario.settings == *want,
+        "{:?} at {fields}",
+        scenario.settings
+    );
 }
 
 #[test]
-fn accepts_counts(rt: HostRuntime) -> Result<(), Fail> {
+fn accepts_counts(rt: HostRuntime) {
     let rows = [
-        (r#""format":1"#, (1, 1, 1024)),
-        (r#""schedulers":4,"slots":65536"#, (4, 1, 65_536)),
+        (r#""format":1"#, 1, 1, 1024),
+        (r#""schedulers":4,"slots":65536"#, 4, 1, 65_536),
         (
             r#""schedulers":64,"processes":1024,"slots":4096"#,
-            (64, 1024, 4096),
+            64,
+            1024,
+            4096,
         ),
-        (r#""format":2,"processes":2,"slots":1"#, (1, 2, 1)),
+        (r#""format":2,"processes":2,"slots":1"#, 1, 2, 1),
     ];
-    for (fields, want) in rows {
-        let text = with_fields(rt.alloc(), fields)?;
-        let settings = read_scenario(rt.alloc(), text.as_bytes(), false)?.settings;
-        let counts = (settings.schedulers, settings.processes, settings.slots);
-        assert_eq!(rt; counts, want, "at {fields}");
-        assert_eq!(rt; settings.callers, 1);
+    for (fields, schedulers, processes, slots) in rows {
+        let want = Settings {
+            schedulers,
+            processes,
+            slots,
+            ..PLAIN
+        };
+        has(&rt, rt.alloc(), fields, &want);
     }
-    Ok(())
 }
 
 #[test]
-fn accepts_fields(rt: HostRuntime) -> Result<(), Fail> {
+fn accepts_fields(rt: HostRuntime) {
     let rows = [
         (r#""format":1"#, Mode::No, true, 0),
         (r#""mode":"no","correction":true"#, Mode::No, true, 0),
@@ -228,111 +222,116 @@ fn accepts_fields(rt: HostRuntime) -> Result<(), Fail> {
         (r#""start":1,"start":2000000"#, Mode::No, true, 2_000_000),
     ];
     for (fields, mode, correction, start) in rows {
-        let text = with_fields(rt.alloc(), fields)?;
-        let scenario = read_scenario(rt.alloc(), text.as_bytes(), false)?;
-        let settings = Settings {
+        let want = Settings {
             mode,
             correction,
             start,
-            schedulers: 1,
-            processes: 1,
-            slots: 1024,
-            callers: 1,
-            first: Reading { mono: 0, sys: 0 },
+            ..PLAIN
         };
-        assert_eq!(rt; scenario.settings, settings, "at {fields}");
+        has(&rt, rt.alloc(), fields, &want);
     }
-    Ok(())
-}
-
-fn parts(n: u64) -> Result<Unit, Fail> {
-    Ok(Unit::parts(n).ok_or("no unit")?)
+    let first = Reading { mono: 7, sys: -8 };
+    has(
+        &rt,
+        rt.alloc(),
+        r#""first":[7,-8]"#,
+        &Settings { first, ..PLAIN },
+    );
 }
 
 #[test]
-fn accepts_ops(rt: HostRuntime) -> Result<(), Fail> {
-    let text = r#"{"format":1,"first":[7,-8],"ops":[
-        ["tick",4611686018427387903,-2305843009213693951],["check",0,2305843009213693951],
-        ["finalize",1,-1],["time"],["system"],["offset"],["info"],
-        ["convert",-9223372036854775808,"second",9223372036854775807],
-        ["convert",9223372036854775807,"millisecond","microsecond"],["convert",0,"native",1],
-        ["convert",-1,"nanosecond",3]
-    ]}"#;
-    let scenario = read_scenario(rt.alloc(), text.as_bytes(), false)?;
-    let want = [
-        Op::Tick {
-            mono: 4611686018427387903,
-            sys: -2305843009213693951,
-        },
-        Op::Check {
-            mono: 0,
-            sys: 2305843009213693951,
-        },
-        Op::Finalize { mono: 1, sys: -1 },
-        Op::Time,
-        Op::System,
-        Op::Offset,
-        Op::Info,
-        Op::Convert {
-            time: i64::MIN,
-            from: Unit::second(),
-            to: parts(i64::MAX as u64)?,
-        },
-        Op::Convert {
-            time: i64::MAX,
-            from: Unit::millisecond(),
-            to: Unit::microsecond(),
-        },
-        Op::Convert {
-            time: 0,
-            from: Unit::native(),
-            to: parts(1)?,
-        },
-        Op::Convert {
-            time: -1,
-            from: Unit::nanosecond(),
-            to: parts(3)?,
-        },
+fn accepts_ops_of_the_clock(rt: HostRuntime) -> Result<(), Fail> {
+    let one = Unit::parts(1).ok_or("no unit")?;
+    let three = Unit::parts(3).ok_or("no unit")?;
+    let most = Unit::parts(i64::MAX as u64).ok_or("no unit")?;
+    let rows = [
+        (
+            r#"["tick",4611686018427387903,-2305843009213693951]"#,
+            Op::Tick {
+                mono: 4611686018427387903,
+                sys: -2305843009213693951,
+            },
+        ),
+        (
+            r#"["check",0,2305843009213693951]"#,
+            Op::Check {
+                mono: 0,
+                sys: 2305843009213693951,
+            },
+        ),
+        (r#"["finalize",1,-1]"#, Op::Finalize { mono: 1, sys: -1 }),
+        (r#"["time"]"#, Op::Time),
+        (r#"["system"]"#, Op::System),
+        (r#"["offset"]"#, Op::Offset),
+        (r#"["info"]"#, Op::Info),
+        (
+            r#"["convert",-9223372036854775808,"second",9223372036854775807]"#,
+            Op::Convert {
+                time: i64::MIN,
+                from: Unit::second(),
+                to: most,
+            },
+        ),
+        (
+            r#"["convert",9223372036854775807,"millisecond","microsecond"]"#,
+            Op::Convert {
+                time: i64::MAX,
+                from: Unit::millisecond(),
+                to: Unit::microsecond(),
+            },
+        ),
+        (
+            r#"["convert",0,"native",1]"#,
+            Op::Convert {
+                time: 0,
+                from: Unit::native(),
+                to: one,
+            },
+        ),
+        (
+            r#"["convert",-1,"nanosecond",3]"#,
+            Op::Convert {
+                time: -1,
+                from: Unit::nanosecond(),
+                to: three,
+            },
+        ),
     ];
-    assert_eq!(rt; scenario.ops.as_slice(), want.as_slice());
-    assert_eq!(rt; scenario.settings.first, Reading { mono: 7, sys: -8 });
+    gives(&rt, rt.alloc(), OPS_1, &rows);
     Ok(())
 }
 
-/// So many times `piece`.
-fn repeated(alloc: Global, piece: &str, count: usize) -> Result<String, AllocError> {
+/// So many times `piece`, and then `last`.
+fn repeated(alloc: Global, piece: &str, count: usize, last: &str) -> Result<String, AllocError> {
     let mut text = String::new(alloc);
     for _ in 0..count {
         text.push_str(piece)?;
     }
+    text.push_str(last)?;
     Ok(text)
 }
 
 #[test]
-fn limits_ops_and_nesting(rt: HostRuntime) -> Result<(), Fail> {
-    let alloc = rt.alloc();
+fn limits_ops(rt: HostRuntime) -> Result<(), Fail> {
     let rows = [
         (99_999, r#"["time"]"#, Ok(100_000)),
-        (99_999, r#"["tick",-1,0]"#, Err(ScenarioErr::Range(100_000))),
-        (99_999, "[]", Err(ScenarioErr::Shape(100_000))),
-        (100_000, r#"["time"]"#, Err(ScenarioErr::Limit(0))),
+        (99_999, r#"["tick",-1,0]"#, Err(Range(100_000))),
+        (99_999, "[]", Err(Shape(100_000))),
+        (100_000, r#"["time"]"#, Err(Limit(0))),
     ];
     for (count, last, want) in rows {
-        let ops = format!(in alloc; "[{}{last}]", repeated(alloc, "[\"time\"],", count)?)?;
-        let text = with_ops(alloc, ops.as_str())?;
-        let answer = read_scenario(alloc, text.as_bytes(), false);
-        assert_eq!(rt; answer.map(|scenario| scenario.ops.len()), want);
+        let ops = repeated(rt.alloc(), r#"["time"],"#, count, last)?;
+        answer(&rt, rt.alloc(), OPS_1, want, &[ops.as_str()]);
     }
-    for (depth, want) in [(127, SHAPE), (128, JSON), (200, JSON)] {
-        let text = format!(in alloc;
-            "{}{}",
-            repeated(alloc, "[", depth)?,
-            repeated(alloc, "]", depth)?
-        )?;
-        assert_eq!(rt;
-            read_scenario(alloc, text.as_bytes(), false).err(),
-            Some(want)
-        );
+    Ok(())
+}
+
+#[test]
+fn limits_nesting(rt: HostRuntime) -> Result<(), Fail> {
+    for (depth, want) in [(127, Err(Shape(0))), (128, Err(Json)), (200, Err(Json))] {
+        let closing = repeated(rt.alloc(), "]", depth, "")?;
+        let text = repeated(rt.alloc(), "[", depth, closing.as_str())?;
+        answer(&rt, rt.alloc(), WHOLE, want, &[text.as_str()]);
     }
     Ok(())
 }

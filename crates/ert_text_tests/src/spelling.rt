@@ -1,8 +1,9 @@
 mod events;
 
 use ert_defs::{Actor, Entry, Event, Mode, Reading, Settings};
-use ert_spelling::{History, SpellingErr, read_history};
+use ert_spelling::{SpellingErr, read_history};
 use std::alloc::Global;
+use std::process::Abort;
 use std::test::Fail;
 
 /// The first line of a text whose settings don't matter.
@@ -17,38 +18,55 @@ c0 - mark 0 false false
 s0 - look 1000000
 s0 w0 advanced 0 ";
 
-/// The history of these lines after the first.
-fn history(alloc: Global, lines: &str) -> Result<History, Fail> {
-    let text = format!(in alloc; "{OPENING}{lines}\n")?;
-    Ok(read_history(alloc, text.as_bytes())?)
+/// The lines after the first spell these entries.
+pub(crate) fn spell(rt: &impl Abort, alloc: Global, lines: &str, want: &[Entry]) {
+    let text = format!(in alloc; "{OPENING}{lines}\n").expect(rt, "there is memory");
+    let history = read_history(alloc, text.as_bytes()).expect(rt, "it is a history");
+    let got = history.entries.as_slice();
+    assert!(rt; got == want, "{got:?} at {lines}");
+}
+
+/// A text's first misspelled line is this one.
+fn misspelled(rt: &impl Abort, alloc: Global, text: &[u8], line: usize) {
+    let got = read_history(alloc, text).err();
+    assert!(rt;
+        got == Some(SpellingErr::Misspelled { line }),
+        "{got:?}, not line {line}"
+    );
 }
 
 #[test]
-fn reads_actors(rt: HostRuntime) -> Result<(), Fail> {
+fn reads_actors(rt: HostRuntime) {
     let event = Event::Look { now: 1 };
     let rows = [
-        ("k c0", Actor::Keeper, Some(Actor::Caller(0))),
-        ("w1 i2", Actor::Wheel(1), Some(Actor::Inbox(2))),
-        ("s3 m10", Actor::Sched(3), Some(Actor::MailOf(10))),
-        ("c4294967295 -", Actor::Caller(u32::MAX), None),
+        ("k c0 look 1", Actor::Keeper, Some(Actor::Caller(0))),
+        ("w1 i2 look 1", Actor::Wheel(1), Some(Actor::Inbox(2))),
+        ("s3 m10 look 1", Actor::Sched(3), Some(Actor::MailOf(10))),
+        ("c4294967295 - look 1", Actor::Caller(u32::MAX), None),
     ];
-    for (words, by, with) in rows {
-        let line = format!(in rt.alloc(); "{words} look 1")?;
-        let want = Entry { by, with, event };
-        assert_eq!(rt;
-            history(rt.alloc(), line.as_str())?.entries.as_slice(),
-            [want].as_slice(),
-            "at {words}"
-        );
+    for (line, by, with) in rows {
+        spell(&rt, rt.alloc(), line, &[Entry { by, with, event }]);
     }
-    Ok(())
+}
+
+/// A look of a caller.
+fn look(caller: u32, now: i64) -> Entry {
+    Entry {
+        by: Actor::Caller(caller),
+        with: None,
+        event: Event::Look { now },
+    }
 }
 
 #[test]
-fn reads_settings_and_lines_in_order(rt: HostRuntime) -> Result<(), Fail> {
-    let text = "settings single true -3000000 2 3 4 5 6 -7\nc0 - look 1\nc1 - look 2\n";
-    let read = read_history(rt.alloc(), text.as_bytes())?;
-    let want = Settings {
+fn reads_lines_in_order(rt: HostRuntime) {
+    let entries = [look(0, 1), look(1, 2)];
+    spell(&rt, rt.alloc(), "c0 - look 1\nc1 - look 2", &entries);
+}
+
+#[test]
+fn reads_settings(rt: HostRuntime) -> Result<(), Fail> {
+    let settings = Settings {
         mode: Mode::Single,
         correction: true,
         start: -3_000_000,
@@ -58,21 +76,18 @@ fn reads_settings_and_lines_in_order(rt: HostRuntime) -> Result<(), Fail> {
         callers: 5,
         first: Reading { mono: 6, sys: -7 },
     };
-    assert_eq!(rt; read.settings, want);
-    let looks = [(Actor::Caller(0), 1), (Actor::Caller(1), 2)];
-    assert_eq!(rt; read.entries.len(), 2);
-    for (entry, (by, now)) in read.entries.iter().zip(looks) {
-        assert_eq!(rt;
-            *entry,
-            Entry {
-                by,
-                with: None,
-                event: Event::Look { now }
-            }
-        );
+    let multi = Settings {
+        mode: Mode::Multi,
+        ..settings
+    };
+    let rows = [
+        ("settings single true -3000000 2 3 4 5 6 -7\n", settings),
+        ("settings multi true -3000000 2 3 4 5 6 -7\n", multi),
+    ];
+    for (line, want) in rows {
+        let got = read_history(rt.alloc(), line.as_bytes())?.settings;
+        assert!(rt; got == want, "{got:?} at {line}");
     }
-    let multi = read_history(rt.alloc(), b"settings multi false 0 1 1 1 1 0 0\n")?;
-    assert_eq!(rt; multi.settings.mode, Mode::Multi);
     Ok(())
 }
 
@@ -80,10 +95,9 @@ fn reads_settings_and_lines_in_order(rt: HostRuntime) -> Result<(), Fail> {
 fn reads_the_example(rt: HostRuntime) -> Result<(), Fail> {
     let good = format!(in rt.alloc(); "{EXAMPLE}1\n")?;
     let read = read_history(rt.alloc(), good.as_bytes())?;
-    assert_eq!(rt; read.entries.len(), 6);
+    assert!(rt; read.entries.len() == 6);
     let bad = format!(in rt.alloc(); "{EXAMPLE}01\n")?;
-    let refused = read_history(rt.alloc(), bad.as_bytes()).err();
-    assert_eq!(rt; refused, Some(SpellingErr::Misspelled { line: 7 }));
+    misspelled(&rt, rt.alloc(), bad.as_bytes(), 7);
     Ok(())
 }
 
@@ -106,10 +120,7 @@ fn tells_the_first_misspelled_line(rt: HostRuntime) {
         ),
     ];
     for (text, line) in rows {
-        assert_eq!(rt;
-            read_history(rt.alloc(), text).err(),
-            Some(SpellingErr::Misspelled { line })
-        );
+        misspelled(&rt, rt.alloc(), text, line);
     }
 }
 
@@ -141,10 +152,10 @@ fn refuses_other_spellings(rt: HostRuntime) -> Result<(), Fail> {
     ];
     for line in lines {
         let text = format!(in rt.alloc(); "{OPENING}{line}\n")?;
-        assert_eq!(rt;
-            read_history(rt.alloc(), text.as_bytes()).err(),
-            Some(SpellingErr::Misspelled { line: 2 }),
-            "at {line}"
+        let got = read_history(rt.alloc(), text.as_bytes()).err();
+        assert!(rt;
+            got == Some(SpellingErr::Misspelled { line: 2 }),
+            "{got:?} at {line}"
         );
     }
     Ok(())

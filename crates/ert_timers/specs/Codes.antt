@@ -7,28 +7,34 @@ use Rattle.ert_defs.specs.declared.timer.Kind.TheVariants.{Wrapped, Bare}
 use Rattle.ert_timers.specs.declared.part.Slot.{Slot}
 use Rattle.ert_wheel.specs.declared.row.Key.{Key}
 
+-- whether the message goes alone, without the timer's reference
 pub is_bare : Kind → Bool
 is_bare Wrapped = false
 is_bare Bare = true
 
+-- the kind of a message that goes alone, or doesn't
 pub kind_by : Bool → Kind
 kind_by false = Wrapped
 kind_by true = Bare
 
+-- each kind comes back from that
 pub kind_back : (kind : Kind) → kind_by (is_bare kind) ≡ kind
 unfolding is_bare kind_by
 kind_back Wrapped = refl
 kind_back Bare = refl
 
+-- a kind is stored as whether it is bare
 abbrev pub kind_code : Coded Kind
 kind_code = code_by Bool coded_bool is_bare kind_by kind_back
 
+-- what is kept of a slot's last timer is stored as a tuple: generation, destination, message and kind
 abbrev pub slot_code : Coded Slot
 slot_code =
     code_by (ℕ × (ℕ × (ℕ × Kind))) (coded× coded_ℕ (coded× coded_ℕ (coded× coded_ℕ kind_code)))
     (λ s. (s.generation, (s.dest, (s.msg, s.kind))))
     (λ t. record { generation = t.0; dest = t.1.0; msg = t.1.1.0; kind = t.1.1.1 }) (λ _. refl)
 
+-- the key of a row is stored as a pair: deadline and order
 abbrev pub key_code : Coded Key
 key_code =
     code_by (ℕ × ℕ) (coded× coded_ℕ coded_ℕ) (λ k. (k.deadline, k.order))

@@ -30,11 +30,12 @@ fired_in g h w = ((state g h).scheds w).fired
 abbrev pub timer_of : Part → WheelRow → Row
 timer_of p row = held_row p.number p.slots row.slot (key_of row)
 
--- what a try adds to the list, and whether it hit
+-- what a try adds to the list of expired timers
 abbrev pub fired_as : Row → Option (Option Status) → List Row
 fired_as row None = row ∷ []
 fired_as row (Some found) = []
 
+-- whether a try hit
 abbrev pub is_hit : Option (Option Status) → Bool
 is_hit None = true
 is_hit (Some found) = false
@@ -106,10 +107,12 @@ pub record HasNotTried (g : Settings) (v : View) (p q : Part) (e : NoMemory) (ol
   pub stands : Stands g u.front q
   pub tidy : KeepsTidy g v p q u
 
+-- what comes of trying the due rows, by the answer: all were tried, or none for want of memory
 abbrev pub IsTried : Settings → View → Part → Part → Result ℕ NoMemory → Queue → Queue → View → Type 0
 IsTried g v p q (Ok to) old new u = HasTried g v p q to old new u
 IsTried g v p q (Err e) old new u = HasNotTried g v p q e old new u
 
+-- what comes of an advance, by the answer: it was made, or nothing expired for want of memory
 abbrev pub IsAdvanced : Settings → View → ℕ → Result ℕ NoMemory → Queue → Queue → View → Type 0
 IsAdvanced g v w (Ok to) old new u = HasExpired g v w to old new u
 IsAdvanced g v w (Err e) old new u = HasNotExpired g v w e old new u

@@ -35,14 +35,17 @@ LawOfStanding = (g : Settings) (f h : List Entry) (p : Part) → Begins f h → 
 abbrev pub AreWithWheel : Actor → ℕ → List Entry → Type 0
 AreWithWheel by w es = AreOnlyOf (by ∷ (Wheel w ∷ [])) es
 
+-- the entries of a start are of its caller and of the wheel alone
 abbrev pub LawOfStarts : Type 0
 LawOfStarts = (g : Settings) (by w : ℕ) (start : Start) (answer : Result TimerRef StartErr) (s : State) (es : List Entry)
     → Starts g by w start answer s es → AreWithWheel (Caller by) w es
 
+-- those of an advance are of the scheduler and of its wheel alone
 abbrev pub LawOfAdvances : Type 0
 LawOfAdvances = (g : Settings) (w : ℕ) (answer : Result (ℕ × ℕ) NoMemory) (s : State) (es : List Entry) → Advances g w answer s es
     → AreWithWheel (Sched w) w es
 
+-- those of a sweep are of its caller and of the wheel alone
 abbrev pub LawOfSweeps : Type 0
 LawOfSweeps = (g : Settings) (by w process : ℕ) (s : State) (es : List Entry) → Sweeps g by w process s es → AreWithWheel (Caller by) w es
 
@@ -58,6 +61,7 @@ pub record IsLeftBy (g : Settings) (v : View) (timer : TimerRef) (answer : Optio
   pub others : (p : Part) → IsTidy (state g v.front) p → IsTidyBut (state g u.front) p timer
   pub missed : (p : Part) → answer ≡ None → Stands g v.front p → IsTidy (state g v.front) p → IsTidy (state g u.front) p
 
+-- a cancel by a pass that holds every actor leaves this
 abbrev pub LawOfCancels : Type 0
 LawOfCancels = (g : Settings) (v : View) (by : Actor) (timer : TimerRef) (answer : Option ℕ) (u : View) → IsWhole g v.actors
     → IsMade g v (Cancels g by timer answer) u → IsLeftBy g v timer answer u

@@ -14,11 +14,12 @@ pub record IsArmed (s : State) (w : ℕ) (row : Row) : Type 0 where
   pub is : slice_get (s.rows w) place ≡ Some row
   pub armed : s.status row.timer ≡ Some Armed
 
--- some timer of a wheel is armed, and one is and is due at a time
+-- some timer of a wheel is armed
 pub record SomeArmed (s : State) (w : ℕ) : Type 0 where
   pub row : Row
   pub armed : IsArmed s w row
 
+-- some timer of a wheel is armed and due at a time
 pub record SomeArmedAt (s : State) (w time : ℕ) : Type 0 where
   pub row : Row
   pub armed : IsArmed s w row

@@ -38,6 +38,7 @@ pub record Part : Type 0 where
   pub expires : ℕ
   pub orphans : ℕ
 
+-- a part is stored as a tuple of its fields
 abbrev pub part_code : Coded Part
 part_code =
     code_by (ℕ × (ℕ × (List Slot × (List (Option Key) × (set.FinSet nat_cmp × (ℕ × (ℕ × ℕ)))))))
@@ -82,6 +83,7 @@ held_row w slots k key = record {
 abbrev pub owner_of : List Slot → ℕ → Option Key → Option Place
 owner_of slots k = option_map (λ key. record { home = (slot_at slots k).dest; order = key.order })
 
+-- where the timer of each slot belongs, by the keys of the rows that are held
 abbrev pub owners_of : List Slot → List (Option Key) → ℕ → Option Place
 owners_of slots keys k = owner_of slots k (key_in keys k)
 
@@ -138,12 +140,13 @@ pub record Stands (g : Settings) (h : List Entry) (p : Part) : Type 0 where
   pub holds : Holds g (state g h) p
   pub counted : IsCounted h p
 
--- a pass holds a wheel with a caller in range, or with its scheduler
+-- a pass holds a wheel, and a caller in range
 pub record HoldsCaller (g : Settings) (v : View) (by w : ℕ) : Type 0 where
   pub caller : is_held v.actors (Caller by) ≡ true
   pub wheel : is_held v.actors (Wheel w) ≡ true
   pub by_high : by < g.callers
 
+-- a pass holds a wheel, and its scheduler
 pub record HoldsSched (v : View) (w : ℕ) : Type 0 where
   pub sched : is_held v.actors (Sched w) ≡ true
   pub wheel : is_held v.actors (Wheel w) ≡ true

@@ -108,6 +108,7 @@ abbrev pub FindsSlot : Part → Part → Option ℕ → List (Option Status) →
 FindsSlot p q (Some slot) founds = IsFree q slot
 FindsSlot p q None founds = (length founds ≡ length p.slots) × AreFull q 0 founds × ((j : ℕ) → set.contains q.free j ≡ false)
 
+-- slots were looked at in order from the first on, and one that can take a timer was found, or none
 pub record TakesSlot (g : Settings) (v : View) (by : ℕ) (p q : Part) (slot : Option ℕ) (u : View) : Type 0 where
   pub founds : List (Option Status)
   pub call : TakesPlace g v (probes_from by p.number 0 founds) u

@@ -34,13 +34,15 @@ use Rattle.ert_transcript.specs.declared.reply.Reply.{Reply}
 use Rattle.ert_transcript.specs.declared.reply.Reply.TheVariants.{Tick, TickWide, Check, CheckWide, Finalize, FinalizeWide, Time, System, Offset, Info, Convert, ConvertTooWide, StartOk, StartBadArg, StartFull, SendAfterOk, SendAfterBadArg, SendAfterFull, Cancel, CancelQuiet, Read, CancelAsync, ReadAsync, Serve, Advance, Deliver, Turn, Received, ReceivedEmpty, ReceivedExited, Exit, Alive, Monitor, MonitorFull, Demonitor, Notify}
 use Rattle.ert_units.specs.Conversions.{converted}
 
--- the arguments of ops
+-- the reading of the OS clocks that an op gives
 abbrev pub reading_of : ℤ → ℤ → Reading
 reading_of mono sys = record { mono = mono; sys = sys }
 
+-- the start that an op asks for
 abbrev pub start_of : When → ℕ → ℕ → Kind → Start
 start_of when dest msg kind = record { when = when; dest = dest; msg = msg; kind = kind }
 
+-- the request for the timer of a label that an op makes
 abbrev pub request_of : RequestKind → Labels → ℕ → ℕ → Bool → Request
 request_of kind ls l process info = record { kind = kind; timer = ref_of ls l; reply_to = process; info = info }
 

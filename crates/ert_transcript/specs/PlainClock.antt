@@ -30,14 +30,17 @@ clock_piece r act moved wide now (Some d) = cond (is_within d.0)
     (record { entries = tick_entries 0 r act now (Some d.0); reply = moved now (Some d.0) })
     (record { entries = []; reply = wide d.0 })
 
+-- a reading is taken for one of the three acts, in a state
 abbrev pub clocked : Settings → State → Reading → Act → (ℤ → Option ℤ → Reply) → (ℤ → Reply) → Piece
 clocked g s r act moved wide =
     let now = time_after g (face g s.clock) r in
     clock_piece r act moved wide now (due_after g (face g s.clock) r act now)
 
+-- a tick
 abbrev pub tick_piece : Settings → State → Reading → Piece
 tick_piece g s r = clocked g s r Plain Tick TickWide
 
+-- a tick with a check of the clock
 abbrev pub check_piece : Settings → State → Reading → Piece
 check_piece g s r = clocked g s r Force Check CheckWide
 
@@ -49,21 +52,25 @@ finalize_piece g s r old = record {
   reply = Finalize old s.clock.now None;
 }
 
+-- monotonic time is read
 abbrev pub time_piece : State → Piece
 time_piece s = record { entries = look_entry (Caller 0) s.clock.now ∷ []; reply = Time s.clock.now }
 
+-- the time is read, and then the offset; system time is the sum
 abbrev pub system_piece : State → Piece
 system_piece s = record {
   entries = look_entry (Caller 0) s.clock.now ∷ off_entry (Caller 0) s.clock.offset s.clock.state ∷ [];
   reply = System (s.clock.now +ℤ s.clock.offset);
 }
 
+-- the offset is read, with its state
 abbrev pub offset_piece : State → Piece
 offset_piece s = record {
   entries = off_entry (Caller 0) s.clock.offset s.clock.state ∷ [];
   reply = Offset s.clock.offset s.clock.state;
 }
 
+-- the settings are told, with the offset as it is read
 abbrev pub info_piece : Settings → State → Piece
 info_piece g s = record {
   entries = off_entry (Caller 0) s.clock.offset s.clock.state ∷ [];

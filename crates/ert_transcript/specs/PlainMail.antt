@@ -30,6 +30,7 @@ receive_piece s p false = record {
   reply = received (first_of (s.mails p).queue);
 }
 
+-- it is seen whether a process is alive
 abbrev pub alive_piece : State → ℕ → Piece
 alive_piece s p = record {
   entries = mark_entry (Caller 0) p false (s.exited p) ∷ [];
@@ -60,6 +61,7 @@ exit_piece g s p false =
 abbrev pub may_watch : MailState → Bool
 may_watch m = nat_lt (length m.monitors) 64 && nat_le m.next 4294967295
 
+-- a monitor is made, where the process can have one more; else the offset is looked at
 abbrev pub monitor_piece : State → ℕ → Bool → Piece
 monitor_piece s p true = record {
   entries = watch_entry 0 p (s.mails p).next s.clock.offset ∷ [];
@@ -70,11 +72,13 @@ monitor_piece s p false = record {
   reply = MonitorFull;
 }
 
+-- a monitor is removed, where it stands; the reply tells whether it stood
 abbrev pub demonitor_piece : State → ℕ → ℕ → Piece
 demonitor_piece s p n =
     let stood = stands_in n (s.mails p).monitors in
     record { entries = unwatch_entry 0 p n stood ∷ []; reply = Demonitor stood }
 
+-- the monitors of a process are told the offset; the reply is how many messages are put
 abbrev pub notify_piece : State → ℕ → Piece
 notify_piece s p = record {
   entries = tell_entry 0 p s.clock.offset ∷ [];

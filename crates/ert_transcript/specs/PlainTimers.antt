@@ -24,15 +24,17 @@ use Rattle.ert_transcript.specs.declared.reply.Reply.TheVariants.{StartOk, Start
 abbrev pub taken_of : (TimerRef → Option Status) → List Row → ℕ
 taken_of status rows = count_of is_taken status rows
 
--- the replies to a start of each kind
+-- the reply to a start of each kind, whose timer was started
 abbrev pub started : Kind → TimerRef → Reply
 started Wrapped timer = StartOk timer
 started Bare timer = SendAfterOk timer
 
+-- the reply to a start of each kind that is refused for its time
 abbrev pub bad_arg : Kind → Reply
 bad_arg Wrapped = StartBadArg
 bad_arg Bare = SendAfterBadArg
 
+-- the reply to a start of each kind that finds no free slot
 abbrev pub full : Kind → Reply
 full Wrapped = StartFull
 full Bare = SendAfterFull
@@ -58,6 +60,7 @@ start_piece g s label w start (Some deadline) = cond (nat_le g.slots (taken_of s
       reply = started start.kind (timer_at w label 1);
     })
 
+-- a start by the time as it is
 abbrev pub starting : Settings → State → ℕ → ℕ → Start → Piece
 starting g s label w start = start_piece g s label w start (deadline_of g start s.clock.now)
 
@@ -74,12 +77,14 @@ abbrev pub left_if : Bool → Option ℕ → Option ℕ
 left_if true left = left
 left_if false left = None
 
+-- a cancel by the time as it is, and the reply that tells what was left
 abbrev pub cancelling : Settings → State → TimerRef → (Option ℕ → Reply) → Piece
 cancelling g s r reply = record {
   entries = looks s ∷ cancel_entries (is_bound r) (Caller 0) r (left_now g s r) (left_now g s r);
   reply = reply (left_if (is_bound r) (left_now g s r));
 }
 
+-- a read by the time as it is
 abbrev pub reading : Settings → State → TimerRef → Piece
 reading g s r = record {
   entries = looks s ∷ read_entries (is_bound r) (Caller 0) r (left_now g s r);

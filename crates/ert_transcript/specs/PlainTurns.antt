@@ -38,6 +38,7 @@ abbrev pub request_entries : RequestKind → ℕ → TimerRef → Bool → Optio
 request_entries ToCancel w r bound left = cancel_entries bound (Sched w) r left left
 request_entries ToRead w r bound left = read_entries bound (Sched w) r left
 
+-- a scheduler looks at the time, does what a request asks for, and answers it
 abbrev pub answer_entries : Settings → State → ℕ → Request → List Entry
 answer_entries g s w q =
     let left = left_now g s q.timer in
@@ -61,6 +62,7 @@ abbrev pub serve_piece : Settings → State → ℕ → Option Request → Serve
 serve_piece g s w (Some q) = record { entries = answer_entries g s w q; count = 1 }
 serve_piece g s w None = pick_piece g s w (first_of (s.inboxes w))
 
+-- a scheduler serves one request, if it has any
 abbrev pub serving : Settings → State → ℕ → Served
 serving g s w = serve_piece g s w (s.scheds w).hand
 
@@ -104,9 +106,11 @@ pub record Advancing : Type 0 where
   pub to : ℕ
   pub fired : ℕ
 
+-- these timers of a wheel expire, one after the other
 abbrev pub expiries : ℕ → List Row → List Entry
 expiries w rows = map (λ (r : Row). expire_entry w r.timer) rows
 
+-- a scheduler advances its wheel to the time as it is
 abbrev pub advancing : Settings → State → ℕ → Advancing
 advancing g s w =
     let to = natural (down g s.clock.now) in
@@ -132,15 +136,19 @@ abbrev pub hand_entries : (ℕ → Bool) → ℕ → List Row → List Entry
 hand_entries exited w [] = []
 hand_entries exited w (r ∷ rows) = handed_entries w r (how_by (exited r.dest)) ++ hand_entries exited w rows
 
+-- a scheduler hands over all its expired timers
 abbrev pub handing : State → ℕ → List Entry
 handing s w = hand_entries s.exited w (s.scheds w).fired
 
+-- one request is served, if there is any; the reply tells whether
 abbrev pub serve_op : Settings → State → ℕ → Piece
 serve_op g s w = record { entries = (serving g s w).entries; reply = Serve (has_served (serving g s w)) }
 
+-- a wheel is advanced; the reply tells to which millisecond, and how many timers expired
 abbrev pub advance_op : Settings → State → ℕ → Piece
 advance_op g s w = let a = advancing g s w in record { entries = a.entries; reply = Advance a.to a.fired }
 
+-- all expired timers are handed over; the reply tells how many messages were put and how many dropped
 abbrev pub deliver_op : State → ℕ → Piece
 deliver_op s w = record {
   entries = handing s w;

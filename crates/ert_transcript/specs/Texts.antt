@@ -34,16 +34,19 @@ abbrev pub moved_text : ℤ → Option ℤ → List ℕ
 moved_text now None = signed_decimal now ⋅ codes "\n"
 moved_text now (Some offset) = signed_decimal now ⋅ codes " offset " ⋅ signed_decimal offset ⋅ codes "\n"
 
--- the parts of the line of the settings
+-- the first part of the line of the settings: the start time, the end time and the time warp mode
 unfoldable pub info_front : ℤ → ℤ → Mode → List ℕ
 info_front start end mode = codes "info start " ⋅ signed_decimal start ⋅ codes " end " ⋅ signed_decimal end ⋅ codes " mode " ⋅ mode_word mode
 
+-- the middle part of that line: whether time correction is on
 unfoldable pub info_middle : Bool → List ℕ
 info_middle correction = codes " correction " ⋅ bool_word correction
 
+-- the offset and its state, at the end of a line
 abbrev pub offset_text : ℤ → OffsetState → List ℕ
 offset_text offset state = signed_decimal offset ⋅ codes " " ⋅ state_word state ⋅ codes "\n"
 
+-- the last part of the line of the settings: the offset and its state
 unfoldable pub info_back : ℤ → OffsetState → List ℕ
 info_back offset state = codes " offset " ⋅ signed_decimal offset ⋅ codes " state " ⋅ state_word state ⋅ codes "\n"
 

@@ -11,9 +11,10 @@ alone node = record { next = node; prev = node }
 abbrev pub no_link : Link
 no_link = record { next = 0; prev = 0 }
 
--- the node after a node, and the node before it
+-- the node after a node
 abbrev pub next_at : List Link → ℕ → ℕ
 next_at links node = (slice_index_or links node no_link).next
 
+-- the node before a node
 abbrev pub prev_at : List Link → ℕ → ℕ
 prev_at links node = (slice_index_or links node no_link).prev

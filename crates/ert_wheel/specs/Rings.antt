@@ -22,11 +22,12 @@ pub record Place : Type 0 where
   pub home : ℕ
   pub order : ℕ
 
--- the home and the rank of a place, and 0 of none
+-- the home of a place, and 0 of none
 abbrev pub home_of : Option Place → ℕ
 home_of None = 0
 home_of (Some place) = place.home
 
+-- the rank of a place, and 0 of none
 abbrev pub order_of : Option Place → ℕ
 order_of None = 0
 order_of (Some place) = place.order

@@ -1,6 +1,7 @@
 use Rattle.std.proofs.Common.{◌≡◌, true, false, not, refl, sym, ap, ◌∙◌, inl, inr}
 use Rattle.ert_defs.specs.States.{state}
 use Rattle.ert_interval.proofs.Onward.{still_then, still_kept, armed_runs, ended, other_later, new_before}
+use Rattle.ert_interval.proofs.Stepping.{goes_armed, goes_high, goes_dead, goes_start}
 use Rattle.ert_interval.proofs.going.go_on.Goals as goal
 
 pub returns-then-is_armed-clause-kept : goal.returns-then-is_armed-clause-kept
@@ -76,3 +77,23 @@ returns-clause-timer c = elim c.start_next.ensures.timer [
       (still_then c.args.world.now c.is_armed.new.world c.lives.new.world c.is_armed.ensures.still c.lives.ensures.still) c.requires.legal
       c.lives.ensures.legal none)
 ]
+
+pub returns-then-is_armed-clause-goes : goal.returns-then-is_armed-clause-goes
+returns-then-is_armed-clause-goes c =
+    goes_armed c.args.world.now c.is_armed.new.world c.args.interval.now c.is_armed.result c.is_armed.ensures.reads c.if-is_armed.true
+
+pub returns-in_default-clause-goes : goal.returns-in_default-clause-goes
+returns-in_default-clause-goes c =
+    goes_high c.args.world.now c.is_armed.new.world c.args.interval.now c.is_armed.result c.is_armed.ensures.reads c.if-is_armed.false
+    c.in_default.ensures
+
+pub returns-then-not-lives-clause-goes : goal.returns-then-not-lives-clause-goes
+returns-then-not-lives-clause-goes c =
+    goes_dead c.args.world.now c.is_armed.new.world c.lives.new.world c.args.interval.now c.is_armed.result c.lives.result c.is_armed.ensures.reads
+    c.if-is_armed.false c.in-Some.ensures.1 c.lives.ensures.call c.if-not-lives.true
+
+pub returns-clause-goes : goal.returns-clause-goes
+returns-clause-goes c =
+    goes_start c.args.world.now c.is_armed.new.world c.lives.new.world c.start_next.new.world c.args.interval.now c.start_next.new.interval
+    c.is_armed.result c.lives.result c.start_next.result c.is_armed.ensures.reads c.if-is_armed.false c.in-Some.ensures.1 c.lives.ensures.call
+    c.if-not-lives.false c.start_next.ensures.starts

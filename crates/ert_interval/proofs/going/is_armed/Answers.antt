@@ -7,3 +7,6 @@ returns-clause-value c =
     (read_tells c.args.world.now c.read_timer-left.new.self c.args.interval.now c.read_timer-left.result c.read_timer-left.ensures.call
     c.settings-settings.ensures.stands.clock.legal c.requires.legal c.requires.kept)
     c.is_some.ensures
+
+pub returns-clause-reads : goal.returns-clause-reads
+returns-clause-reads c = record { left = c.read_timer-left.result; armed_is = c.is_some.ensures; call = c.read_timer-left.ensures.call }

@@ -6,7 +6,9 @@ use Rattle.ert_interval.specs.declared.interval.IntervalState.TheVariants.{Runni
 use Rattle.ert_defs.specs.declared.timer.Status.TheVariants.{Armed}
 use Rattle.ert_interval.proofs.Onward.{waits, lives_still, open_going, due_at}
 use Rattle.ert_interval.proofs.Pushing.{pushed}
-use Rattle.ert_interval.proofs.Starting.{HasStarted, started, refused_full}
+use Rattle.ert_interval.proofs.Starting.{HasStarted, started, refused_full, full_start}
+use Rattle.ert_interval.specs.Going.{next_start}
+use Rattle.ert_answers.specs.declared.answers.StartErr.TheVariants.{Full}
 use Rattle.ert_sched.specs.Worlds.{Goes, By}
 use Rattle.ert_interval.proofs.going.start_next.Goals as goal
 
@@ -101,3 +103,45 @@ returns-clause-passed c =
       fires = (c.in-Ok.timer, c.push_reserved.ensures.items ∙ ap (λ l. l ++ c.in-Ok.timer ∷ []) c.in_ok-reserve.ensures.items);
       ends = subst (λ x. (state x b.history).status c.in-Ok.timer ≡ Some Armed) (sym c.in-Ok.ensures.call.settings) (begun.lives c.requires.lives).0;
     }
+
+pub returns-in_default-clause-starts : goal.returns-in_default-clause-starts
+returns-in_default-clause-starts c =
+    let a = c.args.world.now in
+    let b = c.start-started.new.self in
+    let i = c.args.interval.now in
+    let time : c.start_for-start.result ≡ start_at (time_of a.settings c.args.deadline) i.dest i.msg =
+    c.start_for-start.ensures ∙ ap (λ g. start_at (time_of g c.args.deadline) i.dest i.msg) c.settings.ensures.value in
+    let next : start_at (time_of a.settings c.args.deadline) i.dest i.msg ≡ next_start a.settings i =
+    ap (λ d. start_at (time_of a.settings d) i.dest i.msg) c.requires.next in (
+      subst (λ x. Goes a (By a (λ g. Starts g 0 i.wheel x (Err Full))) b) next
+          (full_start a b i.wheel (start_at (time_of a.settings c.args.deadline) i.dest i.msg) c.args.deadline c.in_default.field-0
+          (subst (λ x. Goes a (By a (λ g. Starts g 0 i.wheel x (Err c.in_default.field-0))) b) time c.in_default.ensures.call)
+          (due_at a.settings c.args.deadline i.dest i.msg c.requires.high) (λ is. c.in_default.ensures.memory (ap Err is))),
+      record {
+        same = record { wheel = refl; first = refl; period = refl; dest = refl; msg = refl };
+        state_is = refl;
+        last = refl;
+        deadline = refl;
+        firings = c.in_ok-reserve.ensures.items;
+      },
+    )
+
+pub returns-clause-starts : goal.returns-clause-starts
+returns-clause-starts c =
+    let a = c.args.world.now in
+    let b = c.start-started.new.self in
+    let i = c.args.interval.now in
+    let time : c.start_for-start.result ≡ start_at (time_of a.settings c.args.deadline) i.dest i.msg =
+    c.start_for-start.ensures ∙ ap (λ g. start_at (time_of g c.args.deadline) i.dest i.msg) c.settings.ensures.value in
+    let next : start_at (time_of a.settings c.args.deadline) i.dest i.msg ≡ next_start a.settings i =
+    ap (λ d. start_at (time_of a.settings d) i.dest i.msg) c.requires.next in (
+      c.in-Ok.timer,
+      subst (λ x. Goes a (By a (λ g. Starts g 0 i.wheel x (Ok c.in-Ok.timer))) b) (time ∙ next) c.in-Ok.ensures.call,
+      record {
+        same = record { wheel = refl; first = refl; period = refl; dest = refl; msg = refl };
+        state_is = refl;
+        last = refl;
+        deadline = c.requires.next;
+        firings = c.push_reserved.ensures.items ∙ ap (λ l. l ++ c.in-Ok.timer ∷ []) c.in_ok-reserve.ensures.items;
+      },
+    )

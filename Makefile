@@ -1,0 +1,198 @@
+# Builds, installs and packs ertime: its programs, the C library, the pages and the completions.
+#
+#     make              proves and builds what isn't built yet
+#     make install      into prefix, which is /usr/local
+#     make uninstall
+#     make dist         a tar archive for machines without the toolchain, in build/dist
+#     make deb          packages for Debian, in build/deb
+#     make prove        proves what has changed since it was built, and builds it
+#     make clean        removes build/; what was proved stays
+#
+# The directories are those of the GNU standards, and DESTDIR stands before each of them.
+
+prefix = /usr/local
+exec_prefix = $(prefix)
+bindir = $(exec_prefix)/bin
+libdir = $(exec_prefix)/lib
+includedir = $(prefix)/include
+datarootdir = $(prefix)/share
+docdir = $(datarootdir)/doc/ertime
+mandir = $(datarootdir)/man
+pkgconfigdir = $(libdir)/pkgconfig
+cmakedir = $(libdir)/cmake/ertime
+bashcompletiondir = $(datarootdir)/bash-completion/completions
+zshcompletiondir = $(datarootdir)/zsh/site-functions
+fishcompletiondir = $(datarootdir)/fish/vendor_completions.d
+
+INSTALL = install
+INSTALL_PROGRAM = $(INSTALL)
+INSTALL_DATA = $(INSTALL) -m 644
+CC = cc
+LD = ld
+OBJCOPY = objcopy
+AR = ar
+PYTHON = python3
+# Tells the loader of a library that was installed for this machine itself, where whoever installs may.
+LDCONFIG = ldconfig
+tell_loader = [ -n '$(DESTDIR)' ] || $(LDCONFIG) 2>/dev/null || :
+
+# What was proved: the programs, the library's archive, and the archive of the toolchain by which that one calls
+# malloc. `rt ci` and `packaging/prove` leave them there; other places can be given.
+KIT = $(patsubst %/bin/rt,%,$(realpath $(shell command -v rt 2>/dev/null)))
+ERTIME = crates/ert_cli/out/ert_cli
+ERTAUDIT = crates/ert_audit/out/ert_audit
+ERT_BENCH = crates/ert_bench/out/ert_bench
+ARCHIVE = crates/ert_c/out/libert_c.a
+HEAP = $(KIT)/c/liblibc_c.a
+
+# The version stands in the header alone. (Cargo reads no other file: .ci/check_install compares its number.)
+part = $(shell sed -n 's/^.define ERTIME_VERSION_$(1) //p' include/ertime.h)
+MAJOR := $(call part,MAJOR)
+MINOR := $(call part,MINOR)
+VERSION := $(MAJOR).$(MINOR).$(call part,PATCH)
+
+B = build
+SONAME = libertime.so.$(MAJOR)
+REAL = libertime.so.$(VERSION)
+PROGRAMS = ertime ertaudit ert_bench
+PAGES1 = $(addsuffix .1,$(PROGRAMS))
+PAGES3 = ertime.3
+PAGES5 = ertime-scenario.5 ertime-history.5
+PAGES = $(addprefix $(B)/man/,$(PAGES1) $(PAGES3) $(PAGES5))
+EXAMPLES = examples/c/event_loop.c examples/c/seats.c examples/ertime/timer_expires.json \
+  examples/races/two_cancels.json examples/ertaudit/early_expiry.txt
+LIBRARIES = $(B)/libertime.a $(B)/$(REAL)
+
+.PHONY: all prove pages install install-strip uninstall dist deb clean
+.DELETE_ON_ERROR:
+
+all: $(ERTIME) $(ERTAUDIT) $(ERT_BENCH) $(LIBRARIES) pages $(B)/THIRD-PARTY
+pages: $(PAGES)
+
+# What exists is taken as it is: a proof takes hours, so none begins because a file has a newer date.
+PROVED = crates/ert_cli/out/ert_cli crates/ert_audit/out/ert_audit crates/ert_bench/out/ert_bench crates/ert_c/out/libert_c.a
+$(PROVED) &:
+	packaging/prove $(filter $(PROVED),$(ERTIME) $(ERTAUDIT) $(ERT_BENCH) $(ARCHIVE))
+.PRECIOUS: $(PROVED)
+
+prove:
+	packaging/prove --anew $(PROVED)
+
+# The functions of the header. No other name of the library can be seen from outside.
+$(B)/symbols: include/ertime.h
+	mkdir -p $(B)
+	sed -n 's/^int32_t \(ert_[a-z_]*\)(.*/\1/p' $< >$@
+
+# Both archives as one object, in which every other name is local. (Whoever installs may not have the toolchain on
+# the path: so nothing here depends on a file of it.)
+$(B)/ertime.o: $(ARCHIVE) $(B)/symbols
+	@[ -f '$(HEAP)' ] || { echo "there is no $(HEAP): rt isn't on the path, or HEAP has to say where it is"; exit 1; }
+	$(LD) -r --whole-archive $(ARCHIVE) $(HEAP) -o $@
+	$(OBJCOPY) --keep-global-symbols=$(B)/symbols $@
+
+$(B)/libertime.a: $(B)/ertime.o
+	rm -f $@
+	$(AR) rcsD $@ $<
+
+$(B)/$(REAL): $(B)/ertime.o
+	$(CC) -shared -Wl,-soname,$(SONAME) -Wl,-z,defs -Wl,-z,relro -Wl,-z,now $(LDFLAGS) -o $@ $<
+
+$(B)/man/%: man/%.in man/render docs/FORMATS.md include/ertime.h
+	mkdir -p $(B)/man
+	$(PYTHON) man/render --version $(VERSION) $< >$@
+
+$(B)/THIRD-PARTY: packaging/notices crates.txt
+	mkdir -p $(B)
+	$(PYTHON) packaging/notices $(KIT) >$@
+
+# A path below the prefix as pkg-config writes it, and a path as seen from the folder of the CMake file.
+pc_prefix = $(prefix)
+below = $(patsubst $(prefix)/%,$${prefix}/%,$(1))
+from_cmake = $(shell realpath -m --relative-to='$(cmakedir)' '$(1)')
+FILL = sed -e 's|@VERSION@|$(VERSION)|' -e 's|@MAJOR@|$(MAJOR)|' -e 's|@MINOR@|$(MINOR)|'
+
+D1 = $(DESTDIR)$(mandir)/man1
+D3 = $(DESTDIR)$(mandir)/man3
+D5 = $(DESTDIR)$(mandir)/man5
+
+install: all
+	$(INSTALL) -d "$(DESTDIR)$(bindir)" "$(DESTDIR)$(includedir)" "$(DESTDIR)$(libdir)" \
+	  "$(DESTDIR)$(pkgconfigdir)" "$(DESTDIR)$(cmakedir)" "$(D1)" "$(D3)" "$(D5)" "$(DESTDIR)$(docdir)/examples" \
+	  "$(DESTDIR)$(bashcompletiondir)" "$(DESTDIR)$(zshcompletiondir)" "$(DESTDIR)$(fishcompletiondir)"
+	$(INSTALL_PROGRAM) $(ERTIME) "$(DESTDIR)$(bindir)/ertime"
+	$(INSTALL_PROGRAM) $(ERTAUDIT) "$(DESTDIR)$(bindir)/ertaudit"
+	$(INSTALL_PROGRAM) $(ERT_BENCH) "$(DESTDIR)$(bindir)/ert_bench"
+	$(INSTALL_DATA) include/ertime.h "$(DESTDIR)$(includedir)"
+	$(INSTALL_DATA) $(LIBRARIES) "$(DESTDIR)$(libdir)"
+	ln -sf $(REAL) "$(DESTDIR)$(libdir)/$(SONAME)"
+	ln -sf $(SONAME) "$(DESTDIR)$(libdir)/libertime.so"
+	$(FILL) -e 's|@prefix@|$(pc_prefix)|' -e 's|@libdir@|$(call below,$(libdir))|' \
+	  -e 's|@includedir@|$(call below,$(includedir))|' packaging/ertime.pc.in >"$(DESTDIR)$(pkgconfigdir)/ertime.pc"
+	$(FILL) -e 's|@libdir@|$(call from_cmake,$(libdir))|' -e 's|@includedir@|$(call from_cmake,$(includedir))|' \
+	  packaging/ertime-config.cmake.in >"$(DESTDIR)$(cmakedir)/ertime-config.cmake"
+	$(FILL) packaging/ertime-config-version.cmake.in >"$(DESTDIR)$(cmakedir)/ertime-config-version.cmake"
+	chmod 644 "$(DESTDIR)$(pkgconfigdir)/ertime.pc" "$(DESTDIR)$(cmakedir)"/*.cmake
+	$(INSTALL_DATA) $(addprefix $(B)/man/,$(PAGES1)) "$(D1)"
+	$(INSTALL_DATA) $(addprefix $(B)/man/,$(PAGES3)) "$(D3)"
+	$(INSTALL_DATA) $(addprefix $(B)/man/,$(PAGES5)) "$(D5)"
+	for it in $(PROGRAMS); do \
+	  $(INSTALL_DATA) completions/$$it.bash "$(DESTDIR)$(bashcompletiondir)/$$it" && \
+	  $(INSTALL_DATA) completions/_$$it "$(DESTDIR)$(zshcompletiondir)" && \
+	  $(INSTALL_DATA) completions/$$it.fish "$(DESTDIR)$(fishcompletiondir)" || exit; \
+	done
+	$(INSTALL_DATA) LICENSE $(B)/THIRD-PARTY docs/scenario.schema.json "$(DESTDIR)$(docdir)"
+	$(INSTALL_DATA) $(EXAMPLES) "$(DESTDIR)$(docdir)/examples"
+	$(tell_loader)
+
+install-strip:
+	$(MAKE) INSTALL_PROGRAM='$(INSTALL_PROGRAM) -s' install
+
+# Removes the files, and then the folders that held them and are empty, up to the prefix.
+in = $(foreach it,$(2),"$(DESTDIR)$($(1))/$(it)")
+FOLDERS = $(bindir) $(includedir) $(pkgconfigdir) $(cmakedir) $(libdir) $(mandir)/man1 $(mandir)/man3 $(mandir)/man5 \
+  $(docdir)/examples $(docdir) $(bashcompletiondir) $(zshcompletiondir) $(fishcompletiondir)
+uninstall:
+	rm -f $(call in,bindir,$(PROGRAMS)) $(call in,includedir,ertime.h) $(call in,pkgconfigdir,ertime.pc)
+	rm -f $(call in,libdir,libertime.a libertime.so $(SONAME) $(REAL))
+	rm -f $(call in,mandir,$(addprefix man1/,$(PAGES1)) $(addprefix man3/,$(PAGES3)) $(addprefix man5/,$(PAGES5)))
+	rm -f $(call in,bashcompletiondir,$(PROGRAMS)) $(call in,zshcompletiondir,$(addprefix _,$(PROGRAMS)))
+	rm -f $(call in,fishcompletiondir,$(addsuffix .fish,$(PROGRAMS)))
+	rm -f $(call in,cmakedir,ertime-config.cmake ertime-config-version.cmake)
+	rm -f $(call in,docdir,LICENSE THIRD-PARTY scenario.schema.json $(addprefix examples/,$(notdir $(EXAMPLES))))
+	for at in $(FOLDERS); do \
+	  while [ "$$at" != '$(prefix)' ] && [ "$$at" != / ] && { [ ! -e '$(DESTDIR)'"$$at" ] || rmdir '$(DESTDIR)'"$$at" 2>/dev/null; }; do \
+	    at=$$(dirname "$$at"); \
+	  done; \
+	done
+	$(tell_loader)
+
+# A tar archive that can be unpacked anywhere. Its files are the same whenever it is made from the same commit.
+NAME = ertime-$(VERSION)-x86_64-linux
+EPOCH = $(or $(SOURCE_DATE_EPOCH),$(shell git log -1 --format=%ct 2>/dev/null),0)
+dist: all
+	rm -rf $(B)/dist
+	$(MAKE) install DESTDIR='$(abspath $(B))/dist/$(NAME)' prefix= exec_prefix= pc_prefix='$$$${pcfiledir}/../..'
+	$(FILL) packaging/README.dist >$(B)/dist/$(NAME)/README
+	cd $(B)/dist/$(NAME) && find . -type f ! -name SHA256SUMS -print0 | LC_ALL=C sort -z | xargs -0 sha256sum >SHA256SUMS
+	cd $(B)/dist && tar --sort=name --owner=0 --group=0 --numeric-owner --mtime=@$(EPOCH) -cf - $(NAME) | gzip -9n >$(NAME).tar.gz
+	cd $(B)/dist && sha256sum $(NAME).tar.gz >$(NAME).tar.gz.sha256
+	rm -r $(B)/dist/$(NAME)
+	@echo "$(B)/dist/$(NAME).tar.gz"
+
+# Debian's packages of what was built here: ertime, libertime$(MAJOR) and libertime-dev.
+DEB = $(B)/deb/ertime-$(VERSION)
+deb: all
+	@command -v dpkg-buildpackage dh >/dev/null || { echo 'make deb needs the packages dpkg-dev and debhelper'; exit 1; }
+	rm -rf $(B)/deb
+	mkdir -p $(DEB)
+	cp -R packaging/debian $(DEB)/debian
+	$(FILL) -e "s|@DATE@|$$(date -u -R -d @$(EPOCH))|" packaging/debian/changelog.in >$(DEB)/debian/changelog
+	rm $(DEB)/debian/changelog.in
+	cat $(B)/THIRD-PARTY >>$(DEB)/debian/copyright
+	$(MAKE) install DESTDIR='$(abspath $(DEB))/installed' prefix=/usr libdir=/usr/lib/x86_64-linux-gnu \
+	  zshcompletiondir=/usr/share/zsh/vendor-completions
+	cd $(DEB) && SOURCE_DATE_EPOCH=$(EPOCH) dpkg-buildpackage -b -us -uc -nc -d
+	@ls $(B)/deb/*.deb
+
+clean:
+	rm -rf $(B)

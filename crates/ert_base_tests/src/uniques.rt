@@ -1,0 +1,136 @@
+//! Unique integers of two passes, which draw in turn and at once.
+ghost use Rattle.std.specs.Prelude.{◌≡◌, IfOk};
+ghost use Rattle.ert_unique.specs.Passes.{passes_of, Belongs, AreAll};
+
+use ert_defs::NoMemory;
+use ert_unique::{UniquePass, Uniques};
+use std::alloc::{AllocError, Global};
+use std::thread::join;
+
+/// A call on one of the two passes, and the number that it draws.
+#[derive(Clone, Copy)]
+enum Draw {
+    One(u64),
+    Two(u64),
+    /// The second pass is told what the first has seen.
+    Meet,
+    PlainOne(u64),
+    PlainTwo(u64),
+}
+
+/// Whether a call answers as wanted.
+fn answers(uniques: &Uniques, one: &mut UniquePass, two: &mut UniquePass, draw: Draw) -> bool
+    requires one { Belongs uniques.now one.old }
+    requires two { Belongs uniques.now two.old }
+    ensures one { Belongs uniques.now one.new }
+    ensures two { Belongs uniques.now two.new }
+{
+    match draw {
+        Draw::One(want) => uniques.monotonic(one) == Ok(want),
+        Draw::Two(want) => uniques.monotonic(two) == Ok(want),
+        Draw::Meet => {
+            uniques.meet(two, one);
+            true
+        }
+        Draw::PlainOne(want) => one.plain() == Ok(want),
+        Draw::PlainTwo(want) => two.plain() == Ok(want),
+    }
+}
+
+/// Puts two passes back together.
+fn together(
+    alloc: Global,
+    uniques: &Uniques,
+    one: UniquePass,
+    two: UniquePass,
+) -> Result<Vec<UniquePass>, AllocError>
+    requires two_passes { passes_of uniques.now ≡ 2 }
+    requires one { Belongs uniques.now one }
+    requires two { Belongs uniques.now two }
+    ensures { IfOk result (λ passes. AreAll uniques.now passes.items) }
+{
+    let mut passes = Vec::with_capacity(alloc, 2)?;
+    passes.push(one)?;
+    passes.push(two)?;
+    Ok(passes)
+}
+
+#[test]
+fn passes_draw_in_turn(rt: HostRuntime) -> Result<(), NoMemory> {
+    let draws = [
+        Draw::One(1),
+        Draw::Two(2),
+        Draw::One(3),
+        Draw::Meet,
+        Draw::Two(4),
+        // Each pass answers from a range of its own.
+        Draw::PlainOne(1),
+        Draw::PlainOne(2),
+        Draw::PlainTwo(1_099_511_627_777),
+        Draw::PlainTwo(1_099_511_627_778),
+    ];
+    let (uniques, mut passes) = Uniques::open(rt.alloc(), 2)?;
+    let mut two = passes.pop().expect(&rt, "there are two passes");
+    let mut one = passes.pop().expect(&rt, "there are two passes");
+    'draws: for (step, draw) in draws.into_iter().enumerate() {
+        assert!(rt; answers(&uniques, &mut one, &mut two, draw), "step {step}");
+    }
+    let passes = together(rt.alloc(), &uniques, one, two).expect(&rt, "there is memory");
+    assert!(rt; uniques.close(passes) == 4);
+    Ok(())
+}
+
+/// Draws a thousand numbers, and gives the pass and them.
+fn draw_many(
+    alloc: Global,
+    uniques: &Uniques,
+    mut pass: UniquePass,
+) -> Result<(UniquePass, Vec<u64>), AllocError>
+    requires { Belongs uniques.now pass }
+    ensures { IfOk result (λ r. Belongs uniques.now r.0) }
+{
+    let mut numbers = Vec::with_capacity(alloc, 1_000)?;
+    for _ in 0..1_000 {
+        if let Ok(number) = uniques.monotonic(&mut pass) {
+            numbers.push(number)?;
+        }
+    }
+    Ok((pass, numbers))
+}
+
+/// Whether these are the numbers from 1 on, in order.
+fn are_one_and_on(numbers: &[u64]) -> bool {
+    for (i, number) in numbers.iter().enumerate() {
+        if *number != i as u64 + 1 {
+            return false;
+        }
+    }
+    true
+}
+
+/// Whether two threads drew the numbers from 1 to 2,000, each its own in order.
+fn are_all(mut numbers: Vec<u64>, others: Vec<u64>) -> Result<bool, AllocError> {
+    let in_order = numbers.is_sorted() && others.is_sorted();
+    numbers.extend_from_slice(&others)?;
+    numbers.sort()?;
+    Ok(in_order && numbers.len() == 2_000 && are_one_and_on(&numbers))
+}
+
+#[test]
+fn threads_draw_one_to_two_thousand(rt: HostRuntime) -> Result<(), NoMemory> {
+    let (uniques, mut passes) = Uniques::open(rt.alloc(), 2)?;
+    let two = passes.pop().expect(&rt, "there are two passes");
+    let one = passes.pop().expect(&rt, "there are two passes");
+    let alloc = rt.alloc();
+    let (first, second) = join(
+        &rt,
+        || draw_many(alloc, &uniques, one),
+        || draw_many(alloc, &uniques, two),
+    );
+    let (one, numbers) = first.expect(&rt, "there is memory");
+    let (two, others) = second.expect(&rt, "there is memory");
+    assert!(rt; are_all(numbers, others) == Ok(true));
+    let passes = together(alloc, &uniques, one, two).expect(&rt, "there is memory");
+    assert!(rt; uniques.close(passes) == 2_000);
+    Ok(())
+}

@@ -1,2 +1,0 @@
-pub mod KeeperTrials
-pub mod Readiness

@@ -1,0 +1,186 @@
+//! Steps of a test: calls of a world of one scheduler, each with the answer that is wanted.
+ghost use Rattle.std.specs.Prelude.{◌<◌};
+
+use ert_answers::{MonitorErr, StartErr, Taken, Turned};
+use ert_clock::{ClockErr, Moved};
+use ert_defs::{
+    Kind, Mode, NoMemory, OffsetState, Reading, Request, RequestKind, Settings, Start, TimerRef,
+    When,
+};
+use ert_sched::World;
+use std::fmt::Debug;
+use std::process::Abort;
+
+/// One scheduler of one slot, and two processes, by OS system time alone.
+pub(crate) const SETTINGS: Settings = Settings {
+    mode: Mode::Single,
+    correction: false,
+    start: 0,
+    schedulers: 1,
+    processes: 2,
+    slots: 1,
+    callers: 1,
+    first: Reading { mono: 0, sys: 0 },
+};
+
+pub(crate) const EIGHT_SLOTS: Settings = Settings {
+    slots: 8,
+    ..SETTINGS
+};
+
+/// A call, and last what it has to answer.
+#[derive(Clone, Copy)]
+pub(crate) enum Step {
+    Tick(Reading, Result<Moved, ClockErr>),
+    /// A tick with a check.
+    Check(Reading, Result<Moved, ClockErr>),
+    Finalize(Reading, Result<(OffsetState, Moved), ClockErr>),
+    Monotonic(i64),
+    System(i64),
+    Offset(i64, OffsetState),
+    /// When, for which process, and with which message.
+    Start(When, u32, u64, Result<TimerRef, StartErr>),
+    Read(TimerRef, Option<u64>),
+    Cancel(TimerRef, Option<u64>),
+    IsAlive(u32, bool),
+    MarkExit(u32, bool),
+    Exit(u32, bool),
+    /// Asks for a read of a timer, for a process that wishes for an answer or doesn't.
+    Ask(TimerRef, u32, bool),
+    /// Whether a request waited.
+    Serve(bool),
+    /// To which millisecond, and how many timers expired.
+    Advance(u64, u32),
+    /// How many messages were put, and how many thrown away.
+    Deliver(u32, u32),
+    /// A last turn in which nothing was left to do, to which millisecond.
+    LastTurn(u64),
+    Take(u32, Taken),
+    Monitor(u32, Result<u32, MonitorErr>),
+    Demonitor(u32, u32, bool),
+    Tell(u32, u32),
+    /// A cancel of which the wheel is told nothing, as by a thread that doesn't hold it.
+    CancelAlone(TimerRef, Option<u64>),
+    /// How many timers of the wheel were armed, how many expired, how many were cancelled by an exit, and how many
+    /// it holds.
+    Counts([u64; 4]),
+}
+
+/// The clock moves on to this many nanoseconds after the start time, by OS system time alone.
+pub(crate) fn until(now: i64) -> Step {
+    let reading = Reading { mono: 0, sys: now };
+    Step::Tick(reading, Ok(Moved { now, shift: None }))
+}
+
+/// A timer of the wheel.
+pub(crate) fn timer(slot: u32, generation: u32) -> TimerRef {
+    TimerRef {
+        wheel: 0,
+        slot,
+        generation,
+    }
+}
+
+fn is_scheduler(rt: &impl Abort, world: &World, sched: u32)
+    ensures { sched < world.now.settings.schedulers }
+{
+    assert!(rt; sched < world.settings().schedulers);
+}
+
+fn is_process(rt: &impl Abort, world: &World, process: u32)
+    ensures { process < world.now.settings.processes }
+{
+    assert!(rt; process < world.settings().processes);
+}
+
+/// An answer is the wanted one.
+pub(crate) fn same<T: PartialEq + Debug>(rt: &impl Abort, at: usize, got: &T, want: &T) {
+    assert!(rt; got == want, "step {at}: {got:?}, not {want:?}");
+}
+
+/// Makes one step, of which a message tells the number.
+pub(crate) fn make(rt: &impl Abort, world: &mut World, at: usize, one: Step) {
+    match one {
+        Step::CancelAlone(..) | Step::Counts(_) => panic!(rt; "step {at} takes a world apart"),
+        Step::Tick(reading, want) => same(rt, at, &world.tick(reading, false), &want),
+        Step::Check(reading, want) => same(rt, at, &world.tick(reading, true), &want),
+        Step::Finalize(reading, want) => same(rt, at, &world.finalize(reading), &want),
+        Step::Monotonic(want) => same(rt, at, &world.monotonic_time(), &want),
+        Step::System(want) => same(rt, at, &world.system_time(), &want),
+        Step::Offset(offset, state) => same(rt, at, &world.time_offset(), &(offset, state)),
+        Step::Start(when, dest, msg, want) => {
+            is_scheduler(rt, world, 0);
+            is_process(rt, world, dest);
+            let start = Start {
+                when,
+                dest,
+                msg,
+                kind: Kind::Wrapped,
+            };
+            same(rt, at, &world.start(0, &start), &want);
+        }
+        Step::Read(timer, want) => same(rt, at, &world.read_timer(timer), &want),
+        Step::Cancel(timer, want) => same(rt, at, &world.cancel_timer(timer), &want),
+        Step::IsAlive(process, want) => {
+            is_process(rt, world, process);
+            same(rt, at, &world.is_alive(process), &want);
+        }
+        Step::MarkExit(process, want) => {
+            is_process(rt, world, process);
+            same(rt, at, &world.mark_exit(process), &want);
+        }
+        Step::Exit(process, want) => {
+            is_process(rt, world, process);
+            same(rt, at, &world.exit(process), &want);
+        }
+        Step::Ask(timer, reply_to, info) => {
+            is_process(rt, world, reply_to);
+            let request = Request {
+                kind: RequestKind::Read,
+                timer,
+                reply_to,
+                info,
+            };
+            same(rt, at, &world.ask(request), &Ok(()));
+        }
+        Step::Serve(waited) => {
+            is_scheduler(rt, world, 0);
+            same(rt, at, &world.serve(0), &Ok(waited));
+        }
+        Step::Advance(to, fired) => {
+            is_scheduler(rt, world, 0);
+            same(rt, at, &world.advance(0), &Ok((to, fired)));
+        }
+        Step::Deliver(put, dropped) => {
+            is_scheduler(rt, world, 0);
+            same(rt, at, &world.deliver(0), &Ok((put, dropped)));
+        }
+        Step::LastTurn(to) => {
+            is_scheduler(rt, world, 0);
+            let idle = Turned {
+                served: 0,
+                to,
+                fired: 0,
+                put: 0,
+                dropped: 0,
+            };
+            same(rt, at, &world.last_turn(0), &Ok(idle));
+        }
+        Step::Take(process, want) => {
+            is_process(rt, world, process);
+            same(rt, at, &world.take(process), &want);
+        }
+        Step::Monitor(process, want) => {
+            is_process(rt, world, process);
+            same(rt, at, &world.monitor(process), &want);
+        }
+        Step::Demonitor(process, monitor, want) => {
+            is_process(rt, world, process);
+            same(rt, at, &world.demonitor(process, monitor), &want);
+        }
+        Step::Tell(process, put) => {
+            is_process(rt, world, process);
+            same(rt, at, &world.tell(process), &Ok(put));
+        }
+    }
+}

@@ -1,0 +1,167 @@
+//! Timers of a wheel, which takes its slots from the last one on.
+use crate::steps::Step::{
+    Advance, Cancel, CancelAlone, Counts, Deliver, Exit, Finalize, IsAlive, LastTurn, MarkExit,
+    Monotonic, Offset, Read, Start, Take,
+};
+use crate::steps::{EIGHT_SLOTS, SETTINGS, timer, until};
+use crate::worlds::{Left, make_all, make_all_to_end};
+use ert_answers::{StartErr, Taken};
+use ert_clock::Moved;
+use ert_defs::OffsetState::{Final, Preliminary};
+use ert_defs::When::{After, At};
+use ert_defs::{Mail, NoMemory, Reading, TimerRef};
+
+/// The word of a slot has the status, the deadline and the generation of its last timer.
+#[test]
+fn a_cancel_and_an_exit_are_published(rt: HostRuntime) -> Result<(), NoMemory> {
+    let second = Reading {
+        mono: 0,
+        sys: 2_000_000,
+    };
+    let shifted = Moved {
+        now: 2_000_000,
+        shift: Some(0),
+    };
+    let steps = [
+        until(1_000_000),
+        Monotonic(1_000_000),
+        Start(After(5), 0, 7, Ok(timer(0, 1))),
+        Finalize(second, Ok((Preliminary, shifted))),
+        Offset(0, Final),
+        Cancel(timer(0, 1), Some(4)),
+        IsAlive(1, true),
+        MarkExit(1, true),
+        MarkExit(1, false),
+        IsAlive(1, false),
+    ];
+    let left = Left {
+        time: 2_000_000,
+        offset: 9_223_372_036_854_775_809,
+        timers: &[4 + 6 * 8 + (1 << 46)],
+        processes: &[0, 1],
+    };
+    make_all_to_end(&rt, rt.alloc(), &SETTINGS, &steps, left)
+}
+
+/// A reference of another wheel, slot or generation names no timer.
+#[test]
+fn a_reference_names_one_timer(rt: HostRuntime) -> Result<(), NoMemory> {
+    let one = timer(0, 1);
+    let wheel = TimerRef { wheel: 1, ..one };
+    let steps = [
+        Start(After(5), 0, 7, Ok(one)),
+        until(500_000),
+        Cancel(wheel, None),
+        Read(wheel, None),
+        Cancel(timer(1, 1), None),
+        Read(timer(1, 1), None),
+        Cancel(timer(0, 0), None),
+        Read(timer(0, 0), None),
+        Cancel(timer(0, 2), None),
+        Read(timer(0, 2), None),
+        Cancel(timer(0, 262_144), None),
+        Read(timer(0, 262_144), None),
+        Read(one, Some(4)),
+        Cancel(one, Some(4)),
+        Read(one, None),
+        Cancel(one, None),
+    ];
+    make_all(&rt, rt.alloc(), &SETTINGS, &steps)
+}
+
+/// Each use of a slot has a reference of its own.
+#[test]
+fn a_slot_is_used_three_times(rt: HostRuntime) -> Result<(), NoMemory> {
+    let steps = [
+        Start(After(4), 1, 0, Ok(timer(0, 1))),
+        Cancel(timer(0, 1), Some(4)),
+        Start(After(4), 1, 0, Ok(timer(0, 2))),
+        Cancel(timer(0, 2), Some(4)),
+        Start(After(4), 1, 0, Ok(timer(0, 3))),
+        Cancel(timer(0, 3), Some(4)),
+        Counts([3, 0, 0, 0]),
+    ];
+    make_all(&rt, rt.alloc(), &SETTINGS, &steps)
+}
+
+/// What a process finds of a timer.
+fn timeout(timer: TimerRef, msg: u64) -> Taken {
+    Taken::Mail(Mail::Timeout { timer, msg })
+}
+
+/// All that is due expires by one advance, in order of deadline, however long the last one was ago.
+#[test]
+fn two_hours_pass_at_once(rt: HostRuntime) -> Result<(), NoMemory> {
+    let steps = [
+        Start(After(7_200_001), 1, 1, Ok(timer(7, 1))),
+        Start(After(7_200_000), 1, 2, Ok(timer(6, 1))),
+        Start(After(1), 1, 3, Ok(timer(5, 1))),
+        Start(After(3_600_000), 1, 4, Ok(timer(4, 1))),
+        until(7_200_000_000_000),
+        Start(At(3), 1, 5, Ok(timer(3, 1))),
+        Advance(7_200_000, 4),
+        Deliver(4, 0),
+        Take(1, timeout(timer(5, 1), 3)),
+        Take(1, timeout(timer(3, 1), 5)),
+        Take(1, timeout(timer(4, 1), 4)),
+        Take(1, timeout(timer(6, 1), 2)),
+        Take(1, Taken::Empty),
+        Counts([5, 4, 0, 1]),
+    ];
+    make_all(&rt, rt.alloc(), &EIGHT_SLOTS, &steps)
+}
+
+/// An exit cancels the timers of its process alone, and one that is started later is cancelled at once.
+#[test]
+fn an_exit_cancels_the_timers_of_one_process(rt: HostRuntime) -> Result<(), NoMemory> {
+    let steps = [
+        Start(After(5), 1, 0, Ok(timer(7, 1))),
+        Start(After(5), 0, 0, Ok(timer(6, 1))),
+        Start(After(5), 1, 0, Ok(timer(5, 1))),
+        Exit(1, true),
+        Counts([3, 0, 2, 1]),
+        Read(timer(7, 1), None),
+        Read(timer(6, 1), Some(5)),
+        Read(timer(5, 1), None),
+        Start(After(4), 1, 0, Ok(timer(7, 2))),
+        Read(timer(7, 2), None),
+        Counts([4, 0, 3, 1]),
+    ];
+    make_all(&rt, rt.alloc(), &EIGHT_SLOTS, &steps)
+}
+
+/// A slot is free again once its timer was cancelled, though the wheel wasn't told, and not while its timer has
+/// expired and waits to be delivered.
+#[test]
+fn a_full_wheel_looks_at_its_slots(rt: HostRuntime) -> Result<(), NoMemory> {
+    let steps = [
+        Start(After(4), 1, 0, Ok(timer(0, 1))),
+        Start(After(4), 1, 0, Err(StartErr::Full)),
+        CancelAlone(timer(0, 1), Some(4)),
+        Start(After(6), 1, 0, Ok(timer(0, 2))),
+        Read(timer(0, 1), None),
+        Read(timer(0, 2), Some(6)),
+        until(6_000_000),
+        Advance(6, 1),
+        Start(After(4), 1, 0, Err(StartErr::Full)),
+        Deliver(1, 0),
+        Start(After(4), 1, 0, Ok(timer(0, 3))),
+    ];
+    make_all(&rt, rt.alloc(), &SETTINGS, &steps)
+}
+
+/// A wheel that wasn't told of a cancel holds the timer until a last turn looks at all that it holds.
+#[test]
+fn a_last_turn_drops_what_was_cancelled(rt: HostRuntime) -> Result<(), NoMemory> {
+    let steps = [
+        Start(After(5), 1, 0, Ok(timer(7, 1))),
+        Start(After(5), 1, 0, Ok(timer(6, 1))),
+        CancelAlone(timer(7, 1), Some(5)),
+        Advance(0, 0),
+        Counts([2, 0, 0, 2]),
+        LastTurn(0),
+        Counts([2, 0, 0, 1]),
+        Read(timer(6, 1), Some(5)),
+    ];
+    make_all(&rt, rt.alloc(), &EIGHT_SLOTS, &steps)
+}

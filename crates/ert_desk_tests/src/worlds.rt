@@ -1,0 +1,104 @@
+//! Worlds on which the steps of a table are made.
+use crate::steps::{Step, make, same};
+use ert_calls::cancel_timer;
+use ert_defs::{Actor, NoMemory, Settings, TimerRef};
+use ert_sched::World;
+use ert_table::Words;
+use ert_timers::Tally;
+use std::alloc::Global;
+use std::process::Abort;
+
+/// What a desk is left with.
+#[derive(Clone, Copy)]
+pub(crate) struct Left<'a> {
+    pub(crate) time: u64,
+    pub(crate) offset: u64,
+    pub(crate) timers: &'a [u64],
+    pub(crate) processes: &'a [u64],
+}
+
+/// A world that was just opened.
+pub(crate) fn open(rt: &impl Abort, alloc: Global, settings: &Settings) -> Result<World, NoMemory> {
+    assert!(rt; settings.check().is_ok());
+    World::open(alloc, settings)
+}
+
+/// Ends a world, and gives the words of its desk.
+pub(crate) fn close(alloc: Global, world: World) -> Result<Words, NoMemory> {
+    let (desk, pass) = world.into_desk();
+    desk.close(alloc, pass)
+}
+
+/// Opens a world, makes each step, and closes it.
+pub(crate) fn make_all(
+    rt: &impl Abort,
+    alloc: Global,
+    settings: &Settings,
+    steps: &[Step],
+) -> Result<(), NoMemory> {
+    close(alloc, run(rt, open(rt, alloc, settings)?, steps))?;
+    Ok(())
+}
+
+/// Does the same. These words are left.
+pub(crate) fn make_all_to_end(
+    rt: &impl Abort,
+    alloc: Global,
+    settings: &Settings,
+    steps: &[Step],
+    want: Left,
+) -> Result<(), NoMemory> {
+    let words = close(alloc, run(rt, open(rt, alloc, settings)?, steps))?;
+    assert!(rt; words.time == want.time, "time {}", words.time);
+    assert!(rt; words.offset == want.offset, "offset {}", words.offset);
+    same(rt, steps.len(), &words.timers.as_slice(), &want.timers);
+    same(
+        rt,
+        steps.len(),
+        &words.processes.as_slice(),
+        &want.processes,
+    );
+    Ok(())
+}
+
+/// Makes each step.
+pub(crate) fn run(rt: &impl Abort, world: World, steps: &[Step]) -> World {
+    let mut now = world;
+    for (at, one) in steps.iter().enumerate() {
+        now = next(rt, now, at, *one);
+    }
+    now
+}
+
+fn next(rt: &impl Abort, mut world: World, at: usize, one: Step) -> World {
+    match one {
+        Step::CancelAlone(timer, want) => cancel(rt, world, at, timer, want),
+        Step::Counts(want) => count(rt, world, at, want),
+        _ => {
+            make(rt, &mut world, at, one);
+            world
+        }
+    }
+}
+
+/// Cancels a timer, and tells its wheel nothing.
+fn cancel(rt: &impl Abort, world: World, at: usize, timer: TimerRef, want: Option<u64>) -> World {
+    let mut parts = world.into_parts();
+    let left = cancel_timer(&parts.desk, &mut parts.pass, Actor::Caller(0), timer);
+    same(rt, at, &left, &want);
+    World::from_parts(parts)
+}
+
+fn count(rt: &impl Abort, world: World, at: usize, want: [u64; 4]) -> World {
+    let parts = world.into_parts();
+    for part in &parts.wheels {
+        let Tally {
+            arms,
+            expires,
+            orphans,
+            rows,
+        } = part.tally();
+        same(rt, at, &[arms, expires, orphans, rows], &want);
+    }
+    World::from_parts(parts)
+}

@@ -1,8 +1,0 @@
-//! Tests of registered names, by their public calls. They stand apart from the crate that they test, so that
-//! it is proved once, and not a second time with its tests.
-#![tactic(auto)]
-
-#[cfg(test)]
-mod calls;
-#[cfg(test)]
-mod names;

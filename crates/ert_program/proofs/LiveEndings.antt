@@ -1,0 +1,64 @@
+-- How `live` ends, by what the readings made and whether it was written.
+
+use Rattle.std.proofs.Common.{◌≡◌, ◌<◌, ◌⊎◌, ℕ, List, [], ◌∷◌, ◌++◌, length, Option, None, Some, inl, inr, sym, subst, ◌∙◌, arith}
+use Rattle.ert_defs.specs.Readings.{IsValid}
+use Rattle.ert_defs.specs.declared.settings.Reading.{Reading}
+use Rattle.ert_io.specs.Faults.{Rose}
+use Rattle.ert_io.specs.Told.{took}
+use Rattle.ert_program.specs.Lives.{AreValid, LiveRefused, Watched, LiveEnds}
+use Rattle.ert_program.specs.Streams.{Clock, Output}
+use Rattle.ert_program.specs.declared.ending.Ended.{Ended}
+use Rattle.ert_program.specs.declared.ending.EndStatus.TheVariants.{Done, NoMemory}
+
+-- a reading that stands among the first of valid ones is valid
+among : (taken readings later rest : List Reading) (bad : Reading) → (taken ++ bad ∷ []) ++ rest ≡ readings ++ later → length taken < length readings
+    → AreValid readings → IsValid bad
+among taken [] later rest bad same below all = absurd (omega arith)
+among [] (r ∷ readings) later rest bad same below all = let is : r ≡ bad = cc in subst IsValid is all.0
+among (x ∷ taken) (r ∷ readings) later rest bad same below all =
+    let others : (taken ++ bad ∷ []) ++ rest ≡ readings ++ later = cc in
+    among taken readings later rest bad others (omega arith) all.1
+
+-- so no reading of valid ones is refused
+none_refused : (n : ℕ) (left now : Option (List Reading)) (text : List ℕ) (readings later : List Reading) → LiveRefused n left now text
+    → left ≡ Some (readings ++ later) → length readings ≡ n → AreValid readings → ⊥
+none_refused n left None text readings later refused told many all =
+    let same : None ≡ Some (readings ++ later) = sym refused.given ∙ told in cc
+none_refused n left (Some rest) text readings later refused told many all =
+    let both : Some ((refused.readings ++ refused.bad ∷ []) ++ rest) ≡ Some (readings ++ later) = sym refused.given ∙ told in
+    let same : (refused.readings ++ refused.bad ∷ []) ++ rest ≡ readings ++ later = cc in
+    let fewer = refused.count in
+    refused.not_valid (among refused.readings readings later rest refused.bad same (omega arith) all)
+
+completes : (n : ℕ) (c d : Clock) (e : Ended) (text : List ℕ) → Watched n c d e text → (Rose c.faults d.faults → ⊥) → (readings later : List Reading)
+    → c.left ≡ Some (readings ++ later) → length readings ≡ n → AreValid readings → (e.status ≡ Done) ⊎ (e.status ≡ NoMemory)
+completes n c d e text made sound readings later told many all =
+    elim made.only [
+      | inl done ↦ inl done
+      | inr other ↦ elim other [
+        | inl refused ↦ absurd (none_refused n c.left d.left text readings later (made.refused refused) told many all)
+        | inr failed ↦ absurd (sound (made.clock_fault failed).0)
+      ]
+    ]
+
+-- the text was written
+pub written : (n : ℕ) (c d : Clock) (o p : Output) (e : Ended) (text : List ℕ) → Watched n c d e text → p.told ≡ took o.told text → LiveEnds n c d o p e
+written n c d o p e text made writes = record {
+  done = λ how. (text, writes, made.done how);
+  no_desk = made.no_desk;
+  refused = λ how. (text, writes, made.refused how);
+  clock_fault = λ how. ((made.clock_fault how).0, (text, writes, (made.clock_fault how).1));
+  write_fault = λ how. elim made.only [
+    | inl done ↦ cc
+    | inr other ↦ elim other [ inl refused ↦ cc | inr failed ↦ cc ]
+  ];
+  no_memory = λ how. elim made.only [
+    | inl done ↦ cc
+    | inr other ↦ elim other [ inl refused ↦ cc | inr failed ↦ cc ]
+  ];
+  only = elim made.only [
+    | inl done ↦ inl done
+    | inr other ↦ elim other [ inl refused ↦ inr (inl refused) | inr failed ↦ inr (inr (inl failed)) ]
+  ];
+  complete = λ sound whole readings later told many all. completes n c d e text made sound readings later told many all;
+}

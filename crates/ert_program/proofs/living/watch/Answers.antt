@@ -1,0 +1,49 @@
+use Rattle.std.proofs.Common.{rules, arith, ◌≡◌, ◌<◌, FitsSigned, w64, to_z-of_z, string_bytes}
+use Rattle.ert_defs.specs.Readings.{IsValid}
+use Rattle.ert_io.specs.Faults.{Rose}
+use Rattle.ert_program.proofs.LivedThrough.{watched_first, watched_more, stopped_later, refused_first, refused_later, watched_all}
+use Rattle.ert_program.proofs.living.watch.Goals as goal
+
+pub returns-then-not-is_valid-clause-ok : goal.returns-then-not-is_valid-clause-ok
+returns-then-not-is_valid-clause-ok g c =
+    let not : IsValid c.in-Ok.first → ⊥ = search rules in
+    rw c.without_desk-then-not-is_valid.ensures
+    (refused_first c.args.n _ _ _ c.in-Ok.first (omega arith) c.in-Ok.ensures.given not (rw c.requires.empty at c.in_ok-write_bad_reading.ensures))
+
+pub readings-init : goal.readings-init
+readings-init g c =
+    let valid : IsValid c.in-Ok.first = search rules in
+    record { so_far = watched_first c.in-Ok.first _ _ _ _ valid c.in-Ok.ensures.given c.in_ok-world.ensures; later = c.read.ensures.later }
+
+pub returns-in_default-read-clause-ok : goal.returns-in_default-read-clause-ok
+returns-in_default-read-clause-ok g c =
+    let below : c.readings.taken < c.args.n = omega arith in
+    let rose : Rose (g.C.OsClock.faults c.args.clock.now) (g.C.OsClock.faults c.read-in-readings.new.self) = search rules in
+    rw c.without_desk-in_default-read.ensures
+    (stopped_later c.args.n _ _ c.readings.taken _ c.readings.world _ below c.readings.invariant.so_far c.in_default-read.ensures.kept rose)
+
+pub returns-then-not-is_valid-2-clause-ok : goal.returns-then-not-is_valid-2-clause-ok
+returns-then-not-is_valid-2-clause-ok g c =
+    let below : c.readings.taken < c.args.n = omega arith in
+    let not : IsValid c.in-Ok-read.reading → ⊥ = search rules in
+    rw c.without_desk-then-not-is_valid-2.ensures
+    (refused_later c.args.n _ _ c.readings.taken _ c.readings.world _ _ c.in-Ok-read.reading below c.readings.invariant.so_far c.in-Ok-read.ensures.given not
+    c.in_ok-write_bad_reading-2.ensures)
+
+pub readings-preserved : goal.readings-preserved
+readings-preserved g c =
+    let valid : IsValid c.in-Ok-read.reading = search rules in
+    let far = c.readings.invariant.so_far in
+    record {
+      so_far = watched_more c.readings.taken _ _ _ c.readings.world c.go_on.new.world _ _ c.in-Ok-read.reading c.readings.invariant.so_far valid
+          c.in-Ok-read.ensures.given (c.in_ok-go_on.ensures far.first far.others far.lived);
+      later = omega (arith, c.readings.invariant.later, c.read-in-readings.ensures.later);
+    }
+
+pub returns-clause-ok : goal.returns-clause-ok
+returns-clause-ok g c =
+    let all : c.readings.taken ≡ c.args.n = omega arith in
+    let now : FitsSigned w64 c.published.result = search rules in
+    let last = simp to_z-of_z at c.in_ok-write_end.ensures in
+    watched_all c.args.n _ _ c.readings.taken c.readings.world (string_bytes c.readings.page) _ c.into_desk.result all c.readings.invariant.so_far
+    (rw c.published.ensures at last) c.into_desk.ensures.settings c.into_desk.ensures.history c.into_desk.ensures.lived

@@ -1,0 +1,50 @@
+-- How the program ends.
+
+use Rattle.std.specs.Prelude.{◌≡◌, ℕ, ◌⊎◌, List, Option, Some, None, Result, Ok, Err, map, string_bytes, String}
+use Rattle.std.specs.declared.alloc.Global.{Global}
+use Rattle.ert_command.specs.Commands.{command_of}
+use Rattle.ert_command.specs.declared.command.Command.{Command}
+use Rattle.ert_io.specs.Faults.{Rose}
+use Rattle.ert_io.specs.Told.{took, TakesFront}
+use Rattle.ert_lines.specs.declared.output.RunErr.{RunErr}
+use Rattle.ert_lines.specs.declared.output.RunErr.TheVariants.{WriteFault as OutputFailed, NoMemory as OutOfMemory}
+use Rattle.ert_table.specs.declared.desk.Desk.{Desk}
+use Rattle.ert_table.specs.declared.desk.Pass.{Pass}
+use Rattle.ert_program.specs.Refusals.{usage_line}
+use Rattle.ert_program.specs.Streams.{Output}
+use Rattle.ert_program.specs.declared.ending.EndStatus.{EndStatus}
+use Rattle.ert_program.specs.declared.ending.Ended.{Ended}
+use Rattle.ert_program.specs.declared.ending.EndStatus.TheVariants.{Done, Usage, Refused, ReadFault, WriteFault, ClockFault, NoMemory, TooLong}
+
+-- the number of a status
+abbrev pub code_of : EndStatus → ℕ
+code_of Done = 0
+code_of Usage = 2
+code_of Refused = 3
+code_of ReadFault = 4
+code_of WriteFault = 5
+code_of ClockFault = 6
+code_of NoMemory = 7
+code_of TooLong = 8
+
+-- an end without a desk
+abbrev pub without_desk : EndStatus → Ended
+without_desk status = record { status = status; desk = None }
+
+-- the end of a run: its desk is there where it is done
+abbrev pub end_of : Result (Desk × Pass) RunErr → Ended
+end_of (Ok returned) = record { status = Done; desk = Some returned }
+end_of (Err OutputFailed) = without_desk WriteFault
+end_of (Err OutOfMemory) = without_desk NoMemory
+
+-- the command that the words of a command line are
+abbrev pub asked : List (String Global) → Option Command
+asked words = command_of (map string_bytes words)
+
+-- the usage line was written, or a first part of it
+pub record UsageEnds (o p : Output) (e : Ended) : Type 0 where
+  pub usage : e.status ≡ Usage → p.told ≡ took o.told usage_line
+  pub write_fault : e.status ≡ WriteFault → Rose o.faults p.faults × TakesFront o.told p.told usage_line
+  pub no_memory : e.status ≡ NoMemory → p ≡ o
+  pub only : (e.status ≡ Usage) ⊎ (e.status ≡ WriteFault) ⊎ (e.status ≡ NoMemory)
+  pub no_desk : e.desk ≡ None

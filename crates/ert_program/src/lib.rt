@@ -1,0 +1,22 @@
+//! What the program `ertime` does, over any source and sink of bytes, any clock and any gate: it reads a scenario
+//! of the clock and timer service, and writes one line for each reply.
+//!
+//! `ertime` is the whole program; its contract says what each status means. Its commands stand in `running`,
+//! `racing`, `living` and `stressing`. It stands on `ert_scenario`, which reads, `ert_script`, which runs the ops
+//! on a world, `ert_race`, which lets threads run lists of them, `ert_io`, and `ert_table`, whose desk it returns.
+//! The crate `ert_cli` hands it the command line and the standard streams of the machine.
+#![tactic(auto)]
+
+mod ending;
+mod in_memory;
+mod living;
+mod program;
+mod racing;
+mod refusal;
+mod running;
+mod stressing;
+
+pub use ending::{EndStatus, Ended};
+pub use in_memory::run_in_memory;
+pub use program::ertime;
+pub use running::run;

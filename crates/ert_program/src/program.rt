@@ -1,0 +1,87 @@
+ghost use Rattle.std.specs.Prelude.{◌≡◌, ◌≤◌, ◌⊎◌, ℕ, Some, None};
+ghost use Rattle.ert_command.specs.declared.command.Command.TheVariants.{Run, Race, Live, Stress};
+ghost use Rattle.ert_io.specs.Faults.{Rose};
+ghost use Rattle.ert_io.specs.Told.{told, took, TakesFront};
+ghost use Rattle.ert_program.specs.Endings.{asked, UsageEnds};
+ghost use Rattle.ert_program.specs.Lives.{LiveEnds};
+ghost use Rattle.ert_program.specs.Races.{RaceEnds};
+ghost use Rattle.ert_program.specs.Refusals.{usage_line};
+ghost use Rattle.ert_program.specs.Runs.{AllFits, RunEnds};
+ghost use Rattle.ert_program.specs.Streams.{input_of, output_of, clock_of};
+ghost use Rattle.ert_program.specs.Stresses.{StressEnds};
+
+use crate::ending::{EndStatus, Ended};
+use crate::living::live;
+use crate::racing::race;
+use crate::running::run;
+use crate::stressing::stress;
+use ert_command::{Command, command_of};
+use ert_io::{OsClock, Sink, Source, write_all};
+use ert_shared::Gate;
+use std::sync::Wait;
+use std::thread::Threads;
+
+const USAGE: &str = "usage: ertime run | race | live N | stress SEED N\n";
+
+/// The program: `words` is its command line without its name. `run` reads a scenario from the input and
+/// writes its transcript to the output; `race` lets threads do the lists of a scenario, each of which passes the
+/// gate before each of its turns, and writes the report; `live` takes readings of the clock, and writes both times after each;
+/// `stress` makes a scenario from a seed, and writes how many of its timers have which status in the end. At
+/// Done it returns the desk that the calls were made on.
+///
+/// A sink that tells its room has room for all that may be written, and then the command is `run`.
+pub fn ertime<
+    R: AllocGlobal + Threads + Wait + Sync,
+    I: Source,
+    O: Sink,
+    C: OsClock,
+    G: Gate + Sync,
+>(rt: &R, words: &[String], input: &mut I, output: &mut O, clock: &mut C, gate: &G) -> Ended
+    requires { AllFits (asked words.now) (I.left input.old) (O.room output.old) }
+    ensures run { asked words.now ≡ Some Run
+        → RunEnds (input_of (I.left input.old) (I.faults input.old)) (input_of (I.left input.new) (I.faults input.new))
+        (output_of (O.taken output.old) (O.room output.old) (O.faults output.old)) (output_of (O.taken output.new) (O.room output.new) (O.faults output.new)) result }
+    ensures race { asked words.now ≡ Some Race
+        → RaceEnds (input_of (I.left input.old) (I.faults input.old)) (input_of (I.left input.new) (I.faults input.new))
+        (output_of (O.taken output.old) (O.room output.old) (O.faults output.old)) (output_of (O.taken output.new) (O.room output.new) (O.faults output.new)) result }
+    ensures live { (n : ℕ) → asked words.now ≡ Some (Live n)
+        → LiveEnds n (clock_of (C.left clock.old) (C.faults clock.old)) (clock_of (C.left clock.new) (C.faults clock.new))
+        (output_of (O.taken output.old) (O.room output.old) (O.faults output.old)) (output_of (O.taken output.new) (O.room output.new) (O.faults output.new)) result }
+    ensures stress { (seed n : ℕ) → asked words.now ≡ Some (Stress seed n)
+        → StressEnds seed n (output_of (O.taken output.old) (O.room output.old) (O.faults output.old)) (output_of (O.taken output.new) (O.room output.new) (O.faults output.new)) result }
+    ensures usage { asked words.now ≡ None
+        → UsageEnds (output_of (O.taken output.old) (O.room output.old) (O.faults output.old)) (output_of (O.taken output.new) (O.room output.new) (O.faults output.new)) result }
+
+    // Only `run` and `race` read the input, and only `live` the clock.
+    ensures unread { (asked words.now ≡ Some Run → ⊥) → (asked words.now ≡ Some Race → ⊥) → input.new ≡ input.old }
+    ensures untaken { ((n : ℕ) → asked words.now ≡ Some (Live n) → ⊥) → clock.new ≡ clock.old }
+    ensures later { I.faults input.old ≤ I.faults input.new }
+    ensures later_out { O.faults output.old ≤ O.faults output.new }
+    ensures later_clock { C.faults clock.old ≤ C.faults clock.new }
+{
+    let Ok(command) = command_of(rt.alloc(), words) else {
+        return Ended::without_desk(EndStatus::NoMemory);
+    };
+    match command {
+        Some(Command::Run) => run(rt.alloc(), input, output),
+        Some(Command::Race) => race(rt, rt.alloc(), input, output, gate),
+        Some(Command::Live(n)) => live(rt.alloc(), n, clock, output),
+        Some(Command::Stress { seed, n }) => Ended::of_run(stress(rt.alloc(), seed, n, output)),
+        None => Ended::without_desk(usage(output)),
+    }
+}
+
+/// Writes the usage line.
+fn usage<O: Sink>(output: &mut O) -> EndStatus
+    requires { O.room output.old ≡ None }
+    ensures which { (result ≡ EndStatus.Usage) ⊎ (result ≡ EndStatus.WriteFault) }
+    ensures usage { result ≡ EndStatus.Usage → told (O.taken output.new) (O.room output.new) ≡ took (told (O.taken output.old) (O.room output.old)) usage_line }
+    ensures write_fault { result ≡ EndStatus.WriteFault → TakesFront (told (O.taken output.old) (O.room output.old)) (told (O.taken output.new) (O.room output.new)) usage_line }
+    ensures later { O.faults output.old ≤ O.faults output.new }
+    ensures cause { result ≡ EndStatus.WriteFault → Rose (O.faults output.old) (O.faults output.new) }
+{
+    match write_all(output, USAGE.as_bytes()) {
+        Ok(()) => EndStatus::Usage,
+        Err(_) => EndStatus::WriteFault,
+    }
+}

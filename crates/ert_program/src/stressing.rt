@@ -1,0 +1,72 @@
+//! The command `stress`.
+ghost use Rattle.std.specs.Prelude.{◌≡◌, ◌≤◌, ◌++◌, None, IfOk, OnOk, IsErrOf, string_bytes};
+ghost use Rattle.ert_defs.specs.States.{state};
+ghost use Rattle.ert_generate.specs.Generated.{generated};
+ghost use Rattle.ert_io.specs.Faults.{Rose};
+ghost use Rattle.ert_io.specs.Told.{told, TakesFront};
+ghost use Rattle.ert_laws.specs.Counts.{counts_of};
+ghost use Rattle.ert_sched.specs.Counted.{AreTidy};
+ghost use Rattle.ert_program.specs.Stresses.{summary, summary_of, CountsOn, HasRun};
+
+use ert_defs::NoMemory;
+use ert_generate::{generate, generated_scenarios_are_valid};
+use ert_io::Sink;
+use ert_lines::{RunErr, write_end, write_page};
+use ert_sched::World;
+use ert_script::{do_ops, write_settled};
+use ert_table::{Desk, Pass};
+use std::alloc::{AllocError, Global};
+
+/// Runs the scenario of a seed with `n` ops, writes how many of its timers have which status in the end,
+/// and gives the desk that it was run on. The sink tells no room.
+pub fn stress<O: Sink>(
+    alloc: Global,
+    seed: u64,
+    n: u64,
+    output: &mut O,
+) -> Result<(Desk, Pass), RunErr>
+    requires room { O.room output.old ≡ None }
+    requires count { n ≤ 100000 }
+    ensures ok { IfOk result (λ r. CountsOn (generated seed n) (told (O.taken output.old) (O.room output.old)) (told (O.taken output.new) (O.room output.new)) r) }
+    ensures write_fault { IsErrOf result RunErr.WriteFault
+        → TakesFront (told (O.taken output.old) (O.room output.old)) (told (O.taken output.new) (O.room output.new)) (summary (generated seed n)) }
+    ensures no_memory { IsErrOf result RunErr.NoMemory → output.new ≡ output.old }
+    ensures later { O.faults output.old ≤ O.faults output.new }
+    ensures cause { IsErrOf result RunErr.WriteFault → Rose (O.faults output.old) (O.faults output.new) }
+{
+    generated_scenarios_are_valid();
+    let Ok(world) = run_generated(alloc, seed, n) else {
+        return Err(RunErr::NoMemory);
+    };
+    let mut page = String::new(alloc);
+    if write_summary(&mut page, &world).is_err() {
+        return Err(RunErr::NoMemory);
+    }
+    match write_page(output, &mut page) {
+        Ok(()) => Ok(world.into_desk()),
+        Err(_) => Err(RunErr::WriteFault),
+    }
+}
+
+/// A world that the ops of the scenario were done on.
+fn run_generated(alloc: Global, seed: u64, n: u64) -> Result<World, NoMemory>
+    requires { n ≤ 100000 }
+    ensures { IfOk result (HasRun (generated seed n)) }
+{
+    generated_scenarios_are_valid();
+    let scenario = generate(alloc, seed, n)?;
+    let mut world = World::open(alloc, &scenario.settings)?;
+    do_ops(alloc, &mut world, &scenario.ops)?;
+    Ok(world)
+}
+
+/// Appends how many timers have which status, and the end line.
+fn write_summary(page: &mut String, world: &World) -> Result<(), AllocError>
+    requires { AreTidy world.now }
+    ensures { OnOk result (string_bytes page.new ≡ string_bytes page.old
+        ++ summary_of (counts_of world.now.settings (state world.now.settings world.now.history)) world.now.clock.face.time) }
+{
+    let counts = world.counts();
+    write_settled(page, &counts)?;
+    write_end(page, world.published())
+}

@@ -1,4 +1,0 @@
-use Rattle.ert_shared_tests.proofs.every_call.each_call_of_a_service.Given as goal
-
-abbrev pub ghosts-each_call : goal.ghosts-each_call
-ghosts-each_call g a = record { table = a.parts.desk.table.shared.table_id; settings = a.parts.desk.settings }

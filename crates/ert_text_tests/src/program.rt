@@ -1,0 +1,292 @@
+//! The program `ertime` over streams in memory and a clock of given readings: how it ends, and what was written.
+ghost use Rattle.std.specs.Prelude.{◌≤◌};
+
+mod clock_rows;
+mod in_memory;
+mod live;
+mod race;
+mod refused_rows;
+mod timer_rows;
+
+use ert_defs::Reading;
+use ert_io::{Failed, MemClock, MemSink, MemSource, Source};
+use ert_program::{EndStatus, Ended, ertime};
+use ert_shared::FreeGate;
+use std::alloc::{AllocError, Global};
+use std::sync::Wait;
+use std::test::Fail;
+use std::thread::Threads;
+
+/// Forward and backward leaps of the OS clock, and the transcript: 98 bytes.
+const LEAP: &str =
+    r#"{"format":1,"correction":false,"first":[0,10000000000],"ops":[["tick",0,12000000000],["tick",0,11000000000],["time"],["tick",0,13000000000],["system"]]}"#;
+
+const LEAP_TEXT: &str =
+    "tick 2000000000\ntick 2000000000\ntime 2000000000\ntick 3000000000\nsystem 13000000000\nend 3000000000\n";
+
+const USAGE: &str = "usage: ertime run | race | live N | stress SEED N\n";
+
+/// What a run is given: its words, its input, the readings of its clock, the call of each of the three that fails,
+/// from 1, or 0 for none, and the most bytes that one write takes.
+#[derive(Clone, Copy)]
+struct Given<'a> {
+    words: &'a [&'a str],
+    text: &'a [u8],
+    readings: &'a [(i64, i64)],
+    read: u32,
+    write: u32,
+    reading: u32,
+    piece: usize,
+}
+
+/// A run of these words in which nothing fails.
+fn sound<'a>(words: &'a [&'a str], text: &'a [u8]) -> Given<'a>
+    ensures { 1 ≤ result.piece }
+{
+    Given {
+        words,
+        text,
+        readings: &[],
+        read: 0,
+        write: 0,
+        reading: 0,
+        piece: 7,
+    }
+}
+
+fn strings(alloc: Global, words: &[&str]) -> Result<Vec<String>, AllocError> {
+    let mut all = Vec::new(alloc);
+    for word in words {
+        all.push(String::from_str(alloc, word)?)?;
+    }
+    Ok(all)
+}
+
+fn clock_of(alloc: Global, readings: &[(i64, i64)], fails: u32) -> Result<MemClock, AllocError> {
+    let mut all = Vec::new(alloc);
+    for (mono, sys) in readings {
+        all.push(Reading {
+            mono: *mono,
+            sys: *sys,
+        })?;
+    }
+    Ok(MemClock::new(all, vec![in alloc; fails]?))
+}
+
+/// The program over these words, a source and a sink, with a clock.
+fn run<R: AllocGlobal + Threads + Wait + Sync, I: Source>(
+    rt: &R,
+    words: &[&str],
+    input: &mut I,
+    output: &mut MemSink,
+    mut clock: MemClock,
+) -> Result<Ended, AllocError> {
+    let words = strings(rt.alloc(), words)?;
+    Ok(ertime(rt, words.as_slice(), input, output, &mut clock, &FreeGate))
+}
+
+/// The status and the output of a run.
+fn end_of<R: AllocGlobal + Threads + Wait + Sync>(
+    rt: &R,
+    given: Given,
+) -> Result<(EndStatus, String), AllocError>
+    requires { 1 ≤ given.piece }
+{
+    let alloc = rt.alloc();
+    let mut input = MemSource::new(given.text.to_vec(alloc)?, vec![in alloc; given.read]?);
+    let mut output = MemSink::new(alloc, given.piece, vec![in alloc; given.write]?);
+    let clock = clock_of(alloc, given.readings, given.reading)?;
+    let ended = run(rt, given.words, &mut input, &mut output, clock)?;
+    Ok((
+        ended.status,
+        String::from_utf8_lossy(alloc, output.bytes())?,
+    ))
+}
+
+/// Whether a run ends with a status and these lines.
+fn ends<R: AllocGlobal + Threads + Wait + Sync>(
+    rt: &R,
+    given: Given,
+    status: EndStatus,
+    lines: &str,
+) -> Result<bool, AllocError>
+    requires { 1 ≤ given.piece }
+{
+    let (ended, written) = end_of(rt, given)?;
+    Ok(ended == status && written.as_str() == lines)
+}
+
+/// Whether a run ends with a status after the first bytes of some lines, so many of them.
+fn ends_within<R: AllocGlobal + Threads + Wait + Sync>(
+    rt: &R,
+    given: Given,
+    status: EndStatus,
+    length: usize,
+    lines: &[&str],
+) -> Result<bool, AllocError>
+    requires { 1 ≤ given.piece }
+{
+    let (ended, written) = end_of(rt, given)?;
+    let text = written.as_str();
+    Ok(ended == status && text.len() == length && lines.iter().any(|all| all.starts_with(text)))
+}
+
+/// The text of a scenario.
+fn scenario(alloc: Global, format: u32, fields: &str, ops: &str) -> Result<String, AllocError> {
+    format!(in alloc; "{{\"format\":{format},{fields},\"ops\":[{ops}]}}")
+}
+
+#[test]
+fn writes_transcripts_and_refusals(rt: HostRuntime) -> Result<(), Fail> {
+    for (format, rows, status) in [
+        (1, clock_rows::ROWS.as_slice(), EndStatus::Done),
+        (1, timer_rows::ROWS.as_slice(), EndStatus::Done),
+        (2, timer_rows::BARE_ROWS.as_slice(), EndStatus::Done),
+        (1, refused_rows::ROWS.as_slice(), EndStatus::Refused),
+    ] {
+        for (fields, ops, lines) in rows {
+            let text = scenario(rt.alloc(), format, fields, ops)?;
+            let given = sound(&["run"], text.as_bytes());
+            assert!(rt; ends(&rt, given, status, lines)?, "at {text}");
+        }
+    }
+    Ok(())
+}
+
+#[test]
+fn refuses_other_texts(rt: HostRuntime) -> Result<(), Fail> {
+    for (text, line) in refused_rows::TEXTS {
+        let given = sound(&["run"], text.as_bytes());
+        assert!(rt; ends(&rt, given, EndStatus::Refused, line)?, "at {text}");
+    }
+    // A byte that begins no character, and brackets that are nested too deeply.
+    let deep = [[b'['; 200], [b']'; 200]].concat(rt.alloc())?;
+    for text in [&[255], deep.as_slice()] {
+        let given = sound(&["run"], text);
+        assert!(rt; ends(&rt, given, EndStatus::Refused, "refused json\n")?);
+    }
+    Ok(())
+}
+
+/// A text, so many times, with commas between.
+fn repeated(alloc: Global, op: &str, count: usize) -> Result<String, AllocError> {
+    let mut ops = String::from_str(alloc, op)?;
+    for _ in 1..count {
+        ops.push_str(",")?;
+        ops.push_str(op)?;
+    }
+    Ok(ops)
+}
+
+#[test]
+fn takes_64_monitors_and_100_000_ops(rt: HostRuntime) -> Result<(), Fail> {
+    for (op, count, status, tail) in [
+        (
+            r#"["monitor",0]"#,
+            65,
+            EndStatus::Done,
+            "\nmonitor 63\nmonitor full\nend 0\n",
+        ),
+        (
+            r#"["time"]"#,
+            100_001,
+            EndStatus::Refused,
+            "refused limit 0\n",
+        ),
+    ] {
+        let ops = repeated(rt.alloc(), op, count)?;
+        let text = scenario(rt.alloc(), 1, r#""first":[0,0]"#, ops.as_str())?;
+        let (ended, written) = end_of(&rt, sound(&["run"], text.as_bytes()))?;
+        let is_right = ended == status && written.as_str().ends_with(tail);
+        assert!(rt; is_right, "at {op}: {written}");
+    }
+    Ok(())
+}
+
+#[test]
+fn refuses_other_command_lines(rt: HostRuntime) -> Result<(), Fail> {
+    let lines: [&[&str]; 7] = [
+        &[],
+        &[""],
+        &["run", "run"],
+        &["live", "0"],
+        &["live", "+5"],
+        &["stress", "1", "100001"],
+        &["--help"],
+    ];
+    for words in lines {
+        let given = sound(words, LEAP.as_bytes());
+        assert!(rt; ends(&rt, given, EndStatus::Usage, USAGE)?);
+    }
+    let mut fails = sound(&[], &[]);
+    fails.write = 1;
+    assert!(rt; ends(&rt, fails, EndStatus::WriteFault, "")?);
+    Ok(())
+}
+
+#[test]
+fn stops_at_a_failed_write(rt: HostRuntime) -> Result<(), Fail> {
+    // The text has 98 bytes, and each write takes one.
+    for write in 1..=99 {
+        let mut given = sound(&["run"], LEAP.as_bytes());
+        given.write = write;
+        given.piece = 1;
+        let (status, length) = match write {
+            99 => (EndStatus::Done, 98),
+            _ => (EndStatus::WriteFault, write as usize - 1),
+        };
+        let is_right = ends_within(&rt, given, status, length, &[LEAP_TEXT])?;
+        assert!(rt; is_right, "at {write}");
+    }
+    Ok(())
+}
+
+#[test]
+fn stops_at_a_failed_read(rt: HostRuntime) -> Result<(), Fail> {
+    // The first call gives the whole text, and the second its end.
+    for (read, status, lines) in [
+        (1, EndStatus::ReadFault, ""),
+        (2, EndStatus::ReadFault, ""),
+        (3, EndStatus::Done, LEAP_TEXT),
+    ] {
+        let mut given = sound(&["run"], LEAP.as_bytes());
+        given.read = read;
+        assert!(rt; ends(&rt, given, status, lines)?, "at {read}");
+    }
+    Ok(())
+}
+
+/// So many spaces.
+#[derive(Drop)]
+struct Spaces {
+    left: usize,
+}
+
+impl Source for Spaces {
+    ghost faults = { λ _. 0 };
+
+    fn read(&mut self, buf: &mut [u8]) -> Result<usize, Failed> {
+        let count = self.left.min(buf.len());
+        for byte in buf.iter_mut() {
+            *byte = b' ';
+        }
+        self.left -= count;
+        Ok(count)
+    }
+}
+
+#[test]
+fn refuses_a_long_input(rt: HostRuntime) -> Result<(), Fail> {
+    for (count, status, line) in [
+        (16_777_216, EndStatus::Refused, "refused json\n"),
+        (16_777_217, EndStatus::TooLong, ""),
+    ] {
+        let mut input = Spaces { left: count };
+        let mut output = MemSink::new(rt.alloc(), 100, Vec::new(rt.alloc()));
+        let clock = clock_of(rt.alloc(), &[], 0)?;
+        let ended = run(&rt, &["run"], &mut input, &mut output, clock)?;
+        let is_right = ended.status == status && output.bytes() == line.as_bytes();
+        assert!(rt; is_right, "at {count}");
+    }
+    Ok(())
+}

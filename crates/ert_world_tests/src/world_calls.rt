@@ -1,0 +1,169 @@
+//! Each call of a world whose wheels are tidy. What a caller has to know is looked up first.
+ghost use Rattle.std.specs.Prelude.{◌<◌, IfOk};
+ghost use Rattle.ert_sched.specs.Counted.{AreTidy};
+
+use ert_answers::{StartErr, Taken, Turned};
+use ert_clock::{ClockErr, Moved};
+use ert_defs::{NoMemory, Reading, Request, RequestKind, Settings, Start, TimerRef};
+use ert_sched::World;
+use std::alloc::Global;
+use std::process::Abort;
+
+/// A world that was just opened.
+pub(crate) fn open(rt: &impl Abort, alloc: Global, settings: &Settings) -> Result<World, NoMemory>
+    ensures { IfOk result AreTidy }
+{
+    assert!(rt; settings.check().is_ok());
+    World::open(alloc, settings)
+}
+
+fn is_scheduler(rt: &impl Abort, world: &World, sched: u32)
+    ensures { sched < world.now.settings.schedulers }
+{
+    assert!(rt; sched < world.settings().schedulers);
+}
+
+fn is_process(rt: &impl Abort, world: &World, process: u32)
+    ensures { process < world.now.settings.processes }
+{
+    assert!(rt; process < world.settings().processes);
+}
+
+/// A reading of OS system time alone.
+#[tactic(auto, using(crate::proofs::Tidiness::still_tidy))]
+pub(crate) fn tick(world: &mut World, sys: i64) -> Result<Moved, ClockErr>
+    requires { AreTidy world.old }
+    ensures { AreTidy world.new }
+{
+    world.tick(Reading { mono: 0, sys }, false)
+}
+
+#[tactic(auto, using(crate::proofs::Tidiness::still_tidy))]
+pub(crate) fn start(
+    rt: &impl Abort,
+    world: &mut World,
+    wheel: u32,
+    start: &Start,
+) -> Result<TimerRef, StartErr>
+    requires { AreTidy world.old }
+    ensures { AreTidy world.new }
+{
+    is_scheduler(rt, world, wheel);
+    is_process(rt, world, start.dest);
+    world.start(wheel, start)
+}
+
+#[tactic(auto, using(crate::proofs::Tidiness::still_tidy))]
+pub(crate) fn cancel(world: &mut World, timer: TimerRef) -> Option<u64>
+    requires { AreTidy world.old }
+    ensures { AreTidy world.new }
+{
+    world.cancel_timer(timer)
+}
+
+#[tactic(auto, using(crate::proofs::Tidiness::still_tidy))]
+pub(crate) fn read(world: &mut World, timer: TimerRef) -> Option<u64>
+    requires { AreTidy world.old }
+    ensures { AreTidy world.new }
+{
+    world.read_timer(timer)
+}
+
+#[tactic(auto, using(crate::proofs::Tidiness::still_tidy))]
+pub(crate) fn mark_exit(rt: &impl Abort, world: &mut World, process: u32) -> bool
+    requires { AreTidy world.old }
+    ensures { AreTidy world.new }
+{
+    is_process(rt, world, process);
+    world.mark_exit(process)
+}
+
+#[tactic(auto, using(crate::proofs::Tidiness::still_tidy))]
+pub(crate) fn exit(rt: &impl Abort, world: &mut World, process: u32) -> bool
+    requires { AreTidy world.old }
+    ensures { AreTidy world.new }
+{
+    is_process(rt, world, process);
+    world.exit(process)
+}
+
+/// Asks for a cancel or a read of a timer, with an answer to the process.
+#[tactic(auto, using(crate::proofs::Tidiness::still_tidy))]
+pub(crate) fn ask(
+    rt: &impl Abort,
+    world: &mut World,
+    kind: RequestKind,
+    timer: TimerRef,
+    reply_to: u32,
+) -> Result<(), NoMemory>
+    requires { AreTidy world.old }
+    ensures { AreTidy world.new }
+{
+    is_process(rt, world, reply_to);
+    world.ask(Request {
+        kind,
+        timer,
+        reply_to,
+        info: true,
+    })
+}
+
+#[tactic(auto, using(crate::proofs::Tidiness::still_tidy))]
+pub(crate) fn take(rt: &impl Abort, world: &mut World, process: u32) -> Taken
+    requires { AreTidy world.old }
+    ensures { AreTidy world.new }
+{
+    is_process(rt, world, process);
+    world.take(process)
+}
+
+#[tactic(auto, using(crate::proofs::Tidiness::still_tidy))]
+pub(crate) fn serve(rt: &impl Abort, world: &mut World, sched: u32) -> Result<bool, NoMemory>
+    requires { AreTidy world.old }
+    ensures { AreTidy world.new }
+{
+    is_scheduler(rt, world, sched);
+    world.serve(sched)
+}
+
+#[tactic(auto, using(crate::proofs::Tidiness::still_tidy))]
+pub(crate) fn advance(
+    rt: &impl Abort,
+    world: &mut World,
+    sched: u32,
+) -> Result<(u64, u32), NoMemory>
+    requires { AreTidy world.old }
+    ensures { AreTidy world.new }
+{
+    is_scheduler(rt, world, sched);
+    world.advance(sched)
+}
+
+#[tactic(auto, using(crate::proofs::Tidiness::still_tidy))]
+pub(crate) fn deliver(
+    rt: &impl Abort,
+    world: &mut World,
+    sched: u32,
+) -> Result<(u32, u32), NoMemory>
+    requires { AreTidy world.old }
+    ensures { AreTidy world.new }
+{
+    is_scheduler(rt, world, sched);
+    world.deliver(sched)
+}
+
+pub(crate) fn turn(rt: &impl Abort, world: &mut World, sched: u32) -> Result<Turned, NoMemory>
+    requires { AreTidy world.old }
+    ensures { AreTidy world.new }
+{
+    is_scheduler(rt, world, sched);
+    world.turn(sched)
+}
+
+pub(crate) fn last_turn(rt: &impl Abort, world: &mut World, sched: u32) -> Result<Turned, NoMemory>
+    requires { AreTidy world.old }
+    ensures { AreTidy world.new }
+{
+    is_scheduler(rt, world, sched);
+    world.last_turn(sched)
+}
