@@ -1,0 +1,184 @@
+%% @private
+%% Waits until the processes of a clock rest: each waits for a message, and what they monitor does too, as a server that
+%% they call. Two looks at each find the same count of reductions, so at the moment between them all of them rested.
+%%
+%% The processes of a clock are those that have called it, and those that would see it if they did. New ones are found by
+%% their numbers, which the runtime gives in order: a process that is spawned for nothing tells how far they have come.
+-module(ertime_rest).
+
+-export([wait/1]).
+
+-define(KEY, '$ertime_rest').
+-define(YIELDS, 200).
+-define(GRACE, 20).
+-define(MOST_NEW, 2000).
+
+-record(known, {
+    clock,
+    members = #{},  % pid => {reductions when its monitors were asked for, what it monitors}
+    pending = [],   % {pid, how often it was looked at}: new, and it hasn't waited for anything yet
+    last = none     % the number of the newest process
+}).
+
+wait(Clock) ->
+    Known =
+        case get(?KEY) of
+            #known{clock = Clock} = Before -> Before;
+            _ -> #known{clock = Clock}
+        end,
+    Limit = application:get_env(ertime, rest_limit, 5000),
+    put(?KEY, loop(Known, 0, erlang:monotonic_time(millisecond) + Limit)),
+    ok.
+
+loop(Known0, Round, Until) ->
+    {Known1, _, Busy1} = pass(Known0),
+    case Busy1 of
+        [] ->
+            {Known2, Busy2} = monitored(Known1),
+            {Known3, Reductions, Busy3} = pass(Known2),
+            case Busy2 =:= [] andalso Busy3 =:= [] andalso same(Known2#known.members, Reductions) of
+                true -> Known3;
+                false -> again(Known3, Busy2 ++ Busy3, Round, Until)
+            end;
+        _ ->
+            again(Known1, Busy1, Round, Until)
+    end.
+
+again(Known, _, Round, Until) when Round < ?YIELDS ->
+    erlang:yield(),
+    loop(Known, Round + 1, Until);
+again(Known, Busy, Round, Until) ->
+    case erlang:monotonic_time(millisecond) < Until of
+        true ->
+            receive
+            after 1 -> loop(Known, Round + 1, Until)
+            end;
+        false ->
+            erase(?KEY),
+            error({not_at_rest, [describe(Pid) || Pid <- lists:usort(Busy)]})
+    end.
+
+same(Members, Reductions) ->
+    lists:all(
+        fun({Pid, Count}) ->
+            case Members of
+                #{Pid := {Count, _}} -> true;
+                _ -> false
+            end
+        end,
+        maps:to_list(Reductions)
+    ).
+
+pass(Known0) ->
+    Known = #known{members = Members, pending = Pending} = join(discover(Known0)),
+    Self = self(),
+    {Alive, Reductions, Busy} = maps:fold(
+        fun
+            (Pid, _, Sum) when Pid =:= Self -> Sum;
+            (Pid, Seen, {Live, Counts, Work}) ->
+                case process_info(Pid, [status, reductions]) of
+                    undefined -> {Live, Counts, Work};
+                    [{_, Status}, {_, Count}] when Status =:= waiting; Status =:= suspended ->
+                        {Live#{Pid => Seen}, Counts#{Pid => Count}, Work};
+                    _ ->
+                        {Live#{Pid => Seen}, Counts, [Pid | Work]}
+                end
+        end,
+        {#{}, #{}, []},
+        Members
+    ),
+    {Known#known{members = Alive}, Reductions, Busy ++ [Pid || {Pid, Looks} <- Pending, Looks < ?GRACE]}.
+
+join(Known = #known{clock = Clock, members = Members}) ->
+    Joined = lists:foldl(
+        fun
+            (Pid, Sum) when is_map_key(Pid, Sum) -> Sum;
+            (Pid, Sum) -> Sum#{Pid => {none, []}}
+        end,
+        Members,
+        ertime_nif:members(Clock)
+    ),
+    Known#known{members = Joined}.
+
+%% --- what members monitor -----------------------------------------------------------------------------------------
+
+monitored(Known = #known{members = Members}) ->
+    Asked = maps:map(fun ask/2, Members),
+    Others = lists:usort([Pid || {_, Pids} <- maps:values(Asked), Pid <- Pids, not is_map_key(Pid, Members), Pid =/= self()]),
+    {Known#known{members = Asked}, [Pid || Pid <- Others, not waits(Pid)]}.
+
+waits(Pid) ->
+    case process_info(Pid, status) of
+        undefined -> true;
+        {_, waiting} -> true;
+        {_, suspended} -> true;
+        _ -> false
+    end.
+
+ask(Pid, Seen = {Count, _}) ->
+    case process_info(Pid, reductions) of
+        {_, Count} ->
+            Seen;
+        _ ->
+            case process_info(Pid, monitors) of
+                {monitors, Monitors} -> {reductions(Pid), lists:append([pid_of(M) || M <- Monitors])};
+                undefined -> Seen
+            end
+    end.
+
+reductions(Pid) ->
+    case process_info(Pid, reductions) of
+        {_, Count} -> Count;
+        undefined -> none
+    end.
+
+pid_of({process, Pid}) when is_pid(Pid), node(Pid) =:= node() -> [Pid];
+pid_of({process, {Name, Node}}) when Node =:= node() -> [P || P <- [whereis(Name)], is_pid(P)];
+pid_of(_) -> [].
+
+%% --- new processes ------------------------------------------------------------------------------------------------
+
+discover(Known = #known{last = Last, pending = Pending}) ->
+    Newest = spawn(fun() -> ok end),
+    Number = number(Newest),
+    New =
+        case between(Last, Number) of
+            all -> processes();
+            Pids -> Pids
+        end,
+    lists:foldl(
+        fun classify/2,
+        Known#known{last = Number, pending = []},
+        [{Pid, 0} || Pid <- New, Pid =/= Newest] ++ Pending
+    ).
+
+classify({Pid, _}, Known) when Pid =:= self(); is_map_key(Pid, Known#known.members) ->
+    Known;
+classify({Pid, Looks}, Known = #known{clock = Clock, members = Members, pending = Pending}) ->
+    Status = process_info(Pid, status),
+    case Status =/= undefined andalso ertime_use:clock_of(Pid) of
+        false -> Known;
+        Clock -> Known#known{members = Members#{Pid => {none, []}}};
+        _ when Status =:= {status, waiting} -> Known;
+        _ when Looks < ?GRACE -> Known#known{pending = [{Pid, Looks + 1} | Pending]};
+        _ -> Known
+    end.
+
+%% The processes whose numbers are between these two, as far as they are alive.
+between({First, Serial}, {Last, Serial}) when Last > First, Last - First < ?MOST_NEW ->
+    [list_to_pid("<0." ++ integer_to_list(N) ++ "." ++ integer_to_list(Serial) ++ ">") || N <- lists:seq(First + 1, Last - 1)];
+between(_, _) ->
+    all.
+
+number(Pid) ->
+    [_, Number, Serial] = string:lexemes(pid_to_list(Pid), "<>."),
+    {list_to_integer(Number), list_to_integer(Serial)}.
+
+%% --- the error ----------------------------------------------------------------------------------------------------
+
+describe(Pid) ->
+    Items = [registered_name, status, current_function, initial_call, message_queue_len],
+    case process_info(Pid, Items) of
+        undefined -> {Pid, exited};
+        Info -> {Pid, [Item || Item <- Info, Item =/= {registered_name, []}]}
+    end.
