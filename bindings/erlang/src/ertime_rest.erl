@@ -1,9 +1,15 @@
 %% @private
 %% Waits until the processes of a clock rest: each waits for a message, and what they monitor does too, as a server that
-%% they call. Two looks at each find the same count of reductions, so at the moment between them all of them rested.
+%% they call.
 %%
-%% The processes of a clock are those that have called it, and those that would see it if they did. New ones are found by
-%% their numbers, which the runtime gives in order: a process that is spawned for nothing tells how far they have come.
+%% Where nothing else runs on the node, they do. That is seen at one moment: between two equal counts of context switches no
+%% process was scheduled in, and of two counts of active tasks in between each found the calling process alone, so none was
+%% running, or became runnable, in between.
+%%
+%% Where others are busy, the processes of the clock are looked at: those that have called it, and those that would see it if
+%% they did. Two looks at each find the same count of reductions, so at the moment between them all of them rested. New
+%% processes are found by their numbers, which the runtime gives in order: one that is spawned for nothing tells how far they
+%% have come.
 -module(ertime_rest).
 
 -export([wait/1]).
@@ -30,7 +36,20 @@ wait(Clock) ->
     put(?KEY, loop(Known, 0, erlang:monotonic_time(millisecond) + Limit)),
     ok.
 
-loop(Known0, Round, Until) ->
+loop(Known = #known{members = Members}, Round, Until) ->
+    case is_idle() of
+        true -> Known;
+        false when Round rem (1 + map_size(Members) div 10) =:= map_size(Members) div 10 -> look(Known, Round, Until);
+        false -> again(Known, [], Round, Until)
+    end.
+
+is_idle() ->
+    {Switches, _} = erlang:statistics(context_switches),
+    erlang:statistics(total_active_tasks_all) =:= 1 andalso
+        erlang:statistics(total_active_tasks_all) =:= 1 andalso
+        {Switches, 0} =:= erlang:statistics(context_switches).
+
+look(Known0, Round, Until) ->
     {Known1, _, Busy1} = pass(Known0),
     case Busy1 of
         [] ->
@@ -53,6 +72,8 @@ again(Known, Busy, Round, Until) ->
             receive
             after 1 -> loop(Known, Round + 1, Until)
             end;
+        false when Busy =:= [] ->
+            look(Known, Round, Until);
         false ->
             erase(?KEY),
             error({not_at_rest, [describe(Pid) || Pid <- lists:usort(Busy)]})
