@@ -2,9 +2,9 @@
 %% Waits until the processes of a clock rest: each waits for a message, and what they monitor does too, as a server that
 %% they call.
 %%
-%% Where nothing else runs on the node, they do. That is seen at one moment: between two equal counts of context switches no
-%% process was scheduled in, and of two counts of active tasks in between each found the calling process alone, so none was
-%% running, or became runnable, in between.
+%% Where nothing else runs on the node, they do. That is seen at one moment: between two counts of context switches the
+%% calling process alone was scheduled in, and the counts of active tasks in between found it alone, so no other was running
+%% or runnable. It yields once, since it may have a signal to answer for which another waits.
 %%
 %% Where others are busy, the processes of the clock are looked at: those that have called it, and those that would see it if
 %% they did. Two looks at each find the same count of reductions, so at the moment between them all of them rested. New
@@ -45,16 +45,18 @@ loop(Known = #known{members = Members}, Round, Until) ->
 
 is_idle() ->
     {Switches, _} = erlang:statistics(context_switches),
-    erlang:statistics(total_active_tasks_all) =:= 1 andalso
-        erlang:statistics(total_active_tasks_all) =:= 1 andalso
-        {Switches, 0} =:= erlang:statistics(context_switches).
+    is_alone() andalso erlang:yield() andalso is_alone() andalso is_alone() andalso
+        {Switches + 1, 0} =:= erlang:statistics(context_switches).
+
+is_alone() ->
+    erlang:statistics(total_active_tasks_all) =:= 1.
 
 look(Known0, Round, Until) ->
     {Known1, _, Busy1} = pass(Known0),
     case Busy1 of
         [] ->
             {Known2, Busy2} = monitored(Known1),
-            {Known3, Reductions, Busy3} = pass(Known2),
+            {Known3, Reductions, Busy3} = pass(discover(Known2)),
             case Busy2 =:= [] andalso Busy3 =:= [] andalso same(Known2#known.members, Reductions) of
                 true -> Known3;
                 false -> again(Known3, Busy2 ++ Busy3, Round, Until)
@@ -72,11 +74,14 @@ again(Known, Busy, Round, Until) ->
             receive
             after 1 -> loop(Known, Round + 1, Until)
             end;
-        false when Busy =:= [] ->
-            look(Known, Round, Until);
         false ->
-            erase(?KEY),
-            error({not_at_rest, [describe(Pid) || Pid <- lists:usort(Busy)]})
+            case [describe(Pid) || Pid <- lists:usort(Busy), is_process_alive(Pid)] of
+                [] ->
+                    look(Known, Round, Until);
+                Busiest ->
+                    erase(?KEY),
+                    error({not_at_rest, Busiest})
+            end
     end.
 
 same(Members, Reductions) ->
@@ -91,7 +96,7 @@ same(Members, Reductions) ->
     ).
 
 pass(Known0) ->
-    Known = #known{members = Members, pending = Pending} = join(discover(Known0)),
+    Known = #known{members = Members, pending = Pending} = join(Known0),
     Self = self(),
     {Alive, Reductions, Busy} = maps:fold(
         fun
@@ -159,8 +164,10 @@ pid_of(_) -> [].
 
 %% --- new processes ------------------------------------------------------------------------------------------------
 
+%% It yields, so that the new process is gone before others look at it, and for the same reason as is_idle/0.
 discover(Known = #known{last = Last, pending = Pending}) ->
     Newest = spawn(fun() -> ok end),
+    erlang:yield(),
     Number = number(Newest),
     New =
         case between(Last, Number) of
@@ -198,8 +205,7 @@ number(Pid) ->
 %% --- the error ----------------------------------------------------------------------------------------------------
 
 describe(Pid) ->
-    Items = [registered_name, status, current_function, initial_call, message_queue_len],
-    case process_info(Pid, Items) of
-        undefined -> {Pid, exited};
+    case process_info(Pid, [registered_name, status, current_function, initial_call, message_queue_len]) of
+        undefined -> {Pid, []};
         Info -> {Pid, [Item || Item <- Info, Item =/= {registered_name, []}]}
     end.
