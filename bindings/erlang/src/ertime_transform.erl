@@ -88,7 +88,7 @@ variable(Anno, Name) ->
             Before -> Before
         end,
     put(?COUNT, Count + 1),
-    {var, Anno, list_to_atom("_Ertime" ++ Name ++ integer_to_list(Count))}.
+    {var, Anno, list_to_atom("Ertime@" ++ Name ++ integer_to_list(Count))}.
 
 is_imported(monitor, 2) -> true;
 is_imported(demonitor, 1) -> true;
@@ -150,7 +150,7 @@ load_one(Module) ->
         error -> {error, no_object_code};
         {Module, Binary, File} ->
             case forms(Module, Binary) of
-                {ok, Forms} -> compile_and_load(Module, File, parse_transform(Forms, []));
+                {ok, Forms, Options} -> compile_and_load(Module, File, parse_transform(Forms, []), Options);
                 Error -> Error
             end
     end.
@@ -159,15 +159,19 @@ forms(Module, Binary) ->
     case beam_lib:chunks(Binary, [debug_info]) of
         {ok, {_, [{debug_info, {debug_info_v1, Backend, Data}}]}} when Data =/= none ->
             case Backend:debug_info(erlang_v1, Module, Data, []) of
-                {ok, Forms} -> {ok, Forms};
+                {ok, Forms} -> {ok, Forms, options(Backend)};
                 {error, Reason} -> {error, Reason}
             end;
         _ ->
             {error, no_debug_info}
     end.
 
-compile_and_load(Module, File, Forms) ->
-    case compile:forms(Forms, [binary, return_errors, nowarn_export_vars, no_auto_import]) of
+%% Elixir's compiler gives this one too.
+options(elixir_erl) -> [no_auto_import];
+options(_) -> [].
+
+compile_and_load(Module, File, Forms, Options) ->
+    case compile:forms(Forms, [binary, return_errors, debug_info | Options]) of
         {ok, Module, Binary} -> replace(Module, fun() -> code:load_binary(Module, File, Binary) end);
         {ok, Module, Binary, _} -> replace(Module, fun() -> code:load_binary(Module, File, Binary) end);
         {error, Errors, _} -> {error, Errors}
