@@ -57,9 +57,10 @@ look(Known0, Round, Until) ->
         [] ->
             {Known2, Busy2} = monitored(Known1),
             {Known3, Reductions, Busy3} = pass(discover(Known2)),
-            case Busy2 =:= [] andalso Busy3 =:= [] andalso same(Known2#known.members, Reductions) of
+            Busy = Busy2 ++ Busy3 ++ undecided(Known3),
+            case Busy =:= [] andalso same(Known2#known.members, Reductions) of
                 true -> Known3;
-                false -> again(Known3, Busy2 ++ Busy3, Round, Until)
+                false -> again(Known3, Busy, Round, Until)
             end;
         _ ->
             again(Known1, Busy1, Round, Until)
@@ -96,7 +97,7 @@ same(Members, Reductions) ->
     ).
 
 pass(Known0) ->
-    Known = #known{members = Members, pending = Pending} = join(Known0),
+    Known = #known{members = Members} = join(Known0),
     Self = self(),
     {Alive, Reductions, Busy} = maps:fold(
         fun
@@ -113,7 +114,10 @@ pass(Known0) ->
         {#{}, #{}, []},
         Members
     ),
-    {Known#known{members = Alive}, Reductions, Busy ++ [Pid || {Pid, Looks} <- Pending, Looks < ?GRACE]}.
+    {Known#known{members = Alive}, Reductions, Busy}.
+
+undecided(#known{pending = Pending}) ->
+    [Pid || {Pid, _} <- Pending].
 
 join(Known = #known{clock = Clock, members = Members}) ->
     Joined = lists:foldl(
@@ -182,14 +186,19 @@ discover(Known = #known{last = Last, pending = Pending}) ->
 
 classify({Pid, _}, Known) when Pid =:= self(); is_map_key(Pid, Known#known.members) ->
     Known;
+%% Whose clock it sees is known once it has waited for something; and until then it may have to be looked at again.
 classify({Pid, Looks}, Known = #known{clock = Clock, members = Members, pending = Pending}) ->
-    Status = process_info(Pid, status),
-    case Status =/= undefined andalso ertime_use:clock_of(Pid) of
-        false -> Known;
-        Clock -> Known#known{members = Members#{Pid => {none, []}}};
-        _ when Status =:= {status, waiting} -> Known;
-        _ when Looks < ?GRACE -> Known#known{pending = [{Pid, Looks + 1} | Pending]};
-        _ -> Known
+    case process_info(Pid, status) of
+        undefined ->
+            Known;
+        {_, Status} when Looks =:= 0; Looks =:= ?GRACE; Status =:= waiting ->
+            case ertime_use:clock_of(Pid) of
+                Clock -> Known#known{members = Members#{Pid => {none, []}}};
+                _ when Status =:= waiting; Looks =:= ?GRACE -> Known;
+                _ -> Known#known{pending = [{Pid, 1} | Pending]}
+            end;
+        _ ->
+            Known#known{pending = [{Pid, Looks + 1} | Pending]}
     end.
 
 %% The processes whose numbers are between these two, as far as they are alive.

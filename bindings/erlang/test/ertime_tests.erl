@@ -62,7 +62,10 @@ next() ->
     after 0 -> nothing
     end.
 
-an_hour_test() ->
+an_hour_test_() ->
+    {timeout, 60, fun an_hour/0}.
+
+an_hour() ->
     with_clock(#{}, fun(Clock) ->
         Timer = ertime:start_timer(?HOUR, self(), wake),
         ?assertEqual(0, ertime:advance(Clock, ?HOUR - 1)),
@@ -73,7 +76,10 @@ an_hour_test() ->
     end).
 
 %% A timer that a message starts is reckoned from the time of that message.
-chain_test() ->
+chain_test_() ->
+    {timeout, 60, fun chain/0}.
+
+chain() ->
     with_clock(#{}, fun(Clock) ->
         Self = self(),
         spawn_link(fun() -> chain(Self, 10) end),
@@ -88,7 +94,10 @@ chain(To, Left) ->
     To ! ertime:monotonic_time(millisecond),
     chain(To, Left - 1).
 
-until_idle_test() ->
+until_idle_test_() ->
+    {timeout, 60, fun until_idle/0}.
+
+until_idle() ->
     with_clock(#{}, fun(Clock) ->
         ertime:send_after(10, self(), a),
         ertime:send_after(30 * 24 * ?HOUR, self(), b),
@@ -97,7 +106,10 @@ until_idle_test() ->
         ?assertEqual(30 * 24 * ?HOUR, ertime:monotonic_time(millisecond))
     end).
 
-fractions_test() ->
+fractions_test_() ->
+    {timeout, 60, fun fractions/0}.
+
+fractions() ->
     with_clock(#{}, fun(Clock) ->
         ertime:advance(Clock, {1500, microsecond}),
         Timer = ertime:start_timer(1, self(), x),
@@ -107,7 +119,10 @@ fractions_test() ->
     end).
 
 %% Slots that are used up, and those of several wheels.
-slots_test() ->
+slots_test_() ->
+    {timeout, 60, fun slots/0}.
+
+slots() ->
     with_clock(#{slots => 3}, fun(_) ->
         Timers = [ertime:start_timer(5, self(), N) || N <- [1, 2, 3]],
         ?assertError(system_limit, ertime:start_timer(5, self(), 4)),
@@ -124,14 +139,20 @@ several_wheels_test_() ->
         end)
     end}.
 
-bad_options_test() ->
+bad_options_test_() ->
+    {timeout, 60, fun bad_options/0}.
+
+bad_options() ->
     Bad = [
         #{mode => no}, #{correction => 1}, #{start => 5}, #{start => a}, #{slots => 0}, #{slots => 262145}, #{os_time => x}, #{drift => x},
         #{clock => 1}, [{mode, 1}]
     ],
     [?assertError(badarg, ertime:open(Options)) || Options <- Bad].
 
-bad_times_test() ->
+bad_times_test_() ->
+    {timeout, 60, fun bad_times/0}.
+
+bad_times() ->
     with_clock(#{}, fun(Clock) ->
         [?assertError(badarg, ertime:advance(Clock, Time)) || Time <- [-1, 1.0, x, {1, hour}, {a, second}]],
         ?assertError(badarg, ertime:warp(Clock, x)),
@@ -140,7 +161,10 @@ bad_times_test() ->
         ?assertEqual(0, ertime:monotonic_time())
     end).
 
-info_test() ->
+info_test_() ->
+    {timeout, 60, fun info/0}.
+
+info() ->
     with_clock(#{mode => multi_time_warp, start => -1000000000}, fun(Clock) ->
         Late = ertime:start_timer(200, self(), {late, self()}),
         Soon = ertime:send_after(100, ertime_info, soon),
@@ -165,7 +189,10 @@ time_of(Spawn) ->
         {time, Time} -> Time
     end.
 
-which_clock_test() ->
+which_clock_test_() ->
+    {timeout, 60, fun which_clock/0}.
+
+which_clock() ->
     with_clock(#{start => 7000000}, fun(Clock) ->
         ?assertEqual(Clock, ertime:clock()),
         ?assertEqual(7000000, time_of(fun spawn/1)),
@@ -189,10 +216,13 @@ which_clock_test() ->
 outside(Do) ->
     {ok, _} = timer:apply_after(1, erlang, apply, [Do, []]).
 
-a_closed_clock_test() ->
-    in_process(fun a_closed_clock/0).
+a_closed_clock_test_() ->
+    {timeout, 60, fun a_closed_clock/0}.
 
 a_closed_clock() ->
+    in_process(fun uses_a_closed_clock/0).
+
+uses_a_closed_clock() ->
     Clock = ertime:open(),
     ertime:use(Clock),
     Timer = ertime:start_timer(10, self(), x),
@@ -208,7 +238,10 @@ a_closed_clock() ->
     ?assertError({no_clock, advance}, ertime:advance(1)).
 
 %% Timers of the runtime and of the clock side by side.
-both_test() ->
+both_test_() ->
+    {timeout, 60, fun both/0}.
+
+both() ->
     Real = erlang:start_timer(?HOUR, self(), x),
     with_clock(#{}, fun(_) ->
         ?assert(is_integer(ertime:read_timer(Real))),
@@ -244,7 +277,10 @@ warp_row(Mode, Correction, By, Mono, System) ->
     end).
 
 %% What the guide says of a backward leap: without correction monotonic time stands still, with it it is slower by a percent.
-frozen_test() ->
+frozen_test_() ->
+    {timeout, 60, fun frozen/0}.
+
+frozen() ->
     with_clock(#{correction => false}, fun(Clock) ->
         ertime:warp(Clock, {-10, second}),
         ertime:advance(Clock, {10, second}),
@@ -253,7 +289,10 @@ frozen_test() ->
         ?assertEqual(1000, ertime:monotonic_time(millisecond))
     end).
 
-slower_test() ->
+slower_test_() ->
+    {timeout, 60, fun slower/0}.
+
+slower() ->
     with_clock(#{}, fun(Clock) ->
         ertime:advance(Clock, {60, second}),
         ertime:warp(Clock, {-10, second}),
@@ -262,7 +301,10 @@ slower_test() ->
     end).
 
 %% A timer comes at its deadline and not later, though the clock is slow.
-timer_under_correction_test() ->
+timer_under_correction_test_() ->
+    {timeout, 60, fun timer_under_correction/0}.
+
+timer_under_correction() ->
     with_clock(#{}, fun(Clock) ->
         ertime:advance(Clock, {60, second}),
         ertime:warp(Clock, {-10, second}),
@@ -272,14 +314,20 @@ timer_under_correction_test() ->
         ?assertEqual({at, 110000000000}, next())
     end).
 
-drift_test() ->
+drift_test_() ->
+    {timeout, 60, fun drift/0}.
+
+drift() ->
     with_clock(#{mode => multi_time_warp, drift => 1000}, fun(Clock) ->
         ertime:advance(Clock, {1000, second}),
         #{os_system_time := System} = ertime:info(Clock),
         ?assertEqual(1767225600000000000 + 1001000000000, System)
     end).
 
-finalize_test() ->
+finalize_test_() ->
+    {timeout, 60, fun finalize/0}.
+
+finalize() ->
     with_clock(#{mode => single_time_warp}, fun(Clock) ->
         ?assertEqual(preliminary, ertime:system_info(time_offset)),
         Monitor = ertime:monitor(time_offset, clock_service),
@@ -292,7 +340,10 @@ finalize_test() ->
         ?assertEqual(final, ertime:system_flag(time_offset, finalize))
     end).
 
-change_test() ->
+change_test_() ->
+    {timeout, 60, fun change/0}.
+
+change() ->
     with_clock(#{mode => multi_time_warp}, fun(Clock) ->
         Monitors = [ertime:monitor(time_offset, clock_service) || _ <- lists:seq(1, 100)],
         ertime:demonitor(hd(Monitors)),
@@ -314,7 +365,10 @@ drain() ->
 
 %% --- rest ---------------------------------------------------------------------------------------------------------
 
-not_at_rest_test() ->
+not_at_rest_test_() ->
+    {timeout, 60, fun not_at_rest/0}.
+
+not_at_rest() ->
     application:load(ertime),
     application:set_env(ertime, rest_limit, 50),
     with_clock(#{}, fun(Clock) ->
@@ -335,7 +389,10 @@ spin() ->
     spin().
 
 %% Whoever is busy, and has another clock or none, isn't waited for.
-others_are_busy_test() ->
+others_are_busy_test_() ->
+    {timeout, 60, fun others_are_busy/0}.
+
+others_are_busy() ->
     Busy = outside_busy(),
     with_clock(#{}, fun(Clock) ->
         ertime:send_after(10, self(), x),
@@ -351,10 +408,13 @@ outside_busy() ->
     end.
 
 %% A process that calls a server with no clock is waited for until it has its answer.
-server_without_clock_test() ->
-    in_process(fun server_without_clock/0).
+server_without_clock_test_() ->
+    {timeout, 60, fun server_without_clock/0}.
 
 server_without_clock() ->
+    in_process(fun calls_a_server_without_clock/0).
+
+calls_a_server_without_clock() ->
     Self = self(),
     outside(fun() -> Self ! {server, spawn(fun slow_server/0)}, timer:sleep(1000) end),
     Server = receive {server, Pid} -> Pid end,
@@ -395,7 +455,10 @@ endless() ->
 
 %% --- processes and memory -----------------------------------------------------------------------------------------
 
-a_process_dies_test() ->
+a_process_dies_test_() ->
+    {timeout, 60, fun a_process_dies/0}.
+
+a_process_dies() ->
     with_clock(#{}, fun(Clock) ->
         {Pid, Monitor} = spawn_monitor(fun() -> receive stop -> ok end end),
         Timers = [ertime:start_timer(10, Pid, N) || N <- lists:seq(1, 100)],
@@ -421,7 +484,10 @@ many_processes_test_() ->
     end}.
 
 %% A clock that nothing refers to is collected, with its timers.
-collected_test() ->
+collected_test_() ->
+    {timeout, 60, fun collected/0}.
+
+collected() ->
     Before = erlang:memory(system),
     [in_process(fun() ->
         Clock = ertime:open(#{slots => 65536}),
@@ -433,7 +499,10 @@ collected_test() ->
     ?assert(erlang:memory(system) - Before < 20000000).
 
 %% A message that holds its own clock and timers.
-circular_test() ->
+circular_test_() ->
+    {timeout, 60, fun circular/0}.
+
+circular() ->
     in_process(fun() ->
         Clock = ertime:open(#{}),
         ertime:use(Clock),
