@@ -1201,8 +1201,8 @@ static ERL_NIF_TERM nif_finalize(ErlNifEnv *env, int argc, const ERL_NIF_TERM ar
     return status == ERT_OK ? of_offset_state(before) : of_status(status);
 }
 
-/* until_due(Clock) -> Nanoseconds | infinity | closed | badarg: no timer is due before this much of monotonic time */
-static ERL_NIF_TERM nif_until_due(ErlNifEnv *env, int argc, const ERL_NIF_TERM argv[]) {
+/* free_run(Clock) -> Nanoseconds | closed | badarg: so long the OS clocks may run with no timer due before the end */
+static ERL_NIF_TERM nif_free_run(ErlNifEnv *env, int argc, const ERL_NIF_TERM argv[]) {
     UNUSED(argc);
     clock_resource *clock;
     if (!get_clock(env, argv[0], &clock)) {
@@ -1211,12 +1211,12 @@ static ERL_NIF_TERM nif_until_due(ErlNifEnv *env, int argc, const ERL_NIF_TERM a
     state *s = clock->state;
     enif_mutex_lock(s->lock);
     bool open = atomic_load(&s->open);
-    int64_t found = open ? until_due(s) : 0;
+    int64_t found = open ? next_step(s, (INT64_C(1) << 61) - 1) : 0;
     enif_mutex_unlock(s->lock);
     if (!open) {
         return atom_closed;
     }
-    return found == INT64_MAX ? enif_make_atom(env, "infinity") : enif_make_int64(env, found);
+    return enif_make_int64(env, found);
 }
 
 /* lead(Clock) -> true | false | closed | badarg: the calling process is the one that moves the clock, until unlead/1 */
@@ -1403,7 +1403,7 @@ static ErlNifFunc functions[] = {
     {"tick", 4, nif_tick, 0},
     {"drift", 2, nif_drift, 0},
     {"finalize", 1, nif_finalize, 0},
-    {"until_due", 1, nif_until_due, 0},
+    {"free_run", 1, nif_free_run, 0},
     {"lead", 1, nif_lead, 0},
     {"unlead", 1, nif_unlead, 0},
     {"join", 1, nif_join, 0},

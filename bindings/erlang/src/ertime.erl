@@ -34,7 +34,7 @@
 %% A clock by hand.
 -export([
     open/0, open/1, close/1, advance/1, advance/2, warp/1, warp/2, warp/3, drift/2, use/1, unuse/1, with/2, use_everywhere/1,
-    clock/0, info/0, info/1, until_due/1, rest/1
+    clock/0, info/0, info/1, rest/1
 ]).
 %% For transformed code.
 -export([receive_start/1, receive_stop/1, elixir_send_after/3, elixir_send_after/4]).
@@ -917,10 +917,6 @@ info(Clock) ->
 
 kind(true) -> send_after;
 kind(false) -> start_timer.
-
-%% @private No timer is due before so many nanoseconds of monotonic time.
-until_due(Clock) ->
-    ertime_nif:until_due(Clock).
 
 %% @doc Waits until the processes of a clock rest, as {@link advance/2} does, and moves nothing.
 -spec rest(clock()) -> ok.
