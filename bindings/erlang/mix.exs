@@ -15,7 +15,7 @@ defmodule Ertime.MixProject do
   end
 
   def application do
-    [extra_applications: [], env: [rest_limit: 5000]]
+    [extra_applications: [:compiler], env: [rest_limit: 5000]]
   end
 end
 

@@ -56,6 +56,8 @@
 }.
 
 -define(AFTER, '$ertime_after').
+%% The clock of the calling process, or none. Written out, since a call costs as much as what it saves.
+-define(CLOCK, case ertime_on:on() of false -> none; true -> ertime_use:clock() end).
 %% 2026-01-01 00:00:00 UTC
 -define(OS_TIME, 1767225600000000000).
 -define(LONGEST, 1 bsl 60).
@@ -71,7 +73,7 @@
 %% '''
 -spec monotonic_time() -> integer().
 monotonic_time() ->
-    case ertime_use:clock() of
+    case ?CLOCK of
         none -> erlang:monotonic_time();
         Clock -> monotonic_of(Clock)
     end.
@@ -90,7 +92,7 @@ monotonic_of(Clock) ->
 %% '''
 -spec monotonic_time(erlang:time_unit()) -> integer().
 monotonic_time(Unit) ->
-    case ertime_use:clock() of
+    case ?CLOCK of
         none -> erlang:monotonic_time(Unit);
         _ -> of_nanoseconds(monotonic_time(), Unit, [Unit])
     end.
@@ -103,7 +105,7 @@ monotonic_time(Unit) ->
 %% '''
 -spec system_time() -> integer().
 system_time() ->
-    case ertime_use:clock() of
+    case ?CLOCK of
         none -> erlang:system_time();
         Clock -> system_of(Clock)
     end.
@@ -122,7 +124,7 @@ system_of(Clock) ->
 %% '''
 -spec system_time(erlang:time_unit()) -> integer().
 system_time(Unit) ->
-    case ertime_use:clock() of
+    case ?CLOCK of
         none -> erlang:system_time(Unit);
         _ -> of_nanoseconds(system_time(), Unit, [Unit])
     end.
@@ -135,7 +137,7 @@ system_time(Unit) ->
 %% '''
 -spec time_offset() -> integer().
 time_offset() ->
-    case ertime_use:clock() of
+    case ?CLOCK of
         none -> erlang:time_offset();
         Clock -> offset_of(Clock)
     end.
@@ -154,7 +156,7 @@ offset_of(Clock) ->
 %% '''
 -spec time_offset(erlang:time_unit()) -> integer().
 time_offset(Unit) ->
-    case ertime_use:clock() of
+    case ?CLOCK of
         none -> erlang:time_offset(Unit);
         _ -> of_nanoseconds(time_offset(), Unit, [Unit])
     end.
@@ -167,7 +169,7 @@ time_offset(Unit) ->
 %% '''
 -spec timestamp() -> erlang:timestamp().
 timestamp() ->
-    case ertime_use:clock() of
+    case ?CLOCK of
         none -> erlang:timestamp();
         _ -> stamp(system_time(microsecond))
     end.
@@ -184,7 +186,7 @@ stamp(Microseconds) ->
 %% '''
 -spec universaltime() -> calendar:datetime().
 universaltime() ->
-    case ertime_use:clock() of
+    case ?CLOCK of
         none -> erlang:universaltime();
         _ -> calendar:system_time_to_universal_time(system_time(second), second)
     end.
@@ -192,7 +194,7 @@ universaltime() ->
 %% @doc As `erlang:localtime/0'.
 -spec localtime() -> calendar:datetime().
 localtime() ->
-    case ertime_use:clock() of
+    case ?CLOCK of
         none -> erlang:localtime();
         _ -> erlang:universaltime_to_localtime(universaltime())
     end.
@@ -214,7 +216,7 @@ unique_integer(Modifiers) ->
 %% '''
 -spec convert_time_unit(integer(), erlang:time_unit(), erlang:time_unit()) -> integer().
 convert_time_unit(Time, From, To) ->
-    case ertime_use:clock() of
+    case ?CLOCK of
         none -> erlang:convert_time_unit(Time, From, To);
         _ -> convert(Time, unit(From), unit(To), [Time, From, To])
     end.
@@ -228,7 +230,7 @@ convert_time_unit(Time, From, To) ->
 %% '''
 -spec os_system_time() -> integer().
 os_system_time() ->
-    case ertime_use:clock() of
+    case ?CLOCK of
         none -> os:system_time();
         Clock -> os_system_of(Clock)
     end.
@@ -242,7 +244,7 @@ os_system_of(Clock) ->
 %% @doc As `os:system_time/1'.
 -spec os_system_time(erlang:time_unit()) -> integer().
 os_system_time(Unit) ->
-    case ertime_use:clock() of
+    case ?CLOCK of
         none -> os:system_time(Unit);
         _ -> of_nanoseconds(os_system_time(), Unit, [Unit])
     end.
@@ -250,7 +252,7 @@ os_system_time(Unit) ->
 %% @doc As `os:timestamp/0'.
 -spec os_timestamp() -> erlang:timestamp().
 os_timestamp() ->
-    case ertime_use:clock() of
+    case ?CLOCK of
         none -> os:timestamp();
         _ -> stamp(os_system_time(microsecond))
     end.
@@ -268,7 +270,7 @@ os_timestamp() ->
 %% '''
 -spec start_timer(integer(), pid() | atom(), term()) -> reference().
 start_timer(Time, To, Message) ->
-    case ertime_use:clock() of
+    case ?CLOCK of
         none -> erlang:start_timer(Time, To, Message);
         Clock -> started(ertime_nif:start(Clock, Time, To, Message, false, false), start_timer, [Time, To, Message])
     end.
@@ -284,7 +286,7 @@ start_timer(Time, To, Message) ->
 -spec start_timer(integer(), pid() | atom(), term(), [{abs, boolean()}]) -> reference().
 start_timer(Time, To, Message, Options) ->
     Arguments = [Time, To, Message, Options],
-    case ertime_use:clock() of
+    case ?CLOCK of
         none -> erlang:start_timer(Time, To, Message, Options);
         Clock -> started(ertime_nif:start(Clock, Time, To, Message, false, absolute(Options, Arguments)), start_timer, Arguments)
     end.
@@ -300,7 +302,7 @@ start_timer(Time, To, Message, Options) ->
 %% '''
 -spec send_after(integer(), pid() | atom(), term()) -> reference().
 send_after(Time, To, Message) ->
-    case ertime_use:clock() of
+    case ?CLOCK of
         none -> erlang:send_after(Time, To, Message);
         Clock -> started(ertime_nif:start(Clock, Time, To, Message, true, false), send_after, [Time, To, Message])
     end.
@@ -309,7 +311,7 @@ send_after(Time, To, Message) ->
 -spec send_after(integer(), pid() | atom(), term(), [{abs, boolean()}]) -> reference().
 send_after(Time, To, Message, Options) ->
     Arguments = [Time, To, Message, Options],
-    case ertime_use:clock() of
+    case ?CLOCK of
         none -> erlang:send_after(Time, To, Message, Options);
         Clock -> started(ertime_nif:start(Clock, Time, To, Message, true, absolute(Options, Arguments)), send_after, Arguments)
     end.
@@ -344,7 +346,7 @@ options(_, _, Arguments) ->
 %% '''
 -spec cancel_timer(reference()) -> non_neg_integer() | false.
 cancel_timer(Timer) ->
-    case ertime_use:on() of
+    case ertime_on:on() of
         false ->
             erlang:cancel_timer(Timer);
         true ->
@@ -393,7 +395,7 @@ cancel_timer(Timer, Options) ->
 %% '''
 -spec read_timer(reference()) -> non_neg_integer() | false.
 read_timer(Timer) ->
-    case ertime_use:on() of
+    case ertime_on:on() of
         false ->
             erlang:read_timer(Timer);
         true ->
@@ -420,7 +422,7 @@ read_timer(Timer, Options) ->
     end.
 
 is_timer(Term) ->
-    ertime_use:on() andalso ertime_nif:is_timer(Term).
+    ertime_on:on() andalso ertime_nif:is_timer(Term).
 
 %% @doc As `timer:sleep/1'.
 -spec sleep(timeout()) -> ok.
@@ -448,7 +450,7 @@ sleep(Time) ->
 %% '''
 -spec monitor(process | port | time_offset, term()) -> reference().
 monitor(time_offset, clock_service) ->
-    case ertime_use:clock() of
+    case ?CLOCK of
         none ->
             erlang:monitor(time_offset, clock_service);
         Clock ->
@@ -489,7 +491,7 @@ demonitor(Monitor, Options) ->
     ).
 
 demonitor_our(Monitor, Other, Done, Arguments) ->
-    case ertime_use:on() andalso ertime_nif:is_monitor(Monitor) of
+    case ertime_on:on() andalso ertime_nif:is_monitor(Monitor) of
         false ->
             Other();
         true ->
@@ -519,7 +521,7 @@ flush(Monitor) ->
 %% '''
 -spec system_flag(atom(), term()) -> term().
 system_flag(time_offset, finalize) ->
-    case ertime_use:clock() of
+    case ?CLOCK of
         none ->
             erlang:system_flag(time_offset, finalize);
         Clock ->
@@ -551,7 +553,7 @@ system_info(Item) when
     Item =:= time_offset; Item =:= time_warp_mode; Item =:= time_correction; Item =:= start_time; Item =:= end_time;
     Item =:= os_monotonic_time_source; Item =:= os_system_time_source
 ->
-    case ertime_use:clock() of
+    case ?CLOCK of
         none ->
             erlang:system_info(Item);
         Clock ->
@@ -629,7 +631,7 @@ open(Options) ->
         )
     of
         Clock when is_reference(Clock) ->
-            ertime_use:turn_on(),
+            ertime_on:turn_on(),
             Clock;
         no_memory ->
             error(system_limit, Arguments);
@@ -864,7 +866,7 @@ use_everywhere(Clock) ->
 %% @doc The clock that the calling process sees, or `none'.
 -spec clock() -> clock() | none.
 clock() ->
-    case ertime_use:clock() of
+    case ?CLOCK of
         none ->
             none;
         Clock ->
@@ -927,7 +929,7 @@ rest(Clock) ->
 
 %% @private A timer in the place of the timeout of a receive, and the timeout that the receive still has.
 receive_start(Time) when is_integer(Time), Time > 0 ->
-    case ertime_use:clock() of
+    case ?CLOCK of
         none -> {none, Time};
         _ -> {start_timer(Time, self(), ?AFTER), infinity}
     end;

@@ -3,30 +3,17 @@
 %% `proc_lib' and Elixir keep), of the process that spawned it, or the one for everybody.
 -module(ertime_use).
 
--export([clock/0, on/0, turn_on/0, lost/0, put_clock/1, put_everywhere/1, everywhere/0, clock_of/1]).
+-export([clock/0, lost/0, put_clock/1, put_everywhere/1, everywhere/0, clock_of/1]).
 
 -define(KEY, '$ertime').
 -define(DEEPEST, 32).
 
-%% The clock of the calling process, or none. Where no clock was ever opened on the node this is two look-ups.
+%% The clock of the calling process, or none. It is asked for where a clock was opened on the node (ertime_on).
 clock() ->
     case get(?KEY) of
-        undefined ->
-            case persistent_term:get(?KEY, false) of
-                false -> none;
-                true -> find()
-            end;
-        Clock ->
-            Clock
+        undefined -> find();
+        Clock -> Clock
     end.
-
-%% Whether a clock was ever opened on this node.
-on() ->
-    persistent_term:get(?KEY, false).
-
-turn_on() ->
-    on() orelse persistent_term:put(?KEY, true),
-    ok.
 
 %% The clock that the process had is closed: the one that it has now.
 lost() ->
