@@ -631,7 +631,7 @@ open(Options) ->
         )
     of
         Clock when is_reference(Clock) ->
-            ertime_on:turn_on(),
+            ertime_use:turn_on(),
             Clock;
         no_memory ->
             error(system_limit, Arguments);

@@ -3,7 +3,7 @@
 %% `proc_lib' and Elixir keep), of the process that spawned it, or the one for everybody.
 -module(ertime_use).
 
--export([clock/0, lost/0, put_clock/1, put_everywhere/1, everywhere/0, clock_of/1]).
+-export([clock/0, turn_on/0, lost/0, put_clock/1, put_everywhere/1, everywhere/0, clock_of/1]).
 
 -define(KEY, '$ertime').
 -define(DEEPEST, 32).
@@ -14,6 +14,21 @@ clock() ->
         undefined -> find();
         Clock -> Clock
     end.
+
+%% A clock was opened on this node. The module is replaced once and by one process: a second time would purge the first code,
+%% and with it who happens to be in it.
+turn_on() ->
+    ertime_on:on() orelse global:trans({ertime_on, self()}, fun() -> ertime_on:on() orelse replace_on() end, [node()]),
+    ok.
+
+replace_on() ->
+    Forms = [
+        {attribute, 1, module, ertime_on},
+        {attribute, 1, export, [{on, 0}]},
+        {function, 1, on, 0, [{clause, 1, [], [], [{atom, 1, true}]}]}
+    ],
+    {ok, ertime_on, Binary} = compile:forms(Forms, [binary]),
+    {module, ertime_on} = code:load_binary(ertime_on, "ertime_on", Binary).
 
 %% The clock that the process had is closed: the one that it has now.
 lost() ->

@@ -2,6 +2,8 @@
 
 -include_lib("eunit/include/eunit.hrl").
 
+-export([first_clocks/0]).
+
 -define(HOUR, 3600000).
 
 %% The examples of the documentation, each in a process of its own.
@@ -537,6 +539,20 @@ beat(To, Left) ->
         beat -> To ! ertime:monotonic_time(millisecond)
     end,
     beat(To, Left - 1).
+
+%% Many that open the first clock of a node at once, in a fresh node: none is killed.
+first_clocks_at_once_test_() ->
+    {timeout, 60, fun() ->
+        Paths = lists:append([["-pa", filename:dirname(code:which(Module))] || Module <- [ertime, ?MODULE]]),
+        Arguments = ["-noshell", "-run", atom_to_list(?MODULE), "first_clocks" | Paths],
+        Port = open_port({spawn_executable, os:find_executable("erl")}, [{args, Arguments}, exit_status]),
+        ?assertEqual(0, receive {Port, {exit_status, Status}} -> Status end)
+    end}.
+
+first_clocks() ->
+    Opened = [spawn_monitor(fun() -> ertime:use(ertime:open()), 0 = ertime:monotonic_time() end) || _ <- lists:seq(1, 100)],
+    Reasons = lists:usort([receive {'DOWN', Monitor, _, Pid, Reason} -> Reason end || {Pid, Monitor} <- Opened]),
+    halt(case Reasons of [normal] -> 0; _ -> 1 end).
 
 %% Four processes start and cancel while a fifth moves the clock: each timer is delivered or cancelled, and just once.
 stress_test_() ->

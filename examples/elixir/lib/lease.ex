@@ -11,7 +11,13 @@ defmodule Lease do
 
   @impl true
   def init(options) do
-    {:ok, renewed(%{length: Keyword.fetch!(options, :length), tell: options[:tell], timer: nil, ends: nil})}
+    {:ok,
+     renewed(%{
+       length: Keyword.fetch!(options, :length),
+       tell: options[:tell],
+       timer: nil,
+       ends: nil
+     })}
   end
 
   @impl true
