@@ -1119,6 +1119,27 @@ static ERL_NIF_TERM nif_step(ErlNifEnv *env, int argc, const ERL_NIF_TERM argv[]
     return enif_make_tuple3(env, enif_make_int64(env, left), enif_make_uint(env, sent), enif_make_uint(env, armed));
 }
 
+/* run(Clock, Nanoseconds) -> ok | closed | badarg: the OS clocks run so long, and nothing is sent but changes of the offset */
+static ERL_NIF_TERM nif_run(ErlNifEnv *env, int argc, const ERL_NIF_TERM argv[]) {
+    UNUSED(argc);
+    clock_resource *clock;
+    int64_t step;
+    if (!get_clock(env, argv[0], &clock) || !get_int64(env, argv[1], &step) || step < 0 || step >= INT64_C(1) << 61) {
+        return atom_badarg;
+    }
+    state *s = clock->state;
+    change news = {NULL, 0, 0};
+    enif_mutex_lock(s->lock);
+    int64_t rest = s->drift_rest;
+    int32_t status = tick(s, run_on(s, step), false, &news);
+    if (status != ERT_OK) {
+        s->drift_rest = rest;
+    }
+    enif_mutex_unlock(s->lock);
+    send_change(env, &news);
+    return of_status(status);
+}
+
 /* leap(Clock, Nanoseconds, Check) -> ok | closed | badarg: the OS system clock leaps, and Check says whether it is checked */
 static ERL_NIF_TERM nif_leap(ErlNifEnv *env, int argc, const ERL_NIF_TERM argv[]) {
     UNUSED(argc);
@@ -1399,6 +1420,7 @@ static ErlNifFunc functions[] = {
     {"demonitor", 1, nif_demonitor, 0},
     {"is_monitor", 1, nif_is_monitor, 0},
     {"step", 2, nif_step, 0},
+    {"run", 2, nif_run, 0},
     {"leap", 3, nif_leap, 0},
     {"tick", 4, nif_tick, 0},
     {"drift", 2, nif_drift, 0},

@@ -4,7 +4,7 @@
 
 -export([
     open/7, close/1, monotonic_time/1, system_time/1, time_offset/1, os_time/1, settings/1, start/6, cancel/1, read/1, ask/2,
-    is_timer/1, monitor/1, demonitor/1, is_monitor/1, step/2, leap/3, tick/4, drift/2, finalize/1, free_run/1, lead/1,
+    is_timer/1, monitor/1, demonitor/1, is_monitor/1, step/2, run/2, leap/3, tick/4, drift/2, finalize/1, free_run/1, lead/1,
     unlead/1, join/1, leave/1, members/1, timers/1
 ]).
 
@@ -36,6 +36,7 @@ monitor(_Clock) -> not_loaded().
 demonitor(_Monitor) -> not_loaded().
 is_monitor(_Term) -> not_loaded().
 step(_Clock, _Nanoseconds) -> not_loaded().
+run(_Clock, _Nanoseconds) -> not_loaded().
 leap(_Clock, _Nanoseconds, _Check) -> not_loaded().
 tick(_Clock, _Mono, _Sys, _Check) -> not_loaded().
 drift(_Clock, _PartsPerBillion) -> not_loaded().

@@ -14,7 +14,7 @@
 
 -export([open/1, advance/2, warp/3, drift/3, info/2, close/1]).
 %% @hidden
--export([open_here/1, advance_here/1, free_run_here/0, warp_here/1, drift_here/1, info_here/0, close_here/0, rest_here/0]).
+-export([open_here/1, send_here/0, run_here/1, free_run_here/0, warp_here/1, drift_here/1, info_here/0, close_here/0, rest_here/0]).
 
 -export_type([nodes/0]).
 
@@ -51,19 +51,23 @@ advance(Nodes, Duration) ->
     settle(Nodes),
     steps(Nodes, Left, 0).
 
+%% The clocks of all nodes move before the first message is sent, so that none comes to a node whose clock is behind.
 steps(Nodes, 0, Sent) ->
-    Sent + step(Nodes, 0);
+    Sent + send(Nodes);
 steps(Nodes, Left, Sent) ->
+    More = send(Nodes),
     Step = lists:min([Left | on_all(Nodes, free_run_here, [])]),
-    steps(Nodes, Left - Step, Sent + step(Nodes, Step)).
+    _ = on_all(Nodes, run_here, [Step]),
+    steps(Nodes, Left - Step, Sent + More).
 
-%% What is due at the end of the step is done again and again, since one node's messages may make another start a timer of 0.
-step(Nodes, Step) ->
-    Sent = lists:sum(on_all(Nodes, advance_here, [Step])),
-    settle(Nodes),
-    case Sent of
-        0 -> 0;
-        _ -> Sent + step(Nodes, 0)
+%% Sends what is due, again and again, since the messages of one node may make another start a timer of 0.
+send(Nodes) ->
+    case lists:sum(on_all(Nodes, send_here, [])) of
+        0 ->
+            0;
+        Sent ->
+            settle(Nodes),
+            Sent + send(Nodes)
     end.
 
 %% Waits until all nodes rest. What a node has sent to another has come when a later call from the one to the other is answered.
@@ -118,8 +122,12 @@ open_here(Options) ->
     ertime:use_everywhere(ertime:open(Options)).
 
 %% @private
-advance_here(Nanoseconds) ->
-    ertime:advance(clock(), {Nanoseconds, nanosecond}).
+send_here() ->
+    ertime:advance(clock(), 0).
+
+%% @private
+run_here(Nanoseconds) ->
+    ok = ertime_nif:run(clock(), Nanoseconds).
 
 %% @private
 free_run_here() ->

@@ -21,7 +21,7 @@ tests(_) ->
 distribute() ->
     Epmd =
         case erl_epmd:names() of
-            {error, _} -> _ = os:cmd("epmd -daemon"), [epmd];
+            {error, _} -> _ = os:cmd("epmd -daemon"), await_epmd(100), [epmd];
             _ -> []
         end,
     case is_alive() of
@@ -31,6 +31,14 @@ distribute() ->
                 {ok, _} -> [node | Epmd];
                 _ -> undo(Epmd), none
             end
+    end.
+
+await_epmd(0) ->
+    ok;
+await_epmd(Left) ->
+    case erl_epmd:names() of
+        {error, _} -> timer:sleep(50), await_epmd(Left - 1);
+        _ -> ok
     end.
 
 undo(none) ->
