@@ -1,0 +1,162 @@
+%% @doc A clock on each of several Erlang nodes, moved together by one process.
+%%
+%% The nodes are connected by Erlang's distribution and have the code of ertime, as those that OTP's `peer' starts. Each gets a
+%% clock of its own, with an OS clock and a drift of its own, which all its processes see ({@link ertime:use_everywhere/1}). The
+%% OS monotonic clocks of all nodes run at one rate; their OS system clocks tell different times, leap and drift.
+%%
+%% ```
+%% Nodes = ertime_nodes:open([{node(), #{os_time => {1767225600, second}}}]),
+%% 0 = ertime_nodes:advance(Nodes, 1000),
+%% ok = ertime_nodes:warp(Nodes, node(), 3600000),
+%% ok = ertime_nodes:close(Nodes).
+%% '''
+-module(ertime_nodes).
+
+-export([open/1, advance/2, warp/3, drift/3, info/2, close/1]).
+%% @hidden
+-export([open_here/1, send_here/0, run_here/1, free_run_here/0, warp_here/1, drift_here/1, info_here/0, close_here/0, rest_here/0]).
+
+-export_type([nodes/0]).
+
+-opaque nodes() :: [node()].
+
+-define(ROUNDS, 1000).
+
+%% @doc Opens a clock on each node, with the options of {@link ertime:open/1}.
+-spec open([node() | {node(), ertime:options()}]) -> nodes().
+open(Specifications) ->
+    [
+        begin
+            {Node, Options} =
+                case Specification of
+                    {_, _} -> Specification;
+                    _ -> {Specification, #{}}
+                end,
+            ok = erpc:call(Node, ?MODULE, open_here, [Options]),
+            Node
+        end
+     || Specification <- Specifications
+    ].
+
+%% @doc Lets the time pass on all nodes, from one deadline to the next, whichever node has it, and answers how many messages of
+%% timers were sent. After each it waits until the processes on all nodes rest, and what they sent to one another has come.
+-spec advance(nodes(), ertime:duration()) -> non_neg_integer().
+advance(Nodes, Duration) ->
+    Left =
+        case Duration of
+            {Time, Unit} -> erlang:convert_time_unit(Time, Unit, nanosecond);
+            _ -> Duration * 1000000
+        end,
+    Left >= 0 orelse error(badarg, [Nodes, Duration]),
+    settle(Nodes),
+    steps(Nodes, Left, 0).
+
+%% The clocks of all nodes move before the first message is sent, so that none comes to a node whose clock is behind.
+steps(Nodes, 0, Sent) ->
+    Sent + send(Nodes);
+steps(Nodes, Left, Sent) ->
+    More = send(Nodes),
+    Step = lists:min([Left | on_all(Nodes, free_run_here, [])]),
+    _ = on_all(Nodes, run_here, [Step]),
+    steps(Nodes, Left - Step, Sent + More).
+
+%% Sends what is due, again and again, since the messages of one node may make another start a timer of 0.
+send(Nodes) ->
+    case lists:sum(on_all(Nodes, send_here, [])) of
+        0 ->
+            0;
+        Sent ->
+            settle(Nodes),
+            Sent + send(Nodes)
+    end.
+
+%% Waits until all nodes rest. What a node has sent to another has come when a later call from the one to the other is answered.
+settle(Nodes) ->
+    settle(Nodes, on_all(Nodes, rest_here, []), ?ROUNDS).
+
+settle(_, _, 0) ->
+    error(not_at_rest);
+settle(Nodes, Before, Left) ->
+    Others = lists:usort([node() | Nodes]),
+    [erpc:call(A, erpc, call, [B, erlang, node, []]) || A <- Others, B <- Others, A =/= B],
+    case on_all(Nodes, rest_here, []) of
+        Before -> ok;
+        After -> settle(Nodes, After, Left - 1)
+    end.
+
+%% @doc Lets the OS system clock of one node leap, as {@link ertime:warp/2} does.
+-spec warp(nodes(), node(), ertime:duration()) -> ok.
+warp(Nodes, Node, By) ->
+    ok = erpc:call(Node, ?MODULE, warp_here, [By]),
+    settle(Nodes).
+
+%% @doc From now on the OS system clock of one node drifts, as {@link ertime:drift/2} does it.
+-spec drift(nodes(), node(), number()) -> ok.
+drift(_, Node, PartsPerMillion) ->
+    erpc:call(Node, ?MODULE, drift_here, [PartsPerMillion]).
+
+%% @doc What {@link ertime:info/1} tells of the clock of one node.
+-spec info(nodes(), node()) -> map().
+info(_, Node) ->
+    erpc:call(Node, ?MODULE, info_here, []).
+
+%% @doc Closes the clocks of all nodes.
+-spec close(nodes()) -> ok.
+close(Nodes) ->
+    _ = on_all(Nodes, close_here, []),
+    ok.
+
+on_all(Nodes, Name, Arguments) ->
+    [
+        case Answer of
+            {ok, Value} -> Value;
+            {Class, Reason} -> error({Node, Class, Reason})
+        end
+     || {Node, Answer} <- lists:zip(Nodes, erpc:multicall(Nodes, ?MODULE, Name, Arguments))
+    ].
+
+%% --- on a node ----------------------------------------------------------------------------------------------------
+
+%% @private
+open_here(Options) ->
+    ertime:use_everywhere(ertime:open(Options)).
+
+%% @private
+send_here() ->
+    ertime:advance(clock(), 0).
+
+%% @private
+run_here(Nanoseconds) ->
+    ok = ertime_nif:run(clock(), Nanoseconds).
+
+%% @private
+free_run_here() ->
+    ertime_nif:free_run(clock()).
+
+%% @private
+warp_here(By) ->
+    ertime:warp(clock(), By).
+
+%% @private
+drift_here(PartsPerMillion) ->
+    ertime:drift(clock(), PartsPerMillion).
+
+%% @private
+info_here() ->
+    ertime:info(clock()).
+
+%% @private
+close_here() ->
+    ertime:close(clock()).
+
+%% @private How much the processes that have called the clock have done, once they rest.
+rest_here() ->
+    Clock = clock(),
+    ertime:rest(Clock),
+    lists:sort([{Pid, Count} || Pid <- ertime_nif:members(Clock), Pid =/= self(), {reductions, Count} <- [process_info(Pid, reductions)]]).
+
+clock() ->
+    case ertime_use:everywhere() of
+        none -> error(no_clock);
+        Clock -> Clock
+    end.

@@ -1,0 +1,9 @@
+%% @private
+%% Whether a clock was ever opened on this node. The module is replaced when the first one is, by one in which on/0 is true
+%% (`ertime_use:turn_on/0'): so where there is none, as in production, the question costs a call and no look-up.
+-module(ertime_on).
+
+-export([on/0]).
+
+on() ->
+    false.
