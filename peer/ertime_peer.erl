@@ -233,16 +233,16 @@ do({alive, Process}, State) ->
 do({monitor, Process}, State) ->
     watch(Process, ask(Process, monitor, State), State);
 do({demonitor, Process, Number}, State) ->
-    Line = case State#state.monitors of
-        #{{Process, Number} := Monitor} -> ask(Process, {demonitor, Monitor}, State);
+    Stood = case State#state.monitors of
+        #{{Process, Number} := Monitor} -> ask(Process, {demonitor, Monitor}, State) =:= true;
         #{} -> false
     end,
     Monitors = maps:remove({Process, Number}, State#state.monitors),
-    {["demonitor ", atom_to_list(Line)], State#state{monitors = Monitors}};
+    {["demonitor ", atom_to_list(Stood)], State#state{monitors = Monitors}};
 do({notify, Process}, State) ->
     case ask(Process, count, State) of
         exited ->
-            {"notify exited", State};
+            {"notify 0", State};
         {Timers, Changes} ->
             {_, Seen} = seen(Process, State),
             Line = ["notify ", integer_to_list(Changes - Seen)],

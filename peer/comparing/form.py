@@ -12,7 +12,7 @@ STARTS = ("start", "send_after")
 REQUESTS = ("cancel_async", "read_async")
 PARTS_OF_TURNS = ("serve", "advance", "deliver")
 # A leap of more than this may expire timers that the node keeps in its coarse wheel, in another order.
-LEAP = 8 * SECOND
+LEAP = 15 * SECOND
 MOST_LEAPS = 2000
 # A check in multi time warp mode with correction moves the node's offset where the clocks are this far apart.
 CLEARLY_APART = 100 * MILLISECOND
@@ -36,6 +36,7 @@ class Form:
         self.place = 0
         self.starts = 0
         self.watchers = []
+        self.exited = set()
         self._open()
         if scenario.get("schedulers", 1) != 1:
             self._note("one-scheduler", "settings")
@@ -99,10 +100,12 @@ class Form:
         else:
             if name == "monitor" and op[1] not in self.watchers:
                 self.watchers.append(op[1])
+            elif name == "exit":
+                self.exited.add(op[1])
             self._put(*op)
 
     def _in_microseconds(self, nanoseconds):
-        rounded = nanoseconds // 1000 * 1000
+        rounded = abs(nanoseconds) // 1000 * 1000 * (-1 if nanoseconds < 0 else 1)
         if rounded != nanoseconds:
             self._note("microseconds")
         return rounded
@@ -125,6 +128,9 @@ class Form:
             system = self._corrected(name, monotonic, system)
         elif self.settings["mode"] == "multi":
             name, system = self._uncorrected(name, system)
+        if not -2**61 < system < 2**61:
+            self._note("rates")
+            return
         self._leap(monotonic, system)
         self._read(name, monotonic, system)
 
@@ -185,5 +191,6 @@ class Form:
         self._turn()
         if may_move:
             for process in self.watchers:
-                self._put("notify", process)
-                self._note("change-messages")
+                if process not in self.exited:
+                    self._put("notify", process)
+                    self._note("change-messages")

@@ -4,6 +4,7 @@ import pathlib
 import shutil
 import subprocess
 import sys
+import tempfile
 
 HERE = pathlib.Path(__file__).resolve().parent.parent
 MODULES = ("ertime_peer_clock", "ertime_peer_process", "ertime_peer", "ertime_peer_boot")
@@ -79,11 +80,14 @@ class Build:
 
     def run(self, settings, ops):
         """The rows of the driver: mark, op and line."""
-        given, told = self.folder / "given", self.folder / "told"
+        with tempfile.TemporaryDirectory(dir=self.folder) as folder:
+            return self._run(settings, ops, pathlib.Path(folder))
+
+    def _run(self, settings, ops, folder):
+        given, told = folder / "given", folder / "told"
         waits = settings["correction"] and settings["mode"] == "multi"
         term = (settings["start"], settings["processes"], OS_START, waits, [of_op(op) for op in ops])
         given.write_bytes(b"\x83" + encoded(term))
-        told.unlink(missing_ok=True)
         monotonic, system = settings["first"]
         shared = self.folder / "ertime_peer_clock"
         words = [self.erl, "+S", "1", "+SDcpu", "1", "+SDio", "1", "+A", "1",
@@ -93,7 +97,7 @@ class Build:
         environment.update(ERTIME_PEER_CLOCK=f"{OS_START + monotonic} {system}", LD_PRELOAD=f"{shared}.so",
                            ERL_CRASH_DUMP_BYTES="0")
         try:
-            ended = subprocess.run(words, env=environment, cwd=self.folder, capture_output=True, text=True, timeout=300)
+            ended = subprocess.run(words, env=environment, cwd=folder, capture_output=True, text=True, timeout=300)
         except subprocess.TimeoutExpired as late:
             raise NodeFault("the node didn't end within 300 s") from late
         if ended.returncode != 0 or not told.exists():

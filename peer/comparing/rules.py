@@ -30,7 +30,8 @@ def change_at_finalization(op, ours, theirs, seen):
 
 
 def exited_monitors(op, _ours, theirs, seen):
-    return op[0] in ("monitor", "demonitor", "notify") and op[1] in seen.exited and theirs.endswith(" exited")
+    of_none = {"monitor": "monitor exited", "demonitor": "demonitor false", "notify": "notify 0"}
+    return op[0] in of_none and op[1] in seen.exited and theirs == of_none[op[0]]
 
 
 def greatest_deadline(op, ours, theirs, seen):

@@ -24,9 +24,9 @@ class Maker:
     def __init__(self, draw):
         self.draw = draw
         self.opening = draw.choice((0, 0, 1, -1, 2000, -5000, 86400_000)) * MILLISECOND
-        self.monotonic = draw.choice((0, 0, 5 * SECOND, draw.randrange(10 * SECOND)))
-        self.system = draw.choice((0, 1767225600 * SECOND, -3 * SECOND, draw.randrange(10 * SECOND)))
-        self.first = [self.monotonic, self.system]
+        self.os_monotonic = draw.choice((0, 0, 5 * SECOND, draw.randrange(10 * SECOND)))
+        self.os_system = draw.choice((0, 1767225600 * SECOND, -3 * SECOND, draw.randrange(10 * SECOND)))
+        self.first = [self.os_monotonic, self.os_system]
         self.passed = 0
         self.schedulers = draw.choice((1, 1, 2, 4))
         self.processes = draw.choice((1, 2, 3, 8))
@@ -70,14 +70,14 @@ class Maker:
         step = self.draw.choice((
             0, 1, 500_000, MILLISECOND, self.draw.randrange(5 * MILLISECOND),
             self.draw.randrange(1, 60) * MILLISECOND, self.draw.randrange(SECOND), self.draw.randrange(20 * SECOND)))
-        self.monotonic += step
-        self.system += step
+        self.os_monotonic += step
+        self.os_system += step
         self.passed += step
         if self.draw.random() < (0.4 if name == "check" else 0.15):
-            self.system += self.draw.choice((-1, 1)) * self.draw.choice((
+            self.os_system += self.draw.choice((-1, 1)) * self.draw.choice((
                 1000, 400_000, 3 * MILLISECOND, self.draw.randrange(SECOND), self.draw.randrange(5 * SECOND),
-                3600 * SECOND))
-        return [name, self.monotonic, self.system]
+                40 * SECOND))
+        return [name, self.os_monotonic, self.os_system]
 
     tick = check = finalize = reading
 
