@@ -17,9 +17,10 @@
 -define(GREATEST_DEADLINE, 8796093022207).
 %% How many monitors a process of ertime has.
 -define(MONITORS, 64).
-%% How far apart the readings are while the driver waits for the node's own check of the clock, and how many at most.
--define(STEP, 1000000000).
--define(STEPS, 120).
+%% While the driver waits for the node's own check of the clock, its readings are a second apart, and the last is 61
+%% seconds after the leap.
+-define(SECOND, 1000000000).
+-define(LAST_SECOND, 60).
 
 -record(state, {
     start :: integer(),                    % monotonic time at the opening, of the scenario
@@ -36,6 +37,7 @@
     asked = 0 :: non_neg_integer(),        % requests since the last turn
     offset :: integer(),                   % as the node last told it
     same_change = #{} :: #{integer() => true},
+    reading :: {integer(), integer()},     % the last one
     shift = 0 :: integer(),                % what waiting for checks has added to all later readings
     rows = [] :: [iolist()]
 }).
@@ -45,7 +47,7 @@ main() ->
     [Input, Output, Object] = init:get_plain_arguments(),
     ok = ertime_peer_clock:load(Object),
     {ok, Bytes, _} = erl_prim_loader:get_file(Input),
-    {Start, Processes, OsStart, WaitsForChecks, Ops} = binary_to_term(Bytes),
+    {Start, First, Processes, OsStart, WaitsForChecks, Ops} = binary_to_term(Bytes),
     Base = erlang:system_info(start_time),
     Base = erlang:monotonic_time(),
     Opened = #state{
@@ -54,6 +56,7 @@ main() ->
         os_start = OsStart,
         waits_for_checks = WaitsForChecks,
         processes = list_to_tuple([ertime_peer_process:start() || _ <- lists:seq(1, Processes)]),
+        reading = First,
         offset = erlang:time_offset()
     },
     Done = lists:foldl(fun step/2, Opened, Ops),
@@ -71,34 +74,45 @@ step(Op, State) ->
 
 read_clocks({Name, Monotonic, System}, #state{shift = Shift} = State) ->
     Reading = {Monotonic + Shift, System + Shift},
-    set(Reading, State),
-    Mark = case Shift of
-        0 -> "= ";
-        _ -> "~ "
-    end,
-    case Name =:= check andalso State#state.waits_for_checks andalso is_ahead_or_behind(Reading) of
+    case Name =:= check andalso State#state.waits_for_checks andalso leaps(Reading, State) of
         true ->
-            wait_for_check(Reading, 0, told("~ ", tick, Reading, State));
+            leap(Reading, State);
         false ->
+            Mark = case Shift of
+                0 -> "= ";
+                _ -> "~ "
+            end,
             told(Mark, Name, Reading, State)
     end.
 
-is_ahead_or_behind({_, System}) ->
-    abs(System - erlang:system_time()) > 1000000.
+%% Whether OS system time left the step of OS monotonic time.
+leaps({Monotonic, System}, #state{reading = {WasMonotonic, WasSystem}}) ->
+    System - WasSystem =/= Monotonic - WasMonotonic.
 
-%% Lets the OS clocks go on until the node has checked its clock by itself and moved the offset.
-wait_for_check(_, ?STEPS, State) ->
-    State;
-wait_for_check({Monotonic, System}, Steps, State) ->
+%% A check that finds a leap. The node checks its clock when it likes to, within a minute. So that ertime checks its
+%% own not earlier by itself, it is made to do so just before the leap.
+leap({Monotonic, _} = Reading, #state{reading = {WasMonotonic, WasSystem}} = State) ->
+    InStep = {Monotonic, WasSystem + Monotonic - WasMonotonic},
+    Checked = turn_row(told("+ ", check, InStep, State)),
+    wait_for_check(Reading, 1, told("~ ", tick, Reading, Checked)).
+
+%% Lets the OS clocks go on until the node has moved the offset. No reading is just a minute after the leap.
+wait_for_check({Monotonic, System}, Second, State) when Second =< ?LAST_SECOND ->
     Turned = turn_row(State),
-    Reading = {Monotonic + ?STEP, System + ?STEP},
+    Step = case Second of
+        ?LAST_SECOND -> 2 * ?SECOND;
+        _ -> ?SECOND
+    end,
+    Reading = {Monotonic + Step, System + Step},
     set(Reading, Turned),
     rest(),
-    Shifted = Turned#state{shift = Turned#state.shift + ?STEP},
+    Shifted = Turned#state{shift = Turned#state.shift + Step},
     case erlang:time_offset() =:= Shifted#state.offset of
-        true -> wait_for_check(Reading, Steps + 1, told("+ ", tick, Reading, Shifted));
+        true -> wait_for_check(Reading, Second + 1, told("+ ", tick, Reading, Shifted));
         false -> told("+ ", check, Reading, Shifted)
-    end.
+    end;
+wait_for_check(_, _, State) ->
+    State.
 
 turn_row(State) ->
     {Line, Next} = do({turn, 0}, State),
@@ -107,8 +121,13 @@ turn_row(State) ->
 set({Monotonic, System}, State) ->
     ok = ertime_peer_clock:set(State#state.os_start + Monotonic, System).
 
-%% The row of a reading that was set.
-told(Mark, finalize, Reading, State) ->
+%% Sets a reading, and makes its row.
+told(Mark, Name, Reading, State) ->
+    set(Reading, State),
+    {Line, Next} = taken_in(Name, State),
+    row(Mark, reading(Name, Reading), Line, Next#state{reading = Reading}).
+
+taken_in(finalize, State) ->
     Was = erlang:system_flag(time_offset, finalize),
     Offset = erlang:time_offset(),
     Tail = case Was of
@@ -120,8 +139,8 @@ told(Mark, finalize, Reading, State) ->
         true -> maps:from_keys(numbers(State), true);
         false -> State#state.same_change
     end,
-    row(Mark, reading(finalize, Reading), Line, State#state{offset = Offset, same_change = Same});
-told(Mark, Name, Reading, State) ->
+    {Line, State#state{offset = Offset, same_change = Same}};
+taken_in(Name, State) ->
     Time = time(State),
     Offset = erlang:time_offset(),
     Tail = case Offset =:= State#state.offset of
@@ -129,7 +148,7 @@ told(Mark, Name, Reading, State) ->
         false -> [" offset ", integer_to_list(offset(Offset, State))]
     end,
     Line = [atom_to_list(Name), " ", integer_to_list(Time), Tail],
-    row(Mark, reading(Name, Reading), Line, State#state{offset = Offset}).
+    {Line, State#state{offset = Offset}}.
 
 reading(Name, {Monotonic, System}) ->
     ["[\"", atom_to_list(Name), "\",", integer_to_list(Monotonic), ",", integer_to_list(System), "]"].
@@ -267,7 +286,7 @@ start_timer(Name, Call, Label, Kind, Milliseconds, Process, Message, State) ->
     {Time, Options, Deadline} = case Kind of
         rel ->
             Now = time(State) - Start,
-            {Milliseconds, [], Milliseconds + -(-Now div 1000000)};
+            {Milliseconds, [], Milliseconds + (Now + 999999) div 1000000};
         abs ->
             After = Milliseconds - Start div 1000000,
             {After + Base div 1000000, [{abs, true}], After}

@@ -165,12 +165,13 @@ class Form:
         if self.starts < 2 or not 0 < count <= MOST_LEAPS:
             return
         self._note("far-leaps")
-        (first, since), to = self.reading, system
-        if not self.settings["correction"]:
-            since = self.now + self.offset
+        first, now = self.reading[0], self.now
         for step in range(1, count + 1):
-            self._read("tick", first + (monotonic - first) * step // (count + 1),
-                       since + (to - since) * step // (count + 1))
+            between = first + (monotonic - first) * step // (count + 1)
+            if self.settings["correction"]:
+                self._read("tick", between, between + self.in_step)
+            else:
+                self._read("tick", between, now + size * step // (count + 1) + self.offset)
 
     def _time_at(self, monotonic, system):
         if self.settings["correction"]:

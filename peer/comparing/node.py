@@ -86,7 +86,7 @@ class Build:
     def _run(self, settings, ops, folder):
         given, told = folder / "given", folder / "told"
         waits = settings["correction"] and settings["mode"] == "multi"
-        term = (settings["start"], settings["processes"], OS_START, waits, [of_op(op) for op in ops])
+        term = (settings["start"], tuple(settings["first"]), settings["processes"], OS_START, waits, [of_op(op) for op in ops])
         given.write_bytes(b"\x83" + encoded(term))
         monotonic, system = settings["first"]
         shared = self.folder / "ertime_peer_clock"
