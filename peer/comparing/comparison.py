@@ -23,16 +23,17 @@ def transcript(program, text):
 
 
 class Comparison:
-    """What came of one scenario, its text given: what to print, and the figures."""
+    """What came of one scenario: what to print, and the figures. `text` makes its text."""
 
     def __init__(self, name, text, build, program, known, both):
         self.name, self.program, self.known_rules, self.both = name, program, known, both
         self.said = []
         self.lines = self.others = 0
         self.known = {}
+        self.changes = ()
         self.is_refused = False
         try:
-            self._compare(text, build)
+            self._compare(text(), build)
         except Refused as refused:
             self.is_refused = True
             self.said.append(f"{name}: not compared: {refused}")
@@ -47,6 +48,7 @@ class Comparison:
         ops, put_in = _done_ops(form, rows)
         ours = transcript(self.program, _text(form, ops).encode())
         theirs = [line for _, _, line in rows]
+        self.changes = form.changes
         self.said.append(f"{self.name}: {len(ours)} lines")
         self._say_changes(form, put_in)
         if len(ours) != len(theirs):
@@ -70,6 +72,9 @@ class Comparison:
             shown = ", ".join(map(str, places[:SHOWN_PLACES]))
             more = len(places) - SHOWN_PLACES
             self.said.append(f"  form {rule}: at {shown}" + (f" and {more} more" if more > 0 else ""))
+            if self.known_rules.get(rule) != "form":
+                self.others += 1
+                self.said.append(f"  DIFFERENT: the table has no rule {rule} of the form")
         if put_in:
             self.said.append(f"  form moments-of-checks: {put_in} ops put in, until the node checked its clock")
 

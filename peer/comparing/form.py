@@ -14,6 +14,8 @@ PARTS_OF_TURNS = ("serve", "advance", "deliver")
 # A leap of more than this may expire timers that the node keeps in its coarse wheel, in another order.
 LEAP = 15 * SECOND
 MOST_LEAPS = 2000
+# A timer that is started with more milliseconds than this comes to stand in the coarse wheel.
+FAR = 15000
 # A check in multi time warp mode with correction moves the node's offset where the clocks are this far apart.
 CLEARLY_APART = 100 * MILLISECOND
 
@@ -34,12 +36,15 @@ class Form:
         self.places = []
         self.changes = {}
         self.place = 0
+        self.deadlines = {}
         self.starts = 0
         self.watchers = []
         self.exited = set()
         self._open()
         if scenario.get("schedulers", 1) != 1:
             self._note("one-scheduler", "settings")
+        if scenario.get("slots", 1024) < sum(op[0] in STARTS for op in scenario["ops"]):
+            self._note("room-for-timers", "settings")
         for self.place, op in enumerate(scenario["ops"], 1):
             if self.place in left_out:
                 self._note("wide-offsets")
@@ -87,10 +92,7 @@ class Form:
         elif name == "turn":
             self._put("turn", 0)
         elif name in STARTS:
-            self.starts += 1
-            self._put(name, op[1], 0, *op[3:])
-            if op[3] == "abs" or op[4] <= 0:
-                self._turn()
+            self._bring_start(op)
         elif name in REQUESTS:
             told = op[3] if len(op) > 3 else True
             if name == "read_async" and not told:
@@ -103,6 +105,21 @@ class Form:
             elif name == "exit":
                 self.exited.add(op[1])
             self._put(*op)
+
+    def _bring_start(self, op):
+        name, label, _, kind, milliseconds, *rest = op
+        self.starts += 1
+        up = -(-(self.now - self.settings["start"]) // MILLISECOND)
+        deadline = milliseconds + up if kind == "rel" else milliseconds - self.settings["start"] // MILLISECOND
+        # How far ahead the timers of this deadline were started at most.
+        while self.deadlines.get(deadline, 0) > max(deadline - up, FAR):
+            deadline += 1
+            milliseconds += 1
+            self._note("equal-deadlines")
+        self.deadlines[deadline] = max(deadline - up, self.deadlines.get(deadline, 0))
+        self._put(name, label, 0, kind, milliseconds, *rest)
+        if kind == "abs" or milliseconds <= 0:
+            self._turn()
 
     def _in_microseconds(self, nanoseconds):
         rounded = abs(nanoseconds) // 1000 * 1000 * (-1 if nanoseconds < 0 else 1)

@@ -60,7 +60,7 @@ OF_LINES = {
 
 
 def table():
-    """The rules of the table, and where each shows: `line`, `form` or `none`."""
+    """The rules of the table, and how each shows: `line` or `form`."""
     found = {}
     for text in TABLE.read_text().splitlines():
         cells = [cell.strip() for cell in text.split("|")]
@@ -70,7 +70,7 @@ def table():
 
 
 def rule_of(op, ours, theirs, seen, known):
-    """The rule by which the lines may differ, or None."""
+    """The rule of the table by which the lines may differ, or None."""
     for rule, holds in OF_LINES.items():
         if known.get(rule) == "line" and holds(op, ours, theirs, seen):
             return rule
