@@ -64,8 +64,8 @@ class Build:
         self._compile_modules()
 
     def _compile_object(self, include):
-        compiler = os.environ.get("CC") or shutil.which("cc") or _program("gcc", "a C compiler")
-        # Undefined behaviour ends the node. The other sanitizers can't be preloaded into it.
+        compiler = os.environ.get("CC") or _program("cc", "a C compiler")
+        # Undefined behaviour ends the node. The other sanitizers can't be preloaded into it: peer/tests has them.
         subprocess.run(
             [compiler, "-std=c11", "-Wall", "-Wextra", "-Werror", "-O2", "-fPIC", "-shared", "-fvisibility=hidden",
              "-fsanitize=undefined", "-fsanitize-undefined-trap-on-error", f"-I{include}",
