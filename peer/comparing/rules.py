@@ -4,41 +4,57 @@ import re
 
 TABLE = pathlib.Path(__file__).resolve().parent.parent.parent / "docs/ERLANG-DIFFERENCES.md"
 GREATEST_DEADLINE = 8796093022207
+MILLISECOND = 1_000_000
+# What the driver writes for a process that has exited and so has no monitors.
+OF_EXITED = {"monitor": "monitor exited", "demonitor": "demonitor false", "notify": "notify 0"}
 
 
 class Seen:
-    """What the rules ask about the lines so far."""
+    """What the rules ask about ertime's lines so far."""
 
     def __init__(self, settings):
-        self.start = settings["start"]
+        self.start = self.now = settings["start"]
         self.offset = settings["first"][1] - settings["start"]
         self.exited = set()
-        self.keeps_offset = False
+        # The processes that were told since a finalization kept the offset; None before one.
+        self.told = None
 
     def add(self, op, line):
+        """Takes a line into account, after it was compared."""
         words = line.split()
         if op[0] == "exit":
             self.exited.add(op[1])
-        elif op[0] in ("tick", "check", "finalize") and "offset" in words:
-            offset = int(words[-1])
-            self.keeps_offset = op[0] == "finalize" and offset == self.offset
-            self.offset = offset
+        elif op[0] == "notify" and self.told is not None:
+            self.told.add(op[1])
+        elif op[0] in ("tick", "check", "finalize"):
+            self.now = int(words[2 if op[0] == "finalize" else 1])
+            if "offset" in words:
+                offset = int(words[-1])
+                if op[0] == "finalize" and offset == self.offset:
+                    self.told = set()
+                self.offset = offset
+
+    def deadline(self, op):
+        """The deadline of a start, in milliseconds after the start time."""
+        if op[3] == "rel":
+            return op[4] - (self.start - self.now) // MILLISECOND
+        return op[4] - self.start // MILLISECOND
 
 
 def change_at_finalization(op, ours, theirs, seen):
-    return op[0] == "notify" and seen.keeps_offset and ours == "notify 0" and re.fullmatch(r"notify \d+", theirs)
+    if op[0] != "notify" or seen.told is None or op[1] in seen.told:
+        return False
+    return ours == "notify 0" and re.fullmatch(r"notify [1-9]\d*", theirs)
 
 
-def exited_monitors(op, _ours, theirs, seen):
-    of_none = {"monitor": "monitor exited", "demonitor": "demonitor false", "notify": "notify 0"}
-    return op[0] in of_none and op[1] in seen.exited and theirs == of_none[op[0]]
+def exited_monitors(op, ours, theirs, seen):
+    return OF_EXITED.get(op[0]) == theirs and op[1] in seen.exited and ours.startswith(op[0] + " ")
 
 
 def greatest_deadline(op, ours, theirs, seen):
-    if op[0] not in ("start", "send_after") or not ours.endswith(" badarg") or not theirs.endswith(" ok"):
+    if op[0] not in ("start", "send_after") or (ours, theirs) != (f"{op[0]} badarg", f"{op[0]} ok"):
         return False
-    now = 2**62 // 1_000_000 if op[3] == "rel" else -seen.start // 1_000_000
-    return op[4] + now > GREATEST_DEADLINE
+    return seen.deadline(op) > GREATEST_DEADLINE
 
 
 def end_time(op, ours, theirs, _seen):
