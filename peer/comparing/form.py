@@ -5,7 +5,8 @@ whatever may make a timer due, and the rest goes by the rules of docs/ERLANG-DIF
 Each change is noted with its rule.
 """
 
-MILLISECOND = 1_000_000
+from comparing.rules import GREATEST_DEADLINE, MILLISECOND
+
 SECOND = 1_000_000_000
 READINGS = ("tick", "check", "finalize")
 STARTS = ("start", "send_after")
@@ -112,7 +113,7 @@ class Form:
         up = -(-(self.now - self.settings["start"]) // MILLISECOND)
         deadline = milliseconds + up if kind == "rel" else milliseconds - self.settings["start"] // MILLISECOND
         # How far ahead the timers of this deadline were started at most.
-        while self.deadlines.get(deadline, 0) > max(deadline - up, FAR):
+        while deadline < GREATEST_DEADLINE and self.deadlines.get(deadline, 0) > max(deadline - up, FAR):
             deadline += 1
             milliseconds += 1
             self._note("equal-deadlines")
