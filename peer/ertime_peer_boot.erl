@@ -8,7 +8,8 @@
 main() ->
     [Folder] = init:get_plain_arguments(),
     Path = [code:lib_dir(kernel) ++ "/ebin", code:lib_dir(stdlib) ++ "/ebin", Folder],
-    Modules = [error_handler, lists, maps, ertime_peer_clock, ertime_peer_process, ertime_peer],
+    Driver = [ertime_peer_clock, ertime_peer_process, ertime_peer_ops, ertime_peer],
+    Modules = [error_handler, lists, maps | Driver],
     Script = {script, {"ertime_peer", "1"}, [
         {preLoaded, erlang:pre_loaded()},
         {progress, preloaded},

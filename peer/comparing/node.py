@@ -7,7 +7,7 @@ import sys
 import tempfile
 
 HERE = pathlib.Path(__file__).resolve().parent.parent
-MODULES = ("ertime_peer_clock", "ertime_peer_process", "ertime_peer", "ertime_peer_boot")
+MODULES = ("ertime_peer_clock", "ertime_peer_process", "ertime_peer_ops", "ertime_peer", "ertime_peer_boot")
 MODES = {"no": "no_time_warp", "single": "single_time_warp", "multi": "multi_time_warp"}
 # OS monotonic time of the node for 0 of the scenario.
 OS_START = 1_000_000_000_000
@@ -86,7 +86,8 @@ class Build:
     def _run(self, settings, ops, folder):
         given, told = folder / "given", folder / "told"
         waits = settings["correction"] and settings["mode"] == "multi"
-        term = (settings["start"], tuple(settings["first"]), settings["processes"], OS_START, waits, [of_op(op) for op in ops])
+        term = (settings["start"], tuple(settings["first"]), settings["processes"], OS_START, waits,
+                [of_op(op) for op in ops])
         given.write_bytes(b"\x83" + encoded(term))
         monotonic, system = settings["first"]
         shared = self.folder / "ertime_peer_clock"
