@@ -16,6 +16,7 @@ class Seen:
         self.start = self.now = settings["start"]
         self.offset = settings["first"][1] - settings["start"]
         self.exited = set()
+        self.monitors = {}
         # The processes that were told since a finalization kept the offset; None before one.
         self.told = None
 
@@ -24,6 +25,8 @@ class Seen:
         words = line.split()
         if op[0] == "exit":
             self.exited.add(op[1])
+        elif op[0] == "monitor" and line != "monitor full":
+            self.monitors[op[1]] = self.monitors.get(op[1], 0) + 1
         elif op[0] == "notify" and self.told is not None:
             self.told.add(op[1])
         elif op[0] in ("tick", "check", "finalize"):
@@ -48,7 +51,12 @@ def change_at_finalization(op, ours, theirs, seen):
 
 
 def exited_monitors(op, ours, theirs, seen):
-    return OF_EXITED.get(op[0]) == theirs and op[1] in seen.exited and ours.startswith(op[0] + " ")
+    if OF_EXITED.get(op[0]) != theirs or op[1] not in seen.exited:
+        return False
+    made = seen.monitors.get(op[1], 0)
+    if op[0] == "notify":
+        return ours in (f"notify {count}" for count in range(1, made + 1))
+    return ours in (f"monitor {made}", "monitor full", "demonitor true")
 
 
 def greatest_deadline(op, ours, theirs, seen):
