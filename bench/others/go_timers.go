@@ -107,8 +107,8 @@ func startAll(waits []uint32, timers []*time.Timer) {
 	}
 }
 
-// clear stops timers, and lets the runtime forget them.
-func clear(timers []*time.Timer) {
+// forget stops timers, and lets the runtime forget them.
+func forget(timers []*time.Timer) {
 	for i, timer := range timers {
 		timer.Stop()
 		timers[i] = nil
@@ -138,7 +138,7 @@ func passStartCancel(what *measurement) time.Duration {
 		expect(timer.Stop())
 	}
 	taken := time.Since(begun)
-	clear(others)
+	forget(others)
 	return taken
 }
 
@@ -147,7 +147,7 @@ func passStart(what *measurement) time.Duration {
 	begun := time.Now()
 	startAll(what.waits, timers)
 	taken := time.Since(begun)
-	clear(timers)
+	forget(timers)
 	return taken
 }
 
@@ -163,7 +163,7 @@ func passCancel(what *measurement) time.Duration {
 	}
 	taken := time.Since(begun)
 	expect(late <= len(timers)/10)
-	clear(timers)
+	forget(timers)
 	return taken
 }
 
@@ -172,14 +172,14 @@ func passExpireAtOnce(what *measurement) time.Duration {
 	lead := 100*time.Millisecond + time.Duration(len(timers))*4*time.Microsecond
 	for tries := 0; !startDueAtOnce(timers, time.Now().Add(lead)); tries++ {
 		expect(tries < mostTries)
-		clear(timers)
+		forget(timers)
 	}
 	begun := time.Now()
 	for _, timer := range timers {
 		<-timer.C
 	}
 	taken := time.Since(begun)
-	clear(timers)
+	forget(timers)
 	return taken
 }
 
@@ -209,15 +209,20 @@ func resident() int {
 	return pages * os.Getpagesize()
 }
 
-// bytes gives the memory of timers that are outstanding, after a collection. Only the runtime holds them.
+// bytes gives the memory of timers that are outstanding, after a collection.
 func bytes(what *measurement) int {
-	runtime.GC()
-	before := resident()
-	for _, wait := range what.waits {
-		start(wait)
+	timers := make([]*time.Timer, len(what.waits))
+	touched := &time.Timer{}
+	for i := range timers {
+		timers[i] = touched
 	}
 	runtime.GC()
-	return resident() - before
+	before := resident()
+	startAll(what.waits, timers)
+	runtime.GC()
+	taken := resident() - before
+	runtime.KeepAlive(timers)
+	return taken
 }
 
 func measure(operation operation, what *measurement, passes int) {

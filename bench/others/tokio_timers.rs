@@ -26,7 +26,7 @@ use std::sync::Arc;
 use std::task::{Context, Poll, Wake, Waker};
 use std::time::Duration;
 use tokio::runtime::{Builder, Runtime};
-use tokio::time::{sleep, Instant, Sleep};
+use tokio::time::{sleep, Sleep};
 
 /// Over how many milliseconds deadlines are spread.
 const SPREAD: u32 = 60_000;
@@ -150,6 +150,7 @@ fn in_order(timers: Vec<Timer>, order: &[u32]) -> Vec<Timer> {
 #[cfg(not(feature = "by_hand"))]
 mod passes {
     use super::*;
+    use tokio::time::{sleep_until, Instant};
 
     /// The wait of a timer that is started and cancelled again.
     const TIMEOUT: Duration = Duration::from_secs(5);
@@ -205,7 +206,7 @@ mod passes {
         let due = Instant::now() + Duration::from_millis(1);
         let mut timers = Vec::with_capacity(what.waits.len());
         for _ in &what.waits {
-            timers.push(rig.start(tokio::time::sleep_until(due)));
+            timers.push(rig.start(sleep_until(due)));
         }
         drop(entered);
         std::thread::sleep(Duration::from_millis(3));
