@@ -3,14 +3,15 @@
 %% A start is erlang:start_timer/3 with the process itself as destination, and a cancel erlang:cancel_timer/1, as
 %% in ertime. The runtime has one scheduler (+S 1:1), so that all is done by one thread and no process moves from
 %% one scheduler to another. A start asks the operating system for the time, and makes a reference on the heap of
-%% the process. That heap has room for all that a pass makes, and is collected before each.
+%% the process. The heap is collected before each pass, and collections in a pass are in its time.
 %%
 %%     monotonic_time   erlang:monotonic_time/0, which asks the operating system
 %%     start_cancel     a timer is started and cancelled
 %%     start            after all timers of earlier passes were cancelled
 %%     cancel           in the order that all programs have
 %%     expire_at_once   all are due in one millisecond, of absolute time. The process yields until it has come,
-%%                      and receives each message: the time is that from the deadline to the last receive.
+%%                      and receives each message: the time is that from the deadline to the last receive. The
+%%                      heap has room for the messages, so that no collection falls into the time.
 %%
 %% Deadlines are in real time: of the spread ones a few pass before their timer is cancelled, which then answers
 %% false. expire_spread isn't here: a program can't set the runtime's clock.
@@ -35,9 +36,8 @@ main(["bytes", Timers | _]) ->
 main([Operation | Words]) ->
     [Timers, Calls, Passes] = [list_to_integer(Word) || Word <- Words],
     What = #measurement{calls = Calls, waits = spread_waits(Timers), order = random_order(Timers)},
-    %% A timer with its reference, its place in lists and its message takes less than 32 words.
-    Room = 100000 + 32 * max(Timers, Calls),
-    {_, Monitor} = spawn_opt(fun() -> run(Operation, What, Timers, Passes) end, [monitor, {min_heap_size, Room}]),
+    Room = [{min_heap_size, room(Operation, Timers)}],
+    {_, Monitor} = spawn_opt(fun() -> run(Operation, What, Timers, Passes) end, [monitor | Room]),
     receive
         {'DOWN', Monitor, process, _, normal} ->
             halt(0);
@@ -45,6 +45,10 @@ main([Operation | Words]) ->
             io:format(standard_error, "~p~n", [Why]),
             halt(1)
     end.
+
+%% The words that the heap has at least. A timer's reference, its place in a list and its message take less than 32.
+room("expire_at_once", Timers) -> 100000 + 32 * Timers;
+room(_, _) -> 1000.
 
 run("version", _, _, _) ->
     io:format("~s~n", [erlang:system_info(otp_release)]);
@@ -140,6 +144,7 @@ expire_at_once(What, Count, Lead) ->
     case erlang:monotonic_time(millisecond) < Due of
         true ->
             Begun = erlang:convert_time_unit(Due, millisecond, nanosecond),
+            sleep_until(Due - 3),
             yield_until(Begun),
             receive_all(Count),
             now_ns() - Begun;
@@ -152,6 +157,11 @@ start_all_at(0, _, Timers) ->
     Timers;
 start_all_at(Count, Due, Timers) ->
     start_all_at(Count - 1, Due, [erlang:start_timer(Due, self(), 7, [{abs, true}]) | Timers]).
+
+sleep_until(Then) ->
+    receive
+    after max(0, Then - erlang:monotonic_time(millisecond)) -> ok
+    end.
 
 yield_until(Then) ->
     case now_ns() < Then of

@@ -144,5 +144,7 @@ int main(int argc, char **argv)
     };
     char version[32];
     snprintf(version, sizeof version, "%d.%d", ev_version_major(), ev_version_minor());
-    return run(argc, argv, version, operations, sizeof operations / sizeof operations[0], bytes);
+    int status = run(argc, argv, version, operations, sizeof operations / sizeof operations[0], bytes);
+    free(watchers);
+    return status;
 }

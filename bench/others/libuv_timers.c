@@ -155,5 +155,7 @@ int main(int argc, char **argv)
         {"start", pass_start, 0},                   {"cancel", pass_cancel, 0},
         {"expire_at_once", pass_expire_at_once, 0},
     };
-    return run(argc, argv, uv_version_string(), operations, sizeof operations / sizeof operations[0], bytes);
+    int status = run(argc, argv, uv_version_string(), operations, sizeof operations / sizeof operations[0], bytes);
+    free(handles);
+    return status;
 }

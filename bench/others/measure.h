@@ -148,7 +148,34 @@ static inline void measure(const struct operation *operation, const struct measu
     printf("%.2f %.2f %zu\n", (double)taken[made / 2] / each, (double)taken[0] / each, made);
 }
 
-/* What the command line asks for: `bytes` is the memory of so many timers. */
+/* Prints what an operation asks for, and gives the status: `bytes` is the memory of so many timers. */
+static inline int answer(const char *word, const struct measurement *what, size_t passes, const char *version,
+                         const struct operation *operations, size_t count,
+                         uint64_t (*bytes)(const struct measurement *))
+{
+    if (strcmp(word, "version") == 0) {
+        puts(version);
+        return 0;
+    }
+    if (strcmp(word, "order") == 0) {
+        printf("%" PRIu32 " %" PRIu32 "\n", digest(what->waits, what->timers), digest(what->order, what->timers));
+        return 0;
+    }
+    if (strcmp(word, "bytes") == 0) {
+        printf("%.1f\n", (double)bytes(what) / (double)what->timers);
+        return 0;
+    }
+    for (size_t i = 0; i < count; i++) {
+        if (strcmp(word, operations[i].name) == 0 && passes > 0 && passes <= MOST_PASSES) {
+            measure(&operations[i], what, passes);
+            return 0;
+        }
+    }
+    fputs("no such operation, or no such number of passes\n", stderr);
+    return 2;
+}
+
+/* The program, but for what is measured. */
 static inline int run(int argc, char **argv, const char *version, const struct operation *operations,
                       size_t count, uint64_t (*bytes)(const struct measurement *))
 {
@@ -157,29 +184,12 @@ static inline int run(int argc, char **argv, const char *version, const struct o
         return 2;
     }
     struct measurement what = {.timers = strtoul(argv[2], NULL, 10), .calls = strtoul(argv[3], NULL, 10)};
-    size_t passes = strtoul(argv[4], NULL, 10);
     what.waits = spread_waits(what.timers);
     what.order = random_order(what.timers);
-    if (strcmp(argv[1], "version") == 0) {
-        puts(version);
-        return 0;
-    }
-    if (strcmp(argv[1], "order") == 0) {
-        printf("%" PRIu32 " %" PRIu32 "\n", digest(what.waits, what.timers), digest(what.order, what.timers));
-        return 0;
-    }
-    if (strcmp(argv[1], "bytes") == 0) {
-        printf("%.1f\n", (double)bytes(&what) / (double)what.timers);
-        return 0;
-    }
-    for (size_t i = 0; i < count; i++) {
-        if (strcmp(argv[1], operations[i].name) == 0 && passes > 0 && passes <= MOST_PASSES) {
-            measure(&operations[i], &what, passes);
-            return 0;
-        }
-    }
-    fputs("no such operation, or no such number of passes\n", stderr);
-    return 2;
+    int status = answer(argv[1], &what, strtoul(argv[4], NULL, 10), version, operations, count, bytes);
+    free(what.waits);
+    free(what.order);
+    return status;
 }
 
 #endif
