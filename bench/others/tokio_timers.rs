@@ -155,7 +155,7 @@ mod passes {
     /// The wait of a timer that is started and cancelled again.
     const TIMEOUT: Duration = Duration::from_secs(5);
 
-    pub fn monotonic_time(what: &Measurement) -> Duration {
+    pub(super) fn monotonic_time(what: &Measurement) -> Duration {
         let base = Instant::now();
         let mut sum = Duration::ZERO;
         let begun = std::time::Instant::now();
@@ -167,7 +167,7 @@ mod passes {
         taken
     }
 
-    pub fn start_cancel(what: &Measurement) -> Duration {
+    pub(super) fn start_cancel(what: &Measurement) -> Duration {
         let rig = Rig::open(false);
         let _entered = rig.runtime.enter();
         let mut others = Vec::with_capacity(what.waits.len());
@@ -179,7 +179,7 @@ mod passes {
         begun.elapsed()
     }
 
-    pub fn start(what: &Measurement) -> Duration {
+    pub(super) fn start(what: &Measurement) -> Duration {
         let rig = Rig::open(false);
         let _entered = rig.runtime.enter();
         let mut timers = Vec::with_capacity(what.waits.len());
@@ -188,7 +188,7 @@ mod passes {
         begun.elapsed()
     }
 
-    pub fn cancel(what: &Measurement) -> Duration {
+    pub(super) fn cancel(what: &Measurement) -> Duration {
         let rig = Rig::open(false);
         let _entered = rig.runtime.enter();
         let mut timers = Vec::with_capacity(what.waits.len());
@@ -200,7 +200,7 @@ mod passes {
         begun.elapsed()
     }
 
-    pub fn expire_at_once(what: &Measurement) -> Duration {
+    pub(super) fn expire_at_once(what: &Measurement) -> Duration {
         let rig = Rig::open(false);
         let entered = rig.runtime.enter();
         let due = Instant::now() + Duration::from_millis(1);
@@ -219,7 +219,7 @@ mod passes {
     }
 
     /// The memory of timers that are outstanding. Only the runtime's wheel refers to them.
-    pub fn bytes(what: &Measurement) -> u64 {
+    pub(super) fn bytes(what: &Measurement) -> u64 {
         let before = resident();
         let rig = Rig::open(false);
         let _entered = rig.runtime.enter();
@@ -243,7 +243,7 @@ mod passes {
 mod passes {
     use super::*;
 
-    pub fn expire_spread(what: &Measurement) -> Duration {
+    pub(super) fn expire_spread(what: &Measurement) -> Duration {
         let rig = Rig::open(true);
         let mut numbers: Vec<u32> = (0..what.waits.len() as u32).collect();
         numbers.sort_by_key(|i| what.waits[*i as usize]);
