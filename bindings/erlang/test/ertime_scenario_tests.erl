@@ -1,6 +1,7 @@
 %% The scenarios of `examples/ertime' are played through the package: their processes are processes, their messages messages, and
 %% the lines are those that `ertime run' prints. Those that have several schedulers, ops that are part of a turn, or requests and
-%% monitors, which the package serves and tells at once, aren't played.
+%% monitors, which the package serves and tells at once, aren't played, nor those with an offset that is too wide, which is an
+%% error here.
 -module(ertime_scenario_tests).
 
 -include_lib("eunit/include/eunit.hrl").
@@ -34,6 +35,7 @@ scenario(File) ->
             Ops = maps:get(<<"ops">>, Scenario),
             Playable =
                 maps:get(<<"schedulers">>, Scenario, 1) =:= 1 andalso not maps:is_key(<<"race">>, Scenario) andalso
+                    not lists:any(fun(Line) -> string:find(Line, "offset_wide") =/= nomatch end, lines(File)) andalso
                     lists:all(fun([Name | _]) -> lists:member(Name, ?OPS) end, Ops),
             [Scenario || Playable];
         _ ->
