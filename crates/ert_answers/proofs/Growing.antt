@@ -27,10 +27,6 @@ grows_then first second f h k one other = record {
 pub grows_as : (call other : Growth) (f h : List Entry) → ((m : List Entry) → call f m → other f m) → Grows call f h → Grows other f h
 grows_as call other f h as_other grows = record { piece = grows.piece; grown = grows.grown; made = as_other grows.piece grows.made }
 
--- no call
-pub grows_none : {A : Type 0} (call : A → Growth) (f : List Entry) → Grows (Many call []) f f
-grows_none call f = record { piece = []; grown = sym (append-nil f); made = refl }
-
 -- one call more
 pub many_more : {A : Type 0} (call : A → Growth) (answers : List A) (answer : A) (h m n : List Entry) → Many call answers h m
     → call answer (h ++ m) n → Many call (answers ++ answer ∷ []) h (m ++ n)

@@ -18,13 +18,6 @@ pub after_fits : (g : Settings) (f : Face) (r : Reading) → IsKept g f → IsVa
 after_fits g f r k v =
     time_fits g (ticked g f r Plain (time_after g f r)) k.checked (sound_tick g f r Plain k.sound v)
 
--- with correction it is that of the line
-pub on_line : (g : Settings) (f : Face) (r : Reading) (m x : ℤ) → g.correction ≡ true
-    → m ≡ mono_after f r → x ≡ line_time f.base m → x ≡ time_after g f r
-on_line g f r m x on e k =
-    let is : time_after g f r ≡ line_time f.base (mono_after f r) = rw on refl in
-    k ∙ ap (line_time f.base) e ∙ sym is
-
 -- without it, OS system time less the offset, or the time before
 pub off_line : (g : Settings) (f : Face) (r : Reading) (x : ℤ) → g.correction ≡ false
     → x ≡ int_max f.time (r.sys -ℤ f.offset) → x ≡ time_after g f r

@@ -56,20 +56,6 @@ stands_on g h m v st legal free =
     stands_kept g h (h ++ m) v st legal
     (ap (λ (s : State). s.clock) (state-append g h m) ∙ clock_stays g (state g h) m free)
 
--- so does a look of Keeper at the offset, made with a caller
-pub stands_off : (g : Settings) (h : List Entry) (n : ℕ) (v : Shown) (offset : ℤ) (s : OffsetState)
-    → n < g.callers → Stands g h v → offset ≡ v.face.offset → s ≡ v.face.state
-    → Stands g (h ++ keeper_entry n (Off offset s) ∷ []) v
-stands_off g h n v offset s below st offset_is state_is =
-    let e : Entry = keeper_entry n (Off offset s) in
-    let can : Can g (state g h) e = record {
-      keeps = below;
-      known = tt;
-      found = (offset_is ∙ ap (λ (f : Face). f.offset) st.face, state_is ∙ ap (λ (f : Face). f.state) st.face);
-    } in
-    stands_kept g h (h ++ e ∷ []) v st (legal_more g h e st.legal can)
-    (ap (λ (s : State). s.clock) (state-append g h (e ∷ [])))
-
 -- a tick of a clock that showed what this clock shows
 pub record TickOf (g : Settings) (c : Clock) (r : Reading) (act : Act) (m : Moved) (new : Shown) : Type 0 where
   pub valid : IsValid r

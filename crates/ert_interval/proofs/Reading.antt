@@ -31,9 +31,6 @@ pub piece_state : (a b : Service) (piece : List Entry) → b.settings ≡ a.sett
 piece_state a b piece settings grown =
     ap (λ g. state g b.history) settings ∙ (ap (state a.settings) grown ∙ state-append a.settings a.history piece)
 
-seen_alive : (x exited answer : Bool) → not answer ≡ exited → x ≡ exited → x ≡ not answer
-seen_alive x exited answer was is = is ∙ sym was
-
 or_none : (x b : Bool) → (x || (b && false)) ≡ x
 or_none true b = refl
 or_none false true = refl

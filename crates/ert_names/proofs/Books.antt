@@ -218,16 +218,6 @@ unset_again names name p free =
     at q true is = sym (ap (finite.get names) (equal_bytes q name is) ∙ free)
     at q false is = refl
 
--- what is without a name, where it wasn't there
-pub unset_none : (names : Names) (name : List ℕ) → finite.get names name ≡ None → finite.remove names name ≡ names
-unset_none names name free =
-    finite.same_map nat_list_cmp_total (finite.slice_cmp-IsAntisymmetric finite.nat_cmp-IsAntisymmetric) _ _
-    (λ q. finite.get-remove nat_list_cmp_total names name q ∙ at q (by_bytes q name) refl)
-  where
-    at : (q : List ℕ) (b : Bool) → by_bytes q name ≡ b → cond b None (finite.get names q) ≡ finite.get names q
-    at q true is = sym (ap (finite.get names) (equal_bytes q name is) ∙ free)
-    at q false is = refl
-
 -- the name of a process goes
 pub without_name : (names : Names) (named : Named) (name : List ℕ) (p : ℕ) → AreInverse names named → finite.get names name ≡ Some p
     → IsWithout names p (finite.remove names name)

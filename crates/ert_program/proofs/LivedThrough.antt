@@ -108,10 +108,6 @@ is_live first others w text lived = record {
 
 -- the readings that were taken
 
-pub before_none : (known : Option (List Reading)) → known ≡ readings_before [] known
-before_none None = refl
-before_none (Some rs) = refl
-
 before_more : (taken : List Reading) (r : Reading) (known : Option (List Reading))
     → readings_before taken (reading_before r known) ≡ readings_before (taken ++ r ∷ []) known
 before_more taken r None = refl

@@ -67,16 +67,6 @@ pub record ItemsSoFar (initial reader : List Token) (vs : List Value) : Type 0 w
   pub reads : (depth : ℕ)
       → converted of_items (items (value depth) (length initial) initial) ≡ parse_map (items_before vs) (converted of_items (items (value depth) n reader))
 
-pub items_start : (ts : List Token) (vs : List Value) → vs ≡ [] → ItemsSoFar ts ts vs
-items_start ts vs h = record {
-  n = length ts;
-  enough = omega arith;
-  within = omega arith;
-  reads = λ depth.
-      let all = converted of_items (items (value depth) (length ts) ts) in
-      none_before all ∙ ap (λ ws. parse_map (items_before ws) all) (sym h);
-}
-
 pub items_more : (initial ts rest : List Token) (t : Token) (vs : List Value) (v : Value) → ItemsSoFar initial ts vs → after_end_array ts ≡ None → ts ≡ t ∷ rest
     → scalar_of t ≡ Some (view v) → ItemsSoFar initial rest (vs ++ v ∷ [])
 items_more initial ts rest t vs v s going first is =
@@ -129,16 +119,6 @@ pub record OpsSoFar (format : Format) (initial reader : List Token) (ops : List 
   pub reads : (depth : ℕ)
       → converted of_items (items (value (suc depth)) (length initial) initial) ≡ parse_map (data_before values) (converted of_items (items (value (suc depth)) n reader))
   pub are : raws_of format Everyone values ≡ without_fault ops
-
-pub ops_start : (format : Format) (ts : List Token) (ops : List Op) → ops ≡ [] → OpsSoFar format ts ts ops
-ops_start format ts ops h = record {
-  n = length ts;
-  enough = omega arith;
-  within = omega arith;
-  values = [];
-  reads = λ depth. none_before (converted of_items (items (value (suc depth)) (length ts) ts));
-  are = ap without_fault (sym h);
-}
 
 pub ops_more : (format : Format) (initial ts rest : List Token) (ops : List Op) (op : Op) → OpsSoFar format initial ts ops → after_end_array ts ≡ None
     → ReadsOp format ts rest op → length rest < length ts → OpsSoFar format initial rest (ops ++ op ∷ [])

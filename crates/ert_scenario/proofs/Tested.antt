@@ -164,11 +164,3 @@ whole_walk g ops None all over h = over.faultless refl
 whole_walk g ops (Some place) all over h =
     let cut = over.faulty place refl in
     absurd (cut_has_fault g [] ops cut.0 1 (subst (λ (xs : List (Found Op)). first_range 1 (tested g [] xs) ≡ None) cut.1 h))
-
--- and its ops are all
-pub ops_of_all : (g : Settings) (ops : List Op) (range : Option ℕ) (all : List (Found Op)) → IsOver ops range all → first_range 1 (tested g [] all) ≡ None
-    → ops_of (tested g [] all) ≡ ops
-ops_of_all g ops range all over h =
-    let whole : all ≡ without_fault ops = whole_walk g ops range all over h in
-    ap (λ (xs : List (Found Op)). ops_of (tested g [] xs)) whole
-    ∙ ops_kept g [] ops 1 (subst (λ (xs : List (Found Op)). first_range 1 (tested g [] xs) ≡ None) whole h)

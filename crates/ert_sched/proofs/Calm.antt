@@ -38,9 +38,6 @@ use Rattle.ert_sched.proofs.Armed.{AreCalm}
 calm_as : (es fs : List Entry) → es ≡ fs → AreCalm fs → AreCalm es
 calm_as es fs same calm = subst AreCalm (sym same) calm
 
-only_as : (actors : List Actor) (es fs : List Entry) → es ≡ fs → AreOnlyOf actors fs → AreOnlyOf actors es
-only_as actors es fs same only = subst (AreOnlyOf actors) (sym same) only
-
 pub takes_calm : (g : Settings) (by process : ℕ) (answer : Taken) (s : State) (es : List Entry) → Takes g by process answer s es → AreCalm es
 takes_calm g by process Exited s es takes = calm_as es _ takes (refl, tt)
 takes_calm g by process Empty s es takes = calm_as es _ takes (refl, (refl, tt))

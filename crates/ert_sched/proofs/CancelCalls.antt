@@ -136,10 +136,6 @@ goes_forgetting timer left old mid new call goes forgets = record {
   tidy = λ i low tidy. forgets.tidy i (rw goes.settings low) (goes.tidy i low tidy);
 }
 
--- and one that cancelled none
-pub goes_sparing : (timer : TimerRef) (old new : Service) (call : Growth) → GoesBut timer None old call new → Goes old call new
-goes_sparing timer old new call goes = record { grows = goes.grows; settings = goes.settings; labels = goes.labels; tidy = goes.tidy }
-
 -- a call that cancelled a timer if anything was left of it, which was so
 pub goes_forgetting_some : (timer : TimerRef) (left : Option ℕ) (old mid new : Service) (call : Growth) → left ≢ None → GoesBut timer left old call mid
     → Forgets timer mid new → Goes old call new

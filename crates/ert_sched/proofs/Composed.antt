@@ -163,10 +163,6 @@ turned a b c d w t one two three =
     (λ g. Then (AdvancesWheel g (alone g) w (Ok (t.to, t.fired))) (Delivers g (alone g) w (Ok (t.put, t.dropped)))) one
     (goes_then b c d (AdvancesWheel b.settings (alone b.settings) w (Ok (t.to, t.fired))) (λ g. Delivers g (alone g) w (Ok (t.put, t.dropped))) two three)
 
-pub turn_unserved : (a b : Service) (w : ℕ) (e : NoMemory) → Goes a (ServesAll a.settings (alone a.settings) w (Err e)) b
-    → Goes a (Turns a.settings (alone a.settings) w (Err e)) b
-turn_unserved a b w e one = goes_as a b _ (Turns a.settings (alone a.settings) w (Err e)) (λ m steps. inl steps) one
-
 pub turn_unadvanced : (a b c : Service) (w served : ℕ) (e : NoMemory) → Goes a (ServesAll a.settings (alone a.settings) w (Ok served)) b
     → Goes b (AdvancesWheel b.settings (alone b.settings) w (Err e)) c → Goes a (Turns a.settings (alone a.settings) w (Err e)) c
 turn_unadvanced a b c w served e one two =

@@ -64,10 +64,6 @@ unserved g way f h k w request e one other =
     grows_as _ (Serves g way w (Err e)) f k (λ m steps. record { request = request; steps = steps })
     (grows_then (Holds g way w (Some request)) (way (MailOf request.reply_to ∷ []) (Answers g w request (Err e))) f h k one other)
 
--- no request is served
-pub served_none : (g : Settings) (way : Way) (f : List Entry) (w : ℕ) → Grows (ServesMany g way w 0) f f
-served_none g way f w = record { piece = []; grown = sym (append-nil f); made = refl }
-
 arith_suc : (n : ℕ) → suc n ≡ n + 1
 arith_suc n = omega arith
 
@@ -134,9 +130,6 @@ pub turned : (g : Settings) (way : Way) (f h i k : List Entry) (w : ℕ) (t : Tu
 turned g way f h i k w t one two three =
     grows_then (ServesAll g way w (Ok t.served)) _ f h k one
     (grows_then (AdvancesWheel g way w (Ok (t.to, t.fired))) (Delivers g way w (Ok (t.put, t.dropped))) h i k two three)
-
-pub turn_unserved : (g : Settings) (way : Way) (f h : List Entry) (w : ℕ) (e : NoMemory) → Grows (ServesAll g way w (Err e)) f h → Grows (Turns g way w (Err e)) f h
-turn_unserved g way f h w e one = grows_as _ (Turns g way w (Err e)) f h (λ m steps. inl steps) one
 
 pub turn_unadvanced : (g : Settings) (way : Way) (f h i : List Entry) (w served : ℕ) (e : NoMemory) → Grows (ServesAll g way w (Ok served)) f h
     → Grows (AdvancesWheel g way w (Err e)) h i → Grows (Turns g way w (Err e)) f i

@@ -53,10 +53,6 @@ each_none [] none (suc i) = refl
 each_none (x ∷ places) none zero = none 0
 each_none (x ∷ places) none (suc i) = each_none places (λ k. none (suc k)) i
 
--- no place, and one place more with nothing in it
-pub empty_none : {X : Type 0} (places : List (Option X)) → places ≡ [] → AreEmpty 0 places
-empty_none places is = rw is record { counted = refl; none = refl; each = λ i. refl }
-
 pub empty_more : {X : Type 0} (n : ℕ) (places : List (Option X)) → AreEmpty n places → AreEmpty (n + 1) (places ++ None ∷ [])
 empty_more n places are = record {
   counted = length-append places (None ∷ []) ∙ ap (λ k. k + 1) are.counted;
@@ -71,19 +67,6 @@ keeper_on g f h part longer same legal stands =
     (ap (λ l. (state g l).clock) longer.grown
     ∙ (ap (λ (s : State). s.clock) (state-append g f longer.later)
     ∙ clock_stays g (state g f) longer.later (free_later Keeper f h longer same)))
-
--- a pass of the named desk belongs to it
-pub belongs_to : (table : TableId) (g : Settings) (d : Desk) (p : Pass) → IsDesk table g d → IsPassOf table g p → Belongs d p
-belongs_to table g d p desk is = record {
-  table = is.table_is ∙ sym desk.table_is;
-  named = is.named ∙ ap (λ s. Some s) (sym desk.settings_is);
-}
-
-pub own_belongs : (table : TableId) (g : Settings) (d : Desk) (p : Pass) (a : Actor) → IsDesk table g d → IsOf table g a p → Belongs d p
-own_belongs table g d p a desk is = record {
-  table = is.table_is ∙ sym desk.table_is;
-  named = is.named ∙ ap (λ s. Some s) (sym desk.settings_is);
-}
 
 -- the parts as they were when their passes were joined, one sort after the other
 pub record AreJoined (g : Settings) (own vk vw vi vm vs vc : View) (parts : AllParts) : Type 0 where

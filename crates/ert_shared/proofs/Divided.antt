@@ -16,21 +16,6 @@ use Rattle.ert_table.specs.Held.{is_held, actors_but}
 abbrev pub AreApart : (ℕ → Actor) → Type 0
 AreApart sort = (m n : ℕ) → nat_eq m n ≡ false → same_actor (sort m) (sort n) ≡ false
 
-pub divides_first : {X : Type 0} (number : X → ℕ) (stands : X → Type 0) (sort : ℕ → Actor) (count : ℕ) (actors : List Actor) (xs : List X)
-    → AreOrdered number stands sort [] count xs → ((i : ℕ) → i < count → is_held actors (sort i) ≡ true)
-    → Divides number stands sort count actors actors 0 xs
-divides_first number stands sort count actors xs ordered held = record {
-  sum = none (length xs) ∙ ordered.counted;
-  each = λ j d low.
-      let below : j < count = rw (← ordered.counted) low in
-      (ordered.named j d below ∙ sym (none j), ordered.stand j d below refl);
-  held = λ i _ low. held i low;
-  kept = record { others = λ a apart is. is };
-}
-  where
-    none : (n : ℕ) → 0 + n ≡ n
-    none n = omega arith
-
 numbers_apart : (m n : ℕ) → m ≢ n → nat_eq m n ≡ false
 numbers_apart m n ne = by_test (nat_eq m n) refl
   where
@@ -94,13 +79,6 @@ divides_next number stands sort count first now new done more x items left apart
     less : (i done more : ℕ) → more ≤ i → more ≡ done + 1 → done ≤ i
     less i done more low one_more = omega (arith, low, one_more)
 
--- nothing is left once all have been taken out
-pub all_out : {X : Type 0} (number : X → ℕ) (stands : X → Type 0) (sort : ℕ → Actor) (count : ℕ) (first now : List Actor) (done : ℕ) (left : List X)
-    → length left ≡ 0 → Divides number stands sort count first now done left → done ≡ count
-all_out number stands sort count first now done left none divides =
-    let sum : done + length left ≡ count = divides.sum in
-    omega (arith, sum, none)
-
 -- one seat more
 pub seats_more : {S : Type 0} (number : S → ℕ) (front : S → List Entry) (n : ℕ) (h : List Entry) (seats : List S) (s : S) → AreSeated number front n h seats
     → number s ≡ n → front s ≡ h → AreSeated number front (n + 1) h (seats ++ s ∷ [])
@@ -122,19 +100,9 @@ seats_more number front n h seats s are named shows = record {
         let within : i < n = below low other in
         subst (λ x. (number x ≡ i) × (front x ≡ h)) (sym (get_or_append_left seats (s ∷ []) d i (rw are.counted within))) (are.each i d within)
 
-pub seats_none : {S : Type 0} (number : S → ℕ) (front : S → List Entry) (h : List Entry) (seats : List S) → seats ≡ [] → AreSeated number front 0 h seats
-seats_none number front h seats none = record { counted = ap length none; each = λ i d low. absurd (omega (arith, low)) }
-
 -- actors with later numbers are held still
 pub held_next : (sort : ℕ → Actor) (now new : List Actor) (done count : ℕ) → AreApart sort → new ≡ actors_but now (sort done)
     → ((i : ℕ) → done ≤ i → i < count → is_held now (sort i) ≡ true) → (i : ℕ) → done + 1 ≤ i → i < count → is_held new (sort i) ≡ true
 held_next sort now new done count apart rest held i low below =
     let other : nat_eq i done ≡ false = numbers_apart i done (λ (at : i ≡ done). absurd (omega (arith, low, at))) in
     subst (λ l. is_held l (sort i) ≡ true) (sym rest) (held_but_other now (sort done) (sort i) (apart i done other) (held i (omega (arith, low)) below))
-
--- parts in order stand for the same history by another name
-pub ordered_at : {X : Type 0} (number : X → ℕ) (stands : Settings → List Entry → X → Type 0) (sort : ℕ → Actor) (count : Settings → ℕ) (s g : Settings) (h f : List Entry) (xs : List X)
-    → s ≡ g → f ≡ h → AreOrdered number (stands s h) sort [] (count s) xs → AreOrdered number (stands g f) sort [] (count g) xs
-ordered_at number stands sort count s g h f xs settings front ordered =
-    subst (λ l. AreOrdered number (stands g l) sort [] (count g) xs) (sym front)
-    (subst (λ t. AreOrdered number (stands t h) sort [] (count t) xs) settings ordered)

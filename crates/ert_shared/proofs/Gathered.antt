@@ -17,9 +17,6 @@ use Rattle.ert_table.specs.Held.{is_held}
 use Rattle.ert_table.specs.Views.{Begins, Joined, meeting}
 use Rattle.ert_table.specs.declared.view.View.{View}
 
-pub seen_self : (v : View) → IsSeen v v
-seen_self v = record { begins = record { later = []; grown = sym (append-nil v.front) }; held = λ a is. is; own = λ a is. refl }
-
 pub seen_then : (u v w : View) → IsSeen u v → IsSeen v w → IsSeen u w
 seen_then u v w one other = record {
   begins = record {
@@ -172,17 +169,6 @@ all_in {X} number stands sort count v places gathered full = record {
 
     no_none : (i : ℕ) → i < count → slice_index_or places i None ≡ None → ⊥
     no_none i low none = is_full places i all (rw gathered.counted low) none
-
--- no part, and one part more, of those that stand in order
-pub in_none : {X : Type 0} (number : X → ℕ) (stands : List Entry → X → Type 0) (sort : ℕ → Actor) (v : View) (xs : List X) → xs ≡ [] → AreIn number stands sort 0 v xs
-in_none number stands sort v xs none = record {
-  ordered = record {
-    counted = ap length none;
-    named = λ i d low. absurd (omega (arith, low));
-    stand = λ i d low left. absurd (omega (arith, low));
-  };
-  held = λ i low. absurd (omega (arith, low));
-}
 
 pub in_more : {X : Type 0} (number : X → ℕ) (stands : List Entry → X → Type 0) (sort : ℕ → Actor) (n : ℕ) (v : View) (xs : List X) (x : X)
     → AreIn number stands sort n v xs → number x ≡ n → stands v.front x → is_held v.actors (sort n) ≡ true → AreIn number stands sort (n + 1) v (xs ++ x ∷ [])

@@ -32,19 +32,6 @@ all_one P x one (suc k) d low = absurd (omega (arith, low))
 all_more : {S : Type 0} (P : S → Type 0) (xs : List S) (x : S) → All P xs → P x → All P (xs ++ x ∷ [])
 all_more P xs x all one = All-append P xs (x ∷ []) all (all_one P x one)
 
-pub joins_first : {S : Type 0} (number : S → ℕ) (view : S → View) (sort : ℕ → Actor) (count : ℕ) (now : View) (seats : List S)
-    → AreNumbered number count seats → Joins number view sort count now [] seats seats
-joins_first number view sort count now seats are = record {
-  all = refl;
-  sum = zero_plus (length seats) ∙ are.counted;
-  seen = λ k d low. absurd (omega (arith, low));
-  each = λ j d low. are.each j d (rw (← are.counted) low) ∙ sym (zero_plus j);
-  held = λ i low. absurd (omega (arith, low));
-}
-  where
-    zero_plus : (n : ℕ) → 0 + n ≡ n
-    zero_plus n = omega arith
-
 pub joins_next : {S : Type 0} (number : S → ℕ) (view : S → View) (sort : ℕ → Actor) (count : ℕ) (v j : View) (joined items left seats : List S) (x : S)
     → items ≡ x ∷ left → j.actors ≡ v.actors ++ (view x).actors → Joined (meeting v (view x)) j.front → (view x).actors ≡ sort (number x) ∷ []
     → Joins number view sort count v joined items seats → Joins number view sort count j (joined ++ x ∷ []) left seats

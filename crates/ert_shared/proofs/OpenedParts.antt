@@ -22,13 +22,6 @@ pub stand_at : (table : TableId) (g : Settings) (d : Desk) (p : Pass) (parts : A
 stand_at table g d p parts h desk fit front =
     subst (λ l. Stand g l [] parts) (sym front) (subst (λ t. Stand t (front_of p) [] parts) desk.settings_is fit.stand)
 
-pub keeper_at : (table : TableId) (g : Settings) (d : Desk) (p own : Pass) (parts : AllParts) → IsDesk table g d → AreFit d p parts → Belongs d own
-    → actors_of own ≡ Keeper ∷ [] → front_of own ≡ front_of p → IsKeeper table g parts.keeper own
-keeper_at table g d p own parts desk fit belongs actors front = record {
-  sits = is_of table g Keeper d own desk belongs actors;
-  stands = (stand_at table g d p parts (front_of own) desk fit front).keeper refl;
-}
-
 -- all actors but the clock's are held once that was taken out
 pub held_at : (table : TableId) (g : Settings) (d : Desk) (p q : Pass) (parts : AllParts) (a : Actor) → IsDesk table g d → AreFit d p parts
     → actors_of q ≡ actors_but (actors_of p) Keeper → same_actor a Keeper ≡ false → IsActor g a → is_held (actors_of q) a ≡ true

@@ -342,8 +342,3 @@ settled_in g a by wheel start (Ok timer) f p named exited call =
     let clash : true ≡ false = sym here ∙ isnt in
     absurd cc))
 settled_in g a by wheel start (Err e) f p named exited call = tt
-
--- a scheduler whose part has no expired timer has none
-pub none_waits : (g : Settings) (h : List Entry) (w : ℕ) (part : SchedPart) → part.wheel ≡ w → SchedStands g h part → first_of part.fired.rows ≡ None
-    → NoneWaits (state g h) w
-none_waits g h w part at stands none = subst (λ n. NoneWaits (state g h) n) at (sym stands.fired ∙ none_first part.fired.rows none)

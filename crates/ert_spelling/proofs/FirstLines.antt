@@ -30,9 +30,6 @@ pub entry_line_none : (bytes line rest : List ℕ) → IsCut 10 bytes line rest 
 entry_line_none bytes line rest cut read begins =
     line_none entry entry_some bytes line rest cut read begins.entry begins.rest begins.line.fits begins.line.text
 
-pub entry_line_free : (bytes : List ℕ) → IsFree 10 bytes → BeginsWithEntry bytes → ⊥
-entry_line_free bytes free begins = free_line bytes (entry_words begins.entry) begins.rest free begins.line.text
-
 pub settings_line_read : (bytes line rest : List ℕ) (g : Settings)
     → IsCut 10 bytes line rest → whole settings_at (words_in line) ≡ Some g → IsChecked g → IsSettingsLine bytes g rest
 settings_line_read bytes line rest g cut read checked =

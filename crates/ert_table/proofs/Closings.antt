@@ -34,9 +34,6 @@ user_in_range g (Caller n) h = h
 user_in_range g (Sched n) h = h
 user_in_range g _ h = absurd h
 
-user_alone : (g : Settings) (by : Actor) (with : Option Actor) → IsUser g by × (with ≡ None) → IsActor g by
-user_alone g by with h = user_in_range g by h.0
-
 prober_in_range : (g : Settings) (w : ℕ) (by : Actor) → w < g.schedulers → IsProber g w by → IsActor g by
 prober_in_range g w (Caller n) lt h = h
 prober_in_range g w (Sched n) lt h = subst (λ x. x < g.schedulers) (sym h) lt

@@ -163,12 +163,3 @@ whole_everyone g (Caller n) h =
     held_then (upto Wheel g.schedulers) _ (Caller n) (held_then (upto Inbox g.schedulers) _ (Caller n)
     (held_then (upto Sched g.schedulers) _ (Caller n) (held_then (upto MailOf g.processes) _ (Caller n)
     (upto_held Caller (λ m n. eq-eqb m n) g.callers n h))))
-
--- what a pass holds that is divided, the two hold after that
-pub whole_divided : (g : Settings) (actors : List Actor) (a : Actor) → IsWhole g actors → IsWhole g (actors_but actors a ++ a ∷ [])
-whole_divided g actors a whole b ranged =
-    ⊎_elim
-    (λ same. held_then (actors_but actors a) (a ∷ []) b
-    (subst (λ c. is_held (a ∷ []) c ≡ true) (sym (same_actor-true b a same)) (or_left (same_actor a a) false (same_actor_self a))))
-    (λ differs. held_first (actors_but actors a) (a ∷ []) b (held_but_other actors a b differs (whole b ranged)))
-    (tells (same_actor b a))

@@ -38,9 +38,6 @@ IsOwnBy g actors part = (s : State) (e : Entry) → is_ours actors e ≡ false �
 pub mail_own : (g : Settings) (actors : List Actor) (p : ℕ) → is_held actors (MailOf p) ≡ true → IsOwnBy g actors (λ (s : State). s.mails p)
 mail_own g actors p held s e not = rw (not_of actors e (MailOf p) not held) refl
 
-pub inbox_own : (g : Settings) (actors : List Actor) (w : ℕ) → is_held actors (Inbox w) ≡ true → IsOwnBy g actors (λ (s : State). s.inboxes w)
-inbox_own g actors w held s e not = rw (not_of actors e (Inbox w) not held) refl
-
 pub sched_own : (g : Settings) (actors : List Actor) (w : ℕ) → is_held actors (Sched w) ≡ true → IsOwnBy g actors (λ (s : State). s.scheds w)
 sched_own g actors w held s e not = rw (not_of actors e (Sched w) not held) refl
 

@@ -95,16 +95,6 @@ misses_none g v p stands = record {
   look = refl;
 }
 
--- a scheduler may look at a slot of its own wheel
-pub may_look : (g : Settings) (v : View) (p : Part) (k w : ℕ) (found : Option Status) → Stands g v.front p → HoldsSched v p.number
-    → w ≡ p.number → k < length p.slots → MayStep g v (probe_entry (Sched w) w k found)
-may_look g v p k w found stands holds number low =
-    subst (λ n. MayStep g v (probe_entry (Sched n) n k found)) (sym number) (record {
-      ours = (holds.sched, holds.wheel);
-      keeps = (refl, refl, record { wheel_high = stands.holds.number; slot_high = subst (λ n. k < n) stands.holds.many low });
-      known = tt;
-    })
-
 module _ (g : Settings) (v : View) (p : Part) (k : ℕ) (found : Option Status) (u : View) (stands : Stands g v.front p)
     (holds : HoldsSched v p.number) (low : k < length p.slots) (step : Appends g v (probe_entry (Sched p.number) p.number k found) u) where
   abbrev looked : Entry

@@ -79,7 +79,3 @@ tidy_gone g v e u p k step low others =
 pub tidy_then : (g : Settings) (v : View) (p q : Part) (u : View) (r : Part) (w : View) → u.actors ≡ v.actors → KeepsTidy g v p q u
     → KeepsTidy g u q r w → KeepsTidy g v p r w
 tidy_then g v p q u r w same first second whole tidy = second (subst (IsWhole g) (sym same) whole) (first whole tidy)
-
--- the same part under another name
-pub tidy_as : (g : Settings) (v : View) (p q r : Part) (u : View) → r ≡ q → KeepsTidy g v p q u → KeepsTidy g v p r u
-tidy_as g v p q r u same keeps = subst (λ (x : Part). KeepsTidy g v p x u) (sym same) keeps

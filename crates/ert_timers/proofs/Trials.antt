@@ -248,11 +248,6 @@ pub when_none : (g : Settings) (v : View) (p q : Part) (r : Result ℕ NoMemory)
 when_none g v p q (Ok to) old new u is f = absurd cc
 when_none g v p q (Err e) old new u is f = f e
 
-pub when_err : (g : Settings) (v : View) (w : ℕ) (r : Result ℕ NoMemory) (old new : Queue) (u : View) → IsErr r
-    → ((e : NoMemory) → HasNotExpired g v w e old new u) → IsAdvanced g v w r old new u
-when_err g v w (Ok to) old new u is f = absurd cc
-when_err g v w (Err e) old new u is f = f e
-
 -- the due rows that the wheel tells
 pub are_due : (p : Part) (to : ℕ) (rows : List WheelRow) → ((k : ℕ) → times k rows ≡ due_at to (key_in p.keys k))
     → All (λ row. key_in p.keys row.slot ≡ Some (key_of row)) rows → IsSortedBy comes_before rows → AreDue p to rows

@@ -116,12 +116,6 @@ pairs_others P (x ∷ xs) (y ∷ ys) h = h.1
 pairs_others P [] (y ∷ ys) h = absurd h
 pairs_others P (x ∷ xs) [] h = absurd h
 
-pub pairs-length : {X : Type 0} (P : X → X → Type 0) (xs ys : List X) → Pairs P xs ys → length xs ≡ length ys
-pairs-length P [] [] h = refl
-pairs-length P (x ∷ xs) (y ∷ ys) h = let e : length xs ≡ length ys = pairs-length P xs ys h.1 in cc
-pairs-length P [] (y ∷ ys) h = absurd h
-pairs-length P (x ∷ xs) [] h = absurd h
-
 -- what changes where the relation grows
 
 pub row_grows : (R S : Names) → Grows R S → (a b : Row) → SameRow R a b → SameRow S a b
@@ -216,7 +210,3 @@ with_row_same R xs ys None None h k = h
 with_row_same R xs ys (Some x) (Some y) h k = pairs-append (SameRow R) xs ys (x ∷ []) (y ∷ []) h (k, tt)
 with_row_same R xs ys None (Some y) h k = absurd k
 with_row_same R xs ys (Some x) None h k = absurd k
-
-pub changes_self : (R : Names) (xs : List Mail) → ((x : Mail) → SameMail R x x) → Pairs (SameMail R) xs xs
-changes_self R [] h = tt
-changes_self R (x ∷ xs) h = (h x, changes_self R xs h)

@@ -176,13 +176,6 @@ pub record IsLeast (mask next time bound : ℕ) (keys : List (Option Key)) (leas
       → home_by mask next key ≡ bucket_of mask t → least ≤ key.deadline
   pub near : IsDueAt keys least ⊎ (least ≡ bound)
 
-pub visits_none : (mask next bound : ℕ) (keys : List (Option Key)) → IsLeast mask next next bound keys bound
-visits_none mask next bound keys = record {
-  low = omega arith;
-  below = λ j key t has up low same. absurd (omega arith);
-  near = inr refl;
-}
-
 -- one more is
 visits_one : (mask next time bound bucket : ℕ) (keys : List (Option Key)) (least new : ℕ)
     → IsLeast mask next time bound keys least → bucket ≡ bucket_of mask time
