@@ -6,6 +6,8 @@
 #[cfg(test)]
 mod clock;
 #[cfg(test)]
+mod examples;
+#[cfg(test)]
 mod os_clocks;
 #[cfg(test)]
 mod stamps;

@@ -18,6 +18,15 @@ pub(crate) const CALLER: u32 = 0;
 /// The clock and timer service, for one thread: a desk, the pass with every actor, and every part.
 ///
 /// The calls of schedulers are made by the scheduler that is named, and all others by caller 0.
+///
+///     let mut world = World::open(alloc, &SETTINGS)?;
+///     assert!(rt; world.settings().schedulers == 1 && world.settings().processes == 1);
+///     let start = Start { when: When::After(50), dest: 0, msg: 7, kind: Kind::Wrapped };
+///     let timer = world.start(0, &start);             // on the wheel of scheduler 0, for process 0
+///     let reading = Reading { mono: 50_000_000, sys: 50_000_000 };
+///     let moved = world.tick(reading, false);         // the clock takes a reading
+///     world.turn(0)?;                                 // the timer expires, and its message is delivered
+///     let message = world.take(0);                    // Taken::Mail(Mail::Timeout { timer, msg: 7 })
 #[derive(Drop)]
 pub struct World {
     pub(crate) desk: Desk,

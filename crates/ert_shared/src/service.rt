@@ -19,6 +19,14 @@ use std::sync::Mutex;
 pub(crate) type PaddedLock<T> = CachePadded<Mutex<T>>;
 
 /// The clock and timer service for many threads, on the desk that `L` names.
+///
+///     let (seat, started) = service.start(rt, seat, 0, start);    // takes the lock of wheel 0
+///     let Ok(timer) = started else {
+///         return (seat, None);
+///     };
+///     let CallerSeat { number, mut pass, .. } = seat;
+///     let left = cancel_timer(service.desk(), &mut pass, Actor::Caller(number), timer);   // takes none
+///     (CallerSeat::new(number, pass), left)
 #[derive(Drop)]
 pub struct Service<L: DeskName> {
     pub(crate) desk: Desk,

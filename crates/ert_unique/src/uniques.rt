@@ -14,6 +14,12 @@ pub struct Spent;
 
 /// The unique integers of a system: the word that threads share by a `&`. It has the greatest monotonic
 /// number that was drawn.
+///
+///     let (uniques, mut passes) = Uniques::open(alloc, 1)?;
+///     let mut pass = passes.pop().expect(rt, "a pass for each thread");
+///     let first = uniques.monotonic(&mut pass);       // 1
+///     let second = uniques.monotonic(&mut pass);      // 2, above all that were drawn
+///     let plain = pass.plain();                       // 1: a pass has plain numbers of its own
 #[derive(Drop)]
 pub struct Uniques {
     pub(crate) table: Table<(), View, u32, UniqueRule, Global>,

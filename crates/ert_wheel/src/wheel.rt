@@ -16,6 +16,11 @@ pub const LOOK_AHEAD: u64 = 1_024;
 /// It has room for one row of each slot below a number that is fixed when it is made, and takes no
 /// memory after that. A contract sees it as the list of the slots' keys, with None for a slot without a
 /// row.
+///
+///     let mut wheel = Wheel::new(alloc, 64)?;
+///     let mut due = Vec::with_capacity(alloc, 64)?;
+///     wheel.insert(Row { deadline: 20, order: 0, slot: 3 });
+///     wheel.advance(20, &mut due);        // gives that row, and takes it out
 #[derive(Drop)]
 pub struct Wheel {
     // A time's bucket is its low bits, which this masks.

@@ -11,6 +11,8 @@ mod compare;
 #[cfg(test)]
 mod crossing;
 #[cfg(test)]
+mod examples;
+#[cfg(test)]
 mod intervals;
 #[cfg(test)]
 mod names;
