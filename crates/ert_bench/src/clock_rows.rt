@@ -1,6 +1,6 @@
 //! The clock: time is read, and readings are taken.
 use crate::bench_err::{BenchErr, expect};
-use crate::passes::{PASSES, Passes};
+use crate::passes::{Passes, Work, time};
 use crate::rig::Rig;
 use crate::stopwatch::Stopwatch;
 use ert_defs::Mode;
@@ -10,53 +10,79 @@ use std::alloc::Global;
 /// How many calls a pass makes.
 const CALLS: u32 = 1_000_000;
 
-pub(crate) fn monotonic_time<C: OsClock>(
+/// Which time is read.
+#[derive(Clone, Copy)]
+pub(crate) enum Time {
+    Monotonic,
+    System,
+}
+
+/// Reads the time of a world whose times are the same.
+#[derive(Drop)]
+struct Reads {
+    rig: Rig,
+    time: Time,
+    now: i64,
+}
+
+impl Work for Reads {
+    type World = ();
+
+    fn prepare(&mut self) -> Result<(), BenchErr> {
+        Ok(())
+    }
+
+    fn run(&mut self, _: &mut ()) -> Result<(), BenchErr> {
+        let sum = match self.time {
+            Time::Monotonic => self.rig.monotonic_times(CALLS),
+            Time::System => self.rig.system_times(CALLS),
+        };
+        expect(sum == self.now.wrapping_mul(CALLS as i64))
+    }
+}
+
+pub(crate) fn read<C: OsClock>(
     alloc: Global,
     watch: &mut Stopwatch<C>,
+    which: Time,
 ) -> Result<Passes, BenchErr> {
     let mut rig = Rig::open(alloc, 0, Mode::No)?;
     let now = rig.tick(1, false)?;
-    let mut passes = Passes::new(alloc, CALLS);
-    for _ in 0..PASSES {
-        watch.start()?;
-        let sum = rig.monotonic_times(CALLS);
-        passes.add(watch.elapsed()?)?;
-        expect(sum == now.wrapping_mul(CALLS as i64))?;
-    }
-    Ok(passes)
+    let reads = Reads {
+        rig,
+        time: which,
+        now,
+    };
+    time(alloc, watch, CALLS, reads)
 }
 
-pub(crate) fn system_time<C: OsClock>(
-    alloc: Global,
-    watch: &mut Stopwatch<C>,
-) -> Result<Passes, BenchErr> {
-    let mut rig = Rig::open(alloc, 0, Mode::No)?;
-    let now = rig.tick(1, false)?;
-    let mut passes = Passes::new(alloc, CALLS);
-    for _ in 0..PASSES {
-        watch.start()?;
-        let sum = rig.system_times(CALLS);
-        passes.add(watch.elapsed()?)?;
-        expect(sum == now.wrapping_mul(CALLS as i64))?;
-    }
-    Ok(passes)
+/// Takes readings with a microsecond between them.
+#[derive(Drop)]
+struct Ticks {
+    rig: Rig,
+    now: i64,
 }
 
-/// Readings with a microsecond between them.
+impl Work for Ticks {
+    type World = ();
+
+    fn prepare(&mut self) -> Result<(), BenchErr> {
+        Ok(())
+    }
+
+    fn run(&mut self, _: &mut ()) -> Result<(), BenchErr> {
+        for _ in 0..CALLS {
+            self.now = self.now.saturating_add(1_000);
+            self.rig.tick(self.now, false)?;
+        }
+        Ok(())
+    }
+}
+
 pub(crate) fn tick<C: OsClock>(
     alloc: Global,
     watch: &mut Stopwatch<C>,
 ) -> Result<Passes, BenchErr> {
-    let mut rig = Rig::open(alloc, 0, Mode::No)?;
-    let mut now = 0i64;
-    let mut passes = Passes::new(alloc, CALLS);
-    for _ in 0..PASSES {
-        watch.start()?;
-        for _ in 0..CALLS {
-            now = now.saturating_add(1_000);
-            rig.tick(now, false)?;
-        }
-        passes.add(watch.elapsed()?)?;
-    }
-    Ok(passes)
+    let rig = Rig::open(alloc, 0, Mode::No)?;
+    time(alloc, watch, CALLS, Ticks { rig, now: 0 })
 }

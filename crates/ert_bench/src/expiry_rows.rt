@@ -2,17 +2,38 @@
 ghost use Rattle.std.specs.Prelude.{◌<◌};
 
 use crate::bench_err::{BenchErr, expect};
-use crate::passes::{PASSES, Passes};
+use crate::passes::{Passes, Work, time};
 use crate::rig::Rig;
 use crate::stopwatch::Stopwatch;
-use crate::timer_rows::{SPREAD, spread_waits};
-use ert_defs::Mode;
+use crate::waits::{SPREAD, spread_waits};
+use ert_defs::{Mode, TimerRef};
 use ert_io::OsClock;
 use std::alloc::Global;
 
-const NANOSECONDS_PER_MILLISECOND: i64 = 1_000_000;
-
 /// So many timers are due in one millisecond.
+#[derive(Drop)]
+struct AtOnce {
+    rig: Rig,
+    count: u32,
+}
+
+impl Work for AtOnce {
+    type World = ();
+
+    fn prepare(&mut self) -> Result<(), BenchErr> {
+        for _ in 0..self.count {
+            self.rig.start(1, 0)?;
+        }
+        self.rig.next_millisecond()
+    }
+
+    fn run(&mut self, _: &mut ()) -> Result<(), BenchErr> {
+        let handed = self.rig.expire_all()?;
+        self.rig.take_all(0, handed)?;
+        expect(handed == self.count)
+    }
+}
+
 pub(crate) fn expire_at_once<C: OsClock>(
     alloc: Global,
     watch: &mut Stopwatch<C>,
@@ -20,23 +41,36 @@ pub(crate) fn expire_at_once<C: OsClock>(
 ) -> Result<Passes, BenchErr>
     requires { 0 < count }
 {
-    let mut rig = Rig::open(alloc, count, Mode::No)?;
-    let mut passes = Passes::new(alloc, count);
-    for pass in 1..=PASSES {
-        for _ in 0..count {
-            rig.start(1, 0)?;
-        }
-        rig.tick(pass as i64 * NANOSECONDS_PER_MILLISECOND, false)?;
-        watch.start()?;
-        let handed = rig.expire_all()?;
-        rig.take_all(0, handed)?;
-        passes.add(watch.elapsed()?)?;
-        expect(handed == count)?;
-    }
-    Ok(passes)
+    let rig = Rig::open(alloc, count, Mode::No)?;
+    time(alloc, watch, count, AtOnce { rig, count })
 }
 
 /// So many timers are due over a minute, and the wheels advance each millisecond.
+#[derive(Drop)]
+struct Spread {
+    rig: Rig,
+    waits: Vec<u32>,
+    timers: Vec<TimerRef>,
+}
+
+impl Work for Spread {
+    type World = ();
+
+    fn prepare(&mut self) -> Result<(), BenchErr> {
+        self.timers.clear();
+        self.rig.start_all(&self.waits, &mut self.timers)
+    }
+
+    fn run(&mut self, _: &mut ()) -> Result<(), BenchErr> {
+        for _ in 0..SPREAD {
+            self.rig.next_millisecond()?;
+            let handed = self.rig.expire_all()?;
+            self.rig.take_all(0, handed)?;
+        }
+        Ok(())
+    }
+}
+
 pub(crate) fn expire_spread<C: OsClock>(
     alloc: Global,
     watch: &mut Stopwatch<C>,
@@ -44,22 +78,10 @@ pub(crate) fn expire_spread<C: OsClock>(
 ) -> Result<Passes, BenchErr>
     requires { 0 < count }
 {
-    let mut rig = Rig::open(alloc, count, Mode::No)?;
-    let waits = spread_waits(alloc, count)?;
-    let mut timers = Vec::with_capacity(alloc, count as usize)?;
-    let mut passes = Passes::new(alloc, count);
-    let mut now = 0i64;
-    for _ in 0..PASSES {
-        timers.clear();
-        rig.start_all(&waits, &mut timers)?;
-        watch.start()?;
-        for _ in 0..SPREAD {
-            now = now.saturating_add(NANOSECONDS_PER_MILLISECOND);
-            rig.tick(now, false)?;
-            let handed = rig.expire_all()?;
-            rig.take_all(0, handed)?;
-        }
-        passes.add(watch.elapsed()?)?;
-    }
-    Ok(passes)
+    let spread = Spread {
+        rig: Rig::open(alloc, count, Mode::No)?,
+        waits: spread_waits(alloc, count)?,
+        timers: Vec::with_capacity(alloc, count as usize)?,
+    };
+    time(alloc, watch, count, spread)
 }

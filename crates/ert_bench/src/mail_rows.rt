@@ -1,6 +1,6 @@
 //! Changes of the time offset that monitors are told.
-use crate::bench_err::{BenchErr, expect};
-use crate::passes::{PASSES, Passes};
+use crate::bench_err::BenchErr;
+use crate::passes::{Passes, Work, time};
 use crate::rig::{PROCESSES, Rig};
 use crate::stopwatch::Stopwatch;
 use ert_defs::Mode;
@@ -12,28 +12,36 @@ const MONITORS: u32 = 64;
 
 const SECOND: i64 = 1_000_000_000;
 
-/// Each process is told of a new offset, for all its monitors.
+/// Tells each process of a new offset, for all its monitors.
+#[derive(Drop)]
+struct Tells {
+    rig: Rig,
+    mono: i64,
+}
+
+impl Work for Tells {
+    type World = ();
+
+    fn prepare(&mut self) -> Result<(), BenchErr> {
+        self.rig.empty_mailboxes();
+        self.mono = self.mono.saturating_add(1);
+        let sys = self.mono.saturating_mul(SECOND);
+        self.rig.read_clocks(self.mono, sys, true)?;
+        Ok(())
+    }
+
+    fn run(&mut self, _: &mut ()) -> Result<(), BenchErr> {
+        self.rig.tell_all(MONITORS)
+    }
+}
+
 pub(crate) fn tell<C: OsClock>(
     alloc: Global,
     watch: &mut Stopwatch<C>,
 ) -> Result<Passes, BenchErr> {
     let mut rig = Rig::open(alloc, 0, Mode::Multi)?;
-    for process in 0..PROCESSES {
-        for _ in 0..MONITORS {
-            rig.monitor(process)?;
-        }
+    for _ in 0..MONITORS {
+        rig.monitor_all()?;
     }
-    let mut passes = Passes::new(alloc, PROCESSES);
-    for pass in 1..=PASSES {
-        rig.read_clocks(pass as i64, pass as i64 * SECOND, true)?;
-        watch.start()?;
-        for process in 0..PROCESSES {
-            expect(rig.tell(process)? == MONITORS)?;
-        }
-        passes.add(watch.elapsed()?)?;
-        for process in 0..PROCESSES {
-            rig.take_all(process, MONITORS)?;
-        }
-    }
-    Ok(passes)
+    time(alloc, watch, PROCESSES, Tells { rig, mono: 0 })
 }

@@ -7,10 +7,11 @@
 //!
 //! - `operations` has the operations by name, and `selecting` those that a command line names.
 //! - `measuring` tells which measurements an operation has. Each is a function that makes a row: those of a
-//!   `World` stand in `clock_rows`, `timer_rows`, `expiry_rows` and `mail_rows`, over a `Rig`, a world whose
-//!   wheels take timers in turn; those of several threads in `service_rows` and `unique_rows`.
-//! - `stopwatch` and `passes` time the work of some passes, `memory` tells what timers take, and `table` writes
-//!   the rows.
+//!   `World` stand in `clock_rows`, `timer_rows`, `replacing_rows`, `worst_rows`, `expiry_rows` and `mail_rows`,
+//!   over a `Rig`, a world whose wheels take timers in turn; those of several threads in `service_rows` and
+//!   `unique_rows`.
+//! - `passes` times the passes of some `Work` by a `stopwatch`, `waits` draws what is random, `memory` tells
+//!   what timers take, and `table` writes the rows.
 #![tactic(auto)]
 
 mod bench_err;
@@ -22,6 +23,7 @@ mod memory;
 mod operations;
 mod passes;
 mod program;
+mod replacing_rows;
 mod rig;
 mod selecting;
 mod service_rows;
@@ -29,6 +31,8 @@ mod stopwatch;
 mod table;
 mod timer_rows;
 mod unique_rows;
+mod waits;
+mod worst_rows;
 
 pub use bench_err::BenchErr;
 use ert_io::{HostClock, StdSink};

@@ -1,13 +1,23 @@
 //! Which measurements an operation has.
+ghost use Rattle.std.specs.Prelude.{◌<◌, ◌≤◌};
+
 use crate::bench_err::BenchErr;
+use crate::clock_rows::Time;
 use crate::operations::Operation;
 use crate::passes::Passes;
-use crate::service_rows::Sharing;
+use crate::rig::SLOTS;
+use crate::service_rows::Job;
 use crate::stopwatch::Stopwatch;
 use crate::table::Row;
 use crate::timer_rows::Cancelling;
-use crate::{clock_rows, expiry_rows, mail_rows, service_rows, timer_rows, unique_rows};
+use crate::waits::Dests;
+use crate::worst_rows::Call;
+use crate::{
+    clock_rows, expiry_rows, mail_rows, replacing_rows, service_rows, timer_rows, unique_rows,
+    worst_rows,
+};
 use ert_io::OsClock;
+use std::alloc::Global;
 use std::rt::Files;
 use std::sync::Wait;
 use std::thread::Threads;
@@ -40,31 +50,73 @@ pub(crate) fn measure<R: Files + AllocGlobal + Threads + Wait + Sync, C: OsClock
     }
 }
 
-/// Measures calls of one thread, with no timers outstanding, or with many others.
+/// Measures calls of one thread.
 fn measure_calls<R: AllocGlobal, C: OsClock>(
     rt: &R,
     operation: Operation,
     watch: &mut Stopwatch<C>,
     rows: &mut Vec<Row>,
 ) -> Result<(), BenchErr> {
-    let alloc = rt.alloc();
-    if operation == Operation::StartCancel {
-        let passes = timer_rows::start_cancel(alloc, watch, 0)?;
-        add(rows, operation, (0, 1), passes, None)?;
-    }
-    let (timers, passes) = match operation {
-        Operation::MonotonicTime => (0, clock_rows::monotonic_time(alloc, watch)?),
-        Operation::SystemTime => (0, clock_rows::system_time(alloc, watch)?),
-        Operation::Tick => (0, clock_rows::tick(alloc, watch)?),
-        Operation::Tell => (0, mail_rows::tell(alloc, watch)?),
-        Operation::CancelAsync => {
-            let how = Cancelling::ByRequests;
-            (OTHERS, timer_rows::cancel(alloc, watch, OTHERS, how)?)
+    match operation {
+        Operation::StartCancel => {
+            for others in [0, OTHERS] {
+                let passes = timer_rows::start_cancel(rt.alloc(), watch, others)?;
+                add(rows, operation, (others, 1), passes, None)?;
+            }
+            Ok(())
         }
-        Operation::Exit => (OTHERS, timer_rows::exit(alloc, watch, OTHERS)?),
-        _ => (OTHERS, timer_rows::start_cancel(alloc, watch, OTHERS)?),
-    };
-    add(rows, operation, (timers, 1), passes, None)
+        Operation::StartAgain
+        | Operation::CancelStart
+        | Operation::CancelStartAny
+        | Operation::CancelAsync
+        | Operation::Exit => {
+            let passes = beside_others(rt.alloc(), operation, watch)?;
+            add(rows, operation, (OTHERS, 1), passes, None)
+        }
+        Operation::WorstStart | Operation::WorstAdvance => {
+            let passes = alone(rt.alloc(), operation, watch)?;
+            add(rows, operation, (SLOTS, 1), passes, None)
+        }
+        _ => {
+            let passes = alone(rt.alloc(), operation, watch)?;
+            add(rows, operation, (0, 1), passes, None)
+        }
+    }
+}
+
+/// Measures an operation among many timers.
+fn beside_others<C: OsClock>(
+    alloc: Global,
+    operation: Operation,
+    watch: &mut Stopwatch<C>,
+) -> Result<Passes, BenchErr> {
+    match operation {
+        Operation::StartAgain => timer_rows::start_again(alloc, watch, OTHERS),
+        Operation::CancelStart => { replacing_rows::cancel_start(alloc, watch, OTHERS, Dests::One) }
+        Operation::CancelStartAny => {
+            replacing_rows::cancel_start(alloc, watch, OTHERS, Dests::Any)
+        }
+        Operation::CancelAsync => {
+            timer_rows::cancel(alloc, watch, OTHERS, Cancelling::ByRequests)
+        }
+        _ => timer_rows::exit(alloc, watch, OTHERS),
+    }
+}
+
+/// Measures an operation of a world that is its own.
+fn alone<C: OsClock>(
+    alloc: Global,
+    operation: Operation,
+    watch: &mut Stopwatch<C>,
+) -> Result<Passes, BenchErr> {
+    match operation {
+        Operation::MonotonicTime => clock_rows::read(alloc, watch, Time::Monotonic),
+        Operation::SystemTime => clock_rows::read(alloc, watch, Time::System),
+        Operation::WorstStart => worst_rows::longest(alloc, watch, Call::Start),
+        Operation::WorstAdvance => worst_rows::longest(alloc, watch, Call::Advance),
+        Operation::Tick => clock_rows::tick(alloc, watch),
+        _ => mail_rows::tell(alloc, watch),
+    }
 }
 
 /// Measures an operation on all timers, at each of the sizes.
@@ -75,24 +127,33 @@ fn measure_sizes<R: AllocGlobal, C: OsClock>(
     watch: &mut Stopwatch<C>,
     rows: &mut Vec<Row>,
 ) -> Result<(), BenchErr> {
-    let alloc = rt.alloc();
     for (at, size) in SIZES.iter().enumerate() {
-        let (passes, bytes) = match operation {
-            Operation::Start => (
-                timer_rows::start(alloc, watch, *size)?,
-                bytes.get(at).copied(),
-            ),
-            Operation::Read => (timer_rows::read(alloc, watch, *size)?, None),
-            Operation::Cancel => {
-                let how = Cancelling::ByCalls;
-                (timer_rows::cancel(alloc, watch, *size, how)?, None)
-            }
-            Operation::ExpireAtOnce => (expiry_rows::expire_at_once(alloc, watch, *size)?, None),
-            _ => (expiry_rows::expire_spread(alloc, watch, *size)?, None),
+        let passes = of_size(rt.alloc(), operation, watch, *size)?;
+        let bytes = match operation {
+            Operation::Start => bytes.get(at).copied(),
+            _ => None,
         };
         add(rows, operation, (*size, 1), passes, bytes)?;
     }
     Ok(())
+}
+
+/// Measures an operation on so many timers.
+fn of_size<C: OsClock>(
+    alloc: Global,
+    operation: Operation,
+    watch: &mut Stopwatch<C>,
+    size: u32,
+) -> Result<Passes, BenchErr>
+    requires { 0 < size }
+{
+    match operation {
+        Operation::Start => timer_rows::start(alloc, watch, size),
+        Operation::Read => timer_rows::read(alloc, watch, size),
+        Operation::Cancel => timer_rows::cancel(alloc, watch, size, Cancelling::ByCalls),
+        Operation::ExpireAtOnce => expiry_rows::expire_at_once(alloc, watch, size),
+        _ => expiry_rows::expire_spread(alloc, watch, size),
+    }
 }
 
 /// Measures an operation of one, two and four threads.
@@ -103,19 +164,29 @@ fn measure_threads<R: AllocGlobal + Threads + Wait + Sync, C: OsClock>(
     rows: &mut Vec<Row>,
 ) -> Result<(), BenchErr> {
     for threads in [1, 2, 4] {
-        let passes = match operation {
-            Operation::OwnWheels => {
-                service_rows::start_cancel(rt, watch, threads, Sharing::OwnWheels)?
-            }
-            Operation::OneWheel => {
-                service_rows::start_cancel(rt, watch, threads, Sharing::OneWheel)?
-            }
-            Operation::TimeBesideTicks => service_rows::time_beside_ticks(rt, watch, threads)?,
-            _ => unique_rows::monotonic(rt, watch, threads)?,
-        };
+        let passes = of_threads(rt, operation, watch, threads)?;
         add(rows, operation, (0, threads), passes, None)?;
     }
     Ok(())
+}
+
+/// Measures an operation of so many threads.
+fn of_threads<R: AllocGlobal + Threads + Wait + Sync, C: OsClock>(
+    rt: &R,
+    operation: Operation,
+    watch: &mut Stopwatch<C>,
+    threads: u32,
+) -> Result<Passes, BenchErr>
+    requires { (1 ≤ threads) × (threads ≤ 4) }
+{
+    match operation {
+        Operation::OwnWheels => service_rows::measure(rt, watch, threads, Job::OwnWheels),
+        Operation::OneWheel => service_rows::measure(rt, watch, threads, Job::OneWheel),
+        Operation::TimeBesideTicks => {
+            service_rows::measure(rt, watch, threads, Job::TimeBesideTicks)
+        }
+        _ => unique_rows::monotonic(rt, watch, threads),
+    }
 }
 
 /// Appends the row of a measurement with so many timers and threads.

@@ -2,7 +2,7 @@
 use crate::bench_err::BenchErr;
 use crate::measuring::SIZES;
 use crate::rig::Rig;
-use crate::timer_rows::spread_waits;
+use crate::waits::spread_waits;
 use ert_defs::Mode;
 use std::fs;
 use std::rt::Files;

@@ -13,10 +13,20 @@ pub enum Operation {
     StartCancel,
     /// Timers are started, until so many are outstanding.
     Start,
+    /// As many are started again, after all were cancelled in random order.
+    StartAgain,
     /// Timers are read, in random order.
     Read,
     /// Timers are cancelled, in random order.
     Cancel,
+    /// One of many timers is cancelled at random, and another started.
+    CancelStart,
+    /// The same, where each timer is for one of all processes, at random.
+    CancelStartAny,
+    /// The longest start on a wheel whose timers have expired.
+    WorstStart,
+    /// The longest advance of a full wheel, with one each millisecond.
+    WorstAdvance,
     /// Timers that are due in one millisecond expire, are delivered, and their messages are taken.
     ExpireAtOnce,
     /// Timers that are due over a minute do, with an advance of each wheel each millisecond.
@@ -40,13 +50,18 @@ pub enum Operation {
 }
 
 /// All operations, in the order of the table.
-pub const OPERATIONS: [Operation; 16] = [
+pub const OPERATIONS: [Operation; 21] = [
     Operation::MonotonicTime,
     Operation::SystemTime,
     Operation::StartCancel,
     Operation::Start,
+    Operation::StartAgain,
     Operation::Read,
     Operation::Cancel,
+    Operation::CancelStart,
+    Operation::CancelStartAny,
+    Operation::WorstStart,
+    Operation::WorstAdvance,
     Operation::ExpireAtOnce,
     Operation::ExpireSpread,
     Operation::CancelAsync,
@@ -69,8 +84,13 @@ impl Operation {
             Operation::SystemTime => "system_time",
             Operation::StartCancel => "start_cancel",
             Operation::Start => "start",
+            Operation::StartAgain => "start_again",
             Operation::Read => "read",
             Operation::Cancel => "cancel",
+            Operation::CancelStart => "cancel_start",
+            Operation::CancelStartAny => "cancel_start_any",
+            Operation::WorstStart => "worst_start",
+            Operation::WorstAdvance => "worst_advance",
             Operation::ExpireAtOnce => "expire_at_once",
             Operation::ExpireSpread => "expire_spread",
             Operation::CancelAsync => "cancel_async",

@@ -9,8 +9,18 @@ use std::alloc::Global;
 /// How many processes the worlds have.
 pub(crate) const PROCESSES: u32 = 1_024;
 
-/// How many timers one wheel is given at most.
-const A_WHEEL: u32 = 62_500;
+/// How many slots a wheel has.
+pub(crate) const SLOTS: u32 = 65_536;
+
+const NANOSECONDS_PER_MILLISECOND: i64 = 1_000_000;
+
+/// A timer that is outstanding, and what it was started with.
+#[derive(Clone, Copy, Debug)]
+pub(crate) struct Outstanding {
+    timer: TimerRef,
+    wait: u32,
+    dest: u32,
+}
 
 /// A world under measure. Its wheels take timers in turn.
 #[derive(Drop)]
@@ -19,6 +29,8 @@ pub(crate) struct Rig {
     wheels: u32,
     /// The wheel of the next start.
     wheel: u32,
+    /// The nanoseconds of the last reading by `next_millisecond`.
+    now: i64,
     ghost counted: { world.settings.schedulers ≡ wheels },
     ghost below: { wheel < wheels },
     ghost processes: { world.settings.processes ≡ 1024 },
@@ -27,16 +39,16 @@ pub(crate) struct Rig {
 impl Rig {
     ghost use Rattle.std.specs.Prelude.{◌≡◌, ◌<◌};
 
-    /// Opens a world with wheels of 65,536 slots for so many timers: one, or four where one is too small.
+    /// Opens a world for so many timers: with one wheel, or four where one is too small.
     pub(crate) fn open(alloc: Global, timers: u32, mode: Mode) -> Result<Rig, BenchErr> {
-        let wheels = if timers <= A_WHEEL { 1 } else { 4 };
+        let wheels = if timers <= SLOTS { 1 } else { 4 };
         let settings = Settings {
             mode,
             correction: true,
             start: 0,
             schedulers: wheels,
             processes: PROCESSES,
-            slots: 65_536,
+            slots: SLOTS,
             callers: 1,
             first: Reading { mono: 0, sys: 0 },
         };
@@ -44,6 +56,7 @@ impl Rig {
             world: World::open(alloc, &settings)?,
             wheels,
             wheel: 0,
+            now: 0,
         })
     }
 
@@ -59,10 +72,9 @@ impl Rig {
         wheel
     }
 
-    /// Starts a timer that is due after so many milliseconds.
-    pub(crate) fn start(&mut self, wait: u32, dest: u32) -> Result<TimerRef, BenchErr>
-        requires { dest < 1024 }
-    {
+    /// Starts a timer that is due after so many milliseconds, for one of the processes.
+    pub(crate) fn start(&mut self, wait: u32, dest: u32) -> Result<TimerRef, BenchErr> {
+        expect(dest < PROCESSES)?;
         let wheel = self.next_wheel();
         let start = Start {
             when: When::After(wait as i64),
@@ -83,6 +95,32 @@ impl Rig {
     ) -> Result<(), BenchErr> {
         for wait in waits {
             timers.push(self.start(*wait, 0)?)?;
+        }
+        Ok(())
+    }
+
+    /// The same, with what it was started with.
+    pub(crate) fn outstanding(&mut self, wait: u32, dest: u32) -> Result<Outstanding, BenchErr> {
+        Ok(Outstanding {
+            timer: self.start(wait, dest)?,
+            wait,
+            dest,
+        })
+    }
+
+    /// Starts a timer of a minute for each process but the first.
+    pub(crate) fn start_one_each(&mut self) -> Result<(), BenchErr> {
+        for process in 1..PROCESSES {
+            self.start(60_000, process)?;
+        }
+        Ok(())
+    }
+
+    /// Cancels each timer, and starts another like it.
+    pub(crate) fn replace_all(&mut self, timers: &mut [Outstanding]) -> Result<(), BenchErr> {
+        for it in timers.iter_mut() {
+            self.cancel(it.timer)?;
+            it.timer = self.start(it.wait, it.dest)?;
         }
         Ok(())
     }
@@ -125,9 +163,7 @@ impl Rig {
 
     /// Serves a request, which waits.
     fn serve(&mut self, wheel: u32) -> Result<(), BenchErr> {
-        if wheel >= self.wheels {
-            return Err(BenchErr::Unexpected);
-        }
+        expect(wheel < self.wheels)?;
         expect(self.world.serve(wheel)?)
     }
 
@@ -144,11 +180,19 @@ impl Rig {
         Ok(())
     }
 
-    /// Lets a process exit, which hadn't yet.
-    pub(crate) fn exit(&mut self, process: u32) -> Result<(), BenchErr>
-        requires { process < 1024 }
-    {
-        expect(self.world.exit(process))
+    /// Lets each process but the first exit, which hadn't yet.
+    pub(crate) fn exit_all(&mut self) -> Result<(), BenchErr> {
+        for process in 1..PROCESSES {
+            expect(self.world.exit(process))?;
+        }
+        Ok(())
+    }
+
+    /// Takes a reading that is a millisecond later than the last of this call.
+    pub(crate) fn next_millisecond(&mut self) -> Result<(), BenchErr> {
+        self.now = self.now.saturating_add(NANOSECONDS_PER_MILLISECOND);
+        self.tick(self.now, false)?;
+        Ok(())
     }
 
     /// Takes a reading of both OS clocks, with so many nanoseconds.
@@ -175,23 +219,31 @@ impl Rig {
         Ok(handed)
     }
 
-    /// Lets the due timers of a wheel expire, and hands over their messages; how many there were.
-    fn expire(&mut self, wheel: u32) -> Result<u32, BenchErr>
-        requires { wheel < self.old.wheels }
-        ensures { self.new.wheels ≡ self.old.wheels }
-    {
-        let (_, fired) = self.world.advance(wheel)?;
-        if fired == 0 {
+    /// The same of a wheel.
+    fn expire(&mut self, wheel: u32) -> Result<u32, BenchErr> {
+        if self.advance(wheel)? == 0 {
             return Ok(0);
         }
+        self.deliver(wheel)
+    }
+
+    /// Lets the due timers of a wheel expire; how many there were.
+    pub(crate) fn advance(&mut self, wheel: u32) -> Result<u32, BenchErr> {
+        expect(wheel < self.wheels)?;
+        let (_, fired) = self.world.advance(wheel)?;
+        Ok(fired)
+    }
+
+    /// Hands over the messages of a wheel's expired timers; how many there were.
+    pub(crate) fn deliver(&mut self, wheel: u32) -> Result<u32, BenchErr> {
+        expect(wheel < self.wheels)?;
         let (put, _) = self.world.deliver(wheel)?;
         Ok(put)
     }
 
     /// Takes so many messages of a process.
-    pub(crate) fn take_all(&mut self, process: u32, count: u32) -> Result<(), BenchErr>
-        requires { process < 1024 }
-    {
+    pub(crate) fn take_all(&mut self, process: u32, count: u32) -> Result<(), BenchErr> {
+        expect(process < PROCESSES)?;
         for _ in 0..count {
             expect(matches!(self.world.take(process), Taken::Mail(_)))?;
         }
@@ -215,18 +267,36 @@ impl Rig {
         sum
     }
 
-    pub(crate) fn monitor(&mut self, process: u32) -> Result<(), BenchErr>
-        requires { process < 1024 }
-    {
-        match self.world.monitor(process) {
-            Ok(_) => Ok(()),
-            Err(_) => Err(BenchErr::Unexpected),
+    /// Each process gets one monitor of the time offset more.
+    pub(crate) fn monitor_all(&mut self) -> Result<(), BenchErr> {
+        for process in 0..PROCESSES {
+            expect(self.world.monitor(process).is_ok())?;
+        }
+        Ok(())
+    }
+
+    /// Tells each process of the time offset, for so many monitors.
+    pub(crate) fn tell_all(&mut self, monitors: u32) -> Result<(), BenchErr> {
+        for process in 0..PROCESSES {
+            expect(self.world.tell(process)? == monitors)?;
+        }
+        Ok(())
+    }
+
+    /// Takes all messages of all processes.
+    pub(crate) fn empty_mailboxes(&mut self) {
+        for process in 0..PROCESSES {
+            self.empty_mailbox(process);
         }
     }
 
-    pub(crate) fn tell(&mut self, process: u32) -> Result<u32, BenchErr>
+    fn empty_mailbox(&mut self, process: u32)
         requires { process < 1024 }
     {
-        Ok(self.world.tell(process)?)
+        for _ in 0..u32::MAX {
+            if !matches!(self.world.take(process), Taken::Mail(_)) {
+                return;
+            }
+        }
     }
 }

@@ -19,26 +19,57 @@ use std::sync::Wait;
 use std::thread;
 use std::thread::Threads;
 
-/// How many timers each thread starts and cancels in a pass.
-const CALLS: u32 = 50_000;
+/// How many timers each thread starts and cancels in a pass: so many that a pass takes 50 milliseconds at
+/// least, beside which the start of the threads is nothing.
+const CALLS: u32 = 1_000_000;
 
 /// How many slots each wheel has. A cancel by another thread tells the wheel nothing, so the starts use all
 /// slots in turn.
 const SLOTS: u32 = 1_024;
 
 /// How often each thread reads the time in a pass, and how many readings the other thread takes meanwhile.
-const READS: u32 = 1_000_000;
+const READS: u32 = 20_000_000;
 
-const TICKS: u32 = 20_000;
+const TICKS: u32 = 1_000_000;
 
 /// How far the processes of two threads are apart, so that their words share no cache line.
 const APART: u32 = 16;
 
-/// What the threads share besides the desk.
+/// What the threads of a service do.
 #[derive(Clone, Copy, Debug, PartialEq, Eq)]
-pub(crate) enum Sharing {
+pub(crate) enum Job {
+    /// Each starts and cancels timers on a wheel of its own.
     OwnWheels,
+    /// Each starts and cancels timers, all on one wheel.
     OneWheel,
+    /// One more takes readings, and the others read monotonic time.
+    TimeBesideTicks,
+}
+
+impl Job {
+    ghost use Rattle.std.specs.Prelude.{◌<◌, ◌≤◌};
+
+    /// How many callers so many threads need.
+    fn callers(self, threads: u32) -> u32
+        requires { (1 ≤ threads) × (threads ≤ 4) }
+        ensures { (1 ≤ result) × (result ≤ 5) }
+    {
+        match self {
+            Job::OwnWheels | Job::OneWheel => threads,
+            Job::TimeBesideTicks => threads + 1,
+        }
+    }
+
+    /// How many operations so many threads do in a pass.
+    fn operations(self, threads: u32) -> u32
+        requires { (1 ≤ threads) × (threads ≤ 4) }
+        ensures { 0 < result }
+    {
+        match self {
+            Job::OwnWheels | Job::OneWheel => threads * CALLS,
+            Job::TimeBesideTicks => threads * READS,
+        }
+    }
 }
 
 /// The parts of a service for so many callers, with four wheels.
@@ -59,29 +90,29 @@ fn open(alloc: Global, callers: u32) -> Result<Parts, BenchErr>
     Ok(World::open(alloc, &settings)?.into_parts())
 }
 
-/// So many threads start and cancel timers.
-pub(crate) fn start_cancel<R: AllocGlobal + Threads + Wait + Sync, C: OsClock>(
+/// So many threads do a job.
+pub(crate) fn measure<R: AllocGlobal + Threads + Wait + Sync, C: OsClock>(
     rt: &R,
     watch: &mut Stopwatch<C>,
     threads: u32,
-    sharing: Sharing,
+    job: Job,
 ) -> Result<Passes, BenchErr>
     requires { (1 ≤ threads) × (threads ≤ 4) }
 {
-    let parts = open(rt.alloc(), threads)?;
-    start_cancel_on::<Brand, R, C>(rt, watch, parts, threads, sharing)
+    let parts = open(rt.alloc(), job.callers(threads))?;
+    let passes = Passes::new(rt.alloc(), job.operations(threads));
+    measure_on::<Brand, R, C>(rt, watch, parts, job, passes)
 }
 
-fn start_cancel_on<L: DeskName + Send + Sync, R: AllocGlobal + Threads + Wait + Sync, C: OsClock>(
+fn measure_on<L: DeskName + Send + Sync, R: AllocGlobal + Threads + Wait + Sync, C: OsClock>(
     rt: &R,
     watch: &mut Stopwatch<C>,
     parts: Parts,
-    threads: u32,
-    sharing: Sharing,
+    job: Job,
+    mut passes: Passes,
 ) -> Result<Passes, BenchErr>
     requires desk { IsDesk L.table L.settings parts.desk }
     requires fit { AreFit parts.desk parts.pass (parts_of parts.keeper parts.wheels.items parts.inboxes.items parts.mails.items parts.scheds.items) }
-    requires threads { (1 ≤ threads) × (threads ≤ 4) }
 {
     let Opened {
         service,
@@ -89,18 +120,31 @@ fn start_cancel_on<L: DeskName + Send + Sync, R: AllocGlobal + Threads + Wait + 
         ..
     } = Service::<L>::open(rt.alloc(), parts)?;
     let mut seats = callers;
-    let mut passes = Passes::new(rt.alloc(), threads * CALLS);
-    for _ in 0..PASSES {
+    for pass in 0..PASSES {
         watch.start()?;
-        let done = thread::map_vec(
-            rt,
-            seats,
-            &|seat| { start_and_cancel(rt, &service, seat, sharing) },
-        )?;
+        let done = thread::map_vec(rt, seats, &|seat| do_job(rt, &service, seat, job, pass))?;
         passes.add(watch.elapsed()?)?;
         seats = seats_of(rt.alloc(), done)?;
     }
     Ok(passes)
+}
+
+/// What a thread does in a pass of a job, and whether each call did what it has to.
+fn do_job<L: DeskName, R: Wait>(
+    rt: &R,
+    service: &Service<L>,
+    seat: CallerSeat<L>,
+    job: Job,
+    pass: u32,
+) -> (CallerSeat<L>, bool) {
+    match job {
+        Job::OwnWheels => {
+            let wheel = seat.number;
+            start_and_cancel(rt, service, seat, wheel)
+        }
+        Job::OneWheel => start_and_cancel(rt, service, seat, 0),
+        Job::TimeBesideTicks => read_or_tick(rt, service, seat, pass),
+    }
 }
 
 /// The seats of the threads, where each of these did all its calls.
@@ -116,17 +160,13 @@ fn seats_of<L: DeskName>(
     Ok(seats)
 }
 
-/// A thread starts and cancels its timers, and tells whether each call did what it has to.
+/// A thread starts and cancels its timers on a wheel.
 fn start_and_cancel<L: DeskName, R: Wait>(
     rt: &R,
     service: &Service<L>,
     seat: CallerSeat<L>,
-    sharing: Sharing,
+    wheel: u32,
 ) -> (CallerSeat<L>, bool) {
-    let wheel = match sharing {
-        Sharing::OwnWheels => seat.number,
-        Sharing::OneWheel => 0,
-    };
     let dest = seat.number.saturating_mul(APART);
     let settings = service.desk().settings();
     if wheel >= settings.schedulers || dest >= settings.processes {
@@ -172,52 +212,15 @@ fn start_and_cancel_one<L: DeskName, R: Wait>(
     (CallerSeat::new(number, pass), left.is_some())
 }
 
-/// So many threads read monotonic time, while one more takes readings.
-pub(crate) fn time_beside_ticks<R: AllocGlobal + Threads + Wait + Sync, C: OsClock>(
-    rt: &R,
-    watch: &mut Stopwatch<C>,
-    threads: u32,
-) -> Result<Passes, BenchErr>
-    requires { (1 ≤ threads) × (threads ≤ 4) }
-{
-    let parts = open(rt.alloc(), threads + 1)?;
-    time_beside_ticks_on::<Brand, R, C>(rt, watch, parts, threads)
-}
-
-fn time_beside_ticks_on<
-    L: DeskName + Send + Sync,
-    R: AllocGlobal + Threads + Wait + Sync,
-    C: OsClock,
->(rt: &R, watch: &mut Stopwatch<C>, parts: Parts, threads: u32) -> Result<Passes, BenchErr>
-    requires desk { IsDesk L.table L.settings parts.desk }
-    requires fit { AreFit parts.desk parts.pass (parts_of parts.keeper parts.wheels.items parts.inboxes.items parts.mails.items parts.scheds.items) }
-    requires threads { (1 ≤ threads) × (threads ≤ 4) }
-{
-    let Opened {
-        service,
-        callers,
-        ..
-    } = Service::<L>::open(rt.alloc(), parts)?;
-    let mut seats = callers;
-    let mut passes = Passes::new(rt.alloc(), threads * READS);
-    for pass in 0..PASSES {
-        let from = (pass * TICKS) as i64;
-        watch.start()?;
-        let done = thread::map_vec(rt, seats, &|seat| read_or_tick(rt, &service, seat, from))?;
-        passes.add(watch.elapsed()?)?;
-        seats = seats_of(rt.alloc(), done)?;
-    }
-    Ok(passes)
-}
-
-/// The first of the threads takes readings, from so many microseconds on, and the others read the time.
+/// The first of the threads takes readings, a microsecond apart, and the others read the time.
 fn read_or_tick<L: DeskName, R: Wait>(
     rt: &R,
     service: &Service<L>,
     seat: CallerSeat<L>,
-    from: i64,
+    pass: u32,
 ) -> (CallerSeat<L>, bool) {
     if seat.number == 0 {
+        let from = (pass as i64).saturating_mul(TICKS as i64);
         take_readings(rt, service, seat, from)
     } else {
         read_times(service, seat)

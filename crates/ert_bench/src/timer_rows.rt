@@ -2,19 +2,13 @@
 ghost use Rattle.std.specs.Prelude.{◌<◌};
 
 use crate::bench_err::BenchErr;
-use crate::passes::{PASSES, Passes};
+use crate::passes::{Passes, Work, time};
 use crate::rig::{PROCESSES, Rig};
 use crate::stopwatch::Stopwatch;
+use crate::waits::{mix, spread_waits};
 use ert_defs::{Mode, TimerRef};
 use ert_io::OsClock;
-use rand::RngExt;
-use rand::seq::SliceRandom;
-use rand_core::SeedableRng;
-use rand_xoshiro::Xoshiro256PlusPlus;
-use std::alloc::{AllocError, Global};
-
-/// Over how many milliseconds deadlines are spread.
-pub(crate) const SPREAD: u32 = 60_000;
+use std::alloc::Global;
 
 /// The wait of a timer that is started and cancelled again, in milliseconds.
 const TIMEOUT: u32 = 5_000;
@@ -22,44 +16,101 @@ const TIMEOUT: u32 = 5_000;
 /// How many timers a pass starts and cancels.
 const CALLS: u32 = 200_000;
 
-/// Waits for so many timers, spread over a minute.
-pub(crate) fn spread_waits(alloc: Global, timers: u32) -> Result<Vec<u32>, AllocError> {
-    let mut random = Xoshiro256PlusPlus::seed_from_u64(1);
-    let mut waits = Vec::with_capacity(alloc, timers as usize)?;
-    for _ in 0..timers {
-        waits.push(random.random_range(1..=SPREAD))?;
+/// Starts a timer of five seconds and cancels it, while others are outstanding.
+#[derive(Drop)]
+struct StartCancel {
+    rig: Rig,
+}
+
+impl Work for StartCancel {
+    type World = ();
+
+    fn prepare(&mut self) -> Result<(), BenchErr> {
+        Ok(())
     }
-    Ok(waits)
+
+    fn run(&mut self, _: &mut ()) -> Result<(), BenchErr> {
+        for _ in 0..CALLS {
+            let timer = self.rig.start(TIMEOUT, 0)?;
+            self.rig.cancel(timer)?;
+        }
+        Ok(())
+    }
 }
 
-/// Puts the timers into random order.
-pub(crate) fn mix(timers: &mut [TimerRef]) {
-    let mut random = Xoshiro256PlusPlus::seed_from_u64(2);
-    timers.shuffle(&mut random);
-}
-
-/// A timer of five seconds is started and cancelled, while others are outstanding.
 pub(crate) fn start_cancel<C: OsClock>(
     alloc: Global,
     watch: &mut Stopwatch<C>,
     others: u32,
 ) -> Result<Passes, BenchErr> {
-    let mut rig = Rig::open(alloc, others, Mode::No)?;
-    let mut timers = Vec::with_capacity(alloc, others as usize)?;
-    rig.start_all(&spread_waits(alloc, others)?, &mut timers)?;
-    let mut passes = Passes::new(alloc, CALLS);
-    for _ in 0..PASSES {
-        watch.start()?;
-        for _ in 0..CALLS {
-            let timer = rig.start(TIMEOUT, 0)?;
-            rig.cancel(timer)?;
-        }
-        passes.add(watch.elapsed()?)?;
-    }
-    Ok(passes)
+    let mut timers = Timers::new(alloc, others)?;
+    let rig = timers.started()?;
+    time(alloc, watch, CALLS, StartCancel { rig })
 }
 
-/// Timers are started in a new world, until so many are outstanding.
+/// Timers of new worlds: one wait each, and the references of the last world.
+#[derive(Drop)]
+struct Timers {
+    alloc: Global,
+    count: u32,
+    waits: Vec<u32>,
+    timers: Vec<TimerRef>,
+}
+
+impl Timers {
+    fn new(alloc: Global, count: u32) -> Result<Timers, BenchErr> {
+        Ok(Timers {
+            alloc,
+            count,
+            waits: spread_waits(alloc, count)?,
+            timers: Vec::with_capacity(alloc, count as usize)?,
+        })
+    }
+
+    /// A new world, without timers.
+    fn open(&mut self) -> Result<Rig, BenchErr> {
+        self.timers.clear();
+        Rig::open(self.alloc, self.count, Mode::No)
+    }
+
+    /// Starts them.
+    fn start_all(&mut self, rig: &mut Rig) -> Result<(), BenchErr> {
+        rig.start_all(&self.waits, &mut self.timers)
+    }
+
+    /// A new world with all of them.
+    fn started(&mut self) -> Result<Rig, BenchErr> {
+        let mut rig = self.open()?;
+        self.start_all(&mut rig)?;
+        Ok(rig)
+    }
+
+    /// The same, with the references in random order.
+    fn mixed(&mut self) -> Result<Rig, BenchErr> {
+        let rig = self.started()?;
+        mix(&mut self.timers);
+        Ok(rig)
+    }
+}
+
+/// Starts timers in a new world, until all are outstanding.
+#[derive(Drop)]
+struct Starts {
+    timers: Timers,
+}
+
+impl Work for Starts {
+    type World = Rig;
+
+    fn prepare(&mut self) -> Result<Rig, BenchErr> {
+        self.timers.open()
+    }
+
+    fn run(&mut self, rig: &mut Rig) -> Result<(), BenchErr> {
+        self.timers.start_all(rig)
+    }
+}
+
 pub(crate) fn start<C: OsClock>(
     alloc: Global,
     watch: &mut Stopwatch<C>,
@@ -67,20 +118,60 @@ pub(crate) fn start<C: OsClock>(
 ) -> Result<Passes, BenchErr>
     requires { 0 < count }
 {
-    let waits = spread_waits(alloc, count)?;
-    let mut passes = Passes::new(alloc, count);
-    let mut timers = Vec::with_capacity(alloc, count as usize)?;
-    for _ in 0..PASSES {
-        let mut rig = Rig::open(alloc, count, Mode::No)?;
-        timers.clear();
-        watch.start()?;
-        rig.start_all(&waits, &mut timers)?;
-        passes.add(watch.elapsed()?)?;
-    }
-    Ok(passes)
+    let timers = Timers::new(alloc, count)?;
+    time(alloc, watch, count, Starts { timers })
 }
 
-/// So many timers are read, in random order.
+/// Starts as many again, after all were cancelled in random order.
+#[derive(Drop)]
+struct StartsAgain {
+    timers: Timers,
+}
+
+impl Work for StartsAgain {
+    type World = Rig;
+
+    fn prepare(&mut self) -> Result<Rig, BenchErr> {
+        let mut rig = self.timers.mixed()?;
+        rig.cancel_all(&self.timers.timers)?;
+        self.timers.timers.clear();
+        Ok(rig)
+    }
+
+    fn run(&mut self, rig: &mut Rig) -> Result<(), BenchErr> {
+        self.timers.start_all(rig)
+    }
+}
+
+pub(crate) fn start_again<C: OsClock>(
+    alloc: Global,
+    watch: &mut Stopwatch<C>,
+    count: u32,
+) -> Result<Passes, BenchErr>
+    requires { 0 < count }
+{
+    let timers = Timers::new(alloc, count)?;
+    time(alloc, watch, count, StartsAgain { timers })
+}
+
+/// Reads timers in random order.
+#[derive(Drop)]
+struct Reads {
+    timers: Timers,
+}
+
+impl Work for Reads {
+    type World = Rig;
+
+    fn prepare(&mut self) -> Result<Rig, BenchErr> {
+        self.timers.mixed()
+    }
+
+    fn run(&mut self, rig: &mut Rig) -> Result<(), BenchErr> {
+        rig.read_all(&self.timers.timers)
+    }
+}
+
 pub(crate) fn read<C: OsClock>(
     alloc: Global,
     watch: &mut Stopwatch<C>,
@@ -88,17 +179,8 @@ pub(crate) fn read<C: OsClock>(
 ) -> Result<Passes, BenchErr>
     requires { 0 < count }
 {
-    let mut rig = Rig::open(alloc, count, Mode::No)?;
-    let mut timers = Vec::with_capacity(alloc, count as usize)?;
-    rig.start_all(&spread_waits(alloc, count)?, &mut timers)?;
-    mix(&mut timers);
-    let mut passes = Passes::new(alloc, count);
-    for _ in 0..PASSES {
-        watch.start()?;
-        rig.read_all(&timers)?;
-        passes.add(watch.elapsed()?)?;
-    }
-    Ok(passes)
+    let timers = Timers::new(alloc, count)?;
+    time(alloc, watch, count, Reads { timers })
 }
 
 /// How timers are cancelled: by calls, or by requests that their schedulers answer.
@@ -108,7 +190,28 @@ pub(crate) enum Cancelling {
     ByRequests,
 }
 
-/// So many timers are cancelled, in random order.
+/// Cancels timers in random order.
+#[derive(Drop)]
+struct Cancels {
+    timers: Timers,
+    how: Cancelling,
+}
+
+impl Work for Cancels {
+    type World = Rig;
+
+    fn prepare(&mut self) -> Result<Rig, BenchErr> {
+        self.timers.mixed()
+    }
+
+    fn run(&mut self, rig: &mut Rig) -> Result<(), BenchErr> {
+        match self.how {
+            Cancelling::ByCalls => rig.cancel_all(&self.timers.timers),
+            Cancelling::ByRequests => rig.cancel_all_async(&self.timers.timers),
+        }
+    }
+}
+
 pub(crate) fn cancel<C: OsClock>(
     alloc: Global,
     watch: &mut Stopwatch<C>,
@@ -117,45 +220,35 @@ pub(crate) fn cancel<C: OsClock>(
 ) -> Result<Passes, BenchErr>
     requires { 0 < count }
 {
-    let waits = spread_waits(alloc, count)?;
-    let mut passes = Passes::new(alloc, count);
-    let mut timers = Vec::with_capacity(alloc, count as usize)?;
-    for _ in 0..PASSES {
-        let mut rig = Rig::open(alloc, count, Mode::No)?;
-        timers.clear();
-        rig.start_all(&waits, &mut timers)?;
-        mix(&mut timers);
-        watch.start()?;
-        match how {
-            Cancelling::ByCalls => rig.cancel_all(&timers)?,
-            Cancelling::ByRequests => rig.cancel_all_async(&timers)?,
-        }
-        passes.add(watch.elapsed()?)?;
-    }
-    Ok(passes)
+    let timers = Timers::new(alloc, count)?;
+    time(alloc, watch, count, Cancels { timers, how })
 }
 
-/// Processes with one timer each exit, while so many other timers are outstanding.
+/// Lets processes with one timer each exit, while other timers are outstanding.
+#[derive(Drop)]
+struct Exits {
+    others: Timers,
+}
+
+impl Work for Exits {
+    type World = Rig;
+
+    fn prepare(&mut self) -> Result<Rig, BenchErr> {
+        let mut rig = self.others.started()?;
+        rig.start_one_each()?;
+        Ok(rig)
+    }
+
+    fn run(&mut self, rig: &mut Rig) -> Result<(), BenchErr> {
+        rig.exit_all()
+    }
+}
+
 pub(crate) fn exit<C: OsClock>(
     alloc: Global,
     watch: &mut Stopwatch<C>,
     others: u32,
 ) -> Result<Passes, BenchErr> {
-    let waits = spread_waits(alloc, others)?;
-    let mut passes = Passes::new(alloc, PROCESSES - 1);
-    let mut timers = Vec::with_capacity(alloc, others as usize)?;
-    for _ in 0..PASSES {
-        let mut rig = Rig::open(alloc, others, Mode::No)?;
-        timers.clear();
-        rig.start_all(&waits, &mut timers)?;
-        for process in 1..PROCESSES {
-            rig.start(SPREAD, process)?;
-        }
-        watch.start()?;
-        for process in 1..PROCESSES {
-            rig.exit(process)?;
-        }
-        passes.add(watch.elapsed()?)?;
-    }
-    Ok(passes)
+    let others = Timers::new(alloc, others)?;
+    time(alloc, watch, PROCESSES - 1, Exits { others })
 }

@@ -12,7 +12,7 @@ use std::thread;
 use std::thread::Threads;
 
 /// How many numbers each thread draws in a pass.
-const DRAWS: u32 = 200_000;
+const DRAWS: u32 = 6_000_000;
 
 /// So many threads draw monotonic numbers. The time is that of a pass by the draws of all of them.
 pub(crate) fn monotonic<R: AllocGlobal + Threads + Sync, C: OsClock>(

@@ -1,0 +1,4 @@
+use Rattle.ert_bench.proofs.service_rows.measure.Given as goal
+
+abbrev pub ghosts-measure_on : goal.ghosts-measure_on
+ghosts-measure_on g a = record { table = a.parts.desk.table.shared.table_id; settings = a.parts.desk.settings }

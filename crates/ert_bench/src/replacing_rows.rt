@@ -1,0 +1,63 @@
+//! Timers that are replaced: one of many is cancelled, and another is started.
+ghost use Rattle.std.specs.Prelude.{◌<◌};
+
+use crate::bench_err::BenchErr;
+use crate::passes::{Passes, Work, time};
+use crate::rig::{Outstanding, Rig};
+use crate::stopwatch::Stopwatch;
+use crate::waits::{Dests, draw_dests, mix, spread_waits};
+use ert_defs::Mode;
+use ert_io::OsClock;
+use std::alloc::Global;
+
+/// Cancels timers in random order, and starts another in the place of each.
+#[derive(Drop)]
+struct Replaces {
+    rig: Rig,
+    timers: Vec<Outstanding>,
+}
+
+impl Replaces {
+    fn new(alloc: Global, count: u32, whose: Dests) -> Result<Replaces, BenchErr> {
+        let mut replaces = Replaces {
+            rig: Rig::open(alloc, count, Mode::No)?,
+            timers: Vec::with_capacity(alloc, count as usize)?,
+        };
+        replaces.start_all(
+            &spread_waits(alloc, count)?,
+            &draw_dests(alloc, count, whose)?,
+        )?;
+        Ok(replaces)
+    }
+
+    fn start_all(&mut self, waits: &[u32], dests: &[u32]) -> Result<(), BenchErr> {
+        for (wait, dest) in waits.iter().zip(dests) {
+            self.timers.push(self.rig.outstanding(*wait, *dest)?)?;
+        }
+        Ok(())
+    }
+}
+
+impl Work for Replaces {
+    type World = ();
+
+    fn prepare(&mut self) -> Result<(), BenchErr> {
+        mix(&mut self.timers);
+        Ok(())
+    }
+
+    fn run(&mut self, _: &mut ()) -> Result<(), BenchErr> {
+        self.rig.replace_all(&mut self.timers)
+    }
+}
+
+pub(crate) fn cancel_start<C: OsClock>(
+    alloc: Global,
+    watch: &mut Stopwatch<C>,
+    count: u32,
+    whose: Dests,
+) -> Result<Passes, BenchErr>
+    requires { 0 < count }
+{
+    time(alloc, watch, count, Replaces::new(alloc, count, whose)?)
+}
