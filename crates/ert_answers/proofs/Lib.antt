@@ -1,3 +1,4 @@
+pub mod Advanced
 pub mod Growing
 pub mod Swept
 pub mod Told

@@ -1,6 +1,7 @@
 -- The same entries have one answer: of starts and of advances, by what stands among their probes.
 
 use Rattle.std.proofs.Common.{◌≡◌, ℕ, zero, suc, ◌+◌, ℤ, false, List, [], ◌∷◌, ◌++◌, Option, Some, None, Ok, Err, refl, sym, ap, subst, ◌∙◌, arith}
+use Rattle.ert_answers.proofs.Advanced.{IsAdvance, advance_is, advance_all_is}
 use Rattle.ert_answers.specs.Laws.{LawOfStarts, LawOfAdvances}
 use Rattle.ert_answers.specs.TimerCalls.{AreProbes, AreTaken, IsStarted, IsBadArg, IsWheelFull}
 use Rattle.ert_answers.specs.WheelCalls.{Try, expires_by, expiry_entries, hit_by, hits}
@@ -146,9 +147,15 @@ tries_same w (t ∷ ts) (u ∷ us) m n same =
 pair_same : (a b : ℕ × ℕ) → a.0 ≡ b.0 → a.1 ≡ b.1 → a ≡ b
 pair_same a b first second = grind arith
 
-pub advances_same : LawOfAdvances
-advances_same g w s es a b first second =
+pub advance_same : (w : ℕ) (es : List Entry) (a b : ℕ × ℕ) → IsAdvance w a es → IsAdvance w b es → a ≡ b
+advance_same w es a b first second =
     let same : expiry_entries w first.tries ++ advanced_entry w a.0 ∷ [] ≡ expiry_entries w second.tries ++ advanced_entry w b.0 ∷ [] =
     cc (sym first.entries ∙ second.entries) in
     let both = tries_same w first.tries second.tries a.0 b.0 same in
     pair_same a b both.0 (first.fired ∙ (both.1 ∙ sym second.fired))
+
+pub advances_same : LawOfAdvances
+advances_same g w = (
+  λ s es a b first second. advance_same w es a b (advance_is w a es first) (advance_is w b es second),
+  λ s es a b first second. advance_same w es a b (advance_all_is g.slots w a es first) (advance_all_is g.slots w b es second),
+)

@@ -17,7 +17,6 @@ use Rattle.ert_defs.specs.declared.settings.Settings.{Settings}
 use Rattle.ert_defs.specs.declared.timer.Kind.TheVariants.{Wrapped}
 use Rattle.ert_defs.specs.declared.timer.Start.{Start}
 use Rattle.ert_defs.specs.declared.timer.Status.{Status}
-use Rattle.ert_defs.specs.declared.timer.Status.TheVariants.{Cancelled}
 use Rattle.ert_defs.specs.declared.timer.TimerRef.{TimerRef}
 use Rattle.ert_defs.specs.declared.timer.When.TheVariants.{After}
 
@@ -121,12 +120,20 @@ advancing =
     ∷ (by_sched (Some (Wheel 0)) (Expire timer)
     ∷ (by_sched (Some (Wheel 0)) (Advanced 0 1) ∷ []))
 
--- or its slot is found so that it can't
-abbrev pub missing : List Entry
-missing =
+-- or its slot is looked at, and found so
+abbrev pub missing : Status → List Entry
+missing found =
     by_sched None (Look (pos 1000000))
-    ∷ (probe_entry (Sched 0) 0 0 (Some Cancelled)
+    ∷ (probe_entry (Sched 0) 0 0 (Some found)
     ∷ (by_sched (Some (Wheel 0)) (Advanced 0 1) ∷ []))
+
+-- or it is looked at twice
+abbrev pub missing_twice : Status → List Entry
+missing_twice found =
+    by_sched None (Look (pos 1000000))
+    ∷ (probe_entry (Sched 0) 0 0 (Some found)
+    ∷ (probe_entry (Sched 0) 0 0 (Some found)
+    ∷ (by_sched (Some (Wheel 0)) (Advanced 0 1) ∷ [])))
 
 -- and its message is put
 abbrev pub delivering : List Entry

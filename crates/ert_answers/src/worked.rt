@@ -11,13 +11,13 @@ ghost use Rattle.ert_defs.specs.declared.timer.Status.TheVariants.{Armed, Cancel
 ghost use Rattle.ert_answers.specs.Chains.{Exits, Turns};
 ghost use Rattle.ert_answers.specs.TimerCalls.{Reads, Cancels, Starts};
 ghost use Rattle.ert_answers.specs.Ways.{alone};
-ghost use Rattle.ert_answers.specs.WheelCalls.{Advances, Sweeps};
+ghost use Rattle.ert_answers.specs.WheelCalls.{Advances, AdvancesAll, Sweeps};
 ghost use Rattle.ert_answers.specs.MailCalls.{Takes, Monitors, Tells};
 ghost use Rattle.ert_answers.specs.declared.answers.MonitorErr.TheVariants.{Full as MonitorsFull};
 ghost use Rattle.ert_answers.specs.declared.answers.Taken.TheVariants.{Empty, Exited};
 ghost use Rattle.ert_answers.specs.declared.answers.StartErr.TheVariants.{BadArg, Full};
 ghost use Rattle.ert_answers.specs.Worked.{one, idle, armed, start_before, look, starting, orphaned, probed, reading, cancelling};
-ghost use Rattle.ert_answers.specs.Worked.{unbound, two, timer_of, both_armed, exiting, asked, turning, advancing, missing, delivering, turned, telling};
+ghost use Rattle.ert_answers.specs.Worked.{unbound, two, timer_of, both_armed, exiting, asked, turning, advancing, missing, missing_twice, delivering, turned, telling};
 
 /// A start of a timer for a process that had exited cancels it, or finds it settled: it doesn't leave it
 /// armed.
@@ -65,11 +65,15 @@ pub fn turns_are_judged()
     ensures undelivered { Turns one (alone one) 0 (Ok (turned 1 0)) asked turning → ⊥ }
 {}
 
-/// An advance answers how many timers expired, and not how many it tried.
+/// An advance answers how many timers expired, and not how many it tried. A try that missed found its timer
+/// settled; the advance of a last turn looks at slots after its tries, once at each, and may find timers armed.
 pub fn advances_are_judged()
     ensures expired { Advances one 0 (Ok (1, 1)) (state one asked) advancing }
-    ensures missed { Advances one 0 (Ok (1, 0)) (state one asked) missing }
-    ensures miscounted { Advances one 0 (Ok (1, 1)) (state one asked) missing → ⊥ }
+    ensures missed { Advances one 0 (Ok (1, 0)) (state one asked) (missing Cancelled) }
+    ensures miscounted { Advances one 0 (Ok (1, 1)) (state one asked) (missing Cancelled) → ⊥ }
+    ensures unsettled { Advances one 0 (Ok (1, 0)) (state one asked) (missing Armed) → ⊥ }
+    ensures looked { AdvancesAll one 0 (Ok (1, 0)) (state one asked) (missing Armed) }
+    ensures looked_twice { AdvancesAll one 0 (Ok (1, 0)) (state one asked) (missing_twice Armed) → ⊥ }
 {}
 
 /// A process is told an offset once for each monitor that it is new to. A monitor's number has 32 bits, and

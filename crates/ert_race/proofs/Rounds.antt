@@ -2,7 +2,7 @@
 
 use Rattle.std.proofs.Common.{◌≡◌, ℕ, ◌+◌, ◌<◌, ◌≤◌, List, Ok, below_more, refl, sym, subst, ◌∙◌, arith}
 use Rattle.ert_answers.proofs.Growing.{grows_then}
-use Rattle.ert_answers.specs.Chains.{Turns}
+use Rattle.ert_answers.specs.Chains.{LastTurns}
 use Rattle.ert_answers.specs.Ways.{Grows, alone}
 use Rattle.ert_answers.specs.declared.answers.Turned.{Turned}
 use Rattle.ert_defs.specs.declared.settings.Settings.{Settings}
@@ -33,10 +33,10 @@ so_far_first w = record {
 
 -- one scheduler more
 pub so_far_more : (start v w : Service) (n : ℕ) (t : Turned) → n < start.settings.schedulers → IsRoundSoFar start n v
-    → Goes v (Turns v.settings (alone v.settings) n (Ok t)) w → IsTidyAt w n → IsRoundSoFar start (n + 1) w
+    → Goes v (LastTurns v.settings (alone v.settings) n (Ok t)) w → IsTidyAt w n → IsRoundSoFar start (n + 1) w
 so_far_more start v w n t low far goes tidy = record {
   grows = round_then start.settings n t start.history v.history w.history far.grows
-      (subst (λ (g : Settings). Grows (Turns g (alone g) n (Ok t)) v.history w.history) far.settings goes.grows);
+      (subst (λ (g : Settings). Grows (LastTurns g (alone g) n (Ok t)) v.history w.history) far.settings goes.grows);
   settings = goes.settings ∙ far.settings;
   labels = goes.labels ∙ far.labels;
   tidy = below_more (IsTidyAt w) n

@@ -2,7 +2,7 @@
 
 use Rattle.std.proofs.Common.{◌≡◌, ◌⊎◌, ℕ, zero, suc, ◌+◌, ◌<◌, ◌≤◌, true, false, List, [], ◌∷◌, ◌++◌, length, Option, Some, None, Ok, Err, inl, inr, refl, sym, ap, subst, ◌∙◌, arith, append-nil, append_assoc, lt-ltb}
 use Rattle.ert_answers.proofs.Growing.{grows_then, grows_as, grows_more}
-use Rattle.ert_answers.specs.Chains.{Holds, Serves, ServesMany, ServesAll, times, AdvancesWheel, Hands, HandsMany, Delivers, puts, put_by, drops, dropped_by, Turns, SweepsWheel, SweepsWheels, Exits}
+use Rattle.ert_answers.specs.Chains.{Holds, Serves, ServesMany, ServesAll, times, Advance, Hands, HandsMany, Delivers, puts, put_by, drops, dropped_by, TurnsBy, SweepsWheel, SweepsWheels, Exits}
 use Rattle.ert_answers.specs.RequestCalls.{Answers}
 use Rattle.ert_answers.specs.WheelCalls.{MarksExit}
 use Rattle.ert_answers.specs.Ways.{Growth, Way, Grows, Then, Many, alone}
@@ -154,29 +154,31 @@ undelivered a b c w hows e one other =
     goes_as a c _ (Delivers a.settings (alone a.settings) w (Err e)) (λ m steps. record { hows = hows; runs = steps })
     (goes_then a b c (HandsMany a.settings (alone a.settings) w hows) (λ g. Hands g (alone g) w (Err e)) one other)
 
--- a turn is done, or stops for want of memory
-pub turned : (a b c d : Service) (w : ℕ) (t : Turned) → Goes a (ServesAll a.settings (alone a.settings) w (Ok t.served)) b
-    → Goes b (AdvancesWheel b.settings (alone b.settings) w (Ok (t.to, t.fired))) c
-    → Goes c (Delivers c.settings (alone c.settings) w (Ok (t.put, t.dropped))) d → Goes a (Turns a.settings (alone a.settings) w (Ok t)) d
-turned a b c d w t one two three =
+-- a turn is done, with an advance of a kind, or stops for want of memory
+pub turned : (advances : Settings → Advance) (a b c d : Service) (w : ℕ) (t : Turned) → Goes a (ServesAll a.settings (alone a.settings) w (Ok t.served)) b
+    → Goes b (advances b.settings (Ok (t.to, t.fired))) c
+    → Goes c (Delivers c.settings (alone c.settings) w (Ok (t.put, t.dropped))) d
+    → Goes a (TurnsBy (advances a.settings) a.settings (alone a.settings) w (Ok t)) d
+turned advances a b c d w t one two three =
     goes_then a b d (ServesAll a.settings (alone a.settings) w (Ok t.served))
-    (λ g. Then (AdvancesWheel g (alone g) w (Ok (t.to, t.fired))) (Delivers g (alone g) w (Ok (t.put, t.dropped)))) one
-    (goes_then b c d (AdvancesWheel b.settings (alone b.settings) w (Ok (t.to, t.fired))) (λ g. Delivers g (alone g) w (Ok (t.put, t.dropped))) two three)
+    (λ g. Then (advances g (Ok (t.to, t.fired))) (Delivers g (alone g) w (Ok (t.put, t.dropped)))) one
+    (goes_then b c d (advances b.settings (Ok (t.to, t.fired))) (λ g. Delivers g (alone g) w (Ok (t.put, t.dropped))) two three)
 
-pub turn_unadvanced : (a b c : Service) (w served : ℕ) (e : NoMemory) → Goes a (ServesAll a.settings (alone a.settings) w (Ok served)) b
-    → Goes b (AdvancesWheel b.settings (alone b.settings) w (Err e)) c → Goes a (Turns a.settings (alone a.settings) w (Err e)) c
-turn_unadvanced a b c w served e one two =
-    goes_as a c _ (Turns a.settings (alone a.settings) w (Err e)) (λ m steps. inr (inl (served, steps)))
-    (goes_then a b c (ServesAll a.settings (alone a.settings) w (Ok served)) (λ g. AdvancesWheel g (alone g) w (Err e)) one two)
+pub turn_unadvanced : (advances : Settings → Advance) (a b c : Service) (w served : ℕ) (e : NoMemory)
+    → Goes a (ServesAll a.settings (alone a.settings) w (Ok served)) b → Goes b (advances b.settings (Err e)) c
+    → Goes a (TurnsBy (advances a.settings) a.settings (alone a.settings) w (Err e)) c
+turn_unadvanced advances a b c w served e one two =
+    goes_as a c _ (TurnsBy (advances a.settings) a.settings (alone a.settings) w (Err e)) (λ m steps. inr (inl (served, steps)))
+    (goes_then a b c (ServesAll a.settings (alone a.settings) w (Ok served)) (λ g. advances g (Err e)) one two)
 
-pub turn_undelivered : (a b c d : Service) (w served : ℕ) (answer : ℕ × ℕ) (e : NoMemory) → Goes a (ServesAll a.settings (alone a.settings) w (Ok served)) b
-    → Goes b (AdvancesWheel b.settings (alone b.settings) w (Ok answer)) c
-    → Goes c (Delivers c.settings (alone c.settings) w (Err e)) d → Goes a (Turns a.settings (alone a.settings) w (Err e)) d
-turn_undelivered a b c d w served answer e one two three =
-    goes_as a d _ (Turns a.settings (alone a.settings) w (Err e)) (λ m steps. inr (inr (served, answer, steps)))
+pub turn_undelivered : (advances : Settings → Advance) (a b c d : Service) (w served : ℕ) (answer : ℕ × ℕ) (e : NoMemory)
+    → Goes a (ServesAll a.settings (alone a.settings) w (Ok served)) b → Goes b (advances b.settings (Ok answer)) c
+    → Goes c (Delivers c.settings (alone c.settings) w (Err e)) d → Goes a (TurnsBy (advances a.settings) a.settings (alone a.settings) w (Err e)) d
+turn_undelivered advances a b c d w served answer e one two three =
+    goes_as a d _ (TurnsBy (advances a.settings) a.settings (alone a.settings) w (Err e)) (λ m steps. inr (inr (served, answer, steps)))
     (goes_then a b d (ServesAll a.settings (alone a.settings) w (Ok served))
-    (λ g. Then (AdvancesWheel g (alone g) w (Ok answer)) (Delivers g (alone g) w (Err e))) one
-    (goes_then b c d (AdvancesWheel b.settings (alone b.settings) w (Ok answer)) (λ g. Delivers g (alone g) w (Err e)) two three))
+    (λ g. Then (advances g (Ok answer)) (Delivers g (alone g) w (Err e))) one
+    (goes_then b c d (advances b.settings (Ok answer)) (λ g. Delivers g (alone g) w (Err e)) two three))
 
 -- one wheel more is swept
 pub sweeps_more : (g : Settings) (way : Way) (by p w n : ℕ) (h m k : List Entry) → SweepsWheels g way by p w n h m → SweepsWheel g way by p (w + n) (h ++ m) k

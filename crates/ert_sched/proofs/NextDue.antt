@@ -1,13 +1,14 @@
 -- When the next timer of a world's wheel may be due.
 
-use Rattle.std.proofs.Common.{◌≡◌, ℕ, ◌<◌, ◌≤ℤ◌, ◌<ℤ◌, List, Option, slice_index_or, refl, sym, ap, subst, ◌∙◌}
+use Rattle.std.proofs.Common.{◌≡◌, ℕ, ◌<◌, ◌≤ℤ◌, ◌<ℤ◌, List, length, Option, Some, slice_get, slice_index_or, refl, sym, ap, subst, ◌∙◌}
+use Rattle.std.proofs.lemmas.Option.{get_or_from_slice_get, slice_get-get_or}
 use Rattle.ert_defs.proofs.Times.{state_in_range}
 use Rattle.ert_defs.specs.Lines.{Face, end_time}
 use Rattle.ert_defs.specs.States.{State, state}
 use Rattle.ert_defs.specs.declared.entry.Entry.{Entry}
 use Rattle.ert_defs.specs.declared.settings.Settings.{Settings}
 use Rattle.ert_table.specs.Desks.{settings_of, front_of}
-use Rattle.ert_timers.specs.NextDue.{NoneArmedBefore, IsNearest}
+use Rattle.ert_timers.specs.NextDue.{NoneArmedBefore, IsNearest, IsNextHeld}
 use Rattle.ert_timers.specs.Parts.{Part, Stands as WheelStands}
 use Rattle.ert_timers.specs.Tidy.{IsTidy}
 use Rattle.ert_sched.specs.Worlds.{Service, AreFit, IsTidyAt}
@@ -53,3 +54,16 @@ nearest_in before b i end p answer is fit low lent told tidy =
     let mine : IsTidy s p = subst (λ (x : Part). IsTidy s x) (sym lent) (all p) in
     subst (λ (w : Service). IsNearest (state w.settings w.history) i end answer) is
     (subst (λ n. IsNearest s n end answer) named (told g (front_of b.pass) stands mine))
+
+-- so does what it tells of the rows that it holds
+pub held_in : (before : Service) (b : Inside) (i now : ℕ) (p : Part) (answer : Option ℕ) → the_view b ≡ before → AreFit b.desk b.pass (parts_in b)
+    → i < before.settings.schedulers → p ≡ slice_index_or b.wheels.items i p
+    → IsNextHeld p now answer → (e : Part) → IsNextHeld (slice_index_or before.wheels i e) now answer
+held_in before b i now p answer is fit low lent told e =
+    let xs : List Part = b.wheels.items in
+    let high : i < (settings_of b.desk).schedulers = subst (λ (w : Service). i < w.settings.schedulers) (sym is) low in
+    let below : i < length xs = subst (λ n. i < n) (sym fit.stand.wheels.counted) high in
+    let same : p ≡ slice_index_or xs i e =
+    sym (get_or_from_slice_get xs i p e (subst (λ (x : Part). slice_get xs i ≡ Some x) (sym lent) (slice_get-get_or xs i p below))) in
+    subst (λ (w : Service). IsNextHeld (slice_index_or w.wheels i e) now answer) is
+    (subst (λ (x : Part). IsNextHeld x now answer) same told)

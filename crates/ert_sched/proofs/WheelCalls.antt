@@ -2,6 +2,7 @@
 
 use Rattle.std.proofs.Common.{◌≡◌, ◌≢◌, ℕ, zero, suc, ◌<◌, Bool, true, false, ◌&&◌, ◌||◌, List, [], ◌∷◌, ◌++◌, slice_index_or, Option, Some, None, Result, Ok, Err, inl, inr, refl, sym, ap, subst, ◌∙◌, eqb-true, eq-eqb}
 use Rattle.std.specs.Prelude.{slice_set, nat_eq}
+use Rattle.ert_answers.proofs.Advanced.{IsAdvance, advance_is}
 use Rattle.ert_answers.specs.TimerCalls.{Starts, Closes, AreProbes, AreTaken}
 use Rattle.ert_answers.specs.Chains.{SweepsWheel}
 use Rattle.ert_answers.specs.WheelCalls.{Advances, Sweeps, IsSwept, MarksExit, Try, expires_by, expiry_entries, orphans_by, orphan_entries}
@@ -82,9 +83,12 @@ tries_calm w (t ∷ tries) = (by_case t.missed, tries_calm w tries)
     by_case None = refl
     by_case (Some found) = refl
 
+pub advance_calm : (w : ℕ) (answer : ℕ × ℕ) (es : List Entry) → IsAdvance w answer es → AreCalm es
+advance_calm w answer es advance =
+    calm_as es _ advance.entries (refl, calm_append (expiry_entries w advance.tries) _ (tries_calm w advance.tries) (refl, tt))
+
 pub advances_calm : (g : Settings) (w : ℕ) (answer : Result (ℕ × ℕ) WantOfMemory) (s : State) (es : List Entry) → Advances g w answer s es → AreCalm es
-advances_calm g w (Ok answer) s es advances =
-    calm_as es _ advances.entries (refl, calm_append (expiry_entries w advances.tries) _ (tries_calm w advances.tries) (refl, tt))
+advances_calm g w (Ok answer) s es advances = advance_calm w answer es (advance_is w answer es advances)
 advances_calm g w (Err e) s es (inl none) = calm_as es [] none tt
 advances_calm g w (Err e) s es (inr looked) = calm_as es _ looked.1 (refl, tt)
 

@@ -4,6 +4,7 @@ use Rattle.std.specs.Prelude.{◌≡◌, ◌≢◌, ℕ, ◌<◌, true, List, []
 use Rattle.ert_answers.specs.Ways.{Growth, Grows, alone}
 use Rattle.ert_clock.specs.Shown.{Shown, Stands as ClockStands}
 use Rattle.ert_defs.specs.Mails.{SchedState}
+use Rattle.ert_defs.specs.Milliseconds.{down, natural}
 use Rattle.ert_defs.specs.Settings.{IsChecked}
 use Rattle.ert_defs.specs.States.{State, state}
 use Rattle.ert_defs.specs.declared.entry.Entry.{Entry}
@@ -18,6 +19,7 @@ use Rattle.ert_table.specs.Desks.{settings_of, front_of, actors_of, Belongs}
 use Rattle.ert_table.specs.Held.{IsWhole}
 use Rattle.ert_table.specs.declared.desk.Desk.{Desk}
 use Rattle.ert_table.specs.declared.desk.Pass.{Pass}
+use Rattle.ert_timers.specs.NextDue.{IsNextHeld}
 use Rattle.ert_timers.specs.Parts.{Part}
 use Rattle.ert_sched.specs.Parts.{AllParts, Stand}
 use Rattle.ert_timers.specs.Tidy.{IsTidy, IsTidyBut}
@@ -45,6 +47,12 @@ pub record AreFit (d : Desk) (p : Pass) (parts : AllParts) : Type 0 where
 -- a wheel of a world is tidy: all timers that it holds are armed
 abbrev pub IsTidyAt : Service → ℕ → Type 0
 IsTidyAt w i = (d : Part) → IsTidy (state w.settings w.history) (slice_index_or w.wheels i d)
+
+-- how early the next of the rows that a wheel of a world holds is due, as a look ahead from the published time
+-- tells, and None where it holds none. It holds the row of each armed timer, and may hold the row of one that was
+-- cancelled until that would have been due
+abbrev pub IsNextHeldAt : Service → ℕ → Option ℕ → Type 0
+IsNextHeldAt w i answer = (d : Part) → IsNextHeld (slice_index_or w.wheels i d) (natural (down w.settings w.clock.face.time)) answer
 
 -- each wheel that was tidy is so still
 abbrev pub StayTidy : Service → Service → Type 0

@@ -51,6 +51,7 @@
 
 mod clock_calls;
 mod counts;
+mod last_turns;
 mod mail_calls;
 mod opening;
 mod parts;

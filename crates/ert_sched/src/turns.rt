@@ -17,7 +17,7 @@ impl World {
     ghost use Rattle.ert_answers.specs.Ways.{alone};
     ghost use Rattle.ert_defs.specs.Mails.{first_of, others_of};
     ghost use Rattle.ert_defs.specs.States.{state};
-    ghost use Rattle.ert_sched.specs.Worlds.{Goes, GoesBut, By, IsTidyAt, sched_of, cancelled_by};
+    ghost use Rattle.ert_sched.specs.Worlds.{Goes, GoesBut, By, IsNextHeldAt, IsTidyAt, sched_of, cancelled_by};
     ghost use Rattle.ert_timers.specs.NextDue.{NoneArmedBefore, IsNearest, horizon_at};
 
     /// Serves one request: that in the scheduler's hand, or the first of its inbox. False comes where there is
@@ -103,7 +103,7 @@ impl World {
     }
 
     /// Serves requests until there is none, 64 at most, and answers how many were served.
-    fn serve_all(&mut self, sched: u32) -> Result<u32, NoMemory>
+    pub(crate) fn serve_all(&mut self, sched: u32) -> Result<u32, NoMemory>
         requires { sched < self.old.settings.schedulers }
         ensures call { Goes self.old (ServesAll self.old.settings (alone self.old.settings) sched result) self.new }
         ensures clock { self.new.clock ≡ self.old.clock }
@@ -139,27 +139,11 @@ impl World {
     /// `ert_wheel::LOOK_AHEAD` milliseconds, where all are due later.
     pub fn next_due(&self, sched: u32) -> Option<u64>
         requires { sched < self.now.settings.schedulers }
+        ensures held { IsNextHeldAt self.now sched result }
         ensures armed { NoneArmedBefore (state self.now.settings self.now.history) sched result }
         ensures nearest { IsTidyAt self.now sched → IsNearest (state self.now.settings self.now.history) sched (horizon_at self.now.settings self.now.clock.face.time) result }
     {
         self.wheels[sched as usize].next_due(self.desk.settings(), self.keeper.clock().now())
-    }
-
-    /// As `advance`, and looks at every row that its wheel holds, so that the wheel is tidy then.
-    fn advance_all(&mut self, sched: u32) -> Result<(u64, u32), NoMemory>
-        requires { sched < self.old.settings.schedulers }
-        ensures call { Goes self.old (AdvancesWheel self.old.settings (alone self.old.settings) sched result) self.new }
-        ensures tidy { OnOk result (IsTidyAt self.new sched) }
-        ensures clock { self.new.clock ≡ self.old.clock }
-    {
-        let part = &mut self.scheds[sched as usize];
-        let before = part.fired.len();
-        let to = self.wheels[sched as usize].advance_all(
-            &self.desk,
-            &mut self.pass,
-            &mut part.fired,
-        )?;
-        Ok((to, (part.fired.len() - before) as u32))
     }
 
     /// Hands over the scheduler's expired timers until there is none, and answers how many messages were put
@@ -215,28 +199,6 @@ impl World {
     {
         let served = self.serve_all(sched)?;
         let (to, fired) = self.advance(sched)?;
-        let (put, dropped) = self.deliver(sched)?;
-        Ok(Turned {
-            served,
-            to,
-            fired,
-            put,
-            dropped,
-        })
-    }
-
-    /// A turn that looks at every row that its wheel holds, so that the wheel is tidy then: the last turn of a
-    /// service, whose callers may have cancelled timers without telling the wheel.
-    ///
-    /// After want of memory what was done stays done.
-    pub fn last_turn(&mut self, sched: u32) -> Result<Turned, NoMemory>
-        requires { sched < self.old.settings.schedulers }
-        ensures call { Goes self.old (Turns self.old.settings (alone self.old.settings) sched result) self.new }
-        ensures tidy { OnOk result (IsTidyAt self.new sched) }
-        ensures clock { self.new.clock ≡ self.old.clock }
-    {
-        let served = self.serve_all(sched)?;
-        let (to, fired) = self.advance_all(sched)?;
         let (put, dropped) = self.deliver(sched)?;
         Ok(Turned {
             served,

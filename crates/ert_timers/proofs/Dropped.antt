@@ -2,7 +2,6 @@
 
 use Rattle.std.proofs.Common.{◌≡◌, ◌≢◌, ℕ, ◌+◌, ◌<◌, ◌≤◌, Bool, true, false, not, ◌||◌, option_map, List, [], ◌∷◌, ◌++◌, length, Option, Some, None, inl, inr, refl, sym, ap, subst, ◌∙◌, arith, append-nil}
 use Rattle.std.proofs.lemmas.Bool.{cases_eq}
-use Rattle.std.proofs.lemmas.List.{map-append}
 use Rattle.std.proofs.lemmas.List.Elements.{All-nil}
 use Rattle.std.specs.Option.{is_some}
 use Rattle.ert_defs.specs.Actors.{has_actor}
@@ -16,7 +15,8 @@ use Rattle.ert_defs.specs.declared.settings.Settings.{Settings}
 use Rattle.ert_defs.specs.declared.timer.Status.{Status}
 use Rattle.ert_defs.specs.declared.timer.Status.TheVariants.{Armed, Expired, Delivered, Cancelled, Orphaned, Dropped}
 use Rattle.ert_defs.specs.declared.timer.TimerRef.{TimerRef}
-use Rattle.ert_answers.specs.WheelCalls.{Try, expires_by, expiry_entries, hits}
+use Rattle.ert_answers.proofs.Advanced.{looks-append}
+use Rattle.ert_answers.specs.WheelCalls.{expiry_entries, AreLooks}
 use Rattle.ert_calls.proofs.Looks.{look_stepped}
 use Rattle.ert_table.specs.Held.{IsWhole}
 use Rattle.ert_table.specs.Settlings.{Shown}
@@ -24,8 +24,8 @@ use Rattle.ert_table.specs.Takes.{Appends, MayStep, TakesPlace}
 use Rattle.ert_table.specs.declared.view.View.{View}
 use Rattle.ert_table.proofs.Calls.{step_takes_place, takes_place_then}
 use Rattle.ert_timers.specs.Changes.{given_back}
-use Rattle.ert_timers.specs.Dropping.{DropsRow, DropsRows, MissesSome}
-use Rattle.ert_timers.specs.Expiring.{HasTried, fired_in}
+use Rattle.ert_timers.specs.Dropping.{DropsRow, DropsRows, LooksOver}
+use Rattle.ert_timers.specs.Expiring.{HasTried, HasLooked, fired_in}
 use Rattle.ert_timers.specs.FiredLists.{Queue}
 use Rattle.ert_timers.specs.Starting.{status_shown}
 use Rattle.ert_laws.specs.Counts.{is_expire, is_orphan}
@@ -82,10 +82,10 @@ sched_probe g v w w' k shown u number step =
     (subst (λ x. Appends g v (probe_entry (Sched w') w' k x) u) (status_is shown) step)
 
 -- nothing was looked at
-pub misses_none : (g : Settings) (v : View) (p : Part) → Stands g v.front p → MissesSome g v p p v
-misses_none g v p stands = record {
-  tries = [];
-  missed = refl;
+looks_none : (g : Settings) (v : View) (p : Part) (from to : ℕ) → Stands g v.front p → LooksOver g v p p from to v
+looks_none g v p from to stands = record {
+  looks = [];
+  are_looks = tt;
   call = record { actors = refl; legal = stands.legal; later = []; grown = sym (append-nil v.front); ours = refl };
   number = refl;
   slots = refl;
@@ -111,11 +111,11 @@ module _ (g : Settings) (v : View) (p : Part) (k : ℕ) (found : Option Status) 
   look_waits = waits_by g v looked u p.number step holds.sched (ap (λ b. b || false) (self p.number))
 
   -- one look
-  misses_one : (q : Part) → q.number ≡ p.number → q.slots ≡ p.slots → Stands g u.front q
-      → ((j : ℕ) (key : Key) → key_in q.keys j ≡ Some key → key_in p.keys j ≡ Some key) → MissesSome g v p q u
-  misses_one q number slots after left = record {
-    tries = (record { timer = last_timer p.number p.slots k; missed = Some found }) ∷ [];
-    missed = refl;
+  looks_one : (q : Part) → q.number ≡ p.number → q.slots ≡ p.slots → Stands g u.front q
+      → ((j : ℕ) (key : Key) → key_in q.keys j ≡ Some key → key_in p.keys j ≡ Some key) → LooksOver g v p q k (k + 1) u
+  looks_one q number slots after left = record {
+    looks = looked ∷ [];
+    are_looks = (k, found, omega arith, omega arith, refl, tt);
     call = step_takes_place g v looked u step;
     number = number;
     slots = slots;
@@ -128,7 +128,7 @@ module _ (g : Settings) (v : View) (p : Part) (k : ℕ) (found : Option Status) 
   -- the timer was armed
   pub drops_none : is_armed found ≡ true → DropsRow g v p p k u
   drops_none armed = record {
-    misses = misses_one p refl refl
+    over = looks_one p refl refl
         (stands_step g v looked u p stands step holds.wheel (record { arm = refl; expire = refl; orphan = refl })) (λ j key is. is);
     armed = still;
     here = λ key is. sym is_found ∙ armed_is found armed;
@@ -149,7 +149,7 @@ module _ (g : Settings) (v : View) (p : Part) (k : ℕ) (found : Option Status) 
       (counts.expires ∙ sym (count_same g v looked u p.number is_expire step holds.wheel refl))
       (same ∙ (counts.orphans ∙ sym (count_same g v looked u p.number is_orphan step holds.wheel refl)))) in
       subst (λ (x : Part). DropsRow g v p x k u) (sym part) (record {
-        misses = misses_one (given_back p k false) refl refl after (λ j seen is. (key_left p.keys k j seen wide is).1);
+        over = looks_one (given_back p k false) refl refl after (λ j seen is. (key_left p.keys k j seen wide is).1);
         armed = still;
         here = λ seen is. absurd ((key_left p.keys k k seen wide is).0 refl);
       })
@@ -157,26 +157,19 @@ module _ (g : Settings) (v : View) (p : Part) (k : ℕ) (found : Option Status) 
 -- a slot without a row
 pub drops_empty : (g : Settings) (v : View) (p : Part) (k : ℕ) → Stands g v.front p → key_in p.keys k ≡ None → DropsRow g v p p k v
 drops_empty g v p k stands none = record {
-  misses = misses_none g v p stands;
+  over = looks_none g v p k (k + 1) stands;
   armed = λ whole r is. is;
   here = λ key is. (let bad : None ≡ Some key = sym none ∙ is in absurd cc);
 }
 
-hits-append : (tries more : List Try) → hits (tries ++ more) ≡ hits tries + hits more
-hits-append [] more = omega arith
-hits-append (t ∷ tries) more = omega (arith, hits-append tries more)
-
-expiries-append : (w : ℕ) (tries more : List Try) → expiry_entries w (tries ++ more) ≡ expiry_entries w tries ++ expiry_entries w more
-expiries-append w tries more = map-append (λ (t : Try). expires_by w t.timer t.missed) tries more
-
-misses_more : (g : Settings) (v : View) (p q : Part) (u : View) (r : Part) (w : View) → MissesSome g v p q u → MissesSome g u q r w
-    → MissesSome g v p r w
-misses_more g v p q u r w some more = record {
-  tries = some.tries ++ more.tries;
-  missed = hits-append some.tries more.tries ∙ omega (arith, some.missed, more.missed);
-  call = subst (λ es. TakesPlace g v es w) (sym (expiries-append p.number some.tries more.tries))
-      (takes_place_then g v u w (expiry_entries p.number some.tries) (expiry_entries p.number more.tries) some.call
-      (subst (λ n. TakesPlace g u (expiry_entries n more.tries) w) some.number more.call));
+-- more slots were looked at
+looks_more : (g : Settings) (v : View) (p q : Part) (u : View) (r : Part) (w : View) (n : ℕ) → LooksOver g v p q 0 n u
+    → LooksOver g u q r n (n + 1) w → LooksOver g v p r 0 (n + 1) w
+looks_more g v p q u r w n some more = record {
+  looks = some.looks ++ more.looks;
+  are_looks = looks-append (Sched p.number) p.number 0 n (n + 1) some.looks more.looks (omega arith) (omega arith) some.are_looks
+      (subst (λ m. AreLooks (Sched m) m n (n + 1) more.looks) some.number more.are_looks);
+  call = takes_place_then g v u w some.looks more.looks some.call more.call;
   number = more.number ∙ some.number;
   slots = more.slots ∙ some.slots;
   stands = more.stands;
@@ -188,7 +181,7 @@ misses_more g v p q u r w some more = record {
 -- no slot was looked at yet
 pub drops_first : (g : Settings) (v : View) (p : Part) → Stands g v.front p → DropsRows g v p p 0 v
 drops_first g v p stands = record {
-  misses = misses_none g v p stands;
+  over = looks_none g v p 0 0 stands;
   below = λ whole k key low is. absurd (omega (arith, low));
 }
 
@@ -196,17 +189,17 @@ drops_first g v p stands = record {
 pub drops_more : (g : Settings) (v : View) (p q r : Part) (n : ℕ) (u w : View) → DropsRows g v p q n u → DropsRow g u q r n w
     → DropsRows g v p r (n + 1) w
 drops_more g v p q r n u w some one = record {
-  misses = misses_more g v p q u r w some.misses one.misses;
+  over = looks_more g v p q u r w n some.over one.over;
   below = λ whole k key low is.
       elim (cases_eq k n) [
         | inl here ↦ subst (λ m. (state g w.front).status (last_timer r.number r.slots m) ≡ Some Armed) (sym here)
             (one.here key (ap (key_in r.keys) (sym here) ∙ is))
         | inr other ↦
             let same : last_timer r.number r.slots k ≡ last_timer q.number q.slots k =
-            ap (λ m. last_timer m r.slots k) one.misses.number ∙ ap (λ slots. last_timer q.number slots k) one.misses.slots in
-            one.armed (subst (IsWhole g) (sym some.misses.call.actors) whole) (last_timer r.number r.slots k)
+            ap (λ m. last_timer m r.slots k) one.over.number ∙ ap (λ slots. last_timer q.number slots k) one.over.slots in
+            one.armed (subst (IsWhole g) (sym some.over.call.actors) whole) (last_timer r.number r.slots k)
             (ap (state g u.front).status same
-            ∙ some.below whole k key (omega (arith, low, other)) (one.misses.left k key is))
+            ∙ some.below whole k key (omega (arith, low, other)) (one.over.left k key is))
       ];
 }
 
@@ -218,35 +211,36 @@ fewer_due to (Some key) b left none = none ∙ ap (due_at to) (left key refl)
 pub left_tidy : (g : Settings) (v : View) (p q : Part) (n : ℕ) (u : View) → DropsRows g v p q n u → Stands g v.front p → length p.slots ≤ n
     → IsWhole g v.actors → IsTidy (state g u.front) q
 left_tidy g v p q n u rest stands all whole k key is =
-    let low : k < length p.keys = key_low p.keys k key (rest.misses.left k key is) in
+    let low : k < length p.keys = key_low p.keys k key (rest.over.left k key is) in
     rest.below whole k key (omega (arith, low, all, stands.holds.wide, stands.holds.many)) is
 
 -- the looks come after the tries of all due rows
-pub tried_then : (g : Settings) (v : View) (p q r : Part) (to n : ℕ) (old new : Queue) (u w : View) → HasTried g v p q to old new u
-    → DropsRows g u q r n w → length q.slots ≤ n → HasTried g v p r to old new w
-tried_then g v p q r to n old new u w tried rest all =
-    let misses = rest.misses in
-    let mine : Sched r.number ≡ Sched q.number = ap (λ m. Sched m) misses.number in
+pub tried_then : (g : Settings) (v : View) (p q r : Part) (to : ℕ) (old new : Queue) (u w : View) → HasTried g v p q to old new u
+    → DropsRows g u q r (length q.slots) w → HasLooked g v p r to old new w
+tried_then g v p q r to old new u w tried rest =
+    let over = rest.over in
+    let mine : Sched r.number ≡ Sched q.number = ap (λ m. Sched m) over.number in
     record {
       now = tried.now;
-      tries = tried.tries ++ misses.tries;
+      tries = tried.tries;
+      looks = over.looks;
       gained = tried.gained;
-      call = subst (λ es. TakesPlace g v (look_entry (Sched p.number) tried.now ∷ es) w) (sym (expiries-append p.number tried.tries misses.tries))
-          (takes_place_then g v u w (look_entry (Sched p.number) tried.now ∷ expiry_entries p.number tried.tries)
-          (expiry_entries p.number misses.tries) tried.call
-          (subst (λ m. TakesPlace g u (expiry_entries m misses.tries) w) tried.number misses.call));
-      number = misses.number ∙ tried.number;
+      settled = tried.settled;
+      are_looks = subst (λ m. AreLooks (Sched m) m 0 g.slots over.looks) tried.number
+          (subst (λ n. AreLooks (Sched q.number) q.number 0 n over.looks) tried.ready.stands.holds.many over.are_looks);
+      call = takes_place_then g v u w (look_entry (Sched p.number) tried.now ∷ expiry_entries p.number tried.tries) over.looks tried.call over.call;
+      number = over.number ∙ tried.number;
       ready = record {
-        stands = misses.stands;
-        told = tried.ready.told ∙ (ap (down g) (sym misses.look) ∙ ap (λ a. down g ((state g w.front).looked a)) (sym mine));
+        stands = over.stands;
+        told = tried.ready.told ∙ (ap (down g) (sym over.look) ∙ ap (λ a. down g ((state g w.front).looked a)) (sym mine));
         due = record {
-          each = λ k. fewer_due to (key_in r.keys k) (key_in q.keys k) (misses.left k) (tried.ready.due.each k);
+          each = λ k. fewer_due to (key_in r.keys k) (key_in q.keys k) (over.left k) (tried.ready.due.each k);
           held = All-nil (λ row. key_in r.keys row.slot ≡ Some (key_of row));
           in_order = tried.ready.due.in_order;
         };
       };
-      count = tried.count ∙ omega (arith, hits-append tried.tries misses.tries, misses.missed);
+      count = tried.count;
       fired = tried.fired;
-      waits = subst (λ m. fired_in g w.front m ≡ fired_in g u.front m) tried.number misses.waits ∙ tried.waits;
-      tidy = λ whole before. left_tidy g u q r n w rest tried.ready.stands all (subst (IsWhole g) (sym tried.call.actors) whole);
+      waits = subst (λ m. fired_in g w.front m ≡ fired_in g u.front m) tried.number over.waits ∙ tried.waits;
+      tidy = λ whole before. left_tidy g u q r (length q.slots) w rest tried.ready.stands (omega arith) (subst (IsWhole g) (sym tried.call.actors) whole);
     }

@@ -13,12 +13,13 @@ use Rattle.ert_defs.specs.declared.entry.Event.{Event}
 use Rattle.ert_defs.specs.declared.timer.Status.{Status}
 use Rattle.ert_defs.specs.declared.timer.Status.TheVariants.{Expired}
 use Rattle.ert_defs.specs.declared.timer.TimerRef.{TimerRef}
+use Rattle.ert_answers.proofs.Advanced.{IsAdvance, advance_is, advance_all_is}
 use Rattle.ert_answers.specs.TimerCalls.{AreProbes, AreTaken, Closes}
 use Rattle.ert_answers.specs.WheelCalls.{Try, expires_by, expiry_entries, orphans_by, orphan_entries}
 use Rattle.ert_answers.specs.declared.answers.StartErr.TheVariants.{BadArg, Full, NoMemory}
 use Rattle.ert_table.specs.Held.{IsOurs}
 use Rattle.ert_table.proofs.Parts.{free_later, of_one, of_both}
-use Rattle.ert_timers.specs.Laws.{AreWithWheel, LawOfStanding, LawOfStarts, LawOfAdvances, LawOfSweeps}
+use Rattle.ert_timers.specs.Laws.{AreWithWheel, LawOfStanding, LawOfStarts, LawOfAdvances, LawOfFullAdvances, LawOfSweeps}
 use Rattle.ert_laws.specs.Counts.{entries_of, is_arm, is_expire, is_orphan}
 use Rattle.ert_timers.specs.Parts.{last_timer}
 use Rattle.ert_timers.proofs.Later.{IsLater, later_free, none_counted, unexpired_free}
@@ -109,12 +110,19 @@ tries_only : (w : ℕ) (tries : List Try) → AreWithWheel (Sched w) w (expiry_e
 tries_only w [] = tt
 tries_only w (t ∷ tries) = (try_only w t.timer t.missed, tries_only w tries)
 
+advance_only : (w : ℕ) (answer : ℕ × ℕ) (es : List Entry) → IsAdvance w answer es → AreWithWheel (Sched w) w es
+advance_only w answer es advance =
+    same_only (Sched w) w es _ advance.entries
+    (alone (Sched w) w, only-append (Sched w) w (expiry_entries w advance.tries) _ (tries_only w advance.tries) (paired (Sched w) w w refl, tt))
+
 pub advances_only : LawOfAdvances
-advances_only g w (Ok answer) s es advances =
-    same_only (Sched w) w es _ advances.entries
-    (alone (Sched w) w, only-append (Sched w) w (expiry_entries w advances.tries) _ (tries_only w advances.tries) (paired (Sched w) w w refl, tt))
+advances_only g w (Ok answer) s es advances = advance_only w answer es (advance_is w answer es advances)
 advances_only g w (Err e) s es (inl none) = same_only (Sched w) w es _ none tt
 advances_only g w (Err e) s es (inr looked) = same_only (Sched w) w es _ looked.1 (alone (Sched w) w, tt)
+
+pub full_advances_only : LawOfFullAdvances
+full_advances_only g w (Ok answer) s es advances = advance_only w answer es (advance_all_is g.slots w answer es advances)
+full_advances_only g w (Err e) s es refused = advances_only g w (Err e) s es refused
 
 orphan_only : (by w : ℕ) (timer : TimerRef) (missed : Option (Option Status))
     → IsOurs (Caller by ∷ (Wheel w ∷ [])) (orphans_by by w timer missed).by (orphans_by by w timer missed).with

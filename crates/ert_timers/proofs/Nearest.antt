@@ -33,18 +33,20 @@ armed_of g s p slot key holds tidy has = record {
 pub is_nearest : (g : Settings) (s : State) (p : Part) (now : ℕ) (answer : Option ℕ) → Holds g s p → IsTidy s p
     → MatchOption answer (NoRow p.keys) (IsNextDue p.keys now) → IsNearest s p.number (horizon now) answer
 is_nearest g s p now None holds tidy told = tt
-is_nearest g s p now (Some time) holds tidy told =
-    elim told.near [
-      | inl due ↦ inl (record {
-        row = held_row p.number p.slots due.slot due.key;
-        armed = armed_of g s p due.slot due.key holds tidy due.has;
-        at = due.at;
-      })
-      | inr e ↦ inr (
-        record {
-          row = held_row p.number p.slots told.some.slot told.some.key;
-          armed = armed_of g s p told.some.slot told.some.key holds tidy told.some.has;
-        },
-        e,
-      )
-    ]
+is_nearest g s p now (Some time) holds tidy told = (
+  told.within,
+  elim told.near [
+    | inl due ↦ inl (record {
+      row = held_row p.number p.slots due.slot due.key;
+      armed = armed_of g s p due.slot due.key holds tidy due.has;
+      at = due.at;
+    })
+    | inr e ↦ inr (
+      record {
+        row = held_row p.number p.slots told.some.slot told.some.key;
+        armed = armed_of g s p told.some.slot told.some.key holds tidy told.some.has;
+      },
+      e,
+    )
+  ],
+)

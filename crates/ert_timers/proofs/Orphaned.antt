@@ -11,7 +11,7 @@ use Rattle.ert_defs.specs.declared.timer.Status.{Status}
 use Rattle.ert_defs.specs.declared.timer.Status.TheVariants.{Armed, Expired}
 use Rattle.ert_defs.specs.declared.timer.TimerRef.{TimerRef}
 use Rattle.ert_answers.specs.TimerCalls.{Closes}
-use Rattle.ert_answers.specs.WheelCalls.{orphans_by}
+use Rattle.ert_answers.specs.WheelCalls.{orphans_by, IsSettled}
 use Rattle.ert_calls.proofs.Looks.{can_step}
 use Rattle.ert_table.specs.Held.{is_held}
 use Rattle.ert_table.specs.Settlings.{Settles, hit_entry}
@@ -23,7 +23,7 @@ use Rattle.ert_table.proofs.Parts.{stepped}
 use Rattle.ert_timers.specs.Changes.{given_back}
 use Rattle.ert_laws.specs.Counts.{is_expire, is_orphan}
 use Rattle.ert_timers.specs.Parts.{HoldsCaller, Part, Stands, slot_at, last_timer, held_row}
-use Rattle.ert_timers.specs.Starting.{HoldsTimer, Orphans, Ends, IsSettled}
+use Rattle.ert_timers.specs.Starting.{HoldsTimer, Orphans, Ends}
 use Rattle.ert_timers.specs.Tidy.{KeepsTidy}
 use Rattle.ert_timers.proofs.Later.{unexpired_step}
 use Rattle.ert_timers.proofs.Standing.{count_same, holds_freed, takes_none, stands_step}

@@ -12,7 +12,7 @@ use Rattle.ert_defs.specs.declared.settings.Settings.{Settings}
 use Rattle.ert_defs.specs.declared.timer.Status.{Status}
 use Rattle.ert_defs.specs.declared.timer.Status.TheVariants.{Armed}
 use Rattle.ert_defs.specs.declared.timer.TimerRef.{TimerRef}
-use Rattle.ert_answers.specs.WheelCalls.{AllMaySweep, AreSwept, IsFor, IsSwept, MaySweep, Sweeps, Try, orphan_entries, orphans_by}
+use Rattle.ert_answers.specs.WheelCalls.{AllMaySweep, AreSwept, IsFor, IsSettled, IsSwept, MaySweep, Sweeps, Try, orphan_entries, orphans_by}
 use Rattle.ert_defs.specs.declared.entry.Actor.TheVariants.{Wheel}
 use Rattle.ert_table.specs.Held.{is_held}
 use Rattle.ert_table.specs.Calls.{IsMade}
@@ -22,7 +22,7 @@ use Rattle.ert_table.proofs.Calls.{step_takes_place, takes_place_then}
 use Rattle.ert_timers.specs.Changes.{NextOf}
 use Rattle.ert_laws.specs.Counts.{is_arm}
 use Rattle.ert_timers.specs.Parts.{HoldsCaller, Part, Stands, last_timer, held_row}
-use Rattle.ert_timers.specs.Starting.{HoldsTimer, IsSettled, Orphans}
+use Rattle.ert_timers.specs.Starting.{HoldsTimer, Orphans}
 use Rattle.ert_timers.specs.Sweeping.{SweepsSome}
 use Rattle.ert_timers.proofs.Later.{later_step}
 use Rattle.ert_timers.proofs.Orphaned.{tidy_orphaned}

@@ -17,13 +17,14 @@ use Rattle.ert_defs.specs.declared.memory.NoMemory.{NoMemory}
 use Rattle.ert_defs.specs.declared.settings.Settings.{Settings}
 use Rattle.ert_defs.specs.declared.timer.Status.{Status}
 use Rattle.ert_defs.specs.declared.timer.TimerRef.{TimerRef}
-use Rattle.ert_answers.specs.WheelCalls.{Try, expires_by, expiry_entries, hit_by, hits}
+use Rattle.ert_answers.specs.WheelCalls.{Try, expires_by, expiry_entries, hit_by, hits, IsSettled, AllSettled, Advances, AdvancesAll}
+use Rattle.ert_answers.specs.Ways.{Step}
 use Rattle.ert_calls.proofs.Looks.{look_stepped}
 use Rattle.ert_table.specs.Held.{is_held}
 use Rattle.ert_table.specs.Takes.{Appends, MayStep, TakesPlace}
 use Rattle.ert_table.specs.declared.view.View.{View}
 use Rattle.ert_table.proofs.Calls.{step_takes_place, takes_place_then}
-use Rattle.ert_timers.specs.Expiring.{Expires, ExpiresSome, HasExpired, HasNotExpired, HasTried, HasNotTried, IsTried, IsAdvanced, IsReady, AreDue, fired_as, fired_in, timer_of}
+use Rattle.ert_timers.specs.Expiring.{Expires, ExpiresSome, HasExpired, HasExpiredBy, HasNotExpired, HasTried, HasLooked, HasNotTried, IsTried, IsAdvancedAll, IsReady, AreDue, fired_as, fired_in, timer_of}
 use Rattle.ert_timers.specs.FiredLists.{Queue}
 use Rattle.ert_timers.specs.Looking.{LooksDown}
 use Rattle.ert_timers.specs.Parts.{HoldsSched, Part, Stands, last_timer}
@@ -42,6 +43,7 @@ pub expires_none : (g : Settings) (v : View) (p : Part) (to : ℕ) (due : List W
 expires_none g v p to due q ready = record {
   tries = [];
   gained = [];
+  settled = tt;
   call = record {
     actors = refl;
     legal = ready.stands.legal;
@@ -76,6 +78,10 @@ tries_other : (w : ℕ) (timer r : TimerRef) (missed : Option (Option Status)) �
 tries_other w timer r None other = other
 tries_other w timer r (Some found) other = refl
 
+settled-push : (tries : List Try) (t : Try) → AllSettled tries → IsSettled t.missed → AllSettled (tries ++ t ∷ [])
+settled-push [] t all one = (one, tt)
+settled-push (x ∷ tries) t all one = (all.0, settled-push tries t all.1 one)
+
 hits-push : (tries : List Try) (t : Try) → hits (tries ++ t ∷ []) ≡ hits tries + hit_by t.missed
 hits-push [] t = omega arith
 hits-push (x ∷ tries) t = omega (arith, hits-push tries t)
@@ -98,6 +104,7 @@ expires_more g v p q r to due n row old mid new u w some held next one =
     record {
       tries = some.tries ++ t ∷ [];
       gained = some.gained ++ fired_as (timer_of q row) one.missed;
+      settled = settled-push some.tries t some.settled one.settled;
       call = subst (λ es. TakesPlace g v es w) (sym (map-append (λ (x : Try). expires_by p.number x.timer x.missed) some.tries (t ∷ [])))
           (takes_place_then g v u w (expiry_entries p.number some.tries) (expires_by p.number t.timer t.missed ∷ []) some.call
           (step_takes_place g u (expires_by p.number t.timer t.missed) w step));
@@ -177,6 +184,7 @@ has_tried g v p p' q q' k to due n old old' new u w number first last rows down 
       now = looks.now;
       tries = some.tries;
       gained = some.gained;
+      settled = some.settled;
       call = takes_place_then g v u w (look ∷ []) (expiry_entries p.number some.tries) (step_takes_place g v look u looks.step) some.call;
       number = ap (λ (x : Part). x.number) last ∙ some.number;
       ready = subst (λ (x : Part). IsReady g w.front x to []) (sym last) (subst (IsReady g w.front q to) (no_row due n high) some.ready);
@@ -187,34 +195,59 @@ has_tried g v p p' q q' k to due n old old' new u w number first last rows down 
           (tidy_then g v p p u q w looks.step.actors (tidy_calm g v look u p looks.step (λ r. refl)) some.tidy);
     }
 
--- the end is recorded
+-- the end is recorded, after some entries
+ended : (advances : Result (ℕ × ℕ) NoMemory → Step) (g : Settings) (v : View) (w k to : ℕ) (es : List Entry) (gained : List Row) (old new : Queue) (u x : View)
+    → k ≡ w → TakesPlace g v es u → advances (Ok (to, length gained)) (state g v.front) (es ++ advanced_entry w to ∷ [])
+    → new.rows ≡ old.rows ++ gained → fired_in g u.front w ≡ fired_in g v.front w ++ gained
+    → Appends g u (advanced_entry k to) x → HoldsSched v w → HasExpiredBy advances g v w to old new x
+ended advances g v w k to es gained old new u x number call allowed fired waits step holds =
+    let last : Appends g u (advanced_entry w to) x = subst (λ m. Appends g u (advanced_entry m to) x) number step in
+    let has : (nat_eq w w || false) ≡ true = ap (λ b. b || false) (self w) in
+    record {
+      gained = gained;
+      call = record {
+        entries = es ++ advanced_entry w to ∷ [];
+        allowed = allowed;
+        call = takes_place_then g v u x es (advanced_entry w to ∷ []) call (step_takes_place g u (advanced_entry w to) x last);
+      };
+      fired = fired;
+      waits = waits_by g u (advanced_entry w to) x w last (subst (λ actors. is_held actors (Sched w) ≡ true) (sym call.actors) holds.sched) has ∙ waits;
+    }
+
+-- it is recorded after the tries
 pub has_expired : (g : Settings) (v : View) (p q : Part) (k to : ℕ) (old new : Queue) (u x : View) → k ≡ p.number → HasTried g v p q to old new u
     → Appends g u (advanced_entry k to) x → HoldsSched v p.number → HasExpired g v p.number to old new x
 has_expired g v p q k to old new u x number tried step holds =
-    let last : Appends g u (advanced_entry p.number to) x = subst (λ m. Appends g u (advanced_entry m to) x) number step in
-    let look : Entry = look_entry (Sched p.number) tried.now in
-    let has : (nat_eq p.number p.number || false) ≡ true = ap (λ b. b || false) (self p.number) in
-    record {
-      gained = tried.gained;
-      call = record {
-        entries = look ∷ (expiry_entries p.number tried.tries ++ advanced_entry p.number to ∷ []);
-        allowed = record { now = tried.now; tries = tried.tries; fired = tried.count; entries = refl };
-        call = takes_place_then g v u x (look ∷ expiry_entries p.number tried.tries) (advanced_entry p.number to ∷ []) tried.call
-            (step_takes_place g u (advanced_entry p.number to) x last);
-      };
-      fired = tried.fired;
-      waits = waits_by g u (advanced_entry p.number to) x p.number last
-          (subst (λ actors. is_held actors (Sched p.number) ≡ true) (sym tried.call.actors) holds.sched) has
-          ∙ tried.waits;
-    }
+    let es : List Entry = look_entry (Sched p.number) tried.now ∷ expiry_entries p.number tried.tries in
+    ended (Advances g p.number) g v p.number k to es tried.gained old new u x number tried.call
+    (record { now = tried.now; tries = tried.tries; fired = tried.count; settled = tried.settled; entries = refl })
+    tried.fired tried.waits step holds
+
+-- or after looks
+pub has_expired_all : (g : Settings) (v : View) (p q : Part) (k to : ℕ) (old new : Queue) (u x : View) → k ≡ p.number → HasLooked g v p q to old new u
+    → Appends g u (advanced_entry k to) x → HoldsSched v p.number → IsAdvancedAll g v p.number (Ok to) old new x
+has_expired_all g v p q k to old new u x number looked step holds =
+    let look : Entry = look_entry (Sched p.number) looked.now in
+    let last : List Entry = advanced_entry p.number to ∷ [] in
+    ended (AdvancesAll g p.number) g v p.number k to (look ∷ (expiry_entries p.number looked.tries ++ looked.looks)) looked.gained old new u x number looked.call
+    (record {
+      now = looked.now;
+      tries = looked.tries;
+      looks = looked.looks;
+      fired = looked.count;
+      settled = looked.settled;
+      are_looks = looked.are_looks;
+      entries = ap (λ (l : List Entry). look ∷ l) (append_assoc (expiry_entries p.number looked.tries) looked.looks last);
+    })
+    looked.fired looked.waits step holds
 
 -- a tidy part stays so when it is
 pub tidy_ended : (g : Settings) (u : View) (q : Part) (k to : ℕ) (x : View) → Appends g u (advanced_entry k to) x → KeepsTidy g u q q x
 tidy_ended g u q k to x step = tidy_calm g u (advanced_entry k to) x q step (λ r. refl)
 
-pub tidy_after : (g : Settings) (v : View) (p q : Part) (k to : ℕ) (old new : Queue) (u x : View) → HasTried g v p q to old new u
+pub tidy_after : (g : Settings) (v : View) (p q : Part) (k to : ℕ) (u x : View) → u.actors ≡ v.actors → KeepsTidy g v p q u
     → Appends g u (advanced_entry k to) x → KeepsTidy g v p q x
-tidy_after g v p q k to old new u x tried step = tidy_then g v p q u q x tried.call.actors tried.tidy (tidy_ended g u q k to x step)
+tidy_after g v p q k to u x same tidy step = tidy_then g v p q u q x same tidy (tidy_ended g u q k to x step)
 
 -- there was no memory
 pub not_expired : (g : Settings) (v : View) (w k to : ℕ) (e : NoMemory) (old new : Queue) (u : View) → k ≡ w → LooksDown g v (Sched k) to u

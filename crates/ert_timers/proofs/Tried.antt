@@ -145,6 +145,7 @@ expired g v p q row old new u true stands held sched wheel settles settled part 
     record {
       missed = None;
       step = step;
+      settled = tt;
       part = part;
       stands = subst (λ (x : Part). Stands g u.front x) (sym part)
           (stands_gone g v e u p row.slot (p.expires + 1) p.orphans stands (key_low p.keys row.slot (key_of row) held) step wheel refl
@@ -162,9 +163,12 @@ expired g v p q row old new u false stands held sched wheel settles settled part
     let step : Appends g v e u = settles.step in
     let counts = stands.counted in
     let same : p.expires + 0 ≡ p.expires = omega arith in
+    let wide : row.slot < length p.keys = key_low p.keys row.slot (key_of row) held in
+    let low : row.slot < g.slots = omega (arith, wide, stands.holds.wide) in
     record {
       missed = Some settles.found;
       step = step;
+      settled = settles.not_armed (sym (stands.holds.lasts row.slot low));
       part = part;
       stands = subst (λ (x : Part). Stands g u.front x) (sym part)
           (stands_gone g v e u p row.slot (p.expires + 0) p.orphans stands (key_low p.keys row.slot (key_of row) held) step wheel refl (λ j other. refl) settled

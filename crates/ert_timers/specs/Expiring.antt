@@ -11,7 +11,8 @@ use Rattle.ert_defs.specs.declared.entry.Entry.{Entry}
 use Rattle.ert_defs.specs.declared.memory.NoMemory.{NoMemory}
 use Rattle.ert_defs.specs.declared.settings.Settings.{Settings}
 use Rattle.ert_defs.specs.declared.timer.Status.{Status}
-use Rattle.ert_answers.specs.WheelCalls.{Try, expires_by, expiry_entries, hits, Advances}
+use Rattle.ert_answers.specs.Ways.{Step}
+use Rattle.ert_answers.specs.WheelCalls.{Try, expires_by, expiry_entries, hits, IsSettled, AllSettled, Advances, AdvancesAll, AreLooks}
 use Rattle.ert_table.specs.Calls.{IsMade}
 use Rattle.ert_table.specs.Takes.{Appends, TakesPlace}
 use Rattle.ert_table.specs.declared.view.View.{View}
@@ -44,6 +45,7 @@ is_hit (Some found) = false
 pub record Expires (g : Settings) (v : View) (p q : Part) (row : WheelRow) (old new : Queue) (u : View) : Type 0 where
   pub missed : Option (Option Status)
   pub step : Appends g v (expires_by p.number (last_timer p.number p.slots row.slot) missed) u
+  pub settled : IsSettled missed
   pub part : q ≡ let_go p row.slot (is_hit missed)
   pub stands : Stands g u.front q
   pub fired : new.rows ≡ old.rows ++ fired_as (timer_of p row) missed
@@ -66,6 +68,7 @@ pub record IsReady (g : Settings) (h : List Entry) (p : Part) (to : ℕ) (rows :
 pub record ExpiresSome (g : Settings) (v : View) (p q : Part) (to : ℕ) (due : List WheelRow) (n : ℕ) (old new : Queue) (u : View) : Type 0 where
   pub tries : List Try
   pub gained : List Row
+  pub settled : AllSettled tries
   pub call : TakesPlace g v (expiry_entries p.number tries) u
   pub number : q.number ≡ p.number
   pub ready : IsReady g u.front q to (drop n due)
@@ -75,12 +78,17 @@ pub record ExpiresSome (g : Settings) (v : View) (p q : Part) (to : ℕ) (due : 
   pub room : old.room ≤ new.room + n
   pub tidy : KeepsTidy g v p q u
 
--- an advance: the timers that expired by it come last in the list, and in the scheduler's
-pub record HasExpired (g : Settings) (v : View) (w to : ℕ) (old new : Queue) (u : View) : Type 0 where
+-- an advance that may make these steps by its answer: the timers that expired by it come last in the list,
+-- and in the scheduler's
+pub record HasExpiredBy (advances : Result (ℕ × ℕ) NoMemory → Step) (g : Settings) (v : View) (w to : ℕ) (old new : Queue) (u : View) : Type 0 where
   pub gained : List Row
-  pub call : IsMade g v (Advances g w (Ok (to, length gained))) u
+  pub call : IsMade g v (advances (Ok (to, length gained))) u
   pub fired : new.rows ≡ old.rows ++ gained
   pub waits : fired_in g u.front w ≡ fired_in g v.front w ++ gained
+
+-- an advance that only tries the due rows
+abbrev pub HasExpired : Settings → View → ℕ → ℕ → Queue → Queue → View → Type 0
+HasExpired g v w to old new u = HasExpiredBy (Advances g w) g v w to old new u
 
 -- want of memory: nothing expired
 pub record HasNotExpired (g : Settings) (v : View) (w : ℕ) (e : NoMemory) (old new : Queue) (u : View) : Type 0 where
@@ -92,7 +100,24 @@ pub record HasTried (g : Settings) (v : View) (p q : Part) (to : ℕ) (old new :
   pub now : ℤ
   pub tries : List Try
   pub gained : List Row
+  pub settled : AllSettled tries
   pub call : TakesPlace g v (look_entry (Sched p.number) now ∷ expiry_entries p.number tries) u
+  pub number : q.number ≡ p.number
+  pub ready : IsReady g u.front q to []
+  pub count : length gained ≡ hits tries
+  pub fired : new.rows ≡ old.rows ++ gained
+  pub waits : fired_in g u.front p.number ≡ fired_in g v.front p.number ++ gained
+  pub tidy : KeepsTidy g v p q u
+
+-- and then slots were looked at
+pub record HasLooked (g : Settings) (v : View) (p q : Part) (to : ℕ) (old new : Queue) (u : View) : Type 0 where
+  pub now : ℤ
+  pub tries : List Try
+  pub looks : List Entry
+  pub gained : List Row
+  pub settled : AllSettled tries
+  pub are_looks : AreLooks (Sched p.number) p.number 0 g.slots looks
+  pub call : TakesPlace g v (look_entry (Sched p.number) now ∷ (expiry_entries p.number tries ++ looks)) u
   pub number : q.number ≡ p.number
   pub ready : IsReady g u.front q to []
   pub count : length gained ≡ hits tries
@@ -116,3 +141,8 @@ IsTried g v p q (Err e) old new u = HasNotTried g v p q e old new u
 abbrev pub IsAdvanced : Settings → View → ℕ → Result ℕ NoMemory → Queue → Queue → View → Type 0
 IsAdvanced g v w (Ok to) old new u = HasExpired g v w to old new u
 IsAdvanced g v w (Err e) old new u = HasNotExpired g v w e old new u
+
+-- the same of an advance that looks at slots after its tries
+abbrev pub IsAdvancedAll : Settings → View → ℕ → Result ℕ NoMemory → Queue → Queue → View → Type 0
+IsAdvancedAll g v w (Ok to) old new u = HasExpiredBy (AdvancesAll g w) g v w to old new u
+IsAdvancedAll g v w (Err e) old new u = HasNotExpired g v w e old new u

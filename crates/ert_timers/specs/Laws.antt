@@ -15,7 +15,7 @@ use Rattle.ert_defs.specs.declared.timer.Start.{Start}
 use Rattle.ert_defs.specs.declared.timer.Status.TheVariants.{Armed}
 use Rattle.ert_defs.specs.declared.timer.TimerRef.{TimerRef}
 use Rattle.ert_answers.specs.TimerCalls.{Cancels, Starts}
-use Rattle.ert_answers.specs.WheelCalls.{Advances, Sweeps}
+use Rattle.ert_answers.specs.WheelCalls.{Advances, AdvancesAll, Sweeps}
 use Rattle.ert_answers.specs.declared.answers.StartErr.{StartErr}
 use Rattle.ert_laws.specs.Counts.{count_at}
 use Rattle.ert_table.specs.Calls.{AreOnlyOf, IsMade}
@@ -43,6 +43,11 @@ LawOfStarts = (g : Settings) (by w : ℕ) (start : Start) (answer : Result Timer
 -- those of an advance are of the scheduler and of its wheel alone
 abbrev pub LawOfAdvances : Type 0
 LawOfAdvances = (g : Settings) (w : ℕ) (answer : Result (ℕ × ℕ) NoMemory) (s : State) (es : List Entry) → Advances g w answer s es
+    → AreWithWheel (Sched w) w es
+
+-- so are those of an advance that looks at slots after its tries
+abbrev pub LawOfFullAdvances : Type 0
+LawOfFullAdvances = (g : Settings) (w : ℕ) (answer : Result (ℕ × ℕ) NoMemory) (s : State) (es : List Entry) → AdvancesAll g w answer s es
     → AreWithWheel (Sched w) w es
 
 -- those of a sweep are of its caller and of the wheel alone

@@ -10,10 +10,9 @@ use Rattle.ert_defs.specs.declared.entry.Entry.{Entry}
 use Rattle.ert_defs.specs.declared.settings.Settings.{Settings}
 use Rattle.ert_defs.specs.declared.timer.Start.{Start}
 use Rattle.ert_defs.specs.declared.timer.Status.{Status}
-use Rattle.ert_defs.specs.declared.timer.Status.TheVariants.{Armed}
 use Rattle.ert_defs.specs.declared.timer.TimerRef.{TimerRef}
 use Rattle.ert_answers.specs.TimerCalls.{Closes}
-use Rattle.ert_answers.specs.WheelCalls.{orphans_by}
+use Rattle.ert_answers.specs.WheelCalls.{orphans_by, IsSettled}
 use Rattle.ert_table.specs.Settlings.{Shown}
 use Rattle.ert_table.specs.Takes.{Appends, TakesPlace}
 use Rattle.ert_table.specs.declared.view.View.{View}
@@ -29,11 +28,6 @@ pub record HoldsTimer (p : Part) (timer : TimerRef) (deadline : ℕ) : Type 0 wh
   pub low : timer.slot < length p.slots
   pub held : key_in p.keys timer.slot ≡ Some (record { deadline = deadline; order = order })
   pub named : timer ≡ last_timer p.number p.slots timer.slot
-
--- what was missed wasn't armed
-abbrev pub IsSettled : Option (Option Status) → Type 0
-IsSettled None = Unit {0}
-IsSettled (Some found) = found ≢ Some Armed
 
 -- a timer is cancelled for the exit of its destination, or was settled before, and its slot is held free
 pub record Orphans (g : Settings) (v : View) (by : ℕ) (p q : Part) (timer : TimerRef) (u : View) : Type 0 where

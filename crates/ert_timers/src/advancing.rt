@@ -9,22 +9,22 @@ use ert_table::{Desk, Pass, Settle, TimeCarry};
 use ert_wheel::Row;
 
 impl WheelPart {
-    ghost use Rattle.std.specs.Prelude.{◌≡◌, ◌<◌, ◌≤◌, IfOk, Some, length};
+    ghost use Rattle.std.specs.Prelude.{◌≡◌, ◌<◌, ◌≤◌, Some, length};
     ghost use Rattle.ert_defs.specs.Legal.{IsNext};
     ghost use Rattle.ert_defs.specs.States.{state};
     ghost use Rattle.ert_defs.specs.declared.entry.Actor.TheVariants.{Sched};
     ghost use Rattle.ert_table.specs.Desks.{settings_of, view_of, front_of, Belongs};
-    ghost use Rattle.ert_table.specs.Held.{IsWhole};
     ghost use Rattle.ert_timers.specs.Expiring.{Expires, ExpiresSome, IsReady, IsTried, IsAdvanced};
     ghost use Rattle.ert_timers.specs.Parts.{HoldsSched, Stands, last_timer};
-    ghost use Rattle.ert_timers.specs.Tidy.{IsTidy, KeepsTidy};
+    ghost use Rattle.ert_timers.specs.Tidy.{KeepsTidy};
     ghost use Rattle.ert_wheel.specs.Rows.{key_in, key_of};
 
     /// Lets every timer expire whose deadline has come, by the time that the call itself looks up. Their
     /// timers are added to `fired`, in order of deadline and then of start. The answer is that time, in whole
     /// milliseconds since the start time, rounded down.
     ///
-    /// All memory is taken before the first timer expires: after NoMemory none has.
+    /// A due timer that doesn't expire was settled by another. All memory is taken before the first timer expires:
+    /// after NoMemory none has.
     pub fn advance(
         &mut self,
         desk: &Desk,
@@ -49,38 +49,8 @@ impl WheelPart {
         Ok(to)
     }
 
-    /// Does what `advance` does, and besides looks at each timer that is held and not due, and drops those that
-    /// others have settled. So a pass that holds every actor leaves a tidy part.
-    ///
-    /// It looks at every slot once. All memory is taken before the first timer expires.
-    pub fn advance_all(
-        &mut self,
-        desk: &Desk,
-        pass: &mut Pass,
-        fired: &mut FiredList,
-    ) -> Result<u64, NoMemory>
-        requires belongs { Belongs desk.now pass.old }
-        requires holds { HoldsSched (view_of pass.old) self.old.number }
-        requires stands { Stands (settings_of desk.now) (front_of pass.old) self.old }
-        ensures belongs { Belongs desk.now pass.new }
-        ensures number { self.new.number ≡ self.old.number }
-        ensures stands { Stands (settings_of desk.now) (front_of pass.new) self.new }
-        ensures call { IsAdvanced (settings_of desk.now) (view_of pass.old) self.old.number result fired.old fired.new (view_of pass.new) }
-        ensures keeps { KeepsTidy (settings_of desk.now) (view_of pass.old) self.old self.new (view_of pass.new) }
-        ensures tidy { IfOk result (λ to. IsWhole (settings_of desk.now) (view_of pass.old).actors → IsTidy (state (settings_of desk.now) (front_of pass.new)) self.new) }
-    {
-        let to = self.try_due(desk, pass, fired)?;
-        self.drop_settled_rows(desk, pass);
-        pass.load_time(
-            desk,
-            Actor::Sched(self.number()),
-            &TimeCarry::Advanced { to },
-        );
-        Ok(to)
-    }
-
     /// Looks at the time, and tries all rows that are due by it.
-    fn try_due(
+    pub(crate) fn try_due(
         &mut self,
         desk: &Desk,
         pass: &mut Pass,

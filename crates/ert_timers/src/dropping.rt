@@ -3,18 +3,53 @@ ghost use Rattle.std.specs.Prelude.{◌≡◌};
 ghost use Rattle.ert_defs.specs.Laws as laws;
 ghost use Rattle.ert_timers.specs.Starting.{status_shown};
 
+use crate::fired_list::FiredList;
 use crate::part::WheelPart;
-use ert_defs::{Actor, Status};
-use ert_table::{Desk, Pass, TimerCarry};
+use ert_defs::{Actor, NoMemory, Status};
+use ert_table::{Desk, Pass, TimeCarry, TimerCarry};
 
 impl WheelPart {
-    ghost use Rattle.std.specs.Prelude.{◌≡◌, ◌<◌, length};
+    ghost use Rattle.std.specs.Prelude.{◌≡◌, ◌<◌, IfOk, length};
+    ghost use Rattle.ert_defs.specs.States.{state};
     ghost use Rattle.ert_table.specs.Desks.{settings_of, view_of, front_of, Belongs};
+    ghost use Rattle.ert_table.specs.Held.{IsWhole};
     ghost use Rattle.ert_timers.specs.Dropping.{DropsRow, DropsRows};
+    ghost use Rattle.ert_timers.specs.Expiring.{IsAdvancedAll};
     ghost use Rattle.ert_timers.specs.Parts.{HoldsSched, Stands};
+    ghost use Rattle.ert_timers.specs.Tidy.{IsTidy, KeepsTidy};
+
+    /// Does what `advance` does, and besides looks at each timer that is held and not due, and drops those that
+    /// others have settled. So a pass that holds every actor leaves a tidy part.
+    ///
+    /// It looks at every slot that has a row, once and in order. All memory is taken before the first timer expires.
+    pub fn advance_all(
+        &mut self,
+        desk: &Desk,
+        pass: &mut Pass,
+        fired: &mut FiredList,
+    ) -> Result<u64, NoMemory>
+        requires belongs { Belongs desk.now pass.old }
+        requires holds { HoldsSched (view_of pass.old) self.old.number }
+        requires stands { Stands (settings_of desk.now) (front_of pass.old) self.old }
+        ensures belongs { Belongs desk.now pass.new }
+        ensures number { self.new.number ≡ self.old.number }
+        ensures stands { Stands (settings_of desk.now) (front_of pass.new) self.new }
+        ensures call { IsAdvancedAll (settings_of desk.now) (view_of pass.old) self.old.number result fired.old fired.new (view_of pass.new) }
+        ensures keeps { KeepsTidy (settings_of desk.now) (view_of pass.old) self.old self.new (view_of pass.new) }
+        ensures tidy { IfOk result (λ to. IsWhole (settings_of desk.now) (view_of pass.old).actors → IsTidy (state (settings_of desk.now) (front_of pass.new)) self.new) }
+    {
+        let to = self.try_due(desk, pass, fired)?;
+        self.drop_settled_rows(desk, pass);
+        pass.load_time(
+            desk,
+            Actor::Sched(self.number()),
+            &TimeCarry::Advanced { to },
+        );
+        Ok(to)
+    }
 
     /// Looks at each slot that has a row, and drops the rows of the timers that aren't armed any more.
-    pub(crate) fn drop_settled_rows(&mut self, desk: &Desk, pass: &mut Pass)
+    fn drop_settled_rows(&mut self, desk: &Desk, pass: &mut Pass)
         requires belongs { Belongs desk.now pass.old }
         requires holds { HoldsSched (view_of pass.old) self.old.number }
         requires stands { Stands (settings_of desk.now) (front_of pass.old) self.old }

@@ -4,16 +4,15 @@ use crate::part::WheelPart;
 use ert_defs::Settings;
 
 impl WheelPart {
-    ghost use Rattle.std.specs.Prelude.{◌≡◌, ◌≤ℤ◌, ◌<ℤ◌, List, MatchOption};
+    ghost use Rattle.std.specs.Prelude.{◌≡◌, ◌≤ℤ◌, ◌<ℤ◌, List};
     ghost use Rattle.ert_defs.specs.Lines.{end_time};
     ghost use Rattle.ert_defs.specs.Milliseconds.{down, natural};
     ghost use Rattle.ert_defs.specs.States.{state};
     ghost use Rattle.ert_defs.specs.declared.entry.Entry.{Entry};
     ghost use Rattle.ert_defs.specs.declared.settings.Settings.{Settings};
-    ghost use Rattle.ert_timers.specs.NextDue.{NoneArmedBefore, IsNearest, horizon_at};
+    ghost use Rattle.ert_timers.specs.NextDue.{NoneArmedBefore, IsNearest, IsNextHeld, horizon_at};
     ghost use Rattle.ert_timers.specs.Parts.{Stands};
     ghost use Rattle.ert_timers.specs.Tidy.{IsTidy};
-    ghost use Rattle.ert_wheel.specs.NextDue.{NoRow, IsNextDue};
 
     /// How early a timer may be due, in whole milliseconds since the start time, as `advance` answers; None
     /// where no timer is held.
@@ -25,7 +24,7 @@ impl WheelPart {
     pub fn next_due(&self, settings: &Settings, time: i64) -> Option<u64>
         requires low { settings.now.start ≤ℤ time }
         requires high { time <ℤ end_time settings.now }
-        ensures held { MatchOption result (NoRow self.now.keys) (IsNextDue self.now.keys (natural (down settings.now time))) }
+        ensures held { IsNextHeld self.now (natural (down settings.now time)) result }
         ensures armed { (g : Settings) (h : List Entry) → Stands g h self.now → NoneArmedBefore (state g h) self.now.number result }
         ensures nearest { (g : Settings) (h : List Entry) → Stands g h self.now → IsTidy (state g h) self.now → IsNearest (state g h) self.now.number (horizon_at settings.now time) result }
     {

@@ -32,10 +32,12 @@ pub record IsDueAt (keys : List (Option Key)) (time : ℕ) : Type 0 where
 abbrev pub horizon : ℕ → ℕ
 horizon now = min (now + LOOK_AHEAD) (2 ^ 64 - 1)
 
--- there are rows, none is due before a time, and either one is due at it or it is the end of the look ahead
+-- there are rows, none is due before a time, that is no later than the end of the look ahead, and either one
+-- is due at it or it is that end
 pub record IsNextDue (keys : List (Option Key)) (now time : ℕ) : Type 0 where
   pub some : HasRow keys
   pub none_before : NoneBefore keys time
+  pub within : time ≤ horizon now
   pub near : IsDueAt keys time ⊎ (time ≡ horizon now)
 
 -- the chains are those of the keys, by some homes

@@ -164,6 +164,7 @@ impl Wheel {
 
     /// The least deadline, where it is below a bound, and else the bound.
     fn least_deadline(&self, bound: u64) -> u64
+        ensures low { result ≤ bound }
         ensures none_before { NoneBefore self.now result }
         ensures near { IsDueAt self.now result ⊎ (result ≡ bound) }
     {

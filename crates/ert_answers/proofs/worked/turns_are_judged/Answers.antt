@@ -53,7 +53,7 @@ all_served = (
 
 -- the timer expires
 advanced : AdvancesWheel one (alone one) 0 (Ok (1, 1)) (asked ++ (serving ++ idling)) advancing
-advanced = record { now = pos 1000000; tries = (record { timer = timer; missed = None }) ∷ []; fired = refl; entries = refl }
+advanced = record { now = pos 1000000; tries = (record { timer = timer; missed = None }) ∷ []; fired = refl; settled = (tt, tt); entries = refl }
 
 -- and is delivered
 delivered : HasDelivered one (alone one) 0 (1, 0) ((asked ++ (serving ++ idling)) ++ advancing) delivering

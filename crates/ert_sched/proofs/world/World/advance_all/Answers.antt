@@ -3,7 +3,8 @@ use Rattle.ert_defs.specs.States.{state}
 use Rattle.ert_table.specs.Desks.{settings_of, front_of}
 use Rattle.ert_sched.specs.Worlds.{Service}
 use Rattle.ert_sched.proofs.WheelCalls.{replaced_tidy}
-use Rattle.ert_sched.proofs.Advances.{advance_ok, advance_fits, advance_refused}
+use Rattle.ert_answers.specs.WheelCalls.{AdvancesAll}
+use Rattle.ert_sched.proofs.Advances.{full_advances_plain, advance_ok, advance_fits, advance_refused}
 use Rattle.ert_sched.proofs.world.World.advance_all.Goals as goal
 
 pub invariant_of-self : goal.invariant_of-self
@@ -24,20 +25,20 @@ returns-in_err-to-clause-call c =
 pub overflow_cast-result : goal.overflow_cast-result
 overflow_cast-result c =
     let few : c.len.result - c.len-before.result ≤ 65536 =
-    advance_fits c.args.self.now c.self.inside c.advance_all.new.pass c.args.sched c.in_ok-to.to c.len.result c.len-before.result c.index_mut.result.now
+    advance_fits (AdvancesAll (settings_of c.self.inside.desk) c.index_mut.result.now.number) c.args.self.now c.self.inside c.advance_all.new.pass c.args.sched c.in_ok-to.to c.len.result c.len-before.result c.index_mut.result.now
     c.index_mut-part.result.now (record { wheel = c.index_mut-part.result.now.wheel; hand = c.index_mut-part.result.now.hand; fired = c.advance_all.new.fired }) c.self.view_is c.self.invariant c.requires c.index_mut-part.ensures.value c.in_ok-to.ensures.call c.len.ensures c.len-before.ensures in
     omega (arith, few)
 
 pub invariant_of-self-2 : goal.invariant_of-self-2
 invariant_of-self-2 c =
-    (advance_ok c.args.self.now c.self.inside c.advance_all.new.pass c.args.sched c.in_ok-to.to c.len.result c.len-before.result c.index_mut.result.now
+    (advance_ok AdvancesAll full_advances_plain c.args.self.now c.self.inside c.advance_all.new.pass c.args.sched c.in_ok-to.to c.len.result c.len-before.result c.index_mut.result.now
     c.advance_all.new.self c.index_mut-part.result.now (record { wheel = c.index_mut-part.result.now.wheel; hand = c.index_mut-part.result.now.hand; fired = c.advance_all.new.fired })
     c.self.view_is c.self.invariant c.advance_all.ensures.belongs c.requires c.index_mut.ensures.value c.index_mut-part.ensures.value c.advance_all.ensures.number
     c.advance_all.ensures.stands c.advance_all.ensures.keeps c.in_ok-to.ensures.call refl refl c.len.ensures c.len-before.ensures).fit
 
 pub returns-clause-call : goal.returns-clause-call
 returns-clause-call c =
-    (advance_ok c.args.self.now c.self.inside c.advance_all.new.pass c.args.sched c.in_ok-to.to c.len.result c.len-before.result c.index_mut.result.now
+    (advance_ok AdvancesAll full_advances_plain c.args.self.now c.self.inside c.advance_all.new.pass c.args.sched c.in_ok-to.to c.len.result c.len-before.result c.index_mut.result.now
     c.advance_all.new.self c.index_mut-part.result.now (record { wheel = c.index_mut-part.result.now.wheel; hand = c.index_mut-part.result.now.hand; fired = c.advance_all.new.fired })
     c.self.view_is c.self.invariant c.advance_all.ensures.belongs c.requires c.index_mut.ensures.value c.index_mut-part.ensures.value c.advance_all.ensures.number
     c.advance_all.ensures.stands c.advance_all.ensures.keeps c.in_ok-to.ensures.call refl refl c.len.ensures c.len-before.ensures).goes

@@ -1,12 +1,14 @@
-use Rattle.std.proofs.Common.{◌≡◌, ◌≤ℤ◌, ◌<ℤ◌, ℕ, ℤ, ap, subst, sym, ◌∙◌, rules, FitsSigned, w64, to_z-of_z}
+use Rattle.std.proofs.Common.{◌≡◌, ◌≤ℤ◌, ◌<ℤ◌, ℕ, ℤ, slice_index_or, ap, subst, sym, ◌∙◌, rules, FitsSigned, w64, to_z-of_z}
 use Rattle.ert_clock.specs.Shown.{Shown}
 use Rattle.ert_defs.specs.Lines.{end_time}
+use Rattle.ert_defs.specs.Milliseconds.{down, natural}
 use Rattle.ert_defs.specs.States.{state}
 use Rattle.ert_defs.specs.declared.settings.Settings.{Settings}
 use Rattle.ert_table.specs.Desks.{settings_of}
-use Rattle.ert_timers.specs.NextDue.{IsNearest, horizon_at}
+use Rattle.ert_timers.specs.NextDue.{IsNearest, IsNextHeld, horizon_at}
+use Rattle.ert_timers.specs.Parts.{Part}
 use Rattle.ert_sched.specs.Worlds.{Service}
-use Rattle.ert_sched.proofs.NextDue.{time_low, time_high, none_armed_in, nearest_in}
+use Rattle.ert_sched.proofs.NextDue.{time_low, time_high, none_armed_in, nearest_in, held_in}
 use Rattle.ert_sched.proofs.world.World.next_due.Goals as goal
 
 pub next_due-requires-clause-low : goal.next_due-requires-clause-low
@@ -22,6 +24,18 @@ next_due-requires-clause-high c =
     let time : ◌≡◌ {A = ℤ} c.now.result c.self.inside.keeper.face.time = c.now.ensures ∙ ap (λ (k : Shown). k.face.time) c.clock.ensures in
     simp to_z-of_z (subst (λ (g : Settings). c.now.result <ℤ end_time g) (sym c.settings.ensures)
     (subst (λ (x : ℤ). x <ℤ end_time (settings_of c.self.inside.desk)) (sym time) (time_high c.self.inside c.self.invariant)))
+
+pub returns-clause-held : goal.returns-clause-held
+returns-clause-held c = λ (e : Part).
+    let fits : FitsSigned w64 c.now.result = search rules in
+    let time : ◌≡◌ {A = ℤ} c.now.result c.args.self.now.clock.face.time =
+    c.now.ensures ∙ ap (λ (k : Shown). k.face.time) c.clock.ensures ∙ ap (λ (w : Service). w.clock.face.time) c.self.view_is in
+    let settings : c.settings.result.now ≡ c.args.self.now.settings = c.settings.ensures ∙ ap (λ (w : Service). w.settings) c.self.view_is in
+    let from : natural (down c.settings.result.now c.now.result) ≡ natural (down c.args.self.now.settings c.args.self.now.clock.face.time) =
+    ap (λ (g : Settings). natural (down g c.now.result)) settings ∙ ap (λ (x : ℤ). natural (down c.args.self.now.settings x)) time in
+    subst (λ (n : ℕ). IsNextHeld (slice_index_or c.args.self.now.wheels c.args.sched e) n c.next_due.result) from
+    (held_in c.args.self.now c.self.inside c.args.sched (natural (down c.settings.result.now c.now.result)) c.index.result.now c.next_due.result c.self.view_is c.self.invariant c.requires c.index.ensures
+    (simp to_z-of_z at c.next_due.ensures.held) e)
 
 pub returns-clause-armed : goal.returns-clause-armed
 returns-clause-armed c =

@@ -32,4 +32,4 @@ pub returns-clause-tidy : goal.returns-clause-tidy
 returns-clause-tidy c =
     let tried = c.in_ok-to.ensures.call in
     tidy_after (settings_of c.args.desk.now) (view_of c.args.pass.now) c.args.self.now c.try_due.new.self c.number.result c.in_ok-to.to
-    c.args.fired.now c.try_due.new.fired (view_of c.try_due.new.pass) (view_of c.load_time.new.self) tried c.load_time.ensures.step
+    (view_of c.try_due.new.pass) (view_of c.load_time.new.self) tried.call.actors tried.tidy c.load_time.ensures.step

@@ -14,10 +14,10 @@ loop-slot-init c = record {
 
 pub drop_settled_row-requires-clause-low : goal.drop_settled_row-requires-clause-low
 drop_settled_row-requires-clause-low c =
-    omega (arith, c.loop-slot-test.true, c.slot_count-slot-end.ensures, ap length c.loop-slot.invariant.call.misses.slots)
+    omega (arith, c.loop-slot-test.true, c.slot_count-slot-end.ensures, ap length c.loop-slot.invariant.call.over.slots)
 
 pub drop_settled_row-requires-clause-stands : goal.drop_settled_row-requires-clause-stands
-drop_settled_row-requires-clause-stands c = c.loop-slot.invariant.call.misses.stands
+drop_settled_row-requires-clause-stands c = c.loop-slot.invariant.call.over.stands
 
 pub loop-slot-preserved : goal.loop-slot-preserved
 loop-slot-preserved c =
@@ -25,7 +25,7 @@ loop-slot-preserved c =
     record {
       belongs = c.drop_settled_row.ensures.belongs;
       holds = still_held (view_of c.loop-slot.pass) (view_of c.drop_settled_row.new.pass) c.loop-slot.self.number
-          c.drop_settled_row.new.self.number c.loop-slot.invariant.holds one.misses.call.actors one.misses.number;
+          c.drop_settled_row.new.self.number c.loop-slot.invariant.holds one.over.call.actors one.over.number;
       call = drops_more (settings_of c.args.desk.now) (view_of c.args.pass.now) c.args.self.now c.loop-slot.self c.drop_settled_row.new.self
           c.loop-slot.slot (view_of c.loop-slot.pass) (view_of c.drop_settled_row.new.pass) c.loop-slot.invariant.call one;
     }

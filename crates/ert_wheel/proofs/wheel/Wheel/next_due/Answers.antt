@@ -12,5 +12,6 @@ returns c =
     record {
       some = has_row c.args.self.now some;
       none_before = c.least_deadline.ensures.none_before;
+      within = search (rules, c.least_deadline.ensures.low, c.saturating_add.ensures);
       near = search (rules, c.least_deadline.ensures.near, c.saturating_add.ensures);
     }
