@@ -1,6 +1,6 @@
 -- What the fields of a part keep, as each of its small calls changes them.
 
-use Rattle.std.proofs.Common.{◌≡◌, ℕ, ◌+◌, ◌<◌, ◌≤◌, Bool, true, false, not, ◌&&◌, ◌||◌, nat_eq, List, length, count_by, Option, Some, None, IsSome, refl, sym, ap, subst, ◌∙◌, arith, inl, inr, set, get_or-set_same, get_or-set_other, eqb-true, eq-eqb}
+use Rattle.std.proofs.Common.{◌≡◌, ◌≢◌, ℕ, ◌+◌, ◌<◌, ◌≤◌, Bool, true, false, not, ◌&&◌, ◌||◌, nat_eq, List, length, count_by, Option, Some, None, IsSome, refl, sym, ap, subst, ◌∙◌, arith, inl, inr, set, get_or-set_same, get_or-set_other, eqb-true, eq-eqb}
 use Rattle.std.proofs.lemmas.Bool.{and_parts, cases_eq}
 use Rattle.std.proofs.lemmas.List.{length-set, set-get_or}
 use Rattle.std.proofs.lemmas.List.Sums.{sum_by-le}
@@ -9,14 +9,14 @@ use Rattle.std.specs.FinSet as sets
 use Rattle.std.specs.Option.{is_some}
 use Rattle.std.specs.Ordering.{nat_cmp}
 use Rattle.ert_timers.specs.Changes.{LostRow, dropped}
-use Rattle.ert_timers.specs.Parts.{AreFit, Part, slot_at, owner_of, owners_of}
+use Rattle.ert_timers.specs.Parts.{AreFit, AreOwned, Part, slot_at}
 use Rattle.ert_timers.specs.declared.part.Slot.{Slot}
 use Rattle.ert_timers.proofs.Rows.{key_left}
-use Rattle.ert_wheel.specs.Rings.{Rings, Place, AreChains, Takes, with_place}
+use Rattle.ert_wheel.specs.Rings.{Rings, MayTake, Takes, with_place}
 use Rattle.ert_wheel.specs.Rows.{key_in}
 use Rattle.ert_wheel.specs.declared.row.Key.{Key}
 use Rattle.ert_wheel.proofs.Collect.{key_low}
-use Rattle.ert_wheel.proofs.Parts.{with_place_here, with_place_there}
+use Rattle.ert_wheel.proofs.Parts.{with_place_there, kept_place}
 use Rattle.ert_wheel.proofs.Views.{counts_less}
 use Rattle.ert_words.specs.Free.{Free}
 
@@ -34,37 +34,18 @@ armed_few processes slots keys free owners a x o fit =
 pub set_none : (keys : List (Option Key)) (k : ℕ) → key_in keys k ≡ None → set keys k None ≡ keys
 set_none keys k vacant = subst (λ key. set keys k key ≡ keys) vacant (set-get_or keys k None)
 
--- what a place or none stands for is a place
-pub place_some : (slots : List Slot) (k : ℕ) (o : Option Key) (p : Place) → owner_of slots k o ≡ Some p
-    → (key : Key) × (o ≡ Some key) × (p ≡ record { home = (slot_at slots k).dest; order = key.order })
-place_some slots k None p is = absurd cc
-place_some slots k (Some key) p is = (key, refl, cc)
-
--- the places after the key of a slot was written
-pub owners_set : (slots : List Slot) (keys : List (Option Key)) (k : ℕ) (key : Option Key) → k < length keys
-    → (j : ℕ) → with_place (owners_of slots keys) k (owner_of slots k key) j ≡ owners_of slots (set keys k key) j
-owners_set slots keys k key low j =
-    elim (cases_eq j k) [
-      | inl same ↦ ap (with_place (owners_of slots keys) k (owner_of slots k key)) same
-          ∙ (with_place_here (owners_of slots keys) k (owner_of slots k key)
-          ∙ (ap (owner_of slots k) (sym (get_or-set_same keys k key None low))
-          ∙ ap (owners_of slots (set keys k key)) (sym same)))
-      | inr other ↦ with_place_there (owners_of slots keys) k (owner_of slots k key) j other
-          ∙ ap (owner_of slots j) (sym (get_or-set_other keys k j key None other))
-    ]
-
--- the row of a slot goes
-pub fit_dropped : (processes : ℕ) (slots : List Slot) (keys : List (Option Key)) (free : Free) (owners new : Rings) (a x o k : ℕ) (key : Key)
-    → AreFit processes slots keys free owners a x o → key_in keys k ≡ Some key → new.slots ≡ owners.slots → new.homes ≡ owners.homes
-    → Takes owners new k → AreFit processes slots (set keys k None) free new a x o
-fit_dropped processes slots keys free owners new a x o k key fit held same homes takes =
+-- the row of a slot goes, and the slot stays in its chain
+pub fit_dropped : (processes : ℕ) (slots : List Slot) (keys : List (Option Key)) (free : Free) (owners : Rings) (a x o k : ℕ) (key : Key)
+    → AreFit processes slots keys free owners a x o → key_in keys k ≡ Some key
+    → AreFit processes slots (set keys k None) free owners a x o
+fit_dropped processes slots keys free owners a x o k key fit held =
     let low : k < length keys = key_low keys k key held in
     record {
       few = fit.few;
       wide = length-set keys k None ∙ fit.wide;
       all_slots = fit.all_slots;
-      owned = same ∙ fit.owned;
-      homes = homes ∙ fit.homes;
+      owned = fit.owned;
+      homes = fit.homes;
       few_homes = fit.few_homes;
       vacant = λ j is. at j (fit.vacant j is) low;
       below = fit.below;
@@ -74,10 +55,12 @@ fit_dropped processes slots keys free owners new a x o k key fit held same homes
       tally = omega (arith, fit.tally, counts_less keys k key low held);
       orders = λ j seen is. fit.orders j seen (key_left keys k j seen low is).1;
       dests = λ j seen is. fit.dests j seen (key_left keys k j seen low is).1;
-      chained =
-          subst (λ (places : ℕ → Option Place). AreChains new places) (λ i j. owners_set slots keys k None low j i)
-          (takes (owners_of slots keys) (record { home = (slot_at slots k).dest; order = key.order }) fit.chained
-          (ap (owner_of slots k) held));
+      chained = record {
+        places = fit.chained.places;
+        are = fit.chained.are;
+        held = λ j seen is. fit.chained.held j seen (key_left keys k j seen low is).1;
+        orders = fit.chained.orders;
+      };
     }
   where
     at : (j : ℕ) → key_in keys j ≡ None → k < length keys → key_in (set keys k None) j ≡ None
@@ -86,6 +69,55 @@ fit_dropped processes slots keys free owners new a x o k key fit held same homes
           | inl same ↦ ap (key_in (set keys k None)) same ∙ get_or-set_same keys k None None low
           | inr other ↦ get_or-set_other keys k j None None other ∙ vacant
         ]
+
+-- with other chains
+pub fit_owned : (processes : ℕ) (slots : List Slot) (keys : List (Option Key)) (free : Free) (owners new : Rings) (a x o : ℕ)
+    → AreFit processes slots keys free owners a x o → new.slots ≡ owners.slots → new.homes ≡ owners.homes → AreOwned slots keys new a
+    → AreFit processes slots keys free new a x o
+fit_owned processes slots keys free owners new a x o fit same homes are = record {
+  few = fit.few;
+  wide = fit.wide;
+  all_slots = fit.all_slots;
+  owned = same ∙ fit.owned;
+  homes = homes ∙ fit.homes;
+  few_homes = fit.few_homes;
+  vacant = fit.vacant;
+  below = fit.below;
+  unspent = fit.unspent;
+  uses = fit.uses;
+  sum = fit.sum;
+  tally = fit.tally;
+  orders = fit.orders;
+  dests = fit.dests;
+  chained = are;
+}
+
+-- a slot without a row leaves its chain
+pub owned_taken : (slots : List Slot) (keys : List (Option Key)) (owners new : Rings) (a k : ℕ) → AreOwned slots keys owners a
+    → key_in keys k ≡ None → Takes owners new k → AreOwned slots keys new a
+owned_taken slots keys owners new a k are vacant takes = record {
+  places = with_place are.places k None;
+  are = takes are.places are.are;
+  held = λ j key is.
+      let other : j ≢ k = λ e. (let none : None ≡ Some key = sym vacant ∙ (ap (key_in keys) (sym e) ∙ is) in cc) in
+      with_place_there are.places k None j other ∙ are.held j key is;
+  orders = λ j place is. are.orders j place (kept_place are.places k j place is);
+}
+
+-- the row of a slot goes, and the slot leaves its chain
+pub fit_left : (processes : ℕ) (slots : List Slot) (keys : List (Option Key)) (free : Free) (owners new : Rings) (a x o k : ℕ) (key : Key)
+    → AreFit processes slots keys free owners a x o → key_in keys k ≡ Some key → new.slots ≡ owners.slots → new.homes ≡ owners.homes
+    → Takes owners new k → AreFit processes slots (set keys k None) free new a x o
+fit_left processes slots keys free owners new a x o k key fit held same homes takes =
+    let gone = fit_dropped processes slots keys free owners a x o k key fit held in
+    fit_owned processes slots (set keys k None) free owners new a x o gone same homes
+    (owned_taken slots (set keys k None) owners new a k gone.chained (get_or-set_same keys k None None (key_low keys k key held)) takes)
+
+-- the chains have each slot
+pub may_leave : (processes : ℕ) (slots : List Slot) (keys : List (Option Key)) (free : Free) (owners : Rings) (a x o k : ℕ)
+    → AreFit processes slots keys free owners a x o → k < length slots → MayTake owners k
+may_leave processes slots keys free owners a x o k fit low =
+    record { places = fit.chained.places; are = fit.chained.are; low = omega (arith, fit.owned) }
 
 -- a slot with a row isn't held free, and less is counted once the row has gone
 pub fit_lost : (p : Part) (owners : Rings) (free : Free) (k : ℕ) (key : Key) → AreFit p.processes p.slots p.keys free owners p.arms p.expires p.orphans

@@ -11,16 +11,17 @@ use Rattle.std.specs.FinSet as sets
 use Rattle.std.specs.Ordering.{nat_cmp}
 use Rattle.ert_defs.specs.declared.timer.Start.{Start}
 use Rattle.ert_timers.specs.Changes.{IsFree, LostRow, NextOf, picked, slot_for, kept}
-use Rattle.ert_timers.specs.Parts.{AreFit, Part, slot_at, owner_of, owners_of, unused}
+use Rattle.ert_timers.specs.Owners.{Thinned, FindsRow}
+use Rattle.ert_timers.specs.Parts.{AreFit, AreOwned, Part, slot_at, unused}
 use Rattle.ert_timers.specs.declared.part.Slot.{Slot}
 use mir.Val.{bool_byte}
-use Rattle.ert_timers.proofs.Fit.{fit_picked, uses_of, armed_few, place_some, taken_out}
-use Rattle.ert_wheel.specs.Rings.{Rings, Place, AreChains, Finds, Puts, with_place}
-use Rattle.ert_wheel.specs.Rows.{key_in, row_at}
+use Rattle.ert_timers.proofs.Fit.{fit_picked, uses_of, armed_few, taken_out}
+use Rattle.ert_wheel.specs.Rings.{Rings, Place, StandsIn, MayPut, Puts, Takes, with_place}
+use Rattle.ert_wheel.specs.Rows.{key_in, key_of}
 use Rattle.ert_wheel.specs.declared.row.Key.{Key}
 use Rattle.ert_wheel.specs.declared.row.Row.{Row}
 use Rattle.ert_wheel.proofs.Collect.{key_low}
-use Rattle.ert_wheel.proofs.Parts.{with_place_here, with_place_there}
+use Rattle.ert_wheel.proofs.Parts.{with_place_here, with_place_there, kept_place}
 use Rattle.ert_wheel.proofs.Views.{counts_more}
 use Rattle.ert_words.specs.Free.{Free}
 
@@ -52,37 +53,63 @@ key_new keys k j key seen low is same =
     sym (ap (key_in (set keys k (Some key))) same ∙ get_or-set_same keys k (Some key) None low) ∙ is in
     cc
 
--- the places are as before but that of the slot
-owners_kept : (slots : List Slot) (keys : List (Option Key)) (k : ℕ) (slot : Slot) (key : Key) → k < length slots → k < length keys
-    → (j : ℕ) → with_place (owners_of slots keys) k (Some (record { home = slot.dest; order = key.order })) j
-    ≡ owners_of (set slots k slot) (set keys k (Some key)) j
-owners_kept slots keys k slot key low wide j =
-    elim (cases_eq j k) [
-      | inl same ↦
-          ap (with_place (owners_of slots keys) k (Some (record { home = slot.dest; order = key.order }))) same
-          ∙ (with_place_here (owners_of slots keys) k (Some (record { home = slot.dest; order = key.order }))
-          ∙ (ap (λ (s : Slot). let p : Place = record { home = s.dest; order = key.order } in Some p) (sym (get_or-set_same slots k slot unused low))
-          ∙ (ap (owner_of (set slots k slot) k) (sym (get_or-set_same keys k (Some key) None wide))
-          ∙ ap (owners_of (set slots k slot) (set keys k (Some key))) (sym same))))
-      | inr other ↦
-          with_place_there (owners_of slots keys) k (Some (record { home = slot.dest; order = key.order })) j other
-          ∙ (ap (owner_of slots j) (sym (get_or-set_other keys k j (Some key) None other))
-          ∙ ap (λ (s : Slot). option_map (λ (key : Key). let p : Place = record { home = s.dest; order = key.order } in p) (key_in (set keys k (Some key)) j))
-          (sym (slot_other slots k j slot other)))
-    ]
+-- the slot leaves the chain in which it may be, and comes into that of the timer's process
+owned_kept : (slots : List Slot) (keys : List (Option Key)) (owners taken new : Rings) (a k : ℕ) (slot : Slot) (key : Key)
+    → AreOwned slots keys owners a → k < length slots → k < length keys → key.order ≡ a → a < 2 ^ 64 → Takes owners taken k
+    → Puts taken new k slot.dest → AreOwned (set slots k slot) (set keys k (Some key)) new (a + 1)
+owned_kept slots keys owners taken new a k slot key are low wide order fits takes puts =
+    let here : Place = record { home = slot.dest; order = key.order } in
+    let left : ℕ → Option Place = with_place are.places k None in
+    record {
+      places = with_place left k (Some here);
+      are = puts left key.order (takes are.places are.are) (with_place_here are.places k None) (omega (arith, order))
+          (λ j place is. omega (arith, order, are.orders j place (kept_place are.places k j place is)));
+      held = λ j seen is.
+          elim (cases_eq j k) [
+            | inl same ↦
+                ap (with_place left k (Some here)) same
+                ∙ (with_place_here left k (Some here)
+                ∙ (ap (λ (s : Slot). let p : Place = record { home = s.dest; order = key.order } in Some p)
+                (sym (ap (slot_at (set slots k slot)) same ∙ get_or-set_same slots k slot unused low))
+                ∙ ap (λ (x : Key). let p : Place = record { home = (slot_at (set slots k slot) j).dest; order = x.order } in Some p)
+                (key_new keys k j key seen wide is same)))
+            | inr other ↦
+                with_place_there left k (Some here) j other
+                ∙ (with_place_there are.places k None j other
+                ∙ (are.held j seen (key_kept keys k j key seen wide is other)
+                ∙ ap (λ (s : Slot). let p : Place = record { home = s.dest; order = seen.order } in Some p)
+                (sym (slot_other slots k j slot other))))
+          ];
+      orders = λ j place is.
+          elim (cases_eq j k) [
+            | inl same ↦
+                let e : Some here ≡ Some place =
+                sym (ap (with_place left k (Some here)) same ∙ with_place_here left k (Some here)) ∙ is in
+                let it : here ≡ place = cc in
+                omega (arith, order, ap (λ (p : Place). p.order) it)
+            | inr other ↦
+                omega (arith, are.orders j place (kept_place are.places k j place (sym (with_place_there left k (Some here) j other) ∙ is)))
+          ];
+    }
 
-place_below : (slots : List Slot) (keys : List (Option Key)) (a : ℕ) → ((k : ℕ) (key : Key) → key_in keys k ≡ Some key → key.order < a)
-    → (j : ℕ) (p : Place) → owners_of slots keys j ≡ Some p → p.order < a
-place_below slots keys a below j p is =
-    let found = place_some slots j (key_in keys j) p is in
-    subst (λ (q : Place). q.order < a) (sym found.2) (below j found.0 found.1)
+-- it may come into it
+pub may_keep : (processes : ℕ) (slots : List Slot) (keys : List (Option Key)) (free : Free) (owners taken : Rings) (a x o k dest : ℕ)
+    → AreFit processes slots keys free owners a x o → k < length slots → dest < processes → taken.slots ≡ owners.slots
+    → taken.homes ≡ owners.homes → Takes owners taken k → MayPut taken k dest
+may_keep processes slots keys free owners taken a x o k dest fit low in_range same homes takes = record {
+  places = with_place fit.chained.places k None;
+  are = takes fit.chained.places fit.chained.are;
+  low = omega (arith, same, fit.owned);
+  in_range = omega (arith, homes, fit.homes);
+  out = with_place_here fit.chained.places k None;
+}
 
 -- a timer is put in
-pub fit_kept : (p : Part) (free : Free) (owners new : Rings) (k : ℕ) (start : Start) (deadline : ℕ)
+pub fit_kept : (p : Part) (free : Free) (owners taken new : Rings) (k : ℕ) (start : Start) (deadline : ℕ)
     → AreFit p.processes p.slots p.keys free owners p.arms p.expires p.orphans → free.held ≡ p.free → IsFree p k
-    → start.dest < p.processes → new.slots ≡ owners.slots → new.homes ≡ owners.homes → Puts owners new k start.dest
+    → start.dest < p.processes → new.slots ≡ owners.slots → new.homes ≡ owners.homes → Takes owners taken k → Puts taken new k start.dest
     → let q = kept p k start deadline in AreFit q.processes q.slots q.keys free new q.arms q.expires q.orphans
-fit_kept p free owners new k start deadline fit same can dest slots homes puts =
+fit_kept p free owners taken new k start deadline fit same can dest slots homes takes puts =
     let slot : Slot = slot_for ((slot_at p.slots k).generation + 1) start in
     let key : Key = record { deadline = deadline; order = p.arms } in
     let wide : k < length p.keys = subst (λ n. k < n) (sym fit.wide) can.low in
@@ -112,10 +139,7 @@ fit_kept p free owners new k start deadline fit same can dest slots homes puts =
             | inr other ↦ subst (λ (s : Slot). s.dest < p.processes) (sym (slot_other p.slots k j slot other))
                 (fit.dests j seen (key_kept p.keys k j key seen wide is other))
           ];
-      chained =
-          subst (λ (places : ℕ → Option Place). AreChains new places) (λ i j. owners_kept p.slots p.keys k slot key can.low wide j i)
-          (puts (owners_of p.slots p.keys) p.arms fit.chained (ap (owner_of p.slots k) can.vacant) (omega (arith, few))
-          (place_below p.slots p.keys p.arms fit.orders));
+      chained = owned_kept p.slots p.keys owners taken new p.arms k slot key fit.chained can.low wide refl (omega (arith, few)) takes puts;
     }
   where
     other_free : (j : ℕ) → sets.contains free.held j ≡ true → j ≢ k
@@ -123,29 +147,46 @@ fit_kept p free owners new k start deadline fit same can dest slots homes puts =
         let away : sets.contains free.held j ≡ false = ap (sets.contains free.held) here ∙ (ap (λ s. sets.contains s k) same ∙ can.away) in
         cc
 
--- no row of a process is found
-pub next_none : (p : Part) (owners : Rings) (process : ℕ) → owners.slots ≡ length p.slots → length p.keys ≡ length p.slots
-    → ((k : ℕ) (key : Key) → key_in p.keys k ≡ Some key → key.order < 2 ^ 64)
-    → Finds owners (owners_of p.slots p.keys) process (2 ^ 64) None → NextOf p process None
-next_none p owners process slots wide below finds k key is dest =
-    let low : k < owners.slots = omega (arith, slots, wide, key_low p.keys k key is) in
-    let gone = finds.greatest k (record { home = (slot_at p.slots k).dest; order = key.order }) low (ap (owner_of p.slots k) is) dest (below k key is) in
-    omega (arith, gone)
+-- slots without a row have left their chains
+pub owned_thinned : (slots : List Slot) (keys : List (Option Key)) (owners new : Rings) (a : ℕ) (left : ℕ → Option Place)
+    (are : AreOwned slots keys owners a) → Thinned new keys are.places left → AreOwned slots keys new a
+owned_thinned slots keys owners new a left are t = record {
+  places = left;
+  are = t.are;
+  held = λ j key is. elim (t.each j) [
+    | inl same ↦ same ∙ are.held j key is
+    | inr gone ↦ let none : None ≡ Some key = sym gone.1 ∙ is in absurd cc
+  ];
+  orders = λ j place is. elim (t.each j) [
+    | inl same ↦ are.orders j place (sym same ∙ is)
+    | inr gone ↦ let none : None ≡ Some place = sym gone.0 ∙ is in absurd cc
+  ];
+}
 
-row_found : (p : Part) (process k : ℕ) (o : Option Key) (place : Place) → k < length p.slots → key_in p.keys k ≡ o
-    → owner_of p.slots k o ≡ Some place → place.home ≡ process → NextOf p process (option_map (row_at k) o)
-row_found p process k None place low is has home = absurd cc
-row_found p process k (Some key) place low is has home =
-    (low, is, (let e : record { home = (slot_at p.slots k).dest; order = key.order } ≡ place = cc in ap (λ (q : Place). q.home) e ∙ home))
-
--- one is found
-pub next_some : (p : Part) (owners : Rings) (process k : ℕ) (row : Option Row) → owners.slots ≡ length p.slots
-    → Finds owners (owners_of p.slots p.keys) process (2 ^ 64) (Some k) → row ≡ option_map (row_at k) (key_in p.keys k)
-    → NextOf p process row
-next_some p owners process k row slots finds is =
-    subst (NextOf p process) (sym is)
-    (row_found p process k (key_in p.keys k) finds.stands.1.place (subst (λ n. k < n) slots finds.stands.0) refl finds.stands.1.has
-    finds.stands.1.at_home)
+-- the newest row of a process is one that was found in its chain
+pub next_found : (p : Part) (free : Free) (owners new : Rings) (process : ℕ) (found : Option Row)
+    (fit : AreFit p.processes p.slots p.keys free owners p.arms p.expires p.orphans)
+    → FindsRow p.keys fit.chained.places process new found → NextOf p process found
+next_found p free owners new process None fit finds = λ k key is dest.
+    let place : Place = record { home = (slot_at p.slots k).dest; order = key.order } in
+    elim (finds.thinned.each k) [
+      | inl same ↦ finds.is k place (key_low p.keys k key is) (same ∙ fit.chained.held k key is) dest
+      | inr gone ↦ let none : None ≡ Some key = sym gone.1 ∙ is in absurd cc
+    ]
+next_found p free owners new process (Some row) fit finds =
+    let has : key_in p.keys row.slot ≡ Some (key_of row) = finds.is.0 in
+    let stands : StandsIn finds.left process row.slot = finds.is.1 in (
+      subst (λ n. row.slot < n) fit.wide (key_low p.keys row.slot (key_of row) has),
+      has,
+      elim (finds.thinned.each row.slot) [
+        | inl same ↦
+            let e : Some (record { home = (slot_at p.slots row.slot).dest; order = row.order }) ≡ Some stands.place =
+            sym (same ∙ fit.chained.held row.slot (key_of row) has) ∙ stands.has in
+            let it : record { home = (slot_at p.slots row.slot).dest; order = row.order } ≡ stands.place = cc in
+            ap (λ (q : Place). q.home) it ∙ stands.at_home
+        | inr gone ↦ let none : None ≡ Some (key_of row) = sym gone.1 ∙ has in absurd cc
+      ],
+    )
 
 -- what a slot that was held free can be used for
 pub picked_free : (p : Part) (free : Free) (owners : Rings) (k : ℕ) → AreFit p.processes p.slots p.keys free owners p.arms p.expires p.orphans

@@ -3,6 +3,7 @@ pub mod Rows
 pub mod Tidied
 mod Nearest
 pub mod Standing
+pub mod Owners
 pub mod Fit
 pub mod Keeping
 pub mod Openings

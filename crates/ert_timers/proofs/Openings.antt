@@ -10,7 +10,7 @@ use Rattle.std.specs.FinSet as sets
 use Rattle.std.specs.List.{sum_by}
 use Rattle.std.specs.Option.{is_some}
 use Rattle.ert_defs.specs.declared.settings.Settings.{Settings}
-use Rattle.ert_timers.specs.Parts.{AreFit, Part, Stands, slot_at, owner_of, unused}
+use Rattle.ert_timers.specs.Parts.{AreFit, Part, Stands, slot_at, unused}
 use Rattle.ert_timers.specs.declared.part.Slot.{Slot}
 use Rattle.ert_timers.proofs.Fit.{uses_of}
 use Rattle.ert_wheel.specs.Rings.{Rings, Place, AreChains}
@@ -61,8 +61,12 @@ fit_open processes n slots keys free owners few few_homes slots_are keys_are all
       tally = omega (arith, ap (count_by is_some) keys_are, no_keys n);
       orders = λ k key is. (let e : None ≡ Some key = sym (none k) ∙ is in absurd cc);
       dests = λ k key is. (let e : None ≡ Some key = sym (none k) ∙ is in absurd cc);
-      chained =
-          subst (λ (places : ℕ → Option Place). AreChains owners places) (λ i k. sym (ap (owner_of slots k) (none k)) i) chains;
+      chained = record {
+        places = λ _. None;
+        are = chains;
+        held = λ k key is. (let e : None ≡ Some key = sym (none k) ∙ is in absurd cc);
+        orders = λ k place is. (let e : None ≡ Some place = is in absurd cc);
+      };
     }
 
 pub stands_open : (g : Settings) (w n : ℕ) (p : Part) → w < g.schedulers → g.slots ≡ n → p.number ≡ w → p.processes ≡ g.processes

@@ -69,6 +69,11 @@ next_held p process row timer next is =
     subst (λ (t : Row). HoldsTimer p t.timer t.deadline) (sym is)
     (record { order = row.order; low = next.0; held = next.1; named = refl })
 
+-- a part that is the same has tried as many
+pub sweeps_same : (g : Settings) (v : View) (by process : ℕ) (p q r : Part) (u : View) → r ≡ q → SweepsSome g v by process p q u
+    → SweepsSome g v by process p r u
+sweeps_same g v by process p q r u same some = subst (λ (x : Part). SweepsSome g v by process p x u) (sym same) some
+
 -- one more was tried
 pub sweeps_more : (g : Settings) (v : View) (by process : ℕ) (p q r : Part) (row : WheelRow) (timer : Row) (u w : View)
     → SweepsSome g v by process p q u → HoldsCaller g u by q.number → NextOf q process (Some row)

@@ -6,6 +6,7 @@ pub mod FiredLists
 pub mod Laws
 pub mod Looking
 pub mod NextDue
+pub mod Owners
 pub mod Parts
 pub mod Starting
 pub mod Sweeping

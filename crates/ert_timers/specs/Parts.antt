@@ -83,9 +83,12 @@ held_row w slots k key = record {
 abbrev pub owner_of : List Slot → ℕ → Option Key → Option Place
 owner_of slots k = option_map (λ key. record { home = (slot_at slots k).dest; order = key.order })
 
--- where the timer of each slot belongs, by the keys of the rows that are held
-abbrev pub owners_of : List Slot → List (Option Key) → ℕ → Option Place
-owners_of slots keys k = owner_of slots k (key_in keys k)
+-- the chains of the processes: that of each has the slots of its rows, and maybe slots that have no row any more
+pub record AreOwned (slots : List Slot) (keys : List (Option Key)) (owners : Rings) (armed : ℕ) : Type 0 where
+  pub places : ℕ → Option Place
+  pub are : AreChains owners places
+  pub held : (k : ℕ) (key : Key) → key_in keys k ≡ Some key → places k ≡ owner_of slots k (Some key)
+  pub orders : (k : ℕ) (place : Place) → places k ≡ Some place → place.order < armed
 
 -- what the fields of a part keep, whatever the history
 pub record AreFit (processes : ℕ) (slots : List Slot) (keys : List (Option Key)) (free : Free) (owners : Rings) (armed expired orphaned : ℕ) : Type 0 where
@@ -105,9 +108,9 @@ pub record AreFit (processes : ℕ) (slots : List Slot) (keys : List (Option Key
   -- a timer that expired or was cancelled for an exit has no row any more
   pub tally : (expired + orphaned) + count_by is_some keys ≤ armed
   pub orders : (k : ℕ) (key : Key) → key_in keys k ≡ Some key → key.order < armed
-  -- the rows of each process are in a chain
+  -- the rows of each process are in its chain
   pub dests : (k : ℕ) (key : Key) → key_in keys k ≡ Some key → (slot_at slots k).dest < processes
-  pub chained : AreChains owners (owners_of slots keys)
+  pub chained : AreOwned slots keys owners armed
 
 -- the rows that are held: each is the last of its slot, at the place of its order among the timers of the
 -- wheel, and hasn't expired; and each armed timer is held

@@ -4,9 +4,10 @@
 //! a pass that holds the wheel. The state that all threads share of a timer is the word of its slot on the
 //! desk (`ert_table`): status, deadline and generation. The part keeps what has no word, by slot: the
 //! destination, the message and the kind of the last timer, and its generation. A timer that is held as armed
-//! also stands in two structures over the same slots: in a hashed wheel (`ert_wheel`), which tells what is
+//! also stands in two structures over the same slots: in a timing wheel (`ert_wheel`), which tells what is
 //! due, and in a chain for each process, so that an exit costs in proportion to the timers of that process.
-//! Its order in both is how many timers of the wheel were armed before it.
+//! Its order in both is how many timers of the wheel were armed before it. A timer that expires leaves the wheel,
+//! and its slot leaves the chain later: when it is used again, or when the process is swept.
 //!
 //! **What others do.** Any thread may cancel a timer by one exchange on its word, and tells the part nothing.
 //! So a held timer may be settled already. An advance finds that out when its own exchange misses; a start
@@ -15,11 +16,11 @@
 //! | call | what it does | work |
 //! |---|---|---|
 //! | `start` | looks at the time, takes a free slot, stores its word, asks whether the destination has exited | constant where a slot is known to be free; else each slot is looked at once, and all that can be used again are known from then on |
-//! | `advance` | looks at the time, and tries each due timer in order of deadline and then of start | the due timers and the buckets that are visited |
+//! | `advance` | looks at the time, and tries each due timer in order of deadline and then of start | the due timers and the buckets that are visited; where a window of 512 milliseconds begins, also the timers that are due in it |
 //! | `advance_all` | does the same, and then looks at each timer that is left | every slot once |
-//! | `sweep` | tries each timer of a process that has exited | those timers |
+//! | `sweep` | tries each timer of a process that has exited | those timers, and those of the process that have expired and whose slots were not used again, each once |
 //! | `forget` | drops the row of a timer that the pass has seen settled, and holds its slot free | constant |
-//! | `next_due` | tells how early a timer may be due | the buckets of a look ahead, 1,024 at most where the wheel was advanced |
+//! | `next_due` | tells how early a timer may be due | the buckets of a look ahead, 1,024 as a rule where the wheel was advanced and never over 4,096, and the timers of the first that has any |
 //! | `tally` | counts | none |
 //!
 //! Each timer is tried once, by one exchange, and then its row goes. No call waits for anybody. Only `open`

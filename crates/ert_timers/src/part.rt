@@ -1,5 +1,7 @@
-ghost use Rattle.std.specs.Prelude.{◌≡◌, IfOk, replicate};
+ghost use Rattle.std.specs.Prelude.{◌≡◌, ◌<◌, ℕ, IfOk, Option, replicate};
+ghost use Rattle.ert_timers.specs.Owners.{MayThin, FindsRow};
 ghost use Rattle.ert_timers.specs.Parts.{unused};
+ghost use Rattle.ert_wheel.specs.Rings.{Place, AreChains};
 
 use crate::fired_list::FiredList;
 use ert_defs::{Fired, Kind, NoMemory, Settings, TimerRef};
@@ -31,7 +33,8 @@ pub struct WheelPart {
     slots: Vec<Slot>,
     /// The timers that are held as armed.
     wheel: Wheel,
-    /// The same timers, in a chain for each process that they go to.
+    /// The same timers, in a chain for each process that they go to. The slot of a timer that has expired stays
+    /// in its chain until it is used again, or until the chain is swept.
     owners: Chains,
     /// The slots that are known to be free.
     free: FreeSlots,
@@ -175,13 +178,14 @@ impl WheelPart {
         }
     }
 
-    /// The newest row of a process; None where the process has none.
-    pub(crate) fn newest_of(&self, process: u32) -> Option<Row>
-        requires { process < self.now.processes }
-        ensures { NextOf self.now process result }
+    /// The newest row of a process; None where the process has none. Slots that come before it in the chain of
+    /// the process have no row any more, and leave the chain.
+    pub(crate) fn newest_of(&mut self, process: u32) -> Option<Row>
+        requires { process < self.old.processes }
+        ensures part { self.new ≡ self.old }
+        ensures row { NextOf self.new process result }
     {
-        let slot = self.owners.newest(process)?;
-        self.wheel.row(slot)
+        find_row(&mut self.owners, &self.wheel, process)
     }
 
     /// The rows with a deadline up to `to`, in order of deadline and then of start, with room for their timers
@@ -221,6 +225,24 @@ impl WheelPart {
     {
         self.due = due;
     }
+}
+
+/// A row of the chain of a process; None where it has none. Slots without a row that are met leave the chain.
+fn find_row(owners: &mut Chains, wheel: &Wheel, process: u32) -> Option<Row>
+    requires process { process < owners.old.homes }
+    requires may { MayThin owners.old wheel.now }
+    ensures slots { owners.new.slots ≡ owners.old.slots }
+    ensures homes { owners.new.homes ≡ owners.old.homes }
+    ensures finds { (places : ℕ → Option Place) → AreChains owners.old places
+        → FindsRow wheel.now places process owners.new result }
+{
+    while let Some(slot) = owners.newest(process) {
+        if let Some(row) = wheel.row(slot) {
+            return Some(row);
+        }
+        owners.take(slot);
+    }
+    None
 }
 
 fn no_slots(alloc: Global, slots: u32) -> Result<Vec<Slot>, NoMemory>

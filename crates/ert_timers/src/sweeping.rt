@@ -18,7 +18,8 @@ impl WheelPart {
 
     /// Cancels all timers of a process that has exited, and holds their slots free.
     ///
-    /// It does work for the timers of that process alone, and takes no memory.
+    /// It does work for the timers of that process alone, for those that have expired only where their slots were
+    /// not used again, and for each of them once. It takes no memory.
     pub fn sweep(&mut self, desk: &Desk, pass: &mut Pass, by: u32, process: u32)
         requires belongs { Belongs desk.now pass.old }
         requires holds { HoldsCaller (settings_of desk.now) (view_of pass.old) by self.old.number }

@@ -1,14 +1,14 @@
 -- What each call on chains does, in the form in which the calls meet it.
 
-use Rattle.std.proofs.Common.{map, ◌≡◌, ℕ, ◌+◌, ◌<◌, ◌≤◌, ◌^◌, true, cond, List, Option, Some, None, length, get_or, sym, subst, ◌∙◌, ap, inl, inr, arith}
-use Rattle.std.proofs.lemmas.Bool.{lt-ltb, le-ltb}
+use Rattle.std.proofs.Common.{map, ◌≡◌, ℕ, ◌+◌, ◌<◌, ◌≤◌, ◌^◌, true, cond, List, Option, Some, None, length, get_or, sym, subst, ◌∙◌, ap, inl, inr, refl, arith}
+use Rattle.std.proofs.lemmas.Bool.{cases_lt, lt-ltb, le-ltb}
 use Rattle.std.proofs.lemmas.List.{get_or_read}
 use Rattle.std.proofs.lemmas.List.FromFn.{get_or-map-range_with_len, length-map-range_with_len}
 use Rattle.std.specs.List.{range_with_len}
 use Rattle.ert_wheel.proofs.Parts.{IsSlot, IsHead, slot_is, head_is, node_is, put_chains, take_chains}
 use Rattle.ert_wheel.specs.Chained.{Shape, Spliced, Unspliced}
 use Rattle.ert_wheel.specs.Links.{next_at, prev_at, alone, no_link}
-use Rattle.ert_wheel.specs.Rings.{Rings, HasLinks, Place, order_of, shape, AreChains, MayTake, Puts, Takes, slot_at, Finds}
+use Rattle.ert_wheel.specs.Rings.{Rings, HasLinks, Place, order_of, shape, AreChains, MayTake, Puts, PutsInHome, Takes, slot_at, Finds, FindsOldest}
 use Rattle.ert_wheel.specs.declared.links.Link.{Link}
 
 -- a slot is put in: `lent` is what the links are while they are written
@@ -16,15 +16,20 @@ pub puts : (old : Rings) (slots homes : ℕ) (before lent after : List Link) (sl
     → record { slots = slots; homes = homes; links = before } ≡ old → lent ≡ before → slot < old.slots
     → home < old.homes
     → Spliced (next_at lent) (prev_at lent) (next_at after) (prev_at after) (slots + home) slot
-    → Puts old (record { slots = slots; homes = homes; links = after }) slot home
+    → PutsInHome old (record { slots = slots; homes = homes; links = after }) slot home
 puts old slots homes before lent after slot home is e low in_range spliced =
     let P : Rings → Type 0 = λ r. slot < r.slots → home < r.homes
-    → Puts r (record { slots = slots; homes = homes; links = after }) slot home in
+    → PutsInHome r (record { slots = slots; homes = homes; links = after }) slot home in
     subst P is
-    (λ low in_range places order are out fits above. put_chains _ places slot home order after
-    (record { are = are; low = low; in_range = in_range; out = out; fits = fits; above = above })
+    (λ low in_range places order are out fits apart above. put_chains _ places slot home order after
+    (record { are = are; low = low; in_range = in_range; out = out; fits = fits; apart = apart; above = above })
     (subst (λ (l : List Link). Spliced (next_at l) (prev_at l) (next_at after) (prev_at after) (slots + home) slot) e spliced))
     low in_range
+
+-- and with an order above all others
+pub puts_newest : (old new : Rings) (slot home : ℕ) → PutsInHome old new slot home → Puts old new slot home
+puts_newest old new slot home puts places order are out fits above =
+    puts places order are out fits (λ j p h e. absurd (omega (arith, above j p h))) (λ j p h at. above j p h)
 
 -- a slot is taken out
 pub takes : (old : Rings) (slots homes : ℕ) (before lent after : List Link) (slot : ℕ)
@@ -35,17 +40,21 @@ takes old slots homes before lent after slot is e low unspliced =
     let P : Rings → Type 0 = λ r. slot < r.slots
     → Takes r (record { slots = slots; homes = homes; links = after }) slot in
     subst P is
-    (λ low places place are has. take_chains _ places slot place after are low has
+    (λ low places are. take_chains _ places slot after are low
     (subst (λ (l : List Link). Unspliced (next_at l) (prev_at l) (next_at after) (prev_at after) slot) e unspliced))
     low
 
--- what comes before a slot that has a place is a node
-before_in_range : (r : Rings) (places : ℕ → Option Place) (slot : ℕ) (place : Place) → AreChains r places
-    → slot < r.slots → places slot ≡ Some place → prev_at r.links slot < r.slots + r.homes
-before_in_range r places slot place are low has =
-    let s : IsSlot r.slots r.homes places slot place = slot_is r.slots r.homes places slot place low has in
-    elim (node_is r.slots r.homes places (prev_at r.links slot) (are.chained.before_on slot s.on))
-    [ inl (p, t) ↦ omega (arith, t.low) | inr t ↦ t.few ]
+-- what comes before a slot is a node
+before_in_range : (r : Rings) (places : ℕ → Option Place) (slot : ℕ) → AreChains r places → slot < r.slots
+    → prev_at r.links slot < r.slots + r.homes
+before_in_range r places slot are low = at (places slot) refl
+  where
+    at : (o : Option Place) → places slot ≡ o → prev_at r.links slot < r.slots + r.homes
+    at None none = omega (arith, (are.alone slot low none).back)
+    at (Some place) has =
+        let s : IsSlot r.slots r.homes places slot place = slot_is r.slots r.homes places slot place low has in
+        elim (node_is r.slots r.homes places (prev_at r.links slot) (are.chained.before_on slot s.on))
+        [ inl (p, t) ↦ omega (arith, t.low) | inr t ↦ t.few ]
 
 pub before_low : (old : Rings) (slots homes : ℕ) (before lent : List Link) (slot : ℕ)
     → record { slots = slots; homes = homes; links = before } ≡ old → lent ≡ before → MayTake old slot
@@ -53,7 +62,7 @@ pub before_low : (old : Rings) (slots homes : ℕ) (before lent : List Link) (sl
 before_low old slots homes before lent slot is e may has =
     let P : Rings → Type 0 = λ r. prev_at r.links slot < r.slots + r.homes in
     let known : prev_at before slot < slots + homes =
-    subst P (sym is) (before_in_range old may.places slot may.place may.are may.low may.in_place) in
+    subst P (sym is) (before_in_range old may.places slot may.are may.low) in
     subst (λ (l : List Link). prev_at l slot < length l) (sym e) (omega (arith, has.len))
 
 -- no slot of the chain is between a node and the next
@@ -153,6 +162,62 @@ finds_older r slots homes links slot link found is has low read e places place a
     (sym is_found) (older_at _ slot low places place are in_place))
     low e are
 
+-- a look back from a home's head finds the oldest
+oldest_at : (r : Rings) (home : ℕ) → home < r.homes → (places : ℕ → Option Place) → AreChains r places
+    → FindsOldest r places home (slot_at r.slots (prev_at r.links (r.slots + home)))
+oldest_at r home low places are =
+    let a : Shape = shape r.slots r.homes places in
+    let h : IsHead r.slots r.homes places (r.slots + home) =
+    head_is r.slots r.homes places (r.slots + home) (omega arith) (omega arith) in
+    let n : ℕ = prev_at r.links (r.slots + home) in
+    let on : a.on n ≡ true = are.chained.before_on (r.slots + home) h.on in
+    let back : next_at r.links n ≡ r.slots + home = are.chained.after_before (r.slots + home) h.on in
+    let same : a.home n ≡ home = sym (are.chained.home n on) ∙ ap a.home back ∙ h.at_home ∙ omega arith in
+    let last : a.low (next_at r.links n) ≡ 0 = ap a.low back ∙ h.bound in
+    let least : (j : ℕ) (p : Place) → j < r.slots → places j ≡ Some p → p.home ≡ home → a.top n ≤ p.order =
+    λ j p below has at. (let s : IsSlot r.slots r.homes places j p = slot_is r.slots r.homes places j p below has in
+    elim (cases_lt (a.top j) (a.top n)) [
+      | inl less ↦ absurd (omega (arith, last, are.chained.least n j on below s.on (s.at_home ∙ at ∙ sym same) less))
+      | inr more ↦ omega (arith, s.top)
+    ]) in
+    elim (node_is r.slots r.homes places n on) [
+      | inl (p, s) ↦
+          let some : Some n ≡ slot_at r.slots n = sym (ap (λ b. cond b (Some n) None) (lt-ltb n r.slots s.low)) in
+          let e : order_of (places n) ≡ p.order = ap order_of s.has in
+          subst (λ (f : Option ℕ). FindsOldest r places home f) some
+          (record {
+            stands = (s.low, record { place = p; has = s.has; at_home = sym s.at_home ∙ same });
+            least = λ j q below has at. omega (arith, s.top, least j q below has at);
+            none = λ no. (let bad : Some n ≡ None = no in cc);
+          })
+      | inr t ↦
+          let none : None ≡ slot_at r.slots n = sym (ap (λ b. cond b (Some n) None) (le-ltb n r.slots t.high)) in
+          subst (λ (f : Option ℕ). FindsOldest r places home f) none
+          (record {
+            stands = tt;
+            least = tt;
+            none = λ _ j q below has at. absurd (omega (arith, t.top, least j q below has at, are.orders j q has));
+          })
+    ]
+
+pub finds_oldest : (r : Rings) (slots homes : ℕ) (links : List Link) (home : ℕ) (link : Link) (found : Option ℕ)
+    → record { slots = slots; homes = homes; links = links } ≡ r
+    → HasLinks (record { slots = slots; homes = homes; links = links }) → home < r.homes
+    → link ≡ get_or links (slots + home) link → found ≡ slot_at r.slots link.prev → (places : ℕ → Option Place)
+    → AreChains r places → FindsOldest r places home found
+finds_oldest r slots homes links home link found is has low read e places are =
+    let P : Rings → Type 0 = λ r. home < r.homes → found ≡ slot_at r.slots link.prev → AreChains r places
+    → FindsOldest r places home found in
+    subst P is
+    (λ low e are.
+    let same : link ≡ get_or links (slots + home) no_link =
+    get_or_read links (slots + home) link (omega (arith, has.len)) read no_link in
+    let is_found : found ≡ slot_at slots (prev_at links (slots + home)) =
+    e ∙ ap (λ (l : Link). slot_at slots l.prev) same in
+    subst (λ (f : Option ℕ). FindsOldest (record { slots = slots; homes = homes; links = links }) places home f)
+    (sym is_found) (oldest_at _ home low places are))
+    low e are
+
 -- nodes that are alone
 next_alone : (n x : ℕ) → x < n → next_at (map alone (range_with_len 0 n)) x ≡ x
 next_alone n x low =
@@ -189,6 +254,10 @@ empty_chains slots homes =
         down = λ x on. (let e : a.low (next_at (map alone (range_with_len 0 (slots + homes))) x) ≡ a.low x = ap a.low (next x on) in
             omega (arith, (only_heads slots homes x on).bound));
         least = λ x j on low held same lower. absurd (omega (arith, (only_heads slots homes j held).high));
+      };
+      alone = λ j low none. record {
+        forth = next_alone (slots + homes) j (omega arith);
+        back = prev_alone (slots + homes) j (omega arith);
       };
     }
 

@@ -1,12 +1,15 @@
 mod Calls
+pub mod Cascade
+pub mod Cascading
 pub mod Collect
 mod Due
+pub mod LevelBits
+pub mod Levels
 pub mod Lists
 pub mod NextDue
 mod Opening
 pub mod Parts
 mod Splice
-mod Times
 mod Unsplice
 pub mod Views
 mod Writes

@@ -5,8 +5,9 @@ use Rattle.std.proofs.lemmas.Bool.{cases_eq, cases_lt}
 use Rattle.std.proofs.lemmas.List.Sums.{sum_by-cons}
 use Rattle.std.specs.Option.{is_some}
 use Rattle.ert_wheel.proofs.Collect.{InBucket, key_low, found}
+use Rattle.ert_wheel.proofs.Levels.{home_up}
 use Rattle.ert_wheel.proofs.Views.{kept_in}
-use Rattle.ert_wheel.specs.NextDue.{NoRow, HasRow, NoneBefore, IsDueAt, IsLeastIn}
+use Rattle.ert_wheel.specs.NextDue.{NoRow, HasRow, NoneBefore, IsDueAt, IsDueIn, IsLeastIn}
 use Rattle.ert_wheel.specs.Rings.{Rings, Place, AreChains, bound_of, order_of, Finds}
 use Rattle.ert_wheel.specs.Rows.{key_in}
 use Rattle.ert_wheel.specs.Walks.{Spans}
@@ -35,7 +36,7 @@ pub record IsPassed (keys : List (Option Key)) (home : Key → ℕ) (bucket boun
   pub low : least ≤ bound
   pub passed : (j : ℕ) (key : Key) → key_in keys j ≡ Some key → home key ≡ bucket
       → bound_of (places home keys) next ≤ key.order → least ≤ key.deadline
-  pub near : IsDueAt keys least ⊎ (least ≡ bound)
+  pub near : IsDueIn keys home bucket least ⊎ (least ≡ bound)
   pub stands : IfSome next (InBucket keys home bucket)
 
 -- the slot of a key has this place
@@ -90,10 +91,10 @@ passes_key chains keys home bucket bound slot least key next slots are p has at_
                 ]
           ];
       near = elim (cases_lt key.deadline least) [
-        | inl less ↦ inl (record { slot = slot; key = key; has = has; at = omega arith })
+        | inl less ↦ inl (record { slot = slot; key = key; has = has; at_home = at_home; at = omega arith })
         | inr more ↦
             let e : least ≡ min least key.deadline = omega arith in
-            subst (λ n. IsDueAt keys n ⊎ (n ≡ bound)) e p.near
+            subst (λ n. IsDueIn keys home bucket n ⊎ (n ≡ bound)) e p.near
       ];
       stands = found chains keys home bucket key.order next f;
     }
@@ -169,62 +170,78 @@ passes_all keys home bucket bound here least is passed =
       near = p.near;
     }
 
--- the buckets of the times before one were visited
-pub record IsLeast (mask next time bound : ℕ) (keys : List (Option Key)) (least : ℕ) : Type 0 where
-  pub low : least ≤ bound
-  pub below : (j : ℕ) (key : Key) (t : ℕ) → key_in keys j ≡ Some key → next ≤ t → t < time
-      → home_by mask next key ≡ bucket_of mask t → least ≤ key.deadline
-  pub near : IsDueAt keys least ⊎ (least ≡ bound)
+-- the buckets below one were visited, and none has a row that is due before the bound
+pub record IsLeast (next bucket bound : ℕ) (keys : List (Option Key)) (least : ℕ) : Type 0 where
+  pub is : least ≡ bound
+  pub below : (j : ℕ) (key : Key) → key_in keys j ≡ Some key → home_by next key < bucket → bound ≤ key.deadline
 
--- one more is
-visits_one : (mask next time bound bucket : ℕ) (keys : List (Option Key)) (least new : ℕ)
-    → IsLeast mask next time bound keys least → bucket ≡ bucket_of mask time
-    → IsLeastIn keys (home_by mask next) bucket least new → IsLeast mask next (time + 1) bound keys new
-visits_one mask next time bound bucket keys least new was is now = record {
-  low = omega (arith, was.low, now.low);
-  below = λ j key t has up low same.
-      elim (cases_eq t time) [
-        | inl e ↦ now.below j key has (same ∙ ap (bucket_of mask) e ∙ sym is)
-        | inr ne ↦ omega (arith, now.low, was.below j key t has up (omega arith) same)
-      ];
-  near = elim now.near [
-    | inl due ↦ inl due
-    | inr e ↦ subst (λ n. IsDueAt keys n ⊎ (n ≡ bound)) (sym e) was.near
-  ];
+pub visits_none : (next bucket bound : ℕ) (keys : List (Option Key)) → bucket ≡ bucket_of next next → IsLeast next bucket bound keys bound
+visits_none next bucket bound keys e = record {
+  is = refl;
+  below = λ j key has low.
+      absurd (omega (arith, home_up 7 next next (max key.deadline next) (omega arith) (omega arith)));
 }
 
--- the same of a wheel: `lent` is the keys as they are lent
-pub visits_bucket : (mask next count time bound bucket : ℕ) (keys lent : List Key) (chains : Rings) (least new : ℕ)
-    → IsWheel mask next count keys chains → lent ≡ keys → bucket ≡ bucket_of mask time
-    → IsLeast mask next time bound (kept_keys keys) least
+-- what a bucket has: `lent` is the keys as they are lent
+pub visits_bucket : (next count bucket bound : ℕ) (keys lent : List Key) (chains : Rings) (least new : ℕ)
+    → IsWheel next count keys chains → lent ≡ keys
     → ((home : Key → ℕ) → AreChains chains (places home (kept_keys lent))
     → IsLeastIn (kept_keys lent) home bucket least new)
-    → IsLeast mask next (time + 1) bound (kept_keys keys) new
-visits_bucket mask next count time bound bucket keys lent chains least new w same is was looks =
-    let now : IsLeastIn (kept_keys lent) (home_by mask next) bucket least new =
-    looks (home_by mask next)
-    (subst (λ (ks : List Key). AreChains chains (places (home_by mask next) (kept_keys ks))) (sym same) w.are) in
-    visits_one mask next time bound bucket (kept_keys keys) least new was is
-    (subst (λ (ks : List Key). IsLeastIn (kept_keys ks) (home_by mask next) bucket least new) same now)
+    → IsLeastIn (kept_keys keys) (home_by next) bucket least new
+visits_bucket next count bucket bound keys lent chains least new w same looks =
+    subst (λ (ks : List Key). IsLeastIn (kept_keys ks) (home_by next) bucket least new) same
+    (looks (home_by next)
+    (subst (λ (ks : List Key). AreChains chains (places (home_by next) (kept_keys ks))) (sym same) w.are))
 
--- a row that wasn't visited is due later than the time that was
-pub none_before_soon : (mask next time bound : ℕ) (keys : List (Option Key)) (least : ℕ) → next ≤ time → least ≤ time
-    → IsLeast mask next (time + 1) bound keys least → NoneBefore keys least
-none_before_soon mask next time bound keys least up soon seen j key has =
-    elim (cases_lt time key.deadline) [
-      | inl later ↦ omega arith
-      | inr due ↦ seen.below j key (max key.deadline next) has (omega arith) (omega arith) refl
+-- one more is visited
+pub visits_one : (next bucket bound : ℕ) (keys : List (Option Key)) (least new : ℕ)
+    → IsLeast next bucket bound keys least → IsLeastIn keys (home_by next) bucket least new → bound ≤ new
+    → IsLeast next (bucket + 1) bound keys new
+visits_one next bucket bound keys least new was now none = record {
+  is = omega (arith, was.is, now.low);
+  below = λ j key has low.
+      elim (cases_eq (home_by next key) bucket) [
+        | inl e ↦ omega (arith, now.below j key has e)
+        | inr ne ↦ was.below j key has (omega arith)
+      ];
+}
+
+-- the first bucket that has a row before the bound has the least
+pub none_before_soon : (next bucket bound : ℕ) (keys : List (Option Key)) (least new : ℕ) (due : IsDueIn keys (home_by next) bucket new)
+    → IsLeast next bucket bound keys least → IsLeastIn keys (home_by next) bucket least new
+    → new < bound → NoneBefore keys new
+none_before_soon next bucket bound keys least new due was now less j key has =
+    elim (cases_lt (home_by next key) bucket) [
+      | inl low ↦ omega (arith, was.below j key has low)
+      | inr more ↦ elim (cases_eq (home_by next key) bucket) [
+        | inl e ↦ now.below j key has e
+        | inr ne ↦
+            elim (cases_lt key.deadline new) [
+              | inl early ↦
+                  absurd (omega (arith, due.at, home_up 7 next (max key.deadline next) (max due.key.deadline next) (omega arith) (omega (arith, due.at)), due.at_home))
+              | inr late ↦ late
+            ]
+      ]
     ]
 
--- and where all times were visited, none is before the least
-pub none_before_all : (mask next end bound : ℕ) (keys : List Key) (least : ℕ) (d : Key) → next < 2 ^ 64 - 1
-    → Spans mask next bound end → IsLeast mask next end bound (kept_keys keys) least
+-- and where all buckets were visited, none is before the least
+pub none_before_all : (next end bound : ℕ) (keys : List Key) (least : ℕ) (d : Key) → next < 2 ^ 64 - 1
+    → Spans next bound end → IsLeast next end bound (kept_keys keys) least
     → NoneBefore (kept_keys keys) least
-none_before_all mask next end bound keys least d fits span seen j key has =
+none_before_all next end bound keys least d fits span seen j key has =
     elim (cases_lt bound key.deadline) [
-      | inl later ↦ omega (arith, seen.low)
+      | inl later ↦ omega (arith, seen.is)
       | inr due ↦
           let low : key.deadline < 2 ^ 64 - 1 = (kept_in keys j d key has).2 in
           let v = span.covers (max key.deadline next) (omega arith) (omega arith) (omega arith) in
-          seen.below j key v.0 has v.1 v.2 (sym v.3)
+          omega (arith, seen.is, seen.below j key has v)
     ]
+
+-- what was found below the bound stands in the bucket
+pub soon : (next bucket bound : ℕ) (keys : List (Option Key)) (least new : ℕ) → IsLeast next bucket bound keys least
+    → IsLeastIn keys (home_by next) bucket least new → new < bound → IsDueIn keys (home_by next) bucket new
+soon next bucket bound keys least new was now less =
+    elim now.near [ inl due ↦ due | inr e ↦ absurd (omega (arith, was.is)) ]
+
+pub due_at_of : (keys : List (Option Key)) (home : Key → ℕ) (bucket time : ℕ) → IsDueIn keys home bucket time → IsDueAt keys time
+due_at_of keys home bucket time d = record { slot = d.slot; key = d.key; has = d.has; at = d.at }

@@ -1,16 +1,15 @@
 -- A wheel that was just made.
 
-use Rattle.std.proofs.Common.{◌≡◌, ℕ, ◌+◌, ◌-◌, ◌<◌, ◌≤◌, ◌^◌, Option, None, List, ◌∷◌, replicate, length, count_by, zero, suc, sym, subst, ◌∙◌, ap, inl, inr, refl, arith}
+use Rattle.std.proofs.Common.{◌≡◌, ℕ, ◌-◌, ◌<◌, ◌≤◌, ◌^◌, Option, None, List, ◌∷◌, replicate, length, count_by, zero, suc, sym, subst, ◌∙◌, ap, inl, inr, refl, arith}
 use Rattle.std.proofs.Math.ListN.{get_or-eq_default}
 use Rattle.std.proofs.lemmas.Bool.{cases_lt}
 use Rattle.std.proofs.lemmas.List.{length-replicate, get_or-replicate}
 use Rattle.std.proofs.lemmas.List.Folds.{sum_by-replicate}
-use Rattle.std.proofs.lemmas.Nat.{pow_pos}
-use Rattle.std.specs.Int.{IsPowerOfTwo}
 use Rattle.std.specs.Option.{is_some}
 use Rattle.ert_wheel.specs.Rings.{Rings, Place, AreChains}
 use Rattle.ert_wheel.specs.Wheels.{kept_keys, home_by, place_of, places, IsWheel}
 use Rattle.ert_wheel.specs.declared.row.Key.{Key}
+use Rattle.ert_wheel.specs.declared.row.TheConstants.{BUCKETS}
 
 -- what stands for a slot without a row
 abbrev pub no_key : Key
@@ -31,21 +30,19 @@ no_place home n j =
           ap (place_of home) (get_or-eq_default (replicate n None) None short)
     ]
 
-pub opened : (slots buckets : ℕ) (keys : List Key) (chains : Rings) → keys ≡ replicate slots no_key
-    → chains.slots ≡ slots → chains.homes ≡ buckets → AreChains chains (λ _. None) → IsPowerOfTwo buckets
-    → slots < 2 ^ 32 → IsWheel (buckets - 1) 0 0 keys chains
-opened slots buckets keys chains is low homes are (k, e) few =
-    let some : (buckets - 1) + 1 ≡ buckets = omega (arith, pow_pos k) in
+pub opened : (slots : ℕ) (keys : List Key) (chains : Rings) → keys ≡ replicate slots no_key
+    → chains.slots ≡ slots → chains.homes ≡ BUCKETS → AreChains chains (λ _. None)
+    → slots < 2 ^ 32 → IsWheel 0 0 keys chains
+opened slots keys chains is low homes are few =
     let seen : kept_keys keys ≡ replicate slots None = ap kept_keys is ∙ kept_none slots in
     let many : length keys ≡ slots = ap length is ∙ length-replicate slots no_key in
     record {
       slots = many ∙ sym low;
       few = omega arith;
-      homes = some ∙ sym homes;
-      power = (k, some ∙ e);
+      homes = homes;
       time = omega arith;
       counts = sym (ap (count_by is_some) seen ∙ sum_by-replicate _ slots None ∙ omega arith);
-      are = subst (λ (s : List (Option Key)). AreChains chains (places (home_by (buckets - 1) 0) s)) (sym seen)
+      are = subst (λ (s : List (Option Key)). AreChains chains (places (home_by 0) s)) (sym seen)
           (subst (λ (p : ℕ → Option Place). AreChains chains p)
-          (λ i j. sym (no_place (home_by (buckets - 1) 0) slots j) i) are);
+          (λ i j. sym (no_place (home_by 0) slots j) i) are);
     }

@@ -1,11 +1,11 @@
 -- Chains by their places: what is at a node, and a slot put in or taken out.
 
-use Rattle.std.proofs.Common.{◌≡◌, ◌≢◌, ◌⊎◌, ℕ, ◌+◌, ◌-◌, ◌<◌, ◌≤◌, ◌^◌, true, cond, List, Option, Some, None, nat_lt, sym, subst, ◌∙◌, ap, inl, inr, refl, arith}
+use Rattle.std.proofs.Common.{◌≡◌, ◌≢◌, ◌⊎◌, ℕ, ◌+◌, ◌-◌, ◌<◌, ◌≤◌, ◌^◌, true, false, cond, List, Option, Some, None, nat_lt, sym, subst, ◌∙◌, ap, inl, inr, refl, arith}
 use Rattle.std.proofs.lemmas.Bool.{cases_eq, cases_lt, lt-ltb, le-ltb, ltb-true, eq-eqb, ne_eqb, false≢true}
 use Rattle.std.specs.Option.{is_some}
 use Rattle.ert_wheel.proofs.Splice.{GoesIn, inserted}
 use Rattle.ert_wheel.proofs.Unsplice.{GoesOut, removed}
-use Rattle.ert_wheel.specs.Chained.{Shape, Changed, Spliced, Unspliced}
+use Rattle.ert_wheel.specs.Chained.{Shape, Chained, Changed, Alone, Spliced, Unspliced}
 use Rattle.ert_wheel.specs.Links.{next_at, prev_at}
 use Rattle.ert_wheel.specs.Rings.{Rings, Place, home_of, order_of, by_node, shape, AreChains, with_place}
 use Rattle.ert_wheel.specs.declared.links.Link.{Link}
@@ -116,7 +116,7 @@ has_place places slot new j p h =
     ]
 
 -- who has one after one was given up
-kept_place : (places : ℕ → Option Place) (slot : ℕ) (j : ℕ) (p : Place)
+pub kept_place : (places : ℕ → Option Place) (slot : ℕ) (j : ℕ) (p : Place)
     → with_place places slot None j ≡ Some p → places j ≡ Some p
 kept_place places slot j p h =
     elim (cases_eq j slot) [
@@ -133,7 +133,8 @@ pub record CanPut (r : Rings) (places : ℕ → Option Place) (slot home order :
   pub in_range : home < r.homes
   pub out : places slot ≡ None
   pub fits : order < 2 ^ 64
-  pub above : (j : ℕ) (p : Place) → places j ≡ Some p → p.order < order
+  pub apart : (j : ℕ) (p : Place) → places j ≡ Some p → p.order ≢ order
+  pub above : (j : ℕ) (p : Place) → places j ≡ Some p → p.home ≡ home → p.order < order
 
 -- no other node of the chain is above
 highest : (r : Rings) (places : ℕ → Option Place) (slot home order : ℕ) → CanPut r places slot home order
@@ -144,7 +145,9 @@ highest r places slot home order can x on same ne =
     let h : IsHead r.slots r.homes places (r.slots + home) =
     head_is r.slots r.homes places (r.slots + home) (omega arith) (omega (arith, can.in_range)) in
     elim (node_is r.slots r.homes places x on) [
-      | inl (p, s) ↦ omega (arith, s.top, can.above x p s.has)
+      | inl (p, s) ↦
+          let at_home : p.home ≡ home = omega (arith, same, s.at_home, h.at_home) in
+          omega (arith, s.top, can.above x p s.has at_home)
       | inr t ↦ absurd (ne (omega (arith, same, t.at_home, h.at_home, t.high)))
     ]
 
@@ -169,10 +172,48 @@ goes_in r places slot home order can =
       head_on = h.on;
       head_above = omega arith;
       below_head = omega (arith, h.top, can.fits);
-      above = λ x on. elim (node_is r.slots r.homes places x on)
-          [ inl (p, s) ↦ omega (arith, s.bound, can.above x p s.has) | inr t ↦ omega (arith, t.bound) ];
+      above = λ x on same. elim (node_is r.slots r.homes places x on) [
+        | inl (p, s) ↦
+            let at_home : p.home ≡ home = omega (arith, same, s.at_home, h.at_home) in
+            omega (arith, s.bound, can.above x p s.has at_home)
+        | inr t ↦ omega (arith, t.bound)
+      ];
       highest = highest r places slot home order can;
     }
+
+-- a slot without a place isn't on
+off : (slots homes : ℕ) (places : ℕ → Option Place) (x : ℕ) → x < slots → places x ≡ None
+    → (shape slots homes places).on x ≡ false
+off slots homes places x low none =
+    by_slot slots is_some (λ x. nat_lt x (slots + homes)) places x low ∙ ap is_some none
+
+-- the slots without a place are alone as before
+put_alone : (r : Rings) (places : ℕ → Option Place) (slot home order : ℕ) (links : List Link)
+    → CanPut r places slot home order
+    → Spliced (next_at r.links) (prev_at r.links) (next_at links) (prev_at links) (r.slots + home) slot
+    → (j : ℕ) → j < r.slots → with_place places slot (Some (record { home = home; order = order })) j ≡ None
+    → Alone (next_at links) (prev_at links) j
+put_alone r places slot home order links can spliced j low h =
+    let here : Place = record { home = home; order = order } in
+    let new : Option Place = Some here in
+    let a : Shape = shape r.slots r.homes places in
+    elim (cases_eq j slot) [
+      | inl e ↦
+          let bad : Some here ≡ None =
+          sym (ap (with_place places slot new) e ∙ with_place_here places slot new) ∙ h in
+          absurd cc
+      | inr ne ↦
+          let none : places j ≡ None = sym (with_place_there places slot new j ne) ∙ h in
+          let was : Alone (next_at r.links) (prev_at r.links) j = can.are.alone j low none in
+          let head : IsHead r.slots r.homes places (r.slots + home) =
+          head_is r.slots r.homes places (r.slots + home) (omega arith) (omega (arith, can.in_range)) in
+          let on : a.on (next_at r.links (r.slots + home)) ≡ true = can.are.chained.after_on (r.slots + home) head.on in
+          record {
+            forth = spliced.others_after j ne (λ e. absurd (omega arith)) ∙ was.forth;
+            back = spliced.others_before j ne
+                (λ e. false≢true (sym (off r.slots r.homes places j low none) ∙ ap a.on e ∙ on)) ∙ was.back;
+          }
+    ]
 
 -- the chains with a slot put in
 pub put_chains : (r : Rings) (places : ℕ → Option Place) (slot home order : ℕ) (links : List Link)
@@ -185,14 +226,15 @@ put_chains r places slot home order links can spliced = record {
   once = λ i j p q h k e. elim (has_place places slot _ i p h) [
     | inl s ↦ elim (has_place places slot _ j q k) [
       | inl t ↦ s.0 ∙ sym t.0
-      | inr t ↦ absurd (omega (arith, ap (λ (q : Place). q.order) s.1, can.above j q t.1))
+      | inr t ↦ absurd (can.apart j q t.1 (omega (arith, ap (λ (q : Place). q.order) s.1)))
     ]
     | inr s ↦ elim (has_place places slot _ j q k) [
-      | inl t ↦ absurd (omega (arith, ap (λ (q : Place). q.order) t.1, can.above i p s.1))
+      | inl t ↦ absurd (can.apart i p s.1 (omega (arith, ap (λ (q : Place). q.order) t.1)))
       | inr t ↦ can.are.once i j p q s.1 t.1 e
     ]
   ];
   chained = inserted (record { old = can.are.chained; goes = goes_in r places slot home order can; links = spliced });
+  alone = put_alone r places slot home order links can spliced;
 }
 
 goes_out : (r : Rings) (places : ℕ → Option Place) (slot : ℕ) (place : Place) → AreChains r places
@@ -214,13 +256,81 @@ goes_out r places slot place are low has =
       ];
     }
 
--- the chains with a slot taken out
-pub take_chains : (r : Rings) (places : ℕ → Option Place) (slot : ℕ) (place : Place) (links : List Link)
+-- the slots without a place are alone, also the one that gave it up
+take_alone : (r : Rings) (places : ℕ → Option Place) (slot : ℕ) (place : Place) (links : List Link)
+    → AreChains r places → slot < r.slots → places slot ≡ Some place
+    → Unspliced (next_at r.links) (prev_at r.links) (next_at links) (prev_at links) slot
+    → (j : ℕ) → j < r.slots → with_place places slot None j ≡ None → Alone (next_at links) (prev_at links) j
+take_alone r places slot place links are low has unspliced j low_j h =
+    let a : Shape = shape r.slots r.homes places in
+    elim (cases_eq j slot) [
+      | inl e ↦
+          subst (λ (x : ℕ). Alone (next_at links) (prev_at links) x) (sym e)
+          (record { forth = unspliced.slot_after; back = unspliced.slot_before })
+      | inr ne ↦
+          let none : places j ≡ None = sym (with_place_there places slot None j ne) ∙ h in
+          let was : Alone (next_at r.links) (prev_at r.links) j = are.alone j low_j none in
+          let on : a.on slot ≡ true = (slot_is r.slots r.homes places slot place low has).on in
+          let not_on : a.on j ≡ false = off r.slots r.homes places j low_j none in
+          record {
+            forth = unspliced.others_after j ne
+                (λ e. false≢true (sym not_on ∙ ap a.on e ∙ are.chained.before_on slot on)) ∙ was.forth;
+            back = unspliced.others_before j ne
+                (λ e. false≢true (sym not_on ∙ ap a.on e ∙ are.chained.after_on slot on)) ∙ was.back;
+          }
+    ]
+
+-- the chains where the slot had a place
+take_placed : (r : Rings) (places : ℕ → Option Place) (slot : ℕ) (place : Place) (links : List Link)
     → AreChains r places → slot < r.slots → places slot ≡ Some place
     → Unspliced (next_at r.links) (prev_at r.links) (next_at links) (prev_at links) slot
     → AreChains (record r { links = links }) (with_place places slot None)
-take_chains r places slot place links are low has unspliced = record {
+take_placed r places slot place links are low has unspliced = record {
   orders = λ j p h. are.orders j p (kept_place places slot j p h);
   once = λ i j p q h k e. are.once i j p q (kept_place places slot i p h) (kept_place places slot j q k) e;
   chained = removed (record { old = are.chained; goes = goes_out r places slot place are low has; links = unspliced });
+  alone = take_alone r places slot place links are low has unspliced;
 }
+
+-- the chains where it had none: nothing has changed
+take_none : (r : Rings) (places : ℕ → Option Place) (slot : ℕ) (links : List Link) → AreChains r places
+    → slot < r.slots → places slot ≡ None
+    → Unspliced (next_at r.links) (prev_at r.links) (next_at links) (prev_at links) slot
+    → AreChains (record r { links = links }) (with_place places slot None)
+take_none r places slot links are low none unspliced =
+    let s : Shape = shape r.slots r.homes places in
+    let was : Alone (next_at r.links) (prev_at r.links) slot = are.alone slot low none in
+    let same_next : (x : ℕ) → next_at links x ≡ next_at r.links x =
+    λ x. elim (cases_eq x slot) [
+      | inl e ↦ ap (next_at links) e ∙ unspliced.slot_after ∙ sym was.forth ∙ sym (ap (next_at r.links) e)
+      | inr ne ↦ unspliced.others_after x ne (λ e. ne (e ∙ was.back))
+    ] in
+    let same_prev : (x : ℕ) → prev_at links x ≡ prev_at r.links x =
+    λ x. elim (cases_eq x slot) [
+      | inl e ↦ ap (prev_at links) e ∙ unspliced.slot_before ∙ sym was.back ∙ sym (ap (prev_at r.links) e)
+      | inr ne ↦ unspliced.others_before x ne (λ e. ne (e ∙ was.forth))
+    ] in
+    let same_place : (j : ℕ) → with_place places slot None j ≡ places j =
+    λ j. elim (cases_eq j slot) [
+      | inl e ↦ ap (with_place places slot None) e ∙ with_place_here places slot None ∙ sym none ∙ sym (ap places e)
+      | inr ne ↦ with_place_there places slot None j ne
+    ] in
+    subst (λ (p : ℕ → Option Place). AreChains (record r { links = links }) p) (λ i j. sym (same_place j) i)
+    (record {
+      orders = are.orders;
+      once = are.once;
+      chained = subst (λ (f : ℕ → ℕ). Chained s f (prev_at links)) (λ i x. sym (same_next x) i)
+          (subst (λ (f : ℕ → ℕ). Chained s (next_at r.links) f) (λ i x. sym (same_prev x) i) are.chained);
+      alone = λ j low_j h. (let o = are.alone j low_j h in
+          record { forth = same_next j ∙ o.forth; back = same_prev j ∙ o.back });
+    })
+
+-- the chains with a slot taken out
+pub take_chains : (r : Rings) (places : ℕ → Option Place) (slot : ℕ) (links : List Link) → AreChains r places
+    → slot < r.slots → Unspliced (next_at r.links) (prev_at r.links) (next_at links) (prev_at links) slot
+    → AreChains (record r { links = links }) (with_place places slot None)
+take_chains r places slot links are low unspliced = at (places slot) refl
+  where
+    at : (o : Option Place) → places slot ≡ o → AreChains (record r { links = links }) (with_place places slot None)
+    at None none = take_none r places slot links are low none unspliced
+    at (Some place) has = take_placed r places slot place links are low has unspliced

@@ -15,7 +15,7 @@ pub record GoesIn (a b : Shape) (head slot order : ℕ) : Type 0 where
   pub head_on : a.on head ≡ true
   pub head_above : a.slots ≤ head
   pub below_head : order < a.top head
-  pub above : (x : ℕ) → a.on x ≡ true → a.low x ≤ order
+  pub above : (x : ℕ) → a.on x ≡ true → a.home x ≡ a.home head → a.low x ≤ order
   pub highest : (x : ℕ) → a.on x ≡ true → a.home x ≡ a.home head → x ≢ head → a.top x ≤ order
 
 -- the chains before, and both changes
@@ -69,7 +69,7 @@ down : {a b : Shape} {after before after' before' : ℕ → ℕ} {head slot orde
     (i : Inserts a b after before after' before' head slot order) (x : ℕ) → b.on x ≡ true
     → b.low (after' x) ≤ b.top x
 down {a = a} {after = after} {before = before} {head = head} {slot = slot} i x on =
-    grind (arith, cases_eq x slot, cases_eq x head, i.links.slot_after, i.links.head_after, i.links.others_after x, i.goes.on.there x, i.goes.off, i.goes.low.here, i.goes.top.here, i.goes.top.there x, i.goes.top.there head, i.goes.below_head, i.goes.low.there (after x), i.goes.low.there (after head), on_apart a.on (after x) slot, on_apart a.on (after head) slot, on_apart a.on head slot i.goes.head_on, i.old.after_on x, i.old.after_on head i.goes.head_on, i.goes.above (after head), i.old.down x)
+    grind (arith, cases_eq x slot, cases_eq x head, i.links.slot_after, i.links.head_after, i.links.others_after x, i.goes.on.there x, i.goes.off, i.goes.low.here, i.goes.top.here, i.goes.top.there x, i.goes.top.there head, i.goes.below_head, i.goes.low.there (after x), i.goes.low.there (after head), on_apart a.on (after x) slot, on_apart a.on (after head) slot, on_apart a.on head slot i.goes.head_on, i.old.after_on x, i.old.after_on head i.goes.head_on, i.goes.above (after head), i.old.home head i.goes.head_on, i.old.down x)
 
 -- a slot that is still on, as it was
 record StillOn (a b : Shape) (slot j : ℕ) : Type 0 where

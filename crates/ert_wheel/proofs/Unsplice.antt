@@ -53,42 +53,42 @@ after_on : {a b : Shape} {after before after' before' : ℕ → ℕ} {slot : ℕ
     → b.on (after' x) ≡ true
 after_on {a = a} {b = b} {after = after} {before = before} {after' = after'} {before' = before'} {slot = slot} r x on =
     let s : StaysOn a b slot x = stays_on r x on in
-    grind (arith, cases_eq x (before slot), r.links.forth.here, r.links.forth.there x, r.old.after_on x s.on, r.old.after_on slot r.goes.held, r.old.before_after x s.on, after_apart r, r.goes.on.there (after x), r.goes.on.there (after slot), cases_eq (after x) slot)
+    grind (arith, cases_eq x (before slot), r.links.prev_after (before_apart r), r.links.others_after x s.apart, r.old.after_on x s.on, r.old.after_on slot r.goes.held, r.old.before_after x s.on, after_apart r, r.goes.on.there (after x), r.goes.on.there (after slot), cases_eq (after x) slot)
 
 before_on : {a b : Shape} {after before after' before' : ℕ → ℕ} {slot : ℕ}
     (r : Removes a b after before after' before' slot) (x : ℕ) → b.on x ≡ true
     → b.on (before' x) ≡ true
 before_on {a = a} {b = b} {after = after} {before = before} {after' = after'} {before' = before'} {slot = slot} r x on =
     let s : StaysOn a b slot x = stays_on r x on in
-    grind (arith, cases_eq x (after slot), r.links.back.here, r.links.back.there x, r.old.before_on x s.on, r.old.before_on slot r.goes.held, r.old.after_before x s.on, before_apart r, r.goes.on.there (before x), r.goes.on.there (before slot), cases_eq (before x) slot)
+    grind (arith, cases_eq x (after slot), r.links.next_before (after_apart r), r.links.others_before x s.apart, r.old.before_on x s.on, r.old.before_on slot r.goes.held, r.old.after_before x s.on, before_apart r, r.goes.on.there (before x), r.goes.on.there (before slot), cases_eq (before x) slot)
 
 after_before : {a b : Shape} {after before after' before' : ℕ → ℕ} {slot : ℕ}
     (r : Removes a b after before after' before' slot) (x : ℕ) → b.on x ≡ true
     → after' (before' x) ≡ x
 after_before {a = a} {b = b} {after = after} {before = before} {after' = after'} {before' = before'} {slot = slot} r x on =
     let s : StaysOn a b slot x = stays_on r x on in
-    grind (arith, cases_eq x (after slot), cases_eq (before x) (before slot), r.links.back.here, r.links.back.there x, r.links.forth.here, r.links.forth.there (before x), r.old.after_before x s.on, r.old.after_before slot r.goes.held, s.apart)
+    grind (arith, cases_eq x (after slot), cases_eq (before x) (before slot), cases_eq (before x) slot, r.links.next_before (after_apart r), r.links.others_before x s.apart, r.links.prev_after (before_apart r), r.links.others_after (before x), r.old.after_before x s.on, r.old.after_before slot r.goes.held, s.apart)
 
 before_after : {a b : Shape} {after before after' before' : ℕ → ℕ} {slot : ℕ}
     (r : Removes a b after before after' before' slot) (x : ℕ) → b.on x ≡ true
     → before' (after' x) ≡ x
 before_after {a = a} {b = b} {after = after} {before = before} {after' = after'} {before' = before'} {slot = slot} r x on =
     let s : StaysOn a b slot x = stays_on r x on in
-    grind (arith, cases_eq x (before slot), cases_eq (after x) (after slot), r.links.forth.here, r.links.forth.there x, r.links.back.here, r.links.back.there (after x), r.old.before_after x s.on, r.old.before_after slot r.goes.held, s.apart)
+    grind (arith, cases_eq x (before slot), cases_eq (after x) (after slot), cases_eq (after x) slot, r.links.prev_after (before_apart r), r.links.others_after x s.apart, r.links.next_before (after_apart r), r.links.others_before (after x), r.old.before_after x s.on, r.old.before_after slot r.goes.held, s.apart)
 
 home : {a b : Shape} {after before after' before' : ℕ → ℕ} {slot : ℕ}
     (r : Removes a b after before after' before' slot) (x : ℕ) → b.on x ≡ true
     → b.home (after' x) ≡ b.home x
 home {a = a} {b = b} {after = after} {before = before} {after' = after'} {before' = before'} {slot = slot} r x on =
     let s : StaysOn a b slot x = stays_on r x on in
-    grind (arith, cases_eq x (before slot), r.links.forth.here, r.links.forth.there x, r.old.before_after x s.on, after_apart r, r.goes.home (after x), r.goes.home (after slot), s.home, r.old.home x s.on, r.old.home slot r.goes.held, r.old.after_before slot r.goes.held, cases_eq (after x) slot)
+    grind (arith, cases_eq x (before slot), r.links.prev_after (before_apart r), r.links.others_after x s.apart, r.old.before_after x s.on, after_apart r, r.goes.home (after x), r.goes.home (after slot), s.home, r.old.home x s.on, r.old.home slot r.goes.held, r.old.after_before slot r.goes.held, cases_eq (after x) slot)
 
 down : {a b : Shape} {after before after' before' : ℕ → ℕ} {slot : ℕ}
     (r : Removes a b after before after' before' slot) (x : ℕ) → b.on x ≡ true
     → b.low (after' x) ≤ b.top x
 down {a = a} {b = b} {after = after} {before = before} {after' = after'} {before' = before'} {slot = slot} r x on =
     let s : StaysOn a b slot x = stays_on r x on in
-    grind (arith, cases_eq x (before slot), r.links.forth.here, r.links.forth.there x, r.old.before_after x s.on, after_apart r, r.goes.low (after x), r.goes.low (after slot), s.top, r.old.down x s.on, r.old.down slot r.goes.held, r.goes.rank, r.old.after_before slot r.goes.held, cases_eq (after x) slot)
+    grind (arith, cases_eq x (before slot), r.links.prev_after (before_apart r), r.links.others_after x s.apart, r.old.before_after x s.on, after_apart r, r.goes.low (after x), r.goes.low (after slot), s.top, r.old.down x s.on, r.old.down slot r.goes.held, r.goes.rank, r.old.after_before slot r.goes.held, cases_eq (after x) slot)
 
 -- the next lower rank after the node that was before the slot
 least_before : {a b : Shape} {after before after' before' : ℕ → ℕ} {slot : ℕ}
@@ -119,13 +119,13 @@ least {a = a} {b = b} {after = after} {before = before} {after' = after'} {befor
           least_before r j (subst (λ (y : ℕ). a.on y ≡ true) e s.on) down t.on t.apart (same ∙ ap a.home e)
           (subst (λ (y : ℕ). a.top j < a.top y) e below) in
           let l : b.low (after' x) ≡ a.low (after slot) =
-          ap (λ (y : ℕ). b.low (after' y)) e ∙ ap b.low r.links.forth.here ∙ r.goes.low (after slot) (after_apart r) in
+          ap (λ (y : ℕ). b.low (after' y)) e ∙ ap b.low (r.links.prev_after (before_apart r)) ∙ r.goes.low (after slot) (after_apart r) in
           omega (arith, t.top)
       | inr ne ↦
           let apart : after x ≢ slot = λ e. ne (sym (r.old.before_after x s.on) ∙ ap before e) in
           let found : a.top j < a.low (after x) = r.old.least x j s.on down t.on same below in
           let l : b.low (after' x) ≡ a.low (after x) =
-          ap b.low (r.links.forth.there x ne) ∙ r.goes.low (after x) apart in
+          ap b.low (r.links.others_after x s.apart ne) ∙ r.goes.low (after x) apart in
           omega (arith, t.top)
     ]
 

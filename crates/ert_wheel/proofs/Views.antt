@@ -1,17 +1,15 @@
 -- A wheel's keys as they are seen, and its chains after a key was written.
 
-use Rattle.std.proofs.Common.{◌≡◌, ℕ, ◌+◌, ◌-◌, ◌<◌, ◌≤◌, ◌^◌, ◌%◌, cond, List, Option, Some, None, length, get_or, set, count_by, sym, subst, ◌∙◌, ap, inl, inr, refl, arith, bit_and, get_or-set_same, get_or-set_other}
+use Rattle.std.proofs.Common.{◌≡◌, ℕ, ◌+◌, ◌-◌, ◌<◌, ◌≤◌, ◌^◌, cond, List, Option, Some, None, length, get_or, set, count_by, sym, subst, ◌∙◌, ap, inl, inr, refl, arith, get_or-set_same, get_or-set_other}
 use Rattle.std.proofs.lemmas.Bool.{cases_eq, cases_lt, lt-ltb, le-ltb}
 use Rattle.std.proofs.lemmas.List.{get_or-map, length-map, map-set}
 use Rattle.std.proofs.lemmas.List.Sums.{sum_by-set}
-use Rattle.std.proofs.lemmas.Nat.{and_mask}
 use Rattle.std.proofs.Math.ListN.{get_or-eq_default}
-use Rattle.std.specs.Int.{IsPowerOfTwo}
 use Rattle.std.specs.Option.{is_some}
 use Rattle.ert_wheel.proofs.Parts.{with_place_here, with_place_there}
 use Rattle.ert_wheel.specs.Rings.{Rings, Place, AreChains, with_place}
 use Rattle.ert_wheel.specs.Rows.{key_in}
-use Rattle.ert_wheel.specs.Wheels.{kept, kept_keys, bucket_of, place_of, places}
+use Rattle.ert_wheel.specs.Wheels.{kept, kept_keys, place_of, places}
 use Rattle.ert_wheel.specs.declared.row.Key.{Key}
 
 -- what a slot that was read is seen as
@@ -98,10 +96,3 @@ pub counts_less : (keys : List (Option Key)) (slot : ℕ) (key : Key) → slot <
 counts_less keys slot key low held =
     let e : ◌≡◌ {A = ℕ} (cond (is_some (key_in keys slot)) 1 0) 1 = ap (λ (o : Option Key). cond (is_some o) 1 0) held in
     omega (arith, counts_set keys slot None low)
-
--- a bucket is below the number of buckets
-pub bucket_low : (mask time : ℕ) → IsPowerOfTwo (mask + 1) → bucket_of mask time < mask + 1
-bucket_low mask time (k, e) =
-    let m : mask ≡ 2 ^ k - 1 = omega (arith, e) in
-    subst (λ (n : ℕ). bit_and time n < n + 1) (sym m)
-    (let low : time % 2 ^ k < 2 ^ k = omega (arith, e) in omega (arith, and_mask time k, e))

@@ -1,31 +1,33 @@
 -- What each call that changes a wheel does, in the form in which the calls meet it.
 
-use Rattle.std.proofs.Common.{◌≡◌, ℕ, ◌+◌, ◌-◌, ◌<◌, ◌≤◌, ◌^◌, cond, nat_le, max, List, Option, Some, None, IfSome, map, length, get_or, set, count_by, sym, subst, ◌∙◌, ap, inl, inr, refl, arith}
+use Rattle.std.proofs.Common.{◌≡◌, ℕ, ◌+◌, ◌-◌, ◌<◌, ◌≤◌, ◌^◌, cond, nat_le, max, List, Option, Some, None, IfSome, map, length, get_or, set, count_by, sym, subst, ◌∙◌, ap, inl, inr, arith}
 use Rattle.std.proofs.lemmas.Bool.Decides.{leb_tells}
 use Rattle.std.proofs.lemmas.List.{ext_get_or, get_or-map, length-map, length-set, set-get_or}
 use Rattle.std.proofs.lemmas.List.Sums.{count_by-le-length}
 use Rattle.std.specs.Option.{is_some}
-use Rattle.ert_wheel.proofs.Views.{kept_low, kept_high, kept_set, key_read, chains_set, counts_more, counts_less, bucket_low, place_is}
+use Rattle.ert_wheel.proofs.Views.{kept_low, kept_high, kept_set, key_read, chains_set, counts_more, counts_less, place_is, kept_in}
 use Rattle.ert_wheel.specs.Rings.{Rings, Place, AreChains, MayPut, Puts, MayTake, Takes}
 use Rattle.ert_wheel.specs.Rows.{key_in, times, due_at, left_at}
-use Rattle.ert_wheel.specs.Wheels.{kept, kept_keys, bucket_of, home_by, place_of, places, IsWheel}
+use Rattle.ert_wheel.specs.Walks.{MayMove}
+use Rattle.ert_wheel.specs.Wheels.{kept, kept_keys, home_by, place_of, places, IsWheel}
 use Rattle.ert_wheel.specs.declared.row.Key.{Key}
 use Rattle.ert_wheel.specs.declared.row.Row.{Row}
+use Rattle.ert_wheel.specs.declared.row.TheConstants.{BUCKETS}
 
 -- a slot without a row can be put into a chain
-pub may_put : (mask next count : ℕ) (keys : List Key) (chains : Rings) (seen : List (Option Key)) (slot time home : ℕ)
-    → IsWheel mask next count keys chains → kept_keys keys ≡ seen → slot < length seen → key_in seen slot ≡ None
-    → home ≡ bucket_of mask time → MayPut chains slot home
-may_put mask next count keys chains seen slot time home w is low vacant e =
+pub may_put : (next count : ℕ) (keys : List Key) (chains : Rings) (seen : List (Option Key)) (slot home : ℕ)
+    → IsWheel next count keys chains → kept_keys keys ≡ seen → slot < length seen → key_in seen slot ≡ None
+    → home < BUCKETS → MayPut chains slot home
+may_put next count keys chains seen slot home w is low vacant in_range =
     let P : List (Option Key) → Type 0 = λ s. (slot < length s) × (key_in s slot ≡ None) in
     let at : P (kept_keys keys) = subst P (sym is) (low, vacant) in
     let in_keys : slot < length keys = omega (arith, length-map keys kept, at.0) in
     record {
-      places = places (home_by mask next) (kept_keys keys);
+      places = places (home_by next) (kept_keys keys);
       are = w.are;
       low = omega (arith, w.slots);
-      in_range = omega (arith, w.homes, bucket_low mask time w.power);
-      out = ap (place_of (home_by mask next)) at.1;
+      in_range = omega (arith, w.homes);
+      out = ap (place_of (home_by next)) at.1;
     }
 
 -- the orders that are held are below that of a newest row
@@ -40,10 +42,10 @@ orders_below home keys order newest j p h =
     omega (arith, ap (λ (q : Place). q.order) k.2)
 
 -- the count of rows leaves room for one more where a slot has none
-pub count_fits : (mask next count : ℕ) (keys : List Key) (chains : Rings) (seen : List (Option Key)) (slot : ℕ) (key : Key)
-    → IsWheel mask next count keys chains → kept_keys keys ≡ seen → slot < length seen → key_in seen slot ≡ None
+pub count_fits : (next count : ℕ) (keys : List Key) (chains : Rings) (seen : List (Option Key)) (slot : ℕ) (key : Key)
+    → IsWheel next count keys chains → kept_keys keys ≡ seen → slot < length seen → key_in seen slot ≡ None
     → count + 1 < 2 ^ 32
-count_fits mask next count keys chains seen slot key w is low vacant =
+count_fits next count keys chains seen slot key w is low vacant =
     let P : List (Option Key) → Type 0 = λ s. (slot < length s) × (key_in s slot ≡ None) in
     let at : P (kept_keys keys) = subst P (sym is) (low, vacant) in
     let more : count_by is_some (set (kept_keys keys) slot (Some key)) ≡ count_by is_some (kept_keys keys) + 1 =
@@ -66,22 +68,21 @@ pub record CanInsert (seen : List (Option Key)) (slot : ℕ) (key : Key) : Type 
   pub newest : (j : ℕ) → IfSome (key_in seen j) (λ k. k.order < key.order)
 
 -- the wheel with a row put in
-pub inserted_wheel : (mask next count : ℕ) (keys : List Key) (chains new : Rings) (seen : List (Option Key)) (slot : ℕ)
-    (key : Key) (home : ℕ) → IsWheel mask next count keys chains → kept_keys keys ≡ seen → CanInsert seen slot key
-    → home ≡ home_by mask next key → new.slots ≡ chains.slots → new.homes ≡ chains.homes → Puts chains new slot home
-    → IsWheel mask next (count + 1) (set keys slot key) new
-inserted_wheel mask next count keys chains new seen slot key home w is can e slots homes puts =
+pub inserted_wheel : (next count : ℕ) (keys : List Key) (chains new : Rings) (seen : List (Option Key)) (slot : ℕ)
+    (key : Key) (home : ℕ) → IsWheel next count keys chains → kept_keys keys ≡ seen → CanInsert seen slot key
+    → home ≡ home_by next key → new.slots ≡ chains.slots → new.homes ≡ chains.homes → Puts chains new slot home
+    → IsWheel next (count + 1) (set keys slot key) new
+inserted_wheel next count keys chains new seen slot key home w is can e slots homes puts =
     let at : CanInsert (kept_keys keys) slot key =
     subst (λ (s : List (Option Key)). CanInsert s slot key) (sym is) can in
     let written : kept_keys (set keys slot key) ≡ set (kept_keys keys) slot (Some key) =
     kept_set keys slot key (Some key) (kept_low key at.deadline) in
-    let h : Key → ℕ = home_by mask next in
+    let h : Key → ℕ = home_by next in
     let puts_key : Puts chains new slot (h key) = subst (λ (n : ℕ). Puts chains new slot n) e puts in
     record {
       slots = length-set keys slot key ∙ w.slots ∙ sym slots;
       few = omega (arith, length-set keys slot key, w.few);
-      homes = w.homes ∙ sym homes;
-      power = w.power;
+      homes = homes ∙ w.homes;
       time = w.time;
       counts = ap (λ n. n + 1) w.counts ∙ sym (counts_more (kept_keys keys) slot key at.low at.vacant)
           ∙ ap (count_by is_some) (sym written);
@@ -116,52 +117,44 @@ held_key : (keys : List Key) (seen : List (Option Key)) (slot : ℕ) (key : Key)
 held_key keys seen slot key r low =
     key_read keys slot key (in_keys keys seen slot key r) r.read ∙ kept_low key low
 
-pub may_take : (mask next count : ℕ) (keys : List Key) (chains : Rings) (seen : List (Option Key)) (slot : ℕ) (key : Key)
-    → IsWheel mask next count keys chains → Reads keys seen slot key → key.deadline < 2 ^ 64 - 1 → MayTake chains slot
-may_take mask next count keys chains seen slot key w r low =
+pub may_take : (next count : ℕ) (keys : List Key) (chains : Rings) (seen : List (Option Key)) (slot : ℕ) (key : Key)
+    → IsWheel next count keys chains → Reads keys seen slot key → MayTake chains slot
+may_take next count keys chains seen slot key w r =
     let in_all : slot < length keys = in_keys keys seen slot key r in
-    record {
-      places = places (home_by mask next) (kept_keys keys);
-      place = record { home = home_by mask next key; order = key.order };
-      are = w.are;
-      low = omega (arith, w.slots);
-      in_place = ap (place_of (home_by mask next)) (held_key keys seen slot key r low);
-    }
+    record { places = places (home_by next) (kept_keys keys); are = w.are; low = omega (arith, w.slots) }
 
 -- one row at least is counted
-pub count_holds : (mask next count : ℕ) (keys : List Key) (chains : Rings) (seen : List (Option Key)) (slot : ℕ) (key : Key)
-    → IsWheel mask next count keys chains → Reads keys seen slot key → key.deadline < 2 ^ 64 - 1 → 1 ≤ count
-count_holds mask next count keys chains seen slot key w r low =
+pub count_holds : (next count : ℕ) (keys : List Key) (chains : Rings) (seen : List (Option Key)) (slot : ℕ) (key : Key)
+    → IsWheel next count keys chains → Reads keys seen slot key → key.deadline < 2 ^ 64 - 1 → 1 ≤ count
+count_holds next count keys chains seen slot key w r low =
     let n : slot < length (kept_keys keys) =
     omega (arith, length-map keys kept, in_keys keys seen slot key r) in
     omega (arith, w.counts, counts_less (kept_keys keys) slot key n (held_key keys seen slot key r low))
 
 -- the wheel with a row taken out
-pub removed_wheel : (mask next count : ℕ) (keys : List Key) (chains new : Rings) (seen : List (Option Key)) (slot : ℕ)
-    (key gone : Key) → IsWheel mask next count keys chains → Reads keys seen slot key → key.deadline < 2 ^ 64 - 1
+pub removed_wheel : (next count : ℕ) (keys : List Key) (chains new : Rings) (seen : List (Option Key)) (slot : ℕ)
+    (key gone : Key) → IsWheel next count keys chains → Reads keys seen slot key → key.deadline < 2 ^ 64 - 1
     → 2 ^ 64 - 1 ≤ gone.deadline → new.slots ≡ chains.slots → new.homes ≡ chains.homes → Takes chains new slot
-    → IsWheel mask next (count - 1) (set keys slot gone) new
-removed_wheel mask next count keys chains new seen slot key gone w r low high slots homes takes =
+    → IsWheel next (count - 1) (set keys slot gone) new
+removed_wheel next count keys chains new seen slot key gone w r low high slots homes takes =
     let n : slot < length (kept_keys keys) =
     omega (arith, length-map keys kept, in_keys keys seen slot key r) in
     let held : key_in (kept_keys keys) slot ≡ Some key = held_key keys seen slot key r low in
     let written : kept_keys (set keys slot gone) ≡ set (kept_keys keys) slot None =
     kept_set keys slot gone None (kept_high gone high) in
-    let h : Key → ℕ = home_by mask next in
+    let h : Key → ℕ = home_by next in
     let less : count_by is_some (set (kept_keys keys) slot None) + 1 ≡ count_by is_some (kept_keys keys) =
     counts_less (kept_keys keys) slot key n held in
     let counted : count - 1 ≡ count_by is_some (set (kept_keys keys) slot None) = omega (arith, w.counts) in
     record {
       slots = length-set keys slot gone ∙ w.slots ∙ sym slots;
       few = omega (arith, length-set keys slot gone, w.few);
-      homes = w.homes ∙ sym homes;
-      power = w.power;
+      homes = homes ∙ w.homes;
       time = w.time;
       counts = counted ∙ ap (count_by is_some) (sym written);
       are = subst (λ (s : List (Option Key)). AreChains new (places h s)) (sym written)
           (chains_set new h (kept_keys keys) slot None n
-          (takes (places h (kept_keys keys)) (record { home = h key; order = key.order }) w.are
-          (ap (place_of h) held)));
+          (takes (places h (kept_keys keys)) w.are));
     }
 
 -- and as it is seen
@@ -179,31 +172,36 @@ vacant_view keys seen slot key r high =
     let same : key_in seen slot ≡ None = subst (λ (s : List (Option Key)). key_in s slot ≡ None) r.is none in
     sym (set-get_or seen slot None) ∙ ap (set seen slot) same
 
--- no row changes its place where all that is passed is gone
-passed_place : (mask next next' to : ℕ) (key : Option Key) → IfSome key (λ k. to < k.deadline) → next ≤ next'
-    → next' ≤ max next (to + 1) → place_of (home_by mask next') key ≡ place_of (home_by mask next) key
-passed_place mask next next' to None h up low = refl
-passed_place mask next next' to (Some k) h up low =
-    let e : max k.deadline next' ≡ max k.deadline next = omega arith in
-    ap (λ n. Some (record { home = bucket_of mask n; order = k.order })) e
-
-pub passed_wheel : (mask next next' to count : ℕ) (keys : List Key) (chains : Rings) (seen : List (Option Key))
-    → IsWheel mask next count keys chains → kept_keys keys ≡ seen
+-- time may move on where all that is passed is gone
+pub may_move : (next next' to count : ℕ) (keys : List Key) (chains : Rings) (seen : List (Option Key)) (d : Key)
+    → IsWheel next count keys chains → kept_keys keys ≡ seen
     → ((j : ℕ) → IfSome (key_in seen j) (λ key. to < key.deadline)) → next ≤ next' → next' ≤ max next (to + 1)
-    → next' < 2 ^ 64 - 1 → IsWheel mask next' count keys chains
-passed_wheel mask next next' to count keys chains seen w is none up low fits =
+    → MayMove chains (kept_keys keys) next next'
+may_move next next' to count keys chains seen d w is none up low =
     let at : (j : ℕ) → IfSome (key_in (kept_keys keys) j) (λ key. to < key.deadline) =
     subst (λ (s : List (Option Key)). (j : ℕ) → IfSome (key_in s j) (λ key. to < key.deadline)) (sym is) none in
     record {
-      slots = w.slots;
-      few = w.few;
+      slots = length-map keys kept ∙ w.slots;
       homes = w.homes;
-      power = w.power;
-      time = fits;
-      counts = w.counts;
-      are = subst (λ (p : ℕ → Option Place). AreChains chains p)
-          (λ i j. sym (passed_place mask next next' to (key_in (kept_keys keys) j) (at j) up low) i) w.are;
+      are = w.are;
+      up = up;
+      low = λ j key has. (kept_in keys j d key has).2;
+      left = λ j key has.
+          let later : to < key.deadline = subst (λ (o : Option Key). IfSome o (λ k. to < k.deadline)) has (at j) in
+          omega arith;
     }
+
+pub moved_wheel : (next next' count : ℕ) (keys : List Key) (chains new : Rings) → IsWheel next count keys chains
+    → next' < 2 ^ 64 - 1 → new.slots ≡ chains.slots → new.homes ≡ chains.homes
+    → AreChains new (places (home_by next') (kept_keys keys)) → IsWheel next' count keys new
+moved_wheel next next' count keys chains new w fits slots homes are = record {
+  slots = w.slots ∙ sym slots;
+  few = w.few;
+  homes = homes ∙ w.homes;
+  time = fits;
+  counts = w.counts;
+  are = are;
+}
 
 -- a wheel whose due rows were taken out has left what isn't due
 pub record TakesOut (old now : List (Option Key)) (rows : List Row) : Type 0 where

@@ -39,7 +39,16 @@ pub record Spliced (after before after' before' : ℕ → ℕ) (head slot : ℕ)
   pub others_after : (x : ℕ) → x ≢ slot → x ≢ head → after' x ≡ after x
   pub others_before : (x : ℕ) → x ≢ slot → x ≢ after head → before' x ≡ before x
 
--- the two neighbours of a slot become neighbours
+-- a node is alone in its ring
+pub record Alone (after before : ℕ → ℕ) (x : ℕ) : Type 0 where
+  pub forth : after x ≡ x
+  pub back : before x ≡ x
+
+-- the two neighbours of a slot become neighbours, and it is left alone. Where it was alone nothing changes
 pub record Unspliced (after before after' before' : ℕ → ℕ) (slot : ℕ) : Type 0 where
-  pub forth : Changed after after' (before slot) (after slot)
-  pub back : Changed before before' (after slot) (before slot)
+  pub slot_after : after' slot ≡ slot
+  pub slot_before : before' slot ≡ slot
+  pub prev_after : before slot ≢ slot → after' (before slot) ≡ after slot
+  pub next_before : after slot ≢ slot → before' (after slot) ≡ before slot
+  pub others_after : (x : ℕ) → x ≢ slot → x ≢ before slot → after' x ≡ after x
+  pub others_before : (x : ℕ) → x ≢ slot → x ≢ after slot → before' x ≡ before x

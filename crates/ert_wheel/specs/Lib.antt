@@ -1,4 +1,5 @@
 pub mod Chained
+pub mod Levels
 pub mod Links
 pub mod NextDue
 pub mod Rings

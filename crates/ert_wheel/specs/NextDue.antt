@@ -46,8 +46,16 @@ pub record MayWalk (chains : Rings) (keys : List (Option Key)) : Type 0 where
   pub home : Key → ℕ
   pub are : AreChains chains (places home keys)
 
+-- some row of a bucket is due at a time
+pub record IsDueIn (keys : List (Option Key)) (home : Key → ℕ) (bucket time : ℕ) : Type 0 where
+  pub slot : ℕ
+  pub key : Key
+  pub has : key_in keys slot ≡ Some key
+  pub at_home : home key ≡ bucket
+  pub at : key.deadline ≡ time
+
 -- the least deadline of a bucket's rows and a bound
 pub record IsLeastIn (keys : List (Option Key)) (home : Key → ℕ) (bucket bound least : ℕ) : Type 0 where
   pub low : least ≤ bound
   pub below : (slot : ℕ) (key : Key) → key_in keys slot ≡ Some key → home key ≡ bucket → least ≤ key.deadline
-  pub near : IsDueAt keys least ⊎ (least ≡ bound)
+  pub near : IsDueIn keys home bucket least ⊎ (least ≡ bound)

@@ -1,8 +1,8 @@
 -- Chains of slots, for whoever knows where each slot belongs.
 
-use Rattle.std.specs.Prelude.{◌≡◌, ℕ, ◌+◌, ◌-◌, ◌<◌, ◌≤◌, ◌^◌, List, Option, Some, None, nat_lt, nat_eq, if◌then◌else◌, length, IfSome}
+use Rattle.std.specs.Prelude.{◌≡◌, ◌≢◌, ℕ, ◌+◌, ◌-◌, ◌<◌, ◌≤◌, ◌^◌, List, Option, Some, None, nat_lt, nat_eq, if◌then◌else◌, length, IfSome}
 use Rattle.std.specs.Option.{is_some}
-use Rattle.ert_wheel.specs.Chained.{Shape, Chained}
+use Rattle.ert_wheel.specs.Chained.{Shape, Chained, Alone}
 use Rattle.ert_wheel.specs.Links.{next_at, prev_at}
 use Rattle.ert_wheel.specs.declared.links.Link.{Link}
 
@@ -46,11 +46,13 @@ shape slots homes places = record {
   low = by_node slots (λ p. order_of p + 1) (λ _. 0) places;
 }
 
--- the chain of each home has just the slots whose place it is, from the greatest order to the least
+-- the chain of each home has just the slots whose place it is, from the greatest order to the least, and a slot
+-- without a place is in none
 pub record AreChains (r : Rings) (places : ℕ → Option Place) : Type 0 where
   pub orders : (j : ℕ) (p : Place) → places j ≡ Some p → p.order < 2 ^ 64
   pub once : (i j : ℕ) (p q : Place) → places i ≡ Some p → places j ≡ Some q → p.order ≡ q.order → i ≡ j
   pub chained : Chained (shape r.slots r.homes places) (next_at r.links) (prev_at r.links)
+  pub alone : (j : ℕ) → j < r.slots → places j ≡ None → Alone (next_at r.links) (prev_at r.links) j
 
 -- the places, with another at one slot
 abbrev pub with_place : (ℕ → Option Place) → ℕ → Option Place → ℕ → Option Place
@@ -71,19 +73,25 @@ Puts old new slot home =
     → ((j : ℕ) (p : Place) → places j ≡ Some p → p.order < order)
     → AreChains new (with_place places slot (Some (record { home = home; order = order })))
 
--- some assignment fits, and in it the slot has a place
+-- in every assignment that fits, the slot gets this home, with any order that no other slot has and that is
+-- above all others of the home
+abbrev pub PutsInHome : Rings → Rings → ℕ → ℕ → Type 0
+PutsInHome old new slot home =
+    (places : ℕ → Option Place) (order : ℕ) → AreChains old places → places slot ≡ None → order < 2 ^ 64
+    → ((j : ℕ) (p : Place) → places j ≡ Some p → p.order ≢ order)
+    → ((j : ℕ) (p : Place) → places j ≡ Some p → p.home ≡ home → p.order < order)
+    → AreChains new (with_place places slot (Some (record { home = home; order = order })))
+
+-- some assignment fits
 pub record MayTake (r : Rings) (slot : ℕ) : Type 0 where
   pub places : ℕ → Option Place
-  pub place : Place
   pub are : AreChains r places
   pub low : slot < r.slots
-  pub in_place : places slot ≡ Some place
 
--- in every assignment that fits, the slot gives its place up
+-- in every assignment that fits, the slot gives its place up, where it has one
 abbrev pub Takes : Rings → Rings → ℕ → Type 0
 Takes old new slot =
-    (places : ℕ → Option Place) (place : Place) → AreChains old places → places slot ≡ Some place
-    → AreChains new (with_place places slot None)
+    (places : ℕ → Option Place) → AreChains old places → AreChains new (with_place places slot None)
 
 -- a slot stands in the chain of a home
 pub record StandsIn (places : ℕ → Option Place) (home slot : ℕ) : Type 0 where
@@ -106,3 +114,10 @@ pub record Finds (r : Rings) (places : ℕ → Option Place) (home bound : ℕ) 
   pub down : bound_of places found ≤ bound
   pub greatest : (j : ℕ) (p : Place) → j < r.slots → places j ≡ Some p → p.home ≡ home → p.order < bound
       → p.order < bound_of places found
+
+-- the slot of a home with the least order, or none
+pub record FindsOldest (r : Rings) (places : ℕ → Option Place) (home : ℕ) (found : Option ℕ) : Type 0 where
+  pub stands : IfSome found (λ slot. (slot < r.slots) × StandsIn places home slot)
+  pub least : IfSome found (λ slot. (j : ℕ) (p : Place) → j < r.slots → places j ≡ Some p → p.home ≡ home
+      → order_of (places slot) ≤ p.order)
+  pub none : found ≡ None → (j : ℕ) (p : Place) → j < r.slots → places j ≡ Some p → p.home ≢ home

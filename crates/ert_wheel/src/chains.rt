@@ -29,7 +29,7 @@ impl Model for Chains {
 
 impl Chains {
     ghost use Rattle.std.specs.Prelude.{◌≡◌, ◌+◌, ◌<◌, ◌^◌, ℕ, Option, Some, None, IfOk};
-    ghost use Rattle.ert_wheel.specs.Rings.{Place, AreChains, MayPut, Puts, MayTake, Takes, Finds, slot_at};
+    ghost use Rattle.ert_wheel.specs.Rings.{Place, AreChains, MayPut, Puts, PutsInHome, MayTake, Takes, Finds, FindsOldest, slot_at};
 
     /// All chains empty. No call takes memory after this.
     pub fn new(alloc: Global, slots: u32, homes: u32) -> Result<Chains, NoMemory>
@@ -52,12 +52,13 @@ impl Chains {
         ensures slots { self.new.slots ≡ self.old.slots }
         ensures homes { self.new.homes ≡ self.old.homes }
         ensures chains { Puts self.old self.new slot home }
+        ensures in_home { PutsInHome self.old self.new slot home }
     {
         let head = self.slots + home;
         link_in(&mut self.links, head, slot);
     }
 
-    /// Takes a slot out of its chain.
+    /// Takes a slot out of its chain, where it is in one.
     pub fn take(&mut self, slot: u32)
         requires { MayTake self.old slot }
         ensures slots { self.new.slots ≡ self.old.slots }
@@ -75,6 +76,16 @@ impl Chains {
     {
         let head = self.slots + home;
         self.slot_at(self.links[head as usize].next)
+    }
+
+    /// The oldest slot of a home; None where it has none.
+    pub fn oldest(&self, home: u32) -> Option<u32>
+        requires { home < self.now.homes }
+        ensures { (places : ℕ → Option Place) → AreChains self.now places
+            → FindsOldest self.now places home result }
+    {
+        let head = self.slots + home;
+        self.slot_at(self.links[head as usize].prev)
     }
 
     /// The slot that is next older than this one in its chain; None where there is none.

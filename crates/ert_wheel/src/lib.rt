@@ -1,25 +1,40 @@
-//! The hashed timing wheel: the rows of a scheduler's timers by their slots, and the due ones in order of
+//! The timing wheel of levels: the rows of a scheduler's timers by their slots, and the due ones in order of
 //! deadline. It stands on `ert_defs` for want of memory alone.
 //!
 //! **Chains** (`Chains`). Each slot is in the chain of one home, or in none. A chain is a ring of links
-//! through its home's head, and the heads stand behind the slots in the same vector. So putting a slot in
-//! writes four links and taking it out two, with no case for an empty chain, a first or a last slot. A
-//! chain runs from its newest slot to its oldest. `Chains` keeps links and nothing else: its owner knows
+//! through its home's head, and the heads stand behind the slots in the same vector. A slot in no chain is alone
+//! in a ring of its own. So putting a slot in writes four links, as does taking it out, with no case for an
+//! empty chain, a first or a last slot, or a slot in none. A chain runs from its newest slot to its oldest. `Chains` keeps links and nothing else: its owner knows
 //! where each slot belongs, and its contract speaks of every assignment of places that fits.
 //!
-//! **Buckets** (`Wheel`). The homes of a wheel's chains are its buckets. The bucket of a row is the low
-//! bits of its deadline, or of the first time that wasn't passed, where the deadline was. There are a
-//! power of two of buckets, at least as many as slots: then a bucket has one row or so, however many there
-//! are, and a step of time looks at one that isn't due once in a while. With fewer buckets, each row is
-//! met once in every round, and each time is a miss of the cache: 1,024 buckets took 24 times as long.
+//! **Levels** (`Wheel`). The homes of a wheel's chains are its buckets, 512 on each of eight levels. A bucket of
+//! the lowest level is a millisecond; one of the next is a window of 512 milliseconds, and so on: a bucket is as
+//! wide as all of the level below. A row's home is told by its deadline and by the next time, the first that
+//! wasn't passed: the lowest level in which both stand in one window, and there the deadline's place. With the
+//! next time at 1,000:
 //!
-//! **At rest** a slot takes 32 to 40 bytes: 16 of key, 8 of link, and 8 for each bucket. All is taken when
-//! the wheel is made, and no call takes memory after that.
+//!     level   a bucket is       those that are in use                deadlines
+//!     0       1 ms              488 .. 511, of window 1 of level 1   1,000 .. 1,023
+//!     1       512 ms            2 .. 511, of window 0 of level 2     1,024 .. 262,143
+//!     2       262,144 ms        1 .. 511, of window 0 of level 3     262,144 .. 134,217,727
+//!     ...
 //!
-//! **A step of time** visits the buckets of the times from the first that wasn't passed: one for a
-//! millisecond. It costs in proportion to these buckets and the rows in them. Where time leaps by more than
-//! all buckets, each is visited once. Moving on moves no row, since what is left has its own deadline's
-//! bucket before and after.
+//! The number of a bucket is its level times 512 and its place, so later times have higher numbers, or the same.
+//! A row that is late has the bucket of the next time itself. Eight levels are for any deadline of 64 bits.
+//!
+//! **A cascade.** When time moves on to another window, the rows that are left have their homes by a new next
+//! time. Those of one bucket alone change, however far time leaps: of the bucket in which the new next time stood.
+//! That bucket is emptied, from the oldest row to the newest, into the levels below, whose buckets were empty until
+//! then; so each chain stays in order of start. This is once in 512 milliseconds for a bucket of level 1, once in
+//! 262,144 for one of level 2, and so on. A row moves at most once for each level, and a move costs as much
+//! as a start does in the wheel, with two misses of the caches where there are many rows. All rows of a bucket
+//! move in the one advance that comes into its window.
+//!
+//! **A step of time** visits one bucket for a millisecond. Where time leaps it visits those up to the bucket of the
+//! time that it leaps to, at most all 4,096.
+//!
+//! **At rest** a slot takes 24 bytes: 16 of key and 8 of link; and a wheel 32 KiB for its heads. All is taken
+//! when the wheel is made, and no call takes memory after that.
 //!
 //! `due` gives the due rows and leaves them, so that the part above can settle and `remove` them one by
 //! one, and then tell by `pass` that nothing is left; `advance` does all three. What they answer is said

@@ -43,7 +43,8 @@ pub fn link_in(links: &mut [Link], head: u32, slot: u32)
     set_next(links, head, slot);
 }
 
-/// Makes the two neighbours of a slot neighbours of each other.
+/// Makes the two neighbours of a slot neighbours of each other, and leaves the slot alone. Where it was alone
+/// nothing changes.
 pub fn unlink(links: &mut [Link], slot: u32)
     requires slot { slot < length links.old }
     requires next { next_at links.old slot < length links.old }
@@ -54,6 +55,8 @@ pub fn unlink(links: &mut [Link], slot: u32)
     let Link { next, prev } = links[slot as usize];
     set_next(links, prev, next);
     set_prev(links, next, prev);
+    set_next(links, slot, slot);
+    set_prev(links, slot, slot);
 }
 
 fn set_next(links: &mut [Link], node: u32, next: u32)

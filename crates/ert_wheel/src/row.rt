@@ -4,6 +4,9 @@ pub const VACANT: u64 = u64::MAX;
 /// The greatest deadline that a row can have.
 pub const LAST: u64 = VACANT - 1;
 
+/// How many buckets a wheel has: 512 on each of eight levels.
+pub const BUCKETS: u32 = 4_096;
+
 /// What a wheel keeps of a row.
 #[derive(Clone, Copy, Debug, PartialEq, Eq)]
 pub struct Key {

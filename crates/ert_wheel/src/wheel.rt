@@ -1,17 +1,16 @@
 ghost use Rattle.std.specs.Prelude.{◌≡◌, IfOk, replicate};
 
 use crate::chains::Chains;
-use crate::row::{Key, LAST, Row, VACANT};
-use crate::walk::{bucket, collect, least_in, visit_end};
+use crate::row::{BUCKETS, Key, LAST, Row, VACANT};
+use crate::walk::{bucket, collect, least_in, move_on, visit_end};
 use ert_defs::NoMemory;
 use std::alloc::Global;
 use std::marker::Model;
 
-/// How far `Wheel::next_due` looks ahead, in milliseconds. It looks at a bucket for each, and the heads of
-/// so many buckets are some pages of memory, which a call passes over in about a microsecond.
+/// How far `Wheel::next_due` looks ahead, in milliseconds: over three windows of the lowest level at most.
 pub const LOOK_AHEAD: u64 = 1_024;
 
-/// A hashed timing wheel: rows by their slots, and the due ones in order of deadline.
+/// A timing wheel of levels: rows by their slots, and the due ones in order of deadline.
 ///
 /// It has room for one row of each slot below a number that is fixed when it is made, and takes no
 /// memory after that. A contract sees it as the list of the slots' keys, with None for a slot without a
@@ -23,9 +22,7 @@ pub const LOOK_AHEAD: u64 = 1_024;
 ///     wheel.advance(20, &mut due);        // gives that row, and takes it out
 #[derive(Drop)]
 pub struct Wheel {
-    // A time's bucket is its low bits, which this masks.
-    mask: u32,
-    // The first time that wasn't passed.
+    // The next time: the first that wasn't passed.
     next_time: u64,
     len: u32,
     keys: Vec<Key>,
@@ -41,7 +38,7 @@ impl Model for Wheel {
 
     ghost view = { λ w. kept_keys w.keys.items };
 
-    ghost invariant = { λ w. IsWheel w.mask w.next_time w.len w.keys.items w.chains };
+    ghost invariant = { λ w. IsWheel w.next_time w.len w.keys.items w.chains };
 }
 
 impl Wheel {
@@ -56,11 +53,9 @@ impl Wheel {
         requires { slots ≤ 2 ^ 30 }
         ensures { IfOk result (λ wheel. wheel ≡ replicate slots None) }
     {
-        let buckets = slots.next_power_of_two();
         let keys = no_keys(alloc, slots)?;
-        let chains = Chains::new(alloc, slots, buckets)?;
+        let chains = Chains::new(alloc, slots, BUCKETS)?;
         Ok(Wheel {
-            mask: buckets - 1,
             next_time: 0,
             len: 0,
             keys,
@@ -110,7 +105,7 @@ impl Wheel {
             order,
             slot,
         } = row;
-        let home = bucket(self.mask, deadline.max(self.next_time));
+        let home = bucket(self.next_time, deadline.max(self.next_time));
         self.chains.put(slot, home);
         self.keys[slot as usize] = Key { deadline, order };
         self.len += 1;
@@ -141,8 +136,9 @@ impl Wheel {
         ensures capacity { vec_capacity out.new ≡ vec_capacity out.old }
     {
         out.clear();
-        for time in self.next_time..visit_end(self.mask, self.next_time, to) {
-            collect(&self.chains, &self.keys, bucket(self.mask, time), to, out);
+        let first = bucket(self.next_time, self.next_time);
+        for home in first..visit_end(self.next_time, to) {
+            collect(&self.chains, &self.keys, home, to, out);
         }
         out.sort_unstable();
     }
@@ -152,7 +148,7 @@ impl Wheel {
     /// No row has an earlier deadline. The answer is the least deadline where that is at most `LOOK_AHEAD`
     /// milliseconds after `now`, and else this end of the look ahead, so that whoever sleeps until then looks
     /// again. It visits the buckets of the times that weren't passed, as `due` does, and stops at the first
-    /// row that it can tell.
+    /// that has a row before this end; there it looks at all rows.
     pub fn next_due(&self, now: u64) -> Option<u64>
         ensures { MatchOption result (NoRow self.now) (IsNextDue self.now now) }
     {
@@ -169,23 +165,27 @@ impl Wheel {
         ensures near { IsDueAt self.now result ⊎ (result ≡ bound) }
     {
         let mut least = bound;
-        for time in self.next_time..visit_end(self.mask, self.next_time, bound) {
-            least = least_in(&self.chains, &self.keys, bucket(self.mask, time), least);
-            if least <= time {
+        let first = bucket(self.next_time, self.next_time);
+        for home in first..visit_end(self.next_time, bound) {
+            least = least_in(&self.chains, &self.keys, home, least);
+            if least < bound {
                 return least;
             }
         }
         least
     }
 
-    /// Tells that nothing is left up to `to`: no later call looks at a time up to it again.
+    /// Tells that nothing is left up to `to`: no later call looks at a time up to it again. Where this comes into
+    /// another window of the lowest level, the rows of one bucket move to levels below.
     ///
     /// A wheel that isn't told so gives the same rows, but looks at more and more buckets.
     pub fn pass(&mut self, to: u64)
         requires { (slot : ℕ) → IfSome (key_in self.old slot) (λ key. to < key.deadline) }
         ensures { self.new ≡ self.old }
     {
-        self.next_time = self.next_time.max(to.min(LAST - 1) + 1);
+        let next_time = self.next_time.max(to.min(LAST - 1) + 1);
+        move_on(&mut self.chains, &self.keys, self.next_time, next_time);
+        self.next_time = next_time;
     }
 
     /// Takes the rows with a deadline at most `to` out, and writes them into `out` as `due` does.

@@ -1,8 +1,14 @@
 use Rattle.std.proofs.Common.{arith}
-use Rattle.ert_wheel.proofs.Times.{spans}
+use Rattle.ert_wheel.proofs.Levels.{home_up}
 use Rattle.ert_wheel.proofs.walk.visit_end.Goals as goal
 
 pub returns : goal.returns
 returns c =
-    spans c.args.mask c.args.next_time c.args.to c.max-last.result _ c.requires.power c.requires.time
-    (omega (arith, c.max-last.ensures, c.min.ensures)) (omega arith)
+    let next = c.args.next_time in
+    let last = c.max.result in
+    record {
+      ordered = omega (arith, c.bucket.ensures.is, home_up 7 next next last (omega arith) (omega (arith, c.max.ensures)));
+      in_range = omega (arith, c.bucket.ensures.low);
+      covers = λ time up low below.
+          omega (arith, c.bucket.ensures.is, home_up 7 next time last up (omega (arith, c.max.ensures, c.min.ensures)));
+    }

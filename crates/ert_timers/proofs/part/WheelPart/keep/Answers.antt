@@ -1,9 +1,9 @@
-use Rattle.std.proofs.Common.{◌≡◌, ◌+◌, ◌<◌, List, Option, refl, sym, subst, set, arith}
+use Rattle.std.proofs.Common.{◌≡◌, ◌+◌, ◌<◌, List, length, Option, refl, sym, subst, ◌∙◌, set, arith}
 use Rattle.ert_timers.specs.Changes.{IsFree, slot_for}
 use Rattle.ert_timers.specs.Parts.{Part, AreFit, slot_at}
 use Rattle.ert_timers.specs.declared.part.Slot.{Slot}
-use Rattle.ert_timers.proofs.Fit.{armed_few}
-use Rattle.ert_timers.proofs.Keeping.{orders_if, slot_read, fit_kept}
+use Rattle.ert_timers.proofs.Fit.{armed_few, may_leave}
+use Rattle.ert_timers.proofs.Keeping.{orders_if, slot_read, fit_kept, may_keep}
 use Rattle.ert_timers.proofs.part.WheelPart.keep.Goals as goal
 use Rattle.ert_wheel.specs.declared.row.Key.{Key}
 
@@ -11,6 +11,20 @@ pub overflow_add-self : goal.overflow_add-self
 overflow_add-self c =
     let p = c.self.inside in
     omega (arith, armed_few p.processes p.slots.items p.wheel p.free p.owners p.arms p.expires p.orphans c.self.invariant)
+
+pub take-requires : goal.take-requires
+take-requires c =
+    let p = c.self.inside in
+    may_leave p.processes p.slots.items p.wheel p.free p.owners p.arms p.expires p.orphans c.args.slot c.self.invariant
+    (subst (λ (q : Part). c.args.slot < length q.slots) (sym c.self.view_is) c.requires.free.low)
+
+pub put-requires : goal.put-requires
+put-requires c =
+    let p = c.self.inside in
+    may_keep p.processes p.slots.items p.wheel p.free p.owners c.take.new.self p.arms p.expires p.orphans c.args.slot c.args.start.now.dest
+    c.self.invariant (subst (λ (q : Part). c.args.slot < length q.slots) (sym c.self.view_is) c.requires.free.low)
+    (subst (λ (q : Part). c.args.start.now.dest < q.processes) (sym c.self.view_is) c.requires.dest) c.take.ensures.slots
+    c.take.ensures.homes c.take.ensures.chains
 
 pub insert-requires-clause-newest : goal.insert-requires-clause-newest
 insert-requires-clause-newest c = orders_if c.self.inside.wheel c.self.inside.arms c.self.invariant.orders
@@ -37,5 +51,6 @@ invariant_of-self c =
     (p.arms + 1) p.expires p.orphans) read
     (subst (λ (keys : List (Option Key)). AreFit p.processes (set p.slots.items k (slot_for ((slot_at p.slots.items k).generation + 1) start)) keys
     p.free c.put.new.self (p.arms + 1) p.expires p.orphans) (sym c.insert.ensures)
-    (fit_kept seen p.free p.owners c.put.new.self k start c.args.deadline c.self.invariant refl free dest c.put.ensures.slots
-    c.put.ensures.homes c.put.ensures.chains))
+    (fit_kept seen p.free p.owners c.take.new.self c.put.new.self k start c.args.deadline c.self.invariant refl free dest
+    (c.put.ensures.slots ∙ c.take.ensures.slots) (c.put.ensures.homes ∙ c.take.ensures.homes) c.take.ensures.chains
+    c.put.ensures.chains))

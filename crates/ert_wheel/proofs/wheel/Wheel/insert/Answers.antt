@@ -6,18 +6,18 @@ use Rattle.ert_wheel.specs.Wheels.{bucket_of}
 pub put-requires : goal.put-requires
 put-requires c =
     let w = c.self.inside in
-    may_put w.mask w.next_time w.len w.keys.items w.chains c.args.self.now c.args.row.slot c.max.result c.bucket-home.result c.self.invariant c.self.view_is c.requires.slot c.requires.vacant c.bucket-home.ensures
+    may_put w.next_time w.len w.keys.items w.chains c.args.self.now c.args.row.slot c.bucket-home.result c.self.invariant c.self.view_is c.requires.slot c.requires.vacant c.bucket-home.ensures.low
 
 pub overflow_add-self : goal.overflow_add-self
 overflow_add-self c =
     let w = c.self.inside in
-    let fits = count_fits w.mask w.next_time w.len w.keys.items w.chains c.args.self.now c.args.row.slot (record { deadline = 0; order = 0 }) c.self.invariant c.self.view_is c.requires.slot c.requires.vacant in
+    let fits = count_fits w.next_time w.len w.keys.items w.chains c.args.self.now c.args.row.slot (record { deadline = 0; order = 0 }) c.self.invariant c.self.view_is c.requires.slot c.requires.vacant in
     search (rules, fits)
 
 pub invariant_of-self : goal.invariant_of-self
 invariant_of-self c =
     let w = c.self.inside in
-    inserted_wheel w.mask w.next_time w.len w.keys.items w.chains c.put.new.self c.args.self.now c.args.row.slot
+    inserted_wheel w.next_time w.len w.keys.items w.chains c.put.new.self c.args.self.now c.args.row.slot
     (record { deadline = c.args.row.deadline; order = c.args.row.order }) c.bucket-home.result c.self.invariant c.self.view_is
     (record {
       low = c.requires.slot;
@@ -26,7 +26,7 @@ invariant_of-self c =
       order = omega arith;
       newest = c.requires.newest;
     })
-    (c.bucket-home.ensures ∙ ap (bucket_of w.mask) c.max.ensures) c.put.ensures.slots c.put.ensures.homes c.put.ensures.chains
+    (c.bucket-home.ensures.is ∙ ap (bucket_of w.next_time) c.max.ensures) c.put.ensures.slots c.put.ensures.homes c.put.ensures.chains
 
 pub returns : goal.returns
 returns c =

@@ -10,19 +10,19 @@ returns-then-index-clause-left c =
 pub take-requires : goal.take-requires
 take-requires c =
     let w = c.self.inside in
-    may_take w.mask w.next_time w.len w.keys.items w.chains c.args.self.now c.args.slot c.index.result.now c.self.invariant
-    (record { is = c.self.view_is; low = c.requires; read = c.index.ensures }) (omega arith)
+    may_take w.next_time w.len w.keys.items w.chains c.args.self.now c.args.slot c.index.result.now c.self.invariant
+    (record { is = c.self.view_is; low = c.requires; read = c.index.ensures })
 
 pub overflow_sub-self : goal.overflow_sub-self
 overflow_sub-self c =
     let w = c.self.inside in
-    count_holds w.mask w.next_time w.len w.keys.items w.chains c.args.self.now c.args.slot c.index.result.now c.self.invariant
+    count_holds w.next_time w.len w.keys.items w.chains c.args.self.now c.args.slot c.index.result.now c.self.invariant
     (record { is = c.self.view_is; low = c.requires; read = c.index.ensures }) (omega arith)
 
 pub invariant_of-self : goal.invariant_of-self
 invariant_of-self c =
     let w = c.self.inside in
-    removed_wheel w.mask w.next_time w.len w.keys.items w.chains c.take.new.self c.args.self.now c.args.slot c.index.result.now
+    removed_wheel w.next_time w.len w.keys.items w.chains c.take.new.self c.args.self.now c.args.slot c.index.result.now
     (record { deadline = 2 ^ 64 - 1; order = c.index_mut.result.now.order }) c.self.invariant
     (record { is = c.self.view_is; low = c.requires; read = c.index.ensures }) (omega arith) (omega arith)
     c.take.ensures.slots c.take.ensures.homes c.take.ensures.chains

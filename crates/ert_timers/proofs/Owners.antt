@@ -1,0 +1,152 @@
+-- The chains of the processes: a row is found, and slots without a row leave.
+
+use Rattle.std.proofs.Common.{◌≡◌, ◌≢◌, ℕ, zero, suc, ◌+◌, ◌^◌, ◌<◌, ◌≤◌, cond, nat_eq, List, length, Option, Some, None, IfSome, option_map, refl, sym, ap, subst, ◌∙◌, arith, inl, inr}
+use Rattle.std.proofs.lemmas.Bool.{cases_eq, eq-eqb, ne_eqb}
+use Rattle.ert_timers.specs.Owners.{MayThin, Thinned, IsIn, FindsRow}
+use Rattle.ert_wheel.proofs.Collect.{key_low}
+use Rattle.ert_wheel.proofs.Parts.{IsSlot, slot_is, with_place_here, with_place_there}
+use Rattle.ert_wheel.specs.Chained.{Shape}
+use Rattle.ert_wheel.specs.Links.{next_at}
+use Rattle.ert_wheel.specs.Rings.{Rings, Place, AreChains, StandsIn, Finds, Takes, MayTake, shape, with_place}
+use Rattle.ert_wheel.specs.Rows.{key_in, row_at, key_of}
+use Rattle.ert_wheel.specs.declared.row.Key.{Key}
+use Rattle.ert_wheel.specs.declared.row.Row.{Row}
+
+-- how many slots aren't alone
+unfoldable pub linked_below : (ℕ → ℕ) → ℕ → ℕ
+linked_below next zero = 0
+linked_below next (suc n) = cond (nat_eq (next n) n) 0 1 + linked_below next n
+
+abbrev pub linked : Rings → ℕ
+linked r = linked_below (next_at r.links) r.slots
+
+linked_none : (next : ℕ → ℕ) → linked_below next zero ≡ 0
+unfolding linked_below
+linked_none next = refl
+
+linked_same : (next : ℕ → ℕ) (n : ℕ) → next n ≡ n → linked_below next (suc n) ≡ 0 + linked_below next n
+unfolding linked_below
+linked_same next n e = ap (λ b. cond b 0 1 + linked_below next n) (eq-eqb (next n) n e)
+
+linked_more : (next : ℕ → ℕ) (n : ℕ) → next n ≢ n → linked_below next (suc n) ≡ 1 + linked_below next n
+unfolding linked_below
+linked_more next n ne = ap (λ b. cond b 0 1 + linked_below next n) (ne_eqb (next n) n ne)
+
+-- where each slot that was alone is, no more are linked
+step : (f g : ℕ → ℕ) (n fewer : ℕ) → (g n ≡ n → f n ≡ n) → linked_below f n + fewer ≤ linked_below g n
+    → linked_below f (suc n) + fewer ≤ linked_below g (suc n)
+step f g n fewer stays below =
+    elim (cases_eq (g n) n) [
+      | inl e ↦ omega (arith, linked_same g n e, linked_same f n (stays e))
+      | inr ne ↦ elim (cases_eq (f n) n) [
+        | inl e ↦ omega (arith, linked_more g n ne, linked_same f n e)
+        | inr nf ↦ omega (arith, linked_more g n ne, linked_more f n nf)
+      ]
+    ]
+
+no_more : (f g : ℕ → ℕ) (n : ℕ) → ((j : ℕ) → j < n → g j ≡ j → f j ≡ j) → linked_below f n + 0 ≤ linked_below g n
+no_more f g zero stays = omega (arith, linked_none f, linked_none g)
+no_more f g (suc n) stays =
+    step f g n 0 (stays n (omega arith)) (no_more f g n (λ j low. stays j (omega arith)))
+
+-- and where one more is, one fewer is linked
+one_less : (f g : ℕ → ℕ) (n k : ℕ) → ((j : ℕ) → j < n → g j ≡ j → f j ≡ j) → k < n → f k ≡ k → g k ≢ k
+    → linked_below f n + 1 ≤ linked_below g n
+one_less f g zero k stays low here was = absurd (omega arith)
+one_less f g (suc n) k stays low here was =
+    elim (cases_eq k n) [
+      | inl e ↦
+          let alone : f n ≡ n = subst (λ m. f m ≡ m) e here in
+          let not : g n ≢ n = subst (λ m. g m ≢ m) e was in
+          omega (arith, linked_same f n alone, linked_more g n not, no_more f g n (λ j low. stays j (omega arith)))
+      | inr ne ↦
+          step f g n 1 (stays n (omega arith)) (one_less f g n k (λ j low. stays j (omega arith)) (omega arith) here was)
+    ]
+
+-- a slot with a place isn't alone
+not_alone : (r : Rings) (places : ℕ → Option Place) (k : ℕ) (place : Place) → AreChains r places → k < r.slots
+    → places k ≡ Some place → next_at r.links k ≢ k
+not_alone r places k place are low has e =
+    let s : IsSlot r.slots r.homes places k place = slot_is r.slots r.homes places k place low has in
+    let a : Shape = shape r.slots r.homes places in
+    absurd (omega (arith, are.chained.down k s.on, ap a.low e, s.bound, s.top))
+
+-- a slot that leaves is linked no more
+pub linked_falls : (old new : Rings) (places : ℕ → Option Place) (k : ℕ) (place : Place) → AreChains old places
+    → AreChains new (with_place places k None) → new.slots ≡ old.slots → k < old.slots → places k ≡ Some place
+    → linked new < linked old
+linked_falls old new places k place are left same low has =
+    let here : next_at new.links k ≡ k =
+    (left.alone k (omega (arith, same)) (with_place_here places k None)).forth in
+    let stays : (j : ℕ) → j < old.slots → next_at old.links j ≡ j → next_at new.links j ≡ j =
+    λ j down alone. at j (places j) refl down alone in
+    let less = one_less (next_at new.links) (next_at old.links) old.slots k stays low here (not_alone old places k place are low has) in
+    omega (arith, less, ap (linked_below (next_at new.links)) same)
+  where
+    at : (j : ℕ) (o : Option Place) → places j ≡ o → j < old.slots → next_at old.links j ≡ j → next_at new.links j ≡ j
+    at j None none down alone =
+        elim (cases_eq j k) [
+          | inl e ↦
+              (left.alone j (omega (arith, same)) (ap (with_place places k None) e ∙ with_place_here places k None)).forth
+          | inr ne ↦ (left.alone j (omega (arith, same)) (with_place_there places k None j ne ∙ none)).forth
+        ]
+    at j (Some p) some down alone = absurd (not_alone old places j p are down some alone)
+
+-- none has left at first
+pub thinned_none : (owners : Rings) (keys : List (Option Key)) (places : ℕ → Option Place) → AreChains owners places
+    → Thinned owners keys places places
+thinned_none owners keys places are = record { are = are; each = λ k. inl refl }
+
+-- one more leaves
+pub thinned_more : (owners new : Rings) (keys : List (Option Key)) (places left : ℕ → Option Place) (k : ℕ)
+    → Thinned owners keys places left → key_in keys k ≡ None → Takes owners new k
+    → Thinned new keys places (with_place left k None)
+thinned_more owners new keys places left k t none takes = record {
+  are = takes left t.are;
+  each = λ j. elim (cases_eq j k) [
+    | inl e ↦ inr (ap (with_place left k None) e ∙ with_place_here left k None, ap (key_in keys) e ∙ none)
+    | inr ne ↦ elim (t.each j) [
+      | inl same ↦ inl (with_place_there left k None j ne ∙ same)
+      | inr gone ↦ inr (with_place_there left k None j ne ∙ gone.0, gone.1)
+    ]
+  ];
+}
+
+-- a row is found
+row_in : (keys : List (Option Key)) (left : ℕ → Option Place) (process k : ℕ) (o : Option Key) (found : Option Row) (row : Row)
+    → found ≡ option_map (row_at k) o → found ≡ Some row → key_in keys k ≡ o → StandsIn left process k
+    → IsIn keys left process (Some row)
+row_in keys left process k None found row told is has stands = absurd cc
+row_in keys left process k (Some key) found row told is has stands =
+    let e : Some (row_at k key) ≡ Some row = sym told ∙ is in
+    let same : row_at k key ≡ row = cc in
+    subst (λ (r : Row). IsIn keys left process (Some r)) same (has, stands)
+
+pub finds_some : (owners : Rings) (keys : List (Option Key)) (places left : ℕ → Option Place) (process bound k : ℕ)
+    (found : Option Row) (row : Row) → Thinned owners keys places left → Finds owners left process bound (Some k)
+    → found ≡ option_map (row_at k) (key_in keys k) → found ≡ Some row → FindsRow keys places process owners (Some row)
+finds_some owners keys places left process bound k found row t finds told is = record {
+  left = left;
+  thinned = t;
+  is = row_in keys left process k (key_in keys k) found row told is refl finds.stands.1;
+}
+
+-- none is left
+pub finds_none : (owners : Rings) (keys : List (Option Key)) (places left : ℕ → Option Place) (process : ℕ)
+    → length keys ≡ owners.slots → Thinned owners keys places left → Finds owners left process (2 ^ 64) None
+    → FindsRow keys places process owners None
+finds_none owners keys places left process wide t finds = record {
+  left = left;
+  thinned = t;
+  is = λ k place low has at.
+      absurd (omega (arith, finds.greatest k place (omega (arith, wide)) has at (t.are.orders k place has)));
+}
+
+-- a row that isn't told isn't held
+none_in : (k : ℕ) (o : Option Key) (found : Option Row) → found ≡ option_map (row_at k) o → found ≡ None → o ≡ None
+none_in k None found told is = refl
+none_in k (Some key) found told is = absurd cc
+
+pub no_row : (keys : List (Option Key)) (k : ℕ) (found : Option Row) → found ≡ option_map (row_at k) (key_in keys k) → found ≡ None
+    → key_in keys k ≡ None
+no_row keys k found told is = none_in k (key_in keys k) found told is

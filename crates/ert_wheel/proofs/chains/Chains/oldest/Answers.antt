@@ -1,0 +1,7 @@
+use Rattle.ert_wheel.proofs.Calls.{finds_oldest}
+use Rattle.ert_wheel.proofs.chains.Chains.oldest.Goals as goal
+
+pub returns : goal.returns
+returns c =
+    let r = c.self.inside in
+    finds_oldest c.args.self.now r.slots r.homes r.links.items c.args.home c.index.result.now c.slot_at.result c.self.view_is c.self.invariant c.requires c.index.ensures c.slot_at.ensures
