@@ -78,6 +78,10 @@ module _ (g : Settings) (v : View) (by : Actor) (timer : TimerRef) (deadline : �
   }
   miss_may _ n may = may
 
+  miss_calm : (how : Settle) (n : ℕ) → is_calm (miss how n).event ≡ true
+  miss_calm Cancel n = refl
+  miss_calm _ n = refl
+
   module _ (s : State) (not : s.status timer ≢ Some Armed) where
     -- a miss finds what it says
     pub miss_found : (how : Settle) (n : ℕ) → status_in n ≡ s.status (timer_at timer.wheel timer.slot (s.last timer.wheel timer.slot))

@@ -44,6 +44,14 @@ module _ (g : Settings) (v : View) (by : Actor) (timer : TimerRef) (deadline : �
 
   -- where the timer's status is another than the exchange expects, the exchange is one that can miss: a
   -- delivery or a drop finds its timer expired
+  may_miss : (how : Settle) (h : List Entry) (n : ℕ) → Then g v place n h → MayStep g v (hit how)
+      → (state g h).status timer ≢ Some (status_from how) → can_miss how ≡ true
+  may_miss Deliver h n then may not =
+      absurd (not (delivery_hits g h (hit Deliver) timer (grows g v place n (hit Deliver) h then may.ours may.keeps may.known tt) refl).0)
+  may_miss Drop h n then may not =
+      absurd (not (drop_hits g h (hit Drop) timer (grows g v place n (hit Drop) h then may.ours may.keeps may.known tt) refl).0)
+  may_miss _ h n then may not = refl
+
   module _ (how : Settle) (may : MayStep g v (hit how)) (has : HasRow front timer deadline) where
     abbrev old : ℕ
     old = timer_word (status_from how) deadline timer.generation

@@ -61,14 +61,6 @@ turn first chains keys was next bucket slot here d may same s is =
       home = ap (bucket_of next) a;
     }
 
-pub turn_takes : (chains : Rings) (keys : List Key) (was next bucket slot : ℕ) (key : Key)
-    → Turn chains keys was next bucket slot key → MayTake chains slot
-turn_takes chains keys was next bucket slot key t = record {
-  places = places (partly was next bucket t.bound) (kept_keys keys);
-  are = t.cascades.are;
-  low = t.low;
-}
-
 pub turn_puts : (chains taken : Rings) (keys : List Key) (was next bucket slot home : ℕ) (key : Key)
     → Turn chains keys was next bucket slot key → Takes chains taken slot → taken.slots ≡ chains.slots
     → taken.homes ≡ BUCKETS → home < BUCKETS → MayPut taken slot home
