@@ -1,15 +1,14 @@
 -- What the entries of the calls tell, alone and beside others.
 
-use Rattle.std.proofs.Common.{◌≡◌, ℕ, zero, suc, ◌+◌, ◌*◌, Bool, true, false, not, cond, List, [], ◌∷◌, ◌++◌, filter, Option, Some, None, Result, Ok, Err, is_ok, refl, sym, ap, ◌∙◌, arith}
+use Rattle.std.proofs.Common.{◌≡◌, ℕ, zero, suc, ◌+◌, ◌*◌, Bool, true, false, not, cond, List, [], ◌∷◌, filter, Option, Some, None, Result, Ok, Err, is_ok, refl, sym, ap, ◌∙◌, arith}
 use Rattle.ert_answers.proofs.Advanced.{IsAdvance, advance_is, advance_all_is}
 use Rattle.ert_answers.specs.Chains.{Serves, Delivers, Advance, HasTurnedBy, SweepsWheel, SweepsWheels, Exits}
 use Rattle.ert_answers.specs.RequestCalls.{Asks}
 use Rattle.ert_answers.specs.Ways.{Step, Way, alone, beside}
 use Rattle.ert_answers.specs.WheelCalls.{Try, Advances, AdvancesAll, MarksExit, Sweeps, orphans_by, orphan_entries}
 use Rattle.ert_answers.specs.declared.answers.Turned.{Turned}
-use Rattle.ert_defs.specs.Entries.{is_ours, mark_entry, ask_entry}
+use Rattle.ert_defs.specs.Entries.{is_ours, mark_entry}
 use Rattle.ert_defs.specs.States.{State}
-use Rattle.ert_defs.specs.declared.entry.Actor.{Actor}
 use Rattle.ert_defs.specs.declared.entry.Actor.TheVariants.{Wheel, Inbox, Caller}
 use Rattle.ert_defs.specs.declared.entry.Entry.{Entry}
 use Rattle.ert_defs.specs.declared.entry.Event.{Event}

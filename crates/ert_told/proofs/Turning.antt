@@ -3,16 +3,16 @@
 use Rattle.std.proofs.Common.{◌≡◌, ℕ, zero, suc, ◌+◌, ◌*◌, ℤ, Bool, true, false, cond, List, [], ◌∷◌, ◌++◌, Option, Some, None, Result, Ok, Err, refl, ap, ◌∙◌, arith}
 use Rattle.std.specs.Prelude.{nat_lt}
 use Rattle.ert_answers.proofs.Advanced.{IsAdvance}
-use Rattle.ert_answers.specs.Chains.{HoldsBy, Serves, HasServed, CannotServe, ServesAll, ServesMany, Advance, Hands, HandsMany, Delivers, HasTurnedBy, put_by, puts, dropped_by, drops, times}
+use Rattle.ert_answers.specs.Chains.{HoldsBy, Serves, HasServed, ServesAll, ServesMany, Advance, Hands, HandsMany, Delivers, HasTurnedBy, put_by, puts, dropped_by, drops}
 use Rattle.ert_answers.specs.MailCalls.{handed_entries, HandsOver}
 use Rattle.ert_answers.specs.RequestCalls.{Picks, Answers, DoesAsked, HasAnswered}
 use Rattle.ert_answers.specs.TimerCalls.{read_entries, cancel_entries}
-use Rattle.ert_answers.specs.Ways.{Way, Then, Many}
+use Rattle.ert_answers.specs.Ways.{Way, Then}
 use Rattle.ert_answers.specs.WheelCalls.{Try, expires_by, expiry_entries, hit_by, hits}
 use Rattle.ert_answers.specs.declared.answers.Handed.{Handed}
 use Rattle.ert_answers.specs.declared.answers.Handed.TheVariants.{Put, Dropped}
 use Rattle.ert_answers.specs.declared.answers.Turned.{Turned}
-use Rattle.ert_defs.specs.Entries.{look_entry, peek_entry, cancel_entry, probe_entry, pick_entry, expire_entry, mark_entry, deliver_entry, drop_entry, answer_entry, advanced_entry}
+use Rattle.ert_defs.specs.Entries.{look_entry, peek_entry, cancel_entry, pick_entry, mark_entry, deliver_entry, drop_entry, answer_entry, advanced_entry}
 use Rattle.ert_defs.specs.Legal.{names_timer}
 use Rattle.ert_defs.specs.States.{State, state}
 use Rattle.ert_defs.specs.Timers.{Row}
