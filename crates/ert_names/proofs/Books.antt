@@ -74,7 +74,7 @@ turned x y = sym (is_eq-slice_cmp x y) ∙ (eq_by_cmp_equiv nat_list_cmp_total).
 same_number : (x : ℕ) → by_number x x ≡ true
 same_number x = (eq_by_cmp_equiv nat_cmp_total).refl x
 
-some_is : {X : Type 0} (x y : X) → Some x ≡ Some y → x ≡ y
+pub some_is : {X : Type 0} (x y : X) → Some x ≡ Some y → x ≡ y
 some_is x y is = ap (λ o. at o x) is
   where
     at : {X : Type 0} → Option X → X → X

@@ -41,239 +41,239 @@ use Rattle.ert_defs.specs.declared.timer.TimerRef.{TimerRef}
 use Rattle.ert_names.specs.Fits.{Fits, AllFit, FitsRows}
 use Rattle.ert_sched.specs.Worlds.{Service, Goes, By}
 
-pub fit_as : (n : ℕ) (es fs : List Entry) → es ≡ fs → AllFit n fs → AllFit n es
-fit_as n es fs same fit = subst (AllFit n) (sym same) fit
+pub fit_as : (n q : ℕ) (es fs : List Entry) → es ≡ fs → AllFit n q fs → AllFit n q es
+fit_as n q es fs same fit = subst (AllFit n q) (sym same) fit
 
-pub fit_append : (n : ℕ) (es fs : List Entry) → AllFit n es → AllFit n fs → AllFit n (es ++ fs)
-fit_append n [] fs one other = other
-fit_append n (e ∷ es) fs one other = (one.0, fit_append n es fs one.1 other)
+pub fit_append : (n q : ℕ) (es fs : List Entry) → AllFit n q es → AllFit n q fs → AllFit n q (es ++ fs)
+fit_append n q [] fs one other = other
+fit_append n q (e ∷ es) fs one other = (one.0, fit_append n q es fs one.1 other)
 
 -- more rows
-event_more : (n m : ℕ) (event : Event) → n ≤ m → Fits n event → Fits m event
-event_more n m (Arm timer start) more fits = λ dest. (let is = fits dest in (is.0, (let low = is.1 in omega (arith, low, more))))
-event_more n m (Mark process exits was) more fits = fits
-event_more n m (Ask wheel request) more fits = fits
-event_more n m (Watch process monitor offset) more fits = fits
-event_more n m (Tell process offset) more fits = fits
-event_more n m _ more fits = tt
+event_more : (n m q : ℕ) (event : Event) → n ≤ m → Fits n q event → Fits m q event
+event_more n m q (Arm timer start) more fits = λ dest. (let is = fits dest in (is.0, (let low = is.1 in omega (arith, low, more))))
+event_more n m q (Mark process exits was) more fits = fits
+event_more n m q (Ask wheel request) more fits = fits
+event_more n m q (Watch process monitor offset) more fits = fits
+event_more n m q (Tell process offset) more fits = fits
+event_more n m q _ more fits = tt
 
-pub fit_more : (n m : ℕ) (es : List Entry) → n ≤ m → AllFit n es → AllFit m es
-fit_more n m [] more fit = tt
-fit_more n m (e ∷ es) more fit = (event_more n m e.event more fit.0, fit_more n m es more fit.1)
+pub fit_more : (n m q : ℕ) (es : List Entry) → n ≤ m → AllFit n q es → AllFit m q es
+fit_more n m q [] more fit = tt
+fit_more n m q (e ∷ es) more fit = (event_more n m q e.event more fit.0, fit_more n m q es more fit.1)
 
--- a growth whose pieces fit
-abbrev pub AreFitting : ℕ → Growth → Type 0
-AreFitting n call = (h m : List Entry) → call h m → AllFit n m
+-- a growth whose pieces fit, and spare a process
+abbrev pub AreFitting : ℕ → ℕ → Growth → Type 0
+AreFitting n q call = (h m : List Entry) → call h m → AllFit n q m
 
-pub fit_grows : (n : ℕ) (call : Growth) (f h : List Entry) → AreFitting n call → AllFit n f → Grows call f h → AllFit n h
-fit_grows n call f h fitting fit grows = fit_as n h _ grows.grown (fit_append n f grows.piece fit (fitting f grows.piece grows.made))
+pub fit_grows : (n q : ℕ) (call : Growth) (f h : List Entry) → AreFitting n q call → AllFit n q f → Grows call f h → AllFit n q h
+fit_grows n q call f h fitting fit grows = fit_as n q h _ grows.grown (fit_append n q f grows.piece fit (fitting f grows.piece grows.made))
 
-pub then_fits : (n : ℕ) (first second : Growth) → AreFitting n first → AreFitting n second → AreFitting n (Then first second)
-then_fits n first second one other h m steps =
-    fit_as n m _ steps.joined
-    (fit_append n steps.before steps.after (one h steps.before steps.one) (other (h ++ steps.before) steps.after steps.other))
+pub then_fits : (n q : ℕ) (first second : Growth) → AreFitting n q first → AreFitting n q second → AreFitting n q (Then first second)
+then_fits n q first second one other h m steps =
+    fit_as n q m _ steps.joined
+    (fit_append n q steps.before steps.after (one h steps.before steps.one) (other (h ++ steps.before) steps.after steps.other))
 
-pub many_fits : {A : Type 0} (n : ℕ) (call : A → Growth) (answers : List A) → ((answer : A) → AreFitting n (call answer)) → AreFitting n (Many call answers)
-many_fits n call [] each h m none = fit_as n m [] none tt
-many_fits n call (answer ∷ answers) each h m steps =
-    then_fits n (call answer) (Many call answers) (each answer) (many_fits n call answers each) h m steps
+pub many_fits : {A : Type 0} (n q : ℕ) (call : A → Growth) (answers : List A) → ((answer : A) → AreFitting n q (call answer)) → AreFitting n q (Many call answers)
+many_fits n q call [] each h m none = fit_as n q m [] none tt
+many_fits n q call (answer ∷ answers) each h m steps =
+    then_fits n q (call answer) (Many call answers) (each answer) (many_fits n q call answers each) h m steps
 
-moves_fit : (n by : ℕ) (r : Reading) (act : Act) (now : ℤ) (shift : Option ℤ) → AllFit n (tick_entries by r act now shift)
-moves_fit n by r act now None = (tt, tt)
-moves_fit n by r act now (Some offset) = (tt, (tt, tt))
+moves_fit : (n q by : ℕ) (r : Reading) (act : Act) (now : ℤ) (shift : Option ℤ) → AllFit n q (tick_entries by r act now shift)
+moves_fit n q by r act now None = (tt, tt)
+moves_fit n q by r act now (Some offset) = (tt, (tt, tt))
 
-refused_fits : (n : ℕ) (g : Settings) (r : Reading) (act : Act) (e : ClockErr) (s : State) (es : List Entry) → RefusesTick g r act e s es → AllFit n es
-refused_fits n g r act BadReading s es refused = fit_as n es [] refused.none tt
-refused_fits n g r act (OffsetWide value) s es refused = fit_as n es [] refused.none tt
+refused_fits : (n q : ℕ) (g : Settings) (r : Reading) (act : Act) (e : ClockErr) (s : State) (es : List Entry) → RefusesTick g r act e s es → AllFit n q es
+refused_fits n q g r act BadReading s es refused = fit_as n q es [] refused.none tt
+refused_fits n q g r act (OffsetWide value) s es refused = fit_as n q es [] refused.none tt
 
-pub acts_fit : (n : ℕ) (g : Settings) (by : ℕ) (r : Reading) (act : Act) (answer : Result Moved ClockErr) (s : State) (es : List Entry)
-    → Acts g by r act answer s es → AllFit n es
-acts_fit n g by r act (Ok m) s es acts = fit_as n es _ acts.entries (moves_fit n by r act m.now m.shift)
-acts_fit n g by r act (Err e) s es acts = refused_fits n g r act e s es acts
+pub acts_fit : (n q : ℕ) (g : Settings) (by : ℕ) (r : Reading) (act : Act) (answer : Result Moved ClockErr) (s : State) (es : List Entry)
+    → Acts g by r act answer s es → AllFit n q es
+acts_fit n q g by r act (Ok m) s es acts = fit_as n q es _ acts.entries (moves_fit n q by r act m.now m.shift)
+acts_fit n q g by r act (Err e) s es acts = refused_fits n q g r act e s es acts
 
-pub takes_fit : (n : ℕ) (g : Settings) (by process : ℕ) (answer : Taken) (s : State) (es : List Entry) → Takes g by process answer s es → AllFit n es
-takes_fit n g by process Exited s es takes = fit_as n es _ takes ((λ is. refl), tt)
-takes_fit n g by process Empty s es takes = fit_as n es _ takes ((λ is. refl), (tt, tt))
-takes_fit n g by process (Mail mail) s es takes = fit_as n es _ takes ((λ is. refl), (tt, tt))
+pub takes_fit : (n q : ℕ) (g : Settings) (by process : ℕ) (answer : Taken) (s : State) (es : List Entry) → Takes g by process answer s es → AllFit n q es
+takes_fit n q g by process Exited s es takes = fit_as n q es _ takes ((λ is. refl), tt)
+takes_fit n q g by process Empty s es takes = fit_as n q es _ takes ((λ is. refl), (tt, tt))
+takes_fit n q g by process (Mail mail) s es takes = fit_as n q es _ takes ((λ is. refl), (tt, tt))
 
-pub alive_fits : (n : ℕ) (g : Settings) (by : Actor) (process : ℕ) (answer : Bool) (s : State) (es : List Entry) → TellsAlive g by process answer s es
-    → AllFit n es
-alive_fits n g by process answer s es tells = fit_as n es _ tells ((λ is. refl), tt)
+pub alive_fits : (n q : ℕ) (g : Settings) (by : Actor) (process : ℕ) (answer : Bool) (s : State) (es : List Entry) → TellsAlive g by process answer s es
+    → AllFit n q es
+alive_fits n q g by process answer s es tells = fit_as n q es _ tells ((λ is. refl), tt)
 
-read_fits : (n : ℕ) (names : Bool) (by : Actor) (timer : TimerRef) (left : Option ℕ) → AllFit n (read_entries names by timer left)
-read_fits n false by timer left = tt
-read_fits n true by timer left = (tt, tt)
+read_fits : (n q : ℕ) (names : Bool) (by : Actor) (timer : TimerRef) (left : Option ℕ) → AllFit n q (read_entries names by timer left)
+read_fits n q false by timer left = tt
+read_fits n q true by timer left = (tt, tt)
 
-pub reads_fit : (n : ℕ) (g : Settings) (by : Actor) (timer : TimerRef) (answer : Option ℕ) (s : State) (es : List Entry) → Reads g by timer answer s es
-    → AllFit n es
-reads_fit n g by timer answer s es reads = fit_as n es _ reads.entries (tt, read_fits n (names_timer g timer) by timer answer)
+pub reads_fit : (n q : ℕ) (g : Settings) (by : Actor) (timer : TimerRef) (answer : Option ℕ) (s : State) (es : List Entry) → Reads g by timer answer s es
+    → AllFit n q es
+reads_fit n q g by timer answer s es reads = fit_as n q es _ reads.entries (tt, read_fits n q (names_timer g timer) by timer answer)
 
-cancel_fits : (n : ℕ) (names : Bool) (by : Actor) (timer : TimerRef) (found left : Option ℕ) → AllFit n (cancel_entries names by timer found left)
-cancel_fits n false by timer found left = tt
-cancel_fits n true by timer None left = (tt, tt)
-cancel_fits n true by timer (Some found) left = (tt, (tt, tt))
+cancel_fits : (n q : ℕ) (names : Bool) (by : Actor) (timer : TimerRef) (found left : Option ℕ) → AllFit n q (cancel_entries names by timer found left)
+cancel_fits n q false by timer found left = tt
+cancel_fits n q true by timer None left = (tt, tt)
+cancel_fits n q true by timer (Some found) left = (tt, (tt, tt))
 
-pub cancels_fit : (n : ℕ) (g : Settings) (by : Actor) (timer : TimerRef) (answer : Option ℕ) (s : State) (es : List Entry) → Cancels g by timer answer s es
-    → AllFit n es
-cancels_fit n g by timer answer s es cancels =
-    fit_as n es _ cancels.entries (tt, cancel_fits n (names_timer g timer) by timer cancels.found answer)
+pub cancels_fit : (n q : ℕ) (g : Settings) (by : Actor) (timer : TimerRef) (answer : Option ℕ) (s : State) (es : List Entry) → Cancels g by timer answer s es
+    → AllFit n q es
+cancels_fit n q g by timer answer s es cancels =
+    fit_as n q es _ cancels.entries (tt, cancel_fits n q (names_timer g timer) by timer cancels.found answer)
 
-probes_fit : (n : ℕ) (by : Actor) (wheel : ℕ) (es : List Entry) → AreProbes by wheel es → AllFit n es
-probes_fit n by wheel [] are = tt
-probes_fit n by wheel (e ∷ es) are =
-    (subst (λ (e : Entry). Fits n e.event) (sym are.2) tt, probes_fit n by wheel es are.3)
+probes_fit : (n q : ℕ) (by : Actor) (wheel : ℕ) (es : List Entry) → AreProbes by wheel es → AllFit n q es
+probes_fit n q by wheel [] are = tt
+probes_fit n q by wheel (e ∷ es) are =
+    (subst (λ (e : Entry). Fits n q e.event) (sym are.2) tt, probes_fit n q by wheel es are.3)
 
-taken_fits : (n by wheel : ℕ) (s : State) (slot k : ℕ) (es : List Entry) → AreTaken by wheel s slot k es → AllFit n es
-taken_fits n by wheel s slot zero es are = fit_as n es [] are tt
-taken_fits n by wheel s slot (suc k) es are = fit_as n es _ are.2 (tt, taken_fits n by wheel s (suc slot) k are.1 are.4)
+taken_fits : (n q by wheel : ℕ) (s : State) (slot k : ℕ) (es : List Entry) → AreTaken by wheel s slot k es → AllFit n q es
+taken_fits n q by wheel s slot zero es are = fit_as n q es [] are tt
+taken_fits n q by wheel s slot (suc k) es are = fit_as n q es _ are.2 (tt, taken_fits n q by wheel s (suc slot) k are.1 are.4)
 
-closes_fit : (n : ℕ) (was : Bool) (by : ℕ) (timer : TimerRef) (es : List Entry) → Closes was by timer es → AllFit n es
-closes_fit n false by timer es closes = fit_as n es [] closes tt
-closes_fit n true by timer es (inl orphan) = fit_as n es _ orphan (tt, tt)
-closes_fit n true by timer es (inr missed) = fit_as n es _ missed.entries (tt, tt)
+closes_fit : (n q : ℕ) (was : Bool) (by : ℕ) (timer : TimerRef) (es : List Entry) → Closes was by timer es → AllFit n q es
+closes_fit n q false by timer es closes = fit_as n q es [] closes tt
+closes_fit n q true by timer es (inl orphan) = fit_as n q es _ orphan (tt, tt)
+closes_fit n q true by timer es (inr missed) = fit_as n q es _ missed.entries (tt, tt)
 
-pub refused_start_fits : (n : ℕ) (g : Settings) (by wheel : ℕ) (start : Start) (e : StartErr) (s : State) (es : List Entry)
-    → Starts g by wheel start (Err e) s es → AllFit n es
-refused_start_fits n g by wheel start starts.BadArg s es bad = fit_as n es _ bad.entries (tt, tt)
-refused_start_fits n g by wheel start starts.Full s es full =
-    fit_as n es _ full.entries (tt, taken_fits n by wheel s 0 g.slots full.probes full.are_taken)
-refused_start_fits n g by wheel start starts.NoMemory s es (inl none) = fit_as n es [] none tt
-refused_start_fits n g by wheel start starts.NoMemory s es (inr probed) =
-    fit_as n es _ probed.entries (tt, probes_fit n (Caller by) wheel probed.probes probed.are_probes)
+pub refused_start_fits : (n q : ℕ) (g : Settings) (by wheel : ℕ) (start : Start) (e : StartErr) (s : State) (es : List Entry)
+    → Starts g by wheel start (Err e) s es → AllFit n q es
+refused_start_fits n q g by wheel start starts.BadArg s es bad = fit_as n q es _ bad.entries (tt, tt)
+refused_start_fits n q g by wheel start starts.Full s es full =
+    fit_as n q es _ full.entries (tt, taken_fits n q by wheel s 0 g.slots full.probes full.are_taken)
+refused_start_fits n q g by wheel start starts.NoMemory s es (inl none) = fit_as n q es [] none tt
+refused_start_fits n q g by wheel start starts.NoMemory s es (inr probed) =
+    fit_as n q es _ probed.entries (tt, probes_fit n q (Caller by) wheel probed.probes probed.are_probes)
 
-pub starts_fit : (n : ℕ) (g : Settings) (by wheel : ℕ) (start : Start) (answer : Result TimerRef StartErr) (s : State) (es : List Entry)
-    → (start.dest ≡ 0 → (start.kind ≡ Wrapped) × (start.msg < n)) → Starts g by wheel start answer s es → AllFit n es
-starts_fit n g by wheel start (Ok timer) s es fits started =
-    fit_as n es _ started.entries (
+pub starts_fit : (n q : ℕ) (g : Settings) (by wheel : ℕ) (start : Start) (answer : Result TimerRef StartErr) (s : State) (es : List Entry)
+    → (start.dest ≡ 0 → (start.kind ≡ Wrapped) × (start.msg < n)) → Starts g by wheel start answer s es → AllFit n q es
+starts_fit n q g by wheel start (Ok timer) s es fits started =
+    fit_as n q es _ started.entries (
       tt,
-      fit_append n started.probes _ (probes_fit n (Caller by) wheel started.probes started.are_probes)
-          (fits, ((λ is. refl), closes_fit n started.was by timer started.closing started.closes)),
+      fit_append n q started.probes _ (probes_fit n q (Caller by) wheel started.probes started.are_probes)
+          (fits, ((λ is. refl), closes_fit n q started.was by timer started.closing started.closes)),
     )
-starts_fit n g by wheel start (Err e) s es fits refused = refused_start_fits n g by wheel start e s es refused
+starts_fit n q g by wheel start (Err e) s es fits refused = refused_start_fits n q g by wheel start e s es refused
 
 -- an exit
-orphans_fit : (n by w : ℕ) (tries : List Try) → AllFit n (orphan_entries by w tries)
-orphans_fit n by w [] = tt
-orphans_fit n by w (t ∷ tries) = (one t.timer t.missed, orphans_fit n by w tries)
+orphans_fit : (n q by w : ℕ) (tries : List Try) → AllFit n q (orphan_entries by w tries)
+orphans_fit n q by w [] = tt
+orphans_fit n q by w (t ∷ tries) = (one t.timer t.missed, orphans_fit n q by w tries)
   where
-    one : (timer : TimerRef) (missed : Option (Option Status)) → Fits n (orphans_by by w timer missed).event
+    one : (timer : TimerRef) (missed : Option (Option Status)) → Fits n q (orphans_by by w timer missed).event
     one timer None = tt
     one timer (Some found) = tt
 
-sweep_fits : (n : ℕ) (g : Settings) (by p w k : ℕ) → AreFitting n (SweepsWheels g (alone g) by p w k)
-sweep_fits n g by p w zero h m none = fit_as n m [] none tt
-sweep_fits n g by p w (suc k) h m steps =
-    then_fits n (SweepsWheel g (alone g) by p w) (SweepsWheels g (alone g) by p (suc w) k)
-    (λ h m swept. fit_as n m _ swept.steps.entries (orphans_fit n by w swept.steps.tries)) (sweep_fits n g by p (suc w) k) h m steps
+sweep_fits : (n q : ℕ) (g : Settings) (by p w k : ℕ) → AreFitting n q (SweepsWheels g (alone g) by p w k)
+sweep_fits n q g by p w zero h m none = fit_as n q m [] none tt
+sweep_fits n q g by p w (suc k) h m steps =
+    then_fits n q (SweepsWheel g (alone g) by p w) (SweepsWheels g (alone g) by p (suc w) k)
+    (λ h m swept. fit_as n q m _ swept.steps.entries (orphans_fit n q by w swept.steps.tries)) (sweep_fits n q g by p (suc w) k) h m steps
 
-marks_fit : (n : ℕ) (g : Settings) (p : ℕ) (answer : Bool) → p ≢ 0 → AreFitting n (alone g [] (MarksExit g (Caller 0) p answer))
-marks_fit n g p answer other h m marks = fit_as n m _ marks ((λ is. absurd (other is)), tt)
+marks_fit : (n q : ℕ) (g : Settings) (p : ℕ) (answer : Bool) → p ≢ q → AreFitting n q (alone g [] (MarksExit g (Caller 0) p answer))
+marks_fit n q g p answer other h m marks = fit_as n q m _ marks ((λ is. absurd (other is)), tt)
 
-pub exits_fit : (n : ℕ) (g : Settings) (p : ℕ) (answer : Bool) → p ≢ 0 → AreFitting n (Exits g (alone g) 0 p answer)
-exits_fit n g p false other h m exits = marks_fit n g p false other h m exits
-exits_fit n g p true other h m exits =
-    then_fits n (alone g [] (MarksExit g (Caller 0) p true)) (SweepsWheels g (alone g) 0 p 0 g.schedulers) (marks_fit n g p true other)
-    (sweep_fits n g 0 p 0 g.schedulers) h m exits
+pub exits_fit : (n q : ℕ) (g : Settings) (p : ℕ) (answer : Bool) → p ≢ q → AreFitting n q (Exits g (alone g) 0 p answer)
+exits_fit n q g p false other h m exits = marks_fit n q g p false other h m exits
+exits_fit n q g p true other h m exits =
+    then_fits n q (alone g [] (MarksExit g (Caller 0) p true)) (SweepsWheels g (alone g) 0 p 0 g.schedulers) (marks_fit n q g p true other)
+    (sweep_fits n q g 0 p 0 g.schedulers) h m exits
 
 -- a turn
-holds_fit : (n : ℕ) (hand : Option Request) (g : Settings) (w : ℕ) (got : Option Request) (h m : List Entry) → HoldsBy hand (alone g) g w got h m
-    → AllFit n m
-holds_fit n (Some request) g w got h m holds = fit_as n m [] holds.1 tt
-holds_fit n None g w got h m holds = fit_as n m _ holds (tt, tt)
+holds_fit : (n q : ℕ) (hand : Option Request) (g : Settings) (w : ℕ) (got : Option Request) (h m : List Entry) → HoldsBy hand (alone g) g w got h m
+    → AllFit n q m
+holds_fit n q (Some request) g w got h m holds = fit_as n q m [] holds.1 tt
+holds_fit n q None g w got h m holds = fit_as n q m _ holds (tt, tt)
 
-hold_fits : (n : ℕ) (g : Settings) (w : ℕ) (got : Option Request) → AreFitting n (Holds g (alone g) w got)
-hold_fits n g w got h m holds = holds_fit n ((state g h).scheds w).hand g w got h m holds
+hold_fits : (n q : ℕ) (g : Settings) (w : ℕ) (got : Option Request) → AreFitting n q (Holds g (alone g) w got)
+hold_fits n q g w got h m holds = holds_fit n q ((state g h).scheds w).hand g w got h m holds
 
-asked_fits : (n : ℕ) (kind : RequestKind) (g : Settings) (w : ℕ) (timer : TimerRef) (left : Option ℕ) (s : State) (es : List Entry)
-    → DoesAsked kind g w timer left s es → AllFit n es
-asked_fits n ToCancel g w timer left s es asked = cancels_fit n g (Sched w) timer left s es asked
-asked_fits n ToRead g w timer left s es asked = reads_fit n g (Sched w) timer left s es asked
+asked_fits : (n q : ℕ) (kind : RequestKind) (g : Settings) (w : ℕ) (timer : TimerRef) (left : Option ℕ) (s : State) (es : List Entry)
+    → DoesAsked kind g w timer left s es → AllFit n q es
+asked_fits n q ToCancel g w timer left s es asked = cancels_fit n q g (Sched w) timer left s es asked
+asked_fits n q ToRead g w timer left s es asked = reads_fit n q g (Sched w) timer left s es asked
 
-answers_fit : (n : ℕ) (g : Settings) (w : ℕ) (request : Request) (answer : Result (Option ℕ) WantOfMemory) (s : State) (es : List Entry)
-    → Answers g w request answer s es → AllFit n es
-answers_fit n g w request (Ok left) s es answers =
-    fit_as n es _ answers.entries (fit_append n answers.steps _ (asked_fits n request.kind g w request.timer left s answers.steps answers.done) (tt, tt))
-answers_fit n g w request (Err e) s es answers = fit_as n es [] answers tt
+answers_fit : (n q : ℕ) (g : Settings) (w : ℕ) (request : Request) (answer : Result (Option ℕ) WantOfMemory) (s : State) (es : List Entry)
+    → Answers g w request answer s es → AllFit n q es
+answers_fit n q g w request (Ok left) s es answers =
+    fit_as n q es _ answers.entries (fit_append n q answers.steps _ (asked_fits n q request.kind g w request.timer left s answers.steps answers.done) (tt, tt))
+answers_fit n q g w request (Err e) s es answers = fit_as n q es [] answers tt
 
-serves_fit : (n : ℕ) (g : Settings) (w : ℕ) (answer : Result Bool WantOfMemory) → AreFitting n (Serves g (alone g) w answer)
-serves_fit n g w (Ok true) h m served =
-    then_fits n (Holds g (alone g) w (Some served.request)) (λ h m. Answers g w served.request (Ok served.left) (state g h) m)
-    (hold_fits n g w (Some served.request)) (λ h m. answers_fit n g w served.request (Ok served.left) (state g h) m) h m served.steps
-serves_fit n g w (Ok false) h m held = hold_fits n g w None h m held
-serves_fit n g w (Err e) h m served =
-    then_fits n (Holds g (alone g) w (Some served.request)) (λ h m. Answers g w served.request (Err e) (state g h) m)
-    (hold_fits n g w (Some served.request)) (λ h m. answers_fit n g w served.request (Err e) (state g h) m) h m served.steps
+serves_fit : (n q : ℕ) (g : Settings) (w : ℕ) (answer : Result Bool WantOfMemory) → AreFitting n q (Serves g (alone g) w answer)
+serves_fit n q g w (Ok true) h m served =
+    then_fits n q (Holds g (alone g) w (Some served.request)) (λ h m. Answers g w served.request (Ok served.left) (state g h) m)
+    (hold_fits n q g w (Some served.request)) (λ h m. answers_fit n q g w served.request (Ok served.left) (state g h) m) h m served.steps
+serves_fit n q g w (Ok false) h m held = hold_fits n q g w None h m held
+serves_fit n q g w (Err e) h m served =
+    then_fits n q (Holds g (alone g) w (Some served.request)) (λ h m. Answers g w served.request (Err e) (state g h) m)
+    (hold_fits n q g w (Some served.request)) (λ h m. answers_fit n q g w served.request (Err e) (state g h) m) h m served.steps
 
-many_served_fit : (n : ℕ) (g : Settings) (w k : ℕ) → AreFitting n (ServesMany g (alone g) w k)
-many_served_fit n g w k = many_fits n (λ (one : Unit {0}). Serves g (alone g) w (Ok true)) (times k) (λ one. serves_fit n g w (Ok true))
+many_served_fit : (n q : ℕ) (g : Settings) (w k : ℕ) → AreFitting n q (ServesMany g (alone g) w k)
+many_served_fit n q g w k = many_fits n q (λ (one : Unit {0}). Serves g (alone g) w (Ok true)) (times k) (λ one. serves_fit n q g w (Ok true))
 
-all_served_fit : (n : ℕ) (g : Settings) (w : ℕ) (answer : Result ℕ WantOfMemory) → AreFitting n (ServesAll g (alone g) w answer)
-all_served_fit n g w (Ok k) h m served = at (nat_lt k 64) served.1
+all_served_fit : (n q : ℕ) (g : Settings) (w : ℕ) (answer : Result ℕ WantOfMemory) → AreFitting n q (ServesAll g (alone g) w answer)
+all_served_fit n q g w (Ok k) h m served = at (nat_lt k 64) served.1
   where
-    at : (b : Bool) → cond b (Then (ServesMany g (alone g) w k) (Serves g (alone g) w (Ok false)) h m) (ServesMany g (alone g) w k h m) → AllFit n m
+    at : (b : Bool) → cond b (Then (ServesMany g (alone g) w k) (Serves g (alone g) w (Ok false)) h m) (ServesMany g (alone g) w k h m) → AllFit n q m
     at true steps =
-        then_fits n (ServesMany g (alone g) w k) (Serves g (alone g) w (Ok false)) (many_served_fit n g w k) (serves_fit n g w (Ok false)) h m steps
-    at false steps = many_served_fit n g w k h m steps
-all_served_fit n g w (Err e) h m served =
-    then_fits n (ServesMany g (alone g) w served.0) (Serves g (alone g) w (Err e)) (many_served_fit n g w served.0) (serves_fit n g w (Err e)) h m served.2
+        then_fits n q (ServesMany g (alone g) w k) (Serves g (alone g) w (Ok false)) (many_served_fit n q g w k) (serves_fit n q g w (Ok false)) h m steps
+    at false steps = many_served_fit n q g w k h m steps
+all_served_fit n q g w (Err e) h m served =
+    then_fits n q (ServesMany g (alone g) w served.0) (Serves g (alone g) w (Err e)) (many_served_fit n q g w served.0) (serves_fit n q g w (Err e)) h m served.2
 
-expiries_fit : (n w : ℕ) (tries : List Try) (es : List Entry) → AllFit n es → AllFit n (expiry_entries w tries ++ es)
-expiries_fit n w [] es fit = fit
-expiries_fit n w (t ∷ tries) es fit = (one t.timer t.missed, expiries_fit n w tries es fit)
+expiries_fit : (n q w : ℕ) (tries : List Try) (es : List Entry) → AllFit n q es → AllFit n q (expiry_entries w tries ++ es)
+expiries_fit n q w [] es fit = fit
+expiries_fit n q w (t ∷ tries) es fit = (one t.timer t.missed, expiries_fit n q w tries es fit)
   where
-    one : (timer : TimerRef) (missed : Option (Option Status)) → Fits n (expires_by w timer missed).event
+    one : (timer : TimerRef) (missed : Option (Option Status)) → Fits n q (expires_by w timer missed).event
     one timer None = tt
     one timer (Some found) = tt
 
-advances_fit : (n : ℕ) (g : Settings) (w : ℕ) (answer : Result (ℕ × ℕ) WantOfMemory) → AreFitting n (AdvancesWheel g (alone g) w answer)
-advances_fit n g w (Ok answer) h m advanced = fit_as n m _ advanced.entries (tt, expiries_fit n w advanced.tries _ (tt, tt))
-advances_fit n g w (Err e) h m (inl none) = fit_as n m [] none tt
-advances_fit n g w (Err e) h m (inr look) = fit_as n m _ look.1 (tt, tt)
+advances_fit : (n q : ℕ) (g : Settings) (w : ℕ) (answer : Result (ℕ × ℕ) WantOfMemory) → AreFitting n q (AdvancesWheel g (alone g) w answer)
+advances_fit n q g w (Ok answer) h m advanced = fit_as n q m _ advanced.entries (tt, expiries_fit n q w advanced.tries _ (tt, tt))
+advances_fit n q g w (Err e) h m (inl none) = fit_as n q m [] none tt
+advances_fit n q g w (Err e) h m (inr look) = fit_as n q m _ look.1 (tt, tt)
 
-over_fits : (n : ℕ) (g : Settings) (w : ℕ) (fired : Row) (how : Result Handed WantOfMemory) (s : State) (es : List Entry)
-    → HandsOver g w fired how s es → AllFit n es
-over_fits n g w fired (Ok Put) s es hands = fit_as n es _ hands ((λ is. refl), (tt, tt))
-over_fits n g w fired (Ok Dropped) s es hands = fit_as n es _ hands ((λ is. refl), (tt, tt))
-over_fits n g w fired (Err e) s es hands = fit_as n es [] hands tt
+over_fits : (n q : ℕ) (g : Settings) (w : ℕ) (fired : Row) (how : Result Handed WantOfMemory) (s : State) (es : List Entry)
+    → HandsOver g w fired how s es → AllFit n q es
+over_fits n q g w fired (Ok Put) s es hands = fit_as n q es _ hands ((λ is. refl), (tt, tt))
+over_fits n q g w fired (Ok Dropped) s es hands = fit_as n q es _ hands ((λ is. refl), (tt, tt))
+over_fits n q g w fired (Err e) s es hands = fit_as n q es [] hands tt
 
-hands_fit : (n : ℕ) (g : Settings) (w : ℕ) (how : Result Handed WantOfMemory) → AreFitting n (Hands g (alone g) w how)
-hands_fit n g w how h m hands = over_fits n g w hands.fired how (state g h) m hands.step
+hands_fit : (n q : ℕ) (g : Settings) (w : ℕ) (how : Result Handed WantOfMemory) → AreFitting n q (Hands g (alone g) w how)
+hands_fit n q g w how h m hands = over_fits n q g w hands.fired how (state g h) m hands.step
 
-many_handed_fit : (n : ℕ) (g : Settings) (w : ℕ) (hows : List Handed) → AreFitting n (HandsMany g (alone g) w hows)
-many_handed_fit n g w hows = many_fits n (λ how. Hands g (alone g) w (Ok how)) hows (λ how. hands_fit n g w (Ok how))
+many_handed_fit : (n q : ℕ) (g : Settings) (w : ℕ) (hows : List Handed) → AreFitting n q (HandsMany g (alone g) w hows)
+many_handed_fit n q g w hows = many_fits n q (λ how. Hands g (alone g) w (Ok how)) hows (λ how. hands_fit n q g w (Ok how))
 
-delivers_fit : (n : ℕ) (g : Settings) (w : ℕ) (answer : Result (ℕ × ℕ) WantOfMemory) → AreFitting n (Delivers g (alone g) w answer)
-delivers_fit n g w (Ok answer) h m delivered = many_handed_fit n g w delivered.hows h m delivered.runs
-delivers_fit n g w (Err e) h m delivered =
-    then_fits n (HandsMany g (alone g) w delivered.hows) (Hands g (alone g) w (Err e)) (many_handed_fit n g w delivered.hows) (hands_fit n g w (Err e))
+delivers_fit : (n q : ℕ) (g : Settings) (w : ℕ) (answer : Result (ℕ × ℕ) WantOfMemory) → AreFitting n q (Delivers g (alone g) w answer)
+delivers_fit n q g w (Ok answer) h m delivered = many_handed_fit n q g w delivered.hows h m delivered.runs
+delivers_fit n q g w (Err e) h m delivered =
+    then_fits n q (HandsMany g (alone g) w delivered.hows) (Hands g (alone g) w (Err e)) (many_handed_fit n q g w delivered.hows) (hands_fit n q g w (Err e))
     h m delivered.runs
 
-pub turns_fit : (n : ℕ) (g : Settings) (w : ℕ) (answer : Result Turned WantOfMemory) → AreFitting n (Turns g (alone g) w answer)
-turns_fit n g w (Ok t) h m turned =
-    then_fits n (ServesAll g (alone g) w (Ok t.served)) (Then (AdvancesWheel g (alone g) w (Ok (t.to, t.fired))) (Delivers g (alone g) w (Ok (t.put, t.dropped))))
-    (all_served_fit n g w (Ok t.served))
-    (then_fits n (AdvancesWheel g (alone g) w (Ok (t.to, t.fired))) (Delivers g (alone g) w (Ok (t.put, t.dropped)))
-    (advances_fit n g w (Ok (t.to, t.fired))) (delivers_fit n g w (Ok (t.put, t.dropped)))) h m turned
-turns_fit n g w (Err e) h m (inl served) = all_served_fit n g w (Err e) h m served
-turns_fit n g w (Err e) h m (inr (inl advanced)) =
-    then_fits n (ServesAll g (alone g) w (Ok advanced.0)) (AdvancesWheel g (alone g) w (Err e)) (all_served_fit n g w (Ok advanced.0))
-    (advances_fit n g w (Err e)) h m advanced.1
-turns_fit n g w (Err e) h m (inr (inr delivered)) =
-    then_fits n (ServesAll g (alone g) w (Ok delivered.0))
-    (Then (AdvancesWheel g (alone g) w (Ok delivered.1)) (Delivers g (alone g) w (Err e))) (all_served_fit n g w (Ok delivered.0))
-    (then_fits n (AdvancesWheel g (alone g) w (Ok delivered.1)) (Delivers g (alone g) w (Err e)) (advances_fit n g w (Ok delivered.1))
-    (delivers_fit n g w (Err e))) h m delivered.2
+pub turns_fit : (n q : ℕ) (g : Settings) (w : ℕ) (answer : Result Turned WantOfMemory) → AreFitting n q (Turns g (alone g) w answer)
+turns_fit n q g w (Ok t) h m turned =
+    then_fits n q (ServesAll g (alone g) w (Ok t.served)) (Then (AdvancesWheel g (alone g) w (Ok (t.to, t.fired))) (Delivers g (alone g) w (Ok (t.put, t.dropped))))
+    (all_served_fit n q g w (Ok t.served))
+    (then_fits n q (AdvancesWheel g (alone g) w (Ok (t.to, t.fired))) (Delivers g (alone g) w (Ok (t.put, t.dropped)))
+    (advances_fit n q g w (Ok (t.to, t.fired))) (delivers_fit n q g w (Ok (t.put, t.dropped)))) h m turned
+turns_fit n q g w (Err e) h m (inl served) = all_served_fit n q g w (Err e) h m served
+turns_fit n q g w (Err e) h m (inr (inl advanced)) =
+    then_fits n q (ServesAll g (alone g) w (Ok advanced.0)) (AdvancesWheel g (alone g) w (Err e)) (all_served_fit n q g w (Ok advanced.0))
+    (advances_fit n q g w (Err e)) h m advanced.1
+turns_fit n q g w (Err e) h m (inr (inr delivered)) =
+    then_fits n q (ServesAll g (alone g) w (Ok delivered.0))
+    (Then (AdvancesWheel g (alone g) w (Ok delivered.1)) (Delivers g (alone g) w (Err e))) (all_served_fit n q g w (Ok delivered.0))
+    (then_fits n q (AdvancesWheel g (alone g) w (Ok delivered.1)) (Delivers g (alone g) w (Err e)) (advances_fit n q g w (Ok delivered.1))
+    (delivers_fit n q g w (Err e))) h m delivered.2
 
 -- a world that fits goes on to one that does
-pub fits_on : (n : ℕ) (a b : Service) (call : Growth) → AreFitting n call → Goes a call b → FitsRows n a → FitsRows n b
+pub fits_on : (n : ℕ) (a b : Service) (call : Growth) → AreFitting n 0 call → Goes a call b → FitsRows n a → FitsRows n b
 fits_on n a b call fitting goes fits = record {
   processes = subst (λ (g : Settings). 2 ≤ g.processes) (sym goes.settings) fits.processes;
-  entries = fit_grows n call a.history b.history fitting fits.entries goes.grows;
+  entries = fit_grows n 0 call a.history b.history fitting fits.entries goes.grows;
 }
 
 pub fits_by : (n : ℕ) (a b : Service) (allows : Settings → State → List Entry → Type 0)
-    → ((s : State) (es : List Entry) → allows a.settings s es → AllFit n es) → Goes a (By a allows) b → FitsRows n a → FitsRows n b
+    → ((s : State) (es : List Entry) → allows a.settings s es → AllFit n 0 es) → Goes a (By a allows) b → FitsRows n a → FitsRows n b
 fits_by n a b allows fitting goes fits = fits_on n a b (By a allows) (λ h m made. fitting (state a.settings h) m made) goes fits
 
 pub fits_more : (n m : ℕ) (a : Service) → n ≤ m → FitsRows n a → FitsRows m a
-fits_more n m a more fits = record { processes = fits.processes; entries = fit_more n m a.history more fits.entries }
+fits_more n m a more fits = record { processes = fits.processes; entries = fit_more n m 0 a.history more fits.entries }

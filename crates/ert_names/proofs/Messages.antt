@@ -75,7 +75,7 @@ pub takes_next : (n : ℕ) (a b : Service) (taken : Taken) → Goes a (By a (λ 
 takes_next n a b (Mail (Timeout timer msg)) goes legal fits =
     let is = took n a b (Mail (Timeout timer msg)) goes legal fits in (
       record { goes = goes; known = is.0; first = is.1 },
-      fits_by n a b (λ g. Takes g 0 0 (Mail (Timeout timer msg))) (λ s es. takes_fit n a.settings 0 0 (Mail (Timeout timer msg)) s es) goes fits,
+      fits_by n a b (λ g. Takes g 0 0 (Mail (Timeout timer msg))) (λ s es. takes_fit n 0 a.settings 0 0 (Mail (Timeout timer msg)) s es) goes fits,
     )
 takes_next n a b (Mail (Bare msg)) goes legal fits = absurd (took n a b (Mail (Bare msg)) goes legal fits).0
 takes_next n a b (Mail (CancelDone timer left)) goes legal fits = absurd (took n a b (Mail (CancelDone timer left)) goes legal fits).0
@@ -83,6 +83,6 @@ takes_next n a b (Mail (ReadDone timer left)) goes legal fits = absurd (took n a
 takes_next n a b (Mail (Change monitor offset)) goes legal fits = absurd (took n a b (Mail (Change monitor offset)) goes legal fits).0
 takes_next n a b Empty goes legal fits = (
   record { goes = goes; empty = took n a b Empty goes legal fits },
-  fits_by n a b (λ g. Takes g 0 0 Empty) (λ s es. takes_fit n a.settings 0 0 Empty s es) goes fits,
+  fits_by n a b (λ g. Takes g 0 0 Empty) (λ s es. takes_fit n 0 a.settings 0 0 Empty s es) goes fits,
 )
 takes_next n a b Exited goes legal fits = absurd (took n a b Exited goes legal fits)

@@ -31,7 +31,7 @@ spares g n f e (Drop timer) is kept can =
     (known.0, other_dest (state g f) known.0.row.dest kept.lives known.1)
 spares g n f e _ is kept can = tt
 
-fit_first : (n : ℕ) (f m : List Entry) → AllFit n (f ++ m) → AllFit n f
+fit_first : (n : ℕ) (f m : List Entry) → AllFit n 0 (f ++ m) → AllFit n 0 f
 fit_first n [] m fit = tt
 fit_first n (e ∷ f) m fit = (fit.0, fit_first n f m fit.1)
 
@@ -56,6 +56,6 @@ promised n w stands fits =
           let whole : Legal g (f ++ (e ∷ m)) = subst (Legal g) is legal in
           let before = legal_first g (opening g) f (e ∷ m) whole in
           let after : LegalFrom g (state g f) (e ∷ m) = legal_then g (opening g) f (e ∷ m) whole in
-          let fit : AllFit n f = fit_first n f (e ∷ m) (subst (AllFit n) is fits.entries) in
+          let fit : AllFit n 0 f = fit_first n f (e ∷ m) (subst (AllFit n 0) is fits.entries) in
           spares g n f e e.event refl (kept_run g n (opening g) f (kept_opening g n) before fit) after.0);
     }

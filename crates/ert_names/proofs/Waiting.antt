@@ -46,7 +46,7 @@ counts_one by with timer wheel sched has =
     rw in_with refl
 
 queue_grows : (g : Settings) (n : ℕ) (s : State) (by : Actor) (with : Option Actor) (event : Event) (x : MailState) → IsKept n s → Keeps g by with event
-    → Fits n event → has_actor (record { by = by; with = with; event = event }) (MailOf 0) ≡ true
+    → Fits n 0 event → has_actor (record { by = by; with = with; event = event }) (MailOf 0) ≡ true
     → length (mail_after s.scheds x event).queue ≤ length x.queue + counts 0 (record { by = by; with = with; event = event })
 queue_grows g n s by with (Deliver timer) x kept keeps fits has =
     let one = message_one (s.scheds timer.wheel).fired in
@@ -59,7 +59,7 @@ queue_grows g n s by with (Take process got) x kept keeps fits has =
 queue_grows g n s by with (Tell process offset) x kept keeps fits has = absurd fits
 queue_grows g n s by with _ x kept keeps fits has = same_or (length x.queue) _
 
-next_grows : (g : Settings) (n : ℕ) (s : State) (e : Entry) → IsKept n s → Can g s e → Fits n e.event
+next_grows : (g : Settings) (n : ℕ) (s : State) (e : Entry) → IsKept n s → Can g s e → Fits n 0 e.event
     → length ((next g s e).mails 0).queue ≤ length (s.mails 0).queue + counts 0 e
 next_grows g n s e kept can fits = at (has_actor e (MailOf 0)) refl
   where
@@ -74,7 +74,7 @@ counted p e es = at (delivers_to p e)
     at true = omega arith
     at false = omega arith
 
-run_grows : (g : Settings) (n : ℕ) (s : State) (es : List Entry) → IsKept n s → LegalFrom g s es → AllFit n es
+run_grows : (g : Settings) (n : ℕ) (s : State) (es : List Entry) → IsKept n s → LegalFrom g s es → AllFit n 0 es
     → length ((run g s es).mails 0).queue ≤ length (s.mails 0).queue + deliveries 0 es
 run_grows g n s [] kept legal fit = same_or (length (s.mails 0).queue) _
 run_grows g n s (e ∷ es) kept legal fit =

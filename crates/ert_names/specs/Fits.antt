@@ -1,28 +1,36 @@
--- What a world of names leaves undone, so that its registrar has the messages of named timers alone.
+-- What a world of names leaves undone, so that its registrar has the messages of named timers alone and who has a
+-- name lives.
 
 use Rattle.std.specs.Prelude.{◌≡◌, ℕ, ◌<◌, ◌≤◌, false, List, [], ◌∷◌}
 use Rattle.ert_defs.specs.declared.entry.Entry.{Entry}
 use Rattle.ert_defs.specs.declared.entry.Event.{Event}
 use Rattle.ert_defs.specs.declared.entry.Event.TheVariants.{Arm, Ask, Mark, Tell, Watch}
 use Rattle.ert_defs.specs.declared.timer.Kind.TheVariants.{Wrapped}
+use Rattle.ert_names.specs.Living.{AreLiving}
+use Rattle.ert_names.specs.Names.{Names}
 use Rattle.ert_sched.specs.Worlds.{Service}
 
--- an event where so many rows were made: a timer for the registrar is wrapped and has the place of a row as its
--- message, the registrar doesn't exit, and nobody asks a scheduler for anything or watches the offset
-abbrev pub Fits : ℕ → Event → Type 0
-Fits rows (Arm timer start) = start.dest ≡ 0 → (start.kind ≡ Wrapped) × (start.msg < rows)
-Fits rows (Mark process exits was) = process ≡ 0 → exits ≡ false
-Fits rows (Ask wheel request) = ⊥
-Fits rows (Watch process monitor offset) = ⊥
-Fits rows (Tell process offset) = ⊥
-Fits rows _ = Unit {0}
+-- an event where so many rows were made, and by which a process doesn't exit: a timer for the registrar is wrapped
+-- and has the place of a row as its message, and nobody asks a scheduler for anything or watches the offset
+abbrev pub Fits : ℕ → ℕ → Event → Type 0
+Fits rows spared (Arm timer start) = start.dest ≡ 0 → (start.kind ≡ Wrapped) × (start.msg < rows)
+Fits rows spared (Mark process exits was) = process ≡ spared → exits ≡ false
+Fits rows spared (Ask wheel request) = ⊥
+Fits rows spared (Watch process monitor offset) = ⊥
+Fits rows spared (Tell process offset) = ⊥
+Fits rows spared _ = Unit {0}
 
--- each of these entries has such an event, where so many rows were made
-abbrev pub AllFit : ℕ → List Entry → Type 0
-AllFit rows [] = Unit {0}
-AllFit rows (e ∷ es) = Fits rows e.event × AllFit rows es
+-- each of these entries has such an event, where so many rows were made, and spares the process
+abbrev pub AllFit : ℕ → ℕ → List Entry → Type 0
+AllFit rows spared [] = Unit {0}
+AllFit rows spared (e ∷ es) = Fits rows spared e.event × AllFit rows spared es
 
--- a world fits so many rows
+-- a world fits so many rows, and its registrar doesn't exit
 pub record FitsRows (rows : ℕ) (w : Service) : Type 0 where
   pub processes : 2 ≤ w.settings.processes
-  pub entries : AllFit rows w.history
+  pub entries : AllFit rows 0 w.history
+
+-- a world fits so many rows, and each of these names is that of a process that lives
+pub record FitsNames (rows : ℕ) (names : Names) (w : Service) : Type 0 where
+  pub fits : FitsRows rows w
+  pub living : AreLiving names w

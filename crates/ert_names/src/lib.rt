@@ -8,7 +8,7 @@
 //! **What it promises.** Each call says how the names, the rows and the named mail change, and how the world's
 //! history grows (`specs/Calls.antt`). `NameWorld::world` says what every history has: it is legal, each timer
 //! has one life and so one message, the registrar lives and has the messages of named timers alone, and no exit
-//! settles one of these (`specs/Promised.antt`).
+//! settles one of these (`specs/Promised.antt`). Each name is that of a process that lives (`specs/Living.antt`).
 //!
 //! The module `names` of the tests of the crate `ert_world_tests` is an example of its use.
 //!

@@ -10,9 +10,10 @@ use ert_defs::NoMemory;
 const LONGEST_NAME: usize = 255;
 
 impl NameWorld {
-    ghost use Rattle.std.specs.Prelude.{◌<◌, is_some};
+    ghost use Rattle.std.specs.Prelude.{◌<◌, is_some, IfSome};
     ghost use Rattle.std.specs.FinMap as map;
     ghost use Rattle.ert_names.specs.Calls.{Registers, AreFree};
+    ghost use Rattle.ert_names.specs.Living.{Lives};
 
     /// Gives a name to a process that has none.
     ///
@@ -30,6 +31,7 @@ impl NameWorld {
         if !self.world.is_alive(process) {
             return Err(NameErr::BadArg);
         }
+        let _settings = self.world.settings();
         match self.registry.insert(self.alloc, name, process) {
             Ok(()) => Ok(()),
             Err(NoMemory) => Err(NameErr::NoMemory),
@@ -58,9 +60,10 @@ impl NameWorld {
         self.registry.remove(name).is_some()
     }
 
-    /// The process that has a name.
+    /// The process that has a name. It lives.
     pub fn whereis(&self, name: &str) -> Option<u32>
-        ensures { result ≡ map.get self.now.names name.now }
+        ensures value { result ≡ map.get self.now.names name.now }
+        ensures lives { IfSome result (Lives self.now.world) }
     {
         self.registry.process(name)
     }

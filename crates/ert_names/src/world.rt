@@ -26,7 +26,7 @@ impl Model for NameWorld {
     ghost use Rattle.std.specs.FinMap as map;
     ghost use Rattle.std.specs.Ordering.{nat_cmp};
     ghost use Rattle.std.specs.Prelude.{length};
-    ghost use Rattle.ert_names.specs.Fits.{FitsRows};
+    ghost use Rattle.ert_names.specs.Fits.{FitsNames};
     ghost use Rattle.ert_names.specs.Registered.{Registered, seen};
     ghost use Rattle.ert_timers.specs.Parts.{part_code};
 
@@ -36,13 +36,14 @@ impl Model for NameWorld {
 
     ghost view = { λ w. seen w.world w.registry w.rows.items w.mail.items };
 
-    ghost invariant = { λ w. FitsRows (length w.rows.items) w.world };
+    ghost invariant = { λ w. FitsNames (length w.rows.items) w.registry w.world };
 }
 
 impl NameWorld {
     ghost use Rattle.std.specs.Prelude.{◌≡◌, ◌≤◌, [], length, IfOk};
     ghost use Rattle.std.specs.FinMap as map;
     ghost use Rattle.ert_defs.specs.Settings.{IsChecked};
+    ghost use Rattle.ert_names.specs.Living.{AreLiving};
     ghost use Rattle.ert_names.specs.Openings.{IsOpened};
     ghost use Rattle.ert_names.specs.Promised.{IsPromised};
 
@@ -62,10 +63,12 @@ impl NameWorld {
     }
 
     /// The world with its clock, its timers and its mailboxes. Its history is legal. The registrar lives and
-    /// has the messages of named timers alone, and no exit settles one of these.
+    /// has the messages of named timers alone, and no exit settles one of these. Each name is that of a process
+    /// that lives.
     pub fn world(&self) -> &World
         ensures value { result.now ≡ self.now.world }
         ensures promised { IsPromised (length self.now.rows) self.now.world }
+        ensures living { AreLiving self.now.names self.now.world }
     {
         let _settings = self.world.settings();
         &self.world

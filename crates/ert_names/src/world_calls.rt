@@ -16,6 +16,7 @@ impl NameWorld {
     ghost use Rattle.ert_clock.specs.Ticks.{act_of, Gives};
     ghost use Rattle.ert_defs.specs.declared.entry.Actor.TheVariants.{Caller};
     ghost use Rattle.ert_names.specs.Calls.{GoesAlone, HasExited};
+    ghost use Rattle.ert_names.specs.Names.{Unnamed};
     ghost use Rattle.ert_sched.specs.Worlds.{By};
 
     /// Takes one reading of the OS clocks, as `World::tick`.
@@ -65,14 +66,17 @@ impl NameWorld {
         self.world.take(process)
     }
 
-    /// Lets a process exit, as `World::exit`. Where it hadn't exited before, its name goes too.
+    /// Lets a process exit, as `World::exit`. Where it hadn't exited before, its name goes too, so that it has
+    /// none after the call.
     pub fn exit(&mut self, process: u32) -> bool
         requires in_range { process < self.old.world.settings.processes }
         requires not_registrar { process ≢ 0 }
         ensures call { HasExited self.old process result (Exits self.old.world.settings (alone self.old.world.settings) 0 process result) self.new }
+        ensures unnamed { Unnamed self.new.names process }
         ensures clock { self.new.world.clock ≡ self.old.world.clock }
     {
         if !self.world.exit(process) {
+            let _settings = self.world.settings();
             return false;
         }
         self.registry.remove_process(process);

@@ -3,6 +3,7 @@ pub mod Composed
 pub mod Divided
 pub mod Given
 pub mod Gone
+pub mod Meetings
 pub mod NextDue
 pub mod SchedCalls
 pub mod Standing

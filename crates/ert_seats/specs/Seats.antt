@@ -9,10 +9,11 @@ use Rattle.ert_defs.specs.declared.entry.Actor.TheVariants.{Caller}
 use Rattle.ert_defs.specs.declared.entry.Entry.{Entry}
 use Rattle.ert_defs.specs.declared.settings.Settings.{Settings}
 use Rattle.ert_table.specs.Desks.{settings_of, front_of, actors_of, Belongs}
+use Rattle.ert_table.specs.Views.{longer}
 use Rattle.ert_table.specs.declared.desk.Desk.{Desk}
 use Rattle.ert_table.specs.declared.desk.Pass.{Pass}
-use Rattle.ert_seats.specs.SharedWorlds.{Shared}
-use Rattle.ert_seats.specs.Ways.{as_caller}
+use Rattle.ert_seats.specs.SharedWorlds.{Shared, Goes, By}
+use Rattle.ert_seats.specs.Ways.{MakesNone, as_caller}
 use Rattle.ert_seats.specs.declared.seat_err.SeatErr.{SeatErr}
 use Rattle.ert_seats.specs.declared.seat_err.SeatErr.TheVariants.{NoSeat, NoMemory}
 
@@ -58,6 +59,16 @@ pub record GivesSeat (old new : Shared) (seat : Seated) : Type 0 where
   pub number : seat.number ≡ old.next
   pub below : old.next < old.settings.callers
   pub rest : new ≡ record old { next = old.next + 1 }
+
+-- a world and a seat of its desk learn what the other knows, and neither makes an entry: both know one legal history
+-- then, the longer of the two that they knew, which the other begins
+pub record Meets (old : Shared) (seat : Seated) (new : Shared) (met : Seated) : Type 0 where
+  pub goes : Goes old (By old MakesNone) new
+  pub steps : Steps seat (BySeat seat MakesNone) met
+  pub one : met.history ≡ new.history
+  pub is_longer : new.history ≡ longer old.history seat.history
+  pub clock : new.clock ≡ old.clock
+  pub wheels : new.wheels ≡ old.wheels
 
 -- a seat is refused: every caller but 0 has one, or there is no memory
 abbrev pub IsSeatRefused : Shared → SeatErr → Type 0

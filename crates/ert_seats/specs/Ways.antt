@@ -3,7 +3,7 @@
 use Rattle.std.specs.Prelude.{◌≡◌, ℕ, Bool, false, ◌&&◌, not, nat_lt, List, [], ◌∷◌, filter}
 use Rattle.ert_answers.specs.Ways.{Step, Way}
 use Rattle.ert_defs.specs.Entries.{is_ours}
-use Rattle.ert_defs.specs.States.{state}
+use Rattle.ert_defs.specs.States.{State, state}
 use Rattle.ert_defs.specs.declared.entry.Actor.{Actor}
 use Rattle.ert_defs.specs.declared.entry.Actor.TheVariants.{Caller}
 use Rattle.ert_defs.specs.declared.entry.Entry.{Entry}
@@ -15,6 +15,10 @@ pub record Own (g : Settings) (is_own : Entry → Bool) (allows : Step) (h m : L
   pub entries : List Entry
   pub own : filter is_own m ≡ entries
   pub allowed : allows (state g h) entries
+
+-- a step that makes no entry
+abbrev pub MakesNone : Settings → State → List Entry → Type 0
+MakesNone g s es = es ≡ []
 
 -- the way of those whose entries pass a test, beside others
 abbrev pub among : Settings → (Entry → Bool) → Way

@@ -9,6 +9,7 @@
 //! | call | made by | beside others |
 //! |---|---|---|
 //! | `SharedWorld::open`, `of`, `seat` | | makes a world, and gives its next caller a seat |
+//! | `SharedWorld::meet` | | lets the world and a seat learn what the other knows |
 //! | `tick` to `turn`, as of `ert_sched::World` | caller 0 and the schedulers | all seats may step between two steps of a call |
 //! | `Seat::monotonic_time` to `is_alive` | the seat's caller | the world and all other seats may step between |
 //!
@@ -18,7 +19,8 @@
 //! call may make with its answer, in the state before the piece (`specs/Ways`, `beside_seats`). The relations are
 //! those of `ert_answers`, as they are of calls by one thread; where no seat was given out every entry is the
 //! world's own (`entries_are_divided`). A seat's history grows in the same way, by entries of its caller
-//! (`as_caller`). All these histories are beginnings of the desk's one legal history (`ert_table`).
+//! (`as_caller`). All these histories are beginnings of the desk's one legal history (`ert_table`): where a world
+//! and a seat meet (`SharedWorld::meet`), of what the two knew one begins the other, and then both know the longer.
 //!
 //! What a world has that no seat touches is as its history tells: the clock moves by the world's ticks alone, and
 //! so do wheels, inboxes, mailboxes and schedulers' lists by its calls. Timers are different: a seat may cancel
@@ -32,6 +34,7 @@
 mod clock_calls;
 mod laws;
 mod mail_calls;
+mod meeting;
 mod seat;
 mod seat_err;
 mod shared_world;

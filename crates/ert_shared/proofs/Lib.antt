@@ -3,5 +3,6 @@ pub mod Closed
 pub mod Divided
 pub mod Gathered
 pub mod Joined
+pub mod LegalFronts
 pub mod OpenedParts
 pub mod Settling

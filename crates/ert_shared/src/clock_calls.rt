@@ -14,7 +14,7 @@ impl<L: DeskName> Service<L> {
     ghost use Rattle.ert_answers.specs.declared.answers.StartErr.TheVariants.{NoMemory as WantOfMemory};
     ghost use Rattle.ert_defs.specs.States.{state};
     ghost use Rattle.ert_defs.specs.declared.entry.Actor.TheVariants.{Keeper, Wheel, Caller};
-    ghost use Rattle.ert_shared.specs.Fronts.{HasExited};
+    ghost use Rattle.ert_shared.specs.Fronts.{HasExited, IsLegal};
     ghost use Rattle.ert_shared.specs.Settled.{IsSettled};
     ghost use Rattle.ert_table.specs.Desks.{front_of};
 
@@ -30,6 +30,7 @@ impl<L: DeskName> Service<L> {
     ) -> (CallerSeat<L>, Result<Moved, ClockErr>)
         ensures number { result.0.number ≡ seat.number }
         ensures call { Grows (beside L.settings (Caller seat.number) (Keeper ∷ []) (Ticks L.settings seat.number reading force result.1)) (front_of seat.pass) (front_of result.0.pass) }
+        ensures legal { IsLegal L.settings (front_of result.0.pass) }
     {
         self.keeper.lock(rt).tick(&self.desk, seat, reading, force)
     }
@@ -46,6 +47,7 @@ impl<L: DeskName> Service<L> {
     ) -> (CallerSeat<L>, Result<(OffsetState, Moved), ClockErr>)
         ensures number { result.0.number ≡ seat.number }
         ensures call { Grows (beside L.settings (Caller seat.number) (Keeper ∷ []) (Finalizes L.settings seat.number reading result.1)) (front_of seat.pass) (front_of result.0.pass) }
+        ensures legal { IsLegal L.settings (front_of result.0.pass) }
     {
         self.keeper.lock(rt).finalize(&self.desk, seat, reading)
     }
@@ -68,6 +70,7 @@ impl<L: DeskName> Service<L> {
         ensures memory { result.1 ≢ Err WantOfMemory }
         ensures settled { HasExited L.settings (front_of seat.pass) start.now.dest → IfOk result.1 (λ timer. IsSettled (state L.settings (front_of result.0.pass)) timer) }
         ensures call { Grows (beside L.settings (Caller seat.number) (Wheel wheel ∷ []) (Starts L.settings seat.number wheel start.now result.1)) (front_of seat.pass) (front_of result.0.pass) }
+        ensures legal { IsLegal L.settings (front_of result.0.pass) }
     {
         for _ in rt.forever() {
             let mut locked = self.wheels[wheel as usize].lock(rt);

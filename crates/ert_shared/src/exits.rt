@@ -12,7 +12,7 @@ impl<L: DeskName> Service<L> {
     ghost use Rattle.ert_answers.specs.WheelCalls.{MarksExit};
     ghost use Rattle.ert_defs.specs.States.{state};
     ghost use Rattle.ert_defs.specs.declared.entry.Actor.TheVariants.{Caller};
-    ghost use Rattle.ert_shared.specs.Fronts.{HasExited};
+    ghost use Rattle.ert_shared.specs.Fronts.{HasExited, IsLegal};
     ghost use Rattle.ert_shared.specs.Settled.{NoneFor};
     ghost use Rattle.ert_table.specs.Desks.{front_of};
 
@@ -23,6 +23,7 @@ impl<L: DeskName> Service<L> {
         ensures number { result.0.number ≡ seat.number }
         ensures swept { result.1 ≡ true → (wheel : ℕ) → wheel < L.settings.schedulers → NoneFor (state L.settings (front_of seat.pass)) (state L.settings (front_of result.0.pass)) wheel process }
         ensures call { Grows (Exits L.settings (beside L.settings (Caller seat.number)) seat.number process result.1) (front_of seat.pass) (front_of result.0.pass) }
+        ensures legal { IsLegal L.settings (front_of result.0.pass) }
     {
         let (seat, new) = self.mark(seat, process);
         if !new {

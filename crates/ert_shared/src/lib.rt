@@ -9,7 +9,7 @@
 //! tell a call of one thread too (`ert_answers`), said over the way `beside`. So from the place at which a
 //! call gets a lock on, no other entry of the seat's actor or of the part stands between its own, and they
 //! are allowed in the state at that place. A call that has taken several locks is the chain of its steps,
-//! between which others may step.
+//! between which others may step. What the seat that a call gives back knows is a legal history.
 //!
 //! Which number a lock guards is known to nobody but who holds it. So a call that finds another number lets
 //! go and tries again. Nothing is claimed of progress: a call may wait for a lock for ever.

@@ -11,6 +11,7 @@ impl<L: DeskName> Service<L> {
     ghost use Rattle.ert_answers.specs.RequestCalls.{Asks, inbox_for};
     ghost use Rattle.ert_answers.specs.Ways.{Grows, beside};
     ghost use Rattle.ert_defs.specs.declared.entry.Actor.TheVariants.{Inbox, MailOf, Caller};
+    ghost use Rattle.ert_shared.specs.Fronts.{IsLegal};
     ghost use Rattle.ert_table.specs.Desks.{front_of};
 
     /// Asks the scheduler of a timer to cancel or to read it (`erlang` module reference, `cancel_timer` and
@@ -26,6 +27,7 @@ impl<L: DeskName> Service<L> {
         requires { request.reply_to < L.settings.processes }
         ensures number { result.0.number ≡ seat.number }
         ensures call { Grows (beside L.settings (Caller seat.number) (Inbox (inbox_for L.settings request) ∷ []) (Asks L.settings seat.number (inbox_for L.settings request) request result.1)) (front_of seat.pass) (front_of result.0.pass) }
+        ensures legal { IsLegal L.settings (front_of result.0.pass) }
     {
         let wheel = self.inbox_for(&request);
         for _ in rt.forever() {
@@ -56,6 +58,7 @@ impl<L: DeskName> Service<L> {
         requires { process < L.settings.processes }
         ensures number { result.0.number ≡ seat.number }
         ensures call { Grows (beside L.settings (Caller seat.number) (MailOf process ∷ []) (Takes L.settings seat.number process result.1)) (front_of seat.pass) (front_of result.0.pass) }
+        ensures legal { IsLegal L.settings (front_of result.0.pass) }
     {
         for _ in rt.forever() {
             let mut locked = self.mails[process as usize].lock(rt);
@@ -80,6 +83,7 @@ impl<L: DeskName> Service<L> {
         requires { process < L.settings.processes }
         ensures number { result.0.number ≡ seat.number }
         ensures call { Grows (beside L.settings (Caller seat.number) (MailOf process ∷ []) (Monitors L.settings seat.number process result.1)) (front_of seat.pass) (front_of result.0.pass) }
+        ensures legal { IsLegal L.settings (front_of result.0.pass) }
     {
         for _ in rt.forever() {
             let mut locked = self.mails[process as usize].lock(rt);
@@ -101,6 +105,7 @@ impl<L: DeskName> Service<L> {
         requires { process < L.settings.processes }
         ensures number { result.0.number ≡ seat.number }
         ensures call { Grows (beside L.settings (Caller seat.number) (MailOf process ∷ []) (Demonitors L.settings seat.number process monitor result.1)) (front_of seat.pass) (front_of result.0.pass) }
+        ensures legal { IsLegal L.settings (front_of result.0.pass) }
     {
         for _ in rt.forever() {
             let mut locked = self.mails[process as usize].lock(rt);
@@ -124,6 +129,7 @@ impl<L: DeskName> Service<L> {
         requires { process < L.settings.processes }
         ensures number { result.0.number ≡ seat.number }
         ensures call { Grows (beside L.settings (Caller seat.number) (MailOf process ∷ []) (Tells L.settings seat.number process result.1)) (front_of seat.pass) (front_of result.0.pass) }
+        ensures legal { IsLegal L.settings (front_of result.0.pass) }
     {
         for _ in rt.forever() {
             let mut locked = self.mails[process as usize].lock(rt);

@@ -16,6 +16,7 @@ impl<L: DeskName> Service<L> {
     ghost use Rattle.ert_defs.specs.Mails.{first_of, others_of};
     ghost use Rattle.ert_defs.specs.States.{state};
     ghost use Rattle.ert_defs.specs.declared.entry.Actor.TheVariants.{Inbox, Sched, MailOf};
+    ghost use Rattle.ert_shared.specs.Fronts.{IsLegal};
     ghost use Rattle.ert_shared.specs.Settled.{NoneDue};
     ghost use Rattle.ert_table.specs.Desks.{front_of};
 
@@ -86,6 +87,7 @@ impl<L: DeskName> Service<L> {
         ensures number { result.0.part.wheel ≡ seat.part.wheel }
         ensures due { IfOk result.1 (λ answer. NoneDue (state L.settings (front_of result.0.pass)) seat.part.wheel answer.0) }
         ensures call { Grows (AdvancesWheel L.settings (beside L.settings (Sched seat.part.wheel)) seat.part.wheel result.1) (front_of seat.pass) (front_of result.0.pass) }
+        ensures legal { IsLegal L.settings (front_of result.0.pass) }
     {
         let wheel = seat.part.wheel;
         for _ in rt.forever() {

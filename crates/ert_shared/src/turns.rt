@@ -15,6 +15,7 @@ impl<L: DeskName> Service<L> {
     ghost use Rattle.ert_answers.specs.Ways.{Grows, beside};
     ghost use Rattle.ert_defs.specs.States.{state};
     ghost use Rattle.ert_defs.specs.declared.entry.Actor.TheVariants.{Sched};
+    ghost use Rattle.ert_shared.specs.Fronts.{IsLegal};
     ghost use Rattle.ert_shared.specs.Settled.{NoneWaits};
     ghost use Rattle.ert_table.specs.Desks.{front_of};
 
@@ -29,6 +30,7 @@ impl<L: DeskName> Service<L> {
     ) -> (SchedSeat<L>, Result<bool, NoMemory>)
         ensures number { result.0.part.wheel ≡ seat.part.wheel }
         ensures call { Grows (Serves L.settings (beside L.settings (Sched seat.part.wheel)) seat.part.wheel result.1) (front_of seat.pass) (front_of result.0.pass) }
+        ensures legal { IsLegal L.settings (front_of result.0.pass) }
     {
         let (seat, request) = self.hold(rt, seat);
         let Some(request) = request else {
@@ -75,6 +77,7 @@ impl<L: DeskName> Service<L> {
         ensures number { result.0.part.wheel ≡ seat.part.wheel }
         ensures none { OnOk result.1 (NoneWaits (state L.settings (front_of result.0.pass)) seat.part.wheel) }
         ensures call { Grows (Delivers L.settings (beside L.settings (Sched seat.part.wheel)) seat.part.wheel result.1) (front_of seat.pass) (front_of result.0.pass) }
+        ensures legal { IsLegal L.settings (front_of result.0.pass) }
     {
         let mut next = seat;
         let mut put = 0;
@@ -103,6 +106,7 @@ impl<L: DeskName> Service<L> {
         ensures number { result.0.part.wheel ≡ seat.part.wheel }
         ensures none { OnOk result.1 (NoneWaits (state L.settings (front_of result.0.pass)) seat.part.wheel) }
         ensures call { Grows (Turns L.settings (beside L.settings (Sched seat.part.wheel)) seat.part.wheel result.1) (front_of seat.pass) (front_of result.0.pass) }
+        ensures legal { IsLegal L.settings (front_of result.0.pass) }
     {
         let (seat, served) = self.serve_all(rt, seat);
         let served = match served {

@@ -5,19 +5,23 @@ use Rattle.ert_names.specs.Handing.{TakesNext, HandsNone, HandsOne}
 use Rattle.ert_names.specs.declared.named.NamedMail.{NamedMail}
 use Rattle.ert_names.specs.Registered.{Registered, seen, row_of}
 use Rattle.ert_names.proofs.Handing.{posted_row, sent, unsent}
+use Rattle.ert_names.proofs.Living.{names_next}
 use Rattle.ert_names.proofs.world.NameWorld.hand_next.Goals as goal
+
+pub take_message-requires : goal.take_message-requires
+take_message-requires c = (length c.self.inside.rows.items, c.self.invariant.fits)
 
 pub invariant_of-self-in_default : goal.invariant_of-self-in_default
 invariant_of-self-in_default c =
     let n = length c.self.inside.rows.items in
-    let result : c.take_message.result ≡ None = search rules in
-    (subst (λ m. TakesNext n c.self.inside.world m c.take_message.new.world) result (c.take_message.ensures.call n c.self.invariant)).1
+    names_next n c.self.inside.registry c.self.inside.world c.take_message.new.world c.take_message.result (c.take_message.ensures.call n c.self.invariant.fits)
+    c.self.invariant
 
 pub returns-in_default-clause-call : goal.returns-in_default-clause-call
 returns-in_default-clause-call c =
     let n = length c.self.inside.rows.items in
     let result : c.take_message.result ≡ None = search rules in
-    let none = (subst (λ m. TakesNext n c.self.inside.world m c.take_message.new.world) result (c.take_message.ensures.call n c.self.invariant)).0 in
+    let none = (subst (λ m. TakesNext n c.self.inside.world m c.take_message.new.world) result (c.take_message.ensures.call n c.self.invariant.fits)).0 in
     let after = seen c.take_message.new.world c.self.inside.registry c.self.inside.rows.items c.reserve.new.self.items in
     subst (λ (w : Registered). HandsNone w after) c.self.view_is
     (record { alone = record { goes = none.goes; names = refl; rows = refl; mail = c.reserve.ensures.items }; empty = none.empty })
@@ -26,7 +30,7 @@ pub index-row-requires : goal.index-row-requires
 index-row-requires c =
     let n = length c.self.inside.rows.items in
     let result : c.take_message.result ≡ Some (c.in-Some.timer, c.in-Some.place) = search rules in
-    let next = (subst (λ m. TakesNext n c.self.inside.world m c.take_message.new.world) result (c.take_message.ensures.call n c.self.invariant)).0 in
+    let next = (subst (λ m. TakesNext n c.self.inside.world m c.take_message.new.world) result (c.take_message.ensures.call n c.self.invariant.fits)).0 in
     let low : c.in-Some.place < n = next.known in
     let ok = c.self.inside.rows.ok in
     omega (arith, ok, low)
@@ -34,14 +38,14 @@ index-row-requires c =
 pub invariant_of-self-in_default-process : goal.invariant_of-self-in_default-process
 invariant_of-self-in_default-process c =
     let n = length c.self.inside.rows.items in
-    let result : c.take_message.result ≡ Some (c.in-Some.timer, c.in-Some.place) = search rules in
-    (subst (λ m. TakesNext n c.self.inside.world m c.take_message.new.world) result (c.take_message.ensures.call n c.self.invariant)).1
+    names_next n c.self.inside.registry c.self.inside.world c.take_message.new.world c.take_message.result (c.take_message.ensures.call n c.self.invariant.fits)
+    c.self.invariant
 
 pub returns-in_default-process-clause-call : goal.returns-in_default-process-clause-call
 returns-in_default-process-clause-call c =
     let n = length c.self.inside.rows.items in
     let result : c.take_message.result ≡ Some (c.in-Some.timer, c.in-Some.place) = search rules in
-    let next = (subst (λ m. TakesNext n c.self.inside.world m c.take_message.new.world) result (c.take_message.ensures.call n c.self.invariant)).0 in
+    let next = (subst (λ m. TakesNext n c.self.inside.world m c.take_message.new.world) result (c.take_message.ensures.call n c.self.invariant.fits)).0 in
     let found : c.process.result ≡ None = search rules in
     let before = seen c.self.inside.world c.self.inside.registry c.self.inside.rows.items c.self.inside.mail.items in
     let after = seen c.take_message.new.world c.self.inside.registry c.self.inside.rows.items c.reserve.new.self.items in
@@ -53,14 +57,14 @@ returns-in_default-process-clause-call c =
 pub invariant_of-self-2 : goal.invariant_of-self-2
 invariant_of-self-2 c =
     let n = length c.self.inside.rows.items in
-    let result : c.take_message.result ≡ Some (c.in-Some.timer, c.in-Some.place) = search rules in
-    (subst (λ m. TakesNext n c.self.inside.world m c.take_message.new.world) result (c.take_message.ensures.call n c.self.invariant)).1
+    names_next n c.self.inside.registry c.self.inside.world c.take_message.new.world c.take_message.result (c.take_message.ensures.call n c.self.invariant.fits)
+    c.self.invariant
 
 pub returns-clause-call : goal.returns-clause-call
 returns-clause-call c =
     let n = length c.self.inside.rows.items in
     let result : c.take_message.result ≡ Some (c.in-Some.timer, c.in-Some.place) = search rules in
-    let next = (subst (λ m. TakesNext n c.self.inside.world m c.take_message.new.world) result (c.take_message.ensures.call n c.self.invariant)).0 in
+    let next = (subst (λ m. TakesNext n c.self.inside.world m c.take_message.new.world) result (c.take_message.ensures.call n c.self.invariant.fits)).0 in
     let found : c.process.result ≡ Some c.in-Some-process.process = search rules in
     let before = seen c.self.inside.world c.self.inside.registry c.self.inside.rows.items c.self.inside.mail.items in
     let after = seen c.take_message.new.world c.self.inside.registry c.self.inside.rows.items c.push_reserved.new.self.items in

@@ -1,11 +1,12 @@
 use Rattle.std.specs.Prelude.{length}
 use Rattle.ert_answers.specs.TimerCalls.{Reads}
 use Rattle.ert_defs.specs.declared.entry.Actor.TheVariants.{Caller}
-use Rattle.ert_names.proofs.Fitting.{fits_by, reads_fit}
+use Rattle.ert_names.proofs.Fitting.{reads_fit}
+use Rattle.ert_names.proofs.Living.{names_by}
 use Rattle.ert_names.proofs.world.NameWorld.read_timer.Goals as goal
 
 pub invariant_of-self : goal.invariant_of-self
 invariant_of-self c =
     let n = length c.self.inside.rows.items in
     let w = c.self.inside.world in
-    fits_by n w c.read_timer.new.self (λ g. Reads g (Caller 0) c.args.timer c.read_timer.result) (λ s es. reads_fit n w.settings (Caller 0) c.args.timer c.read_timer.result s es) c.read_timer.ensures.call c.self.invariant
+    names_by n c.self.inside.registry w c.read_timer.new.self (λ g. Reads g (Caller 0) c.args.timer c.read_timer.result) (λ q s es. reads_fit n q w.settings (Caller 0) c.args.timer c.read_timer.result s es) c.read_timer.ensures.call c.self.invariant

@@ -4,10 +4,11 @@ use Rattle.ert_answers.specs.declared.answers.StartErr.{StartErr}
 use Rattle.ert_answers.specs.declared.answers.StartErr.TheVariants.{NoMemory}
 use Rattle.ert_defs.specs.declared.timer.TimerRef.{TimerRef}
 use Rattle.ert_names.specs.Calls.{HasStarted, StartsAt, StartsNamed, start_at}
-use Rattle.ert_names.specs.Fits.{FitsRows}
+use Rattle.ert_names.specs.Fits.{FitsNames}
 use Rattle.ert_names.specs.Registered.{Registered, Row, seen, row_of}
-use Rattle.ert_names.proofs.Fitting.{fits_by, fits_more, starts_fit, refused_start_fits}
+use Rattle.ert_names.proofs.Fitting.{starts_fit, refused_start_fits}
 use Rattle.ert_names.proofs.Handing.{refused_named, map_more, place_is, place_of, longer_by}
+use Rattle.ert_names.proofs.Living.{names_by, names_more}
 use Rattle.ert_sched.specs.Worlds.{Goes, By}
 use Rattle.ert_names.proofs.world.NameWorld.start_named.Goals as goal
 
@@ -20,8 +21,8 @@ invariant_of-self-in_err-timer c =
     let result : c.start.result ≡ Err e = search rules in
     let goes : Goes w (By w (λ g. Starts g 0 c.args.wheel start (Err e))) c.start.new.self =
     subst (λ r. Goes w (By w (λ g. Starts g 0 c.args.wheel start r)) c.start.new.self) result c.start.ensures.call in
-    subst (λ (l : _). FitsRows (length l) c.start.new.self) (sym c.reserve.ensures.items)
-    (fits_by n w c.start.new.self (λ g. Starts g 0 c.args.wheel start (Err e)) (λ s es. refused_start_fits n w.settings 0 c.args.wheel start e s es) goes
+    subst (λ (l : _). FitsNames (length l) c.self.inside.registry c.start.new.self) (sym c.reserve.ensures.items)
+    (names_by n c.self.inside.registry w c.start.new.self (λ g. Starts g 0 c.args.wheel start (Err e)) (λ q s es. refused_start_fits n q w.settings 0 c.args.wheel start e s es) goes
     c.self.invariant)
 
 pub returns-in_err-timer-clause-call : goal.returns-in_err-timer-clause-call
@@ -57,10 +58,10 @@ invariant_of-self-2 c =
     longer_by c.push_reserved.new.self.items c.self.inside.rows.items (record { name = c.in-Ok.name; msg = c.args.msg; kind = c.args.kind })
     (c.push_reserved.ensures.items ∙ ap (λ l. l ++ (record { name = c.in-Ok.name; msg = c.args.msg; kind = c.args.kind }) ∷ []) c.reserve.ensures.items) in
     let low : start.msg < n + 1 = omega (arith, place) in
-    subst (λ k. FitsRows k c.start.new.self) (sym longer)
-    (fits_by (n + 1) w c.start.new.self (λ g. Starts g 0 c.args.wheel start c.start.result)
-    (λ s es. starts_fit (n + 1) w.settings 0 c.args.wheel start c.start.result s es (λ is. (refl, low))) c.start.ensures.call
-    (fits_more n (n + 1) w (omega arith) c.self.invariant))
+    subst (λ k. FitsNames k c.self.inside.registry c.start.new.self) (sym longer)
+    (names_by (n + 1) c.self.inside.registry w c.start.new.self (λ g. Starts g 0 c.args.wheel start c.start.result)
+    (λ q s es. starts_fit (n + 1) q w.settings 0 c.args.wheel start c.start.result s es (λ is. (refl, low))) c.start.ensures.call
+    (names_more n (n + 1) c.self.inside.registry w (omega arith) c.self.invariant))
 
 pub returns-clause-call : goal.returns-clause-call
 returns-clause-call c =

@@ -1,10 +1,11 @@
 use Rattle.std.specs.Prelude.{length}
 use Rattle.ert_answers.specs.MailCalls.{Takes}
-use Rattle.ert_names.proofs.Fitting.{fits_by, takes_fit}
+use Rattle.ert_names.proofs.Fitting.{takes_fit}
+use Rattle.ert_names.proofs.Living.{names_by}
 use Rattle.ert_names.proofs.world.NameWorld.take.Goals as goal
 
 pub invariant_of-self : goal.invariant_of-self
 invariant_of-self c =
     let n = length c.self.inside.rows.items in
     let w = c.self.inside.world in
-    fits_by n w c.take.new.self (λ g. Takes g 0 c.args.process c.take.result) (λ s es. takes_fit n w.settings 0 c.args.process c.take.result s es) c.take.ensures.call c.self.invariant
+    names_by n c.self.inside.registry w c.take.new.self (λ g. Takes g 0 c.args.process c.take.result) (λ q s es. takes_fit n q w.settings 0 c.args.process c.take.result s es) c.take.ensures.call c.self.invariant

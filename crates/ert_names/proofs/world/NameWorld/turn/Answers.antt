@@ -5,8 +5,9 @@ use Rattle.ert_defs.specs.declared.memory.NoMemory.{NoMemory}
 use Rattle.ert_names.specs.Calls.{TurnsNamed, HasTurned}
 use Rattle.ert_names.specs.Handing.{HandsAll, HandsThem, HandsSome}
 use Rattle.ert_names.specs.Registered.{Registered, seen}
-use Rattle.ert_names.proofs.Fitting.{fits_on, turns_fit}
+use Rattle.ert_names.proofs.Fitting.{turns_fit}
 use Rattle.ert_names.proofs.Handing.{turned, stopped}
+use Rattle.ert_names.proofs.Living.{names_on}
 use Rattle.ert_sched.specs.Worlds.{Goes}
 use Rattle.ert_names.proofs.world.NameWorld.turn.Goals as goal
 
@@ -14,7 +15,8 @@ pub invariant_of-self : goal.invariant_of-self
 invariant_of-self c =
     let n = length c.self.inside.rows.items in
     let g = c.self.inside.world.settings in
-    fits_on n c.self.inside.world c.turn.new.self (Turns g (alone g) c.args.sched c.turn.result) (turns_fit n g c.args.sched c.turn.result) c.turn.ensures.call
+    names_on n c.self.inside.registry c.self.inside.world c.turn.new.self (Turns g (alone g) c.args.sched c.turn.result)
+    (λ q. turns_fit n q g c.args.sched c.turn.result) c.turn.ensures.call
     c.self.invariant
 
 pub returns-in_err-turned-clause-call : goal.returns-in_err-turned-clause-call
@@ -34,7 +36,8 @@ pub invariant_of-self-2 : goal.invariant_of-self-2
 invariant_of-self-2 c =
     let n = length c.self.inside.rows.items in
     let g = c.self.inside.world.settings in
-    fits_on n c.self.inside.world c.turn.new.self (Turns g (alone g) c.args.sched c.turn.result) (turns_fit n g c.args.sched c.turn.result) c.turn.ensures.call
+    names_on n c.self.inside.registry c.self.inside.world c.turn.new.self (Turns g (alone g) c.args.sched c.turn.result)
+    (λ q. turns_fit n q g c.args.sched c.turn.result) c.turn.ensures.call
     c.self.invariant
 
 pub returns-in_err-handed-clause-call : goal.returns-in_err-handed-clause-call
