@@ -109,9 +109,9 @@ first_of plan start v done rs are opened ran stands =
     (first_lines plan.settings plan.ops done ran.grows.piece rs v.labels are there.clock.legal (script_of plan.settings start v some rs opened ran))
 
 -- the run stopped after some first ops
-pub breaks : (plan : Plan) (start : Service) (old new : Told) → AreOps plan.ops → IsOpened plan.settings start
-    → WritesSome start plan.ops old new → TakesFront old new (transcript plan)
-breaks plan start old new are opened some =
+pub breaks : (plan : Plan) (start w : Service) (why : RunErr) (old new : Told) → AreOps plan.ops → IsOpened plan.settings start
+    → WritesSome start plan.ops w why old new → TakesFront old new (transcript plan)
+breaks plan start w why old new are opened some =
     let is = first_of plan start some.reached some.done some.replies are opened some.runs some.stands in
     front_of old new (lines_of start.labels (take some.done plan.ops) some.replies) is.0 (transcript plan) is.1 some.writes
 

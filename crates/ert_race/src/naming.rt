@@ -1,12 +1,12 @@
 //! The labels of a race, for the lines of its report.
-ghost use Rattle.std.specs.Prelude.{◌++◌, IfOk, OnOk};
+ghost use Rattle.std.specs.Prelude.{IfOk};
 ghost use Rattle.ert_lines.specs.Names.{IsIndexOf};
 ghost use Rattle.ert_outcome.specs.Reports.{all_labels};
 ghost use Rattle.ert_race.specs.Lists.{dids_of};
-ghost use Rattle.ert_transcript.specs.Labels.{Labels};
 
 use ert_defs::{NoMemory, TimerRef};
 use ert_lines::Names;
+use ert_script::{bind_all, name_pairs};
 use ert_workers::ListDone;
 use std::alloc::Global;
 
@@ -23,23 +23,4 @@ pub fn name_all(
         bind_all(&mut names, &list.own)?;
     }
     Ok(names)
-}
-
-/// An index of these labels.
-pub fn name_pairs(alloc: Global, labels: &[(u32, TimerRef)]) -> Result<Names, NoMemory>
-    ensures { IfOk result (IsIndexOf labels.now) }
-{
-    let mut names = Names::new(alloc);
-    bind_all(&mut names, labels)?;
-    Ok(names)
-}
-
-/// Binds labels as the last ones.
-fn bind_all(names: &mut Names, pairs: &[(u32, TimerRef)]) -> Result<(), NoMemory>
-    ensures { (labels : Labels) → IsIndexOf labels names.old → OnOk result (IsIndexOf (labels ++ pairs.now) names.new) }
-{
-    for (label, timer) in pairs {
-        names.bind(*label, timer)?;
-    }
-    Ok(())
 }

@@ -11,7 +11,6 @@ ghost use Rattle.ert_sched.specs.Worlds.{AreFit, seen};
 ghost use Rattle.ert_shared.specs.Dividing.{AreSeated};
 ghost use Rattle.ert_table.specs.Desks.{front_of};
 
-use crate::naming::name_pairs;
 use crate::round::last_round;
 use crate::workers::{do_lists, make_turns};
 use ert_defs::NoMemory;
@@ -19,7 +18,7 @@ use ert_lines::Names;
 use ert_locks::{CallerSeat, DeskName, SchedSeat};
 use ert_ops::RaceLists;
 use ert_sched::{Parts, World};
-use ert_script::history_stands;
+use ert_script::{history_stands, name_pairs};
 use ert_shared::{Gate, Opened, Service};
 use ert_workers::ListDone;
 use std::alloc::Global;

@@ -1,7 +1,8 @@
 -- A run as far as it has come.
 
-use Rattle.std.proofs.Common.{◌≡◌, ℕ, ◌+◌, ◌<◌, List, [], ◌∷◌, ◌++◌, take, drop, length, get_or, Option, zero, suc, arith, refl, sym, subst, ap, ◌∙◌, append_assoc, append-nil}
-use Rattle.std.specs.Prelude.{Result, Ok, Err, OnErr, ◌≤◌}
+use Rattle.std.proofs.Common.{◌≡◌, ℕ, ◌+◌, ◌<◌, List, [], ◌∷◌, ◌++◌, take, drop, length, get_or, Option, zero, suc, inl, inr, arith, refl, sym, subst, ap, ◌∙◌, append_assoc, append-nil}
+use Rattle.std.specs.Prelude.{Result, Ok, Err, OnErr, IfErr, ◌≤◌}
+use Rattle.std.proofs.Math.Seq.{drop-cons}
 use Rattle.std.proofs.lemmas.List.{take_more, take_all}
 use Rattle.ert_answers.specs.Ways.{alone}
 use Rattle.ert_io.proofs.Takes.{took-took, took-none, fits_after}
@@ -10,12 +11,14 @@ use Rattle.ert_io.specs.Told.{Told, told, took, room_after, TakesFront}
 use Rattle.ert_defs.specs.declared.entry.Entry.{Entry}
 use Rattle.ert_defs.specs.declared.settings.Settings.{Settings}
 use Rattle.ert_lines.specs.Written.{Moves}
+use Rattle.ert_lines.specs.declared.output.RunErr.{RunErr}
+use Rattle.ert_lines.specs.declared.output.RunErr.TheVariants.{NoMemory}
 use Rattle.ert_ops.specs.Ranges.{IsOpInRange, IsInRange}
 use Rattle.ert_ops.specs.declared.op.Op.{Op}
 use Rattle.ert_sched.specs.Worlds.{Service, StandsFor}
 use Rattle.ert_script.proofs.Labels.{MayGoOn, others_may_at}
-use Rattle.ert_script.specs.Scripts.{Does, Runs}
-use Rattle.ert_script.specs.Written.{RunsAll, WritesRun, WritesSome, LinesFit}
+use Rattle.ert_script.specs.Scripts.{Does, Fails, Runs}
+use Rattle.ert_script.specs.Written.{RunsAll, RunsSome, StopsAt, WritesRun, WritesSome, LinesFit}
 use Rattle.ert_transcript.specs.Calls.{Calls}
 use Rattle.ert_transcript.specs.Labels.{Labels, label_of}
 use Rattle.ert_transcript.specs.Lines.{line_of}
@@ -166,12 +169,49 @@ pub may_at : (v w : Service) (list : List Op) (i : ℕ) (d : Op) (r : Reply) →
 may_at v w list i d r below may done =
     subst (λ (ls : Labels). MayGoOn (drop (i + 1) list) ls) (sym done.labels) (others_may_at list i d v.labels r below may)
 
--- the output stopped while the line of one more op was put
-pub breaks_at : (start v w : Service) (list : List Op) (i : ℕ) (d : Op) (old now new : Told) (page : List ℕ) (r : Reply)
+-- a world that stopped as some ops had left it
+stops_here : (v : Service) (rest : List Op) → StopsAt v rest v
+stops_here v [] = refl
+stops_here v (op ∷ rest) = inl refl
+
+-- a world that had no memory for the op at an index
+stops_in : (v w : Service) (list : List Op) (i : ℕ) (d : Op) → i < length list → Fails v (get_or list i d) w → StopsAt v (drop i list) w
+stops_in v w list i d below failed = subst (λ (rest : List Op). StopsAt v rest w) (sym (drop-cons list i d below)) (inr failed)
+
+-- there was no memory before the first op
+pub none_written : (w : Service) (list : List Op) (taken : Option (List ℕ)) (room : Option ℕ) → StandsFor w.settings w.history w
+    → WritesSome w list w NoMemory (told taken room) (told taken room)
+none_written w list taken room stands = record {
+  done = 0;
+  replies = [];
+  reached = w;
+  runs = runs_none w;
+  stands = stands;
+  stops = stops_here w list;
+  between = λ fault. refl;
+  writes = record { front = []; others = []; took = took-none taken room; whole = refl };
+}
+
+-- there was none for one more op
+pub fails_at : (start v w : Service) (list : List Op) (i : ℕ) (d : Op) (old now : Told) (page : List ℕ) → i < length list
+    → IsSoFar start (take i list) v old now page → Fails v (get_or list i d) w → WritesSome start list w NoMemory old now
+fails_at start v w list i d old now page below far failed = record {
+  done = i;
+  replies = far.replies;
+  reached = v;
+  runs = far.runs;
+  stands = far.stands;
+  stops = stops_in v w list i d below failed;
+  between = λ fault. absurd cc;
+  writes = record { front = far.front; others = page; took = far.took; whole = far.whole };
+}
+
+-- the output stopped while the line of one more op was put, or there was no memory for it
+pub breaks_at : (start v w : Service) (list : List Op) (i : ℕ) (d : Op) (old now new : Told) (page : List ℕ) (r : Reply) (why : RunErr)
     → i < length list → IsSoFar start (take i list) v old now page
     → Does v (get_or list i d) r w → StandsFor w.settings w.history w → TakesFront now new (page ++ line_of (label_of w.labels) r)
-    → WritesSome start list old new
-breaks_at start v w list i d old now new page r below far done stands written =
+    → WritesSome start list w why old new
+breaks_at start v w list i d old now new page r why below far done stands written =
     let all : IsSoFar start (take (i + 1) list) w old new written.others =
     goes_on_at start v w list i d old now new page written.others r below far done stands
     (record { part = written.front; took = written.took; whole = written.whole }) in
@@ -181,6 +221,8 @@ breaks_at start v w list i d old now new page r below far done stands written =
       reached = w;
       runs = all.runs;
       stands = stands;
+      stops = stops_here w (drop (i + 1) list);
+      between = λ fault. refl;
       writes = record { front = all.front; others = written.others; took = all.took; whole = all.whole };
     }
 
@@ -202,14 +244,16 @@ ends start v list i old now new page over far taken =
     }
 
 -- the output stopped at the last page
-pub breaks_last : (start v : Service) (list : List Op) (i : ℕ) (old now new : Told) (page : List ℕ)
-    → IsSoFar start (take i list) v old now page → TakesFront now new page → WritesSome start list old new
-breaks_last start v list i old now new page far w = record {
+pub breaks_last : (start v : Service) (list : List Op) (i : ℕ) (old now new : Told) (page : List ℕ) (why : RunErr)
+    → IsSoFar start (take i list) v old now page → TakesFront now new page → WritesSome start list v why old new
+breaks_last start v list i old now new page why far w = record {
   done = i;
   replies = far.replies;
   reached = v;
   runs = far.runs;
   stands = far.stands;
+  stops = stops_here v (drop i list);
+  between = λ fault. refl;
   writes = record {
     front = far.front ++ w.front;
     others = w.others;
@@ -218,9 +262,10 @@ breaks_last start v list i old now new page far w = record {
   };
 }
 
-pub err_map : {T E P Q : Type 0} (r : Result T E) → (P → Q) → OnErr r P → OnErr r Q
-err_map (Ok x) f p = p
-err_map (Err e) f p = f p
+-- what follows of any error
+pub err_map : {T E P : Type 0} (Q : E → Type 0) (r : Result T E) → ((e : E) → P → Q e) → OnErr r P → IfErr r Q
+err_map Q (Ok x) f p = tt
+err_map Q (Err e) f p = f e p
 
 -- the room that is left, where the first part of some lines was written and these lines fit, holds the rest
 waiting_fits : (old now : Told) (front rest lines : List ℕ) → now ≡ took old front → front ++ rest ≡ lines → HasRoom old.room (length lines)
@@ -264,3 +309,12 @@ done_more start v w list i d r below far done stands =
       runs = runs_more start v w (take i list) far.replies (get_or list i d) r far.runs done;
       stands = stands;
     })
+
+-- and where the world has stopped: before the first op, and in one more
+pub none_done : (w : Service) (list : List Op) → StandsFor w.settings w.history w → RunsSome w list w
+none_done w list stands = record { done = 0; replies = []; reached = w; runs = runs_none w; stands = stands; stops = stops_here w list }
+
+pub some_done : (start v w : Service) (list : List Op) (i : ℕ) (d : Op) → i < length list → RunsAll start (take i list) v → Fails v (get_or list i d) w
+    → RunsSome start list w
+some_done start v w list i d below far failed =
+    record { done = i; replies = far.replies; reached = v; runs = far.runs; stands = far.stands; stops = stops_in v w list i d below failed }

@@ -1,11 +1,13 @@
 -- What a run of ops did, and what it wrote.
 
-use Rattle.std.specs.Prelude.{◌≡◌, ℕ, List, length, take, Option}
+use Rattle.std.specs.Prelude.{◌≡◌, ◌⊎◌, ℕ, List, [], ◌∷◌, length, take, drop, Option}
 use Rattle.ert_io.specs.Known.{HasRoom}
 use Rattle.ert_io.specs.Told.{Told, took, TakesFront}
+use Rattle.ert_lines.specs.declared.output.RunErr.{RunErr}
+use Rattle.ert_lines.specs.declared.output.RunErr.TheVariants.{WriteFault}
 use Rattle.ert_ops.specs.declared.op.Op.{Op}
 use Rattle.ert_sched.specs.Worlds.{Service, StandsFor}
-use Rattle.ert_script.specs.Scripts.{Runs}
+use Rattle.ert_script.specs.Scripts.{Runs, Fails}
 use Rattle.ert_transcript.specs.Scripts.{lines_of}
 use Rattle.ert_transcript.specs.declared.reply.Reply.{Reply}
 
@@ -22,14 +24,30 @@ pub record WritesRun (old : Service) (ops : List Op) (new : Service) (told told_
   pub stands : StandsFor new.settings new.history new
   pub writes : told_new ≡ took told (lines_of old.labels ops replies)
 
--- the world did some first ops of a list, and came to a service that stands for its history; the first part
--- of their lines was written
-pub record WritesSome (old : Service) (ops : List Op) (told told_new : Told) : Type 0 where
+-- the world is as some ops left it, or it had no memory for the first of those that were to come
+abbrev pub StopsAt : Service → List Op → Service → Type 0
+StopsAt reached [] new = new ≡ reached
+StopsAt reached (op ∷ rest) new = (new ≡ reached) ⊎ Fails reached op new
+
+-- the world did some first ops of a list, came to a service that stands for its history, and stopped there
+pub record RunsSome (old : Service) (ops : List Op) (new : Service) : Type 0 where
   pub done : ℕ
   pub replies : List Reply
   pub reached : Service
   pub runs : Runs old (take done ops) replies reached
   pub stands : StandsFor reached.settings reached.history reached
+  pub stops : StopsAt reached (drop done ops) new
+
+-- the world did some first ops of a list, came to a service that stands for its history, and stopped there; the
+-- first part of their lines was written. Where the output failed, no op had begun after them
+pub record WritesSome (old : Service) (ops : List Op) (new : Service) (why : RunErr) (told told_new : Told) : Type 0 where
+  pub done : ℕ
+  pub replies : List Reply
+  pub reached : Service
+  pub runs : Runs old (take done ops) replies reached
+  pub stands : StandsFor reached.settings reached.history reached
+  pub stops : StopsAt reached (drop done ops) new
+  pub between : why ≡ WriteFault → new ≡ reached
   pub writes : TakesFront told told_new (lines_of old.labels (take done ops) replies)
 
 -- whatever a world answers to some first ops of a list, their lines fit the room

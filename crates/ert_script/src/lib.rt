@@ -4,7 +4,11 @@
 //! an op allows with its reply, and on `ert_lines` for the text. `reply_op` does one op, and binds the label
 //! of a start once its timer was started. `run_ops` does a list of them and writes one line for each, in
 //! large pieces; `do_ops` does them and writes nothing, and `write_settled` tells how many timers have which
-//! status. What they did is a script run: a piece of history for each op, with its reply.
+//! status. What they did is a script run: a piece of history for each op, with its reply. The labels of a list
+//! stay bound, so that the next list finds them.
+//!
+//! Where memory runs out, a world has done some first ops, and of the next what it makes before it takes memory
+//! (`specs/Scripts`, `BreaksOff`): for most ops nothing.
 #![tactic(auto)]
 
 mod binding;
@@ -16,6 +20,7 @@ mod sched_ops;
 mod settled;
 mod timer_ops;
 
+pub use binding::{bind_all, name_pairs};
 pub use clock_ops::tick;
 pub use reply::reply_op;
 pub use run::{do_ops, history_stands, run_ops};

@@ -1,7 +1,7 @@
 //! The ops of processes.
-ghost use Rattle.std.specs.Prelude.{◌<◌, IfOk};
+ghost use Rattle.std.specs.Prelude.{◌<◌, IfOk, OnErr};
 ghost use Rattle.ert_ops.specs.declared.op.Op.{Op};
-ghost use Rattle.ert_script.specs.Scripts.{Does};
+ghost use Rattle.ert_script.specs.Scripts.{Does, Fails};
 
 use ert_answers::{MonitorErr, Taken};
 use ert_defs::NoMemory;
@@ -40,10 +40,11 @@ pub fn alive(world: &mut World, process: u32) -> Reply
     }
 }
 
-/// A process monitors the time offset.
+/// A process monitors the time offset. Without memory nothing changes.
 pub fn monitor(world: &mut World, process: u32) -> Result<Reply, NoMemory>
     requires { process < world.old.settings.processes }
-    ensures { IfOk result (λ reply. Does world.old (Op.Monitor process) reply world.new) }
+    ensures ok { IfOk result (λ reply. Does world.old (Op.Monitor process) reply world.new) }
+    ensures err { OnErr result (Fails world.old (Op.Monitor process) world.new) }
 {
     match world.monitor(process) {
         Ok(number) => Ok(Reply::Monitor { number }),
@@ -62,10 +63,11 @@ pub fn demonitor(world: &mut World, process: u32, monitor: u32) -> Reply
     }
 }
 
-/// A process is told the time offset, where it is news to it.
+/// A process is told the time offset, where it is news to it. Without memory nothing changes.
 pub fn notify(world: &mut World, process: u32) -> Result<Reply, NoMemory>
     requires { process < world.old.settings.processes }
-    ensures { IfOk result (λ reply. Does world.old (Op.Notify process) reply world.new) }
+    ensures ok { IfOk result (λ reply. Does world.old (Op.Notify process) reply world.new) }
+    ensures err { OnErr result (Fails world.old (Op.Notify process) world.new) }
 {
     let put = world.tell(process)?;
     Ok(Reply::Notify { put })

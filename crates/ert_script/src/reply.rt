@@ -1,7 +1,7 @@
-ghost use Rattle.std.specs.Prelude.{IfOk, OnOk};
+ghost use Rattle.std.specs.Prelude.{IfOk, OnOk, OnErr};
 ghost use Rattle.ert_lines.specs.Names.{IsIndexOf};
 ghost use Rattle.ert_ops.specs.Ranges.{IsOpInRange};
-ghost use Rattle.ert_script.specs.Scripts.{Does, MayBind};
+ghost use Rattle.ert_script.specs.Scripts.{Does, Fails, MayBind};
 
 use crate::clock_ops::{check, convert_time, finalize, info, offset, system, tick, time};
 use crate::mail_ops::{alive, demonitor, exit, monitor, notify, receive};
@@ -16,13 +16,15 @@ use ert_transcript::Reply;
 /// Does one op: as the scheduler that it names, or else as caller 0. `names` is an index of the world's
 /// labels. A start binds its label once its timer was started.
 ///
-/// After want of memory the world may have done a part of the op.
+/// After want of memory the world may have done a part of the op: it has started the timer of a start, and has
+/// done what it could of the steps of a scheduler. No label was bound, but the index may have it.
 pub fn reply_op(world: &mut World, names: &mut Names, op: &Op) -> Result<Reply, NoMemory>
     requires range { IsOpInRange world.old.settings op.now }
     requires unbound { MayBind world.old.labels op.now }
     requires index { IsIndexOf world.old.labels names.old }
     ensures ok { IfOk result (λ reply. Does world.old op.now reply world.new) }
     ensures index { OnOk result (IsIndexOf world.new.labels names.new) }
+    ensures err { OnErr result (Fails world.old op.now world.new) }
 {
     match *op {
         Op::Tick { mono, sys } => Ok(tick(world, mono, sys)),

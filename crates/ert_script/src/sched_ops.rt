@@ -1,7 +1,7 @@
-//! The ops of schedulers.
-ghost use Rattle.std.specs.Prelude.{◌<◌, IfOk};
+//! The ops of schedulers. Without memory each leaves what it did before.
+ghost use Rattle.std.specs.Prelude.{◌<◌, IfOk, OnErr};
 ghost use Rattle.ert_ops.specs.declared.op.Op.{Op};
-ghost use Rattle.ert_script.specs.Scripts.{Does};
+ghost use Rattle.ert_script.specs.Scripts.{Does, Fails};
 
 use ert_defs::NoMemory;
 use ert_sched::World;
@@ -10,7 +10,8 @@ use ert_transcript::Reply;
 /// A scheduler answers one request.
 pub fn serve(world: &mut World, sched: u32) -> Result<Reply, NoMemory>
     requires { sched < world.old.settings.schedulers }
-    ensures { IfOk result (λ reply. Does world.old (Op.Serve sched) reply world.new) }
+    ensures ok { IfOk result (λ reply. Does world.old (Op.Serve sched) reply world.new) }
+    ensures err { OnErr result (Fails world.old (Op.Serve sched) world.new) }
 {
     let served = world.serve(sched)?;
     Ok(Reply::Serve { served })
@@ -19,7 +20,8 @@ pub fn serve(world: &mut World, sched: u32) -> Result<Reply, NoMemory>
 /// A scheduler lets its due timers expire.
 pub fn advance(world: &mut World, sched: u32) -> Result<Reply, NoMemory>
     requires { sched < world.old.settings.schedulers }
-    ensures { IfOk result (λ reply. Does world.old (Op.Advance sched) reply world.new) }
+    ensures ok { IfOk result (λ reply. Does world.old (Op.Advance sched) reply world.new) }
+    ensures err { OnErr result (Fails world.old (Op.Advance sched) world.new) }
 {
     let (to, fired) = world.advance(sched)?;
     Ok(Reply::Advance { to, fired })
@@ -28,7 +30,8 @@ pub fn advance(world: &mut World, sched: u32) -> Result<Reply, NoMemory>
 /// A scheduler hands over the messages of its expired timers.
 pub fn deliver(world: &mut World, sched: u32) -> Result<Reply, NoMemory>
     requires { sched < world.old.settings.schedulers }
-    ensures { IfOk result (λ reply. Does world.old (Op.Deliver sched) reply world.new) }
+    ensures ok { IfOk result (λ reply. Does world.old (Op.Deliver sched) reply world.new) }
+    ensures err { OnErr result (Fails world.old (Op.Deliver sched) world.new) }
 {
     let (put, dropped) = world.deliver(sched)?;
     Ok(Reply::Deliver { put, dropped })
@@ -37,7 +40,8 @@ pub fn deliver(world: &mut World, sched: u32) -> Result<Reply, NoMemory>
 /// A scheduler does these three, one after the other.
 pub fn turn(world: &mut World, sched: u32) -> Result<Reply, NoMemory>
     requires { sched < world.old.settings.schedulers }
-    ensures { IfOk result (λ reply. Does world.old (Op.Turn sched) reply world.new) }
+    ensures ok { IfOk result (λ reply. Does world.old (Op.Turn sched) reply world.new) }
+    ensures err { OnErr result (Fails world.old (Op.Turn sched) world.new) }
 {
     let turned = world.turn(sched)?;
     Ok(Reply::Turn { turned })

@@ -1,8 +1,8 @@
 //! The ops on timers. Each names its timer by a label.
-ghost use Rattle.std.specs.Prelude.{◌<◌, IfOk, OnOk};
+ghost use Rattle.std.specs.Prelude.{◌<◌, IfOk, OnOk, OnErr};
 ghost use Rattle.ert_lines.specs.Names.{IsIndexOf};
 ghost use Rattle.ert_ops.specs.declared.op.Op.{Op};
-ghost use Rattle.ert_script.specs.Scripts.{Does, IsUnbound};
+ghost use Rattle.ert_script.specs.Scripts.{Does, Fails, IsUnbound};
 
 use crate::binding::bind_label;
 use ert_answers::StartErr;
@@ -11,7 +11,8 @@ use ert_lines::Names;
 use ert_sched::World;
 use ert_transcript::Reply;
 
-/// Starts a timer that sends its message with its reference. Its label is bound once it was started.
+/// Starts a timer that sends its message with its reference. Its label is bound once it was started; without
+/// memory it isn't bound, and the timer stays.
 pub fn start(
     world: &mut World,
     names: &mut Names,
@@ -27,6 +28,7 @@ pub fn start(
     requires index { IsIndexOf world.old.labels names.old }
     ensures ok { IfOk result (λ reply. Does world.old (Op.Start label wheel when dest msg) reply world.new) }
     ensures index { OnOk result (IsIndexOf world.new.labels names.new) }
+    ensures err { OnErr result (Fails world.old (Op.Start label wheel when dest msg) world.new) }
 {
     let start = Start {
         when,
@@ -45,7 +47,8 @@ pub fn start(
     }
 }
 
-/// Starts a timer that sends its message alone. Its label is bound once it was started.
+/// Starts a timer that sends its message alone. Its label is bound once it was started; without memory it isn't
+/// bound, and the timer stays.
 pub fn send_after(
     world: &mut World,
     names: &mut Names,
@@ -61,6 +64,7 @@ pub fn send_after(
     requires index { IsIndexOf world.old.labels names.old }
     ensures ok { IfOk result (λ reply. Does world.old (Op.SendAfter label wheel when dest msg) reply world.new) }
     ensures index { OnOk result (IsIndexOf world.new.labels names.new) }
+    ensures err { OnErr result (Fails world.old (Op.SendAfter label wheel when dest msg) world.new) }
 {
     let start = Start {
         when,
@@ -108,7 +112,7 @@ pub fn read(world: &mut World, names: &Names, label: u32) -> Reply
     }
 }
 
-/// Asks the scheduler of a timer to cancel it.
+/// Asks the scheduler of a timer to cancel it. Without memory nothing changes.
 pub fn cancel_async(
     world: &mut World,
     names: &Names,
@@ -118,7 +122,8 @@ pub fn cancel_async(
 ) -> Result<Reply, NoMemory>
     requires process { process < world.old.settings.processes }
     requires index { IsIndexOf world.old.labels names.now }
-    ensures { IfOk result (λ reply. Does world.old (Op.CancelAsync label process info) reply world.new) }
+    ensures ok { IfOk result (λ reply. Does world.old (Op.CancelAsync label process info) reply world.new) }
+    ensures err { OnErr result (Fails world.old (Op.CancelAsync label process info) world.new) }
 {
     world.ask(Request {
         kind: RequestKind::Cancel,
@@ -129,7 +134,7 @@ pub fn cancel_async(
     Ok(Reply::CancelAsync)
 }
 
-/// Asks the scheduler of a timer to read it.
+/// Asks the scheduler of a timer to read it. Without memory nothing changes.
 pub fn read_async(
     world: &mut World,
     names: &Names,
@@ -139,7 +144,8 @@ pub fn read_async(
 ) -> Result<Reply, NoMemory>
     requires process { process < world.old.settings.processes }
     requires index { IsIndexOf world.old.labels names.now }
-    ensures { IfOk result (λ reply. Does world.old (Op.ReadAsync label process info) reply world.new) }
+    ensures ok { IfOk result (λ reply. Does world.old (Op.ReadAsync label process info) reply world.new) }
+    ensures err { OnErr result (Fails world.old (Op.ReadAsync label process info) world.new) }
 {
     world.ask(Request {
         kind: RequestKind::Read,

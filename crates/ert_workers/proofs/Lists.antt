@@ -1,24 +1,27 @@
 -- Lists of ops, as far as they have come.
 
-use Rattle.std.specs.Prelude.{ℤ, IfOk}
-use Rattle.std.proofs.Common.{◌≡◌, ◌<◌, ℕ, zero, suc, ◌+◌, List, [], ◌∷◌, ◌++◌, take, length, get_or, Result, Ok, Err, arith, refl, sym, subst, ap, ◌∙◌, append_assoc, append-nil}
+use Rattle.std.specs.Prelude.{ℤ, IfOk, OnErr}
+use Rattle.std.proofs.Common.{◌≡◌, ◌<◌, ℕ, zero, suc, ◌+◌, List, [], ◌∷◌, ◌++◌, take, drop, length, get_or, Result, Ok, Err, inl, inr, arith, refl, sym, subst, ap, ◌∙◌, append_assoc, append-nil}
+use Rattle.std.proofs.Math.Seq.{drop-cons}
 use Rattle.std.proofs.lemmas.List.{take_more}
 use Rattle.ert_answers.specs.Ways.{Way, beside}
 use Rattle.ert_defs.specs.declared.entry.Actor.TheVariants.{Caller}
 use Rattle.ert_defs.specs.declared.entry.Entry.{Entry}
 use Rattle.ert_defs.specs.declared.settings.Settings.{Settings}
 use Rattle.ert_defs.specs.declared.memory.NoMemory.{NoMemory}
+use Rattle.ert_defs.specs.declared.timer.TimerRef.{TimerRef}
+use Rattle.ert_lines.specs.Names.{IsIndexOf}
 use Rattle.ert_lines.specs.declared.names.Names.{Names}
 use Rattle.ert_ops.specs.Races.{MayDo, IsCallersOp}
 use Rattle.ert_ops.specs.Ranges.{IsOpInRange}
 use Rattle.ert_ops.specs.declared.op.Op.{Op}
 use Rattle.ert_ops.specs.declared.op.Op.TheVariants as ops
 use Rattle.ert_transcript.specs.Calls.{Calls, Converts}
-use Rattle.ert_transcript.specs.Labels.{Labels}
+use Rattle.ert_transcript.specs.Labels.{Labels, ref_of}
 use Rattle.ert_transcript.specs.Scripts.{Script, labels_after}
 use Rattle.ert_transcript.specs.declared.reply.Reply.{Reply}
 use Rattle.ert_transcript.specs.declared.reply.Reply.TheVariants as replies
-use Rattle.ert_workers.specs.Works.{Does, DoesStart, DoesOwn, DoesList}
+use Rattle.ert_workers.specs.Works.{Does, DoesStart, DoesOwn, DoesList, Fails, FailsFor, FailsOwn, StopsAt, DoesSome}
 
 -- a script run and one more op
 pub script_more : (g : Settings) (way : Way) (n : ℕ) (ls : Labels) (list : List Op) (rs : List Reply) (after : Labels) (h m piece : List Entry) (op : Op) (r : Reply)
@@ -122,3 +125,47 @@ pub convert_own : (g : Settings) (n : ℕ) (known : Names) (own : Labels) (op : 
     → op ≡ ops.Convert time from to → Converts time from to reply [] → DoesOwn g n known own op reply own f f
 convert_own g n known own op time from to reply f is converts =
     own_does g n known own op (ops.Convert time from to) reply f f is (λ r. refl) (λ ls. record { piece = []; grown = sym (append-nil f); made = converts })
+
+-- where there was no memory for an op, whatever the labels are
+pub fails_own : (g : Settings) (n : ℕ) (known : Names) (own : Labels) (op o : Op) (answer : Result Reply NoMemory) (f h : List Entry)
+    → op ≡ o → OnErr answer (Fails g n o f h) → OnErr answer (FailsOwn g n known own op f h)
+fails_own g n known own op o (Ok reply) f h is fails = tt
+fails_own g n known own op o (Err e) f h is fails =
+    subst (λ (x : Op). FailsOwn g n known own x f h) (sym is) (λ ls index. fails (ls ++ own))
+
+-- and for one that names a timer by its label
+pub fails_for : (g : Settings) (n : ℕ) (known : Names) (own : Labels) (label : ℕ) (timer : TimerRef) (op : Op) (asks : ℕ → Op) (answer : Result Reply NoMemory)
+    (f h : List Entry) → op ≡ asks label → ((ls : Labels) → IsIndexOf ls known → ref_of (ls ++ own) label ≡ timer)
+    → OnErr answer ((l : ℕ) → FailsFor g n l timer (asks l) f h) → OnErr answer (FailsOwn g n known own op f h)
+fails_for g n known own label timer op asks (Ok reply) f h is bound fails = tt
+fails_for g n known own label timer op asks (Err e) f h is bound fails =
+    subst (λ (x : Op). FailsOwn g n known own x f h) (sym is) (λ ls index. fails label (ls ++ own) (bound ls index))
+
+-- a list that stopped as some ops had left it
+stops_here : (g : Settings) (n : ℕ) (known : Names) (own : Labels) (list : List Op) (f : List Entry) → StopsAt g n known own list f f
+stops_here g n known own [] f = refl
+stops_here g n known own (op ∷ rest) f = inl refl
+
+-- there was no memory for one more op
+pub some_done : (g : Settings) (n : ℕ) (known : Names) (list : List Op) (i : ℕ) (d : Op) (rs : List Reply) (own : Labels) (f h k : List Entry)
+    → i < length list → DoesList g n known (take i list) rs own f h → FailsOwn g n known own (get_or list i d) h k → DoesSome g n known list f k
+some_done g n known list i d rs own f h k below far fails = record {
+  done = i;
+  replies = rs;
+  own = own;
+  reached = h;
+  does = far;
+  stops = subst (λ (rest : List Op). StopsAt g n known own rest h k) (sym (drop-cons list i d below)) (inr fails);
+}
+
+-- there was none for the reply of the last op that was done
+pub reply_lost : (g : Settings) (n : ℕ) (known : Names) (list : List Op) (i : ℕ) (rs : List Reply) (own : Labels) (f h : List Entry)
+    → DoesList g n known (take i list) rs own f h → DoesSome g n known list f h
+reply_lost g n known list i rs own f h far = record {
+  done = i;
+  replies = rs;
+  own = own;
+  reached = h;
+  does = far;
+  stops = stops_here g n known own (drop i list) h;
+}

@@ -1,8 +1,8 @@
 //! A list of ops.
-ghost use Rattle.std.specs.Prelude.{◌≡◌, IfOk};
+ghost use Rattle.std.specs.Prelude.{◌≡◌, IfOk, OnErr};
 ghost use Rattle.ert_ops.specs.Races.{MayDo};
 ghost use Rattle.ert_table.specs.Desks.{front_of};
-ghost use Rattle.ert_workers.specs.Works.{DoesList};
+ghost use Rattle.ert_workers.specs.Works.{DoesList, DoesSome};
 
 use crate::labels::Own;
 use crate::op::do_op;
@@ -28,7 +28,8 @@ pub struct ListDone {
 /// before; a label that the list binds stands after them. Before each op it passes the gate, as this worker;
 /// the ops count from 1.
 ///
-/// After want of memory it has stopped at an op, and what was done stays done.
+/// After want of memory it has stopped at an op, and what was done stays done: some first ops, and of the next
+/// what it makes before it takes memory.
 pub fn do_list<L: DeskName, R: Wait, G: Gate>(
     rt: &R,
     alloc: Global,
@@ -42,6 +43,7 @@ pub fn do_list<L: DeskName, R: Wait, G: Gate>(
     requires may { MayDo L.settings ops.now }
     ensures number { result.0.number ≡ seat.number }
     ensures done { IfOk result.1 (λ done. DoesList L.settings seat.number known.now ops.now done.replies.items done.own.items (front_of seat.pass) (front_of result.0.pass)) }
+    ensures stops { OnErr result.1 (DoesSome L.settings seat.number known.now ops.now (front_of seat.pass) (front_of result.0.pass)) }
 {
     let mut next = seat;
     let mut own = Own::new(alloc);

@@ -1,8 +1,8 @@
 //! The ops of processes.
-ghost use Rattle.std.specs.Prelude.{◌≡◌, ◌<◌, IfOk};
+ghost use Rattle.std.specs.Prelude.{◌≡◌, ◌<◌, IfOk, OnErr};
 ghost use Rattle.ert_ops.specs.declared.op.Op.{Op};
 ghost use Rattle.ert_table.specs.Desks.{front_of};
-ghost use Rattle.ert_workers.specs.Works.{Does};
+ghost use Rattle.ert_workers.specs.Works.{Does, Fails};
 
 use ert_calls::is_alive;
 use ert_defs::{Actor, NoMemory};
@@ -65,7 +65,7 @@ pub(crate) fn alive<L: DeskName>(
     (CallerSeat::new(number, pass), Reply::Alive { alive })
 }
 
-/// A process monitors the time offset.
+/// A process monitors the time offset. Without memory nothing changes.
 pub(crate) fn monitor<L: DeskName, R: Wait>(
     rt: &R,
     service: &Service<L>,
@@ -75,6 +75,7 @@ pub(crate) fn monitor<L: DeskName, R: Wait>(
     requires { process < L.settings.processes }
     ensures number { result.0.number ≡ seat.number }
     ensures does { IfOk result.1 (λ reply. Does L.settings seat.number (Op.Monitor process) reply (front_of seat.pass) (front_of result.0.pass)) }
+    ensures fails { OnErr result.1 (Fails L.settings seat.number (Op.Monitor process) (front_of seat.pass) (front_of result.0.pass)) }
 {
     let (seat, made) = service.monitor(rt, seat, process);
     match made {
@@ -100,7 +101,7 @@ pub(crate) fn demonitor<L: DeskName, R: Wait>(
     (seat, Reply::Demonitor { stood })
 }
 
-/// A process is told the time offset, where it is news to it.
+/// A process is told the time offset, where it is news to it. Without memory nothing changes.
 pub(crate) fn notify<L: DeskName, R: Wait>(
     rt: &R,
     service: &Service<L>,
@@ -110,6 +111,7 @@ pub(crate) fn notify<L: DeskName, R: Wait>(
     requires { process < L.settings.processes }
     ensures number { result.0.number ≡ seat.number }
     ensures does { IfOk result.1 (λ reply. Does L.settings seat.number (Op.Notify process) reply (front_of seat.pass) (front_of result.0.pass)) }
+    ensures fails { OnErr result.1 (Fails L.settings seat.number (Op.Notify process) (front_of seat.pass) (front_of result.0.pass)) }
 {
     let (seat, put) = service.tell(rt, seat, process);
     match put {

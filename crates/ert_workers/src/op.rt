@@ -1,9 +1,9 @@
-ghost use Rattle.std.specs.Prelude.{◌≡◌, OnOk, IfOk};
+ghost use Rattle.std.specs.Prelude.{◌≡◌, OnOk, OnErr, IfOk};
 ghost use Rattle.ert_lines.specs.Names.{IsIndexOf};
 ghost use Rattle.ert_ops.specs.Races.{IsCallersOp};
 ghost use Rattle.ert_ops.specs.Ranges.{IsOpInRange};
 ghost use Rattle.ert_table.specs.Desks.{front_of};
-ghost use Rattle.ert_workers.specs.Works.{DoesOwn};
+ghost use Rattle.ert_workers.specs.Works.{DoesOwn, FailsOwn};
 
 use crate::clock_ops::{check, convert_time, finalize, info, offset, system, tick, time};
 use crate::labels::{Own, timer_of};
@@ -20,7 +20,8 @@ use std::sync::Wait;
 /// Does one op as a caller. `known` is an index of the labels that were bound before its list, and `own` has
 /// those of the list. A start binds its label once its timer was started.
 ///
-/// After want of memory a part of the op may have been done.
+/// After want of memory the timer of a start was started, and its label isn't bound; of another op nothing was
+/// done.
 pub(crate) fn do_op<L: DeskName, R: Wait>(
     rt: &R,
     service: &Service<L>,
@@ -35,6 +36,7 @@ pub(crate) fn do_op<L: DeskName, R: Wait>(
     ensures number { result.0.number ≡ seat.number }
     ensures does { IfOk result.1 (λ reply. DoesOwn L.settings seat.number known.now own.old.pairs.items op.now reply own.new.pairs.items (front_of seat.pass) (front_of result.0.pass)) }
     ensures index { OnOk result.1 (IsIndexOf own.new.pairs.items own.new.index) }
+    ensures fails { OnErr result.1 (FailsOwn L.settings seat.number known.now own.old.pairs.items op.now (front_of seat.pass) (front_of result.0.pass)) }
 {
     match *op {
         Op::Tick { mono, sys } => told(tick(rt, service, seat, mono, sys)),

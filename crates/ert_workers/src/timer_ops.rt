@@ -1,9 +1,9 @@
 //! The ops on timers.
-ghost use Rattle.std.specs.Prelude.{◌≡◌, ℕ, ◌<◌, IfOk, OnOk};
+ghost use Rattle.std.specs.Prelude.{◌≡◌, ℕ, ◌<◌, IfOk, OnOk, OnErr};
 ghost use Rattle.ert_lines.specs.Names.{IsIndexOf};
 ghost use Rattle.ert_ops.specs.declared.op.Op.{Op};
 ghost use Rattle.ert_table.specs.Desks.{front_of};
-ghost use Rattle.ert_workers.specs.Works.{Does, DoesFor, DoesStart};
+ghost use Rattle.ert_workers.specs.Works.{Does, DoesFor, DoesStart, Fails, FailsFor};
 
 use crate::labels::Own;
 use ert_answers::StartErr;
@@ -14,7 +14,8 @@ use ert_shared::Service;
 use ert_transcript::Reply;
 use std::sync::Wait;
 
-/// Starts a timer that sends its message with its reference. Its label is bound once it was started.
+/// Starts a timer that sends its message with its reference. Its label is bound once it was started; without
+/// memory it isn't bound, and the timer stays.
 pub(crate) fn start<L: DeskName, R: Wait>(
     rt: &R,
     service: &Service<L>,
@@ -32,6 +33,7 @@ pub(crate) fn start<L: DeskName, R: Wait>(
     ensures number { result.0.number ≡ seat.number }
     ensures does { IfOk result.1 (λ reply. DoesStart L.settings seat.number own.old.pairs.items (Op.Start label wheel when dest msg) reply own.new.pairs.items (front_of seat.pass) (front_of result.0.pass)) }
     ensures index { OnOk result.1 (IsIndexOf own.new.pairs.items own.new.index) }
+    ensures fails { OnErr result.1 (Fails L.settings seat.number (Op.Start label wheel when dest msg) (front_of seat.pass) (front_of result.0.pass)) }
 {
     let start = Start {
         when,
@@ -51,7 +53,8 @@ pub(crate) fn start<L: DeskName, R: Wait>(
     }
 }
 
-/// Starts a timer that sends its message alone. Its label is bound once it was started.
+/// Starts a timer that sends its message alone. Its label is bound once it was started; without memory it isn't
+/// bound, and the timer stays.
 pub(crate) fn send_after<L: DeskName, R: Wait>(
     rt: &R,
     service: &Service<L>,
@@ -69,6 +72,7 @@ pub(crate) fn send_after<L: DeskName, R: Wait>(
     ensures number { result.0.number ≡ seat.number }
     ensures does { IfOk result.1 (λ reply. DoesStart L.settings seat.number own.old.pairs.items (Op.SendAfter label wheel when dest msg) reply own.new.pairs.items (front_of seat.pass) (front_of result.0.pass)) }
     ensures index { OnOk result.1 (IsIndexOf own.new.pairs.items own.new.index) }
+    ensures fails { OnErr result.1 (Fails L.settings seat.number (Op.SendAfter label wheel when dest msg) (front_of seat.pass) (front_of result.0.pass)) }
 {
     let start = Start {
         when,
@@ -142,7 +146,7 @@ pub(crate) fn read<L: DeskName>(
     (CallerSeat::new(number, pass), Reply::Read { left })
 }
 
-/// Asks the scheduler of a timer to cancel it.
+/// Asks the scheduler of a timer to cancel it. Without memory nothing changes.
 pub(crate) fn cancel_async<L: DeskName, R: Wait>(
     rt: &R,
     service: &Service<L>,
@@ -154,6 +158,8 @@ pub(crate) fn cancel_async<L: DeskName, R: Wait>(
     requires { process < L.settings.processes }
     ensures number { result.0.number ≡ seat.number }
     ensures does { IfOk result.1 (λ reply. (label : ℕ) → DoesFor L.settings seat.number label timer (Op.CancelAsync label process info) reply (front_of seat.pass) (front_of result.0.pass)) }
+    ensures fails { OnErr result.1 ((label : ℕ)
+        → FailsFor L.settings seat.number label timer (Op.CancelAsync label process info) (front_of seat.pass) (front_of result.0.pass)) }
 {
     let request = Request {
         kind: RequestKind::Cancel,
@@ -168,7 +174,7 @@ pub(crate) fn cancel_async<L: DeskName, R: Wait>(
     }
 }
 
-/// Asks the scheduler of a timer to read it.
+/// Asks the scheduler of a timer to read it. Without memory nothing changes.
 pub(crate) fn read_async<L: DeskName, R: Wait>(
     rt: &R,
     service: &Service<L>,
@@ -180,6 +186,8 @@ pub(crate) fn read_async<L: DeskName, R: Wait>(
     requires { process < L.settings.processes }
     ensures number { result.0.number ≡ seat.number }
     ensures does { IfOk result.1 (λ reply. (label : ℕ) → DoesFor L.settings seat.number label timer (Op.ReadAsync label process info) reply (front_of seat.pass) (front_of result.0.pass)) }
+    ensures fails { OnErr result.1 ((label : ℕ)
+        → FailsFor L.settings seat.number label timer (Op.ReadAsync label process info) (front_of seat.pass) (front_of result.0.pass)) }
 {
     let request = Request {
         kind: RequestKind::Read,

@@ -1,7 +1,7 @@
 //! The turns of a scheduler.
-ghost use Rattle.std.specs.Prelude.{◌≡◌, OnOk};
+ghost use Rattle.std.specs.Prelude.{◌≡◌, OnOk, OnErr};
 ghost use Rattle.ert_table.specs.Desks.{front_of};
-ghost use Rattle.ert_workers.specs.Works.{TurnsSoOften};
+ghost use Rattle.ert_workers.specs.Works.{TurnsSoOften, TurnsLess};
 
 use ert_defs::NoMemory;
 use ert_locks::{DeskName, SchedSeat};
@@ -22,6 +22,7 @@ pub fn do_turns<L: DeskName, R: Wait, G: Gate>(
 ) -> (SchedSeat<L>, Result<(), NoMemory>)
     ensures number { result.0.part.wheel ≡ seat.part.wheel }
     ensures turned { OnOk result.1 (TurnsSoOften L.settings seat.part.wheel turns (front_of seat.pass) (front_of result.0.pass)) }
+    ensures stops { OnErr result.1 (TurnsLess L.settings seat.part.wheel turns (front_of seat.pass) (front_of result.0.pass)) }
 {
     let mut next = seat;
     for done in 0..turns {

@@ -4,6 +4,7 @@ use Rattle.ert_io.specs.Known.{HasRoom}
 use Rattle.ert_io.specs.Told.{told}
 use Rattle.ert_scenario.specs.Scenarios.{plan_of}
 use Rattle.ert_ops.specs.declared.op.Op.{Op}
+use Rattle.ert_script.proofs.Labels.{none_bound}
 use Rattle.ert_script.specs.Written.{WritesRun, WritesSome, LinesFit}
 use Rattle.ert_transcript.specs.Texts.{end_line}
 use Rattle.ert_program.proofs.Transcripts.{ends, breaks_last, breaks, lines_fit, end_fits}
@@ -13,6 +14,9 @@ pub run_ops-requires-clause-fits : goal.run_ops-requires-clause-fits
 run_ops-requires-clause-fits g c =
     subst (λ (ops : List Op). LinesFit c.in-Ok.world ops (g.O.Sink.room c.args.output.now)) (sym c.deref.ensures.value)
     (lines_fit (plan_of c.args.scenario.now) c.in-Ok.world (g.O.Sink.room c.args.output.now) c.requires.labels c.in-Ok.ensures c.requires.fits)
+
+pub run_ops-requires-clause-unbound : goal.run_ops-requires-clause-unbound
+run_ops-requires-clause-unbound g c = none_bound c.in-Ok.world.labels c.deref.result.now c.in-Ok.ensures.labels
 
 pub finish-requires : goal.finish-requires
 finish-requires g c =
@@ -27,9 +31,9 @@ pub returns-in_err-run_ops-clause-err : goal.returns-in_err-run_ops-clause-err
 returns-in_err-run_ops-clause-err g c =
     let p = err_from_is_err_and c.from_residual.result c.from_residual.ensures.1 in
     rw p.1
-    (breaks (plan_of c.args.scenario.now) c.in-Ok.world _ _ c.requires.labels c.in-Ok.ensures
-    (subst (λ (ops : List Op). WritesSome c.in-Ok.world ops (told (g.O.Sink.taken c.args.output.now) (g.O.Sink.room c.args.output.now))
-    (told (g.O.Sink.taken c.run_ops.new.sink) (g.O.Sink.room c.run_ops.new.sink)))
+    (breaks (plan_of c.args.scenario.now) c.in-Ok.world c.run_ops.new.world _ _ _ c.requires.labels c.in-Ok.ensures
+    (subst (λ (ops : List Op). WritesSome c.in-Ok.world ops c.run_ops.new.world c.in_err-run_ops.field-0.0
+    (told (g.O.Sink.taken c.args.output.now) (g.O.Sink.room c.args.output.now)) (told (g.O.Sink.taken c.run_ops.new.sink) (g.O.Sink.room c.run_ops.new.sink)))
     c.deref.ensures.value c.in_err-run_ops.ensures.err))
 
 pub returns-in_err-finish-clause-err : goal.returns-in_err-finish-clause-err

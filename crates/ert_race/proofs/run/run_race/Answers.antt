@@ -2,6 +2,7 @@ use Rattle.std.proofs.lemmas.Result.{err_from_is_err_and}
 use Rattle.ert_ops.specs.Races.{race_of, lists_of, ops_in}
 use Rattle.ert_race.proofs.Written.{first_ops, lines_fit, stops_behind, page_fits, breaks, ends}
 use Rattle.ert_race.specs.Lists.{dids_of}
+use Rattle.ert_script.proofs.Labels.{none_bound}
 use Rattle.ert_race.proofs.run.run_race.Goals as goal
 
 pub run_ops-requires-clause-fits : goal.run_ops-requires-clause-fits
@@ -9,6 +10,9 @@ run_ops-requires-clause-fits g c = lines_fit c.in-Ok.world c.args.ops.now (g.O.S
 
 pub run_ops-requires-clause-labels : goal.run_ops-requires-clause-labels
 run_ops-requires-clause-labels g c = first_ops c.args.ops.now (ops_in (lists_of (race_of c.args.race.now))) c.requires.race.labels
+
+pub run_ops-requires-clause-unbound : goal.run_ops-requires-clause-unbound
+run_ops-requires-clause-unbound g c = none_bound c.in-Ok.world.labels c.args.ops.now c.in-Ok.ensures.labels
 
 pub returns-in_default-race_on-clause-err : goal.returns-in_default-race_on-clause-err
 returns-in_default-race_on-clause-err g c =

@@ -1,22 +1,25 @@
 use Rattle.std.proofs.Common.{arith, sym, subst, List, ℕ, ◌++◌, length, string_bytes}
 use Rattle.std.proofs.lemmas.Result.{err_from_is_err_and}
 use Rattle.ert_io.specs.Known.{HasRoom}
+use Rattle.ert_io.specs.Told.{Told, told}
 use Rattle.ert_lines.proofs.Indexes.{found_label, same_line}
 use Rattle.ert_lines.specs.Names.{IsIndexOf, label_by}
+use Rattle.ert_lines.specs.declared.output.RunErr.{RunErr}
 use Rattle.ert_ops.specs.Ranges.{IsOpInRange}
 use Rattle.ert_ops.specs.declared.op.Op.{Op}
-use Rattle.ert_script.specs.Scripts.{Does, MayBind}
-use Rattle.ert_script.proofs.Labels.{MayGoOn, all_may, may_bind_at}
+use Rattle.ert_script.specs.Scripts.{Does, Fails, MayBind}
+use Rattle.ert_script.specs.Written.{WritesSome}
+use Rattle.ert_script.proofs.Labels.{all_may, may_bind_at}
 use Rattle.ert_lines.proofs.Texts.{ok_map}
-use Rattle.ert_script.proofs.Runs.{so_far_first, op_may, goes_on_at, may_at, breaks_at, ends, breaks_last, err_map, line_fits, page_fits}
+use Rattle.ert_script.proofs.Runs.{so_far_first, op_may, goes_on_at, may_at, none_written, fails_at, breaks_at, ends, breaks_last, err_map, line_fits, page_fits}
 use Rattle.ert_transcript.specs.Labels.{Labels, label_of}
 use Rattle.ert_script.proofs.run.run_ops.Goals as goal
 
 pub loop-op-init : goal.loop-op-init
 loop-op-init g c = record {
   so_far = rw c.new-page.ensures.bytes (so_far_first c.args.world.now (g.K.Sink.taken c.args.sink.now) (g.K.Sink.room c.args.sink.now) c.history_stands.ensures);
-  may = subst (λ (ls : Labels). MayGoOn c.args.ops.now ls) (sym c.requires.new) (all_may c.args.ops.now c.requires.labels);
-  index = subst (λ (ls : Labels). IsIndexOf ls c.new-names.result) (sym c.requires.new) c.new-names.ensures;
+  may = all_may c.args.ops.now c.args.world.now.labels c.requires.labels c.requires.unbound;
+  index = subst (λ (ls : Labels). IsIndexOf ls c.in-Ok.names) c.labels.ensures c.in-Ok.ensures;
   later = omega arith;
 }
 
@@ -30,26 +33,36 @@ reply_op-requires g c = record {
   index = c.loop-op.invariant.index;
 }
 
+pub returns-in_default-clause-err : goal.returns-in_default-clause-err
+returns-in_default-clause-err g c =
+    none_written c.args.world.now c.args.ops.now (g.K.Sink.taken c.args.sink.now) (g.K.Sink.room c.args.sink.now) c.history_stands.ensures
+
+pub returns-in_default-reply_op-clause-err : goal.returns-in_default-reply_op-clause-err
+returns-in_default-reply_op-clause-err g c =
+    fails_at c.args.world.now c.loop-op.world c.reply_op.new.world c.args.ops.now c.loop-op.op-index c.op-item.result _ _ _
+    c.loop-op-test.true c.loop-op.invariant.so_far
+    (subst (λ (op : Op). Fails c.loop-op.world op c.reply_op.new.world) c.op-item.is c.in_default-reply_op.ensures.err)
+
 pub returns-in_err-put-clause-err : goal.returns-in_err-put-clause-err
 returns-in_err-put-clause-err g c =
     let p = err_from_is_err_and c.from_residual.result c.from_residual.ensures.1 in
     rw p.1
-    (breaks_at c.args.world.now c.loop-op.world c.reply_op.new.world c.args.ops.now c.loop-op.op-index c.op-item.result _ _ _ _ c.in-Ok.reply
+    (breaks_at c.args.world.now c.loop-op.world c.reply_op.new.world c.args.ops.now c.loop-op.op-index c.op-item.result _ _ _ _ c.in-Ok-reply_op.reply _
     c.loop-op-test.true c.loop-op.invariant.so_far
-    (subst (λ (op : Op). Does c.loop-op.world op c.in-Ok.reply c.reply_op.new.world) c.op-item.is c.in-Ok.ensures.ok) c.history_stands-in-loop-op.ensures
-    (c.in_err-put.ensures.err c.reply_op.new.world.labels c.in-Ok.ensures.index))
+    (subst (λ (op : Op). Does c.loop-op.world op c.in-Ok-reply_op.reply c.reply_op.new.world) c.op-item.is c.in-Ok-reply_op.ensures.ok) c.history_stands-in-loop-op.ensures
+    (c.in_err-put.ensures.err c.reply_op.new.world.labels c.in-Ok-reply_op.ensures.index))
 
 pub loop-op-preserved : goal.loop-op-preserved
 loop-op-preserved g c =
-    let done = subst (λ (op : Op). Does c.loop-op.world op c.in-Ok.reply c.reply_op.new.world) c.op-item.is c.in-Ok.ensures.ok in
+    let done = subst (λ (op : Op). Does c.loop-op.world op c.in-Ok-reply_op.reply c.reply_op.new.world) c.op-item.is c.in-Ok-reply_op.ensures.ok in
     record {
       so_far =
-          goes_on_at c.args.world.now c.loop-op.world c.reply_op.new.world c.args.ops.now c.loop-op.op-index c.op-item.result _ _ _ _ _ c.in-Ok.reply
+          goes_on_at c.args.world.now c.loop-op.world c.reply_op.new.world c.args.ops.now c.loop-op.op-index c.op-item.result _ _ _ _ _ c.in-Ok-reply_op.reply
           c.loop-op-test.true c.loop-op.invariant.so_far done c.history_stands-in-loop-op.ensures
-          (c.in_ok-put.ensures.ok c.reply_op.new.world.labels c.in-Ok.ensures.index);
-      may = may_at c.loop-op.world c.reply_op.new.world c.args.ops.now c.loop-op.op-index c.op-item.result c.in-Ok.reply c.loop-op-test.true
+          (c.in_ok-put.ensures.ok c.reply_op.new.world.labels c.in-Ok-reply_op.ensures.index);
+      may = may_at c.loop-op.world c.reply_op.new.world c.args.ops.now c.loop-op.op-index c.op-item.result c.in-Ok-reply_op.reply c.loop-op-test.true
           c.loop-op.invariant.may done;
-      index = c.in-Ok.ensures.index;
+      index = c.in-Ok-reply_op.ensures.index;
       later = omega (arith, c.loop-op.invariant.later, c.put.ensures.later);
     }
 
@@ -61,18 +74,20 @@ returns-clause-ok g c =
 
 pub returns-clause-err : goal.returns-clause-err
 returns-clause-err g c =
-    err_map c.write_page.result
-    (breaks_last c.args.world.now c.loop-op.world c.args.ops.now c.loop-op.op-index _ _ _ _ c.loop-op.invariant.so_far)
+    let old : Told = told (g.K.Sink.taken c.args.sink.now) (g.K.Sink.room c.args.sink.now) in
+    let new : Told = told (g.K.Sink.taken c.write_page.new.output) (g.K.Sink.room c.write_page.new.output) in
+    err_map (λ (why : RunErr). WritesSome c.args.world.now c.args.ops.now c.loop-op.world why old new) c.write_page.result
+    (λ why. breaks_last c.args.world.now c.loop-op.world c.args.ops.now c.loop-op.op-index _ _ _ _ why c.loop-op.invariant.so_far)
     c.write_page.ensures.err
 
 pub put-requires : goal.put-requires
 put-requires g c =
     subst (λ (line : List ℕ). HasRoom (g.K.Sink.room c.loop-op.sink) (length (string_bytes c.loop-op.page ++ line)))
-    (sym (same_line (label_by c.reply_op.new.names) (label_of c.reply_op.new.world.labels) c.in-Ok.reply
-    (λ t. found_label c.reply_op.new.world.labels c.reply_op.new.names t c.in-Ok.ensures.index)))
-    (line_fits c.args.world.now c.loop-op.world c.reply_op.new.world c.args.ops.now c.loop-op.op-index c.op-item.result _ _ _ c.in-Ok.reply
+    (sym (same_line (label_by c.reply_op.new.names) (label_of c.reply_op.new.world.labels) c.in-Ok-reply_op.reply
+    (λ t. found_label c.reply_op.new.world.labels c.reply_op.new.names t c.in-Ok-reply_op.ensures.index)))
+    (line_fits c.args.world.now c.loop-op.world c.reply_op.new.world c.args.ops.now c.loop-op.op-index c.op-item.result _ _ _ c.in-Ok-reply_op.reply
     c.loop-op-test.true c.requires.fits c.loop-op.invariant.so_far
-    (subst (λ (op : Op). Does c.loop-op.world op c.in-Ok.reply c.reply_op.new.world) c.op-item.is c.in-Ok.ensures.ok) c.history_stands-in-loop-op.ensures)
+    (subst (λ (op : Op). Does c.loop-op.world op c.in-Ok-reply_op.reply c.reply_op.new.world) c.op-item.is c.in-Ok-reply_op.ensures.ok) c.history_stands-in-loop-op.ensures)
 
 pub write_page-requires : goal.write_page-requires
 write_page-requires g c =

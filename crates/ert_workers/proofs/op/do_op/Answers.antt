@@ -1,5 +1,6 @@
 use Rattle.std.proofs.Common.{rules, FitsSigned, w64, to_z-of_z, refl}
-use Rattle.ert_workers.proofs.Lists.{told_own, if_own, start_own, convert_own}
+use Rattle.ert_ops.specs.declared.op.Op.TheVariants as ops
+use Rattle.ert_workers.proofs.Lists.{told_own, if_own, start_own, convert_own, fails_own, fails_for}
 use Rattle.ert_workers.proofs.op.do_op.Goals as goal
 
 pub returns-in-Tick-clause-does : goal.returns-in-Tick-clause-does
@@ -84,3 +85,29 @@ returns-in-Convert-clause-does g c =
     let time : FitsSigned w64 c.in-Convert.time = search rules in
     convert_own g.L.DeskName.settings c.args.seat.number c.args.known.now c.args.own.now.pairs.items c.args.op.now c.in-Convert.time c.in-Convert.from c.in-Convert.to c.convert_time.result _ c.in-Convert.is
     (simp to_z-of_z at c.convert_time.ensures)
+
+pub returns-in-Notify-clause-fails : goal.returns-in-Notify-clause-fails
+returns-in-Notify-clause-fails g c =
+    fails_own g.L.DeskName.settings c.args.seat.number c.args.known.now c.args.own.now.pairs.items c.args.op.now _ c.notify.result.1 _ _ c.in-Notify.is c.notify.ensures.fails
+
+pub returns-in-Monitor-clause-fails : goal.returns-in-Monitor-clause-fails
+returns-in-Monitor-clause-fails g c =
+    fails_own g.L.DeskName.settings c.args.seat.number c.args.known.now c.args.own.now.pairs.items c.args.op.now _ c.monitor.result.1 _ _ c.in-Monitor.is c.monitor.ensures.fails
+
+pub returns-in-Start-clause-fails : goal.returns-in-Start-clause-fails
+returns-in-Start-clause-fails g c =
+    fails_own g.L.DeskName.settings c.args.seat.number c.args.known.now c.args.own.now.pairs.items c.args.op.now _ c.start.result.1 _ _ c.in-Start.is c.start.ensures.fails
+
+pub returns-in-SendAfter-clause-fails : goal.returns-in-SendAfter-clause-fails
+returns-in-SendAfter-clause-fails g c =
+    fails_own g.L.DeskName.settings c.args.seat.number c.args.known.now c.args.own.now.pairs.items c.args.op.now _ c.send_after.result.1 _ _ c.in-SendAfter.is c.send_after.ensures.fails
+
+pub returns-in-CancelAsync-clause-fails : goal.returns-in-CancelAsync-clause-fails
+returns-in-CancelAsync-clause-fails g c =
+    fails_for g.L.DeskName.settings c.args.seat.number c.args.known.now c.args.own.now.pairs.items c.in-CancelAsync.label c.timer_of-in-CancelAsync.result c.args.op.now
+    (λ l. ops.CancelAsync l c.in-CancelAsync.process c.in-CancelAsync.info) c.cancel_async.result.1 _ _ c.in-CancelAsync.is c.timer_of-in-CancelAsync.ensures c.cancel_async.ensures.fails
+
+pub returns-in-ReadAsync-clause-fails : goal.returns-in-ReadAsync-clause-fails
+returns-in-ReadAsync-clause-fails g c =
+    fails_for g.L.DeskName.settings c.args.seat.number c.args.known.now c.args.own.now.pairs.items c.in-ReadAsync.label c.timer_of-in-ReadAsync.result c.args.op.now
+    (λ l. ops.ReadAsync l c.in-ReadAsync.process c.in-ReadAsync.info) c.read_async.result.1 _ _ c.in-ReadAsync.is c.timer_of-in-ReadAsync.ensures c.read_async.ensures.fails

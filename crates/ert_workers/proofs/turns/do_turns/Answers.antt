@@ -18,3 +18,18 @@ loop-done-preserved g c =
       number = c.turn-seat.ensures.number ∙ c.loop-done.invariant.number;
       so_far = turns_more s w c.loop-done.done c.in_default.field-0 (front_of c.args.seat.pass) h k c.loop-done.invariant.so_far one_ok;
     }
+
+pub returns-in-Err-clause-stops : goal.returns-in-Err-clause-stops
+returns-in-Err-clause-stops g c =
+    let s = g.L.DeskName.settings in
+    let w = c.args.seat.part.wheel in
+    let h = front_of c.loop-done.next.pass in
+    let k = front_of c.turn-seat.result.0.pass in
+    let one = subst (λ (m : ℕ). Grows (Turns s (beside s (Sched m)) m c.turn-seat.result.1) h k) c.loop-done.invariant.number c.turn-seat.ensures.call in
+    record {
+      done = c.loop-done.done;
+      few = c.loop-done-test.true;
+      reached = h;
+      turned = c.loop-done.invariant.so_far;
+      stops = subst (λ r. Grows (Turns s (beside s (Sched w)) w r) h k) c.in-Err.is one;
+    }
