@@ -23,12 +23,14 @@ fn main(rt: HostRuntime) -> ExitCode {
     };
     let mut input = StdSource::new(rt.reader());
     let mut output = StdSink::new(io::writer(&rt));
+    let mut errors = StdSink::new(rt.stderr());
     let mut clock = HostClock::new(&rt);
     let ended = ertime(
         &rt,
         words.as_slice(),
         &mut input,
         &mut output,
+        &mut errors,
         &mut clock,
         &FreeGate,
     );

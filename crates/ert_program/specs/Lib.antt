@@ -1,4 +1,5 @@
 pub mod Endings
+pub mod Explained
 pub mod Inputs
 pub mod Lives
 pub mod Races

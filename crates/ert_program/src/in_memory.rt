@@ -5,6 +5,7 @@ ghost use Rattle.ert_scenario.specs.Scenarios.{Plan, IsScenario};
 ghost use Rattle.ert_program.specs.Runs.{InputFits, transcript};
 
 use crate::ending::{EndStatus, Ended};
+use crate::nowhere::Nowhere;
 use crate::running::run;
 use ert_io::{SureSink, SureSource};
 use ert_scenario::one_verdict;
@@ -18,5 +19,5 @@ pub fn run_in_memory(alloc: Global, input: &mut SureSource, output: &mut SureSin
         → ((result.status ≡ EndStatus.Done) × (sure_taken output.new ≡ sure_taken output.old ++ transcript plan)) ⊎ (result.status ≡ EndStatus.NoMemory) }
 {
     one_verdict();
-    run(alloc, input, output)
+    run(alloc, input, output, &mut Nowhere)
 }

@@ -3,13 +3,15 @@
 //!
 //! `ertime` is the whole program; its contract says what each status means. Its commands stand in `running`,
 //! `racing`, `living` and `stressing`. It stands on `ert_scenario`, which reads, `ert_script`, which runs the ops
-//! on a world, `ert_race`, which lets threads run lists of them, `ert_io`, and `ert_table`, whose desk it returns.
+//! on a world, `ert_race`, which lets threads run lists of them, `ert_explain`, which explains a refusal, `ert_io`, and
+//! `ert_table`, whose desk it returns.
 //! The crate `ert_cli` hands it the command line and the standard streams of the machine.
 #![tactic(auto)]
 
 mod ending;
 mod in_memory;
 mod living;
+mod nowhere;
 mod program;
 mod racing;
 mod refusal;

@@ -1,8 +1,9 @@
-ghost use Rattle.std.specs.Prelude.{◌≡◌, ◌≤◌, ◌⊎◌, ℕ, Some, None};
+ghost use Rattle.std.specs.Prelude.{◌≡◌, ◌≢◌, ◌≤◌, ◌⊎◌, ℕ, true, false, Some, None};
 ghost use Rattle.ert_command.specs.declared.command.Command.TheVariants.{Run, Race, Live, Stress};
 ghost use Rattle.ert_io.specs.Faults.{Rose};
 ghost use Rattle.ert_io.specs.Told.{told, took, TakesFront};
 ghost use Rattle.ert_program.specs.Endings.{asked, UsageEnds};
+ghost use Rattle.ert_program.specs.Explained.{Explains};
 ghost use Rattle.ert_program.specs.Lives.{LiveEnds};
 ghost use Rattle.ert_program.specs.Races.{RaceEnds};
 ghost use Rattle.ert_program.specs.Refusals.{usage_line};
@@ -27,17 +28,29 @@ const USAGE: &str = "usage: ertime run | race | live N | stress SEED N\n";
 /// writes its transcript to the output; `race` lets threads do the lists of a scenario, each of which passes the
 /// gate before each of its turns, and writes the report; `live` takes readings of the clock, and writes both times after each;
 /// `stress` makes a scenario from a seed, and writes how many of its timers have which status in the end. At
-/// Done it returns the desk that the calls were made on.
+/// Done it returns the desk that the calls were made on. Where `run` or `race` refuses its input, a message to `errors`
+/// tells why.
 ///
-/// A sink that tells its room has room for all that may be written, and then the command is `run`.
+/// An output that tells its room has room for all that may be written, and then the command is `run`. `errors` tells no
+/// room, and what becomes of the message changes nothing else.
 pub fn ertime<
     R: AllocGlobal + Threads + Wait + Sync,
     I: Source,
     O: Sink,
+    E: Sink,
     C: OsClock,
     G: Gate + Sync,
->(rt: &R, words: &[String], input: &mut I, output: &mut O, clock: &mut C, gate: &G) -> Ended
-    requires { AllFits (asked words.now) (I.left input.old) (O.room output.old) }
+>(
+    rt: &R,
+    words: &[String],
+    input: &mut I,
+    output: &mut O,
+    errors: &mut E,
+    clock: &mut C,
+    gate: &G,
+) -> Ended
+    requires fits { AllFits (asked words.now) (I.left input.old) (O.room output.old) }
+    requires errors_room { E.room errors.old ≡ None }
     ensures run { asked words.now ≡ Some Run
         → RunEnds (input_of (I.left input.old) (I.faults input.old)) (input_of (I.left input.new) (I.faults input.new))
         (output_of (O.taken output.old) (O.room output.old) (O.faults output.old)) (output_of (O.taken output.new) (O.room output.new) (O.faults output.new)) result }
@@ -58,13 +71,20 @@ pub fn ertime<
     ensures later { I.faults input.old ≤ I.faults input.new }
     ensures later_out { O.faults output.old ≤ O.faults output.new }
     ensures later_clock { C.faults clock.old ≤ C.faults clock.new }
+    ensures explained_run { asked words.now ≡ Some Run → result.status ≡ EndStatus.Refused
+        → Explains false (I.left input.old) (I.left input.new) (told (E.taken errors.old) (E.room errors.old)) (told (E.taken errors.new) (E.room errors.new)) }
+    ensures explained_race { asked words.now ≡ Some Race → result.status ≡ EndStatus.Refused
+        → Explains true (I.left input.old) (I.left input.new) (told (E.taken errors.old) (E.room errors.old)) (told (E.taken errors.new) (E.room errors.new)) }
+    ensures quiet { result.status ≢ EndStatus.Refused → errors.new ≡ errors.old }
+    ensures quiet_others { (asked words.now ≡ Some Run → ⊥) → (asked words.now ≡ Some Race → ⊥) → errors.new ≡ errors.old }
+    ensures later_errors { E.faults errors.old ≤ E.faults errors.new }
 {
     let Ok(command) = command_of(rt.alloc(), words) else {
         return Ended::without_desk(EndStatus::NoMemory);
     };
     match command {
-        Some(Command::Run) => run(rt.alloc(), input, output),
-        Some(Command::Race) => race(rt, rt.alloc(), input, output, gate),
+        Some(Command::Run) => run(rt.alloc(), input, output, errors),
+        Some(Command::Race) => race(rt, rt.alloc(), input, output, errors, gate),
         Some(Command::Live(n)) => live(rt.alloc(), n, clock, output),
         Some(Command::Stress { seed, n }) => Ended::of_run(stress(rt.alloc(), seed, n, output)),
         None => Ended::without_desk(usage(output)),

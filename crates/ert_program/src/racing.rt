@@ -7,6 +7,7 @@ ghost use Rattle.ert_io.specs.Told.{told};
 ghost use Rattle.ert_ops.specs.Races.{IsRace, race_of};
 ghost use Rattle.ert_ops.specs.Ranges.{IsInRange};
 ghost use Rattle.ert_scenario.specs.Scenarios.{Plan, IsScenario, plan_of};
+ghost use Rattle.ert_program.specs.Explained.{Explains};
 ghost use Rattle.ert_program.specs.Races.{DidRace, StopsAtRace, RacesPlan, StopsPlan};
 ghost use Rattle.ert_program.specs.Inputs.{Refuses, TakesMore};
 
@@ -24,15 +25,18 @@ use std::sync::Wait;
 use std::thread::Threads;
 
 /// Reads a scenario with a race to the end of the input, lets threads run it on a new world, and writes its
-/// report. At Done it returns the world's desk. Input that is no such scenario is refused by a line.
-pub fn race<R: Threads + Wait + Sync, G: Gate + Sync, I: Source, O: Sink>(
+/// report. At Done it returns the world's desk. Input that is no such scenario is refused by a line, and a message to
+/// `errors` tells why.
+pub fn race<R: Threads + Wait + Sync, G: Gate + Sync, I: Source, O: Sink, E: Sink>(
     rt: &R,
     alloc: Global,
     input: &mut I,
     output: &mut O,
+    errors: &mut E,
     gate: &G,
 ) -> Ended
-    requires { O.room output.old ≡ None }
+    requires room { O.room output.old ≡ None }
+    requires errors_room { E.room errors.old ≡ None }
     ensures done { result.status ≡ EndStatus.Done
         → IsSomeAnd result.desk (λ r. DidRace (I.left input.old) (I.left input.new) (told (O.taken output.old) (O.room output.old)) (told (O.taken output.new) (O.room output.new)) r) }
     ensures no_desk { result.status ≢ EndStatus.Done → result.desk ≡ None }
@@ -52,6 +56,10 @@ pub fn race<R: Threads + Wait + Sync, G: Gate + Sync, I: Source, O: Sink>(
         → (result.status ≡ EndStatus.Done) ⊎ (result.status ≡ EndStatus.NoMemory) }
     ensures later { I.faults input.old ≤ I.faults input.new }
     ensures later_out { O.faults output.old ≤ O.faults output.new }
+    ensures explained { result.status ≡ EndStatus.Refused
+        → Explains true (I.left input.old) (I.left input.new) (told (E.taken errors.old) (E.room errors.old)) (told (E.taken errors.new) (E.room errors.new)) }
+    ensures quiet { result.status ≢ EndStatus.Refused → errors.new ≡ errors.old }
+    ensures later_errors { E.faults errors.old ≤ E.faults errors.new }
 {
     one_verdict();
     scenarios_are_valid();
@@ -59,7 +67,9 @@ pub fn race<R: Threads + Wait + Sync, G: Gate + Sync, I: Source, O: Sink>(
         Ok(bytes) => match read_scenario(alloc, &bytes, true) {
             Ok(scenario) => Ended::of_run(race_scenario(rt, alloc, &scenario, output, gate)),
             Err(ScenarioErr::NoMemory) => Ended::without_desk(EndStatus::NoMemory),
-            Err(refusal) => Ended::without_desk(refuse(alloc, &refusal, output)),
+            Err(refusal) => {
+                Ended::without_desk(refuse(alloc, &bytes, true, &refusal, output, errors))
+            }
         },
         Err(ReadErr::ReadFault) => Ended::without_desk(EndStatus::ReadFault),
         Err(ReadErr::TooLong) => Ended::without_desk(EndStatus::TooLong),

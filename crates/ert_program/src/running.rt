@@ -8,6 +8,7 @@ ghost use Rattle.ert_ops.specs.Labels.{AreOps};
 ghost use Rattle.ert_ops.specs.Ranges.{IsInRange};
 ghost use Rattle.ert_scenario.specs.Scenarios.{Plan, IsScenario, plan_of};
 ghost use Rattle.ert_transcript.specs.Texts.{end_line};
+ghost use Rattle.ert_program.specs.Explained.{Explains};
 ghost use Rattle.ert_program.specs.Inputs.{Refuses, TakesMore};
 ghost use Rattle.ert_program.specs.Runs.{RunsOn, transcript, Did, Stops, InputFits};
 
@@ -25,9 +26,16 @@ use std::alloc::Global;
 pub(crate) const MAX_INPUT: usize = 16_777_216;
 
 /// Reads a scenario to the end of the input, runs it on a new world, and writes its transcript. At Done it
-/// returns the world's desk. Input that is no scenario is refused by a line.
-pub fn run<I: Source, O: Sink>(alloc: Global, input: &mut I, output: &mut O) -> Ended
-    requires { InputFits (I.left input.old) (O.room output.old) }
+/// returns the world's desk. Input that is no scenario is refused by a line, and a message to `errors` tells why; that
+/// sink tells no room.
+pub fn run<I: Source, O: Sink, E: Sink>(
+    alloc: Global,
+    input: &mut I,
+    output: &mut O,
+    errors: &mut E,
+) -> Ended
+    requires fits { InputFits (I.left input.old) (O.room output.old) }
+    requires errors_room { E.room errors.old ≡ None }
     ensures done { result.status ≡ EndStatus.Done
         → IsSomeAnd result.desk (λ r. Did (I.left input.old) (I.left input.new) (told (O.taken output.old) (O.room output.old)) (told (O.taken output.new) (O.room output.new)) r) }
     ensures no_desk { result.status ≢ EndStatus.Done → result.desk ≡ None }
@@ -47,6 +55,10 @@ pub fn run<I: Source, O: Sink>(alloc: Global, input: &mut I, output: &mut O) -> 
         → (result.status ≡ EndStatus.Done) ⊎ (result.status ≡ EndStatus.NoMemory) }
     ensures later { I.faults input.old ≤ I.faults input.new }
     ensures later_out { O.faults output.old ≤ O.faults output.new }
+    ensures explained { result.status ≡ EndStatus.Refused
+        → Explains false (I.left input.old) (I.left input.new) (told (E.taken errors.old) (E.room errors.old)) (told (E.taken errors.new) (E.room errors.new)) }
+    ensures quiet { result.status ≢ EndStatus.Refused → errors.new ≡ errors.old }
+    ensures later_errors { E.faults errors.old ≤ E.faults errors.new }
 {
     one_verdict();
     scenarios_are_valid();
@@ -54,7 +66,9 @@ pub fn run<I: Source, O: Sink>(alloc: Global, input: &mut I, output: &mut O) -> 
         Ok(bytes) => match read_scenario(alloc, &bytes, false) {
             Ok(scenario) => Ended::of_run(run_scenario(alloc, &scenario, output)),
             Err(ScenarioErr::NoMemory) => Ended::without_desk(EndStatus::NoMemory),
-            Err(refusal) => Ended::without_desk(refuse(alloc, &refusal, output)),
+            Err(refusal) => {
+                Ended::without_desk(refuse(alloc, &bytes, false, &refusal, output, errors))
+            }
         },
         Err(ReadErr::ReadFault) => Ended::without_desk(EndStatus::ReadFault),
         Err(ReadErr::TooLong) => Ended::without_desk(EndStatus::TooLong),

@@ -2,6 +2,7 @@
 ghost use Rattle.std.specs.Prelude.{◌≤◌};
 
 mod clock_rows;
+mod explained;
 mod in_memory;
 mod live;
 mod race;
@@ -79,10 +80,19 @@ fn run<R: AllocGlobal + Threads + Wait + Sync, I: Source>(
     words: &[&str],
     input: &mut I,
     output: &mut MemSink,
+    errors: &mut MemSink,
     mut clock: MemClock,
 ) -> Result<Ended, AllocError> {
     let words = strings(rt.alloc(), words)?;
-    Ok(ertime(rt, words.as_slice(), input, output, &mut clock, &FreeGate))
+    Ok(ertime(
+        rt,
+        words.as_slice(),
+        input,
+        output,
+        errors,
+        &mut clock,
+        &FreeGate,
+    ))
 }
 
 /// The status and the output of a run.
@@ -95,8 +105,9 @@ fn end_of<R: AllocGlobal + Threads + Wait + Sync>(
     let alloc = rt.alloc();
     let mut input = MemSource::new(given.text.to_vec(alloc)?, vec![in alloc; given.read]?);
     let mut output = MemSink::new(alloc, given.piece, vec![in alloc; given.write]?);
+    let mut errors = MemSink::new(alloc, 64, Vec::new(alloc));
     let clock = clock_of(alloc, given.readings, given.reading)?;
-    let ended = run(rt, given.words, &mut input, &mut output, clock)?;
+    let ended = run(rt, given.words, &mut input, &mut output, &mut errors, clock)?;
     Ok((
         ended.status,
         String::from_utf8_lossy(alloc, output.bytes())?,
@@ -283,8 +294,9 @@ fn refuses_a_long_input(rt: HostRuntime) -> Result<(), Fail> {
     ] {
         let mut input = Spaces { left: count };
         let mut output = MemSink::new(rt.alloc(), 100, Vec::new(rt.alloc()));
+        let mut errors = MemSink::new(rt.alloc(), 100, Vec::new(rt.alloc()));
         let clock = clock_of(rt.alloc(), &[], 0)?;
-        let ended = run(&rt, &["run"], &mut input, &mut output, clock)?;
+        let ended = run(&rt, &["run"], &mut input, &mut output, &mut errors, clock)?;
         let is_right = ended.status == status && output.bytes() == line.as_bytes();
         assert!(rt; is_right, "at {count}");
     }

@@ -16,7 +16,8 @@ fn room_for(alloc: Global, text: &[u8]) -> Result<Option<usize>, AllocError>
     one_verdict();
     let mut input = MemSource::new(text.to_vec(alloc)?, Vec::new(alloc));
     let mut output = MemSink::new(alloc, 64, Vec::new(alloc));
-    let ended = run(alloc, &mut input, &mut output);
+    let mut errors = MemSink::new(alloc, 64, Vec::new(alloc));
+    let ended = run(alloc, &mut input, &mut output, &mut errors);
     if ended.status != EndStatus::Done {
         return Ok(None);
     }

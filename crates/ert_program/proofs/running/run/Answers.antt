@@ -7,7 +7,7 @@ use Rattle.ert_program.proofs.running.run.Goals as goal
 pub run_scenario-requires-clause-fits : goal.run_scenario-requires-clause-fits
 run_scenario-requires-clause-fits g c =
     let takes : TakesAll (g.I.Source.left c.args.input.now) (g.I.Source.left c.read_all.new.source) c.deref.result.now = search rules in
-    c.requires.done _ _ (plan_of c.in-Ok-read_scenario.scenario) takes c.in-Ok-read_scenario.ensures.ok
+    c.requires.fits.done _ _ (plan_of c.in-Ok-read_scenario.scenario) takes c.in-Ok-read_scenario.ensures.ok
 
 pub run_scenario-requires-clause-checked : goal.run_scenario-requires-clause-checked
 run_scenario-requires-clause-checked g c =

@@ -1,0 +1,79 @@
+-- The fields of a scenario, and of the object in its field `race`.
+
+use Rattle.std.specs.Prelude.{ℕ, List, [], ◌∷◌, codes, Bool, true, false, ◌||◌, Option, Some, None, is_none}
+use Rattle.serde_json.specs.Data.{Data, Items}
+use Rattle.serde_json.specs.Find.{as_array, as_object, as_str}
+use Rattle.ert_scenario.specs.Kinds.{list_of}
+use Rattle.ert_explain.specs.Kinds.{no_integer, no_boolean, is_not_among}
+use Rattle.ert_explain.specs.declared.field.Field.{Field}
+use Rattle.ert_explain.specs.declared.field.Field.TheVariants.{Format, Mode, Correction, Start, Schedulers, Processes, Slots, First, Ops, Race, Turns, Keeper, Callers}
+
+-- the name of its member
+unfoldable pub name_of : Field → List ℕ
+name_of Format = codes "format"
+name_of Mode = codes "mode"
+name_of Correction = codes "correction"
+name_of Start = codes "start"
+name_of Schedulers = codes "schedulers"
+name_of Processes = codes "processes"
+name_of Slots = codes "slots"
+name_of First = codes "first"
+name_of Ops = codes "ops"
+name_of Race = codes "race"
+name_of Turns = codes "turns"
+name_of Keeper = codes "keeper"
+name_of Callers = codes "callers"
+
+-- whether it may not be absent
+abbrev pub is_needed : Field → Bool
+is_needed Mode = false
+is_needed Correction = false
+is_needed Start = false
+is_needed Schedulers = false
+is_needed Processes = false
+is_needed Slots = false
+is_needed _ = true
+
+-- whether it is no array
+abbrev pub no_array : Data → Bool
+no_array d = is_none (as_array d)
+
+-- whether it is no object
+abbrev pub no_object : Data → Bool
+no_object d = is_none (as_object d)
+
+-- whether it is none of `"no"`, `"single"` and `"multi"`
+unfoldable pub no_mode : Data → Bool
+no_mode d = is_not_among (codes "no" ∷ codes "single" ∷ codes "multi" ∷ []) (as_str d)
+
+-- whether the items aren't two integers
+abbrev pub is_no_pair : List Data → Bool
+is_no_pair [] = true
+is_no_pair (mono ∷ []) = true
+is_no_pair (mono ∷ sys ∷ []) = no_integer mono || no_integer sys
+is_no_pair (mono ∷ sys ∷ d ∷ ds) = true
+
+-- the same of an array, and true of other values
+abbrev pub is_no_reading_by : Option Items → Bool
+is_no_reading_by None = true
+is_no_reading_by (Some items) = is_no_pair (list_of items)
+
+-- whether it is no array of two integers
+unfoldable pub is_no_reading : Data → Bool
+is_no_reading d = is_no_reading_by (as_array d)
+
+-- whether a value isn't of the kind of the field, whatever its range
+abbrev pub is_wrong_value : Field → Data → Bool
+is_wrong_value Format d = no_integer d
+is_wrong_value Mode d = no_mode d
+is_wrong_value Correction d = no_boolean d
+is_wrong_value Start d = no_integer d
+is_wrong_value Schedulers d = no_integer d
+is_wrong_value Processes d = no_integer d
+is_wrong_value Slots d = no_integer d
+is_wrong_value First d = is_no_reading d
+is_wrong_value Ops d = no_array d
+is_wrong_value Race d = no_object d
+is_wrong_value Turns d = no_integer d
+is_wrong_value Keeper d = no_array d
+is_wrong_value Callers d = no_array d

@@ -1,0 +1,16 @@
+pub mod Excesses
+pub mod Explained
+pub mod FieldNames
+pub mod FieldRanges
+pub mod FieldShapes
+pub mod Kinds
+pub mod Labels
+pub mod Messages
+pub mod OpNames
+pub mod OpRanges
+pub mod OpShapes
+pub mod Params
+pub mod Places
+pub mod Positions
+pub mod Shown
+pub mod Words

@@ -1,0 +1,52 @@
+//! Why bytes are no scenario, for a person: at which line and column, at which op, and what is wrong.
+//!
+//! It stands on `ert_scenario`, which says which refusal bytes have, on `serde_json`, which reads them, and on `strsim`,
+//! which finds the nearest known name. `specs/Explained` says when an explanation is true of bytes: it is of the very
+//! refusal, its cause is what is wrong with the value at that place (`specs/FieldShapes`, `specs/FieldRanges`,
+//! `specs/OpShapes`, `specs/OpRanges`, `specs/Labels`, `specs/Excesses`), and its position lies in the bytes
+//! (`specs/Positions`). `specs/Messages` says which line tells an explanation.
+//!
+//! The value is read once more, and only for bytes that were refused. Where a value stands in the text is found by a
+//! scanner over its pieces (`scanner`, `locate`), of which no clause speaks: a value has no places. The scanner also
+//! finds where a text stops being JSON.
+#![tactic(auto)]
+
+mod cause;
+mod excess;
+mod expected;
+mod explanation;
+mod field;
+mod field_range;
+mod field_shape;
+mod find;
+mod json_stop;
+mod labels;
+mod locate;
+mod message;
+mod near;
+mod op_name;
+mod op_range;
+mod op_shape;
+mod param;
+mod place;
+mod position;
+mod scanner;
+mod shown;
+mod value_kind;
+mod words;
+
+pub use cause::Cause;
+pub use excess::Excess;
+pub use expected::Expected;
+pub use explanation::{Explanation, explain};
+pub use field::Field;
+pub use field_range::FieldRange;
+pub use field_shape::FieldShape;
+pub use message::write_message;
+pub use near::Near;
+pub use op_name::OpName;
+pub use op_range::{Limits, OutOfRange};
+pub use op_shape::OpShape;
+pub use param::{Param, Signature};
+pub use place::ListName;
+pub use position::Position;

@@ -1,0 +1,28 @@
+-- The message that explains a refusal.
+
+use Rattle.std.specs.Prelude.{◌≡◌, ◌⊎◌, ℕ, Bool, List, Option}
+use Rattle.ert_explain.specs.Explained.{IsExplained}
+use Rattle.ert_explain.specs.Messages.{message}
+use Rattle.ert_explain.specs.declared.explanation.Explanation.{Explanation}
+use Rattle.ert_io.specs.Told.{Told, TakesFront}
+use Rattle.ert_scenario.specs.Scenarios.{HasRefusal}
+use Rattle.ert_scenario.specs.declared.scenario.ScenarioErr.{ScenarioErr}
+use Rattle.ert_program.specs.Inputs.{TakesAll}
+
+-- the line of a true explanation of the refusal of bytes was written, or a first part of it
+pub record TellsWhy (race : Bool) (bytes : List ℕ) (why : ScenarioErr) (old new : Told) : Type 0 where
+  pub explanation : Explanation
+  pub is : IsExplained race bytes why explanation
+  pub writes : TakesFront old new (message bytes explanation)
+
+-- the same, or nothing was written for want of memory
+abbrev pub Tells : Bool → List ℕ → ScenarioErr → Told → Told → Type 0
+Tells race bytes why old new = (new ≡ old) ⊎ TellsWhy race bytes why old new
+
+-- all bytes were read, and their refusal was told so
+pub record Explains (race : Bool) (left left_new : Option (List ℕ)) (old new : Told) : Type 0 where
+  pub bytes : List ℕ
+  pub takes : TakesAll left left_new bytes
+  pub why : ScenarioErr
+  pub is : HasRefusal race bytes why
+  pub tells : Tells race bytes why old new
