@@ -1,3 +1,4 @@
 mod Completes
+mod Messages
 mod OneVerdict
 mod Texts

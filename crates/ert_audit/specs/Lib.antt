@@ -1,2 +1,3 @@
 pub mod Audits
+pub mod Messages
 pub mod Verdicts

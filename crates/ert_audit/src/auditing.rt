@@ -3,9 +3,11 @@ ghost use Rattle.ert_io.specs.Faults.{Rose};
 ghost use Rattle.ert_io.specs.Known.{then, before, TakesUpTo};
 ghost use Rattle.ert_io.specs.Writing.{WritesFront};
 ghost use Rattle.ert_audit.specs.Audits.{IsVerdict, Judges, Stops, status_of};
+ghost use Rattle.ert_audit.specs.Messages.{Explains, Tells};
 ghost use Rattle.ert_audit.specs.Verdicts.{HasVerdict, verdict_line};
 ghost use Rattle.ert_audit.specs.declared.verdict.Verdict as verdicts;
 
+use crate::explaining::explain;
 use crate::status::AuditStatus;
 use crate::verdict::{Verdict, one_verdict, verdict_on, write_verdict};
 use ert_io::{ReadErr, Sink, Source, read_all, write_all};
@@ -15,15 +17,18 @@ use std::alloc::Global;
 const MAX_INPUT: usize = 16_777_216;
 
 /// The program: it reads a history from the input, and writes one line to the output, which tells whether
-/// the history is legal.
+/// the history is legal. Where it isn't, it then tells the errors why, for a person, as far as they can be
+/// written and there is memory for it.
 ///
-/// The sink tells no room.
-pub fn audit<R: AllocGlobal, I: Source, O: Sink>(
+/// Neither sink tells its room.
+pub fn audit<R: AllocGlobal, I: Source, O: Sink, E: Sink>(
     rt: &R,
     input: &mut I,
     output: &mut O,
+    errors: &mut E,
 ) -> AuditStatus
-    requires { O.room output.old ≡ None }
+    requires room { O.room output.old ≡ None }
+    requires room_errors { E.room errors.old ≡ None }
 
     // The input was read to its end, its text has this verdict, and the line of that was written.
     ensures judged { IsVerdict result → Judges result (I.left input.old) (I.left input.new) (O.taken output.old) (O.taken output.new) }
@@ -43,17 +48,45 @@ pub fn audit<R: AllocGlobal, I: Source, O: Sink>(
         → (result ≡ status_of verdict) ⊎ (result ≡ AuditStatus.NoMemory) }
     ensures later { I.faults input.old ≤ I.faults input.new }
     ensures later_out { O.faults output.old ≤ O.faults output.new }
+
+    // Of the message only a first part may stand there. Without memory for it there is none.
+    ensures explained { (errors.new ≡ errors.old)
+        ⊎ Explains result (I.left input.old) (I.left input.new) (E.taken errors.old) (E.taken errors.new) }
+    ensures later_errors { E.faults errors.old ≤ E.faults errors.new }
 {
     one_verdict();
     match read_all(rt.alloc(), input, MAX_INPUT) {
         Ok(text) => match verdict_on(rt.alloc(), &text) {
-            Ok(verdict) => tell(rt.alloc(), verdict, output),
+            Ok(verdict) => report(rt.alloc(), &text, verdict, output, errors),
             Err(_) => AuditStatus::NoMemory,
         },
         Err(ReadErr::ReadFault) => AuditStatus::ReadFault,
         Err(ReadErr::TooLong) => AuditStatus::TooLong,
         Err(ReadErr::NoMemory) => AuditStatus::NoMemory,
     }
+}
+
+/// Writes the line of the verdict on a text, and then why it has that.
+fn report<O: Sink, E: Sink>(
+    alloc: Global,
+    text: &[u8],
+    verdict: Verdict,
+    output: &mut O,
+    errors: &mut E,
+) -> AuditStatus
+    requires room { O.room output.old ≡ None }
+    requires room_errors { E.room errors.old ≡ None }
+    ensures which { (result ≡ status_of verdict) ⊎ (result ≡ AuditStatus.WriteFault) ⊎ (result ≡ AuditStatus.NoMemory) }
+    ensures told { result ≡ status_of verdict → O.taken output.new ≡ then (O.taken output.old) (verdict_line verdict) }
+    ensures front { WritesFront (O.taken output.old) (O.taken output.new) (verdict_line verdict) }
+    ensures later { O.faults output.old ≤ O.faults output.new }
+    ensures cause { result ≡ AuditStatus.WriteFault → Rose (O.faults output.old) (O.faults output.new) }
+    ensures explained { (errors.new ≡ errors.old) ⊎ Tells result text.now (E.taken errors.old) (E.taken errors.new) }
+    ensures later_errors { E.faults errors.old ≤ E.faults errors.new }
+{
+    let status = tell(alloc, verdict, output);
+    explain(alloc, text, status, errors);
+    status
 }
 
 /// Writes the line of a verdict.

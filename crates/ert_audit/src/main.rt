@@ -4,10 +4,13 @@
 //! `audit` is the whole program over any source and sink of bytes; its contract says what each status
 //! means, by the spelling of histories (`ert_spelling`) and the model of the service (`ert_defs`). `main`
 //! only hands it the standard streams. It stands on `ert_spelling`, which reads, `ert_judge`, which finds
-//! the first entry that isn't legal, and `ert_io`; no code of the service itself is in it.
+//! the first entry that isn't legal, `ert_reasons`, which tells why it isn't, and `ert_io`; no code of the
+//! service itself is in it.
 #![tactic(auto)]
 
 mod auditing;
+mod explaining;
+mod lines;
 mod status;
 #[cfg(test)]
 mod tests;
@@ -23,5 +26,6 @@ pub use verdict::{Verdict, one_verdict};
 fn main(rt: HostRuntime) -> ExitCode {
     let mut input = StdSource::new(rt.reader());
     let mut output = StdSink::new(io::writer(&rt));
-    ExitCode::from(audit(&rt, &mut input, &mut output).code())
+    let mut errors = StdSink::new(rt.stderr());
+    ExitCode::from(audit(&rt, &mut input, &mut output, &mut errors).code())
 }

@@ -1,8 +1,8 @@
 mod CellLaws
 mod Finds
 mod Goes
-mod Knows
-mod Makers
+pub mod Knows
+pub mod Makers
 mod Opens
 mod Stands
 mod TimerLaws

@@ -1,8 +1,8 @@
-ghost use Rattle.std.specs.Prelude.{◌≡◌, ◌↔◌, ℕ, IsTrue, Ok, Some, None};
+ghost use Rattle.std.specs.Prelude.{◌≡◌, ◌↔◌, ℕ, IsTrue, IfOk, IfSome, Ok, Some, None};
 ghost use Rattle.ert_defs.specs.Legal.{IsResult, Legal};
 ghost use Rattle.ert_defs.specs.Settings.{IsChecked};
 ghost use Rattle.ert_defs.specs.Timers.{is_taken};
-ghost use Rattle.ert_judge.specs.Verdicts.{IsFirstIllegal};
+ghost use Rattle.ert_judge.specs.Verdicts.{IsFirstIllegal, StopsAt};
 
 use crate::range::is_in_range;
 use ert_defs::{Actor, Entry, Event, LAST_GENERATION, NoMemory, Settings, Start, Status, TimerRef};
@@ -16,15 +16,24 @@ const MONITORS: usize = 64;
 
 /// The state after the entries so far.
 #[derive(Drop)]
-struct Judge {
-    settings: Settings,
-    clock: Clock,
-    looks: Looks,
-    timers: Timers,
-    exits: Exits,
-    mailboxes: Mailboxes,
-    inboxes: Inboxes,
-    schedulers: Schedulers,
+pub struct Judge {
+    pub settings: Settings,
+    pub clock: Clock,
+    pub looks: Looks,
+    pub timers: Timers,
+    pub exits: Exits,
+    pub mailboxes: Mailboxes,
+    pub inboxes: Inboxes,
+    pub schedulers: Schedulers,
+}
+
+/// Where a history stops being legal.
+#[derive(Drop)]
+pub struct Stop {
+    /// The place of the first entry that isn't legal after those before it, from 0.
+    pub place: usize,
+    /// The state after those before it.
+    pub judge: Judge,
 }
 
 impl Judge {
@@ -120,7 +129,7 @@ impl Judge {
     }
 
     /// The status of the last timer of a slot.
-    fn last_status(&self, wheel: u32, slot: u32) -> Option<Status>
+    pub fn last_status(&self, wheel: u32, slot: u32) -> Option<Status>
         ensures { result ≡ last_status self.now wheel slot }
     {
         self.timers.status(TimerRef {
@@ -131,7 +140,7 @@ impl Judge {
     }
 
     /// The milliseconds left of a timer by the last look of an actor, where it is armed.
-    fn left(&self, by: Actor, timer: TimerRef) -> Option<u128>
+    pub fn left(&self, by: Actor, timer: TimerRef) -> Option<u128>
         ensures { (c : clocks.Clock) → result ≡ left_of self.now.settings (shown c self.now) by timer }
     {
         match self.timers.find(timer) {
@@ -154,7 +163,7 @@ impl Judge {
     }
 
     /// Whether a timer is due and the first of its wheel, but for its own status.
-    fn is_next(&self, by: Actor, timer: TimerRef) -> bool
+    pub fn is_next(&self, by: Actor, timer: TimerRef) -> bool
         ensures { IsTrue result ↔ IsFirstDue (timers_at self.now.timers timer.wheel) timer (milliseconds.down self.now.settings (look_of (looks_in self.now.looks) by)) }
     {
         let now = down(&self.settings, self.looks.of(by));
@@ -262,7 +271,7 @@ impl Judge {
     }
 
     /// Whether an entry is legal.
-    fn can(&self, entry: &Entry) -> bool
+    pub fn can(&self, entry: &Entry) -> bool
         ensures { (g : settings.Settings) (h : List entries.Entry) → StandsFor g h self.now → IsTrue result ↔ Can g (state g h) entry.now }
     {
         is_in_range(&self.settings, entry) && self.is_known(entry) && self.is_found(entry)
@@ -270,7 +279,7 @@ impl Judge {
 }
 
 /// Whether this is told where so many milliseconds are left.
-fn is_left(told: Option<u64>, left: Option<u128>) -> bool
+pub fn is_left(told: Option<u64>, left: Option<u128>) -> bool
     ensures { IsTrue result ↔ (told ≡ left) }
 {
     match (told, left) {
@@ -298,6 +307,26 @@ fn is_result(names: bool, outcome: Option<Option<u64>>, left: Option<u64>) -> bo
     }
 }
 
+/// The first entry that isn't legal after those before it, with the state after these.
+pub fn first_stop(
+    alloc: Global,
+    settings: &Settings,
+    entries: &[Entry],
+) -> Result<Option<Stop>, NoMemory>
+    requires { IsChecked settings.now }
+    ensures legal { result ≡ Ok None → Legal settings.now entries.now }
+    ensures stops { IfOk result (λ found. IfSome found (StopsAt settings.now entries.now)) }
+{
+    let mut judge = Judge::open(alloc, settings)?;
+    for i in 0..entries.len() {
+        if !judge.can(&entries[i]) {
+            return Ok(Some(Stop { place: i, judge }));
+        }
+        judge.follow(&entries[i])?;
+    }
+    Ok(None)
+}
+
 /// The place of the first entry that isn't legal after those before it, from 0.
 pub fn first_illegal(
     alloc: Global,
@@ -308,12 +337,8 @@ pub fn first_illegal(
     ensures legal { result ≡ Ok None → Legal settings.now entries.now }
     ensures illegal { (place : ℕ) → result ≡ Ok (Some place) → IsFirstIllegal settings.now entries.now place }
 {
-    let mut judge = Judge::open(alloc, settings)?;
-    for i in 0..entries.len() {
-        if !judge.can(&entries[i]) {
-            return Ok(Some(i));
-        }
-        judge.follow(&entries[i])?;
+    match first_stop(alloc, settings, entries)? {
+        Some(stop) => Ok(Some(stop.place)),
+        None => Ok(None),
     }
-    Ok(None)
 }

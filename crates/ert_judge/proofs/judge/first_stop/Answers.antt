@@ -1,7 +1,7 @@
 use Rattle.std.proofs.Common.{rules}
 use Rattle.ert_judge.proofs.Opens.{stands_open}
-use Rattle.ert_judge.proofs.Walks.{walk_on, walk_stops, placed, arms_new}
-use Rattle.ert_judge.proofs.judge.first_illegal.Goals as goal
+use Rattle.ert_judge.proofs.Walks.{walk_on, walk_stops, arms_new}
+use Rattle.ert_judge.proofs.judge.first_stop.Goals as goal
 
 pub loop-i-init : goal.loop-i-init
 loop-i-init c = stands_open c.args.settings.now c.in_ok-judge.judge c.in_ok-judge.ensures
@@ -15,8 +15,9 @@ loop-i-preserved c =
     walk_on c.args.settings.now c.args.entries.now c.loop-i.i _ c.loop-i.judge c.follow.new.self c.can.result
     c.loop-i-test.true c.loop-i.invariant c.can.ensures (search rules) c.in_ok-follow.ensures
 
-pub returns-then-not-can-clause-illegal : goal.returns-then-not-can-clause-illegal
-returns-then-not-can-clause-illegal c = λ place e.
-    let stops = walk_stops c.args.settings.now c.args.entries.now c.loop-i.i _ c.loop-i.judge c.can.result
-    c.loop-i-test.true c.loop-i.invariant c.can.ensures (search rules) in
-    placed c.args.settings.now c.args.entries.now c.loop-i.i place (cc) stops
+pub returns-then-not-can-clause-stops : goal.returns-then-not-can-clause-stops
+returns-then-not-can-clause-stops c = record {
+  first = walk_stops c.args.settings.now c.args.entries.now c.loop-i.i _ c.loop-i.judge c.can.result
+      c.loop-i-test.true c.loop-i.invariant c.can.ensures (search rules);
+  stands = c.loop-i.invariant;
+}

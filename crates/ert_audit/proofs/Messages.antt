@@ -1,0 +1,59 @@
+-- Messages that are written piece by piece, and what they say of a text.
+
+use Rattle.std.proofs.Common.{◌≡◌, ℕ, ◌+◌, ◌/◌, ◌%◌, true, false, add-one, List, [], ◌∷◌, ◌++◌, take, refl, ap, ◌∙◌, append_assoc, Some}
+use Rattle.std.specs.Prelude.{Result, Ok, Err, OnOk, slice_get}
+use Rattle.ert_defs.specs.Settings.{IsChecked}
+use Rattle.ert_defs.specs.States.{state}
+use Rattle.ert_defs.specs.declared.entry.Entry.{Entry}
+use Rattle.ert_defs.specs.declared.settings.Settings.{Settings}
+use Rattle.ert_judge.specs.Verdicts.{IsFirstIllegal}
+use Rattle.ert_reasons.specs.Reasons.{Holds}
+use Rattle.ert_reasons.specs.declared.reasons.Reason.{Reason}
+use Rattle.ert_spelling.specs.Spelling.{Spells}
+use Rattle.ert_audit.specs.Messages.{after_at, line_end, lines_on, hex_digit, is_plain, shown_byte, line_after, illegal_message, IsIllegalMessage}
+
+-- a call that may fail, and what follows where it doesn't
+pub ok_map : {T E P Q : Type 0} (r : Result T E) → (P → Q) → OnOk r P → OnOk r Q
+ok_map (Ok x) f p = f p
+ok_map (Err e) f p = p
+
+-- two pieces after a text
+pub joined : (a b c x y : List ℕ) → b ≡ a ++ x → c ≡ b ++ y → c ≡ a ++ (x ++ y)
+joined a b c x y e f = f ∙ ap (λ (t : List ℕ). t ++ y) e ∙ append_assoc a x y
+
+-- no line has been passed
+pub no_line : (text : List ℕ) → text ≡ lines_on 0 text
+unfolding lines_on
+no_line text = refl
+
+-- one more line has been passed
+pub line_more : (text rest after : List ℕ) (n : ℕ) → rest ≡ lines_on n text → after ≡ after_at rest (line_end rest)
+    → after ≡ lines_on (n + 1) text
+unfolding lines_on
+line_more text rest after n so_far more =
+    rw add-one (more ∙ ap (λ (t : List ℕ). after_at t (line_end t)) so_far)
+
+-- a byte as it is shown
+pub shown_plain : (b : ℕ) → is_plain b ≡ true → shown_byte b ≡ b ∷ []
+unfolding shown_byte
+shown_plain b is = rw is refl
+
+pub shown_hex : (b : ℕ) → is_plain b ≡ false → shown_byte b ≡ 92 ∷ 120 ∷ hex_digit (b / 16) ∷ hex_digit (b % 16) ∷ []
+unfolding shown_byte
+shown_hex b is = rw is refl
+
+-- a message on an entry that isn't legal
+pub illegal_text : (text message : List ℕ) (g : Settings) (h : List Entry) (place : ℕ) (e : Entry) (r : Reason)
+    → Spells g h text × IsChecked g → IsFirstIllegal g h place → slice_get h place ≡ Some e
+    → Holds g (state g (take place h)) e r → message ≡ illegal_message (place + 2) (line_after text (place + 1)) r
+    → IsIllegalMessage text message
+illegal_text text message g h place e r is first stands holds same = record {
+  history = record { settings = g; entries = h; spelled = is.0; checked = is.1 };
+  place = place;
+  first = first;
+  entry = e;
+  stands = stands;
+  reason = r;
+  holds = holds;
+  is = same;
+}

@@ -1,0 +1,92 @@
+-- What the error output is told of a history that isn't legal.
+
+use Rattle.std.specs.Prelude.{◌≡◌, ℕ, zero, suc, ◌+◌, ◌/◌, ◌%◌, ◌==◌, Bool, ◌&&◌, not, nat_lt, nat_le, List, [], ◌∷◌, ◌++◌, slice_get, length, take, drop, position, codes, Option, Some, None, if◌then◌else◌}
+use Rattle.std.specs.Fmt.{decimal}
+use Rattle.std.specs.List.{flat_map}
+use Rattle.ert_defs.specs.States.{state}
+use Rattle.ert_defs.specs.declared.entry.Entry.{Entry}
+use Rattle.ert_io.specs.Known.{before, IsAtEnd}
+use Rattle.ert_io.specs.Writing.{WritesFront}
+use Rattle.ert_judge.specs.Verdicts.{IsFirstIllegal}
+use Rattle.ert_reasons.specs.Reasons.{Holds}
+use Rattle.ert_reasons.specs.Texts.{◌⋅◌, reason_text}
+use Rattle.ert_reasons.specs.declared.reasons.Reason.{Reason}
+use Rattle.ert_audit.specs.Verdicts.{IsHistory}
+use Rattle.ert_audit.specs.declared.status.AuditStatus.{AuditStatus}
+use Rattle.ert_audit.specs.declared.status.AuditStatus.TheVariants.{Illegal}
+
+-- the bytes after the first newline, where that stands at a place
+abbrev pub after_at : List ℕ → Option ℕ → List ℕ
+after_at bytes None = bytes
+after_at bytes (Some place) = drop (place + 1) bytes
+
+-- and those before it
+abbrev pub before_at : List ℕ → Option ℕ → List ℕ
+before_at bytes None = bytes
+before_at bytes (Some place) = take place bytes
+
+-- where the first newline stands
+abbrev pub line_end : List ℕ → Option ℕ
+line_end bytes = position (λ b. b == 10) bytes
+
+-- the bytes after the first n lines
+unfoldable pub lines_on : ℕ → List ℕ → List ℕ
+lines_on zero text = text
+lines_on (suc n) text = after_at (lines_on n text) (line_end (lines_on n text))
+
+-- the line after the first n lines, without its newline
+abbrev pub line_after : List ℕ → ℕ → List ℕ
+line_after text n = before_at (lines_on n text) (line_end (lines_on n text))
+
+-- the digit of a number below 16
+abbrev pub hex_digit : ℕ → ℕ
+hex_digit n = if nat_lt n 10 then 48 + n else 87 + n
+
+-- whether a byte is shown as it is: a letter, a digit, a sign or a blank, and no backslash
+abbrev pub is_plain : ℕ → Bool
+is_plain b = nat_le 32 b && nat_lt b 127 && not (b == 92)
+
+-- a byte as it is shown
+unfoldable pub shown_byte : ℕ → List ℕ
+shown_byte b = if is_plain b then b ∷ [] else 92 ∷ 120 ∷ hex_digit (b / 16) ∷ hex_digit (b % 16) ∷ []
+
+-- what is shown of bytes: the first 60, and a mark where there are more
+abbrev pub shown : List ℕ → List ℕ
+shown bytes = flat_map shown_byte (take 60 bytes) ++ (if nat_lt 60 (length bytes) then codes ".." else [])
+
+-- the front of a message: the line that it is about
+abbrev pub head_text : ℕ → List ℕ
+head_text line = codes "history:" ⋅ decimal line ⋅ codes ": "
+
+-- the message on an entry that isn't legal, by its line and the reason
+abbrev pub illegal_message : ℕ → List ℕ → Reason → List ℕ
+illegal_message line bytes reason = head_text line ⋅ shown bytes ⋅ codes ": " ⋅ reason_text reason ⋅ codes "\n"
+
+-- the message on a text tells the first entry that isn't legal, its line and a reason that holds of it
+pub record IsIllegalMessage (text message : List ℕ) : Type 0 where
+  pub history : IsHistory text
+  pub place : ℕ
+  pub first : IsFirstIllegal history.settings history.entries place
+  pub entry : Entry
+  pub stands : slice_get history.entries place ≡ Some entry
+  pub reason : Reason
+  pub holds : Holds history.settings (state history.settings (take place history.entries)) entry reason
+  pub is : message ≡ illegal_message (place + 2) (line_after text (place + 1)) reason
+
+-- what a message on a text says at a status
+abbrev pub IsMessage : AuditStatus → List ℕ → List ℕ → Type 0
+IsMessage Illegal text message = IsIllegalMessage text message
+IsMessage _ text message = ⊥
+
+-- the first part of the message on a text was written
+pub record Tells (status : AuditStatus) (text : List ℕ) (taken taken_new : Option (List ℕ)) : Type 0 where
+  pub message : List ℕ
+  pub is : IsMessage status text message
+  pub writes : WritesFront taken taken_new message
+
+-- all bytes were read, and the first part of the message on them was written
+pub record Explains (status : AuditStatus) (left left_new taken taken_new : Option (List ℕ)) : Type 0 where
+  pub text : List ℕ
+  pub all : left ≡ before text left_new
+  pub end : IsAtEnd left_new
+  pub tells : Tells status text taken taken_new

@@ -1,0 +1,4 @@
+mod EventsExclude
+mod Pieces
+mod RangesExclude
+mod Seen

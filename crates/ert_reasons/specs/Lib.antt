@@ -1,0 +1,4 @@
+pub mod Breaks
+pub mod Ranges
+pub mod Reasons
+pub mod Texts
