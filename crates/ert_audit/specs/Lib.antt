@@ -1,3 +1,5 @@
 pub mod Audits
+pub mod Explained
 pub mod Messages
+pub mod Refusals
 pub mod Verdicts

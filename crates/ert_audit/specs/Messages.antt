@@ -5,15 +5,11 @@ use Rattle.std.specs.Fmt.{decimal}
 use Rattle.std.specs.List.{flat_map}
 use Rattle.ert_defs.specs.States.{state}
 use Rattle.ert_defs.specs.declared.entry.Entry.{Entry}
-use Rattle.ert_io.specs.Known.{before, IsAtEnd}
-use Rattle.ert_io.specs.Writing.{WritesFront}
 use Rattle.ert_judge.specs.Verdicts.{IsFirstIllegal}
 use Rattle.ert_reasons.specs.Reasons.{Holds}
 use Rattle.ert_reasons.specs.Texts.{◌⋅◌, reason_text}
 use Rattle.ert_reasons.specs.declared.reasons.Reason.{Reason}
 use Rattle.ert_audit.specs.Verdicts.{IsHistory}
-use Rattle.ert_audit.specs.declared.status.AuditStatus.{AuditStatus}
-use Rattle.ert_audit.specs.declared.status.AuditStatus.TheVariants.{Illegal}
 
 -- the bytes after the first newline, where that stands at a place
 abbrev pub after_at : List ℕ → Option ℕ → List ℕ
@@ -72,21 +68,3 @@ pub record IsIllegalMessage (text message : List ℕ) : Type 0 where
   pub reason : Reason
   pub holds : Holds history.settings (state history.settings (take place history.entries)) entry reason
   pub is : message ≡ illegal_message (place + 2) (line_after text (place + 1)) reason
-
--- what a message on a text says at a status
-abbrev pub IsMessage : AuditStatus → List ℕ → List ℕ → Type 0
-IsMessage Illegal text message = IsIllegalMessage text message
-IsMessage _ text message = ⊥
-
--- the first part of the message on a text was written
-pub record Tells (status : AuditStatus) (text : List ℕ) (taken taken_new : Option (List ℕ)) : Type 0 where
-  pub message : List ℕ
-  pub is : IsMessage status text message
-  pub writes : WritesFront taken taken_new message
-
--- all bytes were read, and the first part of the message on them was written
-pub record Explains (status : AuditStatus) (left left_new taken taken_new : Option (List ℕ)) : Type 0 where
-  pub text : List ℕ
-  pub all : left ≡ before text left_new
-  pub end : IsAtEnd left_new
-  pub tells : Tells status text taken taken_new

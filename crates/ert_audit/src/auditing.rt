@@ -3,7 +3,7 @@ ghost use Rattle.ert_io.specs.Faults.{Rose};
 ghost use Rattle.ert_io.specs.Known.{then, before, TakesUpTo};
 ghost use Rattle.ert_io.specs.Writing.{WritesFront};
 ghost use Rattle.ert_audit.specs.Audits.{IsVerdict, Judges, Stops, status_of};
-ghost use Rattle.ert_audit.specs.Messages.{Explains, Tells};
+ghost use Rattle.ert_audit.specs.Explained.{Explains, Tells};
 ghost use Rattle.ert_audit.specs.Verdicts.{HasVerdict, verdict_line};
 ghost use Rattle.ert_audit.specs.declared.verdict.Verdict as verdicts;
 
@@ -76,6 +76,7 @@ fn report<O: Sink, E: Sink>(
 ) -> AuditStatus
     requires room { O.room output.old ≡ None }
     requires room_errors { E.room errors.old ≡ None }
+    requires has { HasVerdict text.now verdict }
     ensures which { (result ≡ status_of verdict) ⊎ (result ≡ AuditStatus.WriteFault) ⊎ (result ≡ AuditStatus.NoMemory) }
     ensures told { result ≡ status_of verdict → O.taken output.new ≡ then (O.taken output.old) (verdict_line verdict) }
     ensures front { WritesFront (O.taken output.old) (O.taken output.new) (verdict_line verdict) }
@@ -85,7 +86,9 @@ fn report<O: Sink, E: Sink>(
     ensures later_errors { E.faults errors.old ≤ E.faults errors.new }
 {
     let status = tell(alloc, verdict, output);
-    explain(alloc, text, status, errors);
+    if status == status_of(verdict) {
+        explain(alloc, text, verdict, errors);
+    }
     status
 }
 

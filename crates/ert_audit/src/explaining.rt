@@ -1,12 +1,18 @@
 //! Why a text has its verdict, for a person.
 
 ghost use Rattle.std.specs.Prelude.{◌≡◌, ◌⊎◌, ◌≤◌, ◌++◌, codes, IfSome, OnOk, None, string_bytes};
-ghost use Rattle.ert_audit.specs.Messages.{head_text, shown, illegal_message, IsIllegalMessage, Tells};
+ghost use Rattle.ert_audit.specs.Audits.{status_of};
+ghost use Rattle.ert_audit.specs.Explained.{IsMessage, Tells};
+ghost use Rattle.ert_audit.specs.Messages.{head_text, shown, illegal_message, IsIllegalMessage};
+ghost use Rattle.ert_audit.specs.Refusals.{IsRefusalMessage};
+ghost use Rattle.ert_audit.specs.Verdicts.{HasVerdict};
 ghost use Rattle.ert_io.specs.Writing.{WritesFront};
 ghost use Rattle.ert_reasons.specs.Texts.{◌⋅◌, reason_text};
+ghost use Rattle.ert_spelling.specs.Spelling.{MisspelledAt};
 
 use crate::lines::{line_after, write_shown};
-use crate::status::AuditStatus;
+use crate::refusing::{refusal_of, write_refusal};
+use crate::verdict::Verdict;
 use ert_io::{Sink, write_all};
 use ert_judge::first_stop;
 use ert_reasons::{Reason, reason, write_reason};
@@ -14,16 +20,41 @@ use ert_spelling::read_history;
 use std::alloc::{AllocError, Global};
 use std::fmt::Write;
 
-/// Writes why a text has the verdict that a status tells, where there is memory for it.
-pub fn explain<E: Sink>(alloc: Global, text: &[u8], status: AuditStatus, errors: &mut E)
-    requires { E.room errors.old ≡ None }
-    ensures explained { (errors.new ≡ errors.old) ⊎ Tells status text.now (E.taken errors.old) (E.taken errors.new) }
+/// Writes why a text has a verdict, where there is memory for it.
+pub fn explain<E: Sink>(alloc: Global, text: &[u8], verdict: Verdict, errors: &mut E)
+    requires room { E.room errors.old ≡ None }
+    requires has { HasVerdict text.now verdict }
+    ensures explained { (errors.new ≡ errors.old) ⊎ Tells (status_of verdict) text.now (E.taken errors.old) (E.taken errors.new) }
     ensures later { E.faults errors.old ≤ E.faults errors.new }
 {
-    if status == AuditStatus::Illegal
-        && let Some(message) = message_on(alloc, text)
-    {
+    if let Some(message) = message_on(alloc, text, verdict) {
         write_message(errors, message.as_bytes());
+    }
+}
+
+/// The message on a text that has a verdict.
+fn message_on(alloc: Global, text: &[u8], verdict: Verdict) -> Option<String>
+    requires { HasVerdict text.now verdict }
+    ensures { IfSome result (λ message. IsMessage (status_of verdict) text.now (string_bytes message)) }
+{
+    match verdict {
+        Verdict::Legal { .. } => None,
+        Verdict::Illegal { .. } => illegal_on(alloc, text),
+        Verdict::Refused { line } => refused_on(alloc, text, line),
+    }
+}
+
+/// The message on a text that is misspelled at a line.
+fn refused_on(alloc: Global, text: &[u8], line: usize) -> Option<String>
+    requires { MisspelledAt text.now line }
+    ensures { IfSome result (λ message. IsRefusalMessage text.now (string_bytes message)) }
+{
+    let refusal = refusal_of(text, line);
+    let bytes = line_after(text, line.saturating_sub(1));
+    let mut page = String::new(alloc);
+    match write_refusal(&mut page, bytes, line, refusal) {
+        Ok(()) => Some(page),
+        Err(_) => None,
     }
 }
 
@@ -37,7 +68,7 @@ fn write_message<E: Sink>(errors: &mut E, message: &[u8])
 }
 
 /// The message on a text that spells a history with an entry that isn't legal.
-fn message_on(alloc: Global, text: &[u8]) -> Option<String>
+fn illegal_on(alloc: Global, text: &[u8]) -> Option<String>
     ensures { IfSome result (λ message. IsIllegalMessage text.now (string_bytes message)) }
 {
     let Ok(history) = read_history(alloc, text) else {

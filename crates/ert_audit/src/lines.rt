@@ -1,6 +1,6 @@
 //! The lines of a text, and how bytes are shown.
 
-ghost use Rattle.std.specs.Prelude.{◌≡◌, ◌++◌, ◌∷◌, [], ◌<◌, length, codes, IfSome, OnOk, string_bytes, if◌then◌else◌};
+ghost use Rattle.std.specs.Prelude.{◌≡◌, ◌++◌, ◌∷◌, [], ◌<◌, length, codes, is_some, IfSome, OnOk, string_bytes, if◌then◌else◌};
 ghost use Rattle.std.specs.List.{flat_map};
 ghost use Rattle.ert_audit.specs.Messages.{after_at, line_end, lines_on, line_after, hex_digit, is_plain, shown_byte, shown};
 
@@ -39,6 +39,13 @@ fn after_line(bytes: &[u8]) -> &[u8]
         Some(end) => &bytes[end + 1..],
         None => bytes,
     }
+}
+
+/// Whether the line after so many lines has a newline at its end.
+pub fn has_end(text: &[u8], lines: usize) -> bool
+    ensures { result ≡ is_some (line_end (lines_on lines text.now)) }
+{
+    line_end(lines_on(text, lines)).is_some()
 }
 
 /// Where the first newline stands.

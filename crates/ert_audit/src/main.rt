@@ -11,6 +11,7 @@
 mod auditing;
 mod explaining;
 mod lines;
+mod refusing;
 mod status;
 #[cfg(test)]
 mod tests;

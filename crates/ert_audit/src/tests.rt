@@ -110,7 +110,7 @@ fn tells_each_status(rt: HostRuntime) -> Result<(), Fail> {
 }
 
 // What follows a history of six lines, and what the errors are told.
-const REASONS: [(&str, &str); 6] = [
+const REASONS: [(&str, &str); 7] = [
     ("", ""),
     (
         "s0 w0 expire 0 0 1\n",
@@ -131,6 +131,10 @@ const REASONS: [(&str, &str); 6] = [
     (
         "s0 i0 pick 0 read 4294967295 4294967295 4294967295 4294967295 true\n",
         "history:7: s0 i0 pick 0 read 4294967295 4294967295 4294967295 429496729..: no request waits\n",
+    ),
+    (
+        "s0 w0 expire 0 0 01\n",
+        "history:7:18: \"01\": expected a number from 0 to 4294967295\n",
     ),
 ];
 

@@ -1,6 +1,7 @@
 pub mod ActorFormats
 pub mod Digits
 pub mod EntryFormats
+pub mod Unseen
 pub mod FirstLines
 pub mod Formats
 pub mod Integers

@@ -1,6 +1,7 @@
 pub mod Cuts
 pub mod Entries
 pub mod Events
+pub mod Faults
 pub mod Fits
 pub mod Parts
 pub mod Readers

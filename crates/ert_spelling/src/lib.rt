@@ -10,13 +10,17 @@ mod actors;
 mod cutting;
 mod entries;
 mod events;
+mod faults;
 mod history;
 mod laws;
 mod mails;
 mod numbers;
 mod settings;
 mod timers;
+mod wanted;
 mod words;
 
+pub use faults::{fault_in, first_word, unfit};
 pub use history::{History, SpellingErr, read_history};
 pub use laws::one_spelling;
+pub use wanted::{Fault, Wanted};

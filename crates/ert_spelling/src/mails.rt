@@ -32,7 +32,7 @@ pub(crate) fn request(words: Words) -> Option<(Request, Words)>
 
 /// What a request asks for.
 #[tactic(auto, unfolding(crate::specs::Reading::request_kind_at))]
-fn request_kind(words: Words) -> Option<(RequestKind, Words)>
+pub(crate) fn request_kind(words: Words) -> Option<(RequestKind, Words)>
     ensures { seen result ≡ request_kind_at (words_of words.entry) }
 {
     let (name, words) = next_text(words)?;

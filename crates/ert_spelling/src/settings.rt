@@ -55,7 +55,7 @@ fn fields(words: Words) -> Option<(Settings, Words)>
 
 /// A time warp mode.
 #[tactic(auto, unfolding(crate::specs::Reading::mode_at))]
-fn mode(words: Words) -> Option<(Mode, Words)>
+pub(crate) fn mode(words: Words) -> Option<(Mode, Words)>
     ensures { seen result ≡ mode_at (words_of words.entry) }
 {
     let (name, words) = next_text(words)?;

@@ -68,7 +68,7 @@ fn when(words: Words) -> Option<(When, Words)>
 
 /// What a timer sends.
 #[tactic(auto, unfolding(crate::specs::Reading::kind_at))]
-fn kind(words: Words) -> Option<(Kind, Words)>
+pub(crate) fn kind(words: Words) -> Option<(Kind, Words)>
     ensures { seen result ≡ kind_at (words_of words.entry) }
 {
     let (name, words) = next_text(words)?;

@@ -4,7 +4,7 @@ use Rattle.std.specs.Prelude.{slice_get}
 use Rattle.ert_defs.specs.declared.entry.Entry.{Entry}
 use Rattle.ert_judge.specs.Verdicts.{StopsAt}
 use Rattle.ert_audit.proofs.Messages.{illegal_text}
-use Rattle.ert_audit.proofs.explaining.message_on.Goals as goal
+use Rattle.ert_audit.proofs.explaining.illegal_on.Goals as goal
 
 pub returns-in-Ok-write_illegal : goal.returns-in-Ok-write_illegal
 returns-in-Ok-write_illegal c =

@@ -1,0 +1,76 @@
+-- What the error output is told of a text that spells no history.
+
+use Rattle.std.specs.Prelude.{◌≡◌, ℕ, ◌+◌, ◌-◌, ◌≤◌, List, length, drop, codes, None}
+use Rattle.std.specs.Fmt.{decimal}
+use Rattle.ert_defs.specs.declared.settings.SettingsFault.{SettingsFault}
+use Rattle.ert_defs.specs.declared.settings.SettingsFault.TheVariants.{Start, First, Count}
+use Rattle.ert_reasons.specs.Texts.{◌⋅◌}
+use Rattle.ert_spelling.specs.Faults.{word_in, IsFaultIn, IsUnfit}
+use Rattle.ert_spelling.specs.Spelling.{MisspelledAt}
+use Rattle.ert_spelling.specs.declared.wanted.Wanted.{Wanted}
+use Rattle.ert_spelling.specs.declared.wanted.Wanted.TheVariants.{SettingsWord, Mode, Truth, Integer, Small, Natural, Act, State, Found, Kind, When, Actor, Partner, Event, RequestKind, Picked, Taken, Left, End}
+use Rattle.ert_audit.specs.Messages.{line_after, line_end, lines_on, shown, head_text}
+use Rattle.ert_audit.specs.declared.refusing.Refusal.{Refusal}
+use Rattle.ert_audit.specs.declared.refusing.Refusal.TheVariants.{At, Unfit, NoNewline, Misspelled}
+
+-- why a line is misspelled: a word of it isn't one that could stand there, no service can be opened with its
+-- settings, or no newline ends it
+abbrev pub IsRefusal : List ℕ → ℕ → Refusal → Type 0
+IsRefusal text line (At fault) = IsFaultIn (line_after text (line - 1)) fault
+IsRefusal text line (Unfit fault) = IsUnfit (line_after text (line - 1)) fault
+IsRefusal text line NoNewline = line_end (lines_on (line - 1) text) ≡ None
+IsRefusal text line Misspelled = Unit {0}
+
+-- a fault lies in the bytes
+abbrev pub LiesIn : List ℕ → Refusal → Type 0
+LiesIn bytes (At fault) = fault.before ≤ length bytes
+LiesIn bytes _ = Unit {0}
+
+-- what could stand there
+unfoldable pub wanted_text : Wanted → List ℕ
+wanted_text SettingsWord = codes "the word settings"
+wanted_text Mode = codes "no, single or multi"
+wanted_text Truth = codes "true or false"
+wanted_text Integer = codes "a number from -9223372036854775808 to 9223372036854775807"
+wanted_text Small = codes "a number from 0 to 4294967295"
+wanted_text Natural = codes "a number from 0 to 18446744073709551615"
+wanted_text Act = codes "plain, force or finalize"
+wanted_text State = codes "preliminary, final or volatile"
+wanted_text Found = codes "none, armed, expired, delivered, cancelled, orphaned or dropped"
+wanted_text Kind = codes "wrapped or bare"
+wanted_text When = codes "after or at"
+wanted_text Actor = codes "an actor: k, or one of w, i, s, m and c with a number"
+wanted_text Partner = codes "-, or an actor: k, or one of w, i, s, m and c with a number"
+wanted_text Event = codes "an event: tick, shift, look, off, arm, probe, peek, cancel, expire, orphan, deliver, drop, mark, advanced, ask, pick, answer, take, unwatch, watch or tell"
+wanted_text RequestKind = codes "cancel or read"
+wanted_text Picked = codes "none, cancel or read"
+wanted_text Taken = codes "none, timeout, bare, cancel_done, read_done or change"
+wanted_text Left = codes "none, or a number from 0 to 18446744073709551615"
+wanted_text End = codes "the end of the line"
+
+-- why no service can be opened with settings
+unfoldable pub unfit_text : SettingsFault → List ℕ
+unfit_text Start = codes "the start time is no multiple of 1000000, or outside its limits"
+unfit_text First = codes "the first reading isn't valid"
+unfit_text Count = codes "a number of schedulers, processes, slots or callers is outside its limits"
+
+-- the front of a message: the line and the column, from 1
+abbrev pub place_text : ℕ → ℕ → List ℕ
+place_text line before = codes "history:" ⋅ decimal line ⋅ codes ":" ⋅ decimal (before + 1) ⋅ codes ": \""
+
+-- the message on a misspelled line
+abbrev pub refusal_message : List ℕ → ℕ → Refusal → List ℕ
+refusal_message bytes line (At fault) =
+    place_text line fault.before
+    ⋅ shown (word_in (drop fault.before bytes)) ⋅ codes "\": expected " ⋅ wanted_text fault.wanted ⋅ codes "\n"
+refusal_message bytes line (Unfit fault) = head_text line ⋅ unfit_text fault ⋅ codes "\n"
+refusal_message bytes line NoNewline = head_text line ⋅ codes "the line has no newline at its end" ⋅ codes "\n"
+refusal_message bytes line Misspelled = head_text line ⋅ codes "the line is misspelled" ⋅ codes "\n"
+
+-- the message on a text tells the first line that is misspelled, and why it is
+pub record IsRefusalMessage (text message : List ℕ) : Type 0 where
+  pub line : ℕ
+  pub misspelled : MisspelledAt text line
+  pub refusal : Refusal
+  pub why : IsRefusal text line refusal
+  pub is : message ≡ refusal_message (line_after text (line - 1)) line refusal
