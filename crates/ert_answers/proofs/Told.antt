@@ -1,6 +1,6 @@
 -- The same entries have one answer: of starts and of advances, by what stands among their probes.
 
-use Rattle.std.proofs.Common.{◌≡◌, ℕ, zero, suc, ◌+◌, ℤ, false, List, [], ◌∷◌, ◌++◌, Option, Some, None, Ok, Err, refl, sym, ap, subst, ◌∙◌, arith}
+use Rattle.std.proofs.Common.{inl, inr, ◌≡◌, ℕ, zero, suc, ◌+◌, ℤ, false, List, [], ◌∷◌, ◌++◌, Option, Some, None, Ok, Err, refl, sym, ap, subst, ◌∙◌, arith}
 use Rattle.ert_answers.proofs.Advanced.{IsAdvance, advance_is, advance_all_is}
 use Rattle.ert_answers.specs.Laws.{LawOfStarts, LawOfAdvances}
 use Rattle.ert_answers.specs.TimerCalls.{AreProbes, AreTaken, IsStarted, IsBadArg, IsWheelFull}
@@ -61,11 +61,12 @@ none_armed by wheel start (e ∷ probes) (f ∷ others) t x are same =
     let tails : probes ++ (arm_entry by t start ∷ x) ≡ others = cc in none_armed by wheel start probes others t x are.3 tails
 
 -- the slots that were found taken were looked at
-pub taken_probes : (by wheel : ℕ) (s : State) (slot n : ℕ) (es : List Entry) → AreTaken by wheel s slot n es → AreProbes (Caller by) wheel es
-taken_probes by wheel s slot zero es taken = subst (AreProbes (Caller by) wheel) (sym taken) tt
-taken_probes by wheel s slot (suc n) es taken =
+pub taken_probes : (by wheel now : ℕ) (s : State) (slot n : ℕ) (es : List Entry) → AreTaken by wheel now s slot n es
+    → AreProbes (Caller by) wheel es
+taken_probes by wheel now s slot zero es taken = subst (AreProbes (Caller by) wheel) (sym taken) tt
+taken_probes by wheel now s slot (suc n) es taken =
     subst (AreProbes (Caller by) wheel) (sym taken.2)
-    (slot, taken.0, refl, taken_probes by wheel s (suc slot) n taken.1 taken.4)
+    (slot, taken.0, refl, taken_probes by wheel now s (suc slot) n taken.1 taken.4)
 
 started_same : (g : Settings) (by wheel : ℕ) (start : Start) (t u : TimerRef) (s : State) (es : List Entry) → IsStarted g by wheel start t s es
     → IsStarted g by wheel start u s es → t ≡ u
@@ -85,7 +86,10 @@ not_full : (g : Settings) (by wheel : ℕ) (start : Start) (t : TimerRef) (s : S
 not_full g by wheel start t s es first second =
     let same : first.probes ++ (arm_entry by t start ∷ (mark_entry (Caller by) start.dest false first.was ∷ first.closing)) ≡ second.probes = cc (sym first.entries ∙ second.entries) in
     none_armed by wheel start first.probes second.probes t _
-    (taken_probes by wheel s 0 g.slots second.probes second.are_taken) same
+    (elim second.are_taken [
+      | inl taken ↦ taken_probes by wheel _ s 0 g.slots second.probes taken
+      | inr many ↦ subst (AreProbes (Caller by) wheel) (sym many.1) tt
+    ]) same
 
 bad_or_full : (g : Settings) (by wheel : ℕ) (start : Start) (s : State) (es : List Entry) → IsBadArg g by start es
     → IsWheelFull g by wheel start s es → ⊥

@@ -3,6 +3,7 @@ pub mod ClockCalls
 pub mod Laws
 pub mod MailCalls
 pub mod RequestCalls
+pub mod RoomCalls
 pub mod TimerCalls
 pub mod Ways
 pub mod WheelCalls

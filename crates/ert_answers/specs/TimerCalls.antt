@@ -1,12 +1,12 @@
 -- What the calls that read, cancel and start timers record and answer (`erlang` module reference,
 -- `read_timer`, `cancel_timer`, `start_timer`).
 
-use Rattle.std.specs.Prelude.{◌≡◌, ◌≢◌, ◌⊎◌, ℕ, zero, suc, ℤ, Bool, true, false, List, [], ◌∷◌, ◌++◌, Option, Some, None, Result, Ok, Err}
+use Rattle.std.specs.Prelude.{◌≡◌, ◌≢◌, ◌⊎◌, ℕ, zero, suc, ◌<◌, ℤ, length, Bool, true, false, List, [], ◌∷◌, ◌++◌, Option, Some, None, Result, Ok, Err}
 use Rattle.ert_defs.specs.Entries.{look_entry, probe_entry, peek_entry, cancel_entry, arm_entry, orphan_entry, mark_entry}
 use Rattle.ert_defs.specs.Legal.{names_timer}
-use Rattle.ert_defs.specs.Milliseconds.{deadline_of}
-use Rattle.ert_defs.specs.States.{State}
-use Rattle.ert_defs.specs.Timers.{is_taken}
+use Rattle.ert_defs.specs.Milliseconds.{natural, down, deadline_of}
+use Rattle.ert_defs.specs.States.{State, uses_at}
+use Rattle.ert_defs.specs.Timers.{turned, is_taken}
 use Rattle.ert_defs.specs.declared.entry.Actor.{Actor}
 use Rattle.ert_defs.specs.declared.entry.Actor.TheVariants.{Caller}
 use Rattle.ert_defs.specs.declared.entry.Entry.{Entry}
@@ -82,19 +82,25 @@ pub record IsBadArg (g : Settings) (by : ℕ) (start : Start) (es : List Entry) 
   pub refused : deadline_of g start now ≡ None
   pub entries : es ≡ look_entry (Caller by) now ∷ []
 
--- so many slots from one on were looked at in order, and each was taken or is spent
-abbrev pub AreTaken : ℕ → ℕ → State → ℕ → ℕ → List Entry → Type 0
-AreTaken by wheel s slot zero es = es ≡ []
-AreTaken by wheel s slot (suc n) es =
-    (found : Option Status) × (later : List Entry) × (es ≡ probe_entry (Caller by) wheel slot found ∷ later)
-    × ((is_taken found ≡ true) ⊎ (s.last wheel slot ≡ 262143)) × AreTaken by wheel s (suc slot) n later
+-- at a look of so many milliseconds a slot rests: it was used 262143 times in its round, and the deadlines of
+-- all its timers haven't passed
+abbrev pub Rests : State → ℕ → ℕ → ℕ → Type 0
+Rests s now wheel slot = now < (turned (uses_at s wheel slot)).since
 
--- no slot is free for a start that has a deadline: each was looked at
+-- so many slots from one on were looked at in order, and each was taken or rests
+abbrev pub AreTaken : ℕ → ℕ → ℕ → State → ℕ → ℕ → List Entry → Type 0
+AreTaken by wheel now s slot zero es = es ≡ []
+AreTaken by wheel now s slot (suc n) es =
+    (found : Option Status) × (later : List Entry) × (es ≡ probe_entry (Caller by) wheel slot found ∷ later)
+    × ((is_taken found ≡ true) ⊎ Rests s now wheel slot) × AreTaken by wheel now s (suc slot) n later
+
+-- no slot is free for a start that has a deadline: each was looked at, or the wheel has had 2^53 timers
 pub record IsWheelFull (g : Settings) (by wheel : ℕ) (start : Start) (s : State) (es : List Entry) : Type 0 where
   pub now : ℤ
   pub probes : List Entry
   pub accepted : deadline_of g start now ≢ None
-  pub are_taken : AreTaken by wheel s 0 g.slots probes
+  pub are_taken : AreTaken by wheel (natural (down g now)) s 0 g.slots probes
+      ⊎ ((length (s.rows wheel) ≡ 9007199254740992) × (probes ≡ []))
   pub entries : es ≡ look_entry (Caller by) now ∷ probes
 
 -- want of memory: no entry, or a look and some probes

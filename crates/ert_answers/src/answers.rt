@@ -8,7 +8,8 @@ pub enum StartErr {
     /// The time is negative, or the deadline is outside 0 to 8796093022207 milliseconds after the start time
     /// of the service (`erlang` module reference, `start_timer`). This is tested first.
     BadArg,
-    /// Each slot of the wheel was looked at, and was taken or had been used 262,143 times.
+    /// Each slot of the wheel was looked at, and was taken or rests: it was used 262,143 times in its round,
+    /// and the deadline of one of its timers hasn't passed. Or the wheel has had 2^53 timers.
     Full,
     NoMemory,
 }
@@ -17,6 +18,16 @@ impl From<NoMemory> for StartErr {
     fn from(_error: NoMemory) -> StartErr {
         StartErr::NoMemory
     }
+}
+
+/// How much room the wheel of a scheduler has.
+#[derive(Clone, Copy, Debug, PartialEq, Eq)]
+pub struct Room {
+    /// How many slots a timer can be started in now: those that are neither taken nor rest.
+    pub free: u32,
+    /// Of the slots that rest and aren't taken, the least time at which one rests no longer, in milliseconds
+    /// after the start time of the service; None where there is none.
+    pub ready: Option<u64>,
 }
 
 /// What became of an expired timer.

@@ -10,6 +10,7 @@
 //! |---|---|
 //! | on the clock | `specs/ClockCalls` |
 //! | that read, cancel and start timers | `specs/TimerCalls` |
+//! | that looks how much room a wheel has | `specs/RoomCalls` |
 //! | over the timers of a wheel, and on exits | `specs/WheelCalls` |
 //! | on the mailbox and the monitors of a process | `specs/MailCalls` |
 //! | on asynchronous requests | `specs/RequestCalls` |
@@ -28,7 +29,7 @@ mod answers;
 mod laws;
 mod worked;
 
-pub use answers::{Handed, MonitorErr, StartErr, Taken, Turned};
+pub use answers::{Handed, MonitorErr, Room, StartErr, Taken, Turned};
 pub use laws::{answers_are_read, exits_settle_timers, messages_are_read, turns_deliver_all};
 pub use worked::{
     advances_are_judged, cancels_are_judged, exits_are_judged, messages_are_judged,

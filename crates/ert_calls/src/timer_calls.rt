@@ -72,7 +72,7 @@ fn armed_deadline(desk: &Desk, pass: &mut Pass, by: Actor, timer: TimerRef) -> O
 }
 
 /// The deadline of a timer of this generation, by what its slot shows; None where it isn't armed.
-fn deadline_of(shown: Option<(Status, u64, u32)>, wanted: u32) -> Option<u64>
+fn deadline_of(shown: Option<(Status, u64, u64)>, wanted: u64) -> Option<u64>
     ensures { result ≡ deadline_shown wanted shown }
 {
     match shown {

@@ -1,16 +1,16 @@
 -- The expired timers of each scheduler after a legal history: each is expired and stands once.
 
 use Rattle.std.proofs.Common.{◌≡◌, ◌≢◌, ℕ, Bool, true, false, cond, ◌||◌, nat_eq, List, [], ◌∷◌, All, get_or, Option, Some, None, refl, sym, ap, ◌∙◌, inl, inr, subst, arith, eqb-true, eq-eqb}
-use Rattle.std.proofs.lemmas.Bool.{cases_eq, cases_order}
+use Rattle.std.proofs.lemmas.Bool.{cases_eq, cases_eq}
 use Rattle.std.proofs.lemmas.List.Elements.{All-nil, All-push, All-head}
 use Rattle.std.proofs.lemmas.List.Quantifiers.{all_pairs_push}
 use Rattle.ert_defs.specs.Actors.{has_actor, is_with, same_actor}
 use Rattle.std.proofs.Math.Bool.{or-false}
-use Rattle.ert_defs.specs.Laws.{AreInOrder, IsFired, AreFired, LawOfFired, LawOfDelivery, LawOfDrop}
+use Rattle.ert_defs.specs.Laws.{IsFired, AreFired, LawOfFired, LawOfDelivery, LawOfDrop}
 use Rattle.ert_defs.specs.Legal.{Can, IsFirst, Known, Legal}
 use Rattle.ert_defs.specs.Mails.{others_of, first_of, sched_after, with_row}
 use Rattle.ert_defs.specs.States.{State, opening, next, state}
-use Rattle.ert_defs.specs.Timers.{Row, row_of, same_timer, is_taken, timer_at}
+use Rattle.ert_defs.specs.Timers.{Row, row_of, same_timer, is_taken}
 use Rattle.ert_defs.proofs.FiredTimers.{cond_same, same_timer_self, same_timer-false, row_named, row_kept, hands, all_stay, fired_others}
 use Rattle.ert_defs.proofs.Lists.{pairs_head}
 use Rattle.ert_defs.proofs.Rows.{Differ}
@@ -63,16 +63,9 @@ other_handed g s e w rows timer can not handed h =
 -- a timer that takes its slot is the last of it
 pub taken_last : (s : State) (t : TimerRef) → IsOrdered s → is_taken (s.status t) ≡ true → t.generation ≡ s.last t.wheel t.slot
 taken_last s t ordered taken =
-    let order : AreInOrder (λ n. s.status (timer_at t.wheel t.slot n)) (s.last t.wheel t.slot) = ordered t.wheel t.slot in
-    elim (cases_order t.generation (s.last t.wheel t.slot)) [
+    elim (cases_eq t.generation (s.last t.wheel t.slot)) [
       | inl same ↦ same
-      | inr other ↦ elim other [
-        | inl below ↦ let free : is_taken (s.status t) ≡ false = order.free t.generation below in absurd cc
-        | inr above ↦
-            let none : s.status t ≡ None = order.unused t.generation above in
-            let no : false ≡ true = rw none at taken in
-            absurd cc
-      ]
+      | inr other ↦ let free : is_taken (s.status t) ≡ false = (ordered t.wheel t.slot).free t.generation other in absurd cc
     ]
 
 -- the entry by an actor with another

@@ -83,7 +83,7 @@ kept_at : (g : Settings) (s : State) (by : Actor) (timer : TimerRef) (deadline :
     → IsFired s w row → (nat_eq timer.wheel w && nat_eq timer.slot row.timer.slot) ≡ b
     → (nat_eq timer.wheel w && nat_eq timer.slot row.timer.slot) ≡ false
 kept_at g s by timer deadline w row true can fired is =
-    let free : is_taken (s.status (timer_at w row.timer.slot (s.last w row.timer.slot))) ≡ false = (can_use g s by timer deadline w row.timer.slot can is).1 in
+    let free : is_taken (s.status (timer_at w row.timer.slot (s.last w row.timer.slot))) ≡ false = (can_use g s by timer deadline w row.timer.slot can is).free in
     let last : is_taken (s.status (timer_at w row.timer.slot row.timer.generation)) ≡ false =
     carry (λ n. is_taken (s.status (timer_at w row.timer.slot n)) ≡ false) fired.last free in
     let own : is_taken (s.status row.timer) ≡ false =

@@ -1,18 +1,18 @@
 -- What an entry's maker knows holds on while no other entry has the entry's actors.
 
-use Rattle.std.proofs.Common.{◌≡◌, ◌≢◌, ℕ, ℤ, pos, ◌<◌, ◌≤ℤ◌, nat_le, nat_lt, ◌+◌, ◌∙◌, Bool, true, false, List, [], ◌∷◌, ◌++◌, length, All, Option, Some, None, subst}
+use Rattle.std.proofs.Common.{◌≡◌, ℕ, ℤ, pos, ◌<◌, ◌≤ℤ◌, nat_le, nat_lt, ◌∙◌, Bool, true, false, List, [], ◌∷◌, ◌++◌, length, All, Option, Some, None, subst}
 use Rattle.std.proofs.lemmas.List.Elements.{All-head, All-tail, All-weaker}
 use Rattle.ert_defs.specs.Actors.{IsFree, IsFreeOf}
 use Rattle.ert_defs.specs.Clocks.{Clock, face}
 use Rattle.ert_defs.specs.Laws.{LawOfLocality}
 use Rattle.ert_defs.specs.Legal.{AllSettled, CanArm, CanTick, IsFirst, IsNext, IsResult, Keeps, Known, Legal, names_timer, stands_in}
 use Rattle.ert_defs.specs.Mails.{MailState, SchedState, first_of}
-use Rattle.ert_defs.specs.Milliseconds.{down, deadline_of}
-use Rattle.ert_defs.specs.States.{State, opening, run, state}
-use Rattle.ert_defs.specs.Timers.{Row, row_of, is_taken, timer_at}
+use Rattle.ert_defs.specs.Milliseconds.{natural, down, deadline_of}
+use Rattle.ert_defs.specs.States.{State, uses_at, opening, run, state}
+use Rattle.ert_defs.specs.Timers.{Row, IsNextUse, row_of, is_taken, timer_at}
 use Rattle.ert_defs.proofs.Lists.{all_front, all_back}
 use Rattle.ert_defs.proofs.Rows.{IsRow, rows_hold}
-use Rattle.ert_defs.proofs.Runs.{carry, state-append, legal_first, legal_more, clock_stays, exit_stays, inbox_stays, last_stays, look_stays, mail_stays, rows_stay, sched_stays}
+use Rattle.ert_defs.proofs.Runs.{carry, state-append, legal_first, legal_more, clock_stays, exit_stays, inbox_stays, last_stays, uses_stay, look_stays, mail_stays, rows_stay, sched_stays}
 use Rattle.ert_defs.proofs.Statuses.{not_armed_stays, free_stays}
 use Rattle.ert_defs.specs.declared.entry.Actor.{Actor}
 use Rattle.ert_defs.specs.declared.entry.Actor.TheVariants.{Keeper, Wheel, Inbox, Sched, MailOf}
@@ -41,7 +41,7 @@ AreOfWheels s = (w : ℕ) → All (λ r. r.timer.wheel ≡ w) (s.rows w)
 
 pub rows_of_wheels : (g : Settings) (h : List Entry) → Legal g h → AreOfWheels (state g h)
 rows_of_wheels g h legal w =
-    All-weaker (IsRow w ((state g h).last w)) (λ r. r.timer.wheel ≡ w) (λ r is. is.wheel) ((state g h).rows w) (rows_hold g h w legal).each
+    All-weaker (IsRow w (uses_at (state g h) w)) (λ r. r.timer.wheel ≡ w) (λ r is. is.wheel) ((state g h).rows w) (rows_hold g h w legal).each
 
 -- rows that aren't armed stay so
 settled_stay : (g : Settings) (w : ℕ) (test : ℕ → Bool) (rows : List Row) (s : State) (m : List Entry) → IsFree m (Wheel w)
@@ -57,13 +57,17 @@ arm_stays : (g : Settings) (s : State) (m : List Entry) (by : Actor) (timer : Ti
     → IsFree m by → IsFree m (Wheel timer.wheel)
     → CanArm g s by timer (deadline (s.looked by)) → CanArm g (run g s m) by timer (deadline ((run g s m).looked by))
 arm_stays g s m by timer deadline free own h =
-    let last = last_stays g timer.wheel timer.slot s m own in
+    let w : ℕ = timer.wheel in
+    let k : ℕ = timer.slot in
+    let last = last_stays g w k s m own in
     record {
-      free = carry (λ n. is_taken ((run g s m).status (timer_at timer.wheel timer.slot n)) ≡ false) last
-          (free_stays g (timer_at timer.wheel timer.slot (s.last timer.wheel timer.slot)) s m own h.free);
-      generation = carry (λ n. timer.generation ≡ n + 1) last h.generation;
-      unspent = h.unspent;
-      due = carry (λ look. deadline look ≢ None) (look_stays g by s m free) h.due;
+      free = carry (λ n. is_taken ((run g s m).status (timer_at w k n)) ≡ false) last
+          (free_stays g (timer_at w k (s.last w k)) s m own h.free);
+      wanted = h.wanted;
+      due = carry (λ look. deadline look ≡ Some h.wanted) (look_stays g by s m free) h.due;
+      next_use = carry (λ u. IsNextUse u (natural (down g ((run g s m).looked by))) h.wanted timer.generation) (uses_stay g w k s m own)
+          (carry (λ look. IsNextUse (uses_at s w k) (natural (down g look)) h.wanted timer.generation) (look_stays g by s m free) h.next_use);
+      few = carry (λ rows. length rows < 9007199254740992) (rows_stay g w s m own) h.few;
     }
 
 next_stays : (g : Settings) (s : State) (m : List Entry) (by : Actor) (timer : TimerRef) → AreOfWheels s

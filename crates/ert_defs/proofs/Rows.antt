@@ -1,16 +1,17 @@
--- The rows of a wheel after a legal history: each is of that wheel and has a generation from 1 to the last
--- of its slot, and no two have one reference.
+-- The rows of a wheel after a legal history: each is of that wheel and has a generation that was used of
+-- its slot, and no two have one reference.
 
-use Rattle.std.proofs.Common.{◌≡◌, ◌≢◌, ℕ, ℤ, ◌+◌, ◌≤◌, Bool, true, false, cond, ◌&&◌, nat_eq, List, ◌++◌, All, AllPairs, Option, Some, None, refl, ap, ◌∙◌, arith, append-nil, get_or, eqb-true, eq-eqb}
-use Rattle.std.proofs.lemmas.Bool.{and_parts}
+use Rattle.std.proofs.Common.{◌≡◌, ◌≢◌, ℕ, ℤ, Bool, true, false, cond, ◌&&◌, nat_eq, List, ◌++◌, All, AllPairs, Option, Some, None, refl, sym, ap, subst, ◌∙◌, arith, append-nil, get_or, eqb-true, eq-eqb}
 use Rattle.std.proofs.lemmas.List.Elements.{All-nil, All-push, All-weaker}
 use Rattle.std.proofs.lemmas.List.Quantifiers.{all_pairs_push}
 use Rattle.ert_defs.specs.Actors.{has_actor}
 use Rattle.ert_defs.specs.Legal.{Can, Known, Legal}
 use Rattle.ert_defs.specs.Milliseconds.{deadline_of}
-use Rattle.ert_defs.specs.States.{State, opening, next, state}
-use Rattle.ert_defs.specs.Timers.{Row, row_from, rows_after, last_after}
+use Rattle.ert_defs.specs.States.{State, uses_at, opening, next, state}
+use Rattle.ert_defs.specs.Timers.{Row, Uses, row_from, rows_after, deadline_told, timer_at}
 use Rattle.ert_defs.proofs.Runs.{kept_from}
+use Rattle.ert_defs.proofs.Slots.{IsOrdered, MayUse, can_use, ordered_next, ordered_opening, uses_after, uses_told, uses_with}
+use Rattle.ert_defs.proofs.Uses.{IsBefore, Use, before_self, before_stays, fresh, used}
 use Rattle.ert_defs.specs.declared.entry.Actor.{Actor}
 use Rattle.ert_defs.specs.declared.entry.Actor.TheVariants.{Wheel}
 use Rattle.ert_defs.specs.declared.entry.Entry.{Entry}
@@ -20,97 +21,121 @@ use Rattle.ert_defs.specs.declared.settings.Settings.{Settings}
 use Rattle.ert_defs.specs.declared.timer.Start.{Start}
 use Rattle.ert_defs.specs.declared.timer.TimerRef.{TimerRef}
 
--- a row of a wheel whose slots have these last generations
-pub record IsRow (w : ℕ) (last : ℕ → ℕ) (r : Row) : Type 0 where
+-- a row of a wheel whose slots have these uses
+pub record IsRow (w : ℕ) (uses : ℕ → Uses) (r : Row) : Type 0 where
   pub wheel : r.timer.wheel ≡ w
-  pub first : 1 ≤ r.timer.generation
-  pub within : r.timer.generation ≤ last r.timer.slot
+  pub used : IsBefore (uses r.timer.slot) r.timer.generation
 
 -- two rows have two references
 abbrev pub Differ : Row → Row → Type 0
 Differ a b = a.timer ≢ b.timer
 
-pub record AreRows (w : ℕ) (last : ℕ → ℕ) (rows : List Row) : Type 0 where
-  pub each : All (IsRow w last) rows
+pub record AreRows (w : ℕ) (uses : ℕ → Uses) (rows : List Row) : Type 0 where
+  pub each : All (IsRow w uses) rows
   pub apart : AllPairs Differ rows
 
--- an event arms no generation but the next of its slot
-abbrev pub ArmsNext : (ℕ → ℕ → ℕ) → Event → Type 0
-ArmsNext last (Arm timer start) = timer.generation ≡ last timer.wheel timer.slot + 1
-ArmsNext last _ = Unit {0}
+-- what the uses of a slot are by an event that has its wheel: another generation is armed, or they stay
+pub record Grows (u v : Uses) : Type 0 where
+  pub before : (n : ℕ) → IsBefore u n → IsBefore v n
 
-pub arms_next : (g : Settings) (s : State) (by : Actor) (with : Option Actor) (event : Event) → Known g s by with event → ArmsNext s.last event
-arms_next g s by with (Arm timer start) known = known.generation
-arms_next g s by with _ known = tt
+grows_same : (u : Uses) → Grows u u
+grows_same u = record { before = λ n is. is }
 
--- the last generation of a slot grows
-grows_at : (w k : ℕ) (last : ℕ → ℕ → ℕ) (timer : TimerRef) (b : Bool) → (nat_eq timer.wheel w && nat_eq timer.slot k) ≡ b
-    → timer.generation ≡ last timer.wheel timer.slot + 1 → last w k ≤ cond b timer.generation (last w k)
-grows_at w k last timer true is next =
-    let tests = and_parts (nat_eq timer.wheel w) (nat_eq timer.slot k) is in
-    let wheel : timer.wheel ≡ w = eqb-true timer.wheel w tests.0 in
-    let slot : timer.slot ≡ k = eqb-true timer.slot k tests.1 in
-    let same : last timer.wheel timer.slot ≡ last w k = ap (λ x. last x timer.slot) wheel ∙ ap (λ x. last w x) slot in
-    omega arith
-grows_at w k last timer false is next = omega arith
+-- the uses of the slots of a wheel after an event of it, or not
+abbrev pub slots_after : Settings → ℤ → Bool → ℕ → (ℕ → Uses) → Event → ℕ → Uses
+slots_after g look b w uses event k = uses_after g look b w k (uses k) event
 
-pub last_grows : (w k : ℕ) (last : ℕ → ℕ → ℕ) (b : Bool) (event : Event) → ArmsNext last event
-    → last w k ≤ cond b (last_after w k (last w k) event) (last w k)
-last_grows w k last false event next = omega arith
-last_grows w k last true (Arm timer start) next =
-    grows_at w k last timer (nat_eq timer.wheel w && nat_eq timer.slot k) refl next
-last_grows w k last true _ next = omega arith
+pub uses_grow : (g : Settings) (s : State) (by : Actor) (with : Option Actor) (w k : ℕ) (b : Bool) (event : Event) → IsOrdered s → Known g s by with event
+    → Grows (uses_at s w k) (uses_after g (s.looked by) b w k (uses_at s w k) event)
+uses_grow g s by with w k false event ordered known = grows_same (uses_at s w k)
+uses_grow g s by with w k true (Arm timer start) ordered known =
+    by_place (nat_eq timer.wheel w && nat_eq timer.slot k) (can_use g s by timer _ w k known)
+  where
+    deadline : Option ℕ
+    deadline = deadline_of g start (s.looked by)
 
-wider : (w : ℕ) (last later : ℕ → ℕ) → ((k : ℕ) → last k ≤ later k) → (rows : List Row) → AreRows w last rows → AreRows w later rows
-wider w last later grows rows h = record {
-  each = All-weaker (IsRow w last) (IsRow w later)
-      (λ r is. record { wheel = is.wheel; first = is.first; within = omega (arith, is.within, grows r.timer.slot) }) rows h.each;
+    by_place : (here : Bool) → (here ≡ true → MayUse (λ n. s.status (timer_at w k n)) (uses_at s w k) deadline timer.generation)
+        → Grows (uses_at s w k) (uses_with here deadline timer.generation (uses_at s w k))
+    by_place true may =
+        let m = may refl in
+        let t : Use = record { now = m.now; wanted = m.wanted; generation = timer.generation } in
+        let sound = (ordered w k).sound in
+        record {
+          before = λ n is. subst (λ v. IsBefore v n) (sym (uses_told (uses_at s w k) deadline t sound m.can m.due))
+              (before_stays (uses_at s w k) t n sound m.can is);
+        }
+    by_place false may = grows_same (uses_at s w k)
+uses_grow g s by with w k true _ ordered known = grows_same (uses_at s w k)
+
+wider : (w : ℕ) (uses later : ℕ → Uses) → ((k : ℕ) → Grows (uses k) (later k)) → (rows : List Row) → AreRows w uses rows → AreRows w later rows
+wider w uses later grows rows h = record {
+  each = All-weaker (IsRow w uses) (IsRow w later)
+      (λ r is. record { wheel = is.wheel; used = (grows r.timer.slot).before r.timer.generation is.used }) rows h.each;
   apart = h.apart;
 }
 
 -- the row of the next generation of a slot is a new one
-more : (w : ℕ) (last later : ℕ → ℕ) → ((k : ℕ) → last k ≤ later k) → (rows : List Row) (timer : TimerRef) (start : Start) (deadline : Option ℕ)
-    → timer.wheel ≡ w → timer.generation ≡ last timer.slot + 1 → later timer.slot ≡ timer.generation
-    → AreRows w last rows → AreRows w later (rows ++ row_from timer start deadline)
-more w last later grows rows timer start None wheel next new h = rw append-nil (wider w last later grows rows h)
-more w last later grows rows timer start (Some deadline) wheel next new h =
-    let r : Row = record { timer = timer; deadline = deadline; dest = start.dest; msg = start.msg; kind = start.kind } in
-    let differs : (x : Row) → IsRow w last x → Differ x r = λ x is same.
-    let slot : last x.timer.slot ≡ last timer.slot = ap (λ (t : TimerRef). last t.slot) same in
-    let generation : x.timer.generation ≡ timer.generation = ap (λ (t : TimerRef). t.generation) same in
-    omega (arith, is.within) in
-    let wide = wider w last later grows rows h in
+more : (w : ℕ) (uses later : ℕ → Uses) → ((k : ℕ) → Grows (uses k) (later k)) → (rows : List Row) (timer : TimerRef) (start : Start) (deadline : Option ℕ)
+    → timer.wheel ≡ w → (IsBefore (uses timer.slot) timer.generation → ⊥) → IsBefore (later timer.slot) timer.generation
+    → AreRows w uses rows → AreRows w later (rows ++ row_from timer start deadline)
+more w uses later grows rows timer start None wheel new own h = rw append-nil (wider w uses later grows rows h)
+more w uses later grows rows timer start (Some wanted) wheel new own h =
+    let r : Row = record { timer = timer; deadline = deadline_told timer.generation wanted; dest = start.dest; msg = start.msg; kind = start.kind } in
+    let differs : (x : Row) → IsRow w uses x → Differ x r = λ x is same.
+    new (subst (λ (t : TimerRef). IsBefore (uses t.slot) t.generation) same is.used) in
+    let wide = wider w uses later grows rows h in
     record {
-      each = All-push (IsRow w later) rows r wide.each (record { wheel = wheel; first = omega arith; within = omega arith });
+      each = All-push (IsRow w later) rows r wide.each (record { wheel = wheel; used = own });
       apart = all_pairs_push Differ rows r h.apart (λ k d lt. differs (get_or rows k d) (h.each k d lt));
     }
 
-rows_at : (g : Settings) (look : ℤ) (w : ℕ) (rows : List Row) (last : ℕ → ℕ → ℕ) (timer : TimerRef) (start : Start) (b : Bool)
-    → nat_eq timer.wheel w ≡ b → ArmsNext last (Arm timer start) → AreRows w (last w) rows
-    → AreRows w (λ k. cond (b && nat_eq timer.slot k) timer.generation (last w k)) (cond b (rows ++ row_from timer start (deadline_of g start look)) rows)
-rows_at g look w rows last timer start true is next h =
-    let wheel : timer.wheel ≡ w = eqb-true timer.wheel w is in
-    let same : last timer.wheel timer.slot ≡ last w timer.slot = ap (λ x. last x timer.slot) wheel in
-    let own : nat_eq timer.slot timer.slot ≡ true = eq-eqb timer.slot timer.slot refl in
-    more w (last w) (λ k. cond (nat_eq timer.slot k) timer.generation (last w k))
-    (λ k. rw is at (grows_at w k last timer (nat_eq timer.wheel w && nat_eq timer.slot k) refl next))
-    rows timer start (deadline_of g start look) wheel (next ∙ ap (λ n. n + 1) same) (rw own refl) h
-rows_at g look w rows last timer start false is next h = h
+rows_arm : (g : Settings) (s : State) (by : Actor) (with : Option Actor) (w : ℕ) (timer : TimerRef) (start : Start) (b : Bool)
+    → nat_eq timer.wheel w ≡ b → IsOrdered s → Known g s by with (Arm timer start) → AreRows w (uses_at s w) (s.rows w)
+    → AreRows w (slots_after g (s.looked by) true w (uses_at s w) (Arm timer start))
+    (cond b (s.rows w ++ row_from timer start (deadline_of g start (s.looked by))) (s.rows w))
+rows_arm g s by with w timer start true is ordered known h =
+    let k : ℕ = timer.slot in
+    let deadline : Option ℕ = deadline_of g start (s.looked by) in
+    let own : nat_eq k k ≡ true = eq-eqb k k refl in
+    let here : (nat_eq timer.wheel w && nat_eq timer.slot k) ≡ true = rw (is, own) refl in
+    let m = can_use g s by timer _ w k known here in
+    let t : Use = record { now = m.now; wanted = m.wanted; generation = timer.generation } in
+    let u : Uses = uses_at s w k in
+    let sound = (ordered w k).sound in
+    let later : uses_with (nat_eq timer.wheel w && nat_eq timer.slot k) deadline timer.generation u ≡ used u t =
+    ap (λ c. uses_with c deadline timer.generation u) here ∙ uses_told u deadline t sound m.can m.due in
+    more w (uses_at s w) (slots_after g (s.looked by) true w (uses_at s w) (Arm timer start))
+    (λ j. uses_grow g s by with w j true (Arm timer start) ordered known)
+    (s.rows w) timer start deadline (eqb-true timer.wheel w is)
+    (λ before. fresh u t timer.generation sound m.can before refl)
+    (subst (λ v. IsBefore v timer.generation) (sym later) (before_self u t sound m.can)) h
+rows_arm g s by with w timer start false is ordered known h =
+    wider w (uses_at s w) (slots_after g (s.looked by) true w (uses_at s w) (Arm timer start))
+    (λ j. uses_grow g s by with w j true (Arm timer start) ordered known) (s.rows w) h
 
-rows_with : (g : Settings) (look : ℤ) (w : ℕ) (rows : List Row) (last : ℕ → ℕ → ℕ) (b : Bool) (event : Event) → ArmsNext last event
-    → AreRows w (last w) rows
-    → AreRows w (λ k. cond b (last_after w k (last w k) event) (last w k)) (cond b (rows_after g look w rows event) rows)
-rows_with g look w rows last false event next h = h
-rows_with g look w rows last true (Arm timer start) next h = rows_at g look w rows last timer start (nat_eq timer.wheel w) refl next h
-rows_with g look w rows last true _ next h = h
+rows_with : (g : Settings) (s : State) (by : Actor) (with : Option Actor) (w : ℕ) (b : Bool) (event : Event) → IsOrdered s → Known g s by with event
+    → AreRows w (uses_at s w) (s.rows w)
+    → AreRows w (slots_after g (s.looked by) b w (uses_at s w) event) (cond b (rows_after g (s.looked by) w (s.rows w) event) (s.rows w))
+rows_with g s by with w false event ordered known h = h
+rows_with g s by with w true (Arm timer start) ordered known h = rows_arm g s by with w timer start (nat_eq timer.wheel w) refl ordered known h
+rows_with g s by with w true _ ordered known h = h
 
-pub rows_next : (g : Settings) (w : ℕ) (s : State) (e : Entry) → AreRows w (s.last w) (s.rows w) → Can g s e
-    → AreRows w ((next g s e).last w) ((next g s e).rows w)
-rows_next g w s e h can =
-    rows_with g (s.looked e.by) w (s.rows w) s.last (has_actor e (Wheel w)) e.event (arms_next g s e.by e.with e.event can.known) h
+-- the generations of all slots are in order, and so are the rows of a wheel
+pub record KeepsRows (w : ℕ) (s : State) : Type 0 where
+  pub order : IsOrdered s
+  pub rows : AreRows w (uses_at s w) (s.rows w)
+
+pub rows_next : (g : Settings) (w : ℕ) (s : State) (e : Entry) → KeepsRows w s → Can g s e → KeepsRows w (next g s e)
+rows_next g w s e h can = record {
+  order = ordered_next g s e h.order can;
+  rows = rows_with g s e.by e.with w (has_actor e (Wheel w)) e.event h.order can.known h.rows;
+}
 
 -- the rows of each wheel after a legal history
-pub rows_hold : (g : Settings) (h : List Entry) (w : ℕ) → Legal g h → AreRows w ((state g h).last w) ((state g h).rows w)
+pub rows_hold : (g : Settings) (h : List Entry) (w : ℕ) → Legal g h → AreRows w (uses_at (state g h) w) ((state g h).rows w)
 rows_hold g h w legal =
-    kept_from g (λ s. AreRows w (s.last w) (s.rows w)) (rows_next g w) (opening g) h
-    (record { each = All-nil (IsRow w (λ k. 0)); apart = λ i j d lt le. absurd (omega arith) }) legal
+    (kept_from g (KeepsRows w) (rows_next g w) (opening g) h
+    (record {
+      order = ordered_opening g;
+      rows = record { each = All-nil (IsRow w (λ k. uses_at (opening g) w k)); apart = λ i j d lt le. absurd (omega arith) };
+    }) legal).rows

@@ -3,7 +3,7 @@
 use Rattle.std.proofs.Common.{◌≡◌, ℕ, Bool, true, false, ◌||◌, List, [], ◌∷◌, ◌++◌, filter, refl, sym, subst, ◌∙◌, ◌↔◌}
 use Rattle.ert_defs.specs.Actors.{same_actor, has_actor, IsFree}
 use Rattle.ert_defs.specs.Legal.{Can, LegalFrom, Legal}
-use Rattle.ert_defs.specs.States.{State, opening, next, run, state, exited_after}
+use Rattle.ert_defs.specs.States.{State, uses_at, opening, next, run, state, exited_after}
 use Rattle.ert_defs.specs.declared.entry.Actor.{Actor}
 use Rattle.ert_defs.specs.declared.entry.Actor.TheVariants.{Keeper, Wheel, Inbox, Sched, MailOf}
 use Rattle.ert_defs.specs.declared.entry.Entry.{Entry}
@@ -115,3 +115,6 @@ pub exit_stays : (g : Settings) (p : ℕ) (s : State) (m : List Entry) → s.exi
 exit_stays g p s [] h = h
 exit_stays g p s (e ∷ m) h =
     exit_stays g p (next g s e) m (rw h (exit_stays_at p e.event))
+
+pub uses_stay : (g : Settings) (w k : ℕ) (s : State) (m : List Entry) → IsFree m (Wheel w) → uses_at (run g s m) w k ≡ uses_at s w k
+uses_stay g w k s m = own_stays g (Wheel w) (λ (s : State). uses_at s w k) (λ s e none. rw none refl) s m

@@ -1,13 +1,13 @@
 -- Each timer that was ever armed has a row.
 
-use Rattle.std.proofs.Common.{◌≡◌, ◌≢◌, ℕ, ℤ, Bool, true, false, cond, ◌&&◌, List, [], ◌∷◌, ◌++◌, All, Option, Some, None, refl, sym, subst, eq-eqb}
+use Rattle.std.proofs.Common.{◌≡◌, ◌≢◌, ℕ, ℤ, Bool, true, false, cond, ◌&&◌, List, [], ◌∷◌, ◌++◌, All, Option, Some, None, refl, sym, subst, ◌∙◌, eq-eqb}
 use Rattle.std.proofs.lemmas.Bool.{and_parts}
 use Rattle.std.proofs.lemmas.List.Elements.{All-head, All-tail}
 use Rattle.ert_defs.specs.Actors.{has_actor}
 use Rattle.ert_defs.specs.Legal.{Can, Known, Legal}
 use Rattle.ert_defs.specs.Milliseconds.{deadline_of}
 use Rattle.ert_defs.specs.States.{State, opening, next, state}
-use Rattle.ert_defs.specs.Timers.{Row, Stands, row_from, rows_after, row_of, same_timer, status_after}
+use Rattle.ert_defs.specs.Timers.{Row, Stands, deadline_told, row_from, rows_after, row_of, same_timer, status_after}
 use Rattle.ert_defs.proofs.FiredTimers.{row_kept, same_timer_self}
 use Rattle.ert_defs.proofs.Runs.{kept_from}
 use Rattle.ert_defs.proofs.Slots.{same_timer-true}
@@ -42,7 +42,7 @@ stands_from : (rows : List Row) (timer : TimerRef) (start : Start) (deadline : O
     → Stands (rows ++ row_from timer start deadline) timer
 stands_from rows timer start None some_deadline = absurd (some_deadline refl)
 stands_from rows timer start (Some d) some_deadline =
-    stands_last rows (record { timer = timer; deadline = d; dest = start.dest; msg = start.msg; kind = start.kind })
+    stands_last rows (record { timer = timer; deadline = deadline_told timer.generation d; dest = start.dest; msg = start.msg; kind = start.kind })
 
 stands_armed : (g : Settings) (look : ℤ) (rows : List Row) (timer : TimerRef) (start : Start) → deadline_of g start look ≢ None
     → Stands (cond true (rows_after g look timer.wheel rows (Arm timer start)) rows) timer
@@ -77,7 +77,7 @@ stands_event g s by with r b true (Arm timer start) known is stand used =
     let parts = and_parts b (same_timer timer r) is in
     let same : timer ≡ r = same_timer-true timer r parts.1 in
     let own : Stands (cond true (rows_after g (s.looked by) timer.wheel (s.rows timer.wheel) (Arm timer start)) (s.rows timer.wheel)) timer =
-    stands_armed g (s.looked by) (s.rows timer.wheel) timer start known.due in
+    stands_armed g (s.looked by) (s.rows timer.wheel) timer start (λ none. (let no : Some known.wanted ≡ None = sym known.due ∙ none in cc)) in
     let P : TimerRef → Bool → Type 0 = λ t c. Stands (cond c (rows_after g (s.looked by) t.wheel (s.rows t.wheel) (Arm timer start)) (s.rows t.wheel)) t in
     subst (λ c. P r c) (sym parts.0) (subst (λ t. P t true) same own)
 stands_event g s by with r b true _ known is stand used = absurd (no_and b is)

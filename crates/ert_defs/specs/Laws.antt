@@ -1,10 +1,10 @@
 -- The laws of histories that don't concern the clock's numbers: what a stranger may expect of the model.
 
-use Rattle.std.specs.Prelude.{◌≡◌, ◌≢◌, ◌⊎◌, ◌↔◌, ℕ, ◌+◌, ◌<◌, ◌≤◌, Bool, true, false, cond, not, ◌&&◌, All, AllPairs, Contains, List, [], ◌∷◌, ◌++◌, Option, Some, None}
+use Rattle.std.specs.Prelude.{◌≡◌, ◌≢◌, ◌⊎◌, ◌↔◌, ℕ, ◌+◌, ◌≤◌, Bool, true, false, cond, not, ◌&&◌, All, AllPairs, Contains, List, [], ◌∷◌, ◌++◌, Option, Some, None}
 use Rattle.ert_defs.specs.Actors.{IsFreeOf}
 use Rattle.ert_defs.specs.Legal.{Keeps, Known, Found, Can, LegalFrom, Legal}
-use Rattle.ert_defs.specs.States.{State, opening, next, run, state}
-use Rattle.ert_defs.specs.Timers.{Row, row_of, is_taken, timer_at}
+use Rattle.ert_defs.specs.States.{State, uses_at, opening, next, run, state}
+use Rattle.ert_defs.specs.Timers.{Row, Uses, IsNextUse, row_of, is_taken, timer_at}
 use Rattle.ert_defs.specs.declared.entry.Entry.{Entry}
 use Rattle.ert_defs.specs.declared.entry.Event.TheVariants.{Deliver, Drop}
 use Rattle.ert_defs.specs.declared.settings.Settings.{Settings}
@@ -88,18 +88,18 @@ LawOfRows = (g : Settings) (f m : List Entry) (w : ℕ) (row : Row) → Legal g 
     → (state g f).status row.timer ≢ Some Armed
     → (state g (f ++ m)).status row.timer ≢ Some Armed
 
--- the generations of a slot, of which each has this status, were used one after the other up to the last:
--- those from 1 on and no others were armed, and none but the last takes the slot
-pub record AreInOrder (status : ℕ → Option Status) (last : ℕ) : Type 0 where
+-- the generations of a slot with these uses, of which each has this status: 0 is none of them, the last was
+-- armed, no other takes the slot, and the next one was never armed
+pub record AreInOrder (status : ℕ → Option Status) (u : Uses) : Type 0 where
   pub none : status 0 ≡ None
-  pub used : (n : ℕ) → 1 ≤ n → n ≤ last → status n ≢ None
-  pub free : (n : ℕ) → n < last → is_taken (status n) ≡ false
-  pub unused : (n : ℕ) → last < n → status n ≡ None
+  pub used : 1 ≤ u.last → status u.last ≢ None
+  pub free : (n : ℕ) → n ≢ u.last → is_taken (status n) ≡ false
+  pub new : (now wanted n : ℕ) → IsNextUse u now wanted n → status n ≡ None
 
 -- the generations of each slot are used one after the other
 abbrev pub LawOfSlots : Type 0
 LawOfSlots = (g : Settings) (h : List Entry) (w k : ℕ) → Legal g h
-    → AreInOrder (λ n. (state g h).status (timer_at w k n)) ((state g h).last w k)
+    → AreInOrder (λ n. (state g h).status (timer_at w k n)) (uses_at (state g h) w k)
 
 -- an expired timer that waits at a scheduler: a row of that scheduler's wheel, and the last timer of its slot
 pub record IsFired (s : State) (w : ℕ) (row : Row) : Type 0 where

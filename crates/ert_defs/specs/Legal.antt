@@ -1,16 +1,16 @@
 -- When an entry is legal. Its condition has three parts: the entry is in range, what its maker must know
 -- when the step is made, and what the step itself finds out.
 
-use Rattle.std.specs.Prelude.{◌≡◌, ◌≢◌, ℕ, ℤ, pos, ◌+◌, ◌<◌, ◌≤◌, ◌≤ℤ◌, ◌++◌, Bool, true, false, ◌&&◌, nat_eq, nat_lt, nat_le, List, [], ◌∷◌, length, Option, Some, None, option_map}
+use Rattle.std.specs.Prelude.{◌≡◌, ◌≢◌, ℕ, ℤ, pos, ◌<◌, ◌≤ℤ◌, ◌++◌, Bool, true, false, ◌&&◌, ◌||◌, nat_eq, nat_lt, nat_le, List, [], ◌∷◌, length, Option, Some, None, option_map}
 use Rattle.std.specs.List.{list_any}
 use Rattle.ert_defs.specs.Actors.{IsCaller, IsUser}
 use Rattle.ert_defs.specs.Clocks.{face}
 use Rattle.ert_defs.specs.Lines.{Face, time_after, due_after, MayAct, IsInRange}
 use Rattle.ert_defs.specs.Mails.{Monitor, first_of}
-use Rattle.ert_defs.specs.Milliseconds.{down, left, deadline_of}
+use Rattle.ert_defs.specs.Milliseconds.{natural, down, left, deadline_of}
 use Rattle.ert_defs.specs.Readings.{IsValid}
-use Rattle.ert_defs.specs.States.{State, opening, next}
-use Rattle.ert_defs.specs.Timers.{Row, row_of, is_taken, timer_at}
+use Rattle.ert_defs.specs.States.{State, uses_at, opening, next}
+use Rattle.ert_defs.specs.Timers.{Row, IsNextUse, row_of, is_taken, timer_at}
 use Rattle.ert_defs.specs.declared.entry.Act.{Act}
 use Rattle.ert_defs.specs.declared.entry.Actor.{Actor}
 use Rattle.ert_defs.specs.declared.entry.Actor.TheVariants.{Keeper, Wheel, Inbox, Sched, MailOf, Caller}
@@ -112,9 +112,13 @@ pub record IsFirst (fired : List Row) (timer : TimerRef) : Type 0 where
   pub first : first_of fired ≡ Some row
   pub named : row.timer ≡ timer
 
+-- a generation that a timer may have: of a first round, or of a later one
+abbrev pub is_generation : ℕ → Bool
+is_generation n = (nat_le 1 n && nat_le n 262143) || (nat_le 8796093022208 n && nat_lt n 2305843009213693952)
+
 -- a reference that may name a timer
 abbrev pub names_timer : Settings → TimerRef → Bool
-names_timer g r = nat_lt r.wheel g.schedulers && nat_lt r.slot g.slots && nat_le 1 r.generation && nat_le r.generation 262143
+names_timer g r = nat_lt r.wheel g.schedulers && nat_lt r.slot g.slots && is_generation r.generation
 
 -- what an answer says: the result of the scheduler's last step on the request, and nothing where the
 -- reference is out of range
@@ -133,12 +137,14 @@ pub record CanAnswer (g : Settings) (s : State) (with : Option Actor) (wheel : �
 abbrev pub stands_in : ℕ → List Monitor → Bool
 stands_in n monitors = list_any (λ m. nat_eq m.number n) monitors
 
--- a timer can be armed: its slot is neither taken nor spent, and its start has a deadline
+-- a timer can be armed: its start has a deadline, its slot is neither taken nor rests, and the wheel has had
+-- fewer than 2^53 timers
 pub record CanArm (g : Settings) (s : State) (by : Actor) (timer : TimerRef) (deadline : Option ℕ) : Type 0 where
   pub free : is_taken (s.status (timer_at timer.wheel timer.slot (s.last timer.wheel timer.slot))) ≡ false
-  pub generation : timer.generation ≡ s.last timer.wheel timer.slot + 1
-  pub unspent : timer.generation ≤ 262143
-  pub due : deadline ≢ None
+  pub wanted : ℕ
+  pub due : deadline ≡ Some wanted
+  pub next_use : IsNextUse (uses_at s timer.wheel timer.slot) (natural (down g (s.looked by))) wanted timer.generation
+  pub few : length (s.rows timer.wheel) < 9007199254740992
 
 -- what the maker of an entry must know
 abbrev pub Known : Settings → State → Actor → Option Actor → Event → Type 0

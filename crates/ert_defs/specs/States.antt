@@ -5,7 +5,7 @@ use Rattle.std.specs.Prelude.{ℕ, ℤ, Bool, false, cond, ◌&&◌, ◌||◌, n
 use Rattle.ert_defs.specs.Actors.{same_actor, has_actor}
 use Rattle.ert_defs.specs.Clocks.{Clock, first_clock, clock_after}
 use Rattle.ert_defs.specs.Mails.{MailState, SchedState, no_mail, idle_sched, mail_after, inbox_after, sched_after}
-use Rattle.ert_defs.specs.Timers.{Row, rows_after, last_after, status_after}
+use Rattle.ert_defs.specs.Timers.{Row, Uses, rows_after, last_after, since_after, above_after, status_after}
 use Rattle.ert_defs.specs.declared.entry.Actor.{Actor}
 use Rattle.ert_defs.specs.declared.entry.Actor.TheVariants.{Keeper, Wheel, Inbox, Sched, MailOf}
 use Rattle.ert_defs.specs.declared.entry.Entry.{Entry}
@@ -26,6 +26,9 @@ pub record State : Type 0 where
   pub rows : ℕ → List Row
   -- of each wheel and slot the last generation, 0 where there is none
   pub last : ℕ → ℕ → ℕ
+  -- since when its round may have timers, and one above the greatest deadline of its timers
+  pub since : ℕ → ℕ → ℕ
+  pub above : ℕ → ℕ → ℕ
   -- the status of each timer, None where it was never armed
   pub status : TimerRef → Option Status
   -- whether each process has exited
@@ -36,6 +39,10 @@ pub record State : Type 0 where
   pub inboxes : ℕ → List Request
   -- what each scheduler has, of its Sched
   pub scheds : ℕ → SchedState
+
+-- the uses of a slot of a wheel
+abbrev pub uses_at : State → ℕ → ℕ → Uses
+uses_at s w k = record { last = s.last w k; since = s.since w k; above = s.above w k }
 
 -- the last look after an event of the looker
 abbrev pub look_after : ℤ → Event → ℤ
@@ -54,6 +61,8 @@ opening g = record {
   looked = λ a. g.start;
   rows = λ w. [];
   last = λ w k. 0;
+  since = λ w k. 0;
+  above = λ w k. 0;
   status = λ r. None;
   exited = λ p. false;
   mails = λ p. no_mail;
@@ -68,6 +77,8 @@ next g s e = record {
   looked = λ a. cond (same_actor e.by a) (look_after (s.looked a) e.event) (s.looked a);
   rows = λ w. cond (has_actor e (Wheel w)) (rows_after g (s.looked e.by) w (s.rows w) e.event) (s.rows w);
   last = λ w k. cond (has_actor e (Wheel w)) (last_after w k (s.last w k) e.event) (s.last w k);
+  since = λ w k. cond (has_actor e (Wheel w)) (since_after w k (uses_at s w k) e.event) (s.since w k);
+  above = λ w k. cond (has_actor e (Wheel w)) (above_after g (s.looked e.by) w k (s.above w k) e.event) (s.above w k);
   status = λ r. status_after r (has_actor e (Wheel r.wheel)) (s.status r) e.event;
   exited = λ p. exited_after p (s.exited p) e.event;
   mails = λ p. cond (has_actor e (MailOf p)) (mail_after s.scheds (s.mails p) e.event) (s.mails p);

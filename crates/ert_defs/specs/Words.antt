@@ -6,7 +6,7 @@
 use Rattle.std.specs.Prelude.{ℕ, ℤ, pos, ◌+◌, ◌-◌, ◌*◌, ◌/◌, ◌%◌, ◌+ℤ◌, ◌-ℤ◌, Bool, true, false, cond, nat_eq, nat_lt, Option, Some}
 use Rattle.ert_defs.specs.Milliseconds.{natural}
 use Rattle.ert_defs.specs.States.{State}
-use Rattle.ert_defs.specs.Timers.{Row, row_of, timer_at}
+use Rattle.ert_defs.specs.Timers.{Row, use_of, row_of, timer_at}
 use Rattle.ert_defs.specs.declared.settings.OffsetState.{OffsetState}
 use Rattle.ert_defs.specs.declared.settings.OffsetState.TheVariants.{Final}
 use Rattle.ert_defs.specs.declared.settings.Settings.{Settings}
@@ -26,19 +26,20 @@ is_final _ = false
 abbrev pub offset_word : ℤ → Bool → ℕ
 offset_word offset final = (natural (offset +ℤ pos 4611686018427387904) * 2) + cond final 1 0
 
--- the number of a status in a timer word
-abbrev pub status_code : Status → ℕ
-status_code Armed = 1
-status_code Expired = 2
-status_code Delivered = 3
-status_code Cancelled = 4
-status_code Orphaned = 5
-status_code Dropped = 6
+-- the number of the status in the word of a timer: an armed one tells whether it is of its slot's first round
+abbrev pub status_code : Status → ℕ → ℕ
+status_code Armed generation = cond (nat_lt generation 8796093022208) 1 7
+status_code Expired generation = 2
+status_code Delivered generation = 3
+status_code Cancelled generation = 4
+status_code Orphaned generation = 5
+status_code Dropped generation = 6
 
 -- the word of a slot whose last timer has this status, deadline and generation; 0 for a slot that was
 -- never used
 abbrev pub timer_word : Status → ℕ → ℕ → ℕ
-timer_word status deadline generation = (status_code status + (8 * deadline)) + (70368744177664 * generation)
+timer_word status deadline generation =
+    (status_code status generation + (8 * deadline)) + (70368744177664 * use_of generation)
 
 -- the word of a slot by the status, the row and the generation of its last timer; 0 where it had none
 abbrev pub slot_word : Option Status → Option Row → ℕ → ℕ

@@ -19,4 +19,6 @@ pub use laws::{entries_are_local, prefixes_are_legal, timers_settle_once};
 pub use mail::{Mail, Request, RequestKind};
 pub use memory::NoMemory;
 pub use settings::{Mode, OffsetState, Reading, Settings, SettingsFault};
-pub use timer::{Fired, Kind, LAST_GENERATION, Start, Status, TimerRef, When};
+pub use timer::{
+    FIRST_LATER_GENERATION, Fired, Kind, Start, Status, TimerRef, USES_OF_ROUND, When, use_of,
+};

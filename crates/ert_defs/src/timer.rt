@@ -1,24 +1,32 @@
 ghost use Rattle.std.specs.Prelude.{◌≡◌};
 ghost use Rattle.ert_defs.specs.Legal.{names_timer};
+ghost use Rattle.ert_defs.specs.Timers as timers;
 
 use crate::settings::Settings;
 
 /// Names one timer of one scheduler (`erlang` module reference, `start_timer`).
 ///
 /// It is in range where `wheel` is below the number of schedulers, `slot` below the number of slots and
-/// `generation` is from 1 to 262143. Any other reference never named a timer.
+/// `generation` is from 1 to 262143 or from 2^43 to 2^61 - 1. Any other reference never named a timer.
 #[derive(Clone, Copy, Debug, PartialEq, Eq)]
 pub struct TimerRef {
     /// The scheduler that manages the timer.
     pub wheel: u32,
     /// The slot of that scheduler's wheel.
     pub slot: u32,
-    /// Which use of the slot it is, from 1.
-    pub generation: u32,
+    /// Which use of the slot it is, from 1; after 262143 uses that of its round, times 2^43, plus the
+    /// timer's deadline.
+    pub generation: u64,
 }
 
-/// The last generation that a slot can have (profile).
-pub const LAST_GENERATION: u32 = 262_143;
+/// How often a slot can be used in a round (profile).
+pub const USES_OF_ROUND: u64 = 262_143;
+
+/// The least generation of a later round.
+pub const FIRST_LATER_GENERATION: u64 = 1 << 43;
+
+/// The least number that is no generation.
+const NO_GENERATION: u64 = 1 << 61;
 
 impl TimerRef {
     /// Whether the reference is in range.
@@ -27,8 +35,19 @@ impl TimerRef {
     {
         self.wheel < settings.schedulers
             && self.slot < settings.slots
-            && 1 <= self.generation
-            && self.generation <= LAST_GENERATION
+            && (1 <= self.generation && self.generation <= USES_OF_ROUND
+                || FIRST_LATER_GENERATION <= self.generation && self.generation < NO_GENERATION)
+    }
+}
+
+/// Which use of its round a generation is, 1 to 262143 where it is in range.
+pub fn use_of(generation: u64) -> u64
+    ensures { result ≡ timers.use_of generation }
+{
+    if generation < FIRST_LATER_GENERATION {
+        generation
+    } else {
+        generation / FIRST_LATER_GENERATION
     }
 }
 

@@ -12,8 +12,8 @@ use Rattle.ert_defs.proofs.Standing.{all_stand}
 use Rattle.ert_defs.specs.Actors.{has_actor, is_with, same_actor}
 use Rattle.ert_defs.specs.Legal.{Can, Legal}
 use Rattle.ert_defs.specs.Milliseconds.{deadline_of}
-use Rattle.ert_defs.specs.States.{State, next, state}
-use Rattle.ert_defs.specs.Timers.{Row, Stands, row_from}
+use Rattle.ert_defs.specs.States.{State, uses_at, next, state}
+use Rattle.ert_defs.specs.Timers.{Row, Stands, deadline_told, row_from}
 use Rattle.ert_defs.specs.declared.entry.Actor.{Actor}
 use Rattle.ert_defs.specs.declared.entry.Actor.TheVariants.{Wheel}
 use Rattle.ert_defs.specs.declared.entry.Entry.{Entry}
@@ -58,13 +58,13 @@ given_step : (g : Settings) (h : List Entry) (s : State) (w : ℕ) (test : Optio
     → counted test w s + one_in (test (status_before to)) (nat_eq t.wheel w) ≡ counted test w (state g h) + one_in (test (Some to)) (nat_eq t.wheel w)
 given_step g h s w test t to legal was gives same =
     let old : State = state g h in
-    let are : AreRows w (old.last w) (old.rows w) = rows_hold g h w legal in
+    let are : AreRows w (uses_at old w) (old.rows w) = rows_hold g h w legal in
     let before : old.status t ≡ status_before to = (given_own old.status s.status t to gives).0 in
     let stands : Stands (old.rows t.wheel) t = all_stand g h legal t (λ none. was (sym before ∙ none)) in
     subst (λ rows. count_of test s.status rows + one_in (test (status_before to)) (nat_eq t.wheel w)
     ≡ count_of test old.status (old.rows w) + one_in (test (Some to)) (nat_eq t.wheel w)) (sym same)
     (count_given test old.status s.status t to w (old.rows w) gives are.apart
-    (All-weaker (IsRow w (old.last w)) (λ row. row.timer.wheel ≡ w) (λ row is. is.wheel) (old.rows w) are.each)
+    (All-weaker (IsRow w (uses_at old w)) (λ row. row.timer.wheel ≡ w) (λ row is. is.wheel) (old.rows w) are.each)
     (λ own. subst (λ v. Stands (old.rows v) t) own stands))
 
 -- nothing moves
@@ -84,7 +84,7 @@ armed_rows : (test : Option Status → Bool) (status later : TimerRef → Option
     → count_of test later (rows ++ row_from timer start deadline) + 0 ≡ count_of test status rows + one_if (test (Some Armed))
 armed_rows test status later rows timer start None some_deadline gives others = absurd (some_deadline refl)
 armed_rows test status later rows timer start (Some d) some_deadline gives others =
-    let row : Row = record { timer = timer; deadline = d; dest = start.dest; msg = start.msg; kind = start.kind } in
+    let row : Row = record { timer = timer; deadline = deadline_told timer.generation d; dest = start.dest; msg = start.msg; kind = start.kind } in
     let count : count_of test later (rows ++ row ∷ []) ≡ count_of test status rows + one_if (test (Some Armed)) =
     count_armed test status later rows row (Some Armed) (gives_stay status later timer Armed gives) others (given_own status later timer Armed gives).1 in
     omega arith
@@ -117,7 +117,7 @@ arm_step g h by with timer start w test legal can gives =
     let e : Entry = made by with (Arm timer start) in
     let first : s.status timer ≡ None = (given_own s.status (next g s e).status timer Armed gives).0 in
     armed_at test s.status (next g s e).status (s.rows w) timer start (deadline_of g start (s.looked by))
-    (has_actor e (Wheel w)) (nat_eq timer.wheel w) (has_own by with (Arm timer start) timer.wheel w can.keeps.1) can.known.due gives
+    (has_actor e (Wheel w)) (nat_eq timer.wheel w) (has_own by with (Arm timer start) timer.wheel w can.keeps.1) (λ none. (let no : Some can.known.wanted ≡ None = sym can.known.due ∙ none in cc)) gives
     (λ k d lt same.
     row_was_armed g h w (get_or (s.rows w) k d) legal (Contains-get_or (s.rows w) k d lt)
     (subst (λ (t : TimerRef). s.status t ≡ None) same first))

@@ -14,6 +14,7 @@ pub mod OwnTells
 pub mod Permissions
 pub mod Requests
 pub mod RowRanges
+pub mod Since
 pub mod SlotUses
 pub mod TimerLives
 pub mod Told

@@ -8,7 +8,7 @@ use Rattle.ert_defs.specs.Laws.{IsFired}
 use Rattle.ert_defs.specs.Legal.{Can, IsSlot, Keeps}
 use Rattle.ert_defs.specs.Milliseconds.{deadline_of}
 use Rattle.ert_defs.specs.States.{State, opening, next, state}
-use Rattle.ert_defs.specs.Timers.{Row, row_from, rows_after}
+use Rattle.ert_defs.specs.Timers.{Row, deadline_told, row_from, rows_after}
 use Rattle.ert_defs.proofs.FiredLists.{first_at, fired_timers}
 use Rattle.ert_defs.proofs.Runs.{kept_from}
 use Rattle.ert_defs.proofs.Standing.{of_row}
@@ -32,7 +32,7 @@ placed_armed : (g : Settings) (w : ℕ) (rows : List Row) (timer : TimerRef) (st
     → All (IsPlaced g w) rows → All (IsPlaced g w) (rows ++ row_from timer start deadline)
 placed_armed g w rows timer start None wheel place dest h = rw append-nil h
 placed_armed g w rows timer start (Some d) wheel place dest h =
-    let row : Row = record { timer = timer; deadline = d; dest = start.dest; msg = start.msg; kind = start.kind } in
+    let row : Row = record { timer = timer; deadline = deadline_told timer.generation d; dest = start.dest; msg = start.msg; kind = start.kind } in
     All-push (IsPlaced g w) rows row h (record { wheel = wheel; place = place; dest = dest })
 
 placed_event : (g : Settings) (look : ℤ) (w : ℕ) (by : Actor) (with : Option Actor) (event : Event) (rows : List Row) → Keeps g by with event

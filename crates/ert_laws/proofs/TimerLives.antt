@@ -78,7 +78,7 @@ moved_event : (g : Settings) (s : State) (by : Actor) (with : Option Actor) (eve
 moved_event g s by with (Arm timer start) r kept stand can =
     moved_arm (has_actor (made by with (Arm timer start)) (Wheel r.wheel)) (same_timer timer r) (s.status r)
     (with_wheel (made by with (Arm timer start)) timer r can.keeps.1)
-    (armed_first s timer r kept.ordered can.known.generation)
+    (armed_first g s by timer r _ kept.ordered can.known)
 moved_event g s by with (Cancel timer (Some n)) r kept stand can =
     moved_settled Cancelled (same_timer timer r) (s.status r) refl
     (at_same (λ t. s.status t ≡ Some Armed) timer r (left_armed g (s.looked by) (s.status timer) (row_of (s.rows timer.wheel) timer) n can.found))

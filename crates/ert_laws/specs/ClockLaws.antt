@@ -1,14 +1,14 @@
 -- Laws on the clock over all legal histories. The functions of src/clock_laws.rt carry them as contracts,
 -- so that they are proved.
 
-use Rattle.std.specs.Prelude.{◌≡◌, ◌⊎◌, ℤ, pos, ◌+ℤ◌, ◌≤ℤ◌, ◌<ℤ◌, Bool, true, false, List, [], ◌∷◌, ◌++◌, Contains, FitsSigned}
+use Rattle.std.specs.Prelude.{ℕ, ◌≤◌, ◌≡◌, ◌⊎◌, ℤ, pos, ◌+ℤ◌, ◌≤ℤ◌, ◌<ℤ◌, Bool, true, false, List, [], ◌∷◌, ◌++◌, Contains, FitsSigned}
 use Rattle.std.specs.Int.{w64}
 use Rattle.ert_defs.specs.Clocks.{Ticked, last_mono, last_base}
 use Rattle.ert_defs.specs.Legal.{Legal}
 use Rattle.ert_defs.specs.Lines.{end_time, first_base, is_base, is_due, base_from}
-use Rattle.ert_defs.specs.Milliseconds.{down}
 use Rattle.ert_laws.specs.Permitted.{Permitted}
 use Rattle.ert_defs.specs.Settings.{IsChecked}
+use Rattle.ert_defs.specs.Milliseconds.{natural, down}
 use Rattle.ert_defs.specs.States.{state}
 use Rattle.ert_defs.specs.Timers.{Row}
 use Rattle.ert_defs.specs.declared.entry.Actor.{Actor}
@@ -91,3 +91,8 @@ pub record HasNoBase (g : Settings) (ticks : List Ticked) : Type 0 where
 -- "Time Correction"), whatever the ticks
 abbrev pub LawOfBases : Type 0
 LawOfBases = (g : Settings) (ticks : List Ticked) → HasNoBase g ticks ⊎ HasBase g ticks
+
+-- the round of each slot has begun by the time
+abbrev pub LawOfRounds : Type 0
+LawOfRounds = (g : Settings) (h : List Entry) (w k : ℕ) → IsChecked g → Legal g h
+    → (state g h).since w k ≤ natural (down g (state g h).clock.now)

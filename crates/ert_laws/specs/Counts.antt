@@ -127,19 +127,14 @@ LawOfSix = (g : Settings) (h : List Entry) (w : ℕ) → Legal g h
     ≡ count_at (state g h) Armed w + count_at (state g h) Expired w + count_at (state g h) Delivered w
     + count_at (state g h) Dropped w + count_at (state g h) Cancelled w + count_at (state g h) Orphaned w
 
--- each slot of a wheel has so many timers as its last generation says
-abbrev pub LawOfUses : Type 0
-LawOfUses = (g : Settings) (h : List Entry) (w : ℕ) → Legal g h
-    → length ((state g h).rows w) ≡ total ((state g h).last w) g.slots
-
--- so the timers of a wheel are at most 262143 a slot
+-- a wheel has at most 2^53 timers
 abbrev pub LawOfMany : Type 0
-LawOfMany = (g : Settings) (h : List Entry) (w : ℕ) → Legal g h → length ((state g h).rows w) ≤ 262143 * g.slots
+LawOfMany = (g : Settings) (h : List Entry) (w : ℕ) → Legal g h → length ((state g h).rows w) ≤ 9007199254740992
 
 -- and those of some wheels so many for each
 abbrev pub LawOfAll : Type 0
 LawOfAll = (g : Settings) (h : List Entry) (n : ℕ) → Legal g h
-    → total (λ w. length ((state g h).rows w)) n ≤ 262143 * g.slots * n
+    → total (λ w. length ((state g h).rows w)) n ≤ 9007199254740992 * n
 
 -- the counts that agree with the entries of a history and with the lists of its schedulers
 pub record Agrees (g : Settings) (h : List Entry) (n : Counts) : Type 0 where

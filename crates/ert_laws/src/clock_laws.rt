@@ -1,7 +1,7 @@
 //! Laws on the clock over all legal histories, each the contract of a function that does nothing.
 
 ghost use Rattle.ert_laws.specs.ClockLaws.{LawOfTime, LawOfFirstLooks, LawOfLastLooks, LawOfExpiry};
-ghost use Rattle.ert_laws.specs.ClockLaws.{LawOfPermission, LawOfStart, LawOfEnd, LawOfSums, LawOfBases};
+ghost use Rattle.ert_laws.specs.ClockLaws.{LawOfPermission, LawOfStart, LawOfEnd, LawOfSums, LawOfBases, LawOfRounds};
 
 /// In a legal history monotonic time never falls (ERTS User's Guide, "Erlang Monotonic Time"), and the
 /// last look of an actor is of no time before the start time and of none to come.
@@ -35,4 +35,10 @@ pub fn times_stay_in_range()
 /// the first reading where there is none (ERTS User's Guide, "Time Correction").
 pub fn clock_looks_back()
     ensures { LawOfBases }
+{}
+
+/// The round that a slot is in has begun: a look that is taken now finds no slot resting but one that was
+/// used 262143 times in its round, and of which the deadline of some timer hasn't passed.
+pub fn rounds_have_begun()
+    ensures { LawOfRounds }
 {}

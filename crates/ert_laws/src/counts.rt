@@ -1,7 +1,7 @@
 //! How many timers there are.
 
 ghost use Rattle.ert_laws.specs.Counts.{LawOfArms, LawOfExpiries, LawOfOrphans, LawOfWaits, LawOfDeliveries, LawOfSix};
-ghost use Rattle.ert_laws.specs.Counts.{LawOfUses, LawOfMany, LawOfAll, LawOfCounts, LawOfOneCount};
+ghost use Rattle.ert_laws.specs.Counts.{LawOfMany, LawOfAll, LawOfCounts, LawOfOneCount};
 
 /// How many timers of a wheel there are, and how many have which status, is told by the entries that arm
 /// them, let them expire, deliver them and cancel them for an exit.
@@ -21,9 +21,8 @@ pub fn statuses_are_counted()
     ensures one { LawOfOneCount }
 {}
 
-/// A wheel has as many timers as the last generations of its slots add up to, and so at most 262143 a slot.
-pub fn timers_are_uses_of_slots()
-    ensures uses { LawOfUses }
+/// A wheel has at most 2^53 timers.
+pub fn timers_are_few()
     ensures many { LawOfMany }
     ensures all { LawOfAll }
 {}

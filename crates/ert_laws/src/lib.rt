@@ -17,10 +17,10 @@ mod worked;
 
 pub use changes::changes_tell_another_offset;
 pub use clock_laws::{
-    clock_is_permitted, clock_looks_back, no_timer_expires_early, time_never_falls,
-    times_stay_in_range,
+    clock_is_permitted, clock_looks_back, no_timer_expires_early, rounds_have_begun,
+    time_never_falls, times_stay_in_range,
 };
-pub use counts::{statuses_are_counted, timers_are_counted, timers_are_uses_of_slots};
+pub use counts::{statuses_are_counted, timers_are_counted, timers_are_few};
 pub use lives::{expired_timers_wait_once, timers_have_six_lives};
 pub use mail_order::{mailboxes_keep_order, timer_messages_come_in_order};
 pub use ranges::{

@@ -1,16 +1,21 @@
 -- A store of the word of a slot takes place as the start of a timer.
 
-use Rattle.std.proofs.Common.{◌≡◌, ◌≢◌, ⊎_elim, ℕ, ℤ, ◌+◌, ◌≤◌, Bool, true, false, cond, ◌&&◌, nat_eq, List, [], ◌∷◌, ◌++◌, All, Option, Some, None, refl, sym, ap, subst, ◌∙◌, arith, append-nil, eq-eqb, eqb-true}
+use Rattle.std.proofs.Common.{◌≡◌, ◌≢◌, ⊎_elim, ℕ, ℤ, ◌+◌, ◌≤◌, Bool, true, false, cond, ◌&&◌, nat_eq, List, [], ◌∷◌, ◌++◌, All, Option, Some, None, option_map, refl, sym, ap, subst, ◌∙◌, arith, append-nil, eq-eqb, eqb-true}
 use Rattle.std.proofs.lemmas.Bool.{and_parts, and_right}
 use Rattle.ert_defs.specs.Actors.{has_actor}
-use Rattle.ert_defs.specs.Milliseconds.{deadline_of}
-use Rattle.ert_defs.specs.States.{State, next, state}
-use Rattle.ert_defs.specs.Timers.{Row, row_from, row_of, same_timer, timer_at}
+use Rattle.std.proofs.Props.{props}
+use Rattle.ert_defs.specs.Legal.{CanArm}
+use Rattle.ert_defs.specs.Milliseconds.{natural, down, deadline_of}
+use Rattle.ert_defs.specs.States.{State, uses_at, next, state}
+use Rattle.ert_defs.specs.Timers.{Row, Uses, deadline_told, row_from, row_of, same_timer, timer_at}
 use Rattle.ert_defs.specs.Words.{timer_word, slot_word, word_of_slot}
 use Rattle.ert_defs.proofs.FiredTimers.{row_named, same_timer_self}
 use Rattle.ert_defs.proofs.Standing.{of_row}
 use Rattle.ert_defs.proofs.Rows.{IsRow, rows_hold}
-use Rattle.ert_defs.proofs.Slots.{same_timer-true}
+use Rattle.ert_defs.proofs.Runs.{legal_one_more}
+use Rattle.ert_defs.proofs.Slots.{IsOrdered, ordered, same_timer-true}
+use Rattle.ert_defs.proofs.Uses.{IsBefore, Use, due as due_of, before_self, fresh, told_high as told_later, told_is}
+use Rattle.ert_defs.specs.declared.entry.Actor.{Actor}
 use Rattle.ert_defs.specs.declared.entry.Actor.TheVariants.{Wheel, Caller}
 use Rattle.ert_defs.specs.declared.entry.Entry.{Entry}
 use Rattle.ert_defs.specs.declared.settings.Settings.{Settings}
@@ -24,21 +29,57 @@ use Rattle.ert_table.specs.Places.{slot_place}
 use Rattle.ert_defs.specs.Entries.{arm_entry}
 use Rattle.ert_table.specs.Takes.{MayStep}
 use Rattle.ert_table.proofs.Holders.{tells}
-use Rattle.ert_table.proofs.AtSteps.{look_then, last_then}
+use Rattle.ert_table.proofs.AtSteps.{look_then}
 use Rattle.ert_table.proofs.Hits.{other_timer}
-use Rattle.ert_table.proofs.SlotFacts.{deadline_high}
+use Rattle.ert_table.specs.Rule.{IsLegalBy}
+use Rattle.ert_table.proofs.OneStep.{grows, legal_by}
 use Rattle.ert_table.proofs.WordPlaces.{word_of-slot}
 use Rattle.ert_table.proofs.WordSteps.{cond_same, word_same}
 use Rattle.ert_table.specs.declared.view.View.{View}
 
+-- a start that has a deadline
+record HasDeadline (timer : TimerRef) (o : Option ℕ) (deadline : ℕ) : Type 0 where
+  wanted : ℕ
+  some : o ≡ Some wanted
+  told : deadline_told timer.generation wanted ≡ deadline
+
+has_deadline : (timer : TimerRef) (o : Option ℕ) (deadline : ℕ) → option_map (deadline_told timer.generation) o ≡ Some deadline
+    → HasDeadline timer o deadline
+has_deadline timer None deadline due = absurd cc
+has_deadline timer (Some wanted) deadline due = record { wanted = wanted; some = refl; told = cc }
+
+-- the use of a slot that a start makes
+abbrev use_by : ℤ → ℕ → TimerRef → Settings → Use
+use_by look wanted timer g = record { now = natural (down g look); wanted = wanted; generation = timer.generation }
+
 -- the timer that is started has a word
-pub arm_is : (g : Settings) (v : View) (by : ℕ) (timer : TimerRef) (start : Start) (look : ℤ) (deadline : ℕ)
-    → MayStep g v (arm_entry by timer start) → deadline_of g start look ≡ Some deadline → IsTimer deadline timer.generation
-arm_is g v by timer start look deadline may due = record {
-  deadline_high = deadline_high g start look deadline due;
-  generation_low = omega (arith, may.known.generation);
-  generation_high = may.known.unspent;
-}
+in_range_at : (g : Settings) (s : State) (by : Actor) (timer : TimerRef) (o : Option ℕ) (deadline : ℕ) → IsOrdered s → CanArm g s by timer o
+    → option_map (deadline_told timer.generation) o ≡ Some deadline → IsTimer deadline timer.generation
+in_range_at g s by timer o deadline order can due =
+    let u : Uses = uses_at s timer.wheel timer.slot in
+    let t : Use = use_by (s.looked by) can.wanted timer g in
+    let sound = (order timer.wheel timer.slot).sound in
+    let own = before_self u t sound can.next_use in
+    let has = has_deadline timer o deadline due in
+    let same : has.wanted ≡ can.wanted = (let is : Some has.wanted ≡ Some can.wanted = sym has.some ∙ can.due in cc) in
+    let told : deadline_told timer.generation can.wanted ≡ deadline = ap (deadline_told timer.generation) (sym same) ∙ has.told in
+    let is : deadline ≡ due_of u t = sym told ∙ told_is u t sound can.next_use in
+    record {
+      deadline_high = subst (λ d. d ≤ 8796093022207) (sym is) can.next_use.within;
+      generation_low = own.low;
+      generation_first = own.small;
+      generation_tells = λ later. sym (told_later timer.generation can.wanted later) ∙ told;
+      generation_high = own.high;
+    }
+
+pub arm_is : (g : Settings) (v : View) (by : ℕ) (timer : TimerRef) (start : Start) (deadline : ℕ) → v.settings ≡ Some g
+    → ∥ IsLegalBy v.settings v.front ∥₁ → MayStep g v (arm_entry by timer start)
+    → option_map (deadline_told timer.generation) (deadline_of g start ((state g v.front).looked (Caller by))) ≡ Some deadline
+    → IsTimer deadline timer.generation
+arm_is g v by timer start deadline named legal may due =
+    let prop : IsProp (IsTimer deadline timer.generation) = hlevel props in
+    legal_by g v.settings v.front prop named legal
+    (λ h. in_range_at g (state g v.front) (Caller by) timer _ deadline (ordered g v.front h) may.known due)
 
 -- a row for another timer is not found
 row_first : (x : Row) (r : TimerRef) (o : Option Row) → x.timer ≢ r → cond (same_timer x.timer r) (Some x) o ≡ o
@@ -59,19 +100,28 @@ row_of-last (x ∷ rows) row none = at (same_timer x.timer row.timer) (row_of-la
     at true more h = absurd cc
     at false more h = more h
 
--- a timer of the next generation has no row yet
-row_new : (rows : List Row) (w : ℕ) (last : ℕ → ℕ) (timer : TimerRef) (o : Option Row) → All (IsRow w last) rows
-    → timer.generation ≡ last timer.slot + 1 → row_of rows timer ≡ o → row_of rows timer ≡ None
-row_new rows w last timer None each new is = is
-row_new rows w last timer (Some row) each new is =
-    let is_row : IsRow w last row = of_row (IsRow w last) rows timer row each is in
-    let named : row.timer ≡ timer = row_named rows row timer is in
-    let within : timer.generation ≤ last timer.slot = subst (λ (t : TimerRef). t.generation ≤ last t.slot) named is_row.within in
-    absurd (omega arith)
+-- a timer that can be armed has no row yet
+row_new : (g : Settings) (s : State) (by : Actor) (timer : TimerRef) (deadline : Option ℕ) (o : Option Row) → IsOrdered s
+    → All (IsRow timer.wheel (uses_at s timer.wheel)) (s.rows timer.wheel) → CanArm g s by timer deadline
+    → row_of (s.rows timer.wheel) timer ≡ o → row_of (s.rows timer.wheel) timer ≡ None
+row_new g s by timer deadline None order each can is = is
+row_new g s by timer deadline (Some row) order each can is =
+    let w : ℕ = timer.wheel in
+    let is_row : IsRow w (uses_at s w) row = of_row (IsRow w (uses_at s w)) (s.rows w) timer row each is in
+    let named : row.timer ≡ timer = row_named (s.rows w) row timer is in
+    let used : IsBefore (uses_at s w timer.slot) timer.generation = subst (λ (t : TimerRef). IsBefore (uses_at s w t.slot) t.generation) named is_row.used in
+    absurd (fresh (uses_at s w timer.slot) (use_by (s.looked by) can.wanted timer g) timer.generation (order w timer.slot).sound can.next_use used refl)
+
+row_from_told : (timer : TimerRef) (start : Start) (o : Option ℕ) (deadline : ℕ) → option_map (deadline_told timer.generation) o ≡ Some deadline
+    → row_from timer start o ≡ (record { timer = timer; deadline = deadline; dest = start.dest; msg = start.msg; kind = start.kind }) ∷ []
+row_from_told timer start None deadline due = absurd cc
+row_from_told timer start (Some wanted) deadline due =
+    let told : deadline_told timer.generation wanted ≡ deadline = cc in
+    ap (λ d. let r : Row = record { timer = timer; deadline = d; dest = start.dest; msg = start.msg; kind = start.kind } in r ∷ []) told
 
 module _ (g : Settings) (v : View) (by : ℕ) (timer : TimerRef) (start : Start) (deadline : ℕ)
     (may : MayStep g v (arm_entry by timer start))
-    (due : deadline_of g start ((state g v.front).looked (Caller by)) ≡ Some deadline) where
+    (due : option_map (deadline_told timer.generation) (deadline_of g start ((state g v.front).looked (Caller by))) ≡ Some deadline) where
   abbrev e : Entry
   e = arm_entry by timer start
 
@@ -85,18 +135,20 @@ module _ (g : Settings) (v : View) (by : ℕ) (timer : TimerRef) (start : Start)
   has_wheel = eq-eqb timer.wheel timer.wheel refl
 
   -- what is known at the step
-  new_then : (h : List Entry) (n : ℕ) → Then g v place n h → timer.generation ≡ (state g h).last timer.wheel timer.slot + 1
-  new_then h n then = may.known.generation ∙ ap (λ m. m + 1) (sym (last_then g v place n h then timer.wheel timer.slot may.ours.1))
+  can_then : (h : List Entry) (n : ℕ) → Then g v place n h → CanArm g (state g h) (Caller by) timer (deadline_of g start ((state g h).looked (Caller by)))
+  can_then h n then = ((legal_one_more g h e).0 (grows g v place n e h then may.ours may.keeps may.known tt)).1.known
 
-  due_then : (h : List Entry) (n : ℕ) → Then g v place n h → deadline_of g start ((state g h).looked (Caller by)) ≡ Some deadline
-  due_then h n then = ap (deadline_of g start) (look_then g v place n h then (Caller by) may.ours.0) ∙ due
+  due_then : (h : List Entry) (n : ℕ) → Then g v place n h
+      → option_map (deadline_told timer.generation) (deadline_of g start ((state g h).looked (Caller by))) ≡ Some deadline
+  due_then h n then =
+      ap (λ look. option_map (deadline_told timer.generation) (deadline_of g start look)) (look_then g v place n h then (Caller by) may.ours.0) ∙ due
 
   -- the rows of the wheel after the step
   rows_then : (h : List Entry) (n : ℕ) → Then g v place n h
       → (next g (state g h) e).rows timer.wheel ≡ (state g h).rows timer.wheel ++ row ∷ []
   rows_then h n then =
       rw has_wheel
-      (ap (λ d. (state g h).rows timer.wheel ++ row_from timer start d) (due_then h n then))
+      (ap (λ rows. (state g h).rows timer.wheel ++ rows) (row_from_told timer start (deadline_of g start ((state g h).looked (Caller by))) deadline (due_then h n then)))
 
   here_arm : (h : List Entry) (n : ℕ) → Then g v place n h
       → word_of_slot (next g (state g h) e) timer.wheel timer.slot ≡ timer_word Armed deadline timer.generation
@@ -106,7 +158,7 @@ module _ (g : Settings) (v : View) (by : ℕ) (timer : TimerRef) (start : Start)
       let w : ℕ = timer.wheel in
       let k : ℕ = timer.slot in
       let none : row_of (s.rows w) timer ≡ None =
-      row_new (s.rows w) w (s.last w) timer (row_of (s.rows w) timer) (rows_hold g h w then.legal).each (new_then h n then) refl in
+      row_new g s (Caller by) timer _ (row_of (s.rows w) timer) (ordered g h then.legal) (rows_hold g h w then.legal).each (can_then h n then) refl in
       let last' : s'.last w k ≡ timer.generation = rw (has_wheel, eq-eqb k k refl) refl in
       let status' : s'.status timer ≡ Some Armed = rw (has_wheel, eq-eqb k k refl, eq-eqb timer.generation timer.generation refl) refl in
       let row' : row_of (s'.rows w) timer ≡ Some row = ap (λ rows. row_of rows timer) (rows_then h n then) ∙ row_of-last (s.rows w) row none in
@@ -121,7 +173,7 @@ module _ (g : Settings) (v : View) (by : ℕ) (timer : TimerRef) (start : Start)
   rows_other rows true false d r not = refl
   rows_other rows true true None r not = ap (λ x. row_of x r) (append-nil rows)
   rows_other rows true true (Some d) r not =
-      row_of-other rows (record { timer = timer; deadline = d; dest = start.dest; msg = start.msg; kind = start.kind }) r
+      row_of-other rows (record { timer = timer; deadline = deadline_told timer.generation d; dest = start.dest; msg = start.msg; kind = start.kind }) r
       (λ is. (let yes : same_timer timer r ≡ true = subst (λ t. same_timer timer t ≡ true) is (same_timer_self timer) in
       let no : true ≡ false = sym yes ∙ not in cc))
 

@@ -13,7 +13,7 @@ use Rattle.ert_defs.specs.declared.settings.Settings.{Settings}
 use Rattle.ert_defs.specs.declared.timer.Status.{Status}
 use Rattle.ert_defs.specs.declared.timer.Status.TheVariants.{Armed, Expired, Delivered, Cancelled, Orphaned, Dropped}
 use Rattle.ert_defs.specs.declared.timer.TimerRef.{TimerRef}
-use Rattle.ert_words.specs.Ranges.{IsTimer, IsTimerWord}
+use Rattle.ert_words.specs.Ranges.{IsTimer, IsTimerWord, shown_generation}
 use Rattle.ert_table.specs.Acts.{Acts}
 use Rattle.ert_table.specs.Held.{is_held}
 use Rattle.ert_table.specs.Places.{slot_place}
@@ -31,8 +31,8 @@ use Rattle.ert_table.specs.declared.carry.TimerCarry.TheVariants.{Probe, Peek}
 use Rattle.ert_table.specs.declared.view.View.{View}
 
 -- what a word shows of a timer
-parts_used : (status : Status) (deadline generation : ℕ) → deadline ≤ 8796093022207
-    → parts_in (timer_word status deadline generation) ≡ Some (status, deadline, generation)
+parts_used : (status : Status) (deadline generation : ℕ) → IsTimer deadline generation
+    → parts_in (timer_word status deadline generation) ≡ Some (status, deadline, shown_generation status generation)
 parts_used status deadline generation fits =
     let n : ℕ = timer_word status deadline generation in
     let parts = word_parts status deadline generation fits in
@@ -48,7 +48,7 @@ parts_shown s w k n kept word =
     (λ (idle : IsIdle s w k n). ap parts_in idle.word
     ∙ sym (ap (λ x. shown_by x (row_of (s.rows w) timer) (s.last w k)) idle.status))
     (λ (used : IsUsed s w k n). ap parts_in used.word
-    ∙ (parts_used used.status used.row.deadline (s.last w k) used.in_range.deadline_high
+    ∙ (parts_used used.status used.row.deadline (s.last w k) used.in_range
     ∙ sym (ap (λ x. shown_by x (row_of (s.rows w) timer) (s.last w k)) used.status_is
     ∙ ap (λ x. shown_by (Some used.status) x (s.last w k)) used.row_is)))
     (slot_cases s w k n kept word)
@@ -59,7 +59,7 @@ status_shown f is (Some x) = ap (λ (y : Status). Some y) (is x)
 
 -- another status than armed leaves nothing
 left_used : (g : Settings) (look : ℤ) (wanted : ℕ) (status : Status) (row : Row) (generation : ℕ) → generation ≡ wanted
-    → left_at g look wanted status row.deadline generation ≡ left_by g look (Some status) (Some row)
+    → left_at g look wanted status row.deadline (shown_generation status generation) ≡ left_by g look (Some status) (Some row)
 left_used g look wanted Armed row generation same = rw (eq-eqb generation wanted same) refl
 left_used g look wanted Expired row generation same = refl
 left_used g look wanted Delivered row generation same = refl
@@ -68,7 +68,7 @@ left_used g look wanted Orphaned row generation same = refl
 left_used g look wanted Dropped row generation same = refl
 
 left_other : (g : Settings) (look : ℤ) (wanted : ℕ) (status : Status) (deadline generation : ℕ) → generation ≢ wanted
-    → left_at g look wanted status deadline generation ≡ None
+    → left_at g look wanted status deadline (shown_generation status generation) ≡ None
 left_other g look wanted Armed deadline generation not = rw (ne_eqb generation wanted not) refl
 left_other g look wanted Expired deadline generation not = refl
 left_other g look wanted Delivered deadline generation not = refl
@@ -90,8 +90,8 @@ peek_found g s look timer n kept word =
     let no : None ≡ Some Armed = sym idle.status ∙ (ap (λ m. s.status (timer_at w k m)) last ∙ is) in cc) in
     ap (λ m. left_shown g look timer.generation (parts_in m)) idle.word ∙ sym (none not))
     (λ (used : IsUsed s w k n).
-    let shown : parts_in n ≡ Some (used.status, used.row.deadline, s.last w k) =
-    ap parts_in used.word ∙ parts_used used.status used.row.deadline (s.last w k) used.in_range.deadline_high in
+    let shown : parts_in n ≡ Some (used.status, used.row.deadline, shown_generation used.status (s.last w k)) =
+    ap parts_in used.word ∙ parts_used used.status used.row.deadline (s.last w k) used.in_range in
     ap (left_shown g look timer.generation) shown ∙ ⊎_elim
     (λ (same : s.last w k ≡ timer.generation).
     let status : s.status timer ≡ Some used.status = subst (λ m. s.status (timer_at w k m) ≡ Some used.status) same used.status_is in
@@ -170,7 +170,7 @@ none_is (Some x) h = absurd cc
 pub unpacked_shown : (s : State) (w k n : ℕ) (result : Option Shown) → KeepsSlots s → word_of_slot s w k ≡ n
     → (n ≡ 0 → IsNone result)
     → ((status : Status) (deadline generation : ℕ) → IsTimer deadline generation → n ≡ timer_word status deadline generation
-    → result ≡ Some (status, deadline, generation))
+    → result ≡ Some (status, deadline, shown_generation status generation))
     → result ≡ shown_in s w k
 unpacked_shown s w k n result kept word idle_shown used_shown =
     let timer : TimerRef = timer_at w k (s.last w k) in

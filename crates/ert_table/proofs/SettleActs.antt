@@ -13,6 +13,8 @@ use Rattle.ert_defs.specs.declared.entry.Actor.{Actor}
 use Rattle.ert_defs.specs.declared.entry.Actor.TheVariants.{Wheel}
 use Rattle.ert_defs.specs.declared.entry.Entry.{Entry}
 use Rattle.ert_defs.specs.declared.settings.Settings.{Settings}
+use Rattle.ert_words.specs.Ranges.{IsTimer}
+use Rattle.ert_defs.specs.declared.timer.Status.{Status}
 use Rattle.ert_defs.specs.declared.timer.Status.TheVariants.{Armed}
 use Rattle.ert_defs.specs.declared.timer.TimerRef.{TimerRef}
 use Rattle.ert_table.specs.Acts.{Acts, Then, Finds}
@@ -25,8 +27,8 @@ use Rattle.ert_table.proofs.Hits.{from_taken, to_settled, hit_by, hit_slot, hit_
 use Rattle.ert_table.proofs.Holders.{held_maker}
 use Rattle.ert_table.proofs.Misses.{can_miss, missed_from, miss_may, miss_found, miss_status, miss_word, missed}
 use Rattle.ert_table.proofs.OneStep.{grows}
-use Rattle.ert_table.proofs.SlotFacts.{slots_kept, row_soon}
-use Rattle.ert_table.proofs.SlotWords.{slot_found, status_by_word, not_by_word}
+use Rattle.ert_table.proofs.SlotFacts.{KeepsSlots, slots_kept, row_in_range}
+use Rattle.ert_table.proofs.SlotWords.{slot_found, armed_by_word, not_by_word, taken_is_last}
 use Rattle.ert_table.proofs.WordPlaces.{word_of-slot}
 use Rattle.ert_table.specs.declared.carry.Settle.{Settle}
 use Rattle.ert_table.specs.declared.carry.Settle.TheVariants.{Deliver, Drop}
@@ -52,6 +54,15 @@ module _ (g : Settings) (v : View) (by : Actor) (timer : TimerRef) (deadline : �
       absurd (not (drop_hits g h (hit Drop) timer (grows g v place n (hit Drop) h then may.ours may.keeps may.known tt) refl).0)
   may_miss _ h n then may not = refl
 
+  -- what is handed over has expired
+  waits_for : (how : Settle) (h : List Entry) (n : ℕ) → Then g v place n h → MayStep g v (hit how) → can_miss how ≡ false
+      → (state g h).status timer ≡ Some (status_from how)
+  waits_for Deliver h n then may can =
+      (delivery_hits g h (hit Deliver) timer (grows g v place n (hit Deliver) h then may.ours may.keeps may.known tt) refl).0
+  waits_for Drop h n then may can =
+      (drop_hits g h (hit Drop) timer (grows g v place n (hit Drop) h then may.ours may.keeps may.known tt) refl).0
+  waits_for _ h n then may can = absurd cc
+
   module _ (how : Settle) (may : MayStep g v (hit how)) (has : HasRow front timer deadline) where
     abbrev old : ℕ
     old = timer_word (status_from how) deadline timer.generation
@@ -75,10 +86,28 @@ module _ (g : Settings) (v : View) (by : Actor) (timer : TimerRef) (deadline : �
     -- where the word is that of the timer, it has the status, and is the last of its slot
     hits : (h : List Entry) (n : ℕ) → Then g v place n h → nat_eq n old ≡ true
         → ((state g h).status timer ≡ Some (status_from how)) × ((state g h).last timer.wheel timer.slot ≡ timer.generation)
-    hits h n then is =
-        let kept = slots_kept g h then.legal in
-        let fits : deadline ≤ 8796093022207 = subst (λ d. d ≤ 8796093022207) has.due (row_soon (state g h) timer has.row kept (stands h n then)) in
-        status_by_word (state g h) timer (status_from how) deadline n kept (slot_then g v timer.wheel timer.slot n h slot then) fits (eqb-true n old is)
+    hits h n then is = at (can_miss how) refl
+      where
+        s : State
+        s = state g h
+
+        kept : KeepsSlots s
+        kept = slots_kept g h then.legal
+
+        fits : IsTimer deadline timer.generation
+        fits = row_in_range g h timer deadline then.legal (record { row = has.row; stands = stands h n then; due = has.due })
+
+        -- a message is handed over once its timer has expired
+        waits : s.status timer ≡ Some (status_from how) → (s.status timer ≡ Some (status_from how)) × (s.last timer.wheel timer.slot ≡ timer.generation)
+        waits status = (status, taken_is_last s timer (status_from how) kept (from_taken how) status)
+
+        at : (b : Bool) → can_miss how ≡ b → (s.status timer ≡ Some (status_from how)) × (s.last timer.wheel timer.slot ≡ timer.generation)
+        at true can =
+            let from : status_from how ≡ Armed = missed_from how can in
+            let word : n ≡ timer_word Armed deadline timer.generation = eqb-true n old is ∙ ap (λ x. timer_word x deadline timer.generation) from in
+            let found = armed_by_word s timer deadline n kept (slot_then g v timer.wheel timer.slot n h slot then) fits word in
+            (found.0 ∙ ap (λ (x : Status). Some x) (sym from), found.1)
+        at false can = waits (waits_for how h n then may can)
 
     -- where it is another, the timer isn't armed, and the exchange is one that can miss
     record IsMissed (h : List Entry) : Type 0 where

@@ -1,16 +1,17 @@
 -- What the word of a slot tells of its last timer, and of an older one.
 
 use Rattle.std.proofs.Common.{◌≡◌, ◌≢◌, ◌⊎◌, inl, inr, ⊎_elim, ℕ, zero, ◌<◌, ◌≤◌, true, false, Option, Some, None, refl, sym, ap, subst, ◌∙◌, arith}
-use Rattle.std.proofs.lemmas.Bool.{cases_order}
-use Rattle.ert_defs.specs.Laws.{AreInOrder}
-use Rattle.ert_defs.specs.States.{State}
+use Rattle.ert_defs.specs.States.{State, uses_at}
 use Rattle.ert_defs.specs.Timers.{Row, row_of, is_taken, timer_at}
 use Rattle.ert_defs.specs.Words.{timer_word, slot_word, word_of_slot}
+use Rattle.ert_defs.proofs.FiredLists.{taken_last}
+use Rattle.ert_defs.proofs.FiredTimers.{row_named}
 use Rattle.ert_defs.specs.declared.timer.Status.{Status}
+use Rattle.ert_defs.specs.declared.timer.Status.TheVariants.{Armed}
 use Rattle.ert_defs.specs.declared.timer.TimerRef.{TimerRef}
-use Rattle.ert_words.specs.Ranges.{IsTimer}
+use Rattle.ert_words.specs.Ranges.{IsTimer, shown_generation}
 use Rattle.ert_table.specs.Settlings.{status_in}
-use Rattle.ert_table.proofs.SlotFacts.{KeepsSlots, row_soon}
+use Rattle.ert_table.proofs.SlotFacts.{KeepsSlots, row_soon, used_in_range}
 use Rattle.ert_table.proofs.TimerWords.{word_parts, same_parts, code_low}
 
 -- a slot that was never used, and its word
@@ -26,12 +27,6 @@ pub record IsUsed (s : State) (w k n : ℕ) : Type 0 where
   pub row_is : row_of (s.rows w) (timer_at w k (s.last w k)) ≡ Some row
   pub word : n ≡ timer_word status row.deadline (s.last w k)
   pub in_range : IsTimer row.deadline (s.last w k)
-
-last_low : (s : State) (w k last : ℕ) (status : Status) → AreInOrder (λ n. s.status (timer_at w k n)) last
-    → s.status (timer_at w k last) ≡ Some status → 1 ≤ last
-last_low s w k zero status order is =
-    let no : None ≡ Some status = sym order.none ∙ is in absurd cc
-last_low s w k last status order is = omega arith
 
 slot_at : (s : State) (w k n : ℕ) (status : Option Status) → KeepsSlots s → word_of_slot s w k ≡ n
     → s.status (timer_at w k (s.last w k)) ≡ status → IsIdle s w k n ⊎ IsUsed s w k n
@@ -51,11 +46,8 @@ slot_at s w k n (Some status) kept word is =
       status_is = is;
       row_is = stands.is;
       word = sym word ∙ made;
-      in_range = record {
-        deadline_high = row_soon s timer stands.row kept stands.is;
-        generation_low = last_low s w k (s.last w k) status (kept.ordered w k) is;
-        generation_high = kept.lasts w k;
-      };
+      in_range = used_in_range (uses_at s w k) stands.row timer (row_named (s.rows w) stands.row timer stands.is) (row_soon s timer stands.row kept stands.is)
+          ((kept.ordered w k).each (s.last w k) used);
     })
 
 -- a slot was never used, or its word is that of its last timer
@@ -68,37 +60,32 @@ slot_found s w k n kept word =
     ⊎_elim
     (λ (idle : IsIdle s w k n). ap status_in idle.word ∙ sym idle.status)
     (λ (used : IsUsed s w k n).
-    let parts = word_parts used.status used.row.deadline (s.last w k) used.in_range.deadline_high in
+    let parts = word_parts used.status used.row.deadline (s.last w k) used.in_range in
     ap status_in used.word ∙ (parts.status_is ∙ sym used.status_is))
     (slot_cases s w k n kept word)
 
--- where the word of a slot is that of a timer with a status, it is the last timer and has that status
-pub status_by_word : (s : State) (timer : TimerRef) (status : Status) (deadline n : ℕ) → KeepsSlots s
-    → word_of_slot s timer.wheel timer.slot ≡ n → deadline ≤ 8796093022207 → n ≡ timer_word status deadline timer.generation
-    → (s.status timer ≡ Some status) × (s.last timer.wheel timer.slot ≡ timer.generation)
-status_by_word s timer status deadline n kept word fits is =
+-- where the word of a slot is that of an armed timer, it is the last timer and is armed
+pub armed_by_word : (s : State) (timer : TimerRef) (deadline n : ℕ) → KeepsSlots s
+    → word_of_slot s timer.wheel timer.slot ≡ n → IsTimer deadline timer.generation → n ≡ timer_word Armed deadline timer.generation
+    → (s.status timer ≡ Some Armed) × (s.last timer.wheel timer.slot ≡ timer.generation)
+armed_by_word s timer deadline n kept word fits is =
     ⊎_elim
-    (λ (idle : IsIdle s timer.wheel timer.slot n). absurd (omega (arith, idle.word, code_low status)))
+    (λ (idle : IsIdle s timer.wheel timer.slot n). absurd (omega (arith, idle.word, is, code_low Armed timer.generation)))
     (λ (used : IsUsed s timer.wheel timer.slot n).
-    let same = same_parts used.status status used.row.deadline deadline (s.last timer.wheel timer.slot) timer.generation
-    used.in_range.deadline_high fits (sym used.word ∙ is) in (
-      subst (λ m. s.status (timer_at timer.wheel timer.slot m) ≡ Some status) same.2
+    let last : ℕ = s.last timer.wheel timer.slot in
+    let same = same_parts used.status Armed used.row.deadline deadline last timer.generation
+    used.in_range fits (sym used.word ∙ is) in
+    let own : last ≡ timer.generation = subst (λ x. shown_generation x last ≡ timer.generation) same.0 same.2 in (
+      subst (λ m. s.status (timer_at timer.wheel timer.slot m) ≡ Some Armed) own
           (used.status_is ∙ ap (λ (x : Status). Some x) same.0),
-      same.2,
+      own,
     ))
     (slot_cases s timer.wheel timer.slot n kept word)
 
 -- a timer that takes its slot is the last of it
 pub taken_is_last : (s : State) (timer : TimerRef) (status : Status) → KeepsSlots s → is_taken (Some status) ≡ true
     → s.status timer ≡ Some status → s.last timer.wheel timer.slot ≡ timer.generation
-taken_is_last s timer status kept taken is =
-    let order = kept.ordered timer.wheel timer.slot in
-    ⊎_elim (λ same. sym same)
-    (λ (rest : (timer.generation < s.last timer.wheel timer.slot) ⊎ (s.last timer.wheel timer.slot < timer.generation)). ⊎_elim
-    (λ below. (let no : true ≡ false = sym taken ∙ (ap is_taken (sym is) ∙ order.free timer.generation below) in absurd cc))
-    (λ above. (let no : Some status ≡ None = sym is ∙ order.unused timer.generation above in absurd cc))
-    rest)
-    (cases_order timer.generation (s.last timer.wheel timer.slot))
+taken_is_last s timer status kept taken is = sym (taken_last s timer kept.ordered (ap is_taken is ∙ taken))
 
 -- and the word of the slot is that of it
 pub word_by_status : (s : State) (timer : TimerRef) (status : Status) (row : Row) → KeepsSlots s → is_taken (Some status) ≡ true

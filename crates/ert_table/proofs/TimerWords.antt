@@ -1,49 +1,105 @@
 -- The word of a timer has its status, its deadline and its generation.
 
-use Rattle.std.proofs.Common.{◌≡◌, ℕ, ◌+◌, ◌*◌, ◌/◌, ◌%◌, ◌≤◌, Some, refl, sym, ap, ◌∙◌, arith}
+use Rattle.std.proofs.Common.{◌≡◌, ℕ, nat_lt, nat_eq, cond, Bool, true, false, ◌<◌, inl, inr, ◌⊎◌, ◌+◌, ◌*◌, ◌/◌, ◌%◌, ◌≤◌, Some, refl, sym, ap, ◌∙◌, arith}
+use Rattle.std.proofs.lemmas.Bool.Decides.{nat_tests}
+use Rattle.ert_defs.specs.Timers.{use_of}
 use Rattle.ert_defs.specs.Words.{status_code, timer_word}
 use Rattle.ert_defs.specs.declared.timer.Status.{Status}
-use Rattle.ert_defs.specs.declared.timer.Status.TheVariants.{Armed}
+use Rattle.ert_defs.specs.declared.timer.Status.TheVariants.{Armed, Expired, Delivered, Cancelled, Orphaned, Dropped}
+use Rattle.ert_words.specs.Ranges.{IsTimer, shown_generation}
 use Rattle.ert_table.specs.Settlings.{status_by, status_in, deadline_in, generation_in}
 
-pub code_low : (status : Status) → 1 ≤ status_code status
-code_low Armed = omega arith
-code_low _ = omega arith
+pub use_low : (n : ℕ) → n < 8796093022208 → use_of n ≡ n
+use_low n low = grind (arith, nat_tests)
 
-code_high : (status : Status) → status_code status ≤ 6
-code_high Armed = omega arith
-code_high _ = omega arith
+pub use_high : (n : ℕ) → 8796093022208 ≤ n → use_of n ≡ n / 8796093022208
+use_high n high = grind (arith, nat_tests)
 
-by_code : (status : Status) → status_by (status_code status) ≡ Some status
-by_code Armed = refl
-by_code _ = refl
+armed_first : (n : ℕ) → n < 8796093022208 → status_code Armed n ≡ 1
+armed_first n low = grind (arith, nat_tests)
 
-code_in : (c d g : ℕ) → c ≤ 6 → ((c + 8 * d) + 70368744177664 * g) % 8 ≡ c
+armed_later : (n : ℕ) → 8796093022208 ≤ n → status_code Armed n ≡ 7
+armed_later n high = grind (arith, nat_tests)
+
+order_of : (n : ℕ) → (n < 8796093022208) ⊎ (8796093022208 ≤ n)
+order_of n = at (nat_lt n 8796093022208) refl
+  where
+    at : (b : Bool) → nat_lt n 8796093022208 ≡ b → (n < 8796093022208) ⊎ (8796093022208 ≤ n)
+    at true is = inl (grind (arith, nat_tests))
+    at false is = inr (grind (arith, nat_tests))
+
+pub code_low : (status : Status) (generation : ℕ) → 1 ≤ status_code status generation
+code_low Armed n = elim (order_of n) [ inl low ↦ omega (arith, armed_first n low) | inr high ↦ omega (arith, armed_later n high) ]
+code_low _ n = omega arith
+
+code_high : (status : Status) (generation : ℕ) → status_code status generation ≤ 7
+code_high Armed n = elim (order_of n) [ inl low ↦ omega (arith, armed_first n low) | inr high ↦ omega (arith, armed_later n high) ]
+code_high _ n = omega arith
+
+by_code : (status : Status) (generation : ℕ) → status_by (status_code status generation) ≡ Some status
+by_code Armed n = elim (order_of n) [ inl low ↦ ap status_by (armed_first n low) | inr high ↦ ap status_by (armed_later n high) ]
+by_code _ n = refl
+
+code_in : (c d g : ℕ) → c ≤ 7 → ((c + 8 * d) + 70368744177664 * g) % 8 ≡ c
 code_in c d g high = omega arith
 
-deadline_back : (c d g : ℕ) → c ≤ 6 → d ≤ 8796093022207 → (((c + 8 * d) + 70368744177664 * g) / 8) % 8796093022208 ≡ d
+deadline_back : (c d g : ℕ) → c ≤ 7 → d ≤ 8796093022207 → (((c + 8 * d) + 70368744177664 * g) / 8) % 8796093022208 ≡ d
 deadline_back c d g high fits = omega arith
 
-generation_back : (c d g : ℕ) → c ≤ 6 → d ≤ 8796093022207 → ((c + 8 * d) + 70368744177664 * g) / 70368744177664 ≡ g
-generation_back c d g high fits = omega arith
+use_back : (c d g : ℕ) → c ≤ 7 → d ≤ 8796093022207 → ((c + 8 * d) + 70368744177664 * g) / 70368744177664 ≡ g
+use_back c d g high fits = omega arith
 
--- the word of a timer has its status, deadline and generation
+all_back : (d g : ℕ) → ((7 + 8 * d) + 70368744177664 * g) / 8 ≡ d + 8796093022208 * g
+all_back d g = omega arith
+
+-- the word of a timer has its status and deadline, and of its generation what it shows
 pub record HasParts (n : ℕ) (status : Status) (deadline generation : ℕ) : Type 0 where
   pub status_is : status_in n ≡ Some status
   pub deadline_is : deadline_in n ≡ deadline
-  pub generation_is : generation_in n ≡ generation
+  pub generation_is : generation_in n ≡ shown_generation status generation
 
-pub word_parts : (status : Status) (deadline generation : ℕ) → deadline ≤ 8796093022207
+-- another code than 7 leaves the use
+use_shown : (n c d g : ℕ) → n ≡ (c + 8 * d) + 70368744177664 * g → c ≤ 6 → d ≤ 8796093022207 → generation_in n ≡ g
+use_shown n c d g is few fits =
+    let code : n % 8 ≡ c = ap (λ m. m % 8) is ∙ code_in c d g (omega (arith, few)) in
+    let other : nat_eq (n % 8) 7 ≡ false = grind (arith, nat_tests) in
+    ap (λ b. cond b (n / 8) (n / 70368744177664)) other ∙ (ap (λ m. m / 70368744177664) is ∙ use_back c d g (omega (arith, few)) fits)
+
+all_shown : (n d g : ℕ) → n ≡ (7 + 8 * d) + 70368744177664 * g → generation_in n ≡ d + 8796093022208 * g
+all_shown n d g is =
+    let code : n % 8 ≡ 7 = ap (λ m. m % 8) is ∙ code_in 7 d g (omega arith) in
+    let own : nat_eq (n % 8) 7 ≡ true = grind (arith, nat_tests) in
+    ap (λ b. cond b (n / 8) (n / 70368744177664)) own ∙ (ap (λ m. m / 8) is ∙ all_back d g)
+
+generation_shown : (status : Status) (deadline generation : ℕ) → IsTimer deadline generation
+    → generation_in (timer_word status deadline generation) ≡ shown_generation status generation
+generation_shown Armed d m is = elim (order_of m) [
+  | inl low ↦ use_shown (timer_word Armed d m) 1 d m
+      (ap (λ c. (c + 8 * d) + 70368744177664 * use_of m) (armed_first m low) ∙ ap (λ u. (1 + 8 * d) + 70368744177664 * u) (use_low m low))
+      (omega arith) is.deadline_high
+  | inr high ↦
+      let tells = is.generation_tells high in
+      let sum : d + 8796093022208 * (m / 8796093022208) ≡ m = omega (arith, tells) in
+      all_shown (timer_word Armed d m) d (m / 8796093022208)
+      (ap (λ c. (c + 8 * d) + 70368744177664 * use_of m) (armed_later m high) ∙ ap (λ u. (7 + 8 * d) + 70368744177664 * u) (use_high m high)) ∙ sum
+]
+generation_shown Expired d m is = use_shown (timer_word Expired d m) 2 d (use_of m) refl (omega arith) is.deadline_high
+generation_shown Delivered d m is = use_shown (timer_word Delivered d m) 3 d (use_of m) refl (omega arith) is.deadline_high
+generation_shown Cancelled d m is = use_shown (timer_word Cancelled d m) 4 d (use_of m) refl (omega arith) is.deadline_high
+generation_shown Orphaned d m is = use_shown (timer_word Orphaned d m) 5 d (use_of m) refl (omega arith) is.deadline_high
+generation_shown Dropped d m is = use_shown (timer_word Dropped d m) 6 d (use_of m) refl (omega arith) is.deadline_high
+
+pub word_parts : (status : Status) (deadline generation : ℕ) → IsTimer deadline generation
     → HasParts (timer_word status deadline generation) status deadline generation
-word_parts status deadline generation fits = record {
-  status_is = ap status_by (code_in (status_code status) deadline generation (code_high status)) ∙ by_code status;
-  deadline_is = deadline_back (status_code status) deadline generation (code_high status) fits;
-  generation_is = generation_back (status_code status) deadline generation (code_high status) fits;
+word_parts status deadline generation is = record {
+  status_is = ap status_by (code_in (status_code status generation) deadline (use_of generation) (code_high status generation)) ∙ by_code status generation;
+  deadline_is = deadline_back (status_code status generation) deadline (use_of generation) (code_high status generation) is.deadline_high;
+  generation_is = generation_shown status deadline generation is;
 }
 
--- words of timers that are one are of one status and generation
-pub same_parts : (a b : Status) (d e m n : ℕ) → d ≤ 8796093022207 → e ≤ 8796093022207 → timer_word a d m ≡ timer_word b e n
-    → (a ≡ b) × (d ≡ e) × (m ≡ n)
+-- words of timers that are one are of one status, deadline and shown generation
+pub same_parts : (a b : Status) (d e m n : ℕ) → IsTimer d m → IsTimer e n → timer_word a d m ≡ timer_word b e n
+    → (a ≡ b) × (d ≡ e) × (shown_generation a m ≡ shown_generation b n)
 same_parts a b d e m n fits fits' same =
     let one = word_parts a d m fits in
     let other = word_parts b e n fits' in

@@ -1,8 +1,9 @@
 -- What callers see of a desk and of a pass.
 
-use Rattle.std.specs.Prelude.{◌≡◌, ℕ, ℤ, Bool, List, Option, Some}
+use Rattle.std.specs.Prelude.{◌≡◌, ℕ, ℤ, Bool, List, Option, Some, option_map}
 use Rattle.ert_defs.specs.Milliseconds.{deadline_of}
 use Rattle.ert_defs.specs.States.{State, state}
+use Rattle.ert_defs.specs.Timers.{deadline_told}
 use Rattle.ert_defs.specs.declared.entry.Entry.{Entry}
 use Rattle.ert_defs.specs.declared.entry.Actor.{Actor}
 use Rattle.ert_defs.specs.declared.entry.Actor.TheVariants.{Caller}
@@ -94,7 +95,7 @@ SettlesOrMisses d p by timer deadline how hit q = Settles (settings_of d) (view_
 abbrev pub MayMark : Desk → Pass → Actor → ℕ → Bool → Type 0
 MayMark d p by process exits = (was : Bool) → MayMake d p (mark_entry by process exits was)
 
--- a start has a deadline at a caller's last look
-abbrev pub IsDeadlineOf : Desk → Pass → ℕ → Start → ℕ → Type 0
-IsDeadlineOf d p by start deadline =
-    deadline_of (settings_of d) start ((state_of d p).looked (Caller by)) ≡ Some deadline
+-- a timer that is started has this deadline, by its caller's last look
+abbrev pub IsDeadlineOf : Desk → Pass → ℕ → TimerRef → Start → ℕ → Type 0
+IsDeadlineOf d p by timer start deadline =
+    option_map (deadline_told timer.generation) (deadline_of (settings_of d) start ((state_of d p).looked (Caller by))) ≡ Some deadline

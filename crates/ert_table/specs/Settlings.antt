@@ -14,6 +14,7 @@ use Rattle.ert_defs.specs.declared.timer.Status.{Status}
 use Rattle.ert_defs.specs.declared.timer.Status.TheVariants.{Armed, Expired, Delivered, Cancelled, Orphaned, Dropped}
 use Rattle.ert_defs.specs.declared.timer.TimerRef.{TimerRef}
 use Rattle.ert_defs.specs.Entries.{entry_by, probe_entry}
+use Rattle.ert_words.specs.Ranges.{shown_generation}
 use Rattle.ert_table.specs.Takes.{Appends}
 use Rattle.ert_table.specs.declared.carry.Settle.{Settle}
 use Rattle.ert_table.specs.declared.carry.Settle.TheVariants.{Cancel as ToCancel, Expire as ToExpire, Orphan as ToOrphan, Deliver as ToDeliver, Drop as ToDrop}
@@ -29,7 +30,8 @@ status_by code =
     (cond (nat_eq code 3) (Some Delivered)
     (cond (nat_eq code 4) (Some Cancelled)
     (cond (nat_eq code 5) (Some Orphaned)
-    (cond (nat_eq code 6) (Some Dropped) None)))))
+    (cond (nat_eq code 6) (Some Dropped)
+    (cond (nat_eq code 7) (Some Armed) None))))))
 
 -- the status in the word of a slot, None where it was never used
 abbrev pub status_in : ℕ → Option Status
@@ -39,9 +41,9 @@ status_in n = status_by (n % 8)
 abbrev pub deadline_in : ℕ → ℕ
 deadline_in n = (n / 8) % 8796093022208
 
--- the generation in the word of a slot
+-- the generation in the word of a slot whose timer is armed; else which use of its round that is
 abbrev pub generation_in : ℕ → ℕ
-generation_in n = n / 70368744177664
+generation_in n = cond (nat_eq (n % 8) 7) (n / 8) (n / 70368744177664)
 
 -- a timer has a row with this deadline
 pub record HasRow (s : State) (timer : TimerRef) (deadline : ℕ) : Type 0 where
@@ -129,7 +131,7 @@ slot_in (ToPeek timer) = timer.slot
 
 -- what is shown of a slot by its last timer: its status, its row and its generation
 abbrev pub shown_by : Option Status → Option Row → ℕ → Option Shown
-shown_by (Some status) (Some row) generation = Some (status, row.deadline, generation)
+shown_by (Some status) (Some row) generation = Some (status, row.deadline, shown_generation status generation)
 shown_by _ _ generation = None
 
 -- what is shown of a slot in a state

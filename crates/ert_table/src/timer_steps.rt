@@ -42,11 +42,11 @@ impl Settle {
 impl Pass {
     /// Starts a timer in a slot that is free (`erlang` module reference, `start_timer`).
     ///
-    /// `deadline` is that of the start at the caller's last look, in milliseconds after the start time.
+    /// `deadline` is that of the timer by the caller's last look, in milliseconds after the start time.
     pub fn arm(&mut self, desk: &Desk, by: u32, timer: TimerRef, start: &Start, deadline: u64)
         requires belongs { Belongs desk.now self.old }
         requires may { MayMake desk.now self.old (arm_entry by timer start.now) }
-        requires deadline { IsDeadlineOf desk.now self.old by start.now deadline }
+        requires deadline { IsDeadlineOf desk.now self.old by timer start.now deadline }
         ensures belongs { Belongs desk.now self.new }
         ensures step { Makes desk.now self.old (arm_entry by timer start.now) self.new }
     {
@@ -65,7 +65,7 @@ impl Pass {
         requires entry { C.entry ≡ (λ n. arm_entry by timer start.now) }
         requires belongs { Belongs desk.now self.old }
         requires may { MayMake desk.now self.old (arm_entry by timer start.now) }
-        requires deadline { IsDeadlineOf desk.now self.old by start.now deadline }
+        requires deadline { IsDeadlineOf desk.now self.old by timer start.now deadline }
         ensures belongs { Belongs desk.now self.new }
         ensures step { Makes desk.now self.old (arm_entry by timer start.now) self.new }
     {
@@ -128,13 +128,14 @@ impl Pass {
     /// Loads the word of a slot, and records what is carried.
     ///
     /// It shows the status of the last timer of the slot, its deadline in milliseconds after the start
-    /// time, and its generation; None where the slot was never used.
+    /// time, and its generation, or only which use of its round that is where it isn't armed; None where
+    /// the slot was never used.
     pub fn load_timer(
         &mut self,
         desk: &Desk,
         by: Actor,
         carry: &TimerCarry,
-    ) -> Option<(Status, u64, u32)>
+    ) -> Option<(Status, u64, u64)>
         requires belongs { Belongs desk.now self.old }
         requires may { MayLoadTimer desk.now self.old by carry.now }
         ensures belongs { Belongs desk.now self.new }

@@ -1,10 +1,12 @@
 -- Which values have a word, and which numbers are words.
 
-use Rattle.std.specs.Prelude.{◌≡◌, ◌⊎◌, ℕ, ℤ, pos, ◌≤◌, ◌+ℤ◌, ◌≤ℤ◌, Bool, FitsSigned}
+use Rattle.std.specs.Prelude.{◌≡◌, ◌⊎◌, ℕ, ℤ, pos, ◌<◌, ◌≤◌, ◌%◌, ◌+ℤ◌, ◌≤ℤ◌, Bool, FitsSigned}
 use Rattle.std.specs.Int.{w64}
 use Rattle.ert_defs.specs.Lines.{IsOffset}
+use Rattle.ert_defs.specs.Timers.{use_of}
 use Rattle.ert_defs.specs.Words.{time_word, offset_word, timer_word}
 use Rattle.ert_defs.specs.declared.timer.Status.{Status}
+use Rattle.ert_defs.specs.declared.timer.Status.TheVariants.{Armed}
 
 -- a time that has a word: from the start time to the last millisecond that a deadline can name
 pub record IsTime (now start : ℤ) : Type 0 where
@@ -29,7 +31,15 @@ pub record IsOffsetWord (word : ℕ) : Type 0 where
 pub record IsTimer (deadline generation : ℕ) : Type 0 where
   pub deadline_high : deadline ≤ 8796093022207
   pub generation_low : 1 ≤ generation
-  pub generation_high : generation ≤ 262143
+  -- it is of its slot's first round, or of a later one, and then it tells the deadline
+  pub generation_first : generation < 8796093022208 → generation ≤ 262143
+  pub generation_tells : 8796093022208 ≤ generation → generation % 8796093022208 ≡ deadline
+  pub generation_high : generation < 2305843009213693952
+
+-- what a word shows of a generation: that of a timer that isn't armed is its use alone
+abbrev pub shown_generation : Status → ℕ → ℕ
+shown_generation Armed generation = generation
+shown_generation _ generation = use_of generation
 
 -- the word of some timer
 pub record IsUsedWord (word : ℕ) : Type 0 where

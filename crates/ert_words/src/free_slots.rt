@@ -44,7 +44,7 @@ impl FreeSlots {
         }
     }
 
-    /// Takes one slot out; None exactly where none is held.
+    /// Takes the slot out that was put in last; None exactly where none is held.
     pub fn pick(&mut self) -> Option<u32>
         ensures none { IsNone result ↔ (self.old.held ≡ set.empty) }
         ensures unchanged { IfNone result (self.new ≡ self.old) }
@@ -54,6 +54,25 @@ impl FreeSlots {
         ensures in_range { IfSome result (λ slot. slot < self.old.slots) }
     {
         self.held.pop()
+    }
+
+    /// Takes the slot out that lies at the bottom, where [`FreeSlots::pick`] takes the one on top; the one on
+    /// top goes to the bottom in its place. None exactly where none is held.
+    ///
+    /// Both take constant time. Where long waits take from the bottom and short ones from the top, the slots
+    /// that short waits use again and again have had no long ones, and needn't rest for those.
+    pub fn pick_first(&mut self) -> Option<u32>
+        ensures none { IsNone result ↔ (self.old.held ≡ set.empty) }
+        ensures unchanged { IfNone result (self.new ≡ self.old) }
+        ensures held { IfSome result (λ slot. set.contains self.old.held slot ≡ true) }
+        ensures taken { IfSome result (λ slot.
+            self.new ≡ record self.old { held = set.remove self.old.held slot }) }
+        ensures in_range { IfSome result (λ slot. slot < self.old.slots) }
+    {
+        if self.held.is_empty() {
+            return None;
+        }
+        Some(self.held.swap_remove(0))
     }
 
     /// Adds a slot that isn't held.

@@ -1,9 +1,9 @@
 ghost use Rattle.std.specs.Prelude.{◌≡◌, ◌↔◌, ℕ, IsNone, IfSome};
 ghost use Rattle.ert_defs.specs.declared.timer.Status.{Status};
-ghost use Rattle.ert_words.specs.Ranges.{IsTimer, IsTimerWord};
+ghost use Rattle.ert_words.specs.Ranges.{IsTimer, IsTimerWord, shown_generation};
 ghost use Rattle.ert_defs.specs.Words as words;
 
-use ert_defs::Status;
+use ert_defs::{FIRST_LATER_GENERATION, Status, use_of};
 
 /// The place of the deadline: the status is below it.
 const DEADLINE: u64 = 1 << 3;
@@ -11,35 +11,44 @@ const DEADLINE: u64 = 1 << 3;
 /// The place of the generation: status and deadline are below it.
 const GENERATION: u64 = 1 << 46;
 
+/// The status of a timer that is armed in a later round of its slot.
+const ARMED_LATER: u64 = 7;
+
 /// The word of a slot that was used: the status of its last timer, the deadline of that in milliseconds
-/// after the start, 0 to 2^43 - 1, and its generation, 1 to 262143.
-pub fn timer_word(status: Status, deadline: u64, generation: u32) -> u64
+/// after the start, 0 to 2^43 - 1, and which use of its round it is, 1 to 262143.
+pub fn timer_word(status: Status, deadline: u64, generation: u64) -> u64
     requires { IsTimer deadline generation }
     ensures { result ≡ words.timer_word status deadline generation }
 {
-    code_of(status) + DEADLINE * deadline + GENERATION * generation as u64
+    code_of(status, generation) + DEADLINE * deadline + GENERATION * use_of(generation)
 }
 
-/// The status, deadline and generation of a slot's word; None exactly where the slot was never used.
-pub fn timer_of(word: u64) -> Option<(Status, u64, u32)>
+/// The status and deadline of a slot's word, and what it shows of the generation: all of it where the timer
+/// is armed, and else which use of its round it is. None exactly where the slot was never used.
+pub fn timer_of(word: u64) -> Option<(Status, u64, u64)>
     requires { IsTimerWord word }
     ensures idle { IsNone result ↔ (word ≡ 0) }
     ensures unpacks { (status : Status) (deadline generation : ℕ) → IsTimer deadline generation
         → word ≡ words.timer_word status deadline generation
-        → result ≡ Some (status, deadline, generation) }
+        → result ≡ Some (status, deadline, shown_generation status generation) }
     ensures packs { IfSome result (λ timer. word ≡ words.timer_word timer.0 timer.1 timer.2) }
     ensures in_range { IfSome result (λ timer. IsTimer timer.1 timer.2) }
 {
-    let status = status_of(word % DEADLINE)?;
+    let code = word % DEADLINE;
+    let status = status_of(code)?;
     let deadline = word / DEADLINE % (GENERATION / DEADLINE);
-    Some((status, deadline, (word / GENERATION) as u32))
+    if code == ARMED_LATER {
+        return Some((status, deadline, word / DEADLINE));
+    }
+    Some((status, deadline, word / GENERATION))
 }
 
-fn code_of(status: Status) -> u64
-    ensures { result ≡ words.status_code status }
+fn code_of(status: Status, generation: u64) -> u64
+    ensures { result ≡ words.status_code status generation }
 {
     match status {
-        Status::Armed => 1,
+        Status::Armed if generation < FIRST_LATER_GENERATION => 1,
+        Status::Armed => ARMED_LATER,
         Status::Expired => 2,
         Status::Delivered => 3,
         Status::Cancelled => 4,
@@ -49,11 +58,11 @@ fn code_of(status: Status) -> u64
 }
 
 fn status_of(code: u64) -> Option<Status>
-    ensures known { (status : Status) → code ≡ words.status_code status → result ≡ Some status }
+    ensures known { (status : Status) (generation : ℕ) → code ≡ words.status_code status generation → result ≡ Some status }
     ensures unknown { code ≡ 0 → IsNone result }
 {
     match code {
-        1 => Some(Status::Armed),
+        1 | ARMED_LATER => Some(Status::Armed),
         2 => Some(Status::Expired),
         3 => Some(Status::Delivered),
         4 => Some(Status::Cancelled),

@@ -1,8 +1,9 @@
-use Rattle.std.proofs.Common.{pos, List, [], ◌∷◌, ◌++◌, Some, None, Ok, refl, rules}
+use Rattle.std.proofs.Common.{◌≡◌, ◌∙◌, pos, List, [], ◌∷◌, ◌++◌, Some, None, Ok, refl, rules, sym, ap, subst, append_assoc}
 use Rattle.ert_answers.specs.Chains.{HasServed, ServesAll, AdvancesWheel, HasDelivered}
 use Rattle.ert_answers.specs.Ways.{alone}
-use Rattle.ert_answers.specs.Worked.{one, request, asked, serving, idling, advancing, delivering}
+use Rattle.ert_answers.specs.Worked.{one, request, asked, serving, idling, advancing, delivering, turning}
 use Rattle.ert_answers.specs.declared.answers.Handed.TheVariants.{Put}
+use Rattle.ert_defs.specs.States.{state}
 use Rattle.ert_defs.specs.Timers.{Row}
 use Rattle.ert_defs.specs.Worked.{timer, by_sched}
 use Rattle.ert_defs.specs.declared.entry.Actor.TheVariants.{Inbox, MailOf}
@@ -79,3 +80,16 @@ returns-clause-done c = record {
   one = all_served;
   other = record { before = advancing; after = delivering; joined = refl; one = advanced; other = delivered };
 }
+
+-- a turn that leaves the delivery has a timer waiting at its end
+pub returns-clause-undelivered : goal.returns-clause-undelivered
+returns-clause-undelivered c turns =
+    let rest = turns.other in
+    let parts : turning ≡ turns.before ++ (rest.before ++ rest.after) = turns.joined ∙ ap (λ x. turns.before ++ x) rest.joined in
+    let whole : ((asked ++ turns.before) ++ rest.before) ++ rest.after ≡ asked ++ turning =
+    append_assoc (asked ++ turns.before) rest.before rest.after
+    ∙ (append_assoc asked turns.before (rest.before ++ rest.after) ∙ ap (λ x. asked ++ x) (sym parts)) in
+    let waits : ((state one (asked ++ turning)).scheds 0).fired ≡ row ∷ [] = refl in
+    let none : ((state one (asked ++ turning)).scheds 0).fired ≡ [] =
+    subst (λ h. ((state one h).scheds 0).fired ≡ []) whole rest.other.done in
+    absurd (cc (sym waits ∙ none))

@@ -14,7 +14,7 @@ pub timer_word-word-requires : goal.timer_word-word-requires
 timer_word-word-requires g c =
     let desk = c.args.desk.now in
     let v = c.args.self.now.seat.me.0 in
-    arm_is desk.settings v c.args.by c.args.timer c.args.start.now ((state desk.settings v.front).looked (Caller c.args.by)) c.args.deadline
+    arm_is desk.settings v c.args.by c.args.timer c.args.start.now c.args.deadline c.requires.belongs.named c.args.self.now.legal
     c.requires.may c.requires.deadline
 
 pub store-requires : goal.store-requires
