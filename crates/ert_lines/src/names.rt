@@ -13,7 +13,7 @@ use std::collections::BTreeMap;
 #[derive(Drop)]
 pub struct Names {
     references: BTreeMap<u32, TimerRef>,
-    labels: BTreeMap<(u32, u32, u32), u32>,
+    labels: BTreeMap<(u32, u32, u64), u32>,
 }
 
 impl Names {
@@ -87,7 +87,7 @@ impl Names {
 }
 
 // The key of a reference.
-fn key_of(timer: &TimerRef) -> (u32, u32, u32)
+fn key_of(timer: &TimerRef) -> (u32, u32, u64)
     ensures { result ≡ key_of timer.now }
 {
     (timer.wheel, timer.slot, timer.generation)

@@ -207,8 +207,8 @@ stands_handed g v w fired how m n dest held stands steps process has delivered =
 
 -- one more is counted in 64 bits
 pub count_fits : (g : Settings) (v w : View) (fired : Row) (m : Mailbox) → IsChecked g → fired.dest ≡ m.process
-    → is_held v.actors (MailOf m.process) ≡ true → Stands g v.front m → IsHanded g v fired Put w → m.delivered + 1 ≤ 1099511627776
+    → is_held v.actors (MailOf m.process) ≡ true → Stands g v.front m → IsHanded g v fired Put w → m.delivered + 1 ≤ 576460752303423488
 count_fits g v w fired m checked dest held stands steps =
     let p = m.process in
     let count = deliveries_after g v (handed_entries fired.timer.wheel fired Put) w p held steps.call in
-    omega (arith, stands.delivered, count, handed_count fired.timer.wheel p fired Put dest, deliveries_few g w.front p checked steps.call.legal)
+    omega (arith, stands.delivered, count, handed_count fired.timer.wheel p fired Put dest, deliveries_few g w.front p stands.in_range checked steps.call.legal)

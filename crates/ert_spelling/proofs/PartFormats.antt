@@ -25,8 +25,8 @@ reading = record {
 pub timer : IsFormat timer_words FitsTimer timer_at
 unfolding timer_at
 timer = record {
-  gives = then-gives small [] _ (λ wheel f. then-gives small _ _ (λ slot g. then-gives small _ _ (λ generation h. done-gives _ _ refl (f, g, h))));
-  again = λ t rest f. then-again small _ t.wheel _ _ f.0 (then-again small _ t.slot _ _ f.1 (then-again small _ t.generation rest _ f.2 refl));
+  gives = then-gives small [] _ (λ wheel f. then-gives small _ _ (λ slot g. then-gives natural _ _ (λ generation h. done-gives _ _ refl (f, g, h))));
+  again = λ t rest f. then-again small _ t.wheel _ _ f.0 (then-again small _ t.slot _ _ f.1 (then-again natural _ t.generation rest _ f.2 refl));
 }
 
 when-again : (w : When) (rest : List Word) → FitsWhen w → when_at (when_words w ++ rest) ≡ Some (w, rest)

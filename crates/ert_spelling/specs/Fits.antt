@@ -44,7 +44,7 @@ FitsReading r = FitsInt r.mono × FitsInt r.sys
 
 -- the three numbers of a reference
 abbrev pub FitsTimer : TimerRef → Type 0
-FitsTimer t = Fits32 t.wheel × Fits32 t.slot × Fits32 t.generation
+FitsTimer t = Fits32 t.wheel × Fits32 t.slot × Fits64 t.generation
 
 -- when a timer is to expire
 abbrev pub FitsWhen : When → Type 0

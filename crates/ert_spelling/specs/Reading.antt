@@ -141,7 +141,7 @@ unfoldable pub timer_at : Reader TimerRef
 timer_at = do
   wheel ← small_at
   slot ← small_at
-  generation ← small_at
+  generation ← natural_at
   done (record { wheel = wheel; slot = slot; generation = generation })
 
 -- the words after which a time is read

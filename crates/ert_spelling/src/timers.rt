@@ -16,7 +16,7 @@ pub(crate) fn timer(words: Words) -> Option<(TimerRef, Words)>
 {
     let (wheel, words) = small(words)?;
     let (slot, words) = small(words)?;
-    let (generation, words) = small(words)?;
+    let (generation, words) = natural(words)?;
     Some((
         TimerRef {
             wheel,

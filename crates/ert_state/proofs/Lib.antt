@@ -5,4 +5,5 @@ mod MonitorLaws
 mod MoveLaws
 mod PairLaws
 mod PlaceLaws
+pub mod UseLaws
 pub mod WheelLaws

@@ -1,6 +1,6 @@
--- The laws of a wheel's timers: what arming and moving make of its rows, statuses and generations.
+-- The laws of a wheel's timers: what arming and moving make of its rows and statuses.
 
-use Rattle.std.proofs.Common.{◌≡◌, ◌≢◌, ◌∙◌, refl, sym, ap, inl, inr, arith, ℕ, ◌+◌, ◌<◌, ◌≤◌, Bool, true, false, cond, not, ◌&&◌, nat_eq, max, List, [], ◌∷◌, ◌++◌, Option, Some, None, eq-eqb, ne_eqb}
+use Rattle.std.proofs.Common.{◌≡◌, ◌≢◌, ◌∙◌, refl, sym, ap, inl, inr, ℕ, Bool, true, false, cond, not, ◌&&◌, nat_eq, List, [], ◌∷◌, ◌++◌, Option, Some, None, eq-eqb, ne_eqb}
 use Rattle.std.proofs.lemmas.Bool.{cases_Bool, cases_eq}
 use Rattle.std.proofs.lemmas.List.{map_push}
 use Rattle.std.proofs.lemmas.List.Elements.{All-map, All-push, All-weaker}
@@ -11,7 +11,7 @@ use Rattle.ert_defs.specs.Timers.{row_of, same_timer, settled_as, handed_as}
 use Rattle.ert_defs.specs.declared.timer.Status.{Status}
 use Rattle.ert_defs.specs.declared.timer.Status.TheVariants.{Armed, Expired, Delivered, Cancelled, Orphaned, Dropped}
 use Rattle.ert_defs.specs.declared.timer.TimerRef.{TimerRef}
-use Rattle.ert_state.specs.Wheels.{timer_in, rows_of, status_in, last_in, same_status, moved_one, moved, AreShown, IsOwnOf, IsOwn}
+use Rattle.ert_state.specs.Wheels.{timer_in, rows_of, status_in, same_status, moved_one, moved, AreShown, IsOwnOf, IsOwn}
 use Rattle.ert_state.specs.declared.wheels.Timer.{Timer}
 
 -- a function of a choice is the choice of its values
@@ -41,19 +41,13 @@ pub row_found : (ts : List Timer) (r : TimerRef) (t : Option Timer) → t ≡ ti
 row_found ts r t e = ap (option_map (λ (u : Timer). u.row)) e ∙ sym (row_of_rows ts r)
 
 -- a move leaves a timer's row
-moved_row : (r : TimerRef) (from to : Status) (t : Timer) → (moved_one r from to t).row ≡ t.row
+pub moved_row : (r : TimerRef) (from to : Status) (t : Timer) → (moved_one r from to t).row ≡ t.row
 moved_row r from to t = row_at (same_timer t.row.timer r && same_status t.status from) to t
 
 -- a move leaves the rows
 pub rows_moved : (r : TimerRef) (from to : Status) (ts : List Timer) → rows_of (moved r from to ts) ≡ rows_of ts
 rows_moved r from to [] = refl
 rows_moved r from to (t ∷ ts) = rw (moved_row r from to t, rows_moved r from to ts) refl
-
--- a move leaves the last generation of each slot
-pub last_moved : (r : TimerRef) (from to : Status) (ts : List Timer) (k : ℕ)
-    → last_in (moved r from to ts) k ≡ last_in ts k
-last_moved r from to [] k = refl
-last_moved r from to (t ∷ ts) k = rw (moved_row r from to t, last_moved r from to ts k) refl
 
 nat_eq_sym : (a b : ℕ) → nat_eq a b ≡ nat_eq b a
 nat_eq_sym a b = elim (cases_eq a b) [
@@ -120,55 +114,6 @@ status_handed ts r q to = status_moved r q Expired to ts ∙ handed_is (same_tim
 -- a timer that is armed puts its row last
 pub rows_armed : (ts : List Timer) (t : Timer) → rows_of (ts ++ t ∷ []) ≡ rows_of ts ++ t.row ∷ []
 rows_armed ts t = map_push (λ (u : Timer). u.row) ts t
-
-last_first : (b : Bool) (n : ℕ) → cond b (max n 0) 0 ≡ cond b (max 0 n) 0
-last_first true n = omega arith
-last_first false n = refl
-
-last_more : (b c : Bool) (m n l : ℕ)
-    → cond c (max m (cond b (max l n) l)) (cond b (max l n) l) ≡ cond b (max (cond c (max m l) l) n) (cond c (max m l) l)
-last_more true true m n l = omega arith
-last_more true false m n l = refl
-last_more false c m n l = refl
-
--- the last generation of a slot where there is one more timer
-pub last_push : (ts : List Timer) (t : Timer) (k : ℕ)
-    → last_in (ts ++ t ∷ []) k ≡ cond (nat_eq t.row.timer.slot k) (max (last_in ts k) t.row.timer.generation) (last_in ts k)
-last_push [] t k = last_first (nat_eq t.row.timer.slot k) t.row.timer.generation
-last_push (u ∷ ts) t k =
-    rw (last_push ts t k)
-    (last_more (nat_eq t.row.timer.slot k) (nat_eq u.row.timer.slot k) u.row.timer.generation t.row.timer.generation (last_in ts k))
-
--- a timer of the next generation has the last one of its slot
-pub last_armed : (ts : List Timer) (t : Timer) (k : ℕ)
-    → t.row.timer.generation ≡ last_in ts t.row.timer.slot + 1
-    → last_in (ts ++ t ∷ []) k ≡ cond (nat_eq t.row.timer.slot k) t.row.timer.generation (last_in ts k)
-last_armed ts t k next = last_push ts t k ∙ elim (cases_eq t.row.timer.slot k) [
-  | inl is ↦
-      let here : last_in ts t.row.timer.slot ≡ last_in ts k = ap (last_in ts) is in
-      let most : max (last_in ts k) t.row.timer.generation ≡ t.row.timer.generation = omega arith in
-      rw (eq-eqb t.row.timer.slot k is) most
-  | inr not ↦ rw (ne_eqb t.row.timer.slot k not) refl
-]
-
-last_low : (b : Bool) (n l : ℕ) → l ≤ cond b (max n l) l
-last_low true n l = omega arith
-last_low false n l = omega arith
-
--- a reference past the last generation of its slot names no timer
-pub new_is_unknown : (ts : List Timer) (r : TimerRef) → last_in ts r.slot < r.generation → timer_in ts r ≡ None
-new_is_unknown [] r past = refl
-new_is_unknown (t ∷ ts) r past = elim (cases_Bool (same_timer t.row.timer r)) [
-  | inl is ↦
-      let same = same_timer-true t.row.timer r is in
-      let slot : t.row.timer.slot ≡ r.slot = ap (λ (q : TimerRef). q.slot) same in
-      let generation : t.row.timer.generation ≡ r.generation = ap (λ (q : TimerRef). q.generation) same in
-      let most = rw (eq-eqb t.row.timer.slot r.slot slot) at past in
-      absurd (omega arith)
-  | inr is ↦
-      let low = last_low (nat_eq t.row.timer.slot r.slot) t.row.timer.generation (last_in ts r.slot) in
-      rw is (new_is_unknown ts r (omega (arith, low, past)))
-]
 
 -- where a list names no timer for a reference, neither its first nor the rest has it
 none_behind : (b : Bool) (t : Timer) (x : Option Timer) → cond b (Some t) x ≡ None → (b ≡ false) × (x ≡ None)

@@ -1,5 +1,5 @@
--- What finds the timers of a wheel: the place of each by its slot and generation, the last generation of each
--- slot, and the armed ones by deadline and then by place.
+-- What finds the timers of a wheel: the place of each by its slot and generation, the uses of each slot,
+-- and the armed ones by deadline and then by place.
 
 use Rattle.std.specs.Prelude.{◌≡◌, ℕ, ◌+◌, slice_get, Bool, true, false, cond, ◌&&◌, nat_eq, nat_le, nat_lt, List, get_or, take, drop, Option, Some, None}
 use Rattle.std.specs.BTreeMap.{BTreeMap, get, is_at}
@@ -8,7 +8,9 @@ use Rattle.std.specs.Ordering.{nat_cmp, ordering_then}
 use Rattle.std.specs.declared.cmp.Ordering.{Ordering}
 use Rattle.ert_defs.specs.Laws.{is_armed}
 use Rattle.ert_defs.specs.declared.timer.TimerRef.{TimerRef}
-use Rattle.ert_state.specs.Wheels.{last_in, is_settled}
+use Rattle.ert_state.specs.Uses.{uses_of, none_kept, uses_in}
+use Rattle.ert_state.specs.Wheels.{is_settled}
+use Rattle.ert_state.specs.declared.uses.Uses.{Uses as KeptUses}
 use Rattle.ert_state.specs.declared.wheels.Timer.{Timer}
 
 -- the order of pairs of numbers: by the first, then by the second
@@ -29,11 +31,11 @@ PutsPlace m n k g p =
 abbrev pub Sets : BTreeSet (ℕ × ℕ) → BTreeSet (ℕ × ℕ) → ℕ → ℕ → Bool → Type 0
 Sets s n d p has = (q : ℕ × ℕ) → contains pair_cmp n q ≡ cond (is_at (pair_cmp (d, p)) q) has (contains pair_cmp s q)
 
--- what finds the timers of a wheel fits them: the place of each, the last of each slot, and which are armed
-pub record IsIndexed (ts : List Timer) (places : BTreeMap (ℕ × ℕ) ℕ) (generations : List ℕ) (armed : BTreeSet (ℕ × ℕ)) : Type 0 where
+-- what finds the timers of a wheel fits them: the place of each, the uses of each slot, and which are armed
+pub record IsIndexed (ts : List Timer) (places : BTreeMap (ℕ × ℕ) ℕ) (slots : List KeptUses) (armed : BTreeSet (ℕ × ℕ)) : Type 0 where
   pub placed : (p : ℕ) (t : Timer) → slice_get ts p ≡ Some t
       → get pair_cmp places (t.row.timer.slot, t.row.timer.generation) ≡ Some p
-  pub last : (k : ℕ) → get_or generations k 0 ≡ last_in ts k
+  pub uses : (k : ℕ) → uses_of (get_or slots k none_kept) ≡ uses_in ts k
   pub waits : (d p : ℕ) → contains pair_cmp armed (d, p) ≡ is_armed_for (slice_get ts p) d
 
 -- no timer has a reference

@@ -1,7 +1,7 @@
 -- The parts that a judge keeps, and how each goes on by an event. A part is a list of cells, and a cell
 -- past its end is as at the opening.
 
-use Rattle.std.specs.Prelude.{ℕ, ℤ, Bool, true, false, cond, ◌<◌, List, [], ◌∷◌, ◌++◌, ◌+◌, get_or, set, map, replicate, Option, Some, None}
+use Rattle.std.specs.Prelude.{ℕ, ℤ, Bool, true, false, cond, List, [], ◌∷◌, ◌++◌, ◌+◌, get_or, set, map, replicate, Option, Some, None}
 use Rattle.ert_defs.specs.Mails.{MailState, SchedState, no_mail, idle_sched, mail_after, inbox_after, sched_after, is_about, with_row, Monitor, message_in, answer_in, without, changes_of, told_of}
 use Rattle.ert_defs.specs.Timers.{Row, row_from}
 use Rattle.ert_defs.specs.declared.entry.Actor.{Actor}
@@ -14,7 +14,8 @@ use Rattle.ert_defs.specs.declared.timer.Start.{Start}
 use Rattle.ert_defs.specs.declared.timer.Status.{Status}
 use Rattle.ert_defs.specs.declared.timer.Status.TheVariants.{Armed, Expired, Delivered, Cancelled, Orphaned, Dropped}
 use Rattle.ert_defs.specs.declared.timer.TimerRef.{TimerRef}
-use Rattle.ert_state.specs.Wheels.{timers_at, last_in, rows_of, status_in, moved}
+use Rattle.ert_state.specs.Uses.{IsNewUse}
+use Rattle.ert_state.specs.Wheels.{timers_at, rows_of, status_in, moved}
 use Rattle.ert_state.specs.declared.looks.Looks.{Looks}
 use Rattle.ert_state.specs.declared.mailboxes.Monitor.{Monitor as KeptMonitor}
 use Rattle.ert_state.specs.declared.wheels.Timer.{Timer}
@@ -84,11 +85,11 @@ with_moved r from to ws = set ws r.wheel (moved r from to (timers_at ws r.wheel)
 abbrev pub armed : Row → Timer
 armed row = record { row = row; status = Armed }
 
--- the wheels after a timer was armed, where it has a deadline
+-- the wheels after a timer was armed, where its start has a deadline
 abbrev pub with_armed : TimerRef → Start → Option ℕ → List (List Timer) → List (List Timer)
 with_armed r start deadline ws = set ws r.wheel (timers_at ws r.wheel ++ map armed (row_from r start deadline))
 
--- and after any event, where a timer that is armed by it gets this deadline
+-- and after any event, where a timer that is armed by it was started for this deadline
 abbrev pub timers_after : Option ℕ → Event → List (List Timer) → List (List Timer)
 timers_after deadline (Arm timer start) ws = with_armed timer start deadline ws
 timers_after deadline (Cancel timer left) ws = with_moved timer Armed Cancelled ws
@@ -98,9 +99,9 @@ timers_after deadline (Deliver timer) ws = with_moved timer Expired Delivered ws
 timers_after deadline (Drop timer) ws = with_moved timer Expired Dropped ws
 timers_after deadline _ ws = ws
 
--- a timer that an event arms has a later generation than the last of its slot
+-- a timer that an event arms has a generation that no timer of its slot has
 abbrev pub ArmsNew : Event → List (List Timer) → Type 0
-ArmsNew (Arm timer start) ws = last_in (timers_at ws timer.wheel) timer.slot < timer.generation
+ArmsNew (Arm timer start) ws = IsNewUse (timers_at ws timer.wheel) timer.slot timer.generation
 ArmsNew _ ws = Unit {0}
 
 -- what a scheduler has

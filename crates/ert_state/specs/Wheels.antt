@@ -1,6 +1,6 @@
 -- The timers that a judge keeps, and the part of the model's state that they are.
 
-use Rattle.std.specs.Prelude.{◌≡◌, ℕ, ℤ, pos, ◌<◌, ◌≤ℤ◌, ◌+◌, slice_get, Bool, true, false, cond, not, ◌&&◌, nat_eq, nat_le, nat_lt, max, All, List, [], ◌∷◌, map, get_or, length, take, drop, Option, Some, None, option_map}
+use Rattle.std.specs.Prelude.{◌≡◌, ℕ, ℤ, pos, ◌<◌, ◌≤ℤ◌, ◌+◌, slice_get, Bool, true, false, cond, not, ◌&&◌, nat_le, nat_lt, All, List, [], ◌∷◌, map, get_or, length, take, drop, Option, Some, None, option_map}
 use Rattle.ert_defs.specs.Laws.{is_armed}
 use Rattle.ert_defs.specs.Timers.{Row, same_timer}
 use Rattle.ert_defs.specs.declared.timer.Status.{Status}
@@ -20,11 +20,6 @@ rows_of ts = map (λ t. t.row) ts
 -- the status of a reference
 abbrev pub status_in : List Timer → TimerRef → Option Status
 status_in ts r = option_map (λ t. t.status) (timer_in ts r)
-
--- the last generation of a slot, 0 where there is none
-abbrev pub last_in : List Timer → ℕ → ℕ
-last_in [] k = 0
-last_in (t ∷ ts) k = cond (nat_eq t.row.timer.slot k) (max t.row.timer.generation (last_in ts k)) (last_in ts k)
 
 -- whether none of these timers whose deadline passes the test is armed
 abbrev pub is_settled : (ℕ → Bool) → List Timer → Bool

@@ -5,7 +5,7 @@
 //! the mailboxes, the inboxes and the schedulers. A part stands for a list of cells, one for each number in
 //! range, and its `follow` says exactly which list it becomes (`specs/Parts`). Queues are taken off at the
 //! front. A wheel's timers stand in order of arming, and beside them what finds them (`specs/Indexes`): the
-//! place of each by slot and generation, the last generation of each slot, and the armed ones in order of
+//! place of each by slot and generation, the uses of each slot, and the armed ones in order of
 //! deadline and then of arming. So an entry takes time that grows with the logarithm of what stands, but for
 //! the at most 64 monitors of a process. It stands on `ert_defs`, and on the numbers of `ert_clock`.
 #![tactic(auto)]
@@ -19,6 +19,7 @@ mod mailboxes;
 mod milliseconds;
 mod schedulers;
 mod timers;
+mod uses;
 mod wheels;
 
 pub use clock::Clock;
@@ -26,7 +27,8 @@ pub use exits::Exits;
 pub use inboxes::Inboxes;
 pub use looks::Looks;
 pub use mailboxes::Mailboxes;
-pub use milliseconds::{deadline_of, down, left};
+pub use milliseconds::{deadline_of, down, left, passed};
 pub use schedulers::Schedulers;
 pub use timers::Timers;
+pub use uses::Uses;
 pub use wheels::Timer;

@@ -14,6 +14,14 @@ pub fn down(settings: &Settings, time: i64) -> i128
     millionth(time as i128 - settings.start as i128)
 }
 
+/// The whole milliseconds that have passed from the start time to a time; 0 before the start time.
+pub fn passed(settings: &Settings, time: i64) -> u128
+    ensures { result ≡ milliseconds.natural (milliseconds.down settings.now time) }
+{
+    let passed = down(settings, time);
+    if passed < 0 { 0 } else { passed as u128 }
+}
+
 /// The milliseconds from the start time to a time, rounded up.
 fn up(settings: &Settings, time: i64) -> i128
     ensures value { result ≡ milliseconds.up settings.now time }

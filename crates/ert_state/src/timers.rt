@@ -1,3 +1,4 @@
+use crate::uses::{Uses, deadline_told};
 use crate::wheels::{Timer, Wheel};
 use ert_defs::{Event, Fired, NoMemory, Start, Status, TimerRef};
 use std::alloc::Global;
@@ -19,9 +20,10 @@ impl Model for Timers {
 }
 
 impl Timers {
-    ghost use Rattle.std.specs.Prelude.{◌≡◌, ◌≢◌, ◌<◌, ◌↔◌, IfOk, OnOk, IsTrue, replicate, [], true, nat_le};
+    ghost use Rattle.std.specs.Prelude.{◌≡◌, ◌≢◌, ◌≤◌, ◌↔◌, IfOk, IfSome, OnOk, IsTrue, replicate, [], true, nat_le, length};
     ghost use Rattle.ert_defs.specs.Timers.{row_of};
-    ghost use Rattle.ert_state.specs.Wheels.{timers_at, timer_in, last_in, is_settled, IsFirstDue};
+    ghost use Rattle.ert_state.specs.Wheels.{timers_at, timer_in, is_settled, IsFirstDue};
+    ghost use Rattle.ert_state.specs.Uses.{uses_of, uses_in, IsNewUse};
     ghost use Rattle.ert_state.specs.Parts.{status_at, rows_in, timers_after, with_moved, with_armed, ArmsNew};
 
     /// So many wheels with no timers.
@@ -58,13 +60,23 @@ impl Timers {
         Some(self.find(timer)?.status)
     }
 
-    /// The last generation of a slot, 0 where there is none.
-    pub fn last(&self, wheel: u32, slot: u32) -> u32
-        ensures { result ≡ last_in (timers_at self.now wheel) slot }
+    /// How many timers a wheel has had.
+    pub fn count(&self, wheel: u32) -> usize
+        ensures { result ≡ length (timers_at self.now wheel) }
     {
         match self.wheels.get(wheel as usize) {
-            Some(timers) => timers.last(slot),
+            Some(timers) => timers.count(),
             None => 0,
+        }
+    }
+
+    /// The uses of a slot.
+    pub fn uses(&self, wheel: u32, slot: u32) -> Uses
+        ensures { uses_of result ≡ uses_in (timers_at self.now wheel) slot }
+    {
+        match self.wheels.get(wheel as usize) {
+            Some(timers) => timers.uses(slot),
+            None => Uses::none(),
         }
     }
 
@@ -88,10 +100,11 @@ impl Timers {
         }
     }
 
-    /// Goes on by an event. A timer that is armed by it gets this deadline, and has a later generation than
-    /// the last of its slot.
+    /// Goes on by an event. A timer that is armed by it was started for this deadline, and no timer of its
+    /// slot has its generation.
     pub fn follow(&mut self, event: &Event, deadline: Option<u64>) -> Result<(), NoMemory>
-        requires { ArmsNew event.now self.old }
+        requires new { ArmsNew event.now self.old }
+        requires low { IfSome deadline (λ d. d ≤ 8796093022207) }
         ensures { OnOk result (self.new ≡ timers_after deadline event.now self.old) }
     {
         match *event {
@@ -130,17 +143,18 @@ impl Timers {
         }
     }
 
-    /// Arms a timer, where it has a deadline.
+    /// Arms a timer, where its start has a deadline.
     fn arm(&mut self, timer: TimerRef, start: Start, deadline: Option<u64>) -> Result<(), NoMemory>
-        requires { last_in (timers_at self.old timer.wheel) timer.slot < timer.generation }
+        requires new { IsNewUse (timers_at self.old timer.wheel) timer.slot timer.generation }
+        requires low { IfSome deadline (λ d. d ≤ 8796093022207) }
         ensures { OnOk result (self.new ≡ with_armed timer start deadline self.old) }
     {
-        let Some(deadline) = deadline else {
+        let Some(wanted) = deadline else {
             return Ok(());
         };
         let row = Fired {
             timer,
-            deadline,
+            deadline: deadline_told(timer.generation, wanted),
             dest: start.dest,
             msg: start.msg,
             kind: start.kind,

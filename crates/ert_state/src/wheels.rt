@@ -1,7 +1,9 @@
 ghost use Rattle.std.specs.Prelude.{◌≡◌, ◌↔◌, ◌<◌, ◌≤ℤ◌, ℕ, pos, IsTrue, true, OnOk, OnErr, get_or, length};
 ghost use Rattle.ert_state.specs.Indexes.{PutsPlace, Sets};
+ghost use Rattle.ert_state.specs.Uses.{none_kept};
 
 use crate::lists::push;
+use crate::uses::Uses;
 use ert_defs::{Fired, NoMemory, Status, TimerRef};
 use std::alloc::Global;
 use std::collections::{BTreeMap, BTreeSet};
@@ -20,9 +22,9 @@ pub struct Wheel {
     timers: Vec<Timer>,
     /// The place of each timer, by its slot and its generation. A place may stand here for which there was
     /// no memory for the timer itself.
-    places: BTreeMap<(u32, u32), usize>,
-    /// The last generation of each slot, 0 where there is none.
-    generations: Vec<u32>,
+    places: BTreeMap<(u32, u64), usize>,
+    /// The uses of each slot. A slot past the end had no timer.
+    slots: Vec<Uses>,
     /// The deadline and the place of each armed timer.
     armed: BTreeSet<(u64, usize)>,
 }
@@ -36,12 +38,13 @@ impl Model for Wheel {
 
     ghost view = { λ w. w.timers.items };
 
-    ghost invariant = { λ w. IsIndexed w.timers.items w.places w.generations.items w.armed };
+    ghost invariant = { λ w. IsIndexed w.timers.items w.places w.slots.items w.armed };
 }
 
 impl Wheel {
-    ghost use Rattle.std.specs.Prelude.{◌≡◌, ◌≢◌, ◌<◌, ◌++◌, ◌∷◌, [], OnOk, OnErr, MatchOption, slice_get, ◌↔◌, IsTrue, nat_le};
-    ghost use Rattle.ert_state.specs.Wheels.{timer_in, last_in, is_settled, moved, IsFirstDue};
+    ghost use Rattle.std.specs.Prelude.{◌≡◌, ◌≢◌, ◌≤◌, ◌++◌, ◌∷◌, [], OnOk, OnErr, MatchOption, slice_get, length, ◌↔◌, IsTrue, nat_le};
+    ghost use Rattle.ert_state.specs.Wheels.{timer_in, is_settled, moved, IsFirstDue};
+    ghost use Rattle.ert_state.specs.Uses.{uses_of, uses_in, IsNewUse};
     ghost use Rattle.ert_state.specs.Indexes.{IsUnknown, StandsAt, HasNoneBefore};
 
     /// A wheel with no timers.
@@ -51,7 +54,7 @@ impl Wheel {
         Wheel {
             timers: Vec::new(alloc),
             places: BTreeMap::new(alloc),
-            generations: Vec::new(alloc),
+            slots: Vec::new(alloc),
             armed: BTreeSet::new(alloc),
         }
     }
@@ -77,13 +80,20 @@ impl Wheel {
         Some(found)
     }
 
-    /// The last generation of a slot, 0 where there is none.
-    pub fn last(&self, slot: u32) -> u32
-        ensures { result ≡ last_in self.now slot }
+    /// How many timers there are.
+    pub fn count(&self) -> usize
+        ensures { result ≡ length self.now }
     {
-        match self.generations.get(slot as usize) {
-            Some(generation) => *generation,
-            None => 0,
+        self.timers.len()
+    }
+
+    /// The uses of a slot.
+    pub fn uses(&self, slot: u32) -> Uses
+        ensures { uses_of result ≡ uses_in self.now slot }
+    {
+        match self.slots.get(slot as usize) {
+            Some(uses) => *uses,
+            None => Uses::none(),
         }
     }
 
@@ -119,10 +129,11 @@ impl Wheel {
         }
     }
 
-    /// Puts an armed timer last. It has a later generation than its slot's last; without memory for it the
-    /// timers stay as they were.
+    /// Puts an armed timer last. No timer of its slot has its generation, and its deadline is within the
+    /// limits; without memory for it the timers stay as they were.
     pub fn arm(&mut self, row: Fired) -> Result<(), NoMemory>
-        requires { last_in self.old row.timer.slot < row.timer.generation }
+        requires new { IsNewUse self.old row.timer.slot row.timer.generation }
+        requires low { row.deadline ≤ 8796093022207 }
         ensures armed { OnOk result (self.new ≡ self.old ++ (record { row = row; status = Status.Armed }) ∷ []) }
         ensures kept { OnErr result (self.new ≡ self.old) }
     {
@@ -131,12 +142,13 @@ impl Wheel {
             row,
             status: Status::Armed,
         };
-        make_room(&mut self.generations, row.timer.slot)?;
+        let uses = self.uses(row.timer.slot).with(&row);
+        make_room(&mut self.slots, row.timer.slot)?;
         put_place(&mut self.places, row.timer, place)?;
         push(&mut self.timers, timer)?;
         match put_armed(&mut self.armed, row.deadline, place) {
             Ok(()) => {
-                self.generations[row.timer.slot as usize] = row.timer.generation;
+                self.slots[row.timer.slot as usize] = uses;
                 Ok(())
             }
             Err(error) => {
@@ -168,21 +180,21 @@ fn is_due(timer: Timer, now: i128) -> bool
     timer.row.deadline as i128 <= now
 }
 
-/// Makes room for the generation of a slot.
-fn make_room(generations: &mut Vec<u32>, slot: u32) -> Result<(), NoMemory>
-    ensures room { OnOk result (slot < length generations.new.items) }
-    ensures kept { (k : ℕ) → get_or generations.new.items k 0 ≡ get_or generations.old.items k 0 }
+/// Makes room for the uses of a slot.
+fn make_room(slots: &mut Vec<Uses>, slot: u32) -> Result<(), NoMemory>
+    ensures room { OnOk result (slot < length slots.new.items) }
+    ensures kept { (k : ℕ) → get_or slots.new.items k none_kept ≡ get_or slots.old.items k none_kept }
 {
     let wanted = slot as usize + 1;
-    if generations.len() < wanted {
-        generations.resize(wanted, 0)?;
+    if slots.len() < wanted {
+        slots.resize(wanted, Uses::none())?;
     }
     Ok(())
 }
 
 /// Puts the place of a timer among those by slot and generation. Without memory these stay as they were.
 fn put_place(
-    places: &mut BTreeMap<(u32, u32), usize>,
+    places: &mut BTreeMap<(u32, u64), usize>,
     timer: TimerRef,
     place: usize,
 ) -> Result<(), NoMemory>

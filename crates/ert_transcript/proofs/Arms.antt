@@ -1,42 +1,54 @@
 -- A timer is armed: both services then differ in names alone, by the labels with one more.
 
-use Rattle.std.proofs.Common.{◌≡◌, ◌≢◌, ℕ, ℤ, suc, ◌+◌, ◌≤◌, Bool, true, false, cond, ◌&&◌, nat_eq, List, [], ◌∷◌, ◌++◌, Option, Some, None, refl, sym, ap, ◌∙◌, subst, arith, eq-eqb}
+use Rattle.std.proofs.Common.{◌≡◌, ◌≢◌, ℕ, ℤ, suc, ◌+◌, ◌<◌, ◌≤◌, Bool, true, false, cond, ◌&&◌, nat_eq, List, [], ◌∷◌, ◌++◌, length, length-append, append-nil, Option, Some, None, refl, sym, ap, ◌∙◌, subst, subst₂, arith, eq-eqb, eqb-true}
+use Rattle.std.proofs.lemmas.Bool.{and_parts}
 use Rattle.std.proofs.lemmas.Bool.Decides.{nat_tests}
 use Rattle.ert_defs.proofs.FiredTimers.{same_timer_self}
-use Rattle.ert_defs.proofs.Rows.{last_grows}
 use Rattle.ert_defs.proofs.Slots.{same_timer-true}
+use Rattle.ert_defs.proofs.Uses.{told_low}
 use Rattle.ert_defs.specs.Actors.{same_actor, has_actor}
 use Rattle.ert_defs.specs.Entries.{arm_entry}
 use Rattle.ert_defs.specs.Legal.{Can, IsSlot, names_timer}
 use Rattle.ert_defs.specs.Milliseconds.{deadline_of}
-use Rattle.ert_defs.specs.States.{State, next}
+use Rattle.ert_defs.specs.States.{State, uses_at, next}
 use Rattle.ert_defs.specs.Timers.{Row, same_timer, row_from, timer_at}
 use Rattle.ert_defs.specs.declared.entry.Actor.TheVariants.{Wheel, Caller}
-use Rattle.ert_defs.specs.declared.entry.Event.TheVariants.{Arm}
 use Rattle.ert_defs.specs.declared.settings.Settings.{Settings}
 use Rattle.ert_defs.specs.declared.timer.Start.{Start}
 use Rattle.ert_defs.specs.declared.timer.Status.TheVariants.{Armed}
 use Rattle.ert_defs.specs.declared.timer.TimerRef.{TimerRef}
 use Rattle.ert_transcript.proofs.Bound.{IsName, names_are, names_grow, new_name, name_before, name_is, IsFreeLabel, IsNewTimer}
+use Rattle.ert_transcript.proofs.FirstRounds.{first_round, one_more}
 use Rattle.ert_transcript.proofs.Meets.{AreUsed, IsUsed, Meets, kept_next, used_later}
 use Rattle.ert_transcript.proofs.Shown.{Names, Grows, Pairs, SameRow, Shows, both_if, pairs-append, rows_grow, requests_grow, mails_grow, sched_grows}
 use Rattle.ert_transcript.specs.Labels.{Labels, bind}
 
 -- the rows with one more
 
-row_from_same : (R : Names) (t m : TimerRef) (start : Start) (d : Option ℕ) → R t m → Pairs (SameRow R) (row_from t start d) (row_from m start d)
-row_from_same R t m start None named = tt
-row_from_same R t m start (Some d) named = (record { timer = named; deadline = refl; dest = refl; msg = refl; kind = refl }, tt)
+-- both have the deadline that was wanted, since both are of a first round
+row_from_same : (R : Names) (t m : TimerRef) (start : Start) (d : Option ℕ) → t.generation < 8796093022208 → m.generation < 8796093022208 → R t m
+    → Pairs (SameRow R) (row_from t start d) (row_from m start d)
+row_from_same R t m start None first other named = tt
+row_from_same R t m start (Some d) first other named = (
+  record {
+    timer = named;
+    deadline = told_low t.generation d first ∙ sym (told_low m.generation d other);
+    dest = refl;
+    msg = refl;
+    kind = refl;
+  },
+  tt,
+)
 
-rows_armed : (R : Names) (g : Settings) (t m : TimerRef) (start : Start) (look other : ℤ) (b c : Bool) (xs ys : List Row) → R t m → look ≡ other
-    → Pairs (SameRow R) xs ys
+rows_armed : (R : Names) (g : Settings) (t m : TimerRef) (start : Start) (look other : ℤ) (b c : Bool) (xs ys : List Row)
+    → t.generation < 8796093022208 → m.generation < 8796093022208 → R t m → look ≡ other → Pairs (SameRow R) xs ys
     → Pairs (SameRow R) (cond b (cond c (xs ++ row_from t start (deadline_of g start look)) xs) xs)
     (cond b (cond c (ys ++ row_from m start (deadline_of g start other)) ys) ys)
-rows_armed R g t m start look other b c xs ys named same h =
+rows_armed R g t m start look other b c xs ys first second named same h =
     let more : Pairs (SameRow R) (xs ++ row_from t start (deadline_of g start look)) (ys ++ row_from m start (deadline_of g start other)) =
     pairs-append (SameRow R) xs ys _ _ h
     (subst (λ (x : ℤ). Pairs (SameRow R) (row_from t start (deadline_of g start look)) (row_from m start (deadline_of g start x))) same
-    (row_from_same R t m start (deadline_of g start look) named)) in
+    (row_from_same R t m start (deadline_of g start look) first second named)) in
     both_if (Pairs (SameRow R)) b _ _ _ _ (both_if (Pairs (SameRow R)) c _ _ _ _ more h) h
 
 -- the statuses: the new timer is armed in both, and the others stay
@@ -63,6 +75,7 @@ other_status g s t r start other =
 -- what is asked of the new timer
 pub record IsNew (g : Settings) (ls : Labels) (l : ℕ) (t : TimerRef) : Type 0 where
   pub some : t.generation ≢ 0
+  pub first : t.generation ≤ 262143
   pub in_range : names_timer g t ≡ true
   pub free : IsFreeLabel l ls
   pub new : IsNewTimer t ls
@@ -104,7 +117,8 @@ shows_armed g ls l t start s c new h =
       clock = h.clock;
       looked = λ a. equal_if (same_actor (Caller 0) a) (s.looked a) (c.looked a) (h.looked a);
       exited = h.exited;
-      rows = λ w. rows_armed S g t m start (s.looked (Caller 0)) (c.looked (Caller 0)) (nat_eq t.wheel w) (nat_eq t.wheel w) (s.rows w) (c.rows w) own
+      rows = λ w. rows_armed S g t m start (s.looked (Caller 0)) (c.looked (Caller 0)) (nat_eq t.wheel w) (nat_eq t.wheel w) (s.rows w) (c.rows w)
+          (omega (arith, new.first)) (omega arith) own
           (h.looked (Caller 0)) (rows_grow R S grows (s.rows w) (c.rows w) (h.rows w));
       mails = λ p. mails_grow R S grows (s.mails p) (c.mails p) (h.mails p);
       inboxes = λ w. requests_grow R S grows (s.inboxes w) (c.inboxes w) (h.inboxes w);
@@ -140,30 +154,58 @@ last_high true true n last generation low high = high
 last_high true false n last generation low high = omega arith
 last_high false c n last generation low high = omega arith
 
-pub is_new : (g : Settings) (n : ℕ) (ls : Labels) (l : ℕ) (t : TimerRef) (start : Start) (s c : State) → IsFreeLabel l ls → Meets g n ls s c
+-- it is one more than the last of its slot, of which there were as many as ops at most
+next_timer : (g : Settings) (n : ℕ) (ls : Labels) (t : TimerRef) (start : Start) (s c : State) → n < 262143 → Meets g n ls s c
+    → Can g s (arm_entry 0 t start) → t.generation ≡ s.last t.wheel t.slot + 1
+next_timer g n ls t start s c few h can =
+    one_more (uses_at s t.wheel t.slot) _ can.known.wanted t.generation
+    (first_round (uses_at s t.wheel t.slot) (h.kept.ordered t.wheel t.slot).sound (omega (arith, h.lasts t.wheel t.slot))) can.known.next_use
+
+last_grows : (last : ℕ → ℕ → ℕ) (t : TimerRef) (w k : ℕ) (b here : Bool) → t.generation ≡ last t.wheel t.slot + 1
+    → (nat_eq t.wheel w && nat_eq t.slot k) ≡ here → last w k ≤ cond b (cond here t.generation (last w k)) (last w k)
+last_grows last t w k true true next is =
+    let place = and_parts (nat_eq t.wheel w) (nat_eq t.slot k) is in
+    subst₂ (λ (v j : ℕ). last v j ≤ t.generation) (eqb-true t.wheel w place.0) (eqb-true t.slot k place.1) (omega (arith, next))
+last_grows last t w k true false next is = omega arith
+last_grows last t w k false here next is = omega arith
+
+row_more : (n : ℕ) (rows : List Row) (t : TimerRef) (start : Start) (d : Option ℕ) → length rows ≤ n → length (rows ++ row_from t start d) ≤ suc n
+row_more n rows t start None few = rw append-nil (omega (arith, few))
+row_more n rows t start (Some d) few = rw length-append (omega (arith, few))
+
+rows_more : (n : ℕ) (rows more : List Row) (b c : Bool) → length rows ≤ n → length more ≤ suc n → length (cond b (cond c more rows) rows) ≤ suc n
+rows_more n rows more true true few one = one
+rows_more n rows more true false few one = omega (arith, few)
+rows_more n rows more false c few one = omega (arith, few)
+
+pub is_new : (g : Settings) (n : ℕ) (ls : Labels) (l : ℕ) (t : TimerRef) (start : Start) (s c : State) → n < 262143 → IsFreeLabel l ls → Meets g n ls s c
     → Can g s (arm_entry 0 t start) → IsNew g ls l t
-is_new g n ls l t start s c free h can =
-    let next : t.generation ≡ s.last t.wheel t.slot + 1 = can.known.generation in
+is_new g n ls l t start s c few free h can =
+    let next : t.generation ≡ s.last t.wheel t.slot + 1 = next_timer g n ls t start s c few h can in
+    let high : t.generation ≤ 262143 = omega (arith, next, h.lasts t.wheel t.slot, few) in
     record {
       some = λ none. absurd (omega arith);
-      in_range = in_range_by g t can.keeps.2 (omega arith) can.known.unspent;
+      first = high;
+      in_range = in_range_by g t can.keeps.2 (omega arith) high;
       free = free;
       new = new_timer s.last t ls next h.used;
     }
 
-pub meets_armed : (g : Settings) (n : ℕ) (ls : Labels) (l : ℕ) (t : TimerRef) (start : Start) (s c : State) → IsFreeLabel l ls → Meets g n ls s c
-    → Can g s (arm_entry 0 t start)
+pub meets_armed : (g : Settings) (n : ℕ) (ls : Labels) (l : ℕ) (t : TimerRef) (start : Start) (s c : State) → n < 262143 → IsFreeLabel l ls
+    → Meets g n ls s c → Can g s (arm_entry 0 t start)
     → Meets g (suc n) (bind ls l t) (next g s (arm_entry 0 t start)) (next g c (arm_entry 0 (timer_at t.wheel l 1) start))
-meets_armed g n ls l t start s c free h can =
-    let made : t.generation ≡ s.last t.wheel t.slot + 1 = can.known.generation in
+meets_armed g n ls l t start s c few free h can =
+    let made : t.generation ≡ s.last t.wheel t.slot + 1 = next_timer g n ls t start s c few h can in
     let later : State = next g s (arm_entry 0 t start) in
     let grows : (w k : ℕ) → s.last w k ≤ later.last w k =
-    λ w k. last_grows w k s.last (has_actor (arm_entry 0 t start) (Wheel w)) (Arm t start) made in
+    λ w k. last_grows s.last t w k (has_actor (arm_entry 0 t start) (Wheel w)) (nat_eq t.wheel w && nat_eq t.slot k) made refl in
     record {
       kept = kept_next g s (arm_entry 0 t start) h.kept can;
-      shows = shows_armed g ls l t start s c (is_new g n ls l t start s c free h can) h.shows;
+      shows = shows_armed g ls l t start s c (is_new g n ls l t start s c few free h can) h.shows;
       used = used_bound later.last ls l t (used_later s.last later.last grows ls h.used)
           (record { low = omega arith; high = omega (arith, own_last g s t start) });
       lasts = λ w k. last_high (nat_eq t.wheel w) (nat_eq t.wheel w && nat_eq t.slot k) n (s.last w k) t.generation (h.lasts w k)
           (omega (arith, h.lasts t.wheel t.slot));
+      few = λ w. rows_more n (s.rows w) _ (has_actor (arm_entry 0 t start) (Wheel w)) (nat_eq t.wheel w) (h.few w)
+          (row_more n (s.rows w) t start (deadline_of g start (s.looked (Caller 0))) (h.few w));
     }

@@ -7,7 +7,7 @@ use Rattle.ert_defs.proofs.FiredTimers.{cond_same}
 use Rattle.ert_defs.specs.Actors.{same_actor, has_actor}
 use Rattle.ert_defs.specs.Clocks.{Clock}
 use Rattle.ert_defs.specs.Entries.{look_entry, peek_entry}
-use Rattle.ert_defs.specs.Legal.{LegalFrom, names_timer, left_by, left_of}
+use Rattle.ert_defs.specs.Legal.{LegalFrom, is_generation, names_timer, left_by, left_of}
 use Rattle.ert_defs.specs.States.{State, next, run}
 use Rattle.ert_defs.specs.Timers.{Row, row_of}
 use Rattle.ert_defs.specs.Milliseconds.{left}
@@ -71,15 +71,15 @@ left_peeked g by c n found =
 
 -- a reference is in range exactly where its name is that of a timer
 
-no_first : (a b : Bool) → ((a && false) && b) ≡ false
-no_first true b = refl
-no_first false b = refl
+and-none : (b : Bool) → (b && false) ≡ false
+and-none true = refl
+and-none false = refl
 
 bound_same : (g : Settings) (ls : Labels) (t n : TimerRef) → IsName g ls t n → names_timer g t ≡ is_bound n
 bound_same g ls t n h = elim (cases_eq t.generation 0) [
   | inl none ↦
-      ap (λ (k : ℕ). (nat_lt t.wheel g.schedulers && nat_lt t.slot g.slots && nat_le 1 k) && nat_le k 262143) none
-      ∙ no_first (nat_lt t.wheel g.schedulers && nat_lt t.slot g.slots) true
+      ap (λ (k : ℕ). nat_lt t.wheel g.schedulers && nat_lt t.slot g.slots && is_generation k) none
+      ∙ and-none (nat_lt t.wheel g.schedulers && nat_lt t.slot g.slots)
       ∙ sym (ap (λ (k : ℕ). nat_le 1 k) (h.generation ∙ ap (λ (k : ℕ). sign k) none))
   | inr some ↦ h.in_range some ∙ sym (ap (λ (k : ℕ). nat_le 1 k) (h.generation ∙ sign_some t.generation some))
 ]

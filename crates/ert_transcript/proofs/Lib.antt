@@ -5,6 +5,7 @@ pub mod Cancels
 pub mod Chains
 pub mod Clocks
 pub mod Due
+pub mod FirstRounds
 pub mod Fronts
 pub mod Hands
 pub mod Mailing

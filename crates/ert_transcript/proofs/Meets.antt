@@ -1,7 +1,7 @@
 -- How far a service and the plain service have come with the same ops: their states differ in names alone,
 -- by the labels that are bound.
 
-use Rattle.std.proofs.Common.{◌≡◌, ℕ, ◌≤◌, cond, List, [], ◌∷◌, Option, refl, sym, ap, ◌∙◌, subst, arith}
+use Rattle.std.proofs.Common.{◌≡◌, ℕ, ℤ, ◌≤◌, cond, List, [], ◌∷◌, length, Option, refl, sym, ap, ◌∙◌, subst, arith}
 use Rattle.ert_defs.proofs.FiredTimers.{cond_same}
 use Rattle.ert_defs.proofs.Rows.{AreRows, rows_next}
 use Rattle.ert_defs.proofs.Slots.{IsOrdered, ordered_next}
@@ -9,8 +9,8 @@ use Rattle.ert_defs.proofs.Standing.{AllStand, stands_next}
 use Rattle.ert_defs.specs.Actors.{has_actor}
 use Rattle.ert_defs.specs.Entries.{entry_by, probe_entry}
 use Rattle.ert_defs.specs.Legal.{Can, LegalFrom}
-use Rattle.ert_defs.specs.States.{State, next, run}
-use Rattle.ert_defs.specs.Timers.{last_after}
+use Rattle.ert_defs.specs.States.{State, uses_at, next, run}
+use Rattle.ert_defs.specs.Timers.{Row, rows_after, last_after}
 use Rattle.ert_defs.specs.declared.entry.Actor.{Actor}
 use Rattle.ert_defs.specs.declared.entry.Actor.TheVariants.{Wheel}
 use Rattle.ert_defs.specs.declared.entry.Entry.{Entry}
@@ -26,13 +26,13 @@ use Rattle.ert_transcript.specs.Labels.{Labels, ref_of}
 -- what each legal history keeps of its timers
 pub record IsKept (s : State) : Type 0 where
   pub ordered : IsOrdered s
-  pub rows : (w : ℕ) → AreRows w (s.last w) (s.rows w)
+  pub rows : (w : ℕ) → AreRows w (uses_at s w) (s.rows w)
   pub stand : AllStand s
 
 pub kept_next : (g : Settings) (s : State) (e : Entry) → IsKept s → Can g s e → IsKept (next g s e)
 kept_next g s e h can = record {
   ordered = ordered_next g s e h.ordered can;
-  rows = λ w. rows_next g w s e (h.rows w) can;
+  rows = λ w. (rows_next g w s e (record { order = h.ordered; rows = h.rows w }) can).rows;
   stand = stands_next g s e h.stand can;
 }
 
@@ -56,6 +56,7 @@ pub record Meets (g : Settings) (n : ℕ) (ls : Labels) (s c : State) : Type 0 w
   pub shows : Shows (IsName g ls) s c
   pub used : AreUsed s.last ls
   pub lasts : (w k : ℕ) → s.last w k ≤ n
+  pub few : (w : ℕ) → length (s.rows w) ≤ n
 
 last_stays : (R : Names) (x : Step R) (w k last : ℕ) → last_after w k last (first R x) ≡ last
 last_stays R (as_tick r act now) w k last = refl
@@ -66,6 +67,19 @@ same_last : (R : Names) (x : Step R) (g : Settings) (by : Actor) (with : Option 
 same_last R x g by with s w k =
     ap (λ (l : ℕ). cond (has_actor (entry_by by with (first R x)) (Wheel w)) l (s.last w k)) (last_stays R x w k (s.last w k))
     ∙ cond_same (has_actor (entry_by by with (first R x)) (Wheel w)) (s.last w k)
+
+rows_stay : (R : Names) (x : Step R) (g : Settings) (look : ℤ) (w : ℕ) (rows : List Row) → rows_after g look w rows (first R x) ≡ rows
+rows_stay R (as_tick r act now) g look w rows = refl
+rows_stay R _ g look w rows = refl
+
+same_rows : (R : Names) (x : Step R) (g : Settings) (by : Actor) (with : Option Actor) (s : State) (w : ℕ)
+    → (next g s (entry_by by with (first R x))).rows w ≡ s.rows w
+same_rows R x g by with s w =
+    ap (λ (rows : List Row). cond (has_actor (entry_by by with (first R x)) (Wheel w)) rows (s.rows w)) (rows_stay R x g (s.looked by) w (s.rows w))
+    ∙ cond_same (has_actor (entry_by by with (first R x)) (Wheel w)) (s.rows w)
+
+pub few_same : (n : ℕ) (rows later : List Row) → later ≡ rows → length rows ≤ n → length later ≤ n
+few_same n rows later same few = subst (λ (xs : List Row). length xs ≤ n) (sym same) few
 
 -- they meet again after the same event
 pub meets_next : (g : Settings) (n : ℕ) (ls : Labels) (x : Step (IsName g ls)) (by : Actor) (with : Option Actor) (s c : State) → Meets g n ls s c
@@ -78,6 +92,7 @@ meets_next g n ls x by with s c h can =
       shows = shows_next (IsName g ls) (names_are g ls) x g by with s c h.shows;
       used = used_later s.last (next g s (entry_by by with (first (IsName g ls) x))).last (λ w k. omega (arith, same w k)) ls h.used;
       lasts = λ w k. omega (arith, same w k, h.lasts w k);
+      few = λ w. few_same n (s.rows w) _ (same_rows (IsName g ls) x g by with s w) (h.few w);
     }
 
 -- and after the service has looked at slots
@@ -90,6 +105,7 @@ meets_probed g n ls by w k found s c h can =
       shows = shows_probed (IsName g ls) g by w k found s c h.shows;
       used = used_later s.last (next g s (probe_entry by w k found)).last (λ v j. omega (arith, same v j)) ls h.used;
       lasts = λ v j. omega (arith, same v j, h.lasts v j);
+      few = λ v. few_same n (s.rows v) _ (cond_same (has_actor (probe_entry by w k found) (Wheel v)) (s.rows v)) (h.few v);
     }
 
 pub meets_probes : (g : Settings) (n : ℕ) (ls : Labels) (by : Actor) (w : ℕ) (es : List Entry) (s c : State) → AreProbes by w es
@@ -103,7 +119,13 @@ meets_probes g n ls by w (e ∷ es) s c are legal h =
 -- as many ops later
 pub meets_later : (g : Settings) (n m : ℕ) (ls : Labels) (s c : State) → n ≤ m → Meets g n ls s c → Meets g m ls s c
 meets_later g n m ls s c le h =
-    record { kept = h.kept; shows = h.shows; used = h.used; lasts = λ w k. omega (arith, h.lasts w k) }
+    record {
+      kept = h.kept;
+      shows = h.shows;
+      used = h.used;
+      lasts = λ w k. omega (arith, h.lasts w k);
+      few = λ w. omega (arith, h.few w);
+    }
 
 -- and the labels of both stand for timers that are the same
 pub record Agrees (g : Settings) (n : ℕ) (ls cl : Labels) (s c : State) : Type 0 where

@@ -1,18 +1,18 @@
 -- Starts that are refused: the service answers as the plain one. A wheel is full where it found each slot
--- taken, since no slot is spent.
+-- taken, since no slot rests: each is in its first round.
 
 use Rattle.std.proofs.Common.{◌≡◌, ◌≢◌, ◌⊎◌, ℕ, ℤ, zero, suc, ◌+◌, ◌<◌, ◌≤◌, Bool, true, cond, nat_le, List, [], ◌∷◌, Option, Some, None, refl, sym, ap, ◌∙◌, subst, inl, inr, arith}
 use Rattle.std.proofs.lemmas.Bool.Decides.{nat_tests}
 use Rattle.std.proofs.lemmas.Bool.{cases_eq}
-use Rattle.ert_answers.specs.TimerCalls.{AreProbes, AreTaken, IsBadArg, IsWheelFull}
+use Rattle.ert_answers.specs.TimerCalls.{AreProbes, AreTaken, Rests, IsBadArg, IsWheelFull}
 use Rattle.ert_defs.proofs.FiredTimers.{cond_same}
 use Rattle.ert_defs.specs.Actors.{has_actor}
 use Rattle.ert_defs.specs.Clocks.{Clock}
 use Rattle.ert_defs.specs.Entries.{look_entry, probe_entry}
 use Rattle.ert_defs.specs.Legal.{LegalFrom}
-use Rattle.ert_defs.specs.Milliseconds.{deadline_of}
-use Rattle.ert_defs.specs.States.{State, next}
-use Rattle.ert_defs.specs.Timers.{is_taken, timer_at}
+use Rattle.ert_defs.specs.Milliseconds.{natural, down, deadline_of}
+use Rattle.ert_defs.specs.States.{State, uses_at, next}
+use Rattle.ert_defs.specs.Timers.{turned, is_taken, timer_at}
 use Rattle.ert_defs.specs.declared.entry.Actor.TheVariants.{Wheel, Caller}
 use Rattle.ert_defs.specs.declared.entry.Entry.{Entry}
 use Rattle.ert_defs.specs.declared.settings.Settings.{Settings}
@@ -21,6 +21,7 @@ use Rattle.ert_defs.specs.declared.timer.Status.{Status}
 use Rattle.ert_defs.specs.declared.timer.TimerRef.{TimerRef}
 use Rattle.ert_transcript.proofs.Bound.{IsName}
 use Rattle.ert_transcript.proofs.Clocks.{IsDone, done_as}
+use Rattle.ert_transcript.proofs.FirstRounds.{first_round, not_resting}
 use Rattle.ert_transcript.proofs.Meets.{Meets, meets_next, meets_probes}
 use Rattle.ert_transcript.proofs.Steps.{as_look}
 use Rattle.ert_transcript.proofs.Taken.{all_taken, count_pairs}
@@ -72,39 +73,39 @@ bad_arg_done g n ls l w start s c es h legal does plain =
 
 -- each slot that was looked at is taken
 
-taken_probes : (w : ℕ) (s : State) (k n : ℕ) (es : List Entry) → AreTaken 0 w s k n es → AreProbes (Caller 0) w es
-taken_probes w s k zero es are = subst (λ (x : List Entry). AreProbes (Caller 0) w x) (sym are) tt
-taken_probes w s k (suc n) es are =
-    subst (λ (x : List Entry). AreProbes (Caller 0) w x) (sym are.2) (k, are.0, refl, taken_probes w s (suc k) n are.1 are.4)
+taken_probes : (w now : ℕ) (s : State) (k n : ℕ) (es : List Entry) → AreTaken 0 w now s k n es → AreProbes (Caller 0) w es
+taken_probes w now s k zero es are = subst (λ (x : List Entry). AreProbes (Caller 0) w x) (sym are) tt
+taken_probes w now s k (suc n) es are =
+    subst (λ (x : List Entry). AreProbes (Caller 0) w x) (sym are.2) (k, are.0, refl, taken_probes w now s (suc k) n are.1 are.4)
 
 -- slots of two states have the same last timers, and these the same statuses
 pub record AreSame (w : ℕ) (s z : State) : Type 0 where
   pub status : (r : TimerRef) → z.status r ≡ s.status r
   pub last : (k : ℕ) → z.last w k ≡ s.last w k
 
-first_taken : (w k : ℕ) (s z : State) (found : Option Status) → AreSame w s z → s.last w k < 262143
-    → found ≡ z.status (timer_at w k (z.last w k)) → (is_taken found ≡ true) ⊎ (s.last w k ≡ 262143)
+first_taken : (w k now : ℕ) (s z : State) (found : Option Status) → AreSame w s z → (turned (uses_at s w k)).since ≡ 0
+    → found ≡ z.status (timer_at w k (z.last w k)) → (is_taken found ≡ true) ⊎ Rests s now w k
     → is_taken (s.status (timer_at w k (s.last w k))) ≡ true
-first_taken w k s z found same few is (inl taken) =
+first_taken w k now s z found same first is (inl taken) =
     let own : found ≡ s.status (timer_at w k (s.last w k)) =
     is ∙ same.status (timer_at w k (z.last w k)) ∙ ap (λ (j : ℕ). s.status (timer_at w k j)) (same.last k) in
     sym (ap is_taken own) ∙ taken
-first_taken w k s z found same few is (inr spent) = absurd (omega arith)
+first_taken w k now s z found same first is (inr rests) = absurd (omega (arith, first, rests))
 
-slots_taken : (g : Settings) (w : ℕ) (s z : State) (k n : ℕ) (es : List Entry) → AreSame w s z → ((j : ℕ) → s.last w j < 262143)
-    → LegalFrom g z es → AreTaken 0 w s k n es → (j : ℕ) → k ≤ j → j < k + n → is_taken (s.status (timer_at w j (s.last w j))) ≡ true
-slots_taken g w s z k zero es same few legal are j low high = absurd (omega arith)
-slots_taken g w s z k (suc n) es same few legal are j low high =
+slots_taken : (g : Settings) (w now : ℕ) (s z : State) (k n : ℕ) (es : List Entry) → AreSame w s z → ((j : ℕ) → (turned (uses_at s w j)).since ≡ 0)
+    → LegalFrom g z es → AreTaken 0 w now s k n es → (j : ℕ) → k ≤ j → j < k + n → is_taken (s.status (timer_at w j (s.last w j))) ≡ true
+slots_taken g w now s z k zero es same first legal are j low high = absurd (omega arith)
+slots_taken g w now s z k (suc n) es same first legal are j low high =
     let lawful = subst (λ (x : List Entry). LegalFrom g z x) are.2 legal in
     elim (cases_eq j k) [
       | inl here ↦
           subst (λ (i : ℕ). is_taken (s.status (timer_at w i (s.last w i))) ≡ true) (sym here)
-          (first_taken w k s z are.0 same (few k) lawful.0.found are.3)
+          (first_taken w k now s z are.0 same (first k) lawful.0.found are.3)
       | inr other ↦
           let probe : Entry = probe_entry (Caller 0) w k are.0 in
-          slots_taken g w s (next g z probe) (suc k) n are.1
+          slots_taken g w now s (next g z probe) (suc k) n are.1
           (record { status = same.status; last = λ i. cond_same (has_actor probe (Wheel w)) (z.last w i) ∙ same.last i })
-          few lawful.1 are.4 j (omega arith) (omega arith)
+          first lawful.1 are.4 j (omega arith) (omega arith)
     ]
 
 pub full_done : (g : Settings) (n : ℕ) (ls : Labels) (l w : ℕ) (start : Start) (s c : State) (es : List Entry) → n < 262143 → Meets g n ls s c
@@ -116,10 +117,16 @@ full_done g n ls l w start s c es few h legal does plain =
     let looked : State = next g s (look_entry (Caller 0) does.now) in
     let due : deadline_of g start c.clock.now ≢ None = λ none.
     does.accepted (ap (λ (x : ℤ). deadline_of g start x) time ∙ none) in
+    let are : AreTaken 0 w (natural (down g does.now)) s 0 g.slots does.probes = elim does.are_taken [
+      | inl are ↦ are
+      | inr many ↦ absurd (omega (arith, many.0, h.few w, few))
+    ] in
+    let first : (i : ℕ) → (turned (uses_at s w i)).since ≡ 0 = λ i.
+    not_resting (uses_at s w i) (first_round (uses_at s w i) (h.kept.ordered w i).sound (omega (arith, h.lasts w i))) in
     let taken : taken_of s.status (s.rows w) ≡ g.slots =
     all_taken g ls s c w h.kept h.shows (λ j lt.
-    slots_taken g w s looked 0 g.slots does.probes (record { status = λ r. refl; last = λ i. refl })
-    (λ i. omega (arith, h.lasts w i)) lawful.1 does.are_taken j (omega arith) (omega arith)) in
+    slots_taken g w (natural (down g does.now)) s looked 0 g.slots does.probes (record { status = λ r. refl; last = λ i. refl })
+    first lawful.1 are j (omega arith) (omega arith)) in
     let all : taken_of c.status (c.rows w) ≡ g.slots =
     sym (count_pairs is_taken (IsName g ls) s.status c.status h.shows.status (s.rows w) (c.rows w) (h.shows.rows w)) ∙ taken in
     let look = meets_next g n ls (as_look does.now) (Caller 0) None s c h lawful.0 in
@@ -129,6 +136,6 @@ full_done g n ls l w start s c es few h legal does plain =
       done = done_as g n ls s c (full start.kind) es (look_entry (Caller 0) does.now ∷ does.probes) (starting g c l w start) _ does.entries piece
           (record {
             line = plain;
-            meets = meets_probes g n ls (Caller 0) w does.probes looked _ (taken_probes w s 0 g.slots does.probes does.are_taken) lawful.1 look;
+            meets = meets_probes g n ls (Caller 0) w does.probes looked _ (taken_probes w (natural (down g does.now)) s 0 g.slots does.probes are) lawful.1 look;
           });
     }

@@ -214,6 +214,7 @@ opened g = record {
     };
     used = tt;
     lasts = λ w k. omega arith;
+    few = λ w. omega arith;
   };
   names = λ x. unbound_name g [] 0 x;
 }

@@ -1,7 +1,7 @@
 -- Two states that differ in the names of timers alone: for each reference of the one the other has another,
 -- by a relation that is one to one and keeps the wheel.
 
-use Rattle.std.proofs.Common.{◌≡◌, ℕ, Bool, true, false, cond, List, [], ◌∷◌, ◌++◌, length, Option, Some, None, refl, sym, subst}
+use Rattle.std.proofs.Common.{◌≡◌, ℕ, Bool, true, false, cond, List, [], ◌∷◌, ◌++◌, Option, Some, None, refl, sym, subst}
 use Rattle.ert_defs.specs.Mails.{MailState, SchedState, first_of, others_of, message_by, message_of, message_in, answer_by, answer_of, answer_in, with_row}
 use Rattle.ert_defs.specs.States.{State}
 use Rattle.ert_defs.specs.Timers.{Row, same_timer, row_of}

@@ -61,14 +61,14 @@ pub record AreStarted (g : Settings) (n : ℕ) (ls : Labels) (l w : ℕ) (start 
 abbrev rest_of : TimerRef → Start → Bool → List Entry → List Entry
 rest_of t start was closing = arm_entry 0 t start ∷ (mark_entry (Caller 0) start.dest false was ∷ closing)
 
-armed_meet : (g : Settings) (n : ℕ) (ls : Labels) (l : ℕ) (t : TimerRef) (start : Start) (was : Bool) (closing : List Entry) (s c : State) → IsFreeLabel l ls
-    → Closes was 0 t closing → LegalFrom g s (rest_of t start was closing) → Meets g n ls s c
+armed_meet : (g : Settings) (n : ℕ) (ls : Labels) (l : ℕ) (t : TimerRef) (start : Start) (was : Bool) (closing : List Entry) (s c : State) → n < 262143
+    → IsFreeLabel l ls → Closes was 0 t closing → LegalFrom g s (rest_of t start was closing) → Meets g n ls s c
     → Meets g (suc n) (bind ls l t) (run g s (rest_of t start was closing)) (run g c (arm_entries (timer_at t.wheel l 1) start (c.exited start.dest)))
-armed_meet g n ls l t start was closing s c free closes legal h =
+armed_meet g n ls l t start was closing s c few free closes legal h =
     let m : TimerRef = timer_at t.wheel l 1 in
-    let new : IsNew g ls l t = is_new g n ls l t start s c free h legal.0 in
+    let new : IsNew g ls l t = is_new g n ls l t start s c few free h legal.0 in
     let named : IsName g (bind ls l t) t m = new_name g ls l t new.some new.in_range new.free new.new in
-    let armed = meets_armed g n ls l t start s c free h legal.0 in
+    let armed = meets_armed g n ls l t start s c few free h legal.0 in
     let exited : was ≡ c.exited start.dest = legal.1.0.found ∙ h.shows.exited start.dest in
     let marked = meets_next g (suc n) (bind ls l t) (as_mark start.dest false was) (Caller 0) None _ _ armed legal.1.0 in
     let status : (next g s (arm_entry 0 t start)).status (timer_at t.wheel t.slot ((next g s (arm_entry 0 t start)).last t.wheel t.slot)) ≡ Some Armed =
@@ -77,10 +77,10 @@ armed_meet g n ls l t start was closing s c free closes legal h =
     subst (λ (b : Bool). Meets g (suc n) (bind ls l t) (run g s (rest_of t start was closing)) (run g c (arm_entries m start b))) exited closed
 
 started_here : (g : Settings) (n : ℕ) (ls : Labels) (l : ℕ) (start : Start) (t : TimerRef) (now : ℤ) (probes closing : List Entry) (was : Bool) (s c : State)
-    → IsFreeLabel l ls → Meets g n ls s c → AreProbes (Caller 0) t.wheel probes → Closes was 0 t closing
+    → n < 262143 → IsFreeLabel l ls → Meets g n ls s c → AreProbes (Caller 0) t.wheel probes → Closes was 0 t closing
     → LegalFrom g s (look_entry (Caller 0) now ∷ (probes ++ rest_of t start was closing))
     → AreStarted g n ls l t.wheel start t s c (look_entry (Caller 0) now ∷ (probes ++ rest_of t start was closing))
-started_here g n ls l start t now probes closing was s c free h are closes legal =
+started_here g n ls l start t now probes closing was s c few free h are closes legal =
     let w : ℕ = t.wheel in
     let rest : List Entry = rest_of t start was closing in
     let looked : State = next g s (look_entry (Caller 0) now) in
@@ -91,26 +91,28 @@ started_here g n ls l start t now probes closing was s c free h are closes legal
     let can = lawful.0 in
     let time : now ≡ c.clock.now = legal.0.found ∙ ap (λ (k : Clock). k.now) h.shows.clock in
     let due : deadline_of g start c.clock.now ≢ None = λ none.
-    can.known.due (ap (λ (x : ℤ). deadline_of g start x) (after.shows.looked (Caller 0) ∙ time) ∙ none) in
+    let clash : Some can.known.wanted ≡ None =
+    sym can.known.due ∙ (ap (λ (x : ℤ). deadline_of g start x) (after.shows.looked (Caller 0) ∙ time) ∙ none) in
+    cc in
     let room : taken_of c.status (c.rows w) < g.slots =
     subst (λ (k : ℕ). k < g.slots) (count_pairs is_taken (IsName g ls) probed.status c.status after.shows.status (probed.rows w) (c.rows w) (after.shows.rows w))
     (one_free g ls probed _ w t.slot after.kept after.shows can.keeps.2.slot_high can.known.free) in
-    let armed = armed_meet g n ls l t start was closing probed _ free closes lawful after in
+    let armed = armed_meet g n ls l t start was closing probed _ few free closes lawful after in
     let P : ℤ → State → Type 0 =
     λ x z. Meets g (suc n) (bind ls l t) z (run g (next g c (look_entry (Caller 0) x)) (arm_entries (timer_at w l 1) start (c.exited start.dest))) in
     record {
       piece = started_piece g c l w start (deadline_of g start c.clock.now) due room;
-      new = is_new g n ls l t start probed _ free after can;
+      new = is_new g n ls l t start probed _ few free after can;
       wheel = refl;
       meets = subst (λ (z : State). P c.clock.now z) (sym (run-append g looked probes rest))
           (subst (λ (x : ℤ). P x (run g probed rest)) time armed);
     }
 
-pub start_done : (g : Settings) (n : ℕ) (ls : Labels) (l w : ℕ) (start : Start) (t : TimerRef) (s c : State) (es : List Entry) → IsFreeLabel l ls
+pub start_done : (g : Settings) (n : ℕ) (ls : Labels) (l w : ℕ) (start : Start) (t : TimerRef) (s c : State) (es : List Entry) → n < 262143 → IsFreeLabel l ls
     → Meets g n ls s c → LegalFrom g s es → IsStarted g 0 w start t s es → AreStarted g n ls l w start t s c es
-start_done g n ls l w start t s c es free h legal does =
+start_done g n ls l w start t s c es few free h legal does =
     let lawful = subst (λ (x : List Entry). LegalFrom g s x) does.entries legal in
     let probes = subst (λ (v : ℕ). AreProbes (Caller 0) v does.probes) (sym does.on_wheel) does.are_probes in
     subst (λ (v : ℕ). AreStarted g n ls l v start t s c es) does.on_wheel
     (subst (λ (x : List Entry). AreStarted g n ls l t.wheel start t s c x) (sym does.entries)
-    (started_here g n ls l start t does.now does.probes does.closing does.was s c free h probes does.closes lawful))
+    (started_here g n ls l start t does.now does.probes does.closing does.was s c few free h probes does.closes lawful))

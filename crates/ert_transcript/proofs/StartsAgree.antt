@@ -73,7 +73,7 @@ pub start_op : (g : Settings) (n : ℕ) (ls cl : Labels) (h m : List Entry) (c :
     → Calls g (alone g) 0 ls (ops.Start l w when p msg) reply h m → IsAgreed g n ls cl (state g h) c (ops.Start l w when p msg) reply m
 start_op g n ls cl h m c l w when p msg (StartOk t) few free other agrees legal does =
     let start : Start = start_of when p msg Wrapped in
-    let one = start_done g n ls l w start t (state g h) c m free agrees.meets legal does in
+    let one = start_done g n ls l w start t (state g h) c m few free agrees.meets legal does in
     let P : Piece → Type 0 = λ x.
     Agrees g (suc n) (bind ls l t) (labels_after cl (ops.Start l w when p msg) x.reply) (run g (state g h) m) (run g c x.entries) in
     record {
@@ -95,7 +95,7 @@ pub send_after_op : (g : Settings) (n : ℕ) (ls cl : Labels) (h m : List Entry)
     → Calls g (alone g) 0 ls (ops.SendAfter l w when p msg) reply h m → IsAgreed g n ls cl (state g h) c (ops.SendAfter l w when p msg) reply m
 send_after_op g n ls cl h m c l w when p msg (SendAfterOk t) few free other agrees legal does =
     let start : Start = start_of when p msg Bare in
-    let one = start_done g n ls l w start t (state g h) c m free agrees.meets legal does in
+    let one = start_done g n ls l w start t (state g h) c m few free agrees.meets legal does in
     let P : Piece → Type 0 = λ x.
     Agrees g (suc n) (bind ls l t) (labels_after cl (ops.SendAfter l w when p msg) x.reply) (run g (state g h) m) (run g c x.entries) in
     record {

@@ -23,7 +23,7 @@ use Rattle.ert_defs.specs.declared.timer.Status.{Status}
 use Rattle.ert_defs.specs.declared.timer.Status.TheVariants.{Armed, Orphaned}
 use Rattle.ert_defs.specs.declared.timer.TimerRef.{TimerRef}
 use Rattle.ert_transcript.proofs.Bound.{IsName, names_are}
-use Rattle.ert_transcript.proofs.Meets.{IsKept, Meets, kept_next, used_later}
+use Rattle.ert_transcript.proofs.Meets.{IsKept, Meets, few_same, kept_next, used_later}
 use Rattle.ert_transcript.proofs.Shown.{Names, AreNames, Pairs, SameRow, SameRequest, SameMails, SameSched, Shows}
 use Rattle.ert_transcript.specs.Labels.{Labels}
 use Rattle.ert_transcript.specs.PlainMail.{is_swept, orphans}
@@ -299,4 +299,5 @@ sweep_meets g n ls w p s c es h legal does swept =
       shows = shows_rest (IsName g ls) s c z (run g c (orphans c p w)) h.shows all.rest plain.rest status;
       used = used_later s.last z.last (λ v k. omega (arith, all.rest.last v k)) ls h.used;
       lasts = λ v k. omega (arith, all.rest.last v k, h.lasts v k);
+      few = λ v. few_same n (s.rows v) (z.rows v) (all.rest.rows v) (h.few v);
     }

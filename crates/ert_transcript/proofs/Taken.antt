@@ -1,7 +1,7 @@
 -- A wheel is full exactly where as many of its rows take a slot as it has slots: a row that takes a slot is
 -- the last of it, and no two rows have one reference.
 
-use Rattle.std.proofs.Common.{◌≡◌, ◌≢◌, ℕ, zero, suc, ◌+◌, ◌<◌, ◌≤◌, Bool, true, false, cond, ◌&&◌, nat_eq, nat_lt, nat_le, List, [], ◌∷◌, All, AllPairs, get_or, Option, Some, None, refl, sym, ap, ◌∙◌, subst, inl, inr, arith, eq-eqb, eqb-true}
+use Rattle.std.proofs.Common.{◌≡◌, ◌≢◌, ℕ, zero, suc, ◌+◌, ◌<◌, ◌≤◌, Bool, true, false, cond, ◌&&◌, nat_eq, nat_lt, List, [], ◌∷◌, All, AllPairs, get_or, Option, Some, None, refl, sym, ap, ◌∙◌, subst, inl, inr, arith, eq-eqb, eqb-true}
 use Rattle.std.proofs.lemmas.Bool.{cases_eq, and_parts}
 use Rattle.std.proofs.lemmas.Bool.Decides.{nat_tests}
 use Rattle.std.proofs.lemmas.List.Elements.{All-head, All-tail}
@@ -10,9 +10,9 @@ use Rattle.ert_defs.proofs.FiredTimers.{same_timer_self, same_timer-false}
 use Rattle.ert_defs.proofs.Lists.{pairs_head, pairs_tail}
 use Rattle.ert_defs.proofs.Rows.{IsRow, AreRows, Differ}
 use Rattle.ert_defs.proofs.Slots.{IsOrdered, same_timer-true}
-use Rattle.ert_defs.specs.Legal.{names_timer}
-use Rattle.ert_defs.specs.States.{State}
-use Rattle.ert_defs.specs.Timers.{Row, Stands, same_timer, row_of, is_taken, timer_at}
+use Rattle.ert_defs.specs.Legal.{is_generation, names_timer}
+use Rattle.ert_defs.specs.States.{State, uses_at}
+use Rattle.ert_defs.specs.Timers.{Row, Stands, Uses, same_timer, row_of, is_taken, timer_at}
 use Rattle.ert_defs.specs.declared.settings.Settings.{Settings}
 use Rattle.ert_defs.specs.declared.timer.Status.{Status}
 use Rattle.ert_defs.specs.declared.timer.TimerRef.{TimerRef}
@@ -136,7 +136,7 @@ count_at : (s : State) (w k : ℕ) (c : Bool) → IsKept s → is_taken (s.statu
     → count_rows (is_at s.status k) (s.rows w) ≡ one_if c
 count_at s w k c kept is =
     let t : TimerRef = last_timer s w k in
-    let rows : AreRows w (s.last w) (s.rows w) = kept.rows w in
+    let rows : AreRows w (uses_at s w) (s.rows w) = kept.rows w in
     let same : count_rows (is_at s.status k) (s.rows w) ≡ count_rows (λ r. is_taken (s.status t) && same_timer r.timer t) (s.rows w) =
     count_same (is_at s.status k) (λ r. is_taken (s.status t) && same_timer r.timer t) (s.rows w)
     (λ i d lt.
@@ -195,19 +195,18 @@ AreIn n (r ∷ rows) = (r.timer.slot < n) × AreIn n rows
 
 slot_in : (g : Settings) (t : TimerRef) → names_timer g t ≡ true → t.slot < g.slots
 slot_in g t is =
-    let low = (and_parts (nat_lt t.wheel g.schedulers && nat_lt t.slot g.slots && nat_le 1 t.generation) (nat_le t.generation 262143) is).0 in
-    let place = (and_parts (nat_lt t.wheel g.schedulers && nat_lt t.slot g.slots) (nat_le 1 t.generation) low).0 in
+    let place = (and_parts (nat_lt t.wheel g.schedulers && nat_lt t.slot g.slots) (is_generation t.generation) is).0 in
     let slot = (and_parts (nat_lt t.wheel g.schedulers) (nat_lt t.slot g.slots) place).1 in
     grind (arith, nat_tests)
 
-rows_in : (g : Settings) (ls : Labels) (w : ℕ) (last : ℕ → ℕ) (xs ys : List Row) → Pairs (SameRow (IsName g ls)) xs ys → All (IsRow w last) xs
+rows_in : (g : Settings) (ls : Labels) (w : ℕ) (uses : ℕ → Uses) (xs ys : List Row) → Pairs (SameRow (IsName g ls)) xs ys → All (IsRow w uses) xs
     → AreIn g.slots xs
-rows_in g ls w last [] ys same each = tt
-rows_in g ls w last (x ∷ xs) (y ∷ ys) same each =
-    let row : IsRow w last x = All-head (IsRow w last) x xs each in
-    let some : x.timer.generation ≢ 0 = λ none. let low : 1 ≤ x.timer.generation = row.first in absurd (omega arith) in
-    (slot_in g x.timer (same.0.timer.in_range some), rows_in g ls w last xs ys same.1 (All-tail (IsRow w last) x xs each))
-rows_in g ls w last (x ∷ xs) [] same each = absurd same
+rows_in g ls w uses [] ys same each = tt
+rows_in g ls w uses (x ∷ xs) (y ∷ ys) same each =
+    let row : IsRow w uses x = All-head (IsRow w uses) x xs each in
+    let some : x.timer.generation ≢ 0 = λ none. let low : 1 ≤ x.timer.generation = row.used.low in absurd (omega arith) in
+    (slot_in g x.timer (same.0.timer.in_range some), rows_in g ls w uses xs ys same.1 (All-tail (IsRow w uses) x xs each))
+rows_in g ls w uses (x ∷ xs) [] same each = absurd same
 
 below_all : (b : Bool) (k n : ℕ) → k < n → one_if b ≡ one_if (b && nat_lt k n)
 below_all true k n lt = grind (arith, nat_tests)
@@ -233,7 +232,7 @@ count_pairs test R status other same (x ∷ xs) [] h = absurd h
 pub all_taken : (g : Settings) (ls : Labels) (s c : State) (w : ℕ) → IsKept s → Shows (IsName g ls) s c
     → ((k : ℕ) → k < g.slots → is_taken (s.status (last_timer s w k)) ≡ true) → taken_of s.status (s.rows w) ≡ g.slots
 all_taken g ls s c w kept shows taken =
-    taken_below s.status g.slots (s.rows w) (rows_in g ls w (s.last w) (s.rows w) (c.rows w) (shows.rows w) (kept.rows w).each)
+    taken_below s.status g.slots (s.rows w) (rows_in g ls w (uses_at s w) (s.rows w) (c.rows w) (shows.rows w) (kept.rows w).each)
     ∙ all_below s w g.slots kept taken
 
 pub one_free : (g : Settings) (ls : Labels) (s c : State) (w k : ℕ) → IsKept s → Shows (IsName g ls) s c → k < g.slots
@@ -241,6 +240,6 @@ pub one_free : (g : Settings) (ls : Labels) (s c : State) (w k : ℕ) → IsKept
 one_free g ls s c w k kept shows lt free =
     omega (
       arith,
-      taken_below s.status g.slots (s.rows w) (rows_in g ls w (s.last w) (s.rows w) (c.rows w) (shows.rows w) (kept.rows w).each),
+      taken_below s.status g.slots (s.rows w) (rows_in g ls w (uses_at s w) (s.rows w) (c.rows w) (shows.rows w) (kept.rows w).each),
       one_below s w k g.slots kept lt free,
     )

@@ -63,7 +63,7 @@ pub enum Reply {
     },
     /// The time of the start is outside its limits.
     StartBadArg,
-    /// Every slot is taken or spent.
+    /// Every slot is taken or rests.
     StartFull,
     /// As for a start.
     SendAfterOk {

@@ -35,7 +35,7 @@ overflow_add-self c =
     let holds = subst (λ (m : Mailbox). IsScheds g v fired.timer.wheel m.process) (sym c.self.view_is) c.requires.holds in
     let dest = subst (λ (m : Mailbox). fired.dest ≡ m.process) (sym c.self.view_is) c.requires.dest in
     let stands = subst (Stands g v.front) (sym c.self.view_is) c.requires.stands in
-    let few : c.self.inside.delivered + 1 ≤ 1099511627776 =
+    let few : c.self.inside.delivered + 1 ≤ 576460752303423488 =
     count_fits g v w fired m c.args.desk.now.checked dest holds.mail stands c.in_default.ensures.steps in
     search rules
 
