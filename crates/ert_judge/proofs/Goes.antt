@@ -6,7 +6,7 @@ use Rattle.ert_defs.specs.Actors.{is_with, IsUser}
 use Rattle.ert_defs.specs.Clocks.{Clock}
 use Rattle.ert_defs.specs.Legal.{Can, Keeps}
 use Rattle.ert_defs.specs.States.{State, next, state}
-use Rattle.ert_defs.specs.Timers.{rows_after, last_after, status_after}
+use Rattle.ert_defs.specs.Timers.{rows_after, status_after}
 use Rattle.ert_defs.specs.declared.entry.Actor.{Actor}
 use Rattle.ert_defs.specs.declared.entry.Actor.TheVariants.{Wheel, Inbox, Sched, MailOf}
 use Rattle.ert_defs.specs.declared.entry.Entry.{Entry}
@@ -15,9 +15,11 @@ use Rattle.ert_defs.specs.declared.entry.Event.TheVariants.{Look, Mark}
 use Rattle.ert_defs.specs.declared.settings.Settings.{Settings}
 use Rattle.ert_defs.specs.declared.timer.TimerRef.{TimerRef}
 use Rattle.ert_defs.proofs.Runs.{state-append, legal_more}
+use Rattle.ert_defs.proofs.Slots.{uses_after}
 use Rattle.ert_state.specs.Parts.{LastLooks, looks_in, look_of, rows_in, status_at, exited_at, mail_at, inbox_at, sched_at, scheds_in}
 use Rattle.ert_judge.specs.Shown.{shown, ClockIs, ClockFollows, Follows, StandsFor}
-use Rattle.ert_state.specs.Wheels.{timers_at, last_in, IsOwn}
+use Rattle.ert_state.specs.Uses.{uses_in}
+use Rattle.ert_state.specs.Wheels.{timers_at, IsOwn}
 use Rattle.ert_judge.specs.declared.judge.Judge.{Judge}
 use Rattle.ert_state.specs.declared.wheels.Timer.{Timer}
 use Rattle.ert_judge.proofs.CellLaws.{mails_follow, length-mails_after, inboxes_follow, length-inboxes_after, scheds_follow, length-scheds_after, looks_follow, length-callers_after, length-schedulers_after, exits_follow, length-exits_after}
@@ -27,8 +29,7 @@ use Rattle.ert_judge.proofs.Stands.{same_states, by_other, with_other, clock_sta
 -- the timers have gone on by an event that is made with an actor
 pub record TimersGo (g : Settings) (look : ℤ) (with : Option Actor) (event : Event) (old new : List (List Timer)) : Type 0 where
   pub rows : (w : ℕ) → rows_in new w ≡ cond (is_with with (Wheel w)) (rows_after g look w (rows_in old w) event) (rows_in old w)
-  pub last : (w k : ℕ) → last_in (timers_at new w) k
-      ≡ cond (is_with with (Wheel w)) (last_after w k (last_in (timers_at old w) k) event) (last_in (timers_at old w) k)
+  pub uses : (w k : ℕ) → uses_in (timers_at new w) k ≡ uses_after g look (is_with with (Wheel w)) w k (uses_in (timers_at old w) k) event
   pub status : (r : TimerRef) → status_at new r ≡ status_after r (is_with with (Wheel r.wheel)) (status_at old r) event
   pub own : (w : ℕ) → IsOwn w (timers_at new w)
   pub wheels : length new ≡ length old
@@ -69,7 +70,7 @@ goes g c old new e keeps callers lookers processes mails inboxes schedulers time
     (λ a. sym (ap (λ l. look_of l a) follows.looks
     ∙ looks_follow g e.by e.event (looks_in old.looks) (λ now. look_by g e.by e.with e.event now keeps) callers lookers a))
     (λ w. rw (by_other e.by (Wheel w) e.with (not_by_wheel g e.by w m.maker)) (sym (timers.rows w)))
-    (λ w k. rw (by_other e.by (Wheel w) e.with (not_by_wheel g e.by w m.maker)) (sym (timers.last w k)))
+    (λ w k. rw (by_other e.by (Wheel w) e.with (not_by_wheel g e.by w m.maker)) (sym (timers.uses w k)))
     (λ r. rw (by_other e.by (Wheel r.wheel) e.with (not_by_wheel g e.by r.wheel m.maker)) (sym (timers.status r)))
     (λ p. sym (ap (λ xs. exited_at xs p) follows.exits
     ∙ exits_follow e.event old.exits

@@ -3,6 +3,7 @@ mod Finds
 mod Goes
 pub mod Knows
 pub mod Makers
+mod NewTimers
 mod Opens
 mod Stands
 mod TimerLaws

@@ -11,7 +11,8 @@ use Rattle.ert_defs.specs.declared.entry.Actor.TheVariants.{Keeper, Wheel, Inbox
 use Rattle.ert_defs.specs.declared.settings.Settings.{Settings}
 use Rattle.ert_state.specs.Parts.{LastLooks, no_looks, look_of, exited_at, mail_at, inbox_at, sched_at}
 use Rattle.ert_judge.specs.Shown.{shown, IsOpening, StandsFor}
-use Rattle.ert_state.specs.Wheels.{timers_at, rows_of, status_in, last_in, IsOwn}
+use Rattle.ert_state.specs.Uses.{uses_in}
+use Rattle.ert_state.specs.Wheels.{timers_at, rows_of, status_in, IsOwn}
 use Rattle.ert_judge.specs.declared.judge.Judge.{Judge}
 use Rattle.ert_state.specs.declared.wheels.Timer.{Timer}
 use Rattle.ert_judge.proofs.Stands.{same_states}
@@ -46,7 +47,7 @@ stands_open g j is = record {
   kept = same_states (opening g) (shown (first_clock g) j) refl
       (λ a. sym (ap (λ l. look_of l a) is.looks ∙ look_opening g a))
       (λ w. sym (ap rows_of (none_at g j w is)))
-      (λ w k. sym (ap (λ ts. last_in ts k) (none_at g j w is)))
+      (λ w k. sym (ap (λ ts. uses_in ts k) (none_at g j w is)))
       (λ r. sym (ap (λ ts. status_in ts r) (none_at g j r.wheel is)))
       (λ p. sym (ap (λ xs. exited_at xs p) is.exits ∙ cell_opening g.processes p false))
       (λ p. sym (ap (λ xs. mail_at xs p) is.mailboxes ∙ cell_opening g.processes p no_mail))

@@ -5,7 +5,7 @@ use Rattle.std.specs.Prelude.{◌||◌}
 use Rattle.ert_defs.specs.Actors.{same_actor, is_with}
 use Rattle.ert_defs.specs.Clocks.{Clock, face, clock_after}
 use Rattle.ert_defs.specs.Legal.{Keeps}
-use Rattle.ert_defs.specs.States.{State}
+use Rattle.ert_defs.specs.States.{State, uses_at}
 use Rattle.ert_defs.specs.declared.entry.Actor.{Actor}
 use Rattle.ert_defs.specs.declared.entry.Actor.TheVariants.{Keeper}
 use Rattle.ert_defs.specs.declared.entry.Event.{Event}
@@ -18,15 +18,17 @@ use Rattle.ert_state.specs.declared.clock.Clock.{Clock as KeptClock}
 
 -- states of the same parts are one
 pub same_states : (s t : State) → s.clock ≡ t.clock → ((a : Actor) → s.looked a ≡ t.looked a)
-    → ((w : ℕ) → s.rows w ≡ t.rows w) → ((w k : ℕ) → s.last w k ≡ t.last w k)
+    → ((w : ℕ) → s.rows w ≡ t.rows w) → ((w k : ℕ) → uses_at s w k ≡ uses_at t w k)
     → ((r : TimerRef) → s.status r ≡ t.status r) → ((p : ℕ) → s.exited p ≡ t.exited p)
     → ((p : ℕ) → s.mails p ≡ t.mails p) → ((w : ℕ) → s.inboxes w ≡ t.inboxes w)
     → ((w : ℕ) → s.scheds w ≡ t.scheds w) → s ≡ t
-same_states s t clock looked rows last status exited mails inboxes scheds = λ i. record {
+same_states s t clock looked rows uses status exited mails inboxes scheds = λ i. record {
   clock = clock i;
   looked = λ a. looked a i;
   rows = λ w. rows w i;
-  last = λ w k. last w k i;
+  last = λ w k. (uses w k i).last;
+  since = λ w k. (uses w k i).since;
+  above = λ w k. (uses w k i).above;
   status = λ r. status r i;
   exited = λ p. exited p i;
   mails = λ p. mails p i;

@@ -1,15 +1,15 @@
--- The laws of all timers: the wheels go on by an event as the model's rows, generations and statuses do.
+-- The laws of all timers: the wheels go on by an event as the model's rows, uses and statuses do.
 
-use Rattle.std.proofs.Common.{◌≡◌, ◌≢◌, ◌∙◌, refl, sym, ap, subst, arith, ℕ, ℤ, ◌+◌, ◌<◌, Bool, true, false, cond, ◌&&◌, nat_eq, List, [], ◌++◌, length, Option, Some, None, eqb-true}
-use Rattle.std.proofs.lemmas.Bool.{cond_both}
+use Rattle.std.proofs.Common.{◌≡◌, ◌≢◌, ◌∙◌, refl, sym, ap, subst, arith, inl, inr, ℕ, suc, ℤ, ◌<◌, Bool, true, false, cond, ◌&&◌, nat_eq, List, [], ◌∷◌, ◌++◌, length, Option, Some, None, eqb-true}
+use Rattle.std.proofs.lemmas.Bool.{cases_Bool, cond_both}
 use Rattle.std.proofs.lemmas.List.{length-set, map-append}
 use Rattle.std.specs.Prelude.{map}
 use Rattle.ert_defs.proofs.FiredTimers.{cond_same}
+use Rattle.ert_defs.proofs.Slots.{same_timer-true, uses_after}
 use Rattle.ert_defs.specs.Actors.{is_with}
-use Rattle.ert_defs.specs.Legal.{IsSlot, Keeps, Known}
+use Rattle.ert_defs.specs.Legal.{IsSlot, Keeps}
 use Rattle.ert_defs.specs.Milliseconds.{deadline_of}
-use Rattle.ert_defs.specs.States.{State}
-use Rattle.ert_defs.specs.Timers.{Row, same_timer, row_from, rows_after, last_after, status_after, settled_as, handed_as}
+use Rattle.ert_defs.specs.Timers.{Row, Uses, same_timer, turned, deadline_told, row_from, rows_after, above_with, status_after, settled_as, handed_as}
 use Rattle.ert_defs.specs.declared.entry.Actor.{Actor}
 use Rattle.ert_defs.specs.declared.entry.Actor.TheVariants.{Wheel}
 use Rattle.ert_defs.specs.declared.entry.Event.{Event}
@@ -21,14 +21,16 @@ use Rattle.ert_defs.specs.declared.timer.Status.TheVariants.{Armed, Expired, Del
 use Rattle.ert_defs.specs.declared.timer.TimerRef.{TimerRef}
 use Rattle.ert_state.specs.Parts.{rows_in, status_at, with_moved, armed, with_armed, timers_after, ArmsNew}
 use Rattle.ert_judge.specs.Shown.{deadline_by}
-use Rattle.ert_state.specs.Wheels.{timers_at, timer_in, rows_of, status_in, last_in, moved, IsOwn}
+use Rattle.ert_state.specs.Uses.{uses_of, none_kept, used_by, uses_in, IsNewUse}
+use Rattle.ert_state.specs.Wheels.{timers_at, timer_in, rows_of, status_in, moved, IsOwn}
 use Rattle.ert_state.specs.declared.wheels.Timer.{Timer}
 use Rattle.ert_judge.proofs.CellLaws.{cell_after}
-use Rattle.ert_state.proofs.WheelLaws.{rows_moved, last_moved, status_settled, status_handed, own_moved, last_armed, new_is_unknown, status_armed, own_armed}
+use Rattle.ert_state.proofs.UseLaws.{uses_push, uses_moved}
+use Rattle.ert_state.proofs.WheelLaws.{rows_moved, status_settled, status_handed, own_moved, status_armed, own_armed}
 
--- a timer is the next of its slot, and has a deadline
+-- no timer of its slot has the generation of a timer, and its start has a deadline
 pub record IsNew (ws : List (List Timer)) (timer : TimerRef) (deadline : Option ℕ) : Type 0 where
-  pub generation : timer.generation ≡ last_in (timers_at ws timer.wheel) timer.slot + 1
+  pub new : IsNewUse (timers_at ws timer.wheel) timer.slot timer.generation
   pub due : deadline ≢ None
 
 -- so is the timer that an event arms
@@ -36,20 +38,9 @@ abbrev pub ArmsNext : List (List Timer) → Settings → ℤ → Event → Type 
 ArmsNext ws g look (Arm timer start) = IsNew ws timer (deadline_of g start look)
 ArmsNext ws g look _ = Unit {0}
 
--- the maker of an entry knows that of its timer, where the generations of a state are those of the wheels
-pub arms_next : (g : Settings) (s : State) (by : Actor) (with : Option Actor) (event : Event) (ws : List (List Timer))
-    → ((w k : ℕ) → s.last w k ≡ last_in (timers_at ws w) k) → Known g s by with event
-    → ArmsNext ws g (s.looked by) event
-arms_next g s by with (Arm timer start) ws last known = record {
-  generation = known.generation ∙ ap (λ n. n + 1) (last timer.wheel timer.slot);
-  due = known.due;
-}
-arms_next g s by with _ ws last known = tt
-
--- so it has a later generation than the last of its slot
 pub new_of_next : (ws : List (List Timer)) (g : Settings) (look : ℤ) (event : Event) → ArmsNext ws g look event
     → ArmsNew event ws
-new_of_next ws g look (Arm timer start) is = (let next = is.generation in omega arith)
+new_of_next ws g look (Arm timer start) is = is.new
 new_of_next ws g look _ is = tt
 
 -- the wheel of a timer in range is one of those that are kept
@@ -77,13 +68,19 @@ rows_kept r from to ws w b low =
     after_move (λ ts. rows_of ts ≡ rows_in ws w) r from to ws w low (rows_moved r from to (timers_at ws w)) (λ other. refl)
     ∙ sym (cond_same b (rows_in ws w))
 
--- and the last generation of each slot
-last_kept : (r : TimerRef) (from to : Status) (ws : List (List Timer)) (w k : ℕ) (b : Bool) → r.wheel < length ws
-    → last_in (timers_at (with_moved r from to ws) w) k ≡ cond b (last_in (timers_at ws w) k) (last_in (timers_at ws w) k)
-last_kept r from to ws w k b low =
-    after_move (λ ts. last_in ts k ≡ last_in (timers_at ws w) k) r from to ws w low
-    (last_moved r from to (timers_at ws w) k) (λ other. refl)
-    ∙ sym (cond_same b (last_in (timers_at ws w) k))
+-- and the uses of each slot
+same_uses : (b : Bool) (u : Uses)
+    → u ≡ record { last = cond b u.last u.last; since = cond b u.since u.since; above = cond b u.above u.above }
+same_uses true u = refl
+same_uses false u = refl
+
+uses_kept : (r : TimerRef) (from to : Status) (ws : List (List Timer)) (w k : ℕ) (b : Bool) → r.wheel < length ws
+    → let u : Uses = uses_in (timers_at ws w) k in uses_in (timers_at (with_moved r from to ws) w) k
+    ≡ record { last = cond b u.last u.last; since = cond b u.since u.since; above = cond b u.above u.above }
+uses_kept r from to ws w k b low =
+    after_move (λ ts. uses_in ts k ≡ uses_in (timers_at ws w) k) r from to ws w low
+    (uses_moved (uses_of none_kept) r from to (timers_at ws w) k) (λ other. refl)
+    ∙ same_uses b (uses_in (timers_at ws w) k)
 
 -- a move from armed settles
 settled_at : (r q : TimerRef) (to : Status) (ws : List (List Timer)) → r.wheel < length ws
@@ -133,33 +130,53 @@ rows_at r start deadline ws w low =
     ∙ ap (λ rows. rows_in ws w ++ rows) (rows_from r start deadline)))
     (λ other. rw other refl)
 
--- the row of a start
+-- the row of a start for a deadline
 abbrev row_at : TimerRef → Start → ℕ → Row
-row_at r start d = record { timer = r; deadline = d; dest = start.dest; msg = start.msg; kind = start.kind }
+row_at r start d =
+    record { timer = r; deadline = deadline_told r.generation d; dest = start.dest; msg = start.msg; kind = start.kind }
 
--- the last generation of a slot is that of the timer that was armed
-last_at : (r : TimerRef) (start : Start) (deadline : Option ℕ) (ws : List (List Timer)) (w k : ℕ) → r.wheel < length ws
+-- the uses of a slot after a timer was armed in its wheel and in it, or not
+abbrev uses_armed : Bool → Bool → ℕ → Option ℕ → Uses → Uses
+uses_armed wheel slot generation deadline u = record {
+  last = cond wheel (cond (wheel && slot) generation u.last) u.last;
+  since = cond wheel (cond (wheel && slot) (turned u).since u.since) u.since;
+  above = cond wheel (cond (wheel && slot) (above_with generation u.above deadline) u.above) u.above;
+}
+
+by_slot : (slot : Bool) (r : TimerRef) (start : Start) (d : ℕ) (u : Uses)
+    → cond slot (used_by (row_at r start d) u) u ≡ uses_armed true slot r.generation (Some d) u
+by_slot true r start d u = refl
+by_slot false r start d u = refl
+
+-- the uses of a slot are one more after a timer was armed in it
+uses_more : (r : TimerRef) (start : Start) (deadline : Option ℕ) (ws : List (List Timer)) (w k : ℕ) → r.wheel < length ws
     → IsNew ws r deadline
-    → last_in (timers_at (with_armed r start deadline ws) w) k
-    ≡ cond (nat_eq r.wheel w) (cond (nat_eq r.wheel w && nat_eq r.slot k) r.generation (last_in (timers_at ws w) k))
-    (last_in (timers_at ws w) k)
-last_at r start None ws w k low new = absurd (new.due refl)
-last_at r start (Some d) ws w k low new =
+    → uses_in (timers_at (with_armed r start deadline ws) w) k
+    ≡ uses_armed (nat_eq r.wheel w) (nat_eq r.slot k) r.generation deadline (uses_in (timers_at ws w) k)
+uses_more r start None ws w k low new = absurd (new.due refl)
+uses_more r start (Some d) ws w k low new =
     after_arming
-    (λ ts. last_in ts k
-    ≡ cond (nat_eq r.wheel w) (cond (nat_eq r.wheel w && nat_eq r.slot k) r.generation (last_in (timers_at ws w) k))
-    (last_in (timers_at ws w) k))
+    (λ ts. uses_in ts k ≡ uses_armed (nat_eq r.wheel w) (nat_eq r.slot k) r.generation (Some d) (uses_in (timers_at ws w) k))
     r start (Some d) ws w low
-    (λ is. rw is (last_armed (timers_at ws w) (armed (row_at r start d)) k
-    (subst (λ v. r.generation ≡ last_in (timers_at ws v) r.slot + 1) (eqb-true r.wheel w is) new.generation)))
+    (λ is. rw is (uses_push (uses_of none_kept) (timers_at ws w) (armed (row_at r start d)) k
+    ∙ by_slot (nat_eq r.slot k) r start d (uses_in (timers_at ws w) k)))
     (λ other. rw other refl)
+
+-- a generation that no timer of a slot has names none
+new_is_unknown : (ts : List Timer) (r : TimerRef) → IsNewUse ts r.slot r.generation → timer_in ts r ≡ None
+new_is_unknown [] r new = refl
+new_is_unknown (t ∷ ts) r new = elim (cases_Bool (same_timer t.row.timer r)) [
+  | inl is ↦
+      let same = same_timer-true t.row.timer r is in
+      absurd (new 0 t refl (ap (λ (q : TimerRef). q.slot) same) (ap (λ (q : TimerRef). q.generation) same))
+  | inr is ↦ rw is (new_is_unknown ts r (λ p u stands. new (suc p) u stands))
+]
 
 -- a timer that is new is unknown to its wheel
 unknown : (r : TimerRef) (deadline : Option ℕ) (ws : List (List Timer)) (w : ℕ) → IsNew ws r deadline → r.wheel ≡ w
     → timer_in (timers_at ws w) r ≡ None
 unknown r deadline ws w new is =
-    subst (λ v. timer_in (timers_at ws v) r ≡ None) is
-    (new_is_unknown (timers_at ws r.wheel) r (let next = new.generation in omega arith))
+    subst (λ v. timer_in (timers_at ws v) r ≡ None) is (new_is_unknown (timers_at ws r.wheel) r new.new)
 
 -- a timer that was armed is armed, and the statuses of all others stay
 armed_at : (r q : TimerRef) (start : Start) (deadline : Option ℕ) (ws : List (List Timer)) → r.wheel < length ws
@@ -204,25 +221,24 @@ rows_follow ws g look by with (Drop timer) keeps wheels w =
     rows_kept timer Expired Dropped ws w (is_with with (Wheel w)) (wheel_low g ws timer wheels keeps.2)
 rows_follow ws g look by with _ keeps wheels w = sym (cond_same (is_with with (Wheel w)) (rows_in ws w))
 
--- so do the last generations
-pub last_follows : (ws : List (List Timer)) (g : Settings) (look : ℤ) (by : Actor) (with : Option Actor) (event : Event)
+-- so do the uses of each slot
+pub uses_follow : (ws : List (List Timer)) (g : Settings) (look : ℤ) (by : Actor) (with : Option Actor) (event : Event)
     → Keeps g by with event → length ws ≡ g.schedulers → ArmsNext ws g look event → (w k : ℕ)
-    → last_in (timers_at (timers_after (deadline_by g look event) event ws) w) k
-    ≡ cond (is_with with (Wheel w)) (last_after w k (last_in (timers_at ws w) k) event) (last_in (timers_at ws w) k)
-last_follows ws g look by with (Arm timer start) keeps wheels arms w k =
-    rw keeps.1 (last_at timer start (deadline_of g start look) ws w k (wheel_low g ws timer wheels keeps.2) arms)
-last_follows ws g look by with (Cancel timer left) keeps wheels arms w k =
-    last_kept timer Armed Cancelled ws w k (is_with with (Wheel w)) (wheel_low g ws timer wheels keeps.2)
-last_follows ws g look by with (Expire timer) keeps wheels arms w k =
-    last_kept timer Armed Expired ws w k (is_with with (Wheel w)) (wheel_low g ws timer wheels keeps.2)
-last_follows ws g look by with (Orphan timer) keeps wheels arms w k =
-    last_kept timer Armed Orphaned ws w k (is_with with (Wheel w)) (wheel_low g ws timer wheels keeps.2)
-last_follows ws g look by with (Deliver timer) keeps wheels arms w k =
-    last_kept timer Expired Delivered ws w k (is_with with (Wheel w)) (wheel_low g ws timer wheels keeps.2)
-last_follows ws g look by with (Drop timer) keeps wheels arms w k =
-    last_kept timer Expired Dropped ws w k (is_with with (Wheel w)) (wheel_low g ws timer wheels keeps.2)
-last_follows ws g look by with _ keeps wheels arms w k =
-    sym (cond_same (is_with with (Wheel w)) (last_in (timers_at ws w) k))
+    → uses_in (timers_at (timers_after (deadline_by g look event) event ws) w) k
+    ≡ uses_after g look (is_with with (Wheel w)) w k (uses_in (timers_at ws w) k) event
+uses_follow ws g look by with (Arm timer start) keeps wheels arms w k =
+    rw keeps.1 (uses_more timer start (deadline_of g start look) ws w k (wheel_low g ws timer wheels keeps.2) arms)
+uses_follow ws g look by with (Cancel timer left) keeps wheels arms w k =
+    uses_kept timer Armed Cancelled ws w k (is_with with (Wheel w)) (wheel_low g ws timer wheels keeps.2)
+uses_follow ws g look by with (Expire timer) keeps wheels arms w k =
+    uses_kept timer Armed Expired ws w k (is_with with (Wheel w)) (wheel_low g ws timer wheels keeps.2)
+uses_follow ws g look by with (Orphan timer) keeps wheels arms w k =
+    uses_kept timer Armed Orphaned ws w k (is_with with (Wheel w)) (wheel_low g ws timer wheels keeps.2)
+uses_follow ws g look by with (Deliver timer) keeps wheels arms w k =
+    uses_kept timer Expired Delivered ws w k (is_with with (Wheel w)) (wheel_low g ws timer wheels keeps.2)
+uses_follow ws g look by with (Drop timer) keeps wheels arms w k =
+    uses_kept timer Expired Dropped ws w k (is_with with (Wheel w)) (wheel_low g ws timer wheels keeps.2)
+uses_follow ws g look by with _ keeps wheels arms w k = same_uses (is_with with (Wheel w)) (uses_in (timers_at ws w) k)
 
 -- so do the statuses
 pub status_follows : (ws : List (List Timer)) (g : Settings) (look : ℤ) (by : Actor) (with : Option Actor) (event : Event)

@@ -11,7 +11,8 @@ use Rattle.ert_judge.specs.Shown.{StandsFor, Follows, deadline_by}
 use Rattle.ert_judge.specs.declared.judge.Judge.{Judge}
 use Rattle.ert_state.specs.declared.wheels.Timer.{Timer}
 use Rattle.ert_judge.proofs.Goes.{TimersGo}
-use Rattle.ert_judge.proofs.TimerLaws.{ArmsNext, arms_next, rows_follow, last_follows, status_follows, own_follows, length_follows}
+use Rattle.ert_judge.proofs.NewTimers.{arms_next}
+use Rattle.ert_judge.proofs.TimerLaws.{ArmsNext, rows_follow, uses_follow, status_follows, own_follows, length_follows}
 
 -- a judge that stands for a history has gone on so by a legal entry
 pub timers_go : (g : Settings) (h : List Entry) (old new : Judge) (e : Entry) → StandsFor g h old → Can g (state g h) e
@@ -22,10 +23,10 @@ timers_go g h old new e stands can follows =
     let looked : (state g h).looked e.by ≡ look = ap (λ (s : State). s.looked e.by) stands.kept in
     let arms : ArmsNext ws g look e.event =
     subst (λ (x : ℤ). ArmsNext ws g x e.event) looked
-    (arms_next g (state g h) e.by e.with e.event ws (λ w k. ap (λ (s : State). s.last w k) stands.kept) can.known) in
+    (arms_next g h old e stands can) in
     let go : TimersGo g look e.with e.event ws (timers_after (deadline_by g look e.event) e.event ws) = record {
       rows = rows_follow ws g look e.by e.with e.event can.keeps stands.wheels;
-      last = last_follows ws g look e.by e.with e.event can.keeps stands.wheels arms;
+      uses = uses_follow ws g look e.by e.with e.event can.keeps stands.wheels arms;
       status = status_follows ws g look e.by e.with e.event can.keeps stands.wheels arms;
       own = own_follows ws g look e.by e.with e.event can.keeps stands.wheels arms stands.own;
       wheels = length_follows (deadline_by g look e.event) e.event ws;

@@ -1,10 +1,10 @@
 -- The walk over the entries, one step on and where it stops.
 
-use Rattle.std.proofs.Common.{◌≡◌, ap, ◌<◌, ◌+◌, ◌++◌, ◌∷◌, [], ℕ, sym, ◌∙◌, subst, Bool, true, false, List, length, take}
+use Rattle.std.proofs.Common.{◌≡◌, ◌<◌, ◌+◌, ◌++◌, ◌∷◌, [], ℕ, sym, ◌∙◌, subst, Bool, true, false, List, length, take}
 use Rattle.std.specs.Prelude.{get_or, ◌↔◌, IsTrue}
 use Rattle.std.proofs.lemmas.List.{take_more}
 use Rattle.ert_defs.specs.Legal.{Can, Legal}
-use Rattle.ert_defs.specs.States.{State, state}
+use Rattle.ert_defs.specs.States.{state}
 use Rattle.ert_defs.specs.declared.entry.Entry.{Entry}
 use Rattle.ert_defs.specs.declared.settings.Settings.{Settings}
 use Rattle.ert_defs.proofs.Runs.{legal_one_more}
@@ -13,7 +13,8 @@ use Rattle.ert_judge.specs.Verdicts.{IsFirstIllegal}
 use Rattle.ert_judge.specs.declared.judge.Judge.{Judge}
 use Rattle.ert_state.specs.Parts.{ArmsNew}
 use Rattle.ert_judge.proofs.Goes.{stands_on}
-use Rattle.ert_judge.proofs.TimerLaws.{arms_next, new_of_next}
+use Rattle.ert_judge.proofs.NewTimers.{arms_next}
+use Rattle.ert_judge.proofs.TimerLaws.{new_of_next}
 use Rattle.ert_judge.proofs.TimersGo.{timers_go}
 
 -- a judge told whether an entry is legal
@@ -54,5 +55,4 @@ pub arms_new : (g : Settings) (h : List Entry) (j : Judge) (e : Entry) (b : Bool
     → ArmsNew e.event j.timers
 arms_new g h j e b stands tells is =
     let can : Can g (state g h) e = (tells g h stands).0 is in
-    new_of_next j.timers g ((state g h).looked e.by) e.event
-    (arms_next g (state g h) e.by e.with e.event j.timers (λ w k. ap (λ (s : State). s.last w k) stands.kept) can.known)
+    new_of_next j.timers g ((state g h).looked e.by) e.event (arms_next g h j e stands can)

@@ -1,22 +1,24 @@
 -- The model's state that a judge keeps, and how it goes on by an entry.
 
-use Rattle.std.specs.Prelude.{◌≡◌, ℕ, ℤ, pos, [], true, List, length, nat_le, Option, Some, None, replicate, false}
+use Rattle.std.specs.Prelude.{◌≡◌, ◌<◌, ℕ, ℤ, pos, [], true, List, length, nat_le, Option, Some, None, replicate, false}
 use Rattle.ert_defs.specs.Clocks.{Clock, face, first_clock}
 use Rattle.ert_defs.specs.Legal.{CanTick, Legal}
 use Rattle.ert_defs.specs.Lines.{Face, Due, due_after, ticked, shifted}
 use Rattle.ert_defs.specs.Mails.{no_mail, idle_sched}
 use Rattle.ert_defs.specs.Milliseconds.{down, deadline_of}
 use Rattle.ert_defs.specs.States.{State, state}
-use Rattle.ert_defs.specs.Timers.{timer_at}
+use Rattle.ert_defs.specs.Timers.{IsNextUse, is_taken, timer_at}
 use Rattle.ert_defs.specs.declared.entry.Actor.{Actor}
 use Rattle.ert_defs.specs.declared.entry.Entry.{Entry}
 use Rattle.ert_defs.specs.declared.entry.Event.{Event}
 use Rattle.ert_defs.specs.declared.entry.Event.TheVariants.{Tick, Shift, Arm}
 use Rattle.ert_defs.specs.declared.settings.Settings.{Settings}
 use Rattle.ert_defs.specs.declared.timer.Status.{Status}
+use Rattle.ert_defs.specs.declared.timer.TimerRef.{TimerRef}
 use Rattle.ert_clock.specs.Faces.{face_of}
 use Rattle.ert_state.specs.Parts.{looks_in, no_looks, look_of, looks_after, rows_in, status_at, timers_after, exited_at, exits_after, mail_at, mails_after, inbox_at, inboxes_after, sched_at, scheds_in, scheds_after}
-use Rattle.ert_state.specs.Wheels.{timers_at, last_in, is_settled, IsOwn}
+use Rattle.ert_state.specs.Uses.{uses_in}
+use Rattle.ert_state.specs.Wheels.{timers_at, is_settled, IsOwn}
 use Rattle.ert_state.specs.declared.clock.Clock.{Clock as KeptClock}
 use Rattle.ert_judge.specs.declared.judge.Judge.{Judge}
 
@@ -31,7 +33,9 @@ shown c j = record {
   clock = c;
   looked = λ a. look_of (looks_in j.looks) a;
   rows = λ w. rows_in j.timers w;
-  last = λ w k. last_in (timers_at j.timers w) k;
+  last = λ w k. (uses_in (timers_at j.timers w) k).last;
+  since = λ w k. (uses_in (timers_at j.timers w) k).since;
+  above = λ w k. (uses_in (timers_at j.timers w) k).above;
   status = λ r. status_at j.timers r;
   exited = λ p. exited_at j.exits p;
   mails = λ p. mail_at j.mailboxes p;
@@ -56,7 +60,14 @@ OwnTimers j = (w : ℕ) → IsOwn w (timers_at j.timers w)
 
 -- the status of the last timer of a slot
 abbrev pub last_status : Judge → ℕ → ℕ → Option Status
-last_status j w k = status_at j.timers (timer_at w k (last_in (timers_at j.timers w) k))
+last_status j w k = status_at j.timers (timer_at w k (uses_in (timers_at j.timers w) k).last)
+
+-- the slot of a timer is free for it, where it is started at a look of so many milliseconds for this deadline,
+-- and its wheel has had fewer than 2^53 timers
+pub record IsFreeFor (j : Judge) (timer : TimerRef) (now wanted : ℕ) : Type 0 where
+  pub free : is_taken (last_status j timer.wheel timer.slot) ≡ false
+  pub next_use : IsNextUse (uses_in (timers_at j.timers timer.wheel) timer.slot) now wanted timer.generation
+  pub few : length (timers_at j.timers timer.wheel) < 9007199254740992
 
 -- a wheel has settled all that was due at the last look of an actor
 pub record HasAdvanced (j : Judge) (by : Actor) (w to : ℕ) : Type 0 where
@@ -85,7 +96,7 @@ pub record ClockFollows (g : Settings) (old : KeptClock) (event : Event) (new : 
   pub face : face_of new.face ≡ face_moved g (face_of old.face) event
   pub due : new.due ≡ due_moved g (face_of old.face) old.due event
 
--- the deadline of the timer that an event arms, by the last look of its maker
+-- the deadline that the timer which an event arms was started for, by the last look of its maker
 abbrev pub deadline_by : Settings → ℤ → Event → Option ℕ
 deadline_by g look (Arm timer start) = deadline_of g start look
 deadline_by g look _ = None

@@ -1,18 +1,23 @@
 ghost use Rattle.std.specs.Prelude.{◌≡◌, ◌↔◌, ℕ, IsTrue, IfOk, IfSome, Ok, Some, None};
 ghost use Rattle.ert_defs.specs.Legal.{IsResult, Legal};
 ghost use Rattle.ert_defs.specs.Settings.{IsChecked};
-ghost use Rattle.ert_defs.specs.Timers.{is_taken};
+ghost use Rattle.ert_defs.specs.Timers.{IsNextUse, is_taken};
 ghost use Rattle.ert_judge.specs.Verdicts.{IsFirstIllegal, StopsAt};
+ghost use Rattle.ert_state.specs.Uses.{uses_of};
 
 use crate::range::is_in_range;
-use ert_defs::{Actor, Entry, Event, LAST_GENERATION, NoMemory, Settings, Start, Status, TimerRef};
+use ert_defs::{Actor, Entry, Event, NoMemory, Settings, Start, Status, TimerRef};
 use ert_state::{
-    Clock, Exits, Inboxes, Looks, Mailboxes, Schedulers, Timers, deadline_of, down, left,
+    Clock, Exits, Inboxes, Looks, Mailboxes, Schedulers, Timers, Uses, deadline_of, down, left,
+    passed,
 };
 use std::alloc::Global;
 
 /// How many monitors of a process may stand (profile).
 const MONITORS: usize = 64;
+
+/// How many timers a wheel may have had (profile).
+pub const TIMERS_OF_WHEEL: usize = 1 << 53;
 
 /// The state after the entries so far.
 #[derive(Drop)]
@@ -37,7 +42,7 @@ pub struct Stop {
 }
 
 impl Judge {
-    ghost use Rattle.std.specs.Prelude.{◌≡◌, ◌↔◌, IsTrue, IfOk, OnOk, Some, true, List};
+    ghost use Rattle.std.specs.Prelude.{◌≡◌, ◌≤◌, ◌↔◌, IsTrue, IfOk, IfSome, OnOk, Some, true, List};
     ghost use Rattle.ert_defs.specs.Clocks as clocks;
     ghost use Rattle.ert_defs.specs.Legal.{Can, Known, Found, HasExited, CanAnswer, CanArm, IsFirst, left_of};
     ghost use Rattle.ert_defs.specs.Milliseconds as milliseconds;
@@ -48,7 +53,7 @@ impl Judge {
     ghost use Rattle.ert_defs.specs.declared.settings.Settings as settings;
     ghost use Rattle.ert_clock.specs.Faces.{face_of};
     ghost use Rattle.ert_state.specs.Parts.{looks_in, look_of, sched_at, exited_at, ArmsNew};
-    ghost use Rattle.ert_judge.specs.Shown.{ClockIs, shown, IsOpening, OwnTimers, last_status, HasAdvanced, MayFollow, ClockFollows, deadline_by, Follows, StandsFor};
+    ghost use Rattle.ert_judge.specs.Shown.{ClockIs, shown, IsOpening, OwnTimers, last_status, IsFreeFor, HasAdvanced, MayFollow, ClockFollows, deadline_by, Follows, StandsFor};
     ghost use Rattle.ert_state.specs.Wheels.{timers_at, IsFirstDue};
 
     /// The state at the opening.
@@ -135,7 +140,7 @@ impl Judge {
         self.timers.status(TimerRef {
             wheel,
             slot,
-            generation: self.timers.last(wheel, slot),
+            generation: self.timers.uses(wheel, slot).last,
         })
     }
 
@@ -151,15 +156,26 @@ impl Judge {
         }
     }
 
-    /// Whether a timer can be armed: its slot is neither taken nor spent, and its start has a deadline.
+    /// Whether a timer can be armed: its start has a deadline, its slot is neither taken nor rests and has its
+    /// generation next, and its wheel has had few enough timers.
     fn can_arm(&self, by: Actor, timer: TimerRef, start: Start) -> bool
         ensures { (c : clocks.Clock) → IsTrue result ↔ CanArm self.now.settings (shown c self.now) by timer (milliseconds.deadline_of self.now.settings start (look_of (looks_in self.now.looks) by)) }
     {
-        let last = self.timers.last(timer.wheel, timer.slot);
+        let look = self.looks.of(by);
+        match deadline_of(&self.settings, start.when, look) {
+            Some(wanted) => self.is_free_for(timer, passed(&self.settings, look), wanted),
+            None => false,
+        }
+    }
+
+    /// Whether a slot is free for a timer that is started at a look of so many milliseconds for this deadline.
+    fn is_free_for(&self, timer: TimerRef, now: u128, wanted: u64) -> bool
+        ensures { IsTrue result ↔ IsFreeFor self.now timer now wanted }
+    {
+        let uses = self.timers.uses(timer.wheel, timer.slot);
         !is_taken(self.last_status(timer.wheel, timer.slot))
-            && timer.generation as u64 == last as u64 + 1
-            && timer.generation <= LAST_GENERATION
-            && deadline_of(&self.settings, start.when, self.looks.of(by)).is_some()
+            && is_next_use(&uses, now, wanted, timer.generation)
+            && self.timers.count(timer.wheel) < TIMERS_OF_WHEEL
     }
 
     /// Whether a timer is due and the first of its wheel, but for its own status.
@@ -245,7 +261,7 @@ impl Judge {
         Ok(())
     }
 
-    /// The deadline of the timer that an entry arms.
+    /// The deadline that the timer which an entry arms was started for.
     fn deadline(&self, entry: &Entry) -> Option<u64>
         ensures { result ≡ deadline_by self.now.settings (look_of (looks_in self.now.looks) entry.now.by) entry.now.event }
     {
@@ -294,6 +310,13 @@ fn is_taken(status: Option<Status>) -> bool
     ensures { result ≡ is_taken status }
 {
     matches!(status, Some(Status::Armed | Status::Expired))
+}
+
+/// Whether a generation is the next of a slot, for a start at a look of so many milliseconds with this deadline.
+fn is_next_use(uses: &Uses, now: u128, wanted: u64, generation: u64) -> bool
+    ensures { IsTrue result ↔ IsNextUse (uses_of uses.now) now wanted generation }
+{
+    uses.next(now, wanted) == Some(generation)
 }
 
 /// Whether an answer says what the scheduler found, or nothing of a reference that is out of range.

@@ -10,4 +10,4 @@
 mod judge;
 mod range;
 
-pub use judge::{Judge, Stop, first_illegal, first_stop, is_left};
+pub use judge::{Judge, Stop, TIMERS_OF_WHEEL, first_illegal, first_stop, is_left};

@@ -1,20 +1,17 @@
 -- A timer is armed in a slot that a part holds free.
 
-use Rattle.std.proofs.Common.{◌≡◌, ◌≢◌, ℕ, zero, suc, ◌+◌, ◌<◌, Bool, true, false, cond, ◌&&◌, nat_eq, List, [], ◌∷◌, ◌++◌, length, Option, Some, None, inl, inr, refl, sym, ap, subst, ◌∙◌, arith, set, get_or-set_same, get_or-set_other, length-append, eq-eqb, ne_eqb}
+use Rattle.std.proofs.Common.{◌≡◌, ◌≢◌, ℕ, zero, suc, ◌+◌, ◌<◌, Bool, true, false, cond, ◌&&◌, nat_eq, max, List, [], ◌∷◌, ◌++◌, length, Option, Some, None, inl, inr, refl, sym, ap, subst, ◌∙◌, arith, set, get_or-set_same, get_or-set_other, length-append, eq-eqb, ne_eqb}
 use Rattle.std.proofs.lemmas.Bool.{cases_eq}
 use Rattle.std.proofs.lemmas.List.{length-set}
-use Rattle.std.proofs.lemmas.List.Elements.{All-get_or}
-use Rattle.std.proofs.lemmas.Option.{get_or_from_slice_get, slice_get_within}
 use Rattle.std.specs.FinSet as sets
 use Rattle.std.specs.List.{slice_get}
 use Rattle.ert_defs.specs.Actors.{has_actor}
 use Rattle.ert_defs.specs.Entries.{arm_entry}
 use Rattle.ert_defs.specs.Legal.{Legal}
 use Rattle.ert_defs.specs.Milliseconds.{deadline_of}
-use Rattle.ert_defs.specs.States.{State, next, state}
-use Rattle.ert_defs.specs.Timers.{Row, row_from, is_taken, same_timer}
+use Rattle.ert_defs.specs.States.{State, uses_at, next, state}
+use Rattle.ert_defs.specs.Timers.{Row, Uses, above_with, deadline_told, row_from, is_taken, same_timer, timer_at}
 use Rattle.ert_defs.proofs.FiredTimers.{same_timer_self, same_timer-false}
-use Rattle.ert_defs.proofs.Rows.{IsRow, rows_hold}
 use Rattle.ert_defs.proofs.Runs.{look_stays, state-append}
 use Rattle.ert_defs.specs.declared.entry.Actor.TheVariants.{Wheel, Caller}
 use Rattle.ert_defs.specs.declared.entry.Entry.{Entry}
@@ -28,13 +25,15 @@ use Rattle.ert_table.proofs.Parts.{stepped}
 use Rattle.ert_timers.specs.Changes.{IsFree, kept, slot_for}
 use Rattle.ert_laws.specs.Counts.{is_arm, is_expire, is_orphan}
 use Rattle.ert_timers.specs.Parts.{HoldsCaller, Part, HoldsRows, Stands, slot_at, last_timer, held_row, unused}
-use Rattle.ert_timers.specs.Starting.{Arms, HoldsTimer}
+use Rattle.ert_timers.specs.Starting.{Arms, HoldsTimer, IsUseFor}
 use Rattle.ert_timers.specs.Tidy.{KeepsTidy}
 use Rattle.ert_timers.specs.declared.part.Slot.{Slot}
+use Rattle.ert_timers.specs.declared.part.Use.{Use}
 use Rattle.ert_timers.proofs.Keeping.{key_kept, key_new}
 use Rattle.ert_timers.proofs.Later.{IsLater, later_before, unexpired_before}
+use Rattle.ert_timers.proofs.NextUses.{use_of, told_of, new_generation, old_apart}
 use Rattle.ert_timers.proofs.Rows.{row_wheel}
-use Rattle.ert_timers.proofs.Standing.{count_same}
+use Rattle.ert_timers.proofs.Standing.{clock_at, clock_stepped, count_same, same_since}
 use Rattle.ert_timers.proofs.Tidied.{next_whole, stays_armed}
 use Rattle.ert_timers.proofs.Tried.{count_more}
 use Rattle.ert_wheel.specs.Rows.{key_in}
@@ -73,20 +72,29 @@ and_false false c is = refl
 record IsArmed (w : ℕ) (s t : State) (timer : TimerRef) (row : Row) : Type 0 where
   rows : t.rows w ≡ s.rows w ++ row ∷ []
   last : (j : ℕ) → t.last w j ≡ cond (nat_eq timer.slot j) timer.generation (s.last w j)
+  above : t.above w timer.slot ≡ max (s.above w timer.slot) (row.deadline + 1)
+  uses : (j : ℕ) → timer.slot ≢ j → uses_at t w j ≡ uses_at s w j
   here : t.status timer ≡ Some Armed
   other : (r : TimerRef) → r ≢ timer → t.status r ≡ s.status r
 
-armed_next : (g : Settings) (s : State) (by w deadline : ℕ) (timer : TimerRef) (start : Start) → timer.wheel ≡ w
-    → deadline_of g start (s.looked (Caller by)) ≡ Some deadline
+armed_next : (g : Settings) (s : State) (by w wanted deadline : ℕ) (timer : TimerRef) (start : Start) → timer.wheel ≡ w
+    → deadline_of g start (s.looked (Caller by)) ≡ Some wanted → deadline_told timer.generation wanted ≡ deadline
     → IsArmed w s (next g s (arm_entry by timer start)) timer
     (record { timer = timer; deadline = deadline; dest = start.dest; msg = start.msg; kind = start.kind })
-armed_next g s by w deadline timer start wheel due =
+armed_next g s by w wanted deadline timer start wheel due told =
     let own : nat_eq timer.wheel w ≡ true = eq-eqb timer.wheel w wheel in
     let self : nat_eq timer.wheel timer.wheel ≡ true = eq-eqb timer.wheel timer.wheel refl in
+    let same : nat_eq timer.slot timer.slot ≡ true = eq-eqb timer.slot timer.slot refl in
+    let x : ℕ = s.above w timer.slot in
+    let with_it : (next g s (arm_entry by timer start)).above w timer.slot
+    ≡ above_with timer.generation x (deadline_of g start (s.looked (Caller by))) = rw (own, same) refl in
     let more : List Row → List Row = λ l. cond (nat_eq timer.wheel w) (cond (nat_eq timer.wheel w) (s.rows w ++ l) (s.rows w)) (s.rows w) in
     record {
-      rows = ap (λ o. more (row_from timer start o)) due ∙ rw own refl;
+      rows = ap (λ o. more (row_from timer start o)) due ∙ (rw own refl
+          ∙ ap (λ d. let r : Row = record { timer = timer; deadline = d; dest = start.dest; msg = start.msg; kind = start.kind } in s.rows w ++ r ∷ []) told);
       last = λ j. rw own refl;
+      above = with_it ∙ (ap (above_with timer.generation x) due ∙ ap (λ d. max x (d + 1)) told);
+      uses = λ j not. (let other : nat_eq timer.slot j ≡ false = ne_eqb timer.slot j not in rw (own, other) refl);
       here = ap (λ b. cond ((nat_eq timer.wheel timer.wheel) && b) (Some Armed) (s.status timer)) (same_timer_self timer) ∙ rw self refl;
       other = λ r not. cond_false ((nat_eq timer.wheel r.wheel) && same_timer timer r) (Some Armed) (s.status r)
           (and_false (nat_eq timer.wheel r.wheel) (same_timer timer r) (same_timer-false timer r (λ same. not (sym same))));
@@ -155,19 +163,6 @@ rows_armed g h w k slots keys slot key s t timer row legal holds later unexpired
     kept_timer j other = ap (λ (x : Slot). let r : TimerRef = record { wheel = w; slot = j; generation = x.generation } in r)
         (get_or-set_other slots k j slot unused other)
 
--- each old timer has another reference
-old_apart : (g : Settings) (h : List Entry) (w k : ℕ) (last : ℕ) (timer : TimerRef) → Legal g h → (state g h).last w k ≡ last
-    → timer.slot ≡ k → timer.generation ≡ last + 1 → (n : ℕ) (row : Row) → slice_get ((state g h).rows w) n ≡ Some row → row.timer ≢ timer
-old_apart g h w k last timer legal last_is slot generation n row at same =
-    let rows : List Row = (state g h).rows w in
-    let is : IsRow w ((state g h).last w) row =
-    subst (IsRow w ((state g h).last w)) (get_or_from_slice_get rows n row row at)
-    (All-get_or (IsRow w ((state g h).last w)) rows n row (slice_get_within rows n row at) (rows_hold g h w legal).each) in
-    let slot_is : (state g h).last w row.timer.slot ≡ last =
-    ap ((state g h).last w) (ap (λ (t : TimerRef). t.slot) same ∙ slot) ∙ last_is in
-    let generation_is : row.timer.generation ≡ last + 1 = ap (λ (t : TimerRef). t.generation) same ∙ generation in
-    absurd (omega (arith, is.within, slot_is, generation_is))
-
 -- its own timer is armed then
 armed_self : (g : Settings) (s : State) (by : ℕ) (timer : TimerRef) (start : Start)
     → (next g s (arm_entry by timer start)).status timer ≡ Some Armed
@@ -176,12 +171,13 @@ armed_self g s by timer start =
     ap (λ b. cond ((nat_eq timer.wheel timer.wheel) && b) (Some Armed) (s.status timer)) (same_timer_self timer) ∙ rw self refl
 
 -- a tidy part stays so
-tidy_armed : (g : Settings) (v : View) (by : ℕ) (p : Part) (k deadline : ℕ) (start : Start) (timer : TimerRef) (u : View)
+tidy_armed : (g : Settings) (v : View) (by : ℕ) (p : Part) (k : ℕ) (coming : Use) (start : Start) (timer : TimerRef) (u : View)
     → Appends g v (arm_entry by timer start) u
-    → timer ≡ last_timer p.number (set p.slots k (slot_for ((slot_at p.slots k).generation + 1) start)) k → k < length p.keys
-    → KeepsTidy g v p (kept p k start deadline) u
-tidy_armed g v by p k deadline start timer u step named wide whole tidy j seen is =
-    let slots : List Slot = set p.slots k (slot_for ((slot_at p.slots k).generation + 1) start) in
+    → timer ≡ last_timer p.number (set p.slots k (slot_for coming (slot_at p.slots k).above start)) k → k < length p.keys
+    → KeepsTidy g v p (kept p k start coming) u
+tidy_armed g v by p k coming start timer u step named wide whole tidy j seen is =
+    let slot : Slot = slot_for coming (slot_at p.slots k).above start in
+    let slots : List Slot = set p.slots k slot in
     let e : Entry = arm_entry by timer start in
     let s : State = state g v.front in
     let goes : (r : TimerRef) → (state g u.front).status r ≡ (next g s e).status r =
@@ -194,23 +190,24 @@ tidy_armed g v by p k deadline start timer u step named wide whole tidy j seen i
           let r : TimerRef = last_timer p.number p.slots j in
           let same : last_timer p.number slots j ≡ r =
           ap (λ (x : Slot). let t : TimerRef = record { wheel = p.number; slot = j; generation = x.generation } in t)
-          (get_or-set_other p.slots k j (slot_for ((slot_at p.slots k).generation + 1) start) unused other) in
+          (get_or-set_other p.slots k j slot unused other) in
           ap (state g u.front).status same
           ∙ (goes r
           ∙ stays_armed r (has_actor e (Wheel r.wheel)) (s.status r) e.event refl
-          (tidy j seen (key_kept p.keys k j (record { deadline = deadline; order = p.arms }) seen wide is other)))
+          (tidy j seen (key_kept p.keys k j (record { deadline = coming.deadline; order = p.arms }) seen wide is other)))
     ]
 
 -- the part stands with the new timer
-pub arms : (g : Settings) (v : View) (by : ℕ) (p q : Part) (k deadline : ℕ) (start : Start) (timer : TimerRef) (u : View) → Stands g v.front p
-    → HoldsCaller g v by p.number → IsFree p k → deadline_of g start ((state g v.front).looked (Caller by)) ≡ Some deadline
-    → q ≡ kept p k start deadline → timer ≡ last_timer q.number q.slots k → Appends g v (arm_entry by timer start) u
-    → Arms g v by p q k deadline start timer u
-arms g v by p q k deadline start timer u stands holds free due part timer_is step =
+pub arms : (g : Settings) (v : View) (by : ℕ) (p q : Part) (k : ℕ) (coming : Use) (start : Start) (timer : TimerRef) (u : View) → Stands g v.front p
+    → HoldsCaller g v by p.number → IsFree p k → IsUseFor g (state g v.front) by p.number k start coming
+    → q ≡ kept p k start coming → timer ≡ last_timer q.number q.slots k → Appends g v (arm_entry by timer start) u
+    → Arms g v by p q k coming start timer u
+arms g v by p q k coming start timer u stands holds free can part timer_is step =
     let w : ℕ = p.number in
-    let slot : Slot = slot_for ((slot_at p.slots k).generation + 1) start in
+    let deadline : ℕ = coming.deadline in
+    let slot : Slot = slot_for coming (slot_at p.slots k).above start in
     let key : Key = record { deadline = deadline; order = p.arms } in
-    let r : Part = kept p k start deadline in
+    let r : Part = kept p k start coming in
     let named : timer ≡ last_timer w (set p.slots k slot) k = timer_is ∙ ap (λ (x : Part). last_timer x.number x.slots k) part in
     let slot_same : slot_at (set p.slots k slot) k ≡ slot = get_or-set_same p.slots k slot unused free.low in
     let wide : k < length p.keys = omega (arith, free.low, stands.holds.wide, stands.holds.many) in
@@ -219,16 +216,15 @@ arms g v by p q k deadline start timer u stands holds free due part timer_is ste
     let look : s.looked (Caller by) ≡ (state g v.front).looked (Caller by) =
     ap (λ (x : State). x.looked (Caller by)) (state-append g v.front step.between)
     ∙ look_stays g (Caller by) (state g v.front) step.between (step.others (Caller by) holds.caller) in
+    let generation : timer.generation ≡ coming.generation = new_generation p q k start coming timer free.low part timer_is in
     let row : Row = record { timer = timer; deadline = deadline; dest = start.dest; msg = start.msg; kind = start.kind } in
     let wheel : timer.wheel ≡ w = ap (λ (t : TimerRef). t.wheel) named in
     let armed : IsArmed w s (state g u.front) timer row =
     subst (λ t. IsArmed w s t timer row) (sym (stepped g v (arm_entry by timer start) u step))
-    (armed_next g s by w deadline timer start wheel (ap (deadline_of g start) look ∙ due)) in
-    let generation : timer.generation ≡ (slot_at p.slots k).generation + 1 =
-    ap (λ (t : TimerRef). t.generation) named ∙ ap (λ (x : Slot). x.generation) slot_same in
+    (armed_next g s by w can.wanted deadline timer start wheel (ap (deadline_of g start) look ∙ can.due)
+    (told_of g v.front by w k start coming timer stands.legal can generation)) in
     let slot_is : timer.slot ≡ k = ap (λ (t : TimerRef). t.slot) named in
-    let last_is : (state g v.front).last w k ≡ (slot_at p.slots k).generation =
-    sym (stands.holds.lasts k (subst (λ n. k < n) stands.holds.many free.low)) in
+    let rises = clock_stepped g v (arm_entry by timer start) u stands.checked step in
     let row_is : row ≡ held_row w (set p.slots k slot) k key =
     ap (λ t. let x : Row = record { timer = t; deadline = deadline; dest = start.dest; msg = start.msg; kind = start.kind } in x) named
     ∙ ap (λ (x : Slot). let y : Row = record {
@@ -243,6 +239,7 @@ arms g v by p q k deadline start timer u stands holds free due part timer_is ste
       step = step;
       part = part;
       stands = subst (λ (x : Part). Stands g u.front x) (sym part) (record {
+        checked = stands.checked;
         legal = step.legal;
         holds = record {
           number = stands.holds.number;
@@ -253,7 +250,7 @@ arms g v by p q k deadline start timer u stands holds free due part timer_is ste
               (λ j seen is.
               unexpired_before g v (arm_entry by timer start) u (last_timer w p.slots j) step holds.wheel (stands.holds.rows.unexpired j seen is))
               armed named row_is stands.holds.arms free.low wide free.vacant
-              (old_apart g v.front w k (slot_at p.slots k).generation timer stands.legal last_is slot_is generation);
+              (old_apart g v.front w k (use_of g (state g v.front) by w k start coming can) timer stands.legal can.can slot_is generation);
           lasts = λ j high.
               elim (cases_eq j k) [
                 | inl here ↦ ap (λ m. (slot_at (set p.slots k slot) m).generation) here
@@ -267,6 +264,16 @@ arms g v by p q k deadline start timer u stands holds free due part timer_is ste
                     ∙ (sym (cond_false (nat_eq timer.slot j) timer.generation (s.last w j) (ne_eqb timer.slot j (λ e. other (sym e ∙ slot_is))))
                     ∙ sym (armed.last j))))
               ];
+          aboves = λ j high.
+              elim (cases_eq j k) [
+                | inl here ↦ ap (λ m. (slot_at (set p.slots k slot) m).above) here
+                    ∙ (ap (λ (x : Slot). x.above) slot_same
+                    ∙ (ap (λ a. max a (deadline + 1)) (above_is j high here)
+                    ∙ (sym armed.above ∙ ap ((state g u.front).above w) (slot_is ∙ sym here))))
+                | inr other ↦ ap (λ (x : Slot). x.above) (get_or-set_other p.slots k j slot unused other)
+                    ∙ (stands.holds.aboves j high
+                    ∙ sym (ap (λ (x : Uses). x.above) (armed.uses j (λ e. other (sym e ∙ slot_is)) ∙ later.uses j)))
+              ];
           arms = omega (arith, stands.holds.arms, ap length armed.rows, ap length later.rows, length-append (s.rows w) (row ∷ []));
           free = λ j is.
               let other : j ≢ k = λ here. (let out : sets.contains p.free j ≡ false = ap (sets.contains p.free) here ∙ free.away in cc) in
@@ -277,6 +284,11 @@ arms g v by p q k deadline start timer u stands holds free due part timer_is ste
               ap (λ t. is_taken ((state g u.front).status t)) same
               ∙ (ap is_taken (armed.other (last_timer w p.slots j) apart)
               ∙ later.free (last_timer w p.slots j) refl (stands.holds.free j is));
+          ready = λ j is.
+              let other : timer.slot ≢ j =
+              λ e. (let out : sets.contains p.free j ≡ false = ap (sets.contains p.free) (sym e ∙ slot_is) ∙ free.away in cc) in
+              same_since (uses_at (state g v.front) w j) (uses_at (state g u.front) w j) (clock_at g (state g v.front)) (clock_at g (state g u.front))
+              (armed.uses j other ∙ later.uses j) rises (stands.holds.ready j is);
         };
         counted = record {
           arms = ap (λ n. n + 1) stands.counted.arms
@@ -293,34 +305,41 @@ arms g v by p q k deadline start timer u stands holds free due part timer_is ste
       }));
       dest = ap (λ (x : Part). (slot_at x.slots timer.slot).dest) part
           ∙ (ap (λ n. (slot_at (set p.slots k slot) n).dest) slot_is ∙ ap (λ (x : Slot). x.dest) slot_same);
-      tidy = subst (λ (x : Part). KeepsTidy g v p x u) (sym part) (tidy_armed g v by p k deadline start timer u step named wide);
+      tidy = subst (λ (x : Part). KeepsTidy g v p x u) (sym part) (tidy_armed g v by p k coming start timer u step named wide);
     }
   where
+    above_is : (j : ℕ) → j < g.slots → j ≡ k → (slot_at p.slots k).above ≡ (state g (v.front ++ step.between)).above p.number timer.slot
+    above_is j high here =
+        let later = later_before g v (arm_entry by timer start) u p.number step holds.wheel in
+        let slot_is : timer.slot ≡ k = ap (λ (t : TimerRef). t.slot) (timer_is ∙ ap (λ (x : Part). last_timer x.number x.slots k) part) in
+        stands.holds.aboves k (subst (λ n. n < g.slots) here high)
+        ∙ (sym (ap (λ (x : Uses). x.above) (later.uses k)) ∙ ap ((state g (v.front ++ step.between)).above p.number) (sym slot_is))
+
     cond_is_true : (b : Bool) (x y : ℕ) → b ≡ true → cond b x y ≡ x
     cond_is_true true x y is = refl
     cond_is_true false x y is = absurd cc
 
 -- a timer may be armed there
-pub may_arm : (g : Settings) (v : View) (by : ℕ) (p q : Part) (k deadline : ℕ) (start : Start) (timer : TimerRef) → Stands g v.front p
+pub may_arm : (g : Settings) (v : View) (by : ℕ) (p q : Part) (k : ℕ) (coming : Use) (start : Start) (timer : TimerRef) → Stands g v.front p
     → HoldsCaller g v by p.number → IsFree p k → is_taken ((state g v.front).status (last_timer p.number p.slots k)) ≡ false
-    → start.dest < g.processes → deadline_of g start ((state g v.front).looked (Caller by)) ≡ Some deadline
-    → q ≡ kept p k start deadline → timer ≡ last_timer q.number q.slots k → MayStep g v (arm_entry by timer start)
-may_arm g v by p q k deadline start timer stands holds free usable dest due part timer_is =
-    let slot : Slot = slot_for ((slot_at p.slots k).generation + 1) start in
+    → start.dest < g.processes → IsUseFor g (state g v.front) by p.number k start coming → p.arms < 9007199254740992
+    → q ≡ kept p k start coming → timer ≡ last_timer q.number q.slots k → MayStep g v (arm_entry by timer start)
+may_arm g v by p q k coming start timer stands holds free usable dest can few part timer_is =
+    let slot : Slot = slot_for coming (slot_at p.slots k).above start in
     let named : timer ≡ last_timer p.number (set p.slots k slot) k = timer_is ∙ ap (λ (x : Part). last_timer x.number x.slots k) part in
     let slot_same : slot_at (set p.slots k slot) k ≡ slot = get_or-set_same p.slots k slot unused free.low in
     let high : k < g.slots = subst (λ n. k < n) stands.holds.many free.low in
     let last_is : (slot_at p.slots k).generation ≡ (state g v.front).last p.number k = stands.holds.lasts k high in
-    let here : timer ≡ record { wheel = p.number; slot = k; generation = (slot_at p.slots k).generation + 1 } =
+    let here : timer ≡ record { wheel = p.number; slot = k; generation = coming.generation } =
     named ∙ ap (λ (x : Slot). let t : TimerRef = record { wheel = p.number; slot = k; generation = x.generation } in t) slot_same in
     subst (λ t. MayStep g v (arm_entry by t start)) (sym here) (record {
       ours = (holds.caller, holds.wheel);
       keeps = (holds.by_high, refl, record { wheel_high = stands.holds.number; slot_high = high }, dest);
       known = record {
-        free = ap (λ n. is_taken ((state g v.front).status (let t : TimerRef = record { wheel = p.number; slot = k; generation = n } in t))) (sym last_is)
-            ∙ usable;
-        generation = ap (λ n. n + 1) last_is;
-        unspent = omega (arith, free.unspent);
-        due = λ none. (let e : Some deadline ≡ None = sym due ∙ none in cc);
+        free = ap (λ n. is_taken ((state g v.front).status (timer_at p.number k n))) (sym last_is) ∙ usable;
+        wanted = can.wanted;
+        due = can.due;
+        next_use = can.can;
+        few = omega (arith, few, stands.holds.arms);
       };
     })

@@ -20,7 +20,7 @@ use Rattle.ert_answers.specs.WheelCalls.{expiry_entries, AreLooks}
 use Rattle.ert_calls.proofs.Looks.{look_stepped}
 use Rattle.ert_table.specs.Held.{IsWhole}
 use Rattle.ert_table.specs.Settlings.{Shown}
-use Rattle.ert_table.specs.Takes.{Appends, MayStep}
+use Rattle.ert_table.specs.Takes.{Appends}
 use Rattle.ert_table.specs.declared.view.View.{View}
 use Rattle.ert_table.proofs.Calls.{step_takes_place, takes_place_then}
 use Rattle.ert_timers.specs.Changes.{given_back}

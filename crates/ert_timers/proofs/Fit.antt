@@ -3,13 +3,12 @@
 use Rattle.std.proofs.Common.{◌≡◌, ◌≢◌, ℕ, ◌+◌, ◌<◌, ◌≤◌, Bool, true, false, not, ◌&&◌, ◌||◌, nat_eq, List, length, count_by, Option, Some, None, IsSome, refl, sym, ap, subst, ◌∙◌, arith, inl, inr, set, get_or-set_same, get_or-set_other, eqb-true, eq-eqb}
 use Rattle.std.proofs.lemmas.Bool.{and_parts, cases_eq}
 use Rattle.std.proofs.lemmas.List.{length-set, set-get_or}
-use Rattle.std.proofs.lemmas.List.Sums.{sum_by-le}
 use Rattle.std.specs.Cmp.{nat_cmp_total, unsigned_tied}
 use Rattle.std.specs.FinSet as sets
 use Rattle.std.specs.Option.{is_some}
 use Rattle.std.specs.Ordering.{nat_cmp}
 use Rattle.ert_timers.specs.Changes.{LostRow, dropped}
-use Rattle.ert_timers.specs.Parts.{AreFit, AreOwned, Part, slot_at}
+use Rattle.ert_timers.specs.Parts.{AreFit, AreOwned, Part}
 use Rattle.ert_timers.specs.declared.part.Slot.{Slot}
 use Rattle.ert_timers.proofs.Rows.{key_left}
 use Rattle.ert_wheel.specs.Rings.{Rings, MayTake, Takes, with_place}
@@ -19,16 +18,6 @@ use Rattle.ert_wheel.proofs.Collect.{key_low}
 use Rattle.ert_wheel.proofs.Parts.{with_place_there, kept_place}
 use Rattle.ert_wheel.proofs.Views.{counts_less}
 use Rattle.ert_words.specs.Free.{Free}
-
--- how often the slots were used
-abbrev pub uses_of : Slot → ℕ
-uses_of s = s.generation
-
--- no count can get high
-pub armed_few : (processes : ℕ) (slots : List Slot) (keys : List (Option Key)) (free : Free) (owners : Rings) (a x o : ℕ)
-    → AreFit processes slots keys free owners a x o → a ≤ 17179803648
-armed_few processes slots keys free owners a x o fit =
-    omega (arith, fit.sum, fit.few, sum_by-le uses_of 262143 slots fit.uses)
 
 -- a slot without a row has none to drop
 pub set_none : (keys : List (Option Key)) (k : ℕ) → key_in keys k ≡ None → set keys k None ≡ keys
@@ -49,9 +38,7 @@ fit_dropped processes slots keys free owners a x o k key fit held =
       few_homes = fit.few_homes;
       vacant = λ j is. at j (fit.vacant j is) low;
       below = fit.below;
-      unspent = fit.unspent;
-      uses = fit.uses;
-      sum = fit.sum;
+      fewer = fit.fewer;
       tally = omega (arith, fit.tally, counts_less keys k key low held);
       orders = λ j seen is. fit.orders j seen (key_left keys k j seen low is).1;
       dests = λ j seen is. fit.dests j seen (key_left keys k j seen low is).1;
@@ -83,9 +70,7 @@ fit_owned processes slots keys free owners new a x o fit same homes are = record
   few_homes = fit.few_homes;
   vacant = fit.vacant;
   below = fit.below;
-  unspent = fit.unspent;
-  uses = fit.uses;
-  sum = fit.sum;
+  fewer = fit.fewer;
   tally = fit.tally;
   orders = fit.orders;
   dests = fit.dests;
@@ -128,7 +113,7 @@ fit_lost p owners free k key fit same held =
       away = ap (λ s. sets.contains s k) (sym same) ∙ at (sets.contains free.held k) refl;
       vacant = get_or-set_same p.keys k None None low;
       room = omega (arith, fit.tally, counts_less p.keys k key low held);
-      few = armed_few p.processes p.slots p.keys free owners p.arms p.expires p.orphans fit;
+      few = fit.fewer;
     }
   where
     at : (b : Bool) → sets.contains free.held k ≡ b → sets.contains free.held k ≡ false
@@ -158,9 +143,7 @@ fit_counted processes slots keys free owners a x o y p fit few = record {
   few_homes = fit.few_homes;
   vacant = fit.vacant;
   below = fit.below;
-  unspent = fit.unspent;
-  uses = fit.uses;
-  sum = fit.sum;
+  fewer = fit.fewer;
   tally = few;
   orders = fit.orders;
   dests = fit.dests;
@@ -170,7 +153,7 @@ fit_counted processes slots keys free owners a x o y p fit few = record {
 -- with other free slots, which were free before or can be
 pub fit_free : (processes : ℕ) (slots : List Slot) (keys : List (Option Key)) (free new : Free) (owners : Rings) (a x o : ℕ)
     → AreFit processes slots keys free owners a x o → new.slots ≡ free.slots
-    → ((j : ℕ) → sets.contains new.held j ≡ true → (key_in keys j ≡ None) × (j < length slots) × ((slot_at slots j).generation < 262143))
+    → ((j : ℕ) → sets.contains new.held j ≡ true → (key_in keys j ≡ None) × (j < length slots))
     → AreFit processes slots keys new owners a x o
 fit_free processes slots keys free new owners a x o fit same can = record {
   few = fit.few;
@@ -181,9 +164,7 @@ fit_free processes slots keys free new owners a x o fit same can = record {
   few_homes = fit.few_homes;
   vacant = λ j is. (can j is).0;
   below = λ j is. (can j is).1;
-  unspent = λ j is. (can j is).2;
-  uses = fit.uses;
-  sum = fit.sum;
+  fewer = fit.fewer;
   tally = fit.tally;
   orders = fit.orders;
   dests = fit.dests;
@@ -200,17 +181,16 @@ or_cases false c P f h is = h is
 
 pub fit_put : (processes : ℕ) (slots : List Slot) (keys : List (Option Key)) (free new : Free) (owners : Rings) (a x o k : ℕ)
     → AreFit processes slots keys free owners a x o → new ≡ record free { held = sets.insert free.held k }
-    → k < length slots → key_in keys k ≡ None → (slot_at slots k).generation < 262143
+    → k < length slots → key_in keys k ≡ None
     → AreFit processes slots keys new owners a x o
-fit_put processes slots keys free new owners a x o k fit is low vacant unspent =
+fit_put processes slots keys free new owners a x o k fit is low vacant =
     fit_free processes slots keys free new owners a x o fit (ap (λ (f : Free). f.slots) is) (λ j held.
-    or_cases (nat_eq j k) (sets.contains free.held j) ((key_in keys j ≡ None) × (j < length slots) × ((slot_at slots j).generation < 262143))
+    or_cases (nat_eq j k) (sets.contains free.held j) ((key_in keys j ≡ None) × (j < length slots))
     (λ same. (let e : k ≡ j = sym (eqb-true j k same) in (
       subst (λ n. key_in keys n ≡ None) e vacant,
       subst (λ n. n < length slots) e low,
-      subst (λ n. (slot_at slots n).generation < 262143) e unspent,
     )))
-    (λ was. (fit.vacant j was, fit.below j was, fit.unspent j was))
+    (λ was. (fit.vacant j was, fit.below j was))
     (put_or free.held k j (ap (λ (f : Free). sets.contains f.held j) (sym is) ∙ held)))
 
 -- a set with one less
@@ -232,4 +212,4 @@ fit_picked processes slots keys free new owners a x o k fit is =
     fit_free processes slots keys free new owners a x o fit (ap (λ (f : Free). f.slots) is) (λ j held.
     let was : sets.contains free.held j ≡ true =
     taken_was free.held k j (ap (λ (f : Free). sets.contains f.held j) (sym is) ∙ held) in
-    (fit.vacant j was, fit.below j was, fit.unspent j was))
+    (fit.vacant j was, fit.below j was))

@@ -11,13 +11,13 @@ use Rattle.ert_timers.specs.Changes.{given_back}
 use Rattle.ert_timers.specs.Parts.{Part, Stands, last_timer}
 use Rattle.ert_timers.proofs.Later.{IsLater}
 use Rattle.ert_timers.proofs.Rows.{key_left, rows_dropped}
-use Rattle.ert_timers.proofs.Standing.{holds_freed, holds_with, takes_none}
+use Rattle.ert_timers.proofs.Standing.{holds_back, holds_with, takes_none}
 use Rattle.ert_wheel.specs.Rows.{key_in}
 use Rattle.ert_wheel.specs.declared.row.Key.{Key}
 use Rattle.ert_wheel.proofs.Collect.{key_low}
 
 same_state : (w : ℕ) (s : State) → IsLater w s s
-same_state w s = record { rows = refl; last = λ k. refl; armed = λ r on is. is; free = λ r on none. none }
+same_state w s = record { rows = refl; last = λ k. refl; uses = λ k. refl; armed = λ r on is. is; free = λ r on none. none }
 
 -- the part stands without the row
 pub forgot : (g : Settings) (h : List Entry) (p : Part) (k : ℕ) (key : Key) → Stands g h p → key_in p.keys k ≡ Some key
@@ -27,13 +27,15 @@ forgot g h p k key stands held settled =
     let low : k < length p.keys = key_low p.keys k key held in
     let later = same_state p.number s in
     let gone =
-    holds_with g s s p (set p.keys k None) p.expires (p.orphans + 0) stands.holds later (length-set p.keys k None)
+    holds_with g s s p (set p.keys k None) p.expires (p.orphans + 0) stands.holds later (omega arith) (length-set p.keys k None)
     (rows_dropped g h p.number p.slots p.keys s stands.legal stands.holds.rows later k low settled
     (λ j seen is. stands.holds.rows.unexpired j seen (key_left p.keys k j seen low is).1)) in
     let same : p.orphans + 0 ≡ p.orphans = omega arith in
     record {
+      checked = stands.checked;
       legal = stands.legal;
-      holds = holds_freed g s (record p { keys = set p.keys k None; expires = p.expires; orphans = p.orphans + 0 }) k gone
+      holds = holds_back g h (record p { keys = set p.keys k None; expires = p.expires; orphans = p.orphans + 0 }) k stands.checked stands.legal
+          (omega (arith, low, stands.holds.wide)) gone
           (takes_none (s.status (last_timer p.number p.slots k)) settled (stands.holds.rows.unexpired k key held));
       counted = record {
         arms = stands.counted.arms;

@@ -1,10 +1,8 @@
 -- A timer is put in; the newest row of a process; a part of a new desk.
 
-use Rattle.std.proofs.Common.{◌≡◌, ◌≢◌, ℕ, ◌+◌, ◌^◌, ◌<◌, ◌≤◌, Bool, true, false, List, length, Option, Some, None, IsNone, IfNone, IfSome, option_map, refl, sym, ap, subst, ◌∙◌, arith, inl, inr, get_or, set, get_or-set_same, get_or-set_other}
+use Rattle.std.proofs.Common.{◌≡◌, ◌≢◌, ℕ, ◌+◌, ◌^◌, ◌<◌, ◌≤◌, Bool, true, false, List, length, Option, Some, None, IsNone, IfNone, IfSome, refl, sym, ap, subst, ◌∙◌, arith, inl, inr, get_or, set, get_or-set_same, get_or-set_other}
 use Rattle.std.proofs.lemmas.Bool.{cases_eq}
 use Rattle.std.proofs.lemmas.List.{length-set}
-use Rattle.std.proofs.lemmas.List.Elements.{All-set}
-use Rattle.std.proofs.lemmas.List.Sums.{sum_by-set}
 use Rattle.std.proofs.lemmas.Option.{get_or_from_slice_get, slice_get_read}
 use Rattle.std.specs.Bool.{OnTrue}
 use Rattle.std.specs.FinSet as sets
@@ -14,8 +12,9 @@ use Rattle.ert_timers.specs.Changes.{IsFree, LostRow, NextOf, picked, slot_for, 
 use Rattle.ert_timers.specs.Owners.{Thinned, FindsRow}
 use Rattle.ert_timers.specs.Parts.{AreFit, AreOwned, Part, slot_at, unused}
 use Rattle.ert_timers.specs.declared.part.Slot.{Slot}
+use Rattle.ert_timers.specs.declared.part.Use.{Use}
 use mir.Val.{bool_byte}
-use Rattle.ert_timers.proofs.Fit.{fit_picked, uses_of, armed_few, taken_out}
+use Rattle.ert_timers.proofs.Fit.{fit_picked, taken_out}
 use Rattle.ert_wheel.specs.Rings.{Rings, Place, StandsIn, MayPut, Puts, Takes, with_place}
 use Rattle.ert_wheel.specs.Rows.{key_in, key_of}
 use Rattle.ert_wheel.specs.declared.row.Key.{Key}
@@ -105,15 +104,14 @@ may_keep processes slots keys free owners taken a x o k dest fit low in_range sa
 }
 
 -- a timer is put in
-pub fit_kept : (p : Part) (free : Free) (owners taken new : Rings) (k : ℕ) (start : Start) (deadline : ℕ)
+pub fit_kept : (p : Part) (free : Free) (owners taken new : Rings) (k : ℕ) (start : Start) (next : Use)
     → AreFit p.processes p.slots p.keys free owners p.arms p.expires p.orphans → free.held ≡ p.free → IsFree p k
-    → start.dest < p.processes → new.slots ≡ owners.slots → new.homes ≡ owners.homes → Takes owners taken k → Puts taken new k start.dest
-    → let q = kept p k start deadline in AreFit q.processes q.slots q.keys free new q.arms q.expires q.orphans
-fit_kept p free owners taken new k start deadline fit same can dest slots homes takes puts =
-    let slot : Slot = slot_for ((slot_at p.slots k).generation + 1) start in
-    let key : Key = record { deadline = deadline; order = p.arms } in
+    → p.arms < 9007199254740992 → start.dest < p.processes → new.slots ≡ owners.slots → new.homes ≡ owners.homes → Takes owners taken k → Puts taken new k start.dest
+    → let q = kept p k start next in AreFit q.processes q.slots q.keys free new q.arms q.expires q.orphans
+fit_kept p free owners taken new k start next fit same can few dest slots homes takes puts =
+    let slot : Slot = slot_for next (slot_at p.slots k).above start in
+    let key : Key = record { deadline = next.deadline; order = p.arms } in
     let wide : k < length p.keys = subst (λ n. k < n) (sym fit.wide) can.low in
-    let few : p.arms ≤ 17179803648 = armed_few p.processes p.slots p.keys free owners p.arms p.expires p.orphans fit in
     record {
       few = subst (λ n. n ≤ 65536) (sym (length-set p.slots k slot)) fit.few;
       wide = length-set p.keys k (Some key) ∙ (fit.wide ∙ sym (length-set p.slots k slot));
@@ -123,9 +121,7 @@ fit_kept p free owners taken new k start deadline fit same can dest slots homes 
       few_homes = fit.few_homes;
       vacant = λ j is. get_or-set_other p.keys k j (Some key) None (other_free j is) ∙ fit.vacant j is;
       below = λ j is. subst (λ n. j < n) (sym (length-set p.slots k slot)) (fit.below j is);
-      unspent = λ j is. subst (λ (s : Slot). s.generation < 262143) (sym (slot_other p.slots k j slot (other_free j is))) (fit.unspent j is);
-      uses = All-set (λ (s : Slot). s.generation ≤ 262143) p.slots k slot (omega (arith, can.unspent)) fit.uses;
-      sum = omega (arith, fit.sum, sum_by-set uses_of p.slots k slot unused can.low);
+      fewer = omega (arith, few);
       tally = omega (arith, fit.tally, counts_more p.keys k key wide can.vacant);
       orders = λ j seen is.
           elim (cases_eq j k) [
@@ -195,7 +191,6 @@ picked_free p free owners k fit same held = record {
   low = fit.below k held;
   vacant = fit.vacant k held;
   away = taken_out p.free k;
-  unspent = fit.unspent k held;
 }
 
 pub pick_fit : (p : Part) (free new : Free) (owners : Rings) (o : Option ℕ) → AreFit p.processes p.slots p.keys free owners p.arms p.expires p.orphans

@@ -4,9 +4,9 @@ use Rattle.std.proofs.Common.{◌≡◌, ◌≢◌, ℕ, ◌+◌, Bool, true, fa
 use Rattle.std.proofs.lemmas.List.Sums.{sum_by-append}
 use Rattle.ert_defs.specs.Actors.{same_actor, is_with, has_actor, IsFree}
 use Rattle.ert_defs.specs.Legal.{Keeps, LegalFrom, Legal}
-use Rattle.ert_defs.specs.States.{State, opening, next, run, state}
-use Rattle.ert_defs.specs.Timers.{Row, rows_after, last_after, status_after, settled_as, handed_as, same_timer, is_taken}
-use Rattle.ert_defs.proofs.Runs.{free_first, free_rest, legal_first, legal_then, rows_stay, last_stays, state-append}
+use Rattle.ert_defs.specs.States.{State, uses_at, opening, next, run, state}
+use Rattle.ert_defs.specs.Timers.{Row, Uses, rows_after, last_after, since_after, above_after, status_after, settled_as, handed_as, same_timer, is_taken}
+use Rattle.ert_defs.proofs.Runs.{free_first, free_rest, legal_first, legal_then, rows_stay, last_stays, uses_stay, state-append}
 use Rattle.ert_defs.proofs.Slots.{same_timer-true}
 use Rattle.ert_defs.proofs.Statuses.{Forward, arms, forward_after, forward_not_armed, forward_free, forward_stays, free_stays}
 use Rattle.ert_defs.specs.declared.entry.Actor.{Actor}
@@ -28,6 +28,7 @@ use Rattle.ert_laws.specs.Counts.{entries_of, is_arm}
 pub record IsLater (w : ℕ) (s t : State) : Type 0 where
   pub rows : t.rows w ≡ s.rows w
   pub last : (k : ℕ) → t.last w k ≡ s.last w k
+  pub uses : (k : ℕ) → uses_at t w k ≡ uses_at s w k
   pub armed : (r : TimerRef) → r.wheel ≡ w → t.status r ≡ Some Armed → s.status r ≡ Some Armed
   pub free : (r : TimerRef) → r.wheel ≡ w → is_taken (s.status r) ≡ false → is_taken (t.status r) ≡ false
 
@@ -52,6 +53,17 @@ last_unarmed : (w k last : ℕ) (event : Event) → is_arm event ≡ false → l
 last_unarmed w k last (Arm timer start) unmet = absurd cc
 last_unarmed w k last _ unmet = refl
 
+-- the uses of a slot after an event of its wheel, or not
+uses_unarmed : (g : Settings) (look : _) (w k : ℕ) (u : Uses) (b : Bool) (event : Event) → is_arm event ≡ false
+    → (let v : Uses = record {
+      last = cond b (last_after w k u.last event) u.last;
+      since = cond b (since_after w k u event) u.since;
+      above = cond b (above_after g look w k u.above event) u.above;
+    } in v) ≡ u
+uses_unarmed g look w k u false event unmet = refl
+uses_unarmed g look w k u true (Arm timer start) unmet = absurd cc
+uses_unarmed g look w k u true _ unmet = refl
+
 -- only an armed timer stays armed
 was_armed : (x y : Option Status) → Forward x y → y ≡ Some Armed → x ≡ Some Armed
 was_armed None y h is = absurd (forward_not_armed None y h (λ is. cc) is)
@@ -72,6 +84,7 @@ later_entry g w s e unmet =
       rows = cond_is (has_actor e (Wheel w)) (s.rows w) (rows_after g (s.looked e.by) w (s.rows w) e.event)
           (rows_unarmed g (s.looked e.by) w (s.rows w) e.event unmet);
       last = λ k. cond_is (has_actor e (Wheel w)) (s.last w k) (last_after w k (s.last w k) e.event) (last_unarmed w k (s.last w k) e.event unmet);
+      uses = λ k. uses_unarmed g (s.looked e.by) w k (uses_at s w k) (has_actor e (Wheel w)) e.event unmet;
       armed = λ r on is. was_armed (s.status r) ((next g s e).status r) (moved r) is;
       free = λ r on free. forward_free (s.status r) ((next g s e).status r) (moved r) free;
     }
@@ -81,6 +94,7 @@ pub later_free : (g : Settings) (w : ℕ) (s : State) (m : List Entry) → IsFre
 later_free g w s m free = record {
   rows = rows_stay g w s m free;
   last = λ k. last_stays g w k s m free;
+  uses = λ k. uses_stay g w k s m free;
   armed = λ r on is.
       forward_stays (λ x. x ≡ Some Armed → s.status r ≡ Some Armed) (λ x y moved was is. was (was_armed x y moved is)) g r s m
       (subst (λ n. IsFree m (Wheel n)) (sym on) free) (λ is. is) is;
@@ -91,6 +105,7 @@ pub later_then : (w : ℕ) (s t u : State) → IsLater w s t → IsLater w t u �
 later_then w s t u a b = record {
   rows = b.rows ∙ a.rows;
   last = λ k. b.last k ∙ a.last k;
+  uses = λ k. b.uses k ∙ a.uses k;
   armed = λ r on is. a.armed r on (b.armed r on is);
   free = λ r on none. b.free r on (a.free r on none);
 }

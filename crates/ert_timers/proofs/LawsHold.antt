@@ -1,9 +1,10 @@
 -- A part stands on without entries of its wheel, and each call makes entries of its actors alone.
 
-use Rattle.std.proofs.Common.{◌≡◌, ◌≢◌, ℕ, zero, suc, Bool, true, false, cond, ◌&&◌, List, [], ◌∷◌, ◌++◌, Option, Some, None, Ok, Err, inl, inr, refl, sym, ap, subst, ◌∙◌, arith}
+use Rattle.std.proofs.Common.{◌≡◌, ◌≢◌, ℕ, zero, suc, ◌≤◌, Bool, true, false, cond, ◌&&◌, List, [], ◌∷◌, ◌++◌, Option, Some, None, Ok, Err, inl, inr, refl, sym, ap, subst, ◌∙◌, arith}
 use Rattle.std.proofs.lemmas.List.Sums.{sum_by-append}
 use Rattle.ert_defs.specs.Actors.{has_actor, IsFree}
 use Rattle.ert_defs.specs.Legal.{Legal, LegalFrom}
+use Rattle.ert_defs.specs.Milliseconds.{natural, down}
 use Rattle.ert_defs.specs.States.{State, opening, state}
 use Rattle.ert_defs.proofs.Runs.{legal_then, state-append}
 use Rattle.ert_defs.specs.declared.entry.Actor.{Actor}
@@ -24,7 +25,7 @@ use Rattle.ert_laws.specs.Counts.{entries_of, is_arm, is_expire, is_orphan}
 use Rattle.ert_timers.specs.Parts.{last_timer}
 use Rattle.ert_timers.proofs.Later.{IsLater, later_free, none_counted, unexpired_free}
 use Rattle.ert_timers.proofs.Rows.{rows_later}
-use Rattle.ert_timers.proofs.Standing.{holds_with}
+use Rattle.ert_timers.proofs.Standing.{clock_at, clock_rises, holds_with}
 
 -- a count of the entries of a wheel is the same without more of them
 same_count : (test : Event → Bool) (w : ℕ) (f m : List Entry) → IsFree m (Wheel w) → entries_of test w (f ++ m) ≡ entries_of test w f
@@ -39,12 +40,16 @@ stand_on g f h p longer same legal stands =
     let run_is : state g h ≡ _ = ap (state g) longer.grown ∙ state-append g f m in
     let later : IsLater w (state g f) (state g h) = subst (IsLater w (state g f)) (sym run_is) (later_free g w (state g f) m free) in
     let from : LegalFrom g (state g f) m = legal_then g (opening g) f m (subst (Legal g) longer.grown legal) in
+    let rises : clock_at g (state g f) ≤ clock_at g (state g h) =
+    subst (λ x. clock_at g (state g f) ≤ clock_at g (state g x)) (sym longer.grown)
+    (clock_rises g f m stands.checked (subst (Legal g) longer.grown legal)) in
     let count : (test : Event → Bool) → entries_of test w f ≡ entries_of test w h =
     λ test. sym (ap (entries_of test w) longer.grown ∙ same_count test w f m free) in
     record {
+      checked = stands.checked;
       legal = legal;
       holds =
-          holds_with g (state g f) (state g h) p p.keys p.expires p.orphans stands.holds later refl
+          holds_with g (state g f) (state g h) p p.keys p.expires p.orphans stands.holds later rises refl
           (rows_later g f w p.slots p.keys (state g h) stands.legal stands.holds.rows later
           (λ k key is. subst (λ (t : State). t.status (last_timer w p.slots k) ≢ Some Expired) (sym run_is)
           (unexpired_free g (last_timer w p.slots k) (state g f) m from free (stands.holds.rows.unexpired k key is))));
@@ -74,10 +79,10 @@ probes_only by w [] are = tt
 probes_only by w (e ∷ es) are =
     (subst (λ (x : Entry). IsOurs (by ∷ (Wheel w ∷ [])) x.by x.with) (sym are.2) (paired by w w refl), probes_only by w es are.3)
 
-taken_only : (by w : ℕ) (s : State) (slot n : ℕ) (es : List Entry) → AreTaken by w s slot n es → AreWithWheel (Caller by) w es
-taken_only by w s slot zero es are = same_only (Caller by) w es _ are tt
-taken_only by w s slot (suc n) es are =
-    same_only (Caller by) w es _ are.2 (paired (Caller by) w w refl, taken_only by w s (suc slot) n are.1 are.4)
+taken_only : (by w now : ℕ) (s : State) (slot n : ℕ) (es : List Entry) → AreTaken by w now s slot n es → AreWithWheel (Caller by) w es
+taken_only by w now s slot zero es are = same_only (Caller by) w es _ are tt
+taken_only by w now s slot (suc n) es are =
+    same_only (Caller by) w es _ are.2 (paired (Caller by) w w refl, taken_only by w now s (suc slot) n are.1 are.4)
 
 closing_only : (was : Bool) (by w : ℕ) (timer : TimerRef) (es : List Entry) → timer.wheel ≡ w → Closes was by timer es
     → AreWithWheel (Caller by) w es
@@ -96,7 +101,13 @@ starts_only g by w start (Ok timer) s es starts =
     )
 starts_only g by w start (Err BadArg) s es starts = same_only (Caller by) w es _ starts.entries (alone (Caller by) w, tt)
 starts_only g by w start (Err Full) s es starts =
-    same_only (Caller by) w es _ starts.entries (alone (Caller by) w, taken_only by w s 0 g.slots starts.probes starts.are_taken)
+    same_only (Caller by) w es _ starts.entries (
+      alone (Caller by) w,
+      elim starts.are_taken [
+        | inl taken ↦ taken_only by w (natural (down g starts.now)) s 0 g.slots starts.probes taken
+        | inr none ↦ same_only (Caller by) w starts.probes _ none.1 tt
+      ],
+    )
 starts_only g by w start (Err NoMemory) s es (inl none) = same_only (Caller by) w es _ none tt
 starts_only g by w start (Err NoMemory) s es (inr probed) =
     same_only (Caller by) w es _ probed.entries (alone (Caller by) w, probes_only (Caller by) w probed.probes probed.are_probes)

@@ -1,6 +1,7 @@
 pub mod Later
 pub mod Rows
 pub mod Tidied
+pub mod Resting
 mod Nearest
 pub mod Standing
 pub mod Owners
@@ -11,6 +12,7 @@ pub mod Tried
 pub mod Dues
 pub mod Trials
 pub mod Orphaned
+pub mod NextUses
 pub mod Armings
 pub mod Lookings
 pub mod Dropped

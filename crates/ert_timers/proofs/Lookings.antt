@@ -1,13 +1,13 @@
 -- A slot is looked at, and all slots are.
 
-use Rattle.std.proofs.Common.{◌≡◌, ◌≢◌, ◌⊎◌, ℕ, suc, ◌+◌, ◌<◌, ◌≤◌, Bool, true, false, cond, ◌||◌, nat_lt, List, [], ◌∷◌, ◌++◌, length, Option, Some, None, IfNone, IfSome, option_map, inl, inr, refl, sym, ap, subst, ◌∙◌, arith, append-nil, length-append, eq-eqb, ne_eqb}
-use Rattle.std.proofs.lemmas.Bool.{cases_lt, lt-ltb}
+use Rattle.std.proofs.Common.{◌≡◌, ◌≢◌, ◌⊎◌, ℕ, suc, ◌+◌, ◌<◌, ◌≤◌, true, false, ◌||◌, List, [], ◌∷◌, ◌++◌, length, Option, Some, None, IfNone, IfSome, option_map, inl, inr, refl, sym, ap, subst, ◌∙◌, arith, append-nil, length-append, eq-eqb, ne_eqb}
+use Rattle.std.proofs.lemmas.Bool.{cases_eq}
 use Rattle.std.specs.Cmp.{nat_cmp_total, unsigned_tied}
 use Rattle.std.specs.FinSet as sets
 use Rattle.std.specs.Ordering.{nat_cmp}
 use Rattle.ert_defs.specs.Entries.{probe_entry}
-use Rattle.ert_defs.specs.States.{State, state}
-use Rattle.ert_defs.specs.Timers.{is_taken, timer_at}
+use Rattle.ert_defs.specs.States.{State, uses_at, state}
+use Rattle.ert_defs.specs.Timers.{Uses, turned, is_taken, timer_at}
 use Rattle.ert_defs.specs.declared.entry.Actor.{Actor}
 use Rattle.ert_defs.specs.declared.entry.Actor.TheVariants.{Wheel, Caller}
 use Rattle.ert_defs.specs.declared.entry.Entry.{Entry}
@@ -21,15 +21,16 @@ use Rattle.ert_table.specs.Takes.{Appends, TakesPlace}
 use Rattle.ert_table.specs.declared.view.View.{View}
 use Rattle.ert_table.proofs.Calls.{step_takes_place, takes_place_then}
 use Rattle.ert_table.proofs.Parts.{stepped}
-use Rattle.ert_table.proofs.SlotFacts.{slots_kept}
-use Rattle.ert_timers.specs.Changes.{IsFree, dropped, freed, picked}
+use Rattle.ert_timers.specs.Changes.{IsFree, is_resting, dropped, freed, picked}
+use Rattle.ert_laws.proofs.Since.{rounds_begun}
 use Rattle.ert_laws.specs.Counts.{is_expire, is_orphan}
 use Rattle.ert_timers.specs.Parts.{HoldsCaller, Part, Stands, slot_at, last_timer}
 use Rattle.ert_timers.specs.Starting.{LooksAt, LooksAtSome, TakesSlot, AreFull, probes_from, status_shown}
 use Rattle.ert_timers.specs.Tidy.{KeepsTidy}
 use Rattle.ert_timers.proofs.Fit.{taken_was}
-use Rattle.ert_timers.proofs.Later.{later_before}
-use Rattle.ert_timers.proofs.Standing.{count_same, holds_freed, stands_step}
+use Rattle.ert_timers.proofs.Later.{later_before, later_step}
+use Rattle.ert_timers.proofs.Resting.{later_awake, rested_by}
+use Rattle.ert_timers.proofs.Standing.{clock_at, clock_stepped, count_same, holds_freed, stands_step}
 use Rattle.ert_timers.proofs.Tidied.{tidy_calm, tidy_gone, tidy_then}
 use Rattle.ert_timers.proofs.Tried.{stands_gone}
 
@@ -58,26 +59,35 @@ found_is g v by p k found u stands held low step =
     ∙ (ap (λ n. s.status (timer_at p.number k n)) last
     ∙ ap (λ (t : State). t.status (last_timer p.number p.slots k)) (sym (stepped g v e u step)))
 
+-- since when the rounds of its slots may have timers is the same after a look at a slot of a wheel that the pass holds
+since_same : (g : Settings) (v : View) (by w k : ℕ) (found : Option Status) (u : View) → Appends g v (probe_entry (Caller by) w k found) u
+    → is_held v.actors (Wheel w) ≡ true → (j : ℕ) → (state g u.front).since w j ≡ (state g v.front).since w j
+since_same g v by w k found u step held j =
+    ap (λ (x : Uses). x.since) ((later_step g v (probe_entry (Caller by) w k found) u w step held refl).uses j)
+
 -- a slot was found taken
-pub looks_taken : (g : Settings) (v : View) (by : ℕ) (p : Part) (k : ℕ) (found : Option Status) (u : View) → Stands g v.front p
-    → HoldsCaller g v by p.number → Appends g v (probe_entry (Caller by) p.number k found) u → is_taken found ≡ true → LooksAt g v by p p k u
-looks_taken g v by p k found u stands holds step taken = record {
+pub looks_taken : (g : Settings) (v : View) (by now : ℕ) (p : Part) (k : ℕ) (found : Option Status) (u : View) → Stands g v.front p
+    → HoldsCaller g v by p.number → sets.contains p.free k ≡ false → Appends g v (probe_entry (Caller by) p.number k found) u
+    → is_taken found ≡ true → LooksAt g v by now p p k u
+looks_taken g v by now p k found u stands holds away step taken = record {
   found = found;
   step = step;
   stands = stands_step g v (probe_entry (Caller by) p.number k found) u p stands step holds.wheel (record { arm = refl; expire = refl; orphan = refl });
   number = refl;
   slots = refl;
+  arms = refl;
   others = λ j other. refl;
-  full = λ away. inl taken;
+  full = λ is. inl taken;
+  rested = λ held. (let none : true ≡ false = sym held ∙ away in cc);
+  since = since_same g v by p.number k found u step holds.wheel;
   tidy = tidy_calm g v (probe_entry (Caller by) p.number k found) u p step (λ r. refl);
 }
 
 not_armed : (x : Option Status) → is_taken x ≡ false → x ≢ Some Armed
 not_armed x free is = (let bad : true ≡ false = sym (ap is_taken is) ∙ free in cc)
 
-put_other : (s : sets.FinSet nat_cmp) (k j : ℕ) (b : Bool) → j ≢ k → sets.contains (cond b (sets.insert s k) s) j ≡ sets.contains s j
-put_other s k j false other = refl
-put_other s k j true other =
+put_other : (s : sets.FinSet nat_cmp) (k j : ℕ) → j ≢ k → sets.contains (sets.insert s k) j ≡ sets.contains s j
+put_other s k j other =
     sets.contains-insert nat_cmp_total s k j
     ∙ ((λ i. unsigned_tied j k i || sets.contains s j) ∙ ap (λ b. b || sets.contains s j) (ne_eqb j k other))
 
@@ -86,58 +96,94 @@ put_here s k =
     sets.contains-insert nat_cmp_total s k k
     ∙ ((λ i. unsigned_tied k k i || sets.contains s k) ∙ ap (λ b. b || sets.contains s k) (eq-eqb k k refl))
 
-spent : (n : ℕ) (s : sets.FinSet nat_cmp) (k : ℕ) → n ≤ 262143 → sets.contains (cond (nat_lt n 262143) (sets.insert s k) s) k ≡ false → n ≡ 262143
-spent n s k high away = at (nat_lt n 262143) refl away
-  where
-    at : (b : Bool) → nat_lt n 262143 ≡ b → sets.contains (cond b (sets.insert s k) s) k ≡ false → n ≡ 262143
-    at true low away = (let here = put_here s k in absurd cc)
-    at false low away =
-        elim (cases_lt n 262143) [ inl less ↦ (let t = lt-ltb n 262143 less in absurd cc) | inr more ↦ omega (arith, more, high) ]
-
--- a slot was found not taken: it has no row from then on, and is held free unless it is spent
-pub looks_free : (g : Settings) (v : View) (by : ℕ) (p q r : Part) (k : ℕ) (found : Option Status) (u : View) → Stands g v.front p
-    → HoldsCaller g v by p.number → k < g.slots → Appends g v (probe_entry (Caller by) p.number k found) u → is_taken found ≡ false → q ≡ dropped p k → r ≡ freed q k → LooksAt g v by p r k u
-looks_free g v by p q r k found u stands holds low step none gone back =
-    let few : (slot_at p.slots k).generation ≤ 262143 =
-    omega (arith, stands.holds.lasts k low, (slots_kept g v.front stands.legal).lasts p.number k) in
+-- the part without the row of a slot that was found not taken
+gone_stands : (g : Settings) (v : View) (by : ℕ) (p : Part) (k : ℕ) (found : Option Status) (u : View) → Stands g v.front p
+    → HoldsCaller g v by p.number → k < g.slots → Appends g v (probe_entry (Caller by) p.number k found) u
+    → is_taken ((state g u.front).status (last_timer p.number p.slots k)) ≡ false → Stands g u.front (dropped p k)
+gone_stands g v by p k found u stands holds low step free =
     let e : Entry = probe_entry (Caller by) p.number k found in
-    let is = found_is g v (Caller by) p k found u stands holds.wheel low step in
-    let free : is_taken ((state g u.front).status (last_timer p.number p.slots k)) ≡ false = ap is_taken (sym is) ∙ none in
-    let all : r ≡ freed (dropped p k) k = back ∙ ap (λ (x : Part). freed x k) gone in
     let counts = stands.counted in
-    let left : Stands g u.front (dropped p k) =
     stands_gone g v e u p k p.expires p.orphans stands (subst (λ n. k < n) (sym stands.holds.wide) low) step holds.wheel refl (λ j other. refl)
     (not_armed ((state g u.front).status (last_timer p.number p.slots k)) free)
     (counts.expires ∙ sym (count_same g v e u p.number is_expire step holds.wheel refl))
-    (counts.orphans ∙ sym (count_same g v e u p.number is_orphan step holds.wheel refl)) in
+    (counts.orphans ∙ sym (count_same g v e u p.number is_orphan step holds.wheel refl))
+
+free_last : (g : Settings) (v : View) (by : ℕ) (p : Part) (k : ℕ) (found : Option Status) (u : View) → Stands g v.front p
+    → HoldsCaller g v by p.number → k < g.slots → Appends g v (probe_entry (Caller by) p.number k found) u → is_taken found ≡ false
+    → is_taken ((state g u.front).status (last_timer p.number p.slots k)) ≡ false
+free_last g v by p k found u stands holds low step none =
+    ap is_taken (sym (found_is g v (Caller by) p k found u stands holds.wheel low step)) ∙ none
+
+-- a slot was found not taken, and rests: it has no row from then on
+pub looks_resting : (g : Settings) (v : View) (by now : ℕ) (p q : Part) (k : ℕ) (found : Option Status) (u : View) → Stands g v.front p
+    → HoldsCaller g v by p.number → k < g.slots → sets.contains p.free k ≡ false → Appends g v (probe_entry (Caller by) p.number k found) u
+    → is_taken found ≡ false → q ≡ dropped p k → is_resting (slot_at q.slots k) now ≡ true → LooksAt g v by now p q k u
+looks_resting g v by now p q k found u stands holds low away step none gone rests =
+    let e : Entry = probe_entry (Caller by) p.number k found in
+    record {
+      found = found;
+      step = step;
+      stands = subst (λ (x : Part). Stands g u.front x) (sym gone)
+          (gone_stands g v by p k found u stands holds low step (free_last g v by p k found u stands holds low step none));
+      number = ap (λ (x : Part). x.number) gone;
+      slots = ap (λ (x : Part). x.slots) gone;
+      arms = ap (λ (x : Part). x.arms) gone;
+      others = λ j other. ap (λ (x : Part). sets.contains x.free j) gone;
+      full = λ is. inr (ap (λ (x : Part). is_resting (slot_at x.slots k) now) (sym gone) ∙ rests);
+      rested = λ held. (let no : true ≡ false = sym held ∙ (ap (λ (x : Part). sets.contains x.free k) gone ∙ away) in cc);
+      since = since_same g v by p.number k found u step holds.wheel;
+      tidy = subst (λ (x : Part). KeepsTidy g v p x u) (sym gone)
+          (tidy_gone g v e u p k step (subst (λ n. k < n) (sym stands.holds.wide) low) (λ j other. refl));
+    }
+
+-- a slot was found not taken, and doesn't rest: it has no row from then on, and is held free
+pub looks_free : (g : Settings) (v : View) (by now : ℕ) (p q r : Part) (k : ℕ) (found : Option Status) (u : View) → Stands g v.front p
+    → HoldsCaller g v by p.number → now ≤ clock_at g (state g v.front) → k < g.slots → Appends g v (probe_entry (Caller by) p.number k found) u
+    → is_taken found ≡ false → q ≡ dropped p k → is_resting (slot_at q.slots k) now ≡ false → r ≡ freed q k → LooksAt g v by now p r k u
+looks_free g v by now p q r k found u stands holds past low step none gone awake back =
+    let e : Entry = probe_entry (Caller by) p.number k found in
+    let free = free_last g v by p k found u stands holds low step none in
+    let all : r ≡ freed (dropped p k) k = back ∙ ap (λ (x : Part). freed x k) gone in
+    let left : Stands g u.front (dropped p k) = gone_stands g v by p k found u stands holds low step free in
+    let here : is_resting (slot_at p.slots k) now ≡ false = ap (λ (x : Part). is_resting (slot_at x.slots k) now) (sym gone) ∙ awake in
+    let time : ℕ = clock_at g (state g u.front) in
     record {
       found = found;
       step = step;
       stands = subst (λ (x : Part). Stands g u.front x) (sym all) (record {
+        checked = left.checked;
         legal = left.legal;
-        holds = holds_freed g (state g u.front) (dropped p k) k left.holds free;
+        holds = holds_freed g (state g u.front) (dropped p k) k left.holds free
+            (rested_by (state g u.front) p.number k time (slot_at p.slots k) (left.holds.lasts k low) (left.holds.aboves k low)
+            (rounds_begun g u.front p.number k left.checked left.legal)
+            (later_awake (slot_at p.slots k) now time (omega (arith, past, clock_stepped g v e u stands.checked step)) here));
         counted = record { arms = left.counted.arms; expires = left.counted.expires; orphans = left.counted.orphans };
       });
       number = ap (λ (x : Part). x.number) all;
       slots = ap (λ (x : Part). x.slots) all;
-      others = λ j other. ap (λ (x : Part). sets.contains x.free j) all
-          ∙ put_other p.free k j (nat_lt (slot_at p.slots k).generation 262143) other;
-      full = λ away. inr (spent (slot_at p.slots k).generation p.free k few (ap (λ (x : Part). sets.contains x.free k) (sym all) ∙ away));
+      arms = ap (λ (x : Part). x.arms) all;
+      others = λ j other. ap (λ (x : Part). sets.contains x.free j) all ∙ put_other p.free k j other;
+      full = λ away. (let no : true ≡ false = sym (ap (λ (x : Part). sets.contains x.free k) all ∙ put_here p.free k) ∙ away in cc);
+      rested = λ held. here;
+      since = since_same g v by p.number k found u step holds.wheel;
       tidy = subst (λ (x : Part). KeepsTidy g v p x u) (sym all)
           (tidy_gone g v e u p k step (subst (λ n. k < n) (sym stands.holds.wide) low) (λ j other. refl));
     }
 
 -- nothing was looked at yet
-pub looks_none : (g : Settings) (v : View) (by : ℕ) (p : Part) → Stands g v.front p → ((k : ℕ) → sets.contains p.free k ≡ false)
-    → LooksAtSome g v by p p 0 v
-looks_none g v by p stands none = record {
+pub looks_none : (g : Settings) (v : View) (by now : ℕ) (p : Part) → Stands g v.front p → ((k : ℕ) → sets.contains p.free k ≡ false)
+    → LooksAtSome g v by now p p 0 v
+looks_none g v by now p stands none = record {
   founds = [];
   call = record { actors = refl; legal = stands.legal; later = []; grown = sym (append-nil v.front); ours = refl };
   count = refl;
   stands = stands;
   number = refl;
   slots = refl;
+  arms = refl;
   full = tt;
+  rested = λ j held. (let no : true ≡ false = sym held ∙ none j in cc);
+  since = λ j. refl;
   above = λ j high. none j;
   look = refl;
   tidy = λ whole tidy. tidy;
@@ -154,25 +200,26 @@ probes-push by w k (x ∷ founds) found =
     (probes-push by w (k + 1) founds found
     ∙ ap (λ n. probes_from by w (k + 1) founds ++ probe_entry (Caller by) w n found ∷ []) e)
 
-full-push : (q r : Part) (k : ℕ) (founds : List (Option Status)) (found : Option Status) → r.slots ≡ q.slots
+-- a slot that isn't held free was found taken, or rests
+abbrev IsFullAt : Part → ℕ → ℕ → Option Status → Type 0
+IsFullAt r now k found = sets.contains r.free k ≡ false → (is_taken found ≡ true) ⊎ (is_resting (slot_at r.slots k) now ≡ true)
+
+full-push : (q r : Part) (now k : ℕ) (founds : List (Option Status)) (found : Option Status) → r.slots ≡ q.slots
     → ((j : ℕ) → j < k + length founds → sets.contains r.free j ≡ sets.contains q.free j)
-    → AreFull q k founds
-    → (sets.contains r.free (k + length founds) ≡ false → (is_taken found ≡ true) ⊎ ((slot_at r.slots (k + length founds)).generation ≡ 262143))
-    → AreFull r k (founds ++ found ∷ [])
-full-push q r k [] found slots same full last =
+    → AreFull q now k founds → IsFullAt r now (k + length founds) found → AreFull r now k (founds ++ found ∷ [])
+full-push q r now k [] found slots same full last =
     let e : k + 0 ≡ k = omega arith in
-    (subst (λ n. sets.contains r.free n ≡ false → (is_taken found ≡ true) ⊎ ((slot_at r.slots n).generation ≡ 262143)) e last, tt)
-full-push q r k (x ∷ founds) found slots same full last =
+    (subst (λ n. IsFullAt r now n found) e last, tt)
+full-push q r now k (x ∷ founds) found slots same full last =
     let e : k + suc (length founds) ≡ (k + 1) + length founds = omega arith in (
-      λ away. subst (λ s. (is_taken x ≡ true) ⊎ ((slot_at s k).generation ≡ 262143)) (sym slots) (full.0 (sym (same k (omega arith)) ∙ away)),
-      full-push q r (k + 1) founds found slots (λ j low. same j (omega (arith, low, e))) full.1
-          (subst (λ n. sets.contains r.free n ≡ false → (is_taken found ≡ true) ⊎ ((slot_at r.slots n).generation ≡ 262143)) e last),
+      λ away. subst (λ s. (is_taken x ≡ true) ⊎ (is_resting (slot_at s k) now ≡ true)) (sym slots) (full.0 (sym (same k (omega arith)) ∙ away)),
+      full-push q r now (k + 1) founds found slots (λ j low. same j (omega (arith, low, e))) full.1 (subst (λ n. IsFullAt r now n found) e last),
     )
 
 -- one more was looked at
-pub looks_more : (g : Settings) (v : View) (by : ℕ) (p q r : Part) (n : ℕ) (u w : View) → LooksAtSome g v by p q n u
-    → HoldsCaller g u by q.number → LooksAt g u by q r n w → LooksAtSome g v by p r (n + 1) w
-looks_more g v by p q r n u w some holds one =
+pub looks_more : (g : Settings) (v : View) (by now : ℕ) (p q r : Part) (n : ℕ) (u w : View) → LooksAtSome g v by now p q n u
+    → HoldsCaller g u by q.number → LooksAt g u by now q r n w → LooksAtSome g v by now p r (n + 1) w
+looks_more g v by now p q r n u w some holds one =
     let e : Entry = probe_entry (Caller by) p.number n one.found in
     let step : Appends g u e w = subst (λ m. Appends g u (probe_entry (Caller by) m n one.found) w) some.number one.step in
     record {
@@ -185,9 +232,17 @@ looks_more g v by p q r n u w some holds one =
       stands = one.stands;
       number = one.number ∙ some.number;
       slots = one.slots ∙ some.slots;
-      full = full-push q r 0 some.founds one.found one.slots (λ j low. one.others j (omega (arith, low, some.count))) some.full
-          (subst (λ m. sets.contains r.free m ≡ false → (is_taken one.found ≡ true) ⊎ ((slot_at r.slots m).generation ≡ 262143)) (here 0)
-          (λ away. subst (λ s. (is_taken one.found ≡ true) ⊎ ((slot_at s n).generation ≡ 262143)) (sym one.slots) (one.full away)));
+      arms = one.arms ∙ some.arms;
+      full = full-push q r now 0 some.founds one.found one.slots (λ j low. one.others j (omega (arith, low, some.count))) some.full
+          (subst (λ m. IsFullAt r now m one.found) (here 0)
+          (λ away. subst (λ s. (is_taken one.found ≡ true) ⊎ (is_resting (slot_at s n) now ≡ true)) (sym one.slots) (one.full away)));
+      rested = λ j held.
+          elim (cases_eq j n) [
+            | inl same ↦ subst (λ m. is_resting (slot_at r.slots m) now ≡ false) (sym same)
+                (ap (λ s. is_resting (slot_at s n) now) one.slots ∙ one.rested (ap (sets.contains r.free) (sym same) ∙ held))
+            | inr other ↦ ap (λ s. is_resting (slot_at s j) now) one.slots ∙ some.rested j (sym (one.others j other) ∙ held)
+          ];
+      since = λ j. subst (λ m. (state g w.front).since m j ≡ (state g u.front).since m j) some.number (one.since j) ∙ some.since j;
       above = λ j high. one.others j (omega (arith, high)) ∙ some.above j (omega (arith, high));
       look = look_stepped g u (probe_entry (Caller by) q.number n one.found) w one.step holds.caller ∙ some.look;
       tidy = tidy_then g v p q u r w some.call.actors some.tidy one.tidy;
@@ -199,6 +254,7 @@ looks_more g v by p q r n u w some holds one =
 -- the part stands when a slot is held free no more
 picked_stands : (g : Settings) (v : View) (p q : Part) (k : ℕ) → Stands g v.front p → q ≡ picked p k → Stands g v.front q
 picked_stands g v p q k stands is = subst (λ (x : Part). Stands g v.front x) (sym is) (record {
+  checked = stands.checked;
   legal = stands.legal;
   holds = record {
     number = stands.holds.number;
@@ -207,59 +263,84 @@ picked_stands g v p q k stands is = subst (λ (x : Part). Stands g v.front x) (s
     wide = stands.holds.wide;
     rows = stands.holds.rows;
     lasts = stands.holds.lasts;
+    aboves = stands.holds.aboves;
     arms = stands.holds.arms;
     free = λ j held. stands.holds.free j (taken_was p.free k j held);
+    ready = λ j held. stands.holds.ready j (taken_was p.free k j held);
   };
   counted = record { arms = stands.counted.arms; expires = stands.counted.expires; orphans = stands.counted.orphans };
 })
 
 -- a slot was held free
-pub takes_first : (g : Settings) (v : View) (by : ℕ) (p q : Part) (k : ℕ) → Stands g v.front p → q ≡ picked p k → IsFree q k
-    → sets.contains p.free k ≡ true → TakesSlot g v by p q (Some k) v
-takes_first g v by p q k stands is free held = record {
+pub takes_first : (g : Settings) (v : View) (by now : ℕ) (p q : Part) (k : ℕ) → Stands g v.front p → now ≡ clock_at g (state g v.front)
+    → q ≡ picked p k → IsFree q k → sets.contains p.free k ≡ true → TakesSlot g v by now p q (Some k) v
+takes_first g v by now p q k stands told is free held = record {
   founds = [];
   call = record { actors = refl; legal = stands.legal; later = []; grown = sym (append-nil v.front); ours = refl };
   stands = picked_stands g v p q k stands is;
   number = ap (λ (x : Part). x.number) is;
   slots = ap (λ (x : Part). x.slots) is;
+  arms = ap (λ (x : Part). x.arms) is;
   finds = free;
   usable = ap (λ (x : Part). is_taken ((state g v.front).status (last_timer x.number x.slots k))) is ∙ stands.holds.free k held;
+  rested = subst (λ (x : Part). (turned (uses_at (state g v.front) x.number k)).since ≤ now) (sym is)
+      (subst (λ n. (turned (uses_at (state g v.front) p.number k)).since ≤ n) (sym told) (stands.holds.ready k held));
   look = refl;
   tidy = subst (λ (x : Part). KeepsTidy g v p x v) (sym is) (λ whole tidy. tidy);
 }
 
+-- a slot that is held free after the looks doesn't rest
+rested_then : (g : Settings) (v : View) (by now : ℕ) (p q : Part) (n k : ℕ) (u : View) → Stands g v.front p → now ≡ clock_at g (state g v.front)
+    → LooksAtSome g v by now p q n u → k < g.slots → sets.contains q.free k ≡ true → (turned (uses_at (state g u.front) q.number k)).since ≤ now
+rested_then g v by now p q n k u stands told some low held =
+    rested_by (state g u.front) q.number k now (slot_at q.slots k) (some.stands.holds.lasts k low) (some.stands.holds.aboves k low)
+    (begun q.number some.number) (some.rested k held)
+  where
+    begun : (w : ℕ) → w ≡ p.number → (state g u.front).since w k ≤ now
+    begun w same =
+        subst (λ m. (state g u.front).since m k ≤ now) (sym same)
+        (omega (arith, told, some.since k, rounds_begun g v.front p.number k stands.checked stands.legal))
+
 -- none was, and all were looked at
-pub takes_then : (g : Settings) (v : View) (by : ℕ) (p p' q r : Part) (n : ℕ) (slot : Option ℕ) (u : View) → p' ≡ p → n ≡ length p.slots
-    → LooksAtSome g v by p' q n u → IfNone slot ((k : ℕ) → sets.contains q.free k ≡ false) → IfNone slot (r ≡ q)
+pub takes_then : (g : Settings) (v : View) (by now : ℕ) (p p' q r : Part) (n : ℕ) (slot : Option ℕ) (u : View) → Stands g v.front p
+    → now ≡ clock_at g (state g v.front) → p' ≡ p → n ≡ length p.slots → LooksAtSome g v by now p' q n u
+    → IfNone slot ((k : ℕ) → sets.contains q.free k ≡ false) → IfNone slot (r ≡ q)
     → IfSome slot (λ k. sets.contains q.free k ≡ true) → IfSome slot (λ k. r ≡ picked q k) → IfSome slot (IsFree r)
-    → TakesSlot g v by p r slot u
-takes_then g v by p p' q r n None u same many some none left held is free =
-    let here = subst (λ (x : Part). LooksAtSome g v by x q n u) same some in
+    → TakesSlot g v by now p r slot u
+takes_then g v by now p p' q r n None u stands told same many some none left held is free =
+    let here = subst (λ (x : Part). LooksAtSome g v by now x q n u) same some in
     record {
       founds = here.founds;
       call = here.call;
       stands = subst (λ (x : Part). Stands g u.front x) (sym left) here.stands;
       number = ap (λ (x : Part). x.number) left ∙ here.number;
       slots = ap (λ (x : Part). x.slots) left ∙ here.slots;
+      arms = ap (λ (x : Part). x.arms) left ∙ here.arms;
       finds = (
         here.count ∙ many,
-        subst (λ (x : Part). AreFull x 0 here.founds) (sym left) here.full,
+        subst (λ (x : Part). AreFull x now 0 here.founds) (sym left) here.full,
         λ j. ap (λ (x : Part). sets.contains x.free j) left ∙ none j,
       );
       usable = tt;
+      rested = tt;
       look = here.look;
       tidy = subst (λ (x : Part). KeepsTidy g v p x u) (sym left) here.tidy;
     }
-takes_then g v by p p' q r n (Some k) u same many some none left held is free =
-    let here = subst (λ (x : Part). LooksAtSome g v by x q n u) same some in
+takes_then g v by now p p' q r n (Some k) u stands told same many some none left held is free =
+    let here = subst (λ (x : Part). LooksAtSome g v by now x q n u) same some in
+    let low : k < g.slots =
+    omega (arith, free.low, ap (λ (x : Part). length x.slots) is, here.stands.holds.many) in
     record {
       founds = here.founds;
       call = here.call;
       stands = picked_stands g u q r k here.stands is;
       number = ap (λ (x : Part). x.number) is ∙ here.number;
       slots = ap (λ (x : Part). x.slots) is ∙ here.slots;
+      arms = ap (λ (x : Part). x.arms) is ∙ here.arms;
       finds = free;
       usable = ap (λ (x : Part). is_taken ((state g u.front).status (last_timer x.number x.slots k))) is ∙ here.stands.holds.free k held;
+      rested = subst (λ (x : Part). (turned (uses_at (state g u.front) x.number k)).since ≤ now) (sym is)
+          (rested_then g v by now p q n k u stands told here low held);
       look = here.look;
       tidy = subst (λ (x : Part). KeepsTidy g v p x u) (sym is) here.tidy;
     }

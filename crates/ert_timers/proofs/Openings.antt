@@ -4,16 +4,14 @@ use Rattle.std.proofs.Common.{◌≡◌, ℕ, ◌<◌, ◌≤◌, cond, nat_lt, 
 use Rattle.std.proofs.lemmas.Bool.{cases_lt, ltb-true}
 use Rattle.std.proofs.lemmas.List.{get_or-replicate, length-replicate}
 use Rattle.std.proofs.Math.ListN.{get_or-eq_default}
-use Rattle.std.proofs.lemmas.List.Elements.{All-from_get_or}
 use Rattle.std.proofs.lemmas.List.Folds.{sum_by-replicate}
 use Rattle.std.specs.FinSet as sets
-use Rattle.std.specs.List.{sum_by}
 use Rattle.std.specs.Option.{is_some}
+use Rattle.ert_defs.specs.Settings.{IsChecked}
 use Rattle.ert_defs.specs.declared.settings.Settings.{Settings}
 use Rattle.ert_timers.specs.Parts.{AreFit, Part, Stands, slot_at, unused}
 use Rattle.ert_timers.specs.declared.part.Slot.{Slot}
-use Rattle.ert_timers.proofs.Fit.{uses_of}
-use Rattle.ert_wheel.specs.Rings.{Rings, Place, AreChains}
+use Rattle.ert_wheel.specs.Rings.{Rings, AreChains}
 use Rattle.ert_wheel.specs.Rows.{key_in}
 use Rattle.ert_wheel.specs.declared.row.Key.{Key}
 use Rattle.ert_words.specs.Free.{Free}
@@ -44,7 +42,6 @@ pub fit_open : (processes n : ℕ) (slots : List Slot) (keys : List (Option Key)
 fit_open processes n slots keys free owners few few_homes slots_are keys_are all every owned homes chains =
     let wide : length slots ≡ n = ap length slots_are ∙ length-replicate n unused in
     let none : (k : ℕ) → key_in keys k ≡ None = λ k. ap (λ ks. key_in ks k) keys_are ∙ key_nowhere n k in
-    let fresh : (k : ℕ) → slot_at slots k ≡ unused = λ k. ap (λ ss. slot_at ss k) slots_are ∙ slot_nowhere n k in
     record {
       few = omega (arith, wide, few);
       wide = ap length keys_are ∙ (length-replicate n None ∙ sym wide);
@@ -54,10 +51,7 @@ fit_open processes n slots keys free owners few few_homes slots_are keys_are all
       few_homes = few_homes;
       vacant = λ k is. none k;
       below = λ k is. omega (arith, wide, ltb-true k n (sym (every k) ∙ is));
-      unspent = λ k is. subst (λ (s : Slot). s.generation < 262143) (sym (fresh k)) (omega arith);
-      uses = All-from_get_or (λ (s : Slot). s.generation ≤ 262143) slots unused
-          (λ k low. subst (λ (s : Slot). s.generation ≤ 262143) (sym (fresh k)) (omega arith));
-      sum = sym (ap (sum_by uses_of) slots_are ∙ omega (arith, sum_by-replicate uses_of n unused));
+      fewer = omega arith;
       tally = omega (arith, ap (count_by is_some) keys_are, no_keys n);
       orders = λ k key is. (let e : None ≡ Some key = sym (none k) ∙ is in absurd cc);
       dests = λ k key is. (let e : None ≡ Some key = sym (none k) ∙ is in absurd cc);
@@ -69,11 +63,12 @@ fit_open processes n slots keys free owners few few_homes slots_are keys_are all
       };
     }
 
-pub stands_open : (g : Settings) (w n : ℕ) (p : Part) → w < g.schedulers → g.slots ≡ n → p.number ≡ w → p.processes ≡ g.processes
+pub stands_open : (g : Settings) (w n : ℕ) (p : Part) → IsChecked g → w < g.schedulers → g.slots ≡ n → p.number ≡ w → p.processes ≡ g.processes
     → p.slots ≡ replicate n unused → p.keys ≡ replicate n None → p.arms ≡ 0 → p.expires ≡ 0 → p.orphans ≡ 0 → Stands g [] p
-stands_open g w n p low many number processes slots keys arms expires orphans =
+stands_open g w n p checked low many number processes slots keys arms expires orphans =
     let none : (k : ℕ) → key_in p.keys k ≡ None = λ k. ap (λ ks. key_in ks k) keys ∙ key_nowhere n k in
     record {
+      checked = checked;
       legal = tt;
       holds = record {
         number = subst (λ m. m < g.schedulers) (sym number) low;
@@ -86,8 +81,10 @@ stands_open g w n p low many number processes slots keys arms expires orphans =
           armed = λ m row at is. absurd cc;
         };
         lasts = λ k high. ap (λ (s : Slot). s.generation) (ap (λ ss. slot_at ss k) slots ∙ slot_nowhere n k);
+        aboves = λ k high. ap (λ (s : Slot). s.above) (ap (λ ss. slot_at ss k) slots ∙ slot_nowhere n k);
         arms = arms;
         free = λ k is. refl;
+        ready = λ k is. omega arith;
       };
       counted = record { arms = arms; expires = expires; orphans = orphans };
     }

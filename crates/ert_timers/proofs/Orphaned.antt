@@ -26,7 +26,7 @@ use Rattle.ert_timers.specs.Parts.{HoldsCaller, Part, Stands, slot_at, last_time
 use Rattle.ert_timers.specs.Starting.{HoldsTimer, Orphans, Ends}
 use Rattle.ert_timers.specs.Tidy.{KeepsTidy}
 use Rattle.ert_timers.proofs.Later.{unexpired_step}
-use Rattle.ert_timers.proofs.Standing.{count_same, holds_freed, takes_none, stands_step}
+use Rattle.ert_timers.proofs.Standing.{count_same, holds_back, takes_none, stands_step}
 use Rattle.ert_timers.proofs.Tidied.{settles, tidy_calm, tidy_gone, tidy_then}
 use Rattle.ert_timers.proofs.Tried.{count_more, held_found, self, stands_gone, two_slots}
 use Rattle.ert_wheel.specs.Rows.{key_in}
@@ -41,8 +41,10 @@ pub back : (g : Settings) (v : View) (e : Entry) (u : View) (p : Part) (k : ℕ)
     → Stands g u.front (record p { keys = set p.keys k None; expires = p.expires; orphans = p.orphans + cond hit 1 0 })
     → Stands g u.front (given_back p k hit)
 back g v e u p k key hit stands held step wheel settled unexpired gone = record {
+  checked = gone.checked;
   legal = gone.legal;
-  holds = holds_freed g (state g u.front) (record p { keys = set p.keys k None; expires = p.expires; orphans = p.orphans + cond hit 1 0 }) k gone.holds
+  holds = holds_back g u.front (record p { keys = set p.keys k None; expires = p.expires; orphans = p.orphans + cond hit 1 0 }) k gone.checked
+      gone.legal (omega (arith, key_low p.keys k key held, stands.holds.wide)) gone.holds
       (takes_none ((state g u.front).status (last_timer p.number p.slots k)) settled unexpired);
   counted = record { arms = gone.counted.arms; expires = gone.counted.expires; orphans = gone.counted.orphans };
 }

@@ -1,14 +1,13 @@
 -- The chains of the processes: a row is found, and slots without a row leave.
 
-use Rattle.std.proofs.Common.{◌≡◌, ◌≢◌, ℕ, zero, suc, ◌+◌, ◌^◌, ◌<◌, ◌≤◌, cond, nat_eq, List, length, Option, Some, None, IfSome, option_map, refl, sym, ap, subst, ◌∙◌, arith, inl, inr}
+use Rattle.std.proofs.Common.{◌≡◌, ◌≢◌, ℕ, zero, suc, ◌+◌, ◌^◌, ◌<◌, ◌≤◌, cond, nat_eq, List, length, Option, Some, None, option_map, refl, sym, ap, subst, ◌∙◌, arith, inl, inr}
 use Rattle.std.proofs.lemmas.Bool.{cases_eq, eq-eqb, ne_eqb}
-use Rattle.ert_timers.specs.Owners.{MayThin, Thinned, IsIn, FindsRow}
-use Rattle.ert_wheel.proofs.Collect.{key_low}
+use Rattle.ert_timers.specs.Owners.{Thinned, IsIn, FindsRow}
 use Rattle.ert_wheel.proofs.Parts.{IsSlot, slot_is, with_place_here, with_place_there}
 use Rattle.ert_wheel.specs.Chained.{Shape}
 use Rattle.ert_wheel.specs.Links.{next_at}
-use Rattle.ert_wheel.specs.Rings.{Rings, Place, AreChains, StandsIn, Finds, Takes, MayTake, shape, with_place}
-use Rattle.ert_wheel.specs.Rows.{key_in, row_at, key_of}
+use Rattle.ert_wheel.specs.Rings.{Rings, Place, AreChains, StandsIn, Finds, Takes, shape, with_place}
+use Rattle.ert_wheel.specs.Rows.{key_in, row_at}
 use Rattle.ert_wheel.specs.declared.row.Key.{Key}
 use Rattle.ert_wheel.specs.declared.row.Row.{Row}
 

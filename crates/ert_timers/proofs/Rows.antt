@@ -5,7 +5,7 @@ use Rattle.std.proofs.lemmas.List.Elements.{All-get_or}
 use Rattle.std.proofs.lemmas.Option.{get_or_from_slice_get, slice_get_within}
 use Rattle.std.specs.List.{slice_get}
 use Rattle.ert_defs.specs.Legal.{Legal}
-use Rattle.ert_defs.specs.States.{State, state}
+use Rattle.ert_defs.specs.States.{State, uses_at, state}
 use Rattle.ert_defs.specs.Timers.{Row}
 use Rattle.ert_defs.proofs.Rows.{IsRow, rows_hold}
 use Rattle.ert_defs.specs.declared.entry.Entry.{Entry}
@@ -31,8 +31,8 @@ pub row_wheel : (g : Settings) (h : List Entry) (w n : ℕ) (row : Row) → Lega
     → row.timer.wheel ≡ w
 row_wheel g h w n row legal at =
     let rows : List Row = (state g h).rows w in
-    let is : IsRow w ((state g h).last w) (get_or rows n row) =
-    All-get_or (IsRow w ((state g h).last w)) rows n row (slice_get_within rows n row at) (rows_hold g h w legal).each in
+    let is : IsRow w (uses_at (state g h) w) (get_or rows n row) =
+    All-get_or (IsRow w (uses_at (state g h) w)) rows n row (slice_get_within rows n row at) (rows_hold g h w legal).each in
     ap (λ (r : Row). r.timer.wheel) (sym (get_or_from_slice_get rows n row row at)) ∙ is.wheel
 
 -- an armed timer is the row that is held of its slot

@@ -1,44 +1,50 @@
 -- A start, of what its steps told.
 
-use Rattle.std.proofs.Common.{◌≡◌, ◌⊎◌, ℕ, zero, suc, ◌+◌, ◌<◌, true, false, List, [], ◌∷◌, ◌++◌, length, Option, Some, None, Ok, Err, inl, inr, refl, sym, ap, subst, ◌∙◌, arith}
+use Rattle.std.proofs.Common.{◌≡◌, ◌⊎◌, ℕ, zero, suc, ◌+◌, ◌<◌, ◌≤◌, ℤ, pos, true, false, List, [], ◌∷◌, ◌++◌, length, Option, Some, None, option_map, IfSome, Ok, Err, inl, inr, refl, sym, ap, subst, ◌∙◌, arith}
 use Rattle.std.specs.FinSet as sets
 use Rattle.ert_defs.specs.Entries.{look_entry, arm_entry, mark_entry}
-use Rattle.ert_defs.specs.Milliseconds.{deadline_of}
-use Rattle.ert_defs.specs.States.{State, state}
-use Rattle.ert_defs.specs.Timers.{is_taken}
+use Rattle.ert_defs.specs.Milliseconds.{natural, down, deadline_of}
+use Rattle.ert_defs.specs.States.{State, uses_at, state}
+use Rattle.ert_defs.specs.Timers.{IsNextUse, deadline_in, turned, is_taken}
+use Rattle.ert_defs.proofs.Slots.{ordered}
 use Rattle.ert_defs.specs.declared.entry.Actor.TheVariants.{Caller}
 use Rattle.ert_defs.specs.declared.entry.Entry.{Entry}
 use Rattle.ert_defs.specs.declared.settings.Settings.{Settings}
 use Rattle.ert_defs.specs.declared.timer.Start.{Start}
 use Rattle.ert_defs.specs.declared.timer.Status.{Status}
 use Rattle.ert_defs.specs.declared.timer.TimerRef.{TimerRef}
-use Rattle.ert_answers.specs.TimerCalls.{AreProbes, AreTaken, Starts}
+use Rattle.ert_answers.specs.TimerCalls.{AreProbes, AreTaken, Rests, Starts}
 use Rattle.ert_answers.specs.declared.answers.StartErr.TheVariants.{BadArg, Full}
 use Rattle.ert_calls.proofs.Looks.{look_stepped}
 use Rattle.ert_table.specs.Calls.{IsMade}
 use Rattle.ert_table.specs.Takes.{TakesPlace}
 use Rattle.ert_table.specs.declared.view.View.{View}
 use Rattle.ert_table.proofs.Calls.{step_takes_place, takes_place_then}
+use Rattle.ert_laws.proofs.SlotUses.{timers_few}
+use Rattle.ert_timers.specs.Changes.{is_resting, next_use}
 use Rattle.ert_timers.specs.Looking.{LooksAhead}
 use Rattle.ert_timers.specs.Parts.{HoldsCaller, Part, Stands, slot_at}
-use Rattle.ert_timers.specs.Starting.{AreFull, Arms, Ends, TakesSlot, probes_from}
+use Rattle.ert_timers.specs.Starting.{AreFull, Arms, Ends, IsUseFor, TakesSlot, probes_from}
+use Rattle.ert_timers.specs.declared.looking.Ahead.{Ahead}
+use Rattle.ert_timers.specs.declared.part.Use.{Use}
 use Rattle.ert_timers.specs.Tidy.{KeepsTidy}
-use Rattle.ert_timers.proofs.Standing.{stands_step}
+use Rattle.ert_timers.proofs.Resting.{next_is as use_is, rests_by}
+use Rattle.ert_timers.proofs.Standing.{clock_at, stands_step}
 use Rattle.ert_timers.proofs.Tidied.{tidy_calm, tidy_then}
 
 -- a start that is refused for its time
-pub bad_arg : (g : Settings) (v : View) (by w : ℕ) (start : Start) (deadline : Option ℕ) (u : View) → deadline ≡ None
-    → LooksAhead g v by start deadline u → IsMade g v (Starts g by w start (Err BadArg)) u
-bad_arg g v by w start deadline u none looks = record {
+pub bad_arg : (g : Settings) (v : View) (by w : ℕ) (start : Start) (ahead : Option Ahead) (u : View) → ahead ≡ None
+    → LooksAhead g v by start ahead u → IsMade g v (Starts g by w start (Err BadArg)) u
+bad_arg g v by w start ahead u none looks = record {
   entries = look_entry (Caller by) looks.now ∷ [];
-  allowed = record { now = looks.now; refused = sym looks.told ∙ none; entries = refl };
+  allowed = record { now = looks.now; refused = sym looks.told ∙ ap (option_map (λ (a : Ahead). a.deadline)) none; entries = refl };
   call = step_takes_place g v (look_entry (Caller by) looks.now) u looks.step;
 }
 
 -- the part stands after the look
-pub ahead_stands : (g : Settings) (v : View) (by : ℕ) (start : Start) (deadline : Option ℕ) (u : View) (p : Part) → Stands g v.front p
-    → HoldsCaller g v by p.number → LooksAhead g v by start deadline u → Stands g u.front p
-ahead_stands g v by start deadline u p stands holds looks =
+pub ahead_stands : (g : Settings) (v : View) (by : ℕ) (start : Start) (ahead : Option Ahead) (u : View) (p : Part) → Stands g v.front p
+    → HoldsCaller g v by p.number → LooksAhead g v by start ahead u → Stands g u.front p
+ahead_stands g v by start ahead u p stands holds looks =
     stands_step g v (look_entry (Caller by) looks.now) u p stands looks.step holds.wheel (record { arm = refl; expire = refl; orphan = refl })
 
 -- the entries of looks at slots are such looks
@@ -46,61 +52,128 @@ are_probes : (by w k : ℕ) (founds : List (Option Status)) → AreProbes (Calle
 are_probes by w k [] = tt
 are_probes by w k (found ∷ founds) = (k, found, refl, are_probes by w (k + 1) founds)
 
--- each slot was found taken, or is spent
-are_taken : (by w : ℕ) (s : State) (q : Part) (k n : ℕ) (founds : List (Option Status)) → length founds ≡ n
-    → ((j : ℕ) → sets.contains q.free j ≡ false) → ((j : ℕ) → j < k + n → (slot_at q.slots j).generation ≡ s.last w j) → AreFull q k founds
-    → AreTaken by w s k n (probes_from by w k founds)
-are_taken by w s q k zero [] many none lasts full = refl
-are_taken by w s q k (suc n) [] many none lasts full = absurd (omega (arith, many))
-are_taken by w s q k zero (found ∷ founds) many none lasts full = absurd (omega (arith, many))
-are_taken by w s q k (suc n) (found ∷ founds) many none lasts full =
+-- the look of a start that is accepted
+record IsAhead (g : Settings) (start : Start) (looked : ℤ) (ahead : Ahead) : Type 0 where
+  told : deadline_of g start looked ≡ Some ahead.deadline
+  down_to : pos ahead.now ≡ down g looked
+
+is_ahead : (g : Settings) (v : View) (by : ℕ) (start : Start) (ahead : Option Ahead) (a : Ahead) (u : View) (looks : LooksAhead g v by start ahead u)
+    → ahead ≡ Some a → IsAhead g start looks.now a
+is_ahead g v by start ahead a u looks is = record {
+  told = sym looks.told ∙ ap (option_map (λ (x : Ahead). x.deadline)) is;
+  down_to = subst (λ o. IfSome o (λ x. pos x.now ≡ down g looks.now)) is looks.down_to;
+}
+
+-- the milliseconds of the look are those of the clock after it
+pub now_is : (g : Settings) (v : View) (by : ℕ) (start : Start) (ahead : Option Ahead) (a : Ahead) (u : View) → ahead ≡ Some a
+    → LooksAhead g v by start ahead u → a.now ≡ clock_at g (state g u.front)
+now_is g v by start ahead a u is looks =
+    ap natural ((is_ahead g v by start ahead a u looks is).down_to ∙ ap (down g) looks.time)
+
+-- each slot was found taken, or rests
+are_taken : (by w now : ℕ) (s : State) (q : Part) (k n : ℕ) (founds : List (Option Status)) → length founds ≡ n
+    → ((j : ℕ) → sets.contains q.free j ≡ false) → ((j : ℕ) → j < k + n → (slot_at q.slots j).generation ≡ s.last w j)
+    → ((j : ℕ) → j < k + n → (slot_at q.slots j).above ≡ s.above w j) → AreFull q now k founds
+    → AreTaken by w now s k n (probes_from by w k founds)
+are_taken by w now s q k zero [] many none lasts aboves full = refl
+are_taken by w now s q k (suc n) [] many none lasts aboves full = absurd (omega (arith, many))
+are_taken by w now s q k zero (found ∷ founds) many none lasts aboves full = absurd (omega (arith, many))
+are_taken by w now s q k (suc n) (found ∷ founds) many none lasts aboves full =
     let e : k + 1 ≡ suc k = omega arith in (
       found,
       probes_from by w (k + 1) founds,
       refl,
       one (full.0 (none k)),
-      subst (λ m. AreTaken by w s m n (probes_from by w (k + 1) founds)) e
-          (are_taken by w s q (k + 1) n founds (omega (arith, many)) none (λ j low. lasts j (omega (arith, low))) full.1),
+      subst (λ m. AreTaken by w now s m n (probes_from by w (k + 1) founds)) e
+          (are_taken by w now s q (k + 1) n founds (omega (arith, many)) none (λ j low. lasts j (omega (arith, low)))
+          (λ j low. aboves j (omega (arith, low))) full.1),
     )
   where
-    one : (is_taken found ≡ true) ⊎ ((slot_at q.slots k).generation ≡ 262143) → (is_taken found ≡ true) ⊎ (s.last w k ≡ 262143)
+    one : (is_taken found ≡ true) ⊎ (is_resting (slot_at q.slots k) now ≡ true) → (is_taken found ≡ true) ⊎ Rests s now w k
     one (inl taken) = inl taken
-    one (inr spent) = inr (sym (lasts k (omega arith)) ∙ spent)
+    one (inr rests) = inr (rests_by s w k now (slot_at q.slots k) (lasts k (omega arith)) (aboves k (omega arith)) rests)
 
 -- a start for which no slot was found
-pub is_full : (g : Settings) (v : View) (by : ℕ) (p q : Part) (start : Start) (deadline : Option ℕ) (d : ℕ) (slot : Option ℕ) (u x : View)
-    → Stands g v.front p → deadline ≡ Some d → slot ≡ None → LooksAhead g v by start deadline u → TakesSlot g u by p q slot x
+pub is_full : (g : Settings) (v : View) (by : ℕ) (p q : Part) (start : Start) (ahead : Option Ahead) (a : Ahead) (slot : Option ℕ) (u x : View)
+    → Stands g v.front p → ahead ≡ Some a → slot ≡ None → LooksAhead g v by start ahead u → TakesSlot g u by a.now p q slot x
     → IsMade g v (Starts g by p.number start (Err Full)) x
-is_full g v by p q start deadline d slot u x stands has none looks takes =
-    let all = subst (λ s. TakesSlot g u by p q s x) none takes in
+is_full g v by p q start ahead a slot u x stands has none looks takes =
+    let all = subst (λ s. TakesSlot g u by a.now p q s x) none takes in
     let probes : List Entry = probes_from by p.number 0 all.founds in
+    let is = is_ahead g v by start ahead a u looks has in
+    let s : State = state g v.front in
     record {
       entries = look_entry (Caller by) looks.now ∷ probes;
       allowed = record {
         now = looks.now;
         probes = probes;
-        accepted = λ no_deadline. (let e : Some d ≡ None = sym has ∙ (looks.told ∙ no_deadline) in cc);
-        are_taken = are_taken by p.number (state g v.front) q 0 g.slots all.founds (all.finds.0 ∙ stands.holds.many) all.finds.2
-            (λ j low. ap (λ s. (slot_at s j).generation) all.slots ∙ stands.holds.lasts j (omega (arith, low))) all.finds.1;
+        accepted = λ no_deadline. (let e : Some a.deadline ≡ None = sym is.told ∙ no_deadline in cc);
+        are_taken = inl (subst (λ n. AreTaken by p.number n s 0 g.slots probes) (ap natural is.down_to)
+            (are_taken by p.number a.now s q 0 g.slots all.founds (all.finds.0 ∙ stands.holds.many) all.finds.2
+            (λ j low. ap (λ ss. (slot_at ss j).generation) all.slots ∙ stands.holds.lasts j (omega (arith, low)))
+            (λ j low. ap (λ ss. (slot_at ss j).above) all.slots ∙ stands.holds.aboves j (omega (arith, low))) all.finds.1));
         entries = refl;
       };
       call = takes_place_then g v u x (look_entry (Caller by) looks.now ∷ []) probes
           (step_takes_place g v (look_entry (Caller by) looks.now) u looks.step) all.call;
     }
 
--- the deadline is by the caller's last look
-pub due_ahead : (g : Settings) (v : View) (by : ℕ) (p q : Part) (start : Start) (deadline : Option ℕ) (d : ℕ) (slot : Option ℕ) (u x : View)
-    → HoldsCaller g v by p.number → deadline ≡ Some d → LooksAhead g v by start deadline u → TakesSlot g u by p q slot x
-    → deadline_of g start ((state g x.front).looked (Caller by)) ≡ Some d
-due_ahead g v by p q start deadline d slot u x holds has looks takes =
-    ap (deadline_of g start) (takes.look ∙ look_stepped g v (look_entry (Caller by) looks.now) u looks.step holds.caller)
-    ∙ (sym looks.told ∙ has)
+-- a start of a wheel that has had as many timers as it can have
+pub is_at_end : (g : Settings) (v : View) (by arms : ℕ) (p : Part) (start : Start) (ahead : Option Ahead) (a : Ahead) (u : View)
+    → Stands g v.front p → ahead ≡ Some a → arms ≡ p.arms → 9007199254740992 ≤ arms → LooksAhead g v by start ahead u
+    → IsMade g v (Starts g by p.number start (Err Full)) u
+is_at_end g v by arms p start ahead a u stands has same high looks =
+    let is = is_ahead g v by start ahead a u looks has in
+    record {
+      entries = look_entry (Caller by) looks.now ∷ [];
+      allowed = record {
+        now = looks.now;
+        probes = [];
+        accepted = λ no_deadline. (let e : Some a.deadline ≡ None = sym is.told ∙ no_deadline in cc);
+        are_taken = inr (omega (arith, same, high, stands.holds.arms, timers_few g v.front p.number stands.legal), refl);
+        entries = refl;
+      };
+      call = step_takes_place g v (look_entry (Caller by) looks.now) u looks.step;
+    }
+
+-- the look of a caller stays its last while slots are looked at
+last_look : (g : Settings) (v : View) (by now : ℕ) (p q : Part) (start : Start) (ahead : Option Ahead) (slot : Option ℕ) (u x : View)
+    → HoldsCaller g v by p.number → (looks : LooksAhead g v by start ahead u) → TakesSlot g u by now p q slot x
+    → (state g x.front).looked (Caller by) ≡ looks.now
+last_look g v by now p q start ahead slot u x holds looks takes =
+    takes.look ∙ look_stepped g v (look_entry (Caller by) looks.now) u looks.step holds.caller
+
+-- the next use of the slot that was found, for this start
+pub use_ahead : (g : Settings) (v : View) (by : ℕ) (p q : Part) (start : Start) (ahead : Option Ahead) (a : Ahead) (slot : Option ℕ) (k : ℕ) (next : Use)
+    (u x : View) → HoldsCaller g v by p.number → ahead ≡ Some a → slot ≡ Some k → a.now ≤ 8796093022207 → a.deadline ≤ 8796093022207 → LooksAhead g v by start ahead u
+    → TakesSlot g u by a.now p q slot x → next ≡ next_use (slot_at q.slots k).generation a.now a.deadline
+    → IsUseFor g (state g x.front) by q.number k start next
+use_ahead g v by p q start ahead a slot k next u x holds has found now_high deadline_high looks takes next_is =
+    let here = subst (λ s. TakesSlot g u by a.now p q s x) found takes in
+    let s : State = state g x.front in
+    let w : ℕ = q.number in
+    let is = is_ahead g v by start ahead a u looks has in
+    let look = last_look g v by a.now p q start ahead slot u x holds looks takes in
+    let now : a.now ≡ natural (down g (s.looked (Caller by))) = ap natural (is.down_to ∙ ap (down g) (sym look)) in
+    let due : deadline_of g start (s.looked (Caller by)) ≡ Some a.deadline = ap (deadline_of g start) look ∙ is.told in
+    let high : k < g.slots = subst (λ n. k < n) here.stands.holds.many here.finds.low in
+    let last : (slot_at q.slots k).generation ≡ s.last w k = here.stands.holds.lasts k high in
+    let same : next ≡ next_use (s.last w k) a.now a.deadline = next_is ∙ ap (λ n. next_use n a.now a.deadline) last in
+    let can = use_is (uses_at s w k) a.now a.deadline (ordered g x.front here.stands.legal w k).sound here.rested now_high deadline_high in
+    record {
+      wanted = a.deadline;
+      due = due;
+      can = subst (λ n. IsNextUse (uses_at s w k) n a.deadline next.generation) now
+          (subst (λ (y : Use). IsNextUse (uses_at s w k) a.now a.deadline y.generation) (sym same) can.0);
+      deadline = subst (λ n. next.deadline ≡ deadline_in (turned (uses_at s w k)).since n a.deadline) now
+          (ap (λ (y : Use). y.deadline) same ∙ can.1);
+    }
 
 -- a start whose timer was armed
-pub is_started : (g : Settings) (v : View) (by : ℕ) (p q r s : Part) (start : Start) (deadline : Option ℕ) (slot : Option ℕ) (k d : ℕ)
-    (timer : TimerRef) (u x y z : View) → LooksAhead g v by start deadline u → TakesSlot g u by p q slot x → Arms g x by q r k d start timer y
+pub is_started : (g : Settings) (v : View) (by : ℕ) (p q r s : Part) (start : Start) (ahead : Option Ahead) (now : ℕ) (slot : Option ℕ) (k : ℕ) (next : Use)
+    (timer : TimerRef) (u x y z : View) → LooksAhead g v by start ahead u → TakesSlot g u by now p q slot x → Arms g x by q r k next start timer y
     → Ends g y by r s start.dest timer z → IsMade g v (Starts g by p.number start (Ok timer)) z
-is_started g v by p q r s start deadline slot k d timer u x y z looks takes arms ends =
+is_started g v by p q r s start ahead now slot k next timer u x y z looks takes arms ends =
     let look : Entry = look_entry (Caller by) looks.now in
     let probes : List Entry = probes_from by p.number 0 takes.founds in
     let tail : List Entry = mark_entry (Caller by) start.dest false ends.was ∷ ends.closing in
@@ -124,20 +197,20 @@ is_started g v by p q r s start deadline slot k d timer u x y z looks takes arms
     }
 
 -- a tidy part stays so: after the look
-pub tidy_ahead : (g : Settings) (v : View) (by : ℕ) (start : Start) (deadline : Option ℕ) (u : View) (p : Part) → LooksAhead g v by start deadline u
+pub tidy_ahead : (g : Settings) (v : View) (by : ℕ) (start : Start) (ahead : Option Ahead) (u : View) (p : Part) → LooksAhead g v by start ahead u
     → KeepsTidy g v p p u
-tidy_ahead g v by start deadline u p looks = tidy_calm g v (look_entry (Caller by) looks.now) u p looks.step (λ r. refl)
+tidy_ahead g v by start ahead u p looks = tidy_calm g v (look_entry (Caller by) looks.now) u p looks.step (λ r. refl)
 
 -- after the search for a slot
-pub tidy_searched : (g : Settings) (v : View) (by : ℕ) (p q : Part) (start : Start) (deadline : Option ℕ) (slot : Option ℕ) (u x : View)
-    → LooksAhead g v by start deadline u → TakesSlot g u by p q slot x → KeepsTidy g v p q x
-tidy_searched g v by p q start deadline slot u x looks takes =
-    tidy_then g v p p u q x looks.step.actors (tidy_ahead g v by start deadline u p looks) takes.tidy
+pub tidy_searched : (g : Settings) (v : View) (by : ℕ) (p q : Part) (start : Start) (ahead : Option Ahead) (now : ℕ) (slot : Option ℕ) (u x : View)
+    → LooksAhead g v by start ahead u → TakesSlot g u by now p q slot x → KeepsTidy g v p q x
+tidy_searched g v by p q start ahead now slot u x looks takes =
+    tidy_then g v p p u q x looks.step.actors (tidy_ahead g v by start ahead u p looks) takes.tidy
 
 -- and at the end
-pub tidy_started : (g : Settings) (v : View) (by : ℕ) (p q r s : Part) (start : Start) (deadline : Option ℕ) (slot : Option ℕ) (k d : ℕ)
-    (timer : TimerRef) (u x y z : View) → LooksAhead g v by start deadline u → TakesSlot g u by p q slot x → Arms g x by q r k d start timer y
+pub tidy_started : (g : Settings) (v : View) (by : ℕ) (p q r s : Part) (start : Start) (ahead : Option Ahead) (now : ℕ) (slot : Option ℕ) (k : ℕ) (next : Use)
+    (timer : TimerRef) (u x y z : View) → LooksAhead g v by start ahead u → TakesSlot g u by now p q slot x → Arms g x by q r k next start timer y
     → Ends g y by r s start.dest timer z → KeepsTidy g v p s z
-tidy_started g v by p q r s start deadline slot k d timer u x y z looks takes arms ends =
-    tidy_then g v p q x s z (takes.call.actors ∙ looks.step.actors) (tidy_searched g v by p q start deadline slot u x looks takes)
+tidy_started g v by p q r s start ahead now slot k next timer u x y z looks takes arms ends =
+    tidy_then g v p q x s z (takes.call.actors ∙ looks.step.actors) (tidy_searched g v by p q start ahead now slot u x looks takes)
     (tidy_then g x q r y s z arms.step.actors arms.tidy ends.tidy)

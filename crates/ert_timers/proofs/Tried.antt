@@ -34,7 +34,7 @@ use Rattle.ert_timers.specs.Parts.{HoldsSched, Part, Stands, last_timer, held_ro
 use Rattle.ert_timers.specs.declared.part.Slot.{Slot}
 use Rattle.ert_timers.proofs.Later.{later_before, later_step, expires, unexpired_step, count_step}
 use Rattle.ert_timers.proofs.Rows.{key_left, rows_dropped}
-use Rattle.ert_timers.proofs.Standing.{holds_with, count_same}
+use Rattle.ert_timers.proofs.Standing.{clock_stepped, holds_with, count_same}
 use Rattle.ert_wheel.specs.Rows.{key_in, key_of}
 use Rattle.ert_wheel.specs.declared.row.Key.{Key}
 use Rattle.ert_wheel.specs.declared.row.Row.{Row as WheelRow}
@@ -87,10 +87,11 @@ pub stands_gone : (g : Settings) (v : View) (e : Entry) (u : View) (p : Part) (k
 stands_gone g v e u p k expired orphaned stands low step wheel unarmed others settled expires_are orphans_are =
     let later = later_step g v e u p.number step wheel unarmed in
     record {
+      checked = stands.checked;
       legal = step.legal;
       holds =
           holds_with g (state g v.front) (state g u.front) p (set p.keys k None) expired orphaned stands.holds later
-          (length-set p.keys k None)
+          (clock_stepped g v e u stands.checked step) (length-set p.keys k None)
           (rows_dropped g v.front p.number p.slots p.keys (state g u.front) stands.legal stands.holds.rows later k low settled
           (λ j seen is.
           let left = key_left p.keys k j seen low is in

@@ -1,29 +1,50 @@
 -- How the calls of a part change what it keeps.
 
-use Rattle.std.specs.Prelude.{◌≡◌, ℕ, ◌+◌, ◌<◌, ◌≤◌, Bool, false, cond, nat_lt, length, count_by, Option, Some, None, slice_set}
+use Rattle.std.specs.Prelude.{◌≡◌, ℕ, ◌+◌, ◌*◌, ◌<◌, ◌≤◌, Bool, false, cond, not, ◌&&◌, nat_lt, max, length, count_by, Option, Some, None, slice_set}
 use Rattle.std.specs.FinSet as set
 use Rattle.std.specs.Option.{is_some}
+use Rattle.ert_defs.specs.Timers.{use_of}
 use Rattle.ert_defs.specs.declared.timer.Start.{Start}
 use Rattle.ert_timers.specs.Parts.{Part, slot_at}
 use Rattle.ert_timers.specs.declared.part.Slot.{Slot}
+use Rattle.ert_timers.specs.declared.part.Use.{Use}
 use Rattle.ert_wheel.specs.Rows.{key_in, key_of}
 use Rattle.ert_wheel.specs.declared.row.Key.{Key}
 use Rattle.ert_wheel.specs.declared.row.Row.{Row}
 
--- a slot can take a timer: it has no row, isn't held free, and wasn't used as often as it can be
+-- whether a slot was used less often than a round allows
+abbrev pub has_uses : Slot → Bool
+has_uses slot = nat_lt (use_of slot.generation) 262143
+
+-- whether a slot rests at a time of so many milliseconds: its round has no use left, and the deadline of one
+-- of its timers hasn't passed
+abbrev pub is_resting : Slot → ℕ → Bool
+is_resting slot now = not (has_uses slot) && nat_lt now slot.above
+
+-- the next use of a slot that doesn't rest, started at a look of so many milliseconds for a deadline. In the
+-- slot's first round the generation is one more, and the deadline is the timer's; in a later round, which
+-- may begin with it, a deadline that has passed counts as the time of the look
+abbrev pub next_use : ℕ → ℕ → ℕ → Use
+next_use generation now wanted =
+    cond (nat_lt generation 262143) (record { generation = generation + 1; deadline = wanted })
+    (record {
+      generation = 8796093022208 * (cond (nat_lt (use_of generation) 262143) (use_of generation) 0 + 1) + max now wanted;
+      deadline = max now wanted;
+    })
+
+-- a slot can take a timer where it doesn't rest: it has no row, and isn't held free
 pub record IsFree (p : Part) (k : ℕ) : Type 0 where
   pub low : k < length p.slots
   pub vacant : key_in p.keys k ≡ None
   pub away : set.contains p.free k ≡ false
-  pub unspent : (slot_at p.slots k).generation < 262143
 
 -- a slot is held free no more
 abbrev pub picked : Part → ℕ → Part
 picked p k = record p { free = set.remove p.free k }
 
--- a slot is held free, unless it was used as often as it can be
+-- a slot is held free
 abbrev pub freed : Part → ℕ → Part
-freed p k = record p { free = cond (nat_lt (slot_at p.slots k).generation 262143) (set.insert p.free k) p.free }
+freed p k = record p { free = set.insert p.free k }
 
 -- a slot has no row any more
 abbrev pub dropped : Part → ℕ → Part
@@ -35,29 +56,36 @@ pub record LostRow (p : Part) (k : ℕ) : Type 0 where
   pub away : set.contains p.free k ≡ false
   pub vacant : key_in p.keys k ≡ None
   pub room : (p.expires + p.orphans) + count_by is_some p.keys < p.arms
-  pub few : p.arms ≤ 17179803648
+  pub few : p.arms ≤ 9007199254740992
 
 -- the row of a timer that expired, or missed that, goes
 abbrev pub let_go : Part → ℕ → Bool → Part
 let_go p k expired = record p { keys = slice_set p.keys k None; expires = p.expires + cond expired 1 0 }
 
--- the row of a timer that was cancelled for an exit, or before that, goes, and its slot is held free
+-- the row of a timer that was cancelled for an exit, or before that, goes, and its slot is held free where its
+-- round has uses left
 abbrev pub given_back : Part → ℕ → Bool → Part
 given_back p k orphaned = record p {
   keys = slice_set p.keys k None;
-  free = cond (nat_lt (slot_at p.slots k).generation 262143) (set.insert p.free k) p.free;
+  free = cond (has_uses (slot_at p.slots k)) (set.insert p.free k) p.free;
   orphans = p.orphans + cond orphaned 1 0;
 }
 
--- what is kept of the timer of a start
-abbrev pub slot_for : ℕ → Start → Slot
-slot_for generation start = record { generation = generation; dest = start.dest; msg = start.msg; kind = start.kind }
+-- what is kept of a slot with the timer of a start, where this was one above the greatest deadline before
+abbrev pub slot_for : Use → ℕ → Start → Slot
+slot_for next above start = record {
+  generation = next.generation;
+  above = max above (next.deadline + 1);
+  dest = start.dest;
+  msg = start.msg;
+  kind = start.kind;
+}
 
 -- a slot has the timer of a start
-abbrev pub kept : Part → ℕ → Start → ℕ → Part
-kept p k start deadline = record p {
-  slots = slice_set p.slots k (slot_for ((slot_at p.slots k).generation + 1) start);
-  keys = slice_set p.keys k (Some (record { deadline = deadline; order = p.arms }));
+abbrev pub kept : Part → ℕ → Start → Use → Part
+kept p k start next = record p {
+  slots = slice_set p.slots k (slot_for next (slot_at p.slots k).above start);
+  keys = slice_set p.keys k (Some (record { deadline = next.deadline; order = p.arms }));
   arms = p.arms + 1;
 }
 

@@ -27,12 +27,13 @@ kind_back Bare = refl
 abbrev pub kind_code : Coded Kind
 kind_code = code_by Bool coded_bool is_bare kind_by kind_back
 
--- what is kept of a slot's last timer is stored as a tuple: generation, destination, message and kind
+-- what is kept of a slot is stored as a tuple: generation, one above the greatest deadline, destination,
+-- message and kind
 abbrev pub slot_code : Coded Slot
 slot_code =
-    code_by (ℕ × (ℕ × (ℕ × Kind))) (coded× coded_ℕ (coded× coded_ℕ (coded× coded_ℕ kind_code)))
-    (λ s. (s.generation, (s.dest, (s.msg, s.kind))))
-    (λ t. record { generation = t.0; dest = t.1.0; msg = t.1.1.0; kind = t.1.1.1 }) (λ _. refl)
+    code_by (ℕ × (ℕ × (ℕ × (ℕ × Kind)))) (coded× coded_ℕ (coded× coded_ℕ (coded× coded_ℕ (coded× coded_ℕ kind_code))))
+    (λ s. (s.generation, (s.above, (s.dest, (s.msg, s.kind)))))
+    (λ t. record { generation = t.0; above = t.1.0; dest = t.1.1.0; msg = t.1.1.1.0; kind = t.1.1.1.1 }) (λ _. refl)
 
 -- the key of a row is stored as a pair: deadline and order
 abbrev pub key_code : Coded Key

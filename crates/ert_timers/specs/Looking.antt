@@ -1,14 +1,16 @@
 -- The look with which a call of a part begins.
 
-use Rattle.std.specs.Prelude.{◌≡◌, ℕ, ℤ, pos, negsuc, ◌+ℤ◌, Option, None}
+use Rattle.std.specs.Prelude.{◌≡◌, ℕ, ℤ, pos, negsuc, ◌+ℤ◌, Option, None, option_map, IfSome}
 use Rattle.ert_defs.specs.Entries.{look_entry}
 use Rattle.ert_defs.specs.Milliseconds.{down, deadline_at, deadline_of}
+use Rattle.ert_defs.specs.States.{state}
 use Rattle.ert_defs.specs.declared.entry.Actor.{Actor}
 use Rattle.ert_defs.specs.declared.entry.Actor.TheVariants.{Caller}
 use Rattle.ert_defs.specs.declared.settings.Settings.{Settings}
 use Rattle.ert_defs.specs.declared.timer.Start.{Start}
 use Rattle.ert_table.specs.Takes.{Appends}
 use Rattle.ert_table.specs.declared.view.View.{View}
+use Rattle.ert_timers.specs.declared.looking.Ahead.{Ahead}
 
 -- an actor looks at the time, and is told the whole milliseconds, rounded down
 pub record LooksDown (g : Settings) (v : View) (by : Actor) (to : ℕ) (u : View) : Type 0 where
@@ -16,11 +18,13 @@ pub record LooksDown (g : Settings) (v : View) (by : Actor) (to : ℕ) (u : View
   pub step : Appends g v (look_entry by now) u
   pub told : pos to ≡ down g now
 
--- a caller looks at the time, and is told the deadline of a start
-pub record LooksAhead (g : Settings) (v : View) (by : ℕ) (start : Start) (deadline : Option ℕ) (u : View) : Type 0 where
+-- a caller looks at the time, and is told the whole milliseconds, rounded down, and the deadline of a start
+pub record LooksAhead (g : Settings) (v : View) (by : ℕ) (start : Start) (ahead : Option Ahead) (u : View) : Type 0 where
   pub now : ℤ
   pub step : Appends g v (look_entry (Caller by) now) u
-  pub told : deadline ≡ deadline_of g start now
+  pub told : option_map (λ (a : Ahead). a.deadline) ahead ≡ deadline_of g start now
+  pub down_to : IfSome ahead (λ a. pos a.now ≡ down g now)
+  pub time : now ≡ (state g u.front).clock.now
 
 -- the deadline so many milliseconds after others
 abbrev pub deadline_after : ℕ → ℤ → Option ℕ

@@ -1,14 +1,16 @@
 -- The timers of one scheduler: what its part keeps, and when the part stands for a history.
 
-use Rattle.std.specs.Prelude.{◌≡◌, ◌≢◌, ℕ, ◌+◌, ◌<◌, ◌≤◌, true, false, List, All, length, count_by, sum_by, slice_index_or, Option, Some, None, option_map, refl}
+use Rattle.std.specs.Prelude.{◌≡◌, ◌≢◌, ℕ, ◌+◌, ◌<◌, ◌≤◌, true, false, List, length, count_by, slice_index_or, Option, Some, None, option_map, refl}
 use Rattle.std.specs.Coded.{Coded, code_by, coded×, coded_ℕ, coded_list, coded_option}
 use Rattle.std.specs.FinSet as set
 use Rattle.std.specs.List.{slice_get}
 use Rattle.std.specs.Option.{is_some}
 use Rattle.std.specs.Ordering.{nat_cmp}
 use Rattle.ert_defs.specs.Legal.{Legal}
-use Rattle.ert_defs.specs.States.{State, state}
-use Rattle.ert_defs.specs.Timers.{Row, is_taken, timer_at}
+use Rattle.ert_defs.specs.Milliseconds.{natural, down}
+use Rattle.ert_defs.specs.Settings.{IsChecked}
+use Rattle.ert_defs.specs.States.{State, uses_at, state}
+use Rattle.ert_defs.specs.Timers.{Row, turned, is_taken, timer_at}
 use Rattle.ert_defs.specs.declared.entry.Actor.TheVariants.{Wheel, Sched, Caller}
 use Rattle.ert_defs.specs.declared.entry.Entry.{Entry}
 use Rattle.ert_defs.specs.declared.settings.Settings.{Settings}
@@ -59,7 +61,7 @@ part_code =
 
 -- a slot that was never used
 abbrev pub unused : Slot
-unused = record { generation = 0; dest = 0; msg = 0; kind = Wrapped }
+unused = record { generation = 0; above = 0; dest = 0; msg = 0; kind = Wrapped }
 
 -- what is kept of the last timer of a slot
 abbrev pub slot_at : List Slot → ℕ → Slot
@@ -98,13 +100,11 @@ pub record AreFit (processes : ℕ) (slots : List Slot) (keys : List (Option Key
   pub owned : owners.slots ≡ length slots
   pub homes : owners.homes ≡ processes
   pub few_homes : processes ≤ 1024
-  -- a slot that is held free has no row, and can be used again
+  -- a slot that is held free has no row
   pub vacant : (k : ℕ) → set.contains free.held k ≡ true → key_in keys k ≡ None
   pub below : (k : ℕ) → set.contains free.held k ≡ true → k < length slots
-  pub unspent : (k : ℕ) → set.contains free.held k ≡ true → (slot_at slots k).generation < 262143
-  -- each timer was one use of a slot
-  pub uses : All (λ (slot : Slot). slot.generation ≤ 262143) slots
-  pub sum : armed ≡ sum_by (λ (slot : Slot). slot.generation) slots
+  -- the counts stay far below 2^64
+  pub fewer : armed ≤ 9007199254740992
   -- a timer that expired or was cancelled for an exit has no row any more
   pub tally : (expired + orphaned) + count_by is_some keys ≤ armed
   pub orders : (k : ℕ) (key : Key) → key_in keys k ≡ Some key → key.order < armed
@@ -120,6 +120,10 @@ pub record HoldsRows (s : State) (w : ℕ) (slots : List Slot) (keys : List (Opt
   pub armed : (n : ℕ) (row : Row) → slice_get (s.rows w) n ≡ Some row → s.status row.timer ≡ Some Armed
       → key_in keys row.timer.slot ≡ Some (record { deadline = row.deadline; order = n })
 
+-- at a time of so many milliseconds no slot that is held free rests
+abbrev pub HaveRested : State → Part → ℕ → Type 0
+HaveRested s p now = (k : ℕ) → set.contains p.free k ≡ true → (turned (uses_at s p.number k)).since ≤ now
+
 -- a part fits a state
 pub record Holds (g : Settings) (s : State) (p : Part) : Type 0 where
   pub number : p.number < g.schedulers
@@ -128,8 +132,10 @@ pub record Holds (g : Settings) (s : State) (p : Part) : Type 0 where
   pub wide : length p.keys ≡ g.slots
   pub rows : HoldsRows s p.number p.slots p.keys
   pub lasts : (k : ℕ) → k < g.slots → (slot_at p.slots k).generation ≡ s.last p.number k
+  pub aboves : (k : ℕ) → k < g.slots → (slot_at p.slots k).above ≡ s.above p.number k
   pub arms : p.arms ≡ length (s.rows p.number)
   pub free : (k : ℕ) → set.contains p.free k ≡ true → is_taken (s.status (last_timer p.number p.slots k)) ≡ false
+  pub ready : HaveRested s p (natural (down g s.clock.now))
 
 -- the counts of a part are those of a history
 pub record IsCounted (h : List Entry) (p : Part) : Type 0 where
@@ -139,6 +145,7 @@ pub record IsCounted (h : List Entry) (p : Part) : Type 0 where
 
 -- a part stands for a history
 pub record Stands (g : Settings) (h : List Entry) (p : Part) : Type 0 where
+  pub checked : IsChecked g
   pub legal : Legal g h
   pub holds : Holds g (state g h) p
   pub counted : IsCounted h p

@@ -3,8 +3,9 @@
 use Rattle.std.specs.Prelude.{◌≡◌, ◌≢◌, ◌⊎◌, ℕ, ◌+◌, ◌<◌, ◌≤◌, Bool, true, false, List, [], ◌∷◌, length, Option, Some, None, IfSome}
 use Rattle.std.specs.FinSet as set
 use Rattle.ert_defs.specs.Entries.{probe_entry, arm_entry, mark_entry}
-use Rattle.ert_defs.specs.States.{state}
-use Rattle.ert_defs.specs.Timers.{is_taken}
+use Rattle.ert_defs.specs.Milliseconds.{natural, down, deadline_of}
+use Rattle.ert_defs.specs.States.{State, uses_at, state}
+use Rattle.ert_defs.specs.Timers.{IsNextUse, deadline_in, turned, is_taken}
 use Rattle.ert_defs.specs.declared.entry.Actor.TheVariants.{Caller}
 use Rattle.ert_defs.specs.declared.entry.Entry.{Entry}
 use Rattle.ert_defs.specs.declared.settings.Settings.{Settings}
@@ -16,10 +17,11 @@ use Rattle.ert_answers.specs.WheelCalls.{orphans_by, IsSettled}
 use Rattle.ert_table.specs.Settlings.{Shown}
 use Rattle.ert_table.specs.Takes.{Appends, TakesPlace}
 use Rattle.ert_table.specs.declared.view.View.{View}
-use Rattle.ert_timers.specs.Changes.{IsFree, kept, given_back}
+use Rattle.ert_timers.specs.Changes.{IsFree, is_resting, kept, given_back}
 use Rattle.ert_timers.specs.Expiring.{is_hit}
 use Rattle.ert_timers.specs.Parts.{Part, Stands, last_timer, slot_at}
 use Rattle.ert_timers.specs.Tidy.{KeepsTidy}
+use Rattle.ert_timers.specs.declared.part.Use.{Use}
 use Rattle.ert_wheel.specs.Rows.{key_in}
 
 -- a timer with this deadline is held
@@ -37,12 +39,19 @@ pub record Orphans (g : Settings) (v : View) (by : ℕ) (p q : Part) (timer : Ti
   pub part : q ≡ given_back p timer.slot (is_hit missed)
   pub stands : Stands g u.front q
 
+-- the next use of a slot that doesn't rest, for a start by its caller's last look
+pub record IsUseFor (g : Settings) (s : State) (by wheel slot : ℕ) (start : Start) (next : Use) : Type 0 where
+  pub wanted : ℕ
+  pub due : deadline_of g start (s.looked (Caller by)) ≡ Some wanted
+  pub can : IsNextUse (uses_at s wheel slot) (natural (down g (s.looked (Caller by)))) wanted next.generation
+  pub deadline : next.deadline ≡ deadline_in (turned (uses_at s wheel slot)).since (natural (down g (s.looked (Caller by)))) wanted
+
 -- a timer is armed in a slot
-pub record Arms (g : Settings) (v : View) (by : ℕ) (p q : Part) (slot deadline : ℕ) (start : Start) (timer : TimerRef) (u : View) : Type 0 where
+pub record Arms (g : Settings) (v : View) (by : ℕ) (p q : Part) (slot : ℕ) (next : Use) (start : Start) (timer : TimerRef) (u : View) : Type 0 where
   pub step : Appends g v (arm_entry by timer start) u
-  pub part : q ≡ kept p slot start deadline
+  pub part : q ≡ kept p slot start next
   pub stands : Stands g u.front q
-  pub holds : HoldsTimer q timer deadline
+  pub holds : HoldsTimer q timer next.deadline
   pub dest : (slot_at q.slots timer.slot).dest ≡ start.dest
   pub tidy : KeepsTidy g v p q u
 
@@ -61,16 +70,19 @@ abbrev pub status_shown : Option Shown → Option Status
 status_shown None = None
 status_shown (Some shown) = Some shown.0
 
--- a slot was looked at: where it was found neither taken nor spent it is held free from then on, and no
--- other slot is that wasn't
-pub record LooksAt (g : Settings) (v : View) (by : ℕ) (p q : Part) (k : ℕ) (u : View) : Type 0 where
+-- a slot was looked at: where it was found not taken, and doesn't rest at a time of so many milliseconds, it is
+-- held free from then on, and no other slot is that wasn't
+pub record LooksAt (g : Settings) (v : View) (by now : ℕ) (p q : Part) (k : ℕ) (u : View) : Type 0 where
   pub found : Option Status
   pub step : Appends g v (probe_entry (Caller by) p.number k found) u
   pub stands : Stands g u.front q
   pub number : q.number ≡ p.number
   pub slots : q.slots ≡ p.slots
+  pub arms : q.arms ≡ p.arms
   pub others : (j : ℕ) → j ≢ k → set.contains q.free j ≡ set.contains p.free j
-  pub full : set.contains q.free k ≡ false → (is_taken found ≡ true) ⊎ ((slot_at p.slots k).generation ≡ 262143)
+  pub full : set.contains q.free k ≡ false → (is_taken found ≡ true) ⊎ (is_resting (slot_at p.slots k) now ≡ true)
+  pub rested : set.contains q.free k ≡ true → is_resting (slot_at p.slots k) now ≡ false
+  pub since : (j : ℕ) → (state g u.front).since p.number j ≡ (state g v.front).since p.number j
   pub tidy : KeepsTidy g v p q u
 
 -- the entries of looks at slots in order, from one on
@@ -78,38 +90,43 @@ abbrev pub probes_from : ℕ → ℕ → ℕ → List (Option Status) → List E
 probes_from by w k [] = []
 probes_from by w k (found ∷ founds) = probe_entry (Caller by) w k found ∷ probes_from by w (k + 1) founds
 
--- each slot from one on was found taken, or is spent, unless it is held free
-abbrev pub AreFull : Part → ℕ → List (Option Status) → Type 0
-AreFull q k [] = Unit {0}
-AreFull q k (found ∷ founds) =
-    (set.contains q.free k ≡ false → (is_taken found ≡ true) ⊎ ((slot_at q.slots k).generation ≡ 262143)) × AreFull q (k + 1) founds
+-- each slot from one on was found taken, or rests, unless it is held free
+abbrev pub AreFull : Part → ℕ → ℕ → List (Option Status) → Type 0
+AreFull q now k [] = Unit {0}
+AreFull q now k (found ∷ founds) =
+    (set.contains q.free k ≡ false → (is_taken found ≡ true) ⊎ (is_resting (slot_at q.slots k) now ≡ true)) × AreFull q now (k + 1) founds
 
 -- so many slots were looked at, in order; no slot from there on is held free
-pub record LooksAtSome (g : Settings) (v : View) (by : ℕ) (p q : Part) (n : ℕ) (u : View) : Type 0 where
+pub record LooksAtSome (g : Settings) (v : View) (by now : ℕ) (p q : Part) (n : ℕ) (u : View) : Type 0 where
   pub founds : List (Option Status)
   pub call : TakesPlace g v (probes_from by p.number 0 founds) u
   pub count : length founds ≡ n
   pub stands : Stands g u.front q
   pub number : q.number ≡ p.number
   pub slots : q.slots ≡ p.slots
-  pub full : AreFull q 0 founds
+  pub arms : q.arms ≡ p.arms
+  pub full : AreFull q now 0 founds
+  pub rested : (j : ℕ) → set.contains q.free j ≡ true → is_resting (slot_at q.slots j) now ≡ false
+  pub since : (j : ℕ) → (state g u.front).since p.number j ≡ (state g v.front).since p.number j
   pub above : (j : ℕ) → n ≤ j → set.contains q.free j ≡ false
   pub look : (state g u.front).looked (Caller by) ≡ (state g v.front).looked (Caller by)
   pub tidy : KeepsTidy g v p q u
 
 -- a slot that can take a timer is found, after looks at some slots; or none is after looks at all
-abbrev pub FindsSlot : Part → Part → Option ℕ → List (Option Status) → Type 0
-FindsSlot p q (Some slot) founds = IsFree q slot
-FindsSlot p q None founds = (length founds ≡ length p.slots) × AreFull q 0 founds × ((j : ℕ) → set.contains q.free j ≡ false)
+abbrev pub FindsSlot : ℕ → Part → Part → Option ℕ → List (Option Status) → Type 0
+FindsSlot now p q (Some slot) founds = IsFree q slot
+FindsSlot now p q None founds = (length founds ≡ length p.slots) × AreFull q now 0 founds × ((j : ℕ) → set.contains q.free j ≡ false)
 
 -- slots were looked at in order from the first on, and one that can take a timer was found, or none
-pub record TakesSlot (g : Settings) (v : View) (by : ℕ) (p q : Part) (slot : Option ℕ) (u : View) : Type 0 where
+pub record TakesSlot (g : Settings) (v : View) (by now : ℕ) (p q : Part) (slot : Option ℕ) (u : View) : Type 0 where
   pub founds : List (Option Status)
   pub call : TakesPlace g v (probes_from by p.number 0 founds) u
   pub stands : Stands g u.front q
   pub number : q.number ≡ p.number
   pub slots : q.slots ≡ p.slots
-  pub finds : FindsSlot p q slot founds
+  pub arms : q.arms ≡ p.arms
+  pub finds : FindsSlot now p q slot founds
   pub usable : IfSome slot (λ k. is_taken ((state g u.front).status (last_timer q.number q.slots k)) ≡ false)
+  pub rested : IfSome slot (λ k. (turned (uses_at (state g u.front) q.number k)).since ≤ now)
   pub look : (state g u.front).looked (Caller by) ≡ (state g v.front).looked (Caller by)
   pub tidy : KeepsTidy g v p q u

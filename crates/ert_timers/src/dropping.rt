@@ -62,7 +62,7 @@ impl WheelPart {
     }
 
     /// Looks at a slot where it has a row. Where the timer isn't armed any more its row goes, and its slot is
-    /// held free.
+    /// held free where its round has uses left.
     fn drop_settled_row(&mut self, desk: &Desk, pass: &mut Pass, slot: u32)
         requires belongs { Belongs desk.now pass.old }
         requires holds { HoldsSched (view_of pass.old) self.old.number }
@@ -85,7 +85,7 @@ impl WheelPart {
 }
 
 /// Whether the last timer of a slot is armed, by what the slot shows.
-fn is_armed(shown: Option<(Status, u64, u32)>) -> bool
+fn is_armed(shown: Option<(Status, u64, u64)>) -> bool
     ensures { result ≡ laws.is_armed (status_shown shown) }
 {
     matches!(shown, Some((Status::Armed, _, _)))

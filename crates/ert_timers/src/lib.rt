@@ -2,9 +2,9 @@
 //!
 //! **What it is.** A `WheelPart` is what one thread at a time has of the timers of one scheduler, and with it
 //! a pass that holds the wheel. The state that all threads share of a timer is the word of its slot on the
-//! desk (`ert_table`): status, deadline and generation. The part keeps what has no word, by slot: the
-//! destination, the message and the kind of the last timer, and its generation. A timer that is held as armed
-//! also stands in two structures over the same slots: in a timing wheel (`ert_wheel`), which tells what is
+//! desk (`ert_table`): status, deadline and use. The part keeps what has no word, by slot: the destination,
+//! the message and the kind of the last timer, its generation, and one above the greatest deadline of all the
+//! slot's timers. A timer that is held as armed also stands in two structures over the same slots: in a timing wheel (`ert_wheel`), which tells what is
 //! due, and in a chain for each process, so that an exit costs in proportion to the timers of that process.
 //! Its order in both is how many timers of the wheel were armed before it. A timer that expires leaves the wheel,
 //! and its slot leaves the chain later: when it is used again, or when the process is swept.
@@ -13,13 +13,30 @@
 //! So a held timer may be settled already. An advance finds that out when its own exchange misses; a start
 //! finds it out when it runs out of free slots and looks at every slot.
 //!
+//! **Rounds.** A slot is used 262,143 times in a round, which is as far as a word counts. Then it rests until
+//! the deadlines of all its timers have passed, and begins its next round. The generations of the first round
+//! are 1 to 262143. One of a later round is the use times 2^43, plus the deadline, and there a deadline that has
+//! passed counts as the time of the start: so it is another than those of all earlier rounds, and no
+//! reference ever names two timers. A slot's round is the first exactly where its last generation is below
+//! 2^43, so nothing is kept of when it began.
+//!
+//! A slot that rests isn't held free. Where a start finds no slot held free and looks at every slot, it holds
+//! those free that have rested by the time of its look. It answers `Full` where each slot is taken or rests, or
+//! where the wheel has had 2^53 timers, which bounds all counts.
+//!
+//! How long a slot rests depends on the longest wait of its round. So a start with a long wait, from 2^20
+//! milliseconds on, takes the slot that has been held free longest, and one with a short wait the slot that was
+//! freed last. Then few slots have the long waits, and the others rest for as long as short waits take. If all
+//! took the slot that was freed last, each slot would soon have had a long wait, and all would rest until
+//! those pass.
+//!
 //! | call | what it does | work |
 //! |---|---|---|
-//! | `start` | looks at the time, takes a free slot, stores its word, asks whether the destination has exited | constant where a slot is known to be free; else each slot is looked at once, and all that can be used again are known from then on |
+//! | `start` | looks at the time, takes a free slot, stores its word, asks whether the destination has exited | constant where a slot is known to be free; else each slot is looked at once, and all that can be used again are known from then on. Where all rest or are taken each start looks at every slot |
 //! | `advance` | looks at the time, and tries each due timer in order of deadline and then of start | the due timers and the buckets that are visited; where a window of 512 milliseconds begins, also the timers that are due in it |
 //! | `advance_all` | does the same, and then looks at each timer that is left | every slot once |
 //! | `sweep` | tries each timer of a process that has exited | those timers, and those of the process that have expired and whose slots were not used again, each once |
-//! | `forget` | drops the row of a timer that the pass has seen settled, and holds its slot free | constant |
+//! | `forget` | drops the row of a timer that the pass has seen settled, and holds its slot free where its round has uses left | constant |
 //! | `next_due` | tells how early a timer may be due | the buckets of a look ahead, 1,024 as a rule where the wheel was advanced and never over 4,096, and the timers of the first that has any |
 //! | `tally` | counts | none |
 //!

@@ -13,14 +13,25 @@ use std::mem;
 
 mod changes;
 
-/// What is kept of the last timer of a slot.
+/// What is kept of a slot: its last timer, and one above the greatest deadline of all its timers.
 #[derive(Clone, Copy)]
 pub struct Slot {
-    /// How often the slot was used.
-    pub(crate) generation: u32,
+    /// The generation of the last timer; 0 where the slot was never used.
+    pub(crate) generation: u64,
+    /// In milliseconds after the start time, at most 2^43; 0 where the slot was never used.
+    pub(crate) above: u64,
     pub(crate) dest: u32,
     pub(crate) msg: u64,
     pub(crate) kind: Kind,
+}
+
+/// A use of a slot.
+#[derive(Clone, Copy)]
+pub struct Use {
+    /// The generation of its timer.
+    pub(crate) generation: u64,
+    /// The deadline of its timer, in milliseconds after the start time.
+    pub(crate) deadline: u64,
 }
 
 /// The timers of one scheduler: what is kept of each, and the wheel that tells which are due.
@@ -144,6 +155,13 @@ impl WheelPart {
         }
     }
 
+    /// How many timers were armed.
+    pub(crate) fn arms(&self) -> u64
+        ensures { result ≡ self.now.arms }
+    {
+        self.arms
+    }
+
     /// How many slots there are.
     pub(crate) fn slot_count(&self) -> u32
         ensures { result ≡ length self.now.slots }
@@ -250,6 +268,7 @@ fn no_slots(alloc: Global, slots: u32) -> Result<Vec<Slot>, NoMemory>
 {
     let unused = Slot {
         generation: 0,
+        above: 0,
         dest: 0,
         msg: 0,
         kind: Kind::Wrapped,

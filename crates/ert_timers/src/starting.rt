@@ -3,30 +3,38 @@ ghost use Rattle.std.specs.Prelude.{◌≡◌};
 ghost use Rattle.ert_defs.specs.Timers as timers;
 ghost use Rattle.ert_timers.specs.Starting.{status_shown};
 
-use crate::looking::look_ahead;
-use crate::part::WheelPart;
+use crate::looking::{Ahead, look_ahead};
+use crate::part::{Use, WheelPart};
 use ert_answers::StartErr;
 use ert_defs::{Actor, Start, Status, TimerRef};
 use ert_table::{Desk, Pass, Settle, TimerCarry};
 
+/// How many timers a wheel can have.
+const MOST_TIMERS: u64 = 1 << 53;
+
+/// From how many milliseconds on a wait is long, some 17 minutes: so long a rest of a slot is to be rare.
+const LONG_WAIT: u64 = 1 << 20;
+
 impl WheelPart {
     ghost use Rattle.std.specs.FinSet as set;
     ghost use Rattle.std.specs.Prelude.{◌≡◌, ◌≢◌, ◌<◌, ◌≤◌, ℕ, true, false, length, Err};
+    ghost use Rattle.ert_defs.specs.Milliseconds.{natural, down};
     ghost use Rattle.ert_answers.specs.TimerCalls.{Starts};
     ghost use Rattle.ert_answers.specs.declared.answers.StartErr.TheVariants.{NoMemory};
     ghost use Rattle.ert_defs.specs.States.{state};
-    ghost use Rattle.ert_table.specs.Desks.{settings_of, view_of, front_of, Belongs, IsDeadlineOf};
+    ghost use Rattle.ert_table.specs.Desks.{settings_of, view_of, front_of, state_of, Belongs};
     ghost use Rattle.ert_table.specs.Calls.{IsMade};
     ghost use Rattle.ert_timers.specs.Changes.{IsFree};
     ghost use Rattle.ert_timers.specs.Parts.{HoldsCaller, Stands, slot_at, last_timer};
     ghost use Rattle.ert_timers.specs.Tidy.{KeepsTidy};
-    ghost use Rattle.ert_timers.specs.Starting.{HoldsTimer, Orphans, Arms, Ends, LooksAt, LooksAtSome, TakesSlot};
+    ghost use Rattle.ert_timers.specs.Starting.{HoldsTimer, IsUseFor, Orphans, Arms, Ends, LooksAt, LooksAtSome, TakesSlot};
 
     /// Starts a timer for a caller (`erlang` module reference, `start_timer`), by the time that the call
     /// itself looks up.
     ///
-    /// Where no slot is known to be free, every slot is looked at. A timer for a process that has exited is
-    /// started, and cancelled at once. No memory is taken.
+    /// Where no slot is known to be free, every slot is looked at, and it is `Full` only where each is taken or
+    /// rests, or where the wheel has had 2^53 timers. A timer for a process that has exited is started, and
+    /// cancelled at once. No memory is taken.
     #[inline]
     pub fn start(
         &mut self,
@@ -46,55 +54,65 @@ impl WheelPart {
         ensures memory { result ≢ Err NoMemory }
         ensures tidy { KeepsTidy (settings_of desk.now) (view_of pass.old) self.old self.new (view_of pass.new) }
     {
-        let Some(deadline) = look_ahead(desk, pass, by, start) else {
+        let Some(ahead) = look_ahead(desk, pass, by, start) else {
             return Err(StartErr::BadArg);
         };
-        let Some(slot) = self.take_slot(desk, pass, by) else {
+        if self.arms() >= MOST_TIMERS {
+            return Err(StartErr::Full);
+        }
+        let Some(slot) = self.take_slot(desk, pass, by, ahead) else {
             return Err(StartErr::Full);
         };
-        let timer = self.arm(desk, pass, by, slot, start, deadline);
-        self.end(desk, pass, by, timer, start.dest, deadline);
+        let next = self.next_use(slot, ahead.now, ahead.deadline);
+        let timer = self.arm(desk, pass, by, slot, start, next);
+        self.end(desk, pass, by, timer, start.dest, next.deadline);
         Ok(timer)
     }
 
     /// A slot that can take a timer. Where none is known to be free, every slot is looked at.
-    fn take_slot(&mut self, desk: &Desk, pass: &mut Pass, by: u32) -> Option<u32>
+    fn take_slot(&mut self, desk: &Desk, pass: &mut Pass, by: u32, ahead: Ahead) -> Option<u32>
         requires belongs { Belongs desk.now pass.old }
         requires holds { HoldsCaller (settings_of desk.now) (view_of pass.old) by self.old.number }
         requires stands { Stands (settings_of desk.now) (front_of pass.old) self.old }
+        requires now { ahead.now ≡ natural (down (settings_of desk.now) (state_of desk.now pass.old).clock.now) }
         ensures belongs { Belongs desk.now pass.new }
-        ensures call { TakesSlot (settings_of desk.now) (view_of pass.old) by self.old self.new result (view_of pass.new) }
+        ensures call { TakesSlot (settings_of desk.now) (view_of pass.old) by ahead.now self.old self.new result (view_of pass.new) }
     {
-        if let Some(slot) = self.pick() {
+        let long = ahead.deadline.saturating_sub(ahead.now) >= LONG_WAIT;
+        if let Some(slot) = self.pick(long) {
             return Some(slot);
         }
-        self.look_at_all(desk, pass, by);
-        self.pick()
+        self.look_at_all(desk, pass, by, ahead.now);
+        self.pick(long)
     }
 
-    /// Looks at every slot, where none is held free, and holds those free that can take a timer.
-    fn look_at_all(&mut self, desk: &Desk, pass: &mut Pass, by: u32)
+    /// Looks at every slot, where none is held free, and holds those free that can take a timer at a time in
+    /// milliseconds.
+    fn look_at_all(&mut self, desk: &Desk, pass: &mut Pass, by: u32, now: u64)
         requires belongs { Belongs desk.now pass.old }
         requires holds { HoldsCaller (settings_of desk.now) (view_of pass.old) by self.old.number }
         requires stands { Stands (settings_of desk.now) (front_of pass.old) self.old }
+        requires past { now ≤ natural (down (settings_of desk.now) (state_of desk.now pass.old).clock.now) }
         requires none { (slot : ℕ) → set.contains self.old.free slot ≡ false }
         ensures belongs { Belongs desk.now pass.new }
-        ensures call { LooksAtSome (settings_of desk.now) (view_of pass.old) by self.old self.new (length self.old.slots) (view_of pass.new) }
+        ensures call { LooksAtSome (settings_of desk.now) (view_of pass.old) by now self.old self.new (length self.old.slots) (view_of pass.new) }
     {
         for slot in 0..self.slot_count() {
-            self.look_at(desk, pass, by, slot);
+            self.look_at(desk, pass, by, slot, now);
         }
     }
 
-    /// Looks at a slot that isn't held free, and holds it free where it can take a timer.
-    fn look_at(&mut self, desk: &Desk, pass: &mut Pass, by: u32, slot: u32)
+    /// Looks at a slot that isn't held free, and holds it free where it can take a timer at a time in
+    /// milliseconds.
+    fn look_at(&mut self, desk: &Desk, pass: &mut Pass, by: u32, slot: u32, now: u64)
         requires belongs { Belongs desk.now pass.old }
         requires holds { HoldsCaller (settings_of desk.now) (view_of pass.old) by self.old.number }
         requires stands { Stands (settings_of desk.now) (front_of pass.old) self.old }
+        requires past { now ≤ natural (down (settings_of desk.now) (state_of desk.now pass.old).clock.now) }
         requires low { slot < length self.old.slots }
         requires away { set.contains self.old.free slot ≡ false }
         ensures belongs { Belongs desk.now pass.new }
-        ensures call { LooksAt (settings_of desk.now) (view_of pass.old) by self.old self.new slot (view_of pass.new) }
+        ensures call { LooksAt (settings_of desk.now) (view_of pass.old) by now self.old self.new slot (view_of pass.new) }
     {
         let wheel = self.number();
         let carry = TimerCarry::Probe { wheel, slot };
@@ -103,10 +121,13 @@ impl WheelPart {
             return;
         }
         self.drop_row(slot);
+        if self.is_resting(slot, now) {
+            return;
+        }
         self.free_slot(slot);
     }
 
-    /// Arms a timer in a slot that can take it, by the caller's last look.
+    /// Arms the next timer of a slot that can take it, by the caller's last look.
     fn arm(
         &mut self,
         desk: &Desk,
@@ -114,7 +135,7 @@ impl WheelPart {
         by: u32,
         slot: u32,
         start: &Start,
-        deadline: u64,
+        next: Use,
     ) -> TimerRef
         requires belongs { Belongs desk.now pass.old }
         requires holds { HoldsCaller (settings_of desk.now) (view_of pass.old) by self.old.number }
@@ -122,12 +143,13 @@ impl WheelPart {
         requires free { IsFree self.old slot }
         requires usable { timers.is_taken ((state (settings_of desk.now) (front_of pass.old)).status (last_timer self.old.number self.old.slots slot)) ≡ false }
         requires dest { start.now.dest < (settings_of desk.now).processes }
-        requires deadline { IsDeadlineOf desk.now pass.old by start.now deadline }
+        requires next { IsUseFor (settings_of desk.now) (state_of desk.now pass.old) by self.old.number slot start.now next }
+        requires few { self.old.arms < 9007199254740992 }
         ensures belongs { Belongs desk.now pass.new }
-        ensures call { Arms (settings_of desk.now) (view_of pass.old) by self.old self.new slot deadline start.now result (view_of pass.new) }
+        ensures call { Arms (settings_of desk.now) (view_of pass.old) by self.old self.new slot next start.now result (view_of pass.new) }
     {
-        let timer = self.keep(slot, start, deadline);
-        pass.arm(desk, by, timer, start, deadline);
+        let timer = self.keep(slot, start, next);
+        pass.arm(desk, by, timer, start, next.deadline);
         timer
     }
 
@@ -156,7 +178,8 @@ impl WheelPart {
         self.orphan(desk, pass, by, timer, deadline);
     }
 
-    /// Tries to cancel a timer because its destination has exited, and holds its slot free.
+    /// Tries to cancel a timer because its destination has exited, and holds its slot free where the slot's round
+    /// has uses left.
     pub(crate) fn orphan(
         &mut self,
         desk: &Desk,
@@ -179,7 +202,7 @@ impl WheelPart {
 }
 
 /// Whether the last timer of a slot takes it, by what the slot shows.
-fn is_taken(shown: Option<(Status, u64, u32)>) -> bool
+fn is_taken(shown: Option<(Status, u64, u64)>) -> bool
     ensures { result ≡ timers.is_taken (status_shown shown) }
 {
     matches!(shown, Some((Status::Armed | Status::Expired, _, _)))

@@ -16,7 +16,8 @@ impl WheelPart {
     ghost use Rattle.ert_defs.specs.declared.settings.Settings.{Settings};
     ghost use Rattle.ert_defs.specs.declared.timer.Status.TheVariants.{Armed};
 
-    /// Cancels all timers of a process that has exited, and holds their slots free.
+    /// Cancels all timers of a process that has exited, and holds those of their slots free whose rounds have uses
+    /// left.
     ///
     /// It does work for the timers of that process alone, for those that have expired only where their slots were
     /// not used again, and for each of them once. It takes no memory.
@@ -40,7 +41,7 @@ impl WheelPart {
     }
 
     /// Drops the row of a timer that the pass has seen settled, where the row is held, and holds its slot
-    /// free. So a start that follows finds the slot at once.
+    /// free where the slot's round has uses left. So a start that follows finds the slot at once.
     ///
     /// It makes no entry, and takes no memory.
     #[inline]

@@ -1,20 +1,30 @@
-use Rattle.std.proofs.Common.{◌<◌, sym, subst}
-use Rattle.ert_table.specs.Desks.{settings_of, view_of}
+use Rattle.std.proofs.Common.{◌<◌, sym, subst, arith}
+use Rattle.ert_table.specs.Desks.{settings_of, view_of, front_of}
 use Rattle.ert_timers.proofs.Armings.{arms, may_arm}
+use Rattle.ert_timers.proofs.NextUses.{deadline_is}
 use Rattle.ert_timers.proofs.part.WheelPart.arm.Goals as goal
 
 pub keep-timer-requires-clause-dest : goal.keep-timer-requires-clause-dest
 keep-timer-requires-clause-dest c =
     subst (λ n. c.args.start.now.dest < n) (sym c.requires.stands.holds.processes) c.requires.dest
 
+pub keep-timer-requires-clause-deadline : goal.keep-timer-requires-clause-deadline
+keep-timer-requires-clause-deadline c = omega (arith, c.requires.next.deadline, c.requires.next.can.within)
+
+pub arm-requires-clause-deadline : goal.arm-requires-clause-deadline
+arm-requires-clause-deadline c =
+    deadline_is (settings_of c.args.desk.now) (front_of c.args.pass.now) c.args.by c.args.self.now c.keep-timer.new.self c.args.slot c.args.next
+    c.args.start.now c.keep-timer.result c.requires.stands.legal c.requires.free.low c.requires.next c.keep-timer.ensures.kept
+    c.keep-timer.ensures.timer
+
 pub arm-requires-clause-may : goal.arm-requires-clause-may
 arm-requires-clause-may c =
-    may_arm (settings_of c.args.desk.now) (view_of c.args.pass.now) c.args.by c.args.self.now c.keep-timer.new.self c.args.slot c.args.deadline
+    may_arm (settings_of c.args.desk.now) (view_of c.args.pass.now) c.args.by c.args.self.now c.keep-timer.new.self c.args.slot c.args.next
     c.args.start.now c.keep-timer.result c.requires.stands c.requires.holds c.requires.free c.requires.usable c.requires.dest
-    c.requires.deadline c.keep-timer.ensures.kept c.keep-timer.ensures.timer
+    c.requires.next c.requires.few c.keep-timer.ensures.kept c.keep-timer.ensures.timer
 
 pub returns-clause-call : goal.returns-clause-call
 returns-clause-call c =
-    arms (settings_of c.args.desk.now) (view_of c.args.pass.now) c.args.by c.args.self.now c.keep-timer.new.self c.args.slot c.args.deadline
-    c.args.start.now c.keep-timer.result (view_of c.arm.new.self) c.requires.stands c.requires.holds c.requires.free c.requires.deadline
+    arms (settings_of c.args.desk.now) (view_of c.args.pass.now) c.args.by c.args.self.now c.keep-timer.new.self c.args.slot c.args.next
+    c.args.start.now c.keep-timer.result (view_of c.arm.new.self) c.requires.stands c.requires.holds c.requires.free c.requires.next
     c.keep-timer.ensures.kept c.keep-timer.ensures.timer c.arm.ensures.step

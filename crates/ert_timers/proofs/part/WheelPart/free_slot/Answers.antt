@@ -1,8 +1,6 @@
 use Rattle.std.proofs.Common.{◌≡◌, ◌<◌, length, None, sym, subst}
 use Rattle.ert_timers.specs.Parts.{Part}
-use Rattle.ert_timers.specs.declared.part.Slot.{Slot}
 use Rattle.ert_timers.proofs.Fit.{fit_put}
-use Rattle.ert_timers.proofs.Keeping.{slot_read}
 use Rattle.ert_timers.proofs.part.WheelPart.free_slot.Goals as goal
 use Rattle.ert_wheel.specs.Rows.{key_in}
 
@@ -10,9 +8,6 @@ pub invariant_of-self : goal.invariant_of-self
 invariant_of-self c =
     let p = c.self.inside in
     let k = c.args.slot in
-    let low : k < length p.slots.items = subst (λ (q : Part). k < length q.slots) (sym c.self.view_is) c.requires.low in
     fit_put p.processes p.slots.items p.wheel p.free c.put.new.self p.owners p.arms p.expires p.orphans k c.self.invariant c.put.ensures
-    low
+    (subst (λ (q : Part). k < length q.slots) (sym c.self.view_is) c.requires.low)
     (subst (λ (q : Part). key_in q.keys k ≡ None) (sym c.self.view_is) c.requires.vacant)
-    (subst (λ (s : Slot). s.generation < 262143) (sym (slot_read p.slots.items k c.index.result.now low c.index.ensures))
-    c.if-index-lt-LAST_GENERATION.true)

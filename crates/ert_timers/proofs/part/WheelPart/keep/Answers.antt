@@ -1,16 +1,14 @@
-use Rattle.std.proofs.Common.{◌≡◌, ◌+◌, ◌<◌, List, length, Option, refl, sym, subst, ◌∙◌, set, arith}
+use Rattle.std.proofs.Common.{◌≡◌, ℕ, ◌+◌, ◌<◌, List, length, Option, refl, sym, subst, ◌∙◌, set, arith}
 use Rattle.ert_timers.specs.Changes.{IsFree, slot_for}
 use Rattle.ert_timers.specs.Parts.{Part, AreFit, slot_at}
 use Rattle.ert_timers.specs.declared.part.Slot.{Slot}
-use Rattle.ert_timers.proofs.Fit.{armed_few, may_leave}
+use Rattle.ert_timers.proofs.Fit.{may_leave}
 use Rattle.ert_timers.proofs.Keeping.{orders_if, slot_read, fit_kept, may_keep}
 use Rattle.ert_timers.proofs.part.WheelPart.keep.Goals as goal
 use Rattle.ert_wheel.specs.declared.row.Key.{Key}
 
 pub overflow_add-self : goal.overflow_add-self
-overflow_add-self c =
-    let p = c.self.inside in
-    omega (arith, armed_few p.processes p.slots.items p.wheel p.free p.owners p.arms p.expires p.orphans c.self.invariant)
+overflow_add-self c = omega (arith, c.self.invariant.fewer)
 
 pub take-requires : goal.take-requires
 take-requires c =
@@ -47,10 +45,20 @@ invariant_of-self c =
     let dest = subst (λ (q : Part). c.args.start.now.dest < q.processes) (sym c.self.view_is) c.requires.dest in
     let read : slot_at p.slots.items k ≡ c.index.result.now = slot_read p.slots.items k c.index.result.now free.low c.index.ensures in
     let start = c.args.start.now in
-    subst (λ (slot : Slot). AreFit p.processes (set p.slots.items k (slot_for (slot.generation + 1) start)) c.insert.new.self p.free c.put.new.self
+    let kept : ℕ → Slot = λ above. record {
+      generation = c.args.next.generation;
+      above = above;
+      dest = start.dest;
+      msg = start.msg;
+      kind = start.kind;
+    } in
+    subst (λ above. AreFit p.processes (set p.slots.items k (kept above)) c.insert.new.self p.free c.put.new.self
+    (p.arms + 1) p.expires p.orphans) (sym c.max-above.ensures)
+    (subst (λ (slot : Slot). AreFit p.processes (set p.slots.items k (slot_for c.args.next slot.above start)) c.insert.new.self p.free c.put.new.self
     (p.arms + 1) p.expires p.orphans) read
-    (subst (λ (keys : List (Option Key)). AreFit p.processes (set p.slots.items k (slot_for ((slot_at p.slots.items k).generation + 1) start)) keys
+    (subst (λ (keys : List (Option Key)). AreFit p.processes (set p.slots.items k (slot_for c.args.next (slot_at p.slots.items k).above start)) keys
     p.free c.put.new.self (p.arms + 1) p.expires p.orphans) (sym c.insert.ensures)
-    (fit_kept seen p.free p.owners c.take.new.self c.put.new.self k start c.args.deadline c.self.invariant refl free dest
+    (fit_kept seen p.free p.owners c.take.new.self c.put.new.self k start c.args.next c.self.invariant refl free
+    (subst (λ (q : Part). q.arms < 9007199254740992) (sym c.self.view_is) c.requires.few) dest
     (c.put.ensures.slots ∙ c.take.ensures.slots) (c.put.ensures.homes ∙ c.take.ensures.homes) c.take.ensures.chains
-    c.put.ensures.chains))
+    c.put.ensures.chains)))

@@ -1,6 +1,6 @@
-use Rattle.std.proofs.Common.{◌+◌, Option, IsSome, None, sym, subst, set, arith}
+use Rattle.std.proofs.Common.{◌+◌, IsSome, None, sym, subst, set, arith}
 use Rattle.ert_timers.specs.Parts.{AreFit, Part}
-use Rattle.ert_timers.proofs.Fit.{armed_few, some_key, fit_dropped, fit_counted}
+use Rattle.ert_timers.proofs.Fit.{some_key, fit_dropped, fit_counted}
 use Rattle.ert_timers.proofs.Keeping.{byte_low}
 use Rattle.ert_timers.proofs.part.WheelPart.let_go.Goals as goal
 use Rattle.ert_wheel.proofs.Collect.{key_low}
@@ -14,7 +14,7 @@ overflow_add-self c =
     omega (
       arith,
       fit.tally,
-      armed_few p.processes p.slots.items p.wheel p.free p.owners p.arms p.expires p.orphans fit,
+      fit.fewer,
       byte_low c.args.expired c.from.result c.from.ensures,
     )
 

@@ -3,7 +3,7 @@ use Rattle.std.specs.FinSet as sets
 use Rattle.ert_table.specs.Desks.{settings_of, view_of}
 use Rattle.ert_timers.specs.Parts.{Part}
 use Rattle.ert_timers.specs.Starting.{status_shown}
-use Rattle.ert_timers.proofs.Lookings.{probe_is, looks_taken, looks_free}
+use Rattle.ert_timers.proofs.Lookings.{probe_is, looks_taken, looks_resting, looks_free}
 use Rattle.ert_timers.proofs.part.WheelPart.look_at.Goals as goal
 use Rattle.ert_wheel.specs.Rows.{key_in}
 
@@ -12,7 +12,8 @@ returns-then-is_taken-clause-call c =
     let g = settings_of c.args.desk.now in
     let v = view_of c.args.pass.now in
     let u = view_of c.load_timer-shown.new.self in
-    looks_taken g v c.args.by c.args.self.now c.args.slot (status_shown c.load_timer-shown.result) u c.requires.stands c.requires.holds
+    looks_taken g v c.args.by c.args.now c.args.self.now c.args.slot (status_shown c.load_timer-shown.result) u c.requires.stands c.requires.holds
+    c.requires.away
     (probe_is g v c.args.by c.args.self.now.number c.number-wheel.result c.args.slot c.load_timer-shown.result u c.number-wheel.ensures
     c.load_timer-shown.ensures.step)
     (sym c.is_taken.ensures ∙ c.if-is_taken.true)
@@ -35,8 +36,22 @@ returns-clause-call c =
     let g = settings_of c.args.desk.now in
     let v = view_of c.args.pass.now in
     let u = view_of c.load_timer-shown.new.self in
-    looks_free g v c.args.by c.args.self.now c.drop_row.new.self c.free_slot.new.self c.args.slot (status_shown c.load_timer-shown.result) u
-    c.requires.stands c.requires.holds (subst (λ n. c.args.slot < n) c.requires.stands.holds.many c.requires.low)
+    looks_free g v c.args.by c.args.now c.args.self.now c.drop_row.new.self c.free_slot.new.self c.args.slot (status_shown c.load_timer-shown.result) u
+    c.requires.stands c.requires.holds c.requires.past (subst (λ n. c.args.slot < n) c.requires.stands.holds.many c.requires.low)
     (probe_is g v c.args.by c.args.self.now.number c.number-wheel.result c.args.slot c.load_timer-shown.result u c.number-wheel.ensures
     c.load_timer-shown.ensures.step)
-    (sym c.is_taken.ensures ∙ c.if-is_taken.false) c.drop_row.ensures.left c.free_slot.ensures
+    (sym c.is_taken.ensures ∙ c.if-is_taken.false) c.drop_row.ensures.left (sym c.is_resting.ensures ∙ c.if-is_resting.false) c.free_slot.ensures
+
+pub is_resting-requires : goal.is_resting-requires
+is_resting-requires c = subst (λ (p : Part). c.args.slot < length p.slots) (sym c.drop_row.ensures.left) c.requires.low
+
+pub returns-then-is_resting-clause-call : goal.returns-then-is_resting-clause-call
+returns-then-is_resting-clause-call c =
+    let g = settings_of c.args.desk.now in
+    let v = view_of c.args.pass.now in
+    let u = view_of c.load_timer-shown.new.self in
+    looks_resting g v c.args.by c.args.now c.args.self.now c.drop_row.new.self c.args.slot (status_shown c.load_timer-shown.result) u
+    c.requires.stands c.requires.holds (subst (λ n. c.args.slot < n) c.requires.stands.holds.many c.requires.low) c.requires.away
+    (probe_is g v c.args.by c.args.self.now.number c.number-wheel.result c.args.slot c.load_timer-shown.result u c.number-wheel.ensures
+    c.load_timer-shown.ensures.step)
+    (sym c.is_taken.ensures ∙ c.if-is_taken.false) c.drop_row.ensures.left (sym c.is_resting.ensures ∙ c.if-is_resting.true)

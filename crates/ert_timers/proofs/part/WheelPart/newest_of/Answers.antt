@@ -1,4 +1,4 @@
-use Rattle.std.proofs.Common.{◌≡◌, ◌<◌, ◌∙◌, sym, ap, subst, arith}
+use Rattle.std.proofs.Common.{◌<◌, ◌∙◌, sym, subst, arith}
 use Rattle.ert_timers.specs.Parts.{Part}
 use Rattle.ert_timers.proofs.Fit.{fit_owned}
 use Rattle.ert_timers.proofs.Keeping.{next_found, owned_thinned}

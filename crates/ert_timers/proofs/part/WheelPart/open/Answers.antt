@@ -13,4 +13,4 @@ invariant_of-result c =
 pub returns-clause-stands : goal.returns-clause-stands
 returns-clause-stands c =
     let g = c.args.settings.now in
-    stands_open g c.args.wheel g.slots _ c.requires.in_range refl refl refl c.in_ok-slots.ensures c.in_ok-rows.ensures refl refl refl
+    stands_open g c.args.wheel g.slots _ c.requires.checked c.requires.in_range refl refl refl c.in_ok-slots.ensures c.in_ok-rows.ensures refl refl refl

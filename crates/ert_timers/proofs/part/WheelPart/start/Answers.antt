@@ -1,8 +1,8 @@
-use Rattle.std.proofs.Common.{refl, ap, ◌∙◌}
+use Rattle.std.proofs.Common.{refl, ap, ◌∙◌, arith}
 use Rattle.ert_table.specs.Desks.{settings_of, view_of}
 use Rattle.ert_timers.specs.Parts.{Part}
 use Rattle.ert_timers.proofs.Orphaned.{still_caller}
-use Rattle.ert_timers.proofs.Starts.{bad_arg, ahead_stands, is_full, due_ahead, is_started, tidy_ahead, tidy_searched, tidy_started}
+use Rattle.ert_timers.proofs.Starts.{bad_arg, ahead_stands, now_is, use_ahead, is_at_end, is_full, is_started, tidy_ahead, tidy_searched, tidy_started}
 use Rattle.ert_timers.proofs.part.WheelPart.start.Goals as goal
 
 pub take_slot-requires-clause-holds : goal.take_slot-requires-clause-holds
@@ -30,11 +30,20 @@ arm-timer-requires-clause-free c = c.in-Some-take_slot.ensures.call.finds
 pub arm-timer-requires-clause-usable : goal.arm-timer-requires-clause-usable
 arm-timer-requires-clause-usable c = c.in-Some-take_slot.ensures.call.usable
 
-pub arm-timer-requires-clause-deadline : goal.arm-timer-requires-clause-deadline
-arm-timer-requires-clause-deadline c =
-    due_ahead (settings_of c.args.desk.now) (view_of c.args.pass.now) c.args.by c.args.self.now c.take_slot.new.self c.args.start.now
-    c.look_ahead.result c.in-Some.deadline c.take_slot.result (view_of c.look_ahead.new.pass) (view_of c.take_slot.new.pass) c.requires.holds
-    c.in-Some.is c.look_ahead.ensures.looks c.take_slot.ensures.call
+pub take_slot-requires-clause-now : goal.take_slot-requires-clause-now
+take_slot-requires-clause-now c =
+    now_is (settings_of c.args.desk.now) (view_of c.args.pass.now) c.args.by c.args.start.now c.look_ahead.result c.in-Some.ahead
+    (view_of c.look_ahead.new.pass) c.in-Some.is c.look_ahead.ensures.looks
+
+pub arm-timer-requires-clause-next : goal.arm-timer-requires-clause-next
+arm-timer-requires-clause-next c =
+    use_ahead (settings_of c.args.desk.now) (view_of c.args.pass.now) c.args.by c.args.self.now c.take_slot.new.self c.args.start.now
+    c.look_ahead.result c.in-Some.ahead c.take_slot.result c.in-Some-take_slot.slot c.next_use-next.result (view_of c.look_ahead.new.pass)
+    (view_of c.take_slot.new.pass) c.requires.holds c.in-Some.is c.in-Some-take_slot.is c.in-Some.ensures.now c.in-Some.ensures.deadline
+    c.look_ahead.ensures.looks c.take_slot.ensures.call c.next_use-next.ensures
+
+pub arm-timer-requires-clause-few : goal.arm-timer-requires-clause-few
+arm-timer-requires-clause-few c = omega (arith, c.take_slot.ensures.call.arms, c.arms.ensures, c.if-arms-ge-MOST_TIMERS.false)
 
 pub end-requires-clause-holds : goal.end-requires-clause-holds
 end-requires-clause-holds c =
@@ -55,7 +64,7 @@ end-requires-clause-dest c = c.arm-timer.ensures.call.dest
 pub returns-clause-call : goal.returns-clause-call
 returns-clause-call c =
     is_started (settings_of c.args.desk.now) (view_of c.args.pass.now) c.args.by c.args.self.now c.take_slot.new.self c.arm-timer.new.self
-    c.end.new.self c.args.start.now c.look_ahead.result c.take_slot.result c.in-Some-take_slot.slot c.in-Some.deadline c.arm-timer.result
+    c.end.new.self c.args.start.now c.look_ahead.result c.in-Some.ahead.now c.take_slot.result c.in-Some-take_slot.slot c.next_use-next.result c.arm-timer.result
     (view_of c.look_ahead.new.pass) (view_of c.take_slot.new.pass) (view_of c.arm-timer.new.pass) (view_of c.end.new.pass)
     c.look_ahead.ensures.looks c.take_slot.ensures.call c.arm-timer.ensures.call c.end.ensures.call
 
@@ -85,13 +94,13 @@ returns-in_default-take_slot-clause-stands c = c.take_slot.ensures.call.stands
 pub returns-in_default-take_slot-clause-call : goal.returns-in_default-take_slot-clause-call
 returns-in_default-take_slot-clause-call c =
     is_full (settings_of c.args.desk.now) (view_of c.args.pass.now) c.args.by c.args.self.now c.take_slot.new.self c.args.start.now
-    c.look_ahead.result c.in-Some.deadline c.take_slot.result (view_of c.look_ahead.new.pass) (view_of c.take_slot.new.pass) c.requires.stands
+    c.look_ahead.result c.in-Some.ahead c.take_slot.result (view_of c.look_ahead.new.pass) (view_of c.take_slot.new.pass) c.requires.stands
     c.in-Some.is c.in_default-take_slot.is c.look_ahead.ensures.looks c.take_slot.ensures.call
 
 pub returns-clause-tidy : goal.returns-clause-tidy
 returns-clause-tidy c =
     tidy_started (settings_of c.args.desk.now) (view_of c.args.pass.now) c.args.by c.args.self.now c.take_slot.new.self c.arm-timer.new.self
-    c.end.new.self c.args.start.now c.look_ahead.result c.take_slot.result c.in-Some-take_slot.slot c.in-Some.deadline c.arm-timer.result
+    c.end.new.self c.args.start.now c.look_ahead.result c.in-Some.ahead.now c.take_slot.result c.in-Some-take_slot.slot c.next_use-next.result c.arm-timer.result
     (view_of c.look_ahead.new.pass) (view_of c.take_slot.new.pass) (view_of c.arm-timer.new.pass) (view_of c.end.new.pass)
     c.look_ahead.ensures.looks c.take_slot.ensures.call c.arm-timer.ensures.call c.end.ensures.call
 
@@ -103,5 +112,20 @@ returns-in_default-clause-tidy c =
 pub returns-in_default-take_slot-clause-tidy : goal.returns-in_default-take_slot-clause-tidy
 returns-in_default-take_slot-clause-tidy c =
     tidy_searched (settings_of c.args.desk.now) (view_of c.args.pass.now) c.args.by c.args.self.now c.take_slot.new.self c.args.start.now
-    c.look_ahead.result c.take_slot.result (view_of c.look_ahead.new.pass) (view_of c.take_slot.new.pass) c.look_ahead.ensures.looks
+    c.look_ahead.result c.in-Some.ahead.now c.take_slot.result (view_of c.look_ahead.new.pass) (view_of c.take_slot.new.pass) c.look_ahead.ensures.looks
     c.take_slot.ensures.call
+
+pub returns-then-arms-ge-MOST_TIMERS-clause-call : goal.returns-then-arms-ge-MOST_TIMERS-clause-call
+returns-then-arms-ge-MOST_TIMERS-clause-call c =
+    is_at_end (settings_of c.args.desk.now) (view_of c.args.pass.now) c.args.by c.arms.result c.args.self.now c.args.start.now c.look_ahead.result
+    c.in-Some.ahead (view_of c.look_ahead.new.pass) c.requires.stands c.in-Some.is c.arms.ensures c.if-arms-ge-MOST_TIMERS.true c.look_ahead.ensures.looks
+
+pub returns-then-arms-ge-MOST_TIMERS-clause-stands : goal.returns-then-arms-ge-MOST_TIMERS-clause-stands
+returns-then-arms-ge-MOST_TIMERS-clause-stands c =
+    ahead_stands (settings_of c.args.desk.now) (view_of c.args.pass.now) c.args.by c.args.start.now c.look_ahead.result
+    (view_of c.look_ahead.new.pass) c.args.self.now c.requires.stands c.requires.holds c.look_ahead.ensures.looks
+
+pub returns-then-arms-ge-MOST_TIMERS-clause-tidy : goal.returns-then-arms-ge-MOST_TIMERS-clause-tidy
+returns-then-arms-ge-MOST_TIMERS-clause-tidy c =
+    tidy_ahead (settings_of c.args.desk.now) (view_of c.args.pass.now) c.args.by c.args.start.now c.look_ahead.result
+    (view_of c.look_ahead.new.pass) c.args.self.now c.look_ahead.ensures.looks

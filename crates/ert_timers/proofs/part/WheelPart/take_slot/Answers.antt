@@ -7,7 +7,8 @@ use Rattle.ert_timers.proofs.part.WheelPart.take_slot.Goals as goal
 
 pub returns-in-Some-clause-call : goal.returns-in-Some-clause-call
 returns-in-Some-clause-call c =
-    takes_first (settings_of c.args.desk.now) (view_of c.args.pass.now) c.args.by c.args.self.now c.pick.new.self c.in-Some.slot c.requires.stands
+    takes_first (settings_of c.args.desk.now) (view_of c.args.pass.now) c.args.by c.args.ahead.now c.args.self.now c.pick.new.self c.in-Some.slot c.requires.stands
+    c.requires.now
     c.in-Some.ensures.picked c.in-Some.ensures.usable c.in-Some.ensures.held
 
 pub look_at_all-requires-clause-none : goal.look_at_all-requires-clause-none
@@ -26,7 +27,7 @@ look_at_all-requires-clause-stands c =
 
 pub returns-clause-call : goal.returns-clause-call
 returns-clause-call c =
-    takes_then (settings_of c.args.desk.now) (view_of c.args.pass.now) c.args.by c.args.self.now c.pick.new.self c.look_at_all.new.self
-    c.pick-2.new.self (length c.pick.new.self.slots) c.pick-2.result (view_of c.look_at_all.new.pass) c.in_default.ensures.unchanged
+    takes_then (settings_of c.args.desk.now) (view_of c.args.pass.now) c.args.by c.args.ahead.now c.args.self.now c.pick.new.self c.look_at_all.new.self
+    c.pick-2.new.self (length c.pick.new.self.slots) c.pick-2.result (view_of c.look_at_all.new.pass) c.requires.stands c.requires.now c.in_default.ensures.unchanged
     (ap (λ (p : Part). length p.slots) c.in_default.ensures.unchanged) c.look_at_all.ensures.call c.pick-2.ensures.none c.pick-2.ensures.unchanged
     c.pick-2.ensures.held c.pick-2.ensures.picked c.pick-2.ensures.usable

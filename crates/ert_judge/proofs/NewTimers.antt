@@ -1,0 +1,90 @@
+-- What a judge knows of a timer that a legal entry arms: its slot is free for it, and it is a new use of that.
+
+use Rattle.std.proofs.Common.{◌≡◌, ◌↔◌, ◌∙◌, refl, sym, ap, subst, ℕ, ◌<◌, Bool, false, true, List, length, Option, Some, None, eq-eqb}
+use Rattle.std.proofs.lemmas.List.{length-map}
+use Rattle.std.proofs.lemmas.List.Elements.{All-get_or}
+use Rattle.std.proofs.lemmas.Option.{slice_get_within, get_or_from_slice_get}
+use Rattle.std.specs.Prelude.{IsTrue}
+use Rattle.ert_defs.proofs.FiredTimers.{same_timer_self}
+use Rattle.ert_defs.proofs.Settlings.{armed_first}
+use Rattle.ert_defs.proofs.Slots.{ordered, same_timer-true}
+use Rattle.ert_defs.specs.Clocks.{Clock}
+use Rattle.ert_defs.specs.Legal.{Can, CanArm, Known}
+use Rattle.ert_defs.specs.Milliseconds.{natural, down, deadline_of}
+use Rattle.ert_defs.specs.States.{State, state}
+use Rattle.ert_defs.specs.Timers.{same_timer}
+use Rattle.ert_defs.specs.declared.entry.Actor.{Actor}
+use Rattle.ert_defs.specs.declared.entry.Entry.{Entry}
+use Rattle.ert_defs.specs.declared.entry.Event.{Event}
+use Rattle.ert_defs.specs.declared.entry.Event.TheVariants.{Arm}
+use Rattle.ert_defs.specs.declared.settings.Settings.{Settings}
+use Rattle.ert_defs.specs.declared.timer.TimerRef.{TimerRef}
+use Rattle.ert_state.specs.Parts.{looks_in, look_of}
+use Rattle.ert_state.specs.Uses.{IsNewUse}
+use Rattle.ert_state.specs.Wheels.{timers_at, rows_of, status_in, IsOwnOf, IsOwn}
+use Rattle.ert_state.specs.declared.wheels.Timer.{Timer}
+use Rattle.ert_judge.specs.Shown.{shown, IsFreeFor, StandsFor}
+use Rattle.ert_judge.specs.declared.judge.Judge.{Judge}
+use Rattle.ert_judge.proofs.TimerLaws.{ArmsNext}
+
+-- a slot is free for a timer exactly where that can be armed, by the deadline that its start has
+pub free_known : (c : Clock) (j : Judge) (by : Actor) (timer : TimerRef) (deadline : Option ℕ) (wanted : ℕ) (b : Bool)
+    → deadline ≡ Some wanted
+    → IsTrue b ↔ IsFreeFor j timer (natural (down j.settings (look_of (looks_in j.looks) by))) wanted
+    → IsTrue b ↔ CanArm j.settings (shown c j) by timer deadline
+free_known c j by timer deadline wanted b due is =
+    let now : ℕ = natural (down j.settings (look_of (looks_in j.looks) by)) in
+    let ts : List Timer = timers_at j.timers timer.wheel in
+    let count : length (rows_of ts) ≡ length ts = length-map ts (λ (t : Timer). t.row) in (
+      (λ yes. let h = is.0 yes in record {
+        free = h.free;
+        wanted = wanted;
+        due = due;
+        next_use = h.next_use;
+        few = subst (λ n. n < 9007199254740992) (sym count) h.few;
+      }),
+      (λ can. is.1 (subst (IsFreeFor j timer now) (some_same can.wanted wanted (sym can.due ∙ due)) (record {
+        free = can.free;
+        next_use = can.next_use;
+        few = subst (λ n. n < 9007199254740992) count can.few;
+      }))),
+    )
+  where
+    some_same : (m n : ℕ) → Some m ≡ Some n → m ≡ n
+    some_same m n e = cc
+
+-- without a deadline it can't
+pub none_known : (c : Clock) (j : Judge) (by : Actor) (timer : TimerRef) (deadline : Option ℕ) → deadline ≡ None
+    → IsTrue false ↔ CanArm j.settings (shown c j) by timer deadline
+none_known c j by timer deadline none = (
+  (λ yes. let e : false ≡ true = yes in absurd cc),
+  (λ can. let e : None ≡ Some can.wanted = sym none ∙ can.due in absurd cc),
+)
+
+-- a reference without a status in its wheel is a new use of its slot
+own_new : (w : ℕ) (ts : List Timer) (r : TimerRef) → IsOwn w ts → r.wheel ≡ w → status_in ts r ≡ None
+    → IsNewUse ts r.slot r.generation
+own_new w ts r own wheel none p t stands slot generation =
+    let is : IsOwnOf w ts t = subst (IsOwnOf w ts) (get_or_from_slice_get ts p t t stands)
+    (All-get_or (IsOwnOf w ts) ts p t (slice_get_within ts p t stands) own) in
+    let test : same_timer t.row.timer r ≡ true =
+    rw (eq-eqb t.row.timer.wheel r.wheel (is.wheel ∙ sym wheel), eq-eqb t.row.timer.slot r.slot slot, eq-eqb t.row.timer.generation r.generation generation) refl in
+    let e : Some t.status ≡ None = sym is.shown ∙ (ap (status_in ts) (same_timer-true t.row.timer r test) ∙ none) in
+    cc
+
+-- a legal entry arms no timer but a new one
+pub arms_next : (g : Settings) (h : List Entry) (j : Judge) (e : Entry) → StandsFor g h j → Can g (state g h) e
+    → ArmsNext j.timers g ((state g h).looked e.by) e.event
+arms_next g h j e stands can = of_event e.event can.known
+  where
+    s : State
+    s = state g h
+
+    of_event : (event : Event) → Known g s e.by e.with event → ArmsNext j.timers g (s.looked e.by) event
+    of_event (Arm timer start) known = record {
+      new = own_new timer.wheel (timers_at j.timers timer.wheel) timer (stands.own timer.wheel) refl
+          (sym (ap (λ (t : State). t.status timer) stands.kept)
+          ∙ armed_first g s e.by timer timer (deadline_of g start (s.looked e.by)) (ordered g h stands.legal) known (same_timer_self timer));
+      due = λ none. let e : None ≡ Some known.wanted = sym none ∙ known.due in cc;
+    }
+    of_event _ known = tt
