@@ -38,8 +38,8 @@ extern "C" {
 #endif
 
 /* The version of this header. The shared library of one major version has one soname. */
-#define ERTIME_VERSION_MAJOR 0
-#define ERTIME_VERSION_MINOR 1
+#define ERTIME_VERSION_MAJOR 1
+#define ERTIME_VERSION_MINOR 0
 #define ERTIME_VERSION_PATCH 0
 
 /* The statuses. */
@@ -55,7 +55,7 @@ extern "C" {
 #define ERT_OFFSET_WIDE (-9) /* the time offset would leave -2^62 to 2^62 */
 #define ERT_RANGE (-10)      /* there is no such process or scheduler */
 #define ERT_BAD_TIME (-11)   /* no timer can be due then */
-#define ERT_FULL (-12)       /* no slot of the wheel is free, or no place for a monitor */
+#define ERT_FULL (-12)       /* no slot of the wheel can take a timer, or there is no place for a monitor */
 #define ERT_NO_TIMER (-13)   /* the timer isn't armed */
 #define ERT_EMPTY (-14)      /* there is no message, or no timer */
 #define ERT_EXITED (-15)     /* the process has exited */
@@ -121,7 +121,7 @@ typedef struct {
 typedef struct {
     uint32_t wheel;
     uint32_t slot;
-    uint32_t generation;
+    uint64_t generation; /* which use of the slot it is; neither its value nor its order says anything */
 } ert_timer;
 
 /* What a timer is started with. */
@@ -184,7 +184,7 @@ typedef struct {
  * Opens a service behind a closed handle.
  *
  * The service has no timer and no message, and its monotonic time is `start`. All memory that timers need
- * is taken here: about 100 bytes for each slot, and some for each process, scheduler and caller.
+ * is taken here: about 110 bytes for each slot, and some for each process, scheduler and caller.
  *
  * ERT_OPEN: the handle is open, and stays as it was. ERT_BAD_SIZE, ERT_BAD_MODE, ERT_BAD_START,
  * ERT_BAD_READING, ERT_BAD_COUNT: the first of these, in this order, that holds of the settings.
@@ -271,8 +271,9 @@ int32_t ert_world_time_offset(ert_world *world, ert_offset *offset);
  *
  * Writes the timer's name to `timer`. ERT_RANGE: there is no scheduler `sched` or no process `dest`.
  * ERT_BAD_TIME: `when` is negative, or the deadline outside 0 to 8,796,093,022,207 milliseconds after the
- * start time. ERT_FULL: each slot of the wheel is taken or spent. ERT_CLOSED. No memory. Constant work where
- * a slot is known to be free, and else each slot of the wheel is looked at once.
+ * start time. ERT_FULL: each slot of the wheel is taken or rests; a slot that was used 262,143 times rests until the
+ * deadlines of these timers have passed. (Or the wheel has had 2^53 timers.) ERT_CLOSED. No memory. Constant work
+ * where a slot is known to be free, and else each slot of the wheel is looked at once.
  */
 int32_t ert_world_start(ert_world *world, uint32_t sched, const ert_start *start, ert_timer *timer);
 

@@ -73,8 +73,11 @@ pub struct ert_offset {
 pub struct ert_timer {
     pub wheel: u32,
     pub slot: u32,
-    pub generation: u32,
+    /// Which use of the slot it is. Neither its value nor its order says anything.
+    pub generation: u64,
 }
+
+const _: () = assert!(size_of::<ert_timer>() == 16);
 
 #[repr(C)]
 #[derive(Clone, Copy, Debug)]

@@ -48,7 +48,7 @@ pub enum Error {
     Range,
     /// A timer can't be due at that time.
     BadTime,
-    /// No slot of the wheel is free, or there is no place for a monitor.
+    /// No slot of the wheel can take a timer, or there is no place for a monitor.
     Full,
     /// The process has exited.
     Exited,

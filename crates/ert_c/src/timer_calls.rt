@@ -12,7 +12,8 @@ use ert_timers::StartErr;
 pub struct ErtTimer {
     pub wheel: u32,
     pub slot: u32,
-    pub generation: u32,
+    /// Which use of the slot it is.
+    pub generation: u64,
 }
 
 /// What a timer is started with.

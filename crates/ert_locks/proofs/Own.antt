@@ -79,9 +79,10 @@ probes_have by w [] are = tt
 probes_have by w (e ∷ es) are =
     (subst (λ (x : Entry). has_actor x by ≡ true) (sym are.2) ((rw (same_actor_self by) refl)), probes_have by w es are.3)
 
-taken_have : (by w : ℕ) (s : State) (slot n : ℕ) (es : List Entry) → AreTaken by w s slot n es → AllHave (Caller by) es
-taken_have by w s slot zero es are = as_these (Caller by) es _ are tt
-taken_have by w s slot (suc n) es are = as_these (Caller by) es _ are.2 ((rw (same_actor_self (Caller by)) refl), taken_have by w s (suc slot) n are.1 are.4)
+taken_have : (by w now : ℕ) (s : State) (slot n : ℕ) (es : List Entry) → AreTaken by w now s slot n es → AllHave (Caller by) es
+taken_have by w now s slot zero es are = as_these (Caller by) es _ are tt
+taken_have by w now s slot (suc n) es are =
+    as_these (Caller by) es _ are.2 ((rw (same_actor_self (Caller by)) refl), taken_have by w now s (suc slot) n are.1 are.4)
 
 closing_have : (was : Bool) (by : ℕ) (timer : TimerRef) (es : List Entry) → Closes was by timer es → AllHave (Caller by) es
 closing_have false by timer es closes = as_these (Caller by) es _ closes tt
@@ -100,7 +101,13 @@ starts_have g by w start (Ok timer) s es starts =
     )
 starts_have g by w start (Err BadArg) s es starts = as_these (Caller by) es _ starts.entries ((rw (same_actor_self (Caller by)) refl), tt)
 starts_have g by w start (Err Full) s es starts =
-    as_these (Caller by) es _ starts.entries ((rw (same_actor_self (Caller by)) refl), taken_have by w s 0 g.slots starts.probes starts.are_taken)
+    as_these (Caller by) es _ starts.entries (
+      (rw (same_actor_self (Caller by)) refl),
+      elim starts.are_taken [
+        | inl taken ↦ taken_have by w _ s 0 g.slots starts.probes taken
+        | inr many ↦ as_these (Caller by) starts.probes _ many.1 tt
+      ],
+    )
 starts_have g by w start (Err WantForStart) s es (inl none) = as_these (Caller by) es _ none tt
 starts_have g by w start (Err WantForStart) s es (inr probed) =
     as_these (Caller by) es _ probed.entries ((rw (same_actor_self (Caller by)) refl), probes_have (Caller by) w probed.probes probed.are_probes)

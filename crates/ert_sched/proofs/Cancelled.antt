@@ -1,12 +1,12 @@
 -- A cancel settles its timer and no other, and tells whether it did.
 
-use Rattle.std.proofs.Common.{◌≡◌, ◌≢◌, ℕ, ◌<◌, ℤ, Bool, true, false, cond, ◌&&◌, List, [], ◌∷◌, ◌++◌, Option, Some, None, Result, Ok, Err, refl, sym, ap, subst, ◌∙◌, nat_lt, nat_le}
+use Rattle.std.proofs.Common.{◌≡◌, ◌≢◌, ℕ, ◌<◌, ℤ, Bool, true, false, cond, ◌&&◌, List, [], ◌∷◌, ◌++◌, Option, Some, None, Result, Ok, Err, refl, sym, ap, subst, ◌∙◌, nat_lt}
 use Rattle.std.proofs.lemmas.Bool.{ltb-true}
 use Rattle.ert_answers.specs.RequestCalls.{DoesAsked, Answers}
 use Rattle.ert_answers.specs.TimerCalls.{Cancels, read_entries, cancel_entries}
 use Rattle.ert_defs.specs.Entries.{look_entry, peek_entry, cancel_entry, answer_entry}
 use Rattle.ert_defs.specs.Actors.{same_actor, has_actor}
-use Rattle.ert_defs.specs.Legal.{names_timer, left_of, left_by as left_by_look, LegalFrom}
+use Rattle.ert_defs.specs.Legal.{is_generation, names_timer, left_of, left_by as left_by_look, LegalFrom}
 use Rattle.ert_defs.specs.States.{State, next, run}
 use Rattle.ert_defs.specs.Timers.{Row, row_of, settled_as}
 use Rattle.ert_defs.proofs.FiredTimers.{same_timer_self, same_timer-false}
@@ -48,7 +48,7 @@ and_first false y is = absurd cc
 named_wheel : (g : Settings) (timer : TimerRef) → names_timer g timer ≡ true → timer.wheel < g.schedulers
 named_wheel g timer is =
     let low : nat_lt timer.wheel g.schedulers ≡ true =
-    and_first _ (nat_lt timer.slot g.slots) (and_first _ (nat_le 1 timer.generation) (and_first _ (nat_le timer.generation 262143) is)) in
+    and_first _ (nat_lt timer.slot g.slots) (and_first _ (is_generation timer.generation) is) in
     ltb-true timer.wheel g.schedulers low
 
 -- a cancel that hit

@@ -5,20 +5,14 @@ use Rattle.std.specs.Prelude.{nat_eq}
 use Rattle.std.proofs.lemmas.List.{get_or_push, get_or_append_left}
 use Rattle.ert_clock.specs.Shown.{Shown, Stands as ClockStands}
 use Rattle.ert_defs.specs.Settings.{IsChecked}
-use Rattle.ert_defs.specs.declared.entry.Actor.TheVariants.{Wheel, Inbox, Sched, MailOf}
 use Rattle.ert_defs.specs.declared.settings.Settings.{Settings}
 use Rattle.ert_defs.specs.declared.timer.TimerRef.{TimerRef}
-use Rattle.ert_inbox.specs.Inboxes.{Waiting, Stands as InboxStands}
-use Rattle.ert_mail.specs.Mailboxes.{Mailbox, IsEmpty, Stands as MailStands}
-use Rattle.ert_table.specs.Desks.{settings_of, front_of, actors_of, Belongs}
-use Rattle.ert_table.specs.Held.{IsWhole}
+use Rattle.ert_table.specs.Desks.{settings_of, front_of}
 use Rattle.ert_table.specs.declared.desk.Desk.{Desk}
 use Rattle.ert_table.specs.declared.desk.Pass.{Pass}
-use Rattle.ert_timers.specs.Parts.{Part, Stands as WheelStands}
-use Rattle.ert_sched.specs.Openings.{AreNew, IsNewWheel, IsNewInbox, IsNewSched, IsOpened}
-use Rattle.ert_sched.specs.Parts.{AllParts, AreOrdered, SchedStands, Stand}
-use Rattle.ert_sched.specs.Worlds.{AreFit, seen}
-use Rattle.ert_sched.specs.declared.sched_part.SchedPart.{SchedPart}
+use Rattle.ert_timers.specs.Parts.{Part}
+use Rattle.ert_sched.specs.Openings.{AreNew, IsNewWheel, IsOpened}
+use Rattle.ert_sched.specs.Worlds.{seen}
 
 -- one more part
 pub new_more : {X : Type 0} (is_new : ℕ → X → Type 0) (n : ℕ) (xs : List X) (x : X) → AreNew is_new n xs → is_new n x → AreNew is_new (n + 1) (xs ++ x ∷ [])

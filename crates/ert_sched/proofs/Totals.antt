@@ -1,7 +1,6 @@
 -- The counts of all parts of a world together.
 
-use Rattle.std.proofs.Common.{◌≡◌, ℕ, zero, suc, ◌+◌, ◌-◌, ◌*◌, ◌<◌, ◌≤◌, List, length, slice_index_or, count_by, refl, sym, ap, subst, ◌∙◌, arith, Fits, w64}
-use Rattle.std.proofs.Math.Nat.{mul_assoc, mul_comm}
+use Rattle.std.proofs.Common.{◌≡◌, ℕ, zero, suc, ◌+◌, ◌-◌, ◌<◌, ◌≤◌, List, length, slice_index_or, count_by, refl, sym, ap, subst, ◌∙◌, arith, Fits, w64}
 use Rattle.std.specs.Option.{is_some}
 use Rattle.ert_defs.specs.Legal.{Legal}
 use Rattle.ert_defs.specs.Settings.{IsChecked}
@@ -26,9 +25,9 @@ use Rattle.ert_sched.specs.declared.sched_part.SchedPart.{SchedPart}
 use Rattle.ert_sched.specs.declared.world.World.TheInside.{Inside}
 use Rattle.ert_sched.proofs.Calls.{parts_in}
 
--- no sum of counts is greater: each of 262144 slots at most is used 262143 times at most
+-- no sum of counts is greater: each of 64 wheels at most has 2^53 timers at most
 abbrev pub most : ℕ
-most = 68719214592
+most = 576460752303423488
 
 pub total_one : (f : ℕ → ℕ) (n : ℕ) → total f (n + 1) ≡ total f n + f n
 total_one f n = ap (total f) (more n)
@@ -43,10 +42,8 @@ total_below f k (suc n) below = omega (arith, total_below f k n below, below n)
 rows_all : (g : Settings) (h : List Entry) → IsChecked g → Legal g h → total (λ w. length ((state g h).rows w)) g.schedulers ≤ most
 rows_all g h checked legal =
     let few = all_few g h g.schedulers legal in
-    let slots : (g.schedulers * g.slots) ≤ 262144 = checked.counts.slots_in_all in
-    let same : 262143 * g.slots * g.schedulers ≡ 262143 * (g.schedulers * g.slots) =
-    mul_assoc 262143 g.slots g.schedulers ∙ ap (λ n. 262143 * n) (mul_comm g.slots g.schedulers) in
-    omega (arith, few, slots, same)
+    let wheels = checked.counts.schedulers_high in
+    omega (arith, few, wheels)
 
 -- sums of numbers of timers of wheels, up to any
 sum_few : (g : Settings) (h : List Entry) (f : ℕ → ℕ) → IsChecked g → Legal g h → ((w : ℕ) → f w ≤ length ((state g h).rows w)) → (n : ℕ) → n ≤ g.schedulers

@@ -52,9 +52,9 @@ probes_calm : (by : Actor) (w : ℕ) (es : List Entry) → AreProbes by w es →
 probes_calm by w [] are = tt
 probes_calm by w (e ∷ es) are = (ap (λ (x : Entry). is_cancel x.event) are.2, probes_calm by w es are.3)
 
-taken_calm : (by w : ℕ) (s : State) (slot n : ℕ) (es : List Entry) → AreTaken by w s slot n es → AreCalm es
-taken_calm by w s slot zero es are = calm_as es [] are tt
-taken_calm by w s slot (suc n) es are = calm_as es _ are.2 (refl, taken_calm by w s (suc slot) n are.1 are.4)
+taken_calm : (by w now : ℕ) (s : State) (slot n : ℕ) (es : List Entry) → AreTaken by w now s slot n es → AreCalm es
+taken_calm by w now s slot zero es are = calm_as es [] are tt
+taken_calm by w now s slot (suc n) es are = calm_as es _ are.2 (refl, taken_calm by w now s (suc slot) n are.1 are.4)
 
 closing_calm : (was : Bool) (by : ℕ) (timer : TimerRef) (es : List Entry) → Closes was by timer es → AreCalm es
 closing_calm false by timer es closes = calm_as es [] closes tt
@@ -70,7 +70,14 @@ starts_calm g by w start (Ok timer) s es starts =
           (refl, (refl, closing_calm starts.was by timer starts.closing starts.closes)),
     )
 starts_calm g by w start (Err BadArg) s es starts = calm_as es _ starts.entries (refl, tt)
-starts_calm g by w start (Err Full) s es starts = calm_as es _ starts.entries (refl, taken_calm by w s 0 g.slots starts.probes starts.are_taken)
+starts_calm g by w start (Err Full) s es starts =
+    calm_as es _ starts.entries (
+      refl,
+      elim starts.are_taken [
+        | inl taken ↦ taken_calm by w _ s 0 g.slots starts.probes taken
+        | inr many ↦ calm_as starts.probes [] many.1 tt
+      ],
+    )
 starts_calm g by w start (Err NoMemory) s es (inl none) = calm_as es [] none tt
 starts_calm g by w start (Err NoMemory) s es (inr probed) =
     calm_as es _ probed.entries (refl, probes_calm (Caller by) w probed.probes probed.are_probes)

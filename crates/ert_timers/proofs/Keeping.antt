@@ -121,7 +121,7 @@ fit_kept p free owners taken new k start next fit same can few dest slots homes 
       few_homes = fit.few_homes;
       vacant = λ j is. get_or-set_other p.keys k j (Some key) None (other_free j is) ∙ fit.vacant j is;
       below = λ j is. subst (λ n. j < n) (sym (length-set p.slots k slot)) (fit.below j is);
-      fewer = omega (arith, few);
+      few_arms = omega (arith, few);
       tally = omega (arith, fit.tally, counts_more p.keys k key wide can.vacant);
       orders = λ j seen is.
           elim (cases_eq j k) [

@@ -15,12 +15,14 @@ use Rattle.ert_defs.specs.declared.timer.Status.{Status}
 use Rattle.ert_defs.specs.declared.timer.Status.TheVariants.{Expired}
 use Rattle.ert_defs.specs.declared.timer.TimerRef.{TimerRef}
 use Rattle.ert_answers.proofs.Advanced.{IsAdvance, advance_is, advance_all_is}
+use Rattle.ert_answers.specs.RoomCalls.{ShowsRoom, no_room, with_found}
+use Rattle.ert_answers.specs.declared.answers.Room.{Room}
 use Rattle.ert_answers.specs.TimerCalls.{AreProbes, AreTaken, Closes}
 use Rattle.ert_answers.specs.WheelCalls.{Try, expires_by, expiry_entries, orphans_by, orphan_entries}
 use Rattle.ert_answers.specs.declared.answers.StartErr.TheVariants.{BadArg, Full, NoMemory}
 use Rattle.ert_table.specs.Held.{IsOurs}
 use Rattle.ert_table.proofs.Parts.{free_later, of_one, of_both}
-use Rattle.ert_timers.specs.Laws.{AreWithWheel, LawOfStanding, LawOfStarts, LawOfAdvances, LawOfFullAdvances, LawOfSweeps}
+use Rattle.ert_timers.specs.Laws.{AreWithWheel, LawOfStanding, LawOfStarts, LawOfAdvances, LawOfFullAdvances, LawOfSweeps, LawOfRooms}
 use Rattle.ert_laws.specs.Counts.{entries_of, is_arm, is_expire, is_orphan}
 use Rattle.ert_timers.specs.Parts.{last_timer}
 use Rattle.ert_timers.proofs.Later.{IsLater, later_free, none_counted, unexpired_free}
@@ -146,3 +148,15 @@ orphans_only by w (t ∷ tries) = (orphan_only by w t.timer t.missed, orphans_on
 
 pub sweeps_only : LawOfSweeps
 sweeps_only g by w process s es sweeps = same_only (Caller by) w es _ sweeps.entries (orphans_only by w sweeps.tries)
+
+shown_only : (by w now : ℕ) (s : State) (slot n : ℕ) (before room : Room) (es : List Entry) → ShowsRoom by w now s slot n before room es
+    → AreWithWheel (Caller by) w es
+shown_only by w now s slot zero before room es are = same_only (Caller by) w es _ are.0 tt
+shown_only by w now s slot (suc n) before room es are =
+    same_only (Caller by) w es _ are.2
+    (paired (Caller by) w w refl, shown_only by w now s (suc slot) n (with_found s now w slot are.0 before) room are.1 are.3)
+
+pub rooms_only : LawOfRooms
+rooms_only g by w room s es tells =
+    same_only (Caller by) w es _ tells.entries
+    (alone (Caller by) w, shown_only by w (natural (down g tells.now)) s 0 g.slots no_room room tells.probes tells.shows)

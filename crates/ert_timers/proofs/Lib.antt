@@ -17,6 +17,7 @@ pub mod Armings
 pub mod Lookings
 pub mod Dropped
 pub mod Starts
+pub mod Roomed
 pub mod Swept
 pub mod Forgotten
 pub mod LawsHold

@@ -189,7 +189,7 @@ looks_none g v by now p stands none = record {
   tidy = λ whole tidy. tidy;
 }
 
-probes-push : (by w k : ℕ) (founds : List (Option Status)) (found : Option Status)
+pub probes-push : (by w k : ℕ) (founds : List (Option Status)) (found : Option Status)
     → probes_from by w k (founds ++ found ∷ []) ≡ probes_from by w k founds ++ probe_entry (Caller by) w (k + length founds) found ∷ []
 probes-push by w k [] found =
     let e : k ≡ k + 0 = omega arith in

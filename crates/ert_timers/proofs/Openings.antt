@@ -51,7 +51,7 @@ fit_open processes n slots keys free owners few few_homes slots_are keys_are all
       few_homes = few_homes;
       vacant = λ k is. none k;
       below = λ k is. omega (arith, wide, ltb-true k n (sym (every k) ∙ is));
-      fewer = omega arith;
+      few_arms = omega arith;
       tally = omega (arith, ap (count_by is_some) keys_are, no_keys n);
       orders = λ k key is. (let e : None ≡ Some key = sym (none k) ∙ is in absurd cc);
       dests = λ k key is. (let e : None ≡ Some key = sym (none k) ∙ is in absurd cc);

@@ -44,6 +44,21 @@ pub rests_by : (s : State) (w k now : ℕ) (slot : Slot) → slot.generation ≡
     → is_resting slot now ≡ true → now < (turned (uses_at s w k)).since
 rests_by s w k now slot last above rests = turned_rests (uses_at s w k) now (same_rest s w k now slot last above ∙ rests)
 
+turned_ready : (u : Uses) (now : ℕ) → rest_at u now ≡ true → ((turned u).since ≡ u.above) × (now < u.above)
+turned_ready u now rests = at (nat_lt (use_of u.last) 262143) rests
+  where
+    at : (b : Bool) → (not b && nat_lt now u.above) ≡ true
+        → ((cond b u (record { last = 0; since = u.above; above = u.above })).since ≡ u.above) × (now < u.above)
+    at true rests = absurd cc
+    at false rests = (refl, grind (arith, nat_tests))
+
+-- until one above the greatest deadline of its timers
+pub resting_since : (s : State) (w k now : ℕ) (slot : Slot) → slot.generation ≡ s.last w k → slot.above ≡ s.above w k
+    → is_resting slot now ≡ true → ((turned (uses_at s w k)).since ≡ slot.above) × (now < slot.above)
+resting_since s w k now slot last above rests =
+    let is = turned_ready (uses_at s w k) now (same_rest s w k now slot last above ∙ rests) in
+    (is.0 ∙ sym above, omega (arith, is.1, above))
+
 -- a slot whose round has uses left doesn't rest
 pub used_less : (slot : Slot) (now : ℕ) → has_uses slot ≡ true → is_resting slot now ≡ false
 used_less slot now has = ap (λ b. not b && nat_lt now slot.above) has

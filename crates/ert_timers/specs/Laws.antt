@@ -14,8 +14,10 @@ use Rattle.ert_defs.specs.declared.settings.Settings.{Settings}
 use Rattle.ert_defs.specs.declared.timer.Start.{Start}
 use Rattle.ert_defs.specs.declared.timer.Status.TheVariants.{Armed}
 use Rattle.ert_defs.specs.declared.timer.TimerRef.{TimerRef}
+use Rattle.ert_answers.specs.RoomCalls.{TellsRoom}
 use Rattle.ert_answers.specs.TimerCalls.{Cancels, Starts}
 use Rattle.ert_answers.specs.WheelCalls.{Advances, AdvancesAll, Sweeps}
+use Rattle.ert_answers.specs.declared.answers.Room.{Room}
 use Rattle.ert_answers.specs.declared.answers.StartErr.{StartErr}
 use Rattle.ert_laws.specs.Counts.{count_at}
 use Rattle.ert_table.specs.Calls.{AreOnlyOf, IsMade}
@@ -53,6 +55,10 @@ LawOfFullAdvances = (g : Settings) (w : ℕ) (answer : Result (ℕ × ℕ) NoMem
 -- those of a sweep are of its caller and of the wheel alone
 abbrev pub LawOfSweeps : Type 0
 LawOfSweeps = (g : Settings) (by w process : ℕ) (s : State) (es : List Entry) → Sweeps g by w process s es → AreWithWheel (Caller by) w es
+
+-- those of a look at how much room there is are of its caller and of the wheel alone
+abbrev pub LawOfRooms : Type 0
+LawOfRooms = (g : Settings) (by w : ℕ) (room : Room) (s : State) (es : List Entry) → TellsRoom g by w room s es → AreWithWheel (Caller by) w es
 
 -- a tidy part holds as many rows as there are armed timers of its wheel
 abbrev pub LawOfTidyCounts : Type 0

@@ -8,6 +8,7 @@ pub mod Looking
 pub mod NextDue
 pub mod Owners
 pub mod Parts
+pub mod Rooms
 pub mod Starting
 pub mod Sweeping
 pub mod Tidy

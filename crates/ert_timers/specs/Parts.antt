@@ -104,7 +104,7 @@ pub record AreFit (processes : ℕ) (slots : List Slot) (keys : List (Option Key
   pub vacant : (k : ℕ) → set.contains free.held k ≡ true → key_in keys k ≡ None
   pub below : (k : ℕ) → set.contains free.held k ≡ true → k < length slots
   -- the counts stay far below 2^64
-  pub fewer : armed ≤ 9007199254740992
+  pub few_arms : armed ≤ 9007199254740992
   -- a timer that expired or was cancelled for an exit has no row any more
   pub tally : (expired + orphaned) + count_by is_some keys ≤ armed
   pub orders : (k : ℕ) (key : Key) → key_in keys k ≡ Some key → key.order < armed

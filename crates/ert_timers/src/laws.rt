@@ -1,6 +1,6 @@
 //! Laws of the timers of a scheduler, each the contract of a function that does nothing.
 
-ghost use Rattle.ert_timers.specs.Laws.{LawOfStanding, LawOfStarts, LawOfAdvances, LawOfFullAdvances, LawOfSweeps, LawOfTidyCounts, LawOfCancels};
+ghost use Rattle.ert_timers.specs.Laws.{LawOfStanding, LawOfStarts, LawOfAdvances, LawOfFullAdvances, LawOfSweeps, LawOfRooms, LawOfTidyCounts, LawOfCancels};
 
 /// A part stands on while its wheel has no more entries, whatever others do meanwhile.
 pub fn parts_stand_on()
@@ -14,6 +14,7 @@ pub fn calls_leave_other_parts()
     ensures advances { LawOfAdvances }
     ensures full_advances { LawOfFullAdvances }
     ensures sweeps { LawOfSweeps }
+    ensures rooms { LawOfRooms }
 {}
 
 /// A tidy part holds exactly the armed timers of its wheel: it has as many rows as they are.

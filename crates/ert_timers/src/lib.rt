@@ -37,6 +37,7 @@
 //! | `advance_all` | does the same, and then looks at each timer that is left | every slot once |
 //! | `sweep` | tries each timer of a process that has exited | those timers, and those of the process that have expired and whose slots were not used again, each once |
 //! | `forget` | drops the row of a timer that the pass has seen settled, and holds its slot free where its round has uses left | constant |
+//! | `room` | looks at the time and at every slot, and tells how many can take a timer and from when on one more can | every slot once |
 //! | `next_due` | tells how early a timer may be due | the buckets of a look ahead, 1,024 as a rule where the wheel was advanced and never over 4,096, and the timers of the first that has any |
 //! | `tally` | counts | none |
 //!
@@ -59,11 +60,12 @@ mod fired_list;
 mod laws;
 mod looking;
 mod part;
+mod room;
 mod sleeping;
 mod starting;
 mod sweeping;
 
-pub use ert_answers::StartErr;
+pub use ert_answers::{Room, StartErr};
 pub use fired_list::FiredList;
 pub use laws::{
     calls_leave_other_parts, cancels_leave_other_timers_tidy, parts_stand_on,

@@ -202,7 +202,7 @@ impl WheelPart {
 }
 
 /// Whether the last timer of a slot takes it, by what the slot shows.
-fn is_taken(shown: Option<(Status, u64, u64)>) -> bool
+pub(crate) fn is_taken(shown: Option<(Status, u64, u64)>) -> bool
     ensures { result ≡ timers.is_taken (status_shown shown) }
 {
     matches!(shown, Some((Status::Armed | Status::Expired, _, _)))

@@ -1,5 +1,6 @@
 /* Each call of the library with its answers, bad input included. What is expected stands in ertime.h. */
 #include <inttypes.h>
+#include <stddef.h>
 #include <stdio.h>
 #include <stdlib.h>
 #include <string.h>
@@ -18,6 +19,12 @@ static void expect(int line, const char *what, int64_t got, int64_t wanted) {
 }
 
 #define IS(got, wanted) expect(__LINE__, #got, (int64_t)(got), (int64_t)(wanted))
+
+/* What the library takes the structs that hold a timer for. */
+_Static_assert(sizeof(ert_timer) == 16 && offsetof(ert_timer, generation) == 8, "a timer");
+_Static_assert(sizeof(ert_mail) == 56 && offsetof(ert_mail, timer) == 8 && offsetof(ert_mail, has_left) == 24, "a message");
+_Static_assert(sizeof(ert_request) == 32 && offsetof(ert_request, timer) == 8 && offsetof(ert_request, reply_to) == 24,
+               "a request");
 
 static const ert_settings plain = {
     .size = sizeof(ert_settings),

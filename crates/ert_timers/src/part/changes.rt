@@ -91,6 +91,15 @@ impl WheelPart {
         self.slots[slot as usize].is_resting(now)
     }
 
+    /// One above the greatest deadline of a slot's timers, in milliseconds after the start time; 0 where there
+    /// is none.
+    pub(crate) fn above(&self, slot: u32) -> u64
+        requires { slot < length self.now.slots }
+        ensures { result ≡ (slot_at self.now.slots slot).above }
+    {
+        self.slots[slot as usize].above
+    }
+
     /// The next use of a slot that doesn't rest, for a timer that is started at a time with a deadline, both
     /// in milliseconds after the start time.
     pub(crate) fn next_use(&self, slot: u32, now: u64, deadline: u64) -> Use

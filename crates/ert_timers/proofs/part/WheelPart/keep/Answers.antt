@@ -8,7 +8,7 @@ use Rattle.ert_timers.proofs.part.WheelPart.keep.Goals as goal
 use Rattle.ert_wheel.specs.declared.row.Key.{Key}
 
 pub overflow_add-self : goal.overflow_add-self
-overflow_add-self c = omega (arith, c.self.invariant.fewer)
+overflow_add-self c = omega (arith, c.self.invariant.few_arms)
 
 pub take-requires : goal.take-requires
 take-requires c =

@@ -14,7 +14,7 @@ overflow_add-self c =
     omega (
       arith,
       fit.tally,
-      fit.fewer,
+      fit.few_arms,
       byte_low c.args.expired c.from.result c.from.ensures,
     )
 

@@ -1,0 +1,42 @@
+-- A look at how much room a wheel has: at the time, and then at every slot.
+
+use Rattle.std.specs.Prelude.{◌≡◌, ℕ, ◌+◌, ℤ, pos, ◌≤◌, List, [], ◌∷◌, length, Option}
+use Rattle.ert_defs.specs.Entries.{look_entry, probe_entry}
+use Rattle.ert_defs.specs.Milliseconds.{down}
+use Rattle.ert_defs.specs.States.{State, state}
+use Rattle.ert_defs.specs.Timers.{is_taken}
+use Rattle.ert_defs.specs.declared.entry.Actor.TheVariants.{Caller}
+use Rattle.ert_defs.specs.declared.settings.Settings.{Settings}
+use Rattle.ert_defs.specs.declared.timer.Status.{Status}
+use Rattle.ert_answers.specs.RoomCalls.{no_room, with_slot, with_found}
+use Rattle.ert_answers.specs.declared.answers.Room.{Room}
+use Rattle.ert_table.specs.Takes.{Appends, TakesPlace}
+use Rattle.ert_table.specs.declared.view.View.{View}
+use Rattle.ert_timers.specs.Changes.{is_resting}
+use Rattle.ert_timers.specs.Parts.{Part, Stands, slot_at}
+use Rattle.ert_timers.specs.Starting.{probes_from}
+use Rattle.ert_timers.specs.Tidy.{KeepsTidy}
+
+-- a slot was looked at, and what was known before became this
+pub record SeesSlot (g : Settings) (v : View) (by now : ℕ) (p : Part) (k : ℕ) (before room : Room) (u : View) : Type 0 where
+  pub found : Option Status
+  pub step : Appends g v (probe_entry (Caller by) p.number k found) u
+  pub told : room ≡ with_slot (is_taken found) (is_resting (slot_at p.slots k) now) (slot_at p.slots k).above before
+
+-- what is known after slots were found so in order, from one on
+abbrev pub room_after : State → ℕ → ℕ → ℕ → List (Option Status) → Room → Room
+room_after s now wheel slot [] room = room
+room_after s now wheel slot (found ∷ founds) room = room_after s now wheel (slot + 1) founds (with_found s now wheel slot found room)
+
+-- a look at the time, and then so many slots were looked at in order
+pub record SeesSome (g : Settings) (v : View) (by now : ℕ) (p : Part) (n : ℕ) (room : Room) (u : View) : Type 0 where
+  pub looked : ℤ
+  pub founds : List (Option Status)
+  pub down_to : pos now ≡ down g looked
+  pub begun : (k : ℕ) → (state g v.front).since p.number k ≤ now
+  pub call : TakesPlace g v (look_entry (Caller by) looked ∷ probes_from by p.number 0 founds) u
+  pub count : length founds ≡ n
+  pub stands : Stands g u.front p
+  pub told : room ≡ room_after (state g v.front) now p.number 0 founds no_room
+  pub few : room.free ≤ n
+  pub tidy : KeepsTidy g v p p u
