@@ -10,12 +10,11 @@ from typing import Any
 
 from .inputs import BadInput
 from .replay import MILLISECOND
-from .service import State
+from .service import State, Uses
 from .svg import span
 from .written import Entry, History, TimerRef
 
 LATEST = 8_796_093_022_207
-MOST_USES = 262_143
 MOST_MONITORS = 64
 UNKNOWN = "it can't follow on the lines before it"
 BY = {
@@ -179,19 +178,23 @@ def wrong_timer(state: State, entry: Entry) -> str | None:
 def wrong_slot(state: State, entry: Entry) -> str | None:
     """What an arm or a probe breaks."""
     place = place_of(entry)
-    generation = state.last.get(place, 0)
-    row = state.rows.get((place[0], place[1], generation))
+    uses = state.uses.get(place, Uses())
+    row = state.rows.get((place[0], place[1], uses.last))
     status = row.status if row else None
     if entry.event == "probe":
         return None if entry.fields[2] == status else f"the slot's last timer is {status or 'none'}"
     if status in ("armed", "expired"):
-        return f"the slot is taken: {ref((place[0], place[1], generation))} is {status}"
-    if entry.fields[0][2] != generation + 1 or generation + 1 > MOST_USES:
-        return f"the slot's next generation is {generation + 1}"
+        return f"the slot is taken: {ref((place[0], place[1], uses.last))} is {status}"
+    now = state.look(entry.by) // MILLISECOND
+    if now < uses.turned().since:
+        return f"the slot rests until {uses.above} ms"
     if entry.fields[1][0] == "after" and entry.fields[1][1] < 0:
         return "the time is negative"
     deadline = state.deadline(entry)
-    return None if 0 <= deadline <= LATEST else f"the deadline would be {deadline} ms"
+    if not 0 <= deadline <= LATEST:
+        return f"the deadline would be {deadline} ms"
+    generation, _ = uses.next(now, deadline)
+    return None if entry.fields[0][2] == generation else f"the slot's next generation is {generation}"
 
 
 def wrong_mail(state: State, entry: Entry) -> str | None:

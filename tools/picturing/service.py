@@ -9,6 +9,35 @@ from .replay import MILLISECOND, up
 from .written import Entry, History, TimerRef
 
 MINUTE = 60_000_000_000
+USES_OF_ROUND = 262_143
+LATER = 1 << 43  # the least generation of a later round
+
+
+@dataclass
+class Uses:
+    """The uses of a slot: the last generation, since when its round may have timers, and one above all deadlines."""
+
+    last: int = 0
+    since: int = 0
+    above: int = 0
+
+    def turned(self) -> Uses:
+        """These uses, or those of the next round where this one has had all of its own."""
+        return self if use_of(self.last) < USES_OF_ROUND else Uses(0, self.above, self.above)
+
+    def next(self, now: int, wanted: int) -> tuple[int, int]:
+        """The next generation and its deadline, in milliseconds after the start time."""
+        turned = self.turned()
+        count = use_of(turned.last) + 1
+        if turned.since == 0:
+            return count, wanted
+        deadline = max(now, wanted)
+        return count * LATER + deadline, deadline
+
+
+def use_of(generation: int) -> int:
+    """Which use of its round a generation is."""
+    return generation if generation < LATER else generation // LATER
 
 
 @dataclass
@@ -38,7 +67,7 @@ class State:
         self.due: tuple[int, str] | None = None
         self.looks: dict[str, int] = {}
         self.rows: dict[TimerRef, Row] = {}
-        self.last: dict[tuple[int, int], int] = {}
+        self.uses: dict[tuple[int, int], Uses] = {}
         self.exited: set[int] = set()
         self.waiting: dict[int, deque[TimerRef]] = {}
         self.inbox: dict[int, deque[Any]] = {}
@@ -118,8 +147,10 @@ class State:
     def on_arm(self, entry: Entry, line: int) -> None:
         """A timer is armed."""
         timer, (_, _, process, message, kind) = entry.fields
-        self.rows[timer] = Row(self.deadline(entry), process, message, kind, line)
-        self.last[timer[:2]] = timer[2]
+        uses = self.uses.get(timer[:2], Uses())
+        generation, deadline = uses.next(self.look(entry.by) // MILLISECOND, self.deadline(entry))
+        self.rows[timer] = Row(deadline, process, message, kind, line)
+        self.uses[timer[:2]] = Uses(generation, uses.turned().since, max(uses.above, deadline + 1))
 
     def settle(self, timer: TimerRef, status: str, entry: Entry, line: int) -> None:
         """A timer gets another status."""

@@ -16,7 +16,7 @@ from picturing.judge import UNKNOWN, broken, reason
 from picturing.lanes import picture_of_history
 from picturing.replay import Run, follow
 from picturing.scenario import read_scenario
-from picturing.service import State
+from picturing.service import LATER, USES_OF_ROUND, State, Uses
 from picturing.sheet import picture
 from picturing.svg import signed, span
 from picturing.wording import short
@@ -169,6 +169,19 @@ class Histories(unittest.TestCase):
         }
         for line, told in armed.items():
             self.assertEqual(reason(read_history(self.SETTINGS + self.ARMED + line, "here"), 4), told)
+
+    def test_rounds(self) -> None:
+        """After its uses a slot rests until its deadlines have passed, and a later round tells the deadline."""
+        self.assertEqual(Uses().next(9, 5), (1, 5))
+        used = Uses(USES_OF_ROUND, 0, 101)
+        self.assertEqual(used.turned(), Uses(0, 101, 101))
+        self.assertEqual(used.next(101, 5), (LATER + 101, 101))
+        self.assertEqual(Uses(LATER + 101, 101, 102).next(103, 200), (2 * LATER + 200, 200))
+        self.assertEqual(Uses(LATER * USES_OF_ROUND + 500, 101, 501).turned().since, 501)
+        history = read_history(self.SETTINGS + "c0 w0 arm 0 0 1 after 5 0 7 bare\n", "here")
+        state = State(history)
+        state.uses[(0, 0)] = used
+        self.assertEqual(broken(state, history.entries[0]), "the slot rests until 101 ms")
 
     def test_histories_judged_by_hand(self) -> None:
         """Each illegal one of the auditor's own short histories has its reason, and no legal entry has one."""

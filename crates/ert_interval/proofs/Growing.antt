@@ -1,6 +1,7 @@
 -- Intervals stay in order while the history grows.
 
-use Rattle.std.proofs.Common.{◌≡◌, ◌≢◌, ℕ, suc, ◌<◌, List, ◌++◌, length, slice_index_or, Some, None, sym, ap, subst, ◌∙◌, inl, inr, append_assoc}
+use Rattle.std.proofs.Common.{◌≡◌, ◌≢◌, ℕ, suc, ◌<◌, List, ◌∷◌, ◌++◌, length, slice_index_or, Some, None, sym, ap, subst, ◌∙◌, inl, inr, append_assoc}
+use Rattle.ert_defs.specs.Entries.{arm_entry}
 use Rattle.ert_defs.specs.Legal.{Legal, LegalFrom}
 use Rattle.ert_defs.specs.States.{State, state, run}
 use Rattle.ert_defs.specs.Timers.{row_of}
@@ -9,7 +10,7 @@ use Rattle.ert_defs.specs.declared.settings.Settings.{Settings}
 use Rattle.ert_defs.specs.declared.timer.TimerRef.{TimerRef}
 use Rattle.ert_defs.proofs.Runs.{legal_first, legal_then, state-append, exit_stays}
 use Rattle.ert_defs.proofs.Slots.{IsOrdered, ordered}
-use Rattle.ert_interval.specs.Intervals.{IsFiring, IsAfter, AreFirings, HasFired, IsAtEnd, IsIn, IsKept, row_for}
+use Rattle.ert_interval.specs.Intervals.{IsFiring, IsTold, IsAfter, AreFirings, HasFired, IsAtEnd, IsIn, IsKept, row_for}
 use Rattle.ert_interval.specs.declared.interval.Interval.{Interval}
 use Rattle.ert_interval.specs.declared.interval.IntervalState.{IntervalState}
 use Rattle.ert_interval.specs.declared.interval.IntervalState.TheVariants.{Running, Waiting, Stopped, Ended}
@@ -18,6 +19,16 @@ use Rattle.ert_interval.proofs.Steps.{AllSpare, row_stays, fired_stays, used_sta
 -- the same interval, in another state
 abbrev pub with_state : Interval → IntervalState → Interval
 with_state i st = record i { state = st }
+
+-- the start of a timer stays
+told_grows : (g : Settings) (h m : List Entry) (r : TimerRef) (wanted : ℕ) → IsTold g h r wanted → IsTold g (h ++ m) r wanted
+told_grows g h m r wanted one = record {
+  before = one.before;
+  start = one.start;
+  behind = one.behind ++ m;
+  parted = ap (λ l. l ++ m) one.parted ∙ append_assoc one.before (arm_entry 0 r one.start ∷ one.behind) m;
+  told = one.told;
+}
 
 pub firings_grow : (g : Settings) (h m : List Entry) (i : Interval) (st : IntervalState) → Legal g (h ++ m) → AreFirings g h i → AreFirings g (h ++ m) (with_state i st)
 firings_grow g h m i st legal f =
@@ -35,6 +46,7 @@ firings_grow g h m i st legal f =
             due = one.due;
             row = subst (λ (t : State). row_of (t.rows r.wheel) r ≡ Some (row_for i r one.deadline)) grown
                 (row_stays g s m r (row_for i r one.deadline) one.row);
+            told = told_grows g h m r one.deadline one.told;
           };
       fired = λ j d low.
           let r : TimerRef = slice_index_or i.firings.items j d in
@@ -117,7 +129,7 @@ kept_moved g h i k same kept =
       ends = same ∙ kept.ends;
       due = kept.due;
       firings = record {
-        each = λ j d low. subst (IsFiring g s (with_timers i k i.state) j) (at j d) (as_moved (f.each j d (subst (λ l. j < length l) same low)));
+        each = λ j d low. subst (IsFiring g h (with_timers i k i.state) j) (at j d) (as_moved (f.each j d (subst (λ l. j < length l) same low)));
         fired = λ j d low. subst (λ r. HasFired (s.status r)) (at j d) (f.fired j d (subst (λ l. suc j < length l) same low));
         after = λ j d low.
             subst (λ r. IsAfter g h r (slice_index_or k.firings.items (suc j) d)) (at j d)
@@ -130,8 +142,8 @@ kept_moved g h i k same kept =
       is_in = in_moved i.state kept.is_in;
     }
   where
-    as_moved : {j : ℕ} {r : TimerRef} → IsFiring g (state g h) i j r → IsFiring g (state g h) (with_timers i k i.state) j r
-    as_moved one = record { wheel = one.wheel; deadline = one.deadline; due = one.due; row = one.row }
+    as_moved : {j : ℕ} {r : TimerRef} → IsFiring g h i j r → IsFiring g h (with_timers i k i.state) j r
+    as_moved one = record { wheel = one.wheel; deadline = one.deadline; due = one.due; row = one.row; told = one.told }
 
     in_moved : (st : IntervalState) → IsIn (state g h) i st → IsIn (state g h) (with_timers i k i.state) st
     in_moved Running is = is

@@ -91,9 +91,9 @@ probes_plain by w [] probes = tt
 probes_plain by w (e ∷ es) probes =
     (subst (λ (x : Entry). is_plain x.event ≡ true) (sym probes.2) refl, probes_plain by w es probes.3)
 
-taken_plain : (by w : ℕ) (s : State) (slot n : ℕ) (es : List Entry) → AreTaken by w s slot n es → ArePlain es
-taken_plain by w s slot zero es taken = plain_as es [] taken tt
-taken_plain by w s slot (suc n) es taken = plain_as es _ taken.2 (refl, taken_plain by w s (suc slot) n taken.1 taken.4)
+taken_plain : (by w now : ℕ) (s : State) (slot n : ℕ) (es : List Entry) → AreTaken by w now s slot n es → ArePlain es
+taken_plain by w now s slot zero es taken = plain_as es [] taken tt
+taken_plain by w now s slot (suc n) es taken = plain_as es _ taken.2 (refl, taken_plain by w now s (suc slot) n taken.1 taken.4)
 
 closes_plain : (was : Bool) (by : ℕ) (timer : TimerRef) (es : List Entry) → Closes was by timer es → ArePlain es
 closes_plain false by timer es closes = plain_as es [] closes tt
@@ -110,7 +110,13 @@ starts_plain g by w start (Ok timer) s es starts =
     )
 starts_plain g by w start (Err BadArg) s es starts = plain_as es _ starts.entries (refl, tt)
 starts_plain g by w start (Err Full) s es starts =
-    plain_as es _ starts.entries (refl, taken_plain by w s 0 g.slots starts.probes starts.are_taken)
+    plain_as es _ starts.entries (
+      refl,
+      elim starts.are_taken [
+        | inl taken ↦ taken_plain by w _ s 0 g.slots starts.probes taken
+        | inr many ↦ plain_as starts.probes [] many.1 tt
+      ],
+    )
 starts_plain g by w start (Err NoMemory) s es (inl none) = plain_as es [] none tt
 starts_plain g by w start (Err NoMemory) s es (inr probed) =
     plain_as es _ probed.entries (refl, probes_plain _ w probed.probes probed.are_probes)

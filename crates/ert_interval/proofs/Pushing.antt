@@ -61,7 +61,7 @@ count i before ends = ap length ends ∙ length-append before (i.last ∷ [])
 
 firings_push : (g : Settings) (h : List Entry) (i k : Interval) (timer : TimerRef) (d : ℕ) (before : List TimerRef) → IsNext i k timer
     → i.firings.items ≡ before ++ i.last ∷ []
-    → AreFirings g h i → IsFiring g (state g h) i (length before + 1) timer → HasFired ((state g h).status i.last) → IsAfter g h i.last timer
+    → AreFirings g h i → IsFiring g h i (length before + 1) timer → HasFired ((state g h).status i.last) → IsAfter g h i.last timer
     → AreFirings g h (next_of i k timer d)
 firings_push g h i k timer d before push ends f new fired behind =
     let s : State = state g h in
@@ -72,11 +72,11 @@ firings_push g h i k timer d before push ends f new fired behind =
       each = λ j e low. elim (cases_eq j n) [
         | inl is ↦
             let at : slice_index_or k.firings.items j e ≡ timer = subst (λ x. slice_index_or k.firings.items x e ≡ timer) (sym is) (new_at i k timer push e) in
-            subst (IsFiring g s (next_of i k timer d) j) (sym at)
-            (as_next (subst (λ x. IsFiring g s i x timer) (sym (is ∙ some)) new))
+            subst (IsFiring g h (next_of i k timer d) j) (sym at)
+            (as_next (subst (λ x. IsFiring g h i x timer) (sym (is ∙ some)) new))
         | inr not ↦
             let below : j < n = omega (arith, all, low, not) in
-            subst (IsFiring g s (next_of i k timer d) j) (sym (old_at i k timer push j e below)) (as_next (f.each j e below))
+            subst (IsFiring g h (next_of i k timer d) j) (sym (old_at i k timer push j e below)) (as_next (f.each j e below))
       ];
       fired = λ j e low. elim (cases_eq (suc j) n) [
         | inl is ↦
@@ -103,8 +103,8 @@ firings_push g h i k timer d before push ends f new fired behind =
       ];
     }
   where
-    as_next : {j : ℕ} {r : TimerRef} → IsFiring g (state g h) i j r → IsFiring g (state g h) (next_of i k timer d) j r
-    as_next one = record { wheel = one.wheel; deadline = one.deadline; due = one.due; row = one.row }
+    as_next : {j : ℕ} {r : TimerRef} → IsFiring g h i j r → IsFiring g h (next_of i k timer d) j r
+    as_next one = record { wheel = one.wheel; deadline = one.deadline; due = one.due; row = one.row; told = one.told }
 
 -- an interval whose next timer was started is in order
 pub pushed : (a b : Service) (piece : List Entry) (i k : Interval) (timer : TimerRef) (d : ℕ) → b.settings ≡ a.settings → b.history ≡ a.history ++ piece
@@ -134,7 +134,7 @@ pushed a b piece i k timer d settings grown legal_b kept going start lives other
       ends = push ∙ ap (λ l. l ++ timer ∷ []) kept.ends;
       due = subst (λ n. deadline_at ((i.first +ℤ pos (n * i.period)) -ℤ base g) ≡ Some d) (sym (length-append kept.before (i.last ∷ []))) due;
       firings = firings_push g h' i k timer d kept.before push kept.ends firings
-          (record { wheel = start.on; deadline = d; due = due; row = start.row }) fired'
+          (record { wheel = start.on; deadline = d; due = due; row = start.row; told = start.told }) fired'
           (record { before = start.before; behind = start.behind; parted = start.parted; fired = start.early i.last fired; unarmed = start.unarmed });
       used = start.used;
       named = start.named;
@@ -163,8 +163,9 @@ begun a b j time settings firings running same due wheel dest start =
         each = λ k d low.
             let none : k ≡ 0 = omega (arith, low, one) in
             let at : slice_index_or j.firings.items k d ≡ j.last = ap (λ n. slice_index_or j.firings.items n d) none ∙ ap (λ l. slice_index_or l 0 d) firings in
-            subst (IsFiring g (state g h') j k) (sym at)
-            (subst (λ n. IsFiring g (state g h') j n j.last) (sym none) (record { wheel = start.on; deadline = j.deadline; due = due0; row = start.row }));
+            subst (IsFiring g h' j k) (sym at)
+            (subst (λ n. IsFiring g h' j n j.last) (sym none)
+            (record { wheel = start.on; deadline = j.deadline; due = due0; row = start.row; told = start.told }));
         fired = λ k d low. absurd (omega (arith, low, one));
         after = λ k d low. absurd (omega (arith, low, one));
       };

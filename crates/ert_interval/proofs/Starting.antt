@@ -1,16 +1,17 @@
 -- What the start of a timer leaves.
 
-use Rattle.std.proofs.Common.{◌≡◌, ◌≢◌, ℕ, ◌+◌, ◌≤◌, ℤ, Bool, true, false, cond, List, [], ◌∷◌, ◌++◌, All, Option, Some, None, Ok, Err, refl, sym, ap, subst, ◌∙◌, arith, append_assoc, eq-eqb, lt-ltb}
-use Rattle.std.proofs.lemmas.Bool.{le-leb}
+use Rattle.std.proofs.Common.{◌≡◌, ◌≢◌, ◌⊎◌, inl, inr, ℕ, zero, suc, ◌<◌, ◌≤◌, max, ℤ, Bool, true, false, cond, ◌&&◌, ◌||◌, nat_lt, nat_le, List, [], ◌∷◌, ◌++◌, length, All, Option, Some, None, Ok, Err, refl, sym, ap, subst, ◌∙◌, arith, append_assoc, eq-eqb, lt-ltb}
+use Rattle.std.proofs.lemmas.Bool.{cases_eq, le-leb, ltb-true}
+use Rattle.std.proofs.lemmas.Bool.Decides.{nat_tests}
 use Rattle.ert_answers.specs.TimerCalls.{Starts, Closes, AreTaken}
 use Rattle.ert_answers.specs.declared.answers.StartErr.{StartErr}
 use Rattle.ert_answers.specs.declared.answers.StartErr.TheVariants.{BadArg, Full, NoMemory}
 use Rattle.ert_defs.specs.Actors.{has_actor}
 use Rattle.ert_defs.specs.Entries.{look_entry, arm_entry, mark_entry}
-use Rattle.ert_defs.specs.Legal.{Legal, LegalFrom, Can, IsSlot, names_timer}
-use Rattle.ert_defs.specs.Milliseconds.{deadline_of}
-use Rattle.ert_defs.specs.States.{State, state, run, next}
-use Rattle.ert_defs.specs.Timers.{Row, row_of, row_from, same_timer}
+use Rattle.ert_defs.specs.Legal.{Legal, LegalFrom, Can, CanArm, IsSlot, is_generation, names_timer}
+use Rattle.ert_defs.specs.Milliseconds.{natural, down, deadline_of}
+use Rattle.ert_defs.specs.States.{State, uses_at, state, run, next}
+use Rattle.ert_defs.specs.Timers.{Row, Uses, turned, deadline_in, deadline_told, row_of, row_from, same_timer}
 use Rattle.ert_defs.specs.declared.entry.Actor.TheVariants.{Wheel, Caller}
 use Rattle.ert_defs.specs.declared.entry.Entry.{Entry}
 use Rattle.ert_defs.specs.declared.settings.Settings.{Settings}
@@ -21,10 +22,11 @@ use Rattle.ert_defs.proofs.FiredTimers.{row_named, same_timer_self}
 use Rattle.ert_defs.proofs.Rows.{IsRow, rows_hold}
 use Rattle.ert_defs.proofs.Runs.{legal_first, legal_then, state-append}
 use Rattle.ert_defs.proofs.Settlings.{armed_first}
-use Rattle.ert_defs.proofs.Slots.{ordered, ordered_next}
+use Rattle.ert_defs.proofs.Slots.{IsOrdered, ordered, ordered_next}
 use Rattle.ert_defs.proofs.Standing.{of_row}
+use Rattle.ert_defs.proofs.Uses.{IsBefore, Use, used, fresh, before_self, told_is}
 use Rattle.ert_interval.specs.Calls.{Still, AreStill, IsFull}
-use Rattle.ert_interval.specs.Intervals.{HasFired, IsGoing}
+use Rattle.ert_interval.specs.Intervals.{HasFired, IsGoing, IsToldAt, IsTold}
 use Rattle.ert_interval.proofs.Plain.{ArePlain, plain_spares, starts_plain}
 use Rattle.ert_interval.proofs.Reading.{piece_legal, piece_state}
 use Rattle.ert_interval.proofs.Steps.{row_stays, fired_stays, used_stays, going_stays, none_from}
@@ -41,18 +43,30 @@ row_last (x ∷ rows) row none = at (same_timer x.timer row.timer) (row_last row
     at true more h = absurd cc
     at false more h = more h
 
--- a timer of the next generation has no row yet
-row_new : (rows : List Row) (w : ℕ) (last : ℕ → ℕ) (timer : TimerRef) (o : Option Row) → All (IsRow w last) rows
-    → timer.generation ≡ last timer.slot + 1 → row_of rows timer ≡ o → row_of rows timer ≡ None
-row_new rows w last timer None each new is = is
-row_new rows w last timer (Some row) each new is =
-    let is_row : IsRow w last row = of_row (IsRow w last) rows timer row each is in
-    let named : row.timer ≡ timer = row_named rows row timer is in
-    let within : timer.generation ≤ last timer.slot = subst (λ (t : TimerRef). t.generation ≤ last t.slot) named is_row.within in
-    absurd (omega arith)
+-- the use of a slot that a start makes, for a deadline that is wanted
+abbrev use_by : Settings → State → TimerRef → ℕ → Use
+use_by g s timer wanted = record { now = natural (down g (s.looked (Caller 0))); wanted = wanted; generation = timer.generation }
+
+-- a timer that can be armed has no row yet
+row_new : (g : Settings) (s : State) (timer : TimerRef) (deadline : Option ℕ) (o : Option Row) → IsOrdered s
+    → All (IsRow timer.wheel (uses_at s timer.wheel)) (s.rows timer.wheel) → CanArm g s (Caller 0) timer deadline
+    → row_of (s.rows timer.wheel) timer ≡ o → row_of (s.rows timer.wheel) timer ≡ None
+row_new g s timer deadline None order each can is = is
+row_new g s timer deadline (Some row) order each can is =
+    let w : ℕ = timer.wheel in
+    let is_row : IsRow w (uses_at s w) row = of_row (IsRow w (uses_at s w)) (s.rows w) timer row each is in
+    let named : row.timer ≡ timer = row_named (s.rows w) row timer is in
+    let used : IsBefore (uses_at s w timer.slot) timer.generation = subst (λ (t : TimerRef). IsBefore (uses_at s w t.slot) t.generation) named is_row.used in
+    absurd (fresh (uses_at s w timer.slot) (use_by g s timer can.wanted) timer.generation (order w timer.slot).sound can.next_use used refl)
 
 abbrev row_at : TimerRef → Start → ℕ → Row
-row_at timer start deadline = record { timer = timer; deadline = deadline; dest = start.dest; msg = start.msg; kind = start.kind }
+row_at timer start deadline = record {
+  timer = timer;
+  deadline = deadline_told timer.generation deadline;
+  dest = start.dest;
+  msg = start.msg;
+  kind = start.kind;
+}
 
 -- a timer has just been armed
 armed_row : (g : Settings) (h : List Entry) (timer : TimerRef) (start : Start) (deadline : ℕ) → Legal g h → Can g (state g h) (arm_entry 0 timer start)
@@ -62,8 +76,7 @@ armed_row g h timer start deadline legal can due =
     let s : State = state g h in
     let has : has_actor (arm_entry 0 timer start) (Wheel timer.wheel) ≡ true = eq-eqb timer.wheel timer.wheel refl in
     let none : row_of (s.rows timer.wheel) timer ≡ None =
-    row_new (s.rows timer.wheel) timer.wheel (s.last timer.wheel) timer (row_of (s.rows timer.wheel) timer) (rows_hold g h timer.wheel legal).each
-    can.known.generation refl in
+    row_new g s timer _ (row_of (s.rows timer.wheel) timer) (ordered g h legal) (rows_hold g h timer.wheel legal).each can.known refl in
     let rows : (next g s (arm_entry 0 timer start)).rows timer.wheel ≡ s.rows timer.wheel ++ row_at timer start deadline ∷ [] =
     rw has (ap (λ d. s.rows timer.wheel ++ row_from timer start d) due) in
     ap (λ l. row_of l timer) rows ∙ row_last (s.rows timer.wheel) (row_at timer start deadline) none
@@ -72,9 +85,54 @@ armed_status : (g : Settings) (s : State) (timer : TimerRef) (start : Start) →
 armed_status g s timer start =
     rw (eq-eqb timer.wheel timer.wheel refl, eq-eqb timer.slot timer.slot refl, eq-eqb timer.generation timer.generation refl) refl
 
-names : (g : Settings) (timer : TimerRef) → IsSlot g timer.wheel timer.slot → 1 ≤ timer.generation → timer.generation ≤ 262143 → names_timer g timer ≡ true
-names g timer slot low high =
-    rw (lt-ltb timer.wheel g.schedulers slot.wheel_high, lt-ltb timer.slot g.slots slot.slot_high, le-leb 1 timer.generation low, le-leb timer.generation 262143 high) refl
+or_true : (x : Bool) → (x || true) ≡ true
+or_true true = refl
+or_true false = refl
+
+-- a generation that was armed is one that a timer may have
+is_armed_generation : (u : Uses) (n : ℕ) → IsBefore u n → is_generation n ≡ true
+is_armed_generation u n armed = at (nat_lt n 8796093022208) refl
+  where
+    at : (b : Bool) → nat_lt n 8796093022208 ≡ b → is_generation n ≡ true
+    at true is =
+        let high : n ≤ 262143 = armed.small (ltb-true n 8796093022208 is) in
+        rw (le-leb 1 n armed.low, le-leb n 262143 high) refl
+    at false is =
+        let later : 8796093022208 ≤ n = grind (arith, nat_tests) in
+        rw (le-leb 8796093022208 n later, lt-ltb n 2305843009213693952 armed.high) (or_true (nat_le 1 n && nat_le n 262143))
+
+and_all : (a b c : Bool) → a ≡ true → b ≡ true → c ≡ true → (a && b && c) ≡ true
+and_all a b c is_a is_b is_c = rw (is_a, is_b, is_c) refl
+
+-- a timer that can be armed is in range
+names : (g : Settings) (s : State) (timer : TimerRef) (deadline : Option ℕ) → IsOrdered s → IsSlot g timer.wheel timer.slot
+    → CanArm g s (Caller 0) timer deadline → names_timer g timer ≡ true
+names g s timer deadline order slot can =
+    let u : Uses = uses_at s timer.wheel timer.slot in
+    let t : Use = use_by g s timer can.wanted in
+    and_all (nat_lt timer.wheel g.schedulers) (nat_lt timer.slot g.slots) (is_generation timer.generation)
+    (lt-ltb timer.wheel g.schedulers slot.wheel_high) (lt-ltb timer.slot g.slots slot.slot_high)
+    (is_armed_generation (used u t) timer.generation (before_self u t (order timer.wheel timer.slot).sound can.next_use))
+
+-- the deadline of a timer is the wanted one, or one that had passed counts as the time of the look
+deadline_cases : (since now wanted : ℕ) → (deadline_in since now wanted ≡ wanted)
+    ⊎ ((wanted < deadline_in since now wanted) × (deadline_in since now wanted ≡ now))
+deadline_cases zero now wanted = inl refl
+deadline_cases (suc since) now wanted = elim (cases_eq (max now wanted) wanted) [
+  | inl is ↦ inl is
+  | inr not ↦ inr (omega (arith, not), omega (arith, not))
+]
+
+told_cases : (g : Settings) (s : State) (timer : TimerRef) (deadline : Option ℕ) (wanted : ℕ) → IsOrdered s → CanArm g s (Caller 0) timer deadline
+    → deadline ≡ Some wanted → IsToldAt g s timer wanted
+told_cases g s timer deadline wanted order can due =
+    let u : Uses = uses_at s timer.wheel timer.slot in
+    let t : Use = use_by g s timer can.wanted in
+    let same : can.wanted ≡ wanted = (let is : Some can.wanted ≡ Some wanted = sym can.due ∙ due in cc) in
+    let told : deadline_told timer.generation can.wanted ≡ deadline_in (turned u).since t.now can.wanted =
+    told_is u t (order timer.wheel timer.slot).sound can.next_use in
+    subst (IsToldAt g s timer) same
+    (subst (λ d. (d ≡ can.wanted) ⊎ ((can.wanted < d) × (d ≡ t.now))) (sym told) (deadline_cases (turned u).since t.now can.wanted))
 
 -- a timer was started
 pub record HasStarted (a b : Service) (w : ℕ) (start : Start) (timer : TimerRef) (deadline : ℕ) : Type 0 where
@@ -87,6 +145,7 @@ pub record HasStarted (a b : Service) (w : ℕ) (start : Start) (timer : TimerRe
   pub unarmed : (state a.settings before).status timer ≡ None
   pub new : (state a.settings a.history).status timer ≡ None
   pub row : row_of ((state a.settings b.history).rows timer.wheel) timer ≡ Some (row_at timer start deadline)
+  pub told : IsTold a.settings b.history timer deadline
   pub going : IsGoing ((state a.settings b.history).status timer) ((state a.settings b.history).exited start.dest)
   pub used : (state a.settings b.history).status timer ≢ None
   pub lives : (state a.settings a.history).exited start.dest ≡ false → ((state a.settings b.history).status timer ≡ Some Armed) × Still a b
@@ -118,7 +177,7 @@ started a b w start timer deadline goes legal_b due =
     let at1 : s1 ≡ run g (state g a.history) pre = state-append g a.history pre in
     let plain : ArePlain (arm ∷ post) = plain_then (look_entry (Caller 0) st.now ∷ st.probes) (arm ∷ post)
     (subst ArePlain st.entries (starts_plain g 0 w start (Ok timer) (state g a.history) goes.grows.piece st)) in
-    let unarmed : s1.status timer ≡ None = armed_first s1 timer timer (ordered g h1 legal_h1) can.known.generation (same_timer_self timer) in
+    let unarmed : s1.status timer ≡ None = armed_first g s1 (Caller 0) timer timer _ (ordered g h1 legal_h1) can.known (same_timer_self timer) in
     let status : s2.status timer ≡ Some Armed = armed_status g s1 timer start in
     let row2 : row_of (s2.rows timer.wheel) timer ≡ Some (row_at timer start deadline) =
     armed_row g h1 timer start deadline legal_h1 can (due (s1.looked (Caller 0))) in
@@ -127,7 +186,7 @@ started a b w start timer deadline goes legal_b due =
     let still_pre : AreStill pre = (refl, probes_still (Caller 0) w st.probes st.are_probes) in
     record {
       on = st.on_wheel;
-      named = names g timer can.keeps.2 (omega (arith, can.known.generation)) can.known.unspent;
+      named = names g s1 timer _ (ordered g h1 legal_h1) can.keeps.2 can.known;
       before = h1;
       behind = arm ∷ post;
       parted = parted;
@@ -139,6 +198,13 @@ started a b w start timer deadline goes legal_b due =
           (used_stays g (state g a.history) pre timer (ordered g a.history legal_a) legal_pre some) unarmed);
       row = subst (λ (s : State). row_of (s.rows timer.wheel) timer ≡ Some (row_at timer start deadline)) (sym end)
           (row_stays g s2 post timer (row_at timer start deadline) row2);
+      told = record {
+        before = h1;
+        start = start;
+        behind = post;
+        parted = parted;
+        told = told_cases g s1 timer _ deadline (ordered g h1 legal_h1) can.known (due (s1.looked (Caller 0)));
+      };
       going = subst (λ (s : State). IsGoing (s.status timer) (s.exited start.dest)) (sym end)
           (going_stays g s2 post timer (row_at timer start deadline) legal_rest.1 (plain_spares timer post plain.1) row2 going2);
       used = subst (λ (s : State). s.status timer ≢ None) (sym end)
@@ -169,10 +235,22 @@ started a b w start timer deadline goes legal_b due =
         used_stays g (next g (state g h1) (arm_entry 0 timer start)) post timer (ordered_next g (state g h1) (arm_entry 0 timer start) (ordered g h1 legal) can)
         legal_post used
 
+-- what a start that is refused with Full found
+abbrev FoundFull : Settings → ℕ → ℤ → State → List Entry → Type 0
+FoundFull g w now s probes = AreTaken 0 w (natural (down g now)) s 0 g.slots probes ⊎ ((length (s.rows w) ≡ 9007199254740992) × (probes ≡ []))
+
 taken_all : (g : Settings) (s : State) (w : ℕ) (now : ℤ) (probes : List Entry) → LegalFrom g s (look_entry (Caller 0) now ∷ probes)
-    → AreTaken 0 w s 0 g.slots probes → IsFull g s w
-taken_all g s w now probes legal taken k low =
-    full_from g s (next g s (look_entry (Caller 0) now)) w 0 g.slots probes (λ j. refl) legal.1 taken k (omega arith) (omega (arith, low))
+    → FoundFull g w now s probes → IsFull g s w
+taken_all g s w now probes legal (inl taken) =
+    let found : now ≡ s.clock.now = legal.0.found in
+    inl (λ k low.
+    full_from g s (next g s (look_entry (Caller 0) now)) (natural (down g s.clock.now)) w 0 g.slots probes (λ j. refl) legal.1
+    (subst (λ x. AreTaken 0 w (natural (down g x)) s 0 g.slots probes) found taken) k (omega arith) (omega (arith, low)))
+taken_all g s w now probes legal (inr many) = inr many.0
+
+found_still : (g : Settings) (w : ℕ) (now : ℤ) (s : State) (probes : List Entry) → FoundFull g w now s probes → AreStill probes
+found_still g w now s probes (inl taken) = taken_still 0 w (natural (down g now)) s 0 g.slots probes taken
+found_still g w now s probes (inr many) = subst AreStill (sym many.1) tt
 
 -- a start that found no free slot leaves a full wheel
 pub refused_full : (a b : Service) (w : ℕ) (start : Start) (deadline : ℕ) (e : StartErr) → Goes a (By a (λ g. Starts g 0 w start (Err e))) b
@@ -189,7 +267,7 @@ refused_full a b w start deadline Full goes legal due memory =
     let st = goes.grows.made in
     let es : List Entry = look_entry (Caller 0) st.now ∷ st.probes in
     let legal_es : LegalFrom g s es = subst (LegalFrom g s) st.entries (piece_legal a b goes.grows.piece goes.settings goes.grows.grown legal) in
-    let still : AreStill es = (refl, taken_still 0 w s 0 g.slots st.probes st.are_taken) in
+    let still : AreStill es = (refl, found_still g w st.now s st.probes st.are_taken) in
     let end : state b.settings b.history ≡ run g s es = piece_state a b goes.grows.piece goes.settings goes.grows.grown ∙ ap (run g s) st.entries in
     let full : IsFull g (run g s es) w = still_full g s es w legal_es still (taken_all g s w st.now st.probes legal_es st.are_taken) in (
       subst (λ (k : Settings). IsFull k (state b.settings b.history) w) (sym goes.settings)

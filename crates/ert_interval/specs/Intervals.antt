@@ -1,13 +1,16 @@
 -- What every interval of a service keeps.
 
 use Rattle.std.specs.Prelude.{◌≡◌, ◌≢◌, ◌⊎◌, ℕ, suc, ◌+◌, ◌*◌, ◌<◌, ◌≤◌, pos, ◌+ℤ◌, ◌-ℤ◌, Bool, true, List, [], ◌∷◌, ◌++◌, length, slice_index_or, Option, Some, None}
+use Rattle.ert_defs.specs.Entries.{arm_entry}
 use Rattle.ert_defs.specs.Legal.{Legal, names_timer}
-use Rattle.ert_defs.specs.Milliseconds.{deadline_at}
+use Rattle.ert_defs.specs.Milliseconds.{natural, down, deadline_at}
 use Rattle.ert_defs.specs.States.{State, state}
-use Rattle.ert_defs.specs.Timers.{Row, row_of}
+use Rattle.ert_defs.specs.Timers.{Row, deadline_told, row_of}
+use Rattle.ert_defs.specs.declared.entry.Actor.TheVariants.{Caller}
 use Rattle.ert_defs.specs.declared.entry.Entry.{Entry}
 use Rattle.ert_defs.specs.declared.settings.Settings.{Settings}
 use Rattle.ert_defs.specs.declared.timer.Kind.TheVariants.{Wrapped}
+use Rattle.ert_defs.specs.declared.timer.Start.{Start}
 use Rattle.ert_defs.specs.declared.timer.Status.{Status}
 use Rattle.ert_defs.specs.declared.timer.Status.TheVariants.{Armed, Expired, Delivered, Cancelled, Orphaned, Dropped}
 use Rattle.ert_defs.specs.declared.timer.TimerRef.{TimerRef}
@@ -31,16 +34,32 @@ HasFired (Some Delivered) = Unit {0}
 HasFired (Some Dropped) = Unit {0}
 HasFired _ = ⊥
 
--- the row of a timer of an interval that has this deadline
+-- the row of a timer of an interval that was started for this deadline
 abbrev pub row_for : Interval → TimerRef → ℕ → Row
-row_for i r deadline = record { timer = r; deadline = deadline; dest = i.dest; msg = i.msg; kind = Wrapped }
+row_for i r deadline = record { timer = r; deadline = deadline_told r.generation deadline; dest = i.dest; msg = i.msg; kind = Wrapped }
+
+-- a timer that was started in a state has the wanted deadline, or a later one, which is the time of the look
+abbrev pub IsToldAt : Settings → State → TimerRef → ℕ → Type 0
+IsToldAt g s r wanted =
+    (deadline_told r.generation wanted ≡ wanted)
+    ⊎ ((wanted < deadline_told r.generation wanted) × (deadline_told r.generation wanted ≡ natural (down g (s.looked (Caller 0)))))
+
+-- the start of a timer: its deadline is the wanted one, but one that had passed at the look of the start may
+-- count as the time of that look (in a later round of its slot)
+pub record IsTold (g : Settings) (h : List Entry) (r : TimerRef) (wanted : ℕ) : Type 0 where
+  pub before : List Entry
+  pub start : Start
+  pub behind : List Entry
+  pub parted : h ≡ before ++ (arm_entry 0 r start ∷ behind)
+  pub told : IsToldAt g (state g before) r wanted
 
 -- a reference names a row of the history: that of the start `At` this many periods after the first
-pub record IsFiring (g : Settings) (s : State) (i : Interval) (j : ℕ) (r : TimerRef) : Type 0 where
+pub record IsFiring (g : Settings) (h : List Entry) (i : Interval) (j : ℕ) (r : TimerRef) : Type 0 where
   pub wheel : r.wheel ≡ i.wheel
   pub deadline : ℕ
   pub due : deadline_at ((i.first +ℤ pos (j * i.period)) -ℤ base g) ≡ Some deadline
-  pub row : row_of (s.rows r.wheel) r ≡ Some (row_for i r deadline)
+  pub row : row_of ((state g h).rows r.wheel) r ≡ Some (row_for i r deadline)
+  pub told : IsTold g h r deadline
 
 -- a timer was armed after another had expired
 pub record IsAfter (g : Settings) (h : List Entry) (r next : TimerRef) : Type 0 where
@@ -52,7 +71,7 @@ pub record IsAfter (g : Settings) (h : List Entry) (r next : TimerRef) : Type 0 
 
 -- the timers of an interval: each names its row, and each but the last has fired before the next was armed
 pub record AreFirings (g : Settings) (h : List Entry) (i : Interval) : Type 0 where
-  pub each : (j : ℕ) (d : TimerRef) → j < length i.firings.items → IsFiring g (state g h) i j (slice_index_or i.firings.items j d)
+  pub each : (j : ℕ) (d : TimerRef) → j < length i.firings.items → IsFiring g h i j (slice_index_or i.firings.items j d)
   pub fired : (j : ℕ) (d : TimerRef) → suc j < length i.firings.items → HasFired ((state g h).status (slice_index_or i.firings.items j d))
   pub after : (j : ℕ) (d : TimerRef) → suc j < length i.firings.items
       → IsAfter g h (slice_index_or i.firings.items j d) (slice_index_or i.firings.items (suc j) d)

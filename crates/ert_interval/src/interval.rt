@@ -50,7 +50,7 @@ pub struct Interval {
     pub(crate) state: IntervalState,
     /// Its last timer.
     pub(crate) last: TimerRef,
-    /// The deadline of that, in milliseconds after the start time.
+    /// The deadline that it was started for, in milliseconds after the start time.
     pub(crate) deadline: u64,
     /// All its timers, in order.
     pub(crate) firings: Vec<TimerRef>,
@@ -69,7 +69,7 @@ pub(crate) fn deadline_at(time: i64, settings: &Settings) -> Option<u64>
     }
 }
 
-/// The deadline after one that a timer has; None where it is above 8796093022207.
+/// The deadline after one that a timer was started for; None where it is above 8796093022207.
 pub(crate) fn next_deadline(deadline: u64, period: u64) -> Option<u64>
     requires { deadline ≤ 8796093022207 }
     ensures { NextIs (deadline + period) result }

@@ -13,7 +13,7 @@ pub enum IntervalErr {
     /// The period is 0, or the first deadline is outside its limits: 0 to 8796093022207 milliseconds after
     /// the start time.
     BadArg,
-    /// Each slot of the wheel is taken or spent.
+    /// Each slot of the wheel is taken or rests, or the wheel has had 2^53 timers.
     Full,
     NoMemory,
 }

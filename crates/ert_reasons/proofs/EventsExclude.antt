@@ -1,6 +1,6 @@
 -- A condition of its event that an entry breaks excludes it.
 
-use Rattle.std.proofs.Common.{◌≡◌, ◌≢◌, ◌<◌, ◌≤◌, inl, inr, ℕ, ℤ, pos, arith, sym, ap, ◌∙◌, subst, Bool, true, false, cond, List, [], ◌∷◌, length, Option, Some, None, nat_le}
+use Rattle.std.proofs.Common.{◌≡◌, ◌≢◌, ◌<◌, ◌≤◌, ◌⊎◌, inl, inr, ℕ, ◌+◌, ℤ, pos, arith, refl, sym, ap, ◌∙◌, subst, Bool, true, false, cond, List, [], ◌∷◌, length, Option, Some, None, nat_le}
 use Rattle.std.proofs.lemmas.Bool.{cases_Bool, le-leb}
 use Rattle.ert_defs.proofs.Slots.{same_timer-true}
 use Rattle.ert_defs.specs.Clocks.{face}
@@ -9,7 +9,7 @@ use Rattle.ert_defs.specs.Lines.{Face, Due, MayAct, IsInRange}
 use Rattle.ert_defs.specs.Mails.{MailState, SchedState, first_of}
 use Rattle.ert_defs.specs.Milliseconds.{down, deadline_of}
 use Rattle.ert_defs.specs.States.{State}
-use Rattle.ert_defs.specs.Timers.{Row, row_of, same_timer, is_taken}
+use Rattle.ert_defs.specs.Timers.{Row, Uses, IsNextUse, use_of, turned, deadline_in, generation_in, row_of, same_timer, is_taken}
 use Rattle.ert_defs.specs.declared.entry.Act.{Act}
 use Rattle.ert_defs.specs.declared.entry.Actor.{Actor}
 use Rattle.ert_defs.specs.declared.entry.Actor.TheVariants.{MailOf}
@@ -25,11 +25,11 @@ use Rattle.ert_defs.specs.declared.timer.Start.{Start}
 use Rattle.ert_defs.specs.declared.timer.Status.{Status}
 use Rattle.ert_defs.specs.declared.timer.Status.TheVariants.{Armed}
 use Rattle.ert_defs.specs.declared.timer.TimerRef.{TimerRef}
-use Rattle.ert_reasons.specs.Breaks.{Differs, IsBehind, IsInHand, last_status_of, TickBreaks, ShiftBreaks, LookBreaks, OffBreaks, ArmBreaks, ProbeBreaks, LeftBreaks, ExpireBreaks, OrphanBreaks, DeliverBreaks, DropBreaks, MarkBreaks, AdvancedBreaks, PickBreaks, AnswerBreaks, TakeBreaks, UnwatchBreaks, WatchBreaks, TellBreaks, Breaks}
+use Rattle.ert_reasons.specs.Breaks.{Differs, IsBehind, IsInHand, last_status_of, UseBreaks, TickBreaks, ShiftBreaks, LookBreaks, OffBreaks, ArmBreaks, ProbeBreaks, LeftBreaks, ExpireBreaks, OrphanBreaks, DeliverBreaks, DropBreaks, MarkBreaks, AdvancedBreaks, PickBreaks, AnswerBreaks, TakeBreaks, UnwatchBreaks, WatchBreaks, TellBreaks, Breaks}
 use Rattle.ert_reasons.specs.Reasons.{Holds}
 use Rattle.ert_reasons.specs.Reasons.Holds.{out_of_range, breaks, other}
 use Rattle.ert_reasons.specs.declared.reasons.Reason.{Reason}
-use Rattle.ert_reasons.specs.declared.reasons.Reason.TheVariants.{ShiftFirst, BadReading, NotPreliminary, OtherTick, OffsetPast, OtherShift, OtherTime, OtherOffset, OtherState, SlotTaken, OtherGeneration, Spent, NoDeadline, OtherStatus, OtherLeft, NotArmed, NotDue, Later, NotNext, NotExited, NoneWaits, OtherWaits, OtherDest, OtherMilliseconds, StillArmed, OtherExit, HandFull, OtherRequest, HandEmpty, OtherAsker, OtherOutcome, NothingLeft, OtherMail, OtherMonitor, OtherNumber, TooMany}
+use Rattle.ert_reasons.specs.declared.reasons.Reason.TheVariants.{ShiftFirst, BadReading, NotPreliminary, OtherTick, OffsetPast, OtherShift, OtherTime, OtherOffset, OtherState, SlotTaken, OtherGeneration, Rests, NoDeadline, WheelUsed, OtherStatus, OtherLeft, NotArmed, NotDue, Later, NotNext, NotExited, NoneWaits, OtherWaits, OtherDest, OtherMilliseconds, StillArmed, OtherExit, HandFull, OtherRequest, HandEmpty, OtherAsker, OtherOutcome, NothingLeft, OtherMail, OtherMonitor, OtherNumber, TooMany}
 use Rattle.ert_reasons.proofs.RangesExclude.{range_excludes}
 
 -- what differs from what is wanted isn't that
@@ -46,8 +46,8 @@ some_same o x y e f = let both : Some x ≡ Some y = sym e ∙ f in (cc)
 true_is_false : (b : Bool) → b ≡ true → b ≡ false → ⊥
 true_is_false b holds fails = let e : true ≡ false = sym holds ∙ fails in absurd cc
 
-too_late : (n : ℕ) → 262143 < n → n ≤ 262143 → ⊥
-too_late n high low = omega arith
+too_far : (n m : ℕ) → m < n → n ≤ m → ⊥
+too_far n m high low = omega arith
 
 too_many : (count n : ℕ) → count ≡ n → 64 ≤ count → n < 64 → ⊥
 too_many count n is high low = omega arith
@@ -77,13 +77,36 @@ off_excludes offset state told told_state (OtherOffset is) h same same_state = d
 off_excludes offset state told told_state (OtherState is) h same same_state = differs_not told_state is state h same_state
 off_excludes offset state told told_state _ h same same_state = absurd h
 
+-- in the first round each start has one next generation, and in a later one those for one deadline have
+next_same : (u : Uses) (now a b : ℕ) → ((turned u).since ≡ 0) ⊎ (a ≡ b)
+    → let since : ℕ = (turned u).since in let count : ℕ = use_of (turned u).last + 1 in
+    generation_in since count (deadline_in since now a) ≡ generation_in since count (deadline_in since now b)
+next_same u now a b (inl first) = rw first refl
+next_same u now a b (inr same) =
+    ap (λ d. generation_in (turned u).since (use_of (turned u).last + 1) (deadline_in (turned u).since now d)) same
+
+use_excludes : (u : Uses) (now : ℕ) (deadline : Option ℕ) (told : ℕ) (reason : Reason) → UseBreaks u now deadline told reason
+    → (wanted : ℕ) → deadline ≡ Some wanted → IsNextUse u now wanted told → ⊥
+use_excludes u now deadline told (Rests until) h wanted due next =
+    too_far until now h.early (subst (λ n. n ≤ now) (sym h.value) next.rested)
+use_excludes u now deadline told (OtherGeneration another) h wanted due next =
+    h.differs (next.counts ∙ sym (h.value ∙ next_same u now h.wanted wanted (elim h.due [
+      | inl first ↦ inl first
+      | inr has ↦ inr (some_same deadline h.wanted wanted has due)
+    ])))
+use_excludes u now deadline told NoDeadline h wanted due next = too_far _ 8796093022207 (h wanted due) next.within
+use_excludes u now deadline told _ h wanted due next = absurd h
+
 arm_excludes : (g : Settings) (s : State) (by : Actor) (timer : TimerRef) (start : Start) (reason : Reason)
     → ArmBreaks g s by timer start reason → CanArm g s by timer (deadline_of g start (s.looked by)) → ⊥
 arm_excludes g s by timer start (SlotTaken status) h can =
     true_is_false (is_taken (last_status_of s timer.wheel timer.slot)) (ap is_taken h.0 ∙ h.1) can.free
-arm_excludes g s by timer start (OtherGeneration next) h can = differs_not timer.generation next _ h can.generation
-arm_excludes g s by timer start Spent h can = too_late timer.generation h can.unspent
-arm_excludes g s by timer start NoDeadline h can = can.due h
+arm_excludes g s by timer start WheelUsed h can =
+    too_far (length (s.rows timer.wheel)) (length (s.rows timer.wheel)) (omega (arith, h, can.few)) (omega arith)
+arm_excludes g s by timer start (Rests until) h can = use_excludes _ _ _ _ (Rests until) h can.wanted can.due can.next_use
+arm_excludes g s by timer start (OtherGeneration next) h can =
+    use_excludes _ _ _ _ (OtherGeneration next) h can.wanted can.due can.next_use
+arm_excludes g s by timer start NoDeadline h can = use_excludes _ _ _ _ NoDeadline h can.wanted can.due can.next_use
 arm_excludes g s by timer start _ h can = absurd h
 
 probe_excludes : (s : State) (wheel slot : ℕ) (found : Option Status) (reason : Reason)

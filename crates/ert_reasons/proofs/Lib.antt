@@ -1,4 +1,5 @@
 mod EventsExclude
+mod NextUses
 mod Pieces
 mod RangesExclude
 mod Seen

@@ -1,15 +1,15 @@
 -- Which condition of its event an entry breaks: for each event the reasons that there can be, and what each
 -- says of the state before the entry. A reason of another event says what never holds.
 
-use Rattle.std.specs.Prelude.{◌≡◌, ◌≢◌, ℕ, ℤ, pos, ◌+◌, ◌<◌, ◌≤◌, ◌<ℤ◌, Bool, true, false, List, length, Option, Some, None}
+use Rattle.std.specs.Prelude.{◌≡◌, ◌≢◌, ◌⊎◌, ℕ, ℤ, pos, ◌+◌, ◌<◌, ◌≤◌, ◌<ℤ◌, Bool, true, false, List, length, Option, Some, None}
 use Rattle.ert_defs.specs.Clocks.{face}
 use Rattle.ert_defs.specs.Legal.{IsNext, stands_in, names_timer, left_of}
 use Rattle.ert_defs.specs.Lines.{Face, Due, IsOffset, time_after, due_after}
 use Rattle.ert_defs.specs.Mails.{MailState, SchedState, first_of}
-use Rattle.ert_defs.specs.Milliseconds.{down, deadline_of}
+use Rattle.ert_defs.specs.Milliseconds.{natural, down, deadline_of}
 use Rattle.ert_defs.specs.Readings.{IsValid}
-use Rattle.ert_defs.specs.States.{State}
-use Rattle.ert_defs.specs.Timers.{Row, row_of, is_taken, timer_at}
+use Rattle.ert_defs.specs.States.{State, uses_at}
+use Rattle.ert_defs.specs.Timers.{Row, Uses, use_of, turned, deadline_in, generation_in, row_of, is_taken, timer_at}
 use Rattle.ert_defs.specs.declared.entry.Act.{Act}
 use Rattle.ert_defs.specs.declared.entry.Act.TheVariants.{Finalize}
 use Rattle.ert_defs.specs.declared.entry.Actor.{Actor}
@@ -27,7 +27,7 @@ use Rattle.ert_defs.specs.declared.timer.Status.{Status}
 use Rattle.ert_defs.specs.declared.timer.Status.TheVariants.{Armed}
 use Rattle.ert_defs.specs.declared.timer.TimerRef.{TimerRef}
 use Rattle.ert_reasons.specs.declared.reasons.Reason.{Reason}
-use Rattle.ert_reasons.specs.declared.reasons.Reason.TheVariants.{ShiftFirst, BadReading, NotPreliminary, OtherTick, OffsetPast, OtherShift, OtherTime, OtherOffset, OtherState, SlotTaken, OtherGeneration, Spent, NoDeadline, OtherStatus, OtherLeft, NotArmed, NotDue, Later, NotNext, NotExited, NoneWaits, OtherWaits, OtherDest, OtherMilliseconds, StillArmed, OtherExit, HandFull, OtherRequest, HandEmpty, OtherAsker, OtherOutcome, NothingLeft, OtherMail, OtherMonitor, OtherNumber, TooMany}
+use Rattle.ert_reasons.specs.declared.reasons.Reason.TheVariants.{ShiftFirst, BadReading, NotPreliminary, OtherTick, OffsetPast, OtherShift, OtherTime, OtherOffset, OtherState, SlotTaken, OtherGeneration, Rests, NoDeadline, WheelUsed, OtherStatus, OtherLeft, NotArmed, NotDue, Later, NotNext, NotExited, NoneWaits, OtherWaits, OtherDest, OtherMilliseconds, StillArmed, OtherExit, HandFull, OtherRequest, HandEmpty, OtherAsker, OtherOutcome, NothingLeft, OtherMail, OtherMonitor, OtherNumber, TooMany}
 
 -- a value that an entry tells isn't the one that it has to tell
 pub record Differs {X : Type 0} (told is wanted : X) : Type 0 where
@@ -117,13 +117,40 @@ OffBreaks offset state told told_state _ = ⊥
 abbrev pub last_status_of : State → ℕ → ℕ → Option Status
 last_status_of s wheel slot = s.status (timer_at wheel slot (s.last wheel slot))
 
+-- the next generation of a slot with these uses is another, for a start at a look of so many milliseconds that
+-- has this deadline; in the first round it is the same for each deadline, and for none
+pub record IsNotNext (u : Uses) (now : ℕ) (deadline : Option ℕ) (told next : ℕ) : Type 0 where
+  pub wanted : ℕ
+  pub due : ((turned u).since ≡ 0) ⊎ (deadline ≡ Some wanted)
+  pub value : next ≡ generation_in (turned u).since (use_of (turned u).last + 1) (deadline_in (turned u).since now wanted)
+  pub differs : told ≢ next
+
+-- a slot with these uses rests until so many milliseconds
+pub record IsResting (u : Uses) (now until : ℕ) : Type 0 where
+  pub value : until ≡ (turned u).since
+  pub early : now < until
+
+-- the milliseconds that an actor last looked at
+abbrev pub looked_at : Settings → State → Actor → ℕ
+looked_at g s by = natural (down g (s.looked by))
+
+-- where a start has a deadline, it is past the limit in the round of its slot
+abbrev pub IsRefused : Uses → ℕ → Option ℕ → Type 0
+IsRefused u now deadline = (wanted : ℕ) → deadline ≡ Some wanted → 8796093022207 < deadline_in (turned u).since now wanted
+
+-- of the next use of a slot with these uses
+abbrev pub UseBreaks : Uses → ℕ → Option ℕ → ℕ → Reason → Type 0
+UseBreaks u now deadline told (Rests until) = IsResting u now until
+UseBreaks u now deadline told (OtherGeneration next) = IsNotNext u now deadline told next
+UseBreaks u now deadline told NoDeadline = IsRefused u now deadline
+UseBreaks u now deadline told _ = ⊥
+
 -- of the start of a timer
 abbrev pub ArmBreaks : Settings → State → Actor → TimerRef → Start → Reason → Type 0
 ArmBreaks g s by timer start (SlotTaken status) = (last_status_of s timer.wheel timer.slot ≡ Some status) × (is_taken (Some status) ≡ true)
-ArmBreaks g s by timer start (OtherGeneration next) = Differs timer.generation next (s.last timer.wheel timer.slot + 1)
-ArmBreaks g s by timer start Spent = 262143 < timer.generation
-ArmBreaks g s by timer start NoDeadline = deadline_of g start (s.looked by) ≡ None
-ArmBreaks g s by timer start _ = ⊥
+ArmBreaks g s by timer start WheelUsed = 9007199254740992 ≤ length (s.rows timer.wheel)
+ArmBreaks g s by timer start reason =
+    UseBreaks (uses_at s timer.wheel timer.slot) (looked_at g s by) (deadline_of g start (s.looked by)) timer.generation reason
 
 -- of a look at the last timer of a slot
 abbrev pub ProbeBreaks : State → ℕ → ℕ → Option Status → Reason → Type 0

@@ -21,7 +21,7 @@ use Rattle.ert_reasons.specs.declared.reasons.Maker.TheVariants.{Clock, Schedule
 use Rattle.ert_reasons.specs.declared.reasons.Partner.{Partner}
 use Rattle.ert_reasons.specs.declared.reasons.Partner.TheVariants.{Nobody, Exactly, SomeCaller, SomeMailbox}
 use Rattle.ert_reasons.specs.declared.reasons.Reason.{Reason}
-use Rattle.ert_reasons.specs.declared.reasons.Reason.TheVariants.{NotBy, NotWith, TooHigh, ShiftFirst, BadReading, NotPreliminary, OtherTick, OffsetPast, OtherShift, OtherTime, OtherOffset, OtherState, SlotTaken, OtherGeneration, Spent, NoDeadline, OtherStatus, OtherLeft, NotArmed, NotDue, Later, NotNext, NotExited, NoneWaits, OtherWaits, OtherDest, OtherMilliseconds, StillArmed, OtherExit, HandFull, OtherRequest, HandEmpty, OtherAsker, OtherOutcome, NothingLeft, OtherMail, OtherMonitor, OtherNumber, TooMany, Other}
+use Rattle.ert_reasons.specs.declared.reasons.Reason.TheVariants.{NotBy, NotWith, TooHigh, ShiftFirst, BadReading, NotPreliminary, OtherTick, OffsetPast, OtherShift, OtherTime, OtherOffset, OtherState, SlotTaken, OtherGeneration, Rests, NoDeadline, WheelUsed, OtherStatus, OtherLeft, NotArmed, NotDue, Later, NotNext, NotExited, NoneWaits, OtherWaits, OtherDest, OtherMilliseconds, StillArmed, OtherExit, HandFull, OtherRequest, HandEmpty, OtherAsker, OtherOutcome, NothingLeft, OtherMail, OtherMonitor, OtherNumber, TooMany, Other}
 
 -- one text, and then another
 infixr 20 ◌⋅◌
@@ -169,7 +169,8 @@ reason_text (OtherOffset offset) = codes "the offset is " ⋅ signed_decimal off
 reason_text (OtherState state) = codes "the state of the offset is " ⋅ state_word state
 reason_text (SlotTaken status) = codes "the slot is taken: its last timer is " ⋅ status_word status
 reason_text (OtherGeneration next) = codes "the next generation of the slot is " ⋅ decimal next
-reason_text Spent = codes "the last generation of a slot is 262143"
+reason_text (Rests until) = codes "the slot rests until " ⋅ decimal until ⋅ codes " ms"
+reason_text WheelUsed = codes "the wheel has had 2^53 timers"
 reason_text NoDeadline = codes "the start is refused: its delay is negative, or its deadline is outside the limits"
 reason_text (OtherStatus status) = slot_text status
 reason_text (OtherLeft left) = ms_text left

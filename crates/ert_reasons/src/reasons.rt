@@ -100,10 +100,14 @@ pub enum Reason {
     OtherGeneration {
         next: u64,
     },
-    /// The generation is above the last that a slot can have.
-    Spent,
+    /// The slot rests until so many milliseconds after the start time.
+    Rests {
+        until: u64,
+    },
     /// The start is refused: its deadline would be outside the limits, or its delay is negative.
     NoDeadline,
+    /// The wheel has had as many timers as it may.
+    WheelUsed,
     /// The last timer of the slot stands here, or the slot had none.
     OtherStatus {
         status: Option<Status>,

@@ -57,7 +57,8 @@ pub fn write_reason(page: &mut String, reason: Reason) -> Result<(), AllocError>
         Reason::OtherGeneration { next } => {
             write!(page, "the next generation of the slot is {next}")
         }
-        Reason::Spent => write!(page, "the last generation of a slot is 262143"),
+        Reason::Rests { until } => write!(page, "the slot rests until {until} ms"),
+        Reason::WheelUsed => write!(page, "the wheel has had 2^53 timers"),
         Reason::NoDeadline => write!(
             page,
             "the start is refused: its delay is negative, or its deadline is outside the limits"

@@ -1,17 +1,19 @@
 //! Why an event of the timers can't follow.
 
-ghost use Rattle.std.specs.Prelude.{◌≡◌, ◌↔◌, ◌≤◌, ◌<ℤ◌, pos, IsTrue, IfSome, Some};
+ghost use Rattle.std.specs.Prelude.{◌≡◌, ◌↔◌, ◌≤◌, ◌<ℤ◌, ℕ, pos, IsTrue, IfSome, Some, None};
 ghost use Rattle.ert_defs.specs.Clocks.{Clock};
 ghost use Rattle.ert_defs.specs.Milliseconds as milliseconds;
 ghost use Rattle.ert_judge.specs.Shown.{shown, OwnTimers};
-ghost use Rattle.ert_reasons.specs.Breaks.{ArmBreaks, ProbeBreaks, LeftBreaks, ExpireBreaks, OrphanBreaks, AdvancedBreaks, MarkBreaks, IsArmedTill};
+ghost use Rattle.ert_reasons.specs.Breaks.{ArmBreaks, UseBreaks, ProbeBreaks, LeftBreaks, ExpireBreaks, OrphanBreaks, AdvancedBreaks, MarkBreaks, IsArmedTill};
 ghost use Rattle.ert_state.specs.Parts.{look_of, looks_in, status_at};
+ghost use Rattle.ert_defs.specs.Timers.{turned};
+ghost use Rattle.ert_state.specs.Uses.{uses_of};
 ghost use Rattle.ert_state.specs.Wheels.{timers_at, IsFirstDue};
 
 use crate::reasons::Reason;
-use ert_defs::{Actor, LAST_GENERATION, Start, Status, TimerRef};
-use ert_judge::{Judge, is_left};
-use ert_state::{deadline_of, down};
+use ert_defs::{Actor, Start, Status, TimerRef, use_of};
+use ert_judge::{Judge, TIMERS_OF_WHEEL, is_left};
+use ert_state::{Uses, deadline_of, down, passed};
 
 /// Why a timer can't be armed.
 pub fn of_arm(judge: &Judge, by: Actor, timer: TimerRef, start: Start) -> Option<Reason>
@@ -28,20 +30,67 @@ pub fn of_arm(judge: &Judge, by: Actor, timer: TimerRef, start: Start) -> Option
     }
 }
 
-/// Why a timer can't be armed in a slot that is free.
+/// Why a timer can't be armed in a slot that isn't taken.
 fn of_free(judge: &Judge, by: Actor, timer: TimerRef, start: Start) -> Option<Reason>
     ensures { (c : Clock) → IfSome result (ArmBreaks judge.now.settings (shown c judge.now) by timer start) }
 {
-    let next = judge.timers.last(timer.wheel, timer.slot) as u64 + 1;
-    if timer.generation as u64 != next {
-        return Some(Reason::OtherGeneration { next });
+    let uses = judge.timers.uses(timer.wheel, timer.slot);
+    let look = judge.looks.of(by);
+    let deadline = deadline_of(&judge.settings, start.when, look);
+    let reason = of_use(
+        &uses,
+        passed(&judge.settings, look),
+        deadline,
+        timer.generation,
+    );
+    if reason.is_none() && judge.timers.count(timer.wheel) >= TIMERS_OF_WHEEL {
+        Some(Reason::WheelUsed)
+    } else {
+        reason
     }
-    if timer.generation > LAST_GENERATION {
-        return Some(Reason::Spent);
+}
+
+/// Why a generation isn't the next of a slot with these uses, for a start at a look of so many milliseconds.
+fn of_use(uses: &Uses, now: u128, deadline: Option<u64>, generation: u64) -> Option<Reason>
+    ensures { IfSome result (UseBreaks (uses_of uses.now) now deadline generation) }
+{
+    let until = uses.turned().since;
+    if now < until as u128 {
+        return Some(Reason::Rests { until });
     }
-    match deadline_of(&judge.settings, start.when, judge.looks.of(by)) {
+    match deadline {
+        Some(wanted) => of_wanted(uses, now, wanted, generation),
+        None => Some(of_refused(uses, generation)),
+    }
+}
+
+/// Why a generation isn't the next of a slot that doesn't rest, for a start with this deadline.
+fn of_wanted(uses: &Uses, now: u128, wanted: u64, generation: u64) -> Option<Reason>
+    requires { (turned (uses_of uses.now)).since ≤ now }
+    ensures { IfSome result (UseBreaks (uses_of uses.now) now (Some wanted) generation) }
+{
+    match uses.next(now, wanted) {
         None => Some(Reason::NoDeadline),
-        Some(_) => None,
+        Some(next) => {
+            if next == generation {
+                None
+            } else {
+                Some(Reason::OtherGeneration { next })
+            }
+        }
+    }
+}
+
+/// Why a start can't be made that has no deadline: in the first round its generation may be another too.
+fn of_refused(uses: &Uses, generation: u64) -> Reason
+    ensures { (now : ℕ) → UseBreaks (uses_of uses.now) now None generation result }
+{
+    let round = uses.turned();
+    let next = use_of(round.last) + 1;
+    if round.since == 0 && generation != next {
+        Reason::OtherGeneration { next }
+    } else {
+        Reason::NoDeadline
     }
 }
 
@@ -185,7 +234,7 @@ fn armed_in(judge: &Judge, wheel: u32, slot: u32) -> Option<(TimerRef, u64)>
     let timer = TimerRef {
         wheel,
         slot,
-        generation: judge.timers.last(wheel, slot),
+        generation: judge.timers.uses(wheel, slot).last,
     };
     if judge.timers.status(timer) != Some(Status::Armed) {
         return None;

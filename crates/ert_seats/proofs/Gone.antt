@@ -3,7 +3,7 @@
 
 use Rattle.std.proofs.Common.{◌≡◌, ◌≢◌, ◌⊎◌, ⊎_elim, ℕ, ◌<◌, Bool, true, false, not, ◌&&◌, ◌||◌, List, [], ◌∷◌, ◌++◌, filter, Option, Some, None, Ok, inl, inr, refl, sym, ap, subst, ◌∙◌, eq-eqb}
 use Rattle.std.specs.Option.{is_some}
-use Rattle.std.specs.Prelude.{nat_eq, nat_lt, nat_le}
+use Rattle.std.specs.Prelude.{nat_eq, nat_lt}
 use Rattle.std.proofs.lemmas.Bool.{ltb-true}
 use Rattle.ert_answers.specs.RequestCalls.{DoesAsked, Answers}
 use Rattle.ert_answers.specs.TimerCalls.{Cancels, cancel_entries}
@@ -12,7 +12,7 @@ use Rattle.ert_defs.proofs.FiredTimers.{same_timer_self}
 use Rattle.ert_defs.proofs.Runs.{state-append, exit_stays, free_rest}
 use Rattle.ert_defs.specs.Actors.{IsFree}
 use Rattle.ert_defs.specs.Entries.{is_ours, look_entry, cancel_entry, mark_entry, answer_entry}
-use Rattle.ert_defs.specs.Legal.{names_timer}
+use Rattle.ert_defs.specs.Legal.{is_generation, names_timer}
 use Rattle.ert_defs.specs.States.{State, next, run, state}
 use Rattle.ert_defs.specs.Timers.{settled_as}
 use Rattle.ert_defs.specs.declared.entry.Actor.{Actor}
@@ -154,8 +154,7 @@ and_first false y is = absurd cc
 
 wheel_low : (g : Settings) (timer : TimerRef) → names_timer g timer ≡ true → timer.wheel < g.schedulers
 wheel_low g timer is =
-    ltb-true timer.wheel g.schedulers
-    (and_first _ (nat_lt timer.slot g.slots) (and_first _ (nat_le 1 timer.generation) (and_first _ (nat_le timer.generation 262143) is)))
+    ltb-true timer.wheel g.schedulers (and_first _ (nat_lt timer.slot g.slots) (and_first _ (is_generation timer.generation) is))
 
 -- so it is in the history of a world
 pub gone_in : (before : Shared) (b : Inside) (d : Desk) (q : Pass) (es : List Entry) (lent : List Actor) (timer : TimerRef) (left : Option ℕ) (after : Shared)

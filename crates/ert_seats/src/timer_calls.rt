@@ -16,8 +16,8 @@ impl SharedWorld {
     /// Starts a timer on a wheel (`erlang` module reference, `start_timer` and `send_after`).
     ///
     /// BadArg comes where the start has no deadline at the time of the call, and Full where each slot of the
-    /// wheel is taken or spent. A timer for a process that has exited is started and cancelled at once. No
-    /// memory is taken.
+    /// wheel is taken or rests, or the wheel has had 2^53 timers. A timer for a process that has exited is started
+    /// and cancelled at once. No memory is taken.
     #[inline]
     pub fn start(&mut self, wheel: u32, start: &Start) -> Result<TimerRef, StartErr>
         requires wheel { wheel < self.old.settings.schedulers }

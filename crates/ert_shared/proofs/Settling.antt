@@ -18,8 +18,8 @@ use Rattle.ert_defs.specs.Entries.{is_ours, look_entry, arm_entry, mark_entry, p
 use Rattle.ert_defs.specs.Laws.{has_settled}
 use Rattle.ert_defs.specs.Legal.{Legal, Can, AllSettled}
 use Rattle.ert_defs.specs.Mails.{first_of}
-use Rattle.ert_defs.specs.Milliseconds.{deadline_of}
-use Rattle.ert_defs.specs.States.{State, opening, next, run, state}
+use Rattle.ert_defs.specs.Milliseconds.{natural, down, deadline_of}
+use Rattle.ert_defs.specs.States.{State, uses_at, opening, next, run, state}
 use Rattle.ert_defs.specs.Timers.{Row, row_from, rows_after, timer_at}
 use Rattle.ert_defs.specs.declared.entry.Actor.{Actor}
 use Rattle.ert_defs.specs.declared.entry.Actor.TheVariants.{Wheel, Sched, Caller}
@@ -36,6 +36,7 @@ use Rattle.ert_defs.proofs.Runs.{state-append, legal_first, legal_then, rows_sta
 use Rattle.ert_defs.proofs.Settlings.{rows_stay_settled, settled_timers_stay}
 use Rattle.ert_defs.proofs.FiredTimers.{same_timer_self}
 use Rattle.ert_defs.proofs.Slots.{ordered}
+use Rattle.ert_defs.proofs.Uses.{Use, before_self}
 use Rattle.ert_sched.proofs.Composed.{none_first}
 use Rattle.ert_sched.specs.Parts.{SchedStands}
 use Rattle.ert_sched.specs.declared.sched_part.SchedPart.{SchedPart}
@@ -228,8 +229,12 @@ start_settled g a by wheel start timer f m after legal step was =
         ap (λ (s : State). s.last timer.wheel timer.slot) (state-append g p (arm ∷ at.first))
         ∙ (last_stays g timer.wheel timer.slot (next g (state g p) arm) at.first free ∙ armed_last g (state g p) by timer start) in
         let legal_at_q = legal_first g (opening g) q (e ∷ rest) legal_q in
-        let once : 1 ≤ timer.generation = omega (arith, armed.generation) in
-        let used : (state g q).status timer ≢ None = (ordered g q legal_at_q timer.wheel timer.slot).used timer.generation once (omega (arith, last)) in
+        let u : Use = record { now = natural (down g ((state g p).looked (Caller by))); wanted = armed.wanted; generation = timer.generation } in
+        let order = ordered g p (legal_first g (opening g) p (arm ∷ (spot.last ++ after)) here) timer.wheel timer.slot in
+        let once : 1 ≤ timer.generation = (before_self (uses_at (state g p) timer.wheel timer.slot) u order.sound armed.next_use).low in
+        let used : (state g q).status timer ≢ None =
+        subst (λ n. (state g q).status (timer_at timer.wheel timer.slot n) ≢ None) last
+        ((ordered g q legal_at_q timer.wheel timer.slot).used (omega (arith, once, last))) in
         let found : miss.found ≡ (state g q).status timer =
         can.found ∙ ap (λ n. (state g q).status (timer_at timer.wheel timer.slot n)) last in
         let settled = not_armed_settled ((state g q).status timer) used (λ is. miss.settled (found ∙ is)) in

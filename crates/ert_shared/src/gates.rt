@@ -18,7 +18,7 @@ impl Gate for FreeGate {
 }
 
 /// A gate for tests. It holds one turn of a worker until another turn of a worker has begun, for a number of
-/// tries. After these it lets go, and remembers that.
+/// tries. After these it lets go. It remembers that, and that the turn came.
 #[derive(Drop)]
 pub struct LedgerGate {
     /// The worker and the turn that are held.
@@ -26,7 +26,8 @@ pub struct LedgerGate {
     /// The worker and the turn that are awaited.
     awaited: (u32, u64),
     tries: u64,
-    came: AtomicBool,
+    held_came: AtomicBool,
+    awaited_came: AtomicBool,
     let_go: AtomicBool,
 }
 
@@ -37,9 +38,15 @@ impl LedgerGate {
             held,
             awaited,
             tries,
-            came: AtomicBool::new(false),
+            held_came: AtomicBool::new(false),
+            awaited_came: AtomicBool::new(false),
             let_go: AtomicBool::new(false),
         }
+    }
+
+    /// Whether the turn that the gate holds came to it.
+    pub fn has_held(&self) -> bool {
+        self.held_came.load(Ordering::SeqCst)
     }
 
     /// Whether the gate let a turn go that it should have held longer.
@@ -50,7 +57,7 @@ impl LedgerGate {
     /// Waits for the awaited turn, for so many tries.
     fn hold(&self) {
         for _ in 0..self.tries {
-            if self.came.load(Ordering::SeqCst) {
+            if self.awaited_came.load(Ordering::SeqCst) {
                 return;
             }
             thread::yield_now();
@@ -62,9 +69,10 @@ impl LedgerGate {
 impl Gate for LedgerGate {
     fn before(&self, worker: u32, turn: u64) {
         if (worker, turn) == self.awaited {
-            self.came.store(true, Ordering::SeqCst);
+            self.awaited_came.store(true, Ordering::SeqCst);
         }
         if (worker, turn) == self.held {
+            self.held_came.store(true, Ordering::SeqCst);
             self.hold();
         }
     }

@@ -83,6 +83,7 @@ fn over_gates_that_hold_a_step(rt: HostRuntime) {
             reports_one_of(&rt, rt.alloc(), race, &gate, reports),
             "of {race}"
         );
+        assert!(rt; gate.has_held(), "no turn came to the gate in {race}");
         assert!(rt; !gate.has_let_go(), "the gate let go in {race}");
     }
 }

@@ -42,8 +42,11 @@ returns-in-BadReading c = rw c.in-BadReading.is c.write-in-BadReading.ensures.by
 pub returns-in-OtherGeneration : goal.returns-in-OtherGeneration
 returns-in-OtherGeneration c = rw c.in-OtherGeneration.is c.write-in-OtherGeneration.ensures.bytes
 
-pub returns-in-Spent : goal.returns-in-Spent
-returns-in-Spent c = rw c.in-Spent.is c.write-in-Spent.ensures.bytes
+pub returns-in-Rests : goal.returns-in-Rests
+returns-in-Rests c = rw c.in-Rests.is c.write-in-Rests.ensures.bytes
+
+pub returns-in-WheelUsed : goal.returns-in-WheelUsed
+returns-in-WheelUsed c = rw c.in-WheelUsed.is c.write-in-WheelUsed.ensures.bytes
 
 pub returns-in-NoDeadline : goal.returns-in-NoDeadline
 returns-in-NoDeadline c = rw c.in-NoDeadline.is c.write-in-NoDeadline.ensures.bytes
