@@ -10,11 +10,12 @@ from typing import Any
 
 from .inputs import BadInput
 from .replay import MILLISECOND
-from .service import State, Uses
+from .service import LATER, USES_OF_ROUND, State, Uses
 from .svg import span
 from .written import Entry, History, TimerRef
 
 LATEST = 8_796_093_022_207
+LAST_GENERATION = 2**61 - 1
 MOST_MONITORS = 64
 UNKNOWN = "it can't follow on the lines before it"
 BY = {
@@ -45,6 +46,13 @@ BY = {
 def ref(timer: TimerRef) -> str:
     """A timer's name."""
     return "timer " + " ".join(str(it) for it in timer)
+
+
+def names_timer(history: History, timer: TimerRef) -> bool:
+    """Whether a reference is in range."""
+    scheduler, slot, generation = timer
+    is_generation = 1 <= generation <= USES_OF_ROUND or LATER <= generation <= LAST_GENERATION
+    return scheduler < history.schedulers and slot < history.slots and is_generation
 
 
 def plain(value: Any) -> str:
@@ -239,7 +247,7 @@ def wrong_turn(state: State, entry: Entry) -> str | None:
             return f"{entry.by} has no request in its hand"
         if entry.other != f"m{hand[2]}":
             return f"process {hand[2]} asked"
-        if hand[1][0] >= state.history.schedulers or hand[1][1] >= state.history.slots:
+        if not names_timer(state.history, hand[1]):
             return None if second is None else f"{ref(hand[1])} is out of range, so nothing is left"
         if scheduler not in state.result:
             return f"{entry.by} hasn't looked at {ref(hand[1])} since it took the request"

@@ -87,7 +87,7 @@ class Words:
 
     def timer(self) -> TimerRef:
         """A reference."""
-        return self.small(), self.small(), self.small()
+        return self.small(), self.small(), self.natural()
 
     def optional(self, read: Callable[[], Any]) -> Any:
         """`none`, or what is read."""

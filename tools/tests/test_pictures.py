@@ -182,6 +182,11 @@ class Histories(unittest.TestCase):
         state = State(history)
         state.uses[(0, 0)] = used
         self.assertEqual(broken(state, history.entries[0]), "the slot rests until 101 ms")
+        state.looks["c0"] = history.start + 101_000_000
+        for generation in (1, LATER + 106):
+            line = f"c0 w0 arm 0 0 {generation} after 5 0 7 bare\n"
+            told = UNKNOWN if generation == LATER + 106 else f"the slot's next generation is {LATER + 106}"
+            self.assertEqual(broken(state, read_history(self.SETTINGS + line, "here").entries[0]), told)
 
     def test_histories_judged_by_hand(self) -> None:
         """Each illegal one of the auditor's own short histories has its reason, and no legal entry has one."""

@@ -91,11 +91,11 @@ fn fields_end(line: &[u8], name: &[u8], at: usize) -> Result<usize, Fault>
         b"arm" => words(
             line,
             at,
-            &[Small, Small, Small, When, Integer, Small, Natural, Kind],
+            &[Small, Small, Natural, When, Integer, Small, Natural, Kind],
         ),
         b"probe" => words(line, at, &[Small, Small, Found]),
-        b"peek" | b"cancel" => words(line, at, &[Small, Small, Small, Left]),
-        b"expire" | b"orphan" | b"deliver" | b"drop" => words(line, at, &[Small, Small, Small]),
+        b"peek" | b"cancel" => words(line, at, &[Small, Small, Natural, Left]),
+        b"expire" | b"orphan" | b"deliver" | b"drop" => words(line, at, &[Small, Small, Natural]),
         b"mark" => words(line, at, &[Small, Truth, Truth]),
         b"advanced" => words(line, at, &[Small, Natural]),
         b"ask" => words(
@@ -106,7 +106,7 @@ fn fields_end(line: &[u8], name: &[u8], at: usize) -> Result<usize, Fault>
                 Wanted::RequestKind,
                 Small,
                 Small,
-                Small,
+                Natural,
                 Small,
                 Truth,
             ],
@@ -126,13 +126,13 @@ fn picked_end(line: &[u8], at: usize) -> Result<usize, Fault>
     ensures ok { IfOk result (λ end. end ≤ length line.now + 1) }
     ensures err { IfErr result (IsFaultIn line.now) }
 {
-    use Wanted::{Picked, Small, Truth};
+    use Wanted::{Natural, Picked, Small, Truth};
     let got = word(line, at, Small)?;
     let end = word(line, got, Picked)?;
     if word_at(line, got) == b"none".as_slice() {
         return Ok(end);
     }
-    words(line, end, &[Small, Small, Small, Small, Truth])
+    words(line, end, &[Small, Small, Natural, Small, Truth])
 }
 
 /// The end of the fields of `take`.
@@ -145,9 +145,9 @@ fn taken_end(line: &[u8], at: usize) -> Result<usize, Fault>
     let got = word(line, at, Small)?;
     let end = word(line, got, Taken)?;
     match word_at(line, got) {
-        b"timeout" => words(line, end, &[Small, Small, Small, Natural]),
+        b"timeout" => words(line, end, &[Small, Small, Natural, Natural]),
         b"bare" => words(line, end, &[Natural]),
-        b"cancel_done" | b"read_done" => words(line, end, &[Small, Small, Small, Left]),
+        b"cancel_done" | b"read_done" => words(line, end, &[Small, Small, Natural, Left]),
         b"change" => words(line, end, &[Small, Integer]),
         _ => Ok(end),
     }

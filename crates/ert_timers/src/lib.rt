@@ -4,8 +4,8 @@
 //! a pass that holds the wheel. The state that all threads share of a timer is the word of its slot on the
 //! desk (`ert_table`): status, deadline and use. The part keeps what has no word, by slot: the destination,
 //! the message and the kind of the last timer, its generation, and one above the greatest deadline of all the
-//! slot's timers. A timer that is held as armed also stands in two structures over the same slots: in a timing wheel (`ert_wheel`), which tells what is
-//! due, and in a chain for each process, so that an exit costs in proportion to the timers of that process.
+//! slot's timers. A timer that is held as armed also stands in two structures over the same slots: in a timing
+//! wheel (`ert_wheel`), which tells what is due, and in a chain for each process, so that an exit costs in proportion to the timers of that process.
 //! Its order in both is how many timers of the wheel were armed before it. A timer that expires leaves the wheel,
 //! and its slot leaves the chain later: when it is used again, or when the process is swept.
 //!
@@ -24,11 +24,13 @@
 //! those free that have rested by the time of its look. It answers `Full` where each slot is taken or rests, or
 //! where the wheel has had 2^53 timers, which bounds all counts.
 //!
-//! How long a slot rests depends on the longest wait of its round. So a start with a long wait, from 2^20
-//! milliseconds on, takes the slot that has been held free longest, and one with a short wait the slot that was
-//! freed last. Then few slots have the long waits, and the others rest for as long as short waits take. If all
-//! took the slot that was freed last, each slot would soon have had a long wait, and all would rest until
-//! those pass.
+//! How long a slot rests depends on the longest wait of its round. So the slots that are held free stand in a
+//! row. A start with a long wait, of 2^22 milliseconds or more, takes the first, and one with a short wait the
+//! last; and a slot that is freed comes first again where it has had a long wait that isn't over. Then few slots
+//! have the long waits, and the others rest for as long as short waits take. With one end, each slot would soon
+//! have had a long wait, and all would rest until those pass: of 64 slots, with 50 starts a second that are
+//! all cancelled and one in a hundred of which waits 49.7 days, 87 of 100 starts of sixty days find all
+//! resting, in a simulation; with two ends none does.
 //!
 //! | call | what it does | work |
 //! |---|---|---|

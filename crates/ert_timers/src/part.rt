@@ -25,6 +25,9 @@ pub struct Slot {
     pub(crate) kind: Kind,
 }
 
+/// From how many milliseconds on a wait is long, some 70 minutes.
+const LONG_WAIT: u64 = 1 << 22;
+
 /// A use of a slot.
 #[derive(Clone, Copy)]
 pub struct Use {
@@ -47,8 +50,10 @@ pub struct WheelPart {
     /// The same timers, in a chain for each process that they go to. The slot of a timer that has expired stays
     /// in its chain until it is used again, or until the chain is swept.
     owners: Chains,
-    /// The slots that are known to be free.
+    /// The slots that are known to be free: first those that have had a long wait.
     free: FreeSlots,
+    /// To where the wheel was advanced, in milliseconds after the start time.
+    advanced: u64,
     /// How many timers were armed. That is also the order of the next one.
     arms: u64,
     /// How many expired, and how many were cancelled because their destination had exited.
@@ -125,6 +130,7 @@ impl WheelPart {
             wheel: rows,
             owners,
             free,
+            advanced: 0,
             arms: 0,
             expires: 0,
             orphans: 0,
@@ -234,6 +240,7 @@ impl WheelPart {
         requires { (slot : ℕ) → IfSome (key_in self.old.keys slot) (λ key. to < key.deadline) }
         ensures { self.new ≡ self.old }
     {
+        self.advanced = to;
         self.wheel.pass(to);
     }
 
@@ -243,6 +250,12 @@ impl WheelPart {
     {
         self.due = due;
     }
+}
+
+/// Whether a deadline is a long wait away from a time, both in milliseconds after the start time. Which free
+/// slot a start takes hangs on it, and nothing else does.
+pub(crate) fn is_long(now: u64, deadline: u64) -> bool {
+    deadline.saturating_sub(now) >= LONG_WAIT
 }
 
 /// A row of the chain of a process; None where it has none. Slots without a row that are met leave the chain.

@@ -4,16 +4,13 @@ ghost use Rattle.ert_defs.specs.Timers as timers;
 ghost use Rattle.ert_timers.specs.Starting.{status_shown};
 
 use crate::looking::{Ahead, look_ahead};
-use crate::part::{Use, WheelPart};
+use crate::part::{Use, WheelPart, is_long};
 use ert_answers::StartErr;
 use ert_defs::{Actor, Start, Status, TimerRef};
 use ert_table::{Desk, Pass, Settle, TimerCarry};
 
 /// How many timers a wheel can have.
 const MOST_TIMERS: u64 = 1 << 53;
-
-/// From how many milliseconds on a wait is long, some 17 minutes: so long a rest of a slot is to be rare.
-const LONG_WAIT: u64 = 1 << 20;
 
 impl WheelPart {
     ghost use Rattle.std.specs.FinSet as set;
@@ -78,7 +75,7 @@ impl WheelPart {
         ensures belongs { Belongs desk.now pass.new }
         ensures call { TakesSlot (settings_of desk.now) (view_of pass.old) by ahead.now self.old self.new result (view_of pass.new) }
     {
-        let long = ahead.deadline.saturating_sub(ahead.now) >= LONG_WAIT;
+        let long = is_long(ahead.now, ahead.deadline);
         if let Some(slot) = self.pick(long) {
             return Some(slot);
         }

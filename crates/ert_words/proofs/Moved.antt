@@ -1,15 +1,15 @@
--- A slot that is taken from the bottom: the one on top takes its place.
+-- The first of the slots that are held comes and goes as the last one does.
 
-use Rattle.std.proofs.Common.{Some, None, ◌≡◌, ℕ, ◌<◌, List, [], ◌∷◌, ◌++◌, length, nat_eq, get_or, refl, sym, ap, ◌∙◌, subst, arith}
-use Rattle.std.proofs.lemmas.List.Sorted.{IsPermutation-swap_remove, IsPermutation-to_front, IsPermutation-sym, IsPermutation-trans, list_any-IsPermutation}
+use Rattle.std.proofs.Common.{Option, Some, None, IfNone, option_to_list, ◌≡◌, ℕ, ◌<◌, ◌≤◌, false, List, [], ◌∷◌, ◌++◌, length, nat_eq, refl, sym, ap, ◌∙◌, subst}
+use Rattle.std.proofs.lemmas.List.Sorted.{IsPermutation-to_front, IsPermutation-sym, list_any-IsPermutation}
 use Rattle.std.proofs.lemmas.Map.Keys.{IsDistinct-IsPermutation}
 use Rattle.std.specs.Cmp.{nat_cmp_total, nat_eq_equiv}
 use Rattle.std.specs.FinSet as set
-use Rattle.std.specs.List.{swap_remove}
 use Rattle.std.specs.List.Sorted.{IsPermutation}
+use Rattle.std.specs.List.{list_any}
 use Rattle.std.specs.Ordering.{nat_cmp}
 use Rattle.ert_words.specs.Free.{Free, HasRoom}
-use Rattle.ert_words.proofs.Held.{Picks, contains-from_list, free_of, picks, popped}
+use Rattle.ert_words.proofs.Held.{Picks, contains-from_list, free_of, free_of-push, picks, popped, pushed}
 
 -- where slots lie in another order, there is as much room
 moved : (slots capacity : ℕ) (xs ys : List ℕ) → IsPermutation xs ys → HasRoom slots xs capacity → HasRoom slots ys capacity
@@ -26,29 +26,40 @@ same_free slots xs ys moves =
     (set.same_set nat_cmp_total set.nat_cmp-IsAntisymmetric _ _
     (λ q. contains-from_list xs q ∙ (list_any-IsPermutation (nat_eq q) xs ys moves ∙ sym (contains-from_list ys q))))
 
--- the slot that was taken, put on top of the others
-last_again : (xs : List ℕ) (x : ℕ) → 0 < length xs → x ≡ get_or xs 0 x
-    → IsPermutation xs (swap_remove xs 0 x ++ x ∷ [])
-last_again xs x some is =
-    let rest : List ℕ = swap_remove xs 0 x in
-    IsPermutation-trans xs (x ∷ rest) (rest ++ x ∷ []) (IsPermutation-swap_remove xs 0 x some is)
-    (IsPermutation-sym (rest ++ x ∷ []) (x ∷ rest) (IsPermutation-to_front rest x))
+-- the first slot, put behind the others
+behind : (x : ℕ) (xs : List ℕ) → IsPermutation (x ∷ xs) (xs ++ x ∷ [])
+behind x xs = IsPermutation-sym (xs ++ x ∷ []) (x ∷ xs) (IsPermutation-to_front xs x)
 
-pub room_below : (slots capacity : ℕ) (xs : List ℕ) (x : ℕ) → 0 < length xs → x ≡ get_or xs 0 x → HasRoom slots xs capacity
-    → HasRoom slots (swap_remove xs 0 x) capacity
-room_below slots capacity xs x some is h =
-    (popped slots capacity x (swap_remove xs 0 x)
-    (moved slots capacity xs (swap_remove xs 0 x ++ x ∷ []) (last_again xs x some is) h)).room
+-- the list after a slot was put in front
+pub put_in_front : (slots capacity larger x : ℕ) (xs : List ℕ) → HasRoom slots xs capacity → capacity ≤ larger
+    → x < slots → list_any (nat_eq x) xs ≡ false → HasRoom slots (x ∷ xs) larger
+put_in_front slots capacity larger x xs h grown low away =
+    moved slots larger (xs ++ x ∷ []) (x ∷ xs) (IsPermutation-to_front xs x) (pushed slots capacity larger x xs h grown low away)
 
-pub picks_below : (slots capacity : ℕ) (xs : List ℕ) (x : ℕ) → 0 < length xs → x ≡ get_or xs 0 x → HasRoom slots xs capacity
-    → Picks (free_of slots xs) (free_of slots (swap_remove xs 0 x)) (Some x)
-picks_below slots capacity xs x some is h =
-    let ys : List ℕ = swap_remove xs 0 x in
-    let moves : IsPermutation xs (ys ++ x ∷ []) = last_again xs x some is in
-    subst (λ (old : Free). Picks old (free_of slots ys) (Some x)) (sym (same_free slots xs (ys ++ x ∷ []) moves))
-    (picks slots capacity (ys ++ x ∷ []) ys (Some x) refl (moved slots capacity xs (ys ++ x ∷ []) moves h) tt)
+-- the free slots after it
+pub free_of-front : (now : Free) (slots slot : ℕ) (xs ys : List ℕ) → free_of slots xs ≡ now → ys ≡ slot ∷ xs
+    → free_of slots ys ≡ record { slots = now.slots; held = set.insert now.held slot }
+free_of-front now slots slot xs ys e put =
+    ap (free_of slots) put ∙ (same_free slots (slot ∷ xs) (xs ++ slot ∷ []) (behind slot xs) ∙ free_of-push now slots slot xs (xs ++ slot ∷ []) e refl)
 
-pub picks_none : (slots capacity : ℕ) (xs : List ℕ) → length xs ≡ 0 → HasRoom slots xs capacity
-    → Picks (free_of slots xs) (free_of slots xs) None
-picks_none slots capacity [] none h = picks slots capacity [] [] None refl h refl
-picks_none slots capacity (x ∷ xs) none h = absurd (omega (arith, none))
+-- what is left where the first was taken, if there was one
+pub room_behind : (slots capacity : ℕ) (xs ys : List ℕ) (picked : Option ℕ) → xs ≡ option_to_list picked ++ ys
+    → HasRoom slots xs capacity → HasRoom slots ys capacity
+room_behind slots capacity xs ys None e h = subst (λ zs. HasRoom slots zs capacity) e h
+room_behind slots capacity xs ys (Some x) e h =
+    (popped slots capacity x ys (moved slots capacity (x ∷ ys) (ys ++ x ∷ []) (behind x ys) (subst (λ zs. HasRoom slots zs capacity) e h))).room
+
+-- and what that gives
+pub picks_first : (slots capacity : ℕ) (xs ys : List ℕ) (picked : Option ℕ) → xs ≡ option_to_list picked ++ ys
+    → HasRoom slots xs capacity → IfNone picked (xs ≡ [])
+    → Picks (free_of slots xs) (free_of slots ys) picked
+picks_first slots capacity xs ys None e h none =
+    let left : ys ≡ [] = sym e ∙ none in
+    subst (λ zs. Picks (free_of slots xs) (free_of slots zs) None) (none ∙ sym left) (picks slots capacity xs xs None (nothing xs none) h none)
+  where
+    nothing : (zs : List ℕ) → zs ≡ [] → zs ≡ zs ++ []
+    nothing zs is = rw is refl
+picks_first slots capacity xs ys (Some x) e h none =
+    subst (λ (old : Free). Picks old (free_of slots ys) (Some x)) (sym (ap (free_of slots) e ∙ same_free slots (x ∷ ys) (ys ++ x ∷ []) (behind x ys)))
+    (picks slots capacity (ys ++ x ∷ []) ys (Some x) refl
+    (moved slots capacity (x ∷ ys) (ys ++ x ∷ []) (behind x ys) (subst (λ zs. HasRoom slots zs capacity) e h)) tt)

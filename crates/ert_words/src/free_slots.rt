@@ -3,21 +3,23 @@ ghost use Rattle.std.specs.List.{range_with_len};
 
 use ert_defs::NoMemory;
 use std::alloc::{AllocError, Global};
+use std::collections::VecDeque;
 use std::marker::Model;
 
 /// The slots of one scheduler that a timer may be started in.
 ///
-/// It holds some of the slots below a number that is fixed when it is made. It never takes more memory
-/// after that.
+/// It holds some of the slots below a number that is fixed when it is made, in a row of which both ends can be
+/// used. Each call takes constant time, and no more memory.
 #[derive(Drop)]
 pub struct FreeSlots {
     slots: u32,
-    held: Vec<u32>,
+    held: VecDeque<u32>,
 }
 
 impl Model for FreeSlots {
     ghost use Rattle.ert_words.specs.Free.{Free, free_code, HasRoom};
     ghost use Rattle.std.specs.FinSet as set;
+    ghost use Rattle.std.specs.VecDeque.{deque_capacity};
 
     ghost Value = { Free };
 
@@ -25,7 +27,7 @@ impl Model for FreeSlots {
 
     ghost view = { λ f. record { slots = f.slots; held = set.from_list f.held.items } };
 
-    ghost invariant = { λ f. HasRoom f.slots f.held.items f.held.cap };
+    ghost invariant = { λ f. HasRoom f.slots f.held.items (deque_capacity f.held) };
 }
 
 impl FreeSlots {
@@ -39,12 +41,15 @@ impl FreeSlots {
             → set.contains free.held slot ≡ nat_lt slot slots) }
     {
         match below(alloc, slots) {
-            Ok(held) => Ok(FreeSlots { slots, held }),
+            Ok(held) => Ok(FreeSlots {
+                slots,
+                held: VecDeque::from_vec(held),
+            }),
             Err(_) => Err(NoMemory),
         }
     }
 
-    /// Takes the slot out that was put in last; None exactly where none is held.
+    /// Takes the last slot out; None exactly where none is held.
     pub fn pick(&mut self) -> Option<u32>
         ensures none { IsNone result ↔ (self.old.held ≡ set.empty) }
         ensures unchanged { IfNone result (self.new ≡ self.old) }
@@ -53,14 +58,10 @@ impl FreeSlots {
             self.new ≡ record self.old { held = set.remove self.old.held slot }) }
         ensures in_range { IfSome result (λ slot. slot < self.old.slots) }
     {
-        self.held.pop()
+        self.held.pop_back()
     }
 
-    /// Takes the slot out that lies at the bottom, where [`FreeSlots::pick`] takes the one on top; the one on
-    /// top goes to the bottom in its place. None exactly where none is held.
-    ///
-    /// Both take constant time. Where long waits take from the bottom and short ones from the top, the slots
-    /// that short waits use again and again have had no long ones, and needn't rest for those.
+    /// Takes the first slot out; None exactly where none is held.
     pub fn pick_first(&mut self) -> Option<u32>
         ensures none { IsNone result ↔ (self.old.held ≡ set.empty) }
         ensures unchanged { IfNone result (self.new ≡ self.old) }
@@ -69,20 +70,27 @@ impl FreeSlots {
             self.new ≡ record self.old { held = set.remove self.old.held slot }) }
         ensures in_range { IfSome result (λ slot. slot < self.old.slots) }
     {
-        if self.held.is_empty() {
-            return None;
-        }
-        Some(self.held.swap_remove(0))
+        self.held.pop_front()
     }
 
-    /// Adds a slot that isn't held.
+    /// Adds a slot that isn't held, as the last one.
     pub fn put(&mut self, slot: u32)
         requires in_range { slot < self.old.slots }
         requires away { set.contains self.old.held slot ≡ false }
         ensures { self.new ≡ record self.old { held = set.insert self.old.held slot } }
     {
         // There is room for each of the slots.
-        self.held.push(slot).unwrap()
+        self.held.push_back_reserved(slot);
+    }
+
+    /// Adds a slot that isn't held, as the first one.
+    pub fn put_first(&mut self, slot: u32)
+        requires in_range { slot < self.old.slots }
+        requires away { set.contains self.old.held slot ≡ false }
+        ensures { self.new ≡ record self.old { held = set.insert self.old.held slot } }
+    {
+        // There is room for each of the slots.
+        self.held.push_front_reserved(slot);
     }
 }
 

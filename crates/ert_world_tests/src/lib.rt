@@ -17,6 +17,8 @@ mod intervals;
 #[cfg(test)]
 mod names;
 #[cfg(test)]
+mod rounds;
+#[cfg(test)]
 mod service;
 #[cfg(test)]
 mod service_calls;

@@ -22,7 +22,8 @@ static void expect(int line, const char *what, int64_t got, int64_t wanted) {
 
 /* What the library takes the structs that hold a timer for. */
 _Static_assert(sizeof(ert_timer) == 16 && offsetof(ert_timer, generation) == 8, "a timer");
-_Static_assert(sizeof(ert_mail) == 56 && offsetof(ert_mail, timer) == 8 && offsetof(ert_mail, has_left) == 24, "a message");
+_Static_assert(sizeof(ert_mail) == 56 && offsetof(ert_mail, timer) == 8 && offsetof(ert_mail, has_left) == 24,
+               "a message");
 _Static_assert(sizeof(ert_request) == 32 && offsetof(ert_request, timer) == 8 && offsetof(ert_request, reply_to) == 24,
                "a request");
 

@@ -1,10 +1,12 @@
 //! How the small calls change what a part keeps.
-ghost use Rattle.std.specs.Prelude.{◌≡◌, ◌≤◌};
+ghost use Rattle.std.specs.FinSet as set;
+ghost use Rattle.std.specs.Prelude.{◌≡◌, ◌≤◌, ◌<◌, false};
 ghost use Rattle.ert_timers.specs.Changes as changes;
 
-use super::{Slot, Use, WheelPart};
+use super::{Slot, Use, WheelPart, is_long};
 use ert_defs::{FIRST_LATER_GENERATION, Start, TimerRef, USES_OF_ROUND, use_of};
 use ert_wheel::Row;
+use ert_words::FreeSlots;
 
 impl Slot {
     /// Whether it was used less often than a round allows.
@@ -111,14 +113,15 @@ impl WheelPart {
         self.slots[slot as usize].next_use(now, deadline)
     }
 
-    /// Holds a slot free from now on.
+    /// Holds a slot free from now on: among the first where it has had a long wait that isn't over.
     pub(crate) fn free_slot(&mut self, slot: u32)
         requires low { slot < length self.old.slots }
         requires away { set.contains self.old.free slot ≡ false }
         requires vacant { key_in self.old.keys slot ≡ None }
         ensures { self.new ≡ freed self.old slot }
     {
-        self.free.put(slot);
+        let long = is_long(self.advanced, self.slots[slot as usize].above);
+        put(&mut self.free, slot, long);
     }
 
     /// Drops the row of a slot, and tells whether there was one.
@@ -191,5 +194,18 @@ impl WheelPart {
             slot,
             generation: next.generation,
         }
+    }
+}
+
+/// Adds a slot that isn't held free, as the first one or the last.
+fn put(free: &mut FreeSlots, slot: u32, first: bool)
+    requires in_range { slot < free.old.slots }
+    requires away { set.contains free.old.held slot ≡ false }
+    ensures { free.new ≡ record free.old { held = set.insert free.old.held slot } }
+{
+    if first {
+        free.put_first(slot);
+    } else {
+        free.put(slot);
     }
 }

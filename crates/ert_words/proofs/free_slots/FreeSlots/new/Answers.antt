@@ -8,13 +8,14 @@ use Rattle.ert_words.proofs.free_slots.FreeSlots.new.Goals as goal
 pub invariant_of-result : goal.invariant_of-result
 invariant_of-result c =
     let held = c.in-Ok.held in
+    let items : c.from_vec.result.items ≡ range_with_len 0 c.args.slots = c.from_vec.ensures.items ∙ c.in-Ok.ensures in
     let many : length held.items ≡ c.args.slots =
     ap (λ (xs : List ℕ). length xs) c.in-Ok.ensures ∙ length-range_with_len 0 c.args.slots in
-    let room : c.args.slots ≤ held.cap = omega (arith, many, held.ok.0, held.ok.1) in
-    subst (λ (xs : List ℕ). HasRoom c.args.slots xs held.cap) (sym c.in-Ok.ensures)
-    (every c.args.slots held.cap room)
+    let room : c.args.slots ≤ c.from_vec.result.cap = omega (arith, many, held.ok.0, held.ok.1, c.from_vec.ensures.capacity) in
+    subst (λ (xs : List ℕ). HasRoom c.args.slots xs c.from_vec.result.cap) (sym items)
+    (every c.args.slots c.from_vec.result.cap room)
 
 pub returns-in-Ok-clause-every : goal.returns-in-Ok-clause-every
 returns-in-Ok-clause-every c slot =
-    rw c.in-Ok.ensures
+    rw (c.from_vec.ensures.items ∙ c.in-Ok.ensures)
     (contains-from_list (range_with_len 0 c.args.slots) slot ∙ list_any-every c.args.slots slot)

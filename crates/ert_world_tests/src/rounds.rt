@@ -1,0 +1,253 @@
+//! Worlds and a service whose slots are used more often than a round has uses.
+ghost use Rattle.std.specs.Prelude.{OnOk};
+ghost use Rattle.ert_locks.specs.Names.{IsDesk};
+ghost use Rattle.ert_sched.specs.Counted.{AreTidy};
+ghost use Rattle.ert_sched.specs.Parts.{parts_of};
+ghost use Rattle.ert_sched.specs.Worlds.{AreFit};
+
+use crate::compare::same;
+use crate::service_calls::{are_callers, are_scheds, cancel as cancel_of, start as start_of};
+use crate::world_calls::{cancel, open, start, tick};
+use crate::world_steps::{Step, go};
+use ert_answers::{StartErr, Taken};
+use ert_defs::{Kind, Mail, Mode, NoMemory, Reading, Settings, Start, TimerRef, USES_OF_ROUND, When};
+use ert_locks::{CallerSeat, DeskName};
+use ert_sched::{Parts, World};
+use ert_shared::{Opened, Service};
+use std::alloc::Global;
+use std::marker::Brand;
+use std::process::Abort;
+use std::sync::Wait;
+use std::thread;
+use std::thread::Threads;
+
+/// A scheduler with one slot, and a process.
+const ONE_SLOT: Settings = Settings {
+    mode: Mode::No,
+    correction: false,
+    start: 0,
+    schedulers: 1,
+    processes: 1,
+    slots: 1,
+    callers: 2,
+    first: Reading { mono: 0, sys: 0 },
+};
+
+const FOUR_SLOTS: Settings = Settings {
+    slots: 4,
+    ..ONE_SLOT
+};
+
+/// A timer of five milliseconds.
+const FIVE: Start = Start {
+    when: When::After(5),
+    dest: 0,
+    msg: 7,
+    kind: Kind::Wrapped,
+};
+
+const MILLISECOND: i64 = 1_000_000;
+
+/// The least generation of a later round: its first use, with the deadline 0.
+const LATER: u64 = 8_796_093_022_208;
+
+const fn timer(generation: u64) -> TimerRef {
+    TimerRef {
+        wheel: 0,
+        slot: 0,
+        generation,
+    }
+}
+
+/// Tries so often to start a timer, and cancels it. Where none can be started, a millisecond goes by: how often that
+/// was is told, and the time after it, in milliseconds.
+fn use_slots(rt: &impl Abort, world: &mut World, tries: u32) -> u32
+    requires { AreTidy world.old }
+    ensures { AreTidy world.new }
+{
+    let mut refused: u32 = 0;
+    for _ in 0..tries {
+        match start(rt, world, 0, &FIVE) {
+            Ok(timer) => same(rt, 0, &cancel(world, timer), &Some(5)),
+            Err(why) => {
+                same(rt, 1, &why, &StartErr::Full);
+                refused = refused.saturating_add(1);
+                pass(rt, world, refused);
+            }
+        }
+    }
+    refused
+}
+
+/// It is so many milliseconds after the start time from now on.
+fn pass(rt: &impl Abort, world: &mut World, milliseconds: u32)
+    requires { AreTidy world.old }
+    ensures { AreTidy world.new }
+{
+    let moved = tick(world, milliseconds as i64 * MILLISECOND);
+    assert!(rt; moved.is_ok());
+}
+
+/// After its 262,143rd use the slot rests until the deadlines of its timers, 5 milliseconds from then, have
+/// passed: six of these calls find no slot, each a millisecond after the other.
+#[test]
+fn one_slot_lasts(rt: HostRuntime) -> Result<(), NoMemory> {
+    let mut world = open(&rt, rt.alloc(), &ONE_SLOT)?;
+    let refused = use_slots(&rt, &mut world, 1_000_018);
+    same(&rt, 0, &refused, &18);
+    same(&rt, 1, &world.counts().cancelled, &1_000_000);
+    Ok(())
+}
+
+/// All four slots rest at once, and then have a new round each.
+#[test]
+fn four_slots_last(rt: HostRuntime) -> Result<(), NoMemory> {
+    let mut world = open(&rt, rt.alloc(), &FOUR_SLOTS)?;
+    let refused = use_slots(&rt, &mut world, 2_200_012);
+    same(&rt, 0, &refused, &12);
+    same(&rt, 1, &world.counts().cancelled, &2_200_000);
+    Ok(())
+}
+
+/// Where the time moves on, some slots have rested when the last is used up: no start finds the wheel full.
+#[test]
+fn slots_rest_in_turn(rt: HostRuntime) -> Result<(), NoMemory> {
+    let mut world = open(&rt, rt.alloc(), &FOUR_SLOTS)?;
+    for milliseconds in 0..20 {
+        pass(&rt, &mut world, milliseconds);
+        let refused = use_slots(&rt, &mut world, 100_000);
+        same(&rt, 0, &refused, &0);
+    }
+    same(&rt, 1, &world.counts().cancelled, &2_000_000);
+    Ok(())
+}
+
+/// In a later round a generation is the use times 2^43, plus the deadline. A reference of the round before, or one
+/// that was made up, finds nothing. A deadline that has passed is that of the time of the call.
+#[test]
+fn later_rounds_have_other_timers(rt: HostRuntime) -> Result<(), NoMemory> {
+    let mut world = open(&rt, rt.alloc(), &ONE_SLOT)?;
+    let refused = use_slots(&rt, &mut world, 262_143);
+    same(&rt, 0, &refused, &0);
+    let last = timer(USES_OF_ROUND);
+    let first = timer(LATER + 11);
+    let second = timer(2 * LATER + 6);
+    let third = timer(3 * LATER + 8);
+    let steps = [
+        Step::Start(0, When::After(5), 0, 7, Err(StartErr::Full)),
+        Step::Tick(5_999_999, 5_999_999),
+        Step::Start(0, When::After(5), 0, 7, Err(StartErr::Full)),
+        Step::Tick(6_000_000, 6_000_000),
+        Step::Start(0, When::After(5), 0, 7, Ok(first)),
+        Step::Cancel(last, None),
+        Step::Read(timer(1), None),
+        Step::Cancel(timer(LATER + 12), None),
+        Step::Cancel(timer(2 * LATER + 11), None),
+        Step::Read(first, Some(5)),
+        Step::Cancel(first, Some(5)),
+        Step::Cancel(first, None),
+        Step::Start(0, When::At(2), 0, 8, Ok(second)),
+        Step::Read(first, None),
+        Step::Read(second, Some(0)),
+        Step::Advance(0, 6, 1),
+        Step::Deliver(0, 1, 0),
+        Step::Take(0, Taken::Mail(Mail::Timeout { timer: second, msg: 8 })),
+        Step::Start(0, When::At(8), 0, 9, Ok(third)),
+        Step::Read(second, None),
+        Step::Tick(8_000_000, 8_000_000),
+        Step::Advance(0, 8, 1),
+        Step::Deliver(0, 1, 0),
+        Step::Take(0, Taken::Mail(Mail::Timeout { timer: third, msg: 9 })),
+    ];
+    go(&rt, &mut world, &steps);
+    Ok(())
+}
+
+/// How many timers a caller started, and the first of them.
+#[derive(Clone, Copy, Debug, PartialEq, Eq)]
+struct Used {
+    started: u32,
+    first: Option<TimerRef>,
+}
+
+/// Tries so often to start a timer, and cancels it, which none but its caller does.
+fn use_seat<L: DeskName, R: Wait + Abort>(
+    rt: &R,
+    service: &Service<L>,
+    seat: CallerSeat<L>,
+    tries: u32,
+) -> (CallerSeat<L>, Used) {
+    let mut used = Used {
+        started: 0,
+        first: None,
+    };
+    let mut next = seat;
+    for _ in 0..tries {
+        let (seat, started) = start_of(rt, service, next, 0, &FIVE);
+        next = seat;
+        if let Ok(timer) = started {
+            let (seat, left) = cancel_of(service, next, timer);
+            next = seat;
+            same(rt, 0, &left, &Some(5));
+            used.started = used.started.saturating_add(1);
+            used.first = used.first.or(Some(timer));
+        }
+    }
+    (next, used)
+}
+
+/// A caller uses every slot as often as a round has uses, until all rest. When they have rested, it is told the time,
+/// and two callers use them at once.
+fn use_service<L: DeskName + Send + Sync, R: Threads + Wait + Abort + Sync>(
+    rt: &R,
+    alloc: Global,
+    parts: Parts,
+) -> Result<(World, u64), NoMemory>
+    requires desk { IsDesk L.table L.settings parts.desk }
+    requires fit { AreFit parts.desk parts.pass (parts_of parts.keeper parts.wheels.items parts.inboxes.items parts.mails.items parts.scheds.items) }
+{
+    let Opened {
+        service,
+        rest,
+        scheds,
+        mut callers,
+    } = Service::<L>::open(alloc, parts)?;
+    let second = callers.pop().expect(rt, "two callers");
+    let first = callers.pop().expect(rt, "two callers");
+    let (first, used) = use_seat(rt, &service, first, 1_048_573);
+    same(rt, 0, &used.started, &1_048_572);
+    let reading = Reading {
+        mono: 0,
+        sys: 6 * MILLISECOND,
+    };
+    let (first, moved) = service.tick(rt, first, reading, false);
+    assert!(rt; moved.is_ok());
+    let ((first, one), (second, other)) = thread::join(
+        rt,
+        || use_seat(rt, &service, first, 300_000),
+        || use_seat(rt, &service, second, 300_000),
+    );
+    for used in [one, other] {
+        let timer = used.first.expect(rt, "a slot that has rested");
+        assert!(rt; timer.generation >= LATER);
+    }
+    callers.reserve(2)?;
+    callers.push_reserved(first);
+    callers.push_reserved(second);
+    are_callers(rt, &service, &callers);
+    are_scheds(rt, &service, &scheds);
+    let started = 1_048_572 + one.started as u64 + other.started as u64;
+    Ok((service.close(rest, scheds, callers), started))
+}
+
+/// Two threads, whose starts find slots of a later round, and whose cancels find their timers.
+#[test]
+fn a_service_lasts(rt: HostRuntime) -> Result<(), NoMemory> {
+    assert!(rt; FOUR_SLOTS.check().is_ok());
+    let parts = World::open(rt.alloc(), &FOUR_SLOTS)?.into_parts();
+    let (mut world, started) = use_service::<Brand, HostRuntime>(&rt, rt.alloc(), parts)?;
+    let turned = world.last_turn(0)?;
+    same(&rt, 0, &turned.fired, &0);
+    same(&rt, 1, &world.counts().cancelled, &started);
+    Ok(())
+}
