@@ -1,13 +1,14 @@
 -- What the clock's part publishes on a desk.
 
-use Rattle.std.specs.Prelude.{◌≡◌, ℕ, ◌<◌, true, List, Some, Ok}
+use Rattle.std.specs.Prelude.{◌≡◌, ℕ, ◌<◌, true, List, [], ◌∷◌, Some, Ok}
 use Rattle.ert_clock.specs.Shown.{Shown, Stands}
-use Rattle.ert_clock.specs.Ticks.{Gives}
+use Rattle.ert_clock.specs.Ticks.{Gives, keeper_entry}
 use Rattle.ert_clock.specs.declared.clock.Moved.{Moved}
 use Rattle.ert_defs.specs.Lines.{MayAct}
 use Rattle.ert_defs.specs.declared.entry.Act.{Act}
 use Rattle.ert_defs.specs.declared.entry.Actor.TheVariants.{Keeper, Caller}
 use Rattle.ert_defs.specs.declared.entry.Entry.{Entry}
+use Rattle.ert_defs.specs.declared.entry.Event.TheVariants.{Off}
 use Rattle.ert_defs.specs.declared.settings.OffsetState.{OffsetState}
 use Rattle.ert_defs.specs.declared.settings.OffsetState.TheVariants.{Preliminary, Final, Volatile}
 use Rattle.ert_defs.specs.declared.settings.Reading.{Reading}
@@ -26,6 +27,10 @@ abbrev pub ReadsBy : OffsetState → Settings → View → ℕ → Type 0
 ReadsBy Preliminary g v by = Unit {0}
 ReadsBy Final g v by = least_caller v.actors g.callers ≡ Some by
 ReadsBy Volatile g v by = least_caller v.actors g.callers ≡ Some by
+
+-- the one entry of a finalization that only reads the offset: the offset and its state, as the clock shows them
+abbrev pub read_entries : ℕ → Shown → List Entry
+read_entries by now = keeper_entry by (Off now.face.offset now.face.state) ∷ []
 
 -- a clock has done a tick that the history it stood for doesn't have yet
 pub record IsAhead (g : Settings) (h : List Entry) (r : Reading) (act : Act) (m : Moved) (new : Shown) : Type 0 where

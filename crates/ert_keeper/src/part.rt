@@ -21,17 +21,16 @@ impl Model for KeeperPart {
 }
 
 impl KeeperPart {
-    ghost use Rattle.std.specs.Prelude.{◌≡◌, [], ◌∷◌};
+    ghost use Rattle.std.specs.Prelude.{◌≡◌, []};
     ghost use Rattle.std.specs.Result.{IfErr};
     ghost use Rattle.ert_answers.specs.ClockCalls.{Ticks, Finalizes};
     ghost use Rattle.ert_table.specs.Calls.{IsMade};
     ghost use Rattle.ert_defs.specs.Settings.{IsChecked};
     ghost use Rattle.ert_clock.specs.Shown.{Stands, opening_shown};
-    ghost use Rattle.ert_clock.specs.Ticks.{act_of, Gives, FinalizesFrom, tick_entries, keeper_entry};
-    ghost use Rattle.ert_defs.specs.declared.entry.Event.TheVariants.{Off};
+    ghost use Rattle.ert_clock.specs.Ticks.{act_of, Gives, FinalizesFrom, tick_entries};
     ghost use Rattle.ert_table.specs.Desks.{settings_of, view_of, front_of, Belongs};
     ghost use Rattle.ert_table.specs.Takes.{TakesPlace};
-    ghost use Rattle.ert_keeper.specs.Published.{HoldsKeeper, ReadsBy, IsAhead, IsStill};
+    ghost use Rattle.ert_keeper.specs.Published.{HoldsKeeper, ReadsBy, IsAhead, IsStill, read_entries};
 
     /// The part of a desk that has just been opened: its clock is that of the opening.
     pub fn open(settings: &Settings) -> KeeperPart
@@ -138,7 +137,7 @@ impl KeeperPart {
         requires holds { HoldsKeeper (settings_of desk.now) (view_of pass.old) by }
         requires still { IsStill (settings_of desk.now) (view_of pass.old) by self.now }
         ensures belongs { Belongs desk.now pass.new }
-        ensures takes { TakesPlace (settings_of desk.now) (view_of pass.old) (keeper_entry by (Off self.now.face.offset self.now.face.state) ∷ []) (view_of pass.new) }
+        ensures takes { TakesPlace (settings_of desk.now) (view_of pass.old) (read_entries by self.now) (view_of pass.new) }
         ensures stands { Stands (settings_of desk.now) (front_of pass.new) self.now }
     {
         pass.load_offset(desk, Actor::Keeper, &OffsetCarry::Off);

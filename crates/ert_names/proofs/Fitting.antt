@@ -123,9 +123,9 @@ probes_fit n q by wheel [] are = tt
 probes_fit n q by wheel (e ∷ es) are =
     (subst (λ (e : Entry). Fits n q e.event) (sym are.2) tt, probes_fit n q by wheel es are.3)
 
-taken_fits : (n q by wheel : ℕ) (s : State) (slot k : ℕ) (es : List Entry) → AreTaken by wheel s slot k es → AllFit n q es
-taken_fits n q by wheel s slot zero es are = fit_as n q es [] are tt
-taken_fits n q by wheel s slot (suc k) es are = fit_as n q es _ are.2 (tt, taken_fits n q by wheel s (suc slot) k are.1 are.4)
+taken_fits : (n q by wheel now : ℕ) (s : State) (slot k : ℕ) (es : List Entry) → AreTaken by wheel now s slot k es → AllFit n q es
+taken_fits n q by wheel now s slot zero es are = fit_as n q es [] are tt
+taken_fits n q by wheel now s slot (suc k) es are = fit_as n q es _ are.2 (tt, taken_fits n q by wheel now s (suc slot) k are.1 are.4)
 
 closes_fit : (n q : ℕ) (was : Bool) (by : ℕ) (timer : TimerRef) (es : List Entry) → Closes was by timer es → AllFit n q es
 closes_fit n q false by timer es closes = fit_as n q es [] closes tt
@@ -136,7 +136,13 @@ pub refused_start_fits : (n q : ℕ) (g : Settings) (by wheel : ℕ) (start : St
     → Starts g by wheel start (Err e) s es → AllFit n q es
 refused_start_fits n q g by wheel start starts.BadArg s es bad = fit_as n q es _ bad.entries (tt, tt)
 refused_start_fits n q g by wheel start starts.Full s es full =
-    fit_as n q es _ full.entries (tt, taken_fits n q by wheel s 0 g.slots full.probes full.are_taken)
+    fit_as n q es _ full.entries (
+      tt,
+      elim full.are_taken [
+        | inl taken ↦ taken_fits n q by wheel _ s 0 g.slots full.probes taken
+        | inr many ↦ fit_as n q full.probes [] many.1 tt
+      ],
+    )
 refused_start_fits n q g by wheel start starts.NoMemory s es (inl none) = fit_as n q es [] none tt
 refused_start_fits n q g by wheel start starts.NoMemory s es (inr probed) =
     fit_as n q es _ probed.entries (tt, probes_fit n q (Caller by) wheel probed.probes probed.are_probes)

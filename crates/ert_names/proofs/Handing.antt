@@ -229,10 +229,10 @@ pub counted_false : (a b : Registered) (messages : List Message) (m : Message) (
 counted_false a b messages m handed lost counted names rows is known =
     subst (λ n. AreCounted a (messages ++ m ∷ []) n (lost + 1)) (none_more handed) (counted_in a b messages m handed lost false counted names rows is known)
 
-pub few_true : (handed lost before after : ℕ) → (handed + lost) + before ≤ 68719214592 → before ≡ after + 1 → ((handed + 1) + lost) + after ≤ 68719214592
+pub few_true : (handed lost before after : ℕ) → (handed + lost) + before ≤ 576460752303423488 → before ≡ after + 1 → ((handed + 1) + lost) + after ≤ 576460752303423488
 few_true handed lost before after few fewer = omega (arith, few, fewer)
 
-pub few_false : (handed lost before after : ℕ) → (handed + lost) + before ≤ 68719214592 → before ≡ after + 1 → (handed + (lost + 1)) + after ≤ 68719214592
+pub few_false : (handed lost before after : ℕ) → (handed + lost) + before ≤ 576460752303423488 → before ≡ after + 1 → (handed + (lost + 1)) + after ≤ 576460752303423488
 few_false handed lost before after few fewer = omega (arith, few, fewer)
 
 -- a turn of the scheduler and then of the messages
@@ -274,7 +274,7 @@ stopped a b c sched t goes names rows mail hands = record {
   };
 }
 
-pub few_none : (n : ℕ) → n ≤ 68719214592 → (0 + 0) + n ≤ 68719214592
+pub few_none : (n : ℕ) → n ≤ 576460752303423488 → (0 + 0) + n ≤ 576460752303423488
 few_none n few = omega (arith, few)
 
 pub are_same : (x y : ℕ) → x ≡ y → nat_eq x y ≡ true

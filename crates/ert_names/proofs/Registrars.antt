@@ -9,7 +9,7 @@ use Rattle.ert_defs.specs.Legal.{Can, Keeps, Known, LegalFrom}
 use Rattle.ert_defs.specs.Mails.{MailState, SchedState, first_of, others_of, message_by, message_of, message_in, mail_after, inbox_after, sched_after, with_row}
 use Rattle.ert_defs.specs.Milliseconds.{deadline_of}
 use Rattle.ert_defs.specs.States.{State, opening, next, run, exited_after}
-use Rattle.ert_defs.specs.Timers.{Row, row_from, row_of, rows_after}
+use Rattle.ert_defs.specs.Timers.{Row, deadline_told, row_from, row_of, rows_after}
 use Rattle.ert_defs.specs.declared.entry.Actor.{Actor}
 use Rattle.ert_defs.specs.declared.entry.Actor.TheVariants.{Wheel, Inbox, Sched, MailOf}
 use Rattle.ert_defs.specs.declared.entry.Entry.{Entry}
@@ -60,7 +60,7 @@ rows_armed : (n : ℕ) (rows : List Row) (timer : TimerRef) (start : Start) (dea
     → (start.dest ≡ 0 → (start.kind ≡ Wrapped) × (start.msg < n)) → All (IsForName n) rows → All (IsForName n) (rows ++ row_from timer start deadline)
 rows_armed n rows timer start None fits h = rw append-nil h
 rows_armed n rows timer start (Some d) fits h =
-    let row : Row = record { timer = timer; deadline = d; dest = start.dest; msg = start.msg; kind = start.kind } in
+    let row : Row = record { timer = timer; deadline = deadline_told timer.generation d; dest = start.dest; msg = start.msg; kind = start.kind } in
     All-push (IsForName n) rows row h fits
 
 wheel_event : (g : Settings) (n : ℕ) (s : State) (by : Actor) (w : ℕ) (event : Event) (rows : List Row) → Fits n 0 event → All (IsForName n) rows

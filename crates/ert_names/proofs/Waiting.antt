@@ -84,7 +84,7 @@ run_grows g n s (e ∷ es) kept legal fit =
     omega (arith, one, rest, sum)
 
 -- so they can be counted
-pub few_waiting : (n : ℕ) (w : Service) → StandsFor w.settings w.history w → FitsRows n w → length (waiting w) ≤ 68719214592
+pub few_waiting : (n : ℕ) (w : Service) → StandsFor w.settings w.history w → FitsRows n w → length (waiting w) ≤ 576460752303423488
 few_waiting n w stands fits =
     let grown = run_grows w.settings n (opening w.settings) w.history (kept_opening w.settings n) stands.clock.legal fits.entries in
     let two = fits.processes in

@@ -12,6 +12,7 @@
 //! | `tick`, `finalize` | the clock, with caller 0 | takes a reading; finalizes the offset | constant |
 //! | `monotonic_time`, `time_offset`, `system_time` | caller 0 | reads the clock | constant |
 //! | `start` | caller 0 | starts a timer on a wheel | constant where a slot is known to be free, else each slot of the wheel |
+//! | `room` | caller 0 | looks how many slots of a wheel can take a timer | each slot of the wheel |
 //! | `cancel_timer`, `read_timer` | caller 0 | cancels a timer, and lets its wheel forget it; reads one | constant |
 //! | `is_alive`, `mark_exit` | caller 0 | looks whether a process has exited; lets it exit | constant |
 //! | `exit` | caller 0 | `mark_exit`, and then cancels the timers of the process in every wheel | the wheels and those timers |
@@ -40,7 +41,7 @@
 //! cancelled. In a world that was put together of parts which others used, `last_turn` makes a wheel tidy.
 //! `counts` asks that all are, for then it need not look at any timer.
 //!
-//! **Memory.** `start`, `cancel_timer`, `read_timer`, `take`, `exit` and the calls on the clock take none.
+//! **Memory.** `start`, `room`, `cancel_timer`, `read_timer`, `take`, `exit` and the calls on the clock take none.
 //! Where there is none, `ask`, `monitor`, `tell` and `bind` change nothing, `advance` lets no timer expire,
 //! `serve` keeps the request in the hand, `deliver` keeps what wasn't handed over, and of a turn what was done
 //! stays done. So each of them can be made again. No call copies a part.
@@ -61,7 +62,7 @@ mod turns;
 mod world;
 
 pub use counts::Counts;
-pub use ert_answers::Turned;
+pub use ert_answers::{Room, Turned};
 pub use parts::Parts;
 pub use sched_part::SchedPart;
 pub use world::World;

@@ -9,3 +9,4 @@ pub mod SchedCalls
 pub mod Standing
 pub mod Unseated
 pub mod Values
+pub mod Rooms

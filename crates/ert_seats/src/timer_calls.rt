@@ -1,5 +1,6 @@
 //! The calls of callers on timers and on the exits of processes.
 use crate::shared_world::{CALLER, SharedWorld};
+use ert_answers::Room;
 use ert_calls::{cancel_timer, is_alive, mark_exit, read_timer};
 use ert_defs::{Actor, Start, TimerRef};
 use ert_timers::StartErr;
@@ -7,6 +8,7 @@ use ert_timers::StartErr;
 impl SharedWorld {
     ghost use Rattle.std.specs.Prelude.{◌≡◌, ◌≢◌, ◌<◌, true, Err};
     ghost use Rattle.ert_answers.specs.Chains.{Exits, SweepsWheel, SweepsWheels};
+    ghost use Rattle.ert_answers.specs.RoomCalls.{TellsRoom};
     ghost use Rattle.ert_answers.specs.TimerCalls.{Reads, Cancels, Starts};
     ghost use Rattle.ert_answers.specs.WheelCalls.{TellsAlive, MarksExit};
     ghost use Rattle.ert_answers.specs.declared.answers.StartErr.TheVariants.{NoMemory};
@@ -67,6 +69,18 @@ impl SharedWorld {
         ensures clock { self.new.clock ≡ self.old.clock }
     {
         read_timer(&self.desk, &mut self.pass, Actor::Caller(CALLER), timer)
+    }
+
+    /// How many slots of a wheel can take a timer now, and else when the first of those that rest can: a slot
+    /// rests once it was used 262143 times, until the deadlines of all its timers have passed.
+    ///
+    /// The caller looks at the time and at each slot. No memory is taken.
+    pub fn room(&mut self, wheel: u32) -> Room
+        requires { wheel < self.old.settings.schedulers }
+        ensures call { Goes self.old (By self.old (λ g. TellsRoom g 0 wheel result)) self.new }
+        ensures clock { self.new.clock ≡ self.old.clock }
+    {
+        self.wheels[wheel as usize].room(&self.desk, &mut self.pass, CALLER)
     }
 
     /// Whether a process hasn't exited (`is_process_alive`).

@@ -10,6 +10,8 @@ mod formats;
 #[cfg(test)]
 mod frames;
 #[cfg(test)]
+mod lists;
+#[cfg(test)]
 mod ops;
 #[cfg(test)]
 mod program;

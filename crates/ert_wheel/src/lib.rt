@@ -4,8 +4,9 @@
 //! **Chains** (`Chains`). Each slot is in the chain of one home, or in none. A chain is a ring of links
 //! through its home's head, and the heads stand behind the slots in the same vector. A slot in no chain is alone
 //! in a ring of its own. So putting a slot in writes four links, as does taking it out, with no case for an
-//! empty chain, a first or a last slot, or a slot in none. A chain runs from its newest slot to its oldest. `Chains` keeps links and nothing else: its owner knows
-//! where each slot belongs, and its contract speaks of every assignment of places that fits.
+//! empty chain, a first or a last slot, or a slot in none. A chain runs from its newest slot to its oldest.
+//! `Chains` keeps links and nothing else: its owner knows where each slot belongs, and its contract speaks of
+//! every assignment of places that fits.
 //!
 //! **Levels** (`Wheel`). The homes of a wheel's chains are its buckets, 512 on each of eight levels. A bucket of
 //! the lowest level is a millisecond; one of the next is a window of 512 milliseconds, and so on: a bucket is as

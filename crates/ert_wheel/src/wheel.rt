@@ -42,7 +42,8 @@ impl Model for Wheel {
 }
 
 impl Wheel {
-    ghost use Rattle.std.specs.Prelude.{◌≡◌, ◌↔◌, ◌⊎◌, ◌<◌, ◌≤◌, ◌^◌, ℕ, Some, None, IsTrue, IsSome, IfSome, IfOk, MatchOption, All, count_by, length, map, option_map, replicate, slice_set, vec_capacity};
+    ghost use Rattle.std.specs.Prelude.{◌≡◌, ◌↔◌, ◌⊎◌, ◌<◌, ◌≤◌, ◌^◌, ℕ, Some, None, IsTrue, IsSome, IfSome, IfOk, MatchOption, All};
+    ghost use Rattle.std.specs.Prelude.{count_by, length, map, option_map, replicate, slice_set, vec_capacity};
     ghost use Rattle.std.specs.List.Sorted.{IsSortedBy};
     ghost use Rattle.std.specs.Option.{is_some};
     ghost use Rattle.ert_wheel.specs.NextDue.{NoRow, NoneBefore, IsDueAt, IsNextDue};

@@ -8,8 +8,8 @@ use Rattle.ert_names.proofs.world.NameWorld.hand_all.Goals as goal
 
 pub loop-was_handed-init : goal.loop-was_handed-init
 loop-was_handed-init c =
-    let few : length (waiting c.args.self.now.world) ≤ 68719214592 =
-    subst (λ (w : Registered). length (waiting w.world) ≤ 68719214592) c.self.view_is
+    let few : length (waiting c.args.self.now.world) ≤ 576460752303423488 =
+    subst (λ (w : Registered). length (waiting w.world) ≤ 576460752303423488) c.self.view_is
     (few_waiting (length c.self.inside.rows.items) c.self.inside.world c.settings-settings.ensures.stands c.self.invariant.fits) in
     record {
       messages = [];

@@ -8,7 +8,7 @@ invariant-loop-was_handed l = record {
   messages : List Message;
   some : HandsOver l.fn.self messages (TakesMany l.fn.self.world.settings messages) l.self;
   counted : AreCounted l.fn.self messages l.handed l.lost;
-  few : (l.handed + l.lost) + length (waiting l.self.world) ≤ 68719214592;
+  few : (l.handed + l.lost) + length (waiting l.self.world) ≤ 576460752303423488;
   clock : l.self.world.clock ≡ l.fn.self.world.clock;
 }
 

@@ -1,0 +1,43 @@
+//! A list of ops that goes on where another has ended, on one world.
+use ert_defs::{Mode, NoMemory, Reading, Settings, TimerRef, When};
+use ert_ops::Op;
+use ert_sched::World;
+use ert_script::do_ops;
+
+/// One of each.
+const SETTINGS: Settings = Settings {
+    mode: Mode::No,
+    correction: false,
+    start: 0,
+    schedulers: 1,
+    processes: 1,
+    slots: 1,
+    callers: 1,
+    first: Reading { mono: 0, sys: 0 },
+};
+
+/// A timer is cancelled by the label that an earlier list has bound.
+#[test]
+fn a_list_goes_on(rt: HostRuntime) -> Result<(), NoMemory> {
+    assert!(rt; SETTINGS.check().is_ok());
+    let mut world = World::open(rt.alloc(), &SETTINGS)?;
+    assert!(rt; world.settings().schedulers == 1 && world.settings().processes == 1);
+    let start = Op::Start {
+        label: 1,
+        wheel: 0,
+        when: When::After(5),
+        dest: 0,
+        msg: 7,
+    };
+    do_ops(rt.alloc(), &mut world, &[start])?;
+    let timer = TimerRef {
+        wheel: 0,
+        slot: 0,
+        generation: 1,
+    };
+    assert!(rt; world.labels() == [(1, timer)].as_slice());
+    assert!(rt; world.read_timer(timer) == Some(5));
+    do_ops(rt.alloc(), &mut world, &[Op::Cancel { label: 1 }])?;
+    assert!(rt; world.read_timer(timer).is_none());
+    Ok(())
+}
