@@ -17,7 +17,8 @@ ghost use Rattle.ert_answers.specs.declared.answers.MonitorErr.TheVariants.{Full
 ghost use Rattle.ert_answers.specs.declared.answers.Taken.TheVariants.{Empty, Exited};
 ghost use Rattle.ert_answers.specs.declared.answers.StartErr.TheVariants.{BadArg, Full};
 ghost use Rattle.ert_answers.specs.Worked.{one, idle, armed, start_before, look, starting, orphaned, probed, reading, cancelling};
-ghost use Rattle.ert_answers.specs.Worked.{unbound, two, timer_of, both_armed, exiting, asked, turning, advancing, missing, missing_twice, delivering, turned, telling};
+ghost use Rattle.ert_answers.specs.Worked.{unbound, two, timer_of, both_armed, exiting, asked, turning, advancing};
+ghost use Rattle.ert_answers.specs.Worked.{missing, missing_twice, delivering, turned, telling};
 
 /// A start of a timer for a process that had exited cancels it, or finds it settled: it doesn't leave it
 /// armed.

@@ -58,7 +58,7 @@ fn judges_short_histories(rt: HostRuntime) -> Result<(), Fail> {
 }
 
 // What follows a history of six lines, and what is said of all.
-const ENDINGS: [(&str, AuditStatus, &str); 14] = [
+const ENDINGS: [(&str, AuditStatus, &str); 16] = [
     ("", AuditStatus::Legal, "legal 5\n"),
     ("s0 w0 advanced 0 1\n", AuditStatus::Legal, "legal 6\n"),
     ("s0 w0 expire 0 0 1\n", AuditStatus::Illegal, "illegal 7\n"),
@@ -75,6 +75,16 @@ const ENDINGS: [(&str, AuditStatus, &str); 14] = [
     ("s0 w0 advances 0 1\n", AuditStatus::Refused, "refused 7\n"),
     ("\n", AuditStatus::Refused, "refused 7\n"),
     ("c0 - look -0\n", AuditStatus::Refused, "refused 7\n"),
+    (
+        "c0 - peek 0 0 18446744073709551615 none\n",
+        AuditStatus::Legal,
+        "legal 6\n",
+    ),
+    (
+        "c0 - peek 0 0 18446744073709551616 none\n",
+        AuditStatus::Refused,
+        "refused 7\n",
+    ),
     (
         "c0 - mark 4294967296 false false\n",
         AuditStatus::Refused,
@@ -134,7 +144,7 @@ const REASONS: [(&str, &str); 7] = [
     ),
     (
         "s0 w0 expire 0 0 01\n",
-        "history:7:18: \"01\": expected a number from 0 to 4294967295\n",
+        "history:7:18: \"01\": expected a number from 0 to 18446744073709551615\n",
     ),
 ];
 

@@ -1,7 +1,8 @@
 //! The laws of histories that don't concern the clock's numbers. Each is the contract of a function that
 //! does nothing, so that it is proved wherever this crate is.
 
-ghost use Rattle.ert_defs.specs.Laws.{LawOfPrefixes, LawOfParts, LawOfOneMore, LawOfStates, LawOfLocality, LawOfMoves, LawOfSettling, LawOfSettled, LawOfRows, LawOfSlots};
+ghost use Rattle.ert_defs.specs.Laws.{LawOfPrefixes, LawOfParts, LawOfOneMore, LawOfStates, LawOfLocality};
+ghost use Rattle.ert_defs.specs.Laws.{LawOfMoves, LawOfSettling, LawOfSettled, LawOfRows, LawOfSlots};
 
 /// A history is legal exactly where its beginning is and each further entry is legal in the state after
 /// those before it.

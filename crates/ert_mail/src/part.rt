@@ -122,7 +122,8 @@ impl MailPart {
         requires first { first_of ((state_of desk.now pass.old).scheds fired.now.timer.wheel).fired ≡ Some fired.now }
         requires stands { Stands (settings_of desk.now) (front_of pass.old) self.old }
         ensures belongs { Belongs desk.now pass.new }
-        ensures call { IsMadeIfOk (settings_of desk.now) (view_of pass.old) (HandsOver (settings_of desk.now) fired.now.timer.wheel fired.now) result (view_of pass.new) }
+        ensures call { IsMadeIfOk (settings_of desk.now) (view_of pass.old)
+            (HandsOver (settings_of desk.now) fired.now.timer.wheel fired.now) result (view_of pass.new) }
         ensures sched { (state_of desk.now pass.new).scheds fired.now.timer.wheel ≡ handed result ((state_of desk.now pass.old).scheds fired.now.timer.wheel) }
         ensures memory { OnErr result (self.old.room ≡ 0) }
         ensures err { OnErr result (IsSame self.old self.new) }

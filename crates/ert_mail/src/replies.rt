@@ -40,7 +40,8 @@ fn do_asked(desk: &Desk, pass: &mut Pass, sched: u32, request: &Request) -> Opti
     requires held { is_held (actors_of pass.old) (Sched sched) ≡ true }
     requires below { sched < (settings_of desk.now).schedulers }
     ensures belongs { Belongs desk.now pass.new }
-    ensures steps { IsMade (settings_of desk.now) (view_of pass.old) (DoesAsked request.now.kind (settings_of desk.now) sched request.now.timer result) (view_of pass.new) }
+    ensures steps { IsMade (settings_of desk.now) (view_of pass.old)
+        (DoesAsked request.now.kind (settings_of desk.now) sched request.now.timer result) (view_of pass.new) }
 {
     let by = Actor::Sched(sched);
     match request.kind {

@@ -68,7 +68,8 @@ impl MailPart {
         requires holds { IsCallers (settings_of desk.now) (view_of pass.old) by self.old.process }
         requires stands { Stands (settings_of desk.now) (front_of pass.old) self.old }
         ensures belongs { Belongs desk.now pass.new }
-        ensures call { IsMade (settings_of desk.now) (view_of pass.old) (Demonitors (settings_of desk.now) by self.old.process monitor result) (view_of pass.new) }
+        ensures call { IsMade (settings_of desk.now) (view_of pass.old)
+            (Demonitors (settings_of desk.now) by self.old.process monitor result) (view_of pass.new) }
         ensures was { result ≡ stands_in monitor self.old.held.monitors }
         ensures process { self.new.process ≡ self.old.process }
         ensures stands { Stands (settings_of desk.now) (front_of pass.new) self.new }

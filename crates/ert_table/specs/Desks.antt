@@ -11,7 +11,7 @@ use Rattle.ert_defs.specs.declared.settings.OffsetState.{OffsetState}
 use Rattle.ert_defs.specs.declared.settings.Settings.{Settings}
 use Rattle.ert_defs.specs.declared.timer.Start.{Start}
 use Rattle.ert_defs.specs.declared.timer.TimerRef.{TimerRef}
-use Rattle.ert_table.specs.Entries.{time_entry, offset_entry}
+use Rattle.ert_table.specs.Entries.{time_entry, offset_entry, offset_in, state_in}
 use Rattle.ert_defs.specs.Entries.{mark_entry}
 use Rattle.ert_table.specs.Held.{IsWhole}
 use Rattle.ert_table.specs.Settlings.{Shown, read_entry, hit_entry, Settles}
@@ -70,6 +70,10 @@ MayLoadTime d p by carry = (now : ℤ) → MayMake d p (time_entry by carry now)
 -- what is recorded where a pass loads the offset
 abbrev pub offset_made : Desk → Pass → Actor → OffsetCarry → ℤ → OffsetState → Entry
 offset_made d p by carry offset new = offset_entry (settings_of d) (actors_of p) by carry offset new
+
+-- the same by the word of the offset
+abbrev pub offset_loaded : Desk → Pass → Actor → OffsetCarry → ℕ → Entry
+offset_loaded d p by carry n = offset_made d p by carry (offset_in n) (state_in (settings_of d) n)
 
 -- a pass may load the offset, whatever it is
 abbrev pub MayLoadOffset : Desk → Pass → Actor → OffsetCarry → Type 0

@@ -1,6 +1,6 @@
 -- The places of the words in the table.
 
-use Rattle.std.specs.Prelude.{◌≡◌, ℕ, ◌+◌, ◌*◌, ◌<◌, vec_len, slice_index}
+use Rattle.std.specs.Prelude.{◌≡◌, ℕ, ◌+◌, ◌*◌, ◌/◌, ◌%◌, ◌<◌, vec_len, slice_index}
 use Rattle.ert_defs.specs.States.{State}
 use Rattle.ert_defs.specs.Words.{time_word, offset_word, is_final, word_of_slot, process_word, wheel_width, wheels_width}
 use Rattle.ert_defs.specs.declared.settings.Settings.{Settings}
@@ -9,6 +9,10 @@ use Rattle.ert_table.specs.declared.desk.Words.{Words}
 -- the place of the word of a slot of a wheel
 abbrev pub slot_place : Settings → ℕ → ℕ → ℕ
 slot_place g w k = (16 + (w * wheel_width g)) + k
+
+-- the place of the word of a slot, where the slots of all wheels are counted
+abbrev pub timer_place : Settings → ℕ → ℕ
+timer_place g i = slot_place g (i / g.slots) (i % g.slots)
 
 -- the place of the word of a process
 abbrev pub process_place : Settings → ℕ → ℕ

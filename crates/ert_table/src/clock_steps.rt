@@ -1,8 +1,8 @@
 //! Steps on the words of the time and of the offset.
 ghost use Rattle.std.specs.Prelude.{◌≡◌};
 ghost use Rattle.ert_defs.specs.Words.{time_word, offset_word, is_final};
-ghost use Rattle.ert_table.specs.Desks.{settings_of, state_of, Belongs, MayMake, Makes, MayLoadTime, MayLoadOffset, offset_made};
-ghost use Rattle.ert_table.specs.Entries.{tick_entry, time_entry, time_in, shift_entry, offset_in, state_where, state_in};
+ghost use Rattle.ert_table.specs.Desks.{settings_of, state_of, Belongs, MayMake, Makes, MayLoadTime, MayLoadOffset, offset_made, offset_loaded};
+ghost use Rattle.ert_table.specs.Entries.{tick_entry, time_entry, time_in, shift_entry, state_where};
 
 use crate::carry::{OffsetCarry, TimeCarry};
 use crate::desk::{Desk, Pass};
@@ -114,11 +114,11 @@ impl Pass {
 
     fn load_offset_as<C: Carried>(&mut self, desk: &Desk, by: Actor, carry: &OffsetCarry) -> u64
         requires settings { C.settings ≡ settings_of desk.now }
-        requires entry { C.entry ≡ (λ n. offset_made desk.now self.old by carry.now (offset_in n) (state_in (settings_of desk.now) n)) }
+        requires entry { C.entry ≡ (λ n. offset_loaded desk.now self.old by carry.now n) }
         requires belongs { Belongs desk.now self.old }
         requires may { MayLoadOffset desk.now self.old by carry.now }
         ensures belongs { Belongs desk.now self.new }
-        ensures step { Makes desk.now self.old (offset_made desk.now self.old by carry.now (offset_in result) (state_in (settings_of desk.now) result)) self.new }
+        ensures step { Makes desk.now self.old (offset_loaded desk.now self.old by carry.now result) self.new }
         ensures word { let clock = (state_of desk.now self.new).clock in offset_word clock.offset (is_final clock.state) ≡ result }
     {
         desk.table.shared.load::<Loads<C>>(&mut self.seat, OFFSET)

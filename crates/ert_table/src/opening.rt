@@ -1,5 +1,5 @@
 //! How a desk is opened and closed.
-ghost use Rattle.std.specs.Prelude.{◌≡◌, ◌*◌, ◌/◌, ◌%◌, ◌<◌, ℕ, [], slice_index, vec_len, replicate, IfOk};
+ghost use Rattle.std.specs.Prelude.{◌≡◌, ◌*◌, ◌<◌, ℕ, [], slice_index, vec_len, replicate, IfOk};
 ghost use Rattle.std.specs.Mem.Slots.{slots_items, slots_len, IsFull};
 ghost use Rattle.ert_defs.specs.Lines.{first_offset, first_state};
 ghost use Rattle.ert_defs.specs.Settings.{IsChecked};
@@ -108,7 +108,8 @@ fn read_timers(closed: &Closed<(), Global>, settings: &Settings, timers: &mut Ve
     requires counted { slots_len closed.now.words ≡ words.word_count settings.now }
     requires room { vec_len timers.old ≡ settings.now.schedulers * settings.now.slots }
     ensures length { vec_len timers.new ≡ vec_len timers.old }
-    ensures timers { (i : ℕ) → i < vec_len timers.old → slice_index timers.new.items i ≡ slice_index (slots_items closed.now.words) (places.slot_place settings.now (i / settings.now.slots) (i % settings.now.slots)) }
+    ensures timers { (i : ℕ) → i < vec_len timers.old
+        → slice_index timers.new.items i ≡ slice_index (slots_items closed.now.words) (places.timer_place settings.now i) }
 {
     let slots = settings.slots as usize;
     for i in 0..timers.len() {
@@ -123,7 +124,8 @@ fn read_processes(closed: &Closed<(), Global>, settings: &Settings, processes: &
     requires counted { slots_len closed.now.words ≡ words.word_count settings.now }
     requires room { vec_len processes.old ≡ settings.now.processes }
     ensures length { vec_len processes.new ≡ vec_len processes.old }
-    ensures processes { (p : ℕ) → p < vec_len processes.old → slice_index processes.new.items p ≡ slice_index (slots_items closed.now.words) (places.process_place settings.now p) }
+    ensures processes { (p : ℕ) → p < vec_len processes.old
+        → slice_index processes.new.items p ≡ slice_index (slots_items closed.now.words) (places.process_place settings.now p) }
 {
     for p in 0..processes.len() {
         processes[p] = closed.word(process_place(settings, p));

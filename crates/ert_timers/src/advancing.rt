@@ -83,7 +83,8 @@ impl WheelPart {
         requires ready { IsReady (settings_of desk.now) (front_of pass.old) self.old to due.now }
         requires room { length due.now ≤ fired.old.room }
         ensures belongs { Belongs desk.now pass.new }
-        ensures call { ExpiresSome (settings_of desk.now) (view_of pass.old) self.old self.new to due.now (length due.now) fired.old fired.new (view_of pass.new) }
+        ensures call { ExpiresSome (settings_of desk.now) (view_of pass.old) self.old self.new to due.now (length due.now)
+            fired.old fired.new (view_of pass.new) }
     {
         for row in due {
             self.expire(desk, pass, *row, fired);
@@ -98,7 +99,8 @@ impl WheelPart {
         requires stands { Stands (settings_of desk.now) (front_of pass.old) self.old }
         requires held { key_in self.old.keys row.slot ≡ Some (key_of row) }
         requires low { row.slot < length self.old.slots }
-        requires first { IsNext (settings_of desk.now) (state (settings_of desk.now) (front_of pass.old)) (Sched self.old.number) (last_timer self.old.number self.old.slots row.slot) }
+        requires first { IsNext (settings_of desk.now) (state (settings_of desk.now) (front_of pass.old)) (Sched self.old.number)
+            (last_timer self.old.number self.old.slots row.slot) }
         requires room { 0 < fired.old.room }
         ensures belongs { Belongs desk.now pass.new }
         ensures call { Expires (settings_of desk.now) (view_of pass.old) self.old self.new row fired.old fired.new (view_of pass.new) }

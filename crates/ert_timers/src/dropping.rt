@@ -36,7 +36,8 @@ impl WheelPart {
         ensures stands { Stands (settings_of desk.now) (front_of pass.new) self.new }
         ensures call { IsAdvancedAll (settings_of desk.now) (view_of pass.old) self.old.number result fired.old fired.new (view_of pass.new) }
         ensures keeps { KeepsTidy (settings_of desk.now) (view_of pass.old) self.old self.new (view_of pass.new) }
-        ensures tidy { IfOk result (λ to. IsWhole (settings_of desk.now) (view_of pass.old).actors → IsTidy (state (settings_of desk.now) (front_of pass.new)) self.new) }
+        ensures tidy { IfOk result (λ to. IsWhole (settings_of desk.now) (view_of pass.old).actors
+            → IsTidy (state (settings_of desk.now) (front_of pass.new)) self.new) }
     {
         let to = self.try_due(desk, pass, fired)?;
         self.drop_settled_rows(desk, pass);

@@ -34,14 +34,20 @@
 //!
 //! | call | what it does | work |
 //! |---|---|---|
-//! | `start` | looks at the time, takes a free slot, stores its word, asks whether the destination has exited | constant where a slot is known to be free; else each slot is looked at once, and all that can be used again are known from then on. Where all rest or are taken each start looks at every slot |
-//! | `advance` | looks at the time, and tries each due timer in order of deadline and then of start | the due timers and the buckets that are visited; where a window of 512 milliseconds begins, also the timers that are due in it |
+//! | `start` | looks at the time, stores the word of a free slot, asks whether the destination has exited | constant; every slot once where none is held free |
+//! | `advance` | looks at the time, and tries each due timer in order of deadline and then of start | the due timers and the buckets that are visited |
 //! | `advance_all` | does the same, and then looks at each timer that is left | every slot once |
-//! | `sweep` | tries each timer of a process that has exited | those timers, and those of the process that have expired and whose slots were not used again, each once |
+//! | `sweep` | tries each timer of a process that has exited | those timers, each once |
 //! | `forget` | drops the row of a timer that the pass has seen settled, and holds its slot free where its round has uses left | constant |
 //! | `room` | looks at the time and at every slot, and tells how many can take a timer and from when on one more can | every slot once |
-//! | `next_due` | tells how early a timer may be due | the buckets of a look ahead, 1,024 as a rule where the wheel was advanced and never over 4,096, and the timers of the first that has any |
+//! | `next_due` | tells how early a timer may be due | the buckets of a look ahead, and the timers of the first that has any |
 //! | `tally` | counts | none |
+//!
+//! A start that looks at every slot knows from then on all that can be used again; so only where all rest or
+//! are taken does each start look at every slot. Where a window of 512 milliseconds begins, an advance also
+//! does work for each timer that is due in it. A sweep does work too for the timers of the process that have
+//! expired and whose slots were not used again. A look ahead has 1,024 buckets as a rule where the wheel was
+//! advanced, and never over 4,096.
 //!
 //! Each timer is tried once, by one exchange, and then its row goes. No call waits for anybody. Only `open`
 //! takes memory, and `advance` for its list of expired timers, before the first of them expires.

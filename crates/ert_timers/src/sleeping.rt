@@ -26,7 +26,8 @@ impl WheelPart {
         requires high { time <ℤ end_time settings.now }
         ensures held { IsNextHeld self.now (natural (down settings.now time)) result }
         ensures armed { (g : Settings) (h : List Entry) → Stands g h self.now → NoneArmedBefore (state g h) self.now.number result }
-        ensures nearest { (g : Settings) (h : List Entry) → Stands g h self.now → IsTidy (state g h) self.now → IsNearest (state g h) self.now.number (horizon_at settings.now time) result }
+        ensures nearest { (g : Settings) (h : List Entry) → Stands g h self.now → IsTidy (state g h) self.now
+            → IsNearest (state g h) self.now.number (horizon_at settings.now time) result }
     {
         self.first_due(rounded_down(settings, time))
     }

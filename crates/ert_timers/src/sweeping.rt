@@ -53,7 +53,8 @@ impl WheelPart {
         ensures forgotten { IsHeld self.new timer → ⊥ }
         ensures held { IsHeld self.old timer → self.new ≡ given_back self.old timer.slot false }
         ensures away { (IsHeld self.old timer → ⊥) → self.new ≡ self.old }
-        ensures tidy { (g : Settings) → (view_of pass.now).settings ≡ Some g → IsTidyBut (state g (front_of pass.now)) self.old timer → IsTidy (state g (front_of pass.now)) self.new }
+        ensures tidy { (g : Settings) → (view_of pass.now).settings ≡ Some g
+            → IsTidyBut (state g (front_of pass.now)) self.old timer → IsTidy (state g (front_of pass.now)) self.new }
     {
         let _seen = pass;
         if timer.wheel != self.number() {

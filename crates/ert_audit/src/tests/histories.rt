@@ -128,7 +128,7 @@ pub const LOOKS: [(&str, &str, &str); 10] = [
 ];
 
 /// Timers that are armed, and slots that are looked at.
-pub const STARTS: [(&str, &str, &str); 20] = [
+pub const STARTS: [(&str, &str, &str); 21] = [
     (
         "no false 0 1 1 1 1 0 0",
         "k c0 tick 0 1000000 plain 1000000\nc0 - look 1000000\nc0 w0 arm 0 0 1 after 5 0 7 wrapped\nc0 w0 probe 0 0 armed",
@@ -137,6 +137,11 @@ pub const STARTS: [(&str, &str, &str); 20] = [
     (
         "no false 0 1 1 1 1 0 0",
         "c0 w0 arm 0 0 2 after 5 0 7 wrapped",
+        "illegal 2",
+    ),
+    (
+        "no false 0 1 1 1 1 0 0",
+        "c0 w0 arm 0 0 8796093022213 after 5 0 7 wrapped",
         "illegal 2",
     ),
     (
@@ -228,7 +233,12 @@ pub const STARTS: [(&str, &str, &str); 20] = [
 ];
 
 /// Timers that are read and cancelled.
-pub const CANCELS: [(&str, &str, &str); 11] = [
+pub const CANCELS: [(&str, &str, &str); 12] = [
+    (
+        "no false 0 1 1 1 1 0 0",
+        "c0 - cancel 0 0 8796093022213 none",
+        "legal 1",
+    ),
     (
         "no false 0 1 1 1 1 0 0",
         "k c0 tick 0 1000000 plain 1000000\nc0 - look 1000000\nc0 w0 arm 0 0 1 after 5 0 7 wrapped\nc0 - peek 0 0 1 5\nc0 - cancel 0 0 1 5\nc0 - cancel 0 0 1 none\nc0 - peek 0 0 1 none",
