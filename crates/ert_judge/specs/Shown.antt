@@ -27,11 +27,15 @@ pub record ClockIs (g : Settings) (c : Clock) (k : KeptClock) : Type 0 where
   pub face : face g c ≡ face_of k.face
   pub due : c.due ≡ k.due
 
+-- the last look of an actor
+abbrev pub last_look : Judge → Actor → ℤ
+last_look j a = look_of (looks_in j.looks) a
+
 -- the state that a judge keeps, with this clock
 abbrev pub shown : Clock → Judge → State
 shown c j = record {
   clock = c;
-  looked = λ a. look_of (looks_in j.looks) a;
+  looked = λ a. last_look j a;
   rows = λ w. rows_in j.timers w;
   last = λ w k. (uses_in (timers_at j.timers w) k).last;
   since = λ w k. (uses_in (timers_at j.timers w) k).since;
@@ -71,7 +75,7 @@ pub record IsFreeFor (j : Judge) (timer : TimerRef) (now wanted : ℕ) : Type 0 
 
 -- a wheel has settled all that was due at the last look of an actor
 pub record HasAdvanced (j : Judge) (by : Actor) (w to : ℕ) : Type 0 where
-  pub told : pos to ≡ down j.settings (look_of (looks_in j.looks) by)
+  pub told : pos to ≡ down j.settings (last_look j by)
   pub settled : is_settled (λ d. nat_le d to) (timers_at j.timers w) ≡ true
 
 -- what the clock shows after an event
@@ -107,7 +111,7 @@ pub record Follows (old : Judge) (e : Entry) (new : Judge) : Type 0 where
   pub clock : ClockFollows old.settings old.clock e.event new.clock
   pub looks : looks_in new.looks ≡ looks_after e.by e.event (looks_in old.looks)
   pub timers : new.timers
-      ≡ timers_after (deadline_by old.settings (look_of (looks_in old.looks) e.by) e.event) e.event old.timers
+      ≡ timers_after (deadline_by old.settings (last_look old e.by) e.event) e.event old.timers
   pub exits : new.exits ≡ exits_after e.event old.exits
   pub mailboxes : new.mailboxes ≡ mails_after (scheds_in old.schedulers) e.with e.event old.mailboxes
   pub inboxes : new.inboxes ≡ inboxes_after e.with e.event old.inboxes

@@ -52,8 +52,9 @@ impl Judge {
     ghost use Rattle.ert_defs.specs.declared.entry.Entry as entries;
     ghost use Rattle.ert_defs.specs.declared.settings.Settings as settings;
     ghost use Rattle.ert_clock.specs.Faces.{face_of};
-    ghost use Rattle.ert_state.specs.Parts.{looks_in, look_of, sched_at, exited_at, ArmsNew};
-    ghost use Rattle.ert_judge.specs.Shown.{ClockIs, shown, IsOpening, OwnTimers, last_status, IsFreeFor, HasAdvanced, MayFollow, ClockFollows, deadline_by, Follows, StandsFor};
+    ghost use Rattle.ert_state.specs.Parts.{sched_at, exited_at, ArmsNew};
+    ghost use Rattle.ert_judge.specs.Shown.{ClockIs, shown, IsOpening, OwnTimers, last_look, last_status, IsFreeFor, HasAdvanced};
+    ghost use Rattle.ert_judge.specs.Shown.{MayFollow, ClockFollows, deadline_by, Follows, StandsFor};
     ghost use Rattle.ert_state.specs.Wheels.{timers_at, IsFirstDue};
 
     /// The state at the opening.
@@ -159,7 +160,8 @@ impl Judge {
     /// Whether a timer can be armed: its start has a deadline, its slot is neither taken nor rests and has its
     /// generation next, and its wheel has had few enough timers.
     fn can_arm(&self, by: Actor, timer: TimerRef, start: Start) -> bool
-        ensures { (c : clocks.Clock) → IsTrue result ↔ CanArm self.now.settings (shown c self.now) by timer (milliseconds.deadline_of self.now.settings start (look_of (looks_in self.now.looks) by)) }
+        ensures { (c : clocks.Clock) → IsTrue result ↔ CanArm self.now.settings (shown c self.now) by timer
+            (milliseconds.deadline_of self.now.settings start (last_look self.now by)) }
     {
         let look = self.looks.of(by);
         match deadline_of(&self.settings, start.when, look) {
@@ -180,7 +182,7 @@ impl Judge {
 
     /// Whether a timer is due and the first of its wheel, but for its own status.
     pub fn is_next(&self, by: Actor, timer: TimerRef) -> bool
-        ensures { IsTrue result ↔ IsFirstDue (timers_at self.now.timers timer.wheel) timer (milliseconds.down self.now.settings (look_of (looks_in self.now.looks) by)) }
+        ensures { IsTrue result ↔ IsFirstDue (timers_at self.now.timers timer.wheel) timer (milliseconds.down self.now.settings (last_look self.now by)) }
     {
         let now = down(&self.settings, self.looks.of(by));
         self.timers.is_first(timer, now)
@@ -199,7 +201,8 @@ impl Judge {
     /// Whether a timer is the first of its scheduler's expired ones, and goes to the process with whose
     /// mailbox the entry is made.
     fn can_deliver(&self, with: Option<Actor>, timer: TimerRef) -> bool
-        ensures { IsTrue result ↔ ((first : IsFirst (sched_at self.now.schedulers timer.wheel).fired timer) × (with ≡ Some (MailOf first.row.dest))) }
+        ensures { IsTrue result
+            ↔ ((first : IsFirst (sched_at self.now.schedulers timer.wheel).fired timer) × (with ≡ Some (MailOf first.row.dest))) }
     {
         match self.schedulers.first_fired(timer.wheel) {
             Some(row) if row.timer == timer => with == Some(Actor::MailOf(row.dest)),
@@ -209,7 +212,8 @@ impl Judge {
 
     /// Whether a timer is the first of its scheduler's expired ones, and its destination has exited.
     fn can_drop(&self, timer: TimerRef) -> bool
-        ensures { IsTrue result ↔ ((first : IsFirst (sched_at self.now.schedulers timer.wheel).fired timer) × (exited_at self.now.exits first.row.dest ≡ true)) }
+        ensures { IsTrue result
+            ↔ ((first : IsFirst (sched_at self.now.schedulers timer.wheel).fired timer) × (exited_at self.now.exits first.row.dest ≡ true)) }
     {
         match self.schedulers.first_fired(timer.wheel) {
             Some(row) if row.timer == timer => self.exits.has_exited(row.dest),
@@ -263,7 +267,7 @@ impl Judge {
 
     /// The deadline that the timer which an entry arms was started for.
     fn deadline(&self, entry: &Entry) -> Option<u64>
-        ensures { result ≡ deadline_by self.now.settings (look_of (looks_in self.now.looks) entry.now.by) entry.now.event }
+        ensures { result ≡ deadline_by self.now.settings (last_look self.now entry.now.by) entry.now.event }
     {
         match entry.event {
             Event::Arm { start, .. } => {

@@ -26,12 +26,11 @@ impl<L: DeskName> Model for LockedInbox<L> {
 }
 
 impl<L: DeskName> LockedInbox<L> {
-    ghost use Rattle.std.specs.Prelude.{◌≡◌, ◌<◌, [], ◌∷◌, None};
+    ghost use Rattle.std.specs.Prelude.{◌≡◌, ◌<◌, None};
     ghost use Rattle.ert_answers.specs.RequestCalls.{Asks, Picks};
-    ghost use Rattle.ert_answers.specs.Ways.{Grows, beside};
     ghost use Rattle.ert_defs.specs.declared.entry.Actor.TheVariants.{Inbox, Sched, Caller};
     ghost use Rattle.ert_locks.specs.Names.{IsDesk, IsInbox};
-    ghost use Rattle.ert_table.specs.Desks.{front_of};
+    ghost use Rattle.ert_locks.specs.Passes.{StepsWith};
 
     /// The inbox with the pass that has it alone, for whose front it stands.
     pub fn new(part: InboxPart, pass: Pass) -> LockedInbox<L>
@@ -74,7 +73,8 @@ impl<L: DeskName> LockedInbox<L> {
         requires in_range { request.reply_to < L.settings.processes }
         ensures same { self.new ≡ self.old }
         ensures number { result.0.number ≡ seat.number }
-        ensures call { Grows (beside L.settings (Caller seat.number) (Inbox self.old ∷ []) (Asks L.settings seat.number self.old request result.1)) (front_of seat.pass) (front_of result.0.pass) }
+        ensures call { StepsWith L.settings (Caller seat.number) (Inbox self.old)
+            (Asks L.settings seat.number self.old request result.1) seat.pass result.0.pass }
     {
         let by = seat.number;
         self.pass.join(desk, seat.pass);
@@ -91,7 +91,8 @@ impl<L: DeskName> LockedInbox<L> {
         ensures same { self.new ≡ self.old }
         ensures number { result.0.part.wheel ≡ seat.part.wheel }
         ensures hand { result.0.part.hand ≡ result.1 }
-        ensures call { Grows (beside L.settings (Sched seat.part.wheel) (Inbox seat.part.wheel ∷ []) (Picks L.settings seat.part.wheel result.1)) (front_of seat.pass) (front_of result.0.pass) }
+        ensures call { StepsWith L.settings (Sched seat.part.wheel) (Inbox seat.part.wheel)
+            (Picks L.settings seat.part.wheel result.1) seat.pass result.0.pass }
     {
         let SchedSeat { mut part, pass, .. } = seat;
         let wheel = part.wheel;

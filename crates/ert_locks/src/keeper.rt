@@ -26,12 +26,11 @@ impl<L: DeskName> Model for LockedKeeper<L> {
 }
 
 impl<L: DeskName> LockedKeeper<L> {
-    ghost use Rattle.std.specs.Prelude.{◌≡◌, [], ◌∷◌};
+    ghost use Rattle.std.specs.Prelude.{◌≡◌};
     ghost use Rattle.ert_answers.specs.ClockCalls.{Ticks, Finalizes};
-    ghost use Rattle.ert_answers.specs.Ways.{Grows, beside};
     ghost use Rattle.ert_defs.specs.declared.entry.Actor.TheVariants.{Keeper, Caller};
     ghost use Rattle.ert_locks.specs.Names.{IsDesk, IsKeeper};
-    ghost use Rattle.ert_table.specs.Desks.{front_of};
+    ghost use Rattle.ert_locks.specs.Passes.{StepsWith};
 
     /// The clock's part with the pass that has its actor alone, for whose front it stands.
     pub fn new(part: KeeperPart, pass: Pass) -> LockedKeeper<L>
@@ -64,7 +63,7 @@ impl<L: DeskName> LockedKeeper<L> {
     ) -> (CallerSeat<L>, Result<Moved, ClockErr>)
         requires desk { IsDesk L.table L.settings desk.now }
         ensures number { result.0.number ≡ seat.number }
-        ensures call { Grows (beside L.settings (Caller seat.number) (Keeper ∷ []) (Ticks L.settings seat.number reading force result.1)) (front_of seat.pass) (front_of result.0.pass) }
+        ensures call { StepsWith L.settings (Caller seat.number) Keeper (Ticks L.settings seat.number reading force result.1) seat.pass result.0.pass }
     {
         let by = seat.number;
         self.pass.join(desk, seat.pass);
@@ -85,7 +84,7 @@ impl<L: DeskName> LockedKeeper<L> {
     ) -> (CallerSeat<L>, Result<(OffsetState, Moved), ClockErr>)
         requires desk { IsDesk L.table L.settings desk.now }
         ensures number { result.0.number ≡ seat.number }
-        ensures call { Grows (beside L.settings (Caller seat.number) (Keeper ∷ []) (Finalizes L.settings seat.number reading result.1)) (front_of seat.pass) (front_of result.0.pass) }
+        ensures call { StepsWith L.settings (Caller seat.number) Keeper (Finalizes L.settings seat.number reading result.1) seat.pass result.0.pass }
     {
         let by = seat.number;
         self.pass.join(desk, seat.pass);

@@ -9,7 +9,8 @@
 //! front of that pass, and the actor has the part's number. A call is lent the value. It joins the seat's
 //! pass to the value's, makes its steps, and divides them again. So its entries stand whole in the history:
 //! from the place at which it has the lock on, no entry of the seat's actor or of the part comes between
-//! them, and they are allowed in the state at that place (`ert_answers`, `specs/Ways`, `beside`).
+//! them, and they are allowed in the state at that place (`specs/Passes`, `StepsWith`; in `ert_answers`
+//! `specs/Ways`, `beside`).
 //!
 //! **Names.** What is behind a lock is known by its type alone. So seats and locked values carry the name of
 //! one desk (`DeskName`): its identity and its settings.

@@ -28,12 +28,11 @@ impl<L: DeskName> Model for LockedMail<L> {
 }
 
 impl<L: DeskName> LockedMail<L> {
-    ghost use Rattle.std.specs.Prelude.{◌≡◌, [], ◌∷◌};
+    ghost use Rattle.std.specs.Prelude.{◌≡◌};
     ghost use Rattle.ert_answers.specs.MailCalls.{Takes, Monitors, Demonitors, Tells};
-    ghost use Rattle.ert_answers.specs.Ways.{Grows, beside};
     ghost use Rattle.ert_defs.specs.declared.entry.Actor.TheVariants.{MailOf, Caller};
     ghost use Rattle.ert_locks.specs.Names.{IsDesk, IsMail};
-    ghost use Rattle.ert_table.specs.Desks.{front_of};
+    ghost use Rattle.ert_locks.specs.Passes.{StepsWith};
 
     /// The mailbox with the pass that has it alone, for whose front it stands.
     pub fn new(part: MailPart, pass: Pass) -> LockedMail<L>
@@ -69,7 +68,7 @@ impl<L: DeskName> LockedMail<L> {
         requires desk { IsDesk L.table L.settings desk.now }
         ensures same { self.new ≡ self.old }
         ensures number { result.0.number ≡ seat.number }
-        ensures call { Grows (beside L.settings (Caller seat.number) (MailOf self.old ∷ []) (Takes L.settings seat.number self.old result.1)) (front_of seat.pass) (front_of result.0.pass) }
+        ensures call { StepsWith L.settings (Caller seat.number) (MailOf self.old) (Takes L.settings seat.number self.old result.1) seat.pass result.0.pass }
     {
         let by = seat.number;
         self.pass.join(desk, seat.pass);
@@ -91,7 +90,7 @@ impl<L: DeskName> LockedMail<L> {
         requires desk { IsDesk L.table L.settings desk.now }
         ensures same { self.new ≡ self.old }
         ensures number { result.0.number ≡ seat.number }
-        ensures call { Grows (beside L.settings (Caller seat.number) (MailOf self.old ∷ []) (Monitors L.settings seat.number self.old result.1)) (front_of seat.pass) (front_of result.0.pass) }
+        ensures call { StepsWith L.settings (Caller seat.number) (MailOf self.old) (Monitors L.settings seat.number self.old result.1) seat.pass result.0.pass }
     {
         let by = seat.number;
         self.pass.join(desk, seat.pass);
@@ -110,7 +109,8 @@ impl<L: DeskName> LockedMail<L> {
         requires desk { IsDesk L.table L.settings desk.now }
         ensures same { self.new ≡ self.old }
         ensures number { result.0.number ≡ seat.number }
-        ensures call { Grows (beside L.settings (Caller seat.number) (MailOf self.old ∷ []) (Demonitors L.settings seat.number self.old monitor result.1)) (front_of seat.pass) (front_of result.0.pass) }
+        ensures call { StepsWith L.settings (Caller seat.number) (MailOf self.old)
+            (Demonitors L.settings seat.number self.old monitor result.1) seat.pass result.0.pass }
     {
         let by = seat.number;
         self.pass.join(desk, seat.pass);
@@ -131,7 +131,7 @@ impl<L: DeskName> LockedMail<L> {
         requires desk { IsDesk L.table L.settings desk.now }
         ensures same { self.new ≡ self.old }
         ensures number { result.0.number ≡ seat.number }
-        ensures call { Grows (beside L.settings (Caller seat.number) (MailOf self.old ∷ []) (Tells L.settings seat.number self.old result.1)) (front_of seat.pass) (front_of result.0.pass) }
+        ensures call { StepsWith L.settings (Caller seat.number) (MailOf self.old) (Tells L.settings seat.number self.old result.1) seat.pass result.0.pass }
     {
         let by = seat.number;
         self.pass.join(desk, seat.pass);

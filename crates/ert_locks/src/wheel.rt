@@ -30,14 +30,15 @@ impl<L: DeskName> Model for LockedWheel<L> {
 }
 
 impl<L: DeskName> LockedWheel<L> {
-    ghost use Rattle.std.specs.Prelude.{◌≡◌, ◌≢◌, ◌<◌, true, [], ◌∷◌, Err};
+    ghost use Rattle.std.specs.Prelude.{◌≡◌, ◌≢◌, ◌<◌, true, Err};
     ghost use Rattle.ert_answers.specs.Chains.{AdvancesWheel, SweepsWheel};
     ghost use Rattle.ert_answers.specs.TimerCalls.{Starts};
-    ghost use Rattle.ert_answers.specs.Ways.{Grows, beside};
+    ghost use Rattle.ert_answers.specs.Ways.{beside};
     ghost use Rattle.ert_answers.specs.declared.answers.StartErr.TheVariants.{NoMemory as WantOfMemory};
     ghost use Rattle.ert_defs.specs.States.{state};
     ghost use Rattle.ert_defs.specs.declared.entry.Actor.TheVariants.{Wheel, Sched, Caller};
     ghost use Rattle.ert_locks.specs.Names.{IsDesk, IsWheel};
+    ghost use Rattle.ert_locks.specs.Passes.{FrontGrows, StepsWith};
     ghost use Rattle.ert_table.specs.Desks.{front_of};
 
     /// The wheel with the pass that has it alone, for whose front it stands.
@@ -84,7 +85,8 @@ impl<L: DeskName> LockedWheel<L> {
         ensures same { self.new ≡ self.old }
         ensures number { result.0.number ≡ seat.number }
         ensures memory { result.1 ≢ Err WantOfMemory }
-        ensures call { Grows (beside L.settings (Caller seat.number) (Wheel self.old ∷ []) (Starts L.settings seat.number self.old start.now result.1)) (front_of seat.pass) (front_of result.0.pass) }
+        ensures call { StepsWith L.settings (Caller seat.number) (Wheel self.old)
+            (Starts L.settings seat.number self.old start.now result.1) seat.pass result.0.pass }
     {
         let by = seat.number;
         self.pass.join(desk, seat.pass);
@@ -100,7 +102,7 @@ impl<L: DeskName> LockedWheel<L> {
         requires exited { (state L.settings (front_of seat.pass)).exited process ≡ true }
         ensures same { self.new ≡ self.old }
         ensures number { result.number ≡ seat.number }
-        ensures call { Grows (SweepsWheel L.settings (beside L.settings (Caller seat.number)) seat.number process self.old) (front_of seat.pass) (front_of result.pass) }
+        ensures call { FrontGrows (SweepsWheel L.settings (beside L.settings (Caller seat.number)) seat.number process self.old) seat.pass result.pass }
     {
         let by = seat.number;
         self.pass.join(desk, seat.pass);
@@ -122,7 +124,7 @@ impl<L: DeskName> LockedWheel<L> {
         requires own { self.old ≡ seat.part.wheel }
         ensures same { self.new ≡ self.old }
         ensures number { result.0.part.wheel ≡ seat.part.wheel }
-        ensures call { Grows (AdvancesWheel L.settings (beside L.settings (Sched seat.part.wheel)) seat.part.wheel result.1) (front_of seat.pass) (front_of result.0.pass) }
+        ensures call { FrontGrows (AdvancesWheel L.settings (beside L.settings (Sched seat.part.wheel)) seat.part.wheel result.1) seat.pass result.0.pass }
     {
         let SchedSeat { mut part, pass, .. } = seat;
         let wheel = part.wheel;

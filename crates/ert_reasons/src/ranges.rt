@@ -2,7 +2,8 @@
 //! number isn't below their count.
 
 ghost use Rattle.std.specs.Prelude.{◌≡◌, ◌↔◌, ◌≤◌, IsTrue, IfSome, Some, None};
-ghost use Rattle.ert_reasons.specs.Ranges.{maker_of, partner_of, reads_with, wheel_of, slot_of, process_of, count_of, IsMadeBy, IsMadeWith, Names, NamesTooHigh};
+ghost use Rattle.ert_reasons.specs.Ranges.{maker_of, partner_of, reads_with, wheel_of, slot_of, process_of, count_of};
+ghost use Rattle.ert_reasons.specs.Ranges.{IsMadeBy, IsMadeWith, Names, NamesTooHigh};
 ghost use Rattle.ert_reasons.specs.Reasons.{IsOutOfRange};
 
 use crate::reasons::{Counted, Maker, Partner, Reason};

@@ -3,9 +3,9 @@
 ghost use Rattle.std.specs.Prelude.{◌≡◌, ◌↔◌, ◌≤◌, ◌<ℤ◌, ℕ, pos, IsTrue, IfSome, Some, None};
 ghost use Rattle.ert_defs.specs.Clocks.{Clock};
 ghost use Rattle.ert_defs.specs.Milliseconds as milliseconds;
-ghost use Rattle.ert_judge.specs.Shown.{shown, OwnTimers};
+ghost use Rattle.ert_judge.specs.Shown.{shown, last_look, OwnTimers};
 ghost use Rattle.ert_reasons.specs.Breaks.{ArmBreaks, UseBreaks, ProbeBreaks, LeftBreaks, ExpireBreaks, OrphanBreaks, AdvancedBreaks, MarkBreaks, IsArmedTill};
-ghost use Rattle.ert_state.specs.Parts.{look_of, looks_in, status_at};
+ghost use Rattle.ert_state.specs.Parts.{status_at};
 ghost use Rattle.ert_defs.specs.Timers.{turned};
 ghost use Rattle.ert_state.specs.Uses.{uses_of};
 ghost use Rattle.ert_state.specs.Wheels.{timers_at, IsFirstDue};
@@ -136,7 +136,7 @@ pub fn of_expire(judge: &Judge, by: Actor, timer: TimerRef) -> Option<Reason>
 fn of_not_next(judge: &Judge, by: Actor, timer: TimerRef) -> Reason
     requires armed { status_at judge.now.timers timer ≡ Some Status.Armed }
     requires never { IsFirstDue (timers_at judge.now.timers timer.wheel) timer
-        (milliseconds.down judge.now.settings (look_of (looks_in judge.now.looks) by)) → ⊥ }
+        (milliseconds.down judge.now.settings (last_look judge.now by)) → ⊥ }
     ensures { (c : Clock) → OwnTimers judge.now → ExpireBreaks judge.now.settings (shown c judge.now) by timer result }
 {
     let Some(row) = judge.timers.row(timer) else {

@@ -7,13 +7,13 @@ use ert_locks::{CallerSeat, DeskName};
 use std::sync::Wait;
 
 impl<L: DeskName> Service<L> {
-    ghost use Rattle.std.specs.Prelude.{◌≡◌, ◌≢◌, ◌<◌, [], ◌∷◌, Err, IfOk};
+    ghost use Rattle.std.specs.Prelude.{◌≡◌, ◌≢◌, ◌<◌, Err, IfOk};
     ghost use Rattle.ert_answers.specs.ClockCalls.{Ticks, Finalizes};
     ghost use Rattle.ert_answers.specs.TimerCalls.{Starts};
-    ghost use Rattle.ert_answers.specs.Ways.{Grows, beside};
     ghost use Rattle.ert_answers.specs.declared.answers.StartErr.TheVariants.{NoMemory as WantOfMemory};
     ghost use Rattle.ert_defs.specs.States.{state};
     ghost use Rattle.ert_defs.specs.declared.entry.Actor.TheVariants.{Keeper, Wheel, Caller};
+    ghost use Rattle.ert_locks.specs.Passes.{StepsWith};
     ghost use Rattle.ert_shared.specs.Fronts.{HasExited, IsLegal};
     ghost use Rattle.ert_shared.specs.Settled.{IsSettled};
     ghost use Rattle.ert_table.specs.Desks.{front_of};
@@ -29,7 +29,7 @@ impl<L: DeskName> Service<L> {
         force: bool,
     ) -> (CallerSeat<L>, Result<Moved, ClockErr>)
         ensures number { result.0.number ≡ seat.number }
-        ensures call { Grows (beside L.settings (Caller seat.number) (Keeper ∷ []) (Ticks L.settings seat.number reading force result.1)) (front_of seat.pass) (front_of result.0.pass) }
+        ensures call { StepsWith L.settings (Caller seat.number) Keeper (Ticks L.settings seat.number reading force result.1) seat.pass result.0.pass }
         ensures legal { IsLegal L.settings (front_of result.0.pass) }
     {
         self.keeper.lock(rt).tick(&self.desk, seat, reading, force)
@@ -46,7 +46,7 @@ impl<L: DeskName> Service<L> {
         reading: Reading,
     ) -> (CallerSeat<L>, Result<(OffsetState, Moved), ClockErr>)
         ensures number { result.0.number ≡ seat.number }
-        ensures call { Grows (beside L.settings (Caller seat.number) (Keeper ∷ []) (Finalizes L.settings seat.number reading result.1)) (front_of seat.pass) (front_of result.0.pass) }
+        ensures call { StepsWith L.settings (Caller seat.number) Keeper (Finalizes L.settings seat.number reading result.1) seat.pass result.0.pass }
         ensures legal { IsLegal L.settings (front_of result.0.pass) }
     {
         self.keeper.lock(rt).finalize(&self.desk, seat, reading)
@@ -68,8 +68,10 @@ impl<L: DeskName> Service<L> {
         requires dest { start.now.dest < L.settings.processes }
         ensures number { result.0.number ≡ seat.number }
         ensures memory { result.1 ≢ Err WantOfMemory }
-        ensures settled { HasExited L.settings (front_of seat.pass) start.now.dest → IfOk result.1 (λ timer. IsSettled (state L.settings (front_of result.0.pass)) timer) }
-        ensures call { Grows (beside L.settings (Caller seat.number) (Wheel wheel ∷ []) (Starts L.settings seat.number wheel start.now result.1)) (front_of seat.pass) (front_of result.0.pass) }
+        ensures settled { HasExited L.settings (front_of seat.pass) start.now.dest
+            → IfOk result.1 (λ timer. IsSettled (state L.settings (front_of result.0.pass)) timer) }
+        ensures call { StepsWith L.settings (Caller seat.number) (Wheel wheel)
+            (Starts L.settings seat.number wheel start.now result.1) seat.pass result.0.pass }
         ensures legal { IsLegal L.settings (front_of result.0.pass) }
     {
         for _ in rt.forever() {

@@ -8,10 +8,11 @@ use std::sync::Wait;
 impl<L: DeskName> Service<L> {
     ghost use Rattle.std.specs.Prelude.{◌≡◌, ◌<◌, ℕ, [], true};
     ghost use Rattle.ert_answers.specs.Chains.{Exits, SweepsWheel, SweepsWheels};
-    ghost use Rattle.ert_answers.specs.Ways.{Grows, beside};
+    ghost use Rattle.ert_answers.specs.Ways.{beside};
     ghost use Rattle.ert_answers.specs.WheelCalls.{MarksExit};
     ghost use Rattle.ert_defs.specs.States.{state};
     ghost use Rattle.ert_defs.specs.declared.entry.Actor.TheVariants.{Caller};
+    ghost use Rattle.ert_locks.specs.Passes.{FrontGrows};
     ghost use Rattle.ert_shared.specs.Fronts.{HasExited, IsLegal};
     ghost use Rattle.ert_shared.specs.Settled.{NoneFor};
     ghost use Rattle.ert_table.specs.Desks.{front_of};
@@ -21,8 +22,9 @@ impl<L: DeskName> Service<L> {
     pub fn exit<R: Wait>(&self, rt: &R, seat: CallerSeat<L>, process: u32) -> (CallerSeat<L>, bool)
         requires { process < L.settings.processes }
         ensures number { result.0.number ≡ seat.number }
-        ensures swept { result.1 ≡ true → (wheel : ℕ) → wheel < L.settings.schedulers → NoneFor (state L.settings (front_of seat.pass)) (state L.settings (front_of result.0.pass)) wheel process }
-        ensures call { Grows (Exits L.settings (beside L.settings (Caller seat.number)) seat.number process result.1) (front_of seat.pass) (front_of result.0.pass) }
+        ensures swept { result.1 ≡ true → (wheel : ℕ) → wheel < L.settings.schedulers
+            → NoneFor (state L.settings (front_of seat.pass)) (state L.settings (front_of result.0.pass)) wheel process }
+        ensures call { FrontGrows (Exits L.settings (beside L.settings (Caller seat.number)) seat.number process result.1) seat.pass result.0.pass }
         ensures legal { IsLegal L.settings (front_of result.0.pass) }
     {
         let (seat, new) = self.mark(seat, process);
@@ -37,7 +39,8 @@ impl<L: DeskName> Service<L> {
         requires { process < L.settings.processes }
         ensures number { result.0.number ≡ seat.number }
         ensures exited { HasExited L.settings (front_of result.0.pass) process }
-        ensures call { Grows (beside L.settings (Caller seat.number) [] (MarksExit L.settings (Caller seat.number) process result.1)) (front_of seat.pass) (front_of result.0.pass) }
+        ensures call { FrontGrows (beside L.settings (Caller seat.number) [] (MarksExit L.settings (Caller seat.number) process result.1))
+            seat.pass result.0.pass }
     {
         let CallerSeat {
             number,
@@ -53,7 +56,8 @@ impl<L: DeskName> Service<L> {
         requires in_range { process < L.settings.processes }
         requires exited { HasExited L.settings (front_of seat.pass) process }
         ensures number { result.number ≡ seat.number }
-        ensures call { Grows (SweepsWheels L.settings (beside L.settings (Caller seat.number)) seat.number process 0 L.settings.schedulers) (front_of seat.pass) (front_of result.pass) }
+        ensures call { FrontGrows (SweepsWheels L.settings (beside L.settings (Caller seat.number)) seat.number process 0 L.settings.schedulers)
+            seat.pass result.pass }
     {
         let mut next = seat;
         for wheel in 0..self.desk.settings().schedulers {
@@ -68,7 +72,7 @@ impl<L: DeskName> Service<L> {
         requires in_range { process < L.settings.processes }
         requires exited { HasExited L.settings (front_of seat.pass) process }
         ensures number { result.number ≡ seat.number }
-        ensures call { Grows (SweepsWheel L.settings (beside L.settings (Caller seat.number)) seat.number process wheel) (front_of seat.pass) (front_of result.pass) }
+        ensures call { FrontGrows (SweepsWheel L.settings (beside L.settings (Caller seat.number)) seat.number process wheel) seat.pass result.pass }
     {
         for _ in rt.forever() {
             let mut locked = self.wheels[wheel as usize].lock(rt);

@@ -6,11 +6,11 @@ use ert_mail::{MonitorErr, Taken};
 use std::sync::Wait;
 
 impl<L: DeskName> Service<L> {
-    ghost use Rattle.std.specs.Prelude.{◌≡◌, ◌<◌, [], ◌∷◌};
+    ghost use Rattle.std.specs.Prelude.{◌≡◌, ◌<◌};
     ghost use Rattle.ert_answers.specs.MailCalls.{Takes, Monitors, Demonitors, Tells};
     ghost use Rattle.ert_answers.specs.RequestCalls.{Asks, inbox_for};
-    ghost use Rattle.ert_answers.specs.Ways.{Grows, beside};
     ghost use Rattle.ert_defs.specs.declared.entry.Actor.TheVariants.{Inbox, MailOf, Caller};
+    ghost use Rattle.ert_locks.specs.Passes.{StepsWith};
     ghost use Rattle.ert_shared.specs.Fronts.{IsLegal};
     ghost use Rattle.ert_table.specs.Desks.{front_of};
 
@@ -26,7 +26,8 @@ impl<L: DeskName> Service<L> {
     ) -> (CallerSeat<L>, Result<(), NoMemory>)
         requires { request.reply_to < L.settings.processes }
         ensures number { result.0.number ≡ seat.number }
-        ensures call { Grows (beside L.settings (Caller seat.number) (Inbox (inbox_for L.settings request) ∷ []) (Asks L.settings seat.number (inbox_for L.settings request) request result.1)) (front_of seat.pass) (front_of result.0.pass) }
+        ensures call { StepsWith L.settings (Caller seat.number) (Inbox (inbox_for L.settings request))
+            (Asks L.settings seat.number (inbox_for L.settings request) request result.1) seat.pass result.0.pass }
         ensures legal { IsLegal L.settings (front_of result.0.pass) }
     {
         let wheel = self.inbox_for(&request);
@@ -57,7 +58,7 @@ impl<L: DeskName> Service<L> {
     pub fn take<R: Wait>(&self, rt: &R, seat: CallerSeat<L>, process: u32) -> (CallerSeat<L>, Taken)
         requires { process < L.settings.processes }
         ensures number { result.0.number ≡ seat.number }
-        ensures call { Grows (beside L.settings (Caller seat.number) (MailOf process ∷ []) (Takes L.settings seat.number process result.1)) (front_of seat.pass) (front_of result.0.pass) }
+        ensures call { StepsWith L.settings (Caller seat.number) (MailOf process) (Takes L.settings seat.number process result.1) seat.pass result.0.pass }
         ensures legal { IsLegal L.settings (front_of result.0.pass) }
     {
         for _ in rt.forever() {
@@ -82,7 +83,7 @@ impl<L: DeskName> Service<L> {
     ) -> (CallerSeat<L>, Result<u32, MonitorErr>)
         requires { process < L.settings.processes }
         ensures number { result.0.number ≡ seat.number }
-        ensures call { Grows (beside L.settings (Caller seat.number) (MailOf process ∷ []) (Monitors L.settings seat.number process result.1)) (front_of seat.pass) (front_of result.0.pass) }
+        ensures call { StepsWith L.settings (Caller seat.number) (MailOf process) (Monitors L.settings seat.number process result.1) seat.pass result.0.pass }
         ensures legal { IsLegal L.settings (front_of result.0.pass) }
     {
         for _ in rt.forever() {
@@ -104,7 +105,8 @@ impl<L: DeskName> Service<L> {
     ) -> (CallerSeat<L>, bool)
         requires { process < L.settings.processes }
         ensures number { result.0.number ≡ seat.number }
-        ensures call { Grows (beside L.settings (Caller seat.number) (MailOf process ∷ []) (Demonitors L.settings seat.number process monitor result.1)) (front_of seat.pass) (front_of result.0.pass) }
+        ensures call { StepsWith L.settings (Caller seat.number) (MailOf process)
+            (Demonitors L.settings seat.number process monitor result.1) seat.pass result.0.pass }
         ensures legal { IsLegal L.settings (front_of result.0.pass) }
     {
         for _ in rt.forever() {
@@ -128,7 +130,7 @@ impl<L: DeskName> Service<L> {
     ) -> (CallerSeat<L>, Result<u32, NoMemory>)
         requires { process < L.settings.processes }
         ensures number { result.0.number ≡ seat.number }
-        ensures call { Grows (beside L.settings (Caller seat.number) (MailOf process ∷ []) (Tells L.settings seat.number process result.1)) (front_of seat.pass) (front_of result.0.pass) }
+        ensures call { StepsWith L.settings (Caller seat.number) (MailOf process) (Tells L.settings seat.number process result.1) seat.pass result.0.pass }
         ensures legal { IsLegal L.settings (front_of result.0.pass) }
     {
         for _ in rt.forever() {

@@ -9,13 +9,14 @@ use ert_mail::Handed;
 use std::sync::Wait;
 
 impl<L: DeskName> Service<L> {
-    ghost use Rattle.std.specs.Prelude.{◌≡◌, ◌<◌, [], ◌∷◌, Some, None, IfOk, OnOk};
+    ghost use Rattle.std.specs.Prelude.{◌≡◌, ◌<◌, Some, None, IfOk, OnOk};
     ghost use Rattle.ert_answers.specs.Chains.{Holds, AdvancesWheel, Hands};
     ghost use Rattle.ert_answers.specs.RequestCalls.{Picks, Answers};
-    ghost use Rattle.ert_answers.specs.Ways.{Grows, beside};
+    ghost use Rattle.ert_answers.specs.Ways.{beside};
     ghost use Rattle.ert_defs.specs.Mails.{first_of, others_of};
     ghost use Rattle.ert_defs.specs.States.{state};
     ghost use Rattle.ert_defs.specs.declared.entry.Actor.TheVariants.{Inbox, Sched, MailOf};
+    ghost use Rattle.ert_locks.specs.Passes.{FrontGrows, StepsWith};
     ghost use Rattle.ert_shared.specs.Fronts.{IsLegal};
     ghost use Rattle.ert_shared.specs.Settled.{NoneDue};
     ghost use Rattle.ert_table.specs.Desks.{front_of};
@@ -28,7 +29,7 @@ impl<L: DeskName> Service<L> {
     ) -> (SchedSeat<L>, Option<Request>)
         ensures number { result.0.part.wheel ≡ seat.part.wheel }
         ensures hand { result.0.part.hand ≡ result.1 }
-        ensures call { Grows (Holds L.settings (beside L.settings (Sched seat.part.wheel)) seat.part.wheel result.1) (front_of seat.pass) (front_of result.0.pass) }
+        ensures call { FrontGrows (Holds L.settings (beside L.settings (Sched seat.part.wheel)) seat.part.wheel result.1) seat.pass result.0.pass }
     {
         match seat.part.hand {
             Some(request) => (seat, Some(request)),
@@ -41,7 +42,8 @@ impl<L: DeskName> Service<L> {
         requires empty { seat.part.hand ≡ None }
         ensures number { result.0.part.wheel ≡ seat.part.wheel }
         ensures hand { result.0.part.hand ≡ result.1 }
-        ensures call { Grows (beside L.settings (Sched seat.part.wheel) (Inbox seat.part.wheel ∷ []) (Picks L.settings seat.part.wheel result.1)) (front_of seat.pass) (front_of result.0.pass) }
+        ensures call { StepsWith L.settings (Sched seat.part.wheel) (Inbox seat.part.wheel)
+            (Picks L.settings seat.part.wheel result.1) seat.pass result.0.pass }
     {
         let wheel = seat.part.wheel;
         for _ in rt.forever() {
@@ -62,7 +64,8 @@ impl<L: DeskName> Service<L> {
     ) -> (SchedSeat<L>, Result<Option<u64>, NoMemory>)
         requires hand { seat.part.hand ≡ Some request.now }
         ensures number { result.0.part.wheel ≡ seat.part.wheel }
-        ensures call { Grows (beside L.settings (Sched seat.part.wheel) (MailOf request.now.reply_to ∷ []) (Answers L.settings seat.part.wheel request.now result.1)) (front_of seat.pass) (front_of result.0.pass) }
+        ensures call { StepsWith L.settings (Sched seat.part.wheel) (MailOf request.now.reply_to)
+            (Answers L.settings seat.part.wheel request.now result.1) seat.pass result.0.pass }
     {
         let process = asker_of(&seat, request);
         for _ in rt.forever() {
@@ -86,7 +89,7 @@ impl<L: DeskName> Service<L> {
     ) -> (SchedSeat<L>, Result<(u64, u32), NoMemory>)
         ensures number { result.0.part.wheel ≡ seat.part.wheel }
         ensures due { IfOk result.1 (λ answer. NoneDue (state L.settings (front_of result.0.pass)) seat.part.wheel answer.0) }
-        ensures call { Grows (AdvancesWheel L.settings (beside L.settings (Sched seat.part.wheel)) seat.part.wheel result.1) (front_of seat.pass) (front_of result.0.pass) }
+        ensures call { FrontGrows (AdvancesWheel L.settings (beside L.settings (Sched seat.part.wheel)) seat.part.wheel result.1) seat.pass result.0.pass }
         ensures legal { IsLegal L.settings (front_of result.0.pass) }
     {
         let wheel = seat.part.wheel;
@@ -109,7 +112,7 @@ impl<L: DeskName> Service<L> {
         requires first { first_of seat.part.fired.rows ≡ Some fired.now }
         ensures number { result.0.part.wheel ≡ seat.part.wheel }
         ensures fired { OnOk result.1 (result.0.part.fired.rows ≡ others_of seat.part.fired.rows) }
-        ensures call { Grows (Hands L.settings (beside L.settings (Sched seat.part.wheel)) seat.part.wheel result.1) (front_of seat.pass) (front_of result.0.pass) }
+        ensures call { FrontGrows (Hands L.settings (beside L.settings (Sched seat.part.wheel)) seat.part.wheel result.1) seat.pass result.0.pass }
     {
         let process = destination_of(&seat, fired);
         for _ in rt.forever() {

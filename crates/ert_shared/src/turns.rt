@@ -12,9 +12,10 @@ const SERVED_A_TURN: u32 = 64;
 impl<L: DeskName> Service<L> {
     ghost use Rattle.std.specs.Prelude.{◌≡◌, OnOk};
     ghost use Rattle.ert_answers.specs.Chains.{Serves, ServesAll, Delivers, Turns};
-    ghost use Rattle.ert_answers.specs.Ways.{Grows, beside};
+    ghost use Rattle.ert_answers.specs.Ways.{beside};
     ghost use Rattle.ert_defs.specs.States.{state};
     ghost use Rattle.ert_defs.specs.declared.entry.Actor.TheVariants.{Sched};
+    ghost use Rattle.ert_locks.specs.Passes.{FrontGrows};
     ghost use Rattle.ert_shared.specs.Fronts.{IsLegal};
     ghost use Rattle.ert_shared.specs.Settled.{NoneWaits};
     ghost use Rattle.ert_table.specs.Desks.{front_of};
@@ -29,7 +30,7 @@ impl<L: DeskName> Service<L> {
         seat: SchedSeat<L>,
     ) -> (SchedSeat<L>, Result<bool, NoMemory>)
         ensures number { result.0.part.wheel ≡ seat.part.wheel }
-        ensures call { Grows (Serves L.settings (beside L.settings (Sched seat.part.wheel)) seat.part.wheel result.1) (front_of seat.pass) (front_of result.0.pass) }
+        ensures call { FrontGrows (Serves L.settings (beside L.settings (Sched seat.part.wheel)) seat.part.wheel result.1) seat.pass result.0.pass }
         ensures legal { IsLegal L.settings (front_of result.0.pass) }
     {
         let (seat, request) = self.hold(rt, seat);
@@ -50,7 +51,7 @@ impl<L: DeskName> Service<L> {
         seat: SchedSeat<L>,
     ) -> (SchedSeat<L>, Result<u32, NoMemory>)
         ensures number { result.0.part.wheel ≡ seat.part.wheel }
-        ensures call { Grows (ServesAll L.settings (beside L.settings (Sched seat.part.wheel)) seat.part.wheel result.1) (front_of seat.pass) (front_of result.0.pass) }
+        ensures call { FrontGrows (ServesAll L.settings (beside L.settings (Sched seat.part.wheel)) seat.part.wheel result.1) seat.pass result.0.pass }
     {
         let mut next = seat;
         for served in 0..SERVED_A_TURN {
@@ -76,7 +77,7 @@ impl<L: DeskName> Service<L> {
     ) -> (SchedSeat<L>, Result<(u32, u32), NoMemory>)
         ensures number { result.0.part.wheel ≡ seat.part.wheel }
         ensures none { OnOk result.1 (NoneWaits (state L.settings (front_of result.0.pass)) seat.part.wheel) }
-        ensures call { Grows (Delivers L.settings (beside L.settings (Sched seat.part.wheel)) seat.part.wheel result.1) (front_of seat.pass) (front_of result.0.pass) }
+        ensures call { FrontGrows (Delivers L.settings (beside L.settings (Sched seat.part.wheel)) seat.part.wheel result.1) seat.pass result.0.pass }
         ensures legal { IsLegal L.settings (front_of result.0.pass) }
     {
         let mut next = seat;
@@ -105,7 +106,7 @@ impl<L: DeskName> Service<L> {
     ) -> (SchedSeat<L>, Result<Turned, NoMemory>)
         ensures number { result.0.part.wheel ≡ seat.part.wheel }
         ensures none { OnOk result.1 (NoneWaits (state L.settings (front_of result.0.pass)) seat.part.wheel) }
-        ensures call { Grows (Turns L.settings (beside L.settings (Sched seat.part.wheel)) seat.part.wheel result.1) (front_of seat.pass) (front_of result.0.pass) }
+        ensures call { FrontGrows (Turns L.settings (beside L.settings (Sched seat.part.wheel)) seat.part.wheel result.1) seat.pass result.0.pass }
         ensures legal { IsLegal L.settings (front_of result.0.pass) }
     {
         let (seat, served) = self.serve_all(rt, seat);

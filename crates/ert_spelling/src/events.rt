@@ -3,7 +3,9 @@
 ghost use Rattle.std.specs.Prelude.{◌≡◌};
 ghost use Rattle.ert_spelling.specs.Cuts.{words_of};
 ghost use Rattle.ert_spelling.specs.Readers.{seen, named};
-ghost use Rattle.ert_spelling.specs.Events.{tick_at, shift_at, look_at, off_at, arm_at, probe_at, peek_at, cancel_at, expire_at, orphan_at, deliver_at, drop_at, mark_at, advanced_at, ask_at, pick_at, answer_at, take_at, unwatch_at, watch_at, tell_at, event_rows, event_at};
+ghost use Rattle.ert_spelling.specs.Events.{tick_at, shift_at, look_at, off_at, arm_at, probe_at, peek_at, cancel_at, expire_at, orphan_at};
+ghost use Rattle.ert_spelling.specs.Events.{deliver_at, drop_at, mark_at, advanced_at, ask_at, pick_at, answer_at, take_at};
+ghost use Rattle.ert_spelling.specs.Events.{unwatch_at, watch_at, tell_at, event_rows, event_at};
 
 use crate::mails::{picked, request, taken};
 use crate::numbers::{integer, natural, small};

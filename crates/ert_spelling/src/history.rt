@@ -1,6 +1,7 @@
 ghost use Rattle.std.specs.Prelude.{◌≡◌, ◌↔◌, ℕ, [], IsTrue, IfOk, IfSome, IfNone, Err};
 ghost use Rattle.ert_defs.specs.Settings.{IsChecked};
-ghost use Rattle.ert_spelling.specs.Spelling.{Spells, IsSettingsLine, BeginsWithSettings, IsEntryLine, BeginsWithEntry, AreEntryLines, MisspelledIn, MisspelledAt};
+ghost use Rattle.ert_spelling.specs.Spelling.{Spells, IsSettingsLine, BeginsWithSettings, IsEntryLine, BeginsWithEntry};
+ghost use Rattle.ert_spelling.specs.Spelling.{AreEntryLines, MisspelledIn, MisspelledAt};
 
 use crate::cutting::cut;
 use crate::entries::entry_of;

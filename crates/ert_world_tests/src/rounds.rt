@@ -10,7 +10,9 @@ use crate::service_calls::{are_callers, are_scheds, cancel as cancel_of, start a
 use crate::world_calls::{cancel, open, start, tick};
 use crate::world_steps::{Step, go};
 use ert_answers::{StartErr, Taken};
-use ert_defs::{Kind, Mail, Mode, NoMemory, Reading, Settings, Start, TimerRef, USES_OF_ROUND, When};
+use ert_defs::{
+    Kind, Mail, Mode, NoMemory, Reading, Settings, Start, TimerRef, USES_OF_ROUND, When,
+};
 use ert_locks::{CallerSeat, DeskName};
 use ert_sched::{Parts, World};
 use ert_shared::{Opened, Service};
@@ -59,8 +61,8 @@ const fn timer(generation: u64) -> TimerRef {
     }
 }
 
-/// Tries so often to start a timer, and cancels it. Where none can be started, a millisecond goes by: how often that
-/// was is told, and the time after it, in milliseconds.
+/// Tries so often to start a timer, and cancels it. Where none can be started, a millisecond goes by. How often that
+/// was is told.
 fn use_slots(rt: &impl Abort, world: &mut World, tries: u32) -> u32
     requires { AreTidy world.old }
     ensures { AreTidy world.new }
@@ -103,9 +105,9 @@ fn one_slot_lasts(rt: HostRuntime) -> Result<(), NoMemory> {
 #[test]
 fn four_slots_last(rt: HostRuntime) -> Result<(), NoMemory> {
     let mut world = open(&rt, rt.alloc(), &FOUR_SLOTS)?;
-    let refused = use_slots(&rt, &mut world, 2_200_012);
-    same(&rt, 0, &refused, &12);
-    same(&rt, 1, &world.counts().cancelled, &2_200_000);
+    let refused = use_slots(&rt, &mut world, 1_100_006);
+    same(&rt, 0, &refused, &6);
+    same(&rt, 1, &world.counts().cancelled, &1_100_000);
     Ok(())
 }
 
@@ -113,12 +115,12 @@ fn four_slots_last(rt: HostRuntime) -> Result<(), NoMemory> {
 #[test]
 fn slots_rest_in_turn(rt: HostRuntime) -> Result<(), NoMemory> {
     let mut world = open(&rt, rt.alloc(), &FOUR_SLOTS)?;
-    for milliseconds in 0..20 {
+    for milliseconds in 0..12 {
         pass(&rt, &mut world, milliseconds);
         let refused = use_slots(&rt, &mut world, 100_000);
         same(&rt, 0, &refused, &0);
     }
-    same(&rt, 1, &world.counts().cancelled, &2_000_000);
+    same(&rt, 1, &world.counts().cancelled, &1_200_000);
     Ok(())
 }
 
@@ -151,13 +153,25 @@ fn later_rounds_have_other_timers(rt: HostRuntime) -> Result<(), NoMemory> {
         Step::Read(second, Some(0)),
         Step::Advance(0, 6, 1),
         Step::Deliver(0, 1, 0),
-        Step::Take(0, Taken::Mail(Mail::Timeout { timer: second, msg: 8 })),
+        Step::Take(
+            0,
+            Taken::Mail(Mail::Timeout {
+                timer: second,
+                msg: 8,
+            }),
+        ),
         Step::Start(0, When::At(8), 0, 9, Ok(third)),
         Step::Read(second, None),
         Step::Tick(8_000_000, 8_000_000),
         Step::Advance(0, 8, 1),
         Step::Deliver(0, 1, 0),
-        Step::Take(0, Taken::Mail(Mail::Timeout { timer: third, msg: 9 })),
+        Step::Take(
+            0,
+            Taken::Mail(Mail::Timeout {
+                timer: third,
+                msg: 9,
+            }),
+        ),
     ];
     go(&rt, &mut world, &steps);
     Ok(())
@@ -224,8 +238,8 @@ fn use_service<L: DeskName + Send + Sync, R: Threads + Wait + Abort + Sync>(
     assert!(rt; moved.is_ok());
     let ((first, one), (second, other)) = thread::join(
         rt,
-        || use_seat(rt, &service, first, 300_000),
-        || use_seat(rt, &service, second, 300_000),
+        || use_seat(rt, &service, first, 30_000),
+        || use_seat(rt, &service, second, 30_000),
     );
     for used in [one, other] {
         let timer = used.first.expect(rt, "a slot that has rested");

@@ -11,14 +11,14 @@ use ert_table::Desk;
 use ert_timers::FiredList;
 
 impl<L: DeskName> LockedMail<L> {
-    ghost use Rattle.std.specs.Prelude.{◌≡◌, [], ◌∷◌, Some, OnOk};
+    ghost use Rattle.std.specs.Prelude.{◌≡◌, Some, OnOk};
     ghost use Rattle.ert_answers.specs.Chains.{Hands};
     ghost use Rattle.ert_answers.specs.RequestCalls.{Answers};
-    ghost use Rattle.ert_answers.specs.Ways.{Grows, beside};
+    ghost use Rattle.ert_answers.specs.Ways.{beside};
     ghost use Rattle.ert_defs.specs.Mails.{first_of, others_of};
     ghost use Rattle.ert_defs.specs.declared.entry.Actor.TheVariants.{MailOf, Sched};
     ghost use Rattle.ert_locks.specs.Names.{IsDesk};
-    ghost use Rattle.ert_table.specs.Desks.{front_of};
+    ghost use Rattle.ert_locks.specs.Passes.{FrontGrows, StepsWith};
 
     /// Answers the request in the hand of a scheduler, of which this mailbox's process is to get the answer,
     /// and empties the hand. It tells the whole milliseconds that were left of the timer.
@@ -35,7 +35,8 @@ impl<L: DeskName> LockedMail<L> {
         requires hand { seat.part.hand ≡ Some request.now }
         ensures same { self.new ≡ self.old }
         ensures number { result.0.part.wheel ≡ seat.part.wheel }
-        ensures call { Grows (beside L.settings (Sched seat.part.wheel) (MailOf request.now.reply_to ∷ []) (Answers L.settings seat.part.wheel request.now result.1)) (front_of seat.pass) (front_of result.0.pass) }
+        ensures call { StepsWith L.settings (Sched seat.part.wheel) (MailOf request.now.reply_to)
+            (Answers L.settings seat.part.wheel request.now result.1) seat.pass result.0.pass }
     {
         let SchedSeat { mut part, pass, .. } = seat;
         let wheel = part.wheel;
@@ -61,7 +62,7 @@ impl<L: DeskName> LockedMail<L> {
         ensures same { self.new ≡ self.old }
         ensures number { result.0.part.wheel ≡ seat.part.wheel }
         ensures fired { OnOk result.1 (result.0.part.fired.rows ≡ others_of seat.part.fired.rows) }
-        ensures call { Grows (Hands L.settings (beside L.settings (Sched seat.part.wheel)) seat.part.wheel result.1) (front_of seat.pass) (front_of result.0.pass) }
+        ensures call { FrontGrows (Hands L.settings (beside L.settings (Sched seat.part.wheel)) seat.part.wheel result.1) seat.pass result.0.pass }
     {
         let SchedSeat { mut part, pass, .. } = seat;
         let wheel = part.wheel;
