@@ -278,6 +278,18 @@ int32_t ert_world_time_offset(ert_world *world, ert_offset *offset);
 int32_t ert_world_start(ert_world *world, uint32_t sched, const ert_start *start, ert_timer *timer);
 
 /*
+ * Tells how much room the wheel of a scheduler has.
+ *
+ * Writes how many slots can take a timer now to `room`, and to `ready` the least time at which one that rests can
+ * take a timer again, in milliseconds since the start time, as `to` of a turn: 0 where none rests. So a start that
+ * was refused by ERT_FULL can be made then, or once a timer of the wheel has been cancelled or handed over.
+ *
+ * ERT_RANGE: there is no such scheduler. ERT_CLOSED. It changes nothing, and looks at each slot of the wheel once; no
+ * memory.
+ */
+int32_t ert_world_ready(ert_world *world, uint32_t sched, uint32_t *room, uint64_t *ready);
+
+/*
  * Cancels a timer (`erlang:cancel_timer`).
  *
  * After it the timer's message never comes. Writes the milliseconds that were left to `left`: 0 where it was

@@ -160,6 +160,12 @@ unsafe extern "C" {
         start: *const ert_start,
         timer: *mut ert_timer,
     ) -> i32;
+    pub fn ert_world_ready(
+        world: *mut ert_world,
+        sched: u32,
+        room: *mut u32,
+        ready: *mut u64,
+    ) -> i32;
     pub fn ert_world_cancel(world: *mut ert_world, timer: *const ert_timer, left: *mut u64) -> i32;
     pub fn ert_world_read(world: *mut ert_world, timer: *const ert_timer, left: *mut u64) -> i32;
     pub fn ert_world_is_alive(world: *mut ert_world, process: u32, alive: *mut u32) -> i32;

@@ -220,6 +220,16 @@ impl Start {
     }
 }
 
+/// How much room the wheel of a scheduler has.
+#[derive(Clone, Copy, Debug, PartialEq, Eq)]
+pub struct Room {
+    /// How many slots can take a timer now.
+    pub free: u32,
+    /// The least time at which a slot that rests can take one again, in milliseconds since the start time; None
+    /// where none rests.
+    pub ready: Option<u64>,
+}
+
 /// A message.
 #[derive(Clone, Copy, Debug, PartialEq, Eq)]
 pub enum Mail {
@@ -356,6 +366,16 @@ impl World {
         let mut timer = Timer::default();
         done(unsafe { ffi::ert_world_start(&mut *self.handle, sched, &start.start, &mut timer) })?;
         Ok(timer)
+    }
+
+    /// How much room the wheel of a scheduler has.
+    pub fn ready(&mut self, sched: u32) -> Result<Room, Error> {
+        let (mut free, mut ready) = (0, 0);
+        done(unsafe { ffi::ert_world_ready(&mut *self.handle, sched, &mut free, &mut ready) })?;
+        Ok(Room {
+            free,
+            ready: (ready != 0).then_some(ready),
+        })
     }
 
     /// Cancels a timer, and answers the milliseconds that were left; None where it isn't armed.

@@ -4,10 +4,12 @@ use Rattle.std.specs.Prelude.{◌≡◌, ◌≢◌, ℕ, ℤ, Bool, Option, Resu
 use Rattle.ert_answers.specs.Chains.{Exits, Serves, AdvancesWheel, Delivers, Turns}
 use Rattle.ert_answers.specs.MailCalls.{Takes, Monitors, Demonitors, Tells}
 use Rattle.ert_answers.specs.RequestCalls.{Asks, inbox_for}
+use Rattle.ert_answers.specs.RoomCalls.{TellsRoom}
 use Rattle.ert_answers.specs.TimerCalls.{Reads, Cancels, Starts}
 use Rattle.ert_answers.specs.Ways.{Growth}
 use Rattle.ert_answers.specs.WheelCalls.{TellsAlive}
 use Rattle.ert_answers.specs.declared.answers.MonitorErr.{MonitorErr}
+use Rattle.ert_answers.specs.declared.answers.Room.{Room}
 use Rattle.ert_answers.specs.declared.answers.StartErr.{StartErr}
 use Rattle.ert_answers.specs.declared.answers.StartErr.TheVariants.{NoMemory}
 use Rattle.ert_answers.specs.declared.answers.Taken.{Taken}
@@ -39,6 +41,10 @@ AtProcess n call tells status kept old new = IfBelow n old.settings.processes (A
 pub record StartsBy (wheel : ℕ) (start : Start) (answer : Result TimerRef StartErr) (old new : Shared) : Type 0 where
   pub makes : Makes (λ w. By w (λ g. Starts g 0 wheel start answer)) old new
   pub memory : answer ≢ Err NoMemory
+
+-- caller 0 looks how much room the wheel of a scheduler has
+abbrev pub TellsRoomBy : ℕ → Room → Shared → Shared → Type 0
+TellsRoomBy sched answer = Makes (λ w. By w (λ g. TellsRoom g 0 sched answer))
 
 -- caller 0 cancels a timer: what was left of it, where it was armed
 abbrev pub CancelsBy : TimerRef → Option ℕ → Shared → Shared → Type 0

@@ -4,6 +4,7 @@
 use Rattle.std.specs.Prelude.{◌≡◌, ℕ, ℤ, pos, Bool, true, false, cond, nat_eq, Option, Some, None, Result, Ok, Err}
 use Rattle.ert_answers.specs.declared.answers.MonitorErr.{MonitorErr}
 use Rattle.ert_answers.specs.declared.answers.MonitorErr.TheVariants.{Full as NoPlace, NoMemory as MonitorNoMemory}
+use Rattle.ert_answers.specs.declared.answers.Room.{Room}
 use Rattle.ert_answers.specs.declared.answers.StartErr.{StartErr}
 use Rattle.ert_answers.specs.declared.answers.StartErr.TheVariants.{BadArg, Full, NoMemory}
 use Rattle.ert_answers.specs.declared.answers.Taken.{Taken}
@@ -62,6 +63,15 @@ IsStarted (Ok timer) old status new = (status ≡ OK) × (new ≡ timer_as timer
 IsStarted (Err BadArg) old status new = (status ≡ BAD_TIME) × (new ≡ old)
 IsStarted (Err Full) old status new = (status ≡ FULL) × (new ≡ old)
 IsStarted (Err NoMemory) old status new = (status ≡ NO_MEMORY) × (new ≡ old)
+
+-- when a slot that rests can be used again, for C: 0 where none rests
+abbrev pub ready_as : Option ℕ → ℕ
+ready_as None = 0
+ready_as (Some time) = time
+
+-- how much room a wheel has
+abbrev pub IsRoomTold : Room → ℤ → ℕ → ℕ → Type 0
+IsRoomTold answer status room ready = (status ≡ OK) × (room ≡ answer.free) × (ready ≡ ready_as answer.ready)
 
 -- the milliseconds that were left of a timer
 abbrev pub IsLeft : Option ℕ → ℕ → ℤ → ℕ → Type 0

@@ -1,8 +1,9 @@
 //! Timers, as C passes and is told them.
 ghost use Rattle.std.specs.Prelude.{◌≡◌};
-ghost use Rattle.ert_c.specs.Told.{timer_as, timer_of, start_of, flag, IsStarted, IsLeft, IsFlag};
+ghost use Rattle.ert_c.specs.Told.{timer_as, timer_of, start_of, flag, IsStarted, IsRoomTold, IsLeft, IsFlag};
 
 use crate::status::{BAD_TIME, FULL, NO_MEMORY, NO_TIMER, OK};
+use ert_answers::Room;
 use ert_defs::{Kind, Start, TimerRef, When};
 use ert_timers::StartErr;
 
@@ -92,6 +93,18 @@ pub(crate) fn tell_started(answer: Result<TimerRef, StartErr>, timer: &mut ErtTi
         Err(StartErr::Full) => FULL,
         Err(StartErr::NoMemory) => NO_MEMORY,
     }
+}
+
+/// Tells C how much room a wheel has.
+pub(crate) fn tell_room(answer: Room, room: &mut u32, ready: &mut u64) -> i32
+    ensures { IsRoomTold answer result room.new ready.new }
+{
+    *room = answer.free;
+    *ready = match answer.ready {
+        Some(time) => time,
+        None => 0,
+    };
+    OK
 }
 
 /// Tells C how much was left of a timer.

@@ -1,12 +1,12 @@
 //! The exported calls on timers and processes.
 ghost use Rattle.std.specs.Prelude.{◌≡◌};
-ghost use Rattle.ert_c.specs.Calls.{AtProcess, StartsBy, CancelsBy, ReadsBy, TellsAliveBy, ExitsBy};
-ghost use Rattle.ert_c.specs.Told.{timer_of, start_of, IsStarted, IsLeft, IsFlag};
+ghost use Rattle.ert_c.specs.Calls.{AtProcess, AtSched, StartsBy, TellsRoomBy, CancelsBy, ReadsBy, TellsAliveBy, ExitsBy};
+ghost use Rattle.ert_c.specs.Told.{timer_of, start_of, IsStarted, IsRoomTold, IsLeft, IsFlag};
 ghost use Rattle.ert_c.specs.Through.{Through, Answers, IfBelow, IsOutOfRange};
 
 use crate::ert_world::ErtWorld;
 use crate::status::{CLOSED, RANGE};
-use crate::timer_calls::{ErtStart, ErtTimer, tell_flag, tell_left, tell_started};
+use crate::timer_calls::{ErtStart, ErtTimer, tell_flag, tell_left, tell_room, tell_started};
 /// Starts a timer on the wheel of a scheduler.
 #[unsafe(no_mangle)]
 pub extern "C" fn ert_world_start(
@@ -29,6 +29,27 @@ pub extern "C" fn ert_world_start(
     }
     let answer = service.start(sched, &start.read());
     tell_started(answer, timer)
+}
+
+/// Tells how much room the wheel of a scheduler has.
+#[unsafe(no_mangle)]
+pub extern "C" fn ert_world_ready(
+    world: &mut ErtWorld,
+    sched: u32,
+    room: &mut u32,
+    ready: &mut u64,
+) -> i32
+    ensures { Through ((room.new ≡ room.old) × (ready.new ≡ ready.old)) (AtSched sched (TellsRoomBy sched) (λ answer. IsRoomTold answer result room.new ready.new) result ((room.new ≡ room.old) × (ready.new ≡ ready.old))) world.old.place.value result world.new.place.value }
+{
+    if !world.live {
+        return CLOSED;
+    }
+    let service = world.place.lend();
+    if sched >= service.settings().schedulers {
+        return RANGE;
+    }
+    let answer = service.room(sched);
+    tell_room(answer, room, ready)
 }
 
 /// Cancels a timer, and tells how much was left of it.

@@ -68,6 +68,7 @@ static void closed_handles(void) {
     IS(ert_world_system_time(&w, &time), ERT_CLOSED);
     IS(ert_world_time_offset(&w, &offset), ERT_CLOSED);
     IS(ert_world_start(&w, 9, &start, &timer), ERT_CLOSED);
+    IS(ert_world_ready(&w, 9, &n, &left), ERT_CLOSED);
     IS(ert_world_cancel(&w, &timer, &left), ERT_CLOSED);
     IS(ert_world_read(&w, &timer, &left), ERT_CLOSED);
     IS(ert_world_is_alive(&w, 9, &n), ERT_CLOSED);
@@ -191,7 +192,14 @@ static void timer_calls(void) {
     ert_delivered delivered;
     uint64_t left = 7;
     uint64_t due = 7;
+    uint32_t room = 7;
     IS(ert_world_open(&w, &plain), ERT_OK);
+    IS(ert_world_ready(&w, 2, &room, &left), ERT_RANGE);
+    IS(room, 7);
+    IS(left, 7);
+    IS(ert_world_ready(&w, 1, &room, &left), ERT_OK);
+    IS(room, 2);
+    IS(left, 0);
     IS(ert_world_next_due(&w, 0, &due), ERT_EMPTY);
     IS(ert_world_next_due(&w, 2, &due), ERT_RANGE);
     IS(due, 7);
@@ -212,6 +220,9 @@ static void timer_calls(void) {
     IS(ert_world_start(&w, 0, &s, &b), ERT_OK);
     IS(ert_world_start(&w, 0, &s, &c), ERT_FULL);
     IS(c.slot, 7);
+    IS(ert_world_ready(&w, 0, &room, &left), ERT_OK);
+    IS(room, 0);
+    IS(left, 0);
 
     IS(ert_world_next_due(&w, 0, &due), ERT_OK);
     IS(due, 50);

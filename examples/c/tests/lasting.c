@@ -168,6 +168,25 @@ static void take(ert_timer timer, uint64_t wanted, uint64_t msg) {
     }
 }
 
+/* What is told of the room of the wheel is what the model says. */
+static void room(void) {
+    uint32_t free = 0, told = 7;
+    uint64_t ready = 0, at = 7;
+    for (uint32_t k = 0; k < slots; k++) {
+        if (of[k].armed) {
+            continue;
+        }
+        if (!rests(&of[k])) {
+            free += 1;
+        } else if (ready == 0 || of[k].above < ready) {
+            ready = of[k].above;
+        }
+    }
+    IS(ert_world_ready(&world, 0, &told, &at), ERT_OK);
+    IS(told, free);
+    IS(at, ready);
+}
+
 /* Starts a timer, and answers whether there was a slot for it. */
 static bool start(ert_timer *timer) {
     ert_start s = {.when = (int64_t)below(20)};
@@ -216,7 +235,11 @@ static void live(uint32_t of_slots, uint32_t timers) {
     }
     for (uint32_t n = 0; n < timers;) {
         ert_timer timer;
+        if (below(16) == 0) {
+            room();
+        }
         if (!start(&timer)) {
+            room();
             tick(1 + below(4));
             turn();
             continue;
@@ -273,9 +296,17 @@ static void rest(void) {
     }
     IS(timer.generation, USES_OF_ROUND);
     IS(ert_world_start(&world, 0, &soon, &later), ERT_FULL);
+    uint32_t free = 7;
+    uint64_t ready = 7;
+    IS(ert_world_ready(&world, 0, &free, &ready), ERT_OK);
+    IS(free, 0);
+    IS(ready, 604800001);
     tick(604800000);
     IS(ert_world_start(&world, 0, &soon, &later), ERT_FULL);
     tick(1);
+    IS(ert_world_ready(&world, 0, &free, &ready), ERT_OK);
+    IS(free, 1);
+    IS(ready, 0);
     IS(ert_world_start(&world, 0, &soon, &later), ERT_OK);
     IS(later.slot, 0);
     IS(later.generation, LATER + 604800002);
