@@ -75,7 +75,8 @@ impl Job {
 /// The parts of a service for so many callers, with four wheels.
 fn open(alloc: Global, callers: u32) -> Result<Parts, BenchErr>
     requires { (1 ≤ callers) × (callers ≤ 17) }
-    ensures { IfOk result (λ parts. AreFit parts.desk parts.pass (parts_of parts.keeper parts.wheels.items parts.inboxes.items parts.mails.items parts.scheds.items)) }
+    ensures { IfOk result (λ parts. AreFit parts.desk parts.pass
+        (parts_of parts.keeper parts.wheels.items parts.inboxes.items parts.mails.items parts.scheds.items)) }
 {
     let settings = Settings {
         mode: Mode::No,

@@ -1,7 +1,8 @@
 //! Which field of a scenario is out of its range.
 ghost use Rattle.std.specs.Prelude.{◌≡◌, map, pos, negsuc};
 ghost use Rattle.serde_json.specs.View.{view};
-ghost use Rattle.ert_explain.specs.FieldRanges.{outside, fields_range, sizes_range, number_at, counts_of, slots_range, start_range, is_part, reading_range, item_range, turns_range};
+ghost use Rattle.ert_explain.specs.FieldRanges.{outside, number_at, counts_of, is_part};
+ghost use Rattle.ert_explain.specs.FieldRanges.{fields_range, sizes_range, slots_range, start_range, reading_range, item_range, turns_range};
 
 use crate::field::Field;
 use crate::op_range::{Counts, Limits, is_out};

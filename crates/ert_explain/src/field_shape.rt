@@ -4,7 +4,8 @@ ghost use Rattle.std.specs.BTreeMap.{keys};
 ghost use Rattle.std.specs.List.{list_all};
 ghost use Rattle.serde_json.specs.View.{view};
 ghost use Rattle.ert_scenario.specs.Fields.{is_field, is_among, race_fields, clock_fields, other_fields};
-ghost use Rattle.ert_explain.specs.FieldShapes.{field_shape, names_shape, race_names_shape, plain_shape, race_shape, in_race_shape, caller_from, given_shape, fields_shape};
+ghost use Rattle.ert_explain.specs.FieldShapes.{field_shape, names_shape, plain_shape, given_shape, fields_shape};
+ghost use Rattle.ert_explain.specs.FieldShapes.{race_names_shape, race_shape, in_race_shape, caller_from};
 
 use crate::field::Field;
 use crate::place::items_of;

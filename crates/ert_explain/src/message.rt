@@ -1,7 +1,10 @@
 //! The message that tells an explanation.
 ghost use Rattle.std.specs.Prelude.{◌≡◌, ◌++◌, OnOk, codes, string_bytes};
 ghost use Rattle.std.specs.Fmt.{signed_decimal};
-ghost use Rattle.ert_explain.specs.Messages.{head_text, place_text, op_place_text, front_text, fields_front, range_front, op_front, excess_front, part_of, is_showing, middle_text, back_text, fields_back, range_back, op_back, limits_text, between_text, from_text, to_text, near_text, has_to_text, has_to_front, from_front, hint_text, hint_front, missing_text, caller_text, late_text, elsewhere_text, not_in_text, message};
+ghost use Rattle.ert_explain.specs.Messages.{message, part_of, is_showing, head_text, place_text, op_place_text, front_text, middle_text, back_text};
+ghost use Rattle.ert_explain.specs.Messages.{fields_front, range_front, op_front, excess_front, has_to_front, from_front, hint_front};
+ghost use Rattle.ert_explain.specs.Messages.{fields_back, range_back, op_back, limits_text, between_text, from_text, to_text, near_text};
+ghost use Rattle.ert_explain.specs.Messages.{has_to_text, hint_text, missing_text, caller_text, late_text, elsewhere_text, not_in_text};
 
 use crate::cause::Cause;
 use crate::excess::Excess;

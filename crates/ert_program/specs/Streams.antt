@@ -19,14 +19,18 @@ pub record Clock : Type 0 where
   pub left : Option (List Reading)
   pub faults : ℕ
 
--- the input, with these bytes left and so many failed reads
-abbrev pub input_of : Option (List ℕ) → ℕ → Input
-input_of left faults = record { left = left; faults = faults }
+-- what a sink tells of its bytes and of its room
+abbrev pub told_of : {S : Type 0} → (S → Option (List ℕ)) → (S → Option ℕ) → S → Told
+told_of taken room sink = told (taken sink) (room sink)
 
--- the output, with these bytes taken, this room and so many failed writes
-abbrev pub output_of : Option (List ℕ) → Option ℕ → ℕ → Output
-output_of taken room faults = record { told = told taken room; faults = faults }
+-- the input that a source is, by the bytes that it has left and its failed reads
+abbrev pub input_of : {S : Type 0} → (S → Option (List ℕ)) → (S → ℕ) → S → Input
+input_of left faults source = record { left = left source; faults = faults source }
 
--- the clock, with these readings left and so many failed ones
-abbrev pub clock_of : Option (List Reading) → ℕ → Clock
-clock_of left faults = record { left = left; faults = faults }
+-- the output that a sink is, by the bytes that it took, its room and its failed writes
+abbrev pub output_of : {S : Type 0} → (S → Option (List ℕ)) → (S → Option ℕ) → (S → ℕ) → S → Output
+output_of taken room faults sink = record { told = told_of taken room sink; faults = faults sink }
+
+-- the clock, by the readings that it has left and the failed ones
+abbrev pub clock_of : {C : Type 0} → (C → Option (List Reading)) → (C → ℕ) → C → Clock
+clock_of left faults clock = record { left = left clock; faults = faults clock }

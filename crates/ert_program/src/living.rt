@@ -23,8 +23,8 @@ use std::fmt::Write;
 pub fn live<O: Sink, C: OsClock>(alloc: Global, n: u64, clock: &mut C, output: &mut O) -> Ended
     requires some { 1 ≤ n }
     requires room { O.room output.old ≡ None }
-    ensures ends { LiveEnds n (clock_of (C.left clock.old) (C.faults clock.old)) (clock_of (C.left clock.new) (C.faults clock.new))
-        (output_of (O.taken output.old) (O.room output.old) (O.faults output.old)) (output_of (O.taken output.new) (O.room output.new) (O.faults output.new)) result }
+    ensures ends { LiveEnds n (clock_of C.left C.faults clock.old) (clock_of C.left C.faults clock.new)
+        (output_of O.taken O.room O.faults output.old) (output_of O.taken O.room O.faults output.new) result }
     ensures later { O.faults output.old ≤ O.faults output.new }
     ensures later_clock { C.faults clock.old ≤ C.faults clock.new }
 {
@@ -47,7 +47,7 @@ fn watch<C: OsClock>(
 ) -> Result<Ended, NoMemory>
     requires some { 1 ≤ n }
     requires empty { string_bytes page.old ≡ [] }
-    ensures ok { IfOk result (λ made. Watched n (clock_of (C.left clock.old) (C.faults clock.old)) (clock_of (C.left clock.new) (C.faults clock.new)) made (string_bytes page.new)) }
+    ensures ok { IfOk result (λ made. Watched n (clock_of C.left C.faults clock.old) (clock_of C.left C.faults clock.new) made (string_bytes page.new)) }
     ensures later { C.faults clock.old ≤ C.faults clock.new }
 {
     let Ok(first) = clock.read() else {

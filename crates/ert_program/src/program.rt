@@ -1,14 +1,14 @@
 ghost use Rattle.std.specs.Prelude.{◌≡◌, ◌≢◌, ◌≤◌, ◌⊎◌, ℕ, true, false, Some, None};
 ghost use Rattle.ert_command.specs.declared.command.Command.TheVariants.{Run, Race, Live, Stress};
 ghost use Rattle.ert_io.specs.Faults.{Rose};
-ghost use Rattle.ert_io.specs.Told.{told, took, TakesFront};
+ghost use Rattle.ert_io.specs.Told.{took, TakesFront};
 ghost use Rattle.ert_program.specs.Endings.{asked, UsageEnds};
 ghost use Rattle.ert_program.specs.Explained.{Explains};
 ghost use Rattle.ert_program.specs.Lives.{LiveEnds};
 ghost use Rattle.ert_program.specs.Races.{RaceEnds};
 ghost use Rattle.ert_program.specs.Refusals.{usage_line};
 ghost use Rattle.ert_program.specs.Runs.{AllFits, RunEnds};
-ghost use Rattle.ert_program.specs.Streams.{input_of, output_of, clock_of};
+ghost use Rattle.ert_program.specs.Streams.{told_of, input_of, output_of, clock_of};
 ghost use Rattle.ert_program.specs.Stresses.{StressEnds};
 
 use crate::ending::{EndStatus, Ended};
@@ -52,18 +52,18 @@ pub fn ertime<
     requires fits { AllFits (asked words.now) (I.left input.old) (O.room output.old) }
     requires errors_room { E.room errors.old ≡ None }
     ensures run { asked words.now ≡ Some Run
-        → RunEnds (input_of (I.left input.old) (I.faults input.old)) (input_of (I.left input.new) (I.faults input.new))
-        (output_of (O.taken output.old) (O.room output.old) (O.faults output.old)) (output_of (O.taken output.new) (O.room output.new) (O.faults output.new)) result }
+        → RunEnds (input_of I.left I.faults input.old) (input_of I.left I.faults input.new)
+        (output_of O.taken O.room O.faults output.old) (output_of O.taken O.room O.faults output.new) result }
     ensures race { asked words.now ≡ Some Race
-        → RaceEnds (input_of (I.left input.old) (I.faults input.old)) (input_of (I.left input.new) (I.faults input.new))
-        (output_of (O.taken output.old) (O.room output.old) (O.faults output.old)) (output_of (O.taken output.new) (O.room output.new) (O.faults output.new)) result }
+        → RaceEnds (input_of I.left I.faults input.old) (input_of I.left I.faults input.new)
+        (output_of O.taken O.room O.faults output.old) (output_of O.taken O.room O.faults output.new) result }
     ensures live { (n : ℕ) → asked words.now ≡ Some (Live n)
-        → LiveEnds n (clock_of (C.left clock.old) (C.faults clock.old)) (clock_of (C.left clock.new) (C.faults clock.new))
-        (output_of (O.taken output.old) (O.room output.old) (O.faults output.old)) (output_of (O.taken output.new) (O.room output.new) (O.faults output.new)) result }
+        → LiveEnds n (clock_of C.left C.faults clock.old) (clock_of C.left C.faults clock.new)
+        (output_of O.taken O.room O.faults output.old) (output_of O.taken O.room O.faults output.new) result }
     ensures stress { (seed n : ℕ) → asked words.now ≡ Some (Stress seed n)
-        → StressEnds seed n (output_of (O.taken output.old) (O.room output.old) (O.faults output.old)) (output_of (O.taken output.new) (O.room output.new) (O.faults output.new)) result }
+        → StressEnds seed n (output_of O.taken O.room O.faults output.old) (output_of O.taken O.room O.faults output.new) result }
     ensures usage { asked words.now ≡ None
-        → UsageEnds (output_of (O.taken output.old) (O.room output.old) (O.faults output.old)) (output_of (O.taken output.new) (O.room output.new) (O.faults output.new)) result }
+        → UsageEnds (output_of O.taken O.room O.faults output.old) (output_of O.taken O.room O.faults output.new) result }
 
     // Only `run` and `race` read the input, and only `live` the clock.
     ensures unread { (asked words.now ≡ Some Run → ⊥) → (asked words.now ≡ Some Race → ⊥) → input.new ≡ input.old }
@@ -72,9 +72,9 @@ pub fn ertime<
     ensures later_out { O.faults output.old ≤ O.faults output.new }
     ensures later_clock { C.faults clock.old ≤ C.faults clock.new }
     ensures explained_run { asked words.now ≡ Some Run → result.status ≡ EndStatus.Refused
-        → Explains false (I.left input.old) (I.left input.new) (told (E.taken errors.old) (E.room errors.old)) (told (E.taken errors.new) (E.room errors.new)) }
+        → Explains false (I.left input.old) (I.left input.new) (told_of E.taken E.room errors.old) (told_of E.taken E.room errors.new) }
     ensures explained_race { asked words.now ≡ Some Race → result.status ≡ EndStatus.Refused
-        → Explains true (I.left input.old) (I.left input.new) (told (E.taken errors.old) (E.room errors.old)) (told (E.taken errors.new) (E.room errors.new)) }
+        → Explains true (I.left input.old) (I.left input.new) (told_of E.taken E.room errors.old) (told_of E.taken E.room errors.new) }
     ensures quiet { result.status ≢ EndStatus.Refused → errors.new ≡ errors.old }
     ensures quiet_others { (asked words.now ≡ Some Run → ⊥) → (asked words.now ≡ Some Race → ⊥) → errors.new ≡ errors.old }
     ensures later_errors { E.faults errors.old ≤ E.faults errors.new }
@@ -95,8 +95,8 @@ pub fn ertime<
 fn usage<O: Sink>(output: &mut O) -> EndStatus
     requires { O.room output.old ≡ None }
     ensures which { (result ≡ EndStatus.Usage) ⊎ (result ≡ EndStatus.WriteFault) }
-    ensures usage { result ≡ EndStatus.Usage → told (O.taken output.new) (O.room output.new) ≡ took (told (O.taken output.old) (O.room output.old)) usage_line }
-    ensures write_fault { result ≡ EndStatus.WriteFault → TakesFront (told (O.taken output.old) (O.room output.old)) (told (O.taken output.new) (O.room output.new)) usage_line }
+    ensures usage { result ≡ EndStatus.Usage → told_of O.taken O.room output.new ≡ took (told_of O.taken O.room output.old) usage_line }
+    ensures write_fault { result ≡ EndStatus.WriteFault → TakesFront (told_of O.taken O.room output.old) (told_of O.taken O.room output.new) usage_line }
     ensures later { O.faults output.old ≤ O.faults output.new }
     ensures cause { result ≡ EndStatus.WriteFault → Rose (O.faults output.old) (O.faults output.new) }
 {

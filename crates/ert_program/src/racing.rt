@@ -3,13 +3,13 @@ ghost use Rattle.std.specs.Prelude.{◌≡◌, ◌≢◌, ◌≤◌, ◌⊎◌, 
 ghost use Rattle.ert_defs.specs.Settings.{IsChecked};
 ghost use Rattle.ert_io.specs.Faults.{Rose};
 ghost use Rattle.ert_io.specs.Known.{TakesUpTo};
-ghost use Rattle.ert_io.specs.Told.{told};
 ghost use Rattle.ert_ops.specs.Races.{IsRace, race_of};
 ghost use Rattle.ert_ops.specs.Ranges.{IsInRange};
 ghost use Rattle.ert_scenario.specs.Scenarios.{Plan, IsScenario, plan_of};
 ghost use Rattle.ert_program.specs.Explained.{Explains};
 ghost use Rattle.ert_program.specs.Races.{DidRace, StopsAtRace, RacesPlan, StopsPlan};
 ghost use Rattle.ert_program.specs.Inputs.{Refuses, TakesMore};
+ghost use Rattle.ert_program.specs.Streams.{told_of};
 
 use crate::ending::{EndStatus, Ended};
 use crate::refusal::refuse;
@@ -38,18 +38,18 @@ pub fn race<R: Threads + Wait + Sync, G: Gate + Sync, I: Source, O: Sink, E: Sin
     requires room { O.room output.old ≡ None }
     requires errors_room { E.room errors.old ≡ None }
     ensures done { result.status ≡ EndStatus.Done
-        → IsSomeAnd result.desk (λ r. DidRace (I.left input.old) (I.left input.new) (told (O.taken output.old) (O.room output.old)) (told (O.taken output.new) (O.room output.new)) r) }
+        → IsSomeAnd result.desk (λ r. DidRace (I.left input.old) (I.left input.new) (told_of O.taken O.room output.old) (told_of O.taken O.room output.new) r) }
     ensures no_desk { result.status ≢ EndStatus.Done → result.desk ≡ None }
     ensures refused { result.status ≡ EndStatus.Refused
-        → Refuses true (I.left input.old) (I.left input.new) (told (O.taken output.old) (O.room output.old)) (told (O.taken output.new) (O.room output.new)) }
+        → Refuses true (I.left input.old) (I.left input.new) (told_of O.taken O.room output.old) (told_of O.taken O.room output.new) }
     ensures read_fault { result.status ≡ EndStatus.ReadFault → Rose (I.faults input.old) (I.faults input.new) × (output.new ≡ output.old) }
     ensures read_in_part { result.status ≡ EndStatus.ReadFault → TakesUpTo 16777216 (I.left input.old) (I.left input.new) }
     ensures too_long { result.status ≡ EndStatus.TooLong → TakesMore (I.left input.old) (I.left input.new) × (output.new ≡ output.old) }
     ensures cause { result.status ≡ EndStatus.WriteFault → Rose (O.faults output.old) (O.faults output.new) }
     ensures stops { result.status ≡ EndStatus.WriteFault
-        → StopsAtRace (I.left input.old) (I.left input.new) (told (O.taken output.old) (O.room output.old)) (told (O.taken output.new) (O.room output.new)) }
+        → StopsAtRace (I.left input.old) (I.left input.new) (told_of O.taken O.room output.old) (told_of O.taken O.room output.new) }
     ensures no_memory { result.status ≡ EndStatus.NoMemory → (output.new ≡ output.old)
-        ⊎ StopsAtRace (I.left input.old) (I.left input.new) (told (O.taken output.old) (O.room output.old)) (told (O.taken output.new) (O.room output.new)) }
+        ⊎ StopsAtRace (I.left input.old) (I.left input.new) (told_of O.taken O.room output.old) (told_of O.taken O.room output.new) }
     ensures others { (result.status ≢ EndStatus.Usage) × (result.status ≢ EndStatus.ClockFault) }
     ensures complete { (Rose (I.faults input.old) (I.faults input.new) → ⊥) → (Rose (O.faults output.old) (O.faults output.new) → ⊥)
         → (bytes : List ℕ) (plan : Plan) → I.left input.old ≡ Some bytes → length bytes ≤ 16777216 → IsScenario true bytes plan
@@ -57,7 +57,7 @@ pub fn race<R: Threads + Wait + Sync, G: Gate + Sync, I: Source, O: Sink, E: Sin
     ensures later { I.faults input.old ≤ I.faults input.new }
     ensures later_out { O.faults output.old ≤ O.faults output.new }
     ensures explained { result.status ≡ EndStatus.Refused
-        → Explains true (I.left input.old) (I.left input.new) (told (E.taken errors.old) (E.room errors.old)) (told (E.taken errors.new) (E.room errors.new)) }
+        → Explains true (I.left input.old) (I.left input.new) (told_of E.taken E.room errors.old) (told_of E.taken E.room errors.new) }
     ensures quiet { result.status ≢ EndStatus.Refused → errors.new ≡ errors.old }
     ensures later_errors { E.faults errors.old ≤ E.faults errors.new }
 {
@@ -91,8 +91,8 @@ fn race_scenario<R: Threads + Wait + Sync, G: Gate + Sync, O: Sink>(
     requires ranges { IsInRange scenario.now.settings scenario.now.ops.items }
     requires wanted { is_some scenario.now.race ≡ true }
     requires race { IfSome (option_map race_of scenario.now.race) (λ r. IsRace scenario.now.settings scenario.now.ops.items r) }
-    ensures ok { IfOk result (λ r. RacesPlan (plan_of scenario.now) (told (O.taken output.old) (O.room output.old)) (told (O.taken output.new) (O.room output.new)) r) }
-    ensures err { OnErr result (StopsPlan (plan_of scenario.now) (told (O.taken output.old) (O.room output.old)) (told (O.taken output.new) (O.room output.new))) }
+    ensures ok { IfOk result (λ r. RacesPlan (plan_of scenario.now) (told_of O.taken O.room output.old) (told_of O.taken O.room output.new) r) }
+    ensures err { OnErr result (StopsPlan (plan_of scenario.now) (told_of O.taken O.room output.old) (told_of O.taken O.room output.new)) }
     ensures later { O.faults output.old ≤ O.faults output.new }
     ensures cause { IsErrOf result RunErr.WriteFault → Rose (O.faults output.old) (O.faults output.new) }
 {

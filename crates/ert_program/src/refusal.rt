@@ -2,11 +2,12 @@
 ghost use Rattle.std.specs.Prelude.{◌≡◌, ◌≢◌, ◌≤◌, ◌⊎◌, ◌++◌, length, None, OnOk, string_bytes};
 ghost use Rattle.ert_io.specs.Faults.{Rose};
 ghost use Rattle.ert_io.specs.Known.{HasRoom};
-ghost use Rattle.ert_io.specs.Told.{told, took, TakesFront};
+ghost use Rattle.ert_io.specs.Told.{took, TakesFront};
 ghost use Rattle.ert_scenario.specs.Scenarios.{HasRefusal};
 ghost use Rattle.ert_scenario.specs.declared.scenario.ScenarioErr.TheVariants.{NoMemory};
 ghost use Rattle.ert_program.specs.Explained.{Tells};
 ghost use Rattle.ert_program.specs.Refusals.{refusal_line};
+ghost use Rattle.ert_program.specs.Streams.{told_of};
 
 use crate::ending::EndStatus;
 use ert_explain::{explain, write_message};
@@ -31,14 +32,14 @@ pub(crate) fn refuse<O: Sink, E: Sink>(
     requires why { HasRefusal race bytes.now refusal.now }
     ensures which { (result ≡ EndStatus.Refused) ⊎ (result ≡ EndStatus.WriteFault) ⊎ (result ≡ EndStatus.NoMemory) }
     ensures refused { result ≡ EndStatus.Refused
-        → told (O.taken output.new) (O.room output.new) ≡ took (told (O.taken output.old) (O.room output.old)) (refusal_line refusal.now) }
+        → told_of O.taken O.room output.new ≡ took (told_of O.taken O.room output.old) (refusal_line refusal.now) }
     ensures write_fault { result ≡ EndStatus.WriteFault
-        → TakesFront (told (O.taken output.old) (O.room output.old)) (told (O.taken output.new) (O.room output.new)) (refusal_line refusal.now) }
+        → TakesFront (told_of O.taken O.room output.old) (told_of O.taken O.room output.new) (refusal_line refusal.now) }
     ensures no_memory { result ≡ EndStatus.NoMemory → output.new ≡ output.old }
     ensures later { O.faults output.old ≤ O.faults output.new }
     ensures cause { result ≡ EndStatus.WriteFault → Rose (O.faults output.old) (O.faults output.new) }
     ensures explained { result ≡ EndStatus.Refused
-        → Tells race bytes.now refusal.now (told (E.taken errors.old) (E.room errors.old)) (told (E.taken errors.new) (E.room errors.new)) }
+        → Tells race bytes.now refusal.now (told_of E.taken E.room errors.old) (told_of E.taken E.room errors.new) }
     ensures quiet { result ≢ EndStatus.Refused → errors.new ≡ errors.old }
     ensures later_errors { E.faults errors.old ≤ E.faults errors.new }
 {
@@ -59,7 +60,7 @@ pub(crate) fn refuse<O: Sink, E: Sink>(
 fn tell<E: Sink>(alloc: Global, bytes: &[u8], race: bool, refusal: &ScenarioErr, errors: &mut E)
     requires room { E.room errors.old ≡ None }
     requires why { HasRefusal race bytes.now refusal.now }
-    ensures told { Tells race bytes.now refusal.now (told (E.taken errors.old) (E.room errors.old)) (told (E.taken errors.new) (E.room errors.new)) }
+    ensures told { Tells race bytes.now refusal.now (told_of E.taken E.room errors.old) (told_of E.taken E.room errors.new) }
     ensures later { E.faults errors.old ≤ E.faults errors.new }
 {
     let Ok(explanation) = explain(alloc, bytes, race, refusal) else {

@@ -3,7 +3,7 @@ ghost use Rattle.std.specs.Prelude.{◌≡◌, ◌≢◌, ◌≤◌, ◌⊎◌, 
 ghost use Rattle.ert_defs.specs.Settings.{IsChecked};
 ghost use Rattle.ert_io.specs.Faults.{Rose};
 ghost use Rattle.ert_io.specs.Known.{HasRoom, TakesUpTo};
-ghost use Rattle.ert_io.specs.Told.{told, took, TakesFront};
+ghost use Rattle.ert_io.specs.Told.{took, TakesFront};
 ghost use Rattle.ert_ops.specs.Labels.{AreOps};
 ghost use Rattle.ert_ops.specs.Ranges.{IsInRange};
 ghost use Rattle.ert_scenario.specs.Scenarios.{Plan, IsScenario, plan_of};
@@ -11,6 +11,7 @@ ghost use Rattle.ert_transcript.specs.Texts.{end_line};
 ghost use Rattle.ert_program.specs.Explained.{Explains};
 ghost use Rattle.ert_program.specs.Inputs.{Refuses, TakesMore};
 ghost use Rattle.ert_program.specs.Runs.{RunsOn, transcript, Did, Stops, InputFits};
+ghost use Rattle.ert_program.specs.Streams.{told_of};
 
 use crate::ending::{EndStatus, Ended};
 use crate::refusal::refuse;
@@ -37,18 +38,18 @@ pub fn run<I: Source, O: Sink, E: Sink>(
     requires fits { InputFits (I.left input.old) (O.room output.old) }
     requires errors_room { E.room errors.old ≡ None }
     ensures done { result.status ≡ EndStatus.Done
-        → IsSomeAnd result.desk (λ r. Did (I.left input.old) (I.left input.new) (told (O.taken output.old) (O.room output.old)) (told (O.taken output.new) (O.room output.new)) r) }
+        → IsSomeAnd result.desk (λ r. Did (I.left input.old) (I.left input.new) (told_of O.taken O.room output.old) (told_of O.taken O.room output.new) r) }
     ensures no_desk { result.status ≢ EndStatus.Done → result.desk ≡ None }
     ensures refused { result.status ≡ EndStatus.Refused
-        → Refuses false (I.left input.old) (I.left input.new) (told (O.taken output.old) (O.room output.old)) (told (O.taken output.new) (O.room output.new)) }
+        → Refuses false (I.left input.old) (I.left input.new) (told_of O.taken O.room output.old) (told_of O.taken O.room output.new) }
     ensures read_fault { result.status ≡ EndStatus.ReadFault → Rose (I.faults input.old) (I.faults input.new) × (output.new ≡ output.old) }
     ensures read_in_part { result.status ≡ EndStatus.ReadFault → TakesUpTo 16777216 (I.left input.old) (I.left input.new) }
     ensures too_long { result.status ≡ EndStatus.TooLong → TakesMore (I.left input.old) (I.left input.new) × (output.new ≡ output.old) }
     ensures cause { result.status ≡ EndStatus.WriteFault → Rose (O.faults output.old) (O.faults output.new) }
     ensures stops { result.status ≡ EndStatus.WriteFault
-        → Stops (I.left input.old) (I.left input.new) (told (O.taken output.old) (O.room output.old)) (told (O.taken output.new) (O.room output.new)) }
+        → Stops (I.left input.old) (I.left input.new) (told_of O.taken O.room output.old) (told_of O.taken O.room output.new) }
     ensures no_memory { result.status ≡ EndStatus.NoMemory → (output.new ≡ output.old)
-        ⊎ Stops (I.left input.old) (I.left input.new) (told (O.taken output.old) (O.room output.old)) (told (O.taken output.new) (O.room output.new)) }
+        ⊎ Stops (I.left input.old) (I.left input.new) (told_of O.taken O.room output.old) (told_of O.taken O.room output.new) }
     ensures others { (result.status ≢ EndStatus.Usage) × (result.status ≢ EndStatus.ClockFault) }
     ensures complete { (Rose (I.faults input.old) (I.faults input.new) → ⊥) → (Rose (O.faults output.old) (O.faults output.new) → ⊥)
         → (bytes : List ℕ) (plan : Plan) → I.left input.old ≡ Some bytes → length bytes ≤ 16777216 → IsScenario false bytes plan
@@ -56,7 +57,7 @@ pub fn run<I: Source, O: Sink, E: Sink>(
     ensures later { I.faults input.old ≤ I.faults input.new }
     ensures later_out { O.faults output.old ≤ O.faults output.new }
     ensures explained { result.status ≡ EndStatus.Refused
-        → Explains false (I.left input.old) (I.left input.new) (told (E.taken errors.old) (E.room errors.old)) (told (E.taken errors.new) (E.room errors.new)) }
+        → Explains false (I.left input.old) (I.left input.new) (told_of E.taken E.room errors.old) (told_of E.taken E.room errors.new) }
     ensures quiet { result.status ≢ EndStatus.Refused → errors.new ≡ errors.old }
     ensures later_errors { E.faults errors.old ≤ E.faults errors.new }
 {
@@ -87,8 +88,8 @@ fn run_scenario<O: Sink>(
     requires checked { IsChecked scenario.now.settings }
     requires ranges { IsInRange scenario.now.settings scenario.now.ops.items }
     requires labels { AreOps scenario.now.ops.items }
-    ensures ok { IfOk result (λ r. RunsOn (plan_of scenario.now) (told (O.taken output.old) (O.room output.old)) (told (O.taken output.new) (O.room output.new)) r) }
-    ensures err { OnErr result (TakesFront (told (O.taken output.old) (O.room output.old)) (told (O.taken output.new) (O.room output.new)) (transcript (plan_of scenario.now))) }
+    ensures ok { IfOk result (λ r. RunsOn (plan_of scenario.now) (told_of O.taken O.room output.old) (told_of O.taken O.room output.new) r) }
+    ensures err { OnErr result (TakesFront (told_of O.taken O.room output.old) (told_of O.taken O.room output.new) (transcript (plan_of scenario.now))) }
     ensures later { O.faults output.old ≤ O.faults output.new }
     ensures cause { IsErrOf result RunErr.WriteFault → Rose (O.faults output.old) (O.faults output.new) }
 {
@@ -103,8 +104,8 @@ fn run_scenario<O: Sink>(
 /// Writes the last line of a transcript.
 fn finish<O: Sink>(alloc: Global, now: i64, output: &mut O) -> Result<(), RunErr>
     requires { HasRoom (O.room output.old) (length (end_line now)) }
-    ensures ok { OnOk result (told (O.taken output.new) (O.room output.new) ≡ took (told (O.taken output.old) (O.room output.old)) (end_line now)) }
-    ensures err { OnErr result (TakesFront (told (O.taken output.old) (O.room output.old)) (told (O.taken output.new) (O.room output.new)) (end_line now)) }
+    ensures ok { OnOk result (told_of O.taken O.room output.new ≡ took (told_of O.taken O.room output.old) (end_line now)) }
+    ensures err { OnErr result (TakesFront (told_of O.taken O.room output.old) (told_of O.taken O.room output.new) (end_line now)) }
     ensures later { O.faults output.old ≤ O.faults output.new }
     ensures cause { IsErrOf result RunErr.WriteFault → Rose (O.faults output.old) (O.faults output.new) }
 {

@@ -3,9 +3,10 @@ ghost use Rattle.std.specs.Prelude.{◌≡◌, ◌≤◌, ◌++◌, None, IfOk, 
 ghost use Rattle.ert_defs.specs.States.{state};
 ghost use Rattle.ert_generate.specs.Generated.{generated};
 ghost use Rattle.ert_io.specs.Faults.{Rose};
-ghost use Rattle.ert_io.specs.Told.{told, TakesFront};
+ghost use Rattle.ert_io.specs.Told.{TakesFront};
 ghost use Rattle.ert_laws.specs.Counts.{counts_of};
 ghost use Rattle.ert_sched.specs.Counted.{AreTidy};
+ghost use Rattle.ert_program.specs.Streams.{told_of};
 ghost use Rattle.ert_program.specs.Stresses.{summary, summary_of, CountsOn, HasRun};
 
 use ert_defs::NoMemory;
@@ -27,9 +28,9 @@ pub fn stress<O: Sink>(
 ) -> Result<(Desk, Pass), RunErr>
     requires room { O.room output.old ≡ None }
     requires count { n ≤ 100000 }
-    ensures ok { IfOk result (λ r. CountsOn (generated seed n) (told (O.taken output.old) (O.room output.old)) (told (O.taken output.new) (O.room output.new)) r) }
+    ensures ok { IfOk result (λ r. CountsOn (generated seed n) (told_of O.taken O.room output.old) (told_of O.taken O.room output.new) r) }
     ensures write_fault { IsErrOf result RunErr.WriteFault
-        → TakesFront (told (O.taken output.old) (O.room output.old)) (told (O.taken output.new) (O.room output.new)) (summary (generated seed n)) }
+        → TakesFront (told_of O.taken O.room output.old) (told_of O.taken O.room output.new) (summary (generated seed n)) }
     ensures no_memory { IsErrOf result RunErr.NoMemory → output.new ≡ output.old }
     ensures later { O.faults output.old ≤ O.faults output.new }
     ensures cause { IsErrOf result RunErr.WriteFault → Rose (O.faults output.old) (O.faults output.new) }

@@ -3,13 +3,17 @@
 use Rattle.std.specs.Prelude.{◌≡◌, ◌⊎◌, ℕ, List, [], take}
 use Rattle.ert_answers.specs.Ways.{alone}
 use Rattle.ert_defs.specs.Legal.{Legal}
+use Rattle.ert_defs.specs.States.{state}
 use Rattle.ert_defs.specs.declared.entry.Entry.{Entry}
 use Rattle.ert_defs.specs.declared.settings.Settings.{Settings}
 use Rattle.ert_io.specs.Told.{Told, took, TakesFront}
+use Rattle.ert_laws.specs.Counts.{counts_of}
 use Rattle.ert_ops.specs.Races.{Race}
 use Rattle.ert_ops.specs.declared.op.Op.{Op}
 use Rattle.ert_outcome.specs.Outcomes.{IsOutcome}
+use Rattle.ert_outcome.specs.Reports.{Did, behind}
 use Rattle.ert_sched.specs.Lived.{IsLived}
+use Rattle.ert_sched.specs.Worlds.{Service}
 use Rattle.ert_table.specs.Desks.{settings_of, KnowsAll}
 use Rattle.ert_table.specs.declared.desk.Desk.{Desk}
 use Rattle.ert_table.specs.declared.desk.Pass.{Pass}
@@ -31,6 +35,10 @@ pub record IsBeginning (g : Settings) (ops : List Op) (text : List ℕ) : Type 0
 -- further
 abbrev pub MayWrite : Settings → List Op → Race → List ℕ → Type 0
 MayWrite g ops race text = IsBeginning g ops text ⊎ ((h : List Entry) × IsOutcome g ops race h text)
+
+-- the report behind the lines of the ops: what came of the lists, and what the race has left of the world
+abbrev pub report_behind : Service → List Did → List ℕ
+report_behind w dids = behind w.labels dids (counts_of w.settings (state w.settings w.history)) w.clock.face.time
 
 -- a race was run on a desk: the report of an outcome was written, and the pass has every actor and for its
 -- history just that of the outcome, in which all timers and mail are as they may be

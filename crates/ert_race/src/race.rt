@@ -71,7 +71,8 @@ fn run_at_once<L: DeskName + Send + Sync, R: Threads + Wait + Sync, G: Gate + Sy
     requires fit { AreFit parts.desk parts.pass (parts_of parts.keeper parts.wheels.items parts.inboxes.items parts.mails.items parts.scheds.items) }
     requires callers { L.settings.callers ≡ suc (length race.now.callers.items) }
     requires may { MayDoAll L.settings (lists_of (race_of race.now)) }
-    ensures { IfOk result (λ e. RunsAtOnce (seen parts.desk parts.pass parts.keeper parts.labels.items parts.wheels.items) (race_of race.now) (dids_of e.lists.items) e.world) }
+    ensures { IfOk result (λ e. RunsAtOnce (seen parts.desk parts.pass parts.keeper parts.labels.items parts.wheels.items)
+        (race_of race.now) (dids_of e.lists.items) e.world) }
 {
     let known = name_pairs(alloc, &parts.labels)?;
     let Opened {
@@ -115,7 +116,8 @@ fn work_at_once<L: DeskName + Send + Sync, R: Threads + Wait + Sync, G: Gate + S
         ||
             requires { (L.settings.callers ≡ suc (length race.now.callers.items)) × MayDoAll L.settings (lists_of (race_of race.now)) }
             ensures { (f : List Entry) → AreSeated (λ s. s.number) (λ s. front_of s.pass) L.settings.callers f callers.items
-                → IfOk result (λ r. ListsDone (λ s. s.number) (λ s. front_of s.pass) L.settings known.entry.now (lists_of (race_of race.entry.now)) f r.0.items r.1.items) }
+                → IfOk result (λ r. ListsDone (λ s. s.number) (λ s. front_of s.pass) L.settings known.entry.now
+                (lists_of (race_of race.entry.now)) f r.0.items r.1.items) }
         { do_lists(rt, alloc, service, callers, race, known, gate) },
     )
 }

@@ -1,15 +1,12 @@
 //! A race from its settings to its report.
 ghost use Rattle.std.specs.Prelude.{◌≡◌, ◌≤◌, None, IfOk, OnErr, IsErrOf, string_bytes};
 ghost use Rattle.ert_defs.specs.Settings.{IsChecked};
-ghost use Rattle.ert_defs.specs.States.{state};
 ghost use Rattle.ert_io.specs.Faults.{Rose};
 ghost use Rattle.ert_io.specs.Told.{told};
-ghost use Rattle.ert_laws.specs.Counts.{counts_of};
 ghost use Rattle.ert_ops.specs.Races.{IsRace, race_of};
 ghost use Rattle.ert_ops.specs.Ranges.{IsInRange};
-ghost use Rattle.ert_outcome.specs.Reports.{behind};
 ghost use Rattle.ert_race.specs.Lists.{dids_of};
-ghost use Rattle.ert_race.specs.Written.{RacesOn, StopsRace};
+ghost use Rattle.ert_race.specs.Written.{RacesOn, StopsRace, report_behind};
 ghost use Rattle.ert_sched.specs.Counted.{AreTidy};
 
 use crate::naming::name_all;
@@ -44,8 +41,10 @@ pub fn run_race<R: Threads + Wait + Sync, G: Gate + Sync, O: Sink>(
     requires checked { IsChecked settings.now }
     requires ranges { IsInRange settings.now ops.now }
     requires race { IsRace settings.now ops.now (race_of race.now) }
-    ensures ok { IfOk result (λ r. RacesOn settings.now ops.now (race_of race.now) (told (O.taken output.old) (O.room output.old)) (told (O.taken output.new) (O.room output.new)) r) }
-    ensures err { OnErr result (StopsRace settings.now ops.now (race_of race.now) (told (O.taken output.old) (O.room output.old)) (told (O.taken output.new) (O.room output.new))) }
+    ensures ok { IfOk result (λ r. RacesOn settings.now ops.now (race_of race.now)
+        (told (O.taken output.old) (O.room output.old)) (told (O.taken output.new) (O.room output.new)) r) }
+    ensures err { OnErr result (StopsRace settings.now ops.now (race_of race.now)
+        (told (O.taken output.old) (O.room output.old)) (told (O.taken output.new) (O.room output.new))) }
     ensures later { O.faults output.old ≤ O.faults output.new }
     ensures cause { IsErrOf result RunErr.WriteFault → Rose (O.faults output.old) (O.faults output.new) }
 {
@@ -67,7 +66,7 @@ pub fn run_race<R: Threads + Wait + Sync, G: Gate + Sync, O: Sink>(
 /// The report behind the lines of the ops.
 fn report_page(alloc: Global, end: &RaceEnd) -> Result<String, NoMemory>
     requires { AreTidy end.now.world }
-    ensures { let w = end.now.world in IfOk result (λ page. string_bytes page ≡ behind w.labels (dids_of end.now.lists.items) (counts_of w.settings (state w.settings w.history)) w.clock.face.time) }
+    ensures { IfOk result (λ page. string_bytes page ≡ report_behind end.now.world (dids_of end.now.lists.items)) }
 {
     let names = name_all(alloc, end.world.labels(), &end.lists)?;
     let mut page = String::new(alloc);

@@ -55,7 +55,8 @@ fn work_as_caller<L: DeskName, R: Wait, G: Gate>(
 ) -> CallerDone<L>
     requires callers { L.settings.callers ≡ suc (length race.now.callers.items) }
     requires may { MayDoAll L.settings (lists_of (race_of race.now)) }
-    ensures { CallerWorked L.settings known.now (lists_of (race_of race.now)) seat.number (front_of seat.pass) result.seat.number (front_of result.seat.pass) result.done }
+    ensures { CallerWorked L.settings known.now (lists_of (race_of race.now))
+        seat.number (front_of seat.pass) result.seat.number (front_of result.seat.pass) result.done }
 {
     let number = seat.number;
     let worker = if number == 0 {
@@ -97,7 +98,9 @@ fn run_callers<L: DeskName + Send + Sync, R: Threads + Wait + Sync, G: Gate + Sy
     requires may { MayDoAll L.settings (lists_of (race_of race.now)) }
     ensures counted { IfOk result (λ v. length v.items ≡ length callers.items) }
     ensures worked { IfOk result (λ v. (k : ℕ) (d : _) (s : _) → k < length callers.items
-        → CallerWorked L.settings known.now (lists_of (race_of race.now)) (slice_index_or callers.items k s).number (front_of (slice_index_or callers.items k s).pass) (slice_index_or v.items k d).seat.number (front_of (slice_index_or v.items k d).seat.pass) (slice_index_or v.items k d).done) }
+        → CallerWorked L.settings known.now (lists_of (race_of race.now))
+        (slice_index_or callers.items k s).number (front_of (slice_index_or callers.items k s).pass)
+        (slice_index_or v.items k d).seat.number (front_of (slice_index_or v.items k d).seat.pass) (slice_index_or v.items k d).done) }
 {
     Ok(thread::map_vec(
         rt,
@@ -116,7 +119,9 @@ fn run_scheds<L: DeskName + Send + Sync, R: Threads + Wait + Sync, G: Gate + Syn
 ) -> Result<Vec<SchedDone<L>>, NoMemory>
     ensures counted { IfOk result (λ v. length v.items ≡ length scheds.items) }
     ensures worked { IfOk result (λ v. (k : ℕ) (d : _) (s : _) → k < length scheds.items
-        → SchedWorked L.settings turns (slice_index_or scheds.items k s).part.wheel (front_of (slice_index_or scheds.items k s).pass) (slice_index_or v.items k d).seat.part.wheel (front_of (slice_index_or v.items k d).seat.pass) (slice_index_or v.items k d).done) }
+        → SchedWorked L.settings turns
+        (slice_index_or scheds.items k s).part.wheel (front_of (slice_index_or scheds.items k s).pass)
+        (slice_index_or v.items k d).seat.part.wheel (front_of (slice_index_or v.items k d).seat.pass) (slice_index_or v.items k d).done) }
 {
     Ok(thread::map_vec(
         rt,

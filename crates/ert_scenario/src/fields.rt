@@ -4,7 +4,9 @@ ghost use Rattle.std.specs.Prelude.{◌≡◌, option_map, string_bytes};
 ghost use Rattle.std.specs.BTreeMap.{keys};
 ghost use Rattle.std.specs.List.{list_all};
 ghost use Rattle.serde_json.specs.View.{view};
-ghost use Rattle.ert_scenario.specs.Fields.{clock_fields, other_fields, race_fields, is_field, is_among, only_named, mode_names, start_time, time_warp_mode, time_correction, count, times, modes, clock_of, sizes_of, head_of, settings_with, one_or_two, settings_of, race_turns, top_of};
+ghost use Rattle.ert_scenario.specs.Fields.{clock_fields, other_fields, race_fields, is_field, is_among, only_named, mode_names};
+ghost use Rattle.ert_scenario.specs.Fields.{start_time, time_warp_mode, time_correction, count, times, modes, one_or_two};
+ghost use Rattle.ert_scenario.specs.Fields.{clock_of, sizes_of, head_of, settings_with, settings_of, race_turns, top_of};
 ghost use Rattle.ert_scenario.specs.Kinds.{called};
 ghost use Rattle.ert_scenario.specs.Ranges.{is_checked};
 

@@ -3,7 +3,8 @@
 ghost use Rattle.std.specs.Prelude.{◌≡◌, map, option_map};
 ghost use Rattle.std.specs.List.{list_all};
 ghost use Rattle.serde_json.specs.View.{view};
-ghost use Rattle.ert_scenario.specs.Kinds.{found_map, both, of_kind, in_range, integer, word_of, word, natural_of, count_of, natural, boolean, listed, items_in, is_array, arrays, text, head, tail, end, one_word, two_words, reading_from, reading};
+ghost use Rattle.ert_scenario.specs.Kinds.{found_map, both, of_kind, in_range, integer, word_of, word, natural_of, count_of, natural, boolean, text};
+ghost use Rattle.ert_scenario.specs.Kinds.{listed, items_in, is_array, arrays, head, tail, end, one_word, two_words, reading_from, reading};
 
 use crate::fault::Fault;
 use ert_defs::Reading;

@@ -104,7 +104,10 @@ fn migrates(rt: HostRuntime) -> Result<(), Fail> {
         (
             true,
             r#"{"first":[0,0],"format":1,"ops":[["read_async",1,0]],"race":{"callers":[[["cancel_async",1,0]],[["time"]]],"keeper":[["notify",0]],"turns":1}}"#,
-            r#"{"first":[0,0],"format":2,"ops":[["read_async",1,0,true]],"race":{"callers":[[["cancel_async",1,0,true]],[["time"]]],"keeper":[["notify",0]],"turns":1}}"#,
+            concat!(
+                r#"{"first":[0,0],"format":2,"ops":[["read_async",1,0,true]],"#,
+                r#""race":{"callers":[[["cancel_async",1,0,true]],[["time"]]],"keeper":[["notify",0]],"turns":1}}"#
+            ),
         ),
     ];
     for (race, text, want) in rows {

@@ -19,8 +19,8 @@ use std::test::Fail;
 use std::thread::Threads;
 
 /// Forward and backward leaps of the OS clock, and the transcript: 98 bytes.
-const LEAP: &str =
-    r#"{"format":1,"correction":false,"first":[0,10000000000],"ops":[["tick",0,12000000000],["tick",0,11000000000],["time"],["tick",0,13000000000],["system"]]}"#;
+const LEAP: &str = r#"{"format":1,"correction":false,"first":[0,10000000000],
+    "ops":[["tick",0,12000000000],["tick",0,11000000000],["time"],["tick",0,13000000000],["system"]]}"#;
 
 const LEAP_TEXT: &str =
     "tick 2000000000\ntick 2000000000\ntime 2000000000\ntick 3000000000\nsystem 13000000000\nend 3000000000\n";

@@ -24,6 +24,7 @@ use Rattle.ert_transcript.specs.Calls.{Calls, start_of, request_of}
 use Rattle.ert_transcript.specs.Labels.{Labels, ref_of}
 use Rattle.ert_transcript.specs.Scripts.{Script, labels_after}
 use Rattle.ert_transcript.specs.declared.reply.Reply.{Reply}
+use Rattle.ert_workers.specs.declared.list.ListDone.{ListDone}
 
 -- a caller does an op beside others, with these labels: a history grows by what the op allows with its reply
 abbrev pub DoesWith : Settings → ℕ → Labels → Op → Reply → List Entry → List Entry → Type 0
@@ -82,6 +83,10 @@ FailsOwn g n known own op f h = (ls : Labels) → IsIndexOf ls known → Grows (
 abbrev pub DoesList : Settings → ℕ → Names → List Op → List Reply → Labels → List Entry → List Entry → Type 0
 DoesList g n known ops replies own f h =
     (ls : Labels) → IsIndexOf ls known → Grows (Script g (beside g (Caller n)) n ls ops replies (ls ++ own)) f h
+
+-- it does a list of ops, with what came of it
+abbrev pub DoesWhole : Settings → ℕ → Names → List Op → ListDone → List Entry → List Entry → Type 0
+DoesWhole g n known ops done f h = DoesList g n known ops done.replies.items done.own.items f h
 
 -- a caller's front is where some ops have left it, or there was no memory for the first of those to come
 abbrev pub StopsAt : Settings → ℕ → Names → Labels → List Op → List Entry → List Entry → Type 0

@@ -2,7 +2,7 @@
 ghost use Rattle.std.specs.Prelude.{◌≡◌, IfOk, OnErr};
 ghost use Rattle.ert_ops.specs.Races.{MayDo};
 ghost use Rattle.ert_table.specs.Desks.{front_of};
-ghost use Rattle.ert_workers.specs.Works.{DoesList, DoesSome};
+ghost use Rattle.ert_workers.specs.Works.{DoesWhole, DoesSome};
 
 use crate::labels::Own;
 use crate::op::do_op;
@@ -42,7 +42,7 @@ pub fn do_list<L: DeskName, R: Wait, G: Gate>(
 ) -> (CallerSeat<L>, Result<ListDone, NoMemory>)
     requires may { MayDo L.settings ops.now }
     ensures number { result.0.number ≡ seat.number }
-    ensures done { IfOk result.1 (λ done. DoesList L.settings seat.number known.now ops.now done.replies.items done.own.items (front_of seat.pass) (front_of result.0.pass)) }
+    ensures done { IfOk result.1 (λ done. DoesWhole L.settings seat.number known.now ops.now done (front_of seat.pass) (front_of result.0.pass)) }
     ensures stops { OnErr result.1 (DoesSome L.settings seat.number known.now ops.now (front_of seat.pass) (front_of result.0.pass)) }
 {
     let mut next = seat;

@@ -34,7 +34,8 @@ pub(crate) fn do_op<L: DeskName, R: Wait>(
     requires range { IsOpInRange L.settings op.now }
     requires index { IsIndexOf own.old.pairs.items own.old.index }
     ensures number { result.0.number ≡ seat.number }
-    ensures does { IfOk result.1 (λ reply. DoesOwn L.settings seat.number known.now own.old.pairs.items op.now reply own.new.pairs.items (front_of seat.pass) (front_of result.0.pass)) }
+    ensures does { IfOk result.1 (λ reply. DoesOwn L.settings seat.number known.now own.old.pairs.items op.now reply
+        own.new.pairs.items (front_of seat.pass) (front_of result.0.pass)) }
     ensures index { OnOk result.1 (IsIndexOf own.new.pairs.items own.new.index) }
     ensures fails { OnErr result.1 (FailsOwn L.settings seat.number known.now own.old.pairs.items op.now (front_of seat.pass) (front_of result.0.pass)) }
 {

@@ -31,7 +31,8 @@ pub(crate) fn start<L: DeskName, R: Wait>(
     requires dest { dest < L.settings.processes }
     requires index { IsIndexOf own.old.pairs.items own.old.index }
     ensures number { result.0.number ≡ seat.number }
-    ensures does { IfOk result.1 (λ reply. DoesStart L.settings seat.number own.old.pairs.items (Op.Start label wheel when dest msg) reply own.new.pairs.items (front_of seat.pass) (front_of result.0.pass)) }
+    ensures does { IfOk result.1 (λ reply. DoesStart L.settings seat.number own.old.pairs.items (Op.Start label wheel when dest msg) reply
+        own.new.pairs.items (front_of seat.pass) (front_of result.0.pass)) }
     ensures index { OnOk result.1 (IsIndexOf own.new.pairs.items own.new.index) }
     ensures fails { OnErr result.1 (Fails L.settings seat.number (Op.Start label wheel when dest msg) (front_of seat.pass) (front_of result.0.pass)) }
 {
@@ -70,7 +71,8 @@ pub(crate) fn send_after<L: DeskName, R: Wait>(
     requires dest { dest < L.settings.processes }
     requires index { IsIndexOf own.old.pairs.items own.old.index }
     ensures number { result.0.number ≡ seat.number }
-    ensures does { IfOk result.1 (λ reply. DoesStart L.settings seat.number own.old.pairs.items (Op.SendAfter label wheel when dest msg) reply own.new.pairs.items (front_of seat.pass) (front_of result.0.pass)) }
+    ensures does { IfOk result.1 (λ reply. DoesStart L.settings seat.number own.old.pairs.items (Op.SendAfter label wheel when dest msg) reply
+        own.new.pairs.items (front_of seat.pass) (front_of result.0.pass)) }
     ensures index { OnOk result.1 (IsIndexOf own.new.pairs.items own.new.index) }
     ensures fails { OnErr result.1 (Fails L.settings seat.number (Op.SendAfter label wheel when dest msg) (front_of seat.pass) (front_of result.0.pass)) }
 {
@@ -157,7 +159,8 @@ pub(crate) fn cancel_async<L: DeskName, R: Wait>(
 ) -> (CallerSeat<L>, Result<Reply, NoMemory>)
     requires { process < L.settings.processes }
     ensures number { result.0.number ≡ seat.number }
-    ensures does { IfOk result.1 (λ reply. (label : ℕ) → DoesFor L.settings seat.number label timer (Op.CancelAsync label process info) reply (front_of seat.pass) (front_of result.0.pass)) }
+    ensures does { IfOk result.1 (λ reply. (label : ℕ)
+        → DoesFor L.settings seat.number label timer (Op.CancelAsync label process info) reply (front_of seat.pass) (front_of result.0.pass)) }
     ensures fails { OnErr result.1 ((label : ℕ)
         → FailsFor L.settings seat.number label timer (Op.CancelAsync label process info) (front_of seat.pass) (front_of result.0.pass)) }
 {
@@ -185,7 +188,8 @@ pub(crate) fn read_async<L: DeskName, R: Wait>(
 ) -> (CallerSeat<L>, Result<Reply, NoMemory>)
     requires { process < L.settings.processes }
     ensures number { result.0.number ≡ seat.number }
-    ensures does { IfOk result.1 (λ reply. (label : ℕ) → DoesFor L.settings seat.number label timer (Op.ReadAsync label process info) reply (front_of seat.pass) (front_of result.0.pass)) }
+    ensures does { IfOk result.1 (λ reply. (label : ℕ)
+        → DoesFor L.settings seat.number label timer (Op.ReadAsync label process info) reply (front_of seat.pass) (front_of result.0.pass)) }
     ensures fails { OnErr result.1 ((label : ℕ)
         → FailsFor L.settings seat.number label timer (Op.ReadAsync label process info) (front_of seat.pass) (front_of result.0.pass)) }
 {

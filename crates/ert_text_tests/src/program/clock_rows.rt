@@ -65,8 +65,10 @@ pub const ROWS: [(&str, &str, &str); 21] = [
     ),
     (
         r#""mode":"single","first":[0,0]"#,
-        r#"["tick",5000000000,1005000000000],["system"],["finalize",6000000000,1006000000000],["system"],["finalize",7000000000,1008000000000],["tick",7000000000,1007000000000]"#,
-        "tick 5000000000\nsystem 5000000000\nfinalize preliminary 6000000000 offset 1000000000000\nsystem 1006000000000\nfinalize final 6000000000\ntick 7000000000\nend 7000000000\n",
+        r#"["tick",5000000000,1005000000000],["system"],["finalize",6000000000,1006000000000],
+        ["system"],["finalize",7000000000,1008000000000],["tick",7000000000,1007000000000]"#,
+        "tick 5000000000\nsystem 5000000000\nfinalize preliminary 6000000000 offset 1000000000000\n\
+        system 1006000000000\nfinalize final 6000000000\ntick 7000000000\nend 7000000000\n",
     ),
     (
         r#""mode":"single","correction":false,"first":[0,10000000000]"#,
@@ -85,7 +87,9 @@ pub const ROWS: [(&str, &str, &str); 21] = [
     ),
     (
         r#""first":[0,0]"#,
-        r#"["convert",-1,"nanosecond","second"],["convert",4611686018427387904,"second","nanosecond"],["convert",10,3,"second"],["convert",-10,3,"second"],["convert",1,"second",3],["convert",9223372036854775807,"native","millisecond"]"#,
+        r#"["convert",-1,"nanosecond","second"],["convert",4611686018427387904,"second","nanosecond"],
+        ["convert",10,3,"second"],["convert",-10,3,"second"],
+        ["convert",1,"second",3],["convert",9223372036854775807,"native","millisecond"]"#,
         "convert -1\nconvert too_wide\nconvert 3\nconvert -4\nconvert 3\nconvert 9223372036854\nend 0\n",
     ),
     (
@@ -101,6 +105,7 @@ pub const ROWS: [(&str, &str, &str); 21] = [
     (
         r#""mode":"multi","first":[5000000000,1767225600000000000]"#,
         r#"["info"],["tick",5250000000,1767225600250000000],["check",5400000000,1767225610400000000],["system"]"#,
-        "info start 0 end 8796093022207000000 mode multi correction true offset 1767225600000000000 state volatile\ntick 250000000\ncheck 400000000 offset 1767225610000000000\nsystem 1767225610400000000\nend 400000000\n",
+        "info start 0 end 8796093022207000000 mode multi correction true offset 1767225600000000000 state volatile\n\
+        tick 250000000\ncheck 400000000 offset 1767225610000000000\nsystem 1767225610400000000\nend 400000000\n",
     ),
 ];

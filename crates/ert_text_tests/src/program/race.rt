@@ -5,7 +5,8 @@ use std::test::Fail;
 
 // Two callers cancel one timer.
 const TWO_CANCELS: &str =
-    r#"{"format":1,"correction":false,"first":[0,0],"ops":[["start",1,0,"rel",50,0,7]],"race":{"turns":1,"keeper":[],"callers":[[["cancel",1]],[["cancel",1]]]}}"#;
+    r#"{"format":1,"correction":false,"first":[0,0],"ops":[["start",1,0,"rel",50,0,7]],
+    "race":{"turns":1,"keeper":[],"callers":[[["cancel",1]],[["cancel",1]]]}}"#;
 
 const REPORTS: [&str; 2] = [
     "start ok\nkeeper\ncaller 1\ncancel 50\ncaller 2\ncancel false\nsettled armed 0 expired 0 delivered 0 dropped 0 cancelled 1 orphaned 0\nend 0\n",

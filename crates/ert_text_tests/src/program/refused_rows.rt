@@ -36,7 +36,8 @@ pub const ROWS: [(&str, &str, &str); 21] = [
     ),
     (
         r#""first":[0,0]"#,
-        r#"["send_after",1,0,"rel",3,0,55],["start",2,0,"rel",4,0,66],["cancel_async",2,0,false],["serve",0],["receive",0],["cancel_quiet",2],["tick",0,3000000],["turn",0],["receive",0],["receive",0]"#,
+        r#"["send_after",1,0,"rel",3,0,55],["start",2,0,"rel",4,0,66],["cancel_async",2,0,false],["serve",0],
+        ["receive",0],["cancel_quiet",2],["tick",0,3000000],["turn",0],["receive",0],["receive",0]"#,
         "refused shape 1\n",
     ),
     (

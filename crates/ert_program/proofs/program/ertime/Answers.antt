@@ -21,10 +21,10 @@ returns-in-Some-Live-clause-live g c = λ n e.
     let is : asked c.args.words.now ≡ Some (Live c.in-Some-Live.n) =
     found_is (map string_bytes c.args.words.now) c.in-Ok.command c.in-Some-Live.field-0 (Live c.in-Some-Live.n)
     c.in-Ok.ensures c.in-Some-Live.is (rw c.in-Some-Live.is at c.in-Some-Live.field-0-is) in
-    subst (λ (k : ℕ). LiveEnds k (clock_of (g.C.OsClock.left c.args.clock.now) (g.C.OsClock.faults c.args.clock.now))
-    (clock_of (g.C.OsClock.left c.live.new.clock) (g.C.OsClock.faults c.live.new.clock))
-    (output_of (g.O.Sink.taken c.args.output.now) (g.O.Sink.room c.args.output.now) (g.O.Sink.faults c.args.output.now))
-    (output_of (g.O.Sink.taken c.live.new.output) (g.O.Sink.room c.live.new.output) (g.O.Sink.faults c.live.new.output)) c.live.result)
+    subst (λ (k : ℕ). LiveEnds k (clock_of g.C.OsClock.left g.C.OsClock.faults c.args.clock.now)
+    (clock_of g.C.OsClock.left g.C.OsClock.faults c.live.new.clock)
+    (output_of g.O.Sink.taken g.O.Sink.room g.O.Sink.faults c.args.output.now)
+    (output_of g.O.Sink.taken g.O.Sink.room g.O.Sink.faults c.live.new.output) c.live.result)
     (same_live c.in-Some-Live.n n (sym is ∙ e)) c.live.ensures.ends
 
 pub stress-requires-clause-count : goal.stress-requires-clause-count
@@ -41,11 +41,11 @@ returns-in-Some-Stress-clause-stress g c = λ seed n e.
     found_is (map string_bytes c.args.words.now) c.in-Ok.command c.in-Some-Stress.field-0 (Stress c.in-Some-Stress.seed c.in-Some-Stress.n)
     c.in-Ok.ensures c.in-Some-Stress.is made in
     let both = same_stress c.in-Some-Stress.seed c.in-Some-Stress.n seed n (sym is ∙ e) in
-    let o : Output = output_of (g.O.Sink.taken c.args.output.now) (g.O.Sink.room c.args.output.now) (g.O.Sink.faults c.args.output.now) in
-    let p : Output = output_of (g.O.Sink.taken c.stress.new.output) (g.O.Sink.room c.stress.new.output) (g.O.Sink.faults c.stress.new.output) in
+    let o : Output = output_of g.O.Sink.taken g.O.Sink.room g.O.Sink.faults c.args.output.now in
+    let p : Output = output_of g.O.Sink.taken g.O.Sink.room g.O.Sink.faults c.stress.new.output in
     subst (λ (x : ℕ). StressEnds x n o p c.of_run.result) both.0
     (subst (λ (x : ℕ). StressEnds c.in-Some-Stress.seed x o p c.of_run.result) both.1
     (subst (λ (x : Ended). StressEnds c.in-Some-Stress.seed c.in-Some-Stress.n o p x) (sym c.of_run.ensures)
     (stress_ends c.in-Some-Stress.seed c.in-Some-Stress.n o p c.stress.result c.stress.ensures.ok
     (λ how. (c.stress.ensures.cause how, c.stress.ensures.write_fault how))
-    (λ how. ap (λ k. output_of (g.O.Sink.taken k) (g.O.Sink.room k) (g.O.Sink.faults k)) (c.stress.ensures.no_memory how)))))
+    (λ how. ap (λ k. output_of g.O.Sink.taken g.O.Sink.room g.O.Sink.faults k) (c.stress.ensures.no_memory how)))))
