@@ -53,14 +53,6 @@ free_known c j by timer deadline wanted b due is =
     some_same : (m n : ℕ) → Some m ≡ Some n → m ≡ n
     some_same m n e = cc
 
--- without a deadline it can't
-pub none_known : (c : Clock) (j : Judge) (by : Actor) (timer : TimerRef) (deadline : Option ℕ) → deadline ≡ None
-    → IsTrue false ↔ CanArm j.settings (shown c j) by timer deadline
-none_known c j by timer deadline none = (
-  (λ yes. let e : false ≡ true = yes in absurd cc),
-  (λ can. let e : None ≡ Some can.wanted = sym none ∙ can.due in absurd cc),
-)
-
 -- a reference without a status in its wheel is a new use of its slot
 own_new : (w : ℕ) (ts : List Timer) (r : TimerRef) → IsOwn w ts → r.wheel ≡ w → status_in ts r ≡ None
     → IsNewUse ts r.slot r.generation

@@ -34,9 +34,11 @@ pub fn put<O: Sink>(
 ) -> Result<(), RunErr>
     requires { HasRoom (O.room output.old) (length (string_bytes page.old ++ line_of (label_by names.now) reply.now)) }
     ensures ok { (labels : Labels) → IsIndexOf labels names.now → OnOk result
-        (Moves (told (O.taken output.old) (O.room output.old)) (told (O.taken output.new) (O.room output.new)) (string_bytes page.old ++ line_of (label_of labels) reply.now) (string_bytes page.new)) }
+        (Moves (told (O.taken output.old) (O.room output.old)) (told (O.taken output.new) (O.room output.new))
+        (string_bytes page.old ++ line_of (label_of labels) reply.now) (string_bytes page.new)) }
     ensures err { (labels : Labels) → IsIndexOf labels names.now → OnErr result
-        (TakesFront (told (O.taken output.old) (O.room output.old)) (told (O.taken output.new) (O.room output.new)) (string_bytes page.old ++ line_of (label_of labels) reply.now)) }
+        (TakesFront (told (O.taken output.old) (O.room output.old)) (told (O.taken output.new) (O.room output.new))
+        (string_bytes page.old ++ line_of (label_of labels) reply.now)) }
     ensures later { O.faults output.old ≤ O.faults output.new }
     ensures cause { IsErrOf result RunErr.WriteFault → Rose (O.faults output.old) (O.faults output.new) }
 {
@@ -54,7 +56,8 @@ pub fn write_page<O: Sink>(output: &mut O, page: &mut String) -> Result<(), RunE
     requires { HasRoom (O.room output.old) (length (string_bytes page.old)) }
     ensures ok { OnOk result (told (O.taken output.new) (O.room output.new) ≡ took (told (O.taken output.old) (O.room output.old)) (string_bytes page.old)) }
     ensures empty { OnOk result (string_bytes page.new ≡ codes "") }
-    ensures err { OnErr result (TakesFront (told (O.taken output.old) (O.room output.old)) (told (O.taken output.new) (O.room output.new)) (string_bytes page.old)) }
+    ensures err { OnErr result
+        (TakesFront (told (O.taken output.old) (O.room output.old)) (told (O.taken output.new) (O.room output.new)) (string_bytes page.old)) }
     ensures only { OnErr result (result ≡ Err RunErr.WriteFault) }
     ensures later { O.faults output.old ≤ O.faults output.new }
     ensures cause { OnErr result (Rose (O.faults output.old) (O.faults output.new)) }

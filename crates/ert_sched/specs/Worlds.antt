@@ -19,7 +19,7 @@ use Rattle.ert_table.specs.Desks.{settings_of, front_of, actors_of, Belongs}
 use Rattle.ert_table.specs.Held.{IsWhole}
 use Rattle.ert_table.specs.declared.desk.Desk.{Desk}
 use Rattle.ert_table.specs.declared.desk.Pass.{Pass}
-use Rattle.ert_timers.specs.NextDue.{IsNextHeld}
+use Rattle.ert_timers.specs.NextDue.{IsNearest, IsNextHeld, horizon_at}
 use Rattle.ert_timers.specs.Parts.{Part}
 use Rattle.ert_sched.specs.Parts.{AllParts, Stand}
 use Rattle.ert_timers.specs.Tidy.{IsTidy, IsTidyBut}
@@ -53,6 +53,11 @@ IsTidyAt w i = (d : Part) → IsTidy (state w.settings w.history) (slice_index_o
 -- cancelled until that would have been due
 abbrev pub IsNextHeldAt : Service → ℕ → Option ℕ → Type 0
 IsNextHeldAt w i answer = (d : Part) → IsNextHeld (slice_index_or w.wheels i d) (natural (down w.settings w.clock.face.time)) answer
+
+-- where a wheel of a world is tidy, a time that is answered is that of an armed timer, or some timer is armed and
+-- it is the end of a look ahead from the published time
+abbrev pub IsNearestAt : Service → ℕ → Option ℕ → Type 0
+IsNearestAt w i answer = IsTidyAt w i → IsNearest (state w.settings w.history) i (horizon_at w.settings w.clock.face.time) answer
 
 -- each wheel that was tidy is so still
 abbrev pub StayTidy : Service → Service → Type 0

@@ -17,8 +17,8 @@ impl World {
     ghost use Rattle.ert_answers.specs.Ways.{alone};
     ghost use Rattle.ert_defs.specs.Mails.{first_of, others_of};
     ghost use Rattle.ert_defs.specs.States.{state};
-    ghost use Rattle.ert_sched.specs.Worlds.{Goes, GoesBut, By, IsNextHeldAt, IsTidyAt, sched_of, cancelled_by};
-    ghost use Rattle.ert_timers.specs.NextDue.{NoneArmedBefore, IsNearest, horizon_at};
+    ghost use Rattle.ert_sched.specs.Worlds.{Goes, GoesBut, By, IsNextHeldAt, IsNearestAt, sched_of, cancelled_by};
+    ghost use Rattle.ert_timers.specs.NextDue.{NoneArmedBefore};
 
     /// Serves one request: that in the scheduler's hand, or the first of its inbox. False comes where there is
     /// none.
@@ -141,7 +141,7 @@ impl World {
         requires { sched < self.now.settings.schedulers }
         ensures held { IsNextHeldAt self.now sched result }
         ensures armed { NoneArmedBefore (state self.now.settings self.now.history) sched result }
-        ensures nearest { IsTidyAt self.now sched → IsNearest (state self.now.settings self.now.history) sched (horizon_at self.now.settings self.now.clock.face.time) result }
+        ensures nearest { IsNearestAt self.now sched result }
     {
         self.wheels[sched as usize].next_due(self.desk.settings(), self.keeper.clock().now())
     }

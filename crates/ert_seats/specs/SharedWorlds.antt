@@ -18,6 +18,7 @@ use Rattle.ert_table.specs.Desks.{settings_of, front_of, actors_of, Belongs}
 use Rattle.ert_table.specs.Held.{is_held, IsActor}
 use Rattle.ert_table.specs.declared.desk.Desk.{Desk}
 use Rattle.ert_table.specs.declared.desk.Pass.{Pass}
+use Rattle.ert_timers.specs.NextDue.{IsNearest, horizon_at}
 use Rattle.ert_timers.specs.Parts.{Part}
 use Rattle.ert_timers.specs.Tidy.{IsTidy}
 use Rattle.ert_sched.specs.Parts.{AllParts, Stand}
@@ -108,6 +109,11 @@ IsNextHeld p now answer = MatchOption answer (NoRow p.keys) (IsNextDue p.keys no
 -- cancelled until that would have been due
 abbrev pub IsNextHeldAt : Shared → ℕ → Option ℕ → Type 0
 IsNextHeldAt w i answer = (d : Part) → IsNextHeld (slice_index_or w.wheels i d) (natural (down w.settings w.clock.face.time)) answer
+
+-- where a wheel of a world is tidy, a time that is answered is that of an armed timer, or some timer is armed and
+-- it is the end of a look ahead from the published time
+abbrev pub IsNearestAt : Shared → ℕ → Option ℕ → Type 0
+IsNearestAt w i answer = IsTidyAt w i → IsNearest (state w.settings w.history) i (horizon_at w.settings w.clock.face.time) answer
 
 -- a world was opened: it stands for the empty history, has given out no seat, and each wheel is tidy
 pub record IsOpened (g : Settings) (w : Shared) : Type 0 where

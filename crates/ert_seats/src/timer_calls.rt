@@ -71,10 +71,11 @@ impl SharedWorld {
         read_timer(&self.desk, &mut self.pass, Actor::Caller(CALLER), timer)
     }
 
-    /// How many slots of a wheel can take a timer now, and else when the first of those that rest can: a slot
-    /// rests once it was used 262143 times, until the deadlines of all its timers have passed.
+    /// How many slots of a wheel can take a timer now, and from when on one more can, of those that rest: a slot
+    /// rests once it was used 262,143 times in its round, until the deadlines of all its timers have passed.
     ///
-    /// The caller looks at the time and at each slot. No memory is taken.
+    /// By it an embedder sees a full wheel coming, and knows how long to wait then. The caller looks at the time
+    /// and at each slot, so it isn't meant for each start. No memory is taken.
     pub fn room(&mut self, wheel: u32) -> Room
         requires { wheel < self.old.settings.schedulers }
         ensures call { Goes self.old (By self.old (λ g. TellsRoom g 0 wheel result)) self.new }

@@ -16,9 +16,9 @@ impl SharedWorld {
     ghost use Rattle.ert_answers.specs.RequestCalls.{Picks, Answers};
     ghost use Rattle.ert_defs.specs.Mails.{first_of, others_of};
     ghost use Rattle.ert_defs.specs.States.{state};
-    ghost use Rattle.ert_seats.specs.SharedWorlds.{Goes, By, way_of, IsGone, IsTidyAt, IsNextHeldAt, sched_of};
+    ghost use Rattle.ert_seats.specs.SharedWorlds.{Goes, By, way_of, IsGone, IsNextHeldAt, IsNearestAt, sched_of};
     ghost use Rattle.ert_sched.specs.Worlds.{cancelled_by};
-    ghost use Rattle.ert_timers.specs.NextDue.{NoneArmedBefore, IsNearest, horizon_at};
+    ghost use Rattle.ert_timers.specs.NextDue.{NoneArmedBefore};
 
     /// Serves one request: that in the scheduler's hand, or the first of its inbox. False comes where there is
     /// none.
@@ -142,7 +142,7 @@ impl SharedWorld {
         requires { sched < self.now.settings.schedulers }
         ensures held { IsNextHeldAt self.now sched result }
         ensures armed { NoneArmedBefore (state self.now.settings self.now.history) sched result }
-        ensures nearest { IsTidyAt self.now sched → IsNearest (state self.now.settings self.now.history) sched (horizon_at self.now.settings self.now.clock.face.time) result }
+        ensures nearest { IsNearestAt self.now sched result }
     {
         self.wheels[sched as usize].next_due(self.desk.settings(), self.keeper.clock().now())
     }

@@ -4,7 +4,8 @@ ghost use Rattle.std.specs.Prelude.{◌++◌, codes};
 ghost use Rattle.ert_transcript.specs.Worked.{Prints, IsPrinted, EndsWith, Leaves, repeated};
 ghost use Rattle.ert_transcript.specs.WorkedClocks.{frozen, warped, fallen, finalized, volatile, too_wide, strong, gentle, conversions};
 ghost use Rattle.ert_transcript.specs.WorkedTimers.{rounding, cancelling, deadlines, below_zero, in_order, one_slot, exits, orphan, by_starting, refused_label};
-ghost use Rattle.ert_transcript.specs.WorkedTurns.{requests, too_late, many_requests, quiet, monitors, many_monitors, one_day, idle, one_cancel, cancelled_once, delivered_once, orphaned_once};
+ghost use Rattle.ert_transcript.specs.WorkedTurns.{requests, too_late, many_requests, quiet, monitors, many_monitors, one_day, idle};
+ghost use Rattle.ert_transcript.specs.WorkedTurns.{one_cancel, cancelled_once, delivered_once, orphaned_once};
 
 /// The plain service prints of the worked scenarios what the rules say, and leaves the timers that they say.
 pub fn transcripts_are_judged()
