@@ -86,12 +86,13 @@ fn free_slots(rt: HostRuntime) -> Result<(), Fail> {
 #[test]
 fn free_slots_have_two_ends(rt: HostRuntime) -> Result<(), Fail> {
     let mut free = FreeSlots::new(rt.alloc(), 3)?;
-    let picked = (free.pick(), free.pick(), free.pick());
-    assert!(rt; picked.0.is_some() && picked.1.is_some() && picked.2.is_some());
-    free.put(0);
-    free.put_first(1);
-    free.put(2);
-    let picked = (free.pick_first(), free.pick(), free.pick_first());
-    assert!(rt; picked == (Some(1), Some(2), Some(0)), "{picked:?}");
+    let last = free.pick().ok_or("none held")?;
+    free.put_first(last);
+    let first = free.pick_first();
+    assert!(rt; first == Some(last), "{first:?}");
+    let other = free.pick_first().ok_or("none held")?;
+    free.put(other);
+    let picked = (free.pick(), free.pick().is_some(), free.pick());
+    assert!(rt; picked == (Some(other), true, None), "{picked:?}");
     Ok(())
 }

@@ -3,7 +3,7 @@
 use Rattle.std.proofs.Common.{◌≡◌, ◌<◌, ℤ, Option, Some, None, Result, Ok, MatchOption, inr, refl, subst, sym, false, arith}
 use Rattle.std.specs.Prelude.{⊤}
 use Rattle.ert_seats.specs.SharedWorlds.{Shared}
-use Rattle.ert_c.specs.Calls.{AtProcess, AsksBy}
+use Rattle.ert_c.specs.Calls.{AtProcess, AsksBy, PutsRequest}
 use Rattle.ert_c.specs.Places.{is_there}
 use Rattle.ert_c.specs.Told.{request_kind_at, request_of, IsAsked}
 use Rattle.ert_c.specs.declared.mail_calls.ErtRequest.{ErtRequest}
@@ -30,7 +30,7 @@ opens_nothing c (Some w) g h read = cc
 pub asks_through : (r : ErtRequest) (kind : RequestKind) (old new : Option Shared) (was now : Shared) (answer : Result (Unit {0}) WantOfMemory) (status : ℤ)
     → old ≡ Some was → new ≡ Some now → request_kind_at r.kind ≡ Some kind → r.reply_to < was.settings.processes
     → AsksBy (request_of r kind) answer was now → IsAsked answer status
-    → Through ⊤ (λ old new. MatchOption (request_kind_at r.kind) (IsRefusedAs BAD_KIND status old new) (λ kind. AtProcess r.reply_to (AsksBy (request_of r kind)) (λ answer. IsAsked answer status) status ⊤ old new)) old status new
+    → PutsRequest r old status new
 asks_through r kind old new was now answer status is becomes found low asks told =
     through ⊤ (λ old new. MatchOption (request_kind_at r.kind) (IsRefusedAs BAD_KIND status old new) (λ kind. AtProcess r.reply_to (AsksBy (request_of r kind)) (λ answer. IsAsked answer status) status ⊤ old new)) old new status was now is becomes
     (subst (λ (o : Option RequestKind). MatchOption o (IsRefusedAs BAD_KIND status was now) (λ kind. AtProcess r.reply_to (AsksBy (request_of r kind)) (λ answer. IsAsked answer status) status ⊤ was now)) (sym found)

@@ -1,6 +1,6 @@
 -- What a service does by the calls on timers, mailboxes and turns.
 
-use Rattle.std.specs.Prelude.{◌≡◌, ◌≢◌, ℕ, ℤ, Bool, Option, Result, Err}
+use Rattle.std.specs.Prelude.{◌≡◌, ◌≢◌, ℕ, ℤ, Bool, Option, Result, Err, MatchOption, ⊤}
 use Rattle.ert_answers.specs.Chains.{Exits, Serves, AdvancesWheel, Delivers, Turns}
 use Rattle.ert_answers.specs.MailCalls.{Takes, Monitors, Demonitors, Tells}
 use Rattle.ert_answers.specs.RequestCalls.{Asks, inbox_for}
@@ -22,7 +22,12 @@ use Rattle.ert_defs.specs.declared.timer.Start.{Start}
 use Rattle.ert_defs.specs.declared.timer.TimerRef.{TimerRef}
 use Rattle.ert_seats.specs.SharedWorlds.{Shared, Goes, By, IsTidyAt, IsNextHeldAt, way_of}
 use Rattle.ert_timers.specs.NextDue.{NoneArmedBefore, IsNearest, horizon_at}
-use Rattle.ert_c.specs.Through.{Answers, IfBelow, IsOutOfRange}
+use Rattle.ert_c.specs.Through.{Through, Answers, IfBelow, IsOutOfRange, IsRefusedAs}
+use Rattle.ert_c.specs.Told.{start_of, request_kind_at, request_of, IsStarted, IsRoomTold, IsAsked}
+use Rattle.ert_c.specs.declared.mail_calls.ErtRequest.{ErtRequest}
+use Rattle.ert_c.specs.declared.status.TheConstants.{BAD_KIND}
+use Rattle.ert_c.specs.declared.timer_calls.ErtStart.{ErtStart}
+use Rattle.ert_c.specs.declared.timer_calls.ErtTimer.{ErtTimer}
 
 -- a service makes a call that isn't one on the clock
 pub record Makes (call : Shared → Growth) (old new : Shared) : Type 0 where
@@ -37,14 +42,39 @@ AtSched n call tells status kept old new = IfBelow n old.settings.schedulers (An
 abbrev pub AtProcess : {A : Type 0} → ℕ → (A → Shared → Shared → Type 0) → (A → Type 0) → ℤ → Type 0 → Shared → Shared → Type 0
 AtProcess n call tells status kept old new = IfBelow n old.settings.processes (Answers call tells old new) (IsOutOfRange status kept old new)
 
+-- a call at a scheduler goes through a handle, and C finds the answer in a place of its own; else that place is
+-- as it was
+abbrev pub AnswersAtSched : {A P : Type 0} → ℕ → (A → Shared → Shared → Type 0) → (A → P → ℤ → P → Type 0) → P → P
+    → Option Shared → ℤ → Option Shared → Type 0
+AnswersAtSched n call tells kept found old status new =
+    Through (found ≡ kept) (AtSched n call (λ answer. tells answer kept status found) status (found ≡ kept)) old status new
+
+-- and so does a call for a process
+abbrev pub AnswersAtProcess : {A P : Type 0} → ℕ → (A → Shared → Shared → Type 0) → (A → P → ℤ → P → Type 0) → P → P
+    → Option Shared → ℤ → Option Shared → Type 0
+AnswersAtProcess n call tells kept found old status new =
+    Through (found ≡ kept) (AtProcess n call (λ answer. tells answer kept status found) status (found ≡ kept)) old status new
+
 -- caller 0 starts a timer, with this answer, which is never want of memory
 pub record StartsBy (wheel : ℕ) (start : Start) (answer : Result TimerRef StartErr) (old new : Shared) : Type 0 where
   pub makes : Makes (λ w. By w (λ g. Starts g 0 wheel start answer)) old new
   pub memory : answer ≢ Err NoMemory
 
+-- C starts a timer on the wheel of a scheduler, for a process; where there is no such scheduler or process,
+-- nothing has changed
+abbrev pub StartsTimer : ℕ → ErtStart → ErtTimer → ErtTimer → Option Shared → ℤ → Option Shared → Type 0
+StartsTimer sched start kept found old status new = Through (found ≡ kept) (λ was now. IfBelow sched was.settings.schedulers
+    (AtProcess start.dest (StartsBy sched (start_of start)) (λ answer. IsStarted answer kept status found) status (found ≡ kept) was now)
+    (IsOutOfRange status (found ≡ kept) was now)) old status new
+
 -- caller 0 looks how much room the wheel of a scheduler has
 abbrev pub TellsRoomBy : ℕ → Room → Shared → Shared → Type 0
 TellsRoomBy sched answer = Makes (λ w. By w (λ g. TellsRoom g 0 sched answer))
+
+-- C asks how much room the wheel of a scheduler has; where there is no such one, what C passed is as it was
+abbrev pub AsksRoom : ℕ → Type 0 → ℕ → ℕ → Option Shared → ℤ → Option Shared → Type 0
+AsksRoom sched kept room ready old status new =
+    Through kept (AtSched sched (TellsRoomBy sched) (λ answer. IsRoomTold answer status room ready) status kept) old status new
 
 -- caller 0 cancels a timer: what was left of it, where it was armed
 abbrev pub CancelsBy : TimerRef → Option ℕ → Shared → Shared → Type 0
@@ -65,6 +95,11 @@ ExitsBy process answer = Makes (λ w. Exits w.settings (way_of w) 0 process answ
 -- caller 0 puts a request into the inbox of its scheduler, or there is no memory
 abbrev pub AsksBy : Request → Result (Unit {0}) WantOfMemory → Shared → Shared → Type 0
 AsksBy request answer = Makes (λ w. By w (λ g. Asks g 0 (inbox_for g request) request answer))
+
+-- C puts a request; where no request has its kind, or there is no process to reply to, nothing has changed
+abbrev pub PutsRequest : ErtRequest → Option Shared → ℤ → Option Shared → Type 0
+PutsRequest request old status new = Through ⊤ (λ was now. MatchOption (request_kind_at request.kind) (IsRefusedAs BAD_KIND status was now)
+    (λ kind. AtProcess request.reply_to (AsksBy (request_of request kind)) (λ answer. IsAsked answer status) status ⊤ was now)) old status new
 
 -- caller 0 takes the first message of a process, if there is one and the process is alive
 abbrev pub TakesBy : ℕ → Taken → Shared → Shared → Type 0

@@ -5,6 +5,8 @@ use Rattle.ert_answers.specs.ClockCalls.{TellsTime, TellsOffset, TellsSystemTime
 use Rattle.ert_answers.specs.TimerCalls.{Reads, Cancels}
 use Rattle.ert_answers.specs.WheelCalls.{TellsAlive}
 use Rattle.ert_c.specs.ClockCalls.{state_as}
+use Rattle.ert_c.specs.Through.{Answers, IfBelow, IsOutOfRange}
+use Rattle.ert_c.specs.Told.{IsFlag}
 use Rattle.ert_c.specs.declared.clock_calls.ErtOffset.{ErtOffset}
 use Rattle.ert_c.specs.declared.status.TheConstants.{OK, CLOSED, OPEN, NO_MEMORY, NO_SEAT}
 use Rattle.ert_defs.specs.declared.entry.Actor.TheVariants.{Caller}
@@ -60,3 +62,8 @@ SeatReadsBy timer answer old new = Steps old (BySeat old (λ g. Reads g (Caller 
 -- a seat sees as its caller whether a process is alive
 abbrev pub SeatTellsAliveBy : ℕ → Bool → Seated → Seated → Type 0
 SeatTellsAliveBy process answer old new = Steps old (BySeat old (λ g. TellsAlive g (Caller old.number) process answer)) new
+
+-- C is told by a seat whether a process is alive; where there is no such one, nothing has changed
+abbrev pub SeatTellsAlive : ℕ → ℕ → ℤ → ℕ → Seated → Seated → Type 0
+SeatTellsAlive process kept status found old new = IfBelow process old.settings.processes
+    (Answers (SeatTellsAliveBy process) (λ answer. IsFlag answer status found) old new) (IsOutOfRange status (found ≡ kept) old new)

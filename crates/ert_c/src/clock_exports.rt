@@ -2,7 +2,7 @@
 ghost use Rattle.std.specs.Prelude.{◌≡◌};
 ghost use Rattle.ert_c.specs.ClockCalls.{is_on, TicksBy, FinalizesBy, ReadsTime, ReadsSystemTime, ReadsOffset, IsMoved, IsFinalized};
 ghost use Rattle.ert_c.specs.Opened.{reading_as, Opens, Closes};
-ghost use Rattle.ert_c.specs.Through.{Through, Answers};
+ghost use Rattle.ert_c.specs.Through.{Through, Answers, AnswersThrough};
 
 use crate::clock_calls::{ErtMoved, ErtOffset, state_as, tell_finalized, tell_moved};
 use crate::ert_world::ErtWorld;
@@ -53,7 +53,7 @@ pub extern "C" fn ert_world_tick(
     force: u32,
     moved: &mut ErtMoved,
 ) -> i32
-    ensures { Through (moved.new ≡ moved.old) (Answers (TicksBy (reading_as reading.now) (is_on force)) (λ answer. IsMoved answer moved.old result moved.new)) world.old.place.value result world.new.place.value }
+    ensures { AnswersThrough (TicksBy (reading_as reading.now) (is_on force)) IsMoved moved.old moved.new world.old.place.value result world.new.place.value }
 {
     if !world.live {
         return CLOSED;
@@ -70,7 +70,9 @@ pub extern "C" fn ert_world_finalize(
     before: &mut u32,
     moved: &mut ErtMoved,
 ) -> i32
-    ensures { Through ((before.new ≡ before.old) × (moved.new ≡ moved.old)) (Answers (FinalizesBy (reading_as reading.now)) (λ answer. IsFinalized answer before.old moved.old result before.new moved.new)) world.old.place.value result world.new.place.value }
+    ensures { Through ((before.new ≡ before.old) × (moved.new ≡ moved.old))
+        (Answers (FinalizesBy (reading_as reading.now)) (λ answer. IsFinalized answer before.old moved.old result before.new moved.new))
+        world.old.place.value result world.new.place.value }
 {
     if !world.live {
         return CLOSED;

@@ -1,9 +1,8 @@
 //! The exported calls on mailboxes, requests and monitors.
-ghost use Rattle.std.specs.Prelude.{◌≡◌};
-ghost use Rattle.std.specs.Prelude.{MatchOption, ⊤};
-ghost use Rattle.ert_c.specs.Calls.{AtProcess, AsksBy, TakesBy, MonitorsBy, DemonitorsBy, TellsBy};
-ghost use Rattle.ert_c.specs.Told.{request_kind_at, request_of, IsAsked, IsTaken, IsMonitored, IsDemonitored, IsNumber};
-ghost use Rattle.ert_c.specs.Through.{Through, IsRefusedAs};
+ghost use Rattle.std.specs.Prelude.{⊤};
+ghost use Rattle.ert_c.specs.Calls.{AtProcess, AnswersAtProcess, PutsRequest, TakesBy, MonitorsBy, DemonitorsBy, TellsBy};
+ghost use Rattle.ert_c.specs.Told.{IsTaken, IsMonitored, IsDemonitored, IsNumber};
+ghost use Rattle.ert_c.specs.Through.{Through};
 
 use crate::ert_world::ErtWorld;
 use crate::mail_calls::{
@@ -14,7 +13,7 @@ use crate::turn_calls::tell_number;
 /// Asks the scheduler of a timer to cancel or to read it.
 #[unsafe(no_mangle)]
 pub extern "C" fn ert_world_ask(world: &mut ErtWorld, request: &ErtRequest) -> i32
-    ensures { Through ⊤ (λ old new. MatchOption (request_kind_at request.now.kind) (IsRefusedAs BAD_KIND result old new) (λ kind. AtProcess request.now.reply_to (AsksBy (request_of request.now kind)) (λ answer. IsAsked answer result) result ⊤ old new)) world.old.place.value result world.new.place.value }
+    ensures { PutsRequest request.now world.old.place.value result world.new.place.value }
 {
     if !world.live {
         return CLOSED;
@@ -33,7 +32,7 @@ pub extern "C" fn ert_world_ask(world: &mut ErtWorld, request: &ErtRequest) -> i
 /// Takes the first message of a process.
 #[unsafe(no_mangle)]
 pub extern "C" fn ert_world_take(world: &mut ErtWorld, process: u32, mail: &mut ErtMail) -> i32
-    ensures { Through (mail.new ≡ mail.old) (AtProcess process (TakesBy process) (λ answer. IsTaken answer mail.old result mail.new) result (mail.new ≡ mail.old)) world.old.place.value result world.new.place.value }
+    ensures { AnswersAtProcess process (TakesBy process) IsTaken mail.old mail.new world.old.place.value result world.new.place.value }
 {
     if !world.live {
         return CLOSED;
@@ -49,7 +48,7 @@ pub extern "C" fn ert_world_take(world: &mut ErtWorld, process: u32, mail: &mut 
 /// Makes a monitor of the time offset for a process.
 #[unsafe(no_mangle)]
 pub extern "C" fn ert_world_monitor(world: &mut ErtWorld, process: u32, monitor: &mut u32) -> i32
-    ensures { Through (monitor.new ≡ monitor.old) (AtProcess process (MonitorsBy process) (λ answer. IsMonitored answer monitor.old result monitor.new) result (monitor.new ≡ monitor.old)) world.old.place.value result world.new.place.value }
+    ensures { AnswersAtProcess process (MonitorsBy process) IsMonitored monitor.old monitor.new world.old.place.value result world.new.place.value }
 {
     if !world.live {
         return CLOSED;
@@ -65,7 +64,7 @@ pub extern "C" fn ert_world_monitor(world: &mut ErtWorld, process: u32, monitor:
 /// Tells a process the time offset where it is news.
 #[unsafe(no_mangle)]
 pub extern "C" fn ert_world_tell(world: &mut ErtWorld, process: u32, told: &mut u32) -> i32
-    ensures { Through (told.new ≡ told.old) (AtProcess process (TellsBy process) (λ answer. IsNumber answer told.old result told.new) result (told.new ≡ told.old)) world.old.place.value result world.new.place.value }
+    ensures { AnswersAtProcess process (TellsBy process) IsNumber told.old told.new world.old.place.value result world.new.place.value }
 {
     if !world.live {
         return CLOSED;
@@ -81,7 +80,8 @@ pub extern "C" fn ert_world_tell(world: &mut ErtWorld, process: u32, told: &mut 
 /// Removes a monitor.
 #[unsafe(no_mangle)]
 pub extern "C" fn ert_world_demonitor(world: &mut ErtWorld, process: u32, monitor: u32) -> i32
-    ensures { Through ⊤ (AtProcess process (DemonitorsBy process monitor) (λ answer. IsDemonitored answer result) result ⊤) world.old.place.value result world.new.place.value }
+    ensures { Through ⊤ (AtProcess process (DemonitorsBy process monitor) (λ answer. IsDemonitored answer result) result ⊤)
+        world.old.place.value result world.new.place.value }
 {
     if !world.live {
         return CLOSED;

@@ -1,9 +1,9 @@
 //! The exported calls of seats.
 ghost use Rattle.std.specs.Prelude.{◌≡◌};
 ghost use Rattle.ert_c.specs.Opened.{Closes};
-ghost use Rattle.ert_c.specs.SeatCalls.{OpensSeat, SeatReadsTime, SeatReadsSystemTime, SeatReadsOffset, SeatCancelsBy, SeatReadsBy, SeatTellsAliveBy};
-ghost use Rattle.ert_c.specs.Through.{Through, Answers, IfBelow, IsOutOfRange};
-ghost use Rattle.ert_c.specs.Told.{timer_of, IsLeft, IsFlag};
+ghost use Rattle.ert_c.specs.SeatCalls.{OpensSeat, SeatReadsTime, SeatReadsSystemTime, SeatReadsOffset, SeatCancelsBy, SeatReadsBy, SeatTellsAlive};
+ghost use Rattle.ert_c.specs.Through.{Through, AnswersThrough};
+ghost use Rattle.ert_c.specs.Told.{timer_of, IsLeft};
 
 use crate::clock_calls::{ErtOffset, state_as};
 use crate::ert_seat::ErtSeat;
@@ -89,7 +89,7 @@ pub extern "C" fn ert_seat_time_offset(seat: &mut ErtSeat, offset: &mut ErtOffse
 /// Cancels a timer, and tells how much was left of it.
 #[unsafe(no_mangle)]
 pub extern "C" fn ert_seat_cancel(seat: &mut ErtSeat, timer: &ErtTimer, left: &mut u64) -> i32
-    ensures { Through (left.new ≡ left.old) (Answers (SeatCancelsBy (timer_of timer.now)) (λ answer. IsLeft answer left.old result left.new)) seat.old.place.value result seat.new.place.value }
+    ensures { AnswersThrough (SeatCancelsBy (timer_of timer.now)) IsLeft left.old left.new seat.old.place.value result seat.new.place.value }
 {
     if !seat.live {
         return CLOSED;
@@ -101,7 +101,7 @@ pub extern "C" fn ert_seat_cancel(seat: &mut ErtSeat, timer: &ErtTimer, left: &m
 /// Tells how much is left of a timer.
 #[unsafe(no_mangle)]
 pub extern "C" fn ert_seat_read(seat: &mut ErtSeat, timer: &ErtTimer, left: &mut u64) -> i32
-    ensures { Through (left.new ≡ left.old) (Answers (SeatReadsBy (timer_of timer.now)) (λ answer. IsLeft answer left.old result left.new)) seat.old.place.value result seat.new.place.value }
+    ensures { AnswersThrough (SeatReadsBy (timer_of timer.now)) IsLeft left.old left.new seat.old.place.value result seat.new.place.value }
 {
     if !seat.live {
         return CLOSED;
@@ -113,7 +113,7 @@ pub extern "C" fn ert_seat_read(seat: &mut ErtSeat, timer: &ErtTimer, left: &mut
 /// Tells whether a process has not exited.
 #[unsafe(no_mangle)]
 pub extern "C" fn ert_seat_is_alive(seat: &mut ErtSeat, process: u32, alive: &mut u32) -> i32
-    ensures { Through (alive.new ≡ alive.old) (λ old new. IfBelow process old.settings.processes (Answers (SeatTellsAliveBy process) (λ answer. IsFlag answer result alive.new) old new) (IsOutOfRange result (alive.new ≡ alive.old) old new)) seat.old.place.value result seat.new.place.value }
+    ensures { Through (alive.new ≡ alive.old) (SeatTellsAlive process alive.old result alive.new) seat.old.place.value result seat.new.place.value }
 {
     if !seat.live {
         return CLOSED;

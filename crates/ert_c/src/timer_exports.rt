@@ -1,8 +1,8 @@
 //! The exported calls on timers and processes.
 ghost use Rattle.std.specs.Prelude.{◌≡◌};
-ghost use Rattle.ert_c.specs.Calls.{AtProcess, AtSched, StartsBy, TellsRoomBy, CancelsBy, ReadsBy, TellsAliveBy, ExitsBy};
-ghost use Rattle.ert_c.specs.Told.{timer_of, start_of, IsStarted, IsRoomTold, IsLeft, IsFlag};
-ghost use Rattle.ert_c.specs.Through.{Through, Answers, IfBelow, IsOutOfRange};
+ghost use Rattle.ert_c.specs.Calls.{AnswersAtProcess, StartsTimer, AsksRoom, CancelsBy, ReadsBy, TellsAliveBy, ExitsBy};
+ghost use Rattle.ert_c.specs.Told.{timer_of, IsLeft, IsFlag};
+ghost use Rattle.ert_c.specs.Through.{AnswersThrough};
 
 use crate::ert_world::ErtWorld;
 use crate::status::{CLOSED, RANGE};
@@ -15,7 +15,7 @@ pub extern "C" fn ert_world_start(
     start: &ErtStart,
     timer: &mut ErtTimer,
 ) -> i32
-    ensures { Through (timer.new ≡ timer.old) (λ old new. IfBelow sched old.settings.schedulers (AtProcess start.now.dest (StartsBy sched (start_of start.now)) (λ answer. IsStarted answer timer.old result timer.new) result (timer.new ≡ timer.old) old new) (IsOutOfRange result (timer.new ≡ timer.old) old new)) world.old.place.value result world.new.place.value }
+    ensures { StartsTimer sched start.now timer.old timer.new world.old.place.value result world.new.place.value }
 {
     if !world.live {
         return CLOSED;
@@ -39,7 +39,7 @@ pub extern "C" fn ert_world_ready(
     room: &mut u32,
     ready: &mut u64,
 ) -> i32
-    ensures { Through ((room.new ≡ room.old) × (ready.new ≡ ready.old)) (AtSched sched (TellsRoomBy sched) (λ answer. IsRoomTold answer result room.new ready.new) result ((room.new ≡ room.old) × (ready.new ≡ ready.old))) world.old.place.value result world.new.place.value }
+    ensures { AsksRoom sched ((room.new ≡ room.old) × (ready.new ≡ ready.old)) room.new ready.new world.old.place.value result world.new.place.value }
 {
     if !world.live {
         return CLOSED;
@@ -55,7 +55,7 @@ pub extern "C" fn ert_world_ready(
 /// Cancels a timer, and tells how much was left of it.
 #[unsafe(no_mangle)]
 pub extern "C" fn ert_world_cancel(world: &mut ErtWorld, timer: &ErtTimer, left: &mut u64) -> i32
-    ensures { Through (left.new ≡ left.old) (Answers (CancelsBy (timer_of timer.now)) (λ answer. IsLeft answer left.old result left.new)) world.old.place.value result world.new.place.value }
+    ensures { AnswersThrough (CancelsBy (timer_of timer.now)) IsLeft left.old left.new world.old.place.value result world.new.place.value }
 {
     if !world.live {
         return CLOSED;
@@ -67,7 +67,7 @@ pub extern "C" fn ert_world_cancel(world: &mut ErtWorld, timer: &ErtTimer, left:
 /// Tells how much is left of a timer.
 #[unsafe(no_mangle)]
 pub extern "C" fn ert_world_read(world: &mut ErtWorld, timer: &ErtTimer, left: &mut u64) -> i32
-    ensures { Through (left.new ≡ left.old) (Answers (ReadsBy (timer_of timer.now)) (λ answer. IsLeft answer left.old result left.new)) world.old.place.value result world.new.place.value }
+    ensures { AnswersThrough (ReadsBy (timer_of timer.now)) IsLeft left.old left.new world.old.place.value result world.new.place.value }
 {
     if !world.live {
         return CLOSED;
@@ -79,7 +79,8 @@ pub extern "C" fn ert_world_read(world: &mut ErtWorld, timer: &ErtTimer, left: &
 /// Tells whether a process has not exited.
 #[unsafe(no_mangle)]
 pub extern "C" fn ert_world_is_alive(world: &mut ErtWorld, process: u32, alive: &mut u32) -> i32
-    ensures { Through (alive.new ≡ alive.old) (AtProcess process (TellsAliveBy process) (λ answer. IsFlag answer result alive.new) result (alive.new ≡ alive.old)) world.old.place.value result world.new.place.value }
+    ensures { AnswersAtProcess process (TellsAliveBy process) (λ answer _. IsFlag answer) alive.old alive.new
+        world.old.place.value result world.new.place.value }
 {
     if !world.live {
         return CLOSED;
@@ -95,7 +96,8 @@ pub extern "C" fn ert_world_is_alive(world: &mut ErtWorld, process: u32, alive: 
 /// Lets a process exit, and tells whether it had not before.
 #[unsafe(no_mangle)]
 pub extern "C" fn ert_world_exit(world: &mut ErtWorld, process: u32, first: &mut u32) -> i32
-    ensures { Through (first.new ≡ first.old) (AtProcess process (ExitsBy process) (λ answer. IsFlag answer result first.new) result (first.new ≡ first.old)) world.old.place.value result world.new.place.value }
+    ensures { AnswersAtProcess process (ExitsBy process) (λ answer _. IsFlag answer) first.old first.new
+        world.old.place.value result world.new.place.value }
 {
     if !world.live {
         return CLOSED;

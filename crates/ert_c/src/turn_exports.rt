@@ -1,8 +1,6 @@
 //! The exported calls of schedulers.
-ghost use Rattle.std.specs.Prelude.{◌≡◌};
-ghost use Rattle.ert_c.specs.Calls.{AtSched, ServesBy, AdvancesBy, DeliversBy, TurnsBy, LooksAhead};
+ghost use Rattle.ert_c.specs.Calls.{AnswersAtSched, ServesBy, AdvancesBy, DeliversBy, TurnsBy, LooksAhead};
 ghost use Rattle.ert_c.specs.Told.{IsServed, IsAdvanced, IsDelivered, IsTurned, IsDueTold};
-ghost use Rattle.ert_c.specs.Through.{Through};
 
 use crate::ert_world::ErtWorld;
 use crate::status::{CLOSED, RANGE};
@@ -13,7 +11,7 @@ use crate::turn_calls::{
 /// Serves one request of a scheduler.
 #[unsafe(no_mangle)]
 pub extern "C" fn ert_world_serve(world: &mut ErtWorld, sched: u32, served: &mut u32) -> i32
-    ensures { Through (served.new ≡ served.old) (AtSched sched (ServesBy sched) (λ answer. IsServed answer served.old result served.new) result (served.new ≡ served.old)) world.old.place.value result world.new.place.value }
+    ensures { AnswersAtSched sched (ServesBy sched) IsServed served.old served.new world.old.place.value result world.new.place.value }
 {
     if !world.live {
         return CLOSED;
@@ -33,7 +31,7 @@ pub extern "C" fn ert_world_advance(
     sched: u32,
     advanced: &mut ErtAdvanced,
 ) -> i32
-    ensures { Through (advanced.new ≡ advanced.old) (AtSched sched (AdvancesBy sched) (λ answer. IsAdvanced answer advanced.old result advanced.new) result (advanced.new ≡ advanced.old)) world.old.place.value result world.new.place.value }
+    ensures { AnswersAtSched sched (AdvancesBy sched) IsAdvanced advanced.old advanced.new world.old.place.value result world.new.place.value }
 {
     if !world.live {
         return CLOSED;
@@ -53,7 +51,7 @@ pub extern "C" fn ert_world_deliver(
     sched: u32,
     delivered: &mut ErtDelivered,
 ) -> i32
-    ensures { Through (delivered.new ≡ delivered.old) (AtSched sched (DeliversBy sched) (λ answer. IsDelivered answer delivered.old result delivered.new) result (delivered.new ≡ delivered.old)) world.old.place.value result world.new.place.value }
+    ensures { AnswersAtSched sched (DeliversBy sched) IsDelivered delivered.old delivered.new world.old.place.value result world.new.place.value }
 {
     if !world.live {
         return CLOSED;
@@ -69,7 +67,7 @@ pub extern "C" fn ert_world_deliver(
 /// Makes a turn of a scheduler: serves, advances and delivers.
 #[unsafe(no_mangle)]
 pub extern "C" fn ert_world_turn(world: &mut ErtWorld, sched: u32, turned: &mut ErtTurned) -> i32
-    ensures { Through (turned.new ≡ turned.old) (AtSched sched (TurnsBy sched) (λ answer. IsTurned answer turned.old result turned.new) result (turned.new ≡ turned.old)) world.old.place.value result world.new.place.value }
+    ensures { AnswersAtSched sched (TurnsBy sched) IsTurned turned.old turned.new world.old.place.value result world.new.place.value }
 {
     if !world.live {
         return CLOSED;
@@ -85,7 +83,7 @@ pub extern "C" fn ert_world_turn(world: &mut ErtWorld, sched: u32, turned: &mut 
 /// Tells how early a timer of a scheduler may be due.
 #[unsafe(no_mangle)]
 pub extern "C" fn ert_world_next_due(world: &mut ErtWorld, sched: u32, due: &mut u64) -> i32
-    ensures { Through (due.new ≡ due.old) (AtSched sched (LooksAhead sched) (λ answer. IsDueTold answer due.old result due.new) result (due.new ≡ due.old)) world.old.place.value result world.new.place.value }
+    ensures { AnswersAtSched sched (LooksAhead sched) IsDueTold due.old due.new world.old.place.value result world.new.place.value }
 {
     if !world.live {
         return CLOSED;

@@ -73,7 +73,7 @@ pub(crate) fn until(now: i64) -> Step {
 }
 
 /// A timer of the wheel.
-pub(crate) fn timer(slot: u32, generation: u32) -> TimerRef {
+pub(crate) fn timer(slot: u32, generation: u64) -> TimerRef {
     TimerRef {
         wheel: 0,
         slot,

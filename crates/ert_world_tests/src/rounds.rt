@@ -1,12 +1,14 @@
 //! Worlds and a service whose slots are used more often than a round has uses.
-ghost use Rattle.std.specs.Prelude.{OnOk};
 ghost use Rattle.ert_locks.specs.Names.{IsDesk};
 ghost use Rattle.ert_sched.specs.Counted.{AreTidy};
 ghost use Rattle.ert_sched.specs.Parts.{parts_of};
 ghost use Rattle.ert_sched.specs.Worlds.{AreFit};
 
 use crate::compare::same;
-use crate::service_calls::{are_callers, are_scheds, cancel as cancel_of, start as start_of};
+use crate::service_calls::{
+    are_callers, are_scheds, cancel as cancel_of, last_turns, start as start_of,
+};
+use crate::workers::Totals;
 use crate::world_calls::{cancel, open, start, tick};
 use crate::world_steps::{Step, go};
 use ert_answers::{StartErr, Taken};
@@ -260,8 +262,9 @@ fn a_service_lasts(rt: HostRuntime) -> Result<(), NoMemory> {
     assert!(rt; FOUR_SLOTS.check().is_ok());
     let parts = World::open(rt.alloc(), &FOUR_SLOTS)?.into_parts();
     let (mut world, started) = use_service::<Brand, HostRuntime>(&rt, rt.alloc(), parts)?;
-    let turned = world.last_turn(0)?;
-    same(&rt, 0, &turned.fired, &0);
+    let mut totals = Totals::new();
+    last_turns(&mut world, &mut totals)?;
+    same(&rt, 0, &totals.fired, &0);
     same(&rt, 1, &world.counts().cancelled, &started);
     Ok(())
 }

@@ -2,4 +2,4 @@ use Rattle.ert_sched.specs.Counted.{AreTidy}
 use Rattle.ert_world_tests.proofs.rounds.use_slots.Given as goal
 
 abbrev pub invariant-loop : goal.invariant-loop
-invariant-loop l = AreTidy l.world
+invariant-loop g l = AreTidy l.world
