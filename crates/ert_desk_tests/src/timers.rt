@@ -93,18 +93,18 @@ fn timeout(timer: TimerRef, msg: u64) -> Taken {
 #[test]
 fn two_hours_pass_at_once(rt: HostRuntime) -> Result<(), NoMemory> {
     let steps = [
-        Start(After(7_200_001), 1, 1, Ok(timer(7, 1))),
-        Start(After(7_200_000), 1, 2, Ok(timer(6, 1))),
-        Start(After(1), 1, 3, Ok(timer(5, 1))),
-        Start(After(3_600_000), 1, 4, Ok(timer(4, 1))),
+        Start(After(7_200_001), 1, 1, Ok(timer(0, 1))),
+        Start(After(7_200_000), 1, 2, Ok(timer(1, 1))),
+        Start(After(1), 1, 3, Ok(timer(7, 1))),
+        Start(After(3_600_000), 1, 4, Ok(timer(6, 1))),
         until(7_200_000_000_000),
-        Start(At(3), 1, 5, Ok(timer(3, 1))),
+        Start(At(3), 1, 5, Ok(timer(5, 1))),
         Advance(7_200_000, 4),
         Deliver(4, 0),
-        Take(1, timeout(timer(5, 1), 3)),
-        Take(1, timeout(timer(3, 1), 5)),
-        Take(1, timeout(timer(4, 1), 4)),
-        Take(1, timeout(timer(6, 1), 2)),
+        Take(1, timeout(timer(7, 1), 3)),
+        Take(1, timeout(timer(5, 1), 5)),
+        Take(1, timeout(timer(6, 1), 4)),
+        Take(1, timeout(timer(1, 1), 2)),
         Take(1, Taken::Empty),
         Counts([5, 4, 0, 1]),
     ];
