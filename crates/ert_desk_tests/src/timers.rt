@@ -111,6 +111,18 @@ fn two_hours_pass_at_once(rt: HostRuntime) -> Result<(), NoMemory> {
     make_all(&rt, rt.alloc(), &EIGHT_SLOTS, &steps)
 }
 
+/// A slot that had a long wait is taken by the next long one, and by a short one only where no other is free.
+#[test]
+fn long_waits_keep_their_slots(rt: HostRuntime) -> Result<(), NoMemory> {
+    let steps = [
+        Start(After(7_200_000), 1, 1, Ok(timer(0, 1))),
+        Cancel(timer(0, 1), Some(7_200_000)),
+        Start(After(1), 1, 2, Ok(timer(7, 1))),
+        Start(After(7_200_000), 1, 3, Ok(timer(0, 2))),
+    ];
+    make_all(&rt, rt.alloc(), &EIGHT_SLOTS, &steps)
+}
+
 /// An exit cancels the timers of its process alone, and one that is started later is cancelled at once.
 #[test]
 fn an_exit_cancels_the_timers_of_one_process(rt: HostRuntime) -> Result<(), NoMemory> {
