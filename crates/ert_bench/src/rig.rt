@@ -3,7 +3,7 @@ ghost use Rattle.std.specs.Prelude.{◌≡◌, ◌<◌};
 use crate::bench_err::{BenchErr, expect};
 use ert_defs::{Kind, Mail, Mode, Reading, Request, RequestKind, Settings, Start, TimerRef, When};
 use ert_mail::Taken;
-use ert_sched::World;
+use ert_world::World;
 use std::alloc::Global;
 
 /// How many processes the worlds have.

@@ -1,8 +1,8 @@
 //! A service of several threads. A row's time is that of a pass by the calls of all its threads.
 ghost use Rattle.std.specs.Prelude.{◌<◌, ◌≤◌, IfOk};
 ghost use Rattle.ert_locks.specs.Names.{IsDesk};
-ghost use Rattle.ert_sched.specs.Parts.{parts_of};
-ghost use Rattle.ert_sched.specs.Worlds.{AreFit};
+ghost use Rattle.ert_world.specs.Parts.{parts_of};
+ghost use Rattle.ert_world.specs.Worlds.{AreFit};
 
 use crate::bench_err::{BenchErr, expect};
 use crate::passes::{PASSES, Passes};
@@ -11,8 +11,8 @@ use ert_calls::{cancel_timer, monotonic_time};
 use ert_defs::{Actor, Kind, Mode, Reading, Settings, Start, When};
 use ert_io::OsClock;
 use ert_locks::{CallerSeat, DeskName};
-use ert_sched::{Parts, World};
-use ert_shared::{Opened, Service};
+use ert_world::{Parts, World};
+use ert_service::{Opened, Service};
 use std::alloc::Global;
 use std::marker::Brand;
 use std::sync::Wait;

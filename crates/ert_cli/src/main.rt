@@ -6,7 +6,7 @@
 
 use ert_io::{HostClock, StdSink, StdSource};
 use ert_program::{EndStatus, ertime};
-use ert_shared::FreeGate;
+use ert_service::FreeGate;
 use std::io::ErrorKind;
 use std::process::ExitCode;
 use std::rt::Env;

@@ -7,7 +7,7 @@ use ert_defs::{
     Kind, Mode, NoMemory, OffsetState, Reading, Request, RequestKind, Settings, Start, TimerRef,
     When,
 };
-use ert_sched::World;
+use ert_world::World;
 use std::fmt::Debug;
 use std::process::Abort;
 

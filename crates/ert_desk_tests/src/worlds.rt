@@ -2,7 +2,7 @@
 use crate::steps::{Step, make, same};
 use ert_calls::cancel_timer;
 use ert_defs::{Actor, NoMemory, Settings, TimerRef};
-use ert_sched::World;
+use ert_world::World;
 use ert_table::Words;
 use ert_timers::Tally;
 use std::alloc::Global;

@@ -21,10 +21,10 @@ use Rattle.ert_interval.proofs.Growing.{with_state, with_timers, kept_with, kept
 use Rattle.ert_interval.proofs.Plain.{ArePlain, plain_spares, still_plain}
 use Rattle.ert_interval.proofs.Steps.{done_stays, used_stays, none_from}
 use Rattle.ert_interval.proofs.Still.{still_armed, still_lives, still_full, still_append}
-use Rattle.ert_sched.specs.Worlds.{Service}
+use Rattle.ert_world.specs.Worlds.{Seen}
 
 -- one growth and then another
-pub still_then : (a b c : Service) → Still a b → Still b c → Still a c
+pub still_then : (a b c : Seen) → Still a b → Still b c → Still a c
 still_then a b c one other = record {
   piece = one.piece ++ other.piece;
   grown = other.grown ∙ (ap (λ l. l ++ other.piece) one.grown ∙ append_assoc a.history one.piece other.piece);
@@ -33,7 +33,7 @@ still_then a b c one other = record {
 }
 
 -- an interval stays in order over entries that cancel nothing
-pub plain_kept : (a b : Service) (piece : List Entry) (i : Interval) → b.settings ≡ a.settings → b.history ≡ a.history ++ piece → ArePlain piece
+pub plain_kept : (a b : Seen) (piece : List Entry) (i : Interval) → b.settings ≡ a.settings → b.history ≡ a.history ++ piece → ArePlain piece
     → Legal b.settings b.history → IsKept a.settings a.history i → IsKept b.settings b.history i
 plain_kept a b piece i settings grown plain legal kept =
     let g : Settings = a.settings in
@@ -41,7 +41,7 @@ plain_kept a b piece i settings grown plain legal kept =
     subst (λ x. IsKept x b.history i) (sym settings)
     (subst (λ l. IsKept g l i) (sym grown) (kept_grows g a.history piece i legal_m (plain_spares i.last piece plain) kept))
 
-pub still_kept : (a b : Service) (i : Interval) → Still a b → Legal b.settings b.history → IsKept a.settings a.history i → IsKept b.settings b.history i
+pub still_kept : (a b : Seen) (i : Interval) → Still a b → Legal b.settings b.history → IsKept a.settings a.history i → IsKept b.settings b.history i
 still_kept a b i still legal kept = plain_kept a b still.piece i still.settings still.grown (still_plain still.piece still.still) legal kept
 
 -- and takes another state that fits
@@ -66,7 +66,7 @@ armed_runs g s i Stopped is_open is_in armed = absurd is_open
 armed_runs g s i Ended is_open is_in armed = absurd is_open
 
 -- what is so of the state of an interval stays so
-pub ends_stay : (a b : Service) (i : Interval) (st : IntervalState) → Still a b → Legal a.settings a.history → Legal b.settings b.history
+pub ends_stay : (a b : Seen) (i : Interval) (st : IntervalState) → Still a b → Legal a.settings a.history → Legal b.settings b.history
     → (state a.settings a.history).status i.last ≢ None
     → EndsAs a.settings (state a.settings a.history) i st → EndsAs b.settings (state b.settings b.history) i st
 ends_stay a b i st still legal_a legal used ends =
@@ -93,7 +93,7 @@ ends_stay a b i st still legal_a legal used ends =
 pub due_at : (g : Settings) (d dest msg : ℕ) → d ≤ 8796093022207 → (look : ℤ) → deadline_of g (start_at (time_of g d) dest msg) look ≡ Some d
 due_at g d dest msg low look = deadline_back d (base g) low
 
-pub lives_still : (a b : Service) (p : ℕ) → Still a b → (state a.settings a.history).exited p ≡ false → (state b.settings b.history).exited p ≡ false
+pub lives_still : (a b : Seen) (p : ℕ) → Still a b → (state a.settings a.history).exited p ≡ false → (state b.settings b.history).exited p ≡ false
 lives_still a b p still lives =
     let g : Settings = a.settings in
     subst (λ x. (state x b.history).exited p ≡ false) (sym still.settings)
@@ -101,7 +101,7 @@ lives_still a b p still lives =
     (subst (λ (t : State). t.exited p ≡ false) (sym (state-append g a.history still.piece)) (still_lives g (state g a.history) still.piece p still.still lives)))
 
 -- an interval that isn't armed waits
-pub waits : (a b : Service) (i k : Interval) → Still a b → Legal a.settings a.history → Legal b.settings b.history → IsKept a.settings a.history i
+pub waits : (a b : Seen) (i k : Interval) → Still a b → Legal a.settings a.history → Legal b.settings b.history → IsKept a.settings a.history i
     → IsOpen i.state → (state a.settings a.history).status i.last ≢ Some Armed → k.firings.items ≡ i.firings.items
     → IsKept b.settings b.history (with_timers i k Waiting)
 waits a b i k still legal_a legal kept is_open other same =
@@ -112,7 +112,7 @@ waits a b i k still legal_a legal kept is_open other same =
     kept_moved b.settings b.history (with_state i Waiting) k same (still_kept a b (with_state i Waiting) still legal before)
 
 -- a timer that was never armed was never armed before
-pub new_before : (a b : Service) (r : TimerRef) → Still a b → Legal a.settings a.history → Legal b.settings b.history
+pub new_before : (a b : Seen) (r : TimerRef) → Still a b → Legal a.settings a.history → Legal b.settings b.history
     → (state b.settings b.history).status r ≡ None → (state a.settings a.history).status r ≡ None
 new_before a b r still legal_a legal none =
     let g : Settings = a.settings in
@@ -124,13 +124,13 @@ new_before a b r still legal_a legal none =
     (sym (ap (λ (t : State). t.status r) end) ∙ none))
 
 -- an interval ends
-pub ended : (a b : Service) (i : Interval) → Still a b → Legal b.settings b.history → IsKept a.settings a.history i
+pub ended : (a b : Seen) (i : Interval) → Still a b → Legal b.settings b.history → IsKept a.settings a.history i
     → (state b.settings b.history).status i.last ≢ Some Armed → IsAtEnd (state b.settings b.history) i → IsKept b.settings b.history (with_state i Ended)
 ended a b i still legal kept other at_end =
     in_other b.settings b.history i Ended legal (still_kept a b i still legal kept) (other, at_end)
 
 -- a timer that isn't armed isn't armed later
-pub other_later : (a b : Service) (i : Interval) → Still a b → Legal a.settings a.history → Legal b.settings b.history → IsKept a.settings a.history i
+pub other_later : (a b : Seen) (i : Interval) → Still a b → Legal a.settings a.history → Legal b.settings b.history → IsKept a.settings a.history i
     → (state a.settings a.history).status i.last ≢ Some Armed → (state b.settings b.history).status i.last ≢ Some Armed
 other_later a b i still legal_a legal kept other =
     let g : Settings = a.settings in

@@ -10,10 +10,10 @@ use Rattle.ert_interval.specs.Going.{one_if}
 use Rattle.ert_interval.specs.Intervals.{IsKept, AreKept}
 use Rattle.ert_interval.specs.declared.interval.Interval.{Interval}
 use Rattle.ert_interval.proofs.Onward.{ends_stay}
-use Rattle.ert_sched.specs.Worlds.{Service}
+use Rattle.ert_world.specs.Worlds.{Seen}
 
 -- the first so many intervals were gone through
-pub record PassesTo (w upto : ℕ) (new : Service) (is js : List Interval) (armed : ℕ) : Type 0 where
+pub record PassesTo (w upto : ℕ) (new : Seen) (is js : List Interval) (armed : ℕ) : Type 0 where
   pub counted : length js ≡ length is
   pub started : timers js ≡ timers is + armed
   pub passed : (m : ℕ) (d : Interval) → m < upto → m < length is → IsOf w (slice_index_or is m d)
@@ -21,7 +21,7 @@ pub record PassesTo (w upto : ℕ) (new : Service) (is js : List Interval) (arme
   pub untouched : (m : ℕ) (d : Interval) → upto ≤ m → slice_index_or js m d ≡ slice_index_or is m d
   pub others : (m : ℕ) (d : Interval) → m < length is → (IsOf w (slice_index_or is m d) → ⊥) → slice_index_or js m d ≡ slice_index_or is m d
 
-passed_stays : (a b : Service) (i j : Interval) (armed : Bool) → Still a b → Legal a.settings a.history → Legal b.settings b.history
+passed_stays : (a b : Seen) (i j : Interval) (armed : Bool) → Still a b → Legal a.settings a.history → Legal b.settings b.history
     → IsKept a.settings a.history j → Passed a i j armed → Passed b i j armed
 passed_stays a b i j armed still legal_a legal kept passed = record {
   same = passed.same;
@@ -29,7 +29,7 @@ passed_stays a b i j armed still legal_a legal kept passed = record {
   ends = ends_stay a b j j.state still legal_a legal kept.used passed.ends;
 }
 
-pub passes_none : (w : ℕ) (a : Service) (is : List Interval) → PassesTo w 0 a is is 0
+pub passes_none : (w : ℕ) (a : Seen) (is : List Interval) → PassesTo w 0 a is is 0
 passes_none w a is = record {
   counted = refl;
   started = omega arith;
@@ -39,7 +39,7 @@ passes_none w a is = record {
 }
 
 -- one more
-pub passes_more : (w n : ℕ) (a b : Service) (is js ks : List Interval) (armed next : ℕ) (one : Bool) → PassesTo w n a is js armed
+pub passes_more : (w n : ℕ) (a b : Seen) (is js ks : List Interval) (armed next : ℕ) (one : Bool) → PassesTo w n a is js armed
     → PassesOne (Ok one) n w b js ks → Still a b → AreKept a js → Legal b.settings b.history → timers ks ≡ timers js + one_if one
     → next ≡ armed + one_if one → PassesTo w (n + 1) b is ks next
 passes_more w n a b is js ks armed next one to step still kept legal count sum = record {
@@ -69,7 +69,7 @@ passes_more w n a b is js ks armed next one to step still kept legal count sum =
   ];
 }
 
-pub passes_all : (w n : ℕ) (b : Service) (is js : List Interval) (armed : ℕ) → PassesTo w n b is js armed → length is ≤ n → PassesAll w b is js armed
+pub passes_all : (w n : ℕ) (b : Seen) (is js : List Interval) (armed : ℕ) → PassesTo w n b is js armed → length is ≤ n → PassesAll w b is js armed
 passes_all w n b is js armed to high = record {
   counted = to.counted;
   started = to.started;
@@ -78,7 +78,7 @@ passes_all w n b is js armed to high = record {
 }
 
 -- or no memory for the next
-pub passes_some : (w n : ℕ) (a b : Service) (is js ks : List Interval) (armed : ℕ) (e : NoMemory) → PassesTo w n a is js armed
+pub passes_some : (w n : ℕ) (a b : Seen) (is js ks : List Interval) (armed : ℕ) (e : NoMemory) → PassesTo w n a is js armed
     → PassesOne (Err e) n w b js ks → Still a b → AreKept a js → Legal b.settings b.history → PassesSome w b is ks
 passes_some w n a b is js ks armed e to step still kept legal = record {
   counted = step.counted ∙ to.counted;
@@ -128,7 +128,7 @@ timers_set [] n j d low = absurd (omega (arith, low))
 timers_set (x ∷ xs) zero j d low = omega arith
 timers_set (x ∷ xs) (suc n) j d low = let more = timers_set xs n j d (omega (arith, low)) in omega (arith, more)
 
-pub counts_by : (answer : Result Bool NoMemory) (w : Service) (is : List Interval) (n : ℕ) (i j : Interval) → n < length is → i ≡ slice_index_or is n i
+pub counts_by : (answer : Result Bool NoMemory) (w : Seen) (is : List Interval) (n : ℕ) (i j : Interval) → n < length is → i ≡ slice_index_or is n i
     → PassedBy answer w i j → Counts answer is (set is n j)
 counts_by (Ok true) w is n i j low at passed =
     let both = timers_set is n j i low in

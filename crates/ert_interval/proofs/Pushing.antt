@@ -23,7 +23,7 @@ use Rattle.ert_interval.proofs.Deadlines.{deadline_more}
 use Rattle.ert_interval.proofs.Growing.{firings_grow}
 use Rattle.ert_interval.proofs.Starting.{HasStarted}
 use Rattle.ert_interval.proofs.Steps.{fired_stays}
-use Rattle.ert_sched.specs.Worlds.{Service}
+use Rattle.ert_world.specs.Worlds.{Seen}
 
 -- a timer that goes on and isn't armed has fired, where its destination lives
 pub going_fired : (x : Option Status) (exited : Bool) → IsGoing x exited → x ≢ Some Armed → exited ≡ false → HasFired x
@@ -107,7 +107,7 @@ firings_push g h i k timer d before push ends f new fired behind =
     as_next one = record { wheel = one.wheel; deadline = one.deadline; due = one.due; row = one.row; told = one.told }
 
 -- an interval whose next timer was started is in order
-pub pushed : (a b : Service) (piece : List Entry) (i k : Interval) (timer : TimerRef) (d : ℕ) → b.settings ≡ a.settings → b.history ≡ a.history ++ piece
+pub pushed : (a b : Seen) (piece : List Entry) (i k : Interval) (timer : TimerRef) (d : ℕ) → b.settings ≡ a.settings → b.history ≡ a.history ++ piece
     → Legal b.settings b.history → IsKept a.settings a.history i
     → IsGoing ((state a.settings a.history).status i.last) ((state a.settings a.history).exited i.dest)
     → HasStarted a b i.wheel (start_at (time_of a.settings d) i.dest i.msg) timer d
@@ -144,7 +144,7 @@ pushed a b piece i k timer d settings grown legal_b kept going start lives other
     })
 
 -- an interval whose first timer was started is in order
-pub begun : (a b : Service) (j : Interval) (time : ℤ) → b.settings ≡ a.settings → j.firings.items ≡ j.last ∷ [] → j.state ≡ Running → time ≡ j.first
+pub begun : (a b : Seen) (j : Interval) (time : ℤ) → b.settings ≡ a.settings → j.firings.items ≡ j.last ∷ [] → j.state ≡ Running → time ≡ j.first
     → deadline_at (j.first -ℤ base a.settings) ≡ Some j.deadline
     → j.wheel < a.settings.schedulers → j.dest < a.settings.processes
     → HasStarted a b j.wheel (start_at time j.dest j.msg) j.last j.deadline → IsKept b.settings b.history j

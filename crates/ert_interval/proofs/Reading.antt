@@ -17,16 +17,16 @@ use Rattle.ert_defs.specs.declared.timer.TimerRef.{TimerRef}
 use Rattle.ert_defs.proofs.Runs.{legal_then, state-append}
 use Rattle.ert_interval.specs.Intervals.{IsKept, row_for}
 use Rattle.ert_interval.specs.declared.interval.Interval.{Interval}
-use Rattle.ert_sched.specs.Worlds.{Service, Goes, By}
+use Rattle.ert_world.specs.Worlds.{Seen, Goes, By}
 
 -- the entries of a call are legal after the history of the world before it
-pub piece_legal : (a b : Service) (piece : List Entry) → b.settings ≡ a.settings → b.history ≡ a.history ++ piece → Legal b.settings b.history
+pub piece_legal : (a b : Seen) (piece : List Entry) → b.settings ≡ a.settings → b.history ≡ a.history ++ piece → Legal b.settings b.history
     → LegalFrom a.settings (state a.settings a.history) piece
 piece_legal a b piece settings grown legal =
     legal_then a.settings _ a.history piece (subst (Legal a.settings) grown (subst (λ g. Legal g b.history) settings legal))
 
 -- the state of the world after it
-pub piece_state : (a b : Service) (piece : List Entry) → b.settings ≡ a.settings → b.history ≡ a.history ++ piece
+pub piece_state : (a b : Seen) (piece : List Entry) → b.settings ≡ a.settings → b.history ≡ a.history ++ piece
     → state b.settings b.history ≡ run a.settings (state a.settings a.history) piece
 piece_state a b piece settings grown =
     ap (λ g. state g b.history) settings ∙ (ap (state a.settings) grown ∙ state-append a.settings a.history piece)
@@ -36,7 +36,7 @@ or_none true b = refl
 or_none false true = refl
 or_none false false = refl
 
-pub alive_tells : (a b : Service) (process : ℕ) (answer : Bool) → Goes a (By a (λ g. TellsAlive g (Caller 0) process answer)) b
+pub alive_tells : (a b : Seen) (process : ℕ) (answer : Bool) → Goes a (By a (λ g. TellsAlive g (Caller 0) process answer)) b
     → Legal b.settings b.history → (state b.settings b.history).exited process ≡ not answer
 alive_tells a b process answer goes legal =
     let g : Settings = a.settings in
@@ -68,7 +68,7 @@ read_at g s timer row now answer es legal is =
     let both = left_armed g now (s.status timer) (row_of (s.rows timer.wheel) timer) row is in
     (λ none. both.0 (sym found ∙ none), λ no. found ∙ both.1 no)
 
-pub read_tells : (a b : Service) (i : Interval) (answer : Option ℕ) → Goes a (By a (λ g. Reads g (Caller 0) i.last answer)) b
+pub read_tells : (a b : Seen) (i : Interval) (answer : Option ℕ) → Goes a (By a (λ g. Reads g (Caller 0) i.last answer)) b
     → Legal b.settings b.history → Legal a.settings a.history → IsKept a.settings a.history i
     → (answer ≡ None) ↔ ((state b.settings b.history).status i.last ≢ Some Armed)
 read_tells a b i answer goes legal before kept =

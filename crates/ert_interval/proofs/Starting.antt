@@ -31,7 +31,7 @@ use Rattle.ert_interval.proofs.Plain.{ArePlain, plain_spares, starts_plain}
 use Rattle.ert_interval.proofs.Reading.{piece_legal, piece_state}
 use Rattle.ert_interval.proofs.Steps.{row_stays, fired_stays, used_stays, going_stays, none_from}
 use Rattle.ert_interval.proofs.Still.{still_armed, still_lives, still_full, still_append, probes_still, taken_still, full_from}
-use Rattle.ert_sched.specs.Worlds.{Service, Goes, By}
+use Rattle.ert_world.specs.Worlds.{Seen, Goes, By}
 
 -- a row at the end is found, where there was none before
 row_last : (rows : List Row) (row : Row) → row_of rows row.timer ≡ None → row_of (rows ++ row ∷ []) row.timer ≡ Some row
@@ -135,7 +135,7 @@ told_cases g s timer deadline wanted order can due =
     (subst (λ d. (d ≡ can.wanted) ⊎ ((can.wanted < d) × (d ≡ t.now))) (sym told) (deadline_cases (turned u).since t.now can.wanted))
 
 -- a timer was started
-pub record HasStarted (a b : Service) (w : ℕ) (start : Start) (timer : TimerRef) (deadline : ℕ) : Type 0 where
+pub record HasStarted (a b : Seen) (w : ℕ) (start : Start) (timer : TimerRef) (deadline : ℕ) : Type 0 where
   pub on : timer.wheel ≡ w
   pub named : names_timer a.settings timer ≡ true
   pub before : List Entry
@@ -153,7 +153,7 @@ pub record HasStarted (a b : Service) (w : ℕ) (start : Start) (timer : TimerRe
 closed : (was : Bool) (timer : TimerRef) (closing : List Entry) → was ≡ false → Closes was 0 timer closing → closing ≡ []
 closed was timer closing is closes = subst (λ b. Closes b 0 timer closing) is closes
 
-pub started : (a b : Service) (w : ℕ) (start : Start) (timer : TimerRef) (deadline : ℕ) → Goes a (By a (λ g. Starts g 0 w start (Ok timer))) b
+pub started : (a b : Seen) (w : ℕ) (start : Start) (timer : TimerRef) (deadline : ℕ) → Goes a (By a (λ g. Starts g 0 w start (Ok timer))) b
     → Legal b.settings b.history → ((look : ℤ) → deadline_of a.settings start look ≡ Some deadline) → HasStarted a b w start timer deadline
 started a b w start timer deadline goes legal_b due =
     let g : Settings = a.settings in
@@ -253,7 +253,7 @@ found_still g w now s probes (inl taken) = taken_still 0 w (natural (down g now)
 found_still g w now s probes (inr many) = subst AreStill (sym many.1) tt
 
 -- a start that found no free slot leaves a full wheel
-pub refused_full : (a b : Service) (w : ℕ) (start : Start) (deadline : ℕ) (e : StartErr) → Goes a (By a (λ g. Starts g 0 w start (Err e))) b
+pub refused_full : (a b : Seen) (w : ℕ) (start : Start) (deadline : ℕ) (e : StartErr) → Goes a (By a (λ g. Starts g 0 w start (Err e))) b
     → Legal b.settings b.history → ((look : ℤ) → deadline_of a.settings start look ≡ Some deadline) → (e ≡ NoMemory → ⊥)
     → IsFull b.settings (state b.settings b.history) w × Still a b
 refused_full a b w start deadline BadArg goes legal due memory =
@@ -276,7 +276,7 @@ refused_full a b w start deadline Full goes legal due memory =
     )
 
 -- a start that has a deadline, and isn't refused for want of memory, is refused for a full wheel
-pub full_start : (a b : Service) (w : ℕ) (start : Start) (deadline : ℕ) (e : StartErr) → Goes a (By a (λ g. Starts g 0 w start (Err e))) b
+pub full_start : (a b : Seen) (w : ℕ) (start : Start) (deadline : ℕ) (e : StartErr) → Goes a (By a (λ g. Starts g 0 w start (Err e))) b
     → ((look : ℤ) → deadline_of a.settings start look ≡ Some deadline) → (e ≡ NoMemory → ⊥) → Goes a (By a (λ g. Starts g 0 w start (Err Full))) b
 full_start a b w start deadline BadArg goes due memory =
     let st = goes.grows.made in

@@ -14,7 +14,7 @@ use Rattle.ert_interval.specs.declared.interval.IntervalState.{IntervalState}
 use Rattle.ert_interval.specs.declared.interval.IntervalState.TheVariants.{Ended}
 use Rattle.ert_interval.proofs.Growing.{with_state}
 use Rattle.ert_interval.proofs.Tables.{any_default}
-use Rattle.ert_sched.specs.Worlds.{Service, Goes, By}
+use Rattle.ert_world.specs.Worlds.{Seen, Goes, By}
 
 pub put : (i : Interval) (st : IntervalState) → IsPut st i (with_state i st)
 put i st = record {
@@ -26,7 +26,7 @@ put i st = record {
 }
 
 -- an interval whose last timer is armed
-pub goes_armed : (a r : Service) (i : Interval) (b : Bool) → ReadsLast i b a r → b ≡ true → GoesOn (Ok false) a i r i
+pub goes_armed : (a r : Seen) (i : Interval) (b : Bool) → ReadsLast i b a r → b ≡ true → GoesOn (Ok false) a i r i
 goes_armed a r i b reads is = record {
   read = r;
   armed = true;
@@ -35,7 +35,7 @@ goes_armed a r i b reads is = record {
 }
 
 -- one whose next deadline is above the greatest
-pub goes_high : (a r : Service) (i : Interval) (b : Bool) → ReadsLast i b a r → b ≡ false → 8796093022207 < i.deadline + i.period
+pub goes_high : (a r : Seen) (i : Interval) (b : Bool) → ReadsLast i b a r → b ≡ false → 8796093022207 < i.deadline + i.period
     → GoesOn (Ok false) a i r (with_state i Ended)
 goes_high a r i b reads is high = record {
   read = r;
@@ -45,7 +45,7 @@ goes_high a r i b reads is high = record {
 }
 
 -- one whose destination has exited
-pub goes_dead : (a r l : Service) (i : Interval) (b lives : Bool) → ReadsLast i b a r → b ≡ false → i.deadline + i.period ≤ 8796093022207
+pub goes_dead : (a r l : Seen) (i : Interval) (b lives : Bool) → ReadsLast i b a r → b ≡ false → i.deadline + i.period ≤ 8796093022207
     → Goes r (By r (λ g. TellsAlive g (Caller 0) i.dest lives)) l → lives ≡ false → GoesOn (Ok false) a i l (with_state i Ended)
 goes_dead a r l i b lives reads is low look dead = record {
   read = r;
@@ -63,7 +63,7 @@ goes_dead a r l i b lives reads is low look dead = record {
 }
 
 -- one whose next timer is to be started
-pub goes_start : (a r l n : Service) (i j : Interval) (b lives : Bool) (answer : Result Bool NoMemory) → ReadsLast i b a r → b ≡ false
+pub goes_start : (a r l n : Seen) (i j : Interval) (b lives : Bool) (answer : Result Bool NoMemory) → ReadsLast i b a r → b ≡ false
     → i.deadline + i.period ≤ 8796093022207 → Goes r (By r (λ g. TellsAlive g (Caller 0) i.dest lives)) l → lives ≡ true
     → StartsNext answer l i n j → GoesOn answer a i n j
 goes_start a r l n i j b lives answer reads is low look alive starts = record {
@@ -81,33 +81,33 @@ goes_start a r l n i j b lives answer reads is low look alive starts = record {
   );
 }
 
-pub stays_none : (a : Service) → Stays a a
+pub stays_none : (a : Seen) → Stays a a
 stays_none a = record { settings = refl; labels = refl; tidy = λ i low tidy. tidy }
 
-pub stays_then : (a b c : Service) → Stays a b → Stays b c → Stays a c
+pub stays_then : (a b c : Seen) → Stays a b → Stays b c → Stays a c
 stays_then a b c one other = record {
   settings = other.settings ∙ one.settings;
   labels = other.labels ∙ one.labels;
   tidy = λ i low tidy. other.tidy i (subst (λ (g : Settings). i < g.schedulers) (sym one.settings) low) (one.tidy i low tidy);
 }
 
-pub goes_stays : (a b : Service) (call : Growth) → Goes a call b → Stays a b
+pub goes_stays : (a b : Seen) (call : Growth) → Goes a call b → Stays a b
 goes_stays a b call goes = record { settings = goes.settings; labels = goes.labels; tidy = goes.tidy }
 
-same_stays : (a b : Service) → b ≡ a → Stays a b
+same_stays : (a b : Seen) → b ≡ a → Stays a b
 same_stays a b same = subst (Stays a) (sym same) (stays_none a)
 
-starts_stays : (answer : Result Bool NoMemory) (a : Service) (i : Interval) (b : Service) (j : Interval) → StartsNext answer a i b j → Stays a b
+starts_stays : (answer : Result Bool NoMemory) (a : Seen) (i : Interval) (b : Seen) (j : Interval) → StartsNext answer a i b j → Stays a b
 starts_stays (Ok true) a i b j starts = goes_stays a b _ starts.1
 starts_stays (Ok false) a i b j starts = goes_stays a b _ starts.0
 starts_stays (Err e) a i b j starts = same_stays a b starts.0
 
-alive_stays : (lives : Bool) (answer : Result Bool NoMemory) (a : Service) (i : Interval) (b : Service) (j : Interval) → StartsWhere lives answer a i b j
+alive_stays : (lives : Bool) (answer : Result Bool NoMemory) (a : Seen) (i : Interval) (b : Seen) (j : Interval) → StartsWhere lives answer a i b j
     → Stays a b
 alive_stays true answer a i b j starts = starts_stays answer a i b j starts
 alive_stays false answer a i b j ends = same_stays a b ends.1
 
-armed_stays : (armed : Bool) (answer : Result Bool NoMemory) (a : Service) (i : Interval) (b : Service) (j : Interval) → GoesWhere armed answer a i b j
+armed_stays : (armed : Bool) (answer : Result Bool NoMemory) (a : Seen) (i : Interval) (b : Seen) (j : Interval) → GoesWhere armed answer a i b j
     → Stays a b
 armed_stays true answer a i b j goes = same_stays a b goes.1
 armed_stays false answer a i b j (inl high) = same_stays a b high.1.1
@@ -116,12 +116,12 @@ armed_stays false answer a i b j (inr low) =
     stays_then a first.looked b (goes_stays a first.looked _ first.look) (alive_stays first.lives answer first.looked i b j first.starts)
 
 -- what stays while an interval goes on
-pub on_stays : (answer : Result Bool NoMemory) (a : Service) (i : Interval) (b : Service) (j : Interval) → GoesOn answer a i b j → Stays a b
+pub on_stays : (answer : Result Bool NoMemory) (a : Seen) (i : Interval) (b : Seen) (j : Interval) → GoesOn answer a i b j → Stays a b
 on_stays answer a i b j goes =
     stays_then a goes.read b (goes_stays a goes.read _ goes.reads.call) (armed_stays goes.armed answer goes.read i b j goes.goes)
 
 -- the step of an interval that goes on
-pub step_on : (answer : Result Bool NoMemory) (w n : ℕ) (a b : Service) (is : List Interval) (i j : Interval) → n < length is → i ≡ slice_index_or is n i
+pub step_on : (answer : Result Bool NoMemory) (w n : ℕ) (a b : Seen) (is : List Interval) (i j : Interval) → n < length is → i ≡ slice_index_or is n i
     → IsOf w i → GoesOn answer a i b j → StepsOne answer w n a is b (set is n j)
 step_on answer w n a b is i j low here is_of goes = record {
   goes = λ d _.
@@ -133,7 +133,7 @@ step_on answer w n a b is i j low here is_of goes = record {
 }
 
 -- one step more
-pub steps_more : (w n : ℕ) (a b c : Service) (is js ks : List Interval) (armed next : ℕ) (started : Bool) → StepsTo w n a is armed b js
+pub steps_more : (w n : ℕ) (a b c : Seen) (is js ks : List Interval) (armed next : ℕ) (started : Bool) → StepsTo w n a is armed b js
     → StepsOne (Ok started) w n b js c ks → next ≡ armed + one_if started → StepsTo w (n + 1) a is next c ks
 steps_more w n a b c is js ks armed next started before step sum =
     let more : suc n ≡ n + 1 = omega arith in

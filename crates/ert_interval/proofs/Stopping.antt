@@ -24,7 +24,7 @@ use Rattle.ert_defs.specs.declared.entry.Event.TheVariants.{Look, Peek, Cancel}
 use Rattle.ert_interval.proofs.Steps.{spares, AllSpare, asks, NoneAsks}
 use Rattle.ert_interval.proofs.Growing.{with_state, kept_with}
 use Rattle.ert_interval.proofs.Reading.{piece_legal, left_armed}
-use Rattle.ert_sched.specs.Worlds.{Service, Goes, By}
+use Rattle.ert_world.specs.Worlds.{Seen, Goes, By}
 
 settled_other : (x : Option Status) → settled_as Cancelled x ≢ Some Armed
 settled_other None = λ is. absurd cc
@@ -63,7 +63,7 @@ cancels_at g s timer row now (Some n) left es is quiet legal stands =
       after = subst (λ l. (run g s l).status timer ≢ Some Armed) (sym is) left_none;
     }
 
-pub cancelled : (a b : Service) (i : Interval) (left : Option ℕ) → Legal b.settings b.history → IsKept a.settings a.history i
+pub cancelled : (a b : Seen) (i : Interval) (left : Option ℕ) → Legal b.settings b.history → IsKept a.settings a.history i
     → (goes : Goes a (By a (λ g. Cancels g (Caller 0) i.last left)) b)
     → IsCancelled a.settings (state a.settings a.history) i.last left goes.grows.piece
 cancelled a b i left legal kept goes =
@@ -72,11 +72,11 @@ cancelled a b i left legal kept goes =
     (c.entries ∙ ap (λ x. look_entry (Caller 0) c.now ∷ cancel_entries x (Caller 0) i.last c.found left) kept.named) c.quiet
     (piece_legal a b goes.grows.piece goes.settings goes.grows.grown legal) kept.row
 
-pub stopped_none : (a b : Service) (i : Interval) (left : Option ℕ) → Legal b.settings b.history → IsKept a.settings a.history i
+pub stopped_none : (a b : Seen) (i : Interval) (left : Option ℕ) → Legal b.settings b.history → IsKept a.settings a.history i
     → Goes a (By a (λ g. Cancels g (Caller 0) i.last left)) b → (left ≡ None) ↔ ((state a.settings a.history).status i.last ≢ Some Armed)
 stopped_none a b i left legal kept goes = (cancelled a b i left legal kept goes).none
 
-pub stopped_kept : (a b : Service) (i : Interval) (left : Option ℕ) → Legal a.settings a.history → Legal b.settings b.history
+pub stopped_kept : (a b : Seen) (i : Interval) (left : Option ℕ) → Legal a.settings a.history → Legal b.settings b.history
     → IsKept a.settings a.history i → Goes a (By a (λ g. Cancels g (Caller 0) i.last left)) b → IsKept b.settings b.history (with_state i Stopped)
 stopped_kept a b i left legal_a legal kept goes =
     let g : Settings = a.settings in
@@ -86,7 +86,7 @@ stopped_kept a b i left legal_a legal kept goes =
     (subst (λ l. IsKept g l (with_state i Stopped)) (sym goes.grows.grown)
     (kept_with g a.history m i Stopped legal_m kept (cancelled a b i left legal kept goes).after))
 
-pub stops_open : (old : Service) (i : Interval) (left : Option ℕ) (new : Service) (j : Interval) (st : IntervalState) → IsOpen st → StopsOpen old i left new j
+pub stops_open : (old : Seen) (i : Interval) (left : Option ℕ) (new : Seen) (j : Interval) (st : IntervalState) → IsOpen st → StopsOpen old i left new j
     → StopsIn st old i left new j
 stops_open old i left new j Running is_open stops = stops
 stops_open old i left new j Waiting is_open stops = stops

@@ -20,10 +20,10 @@ use Rattle.ert_interval.proofs.Stopping.{cancel_spares, cancel_asks}
 use Rattle.ert_interval.proofs.Onward.{plain_kept}
 use Rattle.ert_interval.proofs.Plain.{ArePlain, plain_asks}
 use Rattle.ert_interval.proofs.Steps.{NoneAsks, idle_stays}
-use Rattle.ert_sched.specs.Worlds.{Service}
+use Rattle.ert_world.specs.Worlds.{Seen}
 
 -- no request comes by entries that ask none
-pub idle_then : (a b : Service) (piece : List Entry) → b.settings ≡ a.settings → b.history ≡ a.history ++ piece → NoneAsks piece
+pub idle_then : (a b : Seen) (piece : List Entry) → b.settings ≡ a.settings → b.history ≡ a.history ++ piece → NoneAsks piece
     → HasNoRequests (state a.settings a.history) → HasNoRequests (state b.settings b.history)
 idle_then a b piece settings grown none idle =
     let g : Settings = a.settings in
@@ -32,7 +32,7 @@ idle_then a b piece settings grown none idle =
     (subst HasNoRequests (sym (state-append g a.history piece)) (idle_stays g (state g a.history) piece none idle)))
 
 -- all stay in order by entries that cancel nothing
-pub all_kept : (a b : Service) (piece : List Entry) (is : List Interval) → b.settings ≡ a.settings → b.history ≡ a.history ++ piece → ArePlain piece
+pub all_kept : (a b : Seen) (piece : List Entry) (is : List Interval) → b.settings ≡ a.settings → b.history ≡ a.history ++ piece → ArePlain piece
     → Legal b.settings b.history → AreKept a is → AreKept b is
 all_kept a b piece is settings grown plain legal kept = record {
   legal = legal;
@@ -50,7 +50,7 @@ either x y differ = lt_or x y differ (cases_eq (x - y) 0)
     lt_or x y differ (inr some) = inr (omega (arith, some))
 
 -- a list with another interval at one place
-module _ (a b : Service) (is : List Interval) (n : ℕ) (j : Interval) (kept : AreKept a is) (low : n < length is) (legal : Legal b.settings b.history)
+module _ (a b : Seen) (is : List Interval) (n : ℕ) (j : Interval) (kept : AreKept a is) (low : n < length is) (legal : Legal b.settings b.history)
     (idle : HasNoRequests (state b.settings b.history))
     (others : (m : ℕ) (d : Interval) → m ≢ n → m < length is → IsKept b.settings b.history (slice_index_or is m d))
     (one : IsKept b.settings b.history j) (last : (d : Interval) → IsNewOrSame (state a.settings a.history) (slice_index_or is n d) j) where
@@ -103,7 +103,7 @@ module _ (a b : Service) (is : List Interval) (n : ℕ) (j : Interval) (kept : A
         ];
   }
 
-pub still_none : (a : Service) → Still a a
+pub still_none : (a : Seen) → Still a a
 still_none a = record { piece = []; grown = sym (append-nil a.history); still = tt; settings = refl }
 
 -- within a list the default doesn't matter
@@ -113,7 +113,7 @@ any_default (x ∷ xs) zero d e low = refl
 any_default (x ∷ xs) (suc n) d e low = any_default xs n d e (omega (arith, low))
 
 -- all but one stay in order where only the timer of that may be cancelled
-pub spared_kept : (a b : Service) (is : List Interval) (n : ℕ) (i : Interval) → AreKept a is → n < length is → i ≡ slice_index_or is n i
+pub spared_kept : (a b : Seen) (is : List Interval) (n : ℕ) (i : Interval) → AreKept a is → n < length is → i ≡ slice_index_or is n i
     → Spares i.last a b → Legal b.settings b.history → (m : ℕ) (d : Interval) → m ≢ n → m < length is
     → IsKept b.settings b.history (slice_index_or is m d)
 spared_kept a b is n i kept low here spares legal m d not high =
@@ -132,12 +132,12 @@ spared_kept a b is n i kept low here spares legal m d not high =
       | inr more ↦ kept.apart n m d more high is_same
     ]
 
-pub spared_idle : (a b : Service) (r : TimerRef) → Spares r a b → HasNoRequests (state a.settings a.history)
+pub spared_idle : (a b : Seen) (r : TimerRef) → Spares r a b → HasNoRequests (state a.settings a.history)
     → HasNoRequests (state b.settings b.history)
 spared_idle a b r spares idle = idle_then a b spares.piece spares.settings spares.grown (cancel_asks r spares.piece spares.spares) idle
 
 -- one interval more
-pub pushed_kept : (a b : Service) (piece : List Entry) (is : List Interval) (j : Interval) → b.settings ≡ a.settings → b.history ≡ a.history ++ piece
+pub pushed_kept : (a b : Seen) (piece : List Entry) (is : List Interval) (j : Interval) → b.settings ≡ a.settings → b.history ≡ a.history ++ piece
     → ArePlain piece → Legal b.settings b.history → AreKept a is → length is < 4294967295 → IsKept b.settings b.history j
     → (state a.settings a.history).status j.last ≡ None → AreKept b (is ++ j ∷ [])
 pushed_kept a b piece is j settings grown plain legal kept few one new =

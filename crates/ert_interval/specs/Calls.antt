@@ -21,7 +21,7 @@ use Rattle.ert_interval.specs.declared.interval.IntervalState.{IntervalState}
 use Rattle.ert_interval.specs.declared.interval.IntervalState.TheVariants.{Running, Waiting, Stopped, Ended}
 use Rattle.ert_interval.specs.declared.intervals.IntervalErr.{IntervalErr}
 use Rattle.ert_interval.specs.declared.intervals.IntervalErr.TheVariants.{BadArg, Full, NoMemory}
-use Rattle.ert_sched.specs.Worlds.{Service, Goes, By}
+use Rattle.ert_world.specs.Worlds.{Seen, Goes, By}
 
 -- whether an entry settles no timer, and lets no process exit
 abbrev pub is_still : Event → Bool
@@ -38,7 +38,7 @@ AreStill [] = Unit {0}
 AreStill (e ∷ es) = (is_still e.event ≡ true) × AreStill es
 
 -- a world's history grows by entries that settle no timer
-pub record Still (old new : Service) : Type 0 where
+pub record Still (old new : Seen) : Type 0 where
   pub piece : List Entry
   pub grown : new.history ≡ old.history ++ piece
   pub still : AreStill piece
@@ -79,13 +79,13 @@ Fires true old new = (r : TimerRef) × (new.firings.items ≡ old.firings.items 
 Fires false old new = new.firings.items ≡ old.firings.items
 
 -- a turn has gone on with an interval
-pub record Passed (w : Service) (old new : Interval) (armed : Bool) : Type 0 where
+pub record Passed (w : Seen) (old new : Interval) (armed : Bool) : Type 0 where
   pub same : IsSame old new
   pub fires : Fires armed old new
   pub ends : EndsAs w.settings (state w.settings w.history) new new.state
 
 -- a turn has gone on with an interval, or for want of memory has left it as it was
-abbrev pub PassedBy : Result Bool WantOfMemory → Service → Interval → Interval → Type 0
+abbrev pub PassedBy : Result Bool WantOfMemory → Seen → Interval → Interval → Type 0
 PassedBy (Ok armed) w old new = Passed w old new armed
 PassedBy (Err e) w old new = Unmoved old new
 
@@ -109,7 +109,7 @@ Counts (Ok false) is js = timers js ≡ timers is
 Counts (Err e) is js = timers js ≡ timers is
 
 -- a turn has gone once through the intervals of its wheel, and started so many timers
-pub record PassesAll (w : ℕ) (new : Service) (is js : List Interval) (armed : ℕ) : Type 0 where
+pub record PassesAll (w : ℕ) (new : Seen) (is js : List Interval) (armed : ℕ) : Type 0 where
   pub counted : length js ≡ length is
   pub started : timers js ≡ timers is + armed
   pub passed : (n : ℕ) (d : Interval) → n < length is → IsOf w (slice_index_or is n d)
@@ -117,14 +117,14 @@ pub record PassesAll (w : ℕ) (new : Service) (is js : List Interval) (armed : 
   pub others : (n : ℕ) (d : Interval) → n < length is → (IsOf w (slice_index_or is n d) → ⊥) → slice_index_or js n d ≡ slice_index_or is n d
 
 -- it has gone on with one interval, if that is of its wheel
-pub record PassesOne (answer : Result Bool WantOfMemory) (n w : ℕ) (new : Service) (is js : List Interval) : Type 0 where
+pub record PassesOne (answer : Result Bool WantOfMemory) (n w : ℕ) (new : Seen) (is js : List Interval) : Type 0 where
   pub counted : length js ≡ length is
   pub one : (d : Interval) → IsOf w (slice_index_or is n d) → PassedBy answer new (slice_index_or is n d) (slice_index_or js n d)
   pub other : (d : Interval) → (IsOf w (slice_index_or is n d) → ⊥) → (answer ≡ Ok false) × (slice_index_or js n d ≡ slice_index_or is n d)
   pub others : (m : ℕ) (d : Interval) → m ≢ n → slice_index_or js m d ≡ slice_index_or is m d
 
 -- or only through some, for want of memory
-pub record PassesSome (w : ℕ) (new : Service) (is js : List Interval) : Type 0 where
+pub record PassesSome (w : ℕ) (new : Seen) (is js : List Interval) : Type 0 where
   pub counted : length js ≡ length is
   pub passed : (n : ℕ) (d : Interval) → n < length is → IsOf w (slice_index_or is n d)
       → Unmoved (slice_index_or is n d) (slice_index_or js n d)
@@ -132,7 +132,7 @@ pub record PassesSome (w : ℕ) (new : Service) (is js : List Interval) : Type 0
   pub others : (n : ℕ) (d : Interval) → n < length is → (IsOf w (slice_index_or is n d) → ⊥) → slice_index_or js n d ≡ slice_index_or is n d
 
 -- a turn has gone once through the intervals of its wheel, or only through some for want of memory
-abbrev pub PassesBy : Result ℕ WantOfMemory → ℕ → Service → List Interval → List Interval → Type 0
+abbrev pub PassesBy : Result ℕ WantOfMemory → ℕ → Seen → List Interval → List Interval → Type 0
 PassesBy (Ok armed) w new is js = PassesAll w new is js armed
 PassesBy (Err e) w new is js = PassesSome w new is js
 
@@ -152,7 +152,7 @@ abbrev pub IsRefused : Settings → ℤ → ℕ → Type 0
 IsRefused g first period = (period ≡ 0) ⊎ (deadline_at (first -ℤ base g) ≡ None)
 
 -- `every` has made an interval
-pub record HasMade (wheel : ℕ) (first : ℤ) (period dest msg n : ℕ) (old : Service) (is : List Interval) (new : Service) (js : List Interval) : Type 0 where
+pub record HasMade (wheel : ℕ) (first : ℤ) (period dest msg n : ℕ) (old : Seen) (is : List Interval) (new : Seen) (js : List Interval) : Type 0 where
   pub timer : TimerRef
   pub call : Goes old (By old (λ g. Starts g 0 wheel (start_at first dest msg) (Ok timer))) new
   pub interval : Interval
@@ -161,7 +161,7 @@ pub record HasMade (wheel : ℕ) (first : ℤ) (period dest msg n : ℕ) (old : 
   pub number : n ≡ length is
 
 -- `every`
-abbrev pub Every : ℕ → ℤ → ℕ → ℕ → ℕ → Service → List Interval → Result ℕ IntervalErr → Service → List Interval → Type 0
+abbrev pub Every : ℕ → ℤ → ℕ → ℕ → ℕ → Seen → List Interval → Result ℕ IntervalErr → Seen → List Interval → Type 0
 Every wheel first period dest msg old is (Ok n) new js =
     (IsRefused old.settings first period → ⊥) × HasMade wheel first period dest msg n old is new js
 Every wheel first period dest msg old is (Err BadArg) new js = IsRefused old.settings first period × (new ≡ old) × (js ≡ is)
@@ -171,14 +171,14 @@ Every wheel first period dest msg old is (Err Full) new js =
 Every wheel first period dest msg old is (Err NoMemory) new js = (IsRefused old.settings first period → ⊥) × (new ≡ old) × (js ≡ is)
 
 -- `stop`, of one interval that is Running or Waiting
-pub record StopsOpen (old : Service) (i : Interval) (left : Option ℕ) (new : Service) (j : Interval) : Type 0 where
+pub record StopsOpen (old : Seen) (i : Interval) (left : Option ℕ) (new : Seen) (j : Interval) : Type 0 where
   pub call : Goes old (By old (λ g. Cancels g (Caller 0) i.last left)) new
   pub same : IsSame i j
   pub firings : j.firings.items ≡ i.firings.items
   pub state : j.state ≡ Stopped
 
 -- `stop` by the state of the interval: where it is neither Running nor Waiting, it stays as it is
-abbrev pub StopsIn : IntervalState → Service → Interval → Option ℕ → Service → Interval → Type 0
+abbrev pub StopsIn : IntervalState → Seen → Interval → Option ℕ → Seen → Interval → Type 0
 StopsIn Running old i left new j = StopsOpen old i left new j
 StopsIn Waiting old i left new j = StopsOpen old i left new j
 StopsIn Stopped old i left new j = (left ≡ None) × (new ≡ old) × (j ≡ i)
@@ -189,12 +189,12 @@ abbrev pub NoneWhere : State → Interval → Option ℕ → Type 0
 NoneWhere s i left = (left ≡ None) ↔ (s.status i.last ≢ Some Armed)
 
 -- `stop` of one interval: something is left exactly where its last timer was armed
-pub record StopsOne (old : Service) (i : Interval) (left : Option ℕ) (new : Service) (j : Interval) : Type 0 where
+pub record StopsOne (old : Seen) (i : Interval) (left : Option ℕ) (new : Seen) (j : Interval) : Type 0 where
   pub stops : StopsIn i.state old i left new j
   pub none : NoneWhere (state old.settings old.history) i left
 
 -- `stop`: no other interval moves; nothing is left where there is no such interval
-pub record Stops (n : ℕ) (old : Service) (is : List Interval) (left : Option ℕ) (new : Service) (js : List Interval) : Type 0 where
+pub record Stops (n : ℕ) (old : Seen) (is : List Interval) (left : Option ℕ) (new : Seen) (js : List Interval) : Type 0 where
   pub counted : length js ≡ length is
   pub one : (d : Interval) → n < length is → StopsOne old (slice_index_or is n d) left new (slice_index_or js n d)
   pub past : length is ≤ n → (left ≡ None) × (new ≡ old)

@@ -18,7 +18,7 @@ use Rattle.ert_interval.specs.Deadlines.{base}
 use Rattle.ert_interval.specs.declared.interval.Interval.{Interval}
 use Rattle.ert_interval.specs.declared.interval.IntervalState.{IntervalState}
 use Rattle.ert_interval.specs.declared.interval.IntervalState.TheVariants.{Running, Waiting, Stopped, Ended}
-use Rattle.ert_sched.specs.Worlds.{Service}
+use Rattle.ert_world.specs.Worlds.{Seen}
 
 -- a turn goes on with an interval in this state
 abbrev pub IsOpen : IntervalState → Type 0
@@ -116,7 +116,7 @@ abbrev pub HasNoRequests : State → Type 0
 HasNoRequests s = (w : ℕ) → (s.inboxes w ≡ []) × ((s.scheds w).hand ≡ None)
 
 -- the intervals of a world
-pub record AreKept (w : Service) (is : List Interval) : Type 0 where
+pub record AreKept (w : Seen) (is : List Interval) : Type 0 where
   pub legal : Legal w.settings w.history
   pub idle : HasNoRequests (state w.settings w.history)
   pub each : (n : ℕ) (d : Interval) → n < length is → IsKept w.settings w.history (slice_index_or is n d)

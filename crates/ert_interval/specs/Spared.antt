@@ -5,7 +5,7 @@ use Rattle.ert_defs.specs.declared.entry.Entry.{Entry}
 use Rattle.ert_defs.specs.declared.entry.Event.{Event}
 use Rattle.ert_defs.specs.declared.entry.Event.TheVariants.{Look, Peek, Cancel}
 use Rattle.ert_defs.specs.declared.timer.TimerRef.{TimerRef}
-use Rattle.ert_sched.specs.Worlds.{Service}
+use Rattle.ert_world.specs.Worlds.{Seen}
 
 -- an entry reads the time or a timer, or is a cancel of this timer
 abbrev pub CancelsOnly : TimerRef → Event → Type 0
@@ -20,7 +20,7 @@ CancelOnly r [] = Unit {0}
 CancelOnly r (e ∷ es) = CancelsOnly r e.event × CancelOnly r es
 
 -- a world's history grows by entries of which at most this timer is cancelled
-pub record Spares (r : TimerRef) (old new : Service) : Type 0 where
+pub record Spares (r : TimerRef) (old new : Seen) : Type 0 where
   pub piece : List Entry
   pub grown : new.history ≡ old.history ++ piece
   pub spares : CancelOnly r piece

@@ -9,23 +9,23 @@ use Rattle.ert_interval.specs.Calls.{Still, PassesAll, PassesSome}
 use Rattle.ert_interval.specs.Going.{StepsAll}
 use Rattle.ert_interval.specs.declared.interval.Interval.{Interval}
 use Rattle.ert_interval.specs.declared.turns.IntervalTurn.{IntervalTurn}
-use Rattle.ert_sched.specs.Worlds.{Service, Goes}
+use Rattle.ert_world.specs.Worlds.{Seen, Goes}
 
 -- the world makes its turn, and then its history grows by what the intervals do: by the steps of each in
 -- order of number, of which this is the answer
-pub record TurnsTo (w : ℕ) (turned : Turned) (answer : Result ℕ NoMemory) (old : Service) (is : List Interval) (new : Service) (js : List Interval) : Type 0 where
-  pub between : Service
+pub record TurnsTo (w : ℕ) (turned : Turned) (answer : Result ℕ NoMemory) (old : Seen) (is : List Interval) (new : Seen) (js : List Interval) : Type 0 where
+  pub between : Seen
   pub turn : Goes old (Turns old.settings (alone old.settings) w (Ok turned)) between
   pub still : Still between new
   pub steps : StepsAll w answer between is new js
 
 -- the world's turn had no memory, and no interval has gone on; or the turn of the intervals had none
-abbrev pub HasStopped : ℕ → NoMemory → Service → List Interval → Service → List Interval → Type 0
+abbrev pub HasStopped : ℕ → NoMemory → Seen → List Interval → Seen → List Interval → Type 0
 HasStopped w e old is new js =
     (Goes old (Turns old.settings (alone old.settings) w (Err e)) new × (js ≡ is))
     ⊎ (((turned : Turned) × TurnsTo w turned (Err e) old is new js) × PassesSome w new is js)
 
 -- `turn`
-abbrev pub TurnsBy : ℕ → Result IntervalTurn NoMemory → Service → List Interval → Service → List Interval → Type 0
+abbrev pub TurnsBy : ℕ → Result IntervalTurn NoMemory → Seen → List Interval → Seen → List Interval → Type 0
 TurnsBy w (Ok t) old is new js = TurnsTo w t.turned (Ok t.armed) old is new js × PassesAll w new is js t.armed
 TurnsBy w (Err e) old is new js = HasStopped w e old is new js

@@ -8,12 +8,12 @@ ghost use Rattle.ert_interval.specs.Going.{GoesOn, ReadsLast, StartsNext};
 ghost use Rattle.ert_interval.specs.Spared.{Spares};
 ghost use Rattle.ert_answers.specs.WheelCalls.{TellsAlive};
 ghost use Rattle.ert_defs.specs.declared.entry.Actor.TheVariants.{Caller};
-ghost use Rattle.ert_sched.specs.Worlds.{Goes, By};
+ghost use Rattle.ert_world.specs.Worlds.{Goes, By};
 ghost use Rattle.ert_defs.specs.declared.timer.Status.TheVariants.{Armed};
 
 use crate::interval::{Interval, IntervalState, next_deadline, start_for};
 use ert_defs::NoMemory;
-use ert_sched::World;
+use ert_world::World;
 
 /// Goes on with an interval that is Running or Waiting, and tells whether its next timer was started.
 ///

@@ -4,7 +4,7 @@ use crate::interval::{Interval, IntervalState, deadline_at, start_at};
 use ert_clock::{ClockErr, Moved};
 use ert_defs::{NoMemory, Reading, Settings, TimerRef};
 use ert_mail::Taken;
-use ert_sched::World;
+use ert_world::World;
 use std::alloc::Global;
 
 /// Why an interval is refused.
@@ -35,8 +35,8 @@ impl IntervalWorld {
     ghost use Rattle.ert_defs.specs.Settings.{IsChecked};
     ghost use Rattle.ert_interval.specs.Intervals.{AreKept};
     ghost use Rattle.ert_interval.specs.Calls.{FiringsAre, Every, Stops, StateIs};
-    ghost use Rattle.ert_sched.specs.Openings.{IsOpened};
-    ghost use Rattle.ert_sched.specs.Worlds.{Goes, By};
+    ghost use Rattle.ert_world.specs.Openings.{IsOpened};
+    ghost use Rattle.ert_world.specs.Worlds.{Goes, By};
 
     /// Opens a service, with no interval.
     pub fn open(alloc: Global, settings: &Settings) -> Result<IntervalWorld, NoMemory>

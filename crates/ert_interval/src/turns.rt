@@ -2,7 +2,7 @@
 use crate::going::go_on;
 use crate::intervals::IntervalWorld;
 use ert_defs::NoMemory;
-use ert_sched::Turned;
+use ert_world::Turned;
 
 /// What a turn did.
 #[derive(Clone, Copy, Debug, PartialEq, Eq)]
@@ -21,7 +21,7 @@ impl IntervalWorld {
     ghost use Rattle.ert_interval.specs.Going.{Stays, StepsAll, StepsOne};
     ghost use Rattle.ert_interval.specs.Intervals.{AreKept};
     ghost use Rattle.ert_interval.specs.Turns.{TurnsBy};
-    ghost use Rattle.ert_sched.specs.Worlds.{Goes, StayTidy};
+    ghost use Rattle.ert_world.specs.Worlds.{Goes, StayTidy};
 
     /// A turn of a scheduler (`World::turn`), and then one step of each interval of its wheel, in order of
     /// number.

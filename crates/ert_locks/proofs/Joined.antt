@@ -15,8 +15,8 @@ use Rattle.ert_inbox.specs.Inboxes.{Waiting, Stands as InboxStands}
 use Rattle.ert_locks.proofs.Lent.{Lends, part_same, user_same}
 use Rattle.ert_mail.proofs.LawsHold.{stand_on as mail_on}
 use Rattle.ert_mail.specs.Mailboxes.{Mailbox, Stands as MailStands}
-use Rattle.ert_sched.specs.Parts.{SchedStands}
-use Rattle.ert_sched.specs.declared.sched_part.SchedPart.{SchedPart}
+use Rattle.ert_world.specs.Parts.{SchedStands}
+use Rattle.ert_world.specs.declared.sched_part.SchedPart.{SchedPart}
 use Rattle.ert_table.proofs.Parts.{free_later}
 use Rattle.ert_table.specs.Views.{Begins}
 use Rattle.ert_table.specs.declared.view.View.{View}

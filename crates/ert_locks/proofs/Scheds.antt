@@ -28,10 +28,10 @@ use Rattle.ert_locks.proofs.Lent.{Lends, is_of}
 use Rattle.ert_locks.specs.Hands.{hand_left, rows_left, counted}
 use Rattle.ert_locks.specs.Names.{IsDesk, IsSched}
 use Rattle.ert_mail.specs.Mailboxes.{IsMonitor, handed, answered}
-use Rattle.ert_sched.proofs.Advances.{LeaveHand, hand_at, advances_leave, cond_same}
-use Rattle.ert_sched.proofs.Calls.{omitted_made}
-use Rattle.ert_sched.specs.Parts.{SchedStands}
-use Rattle.ert_sched.specs.declared.sched_part.SchedPart.{SchedPart}
+use Rattle.ert_world.proofs.Advances.{LeaveHand, hand_at, advances_leave, cond_same}
+use Rattle.ert_world.proofs.Calls.{omitted_made}
+use Rattle.ert_world.specs.Parts.{SchedStands}
+use Rattle.ert_world.specs.declared.sched_part.SchedPart.{SchedPart}
 use Rattle.ert_table.proofs.Parts.{own_after, sched_own, IsOwnBy, AreByThemselves}
 use Rattle.ert_table.specs.Calls.{IsMade}
 use Rattle.ert_table.specs.Desks.{settings_of, front_of, actors_of, Belongs}

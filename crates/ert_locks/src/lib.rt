@@ -16,7 +16,7 @@
 //! one desk (`DeskName`): its identity and its settings.
 //!
 //! It stands on `ert_defs`, `ert_clock`, `ert_answers`, `ert_table`, `ert_calls`, on the parts' crates and on
-//! `ert_sched` for a scheduler's part.
+//! `ert_world` for a scheduler's part.
 #![tactic(auto)]
 
 mod inbox;

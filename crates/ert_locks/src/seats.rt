@@ -4,7 +4,7 @@ ghost use Rattle.ert_defs.specs.declared.entry.Actor.TheVariants.{Caller};
 ghost use Rattle.ert_locks.specs.Names.{IsOf, IsSched};
 
 use crate::names::DeskName;
-use ert_sched::SchedPart;
+use ert_world::SchedPart;
 use ert_table::Pass;
 use std::marker::PhantomData;
 

@@ -39,7 +39,7 @@ use Rattle.ert_defs.specs.declared.timer.Start.{Start}
 use Rattle.ert_defs.specs.declared.timer.Status.{Status}
 use Rattle.ert_defs.specs.declared.timer.TimerRef.{TimerRef}
 use Rattle.ert_names.specs.Fits.{Fits, AllFit, FitsRows}
-use Rattle.ert_sched.specs.Worlds.{Service, Goes, By}
+use Rattle.ert_world.specs.Worlds.{Seen, Goes, By}
 
 pub fit_as : (n q : ℕ) (es fs : List Entry) → es ≡ fs → AllFit n q fs → AllFit n q es
 fit_as n q es fs same fit = subst (AllFit n q) (sym same) fit
@@ -271,15 +271,15 @@ turns_fit n q g w (Err e) h m (inr (inr delivered)) =
     (delivers_fit n q g w (Err e))) h m delivered.2
 
 -- a world that fits goes on to one that does
-pub fits_on : (n : ℕ) (a b : Service) (call : Growth) → AreFitting n 0 call → Goes a call b → FitsRows n a → FitsRows n b
+pub fits_on : (n : ℕ) (a b : Seen) (call : Growth) → AreFitting n 0 call → Goes a call b → FitsRows n a → FitsRows n b
 fits_on n a b call fitting goes fits = record {
   processes = subst (λ (g : Settings). 2 ≤ g.processes) (sym goes.settings) fits.processes;
   entries = fit_grows n 0 call a.history b.history fitting fits.entries goes.grows;
 }
 
-pub fits_by : (n : ℕ) (a b : Service) (allows : Settings → State → List Entry → Type 0)
+pub fits_by : (n : ℕ) (a b : Seen) (allows : Settings → State → List Entry → Type 0)
     → ((s : State) (es : List Entry) → allows a.settings s es → AllFit n 0 es) → Goes a (By a allows) b → FitsRows n a → FitsRows n b
 fits_by n a b allows fitting goes fits = fits_on n a b (By a allows) (λ h m made. fitting (state a.settings h) m made) goes fits
 
-pub fits_more : (n m : ℕ) (a : Service) → n ≤ m → FitsRows n a → FitsRows m a
+pub fits_more : (n m : ℕ) (a : Seen) → n ≤ m → FitsRows n a → FitsRows m a
 fits_more n m a more fits = record { processes = fits.processes; entries = fit_more n m 0 a.history more fits.entries }

@@ -20,8 +20,8 @@ use Rattle.ert_names.specs.Names.{Names}
 use Rattle.ert_names.specs.Registered.{Registered, Row, row_of}
 use Rattle.ert_names.specs.declared.named.NamedMail.{NamedMail}
 use Rattle.ert_names.specs.declared.named.NamedRow.{NamedRow}
-use Rattle.ert_sched.proofs.Composed.{goes_then, goes_more, goes_nothing}
-use Rattle.ert_sched.specs.Worlds.{Goes}
+use Rattle.ert_world.proofs.Composed.{goes_then, goes_more, goes_nothing}
+use Rattle.ert_world.specs.Worlds.{Goes}
 
 -- the row at a place
 row_found : (items : List NamedRow) (place : ℕ) (d : NamedRow) → place < length items → row_at (map row_of items) place ≡ Some (row_of (slice_index_or items place d))

@@ -27,14 +27,14 @@ use Rattle.ert_names.specs.Names.{Names, Unnamed, IsWithout, other_than}
 use Rattle.ert_names.proofs.Books.{some_is}
 use Rattle.ert_names.proofs.Fitting.{AreFitting, fits_on, fits_more, takes_fit, alive_fits, exits_fit}
 use Rattle.ert_names.proofs.Registrars.{lives_event}
-use Rattle.ert_sched.specs.Worlds.{Service, Goes, By}
+use Rattle.ert_world.specs.Worlds.{Seen, Goes, By}
 
 -- a process that entries spare lives on
 lives_run : (g : Settings) (n q : ℕ) (s : State) (es : List Entry) → AllFit n q es → s.exited q ≡ false → (run g s es).exited q ≡ false
 lives_run g n q s [] fit lives = lives
 lives_run g n q s (e ∷ es) fit lives = lives_run g n q (next g s e) es fit.1 (lives_event n q e.event (s.exited q) fit.0 lives)
 
-lives_on : (n q : ℕ) (a b : Service) (call : Growth) → AreFitting n q call → Goes a call b → Lives a q → Lives b q
+lives_on : (n q : ℕ) (a b : Seen) (call : Growth) → AreFitting n q call → Goes a call b → Lives a q → Lives b q
 lives_on n q a b call fitting goes lives =
     let g : Settings = a.settings in
     let es : List Entry = goes.grows.piece in
@@ -44,23 +44,23 @@ lives_on n q a b call fitting goes lives =
     (lives_run g n q (state g a.history) es (fitting a.history es goes.grows.made) lives)
 
 -- a call that spares every process
-pub names_on : (n : ℕ) (names : Names) (a b : Service) (call : Growth) → ((q : ℕ) → AreFitting n q call) → Goes a call b → FitsNames n names a
+pub names_on : (n : ℕ) (names : Names) (a b : Seen) (call : Growth) → ((q : ℕ) → AreFitting n q call) → Goes a call b → FitsNames n names a
     → FitsNames n names b
 names_on n names a b call fitting goes fits = record {
   fits = fits_on n a b call (fitting 0) goes fits.fits;
   living = λ name q has. lives_on n q a b call (fitting q) goes (fits.living name q has);
 }
 
-pub names_by : (n : ℕ) (names : Names) (a b : Service) (allows : Settings → State → List Entry → Type 0)
+pub names_by : (n : ℕ) (names : Names) (a b : Seen) (allows : Settings → State → List Entry → Type 0)
     → ((q : ℕ) (s : State) (es : List Entry) → allows a.settings s es → AllFit n q es) → Goes a (By a allows) b → FitsNames n names a → FitsNames n names b
 names_by n names a b allows fitting goes fits =
     names_on n names a b (By a allows) (λ q h m made. fitting q (state a.settings h) m made) goes fits
 
-pub names_more : (n m : ℕ) (names : Names) (a : Service) → n ≤ m → FitsNames n names a → FitsNames m names a
+pub names_more : (n m : ℕ) (names : Names) (a : Seen) → n ≤ m → FitsNames n names a → FitsNames m names a
 names_more n m names a more fits = record { fits = fits_more n m a more fits.fits; living = fits.living }
 
 -- the registrar's next message is taken
-pub names_next : (n : ℕ) (names : Names) (a b : Service) (message : Option Message) → TakesNext n a message b → FitsNames n names a → FitsNames n names b
+pub names_next : (n : ℕ) (names : Names) (a b : Seen) (message : Option Message) → TakesNext n a message b → FitsNames n names a → FitsNames n names b
 names_next n names a b (Some message) next fits =
     let taken = Mail (Timeout message.0 message.1) in
     names_by n names a b (λ g. Takes g 0 0 taken) (λ q s es. takes_fit n q a.settings 0 0 taken s es) next.0.goes fits
@@ -77,7 +77,7 @@ found_at p exits was g f m h grown is legal =
     one.0.found
 
 -- a process that was seen to live
-pub seen_living : (p : ℕ) (a b : Service) → Goes a (By a (λ g. TellsAlive g (Caller 0) p true)) b → Legal b.settings b.history → Lives b p
+pub seen_living : (p : ℕ) (a b : Seen) → Goes a (By a (λ g. TellsAlive g (Caller 0) p true)) b → Legal b.settings b.history → Lives b p
 seen_living p a b goes legal =
     let g : Settings = a.settings in
     let whole : Legal g b.history = subst (λ k. Legal k b.history) goes.settings legal in
@@ -86,7 +86,7 @@ seen_living p a b goes legal =
     (λ h m made. alive_fits 0 p g (Caller 0) p true (state g h) m made) goes lives
 
 -- a name is given to a process that lives
-inserted_living : (names : Names) (name : List ℕ) (p : ℕ) (w : Service) → Lives w p → AreLiving names w → AreLiving (finite.insert names name p) w
+inserted_living : (names : Names) (name : List ℕ) (p : ℕ) (w : Seen) → Lives w p → AreLiving names w → AreLiving (finite.insert names name p) w
 inserted_living names name p w lives living k q has =
     at (eq_by_cmp (slice_cmp nat_cmp) k name) (sym (finite.get-insert nat_list_cmp_total names name p k) ∙ has)
   where
@@ -94,7 +94,7 @@ inserted_living names name p w lives living k q has =
     at true is = subst (Lives w) (some_is p q is) lives
     at false is = living k q is
 
-pub registered_if : (n : ℕ) (names new : Names) (name : List ℕ) (p : ℕ) (w : Service) (answer : Result (Unit {0}) NoMemory)
+pub registered_if : (n : ℕ) (names new : Names) (name : List ℕ) (p : ℕ) (w : Seen) (answer : Result (Unit {0}) NoMemory)
     → OnOk answer (new ≡ finite.insert names name p) → OnErr answer (new ≡ names) → Lives w p → FitsNames n names w → FitsNames n new w
 registered_if n names new name p w (Ok done) ok err lives fits = record {
   fits = fits.fits;
@@ -106,7 +106,7 @@ registered_if n names new name p w (Err e) ok err lives fits = record {
 }
 
 -- a name goes
-pub removed_living : (n : ℕ) (names : Names) (name : List ℕ) (w : Service) → FitsNames n names w → FitsNames n (finite.remove names name) w
+pub removed_living : (n : ℕ) (names : Names) (name : List ℕ) (w : Seen) → FitsNames n names w → FitsNames n (finite.remove names name) w
 removed_living n names name w fits = record {
   fits = fits.fits;
   living = λ k q has.
@@ -130,7 +130,7 @@ pub without_unnamed : (old new : Names) (p : ℕ) → IsWithout old p new → Un
 without_unnamed old new p without = λ name has. (other_living p p (finite.get old name) (sym (without name) ∙ has)).1 refl
 
 -- a process exits, and no name is left to it
-exited_on : (n : ℕ) (names new : Names) (p : ℕ) (answer : Bool) (a b : Service) → p ≢ 0 → Goes a (Exits a.settings (alone a.settings) 0 p answer) b
+exited_on : (n : ℕ) (names new : Names) (p : ℕ) (answer : Bool) (a b : Seen) → p ≢ 0 → Goes a (Exits a.settings (alone a.settings) 0 p answer) b
     → ((name : List ℕ) (q : ℕ) → finite.get new name ≡ Some q → (finite.get names name ≡ Some q) × (q ≢ p)) → FitsNames n names a → FitsNames n new b
 exited_on n names new p answer a b other goes fewer fits = record {
   fits = fits_on n a b (Exits a.settings (alone a.settings) 0 p answer) (exits_fit n 0 a.settings p answer other) goes fits.fits;
@@ -140,13 +140,13 @@ exited_on n names new p answer a b other goes fewer fits = record {
       (fits.living name q (fewer name q has).0);
 }
 
-pub exited_new : (n : ℕ) (names new : Names) (p : ℕ) (answer : Bool) (a b : Service) → p ≢ 0 → Goes a (Exits a.settings (alone a.settings) 0 p answer) b
+pub exited_new : (n : ℕ) (names new : Names) (p : ℕ) (answer : Bool) (a b : Seen) → p ≢ 0 → Goes a (Exits a.settings (alone a.settings) 0 p answer) b
     → IsWithout names p new → FitsNames n names a → FitsNames n new b
 exited_new n names new p answer a b other goes without fits =
     exited_on n names new p answer a b other goes (λ name q has. other_living p q (finite.get names name) (sym (without name) ∙ has)) fits
 
 -- a process that had exited before has no name
-pub exited_unnamed : (n : ℕ) (names : Names) (p : ℕ) (a b : Service) → Goes a (Exits a.settings (alone a.settings) 0 p false) b
+pub exited_unnamed : (n : ℕ) (names : Names) (p : ℕ) (a b : Seen) → Goes a (Exits a.settings (alone a.settings) 0 p false) b
     → Legal b.settings b.history → FitsNames n names a → Unnamed names p
 exited_unnamed n names p a b goes legal fits = λ name has.
     let g : Settings = a.settings in
@@ -155,13 +155,13 @@ exited_unnamed n names p a b goes legal fits = λ name has.
     let clash : true ≡ false = exited ∙ fits.living name p has in
     cc
 
-pub exited_old : (n : ℕ) (names : Names) (p : ℕ) (a b : Service) → p ≢ 0 → Goes a (Exits a.settings (alone a.settings) 0 p false) b
+pub exited_old : (n : ℕ) (names : Names) (p : ℕ) (a b : Seen) → p ≢ 0 → Goes a (Exits a.settings (alone a.settings) 0 p false) b
     → Legal b.settings b.history → FitsNames n names a → FitsNames n names b
 exited_old n names p a b other goes legal fits =
     let none = exited_unnamed n names p a b goes legal fits in
     exited_on n names names p false a b other goes (λ name q has. (has, λ same. none name (has ∙ ap Some same))) fits
 
 -- a process that was found by its name
-pub found_living : (names : Names) (w : Service) (name : List ℕ) (found : Option ℕ) → found ≡ finite.get names name → AreLiving names w → IfSome found (Lives w)
+pub found_living : (names : Names) (w : Seen) (name : List ℕ) (found : Option ℕ) → found ≡ finite.get names name → AreLiving names w → IfSome found (Lives w)
 found_living names w name None is living = tt
 found_living names w name (Some q) is living = living name q (sym is)

@@ -19,7 +19,7 @@ use Rattle.ert_names.proofs.Registrars.{IsKept, kept_run, kept_opening}
 use Rattle.ert_names.specs.Promised.{IsNamed}
 use Rattle.ert_names.specs.Fits.{FitsRows}
 use Rattle.ert_names.specs.Handing.{timeout_of, TakesNext}
-use Rattle.ert_sched.specs.Worlds.{Service, Goes, By}
+use Rattle.ert_world.specs.Worlds.{Seen, Goes, By}
 
 -- what is found in a list of which this is the first
 first_is : {X : Type 0} (x : X) (xs : List X) → Some x ≡ first_of xs → xs ≡ x ∷ others_of xs
@@ -54,10 +54,10 @@ took_from g n s Exited es kept legal takes =
     absurd cc
 
 -- a world after a legal history that fits
-pub kept_world : (n : ℕ) (w : Service) → Legal w.settings w.history → FitsRows n w → IsKept n (state w.settings w.history)
+pub kept_world : (n : ℕ) (w : Seen) → Legal w.settings w.history → FitsRows n w → IsKept n (state w.settings w.history)
 kept_world n w legal fits = kept_run w.settings n (opening w.settings) w.history (kept_opening w.settings n) legal fits.entries
 
-pub took : (n : ℕ) (a b : Service) (taken : Taken) → Goes a (By a (λ g. Takes g 0 0 taken)) b → Legal b.settings b.history → FitsRows n a
+pub took : (n : ℕ) (a b : Seen) (taken : Taken) → Goes a (By a (λ g. Takes g 0 0 taken)) b → Legal b.settings b.history → FitsRows n a
     → Took n (state a.settings a.history) (state b.settings b.history) taken
 took n a b taken goes legal fits =
     let g : Settings = a.settings in
@@ -70,7 +70,7 @@ took n a b taken goes legal fits =
     (took_from g n (state g a.history) taken es kept (legal_then g (opening g) a.history es whole) goes.grows.made)
 
 -- the next message
-pub takes_next : (n : ℕ) (a b : Service) (taken : Taken) → Goes a (By a (λ g. Takes g 0 0 taken)) b → Legal b.settings b.history → FitsRows n a
+pub takes_next : (n : ℕ) (a b : Seen) (taken : Taken) → Goes a (By a (λ g. Takes g 0 0 taken)) b → Legal b.settings b.history → FitsRows n a
     → TakesNext n a (timeout_of taken) b
 takes_next n a b (Mail (Timeout timer msg)) goes legal fits =
     let is = took n a b (Mail (Timeout timer msg)) goes legal fits in (

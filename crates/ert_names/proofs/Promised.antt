@@ -16,7 +16,7 @@ use Rattle.ert_names.proofs.Messages.{kept_world}
 use Rattle.ert_names.proofs.Registrars.{IsKept, kept_run, kept_opening}
 use Rattle.ert_names.specs.Fits.{AllFit, FitsRows}
 use Rattle.ert_names.specs.Promised.{SparesNamed, IsPromised}
-use Rattle.ert_sched.specs.Worlds.{Service, StandsFor}
+use Rattle.ert_world.specs.Worlds.{Seen, StandsFor}
 
 -- what exits isn't the registrar
 other_dest : (s : State) (dest : ℕ) → s.exited 0 ≡ false → s.exited dest ≡ true → dest ≢ 0
@@ -35,7 +35,7 @@ fit_first : (n : ℕ) (f m : List Entry) → AllFit n 0 (f ++ m) → AllFit n 0 
 fit_first n [] m fit = tt
 fit_first n (e ∷ f) m fit = (fit.0, fit_first n f m fit.1)
 
-pub promised : (n : ℕ) (w : Service) → StandsFor w.settings w.history w → FitsRows n w → IsPromised n w
+pub promised : (n : ℕ) (w : Seen) → StandsFor w.settings w.history w → FitsRows n w → IsPromised n w
 promised n w stands fits =
     let g : Settings = w.settings in
     let h : List Entry = w.history in

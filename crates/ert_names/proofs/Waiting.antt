@@ -16,8 +16,8 @@ use Rattle.ert_laws.specs.Counts.{delivers_to, deliveries}
 use Rattle.ert_names.proofs.Registrars.{IsKept, kept_next, kept_opening}
 use Rattle.ert_names.specs.Fits.{Fits, AllFit, FitsRows}
 use Rattle.ert_names.specs.Handing.{waiting}
-use Rattle.ert_sched.proofs.Totals.{delivered_few}
-use Rattle.ert_sched.specs.Worlds.{Service, StandsFor}
+use Rattle.ert_world.proofs.Totals.{delivered_few}
+use Rattle.ert_world.specs.Worlds.{Seen, StandsFor}
 
 message_one : (fired : List Row) → length (message_in fired) ≤ 1
 message_one [] = omega arith
@@ -84,7 +84,7 @@ run_grows g n s (e ∷ es) kept legal fit =
     omega (arith, one, rest, sum)
 
 -- so they can be counted
-pub few_waiting : (n : ℕ) (w : Service) → StandsFor w.settings w.history w → FitsRows n w → length (waiting w) ≤ 576460752303423488
+pub few_waiting : (n : ℕ) (w : Seen) → StandsFor w.settings w.history w → FitsRows n w → length (waiting w) ≤ 576460752303423488
 few_waiting n w stands fits =
     let grown = run_grows w.settings n (opening w.settings) w.history (kept_opening w.settings n) stands.clock.legal fits.entries in
     let two = fits.processes in

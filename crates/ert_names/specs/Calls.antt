@@ -29,7 +29,7 @@ use Rattle.ert_names.specs.declared.named.NamedMail.{NamedMail}
 use Rattle.ert_names.specs.declared.named.NamedTaken.{NamedTaken}
 use Rattle.ert_names.specs.declared.named.NamedTaken.TheVariants.{Mail, Empty, Exited}
 use Rattle.ert_names.specs.declared.named.NamedTurn.{NamedTurn}
-use Rattle.ert_sched.specs.Worlds.{Goes, By}
+use Rattle.ert_world.specs.Worlds.{Goes, By}
 
 -- the world makes a call, and the names, the rows and the named mail stay
 pub record GoesAlone (old : Registered) (call : Growth) (new : Registered) : Type 0 where

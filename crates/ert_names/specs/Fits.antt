@@ -8,7 +8,7 @@ use Rattle.ert_defs.specs.declared.entry.Event.TheVariants.{Arm, Ask, Mark, Tell
 use Rattle.ert_defs.specs.declared.timer.Kind.TheVariants.{Wrapped}
 use Rattle.ert_names.specs.Living.{AreLiving}
 use Rattle.ert_names.specs.Names.{Names}
-use Rattle.ert_sched.specs.Worlds.{Service}
+use Rattle.ert_world.specs.Worlds.{Seen}
 
 -- an event where so many rows were made, and by which a process doesn't exit: a timer for the registrar is wrapped
 -- and has the place of a row as its message, and nobody asks a scheduler for anything or watches the offset
@@ -26,11 +26,11 @@ AllFit rows spared [] = Unit {0}
 AllFit rows spared (e ∷ es) = Fits rows spared e.event × AllFit rows spared es
 
 -- a world fits so many rows, and its registrar doesn't exit
-pub record FitsRows (rows : ℕ) (w : Service) : Type 0 where
+pub record FitsRows (rows : ℕ) (w : Seen) : Type 0 where
   pub processes : 2 ≤ w.settings.processes
   pub entries : AllFit rows 0 w.history
 
 -- a world fits so many rows, and each of these names is that of a process that lives
-pub record FitsNames (rows : ℕ) (names : Names) (w : Service) : Type 0 where
+pub record FitsNames (rows : ℕ) (names : Names) (w : Seen) : Type 0 where
   pub fits : FitsRows rows w
   pub living : AreLiving names w

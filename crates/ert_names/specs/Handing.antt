@@ -11,10 +11,10 @@ use Rattle.ert_defs.specs.declared.memory.NoMemory.{NoMemory}
 use Rattle.ert_names.specs.Calls.{GoesAlone, HandsOver, AreCounted, Message, TakesFirst, TakesMany, FindsNone, posted}
 use Rattle.ert_names.specs.Fits.{FitsRows}
 use Rattle.ert_names.specs.Registered.{Registered}
-use Rattle.ert_sched.specs.Worlds.{Service, Goes}
+use Rattle.ert_world.specs.Worlds.{Seen, Goes}
 
 -- the messages that wait for the registrar
-abbrev pub waiting : Service → List Mail
+abbrev pub waiting : Seen → List Mail
 waiting w = ((state w.settings w.history).mails 0).queue
 
 -- what was taken, where it is the message of a wrapped timer
@@ -23,18 +23,18 @@ timeout_of (OneMail (Timeout timer msg)) = Some (timer, msg)
 timeout_of _ = None
 
 -- the first message is taken, and it is of one of so many rows
-pub record HasNext (n : ℕ) (old : Service) (message : Message) (new : Service) : Type 0 where
+pub record HasNext (n : ℕ) (old : Seen) (message : Message) (new : Seen) : Type 0 where
   pub goes : Goes old (TakesFirst old.settings message) new
   pub known : message.1 < n
   pub first : waiting old ≡ Timeout message.0 message.1 ∷ waiting new
 
 -- none waits
-pub record HasNone (old new : Service) : Type 0 where
+pub record HasNone (old new : Seen) : Type 0 where
   pub goes : Goes old (FindsNone old.settings) new
   pub empty : waiting new ≡ []
 
 -- the registrar's first message is taken, or none waits; and the world fits so many rows still
-abbrev pub TakesNext : ℕ → Service → Option Message → Service → Type 0
+abbrev pub TakesNext : ℕ → Seen → Option Message → Seen → Type 0
 TakesNext n old (Some message) new = HasNext n old message new × FitsRows n new
 TakesNext n old None new = HasNone old new × FitsRows n new
 

@@ -12,8 +12,8 @@ use Rattle.ert_defs.specs.declared.mail.Mail.{Mail}
 use Rattle.ert_defs.specs.declared.mail.Mail.TheVariants.{Timeout}
 use Rattle.ert_defs.specs.declared.settings.Settings.{Settings}
 use Rattle.ert_defs.specs.declared.timer.Kind.TheVariants.{Wrapped}
-use Rattle.ert_sched.specs.Lived.{IsLived}
-use Rattle.ert_sched.specs.Worlds.{Service}
+use Rattle.ert_world.specs.Lived.{IsLived}
+use Rattle.ert_world.specs.Worlds.{Seen}
 
 -- a row for the registrar is that of a wrapped timer, whose message is the place of one of so many rows
 abbrev pub IsForName : ℕ → Row → Type 0
@@ -32,7 +32,7 @@ SparesNamed g f (Drop timer) = (first : IsFirst ((state g f).scheds timer.wheel)
 SparesNamed g f _ = Unit {0}
 
 -- a world in which so many timers were started for a name
-pub record IsPromised (n : ℕ) (w : Service) : Type 0 where
+pub record IsPromised (n : ℕ) (w : Seen) : Type 0 where
   -- legal, each timer with one of six lives: so its message is put once at most; and what was put into a mailbox
   -- is, in order, what was taken from it and then what stands in it
   pub lived : IsLived w.settings w.history

@@ -5,7 +5,7 @@ use Rattle.ert_defs.specs.declared.timer.Kind.{Kind}
 use Rattle.ert_names.specs.Names.{Names}
 use Rattle.ert_names.specs.declared.named.NamedMail.{NamedMail}
 use Rattle.ert_names.specs.declared.named.NamedRow.{NamedRow}
-use Rattle.ert_sched.specs.Worlds.{Service}
+use Rattle.ert_world.specs.Worlds.{Seen}
 
 -- what stays of a start for a name: the name's bytes, the message and the kind
 pub record Row : Type 0 where
@@ -20,11 +20,11 @@ row_of r = record { name = string_bytes r.name; msg = r.msg; kind = r.kind }
 -- the world, the process of each name, the rows in order of starting, and the named mail that waits, in order,
 -- each with its process
 pub record Registered : Type 0 where
-  pub world : Service
+  pub world : Seen
   pub names : Names
   pub rows : List Row
   pub mail : List (ℕ × NamedMail)
 
 -- what callers see of a world of names with these
-abbrev pub seen : Service → Names → List NamedRow → List (ℕ × NamedMail) → Registered
+abbrev pub seen : Seen → Names → List NamedRow → List (ℕ × NamedMail) → Registered
 seen world names rows mail = record { world = world; names = names; rows = map row_of rows; mail = mail }

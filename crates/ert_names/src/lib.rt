@@ -1,6 +1,6 @@
 //! Registered names (`erlang` module reference, `register`), and timers that are started for a name.
 //!
-//! **What it is.** A world (`ert_sched`) with the names of processes beside it. A timer that is started for a
+//! **What it is.** A world (`ert_world`) with the names of processes beside it. A timer that is started for a
 //! name goes to the process that has the name when its message is handed over, and not to the one that had it
 //! at the start. Process 0 is the registrar: the world sends the messages for names to it, each with the place
 //! of its row, where name, message and kind stand. A turn of a scheduler then hands them over.

@@ -1,7 +1,7 @@
 //! What the calls for names keep and answer, where no lower crate has a type for it.
 
 use ert_defs::{Kind, TimerRef};
-use ert_sched::Turned;
+use ert_world::Turned;
 
 /// What stays of a start for a name.
 #[derive(Drop)]

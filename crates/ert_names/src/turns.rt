@@ -7,7 +7,7 @@ use crate::named::{NamedMail, NamedTurn};
 use crate::world::{NameWorld, REGISTRAR};
 use ert_defs::{Mail, NoMemory, TimerRef};
 use ert_mail::Taken;
-use ert_sched::World;
+use ert_world::World;
 
 impl NameWorld {
     ghost use Rattle.std.specs.Prelude.{◌<◌};

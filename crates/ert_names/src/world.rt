@@ -1,7 +1,7 @@
 use crate::named::{NamedMail, NamedRow};
 use crate::registry::Registry;
 use ert_defs::{NoMemory, Settings};
-use ert_sched::World;
+use ert_world::World;
 use std::alloc::Global;
 use std::marker::Model;
 

@@ -17,7 +17,7 @@ impl NameWorld {
     ghost use Rattle.ert_defs.specs.declared.entry.Actor.TheVariants.{Caller};
     ghost use Rattle.ert_names.specs.Calls.{GoesAlone, HasExited};
     ghost use Rattle.ert_names.specs.Names.{Unnamed};
-    ghost use Rattle.ert_sched.specs.Worlds.{By};
+    ghost use Rattle.ert_world.specs.Worlds.{By};
 
     /// Takes one reading of the OS clocks, as `World::tick`.
     pub fn tick(&mut self, reading: Reading, force: bool) -> Result<Moved, ClockErr>

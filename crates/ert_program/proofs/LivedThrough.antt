@@ -11,9 +11,9 @@ use Rattle.ert_io.specs.Faults.{Rose}
 use Rattle.ert_io.specs.Readings.{reading_before}
 use Rattle.ert_ops.specs.declared.op.Op.{Op}
 use Rattle.ert_ops.specs.declared.op.Op.TheVariants as ops
-use Rattle.ert_sched.specs.Lived.{IsLived}
-use Rattle.ert_sched.specs.Openings.{IsOpened}
-use Rattle.ert_sched.specs.Worlds.{Service}
+use Rattle.ert_world.specs.Lived.{IsLived}
+use Rattle.ert_world.specs.Openings.{IsOpened}
+use Rattle.ert_world.specs.Worlds.{Seen}
 use Rattle.ert_script.proofs.Runs.{runs_none, runs_more}
 use Rattle.ert_script.specs.Scripts.{Does, Runs}
 use Rattle.ert_table.specs.Desks.{settings_of, KnowsAll}
@@ -61,7 +61,7 @@ three_more rs x t s none =
     ∙ append_assoc (live_lines rs) (live_part t) (live_part s)
 
 -- the first reading
-pub lived_first : (first : Reading) (start w : Service) (text : List ℕ) → IsOpened (live_settings first) start → Tells start w [] text → Lived first [] w text
+pub lived_first : (first : Reading) (start w : Seen) (text : List ℕ) → IsOpened (live_settings first) start → Tells start w [] text → Lived first [] w text
 lived_first first start w text opened tells = record {
   start = start;
   opened = opened;
@@ -73,7 +73,7 @@ lived_first first start w text opened tells = record {
 }
 
 -- one more
-pub lived_more : (first : Reading) (others : List Reading) (r : Reading) (w v u : Service) (reply : Reply) (text text_new : List ℕ)
+pub lived_more : (first : Reading) (others : List Reading) (r : Reading) (w v u : Seen) (reply : Reply) (text text_new : List ℕ)
     → Lived first others w text → Does w (ops.Tick r.mono r.sys) reply v → Tells v u text text_new → Lived first (others ++ r ∷ []) u text_new
 lived_more first others r w v u reply text text_new lived ticked tells =
     let list : List Op = ops.Time ∷ ops.System ∷ live_ops others in
@@ -96,7 +96,7 @@ lived_more first others r w v u reply text text_new lived ticked tells =
     }
 
 -- its history is a script run of their ops
-abbrev pub is_live : (first : Reading) (others : List Reading) (w : Service) (text : List ℕ) → Lived first others w text → IsLive first others text
+abbrev pub is_live : (first : Reading) (others : List Reading) (w : Seen) (text : List ℕ) → Lived first others w text → IsLive first others text
 is_live first others w text lived = record {
   entries = lived.runs.grows.piece;
   replies = lived.replies;
@@ -118,7 +118,7 @@ all_more [] r all valid = (valid, tt)
 all_more (x ∷ rs) r all valid = (all.0, all_more rs r all.1 valid)
 
 -- so many valid readings were taken so far, and a world lived through them
-pub record IsWatched (count : ℕ) (left now : Option (List Reading)) (w : Service) (text : List ℕ) : Type 0 where
+pub record IsWatched (count : ℕ) (left now : Option (List Reading)) (w : Seen) (text : List ℕ) : Type 0 where
   pub first : Reading
   pub others : List Reading
   pub counted : length (first ∷ others) ≡ count
@@ -126,12 +126,12 @@ pub record IsWatched (count : ℕ) (left now : Option (List Reading)) (w : Servi
   pub valid : AreValid (first ∷ others)
   pub lived : Lived first others w text
 
-pub watched_first : (first : Reading) (left now : Option (List Reading)) (w : Service) (text : List ℕ) → IsValid first
+pub watched_first : (first : Reading) (left now : Option (List Reading)) (w : Seen) (text : List ℕ) → IsValid first
     → left ≡ reading_before first now → Lived first [] w text → IsWatched 1 left now w text
 watched_first first left now w text valid given lived =
     record { first = first; others = []; counted = refl; given = given; valid = (valid, tt); lived = lived }
 
-pub watched_more : (count : ℕ) (left mid now : Option (List Reading)) (w u : Service) (text text_new : List ℕ) (r : Reading)
+pub watched_more : (count : ℕ) (left mid now : Option (List Reading)) (w u : Seen) (text text_new : List ℕ) (r : Reading)
     → (far : IsWatched count left mid w text) → IsValid r → mid ≡ reading_before r now → Lived far.first (far.others ++ r ∷ []) u text_new
     → IsWatched (count + 1) left now u text_new
 watched_more count left mid now w u text text_new r far valid given lived =
@@ -167,7 +167,7 @@ refused_with n c d text refused = record {
   no_desk = λ e. refl;
 }
 
-pub stopped_later : (n : ℕ) (c d : Clock) (count : ℕ) (now : Option (List Reading)) (w : Service) (text : List ℕ) → count < n
+pub stopped_later : (n : ℕ) (c d : Clock) (count : ℕ) (now : Option (List Reading)) (w : Seen) (text : List ℕ) → count < n
     → IsWatched count c.left now w text → d.left ≡ now → Rose c.faults d.faults → Watched n c d (without_desk ClockFault) text
 stopped_later n c d count now w text below far kept rose =
     let before = far.counted in
@@ -186,7 +186,7 @@ refused_first n c d text bad some given not whole =
     refused_with n c d text
     (record { readings = []; bad = bad; lines = []; count = some; given = given; valid = tt; not_valid = not; are = refl; whole = whole })
 
-pub refused_later : (n : ℕ) (c d : Clock) (count : ℕ) (now : Option (List Reading)) (w : Service) (lines text : List ℕ) (bad : Reading)
+pub refused_later : (n : ℕ) (c d : Clock) (count : ℕ) (now : Option (List Reading)) (w : Seen) (lines text : List ℕ) (bad : Reading)
     → count < n → IsWatched count c.left now w lines → now ≡ reading_before bad d.left → (IsValid bad → ⊥)
     → text ≡ lines ++ refused_reading (count + 1) → Watched n c d (without_desk Refused) text
 refused_later n c d count now w lines text bad below far given not whole =
@@ -205,7 +205,7 @@ refused_later n c d count now w lines text bad below far given not whole =
       whole = whole ∙ ap (λ (k : ℕ). lines ++ refused_reading (k + 1)) (sym before);
     })
 
-pub watched_all : (n : ℕ) (c d : Clock) (count : ℕ) (w : Service) (lines text : List ℕ) (r : Desk × Pass) → count ≡ n
+pub watched_all : (n : ℕ) (c d : Clock) (count : ℕ) (w : Seen) (lines text : List ℕ) (r : Desk × Pass) → count ≡ n
     → IsWatched count c.left d.left w lines → text ≡ lines ++ end_line w.clock.face.time
     → settings_of r.0 ≡ w.settings → KnowsAll r.0 r.1 w.history → IsLived w.settings w.history
     → Watched n c d (record { status = Done; desk = Some r }) text

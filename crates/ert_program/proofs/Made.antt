@@ -13,9 +13,9 @@ use Rattle.ert_io.specs.Told.{Told, took, TakesFront}
 use Rattle.ert_laws.specs.Counts.{counts_of, Counts}
 use Rattle.ert_ops.specs.Labels.{AreOps}
 use Rattle.ert_scenario.specs.Scenarios.{Plan}
-use Rattle.ert_sched.specs.Lived.{IsLived}
-use Rattle.ert_sched.specs.Openings.{IsOpened}
-use Rattle.ert_sched.specs.Worlds.{Service, IsTidyAt}
+use Rattle.ert_world.specs.Lived.{IsLived}
+use Rattle.ert_world.specs.Openings.{IsOpened}
+use Rattle.ert_world.specs.Worlds.{Seen, IsTidyAt}
 use Rattle.ert_script.specs.Written.{RunsAll}
 use Rattle.ert_table.specs.Desks.{settings_of, KnowsAll}
 use Rattle.ert_table.specs.declared.desk.Desk.{Desk}
@@ -31,12 +31,12 @@ use Rattle.ert_program.specs.Streams.{Output}
 use Rattle.ert_program.specs.Stresses.{summary, summary_of, CountsOn, HasRun, StressEnds}
 
 -- each wheel is tidy after it
-all_tidy : (plan : Plan) (start w : Service) → IsOpened plan.settings start → RunsAll start plan.ops w → (i : ℕ) → i < plan.settings.schedulers → IsTidyAt w i
+all_tidy : (plan : Plan) (start w : Seen) → IsOpened plan.settings start → RunsAll start plan.ops w → (i : ℕ) → i < plan.settings.schedulers → IsTidyAt w i
 all_tidy plan start w opened ran i below =
     ran.runs.tidy i (subst (λ (g : Settings). i < g.schedulers) (sym opened.stands.settings) below) (opened.tidy i below)
 
 -- all ops of a plan were done on a world that was opened for it
-pub has_run : (plan : Plan) (start w : Service) → AreOps plan.ops → IsOpened plan.settings start → RunsAll start plan.ops w → HasRun plan w
+pub has_run : (plan : Plan) (start w : Seen) → AreOps plan.ops → IsOpened plan.settings start → RunsAll start plan.ops w → HasRun plan w
 has_run plan start w are opened ran = record {
   is = script_run plan start w ran.replies are opened ran.runs ran.stands;
   stands = stands_for plan.settings start w plan.ops ran.replies opened ran.runs ran.stands;
@@ -44,7 +44,7 @@ has_run plan start w are opened ran = record {
 }
 
 -- what is told of the world is the summary of the plan
-pub summary_is : (plan : Plan) (w : Service) → AreOps plan.ops → HasRun plan w
+pub summary_is : (plan : Plan) (w : Seen) → AreOps plan.ops → HasRun plan w
     → summary_of (counts_of w.settings (state w.settings w.history)) w.clock.face.time ≡ summary plan
 unfolding summary
 summary_is plan w are ran =
@@ -57,7 +57,7 @@ summary_is plan w are ran =
     (done plan.settings plan.ops (transcript plan) are ran.is).shows.clock
 
 -- the summary was written, and the desk was given out
-pub counts_on : (plan : Plan) (w : Service) (old new : Told) (r : Desk × Pass) → AreOps plan.ops → HasRun plan w
+pub counts_on : (plan : Plan) (w : Seen) (old new : Told) (r : Desk × Pass) → AreOps plan.ops → HasRun plan w
     → new ≡ took old (summary_of (counts_of w.settings (state w.settings w.history)) w.clock.face.time)
     → settings_of r.0 ≡ w.settings → KnowsAll r.0 r.1 w.history → IsLived w.settings w.history → CountsOn plan old new r
 counts_on plan w old new r are ran written named all lived = record {

@@ -10,12 +10,12 @@ use Rattle.ert_defs.specs.declared.entry.Entry.{Entry}
 use Rattle.ert_defs.specs.declared.settings.Settings.{Settings}
 use Rattle.ert_ops.specs.Labels.{AreOps}
 use Rattle.ert_ops.specs.declared.op.Op.{Op}
-use Rattle.ert_sched.specs.Openings.{IsOpened}
-use Rattle.ert_sched.specs.Worlds.{Service, StandsFor}
+use Rattle.ert_world.specs.Openings.{IsOpened}
+use Rattle.ert_world.specs.Worlds.{Seen, StandsFor}
 use Rattle.ert_race.proofs.Written.{script_of}
 use Rattle.ert_scenario.specs.Scenarios.{Plan}
 use Rattle.ert_script.specs.Scripts.{Runs}
-use Rattle.ert_sched.specs.Lived.{IsLived}
+use Rattle.ert_world.specs.Lived.{IsLived}
 use Rattle.ert_script.specs.Written.{WritesRun, WritesSome, LinesFit}
 use Rattle.ert_table.specs.Desks.{settings_of, KnowsAll}
 use Rattle.ert_table.specs.declared.desk.Desk.{Desk}
@@ -34,14 +34,14 @@ use Rattle.ert_lines.specs.declared.output.RunErr.{RunErr}
 use Rattle.std.specs.Prelude.{◌⊎◌, Result, Ok, Err, OnErr}
 
 -- the world that it came to stands for that history
-pub stands_for : (g : Settings) (start v : Service) (list : List Op) (rs : List Reply) → IsOpened g start → (ran : Runs start list rs v)
+pub stands_for : (g : Settings) (start v : Seen) (list : List Op) (rs : List Reply) → IsOpened g start → (ran : Runs start list rs v)
     → StandsFor v.settings v.history v → StandsFor g ran.grows.piece v
 stands_for g start v list rs opened ran stands =
     subst (λ (x : Settings). StandsFor x ran.grows.piece v) (ran.settings ∙ opened.stands.settings)
     (subst (λ (x : List Entry). StandsFor v.settings x v) (ran.grows.grown ∙ ap (λ (x : List Entry). x ++ ran.grows.piece) opened.stands.history) stands)
 
 -- its labels at first are none, and the time at the end is that of its history
-pub reads_of : (g : Settings) (start v : Service) (list : List Op) (rs : List Reply) → IsOpened g start → (ran : Runs start list rs v)
+pub reads_of : (g : Settings) (start v : Seen) (list : List Op) (rs : List Reply) → IsOpened g start → (ran : Runs start list rs v)
     → StandsFor v.settings v.history v
     → lines_of start.labels list rs ++ end_line v.clock.face.time ≡ lines_of [] list rs ++ end_line (state g ran.grows.piece).clock.now
 reads_of g start v list rs opened ran stands =
@@ -49,7 +49,7 @@ reads_of g start v list rs opened ran stands =
     ∙ ap (λ (f : Face). lines_of [] list rs ++ end_line f.time) (stands_for g start v list rs opened ran stands).clock.face
 
 -- so it is the transcript
-pub transcript_is : (plan : Plan) (start v : Service) (rs : List Reply) → AreOps plan.ops → IsOpened plan.settings start → (ran : Runs start plan.ops rs v)
+pub transcript_is : (plan : Plan) (start v : Seen) (rs : List Reply) → AreOps plan.ops → IsOpened plan.settings start → (ran : Runs start plan.ops rs v)
     → StandsFor v.settings v.history v → lines_of start.labels plan.ops rs ++ end_line v.clock.face.time ≡ transcript plan
 transcript_is plan start v rs are opened ran stands =
     one_text plan.settings plan.ops (lines_of start.labels plan.ops rs ++ end_line v.clock.face.time) are (record {
@@ -62,7 +62,7 @@ transcript_is plan start v rs are opened ran stands =
     })
 
 -- the script run that a world did
-abbrev pub script_run : (plan : Plan) (start w : Service) (rs : List Reply) → AreOps plan.ops → IsOpened plan.settings start → (ran : Runs start plan.ops rs w)
+abbrev pub script_run : (plan : Plan) (start w : Seen) (rs : List Reply) → AreOps plan.ops → IsOpened plan.settings start → (ran : Runs start plan.ops rs w)
     → StandsFor w.settings w.history w → IsTranscript plan.settings plan.ops (transcript plan)
 script_run plan start w rs are opened ran stands =
     let there : StandsFor plan.settings ran.grows.piece w = stands_for plan.settings start w plan.ops rs opened ran stands in
@@ -76,7 +76,7 @@ script_run plan start w rs are opened ran stands =
     }
 
 -- all ops were run, the end line was written, and the desk was given out
-pub ends : (plan : Plan) (start w : Service) (old now new : Told) (r : Desk × Pass) → AreOps plan.ops → IsOpened plan.settings start
+pub ends : (plan : Plan) (start w : Seen) (old now new : Told) (r : Desk × Pass) → AreOps plan.ops → IsOpened plan.settings start
     → WritesRun start plan.ops w old now → new ≡ took now (end_line w.clock.face.time)
     → settings_of r.0 ≡ w.settings → KnowsAll r.0 r.1 w.history → IsLived w.settings w.history → RunsOn plan old new r
 ends plan start w old now new r are opened ran written named all lived =
@@ -93,14 +93,14 @@ ends plan start w old now new r are opened ran written named all lived =
     }
 
 -- all ops were run, and the output stopped at the end line
-pub breaks_last : (plan : Plan) (start w : Service) (old now new : Told) → AreOps plan.ops → IsOpened plan.settings start
+pub breaks_last : (plan : Plan) (start w : Seen) (old now new : Told) → AreOps plan.ops → IsOpened plan.settings start
     → WritesRun start plan.ops w old now → TakesFront now new (end_line w.clock.face.time) → TakesFront old new (transcript plan)
 breaks_last plan start w old now new are opened ran part =
     subst (λ (t : List ℕ). TakesFront old new t) (transcript_is plan start w ran.replies are opened ran.runs ran.stands)
     (front_after old now new (lines_of start.labels plan.ops ran.replies) (end_line w.clock.face.time) ran.writes part)
 
 -- the lines of some first ops are the first part of the transcript
-first_of : (plan : Plan) (start v : Service) (done : ℕ) (rs : List Reply) → AreOps plan.ops → IsOpened plan.settings start
+first_of : (plan : Plan) (start v : Seen) (done : ℕ) (rs : List Reply) → AreOps plan.ops → IsOpened plan.settings start
     → Runs start (take done plan.ops) rs v → StandsFor v.settings v.history v → IsFront (lines_of start.labels (take done plan.ops) rs) (transcript plan)
 first_of plan start v done rs are opened ran stands =
     let some : List Op = take done plan.ops in
@@ -109,14 +109,14 @@ first_of plan start v done rs are opened ran stands =
     (first_lines plan.settings plan.ops done ran.grows.piece rs v.labels are there.clock.legal (script_of plan.settings start v some rs opened ran))
 
 -- the run stopped after some first ops
-pub breaks : (plan : Plan) (start w : Service) (why : RunErr) (old new : Told) → AreOps plan.ops → IsOpened plan.settings start
+pub breaks : (plan : Plan) (start w : Seen) (why : RunErr) (old new : Told) → AreOps plan.ops → IsOpened plan.settings start
     → WritesSome start plan.ops w why old new → TakesFront old new (transcript plan)
 breaks plan start w why old new are opened some =
     let is = first_of plan start some.reached some.done some.replies are opened some.runs some.stands in
     front_of old new (lines_of start.labels (take some.done plan.ops) some.replies) is.0 (transcript plan) is.1 some.writes
 
 -- where the transcript fits, so do the lines of some first ops
-pub lines_fit : (plan : Plan) (start : Service) (room : Option ℕ) → AreOps plan.ops → IsOpened plan.settings start
+pub lines_fit : (plan : Plan) (start : Seen) (room : Option ℕ) → AreOps plan.ops → IsOpened plan.settings start
     → HasRoom room (length (transcript plan)) → LinesFit start plan.ops room
 lines_fit plan start room are opened fits = λ done rs v ran stands.
     let is = first_of plan start v done rs are opened ran stands in
@@ -125,7 +125,7 @@ lines_fit plan start room are opened fits = λ done rs v ran stands.
     fits_in room (length (transcript plan)) (length lines) (omega arith) fits
 
 -- and the end line after all
-pub end_fits : (plan : Plan) (start w : Service) (old now : Told) → AreOps plan.ops → IsOpened plan.settings start → WritesRun start plan.ops w old now
+pub end_fits : (plan : Plan) (start w : Seen) (old now : Told) → AreOps plan.ops → IsOpened plan.settings start → WritesRun start plan.ops w old now
     → HasRoom old.room (length (transcript plan)) → HasRoom now.room (length (end_line w.clock.face.time))
 end_fits plan start w old now are opened ran fits =
     let lines : List ℕ = lines_of start.labels plan.ops ran.replies in

@@ -14,9 +14,9 @@ use Rattle.ert_io.specs.Faults.{Rose}
 use Rattle.ert_io.specs.Told.{took, TakesFront}
 use Rattle.ert_ops.specs.declared.op.Op.{Op}
 use Rattle.ert_ops.specs.declared.op.Op.TheVariants as ops
-use Rattle.ert_sched.specs.Lived.{IsLived}
-use Rattle.ert_sched.specs.Openings.{IsOpened}
-use Rattle.ert_sched.specs.Worlds.{Service, StandsFor}
+use Rattle.ert_world.specs.Lived.{IsLived}
+use Rattle.ert_world.specs.Openings.{IsOpened}
+use Rattle.ert_world.specs.Worlds.{Seen, StandsFor}
 use Rattle.ert_script.specs.Scripts.{Does, Runs}
 use Rattle.ert_table.specs.Desks.{settings_of, KnowsAll}
 use Rattle.ert_table.specs.declared.desk.Desk.{Desk}
@@ -148,8 +148,8 @@ pub record LiveEnds (n : ℕ) (c d : Clock) (o p : Output) (e : Ended) : Type 0 
       → (e.status ≡ Done) ⊎ (e.status ≡ NoMemory)
 
 -- a world lived through some readings, of which the first opened it: it did their ops, and the text is its lines
-pub record Lived (first : Reading) (others : List Reading) (w : Service) (text : List ℕ) : Type 0 where
-  pub start : Service
+pub record Lived (first : Reading) (others : List Reading) (w : Seen) (text : List ℕ) : Type 0 where
+  pub start : Seen
   pub opened : IsOpened (live_settings first) start
   pub replies : List Reply
   pub runs : Runs start (ops.Time ∷ ops.System ∷ live_ops others) replies w
@@ -157,10 +157,10 @@ pub record Lived (first : Reading) (others : List Reading) (w : Service) (text :
   pub reads : text ≡ live_lines replies
 
 -- both times were looked up and their line was appended
-pub record Tells (old new : Service) (text text_new : List ℕ) : Type 0 where
+pub record Tells (old new : Seen) (text text_new : List ℕ) : Type 0 where
   pub now : ℤ
   pub time : ℤ
-  pub mid : Service
+  pub mid : Seen
   pub first : Does old ops.Time (replies.Time now) mid
   pub second : Does mid ops.System (replies.System time) new
   pub stands : StandsFor new.settings new.history new

@@ -7,9 +7,9 @@ use Rattle.ert_io.specs.Faults.{Rose}
 use Rattle.ert_io.specs.Told.{Told, took, TakesFront}
 use Rattle.ert_laws.specs.Counts.{Counts, counts_of}
 use Rattle.ert_scenario.specs.Scenarios.{Plan}
-use Rattle.ert_sched.specs.Counted.{AreTidy}
-use Rattle.ert_sched.specs.Lived.{IsLived}
-use Rattle.ert_sched.specs.Worlds.{Service, StandsFor}
+use Rattle.ert_world.specs.Counted.{AreTidy}
+use Rattle.ert_world.specs.Lived.{IsLived}
+use Rattle.ert_world.specs.Worlds.{Seen, StandsFor}
 use Rattle.ert_table.specs.Desks.{settings_of, KnowsAll}
 use Rattle.ert_table.specs.declared.desk.Desk.{Desk}
 use Rattle.ert_table.specs.declared.desk.Pass.{Pass}
@@ -40,7 +40,7 @@ pub record CountsOn (plan : Plan) (old new : Told) (r : Desk × Pass) : Type 0 w
   pub lived : IsLived plan.settings is.entries
 
 -- a world did all ops of a plan, one script run of them, and each of its wheels is tidy
-pub record HasRun (plan : Plan) (w : Service) : Type 0 where
+pub record HasRun (plan : Plan) (w : Seen) : Type 0 where
   pub is : IsTranscript plan.settings plan.ops (transcript plan)
   pub stands : StandsFor plan.settings is.entries w
   pub tidy : AreTidy w

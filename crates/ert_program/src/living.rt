@@ -12,7 +12,7 @@ use crate::ending::{EndStatus, Ended};
 use ert_defs::{Mode, NoMemory, Reading, Settings};
 use ert_io::{OsClock, Sink};
 use ert_lines::{write_end, write_page};
-use ert_sched::World;
+use ert_world::World;
 use ert_script::{history_stands, tick};
 use std::alloc::{AllocError, Global};
 use std::fmt::Write;

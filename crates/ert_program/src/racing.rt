@@ -18,7 +18,7 @@ use ert_io::{ReadErr, Sink, Source, read_all};
 use ert_lines::RunErr;
 use ert_race::run_race;
 use ert_scenario::{Scenario, ScenarioErr, one_verdict, read_scenario, scenarios_are_valid};
-use ert_shared::Gate;
+use ert_service::Gate;
 use ert_table::{Desk, Pass};
 use std::alloc::Global;
 use std::sync::Wait;

@@ -18,7 +18,7 @@ use crate::refusal::refuse;
 use ert_io::{ReadErr, Sink, Source, read_all};
 use ert_lines::{RunErr, write_end, write_page};
 use ert_scenario::{Scenario, ScenarioErr, one_verdict, read_scenario, scenarios_are_valid};
-use ert_sched::World;
+use ert_world::World;
 use ert_script::run_ops;
 use ert_table::{Desk, Pass};
 use std::alloc::Global;

@@ -5,7 +5,7 @@ ghost use Rattle.ert_generate.specs.Generated.{generated};
 ghost use Rattle.ert_io.specs.Faults.{Rose};
 ghost use Rattle.ert_io.specs.Told.{TakesFront};
 ghost use Rattle.ert_laws.specs.Counts.{counts_of};
-ghost use Rattle.ert_sched.specs.Counted.{AreTidy};
+ghost use Rattle.ert_world.specs.Counted.{AreTidy};
 ghost use Rattle.ert_program.specs.Streams.{told_of};
 ghost use Rattle.ert_program.specs.Stresses.{summary, summary_of, CountsOn, HasRun};
 
@@ -13,7 +13,7 @@ use ert_defs::NoMemory;
 use ert_generate::{generate, generated_scenarios_are_valid};
 use ert_io::Sink;
 use ert_lines::{RunErr, write_end, write_page};
-use ert_sched::World;
+use ert_world::World;
 use ert_script::{do_ops, write_settled};
 use ert_table::{Desk, Pass};
 use std::alloc::{AllocError, Global};

@@ -19,7 +19,7 @@ use Rattle.ert_outcome.specs.Outcomes.{DoesList, DoLists, ActAtOnce}
 use Rattle.ert_race.proofs.Worked.{at_low, length_mapped}
 use Rattle.ert_race.specs.Lists.{did_of, dids_of}
 use Rattle.ert_race.specs.Worked.{list_at, ListsDone, TurnsDone}
-use Rattle.ert_shared.specs.Joining.{HasOwn}
+use Rattle.ert_service.specs.Joining.{HasOwn}
 use Rattle.ert_table.proofs.Parts.{free_later}
 use Rattle.ert_table.specs.Views.{Begins}
 use Rattle.ert_transcript.specs.Labels.{Labels}

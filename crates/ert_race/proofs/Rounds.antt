@@ -12,17 +12,17 @@ use Rattle.ert_outcome.specs.Outcomes.{ActAtOnce}
 use Rattle.ert_outcome.specs.Reports.{Did}
 use Rattle.ert_ops.specs.Races.{Race}
 use Rattle.ert_race.specs.Ends.{RunsAtOnce, EndsRound, RacesTo}
-use Rattle.ert_sched.specs.Worlds.{Service, Goes, IsTidyAt}
+use Rattle.ert_world.specs.Worlds.{Seen, Goes, IsTidyAt}
 
 -- so many schedulers have made their last turn, and their wheels are tidy
-pub record IsRoundSoFar (start : Service) (n : ℕ) (w : Service) : Type 0 where
+pub record IsRoundSoFar (start : Seen) (n : ℕ) (w : Seen) : Type 0 where
   pub grows : Grows (MakesRound start.settings n) start.history w.history
   pub settings : w.settings ≡ start.settings
   pub labels : w.labels ≡ start.labels
   pub tidy : (i : ℕ) → i < n → IsTidyAt w i
   pub low : n ≤ start.settings.schedulers
 
-pub so_far_first : (w : Service) → IsRoundSoFar w 0 w
+pub so_far_first : (w : Seen) → IsRoundSoFar w 0 w
 so_far_first w = record {
   grows = round_none w.settings w.history;
   settings = refl;
@@ -32,7 +32,7 @@ so_far_first w = record {
 }
 
 -- one scheduler more
-pub so_far_more : (start v w : Service) (n : ℕ) (t : Turned) → n < start.settings.schedulers → IsRoundSoFar start n v
+pub so_far_more : (start v w : Seen) (n : ℕ) (t : Turned) → n < start.settings.schedulers → IsRoundSoFar start n v
     → Goes v (LastTurns v.settings (alone v.settings) n (Ok t)) w → IsTidyAt w n → IsRoundSoFar start (n + 1) w
 so_far_more start v w n t low far goes tidy = record {
   grows = round_then start.settings n t start.history v.history w.history far.grows
@@ -44,7 +44,7 @@ so_far_more start v w n t low far goes tidy = record {
   low = omega (arith, low);
 }
 
-pub ends : (start w : Service) (n : ℕ) → start.settings.schedulers ≤ n → IsRoundSoFar start n w → EndsRound start w
+pub ends : (start w : Seen) (n : ℕ) → start.settings.schedulers ≤ n → IsRoundSoFar start n w → EndsRound start w
 ends start w n over far =
     let all : n ≡ start.settings.schedulers = omega (arith, over, far.low) in
     record {
@@ -55,9 +55,9 @@ ends start w n over far =
     }
 
 -- a race is what all do at once, and then the last turns
-pub races_to : (old seen v w : Service) (race : Race) (dids : List Did) → old ≡ seen → RunsAtOnce seen race dids v → EndsRound v w → RacesTo old race dids w
+pub races_to : (old seen v w : Seen) (race : Race) (dids : List Did) → old ≡ seen → RunsAtOnce seen race dids v → EndsRound v w → RacesTo old race dids w
 races_to old seen v w race dids same one last =
-    subst (λ (s : Service). RacesTo s race dids w) (sym same)
+    subst (λ (s : Seen). RacesTo s race dids w) (sym same)
     (record {
       grows = grows_then (ActAtOnce seen.settings seen.labels race dids) (MakesRound seen.settings seen.settings.schedulers) seen.history v.history w.history one.grows
           (subst (λ (g : Settings). Grows (MakesRound g g.schedulers) v.history w.history) one.settings last.grows);

@@ -9,7 +9,7 @@ use Rattle.ert_lines.specs.declared.names.Names.{Names}
 use Rattle.ert_ops.specs.Races.{MayDo, MayDoAll}
 use Rattle.ert_ops.specs.declared.op.Op.{Op}
 use Rattle.ert_race.specs.Worked.{list_at, list_ok, turns_ok, CallerWorked, SchedWorked, ListsDone, TurnsDone}
-use Rattle.ert_shared.specs.Dividing.{AreSeated}
+use Rattle.ert_service.specs.Dividing.{AreSeated}
 use Rattle.ert_workers.specs.Works.{DoesList, TurnsSoOften}
 use Rattle.ert_workers.specs.declared.list.ListDone.{ListDone}
 

@@ -20,9 +20,9 @@ use Rattle.ert_outcome.specs.Outcomes.{Races, IsOutcome}
 use Rattle.ert_outcome.specs.Reports.{Did, behind}
 use Rattle.ert_race.specs.Ends.{RacesTo}
 use Rattle.ert_race.specs.Written.{MayWrite, RacesOn, StopsRace}
-use Rattle.ert_sched.specs.Lived.{IsLived}
-use Rattle.ert_sched.specs.Openings.{IsOpened}
-use Rattle.ert_sched.specs.Worlds.{Service, StandsFor}
+use Rattle.ert_world.specs.Lived.{IsLived}
+use Rattle.ert_world.specs.Openings.{IsOpened}
+use Rattle.ert_world.specs.Worlds.{Seen, StandsFor}
 use Rattle.ert_script.specs.Scripts.{Runs}
 use Rattle.ert_script.specs.Written.{WritesRun, LinesFit}
 use Rattle.ert_table.specs.Desks.{settings_of, KnowsAll}
@@ -52,7 +52,7 @@ first_ops a b are = record {
 }
 
 -- a run from an opened world on is a script run from the empty history on
-pub script_of : (g : Settings) (start v : Service) (list : List Op) (rs : List Reply) → IsOpened g start → (ran : Runs start list rs v)
+pub script_of : (g : Settings) (start v : Seen) (list : List Op) (rs : List Reply) → IsOpened g start → (ran : Runs start list rs v)
     → Script g (alone g) 0 [] list rs v.labels [] ran.grows.piece
 script_of g start v list rs opened ran =
     subst (λ (x : Settings). Script x (alone x) 0 [] list rs v.labels [] ran.grows.piece) opened.stands.settings
@@ -61,12 +61,12 @@ script_of g start v list rs opened ran =
     ran.grows.made))
 
 -- its piece is the whole history
-whole_piece : (g : Settings) (start v : Service) (list : List Op) (rs : List Reply) → IsOpened g start → (ran : Runs start list rs v)
+whole_piece : (g : Settings) (start v : Seen) (list : List Op) (rs : List Reply) → IsOpened g start → (ran : Runs start list rs v)
     → v.history ≡ ran.grows.piece
 whole_piece g start v list rs opened ran = ran.grows.grown ∙ ap (λ (x : List Entry). x ++ ran.grows.piece) opened.stands.history
 
 -- the lines of some first ops are what a race may write
-pub beginning : (g : Settings) (list : List Op) (race : Race) (start v : Service) (n : ℕ) (rs : List Reply) → IsOpened g start → Runs start (take n list) rs v
+pub beginning : (g : Settings) (list : List Op) (race : Race) (start v : Seen) (n : ℕ) (rs : List Reply) → IsOpened g start → Runs start (take n list) rs v
     → StandsFor v.settings v.history v → MayWrite g list race (lines_of start.labels (take n list) rs)
 beginning g list race start v n rs opened ran stands = inl (record {
   done = n;
@@ -80,7 +80,7 @@ beginning g list race start v n rs opened ran stands = inl (record {
 })
 
 -- the ops and then the race are an outcome
-pub outcome_of : (g : Settings) (list : List Op) (race : Race) (start v w : Service) (rs : List Reply) (dids : List Did) → IsOpened g start → Runs start list rs v
+pub outcome_of : (g : Settings) (list : List Op) (race : Race) (start v w : Seen) (rs : List Reply) (dids : List Did) → IsOpened g start → Runs start list rs v
     → RacesTo v race dids w → StandsFor w.settings w.history w
     → IsOutcome g list race w.history
     (lines_of start.labels list rs ++ behind w.labels dids (counts_of w.settings (state w.settings w.history)) w.clock.face.time)
@@ -104,7 +104,7 @@ outcome_of g list race start v w rs dids opened ran raced stands = record {
     named = raced.settings ∙ (ran.settings ∙ opened.stands.settings)
 
 -- the race stopped behind the lines of the ops
-pub stops_behind : (g : Settings) (list : List Op) (race : Race) (start v : Service) (old new : Told) → IsOpened g start → WritesRun start list v old new
+pub stops_behind : (g : Settings) (list : List Op) (race : Race) (start v : Seen) (old new : Told) → IsOpened g start → WritesRun start list v old new
     → StopsRace g list race old new
 stops_behind g list race start v old new opened ran =
     let all : take (length list) list ≡ list = take_all (length list) list (omega arith) in
@@ -120,7 +120,7 @@ stops_behind g list race start v old new opened ran =
     }
 
 -- all was written: it is an outcome, and the desk is given out
-pub ends : (g : Settings) (list : List Op) (race : Race) (start v w : Service) (dids : List Did) (page : List ℕ) (old mid new : Told) (r : Desk × Pass)
+pub ends : (g : Settings) (list : List Op) (race : Race) (start v w : Seen) (dids : List Did) (page : List ℕ) (old mid new : Told) (r : Desk × Pass)
     → IsOpened g start → WritesRun start list v old mid → RacesTo v race dids w → StandsFor w.settings w.history w
     → page ≡ behind w.labels dids (counts_of w.settings (state w.settings w.history)) w.clock.face.time → new ≡ took mid page
     → settings_of r.0 ≡ w.settings → KnowsAll r.0 r.1 w.history → IsLived w.settings w.history → RacesOn g list race old new r
@@ -139,7 +139,7 @@ ends g list race start v w dids page old mid new r opened ran raced stands told_
     settings_are = raced.settings ∙ (ran.runs.settings ∙ opened.stands.settings)
 
 -- the output stopped at the page behind the lines of the ops
-pub breaks : (g : Settings) (list : List Op) (race : Race) (start v w : Service) (dids : List Did) (page : List ℕ) (old mid new : Told)
+pub breaks : (g : Settings) (list : List Op) (race : Race) (start v w : Seen) (dids : List Did) (page : List ℕ) (old mid new : Told)
     → IsOpened g start → WritesRun start list v old mid → RacesTo v race dids w → StandsFor w.settings w.history w
     → page ≡ behind w.labels dids (counts_of w.settings (state w.settings w.history)) w.clock.face.time → TakesFront mid new page
     → StopsRace g list race old new
@@ -154,12 +154,12 @@ breaks g list race start v w dids page old mid new opened ran raced stands told_
 }
 
 -- all fits where no room is told
-pub lines_fit : (start : Service) (list : List Op) (room : Option ℕ) → room ≡ None → LinesFit start list room
+pub lines_fit : (start : Seen) (list : List Op) (room : Option ℕ) → room ≡ None → LinesFit start list room
 lines_fit start list room untold n rs v ran stands =
     subst (λ (r : Option ℕ). HasRoom r (length (lines_of start.labels (take n list) rs))) (sym untold) tt
 
 -- and no room is told after the lines of the ops
-pub page_fits : (start v : Service) (list : List Op) (page : List ℕ) (old mid : Told) → WritesRun start list v old mid → old.room ≡ None → HasRoom mid.room (length page)
+pub page_fits : (start v : Seen) (list : List Op) (page : List ℕ) (old mid : Told) → WritesRun start list v old mid → old.room ≡ None → HasRoom mid.room (length page)
 page_fits start v list page old mid ran untold =
     let text : List ℕ = lines_of start.labels list ran.replies in
     let left : mid.room ≡ room_after (length text) None =

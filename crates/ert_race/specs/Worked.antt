@@ -6,7 +6,7 @@ use Rattle.ert_defs.specs.declared.memory.NoMemory.{NoMemory}
 use Rattle.ert_defs.specs.declared.settings.Settings.{Settings}
 use Rattle.ert_lines.specs.declared.names.Names.{Names}
 use Rattle.ert_ops.specs.declared.op.Op.{Op}
-use Rattle.ert_shared.specs.Joining.{AreNumbered}
+use Rattle.ert_service.specs.Joining.{AreNumbered}
 use Rattle.ert_workers.specs.Works.{DoesList, TurnsSoOften}
 use Rattle.ert_workers.specs.declared.list.ListDone.{ListDone}
 

@@ -12,8 +12,8 @@ use Rattle.ert_ops.specs.Races.{Race}
 use Rattle.ert_ops.specs.declared.op.Op.{Op}
 use Rattle.ert_outcome.specs.Outcomes.{IsOutcome}
 use Rattle.ert_outcome.specs.Reports.{Did, behind}
-use Rattle.ert_sched.specs.Lived.{IsLived}
-use Rattle.ert_sched.specs.Worlds.{Service}
+use Rattle.ert_world.specs.Lived.{IsLived}
+use Rattle.ert_world.specs.Worlds.{Seen}
 use Rattle.ert_table.specs.Desks.{settings_of, KnowsAll}
 use Rattle.ert_table.specs.declared.desk.Desk.{Desk}
 use Rattle.ert_table.specs.declared.desk.Pass.{Pass}
@@ -37,7 +37,7 @@ abbrev pub MayWrite : Settings → List Op → Race → List ℕ → Type 0
 MayWrite g ops race text = IsBeginning g ops text ⊎ ((h : List Entry) × IsOutcome g ops race h text)
 
 -- the report behind the lines of the ops: what came of the lists, and what the race has left of the world
-abbrev pub report_behind : Service → List Did → List ℕ
+abbrev pub report_behind : Seen → List Did → List ℕ
 report_behind w dids = behind w.labels dids (counts_of w.settings (state w.settings w.history)) w.clock.face.time
 
 -- a race was run on a desk: the report of an outcome was written, and the pass has every actor and for its

@@ -5,7 +5,7 @@
 //! `run_race` does the ops first, and writes the report. What comes of it is an outcome (`ert_outcome`): one
 //! legal history, and the report of its replies.
 //!
-//! It stands on `ert_shared` and `ert_workers` for the threads, on `ert_script` for the ops, and on `ert_lines`
+//! It stands on `ert_service` and `ert_workers` for the threads, on `ert_script` for the ops, and on `ert_lines`
 //! for the text.
 #![tactic(auto)]
 

@@ -3,7 +3,7 @@ ghost use Rattle.std.specs.Prelude.{OnOk};
 ghost use Rattle.ert_race.specs.Ends.{EndsRound};
 
 use ert_defs::NoMemory;
-use ert_sched::World;
+use ert_world::World;
 
 /// Makes a turn of each scheduler, in order of number. Each looks at every row that its wheel holds, so that all
 /// wheels are tidy then.

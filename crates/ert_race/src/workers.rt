@@ -3,14 +3,14 @@ ghost use Rattle.std.specs.Prelude.{◌≡◌, ◌<◌, ℕ, suc, List, length, 
 ghost use Rattle.ert_defs.specs.declared.entry.Entry.{Entry};
 ghost use Rattle.ert_ops.specs.Races.{MayDoAll, lists_of, race_of};
 ghost use Rattle.ert_race.specs.Worked.{list_at, list_ok, turns_ok, CallerWorked, SchedWorked, ListsDone, TurnsDone};
-ghost use Rattle.ert_shared.specs.Dividing.{AreSeated};
+ghost use Rattle.ert_service.specs.Dividing.{AreSeated};
 ghost use Rattle.ert_table.specs.Desks.{front_of};
 
 use ert_defs::NoMemory;
 use ert_lines::Names;
 use ert_locks::{CallerSeat, DeskName, SchedSeat};
 use ert_ops::{Op, RaceLists};
-use ert_shared::{Gate, Service};
+use ert_service::{Gate, Service};
 use ert_workers::{ListDone, do_list, do_turns};
 use std::alloc::Global;
 use std::sync::Wait;

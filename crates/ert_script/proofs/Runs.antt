@@ -15,7 +15,7 @@ use Rattle.ert_lines.specs.declared.output.RunErr.{RunErr}
 use Rattle.ert_lines.specs.declared.output.RunErr.TheVariants.{NoMemory}
 use Rattle.ert_ops.specs.Ranges.{IsOpInRange, IsInRange}
 use Rattle.ert_ops.specs.declared.op.Op.{Op}
-use Rattle.ert_sched.specs.Worlds.{Service, StandsFor}
+use Rattle.ert_world.specs.Worlds.{Seen, StandsFor}
 use Rattle.ert_script.proofs.Labels.{MayGoOn, others_may_at}
 use Rattle.ert_script.specs.Scripts.{Does, Fails, Runs}
 use Rattle.ert_script.specs.Written.{RunsAll, RunsSome, StopsAt, WritesRun, WritesSome, LinesFit}
@@ -71,11 +71,11 @@ lines_more g ls (o ∷ list) rs after h m op r ran =
     ∙ ap (λ (x : List Reply). lines_of ls (o ∷ list) x ++ line_of (label_of (labels_after after op r)) r) (sym ran.5)
 
 -- before the first op a world has done nothing
-pub runs_none : (w : Service) → Runs w [] [] w
+pub runs_none : (w : Seen) → Runs w [] [] w
 runs_none w = record { grows = record { piece = []; grown = sym (append-nil w.history); made = (refl, refl, refl) }; settings = refl; tidy = λ i below tidy. tidy }
 
 -- a run and one more op
-pub runs_more : (start v w : Service) (list : List Op) (rs : List Reply) (op : Op) (r : Reply) → Runs start list rs v → Does v op r w
+pub runs_more : (start v w : Seen) (list : List Op) (rs : List Reply) (op : Op) (r : Reply) → Runs start list rs v → Does v op r w
     → Runs start (list ++ op ∷ []) (rs ++ r ∷ []) w
 runs_more start v w list rs op r ran done =
     let one : List Entry = ran.grows.piece in
@@ -97,7 +97,7 @@ runs_more start v w list rs op r ran done =
 
 -- the ops of a list were done, and came to a world; a first part of their lines was written, and this page
 -- waits
-pub record IsSoFar (start : Service) (list : List Op) (v : Service) (old now : Told) (page : List ℕ) : Type 0 where
+pub record IsSoFar (start : Seen) (list : List Op) (v : Seen) (old now : Told) (page : List ℕ) : Type 0 where
   pub replies : List Reply
   pub front : List ℕ
   pub runs : Runs start list replies v
@@ -106,7 +106,7 @@ pub record IsSoFar (start : Service) (list : List Op) (v : Service) (old now : T
   pub whole : front ++ page ≡ lines_of start.labels list replies
 
 -- before the first op nothing was done and nothing written
-pub so_far_first : (w : Service) (taken : Option (List ℕ)) (room : Option ℕ) → StandsFor w.settings w.history w
+pub so_far_first : (w : Seen) (taken : Option (List ℕ)) (room : Option ℕ) → StandsFor w.settings w.history w
     → IsSoFar w [] w (told taken room) (told taken room) []
 so_far_first w taken room stands = record { replies = []; front = []; runs = runs_none w; stands = stands; took = took-none taken room; whole = refl }
 
@@ -120,14 +120,14 @@ lined front page line part rest lines e f =
     append_assoc front part rest ∙ ap (λ (t : List ℕ). front ++ t) f ∙ sym (append_assoc front page line) ∙ ap (λ (t : List ℕ). t ++ line) e
 
 -- the line that was put is that of the op, by the labels after it
-line_put : (start v w : Service) (list : List Op) (rs : List Reply) (op : Op) (r : Reply) → Runs start list rs v → Does v op r w
+line_put : (start v w : Seen) (list : List Op) (rs : List Reply) (op : Op) (r : Reply) → Runs start list rs v → Does v op r w
     → lines_of start.labels list rs ++ line_of (label_of w.labels) r ≡ lines_of start.labels (list ++ op ∷ []) (rs ++ r ∷ [])
 line_put start v w list rs op r ran done =
     ap (λ (x : Labels). lines_of start.labels list rs ++ line_of (label_of x) r) done.labels
     ∙ sym (lines_more start.settings start.labels list rs v.labels start.history ran.grows.piece op r ran.grows.made)
 
 -- one more op was done and its line put
-goes_on : (start v w : Service) (list : List Op) (old now new : Told) (page rest : List ℕ) (op : Op) (r : Reply)
+goes_on : (start v w : Seen) (list : List Op) (old now new : Told) (page rest : List ℕ) (op : Op) (r : Reply)
     → IsSoFar start list v old now page → Does v op r w → StandsFor w.settings w.history w → Moves now new (page ++ line_of (label_of w.labels) r) rest
     → IsSoFar start (list ++ op ∷ []) w old new rest
 goes_on start v w list old now new page rest op r far done stands moves = record {
@@ -150,12 +150,12 @@ op_in_range g [] i d all below = absurd (omega arith)
 op_in_range g (op ∷ list) zero d all below = all.0
 op_in_range g (op ∷ list) (suc i) d all below = op_in_range g list i d all.1 (omega arith)
 
-pub op_may : (g : Settings) (v : Service) (list : List Op) (i : ℕ) (d : Op) → i < length list → v.settings ≡ g → IsInRange g list
+pub op_may : (g : Settings) (v : Seen) (list : List Op) (i : ℕ) (d : Op) → i < length list → v.settings ≡ g → IsInRange g list
     → IsOpInRange v.settings (get_or list i d)
 op_may g v list i d below same all =
     subst (λ (x : Settings). IsOpInRange x (get_or list i d)) (sym same) (op_in_range g list i d all below)
 
-pub goes_on_at : (start v w : Service) (list : List Op) (i : ℕ) (d : Op) (old now new : Told) (page rest : List ℕ) (r : Reply)
+pub goes_on_at : (start v w : Seen) (list : List Op) (i : ℕ) (d : Op) (old now new : Told) (page rest : List ℕ) (r : Reply)
     → i < length list → IsSoFar start (take i list) v old now page
     → Does v (get_or list i d) r w → StandsFor w.settings w.history w → Moves now new (page ++ line_of (label_of w.labels) r) rest
     → IsSoFar start (take (i + 1) list) w old new rest
@@ -164,22 +164,22 @@ goes_on_at start v w list i d old now new page rest r below far done stands move
     (goes_on start v w (take i list) old now new page rest (get_or list i d) r far done stands moves)
 
 -- the labels that the rest may bind, after one more op
-pub may_at : (v w : Service) (list : List Op) (i : ℕ) (d : Op) (r : Reply) → i < length list → MayGoOn (drop i list) v.labels
+pub may_at : (v w : Seen) (list : List Op) (i : ℕ) (d : Op) (r : Reply) → i < length list → MayGoOn (drop i list) v.labels
     → Does v (get_or list i d) r w → MayGoOn (drop (i + 1) list) w.labels
 may_at v w list i d r below may done =
     subst (λ (ls : Labels). MayGoOn (drop (i + 1) list) ls) (sym done.labels) (others_may_at list i d v.labels r below may)
 
 -- a world that stopped as some ops had left it
-stops_here : (v : Service) (rest : List Op) → StopsAt v rest v
+stops_here : (v : Seen) (rest : List Op) → StopsAt v rest v
 stops_here v [] = refl
 stops_here v (op ∷ rest) = inl refl
 
 -- a world that had no memory for the op at an index
-stops_in : (v w : Service) (list : List Op) (i : ℕ) (d : Op) → i < length list → Fails v (get_or list i d) w → StopsAt v (drop i list) w
+stops_in : (v w : Seen) (list : List Op) (i : ℕ) (d : Op) → i < length list → Fails v (get_or list i d) w → StopsAt v (drop i list) w
 stops_in v w list i d below failed = subst (λ (rest : List Op). StopsAt v rest w) (sym (drop-cons list i d below)) (inr failed)
 
 -- there was no memory before the first op
-pub none_written : (w : Service) (list : List Op) (taken : Option (List ℕ)) (room : Option ℕ) → StandsFor w.settings w.history w
+pub none_written : (w : Seen) (list : List Op) (taken : Option (List ℕ)) (room : Option ℕ) → StandsFor w.settings w.history w
     → WritesSome w list w NoMemory (told taken room) (told taken room)
 none_written w list taken room stands = record {
   done = 0;
@@ -193,7 +193,7 @@ none_written w list taken room stands = record {
 }
 
 -- there was none for one more op
-pub fails_at : (start v w : Service) (list : List Op) (i : ℕ) (d : Op) (old now : Told) (page : List ℕ) → i < length list
+pub fails_at : (start v w : Seen) (list : List Op) (i : ℕ) (d : Op) (old now : Told) (page : List ℕ) → i < length list
     → IsSoFar start (take i list) v old now page → Fails v (get_or list i d) w → WritesSome start list w NoMemory old now
 fails_at start v w list i d old now page below far failed = record {
   done = i;
@@ -207,7 +207,7 @@ fails_at start v w list i d old now page below far failed = record {
 }
 
 -- the output stopped while the line of one more op was put, or there was no memory for it
-pub breaks_at : (start v w : Service) (list : List Op) (i : ℕ) (d : Op) (old now new : Told) (page : List ℕ) (r : Reply) (why : RunErr)
+pub breaks_at : (start v w : Seen) (list : List Op) (i : ℕ) (d : Op) (old now new : Told) (page : List ℕ) (r : Reply) (why : RunErr)
     → i < length list → IsSoFar start (take i list) v old now page
     → Does v (get_or list i d) r w → StandsFor w.settings w.history w → TakesFront now new (page ++ line_of (label_of w.labels) r)
     → WritesSome start list w why old new
@@ -227,12 +227,12 @@ breaks_at start v w list i d old now new page r why below far done stands writte
     }
 
 -- the run of all ops, where the index has come to the end
-far_last : (start v : Service) (list : List Op) (i : ℕ) (old now : Told) (page : List ℕ)
+far_last : (start v : Seen) (list : List Op) (i : ℕ) (old now : Told) (page : List ℕ)
     → length list ≤ i → IsSoFar start (take i list) v old now page → IsSoFar start list v old now page
 far_last start v list i old now page over far = subst (λ (os : List Op). IsSoFar start os v old now page) (take_all i list over) far
 
 -- all ops were done, and the page was written
-pub ends : (start v : Service) (list : List Op) (i : ℕ) (old now new : Told) (page : List ℕ)
+pub ends : (start v : Seen) (list : List Op) (i : ℕ) (old now new : Told) (page : List ℕ)
     → length list ≤ i → IsSoFar start (take i list) v old now page → new ≡ took now page → WritesRun start list v old new
 ends start v list i old now new page over far taken =
     let all : IsSoFar start list v old now page = far_last start v list i old now page over far in
@@ -244,7 +244,7 @@ ends start v list i old now new page over far taken =
     }
 
 -- the output stopped at the last page
-pub breaks_last : (start v : Service) (list : List Op) (i : ℕ) (old now new : Told) (page : List ℕ) (why : RunErr)
+pub breaks_last : (start v : Seen) (list : List Op) (i : ℕ) (old now new : Told) (page : List ℕ) (why : RunErr)
     → IsSoFar start (take i list) v old now page → TakesFront now new page → WritesSome start list v why old new
 breaks_last start v list i old now new page why far w = record {
   done = i;
@@ -276,7 +276,7 @@ waiting_fits old now front rest lines took whole fits =
     (fits_after old.room front rest (subst (λ (t : List ℕ). HasRoom old.room (length t)) (sym whole) fits))
 
 -- so the page and one more line fit
-pub line_fits : (start v w : Service) (list : List Op) (i : ℕ) (d : Op) (old now : Told) (page : List ℕ) (r : Reply)
+pub line_fits : (start v w : Seen) (list : List Op) (i : ℕ) (d : Op) (old now : Told) (page : List ℕ) (r : Reply)
     → i < length list → LinesFit start list old.room → IsSoFar start (take i list) v old now page
     → Does v (get_or list i d) r w → StandsFor w.settings w.history w → HasRoom now.room (length (page ++ line_of (label_of w.labels) r))
 line_fits start v w list i d old now page r below fit far done stands =
@@ -291,16 +291,16 @@ line_fits start v w list i d old now page r below fit far done stands =
     (subst (λ (os : List Op). Runs start os (far.replies ++ r ∷ []) w) (sym (at_index list i d below)) ran) stands))
 
 -- and so does the page
-pub page_fits : (start v : Service) (list : List Op) (i : ℕ) (old now : Told) (page : List ℕ) → LinesFit start list old.room
+pub page_fits : (start v : Seen) (list : List Op) (i : ℕ) (old now : Told) (page : List ℕ) → LinesFit start list old.room
     → IsSoFar start (take i list) v old now page → HasRoom now.room (length page)
 page_fits start v list i old now page fit far =
     waiting_fits old now far.front page (lines_of start.labels (take i list) far.replies) far.took far.whole (fit i far.replies v far.runs far.stands)
 
 -- the same without a line written: before the first op, and after one more
-pub done_none : (w : Service) → StandsFor w.settings w.history w → RunsAll w [] w
+pub done_none : (w : Seen) → StandsFor w.settings w.history w → RunsAll w [] w
 done_none w stands = record { replies = []; runs = runs_none w; stands = stands }
 
-pub done_more : (start v w : Service) (list : List Op) (i : ℕ) (d : Op) (r : Reply) → i < length list → RunsAll start (take i list) v
+pub done_more : (start v w : Seen) (list : List Op) (i : ℕ) (d : Op) (r : Reply) → i < length list → RunsAll start (take i list) v
     → Does v (get_or list i d) r w → StandsFor w.settings w.history w → RunsAll start (take (i + 1) list) w
 done_more start v w list i d r below far done stands =
     subst (λ (os : List Op). RunsAll start os w) (sym (at_index list i d below))
@@ -311,10 +311,10 @@ done_more start v w list i d r below far done stands =
     })
 
 -- and where the world has stopped: before the first op, and in one more
-pub none_done : (w : Service) (list : List Op) → StandsFor w.settings w.history w → RunsSome w list w
+pub none_done : (w : Seen) (list : List Op) → StandsFor w.settings w.history w → RunsSome w list w
 none_done w list stands = record { done = 0; replies = []; reached = w; runs = runs_none w; stands = stands; stops = stops_here w list }
 
-pub some_done : (start v w : Service) (list : List Op) (i : ℕ) (d : Op) → i < length list → RunsAll start (take i list) v → Fails v (get_or list i d) w
+pub some_done : (start v w : Seen) (list : List Op) (i : ℕ) (d : Op) → i < length list → RunsAll start (take i list) v → Fails v (get_or list i d) w
     → RunsSome start list w
 some_done start v w list i d below far failed =
     record { done = i; replies = far.replies; reached = v; runs = far.runs; stands = far.stands; stops = stops_in v w list i d below failed }

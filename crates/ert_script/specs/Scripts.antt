@@ -12,7 +12,7 @@ use Rattle.ert_defs.specs.declared.timer.TimerRef.{TimerRef}
 use Rattle.ert_ops.specs.Labels.{labels_in}
 use Rattle.ert_ops.specs.declared.op.Op.{Op}
 use Rattle.ert_ops.specs.declared.op.Op.TheVariants as ops
-use Rattle.ert_sched.specs.Worlds.{Service, StayTidy}
+use Rattle.ert_world.specs.Worlds.{Seen, StayTidy}
 use Rattle.ert_transcript.specs.Calls.{Calls, start_of}
 use Rattle.ert_transcript.specs.Labels.{Labels}
 use Rattle.ert_transcript.specs.Scripts.{Script, labels_after}
@@ -34,7 +34,7 @@ AreUnbound ls list = All (IsUnbound ls) (labels_in list)
 
 -- a world does an op, as caller 0: its history grows by what the op allows with its reply, and the label of a
 -- timer that was started is bound; a tidy wheel stays tidy
-pub record Does (old : Service) (op : Op) (reply : Reply) (new : Service) : Type 0 where
+pub record Does (old : Seen) (op : Op) (reply : Reply) (new : Seen) : Type 0 where
   pub grows : Grows (Calls old.settings (alone old.settings) 0 old.labels op reply) old.history new.history
   pub settings : new.settings ≡ old.settings
   pub labels : new.labels ≡ labels_after old.labels op reply
@@ -61,14 +61,14 @@ BreaksOff g op h m = ⊥
 
 -- a world had no memory for an op: its history has grown by what the op made before that, and no label was bound;
 -- a tidy wheel stays tidy
-pub record Fails (old : Service) (op : Op) (new : Service) : Type 0 where
+pub record Fails (old : Seen) (op : Op) (new : Seen) : Type 0 where
   pub grows : Grows (BreaksOff old.settings op) old.history new.history
   pub settings : new.settings ≡ old.settings
   pub labels : new.labels ≡ old.labels
   pub tidy : StayTidy old new
 
 -- it does a list of ops: its history grows by a script run of them; a tidy wheel stays tidy
-pub record Runs (old : Service) (list : List Op) (replies : List Reply) (new : Service) : Type 0 where
+pub record Runs (old : Seen) (list : List Op) (replies : List Reply) (new : Seen) : Type 0 where
   pub grows : Grows (Script old.settings (alone old.settings) 0 old.labels list replies new.labels) old.history new.history
   pub settings : new.settings ≡ old.settings
   pub tidy : StayTidy old new

@@ -6,7 +6,7 @@ ghost use Rattle.ert_transcript.specs.Labels.{Labels, bind};
 
 use ert_defs::{NoMemory, TimerRef};
 use ert_lines::Names;
-use ert_sched::World;
+use ert_world::World;
 use std::alloc::Global;
 
 /// An index of these labels.

@@ -7,7 +7,7 @@ ghost use Rattle.ert_transcript.specs.Calls.{Converts};
 
 use ert_clock::ClockErr;
 use ert_defs::Reading;
-use ert_sched::World;
+use ert_world::World;
 use ert_transcript::Reply;
 use ert_units::{TooWide, Unit, convert};
 

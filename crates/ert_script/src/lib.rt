@@ -1,6 +1,6 @@
 //! Runs a list of ops on a world, and writes the text of their replies.
 //!
-//! It stands on `ert_sched`, whose calls it makes, on `ert_transcript`, whose definitions say which history
+//! It stands on `ert_world`, whose calls it makes, on `ert_transcript`, whose definitions say which history
 //! an op allows with its reply, and on `ert_lines` for the text. `reply_op` does one op, and binds the label
 //! of a start once its timer was started. `run_ops` does a list of them and writes one line for each, in
 //! large pieces; `do_ops` does them and writes nothing, and `write_settled` tells how many timers have which

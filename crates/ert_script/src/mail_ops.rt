@@ -5,7 +5,7 @@ ghost use Rattle.ert_script.specs.Scripts.{Does, Fails};
 
 use ert_answers::{MonitorErr, Taken};
 use ert_defs::NoMemory;
-use ert_sched::World;
+use ert_world::World;
 use ert_transcript::Reply;
 
 /// A process takes the first message of its mailbox.

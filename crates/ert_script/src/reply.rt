@@ -10,7 +10,7 @@ use crate::timer_ops::{cancel, cancel_async, cancel_quiet, read, read_async, sen
 use ert_defs::NoMemory;
 use ert_lines::Names;
 use ert_ops::Op;
-use ert_sched::World;
+use ert_world::World;
 use ert_transcript::Reply;
 
 /// Does one op: as the scheduler that it names, or else as caller 0. `names` is an index of the world's

@@ -3,7 +3,7 @@ ghost use Rattle.ert_io.specs.Faults.{Rose};
 ghost use Rattle.ert_io.specs.Told.{told};
 ghost use Rattle.ert_ops.specs.Labels.{AreOps};
 ghost use Rattle.ert_ops.specs.Ranges.{IsInRange};
-ghost use Rattle.ert_sched.specs.Worlds.{StandsFor};
+ghost use Rattle.ert_world.specs.Worlds.{StandsFor};
 ghost use Rattle.ert_script.specs.Scripts.{AreUnbound};
 ghost use Rattle.ert_script.specs.Written.{RunsAll, RunsSome, WritesRun, WritesSome, LinesFit};
 
@@ -13,7 +13,7 @@ use ert_defs::NoMemory;
 use ert_io::Sink;
 use ert_lines::{RunErr, put, write_page};
 use ert_ops::Op;
-use ert_sched::World;
+use ert_world::World;
 use std::alloc::Global;
 
 /// Does the ops one after the other on a world, and writes one line for each. A sink that tells its room has

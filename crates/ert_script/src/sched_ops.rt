@@ -4,7 +4,7 @@ ghost use Rattle.ert_ops.specs.declared.op.Op.{Op};
 ghost use Rattle.ert_script.specs.Scripts.{Does, Fails};
 
 use ert_defs::NoMemory;
-use ert_sched::World;
+use ert_world::World;
 use ert_transcript::Reply;
 
 /// A scheduler answers one request.

@@ -1,9 +1,9 @@
 ghost use Rattle.std.specs.Prelude.{◌≡◌, ◌++◌, codes, decimal, OnOk, string_bytes};
-ghost use Rattle.ert_sched.specs.Counted.{numbers_of};
+ghost use Rattle.ert_world.specs.Counted.{numbers_of};
 ghost use Rattle.ert_transcript.specs.Counts.{settled_line};
 ghost use Rattle.ert_transcript.specs.Texts.{◌⋅◌};
 
-use ert_sched::Counts;
+use ert_world::Counts;
 use std::alloc::AllocError;
 use std::fmt::Write;
 

@@ -8,7 +8,7 @@ use crate::binding::bind_label;
 use ert_answers::StartErr;
 use ert_defs::{Kind, NoMemory, Request, RequestKind, Start, When};
 use ert_lines::Names;
-use ert_sched::World;
+use ert_world::World;
 use ert_transcript::Reply;
 
 /// Starts a timer that sends its message with its reference. Its label is bound once it was started; without

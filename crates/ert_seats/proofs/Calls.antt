@@ -19,10 +19,10 @@ use Rattle.ert_inbox.specs.Inboxes.{Waiting, Stands as InboxStands}
 use Rattle.ert_keeper.specs.Published.{ReadsBy}
 use Rattle.ert_keeper.specs.declared.part.KeeperPart.{KeeperPart}
 use Rattle.ert_mail.specs.Mailboxes.{Mailbox, Stands as MailStands}
-use Rattle.ert_sched.proofs.Calls.{mail_named, inbox_named}
-use Rattle.ert_sched.proofs.Standing.{lend, wheel_back, mail_back, inbox_back, keeper_back, caller_back}
-use Rattle.ert_sched.proofs.WheelCalls.{wheel_named}
-use Rattle.ert_sched.specs.Parts.{AllParts, parts_of, Stand}
+use Rattle.ert_world.proofs.Calls.{mail_named, inbox_named}
+use Rattle.ert_world.proofs.Standing.{lend, wheel_back, mail_back, inbox_back, keeper_back, caller_back}
+use Rattle.ert_world.proofs.WheelCalls.{wheel_named}
+use Rattle.ert_world.specs.Parts.{AllParts, parts_of, Stand}
 use Rattle.ert_table.specs.Calls.{AreOnlyOf, IsMade}
 use Rattle.ert_table.specs.Desks.{settings_of, view_of, front_of, actors_of, Belongs}
 use Rattle.ert_table.specs.Held.{is_held, least_caller}

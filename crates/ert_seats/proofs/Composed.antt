@@ -13,7 +13,7 @@ use Rattle.ert_defs.specs.declared.entry.Entry.{Entry}
 use Rattle.ert_defs.specs.declared.mail.Request.{Request}
 use Rattle.ert_defs.specs.declared.memory.NoMemory.{NoMemory}
 use Rattle.ert_defs.specs.declared.settings.Settings.{Settings}
-use Rattle.ert_sched.proofs.Composed.{times_more, sweeps_more}
+use Rattle.ert_world.proofs.Composed.{times_more, sweeps_more}
 use Rattle.ert_seats.specs.SharedWorlds.{Shared, Goes, Forgets, By, way_of}
 use Rattle.ert_seats.specs.Ways.{beside_seats}
 

@@ -8,9 +8,9 @@ use Rattle.ert_defs.specs.declared.entry.Actor.{Actor}
 use Rattle.ert_defs.specs.declared.entry.Actor.TheVariants.{Keeper, Wheel, Inbox, Sched, MailOf, Caller}
 use Rattle.ert_defs.specs.declared.entry.Entry.{Entry}
 use Rattle.ert_defs.specs.declared.settings.Settings.{Settings}
-use Rattle.ert_sched.specs.Parts.{AllParts, Stand}
-use Rattle.ert_sched.specs.Openings.{IsOpened as IsOpenedAlone}
-use Rattle.ert_sched.specs.Worlds.{Service}
+use Rattle.ert_world.specs.Parts.{AllParts, Stand}
+use Rattle.ert_world.specs.Openings.{IsOpened as IsOpenedAlone}
+use Rattle.ert_world.specs.Worlds.{Seen}
 use Rattle.ert_timers.specs.Tidy.{IsTidy}
 use Rattle.ert_clock.specs.Shown.{Stands as ClockStands}
 use Rattle.ert_defs.specs.declared.memory.NoMemory.{NoMemory}
@@ -28,7 +28,7 @@ lower n m apart below =
     omega (arith, below, other)
 
 -- a world that was opened gives out seats, and has given out none
-pub opened_if : (g : Settings) (w : Service) (made : Result Shared NoMemory) → IsOpenedAlone g w → IfOk made (IsShared w) → IfOk made (IsOpened g)
+pub opened_if : (g : Settings) (w : Seen) (made : Result Shared NoMemory) → IsOpenedAlone g w → IfOk made (IsShared w) → IfOk made (IsOpened g)
 opened_if g w (Err e) opened shared = tt
 opened_if g w (Ok x) opened shared = record {
   stands = record {

@@ -25,12 +25,12 @@ use Rattle.ert_locks.proofs.Scheds.{Advanced, advanced}
 use Rattle.ert_locks.specs.Hands.{counted}
 use Rattle.ert_mail.proofs.LawsHold.{handing_only, answers_only}
 use Rattle.ert_mail.specs.Mailboxes.{Mailbox, IsScheds, handed, answered, Stands as MailStands}
-use Rattle.ert_sched.proofs.Calls.{inbox_named, mail_named}
-use Rattle.ert_sched.proofs.SchedCalls.{sched_stands, sched_named, sched_has}
-use Rattle.ert_sched.proofs.Standing.{inbox_back, mail_back, sched_back, wheel_back}
-use Rattle.ert_sched.proofs.WheelCalls.{wheel_named}
-use Rattle.ert_sched.specs.Parts.{AllParts, SchedStands}
-use Rattle.ert_sched.specs.declared.sched_part.SchedPart.{SchedPart}
+use Rattle.ert_world.proofs.Calls.{inbox_named, mail_named}
+use Rattle.ert_world.proofs.SchedCalls.{sched_stands, sched_named, sched_has}
+use Rattle.ert_world.proofs.Standing.{inbox_back, mail_back, sched_back, wheel_back}
+use Rattle.ert_world.proofs.WheelCalls.{wheel_named}
+use Rattle.ert_world.specs.Parts.{AllParts, SchedStands}
+use Rattle.ert_world.specs.declared.sched_part.SchedPart.{SchedPart}
 use Rattle.ert_table.specs.Calls.{AreOnlyOf, IsMade}
 use Rattle.ert_table.specs.Desks.{settings_of, view_of, front_of, Belongs}
 use Rattle.ert_table.specs.Takes.{TakesPlace}

@@ -16,8 +16,8 @@ use Rattle.ert_inbox.proofs.LawsHold.{stand_on as inbox_on}
 use Rattle.ert_inbox.specs.Inboxes.{Waiting, Stands as InboxStands}
 use Rattle.ert_mail.proofs.LawsHold.{stand_on as mail_on}
 use Rattle.ert_mail.specs.Mailboxes.{Mailbox, Stands as MailStands}
-use Rattle.ert_sched.specs.Parts.{AllParts, SchedStands, AreOrdered, Stand}
-use Rattle.ert_sched.specs.declared.sched_part.SchedPart.{SchedPart}
+use Rattle.ert_world.specs.Parts.{AllParts, SchedStands, AreOrdered, Stand}
+use Rattle.ert_world.specs.declared.sched_part.SchedPart.{SchedPart}
 use Rattle.ert_table.proofs.Parts.{entries_after, not_of, free_of_others, free_later}
 use Rattle.ert_table.specs.Calls.{AreOnlyOf}
 use Rattle.ert_table.specs.Held.{is_held, IsActor}

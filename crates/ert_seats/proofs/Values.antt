@@ -16,7 +16,7 @@ use Rattle.ert_defs.specs.declared.entry.Event.{Event}
 use Rattle.ert_defs.specs.declared.entry.Event.TheVariants.{Look, Off}
 use Rattle.ert_defs.specs.declared.settings.OffsetState.{OffsetState}
 use Rattle.ert_defs.specs.declared.settings.Settings.{Settings}
-use Rattle.ert_sched.proofs.Calm.{time_quiet, offset_quiet, system_quiet}
+use Rattle.ert_world.proofs.Calm.{time_quiet, offset_quiet, system_quiet}
 use Rattle.ert_table.proofs.Holders.{free_one}
 use Rattle.ert_table.specs.Calls.{AreOnlyOf, IsMade}
 use Rattle.ert_table.specs.Desks.{settings_of, view_of, front_of, actors_of}

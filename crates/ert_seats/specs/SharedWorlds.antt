@@ -21,8 +21,8 @@ use Rattle.ert_table.specs.declared.desk.Pass.{Pass}
 use Rattle.ert_timers.specs.NextDue.{IsNearest, horizon_at}
 use Rattle.ert_timers.specs.Parts.{Part}
 use Rattle.ert_timers.specs.Tidy.{IsTidy}
-use Rattle.ert_sched.specs.Parts.{AllParts, Stand}
-use Rattle.ert_sched.specs.Worlds.{Service}
+use Rattle.ert_world.specs.Parts.{AllParts, Stand}
+use Rattle.ert_world.specs.Worlds.{Seen}
 use Rattle.ert_wheel.specs.NextDue.{NoRow, IsNextDue}
 use Rattle.ert_seats.specs.Ways.{beside_seats}
 
@@ -122,7 +122,7 @@ pub record IsOpened (g : Settings) (w : Shared) : Type 0 where
   pub tidy : (i : ℕ) → i < g.schedulers → IsTidyAt w i
 
 -- a world for one thread became one that gives out seats, and has given out none
-pub record IsShared (old : Service) (new : Shared) : Type 0 where
+pub record IsShared (old : Seen) (new : Shared) : Type 0 where
   pub settings : new.settings ≡ old.settings
   pub history : new.history ≡ old.history
   pub clock : new.clock ≡ old.clock

@@ -2,7 +2,7 @@
 //!
 //! **Who has what.** A desk's atomic words are shared by counted references (`Arc`). The world (`SharedWorld`)
 //! has the pass with every actor but the callers that have seats, and every part: it makes all calls of
-//! `ert_sched::World`, by one thread at a time. A seat (`Seat`) has the pass with one caller: it tells the time,
+//! `ert_world::World`, by one thread at a time. A seat (`Seat`) has the pass with one caller: it tells the time,
 //! reads and cancels timers and looks whether a process lives, beside the calls of the world and of all other
 //! seats. Nobody takes a lock, and nobody waits. Both may go from thread to thread (`Send`).
 //!
@@ -10,7 +10,7 @@
 //! |---|---|---|
 //! | `SharedWorld::open`, `of`, `seat` | | makes a world, and gives its next caller a seat |
 //! | `SharedWorld::meet` | | lets the world and a seat learn what the other knows |
-//! | `tick` to `turn`, as of `ert_sched::World` | caller 0 and the schedulers | all seats may step between two steps of a call |
+//! | `tick` to `turn`, as of `ert_world::World` | caller 0 and the schedulers | all seats may step between two steps of a call |
 //! | `Seat::monotonic_time` to `is_alive` | the seat's caller | the world and all other seats may step between |
 //!
 //! **What it promises.** What is seen of a world is its settings, the history that it knows, its clock, the
@@ -28,7 +28,7 @@
 //! for its sake, and never too late.
 //!
 //! It stands on `ert_defs`, `ert_clock`, `ert_answers`, `ert_table`, `ert_calls`, on the parts' crates and on
-//! `ert_sched`, and its proofs on lemmas of `ert_laws` and `ert_locks`.
+//! `ert_world`, and its proofs on lemmas of `ert_laws` and `ert_locks`.
 #![tactic(auto)]
 
 mod clock_calls;

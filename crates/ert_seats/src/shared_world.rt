@@ -4,7 +4,7 @@ use ert_defs::{Actor, NoMemory, Settings};
 use ert_inbox::InboxPart;
 use ert_keeper::KeeperPart;
 use ert_mail::MailPart;
-use ert_sched::{Parts, SchedPart, World};
+use ert_world::{Parts, SchedPart, World};
 use ert_table::{Desk, Pass};
 use ert_timers::WheelPart;
 use std::alloc::Global;
@@ -33,7 +33,7 @@ pub struct SharedWorld {
 impl Model for SharedWorld {
     ghost use Rattle.std.specs.Arc.{arc_value};
     ghost use Rattle.std.specs.Coded.{codes};
-    ghost use Rattle.ert_sched.specs.Parts.{parts_of};
+    ghost use Rattle.ert_world.specs.Parts.{parts_of};
     ghost use Rattle.ert_seats.specs.SharedWorlds.{Shared, seen, AreFit};
     ghost use Rattle.ert_timers.specs.Parts.{part_code};
 

@@ -1,6 +1,6 @@
 //! The calls of schedulers: to serve requests, to advance the wheel, to deliver messages, and all three.
 ghost use Rattle.std.specs.Prelude.{◌≡◌};
-ghost use Rattle.ert_sched.specs.Worlds.{left_by};
+ghost use Rattle.ert_world.specs.Worlds.{left_by};
 
 use crate::shared_world::SharedWorld;
 use ert_answers::Turned;
@@ -17,7 +17,7 @@ impl SharedWorld {
     ghost use Rattle.ert_defs.specs.Mails.{first_of, others_of};
     ghost use Rattle.ert_defs.specs.States.{state};
     ghost use Rattle.ert_seats.specs.SharedWorlds.{Goes, By, way_of, IsGone, IsNextHeldAt, IsNearestAt, sched_of};
-    ghost use Rattle.ert_sched.specs.Worlds.{cancelled_by};
+    ghost use Rattle.ert_world.specs.Worlds.{cancelled_by};
     ghost use Rattle.ert_timers.specs.NextDue.{NoneArmedBefore};
 
     /// Serves one request: that in the scheduler's hand, or the first of its inbox. False comes where there is

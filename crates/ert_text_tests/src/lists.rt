@@ -1,7 +1,7 @@
 //! A list of ops that goes on where another has ended, on one world.
 use ert_defs::{Mode, NoMemory, Reading, Settings, TimerRef, When};
 use ert_ops::Op;
-use ert_sched::World;
+use ert_world::World;
 use ert_script::do_ops;
 
 /// One of each.

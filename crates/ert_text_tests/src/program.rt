@@ -12,7 +12,7 @@ mod timer_rows;
 use ert_defs::Reading;
 use ert_io::{Failed, MemClock, MemSink, MemSource, Source};
 use ert_program::{EndStatus, Ended, ertime};
-use ert_shared::FreeGate;
+use ert_service::FreeGate;
 use std::alloc::{AllocError, Global};
 use std::sync::Wait;
 use std::test::Fail;

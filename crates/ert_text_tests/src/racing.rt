@@ -7,7 +7,7 @@ ghost use Rattle.ert_ops.specs.Ranges.{IsInRange};
 use ert_io::MemSink;
 use ert_race::run_race;
 use ert_scenario::{Scenario, read_scenario, scenarios_are_valid};
-use ert_shared::LedgerGate;
+use ert_service::LedgerGate;
 use std::alloc::Global;
 use std::sync::Wait;
 use std::thread::Threads;

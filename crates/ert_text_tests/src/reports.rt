@@ -4,7 +4,7 @@
 //! In all of them there is one scheduler. So worker 0 does the keeper list, worker 1 makes the turns, and worker
 //! 2 and the workers after it do the lists of the callers from 1 on.
 use crate::racing::reports_one_of;
-use ert_shared::LedgerGate;
+use ert_service::LedgerGate;
 
 /// How often a gate tries before it lets go.
 const TRIES: u64 = 20_000_000;

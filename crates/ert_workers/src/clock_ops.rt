@@ -10,7 +10,7 @@ use ert_calls::{monotonic_time, system_time, time_offset};
 use ert_clock::ClockErr;
 use ert_defs::{Actor, Reading};
 use ert_locks::{CallerSeat, DeskName};
-use ert_shared::Service;
+use ert_service::Service;
 use ert_transcript::Reply;
 use ert_units::{TooWide, Unit, convert};
 use std::sync::Wait;

@@ -12,7 +12,7 @@
 //! **Labels.** A list knows the labels that were bound before the race, by an index that all workers share,
 //! and its own, for which it keeps another. It knows none of another list.
 //!
-//! It stands on `ert_shared` and `ert_locks`, on `ert_calls` for the calls that take no lock, on `ert_ops`,
+//! It stands on `ert_service` and `ert_locks`, on `ert_calls` for the calls that take no lock, on `ert_ops`,
 //! `ert_units`, `ert_transcript` and `ert_answers`, and on `ert_lines` for the index of labels.
 #![tactic(auto)]
 

@@ -10,7 +10,7 @@ use ert_defs::{NoMemory, TimerRef};
 use ert_lines::Names;
 use ert_locks::{CallerSeat, DeskName};
 use ert_ops::Op;
-use ert_shared::{Gate, Service};
+use ert_service::{Gate, Service};
 use ert_transcript::Reply;
 use std::alloc::Global;
 use std::sync::Wait;

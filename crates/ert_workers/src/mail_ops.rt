@@ -8,7 +8,7 @@ use ert_calls::is_alive;
 use ert_defs::{Actor, NoMemory};
 use ert_locks::{CallerSeat, DeskName};
 use ert_mail::{MonitorErr, Taken};
-use ert_shared::Service;
+use ert_service::Service;
 use ert_transcript::Reply;
 use std::sync::Wait;
 

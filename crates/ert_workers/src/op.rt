@@ -13,7 +13,7 @@ use ert_defs::NoMemory;
 use ert_lines::Names;
 use ert_locks::{CallerSeat, DeskName};
 use ert_ops::Op;
-use ert_shared::Service;
+use ert_service::Service;
 use ert_transcript::Reply;
 use std::sync::Wait;
 

@@ -10,7 +10,7 @@ use ert_answers::StartErr;
 use ert_calls::{cancel_timer, read_timer};
 use ert_defs::{Actor, Kind, NoMemory, Request, RequestKind, Start, TimerRef, When};
 use ert_locks::{CallerSeat, DeskName};
-use ert_shared::Service;
+use ert_service::Service;
 use ert_transcript::Reply;
 use std::sync::Wait;
 

@@ -5,7 +5,7 @@ ghost use Rattle.ert_workers.specs.Works.{TurnsSoOften, TurnsLess};
 
 use ert_defs::NoMemory;
 use ert_locks::{DeskName, SchedSeat};
-use ert_shared::{Gate, Service};
+use ert_service::{Gate, Service};
 use std::sync::Wait;
 
 /// Makes so many turns of a scheduler, one after the other. Before each it passes the gate, as this worker;

@@ -3,19 +3,19 @@
 use Rattle.std.proofs.Common.{◌≡◌, ◌≢◌, ℕ, ◌+◌, ◌<◌, Bool, true, false, List, slice_index_or, refl, sym, subst, ◌∙◌, arith, eqb-true, eq-eqb}
 use Rattle.std.specs.Prelude.{nat_eq}
 use Rattle.ert_answers.specs.Ways.{Growth}
-use Rattle.ert_sched.specs.Counted.{AreTidy}
-use Rattle.ert_sched.specs.Worlds.{Service, Goes, IsTidyAt}
+use Rattle.ert_world.specs.Counted.{AreTidy}
+use Rattle.ert_world.specs.Worlds.{Seen, Goes, IsTidyAt}
 
 -- the first so many of these have the numbers from 0 on
 abbrev pub AreFrom : {S : Type 0} → (S → ℕ) → ℕ → List S → Type 0
 AreFrom number n seats = (i : ℕ) (d : _) → i < n → number (slice_index_or seats i d) ≡ i
 
 -- the first so many wheels of a world are tidy
-abbrev pub AreTidyTo : Service → ℕ → Type 0
+abbrev pub AreTidyTo : Seen → ℕ → Type 0
 AreTidyTo w n = (i : ℕ) → i < n → IsTidyAt w i
 
 -- one wheel more is tidy after a call
-pub tidy_more : (a b : Service) (call : Growth) (n : ℕ) → Goes a call b → n < a.settings.schedulers → AreTidyTo a n → IsTidyAt b n → AreTidyTo b (n + 1)
+pub tidy_more : (a b : Seen) (call : Growth) (n : ℕ) → Goes a call b → n < a.settings.schedulers → AreTidyTo a n → IsTidyAt b n → AreTidyTo b (n + 1)
 tidy_more a b call n goes low tidy here i below = at (nat_eq i n) refl
   where
     at : (c : Bool) → nat_eq i n ≡ c → IsTidyAt b i

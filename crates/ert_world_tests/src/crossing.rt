@@ -1,9 +1,9 @@
 //! Four callers and two schedulers on one service, at once.
 ghost use Rattle.std.specs.Prelude.{OnOk};
 ghost use Rattle.ert_locks.specs.Names.{IsDesk};
-ghost use Rattle.ert_sched.specs.Counted.{AreTidy};
-ghost use Rattle.ert_sched.specs.Parts.{parts_of};
-ghost use Rattle.ert_sched.specs.Worlds.{AreFit};
+ghost use Rattle.ert_world.specs.Counted.{AreTidy};
+ghost use Rattle.ert_world.specs.Parts.{parts_of};
+ghost use Rattle.ert_world.specs.Worlds.{AreFit};
 
 use crate::compare::same;
 use crate::service_calls::{are_callers, are_scheds, last_turns};
@@ -11,8 +11,8 @@ use crate::workers::{Answers, MORTAL, Totals, turns, work};
 use ert_answers::Taken;
 use ert_defs::{Mode, NoMemory, Reading, Settings};
 use ert_locks::{CallerSeat, DeskName, SchedSeat};
-use ert_sched::{Counts, Parts, World};
-use ert_shared::{Opened, Service};
+use ert_world::{Counts, Parts, World};
+use ert_service::{Opened, Service};
 use std::alloc::{AllocError, Global};
 use std::marker::Brand;
 use std::process::Abort;

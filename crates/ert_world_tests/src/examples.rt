@@ -1,16 +1,16 @@
 //! The examples of the documentation: `.ci/check_examples` looks that each stands here word for word.
 ghost use Rattle.std.specs.Prelude.{◌<◌};
 ghost use Rattle.ert_locks.specs.Names.{IsDesk};
-ghost use Rattle.ert_sched.specs.Parts.{parts_of};
-ghost use Rattle.ert_sched.specs.Worlds.{AreFit};
+ghost use Rattle.ert_world.specs.Parts.{parts_of};
+ghost use Rattle.ert_world.specs.Worlds.{AreFit};
 
 use crate::service_calls::is_process;
 use ert_answers::Taken;
 use ert_calls::cancel_timer;
 use ert_defs::{Actor, Kind, Mail, Mode, NoMemory, Reading, Settings, Start, When};
 use ert_locks::{CallerSeat, DeskName};
-use ert_sched::{Parts, World};
-use ert_shared::{Opened, Service};
+use ert_world::{Parts, World};
+use ert_service::{Opened, Service};
 use std::alloc::Global;
 use std::marker::Brand;
 use std::process::Abort;

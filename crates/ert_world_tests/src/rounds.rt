@@ -1,8 +1,8 @@
 //! Worlds and a service whose slots are used more often than a round has uses.
 ghost use Rattle.ert_locks.specs.Names.{IsDesk};
-ghost use Rattle.ert_sched.specs.Counted.{AreTidy};
-ghost use Rattle.ert_sched.specs.Parts.{parts_of};
-ghost use Rattle.ert_sched.specs.Worlds.{AreFit};
+ghost use Rattle.ert_world.specs.Counted.{AreTidy};
+ghost use Rattle.ert_world.specs.Parts.{parts_of};
+ghost use Rattle.ert_world.specs.Worlds.{AreFit};
 
 use crate::compare::same;
 use crate::service_calls::{
@@ -16,8 +16,8 @@ use ert_defs::{
     Kind, Mail, Mode, NoMemory, Reading, Settings, Start, TimerRef, USES_OF_ROUND, When,
 };
 use ert_locks::{CallerSeat, DeskName};
-use ert_sched::{Parts, World};
-use ert_shared::{Opened, Service};
+use ert_world::{Parts, World};
+use ert_service::{Opened, Service};
 use std::alloc::Global;
 use std::marker::Brand;
 use std::process::Abort;

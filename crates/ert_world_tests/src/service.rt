@@ -1,7 +1,7 @@
 //! Each call of a service once, on one thread.
 ghost use Rattle.ert_locks.specs.Names.{IsDesk};
-ghost use Rattle.ert_sched.specs.Parts.{parts_of};
-ghost use Rattle.ert_sched.specs.Worlds.{AreFit};
+ghost use Rattle.ert_world.specs.Parts.{parts_of};
+ghost use Rattle.ert_world.specs.Worlds.{AreFit};
 
 use crate::compare::same;
 use crate::service_calls::{are_callers, are_scheds, ask, is_process, last_turns, start, times};
@@ -12,8 +12,8 @@ use ert_defs::{
     Kind, Mail, Mode, NoMemory, OffsetState, Reading, RequestKind, Settings, Start, TimerRef, When,
 };
 use ert_locks::{CallerSeat, DeskName, SchedSeat};
-use ert_sched::{Counts, Parts, World};
-use ert_shared::{Opened, Service};
+use ert_world::{Counts, Parts, World};
+use ert_service::{Opened, Service};
 use std::alloc::Global;
 use std::marker::Brand;
 use std::process::Abort;

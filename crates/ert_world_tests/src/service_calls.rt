@@ -1,15 +1,15 @@
 //! Calls of a service, where what a caller has to know is looked up first.
 ghost use Rattle.std.specs.Prelude.{◌<◌, OnOk};
-ghost use Rattle.ert_sched.specs.Counted.{AreTidy};
-ghost use Rattle.ert_shared.specs.Joining.{AreNumbered};
+ghost use Rattle.ert_world.specs.Counted.{AreTidy};
+ghost use Rattle.ert_service.specs.Joining.{AreNumbered};
 
 use crate::workers::Totals;
 use ert_answers::StartErr;
 use ert_calls::{cancel_timer, monotonic_time, system_time};
 use ert_defs::{Actor, NoMemory, Request, RequestKind, Start, TimerRef};
 use ert_locks::{CallerSeat, DeskName, SchedSeat};
-use ert_sched::World;
-use ert_shared::Service;
+use ert_world::World;
+use ert_service::Service;
 use std::process::Abort;
 use std::sync::Wait;
 

@@ -3,7 +3,7 @@ use crate::service_calls::{ask, cancel, is_process, start};
 use ert_answers::{Taken, Turned};
 use ert_defs::{Kind, Mail, NoMemory, Reading, RequestKind, Start, TimerRef, When};
 use ert_locks::{CallerSeat, DeskName, SchedSeat};
-use ert_shared::Service;
+use ert_service::Service;
 use std::alloc::{AllocError, Global};
 use std::process::Abort;
 use std::sync::Wait;

@@ -1,7 +1,7 @@
 //! What no scenario can show of a world: readings that aren't valid, the steps of an exit, the words of its
 //! desk, its parts, its labels and its counts.
 ghost use Rattle.std.specs.Prelude.{◌≡◌, []};
-ghost use Rattle.ert_sched.specs.Counted.{AreTidy};
+ghost use Rattle.ert_world.specs.Counted.{AreTidy};
 
 use crate::compare::same;
 use crate::world_calls::open;
@@ -9,7 +9,7 @@ use crate::world_steps::{Step, go};
 use ert_answers::{StartErr, Taken};
 use ert_clock::ClockErr;
 use ert_defs::{Mail, Mode, NoMemory, Reading, RequestKind, Settings, TimerRef, When};
-use ert_sched::{Counts, World};
+use ert_world::{Counts, World};
 use std::alloc::Global;
 use std::process::Abort;
 

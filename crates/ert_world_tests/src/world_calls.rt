@@ -1,11 +1,11 @@
 //! Each call of a world whose wheels are tidy. What a caller has to know is looked up first.
 ghost use Rattle.std.specs.Prelude.{◌<◌, IfOk};
-ghost use Rattle.ert_sched.specs.Counted.{AreTidy};
+ghost use Rattle.ert_world.specs.Counted.{AreTidy};
 
 use ert_answers::{StartErr, Taken, Turned};
 use ert_clock::{ClockErr, Moved};
 use ert_defs::{NoMemory, Reading, Request, RequestKind, Settings, Start, TimerRef};
-use ert_sched::World;
+use ert_world::World;
 use std::alloc::Global;
 use std::process::Abort;
 

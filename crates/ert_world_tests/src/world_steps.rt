@@ -1,5 +1,5 @@
 //! Steps of a world whose wheels are tidy: a call, its arguments, and last its answer.
-ghost use Rattle.ert_sched.specs.Counted.{AreTidy};
+ghost use Rattle.ert_world.specs.Counted.{AreTidy};
 
 use crate::compare::same;
 use crate::world_calls::{
@@ -8,7 +8,7 @@ use crate::world_calls::{
 use ert_answers::{StartErr, Taken, Turned};
 use ert_clock::Moved;
 use ert_defs::{Kind, RequestKind, Start, TimerRef, When};
-use ert_sched::{Counts, World};
+use ert_world::{Counts, World};
 use std::process::Abort;
 
 #[derive(Clone, Copy)]

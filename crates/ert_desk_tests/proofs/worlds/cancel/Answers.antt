@@ -2,10 +2,10 @@ use Rattle.std.proofs.Common.{[], ◌∷◌}
 use Rattle.ert_defs.specs.States.{state}
 use Rattle.ert_defs.specs.declared.entry.Actor.TheVariants.{Caller}
 use Rattle.ert_table.specs.Desks.{settings_of, front_of}
-use Rattle.ert_sched.specs.Parts.{parts_of}
-use Rattle.ert_sched.proofs.Calls.{called}
-use Rattle.ert_sched.proofs.Cancelled.{cancel_only}
-use Rattle.ert_sched.proofs.Standing.{caller_back}
+use Rattle.ert_world.specs.Parts.{parts_of}
+use Rattle.ert_world.proofs.Calls.{called}
+use Rattle.ert_world.proofs.Cancelled.{cancel_only}
+use Rattle.ert_world.proofs.Standing.{caller_back}
 use Rattle.ert_desk_tests.proofs.worlds.cancel.Goals as goal
 
 pub from_parts-requires-clause-fit : goal.from_parts-requires-clause-fit

@@ -9,7 +9,7 @@ use Rattle.ert_interval.proofs.Pushing.{pushed}
 use Rattle.ert_interval.proofs.Starting.{HasStarted, started, refused_full, full_start}
 use Rattle.ert_interval.specs.Going.{next_start}
 use Rattle.ert_answers.specs.declared.answers.StartErr.TheVariants.{Full}
-use Rattle.ert_sched.specs.Worlds.{Goes, By}
+use Rattle.ert_world.specs.Worlds.{Goes, By}
 use Rattle.ert_interval.proofs.going.start_next.Goals as goal
 
 pub returns-in_default-clause-still : goal.returns-in_default-clause-still

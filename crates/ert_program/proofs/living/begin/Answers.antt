@@ -1,6 +1,6 @@
 use Rattle.std.proofs.Common.{ℕ, List, string_bytes, subst}
 use Rattle.ert_defs.specs.declared.settings.Settings.{Settings}
-use Rattle.ert_sched.specs.Openings.{IsOpened}
+use Rattle.ert_world.specs.Openings.{IsOpened}
 use Rattle.ert_program.proofs.LivedThrough.{lived_first}
 use Rattle.ert_program.specs.Lives.{Tells}
 use Rattle.ert_program.proofs.living.begin.Goals as goal

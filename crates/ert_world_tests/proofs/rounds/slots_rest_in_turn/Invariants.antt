@@ -1,4 +1,4 @@
-use Rattle.ert_sched.specs.Counted.{AreTidy}
+use Rattle.ert_world.specs.Counted.{AreTidy}
 use Rattle.ert_world_tests.proofs.rounds.slots_rest_in_turn.Given as goal
 
 abbrev pub invariant-loop-milliseconds : goal.invariant-loop-milliseconds

@@ -1,4 +1,4 @@
-use Rattle.ert_sched.specs.Counted.{AreTidy}
+use Rattle.ert_world.specs.Counted.{AreTidy}
 use Rattle.ert_world_tests.proofs.rounds.use_slots.Given as goal
 
 abbrev pub invariant-loop : goal.invariant-loop

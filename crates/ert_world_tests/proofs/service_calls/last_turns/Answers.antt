@@ -1,5 +1,5 @@
 use Rattle.std.proofs.Common.{◌<◌, rules, ◌∙◌}
-use Rattle.ert_sched.specs.Worlds.{IsTidyAt}
+use Rattle.ert_world.specs.Worlds.{IsTidyAt}
 use Rattle.ert_world_tests.proofs.Counted.{tidy_more}
 use Rattle.ert_world_tests.proofs.service_calls.last_turns.Goals as goal
 

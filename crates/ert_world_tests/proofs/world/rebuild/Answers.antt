@@ -1,5 +1,5 @@
 use Rattle.std.proofs.Common.{sym, subst}
-use Rattle.ert_sched.specs.Counted.{AreTidy}
+use Rattle.ert_world.specs.Counted.{AreTidy}
 use Rattle.ert_world_tests.proofs.world.rebuild.Goals as goal
 
 pub returns : goal.returns

@@ -1,4 +1,4 @@
-use Rattle.ert_sched.specs.Counted.{AreTidy}
+use Rattle.ert_world.specs.Counted.{AreTidy}
 use Rattle.ert_world_tests.proofs.world_steps.go.Given as goal
 
 abbrev pub invariant-loop-at : goal.invariant-loop-at

@@ -9,7 +9,7 @@ use Rattle.ert_interval.proofs.Plain.{starts_plain}
 use Rattle.ert_interval.proofs.Pushing.{begun}
 use Rattle.ert_interval.proofs.Starting.{started}
 use Rattle.ert_interval.proofs.Tables.{all_kept, pushed_kept}
-use Rattle.ert_sched.specs.Worlds.{Goes, By}
+use Rattle.ert_world.specs.Worlds.{Goes, By}
 use Rattle.ert_interval.proofs.intervals.IntervalWorld.every.Goals as goal
 
 pub returns-in_default-started-clause-kept : goal.returns-in_default-started-clause-kept

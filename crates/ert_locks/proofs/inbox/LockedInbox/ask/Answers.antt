@@ -1,7 +1,7 @@
 use Rattle.std.proofs.Common.{◌≡◌, [], ◌∷◌, sym, subst, ap, ◌∙◌}
 use Rattle.ert_inbox.specs.Inboxes.{Stands}
 use Rattle.ert_answers.specs.RequestCalls.{Asks}
-use Rattle.ert_sched.proofs.Calls.{if_ok_made}
+use Rattle.ert_world.proofs.Calls.{if_ok_made}
 use Rattle.ert_answers.specs.Ways.{Grows, beside}
 use Rattle.ert_defs.specs.declared.entry.Actor.TheVariants.{Inbox, Caller}
 use Rattle.ert_locks.proofs.Joined.{inbox_joined}

@@ -1,7 +1,7 @@
 use Rattle.std.proofs.Common.{◌≡◌, [], ◌∷◌, None, refl, sym, subst, ap, ◌∙◌}
 use Rattle.ert_inbox.specs.Inboxes.{Stands}
 use Rattle.ert_answers.specs.RequestCalls.{Picks}
-use Rattle.ert_sched.specs.declared.sched_part.SchedPart.{SchedPart}
+use Rattle.ert_world.specs.declared.sched_part.SchedPart.{SchedPart}
 use Rattle.ert_defs.specs.Mails.{SchedState}
 use Rattle.ert_defs.specs.States.{state}
 use Rattle.ert_inbox.specs.Inboxes.{picked}

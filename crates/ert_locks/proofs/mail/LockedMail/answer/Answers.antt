@@ -1,12 +1,12 @@
 use Rattle.std.proofs.Common.{◌≡◌, [], ◌∷◌, Some, refl, sym, subst, ap, ◌∙◌}
 use Rattle.ert_mail.specs.Mailboxes.{Stands}
 use Rattle.ert_answers.specs.RequestCalls.{Answers}
-use Rattle.ert_sched.specs.declared.sched_part.SchedPart.{SchedPart}
+use Rattle.ert_world.specs.declared.sched_part.SchedPart.{SchedPart}
 use Rattle.ert_defs.specs.Mails.{SchedState}
 use Rattle.ert_defs.specs.States.{state}
 use Rattle.ert_mail.specs.Mailboxes.{answered}
 use Rattle.ert_locks.proofs.Scheds.{hand_in, fired_is, stands_after, sched_fits, answered_hand, answered_fired}
-use Rattle.ert_sched.proofs.Calls.{if_ok_made}
+use Rattle.ert_world.proofs.Calls.{if_ok_made}
 use Rattle.ert_answers.specs.Ways.{Grows, beside}
 use Rattle.ert_defs.specs.declared.entry.Actor.TheVariants.{MailOf, Sched}
 use Rattle.ert_locks.proofs.Joined.{mail_joined}

@@ -2,13 +2,13 @@ use Rattle.std.proofs.Common.{◌≡◌, ◌<◌, [], ◌∷◌, true, Some, ref
 use Rattle.ert_mail.specs.Mailboxes.{Stands}
 use Rattle.ert_answers.specs.MailCalls.{HandsOver}
 use Rattle.ert_answers.specs.Chains.{Hands}
-use Rattle.ert_sched.specs.declared.sched_part.SchedPart.{SchedPart}
+use Rattle.ert_world.specs.declared.sched_part.SchedPart.{SchedPart}
 use Rattle.ert_defs.specs.Mails.{SchedState, first_of}
 use Rattle.ert_defs.specs.States.{state}
 use Rattle.ert_laws.proofs.RowRanges.{first_placed}
 use Rattle.ert_mail.specs.Mailboxes.{handed, IsScheds}
 use Rattle.ert_locks.proofs.Scheds.{hand_in, fired_is, stands_after, sched_fits, handed_hand, handed_fired, hands}
-use Rattle.ert_sched.proofs.Calls.{if_ok_made}
+use Rattle.ert_world.proofs.Calls.{if_ok_made}
 use Rattle.ert_table.specs.Calls.{IsMade}
 use Rattle.ert_table.specs.Held.{is_held}
 use Rattle.ert_answers.specs.Ways.{Grows, beside}

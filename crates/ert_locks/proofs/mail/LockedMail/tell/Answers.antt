@@ -2,7 +2,7 @@ use Rattle.std.proofs.Common.{◌≡◌, [], ◌∷◌, sym, subst, ap, ◌∙�
 use Rattle.ert_mail.specs.Mailboxes.{Stands}
 use Rattle.ert_answers.specs.MailCalls.{Tells}
 use Rattle.ert_answers.specs.Ways.{Grows, beside}
-use Rattle.ert_sched.proofs.Calls.{if_ok_made}
+use Rattle.ert_world.proofs.Calls.{if_ok_made}
 use Rattle.ert_defs.specs.declared.entry.Actor.TheVariants.{MailOf, Caller}
 use Rattle.ert_locks.proofs.Joined.{mail_joined}
 use Rattle.ert_locks.proofs.Lent.{lends, lent_out}

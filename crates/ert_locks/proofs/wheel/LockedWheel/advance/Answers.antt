@@ -1,7 +1,7 @@
 use Rattle.std.proofs.Common.{◌≡◌, ◌-◌, [], ◌∷◌, refl, sym, subst, ap, ◌∙◌}
 use Rattle.ert_timers.specs.Parts.{Stands}
 use Rattle.ert_answers.specs.WheelCalls.{Advances}
-use Rattle.ert_sched.specs.declared.sched_part.SchedPart.{SchedPart}
+use Rattle.ert_world.specs.declared.sched_part.SchedPart.{SchedPart}
 use Rattle.ert_defs.specs.Mails.{SchedState}
 use Rattle.ert_defs.specs.States.{state}
 use Rattle.ert_locks.proofs.Scheds.{hand_in, fired_is, stands_after, sched_fits, advanced, few_if}

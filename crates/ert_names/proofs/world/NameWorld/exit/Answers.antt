@@ -4,7 +4,7 @@ use Rattle.ert_answers.specs.Chains.{Exits}
 use Rattle.ert_answers.specs.Ways.{alone}
 use Rattle.ert_names.specs.Calls.{HasExited}
 use Rattle.ert_names.specs.Registered.{Registered, seen}
-use Rattle.ert_sched.specs.Worlds.{Goes}
+use Rattle.ert_world.specs.Worlds.{Goes}
 use Rattle.ert_names.proofs.Living.{exited_old, exited_new, exited_unnamed, without_unnamed}
 use Rattle.ert_names.proofs.world.NameWorld.exit.Goals as goal
 

@@ -3,7 +3,7 @@ use Rattle.ert_answers.specs.WheelCalls.{TellsAlive}
 use Rattle.ert_defs.specs.declared.entry.Actor.TheVariants.{Caller}
 use Rattle.ert_names.proofs.Fitting.{alive_fits}
 use Rattle.ert_names.proofs.Living.{names_by, registered_if, seen_living}
-use Rattle.ert_sched.specs.Worlds.{Goes, By}
+use Rattle.ert_world.specs.Worlds.{Goes, By}
 use Rattle.ert_names.proofs.world.NameWorld.register.Goals as goal
 
 pub invariant_of-self : goal.invariant_of-self

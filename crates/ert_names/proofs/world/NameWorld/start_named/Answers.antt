@@ -9,7 +9,7 @@ use Rattle.ert_names.specs.Registered.{Registered, Row, seen, row_of}
 use Rattle.ert_names.proofs.Fitting.{starts_fit, refused_start_fits}
 use Rattle.ert_names.proofs.Handing.{refused_named, map_more, place_is, place_of, longer_by}
 use Rattle.ert_names.proofs.Living.{names_by, names_more}
-use Rattle.ert_sched.specs.Worlds.{Goes, By}
+use Rattle.ert_world.specs.Worlds.{Goes, By}
 use Rattle.ert_names.proofs.world.NameWorld.start_named.Goals as goal
 
 pub invariant_of-self-in_err-timer : goal.invariant_of-self-in_err-timer

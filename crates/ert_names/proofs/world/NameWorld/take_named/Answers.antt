@@ -2,7 +2,7 @@ use Rattle.std.proofs.Common.{◌≡◌, true, None, rules, refl, sym, subst, �
 use Rattle.ert_names.specs.Calls.{LooksAt, first_for, others_for}
 use Rattle.ert_names.specs.Registered.{Registered, seen}
 use Rattle.ert_names.proofs.Handing.{none_goes}
-use Rattle.ert_sched.specs.Worlds.{Goes, By}
+use Rattle.ert_world.specs.Worlds.{Goes, By}
 use Rattle.std.specs.Prelude.{length}
 use Rattle.ert_answers.specs.WheelCalls.{TellsAlive}
 use Rattle.ert_defs.specs.declared.entry.Actor.TheVariants.{Caller}

@@ -8,7 +8,7 @@ use Rattle.ert_names.specs.Registered.{Registered, seen}
 use Rattle.ert_names.proofs.Fitting.{turns_fit}
 use Rattle.ert_names.proofs.Handing.{turned, stopped}
 use Rattle.ert_names.proofs.Living.{names_on}
-use Rattle.ert_sched.specs.Worlds.{Goes}
+use Rattle.ert_world.specs.Worlds.{Goes}
 use Rattle.ert_names.proofs.world.NameWorld.turn.Goals as goal
 
 pub invariant_of-self : goal.invariant_of-self

@@ -5,7 +5,7 @@ use Rattle.ert_defs.specs.States.{State, state}
 use Rattle.ert_defs.specs.declared.entry.Actor.TheVariants.{Sched, MailOf}
 use Rattle.ert_mail.proofs.LawsHold.{answers_only}
 use Rattle.ert_mail.specs.Mailboxes.{Stands}
-use Rattle.ert_sched.proofs.Calls.{mail_named}
+use Rattle.ert_world.proofs.Calls.{mail_named}
 use Rattle.ert_table.specs.Desks.{settings_of, front_of}
 use Rattle.ert_seats.proofs.Calls.{Has, has_at, does_at, parts_in, schedulers_at}
 use Rattle.ert_seats.proofs.Gone.{gone_in, answers_hit}

@@ -5,7 +5,7 @@ use Rattle.ert_answers.specs.TimerCalls.{Cancels}
 use Rattle.ert_defs.specs.States.{State, state}
 use Rattle.ert_defs.specs.declared.entry.Actor.TheVariants.{Caller}
 use Rattle.ert_table.specs.Desks.{settings_of, front_of}
-use Rattle.ert_sched.proofs.Cancelled.{cancel_only}
+use Rattle.ert_world.proofs.Cancelled.{cancel_only}
 use Rattle.ert_seats.proofs.Calls.{has_at, does_at, alone_called}
 use Rattle.ert_seats.proofs.Gone.{gone_in, cancels_hit}
 use Rattle.ert_seats.proofs.shared_world.SharedWorld.cancel.Goals as goal

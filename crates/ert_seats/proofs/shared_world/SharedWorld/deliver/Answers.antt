@@ -2,7 +2,7 @@ use Rattle.std.proofs.Common.{◌≡◌, ◌+◌, [], ◌∷◌, ◌++◌, Ok, E
 use Rattle.ert_answers.specs.Chains.{Hands, puts, drops}
 use Rattle.ert_answers.specs.declared.answers.Handed.TheVariants.{Put, Dropped}
 use Rattle.ert_seats.specs.SharedWorlds.{Goes, sched_of, way_of}
-use Rattle.ert_sched.proofs.Composed.{puts_more, drops_more, one_less, few_put, few_dropped}
+use Rattle.ert_world.proofs.Composed.{puts_more, drops_more, one_less, few_put, few_dropped}
 use Rattle.ert_seats.proofs.Composed.{handed_more, undelivered}
 use Rattle.ert_seats.proofs.shared_world.SharedWorld.deliver.Goals as goal
 

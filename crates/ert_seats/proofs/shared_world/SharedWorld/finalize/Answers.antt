@@ -1,7 +1,7 @@
 use Rattle.ert_answers.specs.ClockCalls.{Finalizes}
 use Rattle.ert_defs.specs.States.{state}
 use Rattle.ert_table.specs.Desks.{settings_of, front_of}
-use Rattle.ert_sched.proofs.Calm.{finalizes_quiet}
+use Rattle.ert_world.proofs.Calm.{finalizes_quiet}
 use Rattle.ert_seats.proofs.Calls.{Has, has_at, does_at, keeper_called, reads_by}
 use Rattle.ert_seats.proofs.shared_world.SharedWorld.finalize.Goals as goal
 

@@ -3,7 +3,7 @@ use Rattle.ert_answers.specs.Chains.{Hands}
 use Rattle.ert_defs.specs.Mails.{first_of, others_of}
 use Rattle.ert_defs.specs.States.{state}
 use Rattle.ert_mail.specs.Mailboxes.{Stands}
-use Rattle.ert_sched.proofs.Calls.{mail_named}
+use Rattle.ert_world.proofs.Calls.{mail_named}
 use Rattle.ert_table.specs.Desks.{settings_of, front_of}
 use Rattle.ert_table.specs.declared.desk.Desk.{Desk}
 use Rattle.ert_seats.proofs.Calls.{Has, has_at, does_at, parts_in, schedulers_at}

@@ -4,7 +4,7 @@ use Rattle.ert_answers.specs.WheelCalls.{MarksExit}
 use Rattle.ert_defs.specs.States.{state}
 use Rattle.ert_defs.specs.declared.entry.Actor.TheVariants.{Caller}
 use Rattle.ert_table.specs.Desks.{settings_of, view_of, front_of}
-use Rattle.ert_sched.proofs.Calm.{mark_quiet}
+use Rattle.ert_world.proofs.Calm.{mark_quiet}
 use Rattle.ert_seats.proofs.Calls.{has_at, does_at, alone_called}
 use Rattle.ert_seats.proofs.Gone.{marked}
 use Rattle.ert_seats.proofs.shared_world.SharedWorld.mark_exit.Goals as goal

@@ -1,6 +1,6 @@
 use Rattle.std.proofs.Common.{◌≡◌, true, Option, subst}
 use Rattle.std.specs.Option.{is_some}
-use Rattle.ert_sched.specs.Worlds.{left_by}
+use Rattle.ert_world.specs.Worlds.{left_by}
 use Rattle.ert_seats.proofs.Composed.{goes_forgetting}
 use Rattle.ert_seats.proofs.Gone.{gone_some}
 use Rattle.ert_seats.proofs.shared_world.SharedWorld.reply.Goals as goal

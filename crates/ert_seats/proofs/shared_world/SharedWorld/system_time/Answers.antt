@@ -3,7 +3,7 @@ use Rattle.ert_answers.specs.ClockCalls.{TellsSystemTime}
 use Rattle.ert_defs.specs.States.{state}
 use Rattle.ert_defs.specs.declared.entry.Actor.TheVariants.{Caller}
 use Rattle.ert_table.specs.Desks.{settings_of, front_of}
-use Rattle.ert_sched.proofs.Calm.{system_quiet}
+use Rattle.ert_world.proofs.Calm.{system_quiet}
 use Rattle.ert_seats.proofs.Calls.{has_at, does_at, alone_called}
 use Rattle.ert_seats.proofs.Values.{system_value}
 use Rattle.ert_seats.proofs.shared_world.SharedWorld.system_time.Goals as goal

@@ -2,7 +2,7 @@ use Rattle.ert_answers.specs.MailCalls.{Tells}
 use Rattle.ert_defs.specs.States.{State, state}
 use Rattle.ert_mail.proofs.LawsHold.{tells_only}
 use Rattle.ert_table.specs.Desks.{settings_of, view_of, front_of}
-use Rattle.ert_sched.proofs.Calls.{if_ok_made}
+use Rattle.ert_world.proofs.Calls.{if_ok_made}
 use Rattle.ert_seats.proofs.Calls.{Has, has_at, does_at, mail_called}
 use Rattle.ert_seats.proofs.shared_world.SharedWorld.tell.Goals as goal
 

@@ -2,7 +2,7 @@ use Rattle.ert_answers.specs.ClockCalls.{Ticks}
 use Rattle.ert_clock.specs.Ticks.{act_of}
 use Rattle.ert_defs.specs.States.{state}
 use Rattle.ert_table.specs.Desks.{settings_of, front_of}
-use Rattle.ert_sched.proofs.Calm.{acts_quiet}
+use Rattle.ert_world.proofs.Calm.{acts_quiet}
 use Rattle.ert_seats.proofs.Calls.{has_at, does_at, keeper_called}
 use Rattle.ert_seats.proofs.shared_world.SharedWorld.tick.Goals as goal
 

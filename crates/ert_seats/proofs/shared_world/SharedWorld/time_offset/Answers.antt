@@ -2,7 +2,7 @@ use Rattle.ert_answers.specs.ClockCalls.{TellsOffset}
 use Rattle.ert_defs.specs.States.{state}
 use Rattle.ert_defs.specs.declared.entry.Actor.TheVariants.{Caller}
 use Rattle.ert_table.specs.Desks.{settings_of, front_of}
-use Rattle.ert_sched.proofs.Calm.{offset_quiet}
+use Rattle.ert_world.proofs.Calm.{offset_quiet}
 use Rattle.ert_seats.proofs.Calls.{has_at, does_at, alone_called}
 use Rattle.ert_seats.proofs.Values.{offset_value}
 use Rattle.ert_seats.proofs.shared_world.SharedWorld.time_offset.Goals as goal

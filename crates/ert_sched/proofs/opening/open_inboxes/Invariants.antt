@@ -1,9 +1,0 @@
-use Rattle.std.proofs.Common.{◌≤◌}
-use Rattle.ert_sched.specs.Openings.{AreNew, IsNewInbox}
-use Rattle.ert_sched.proofs.opening.open_inboxes.Given as goal
-
-abbrev pub invariant-loop-wheel : goal.invariant-loop-wheel
-invariant-loop-wheel l = record {
-  new : AreNew IsNewInbox l.wheel l.inboxes.items;
-  room : l.count ≤ l.inboxes.cap;
-}

@@ -1,9 +1,0 @@
-use Rattle.std.proofs.Common.{◌≤◌}
-use Rattle.ert_sched.specs.Openings.{AreNew, IsNewSched}
-use Rattle.ert_sched.proofs.opening.open_scheds.Given as goal
-
-abbrev pub invariant-loop-wheel : goal.invariant-loop-wheel
-invariant-loop-wheel l = record {
-  new : AreNew IsNewSched l.wheel l.scheds.items;
-  room : l.count ≤ l.scheds.cap;
-}

@@ -1,7 +1,0 @@
-use Rattle.std.proofs.Common.{◌≡◌, length}
-use Rattle.ert_laws.specs.Counts.{total}
-use Rattle.ert_sched.specs.Worlds.{sched_of}
-use Rattle.ert_sched.proofs.world.World.waiting.Given as goal
-
-abbrev pub invariant-loop-sched : goal.invariant-loop-sched
-invariant-loop-sched l = l.all ≡ total (λ w. length (sched_of l.fn.self w).fired) l.sched

@@ -1,0 +1,108 @@
+-- How a pass is divided, one actor of a sort after the other.
+
+use Rattle.std.proofs.Common.{◌≡◌, ◌≢◌, ℕ, suc, ◌+◌, ◌<◌, ◌≤◌, Bool, true, false, List, [], ◌∷◌, ◌++◌, length, slice_index_or, refl, sym, ap, subst, ◌∙◌, arith, eqb-true, eq-eqb, length-append}
+use Rattle.std.specs.Prelude.{nat_eq}
+use Rattle.std.proofs.lemmas.List.{get_or_push, get_or_append_left}
+use Rattle.ert_defs.specs.Actors.{same_actor}
+use Rattle.ert_defs.specs.declared.entry.Actor.{Actor}
+use Rattle.ert_defs.specs.declared.entry.Entry.{Entry}
+use Rattle.ert_defs.specs.declared.settings.Settings.{Settings}
+use Rattle.ert_world.specs.Parts.{AreOrdered}
+use Rattle.ert_service.specs.Dividing.{AreSeated, Divides}
+use Rattle.ert_table.proofs.Holders.{held_but_other}
+use Rattle.ert_table.specs.Held.{is_held, actors_but}
+
+-- actors of a sort with different numbers differ
+abbrev pub AreApart : (ℕ → Actor) → Type 0
+AreApart sort = (m n : ℕ) → nat_eq m n ≡ false → same_actor (sort m) (sort n) ≡ false
+
+numbers_apart : (m n : ℕ) → m ≢ n → nat_eq m n ≡ false
+numbers_apart m n ne = by_test (nat_eq m n) refl
+  where
+    by_test : (b : Bool) → nat_eq m n ≡ b → b ≡ false
+    by_test true is = absurd (ne (eqb-true m n is))
+    by_test false is = refl
+
+-- the next one: its number, that it stands, and that its actor is held
+pub record Next {X : Type 0} (number : X → ℕ) (stands : X → Type 0) (sort : ℕ → Actor) (count : ℕ) (now : List Actor) (done : ℕ) (x : X) : Type 0 where
+  pub low : done < count
+  pub named : number x ≡ done
+  pub stand : stands x
+  pub held : is_held now (sort (number x)) ≡ true
+
+pub next_of : {X : Type 0} (number : X → ℕ) (stands : X → Type 0) (sort : ℕ → Actor) (count : ℕ) (first now : List Actor) (done : ℕ) (x : X) (items left : List X)
+    → items ≡ x ∷ left → Divides number stands sort count first now done items → Next number stands sort count now done x
+next_of number stands sort count first now done x items left is divides =
+    let d : Divides number stands sort count first now done (x ∷ left) = subst (Divides number stands sort count first now done) is divides in
+    let sum : done + suc (length left) ≡ count = d.sum in
+    let low : done < count = omega (arith, sum) in
+    let one = d.each 0 x (omega arith) in
+    let named : number x ≡ done = plain (number x) done one.0 in
+    record {
+      low = low;
+      named = named;
+      stand = one.1;
+      held = subst (λ n. is_held now (sort n) ≡ true) (sym named) (d.held done (omega arith) low);
+    }
+  where
+    plain : (a b : ℕ) → a ≡ b + 0 → a ≡ b
+    plain a b is = omega (arith, is)
+
+pub divides_next : {X : Type 0} (number : X → ℕ) (stands : X → Type 0) (sort : ℕ → Actor) (count : ℕ) (first now new : List Actor) (done more : ℕ) (x : X) (items left : List X)
+    → AreApart sort → more ≡ done + 1 → items ≡ x ∷ left → new ≡ actors_but now (sort (number x)) → Divides number stands sort count first now done items
+    → Divides number stands sort count first new more left
+divides_next number stands sort count first now new done more x items left apart one_more is rest divides =
+    let d : Divides number stands sort count first now done (x ∷ left) = subst (Divides number stands sort count first now done) is divides in
+    let one = next_of number stands sort count first now done x items left is divides in
+    let sum : done + suc (length left) ≡ count = d.sum in
+    record {
+      sum = omega (arith, sum, one_more);
+      each = λ j e low.
+          let later = d.each (suc j) e (omega (arith, low)) in
+          (shift (number (slice_index_or left j e)) j done more one_more later.0, later.1);
+      held = λ i low below.
+          let other : nat_eq i (number x) ≡ false = numbers_apart i (number x) (λ (at : i ≡ number x). absurd (clash i done more (number x) low one_more one.named at)) in
+          subst (λ l. is_held l (sort i) ≡ true) (sym rest)
+          (held_but_other now (sort (number x)) (sort i) (apart i (number x) other) (d.held i (less i done more low one_more) below));
+      kept = record {
+        others = λ a differs was. subst (λ l. is_held l a ≡ true) (sym rest)
+            (held_but_other now (sort (number x)) a (differs (number x)) (d.kept.others a differs was));
+      };
+    }
+  where
+    shift : (n j done more : ℕ) → more ≡ done + 1 → n ≡ done + suc j → n ≡ more + j
+    shift n j done more one_more is = omega (arith, one_more, is)
+
+    clash : (i done more n : ℕ) → more ≤ i → more ≡ done + 1 → n ≡ done → i ≡ n → ⊥
+    clash i done more n low one_more named at = omega (arith, low, one_more, named, at)
+
+    less : (i done more : ℕ) → more ≤ i → more ≡ done + 1 → done ≤ i
+    less i done more low one_more = omega (arith, low, one_more)
+
+-- one seat more
+pub seats_more : {S : Type 0} (number : S → ℕ) (front : S → List Entry) (n : ℕ) (h : List Entry) (seats : List S) (s : S) → AreSeated number front n h seats
+    → number s ≡ n → front s ≡ h → AreSeated number front (n + 1) h (seats ++ s ∷ [])
+seats_more number front n h seats s are named shows = record {
+  counted = length-append seats (s ∷ []) ∙ ap (λ k. k + 1) are.counted;
+  each = λ i d low. by_place i d low (nat_eq i n) refl;
+}
+  where
+    below : {i n : ℕ} → i < n + 1 → i ≢ n → i < n
+    below {i} {n} low other = omega (arith, low, other)
+
+    by_place : (i : ℕ) (d : _) → i < n + 1 → (b : Bool) → nat_eq i n ≡ b
+        → (number (slice_index_or (seats ++ s ∷ []) i d) ≡ i) × (front (slice_index_or (seats ++ s ∷ []) i d) ≡ h)
+    by_place i d low true is =
+        let at : i ≡ n = eqb-true i n is in
+        subst (λ x. (number x ≡ i) × (front x ≡ h)) (sym (get_or_push seats s d i (are.counted ∙ sym at))) (named ∙ sym at, shows)
+    by_place i d low false is =
+        let other : i ≢ n = λ (at : i ≡ n). let clash : true ≡ false = sym (eq-eqb i n at) ∙ is in cc in
+        let within : i < n = below low other in
+        subst (λ x. (number x ≡ i) × (front x ≡ h)) (sym (get_or_append_left seats (s ∷ []) d i (rw are.counted within))) (are.each i d within)
+
+-- actors with later numbers are held still
+pub held_next : (sort : ℕ → Actor) (now new : List Actor) (done count : ℕ) → AreApart sort → new ≡ actors_but now (sort done)
+    → ((i : ℕ) → done ≤ i → i < count → is_held now (sort i) ≡ true) → (i : ℕ) → done + 1 ≤ i → i < count → is_held new (sort i) ≡ true
+held_next sort now new done count apart rest held i low below =
+    let other : nat_eq i done ≡ false = numbers_apart i done (λ (at : i ≡ done). absurd (omega (arith, low, at))) in
+    subst (λ l. is_held l (sort i) ≡ true) (sym rest) (held_but_other now (sort done) (sort i) (apart i done other) (held i (omega (arith, low)) below))

@@ -1,0 +1,85 @@
+//! The calls of callers on the clock and on wheels.
+use crate::service::Service;
+use ert_answers::StartErr;
+use ert_clock::{ClockErr, Moved};
+use ert_defs::{OffsetState, Reading, Start, TimerRef};
+use ert_locks::{CallerSeat, DeskName};
+use std::sync::Wait;
+
+impl<L: DeskName> Service<L> {
+    ghost use Rattle.std.specs.Prelude.{◌≡◌, ◌≢◌, ◌<◌, Err, IfOk};
+    ghost use Rattle.ert_answers.specs.ClockCalls.{Ticks, Finalizes};
+    ghost use Rattle.ert_answers.specs.TimerCalls.{Starts};
+    ghost use Rattle.ert_answers.specs.declared.answers.StartErr.TheVariants.{NoMemory as WantOfMemory};
+    ghost use Rattle.ert_defs.specs.States.{state};
+    ghost use Rattle.ert_defs.specs.declared.entry.Actor.TheVariants.{Keeper, Wheel, Caller};
+    ghost use Rattle.ert_locks.specs.Passes.{StepsWith};
+    ghost use Rattle.ert_service.specs.Fronts.{HasExited, IsLegal};
+    ghost use Rattle.ert_service.specs.Settled.{IsSettled};
+    ghost use Rattle.ert_table.specs.Desks.{front_of};
+
+    /// Takes one reading of the OS clocks. `force` asks for a check of the clock, as if one were due.
+    ///
+    /// It is refused where the clock refuses it (`ClockErr`), and then it makes no entry.
+    pub fn tick<R: Wait>(
+        &self,
+        rt: &R,
+        seat: CallerSeat<L>,
+        reading: Reading,
+        force: bool,
+    ) -> (CallerSeat<L>, Result<Moved, ClockErr>)
+        ensures number { result.0.number ≡ seat.number }
+        ensures call { StepsWith L.settings (Caller seat.number) Keeper (Ticks L.settings seat.number reading force result.1) seat.pass result.0.pass }
+        ensures legal { IsLegal L.settings (front_of result.0.pass) }
+    {
+        self.keeper.lock(rt).tick(&self.desk, seat, reading, force)
+    }
+
+    /// Finalizes the time offset (`erlang:system_flag(time_offset, finalize)`), and answers the state
+    /// before. Only a preliminary offset moves.
+    ///
+    /// It is refused where the clock refuses it (`ClockErr`), and then it makes no entry.
+    pub fn finalize<R: Wait>(
+        &self,
+        rt: &R,
+        seat: CallerSeat<L>,
+        reading: Reading,
+    ) -> (CallerSeat<L>, Result<(OffsetState, Moved), ClockErr>)
+        ensures number { result.0.number ≡ seat.number }
+        ensures call { StepsWith L.settings (Caller seat.number) Keeper (Finalizes L.settings seat.number reading result.1) seat.pass result.0.pass }
+        ensures legal { IsLegal L.settings (front_of result.0.pass) }
+    {
+        self.keeper.lock(rt).finalize(&self.desk, seat, reading)
+    }
+
+    /// Starts a timer on a wheel (`erlang` module reference, `start_timer` and `send_after`).
+    ///
+    /// BadArg comes where the start has no deadline at the time of the call, and Full where each slot of the
+    /// wheel is taken or rests, or the wheel has had 2^53 timers. A timer for a process that has exited is started
+    /// and cancelled at once, so that it is settled when the call returns. No memory is taken.
+    pub fn start<R: Wait>(
+        &self,
+        rt: &R,
+        seat: CallerSeat<L>,
+        wheel: u32,
+        start: &Start,
+    ) -> (CallerSeat<L>, Result<TimerRef, StartErr>)
+        requires wheel { wheel < L.settings.schedulers }
+        requires dest { start.now.dest < L.settings.processes }
+        ensures number { result.0.number ≡ seat.number }
+        ensures memory { result.1 ≢ Err WantOfMemory }
+        ensures settled { HasExited L.settings (front_of seat.pass) start.now.dest
+            → IfOk result.1 (λ timer. IsSettled (state L.settings (front_of result.0.pass)) timer) }
+        ensures call { StepsWith L.settings (Caller seat.number) (Wheel wheel)
+            (Starts L.settings seat.number wheel start.now result.1) seat.pass result.0.pass }
+        ensures legal { IsLegal L.settings (front_of result.0.pass) }
+    {
+        for _ in rt.forever() {
+            let mut locked = self.wheels[wheel as usize].lock(rt);
+            if locked.number() == wheel {
+                return locked.start(&self.desk, seat, start);
+            }
+        }
+        unreachable!()
+    }
+}

@@ -1,0 +1,144 @@
+//! The calls of callers on inboxes and mailboxes.
+use crate::service::Service;
+use ert_defs::{NoMemory, Request};
+use ert_locks::{CallerSeat, DeskName};
+use ert_mail::{MonitorErr, Taken};
+use std::sync::Wait;
+
+impl<L: DeskName> Service<L> {
+    ghost use Rattle.std.specs.Prelude.{◌≡◌, ◌<◌};
+    ghost use Rattle.ert_answers.specs.MailCalls.{Takes, Monitors, Demonitors, Tells};
+    ghost use Rattle.ert_answers.specs.RequestCalls.{Asks, inbox_for};
+    ghost use Rattle.ert_defs.specs.declared.entry.Actor.TheVariants.{Inbox, MailOf, Caller};
+    ghost use Rattle.ert_locks.specs.Passes.{StepsWith};
+    ghost use Rattle.ert_service.specs.Fronts.{IsLegal};
+    ghost use Rattle.ert_table.specs.Desks.{front_of};
+
+    /// Asks the scheduler of a timer to cancel or to read it (`erlang` module reference, `cancel_timer` and
+    /// `read_timer`, option `async`). A reference of no wheel goes to the first scheduler.
+    ///
+    /// After want of memory nothing has changed.
+    pub fn ask<R: Wait>(
+        &self,
+        rt: &R,
+        seat: CallerSeat<L>,
+        request: Request,
+    ) -> (CallerSeat<L>, Result<(), NoMemory>)
+        requires { request.reply_to < L.settings.processes }
+        ensures number { result.0.number ≡ seat.number }
+        ensures call { StepsWith L.settings (Caller seat.number) (Inbox (inbox_for L.settings request))
+            (Asks L.settings seat.number (inbox_for L.settings request) request result.1) seat.pass result.0.pass }
+        ensures legal { IsLegal L.settings (front_of result.0.pass) }
+    {
+        let wheel = self.inbox_for(&request);
+        for _ in rt.forever() {
+            let mut locked = self.inboxes[wheel as usize].lock(rt);
+            if locked.number() == wheel {
+                return locked.ask(&self.desk, seat, request);
+            }
+        }
+        unreachable!()
+    }
+
+    /// The number of the inbox that a request goes to. There is at least one.
+    fn inbox_for(&self, request: &Request) -> u32
+        ensures value { result ≡ inbox_for L.settings request.now }
+        ensures in_range { result < L.settings.schedulers }
+    {
+        let wheel = request.timer.wheel;
+        if wheel < self.desk.settings().schedulers {
+            wheel
+        } else {
+            0
+        }
+    }
+
+    /// Takes the first message of a process (`receive`): Exited where the process has exited, whatever it
+    /// has, and Empty where it has none.
+    pub fn take<R: Wait>(&self, rt: &R, seat: CallerSeat<L>, process: u32) -> (CallerSeat<L>, Taken)
+        requires { process < L.settings.processes }
+        ensures number { result.0.number ≡ seat.number }
+        ensures call { StepsWith L.settings (Caller seat.number) (MailOf process) (Takes L.settings seat.number process result.1) seat.pass result.0.pass }
+        ensures legal { IsLegal L.settings (front_of result.0.pass) }
+    {
+        for _ in rt.forever() {
+            let mut locked = self.mails[process as usize].lock(rt);
+            if locked.number() == process {
+                return locked.take(&self.desk, seat);
+            }
+        }
+        unreachable!()
+    }
+
+    /// Makes a monitor of the time offset for a process (`erlang` module reference, `monitor`, type
+    /// `time_offset`), and gives its number.
+    ///
+    /// Full comes where 64 monitors of the process stand, or its last number was given. After a refusal
+    /// nothing has changed.
+    pub fn monitor<R: Wait>(
+        &self,
+        rt: &R,
+        seat: CallerSeat<L>,
+        process: u32,
+    ) -> (CallerSeat<L>, Result<u32, MonitorErr>)
+        requires { process < L.settings.processes }
+        ensures number { result.0.number ≡ seat.number }
+        ensures call { StepsWith L.settings (Caller seat.number) (MailOf process) (Monitors L.settings seat.number process result.1) seat.pass result.0.pass }
+        ensures legal { IsLegal L.settings (front_of result.0.pass) }
+    {
+        for _ in rt.forever() {
+            let mut locked = self.mails[process as usize].lock(rt);
+            if locked.number() == process {
+                return locked.monitor(&self.desk, seat);
+            }
+        }
+        unreachable!()
+    }
+
+    /// Removes a monitor (`demonitor`), and tells whether it stood.
+    pub fn demonitor<R: Wait>(
+        &self,
+        rt: &R,
+        seat: CallerSeat<L>,
+        process: u32,
+        monitor: u32,
+    ) -> (CallerSeat<L>, bool)
+        requires { process < L.settings.processes }
+        ensures number { result.0.number ≡ seat.number }
+        ensures call { StepsWith L.settings (Caller seat.number) (MailOf process)
+            (Demonitors L.settings seat.number process monitor result.1) seat.pass result.0.pass }
+        ensures legal { IsLegal L.settings (front_of result.0.pass) }
+    {
+        for _ in rt.forever() {
+            let mut locked = self.mails[process as usize].lock(rt);
+            if locked.number() == process {
+                return locked.demonitor(&self.desk, seat, monitor);
+            }
+        }
+        unreachable!()
+    }
+
+    /// Tells a process the time offset by one message for each monitor to which it is news, and answers how
+    /// many there were (ERTS User's Guide, "Time Warp Modes": `CHANGE` messages).
+    ///
+    /// After want of memory nothing has changed.
+    pub fn tell<R: Wait>(
+        &self,
+        rt: &R,
+        seat: CallerSeat<L>,
+        process: u32,
+    ) -> (CallerSeat<L>, Result<u32, NoMemory>)
+        requires { process < L.settings.processes }
+        ensures number { result.0.number ≡ seat.number }
+        ensures call { StepsWith L.settings (Caller seat.number) (MailOf process) (Tells L.settings seat.number process result.1) seat.pass result.0.pass }
+        ensures legal { IsLegal L.settings (front_of result.0.pass) }
+    {
+        for _ in rt.forever() {
+            let mut locked = self.mails[process as usize].lock(rt);
+            if locked.number() == process {
+                return locked.tell(&self.desk, seat);
+            }
+        }
+        unreachable!()
+    }
+}

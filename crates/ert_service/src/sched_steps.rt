@@ -1,0 +1,146 @@
+//! The steps of a scheduler, each under one lock.
+ghost use Rattle.std.specs.Prelude.{◌≡◌, ◌<◌, Some};
+ghost use Rattle.ert_defs.specs.Mails.{first_of};
+
+use crate::service::Service;
+use ert_defs::{Fired, NoMemory, Request};
+use ert_locks::{DeskName, SchedSeat};
+use ert_mail::Handed;
+use std::sync::Wait;
+
+impl<L: DeskName> Service<L> {
+    ghost use Rattle.std.specs.Prelude.{◌≡◌, ◌<◌, Some, None, IfOk, OnOk};
+    ghost use Rattle.ert_answers.specs.Chains.{Holds, AdvancesWheel, Hands};
+    ghost use Rattle.ert_answers.specs.RequestCalls.{Picks, Answers};
+    ghost use Rattle.ert_answers.specs.Ways.{beside};
+    ghost use Rattle.ert_defs.specs.Mails.{first_of, others_of};
+    ghost use Rattle.ert_defs.specs.States.{state};
+    ghost use Rattle.ert_defs.specs.declared.entry.Actor.TheVariants.{Inbox, Sched, MailOf};
+    ghost use Rattle.ert_locks.specs.Passes.{FrontGrows, StepsWith};
+    ghost use Rattle.ert_service.specs.Fronts.{IsLegal};
+    ghost use Rattle.ert_service.specs.Settled.{NoneDue};
+    ghost use Rattle.ert_table.specs.Desks.{front_of};
+
+    /// The request in a scheduler's hand. Where the hand is empty, the first of the inbox is taken into it.
+    pub(crate) fn hold<R: Wait>(
+        &self,
+        rt: &R,
+        seat: SchedSeat<L>,
+    ) -> (SchedSeat<L>, Option<Request>)
+        ensures number { result.0.part.wheel ≡ seat.part.wheel }
+        ensures hand { result.0.part.hand ≡ result.1 }
+        ensures call { FrontGrows (Holds L.settings (beside L.settings (Sched seat.part.wheel)) seat.part.wheel result.1) seat.pass result.0.pass }
+    {
+        match seat.part.hand {
+            Some(request) => (seat, Some(request)),
+            None => self.pick(rt, seat),
+        }
+    }
+
+    /// Takes the first request of the inbox into the empty hand.
+    fn pick<R: Wait>(&self, rt: &R, seat: SchedSeat<L>) -> (SchedSeat<L>, Option<Request>)
+        requires empty { seat.part.hand ≡ None }
+        ensures number { result.0.part.wheel ≡ seat.part.wheel }
+        ensures hand { result.0.part.hand ≡ result.1 }
+        ensures call { StepsWith L.settings (Sched seat.part.wheel) (Inbox seat.part.wheel)
+            (Picks L.settings seat.part.wheel result.1) seat.pass result.0.pass }
+    {
+        let wheel = seat.part.wheel;
+        for _ in rt.forever() {
+            let mut locked = self.inboxes[wheel as usize].lock(rt);
+            if locked.number() == wheel {
+                return locked.pick(&self.desk, seat);
+            }
+        }
+        unreachable!()
+    }
+
+    /// Answers the request in the hand, and empties that.
+    pub(crate) fn answer<R: Wait>(
+        &self,
+        rt: &R,
+        seat: SchedSeat<L>,
+        request: &Request,
+    ) -> (SchedSeat<L>, Result<Option<u64>, NoMemory>)
+        requires hand { seat.part.hand ≡ Some request.now }
+        ensures number { result.0.part.wheel ≡ seat.part.wheel }
+        ensures call { StepsWith L.settings (Sched seat.part.wheel) (MailOf request.now.reply_to)
+            (Answers L.settings seat.part.wheel request.now result.1) seat.pass result.0.pass }
+    {
+        let process = asker_of(&seat, request);
+        for _ in rt.forever() {
+            let mut locked = self.mails[process as usize].lock(rt);
+            if locked.number() == process {
+                return locked.answer(&self.desk, seat, request);
+            }
+        }
+        unreachable!()
+    }
+
+    /// Lets every timer of the scheduler's wheel expire that is due, and answers the time, in whole
+    /// milliseconds since the start time, and how many expired. After that no timer of the wheel is armed that
+    /// is due by then.
+    ///
+    /// After want of memory none has expired.
+    pub fn advance<R: Wait>(
+        &self,
+        rt: &R,
+        seat: SchedSeat<L>,
+    ) -> (SchedSeat<L>, Result<(u64, u32), NoMemory>)
+        ensures number { result.0.part.wheel ≡ seat.part.wheel }
+        ensures due { IfOk result.1 (λ answer. NoneDue (state L.settings (front_of result.0.pass)) seat.part.wheel answer.0) }
+        ensures call { FrontGrows (AdvancesWheel L.settings (beside L.settings (Sched seat.part.wheel)) seat.part.wheel result.1) seat.pass result.0.pass }
+        ensures legal { IsLegal L.settings (front_of result.0.pass) }
+    {
+        let wheel = seat.part.wheel;
+        for _ in rt.forever() {
+            let mut locked = self.wheels[wheel as usize].lock(rt);
+            if locked.number() == wheel {
+                return locked.advance(&self.desk, seat);
+            }
+        }
+        unreachable!()
+    }
+
+    /// Hands over the scheduler's first expired timer.
+    pub(crate) fn hand_over<R: Wait>(
+        &self,
+        rt: &R,
+        seat: SchedSeat<L>,
+        fired: &Fired,
+    ) -> (SchedSeat<L>, Result<Handed, NoMemory>)
+        requires first { first_of seat.part.fired.rows ≡ Some fired.now }
+        ensures number { result.0.part.wheel ≡ seat.part.wheel }
+        ensures fired { OnOk result.1 (result.0.part.fired.rows ≡ others_of seat.part.fired.rows) }
+        ensures call { FrontGrows (Hands L.settings (beside L.settings (Sched seat.part.wheel)) seat.part.wheel result.1) seat.pass result.0.pass }
+    {
+        let process = destination_of(&seat, fired);
+        for _ in rt.forever() {
+            let mut locked = self.mails[process as usize].lock(rt);
+            if locked.number() == process {
+                return locked.hand_over(&self.desk, seat, fired);
+            }
+        }
+        unreachable!()
+    }
+}
+
+/// The process that is to get the answer to the request in a scheduler's hand.
+fn asker_of<L: DeskName>(seat: &SchedSeat<L>, request: &Request) -> u32
+    requires { seat.now.part.hand ≡ Some request.now }
+    ensures value { result ≡ request.now.reply_to }
+    ensures in_range { result < L.settings.processes }
+{
+    let _seat = seat;
+    request.reply_to
+}
+
+/// The process that is to get the message of a scheduler's first expired timer.
+fn destination_of<L: DeskName>(seat: &SchedSeat<L>, fired: &Fired) -> u32
+    requires { first_of seat.now.part.fired.rows ≡ Some fired.now }
+    ensures value { result ≡ fired.now.dest }
+    ensures in_range { result < L.settings.processes }
+{
+    let _seat = seat;
+    fired.dest
+}

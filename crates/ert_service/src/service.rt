@@ -1,0 +1,169 @@
+ghost use Rattle.std.specs.Prelude.{◌≡◌, vec_len};
+ghost use Rattle.ert_locks.specs.Names.{IsDesk};
+
+use crate::closing::{gather_inboxes, gather_mails, gather_wheels};
+use crate::joining::{join_callers, join_scheds};
+use crate::opening::{lock_inboxes, lock_mails, lock_wheels, seat_callers, seat_scheds};
+use crate::rooms::Rooms;
+use crossbeam_utils::CachePadded;
+use ert_defs::{Actor, NoMemory, TimerRef};
+use ert_locks::{
+    CallerSeat, DeskName, LockedInbox, LockedKeeper, LockedMail, LockedWheel, SchedSeat,
+};
+use ert_world::{Parts, World};
+use ert_table::{Desk, Pass};
+use std::alloc::Global;
+use std::sync::Mutex;
+
+/// A lock on cache lines of its own, so that threads at different parts don't write lines of each other's.
+pub(crate) type PaddedLock<T> = CachePadded<Mutex<T>>;
+
+/// The clock and timer service for many threads, on the desk that `L` names.
+///
+///     let (seat, started) = service.start(rt, seat, 0, start);    // takes the lock of wheel 0
+///     let Ok(timer) = started else {
+///         return (seat, None);
+///     };
+///     let CallerSeat { number, mut pass, .. } = seat;
+///     let left = cancel_timer(service.desk(), &mut pass, Actor::Caller(number), timer);   // takes none
+///     (CallerSeat::new(number, pass), left)
+#[derive(Drop)]
+pub struct Service<L: DeskName> {
+    pub(crate) desk: Desk,
+    pub(crate) keeper: PaddedLock<LockedKeeper<L>>,
+    pub(crate) wheels: Vec<PaddedLock<LockedWheel<L>>>,
+    pub(crate) inboxes: Vec<PaddedLock<LockedInbox<L>>>,
+    pub(crate) mails: Vec<PaddedLock<LockedMail<L>>>,
+    pub(crate) labels: Vec<(u32, TimerRef)>,
+    rooms: Rooms<L>,
+    ghost named: { IsDesk L.table L.settings desk },
+    ghost wheels_counted: { vec_len wheels ≡ L.settings.schedulers },
+    ghost inboxes_counted: { vec_len inboxes ≡ L.settings.schedulers },
+    ghost mails_counted: { vec_len mails ≡ L.settings.processes },
+}
+
+/// A service that was opened: what threads share, the seats of its threads, in order of number, and the pass
+/// of which all were divided.
+#[derive(Drop)]
+pub struct Opened<L: DeskName> {
+    pub service: Service<L>,
+    pub rest: Pass,
+    pub scheds: Vec<SchedSeat<L>>,
+    pub callers: Vec<CallerSeat<L>>,
+}
+
+impl<L: DeskName> Service<L> {
+    ghost use Rattle.std.specs.Prelude.{◌≡◌, IfOk, All};
+    ghost use Rattle.ert_defs.specs.declared.entry.Actor.TheVariants.{Caller, Sched};
+    ghost use Rattle.ert_world.specs.Lived.{IsLived};
+    ghost use Rattle.ert_world.specs.Parts.{parts_of};
+    ghost use Rattle.ert_world.specs.Worlds.{AreFit};
+    ghost use Rattle.ert_service.specs.Dividing.{AreSeated, IsPassOf};
+    ghost use Rattle.ert_service.specs.Joining.{AreNumbered, HasOwn};
+    ghost use Rattle.ert_table.specs.Desks.{front_of};
+    ghost use Rattle.ert_table.specs.Views.{Begins};
+
+    /// Opens a service on the desk of a world that was taken apart, which `L` names. Each part gets its lock
+    /// and each thread its seat; no entry is made.
+    ///
+    /// After want of memory the parts are given up.
+    pub fn open(alloc: Global, parts: Parts) -> Result<Opened<L>, NoMemory>
+        requires desk { IsDesk L.table L.settings parts.desk }
+        requires fit { AreFit parts.desk parts.pass (parts_of parts.keeper parts.wheels.items parts.inboxes.items parts.mails.items parts.scheds.items) }
+        ensures rest { IfOk result (λ o. IsPassOf L.table L.settings o.rest) }
+        ensures front { IfOk result (λ o. front_of o.rest ≡ front_of parts.pass) }
+        ensures labels { IfOk result (λ o. o.service.labels.items ≡ parts.labels.items) }
+        ensures scheds { IfOk result (λ o. AreSeated (λ s. s.part.wheel) (λ s. front_of s.pass) L.settings.schedulers (front_of parts.pass) o.scheds.items) }
+        ensures callers { IfOk result (λ o. AreSeated (λ s. s.number) (λ s. front_of s.pass) L.settings.callers (front_of parts.pass) o.callers.items) }
+    {
+        let Parts {
+            desk,
+            mut pass,
+            keeper,
+            wheels,
+            inboxes,
+            mails,
+            scheds,
+            labels,
+            ..
+        } = parts;
+        let rooms = Rooms::new(alloc, &desk)?;
+        let own = pass.split(&desk, Actor::Keeper);
+        let keeper = LockedKeeper::new(keeper, own);
+        let wheels = lock_wheels(alloc, &desk, &mut pass, wheels)?;
+        let inboxes = lock_inboxes(alloc, &desk, &mut pass, inboxes)?;
+        let mails = lock_mails(alloc, &desk, &mut pass, mails)?;
+        let scheds = seat_scheds(alloc, &desk, &mut pass, scheds)?;
+        let callers = seat_callers(alloc, &desk, &mut pass)?;
+        let service = Service {
+            desk,
+            keeper: CachePadded::new(Mutex::new(keeper)),
+            wheels,
+            inboxes,
+            mails,
+            labels,
+            rooms,
+        };
+        Ok(Opened {
+            service,
+            rest: pass,
+            scheds,
+            callers,
+        })
+    }
+
+    /// Closes the service: the passes are joined, the parts are taken from their locks, and a world is put
+    /// together of them, with the labels. No entry is made, and no memory is taken.
+    ///
+    /// It takes the pass that `open` gave and all seats, in order of number. The world's history begins with
+    /// what each of them knew, and has no other entries of a seat's actor. It is legal, each of its timers has
+    /// one of six lives, and its mail is in order.
+    pub fn close(self, rest: Pass, scheds: Vec<SchedSeat<L>>, callers: Vec<CallerSeat<L>>) -> World
+        requires rest { IsPassOf L.table L.settings rest }
+        requires scheds { AreNumbered (λ s. s.part.wheel) L.settings.schedulers scheds.items }
+        requires callers { AreNumbered (λ s. s.number) L.settings.callers callers.items }
+        ensures settings { result.settings ≡ L.settings }
+        ensures labels { result.labels ≡ self.labels.items }
+        ensures lived { IsLived result.settings result.history }
+        ensures rest { Begins (front_of rest) result.history }
+        ensures scheds { All (λ s. HasOwn (Sched s.part.wheel) (front_of s.pass) result.history) scheds.items }
+        ensures callers { All (λ s. HasOwn (Caller s.number) (front_of s.pass) result.history) callers.items }
+    {
+        let Service {
+            desk,
+            keeper,
+            wheels,
+            inboxes,
+            mails,
+            labels,
+            rooms,
+            ..
+        } = self;
+        let mut pass = rest;
+        let (keeper, own) = keeper.into_inner().into_inner().into_parts();
+        pass.join(&desk, own);
+        let wheels = gather_wheels(&desk, &mut pass, wheels, rooms.wheel_places, rooms.wheels);
+        let inboxes = gather_inboxes(&desk, &mut pass, inboxes, rooms.inbox_places, rooms.inboxes);
+        let mails = gather_mails(&desk, &mut pass, mails, rooms.mail_places, rooms.mails);
+        let scheds = join_scheds(&desk, &mut pass, scheds, rooms.scheds);
+        join_callers(&desk, &mut pass, callers);
+        World::from_parts(Parts {
+            settings: *desk.settings(),
+            desk,
+            pass,
+            keeper,
+            wheels,
+            inboxes,
+            mails,
+            scheds,
+            labels,
+        })
+    }
+
+    /// The desk, for the calls that take no lock (`ert_calls`).
+    pub fn desk(&self) -> &Desk
+        ensures { IsDesk L.table L.settings result.now }
+    {
+        &self.desk
+    }
+}

@@ -1,0 +1,46 @@
+-- A world that has just been opened: each part stands for the empty history.
+
+use Rattle.std.proofs.Common.{◌≡◌, ◌≢◌, ℕ, ◌+◌, ◌<◌, Bool, true, false, List, [], ◌∷◌, ◌++◌, slice_index_or, refl, sym, ap, subst, ◌∙◌, arith, length-append, eqb-true, eq-eqb}
+use Rattle.std.specs.Prelude.{nat_eq}
+use Rattle.std.proofs.lemmas.List.{get_or_push, get_or_append_left}
+use Rattle.ert_clock.specs.Shown.{Shown, Stands as ClockStands}
+use Rattle.ert_defs.specs.Settings.{IsChecked}
+use Rattle.ert_defs.specs.declared.settings.Settings.{Settings}
+use Rattle.ert_defs.specs.declared.timer.TimerRef.{TimerRef}
+use Rattle.ert_table.specs.Desks.{settings_of, front_of}
+use Rattle.ert_table.specs.declared.desk.Desk.{Desk}
+use Rattle.ert_table.specs.declared.desk.Pass.{Pass}
+use Rattle.ert_timers.specs.Parts.{Part}
+use Rattle.ert_world.specs.Openings.{AreNew, IsNewWheel, IsOpened}
+use Rattle.ert_world.specs.Worlds.{seen}
+
+-- one more part
+pub new_more : {X : Type 0} (is_new : ℕ → X → Type 0) (n : ℕ) (xs : List X) (x : X) → AreNew is_new n xs → is_new n x → AreNew is_new (n + 1) (xs ++ x ∷ [])
+new_more is_new n xs x are one = record {
+  counted = length-append xs (x ∷ []) ∙ ap (λ k. k + 1) are.counted;
+  each = λ i d low. by_place i d low (nat_eq i n) refl;
+}
+  where
+    below : {i n : ℕ} → i < n + 1 → i ≢ n → i < n
+    below {i} {n} low other = omega (arith, low, other)
+
+    by_place : (i : ℕ) (d : _) → i < n + 1 → (b : Bool) → nat_eq i n ≡ b → is_new i (slice_index_or (xs ++ x ∷ []) i d)
+    by_place i d low true is =
+        let at : i ≡ n = eqb-true i n is in
+        subst (is_new i) (sym (get_or_push xs x d i (are.counted ∙ sym at))) (subst (λ k. is_new k x) (sym at) one)
+    by_place i d low false is =
+        let other : i ≢ n = λ (at : i ≡ n). let clash : true ≡ false = sym (eq-eqb i n at) ∙ is in cc in
+        let within : i < n = below low other in
+        subst (is_new i) (sym (get_or_append_left xs (x ∷ []) d i (rw are.counted within))) (are.each i d within)
+
+pub opened : (g : Settings) (d : Desk) (p : Pass) (keeper : Shown) (labels : List (ℕ × TimerRef)) (wheels : List Part) → IsChecked g → settings_of d ≡ g
+    → front_of p ≡ [] → ClockStands g [] keeper → labels ≡ [] → AreNew (IsNewWheel g) g.schedulers wheels → IsOpened g (seen d p keeper labels wheels)
+opened g d p keeper labels wheels checked settings front stands none new =
+    subst (λ ls. IsOpened g (seen d p keeper ls wheels)) (sym none)
+    (subst (λ k. IsOpened g (record { settings = k; history = front_of p; clock = keeper; labels = []; wheels = wheels })) (sym settings)
+    (subst (λ h. IsOpened g (record { settings = g; history = h; clock = keeper; labels = []; wheels = wheels })) (sym front)
+    (record {
+      stands = record { settings = refl; history = refl; checked = checked; clock = stands };
+      labels = refl;
+      tidy = λ i low d. (new.each i d low).tidy;
+    })))

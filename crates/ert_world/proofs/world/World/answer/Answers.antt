@@ -1,0 +1,56 @@
+use Rattle.std.proofs.Common.{◌≡◌, ◌<◌, None, Err, rules, refl, sym, subst, ◌∙◌}
+use Rattle.ert_answers.specs.RequestCalls.{Answers}
+use Rattle.ert_mail.specs.Mailboxes.{Stands}
+use Rattle.ert_table.specs.Desks.{settings_of, front_of}
+use Rattle.ert_world.specs.Worlds.{Seen, By}
+use Rattle.ert_world.proofs.Calls.{parts_in, mail_named}
+use Rattle.ert_world.proofs.SchedCalls.{asker_low, sched_holds, answered_now, step_refused, but_none}
+use Rattle.ert_world.proofs.world.World.answer.Goals as goal
+
+pub index_mut-requires : goal.index_mut-requires
+index_mut-requires c =
+    let low = asker_low c.args.self.now c.self.inside c.args.sched c.args.request.now c.self.view_is c.self.invariant c.requires.hand in
+    rw (c.self.inside.mails.ok.0 ∙ c.self.invariant.stand.mails.counted) low
+
+pub answer-requires-clause-holds : goal.answer-requires-clause-holds
+answer-requires-clause-holds c =
+    let low = asker_low c.args.self.now c.self.inside c.args.sched c.args.request.now c.self.view_is c.self.invariant c.requires.hand in
+    sched_holds c.self.inside c.args.sched c.args.request.now.reply_to c.index_mut.result.now.process c.self.invariant
+    (subst (λ (w : Seen). c.args.sched < w.settings.schedulers) (sym c.self.view_is) c.requires.sched) low
+    (mail_named (settings_of c.self.inside.desk) (front_of c.self.inside.pass) _ (parts_in c.self.inside) c.args.request.now.reply_to c.index_mut.result.now
+    c.self.invariant.stand low c.index_mut.ensures.value)
+
+pub answer-requires-clause-asker : goal.answer-requires-clause-asker
+answer-requires-clause-asker c =
+    let low = asker_low c.args.self.now c.self.inside c.args.sched c.args.request.now c.self.view_is c.self.invariant c.requires.hand in
+    sym (mail_named (settings_of c.self.inside.desk) (front_of c.self.inside.pass) _ (parts_in c.self.inside) c.args.request.now.reply_to c.index_mut.result.now
+    c.self.invariant.stand low c.index_mut.ensures.value)
+
+pub answer-requires-clause-stands : goal.answer-requires-clause-stands
+answer-requires-clause-stands c =
+    let low = asker_low c.args.self.now c.self.inside c.args.sched c.args.request.now c.self.view_is c.self.invariant c.requires.hand in
+    subst (Stands (settings_of c.self.inside.desk) (front_of c.self.inside.pass)) (sym c.index_mut.ensures.value)
+    (c.self.invariant.stand.mails.stand c.args.request.now.reply_to c.index_mut.result.now low refl)
+
+pub returns-in_err-left-clause-call : goal.returns-in_err-left-clause-call
+returns-in_err-left-clause-call c =
+    let result : c.from_residual.result ≡ Err c.in_err-left.field-0.0 = search rules in
+    rw result (but_none c.args.request.now.timer c.args.self.now _ _
+    (step_refused c.args.self.now c.self.inside c.answer.new.pass c.args.request.now.reply_to c.index_mut.result.now c.answer.new.self
+    (λ w. By w (λ g. Answers g c.args.sched c.args.request.now (Err c.in_err-left.field-0.0))) c.self.view_is c.self.invariant c.answer.ensures.belongs
+    (asker_low c.args.self.now c.self.inside c.args.sched c.args.request.now c.self.view_is c.self.invariant c.requires.hand) c.index_mut.ensures.value
+    c.answer.ensures.process c.answer.ensures.stands c.in_err-left.ensures.call.same refl).goes)
+
+pub invariant_of-self-2 : goal.invariant_of-self-2
+invariant_of-self-2 c =
+    (answered_now c.args.self.now c.self.inside c.answer.new.pass c.args.sched c.index_mut.result.now c.answer.new.self c.args.request.now c.in_ok-left.left
+    c.index_mut-2.result.now (record { wheel = c.index_mut-2.result.now.wheel; hand = None; fired = c.index_mut-2.result.now.fired })
+    c.self.view_is c.self.invariant c.answer.ensures.belongs c.requires.sched c.requires.hand c.index_mut.ensures.value c.answer.ensures.process
+    c.answer.ensures.stands c.in_ok-left.ensures.call c.in_ok-left.ensures.sched c.index_mut-2.ensures.value refl refl refl).fit
+
+pub returns-clause-call : goal.returns-clause-call
+returns-clause-call c =
+    (answered_now c.args.self.now c.self.inside c.answer.new.pass c.args.sched c.index_mut.result.now c.answer.new.self c.args.request.now c.in_ok-left.left
+    c.index_mut-2.result.now (record { wheel = c.index_mut-2.result.now.wheel; hand = None; fired = c.index_mut-2.result.now.fired })
+    c.self.view_is c.self.invariant c.answer.ensures.belongs c.requires.sched c.requires.hand c.index_mut.ensures.value c.answer.ensures.process
+    c.answer.ensures.stands c.in_ok-left.ensures.call c.in_ok-left.ensures.sched c.index_mut-2.ensures.value refl refl refl).goes

@@ -1,0 +1,50 @@
+//! The last turn of a scheduler of a service, which looks at every row that its wheel holds.
+use crate::world::World;
+use ert_answers::Turned;
+use ert_defs::NoMemory;
+
+impl World {
+    ghost use Rattle.std.specs.Prelude.{◌≡◌, ◌<◌, OnOk};
+    ghost use Rattle.ert_answers.specs.Chains.{AdvancesAllOfWheel, LastTurns};
+    ghost use Rattle.ert_answers.specs.Ways.{alone};
+    ghost use Rattle.ert_world.specs.Worlds.{Goes, IsTidyAt};
+
+    /// A turn that looks at every row that its wheel holds, so that the wheel is tidy then: the last turn of a
+    /// service, whose callers may have cancelled timers without telling the wheel.
+    ///
+    /// After want of memory what was done stays done.
+    pub fn last_turn(&mut self, sched: u32) -> Result<Turned, NoMemory>
+        requires { sched < self.old.settings.schedulers }
+        ensures call { Goes self.old (LastTurns self.old.settings (alone self.old.settings) sched result) self.new }
+        ensures tidy { OnOk result (IsTidyAt self.new sched) }
+        ensures clock { self.new.clock ≡ self.old.clock }
+    {
+        let served = self.serve_all(sched)?;
+        let (to, fired) = self.advance_all(sched)?;
+        let (put, dropped) = self.deliver(sched)?;
+        Ok(Turned {
+            served,
+            to,
+            fired,
+            put,
+            dropped,
+        })
+    }
+
+    /// As `advance`, and looks at every row that its wheel holds, so that the wheel is tidy then.
+    fn advance_all(&mut self, sched: u32) -> Result<(u64, u32), NoMemory>
+        requires { sched < self.old.settings.schedulers }
+        ensures call { Goes self.old (AdvancesAllOfWheel self.old.settings (alone self.old.settings) sched result) self.new }
+        ensures tidy { OnOk result (IsTidyAt self.new sched) }
+        ensures clock { self.new.clock ≡ self.old.clock }
+    {
+        let part = &mut self.scheds[sched as usize];
+        let before = part.fired.len();
+        let to = self.wheels[sched as usize].advance_all(
+            &self.desk,
+            &mut self.pass,
+            &mut part.fired,
+        )?;
+        Ok((to, (part.fired.len() - before) as u32))
+    }
+}

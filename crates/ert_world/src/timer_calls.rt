@@ -1,0 +1,144 @@
+//! The calls of callers on timers and on the exits of processes.
+use crate::world::{CALLER, World};
+use ert_answers::Room;
+use ert_calls::{cancel_timer, is_alive, mark_exit, read_timer};
+use ert_defs::{Actor, Start, TimerRef};
+use ert_timers::StartErr;
+
+impl World {
+    ghost use Rattle.std.specs.Prelude.{◌≡◌, ◌≢◌, ◌<◌, true, Err};
+    ghost use Rattle.ert_answers.specs.Chains.{Exits, SweepsWheel, SweepsWheels};
+    ghost use Rattle.ert_answers.specs.RoomCalls.{TellsRoom};
+    ghost use Rattle.ert_answers.specs.TimerCalls.{Reads, Cancels, Starts};
+    ghost use Rattle.ert_answers.specs.WheelCalls.{TellsAlive, MarksExit};
+    ghost use Rattle.ert_answers.specs.Ways.{alone};
+    ghost use Rattle.ert_answers.specs.declared.answers.StartErr.TheVariants.{NoMemory};
+    ghost use Rattle.ert_defs.specs.declared.entry.Actor.TheVariants.{Caller};
+    ghost use Rattle.ert_world.specs.Worlds.{Goes, GoesBut, Forgets, By, HasExited, IsSettledIn};
+
+    /// Starts a timer on a wheel (`erlang` module reference, `start_timer` and `send_after`).
+    ///
+    /// BadArg comes where the start has no deadline at the time of the call, and Full where each slot of the
+    /// wheel is taken or rests, or the wheel has had 2^53 timers. A timer for a process that has exited is started
+    /// and cancelled at once. No memory is taken.
+    #[inline]
+    pub fn start(&mut self, wheel: u32, start: &Start) -> Result<TimerRef, StartErr>
+        requires wheel { wheel < self.old.settings.schedulers }
+        requires dest { start.now.dest < self.old.settings.processes }
+        ensures call { Goes self.old (By self.old (λ g. Starts g 0 wheel start.now result)) self.new }
+        ensures memory { result ≢ Err NoMemory }
+        ensures clock { self.new.clock ≡ self.old.clock }
+    {
+        self.wheels[wheel as usize].start(&self.desk, &mut self.pass, CALLER, start)
+    }
+
+    /// Cancels a timer, and answers how many milliseconds were left (`cancel_timer`); None where the
+    /// reference names no timer that is armed.
+    #[inline]
+    pub fn cancel_timer(&mut self, timer: TimerRef) -> Option<u64>
+        ensures call { Goes self.old (By self.old (λ g. Cancels g (Caller 0) timer result)) self.new }
+        ensures clock { self.new.clock ≡ self.old.clock }
+    {
+        let left = self.cancel(timer)?;
+        self.forget(timer);
+        Some(left)
+    }
+
+    /// Cancels a timer, whose row then still stands in its wheel.
+    fn cancel(&mut self, timer: TimerRef) -> Option<u64>
+        ensures call { GoesBut timer result self.old (By self.old (λ g. Cancels g (Caller 0) timer result)) self.new }
+        ensures clock { self.new.clock ≡ self.old.clock }
+    {
+        cancel_timer(&self.desk, &mut self.pass, Actor::Caller(CALLER), timer)
+    }
+
+    /// Drops the row of a timer that was cancelled, so that its wheel is tidy.
+    pub(crate) fn forget(&mut self, timer: TimerRef)
+        requires wheel { timer.wheel < self.old.settings.schedulers }
+        requires cancelled { IsSettledIn self.old timer }
+        ensures { Forgets timer self.old self.new }
+    {
+        self.wheels[timer.wheel as usize].forget(&self.pass, timer);
+    }
+
+    /// How many milliseconds are left of a timer (`read_timer`); None where the reference names no timer
+    /// that is armed.
+    #[inline]
+    pub fn read_timer(&mut self, timer: TimerRef) -> Option<u64>
+        ensures call { Goes self.old (By self.old (λ g. Reads g (Caller 0) timer result)) self.new }
+        ensures clock { self.new.clock ≡ self.old.clock }
+    {
+        read_timer(&self.desk, &mut self.pass, Actor::Caller(CALLER), timer)
+    }
+
+    /// How many slots of a wheel can take a timer now, and from when on one more can, of those that rest: a slot
+    /// rests once it was used 262,143 times in its round, until the deadlines of all its timers have passed.
+    ///
+    /// By it an embedder sees a full wheel coming, and knows how long to wait then. The caller looks at the time
+    /// and at each slot, so it isn't meant for each start. No memory is taken.
+    pub fn room(&mut self, wheel: u32) -> Room
+        requires { wheel < self.old.settings.schedulers }
+        ensures call { Goes self.old (By self.old (λ g. TellsRoom g 0 wheel result)) self.new }
+        ensures clock { self.new.clock ≡ self.old.clock }
+    {
+        self.wheels[wheel as usize].room(&self.desk, &mut self.pass, CALLER)
+    }
+
+    /// Whether a process hasn't exited (`is_process_alive`).
+    pub fn is_alive(&mut self, process: u32) -> bool
+        requires { process < self.old.settings.processes }
+        ensures call { Goes self.old (By self.old (λ g. TellsAlive g (Caller 0) process result)) self.new }
+        ensures clock { self.new.clock ≡ self.old.clock }
+    {
+        is_alive(&self.desk, &mut self.pass, Actor::Caller(CALLER), process)
+    }
+
+    /// Lets a process exit, and tells whether it hadn't before. Its timers stay armed: it is the first step
+    /// of `exit`.
+    pub fn mark_exit(&mut self, process: u32) -> bool
+        requires { process < self.old.settings.processes }
+        ensures call { Goes self.old (By self.old (λ g. MarksExit g (Caller 0) process result)) self.new }
+        ensures exited { HasExited self.new process }
+        ensures clock { self.new.clock ≡ self.old.clock }
+    {
+        mark_exit(&self.desk, &mut self.pass, Actor::Caller(CALLER), process)
+    }
+
+    /// Lets a process exit, cancels its timers in all wheels, and answers true; false, and no more, where it
+    /// had exited before (`exit`).
+    pub fn exit(&mut self, process: u32) -> bool
+        requires { process < self.old.settings.processes }
+        ensures call { Goes self.old (Exits self.old.settings (alone self.old.settings) 0 process result) self.new }
+        ensures clock { self.new.clock ≡ self.old.clock }
+    {
+        if !self.mark_exit(process) {
+            return false;
+        }
+        self.sweep_all(process);
+        true
+    }
+
+    /// Cancels all timers of a process that has exited.
+    fn sweep_all(&mut self, process: u32)
+        requires in_range { process < self.old.settings.processes }
+        requires exited { HasExited self.old process }
+        ensures call { Goes self.old (SweepsWheels self.old.settings (alone self.old.settings) 0 process 0 self.old.settings.schedulers) self.new }
+        ensures clock { self.new.clock ≡ self.old.clock }
+    {
+        for wheel in 0..self.desk.settings().schedulers {
+            self.sweep(wheel, process);
+        }
+    }
+
+    /// Cancels the timers of a process that has exited, in one wheel.
+    fn sweep(&mut self, wheel: u32, process: u32)
+        requires wheel { wheel < self.old.settings.schedulers }
+        requires in_range { process < self.old.settings.processes }
+        requires exited { HasExited self.old process }
+        ensures call { Goes self.old (SweepsWheel self.old.settings (alone self.old.settings) 0 process wheel) self.new }
+        ensures exited { HasExited self.new process }
+        ensures clock { self.new.clock ≡ self.old.clock }
+    {
+        self.wheels[wheel as usize].sweep(&self.desk, &mut self.pass, CALLER, process);
+    }
+}

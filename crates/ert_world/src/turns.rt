@@ -1,0 +1,221 @@
+//! The calls of schedulers: to serve requests, to advance the wheel, to deliver messages, and all three.
+ghost use Rattle.std.specs.Prelude.{◌≡◌};
+ghost use Rattle.ert_world.specs.Worlds.{left_by};
+
+use crate::world::World;
+use ert_answers::Turned;
+use ert_defs::{Fired, NoMemory, Request, RequestKind};
+use ert_mail::Handed;
+
+/// How many requests a turn serves at most.
+const SERVED_A_TURN: u32 = 64;
+
+impl World {
+    ghost use Rattle.std.specs.Prelude.{◌≡◌, ◌<◌, ◌≤◌, Some, None, length, OnOk};
+    ghost use Rattle.ert_answers.specs.Chains.{Holds, Serves, ServesAll, AdvancesWheel, Hands, Delivers, Turns};
+    ghost use Rattle.ert_answers.specs.RequestCalls.{Picks, Answers};
+    ghost use Rattle.ert_answers.specs.Ways.{alone};
+    ghost use Rattle.ert_defs.specs.Mails.{first_of, others_of};
+    ghost use Rattle.ert_defs.specs.States.{state};
+    ghost use Rattle.ert_world.specs.Worlds.{Goes, GoesBut, By, IsNextHeldAt, IsNearestAt, sched_of, cancelled_by};
+    ghost use Rattle.ert_timers.specs.NextDue.{NoneArmedBefore};
+
+    /// Serves one request: that in the scheduler's hand, or the first of its inbox. False comes where there is
+    /// none.
+    ///
+    /// After want of memory the request stays in the hand.
+    pub fn serve(&mut self, sched: u32) -> Result<bool, NoMemory>
+        requires { sched < self.old.settings.schedulers }
+        ensures call { Goes self.old (Serves self.old.settings (alone self.old.settings) sched result) self.new }
+        ensures clock { self.new.clock ≡ self.old.clock }
+    {
+        let Some(request) = self.hold(sched) else {
+            return Ok(false);
+        };
+        self.reply(sched, &request)?;
+        Ok(true)
+    }
+
+    /// The request in a scheduler's hand. Where the hand is empty, the first of the inbox is taken into it.
+    fn hold(&mut self, sched: u32) -> Option<Request>
+        requires { sched < self.old.settings.schedulers }
+        ensures call { Goes self.old (Holds self.old.settings (alone self.old.settings) sched result) self.new }
+        ensures hand { (sched_of self.new sched).hand ≡ result }
+        ensures clock { self.new.clock ≡ self.old.clock }
+    {
+        match self.hand(sched) {
+            Some(request) => Some(request),
+            None => self.pick(sched),
+        }
+    }
+
+    /// The request in a scheduler's hand.
+    fn hand(&self, sched: u32) -> Option<Request>
+        requires { sched < self.now.settings.schedulers }
+        ensures { result ≡ (sched_of self.now sched).hand }
+    {
+        self.scheds[sched as usize].hand
+    }
+
+    /// Takes the first request of the inbox into the empty hand.
+    fn pick(&mut self, sched: u32) -> Option<Request>
+        requires sched { sched < self.old.settings.schedulers }
+        requires empty { (sched_of self.old sched).hand ≡ None }
+        ensures call { Goes self.old (By self.old (λ g. Picks g sched result)) self.new }
+        ensures hand { (sched_of self.new sched).hand ≡ result }
+        ensures clock { self.new.clock ≡ self.old.clock }
+    {
+        let got = self.inboxes[sched as usize].pick(&self.desk, &mut self.pass);
+        self.scheds[sched as usize].hand = got;
+        got
+    }
+
+    /// Answers the request in the hand. Where a timer was cancelled by it, its row goes.
+    fn reply(&mut self, sched: u32, request: &Request) -> Result<Option<u64>, NoMemory>
+        requires sched { sched < self.old.settings.schedulers }
+        requires hand { (sched_of self.old sched).hand ≡ Some request.now }
+        ensures call { Goes self.old (By self.old (λ g. Answers g sched request.now result)) self.new }
+        ensures clock { self.new.clock ≡ self.old.clock }
+    {
+        let left = self.answer(sched, request)?;
+        if cancelled_left(request.kind, left).is_none() {
+            return Ok(left);
+        }
+        self.forget(request.timer);
+        Ok(left)
+    }
+
+    /// Answers the request in the hand, and empties that.
+    fn answer(&mut self, sched: u32, request: &Request) -> Result<Option<u64>, NoMemory>
+        requires sched { sched < self.old.settings.schedulers }
+        requires hand { (sched_of self.old sched).hand ≡ Some request.now }
+        ensures call { GoesBut request.now.timer (cancelled_by request.now result) self.old (By self.old (λ g. Answers g sched request.now result)) self.new }
+        ensures clock { self.new.clock ≡ self.old.clock }
+    {
+        let left = self.mails[request.reply_to as usize].answer(
+            &self.desk,
+            &mut self.pass,
+            sched,
+            request,
+        )?;
+        self.scheds[sched as usize].hand = None;
+        Ok(left)
+    }
+
+    /// Serves requests until there is none, 64 at most, and answers how many were served.
+    pub(crate) fn serve_all(&mut self, sched: u32) -> Result<u32, NoMemory>
+        requires { sched < self.old.settings.schedulers }
+        ensures call { Goes self.old (ServesAll self.old.settings (alone self.old.settings) sched result) self.new }
+        ensures clock { self.new.clock ≡ self.old.clock }
+    {
+        for served in 0..SERVED_A_TURN {
+            if !self.serve(sched)? {
+                return Ok(served);
+            }
+        }
+        Ok(SERVED_A_TURN)
+    }
+
+    /// Lets every timer of the scheduler's wheel expire that is due, and answers the time, in whole
+    /// milliseconds since the start time, and how many expired.
+    ///
+    /// After want of memory none has expired.
+    pub fn advance(&mut self, sched: u32) -> Result<(u64, u32), NoMemory>
+        requires { sched < self.old.settings.schedulers }
+        ensures call { Goes self.old (AdvancesWheel self.old.settings (alone self.old.settings) sched result) self.new }
+        ensures clock { self.new.clock ≡ self.old.clock }
+    {
+        let part = &mut self.scheds[sched as usize];
+        let before = part.fired.len();
+        let to = self.wheels[sched as usize].advance(&self.desk, &mut self.pass, &mut part.fired)?;
+        Ok((to, (part.fired.len() - before) as u32))
+    }
+
+    /// How early a timer of the scheduler's wheel may be due, in whole milliseconds since the start time, as
+    /// `advance` answers; None where no timer is held. No entry is made.
+    ///
+    /// It tells an event loop how long it may sleep (as `uv_backend_timeout` of libuv): no armed timer is due
+    /// before it. It is the deadline of a timer, or the end of a look ahead from the published time, of
+    /// `ert_wheel::LOOK_AHEAD` milliseconds, where all are due later.
+    pub fn next_due(&self, sched: u32) -> Option<u64>
+        requires { sched < self.now.settings.schedulers }
+        ensures held { IsNextHeldAt self.now sched result }
+        ensures armed { NoneArmedBefore (state self.now.settings self.now.history) sched result }
+        ensures nearest { IsNearestAt self.now sched result }
+    {
+        self.wheels[sched as usize].next_due(self.desk.settings(), self.keeper.clock().now())
+    }
+
+    /// Hands over the scheduler's expired timers until there is none, and answers how many messages were put
+    /// into mailboxes and how many were thrown away, since their process has exited.
+    ///
+    /// After want of memory those that weren't handed over stay in the list.
+    pub fn deliver(&mut self, sched: u32) -> Result<(u32, u32), NoMemory>
+        requires { sched < self.old.settings.schedulers }
+        ensures call { Goes self.old (Delivers self.old.settings (alone self.old.settings) sched result) self.new }
+        ensures clock { self.new.clock ≡ self.old.clock }
+    {
+        let mut put = 0;
+        let mut dropped = 0;
+        while let Some(fired) = self.first_fired(sched) {
+            match self.hand_over(sched, &fired)? {
+                Handed::Put => put += 1,
+                Handed::Dropped => dropped += 1,
+            }
+        }
+        Ok((put, dropped))
+    }
+
+    /// The scheduler's first expired timer.
+    fn first_fired(&self, sched: u32) -> Option<Fired>
+        requires { sched < self.now.settings.schedulers }
+        ensures first { result ≡ first_of (sched_of self.now sched).fired }
+        ensures few { length (sched_of self.now sched).fired ≤ 65536 }
+    {
+        self.scheds[sched as usize].fired.first()
+    }
+
+    /// Hands over the scheduler's first expired timer.
+    fn hand_over(&mut self, sched: u32, fired: &Fired) -> Result<Handed, NoMemory>
+        requires sched { sched < self.old.settings.schedulers }
+        requires first { first_of (sched_of self.old sched).fired ≡ Some fired.now }
+        ensures call { Goes self.old (Hands self.old.settings (alone self.old.settings) sched result) self.new }
+        ensures fired { OnOk result ((sched_of self.new sched).fired ≡ others_of (sched_of self.old sched).fired) }
+        ensures clock { self.new.clock ≡ self.old.clock }
+    {
+        let handed = self.mails[fired.dest as usize].deliver(&self.desk, &mut self.pass, fired)?;
+        self.scheds[sched as usize].fired.pop();
+        Ok(handed)
+    }
+
+    /// A turn of a scheduler: it serves requests until there is none, 64 at most, lets due timers expire, and
+    /// hands over all expired timers.
+    ///
+    /// After want of memory what was done stays done.
+    pub fn turn(&mut self, sched: u32) -> Result<Turned, NoMemory>
+        requires { sched < self.old.settings.schedulers }
+        ensures call { Goes self.old (Turns self.old.settings (alone self.old.settings) sched result) self.new }
+        ensures clock { self.new.clock ≡ self.old.clock }
+    {
+        let served = self.serve_all(sched)?;
+        let (to, fired) = self.advance(sched)?;
+        let (put, dropped) = self.deliver(sched)?;
+        Ok(Turned {
+            served,
+            to,
+            fired,
+            put,
+            dropped,
+        })
+    }
+}
+
+/// What was left of a timer that was cancelled for a request; None where it wasn't, or was only read.
+fn cancelled_left(kind: RequestKind, left: Option<u64>) -> Option<u64>
+    ensures { result ≡ left_by kind left }
+{
+    match kind {
+        RequestKind::Cancel => left,
+        RequestKind::Read => None,
+    }
+}
