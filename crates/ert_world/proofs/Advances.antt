@@ -5,7 +5,7 @@ use Rattle.std.specs.Prelude.{slice_set}
 use Rattle.ert_answers.specs.Chains.{AdvancesWheel}
 use Rattle.ert_answers.proofs.Advanced.{IsAdvance, advance_is, advance_all_is}
 use Rattle.ert_answers.specs.WheelCalls.{Advances, AdvancesAll, Try, expires_by, expiry_entries}
-use Rattle.ert_answers.specs.Ways.{Step, alone}
+use Rattle.ert_answers.specs.Ways.{Step}
 use Rattle.ert_defs.specs.Actors.{has_actor}
 use Rattle.ert_defs.specs.Entries.{look_entry}
 use Rattle.ert_defs.specs.Mails.{SchedState, sched_after}
@@ -18,23 +18,28 @@ use Rattle.ert_defs.specs.declared.entry.Event.TheVariants.{Pick, Answer}
 use Rattle.ert_defs.specs.declared.memory.NoMemory.{NoMemory}
 use Rattle.ert_defs.specs.declared.settings.Settings.{Settings}
 use Rattle.ert_laws.proofs.Few.{fired_few}
-use Rattle.ert_table.proofs.Calls.{whole_exact}
+use Rattle.ert_table.proofs.Parts.{own_after, sched_own, AreByThemselves}
 use Rattle.ert_table.specs.Calls.{IsMade}
 use Rattle.ert_table.specs.Desks.{settings_of, view_of, front_of, Belongs}
+use Rattle.ert_table.specs.Held.{is_held}
+use Rattle.ert_table.specs.declared.desk.Desk.{Desk}
 use Rattle.ert_table.specs.declared.desk.Pass.{Pass}
+use Rattle.ert_table.specs.declared.view.View.{View}
 use Rattle.ert_timers.proofs.LawsHold.{advances_only, full_advances_only}
 use Rattle.ert_timers.specs.Expiring.{fired_in, HasExpiredBy, HasNotExpired}
+use Rattle.ert_timers.specs.FiredLists.{Queue}
 use Rattle.ert_timers.specs.Laws.{AreWithWheel}
 use Rattle.ert_timers.specs.Parts.{Part, Stands as WheelStands}
 use Rattle.ert_timers.specs.Tidy.{KeepsTidy}
-use Rattle.ert_world.specs.Worlds.{Seen, AreFit}
-use Rattle.ert_world.specs.contracts.world.World.{the_view}
+use Rattle.ert_world.proofs.Armed.{AreCalm}
+use Rattle.ert_world.proofs.Calls.{Has, Does, parts_in, finish, schedulers_at}
+use Rattle.ert_world.proofs.Returned.{wheel_back, sched_back}
+use Rattle.ert_world.proofs.SchedCalls.{Had, had, now_stands}
+use Rattle.ert_world.proofs.WheelCalls.{advance_calm, advances_calm, wheel_named, wheel_tidy, one_wheel}
+use Rattle.ert_world.specs.Parts.{AllParts, SchedStands}
+use Rattle.ert_world.specs.Worlds.{Seen}
 use Rattle.ert_world.specs.declared.sched_part.SchedPart.{SchedPart}
 use Rattle.ert_world.specs.declared.world.World.TheInside.{Inside}
-use Rattle.ert_world.proofs.Armed.{AreCalm}
-use Rattle.ert_world.proofs.Calls.{Does, parts_in, after}
-use Rattle.ert_world.proofs.SchedCalls.{sched_had, sched_named, sched_stands}
-use Rattle.ert_world.proofs.WheelCalls.{advance_called, advance_calm, advances_calm, wheel_named}
 
 pub cond_same : (b : Bool) (s : SchedState) → (cond b s s).fired ≡ s.fired
 cond_same true s = refl
@@ -56,11 +61,6 @@ hand_at rows s event false leaves = refl
 hand_at rows s (Pick wheel got) true leaves = absurd cc
 hand_at rows s (Answer wheel left) true leaves = absurd cc
 hand_at rows s _ true leaves = refl
-
-pub hand_stays : (g : Settings) (w : ℕ) (s : State) (es : List Entry) → LeaveHand es → ((run g s es).scheds w).hand ≡ (s.scheds w).hand
-hand_stays g w s [] leave = refl
-hand_stays g w s (e ∷ es) leave =
-    hand_stays g w (next g s e) es leave.1 ∙ hand_at s.rows (s.scheds w) e.event (has_actor e (Sched w)) leave.0
 
 leave_append : (es fs : List Entry) → LeaveHand es → LeaveHand fs → LeaveHand (es ++ fs)
 leave_append [] fs one other = other
@@ -107,100 +107,132 @@ full_advances_plain = record { leave = leave; only = full_advances_only; calm = 
     calm g w (Ok answer) s es advances = advance_calm w answer es (advance_all_is g.slots w answer es advances)
     calm g w (Err e) s es refused = advances_calm g w (Err e) s es refused
 
--- the wheel was advanced, and the scheduler has these expired timers
-advanced : (advances : Settings → ℕ → Result (ℕ × ℕ) NoMemory → Step) → ArePlain advances → (before : Seen) (b : Inside) (q : Pass) (i : ℕ) (old new : Part) (part x : SchedPart) (answer : Result (ℕ × ℕ) NoMemory) → the_view b ≡ before
-    → AreFit b.desk b.pass (parts_in b) → Belongs b.desk q → i < before.settings.schedulers → old ≡ slice_index_or b.wheels.items i old
-    → part ≡ slice_index_or b.scheds.items i part → new.number ≡ old.number → WheelStands (settings_of b.desk) (front_of q) new
-    → KeepsTidy (settings_of b.desk) (view_of b.pass) old new (view_of q)
-    → IsMade (settings_of b.desk) (view_of b.pass) (advances (settings_of b.desk) old.number answer) (view_of q)
-    → x.wheel ≡ part.wheel → x.hand ≡ part.hand
-    → (x.fired.rows ≡ ((state (settings_of b.desk) (front_of q)).scheds old.number).fired)
-    → Does before b.desk q b.labels.items (record (parts_in b) { wheels = slice_set b.wheels.items i new; scheds = slice_set b.scheds.items i x })
-    (λ w. alone w.settings (Wheel i ∷ []) (advances w.settings i answer))
-advanced advances plain before b q i old new part x answer is fit belongs low lent lent_part named stands keeps made wheel hand rows =
-    let g : Settings = settings_of b.desk in
-    let s : State = state g (front_of b.pass) in
-    let below : i < g.schedulers = subst (λ (w : Seen). i < w.settings.schedulers) (sym is) low in
-    let one : old.number ≡ i = wheel_named g (front_of b.pass) [] (parts_in b) i old fit.stand below lent in
-    let mine : part.wheel ≡ i = sched_named g (front_of b.pass) [] (parts_in b) i part fit.stand below lent_part in
-    let had = sched_had before b i part is fit low lent_part in
-    let front = whole_exact g (view_of b.pass) (view_of q) made.entries fit.whole made.call in
-    let at : x.wheel ≡ i = wheel ∙ mine in
-    let now : SchedState = (state g (front_of q)).scheds i in
-    let kept : now.hand ≡ (s.scheds i).hand =
-    ap (λ (t : State). (t.scheds i).hand) (after b.desk b.pass q made.entries front)
-    ∙ hand_stays g i s made.entries (plain.leave g old.number answer s made.entries made.allowed) in
-    advance_called before b q i old new x made.entries (λ n w. alone w.settings (Wheel n ∷ []) (advances w.settings n answer)) is fit belongs low lent named stands at
-    (sched_stands g (front_of q) x now (rw at below) (ap (λ n. (state g (front_of q)).scheds n) at) (hand ∙ (had.0 ∙ sym kept))
-    (rows ∙ ap (λ n. ((state g (front_of q)).scheds n).fired) one)) made.call
-    (plain.only g old.number answer s made.entries made.allowed) (plain.calm g old.number answer s made.entries made.allowed) keeps made.allowed
+-- entries that leave the hand, for a pass that holds the scheduler
+leave_by : (g : Settings) (w : ℕ) (es : List Entry) → LeaveHand es → AreByThemselves g (λ (s : State). (s.scheds w).hand) es
+leave_by g w [] leave = tt
+leave_by g w (e ∷ es) leave = (
+  (λ s t same. hand_at s.rows (s.scheds w) e.event (has_actor e (Sched w)) leave.0
+      ∙ (same ∙ sym (hand_at t.rows (t.scheds w) e.event (has_actor e (Sched w)) leave.0))),
+  leave_by g w es leave.1,
+)
 
-difference : (a b : ℕ) (xs ys : List Row) → a ≡ length (xs ++ ys) → b ≡ length xs → a - b ≡ length ys
+leave_run : (g : Settings) (w : ℕ) (s : State) (es : List Entry) → LeaveHand es → ((run g s es).scheds w).hand ≡ (s.scheds w).hand
+leave_run g w s [] leave = refl
+leave_run g w s (e ∷ es) leave = leave_run g w (next g s e) es leave.1 ∙ hand_at s.rows (s.scheds w) e.event (has_actor e (Sched w)) leave.0
+
+-- an advance of a kind leaves the hand
+pub advance_hand : (advances : Settings → ℕ → Result (ℕ × ℕ) NoMemory → Step) → ArePlain advances → (g : Settings) (w : ℕ) (answer : Result (ℕ × ℕ) NoMemory) (v u : View)
+    → is_held v.actors (Sched w) ≡ true → IsMade g v (advances g w answer) u → ((state g u.front).scheds w).hand ≡ ((state g v.front).scheds w).hand
+advance_hand advances plain g w answer v u held made =
+    let leave = plain.leave g w answer (state g v.front) made.entries made.allowed in
+    own_after g v made.entries u (λ (s : State). (s.scheds w).hand)
+    (λ s e not. ap (λ (x : SchedState). x.hand) (sched_own g v.actors w held s e not)) made.call (leave_by g w made.entries leave)
+    ∙ leave_run g w (state g v.front) made.entries leave
+
+-- and without memory it leaves the list
+still_by : (g : Settings) (w : ℕ) (e : NoMemory) (s : State) (es : List Entry) → Advances g w (Err e) s es
+    → AreByThemselves g (λ (s : State). (s.scheds w).fired) es × (((run g s es).scheds w).fired ≡ (s.scheds w).fired)
+still_by g w e s es (inl none) =
+    (subst (AreByThemselves g (λ (s : State). (s.scheds w).fired)) (sym none) tt, ap (λ l. ((run g s l).scheds w).fired) none)
+still_by g w e s es (inr look) =
+    let l = look_entry (Sched w) look.0 in (
+      subst (AreByThemselves g (λ (s : State). (s.scheds w).fired)) (sym look.1)
+          ((λ s t same. cond_same (has_actor l (Sched w)) (s.scheds w) ∙ (same ∙ sym (cond_same (has_actor l (Sched w)) (t.scheds w)))), tt),
+      ap (λ m. ((run g s m).scheds w).fired) look.1 ∙ cond_same (has_actor l (Sched w)) (s.scheds w),
+    )
+
+pub advance_still : (g : Settings) (w : ℕ) (e : NoMemory) (v u : View) → is_held v.actors (Sched w) ≡ true
+    → IsMade g v (Advances g w (Err e)) u → ((state g u.front).scheds w).fired ≡ ((state g v.front).scheds w).fired
+advance_still g w e v u held made =
+    let still = still_by g w e (state g v.front) made.entries made.allowed in
+    own_after g v made.entries u (λ (s : State). (s.scheds w).fired)
+    (λ s e not. ap (λ (x : SchedState). x.fired) (sched_own g v.actors w held s e not)) made.call still.0 ∙ still.1
+
+-- the wheel was advanced, and the scheduler has these expired timers
+advanced : (advances : Settings → ℕ → Result (ℕ × ℕ) NoMemory → Step) → ArePlain advances → (before : Seen) (b : Inside) (d : Desk) (q : Pass) (i : ℕ) (old new : Part) (part x : SchedPart) (answer : Result (ℕ × ℕ) NoMemory)
+    → Has before b d → Belongs d q → i < before.settings.schedulers → old ≡ slice_index_or b.wheels.items i old
+    → part ≡ slice_index_or b.scheds.items i part → new.number ≡ old.number → WheelStands (settings_of d) (front_of q) new
+    → KeepsTidy (settings_of d) (view_of b.pass) old new (view_of q)
+    → IsMade (settings_of d) (view_of b.pass) (advances (settings_of d) old.number answer) (view_of q)
+    → x.wheel ≡ part.wheel → x.hand ≡ part.hand
+    → (x.fired.rows ≡ ((state (settings_of d) (front_of q)).scheds old.number).fired)
+    → Does before d q b.next (record (parts_in b) { wheels = slice_set b.wheels.items i new; scheds = slice_set b.scheds.items i x })
+    (λ w way. way (Wheel i ∷ []) (advances w.settings i answer))
+advanced advances plain before b d q i old new part x answer has belongs low lent lent_part named stands keeps made_w wheel hand rows =
+    let g : Settings = settings_of d in
+    let s : State = state g (front_of b.pass) in
+    let below : i < g.schedulers = schedulers_at has i low in
+    let one : old.number ≡ i = wheel_named g (front_of b.pass) [] (parts_in b) i old has.fit.stand below lent in
+    let was : Had b d i part = had before b d i part has low lent_part in
+    let at : x.wheel ≡ i = wheel ∙ was.wheel in
+    let made : IsMade g (view_of b.pass) (advances g i answer) (view_of q) =
+    subst (λ n. IsMade g (view_of b.pass) (advances g n answer) (view_of q)) one made_w in
+    let kept = advance_hand advances plain g i answer (view_of b.pass) (view_of q) (has.fit.holds.rest (Sched i) below tt) made in
+    let now : SchedStands g (front_of q) x =
+    now_stands before b d q i x ((state g (front_of q)).scheds i) has low at refl (hand ∙ (was.hand ∙ sym kept))
+    (rows ∙ ap (λ n. ((state g (front_of q)).scheds n).fired) one) in
+    let back : AllParts = record (parts_in b) { scheds = slice_set b.scheds.items i x } in
+    let only = plain.only g i answer s made.entries made.allowed in
+    finish before b d q (record back { wheels = slice_set b.wheels.items i new }) made.entries (Sched i ∷ (Wheel i ∷ []))
+    (λ w way. way (Wheel i ∷ []) (advances w.settings i answer)) has belongs made.call only (refl, (refl, tt))
+    (λ stand. wheel_back g (front_of q) [] back i new below (named ∙ one) stands (sched_back g (front_of q) (Wheel i ∷ []) (parts_in b) i x below at now stand))
+    (λ m grown own. subst (advances g i answer s) (sym own) made.allowed)
+    (wheel_tidy b d q i old new made.entries (Sched i ∷ (Wheel i ∷ [])) has below lent made.call only (λ j apart. one_wheel (Sched i) i j refl apart)
+    (plain.calm g i answer s made.entries made.allowed) keeps)
+
+pub difference : (a b : ℕ) (xs ys : List Row) → a ≡ length (xs ++ ys) → b ≡ length xs → a - b ≡ length ys
 difference a b xs ys whole first =
     let sum : length (xs ++ ys) ≡ length xs + length ys = length-append xs ys in
     omega (arith, whole, first, sum)
 
 -- an advance, with its count
-pub advance_ok : (advances : Settings → ℕ → Result (ℕ × ℕ) NoMemory → Step) → ArePlain advances → (before : Seen) (b : Inside) (q : Pass) (i to n m : ℕ) (old new : Part) (part x : SchedPart) → the_view b ≡ before
-    → AreFit b.desk b.pass (parts_in b) → Belongs b.desk q → i < before.settings.schedulers → old ≡ slice_index_or b.wheels.items i old
-    → part ≡ slice_index_or b.scheds.items i part → new.number ≡ old.number → WheelStands (settings_of b.desk) (front_of q) new
-    → KeepsTidy (settings_of b.desk) (view_of b.pass) old new (view_of q)
-    → HasExpiredBy (advances (settings_of b.desk) old.number) (settings_of b.desk) (view_of b.pass) old.number to part.fired x.fired (view_of q)
+pub advance_ok : (advances : Settings → ℕ → Result (ℕ × ℕ) NoMemory → Step) → ArePlain advances → (before : Seen) (b : Inside) (d : Desk) (q : Pass) (i to n m : ℕ) (old new : Part) (part x : SchedPart)
+    → Has before b d → Belongs d q → i < before.settings.schedulers → old ≡ slice_index_or b.wheels.items i old
+    → part ≡ slice_index_or b.scheds.items i part → new.number ≡ old.number → WheelStands (settings_of d) (front_of q) new
+    → KeepsTidy (settings_of d) (view_of b.pass) old new (view_of q)
+    → HasExpiredBy (advances (settings_of d) old.number) (settings_of d) (view_of b.pass) old.number to part.fired x.fired (view_of q)
     → x.wheel ≡ part.wheel → x.hand ≡ part.hand → n ≡ length x.fired.rows → m ≡ length part.fired.rows
-    → Does before b.desk q b.labels.items (record (parts_in b) { wheels = slice_set b.wheels.items i new; scheds = slice_set b.scheds.items i x })
-    (λ w. alone w.settings (Wheel i ∷ []) (advances w.settings i (Ok (to, n - m))))
-advance_ok advances plain before b q i to n m old new part x is fit belongs low lent lent_part named stands keeps expired wheel hand now was =
-    let g : Settings = settings_of b.desk in
-    let below : i < g.schedulers = subst (λ (w : Seen). i < w.settings.schedulers) (sym is) low in
-    let one : old.number ≡ i = wheel_named g (front_of b.pass) [] (parts_in b) i old fit.stand below lent in
-    let had = sched_had before b i part is fit low lent_part in
+    → Does before d q b.next (record (parts_in b) { wheels = slice_set b.wheels.items i new; scheds = slice_set b.scheds.items i x })
+    (λ w way. way (Wheel i ∷ []) (advances w.settings i (Ok (to, n - m))))
+advance_ok advances plain before b d q i to n m old new part x has belongs low lent lent_part named stands keeps expired wheel hand now was =
+    let g : Settings = settings_of d in
+    let one : old.number ≡ i = wheel_named g (front_of b.pass) [] (parts_in b) i old has.fit.stand (schedulers_at has i low) lent in
+    let had_it : Had b d i part = had before b d i part has low lent_part in
     let count : n - m ≡ length expired.gained =
     difference n m part.fired.rows expired.gained (now ∙ ap (λ (l : List Row). length l) expired.fired) was in
-    subst (λ k. Does before b.desk q b.labels.items
+    subst (λ k. Does before d q b.next
     (record (parts_in b) { wheels = slice_set b.wheels.items i new; scheds = slice_set b.scheds.items i x })
-    (λ w. alone w.settings (Wheel i ∷ []) (advances w.settings i (Ok (to, k))))) (sym count)
-    (advanced advances plain before b q i old new part x (Ok (to, length expired.gained)) is fit belongs low lent lent_part named stands keeps expired.call wheel hand
-    (expired.fired ∙ (ap (λ l. l ++ expired.gained) (had.1 ∙ ap (λ n. fired_in g (front_of b.pass) n) (sym one)) ∙ sym expired.waits)))
+    (λ w way. way (Wheel i ∷ []) (advances w.settings i (Ok (to, k))))) (sym count)
+    (advanced advances plain before b d q i old new part x (Ok (to, length expired.gained)) has belongs low lent lent_part named stands keeps expired.call wheel hand
+    (expired.fired ∙ (ap (λ l. l ++ expired.gained) (had_it.fired ∙ ap (λ n. fired_in g (front_of b.pass) n) (sym one)) ∙ sym expired.waits)))
 
--- the count of an advance fits 32 bits
-pub advance_fits : (advances : Result (ℕ × ℕ) NoMemory → Step) (before : Seen) (b : Inside) (q : Pass) (i to n m : ℕ) (old : Part) (part x : SchedPart) → the_view b ≡ before
-    → AreFit b.desk b.pass (parts_in b) → i < before.settings.schedulers → part ≡ slice_index_or b.scheds.items i part
-    → HasExpiredBy advances (settings_of b.desk) (view_of b.pass) old.number to part.fired x.fired (view_of q)
-    → n ≡ length x.fired.rows → m ≡ length part.fired.rows → n - m ≤ 65536
-advance_fits advances before b q i to n m old part x is fit low lent_part expired now was =
-    let g : Settings = settings_of b.desk in
-    let w : ℕ = old.number in
-    let count : n - m ≡ length expired.gained =
-    difference n m part.fired.rows expired.gained (now ∙ ap (λ (l : List Row). length l) expired.fired) was in
-    let few : length (fired_in g (front_of q) w) ≤ g.slots = fired_few g (front_of q) w expired.call.call.legal in
-    let sum : length (fired_in g (front_of q) w) ≡ length (fired_in g (front_of b.pass) w) + length expired.gained =
-    ap (λ (l : List Row). length l) expired.waits ∙ length-append (fired_in g (front_of b.pass) w) expired.gained in
-    let high : g.slots ≤ 65536 = b.desk.checked.counts.slots_high in
-    omega (arith, count, few, sum, high)
+-- the count of an advance is small, and it is more rows than before
+pub advance_fits : (allows : Result (ℕ × ℕ) NoMemory → Step) (g : Settings) (w to n m : ℕ) (old new : Queue) (v u : View) → g.slots ≤ 65536
+    → HasExpiredBy allows g v w to old new u → n ≡ length new.rows → m ≡ length old.rows → (m ≤ n) × (n - m ≤ 65536)
+advance_fits allows g w to n m old new v u high is now was =
+    let count : n - m ≡ length is.gained = difference n m old.rows is.gained (now ∙ ap (λ (l : List Row). length l) is.fired) was in
+    let low : length (fired_in g u.front w) ≤ g.slots = fired_few g u.front w is.call.call.legal in
+    let sum : length (fired_in g u.front w) ≡ length (fired_in g v.front w) + length is.gained =
+    ap (λ (l : List Row). length l) is.waits ∙ length-append (fired_in g v.front w) is.gained in
+    let more : length new.rows ≡ length old.rows + length is.gained =
+    ap (λ (l : List Row). length l) is.fired ∙ length-append old.rows is.gained in
+    (omega (arith, now, was, more), omega (arith, count, low, sum, high))
 
 -- an advance without memory
-pub advance_refused : (before : Seen) (b : Inside) (q : Pass) (i : ℕ) (e : NoMemory) (old new : Part) (part x : SchedPart) → the_view b ≡ before
-    → AreFit b.desk b.pass (parts_in b) → Belongs b.desk q → i < before.settings.schedulers → old ≡ slice_index_or b.wheels.items i old
-    → part ≡ slice_index_or b.scheds.items i part → new.number ≡ old.number → WheelStands (settings_of b.desk) (front_of q) new
-    → KeepsTidy (settings_of b.desk) (view_of b.pass) old new (view_of q)
-    → HasNotExpired (settings_of b.desk) (view_of b.pass) old.number e part.fired x.fired (view_of q)
+pub advance_refused : (before : Seen) (b : Inside) (d : Desk) (q : Pass) (i : ℕ) (e : NoMemory) (old new : Part) (part x : SchedPart)
+    → Has before b d → Belongs d q → i < before.settings.schedulers → old ≡ slice_index_or b.wheels.items i old
+    → part ≡ slice_index_or b.scheds.items i part → new.number ≡ old.number → WheelStands (settings_of d) (front_of q) new
+    → KeepsTidy (settings_of d) (view_of b.pass) old new (view_of q)
+    → HasNotExpired (settings_of d) (view_of b.pass) old.number e part.fired x.fired (view_of q)
     → x.wheel ≡ part.wheel → x.hand ≡ part.hand
-    → Does before b.desk q b.labels.items (record (parts_in b) { wheels = slice_set b.wheels.items i new; scheds = slice_set b.scheds.items i x })
-    (λ w. AdvancesWheel w.settings (alone w.settings) i (Err e))
-advance_refused before b q i e old new part x is fit belongs low lent lent_part named stands keeps refused wheel hand =
-    let g : Settings = settings_of b.desk in
-    let s : State = state g (front_of b.pass) in
-    let w : ℕ = old.number in
-    let below : i < g.schedulers = subst (λ (w : Seen). i < w.settings.schedulers) (sym is) low in
-    let one : old.number ≡ i = wheel_named g (front_of b.pass) [] (parts_in b) i old fit.stand below lent in
-    let had = sched_had before b i part is fit low lent_part in
-    let made = refused.call in
-    let front = whole_exact g (view_of b.pass) (view_of q) made.entries fit.whole made.call in
-    let still : ((state g (front_of q)).scheds w).fired ≡ (s.scheds w).fired =
-    ap (λ (t : State). (t.scheds w).fired) (after b.desk b.pass q made.entries front) ∙ looked g w s made.entries made.allowed in
-    advanced Advances advances_plain before b q i old new part x (Err e) is fit belongs low lent lent_part named stands keeps made wheel hand
-    (refused.fired ∙ (had.1 ∙ (ap (λ n. (s.scheds n).fired) (sym one) ∙ sym still)))
-  where
-    looked : (g : Settings) (w : ℕ) (s : State) (es : List Entry) → Advances g w (Err e) s es → ((run g s es).scheds w).fired ≡ (s.scheds w).fired
-    looked g w s es (inl none) = ap (λ l. ((run g s l).scheds w).fired) none
-    looked g w s es (inr look) = ap (λ l. ((run g s l).scheds w).fired) look.1 ∙ cond_same (has_actor (look_entry (Sched w) look.0) (Sched w)) (s.scheds w)
+    → Does before d q b.next (record (parts_in b) { wheels = slice_set b.wheels.items i new; scheds = slice_set b.scheds.items i x })
+    (λ w way. AdvancesWheel w.settings way i (Err e))
+advance_refused before b d q i e old new part x has belongs low lent lent_part named stands keeps refused wheel hand =
+    let g : Settings = settings_of d in
+    let below : i < g.schedulers = schedulers_at has i low in
+    let one : old.number ≡ i = wheel_named g (front_of b.pass) [] (parts_in b) i old has.fit.stand below lent in
+    let was : Had b d i part = had before b d i part has low lent_part in
+    let held = subst (λ n. is_held (view_of b.pass).actors (Sched n) ≡ true) (sym one) (has.fit.holds.rest (Sched i) below tt) in
+    advanced Advances advances_plain before b d q i old new part x (Err e) has belongs low lent lent_part named stands keeps refused.call wheel hand
+    (refused.fired ∙ (was.fired ∙ (ap (λ n. ((state g (front_of b.pass)).scheds n).fired) (sym one)
+    ∙ sym (advance_still g old.number e (view_of b.pass) (view_of q) held refused.call))))

@@ -1,15 +1,14 @@
--- A cancel settles its timer and no other, and tells whether it did.
+-- A cancel settles no timer but its own.
 
-use Rattle.std.proofs.Common.{◌≡◌, ◌≢◌, ℕ, ◌<◌, ℤ, Bool, true, false, cond, ◌&&◌, List, [], ◌∷◌, ◌++◌, Option, Some, None, Result, Ok, Err, refl, sym, ap, subst, ◌∙◌, nat_lt}
-use Rattle.std.proofs.lemmas.Bool.{ltb-true}
+use Rattle.std.proofs.Common.{◌≡◌, ◌≢◌, ℕ, ℤ, Bool, true, false, cond, List, [], ◌∷◌, ◌++◌, Option, Some, None, Result, Ok, Err, refl, sym, ap, subst, ◌∙◌}
 use Rattle.ert_answers.specs.RequestCalls.{DoesAsked, Answers}
 use Rattle.ert_answers.specs.TimerCalls.{Cancels, read_entries, cancel_entries}
 use Rattle.ert_defs.specs.Entries.{look_entry, peek_entry, cancel_entry, answer_entry}
 use Rattle.ert_defs.specs.Actors.{same_actor, has_actor}
-use Rattle.ert_defs.specs.Legal.{is_generation, names_timer, left_of, left_by as left_by_look, LegalFrom}
+use Rattle.ert_defs.specs.Legal.{names_timer, left_of, left_by as left_by_look, LegalFrom}
 use Rattle.ert_defs.specs.States.{State, next, run}
-use Rattle.ert_defs.specs.Timers.{Row, row_of, settled_as}
-use Rattle.ert_defs.proofs.FiredTimers.{same_timer_self, same_timer-false}
+use Rattle.ert_defs.specs.Timers.{Row, row_of}
+use Rattle.ert_defs.proofs.FiredTimers.{same_timer-false}
 use Rattle.ert_defs.proofs.Runs.{run-append, legal_first}
 use Rattle.ert_defs.specs.declared.entry.Actor.{Actor}
 use Rattle.ert_defs.specs.declared.entry.Actor.TheVariants.{Wheel, Sched}
@@ -19,45 +18,25 @@ use Rattle.ert_defs.specs.declared.mail.RequestKind.{RequestKind}
 use Rattle.ert_defs.specs.declared.mail.RequestKind.TheVariants.{Cancel as ToCancel, Read as ToRead}
 use Rattle.ert_defs.specs.declared.memory.NoMemory.{NoMemory}
 use Rattle.ert_defs.specs.declared.settings.Settings.{Settings}
-use Rattle.ert_defs.specs.declared.timer.Status.{Status}
-use Rattle.ert_defs.specs.declared.timer.Status.TheVariants.{Armed, Cancelled}
+use Rattle.ert_defs.specs.declared.timer.Status.TheVariants.{Armed}
 use Rattle.ert_defs.specs.declared.timer.TimerRef.{TimerRef}
 use Rattle.ert_table.proofs.Parts.{of_one}
 use Rattle.ert_table.specs.Calls.{AreOnlyOf}
-use Rattle.ert_world.specs.Worlds.{IsGone, left_by, cancelled_by}
+use Rattle.ert_world.specs.Worlds.{left_by, cancelled_by}
 
 -- a timer that a cancel spares: any, where nothing was cancelled, and else any other
 abbrev pub Spared : Option ℕ → TimerRef → TimerRef → Type 0
 Spared None timer r = Unit {0}
 Spared (Some left) timer r = r ≢ timer
 
--- these entries settle a timer, if this much was left of it, and no other
-pub record Settles (g : Settings) (s : State) (es : List Entry) (timer : TimerRef) (left : Option ℕ) : Type 0 where
-  pub spared : (r : TimerRef) → s.status r ≡ Some Armed → Spared left timer r → (run g s es).status r ≡ Some Armed
-  pub gone : IsGone g (run g s es) timer left
-
-settled_not : (x : Option Status) → settled_as Cancelled x ≢ Some Armed
-settled_not None = λ is. cc
-settled_not (Some Armed) = λ is. cc
-settled_not (Some _) = λ is. cc
-
-and_first : (x y : Bool) → (x && y) ≡ true → x ≡ true
-and_first true y is = refl
-and_first false y is = absurd cc
-
-named_wheel : (g : Settings) (timer : TimerRef) → names_timer g timer ≡ true → timer.wheel < g.schedulers
-named_wheel g timer is =
-    let low : nat_lt timer.wheel g.schedulers ≡ true =
-    and_first _ (nat_lt timer.slot g.slots) (and_first _ (is_generation timer.generation) is) in
-    ltb-true timer.wheel g.schedulers low
+-- these entries settle no timer but one, if this much was left of it
+abbrev pub Settles : Settings → State → List Entry → TimerRef → Option ℕ → Type 0
+Settles g s es timer left = (r : TimerRef) → s.status r ≡ Some Armed → Spared left timer r → (run g s es).status r ≡ Some Armed
 
 -- a cancel that hit
-hit_settles : (g : Settings) (s : State) (by : Actor) (timer : TimerRef) (now : ℤ) (found : Option ℕ) (left : ℕ) → names_timer g timer ≡ true
+hit_settles : (g : Settings) (s : State) (by : Actor) (timer : TimerRef) (now : ℤ) (found : Option ℕ) (left : ℕ)
     → Settles g s (look_entry by now ∷ (peek_entry by timer found ∷ (cancel_entry by timer (Some left) ∷ []))) timer (Some left)
-hit_settles g s by timer now found left named = record {
-  spared = λ r armed apart. rw (same_timer-false timer r (λ same. apart (sym same))) armed;
-  gone = (named_wheel g timer named, rw (same_timer_self timer) (settled_not (s.status timer)));
-}
+hit_settles g s by timer now found left r armed apart = rw (same_timer-false timer r (λ same. apart (sym same))) armed
 
 cond_same : {X : Type 0} (b : Bool) (x : X) → cond b x x ≡ x
 cond_same true x = refl
@@ -86,12 +65,12 @@ cancel_at : (g : Settings) (s : State) (by : Actor) (timer : TimerRef) (now : �
     → Settles g s (look_entry by now ∷ cancel_entries names by timer found answer) timer answer
 cancel_at g s by timer now false found answer is quiet legal unread =
     subst (λ a. Settles g s (look_entry by now ∷ []) timer a) (sym (quiet (unread refl)))
-    (record { spared = λ r armed apart. armed; gone = tt })
+    (λ r armed apart. armed)
 cancel_at g s by timer now true None answer is quiet legal unread =
     subst (λ a. Settles g s (look_entry by now ∷ (peek_entry by timer None ∷ [])) timer a) (sym (quiet refl))
-    (record { spared = λ r armed apart. armed; gone = tt })
+    (λ r armed apart. armed)
 cancel_at g s by timer now true (Some found) None is quiet legal unread = absurd (missed g s by timer now found legal)
-cancel_at g s by timer now true (Some found) (Some left) is quiet legal unread = hit_settles g s by timer now (Some found) left is
+cancel_at g s by timer now true (Some found) (Some left) is quiet legal unread = hit_settles g s by timer now (Some found) left
 
 pub cancel_settles : (g : Settings) (by : Actor) (timer : TimerRef) (answer : Option ℕ) (s : State) (es : List Entry) → Cancels g by timer answer s es
     → LegalFrom g s es → Settles g s es timer answer
@@ -102,8 +81,8 @@ cancel_settles g by timer answer s es cancels legal =
 
 read_at : (g : Settings) (s : State) (by : Actor) (timer : TimerRef) (now : ℤ) (names : Bool) (answer : Option ℕ)
     → Settles g s (look_entry by now ∷ read_entries names by timer answer) timer None
-read_at g s by timer now false answer = record { spared = λ r armed apart. armed; gone = tt }
-read_at g s by timer now true answer = record { spared = λ r armed apart. armed; gone = tt }
+read_at g s by timer now false answer r armed apart = armed
+read_at g s by timer now true answer r armed apart = armed
 
 asked_settles : (kind : RequestKind) (g : Settings) (w : ℕ) (timer : TimerRef) (left : Option ℕ) (s : State) (es : List Entry)
     → DoesAsked kind g w timer left s es → LegalFrom g s es → Settles g s es timer (left_by kind left)
@@ -120,17 +99,10 @@ answer_settles g w request (Ok left) s es answers legal =
     asked_settles request.kind g w request.timer left s answers.steps answers.done
     (legal_first g s answers.steps last (subst (LegalFrom g s) answers.entries legal)) in
     let whole : run g s (answers.steps ++ last) ≡ run g (run g s answers.steps) last = run-append g s answers.steps last in
-    subst (λ l. Settles g s l request.timer (left_by request.kind left)) (sym answers.entries) (record {
-      spared = λ r armed apart. subst (λ (t : State). t.status r ≡ Some Armed) (sym whole) (steps.spared r armed apart);
-      gone = subst (λ (t : State). IsGone g t request.timer (left_by request.kind left)) (sym whole)
-          (still (left_by request.kind left) (run g s answers.steps) steps.gone);
-    })
-  where
-    still : (x : Option ℕ) (t : State) → IsGone g t request.timer x → IsGone g (run g t (answer_entry w request.reply_to left ∷ [])) request.timer x
-    still None t gone = tt
-    still (Some n) t gone = gone
+    subst (λ l. Settles g s l request.timer (left_by request.kind left)) (sym answers.entries)
+    (λ r armed apart. subst (λ (t : State). t.status r ≡ Some Armed) (sym whole) (steps r armed apart))
 answer_settles g w request (Err e) s es answers legal =
-    subst (λ l. Settles g s l request.timer None) (sym answers) (record { spared = λ r armed apart. armed; gone = tt })
+    subst (λ l. Settles g s l request.timer None) (sym answers) (λ r armed apart. armed)
 
 -- a cancel is of its actor alone
 cancel_only_at : (by : Actor) (timer : TimerRef) (now : ℤ) (names : Bool) (found answer : Option ℕ)

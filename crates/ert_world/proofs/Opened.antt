@@ -5,12 +5,13 @@ use Rattle.std.specs.Prelude.{nat_eq}
 use Rattle.std.proofs.lemmas.List.{get_or_push, get_or_append_left}
 use Rattle.ert_clock.specs.Shown.{Shown, Stands as ClockStands}
 use Rattle.ert_defs.specs.Settings.{IsChecked}
+use Rattle.ert_defs.specs.States.{state}
 use Rattle.ert_defs.specs.declared.settings.Settings.{Settings}
-use Rattle.ert_defs.specs.declared.timer.TimerRef.{TimerRef}
 use Rattle.ert_table.specs.Desks.{settings_of, front_of}
 use Rattle.ert_table.specs.declared.desk.Desk.{Desk}
 use Rattle.ert_table.specs.declared.desk.Pass.{Pass}
 use Rattle.ert_timers.specs.Parts.{Part}
+use Rattle.ert_timers.specs.Tidy.{IsTidy}
 use Rattle.ert_world.specs.Openings.{AreNew, IsNewWheel, IsOpened}
 use Rattle.ert_world.specs.Worlds.{seen}
 
@@ -33,14 +34,15 @@ new_more is_new n xs x are one = record {
         let within : i < n = below low other in
         subst (is_new i) (sym (get_or_append_left xs (x ∷ []) d i (rw are.counted within))) (are.each i d within)
 
-pub opened : (g : Settings) (d : Desk) (p : Pass) (keeper : Shown) (labels : List (ℕ × TimerRef)) (wheels : List Part) → IsChecked g → settings_of d ≡ g
-    → front_of p ≡ [] → ClockStands g [] keeper → labels ≡ [] → AreNew (IsNewWheel g) g.schedulers wheels → IsOpened g (seen d p keeper labels wheels)
-opened g d p keeper labels wheels checked settings front stands none new =
-    subst (λ ls. IsOpened g (seen d p keeper ls wheels)) (sym none)
-    (subst (λ k. IsOpened g (record { settings = k; history = front_of p; clock = keeper; labels = []; wheels = wheels })) (sym settings)
-    (subst (λ h. IsOpened g (record { settings = g; history = h; clock = keeper; labels = []; wheels = wheels })) (sym front)
-    (record {
-      stands = record { settings = refl; history = refl; checked = checked; clock = stands };
-      labels = refl;
-      tidy = λ i low d. (new.each i d low).tidy;
-    })))
+-- the desk that it has is shared
+pub opened : (g : Settings) (d e : Desk) (p : Pass) (keeper : Shown) (wheels : List Part) → IsChecked g → e ≡ d → settings_of d ≡ g
+    → front_of p ≡ [] → ClockStands g [] keeper → AreNew (IsNewWheel g) g.schedulers wheels → IsOpened g (seen e p 1 keeper wheels)
+opened g d e p keeper wheels checked same settings front stands new =
+    let mine : settings_of e ≡ g = ap settings_of same ∙ settings in
+    record {
+      stands = record { settings = mine; history = front; checked = checked; clock = stands };
+      next = refl;
+      tidy = λ i low x.
+          subst (λ k. IsTidy (state k (front_of p)) (slice_index_or wheels i x)) (sym mine)
+          (subst (λ h. IsTidy (state g h) (slice_index_or wheels i x)) (sym front) (new.each i x low).tidy);
+    }

@@ -1,222 +1,98 @@
--- The parts of a world stand on after a call, but for those that were lent to it, and these come back.
+-- After a call that others stepped beside, all parts stand that weren't lent to it.
 
-use Rattle.std.proofs.Common.{◌≡◌, ℕ, ◌<◌, Bool, true, false, List, [], ◌∷◌, ◌++◌, length, slice_index_or, refl, sym, ap, subst, ◌∙◌, append-nil, eqb-true, eq-eqb}
-use Rattle.std.specs.Prelude.{slice_set, nat_eq, ◌≢◌}
-use Rattle.std.proofs.lemmas.Grind.{get_or-set_at}
-use Rattle.std.proofs.lemmas.List.{get_or-set_other, length-set}
-use Rattle.std.proofs.lemmas.List.Elements.{filter-append}
+use Rattle.std.proofs.Common.{◌≡◌, ℕ, ◌<◌, true, false, List, [], ◌++◌, slice_index_or, refl, sym, ap, subst, ◌∙◌, append-nil}
 use Rattle.ert_clock.proofs.Stand.{stands_kept}
 use Rattle.ert_clock.specs.Shown.{Shown, Stands as ClockStands}
-use Rattle.ert_defs.specs.Actors.{IsFree, of, has_actor, same_actor}
+use Rattle.ert_defs.proofs.Runs.{state-append, clock_stays, sched_stays}
+use Rattle.ert_defs.specs.Actors.{IsFree, of, has_actor}
 use Rattle.ert_defs.specs.Legal.{Legal}
 use Rattle.ert_defs.specs.Mails.{SchedState}
 use Rattle.ert_defs.specs.States.{State, state}
-use Rattle.ert_defs.proofs.Runs.{state-append, clock_stays, sched_stays}
 use Rattle.ert_defs.specs.declared.entry.Actor.{Actor}
-use Rattle.ert_defs.specs.declared.entry.Actor.TheVariants.{Keeper, Wheel, Inbox, Sched, MailOf, Caller}
+use Rattle.ert_defs.specs.declared.entry.Actor.TheVariants.{Keeper, Wheel, Inbox, Sched, MailOf}
 use Rattle.ert_defs.specs.declared.entry.Entry.{Entry}
 use Rattle.ert_defs.specs.declared.settings.Settings.{Settings}
-use Rattle.ert_inbox.specs.Inboxes.{Waiting, Stands as InboxStands}
 use Rattle.ert_inbox.proofs.LawsHold.{stand_on as inbox_on}
-use Rattle.ert_mail.specs.Mailboxes.{Mailbox, Stands as MailStands}
+use Rattle.ert_inbox.specs.Inboxes.{Waiting, Stands as InboxStands}
 use Rattle.ert_mail.proofs.LawsHold.{stand_on as mail_on}
-use Rattle.ert_table.proofs.Parts.{free_of_others}
-use Rattle.ert_table.specs.Calls.{AreOnlyOf}
-use Rattle.ert_table.specs.Held.{is_held}
-use Rattle.ert_table.specs.Views.{Begins}
-use Rattle.ert_timers.proofs.LawsHold.{stand_on as wheel_stands}
-use Rattle.ert_timers.specs.Parts.{Part, Stands as WheelStands}
+use Rattle.ert_mail.specs.Mailboxes.{Mailbox, Stands as MailStands}
 use Rattle.ert_world.specs.Parts.{AllParts, SchedStands, AreOrdered, Stand}
 use Rattle.ert_world.specs.declared.sched_part.SchedPart.{SchedPart}
+use Rattle.ert_table.proofs.Parts.{entries_after, not_of, free_of_others, free_later}
+use Rattle.ert_table.specs.Calls.{AreOnlyOf}
+use Rattle.ert_table.specs.Held.{is_held, IsActor}
+use Rattle.ert_table.specs.Takes.{TakesPlace}
+use Rattle.ert_table.specs.Views.{Begins}
+use Rattle.ert_table.specs.declared.view.View.{View}
+use Rattle.ert_timers.proofs.LawsHold.{stand_on as wheel_on}
+use Rattle.ert_timers.specs.Parts.{Part, Stands as WheelStands}
+use Rattle.ert_world.specs.Worlds.{IsUnseated, HoldsRest}
 
--- entries without an actor leave its own as they were
-own_same : (a : Actor) (h es : List Entry) → IsFree es a → of (h ++ es) a ≡ of h a
-own_same a h es free =
-    filter-append (λ e. has_actor e a) h es ∙ (ap (λ l. of h a ++ l) free ∙ append-nil (of h a))
+-- the front before a call begins that after it
+pub grown_by : (g : Settings) (v : View) (es : List Entry) (w : View) → TakesPlace g v es w → Begins v.front w.front
+grown_by g v es w takes = record { later = takes.later; grown = takes.grown }
 
-longer : (h es : List Entry) → Begins h (h ++ es)
-longer h es = record { later = es; grown = refl }
+-- an actor that is held and wasn't lent has no more entries than before
+pub own_kept : (g : Settings) (v : View) (es : List Entry) (w : View) (lent : List Actor) (a : Actor) → TakesPlace g v es w → AreOnlyOf lent es
+    → is_held v.actors a ≡ true → is_held lent a ≡ false → of w.front a ≡ of v.front a
+own_kept g v es w lent a takes only held apart =
+    entries_after g v es w (λ e. has_actor e a) (λ e not. not_of v.actors e a not held) takes
+    ∙ (ap (λ l. of v.front a ++ l) (free_of_others lent a es apart only) ∙ append-nil (of v.front a))
 
-clock_on : (g : Settings) (h es : List Entry) (k : Shown) → Legal g (h ++ es) → IsFree es Keeper → ClockStands g h k → ClockStands g (h ++ es) k
-clock_on g h es k legal free stands =
-    stands_kept g h (h ++ es) k stands legal
-    (ap (λ (s : State). s.clock) (state-append g h es) ∙ clock_stays g (state g h) es free)
+pub free_kept : (g : Settings) (v : View) (es : List Entry) (w : View) (lent : List Actor) (a : Actor) → (takes : TakesPlace g v es w) → AreOnlyOf lent es
+    → is_held v.actors a ≡ true → is_held lent a ≡ false → IsFree takes.later a
+unfolding grown_by
+free_kept g v es w lent a takes only held apart =
+    free_later a v.front w.front (grown_by g v es w takes) (own_kept g v es w lent a takes only held apart)
 
-wheel_on : (g : Settings) (h es : List Entry) (p : Part) → Legal g (h ++ es) → IsFree es (Wheel p.number) → WheelStands g h p
-    → WheelStands g (h ++ es) p
-wheel_on g h es p legal free stands = wheel_stands g h (h ++ es) p (longer h es) (own_same (Wheel p.number) h es free) legal stands
+clock_on : (g : Settings) (f h : List Entry) (k : Shown) → Legal g h → (more : Begins f h) → of h Keeper ≡ of f Keeper → ClockStands g f k → ClockStands g h k
+clock_on g f h k legal more same stands =
+    stands_kept g f h k stands legal
+    (ap (λ l. (state g l).clock) more.grown
+    ∙ (ap (λ (s : State). s.clock) (state-append g f more.later) ∙ clock_stays g (state g f) more.later (free_later Keeper f h more same)))
 
-sched_on : (g : Settings) (h es : List Entry) (p : SchedPart) → IsFree es (Sched p.wheel) → SchedStands g h p → SchedStands g (h ++ es) p
-sched_on g h es p free stands =
-    let same : (state g (h ++ es)).scheds p.wheel ≡ (state g h).scheds p.wheel =
-    ap (λ (s : State). s.scheds p.wheel) (state-append g h es) ∙ sched_stays g p.wheel (state g h) es free in
+sched_on : (g : Settings) (f h : List Entry) (p : SchedPart) → (more : Begins f h) → of h (Sched p.wheel) ≡ of f (Sched p.wheel) → SchedStands g f p
+    → SchedStands g h p
+sched_on g f h p more same stands =
+    let still : (state g h).scheds p.wheel ≡ (state g f).scheds p.wheel =
+    ap (λ l. (state g l).scheds p.wheel) more.grown
+    ∙ (ap (λ (s : State). s.scheds p.wheel) (state-append g f more.later)
+    ∙ sched_stays g p.wheel (state g f) more.later (free_later (Sched p.wheel) f h more same)) in
     record {
       in_range = stands.in_range;
-      hand = stands.hand ∙ ap (λ (s : SchedState). s.hand) (sym same);
-      fired = stands.fired ∙ ap (λ (s : SchedState). s.fired) (sym same);
+      hand = stands.hand ∙ ap (λ (s : SchedState). s.hand) (sym still);
+      fired = stands.fired ∙ ap (λ (s : SchedState). s.fired) (sym still);
     }
 
 -- parts in order stand on, but for those that are lent
 ordered_on : {X : Type 0} (number : X → ℕ) (old new : X → Type 0) (actor : ℕ → Actor) (lent : List Actor) (count : ℕ) (xs : List X)
-    → ((x : X) → is_held lent (actor (number x)) ≡ false → old x → new x)
+    → ((x : X) → number x < count → is_held lent (actor (number x)) ≡ false → old x → new x)
     → AreOrdered number old actor [] count xs → AreOrdered number new actor lent count xs
 ordered_on number old new actor lent count xs on ordered = record {
   counted = ordered.counted;
   named = ordered.named;
   stand = λ i d low apart.
-      on (slice_index_or xs i d) (subst (λ n. is_held lent (actor n) ≡ false) (sym (ordered.named i d low)) apart) (ordered.stand i d low refl);
+      let is : i ≡ number (slice_index_or xs i d) = sym (ordered.named i d low) in
+      on (slice_index_or xs i d) (subst (λ n. n < count) is low) (subst (λ n. is_held lent (actor n) ≡ false) is apart) (ordered.stand i d low refl);
 }
 
--- after entries of the lent actors alone all other parts stand
-pub others_stand : (g : Settings) (h es : List Entry) (lent : List Actor) (parts : AllParts) → Legal g (h ++ es) → AreOnlyOf lent es
-    → Stand g h [] parts → Stand g (h ++ es) lent parts
-others_stand g h es lent parts legal only stand =
-    let free : (a : Actor) → is_held lent a ≡ false → IsFree es a = λ a apart. free_of_others lent a es apart only in
+pub others_stand : (g : Settings) (v : View) (es : List Entry) (w : View) (next : ℕ) (lent : List Actor) (parts : AllParts) → TakesPlace g v es w
+    → AreOnlyOf lent es → HoldsRest g v.actors next → Stand g v.front [] parts → Stand g w.front lent parts
+others_stand g v es w next lent parts takes only holds stand =
+    let f : List Entry = v.front in
+    let h : List Entry = w.front in
+    let more : Begins f h = grown_by g v es w takes in
+    let same : (a : Actor) → IsActor g a → IsUnseated next a → is_held lent a ≡ false → of h a ≡ of f a =
+    λ a ranged mine apart. own_kept g v es w lent a takes only (holds.rest a ranged mine) apart in
     record {
-      legal = legal;
-      keeper = λ apart. clock_on g h es parts.keeper legal (free Keeper apart) (stand.keeper refl);
-      wheels = ordered_on (λ (p : Part). p.number) (WheelStands g h) (WheelStands g (h ++ es)) Wheel lent g.schedulers parts.wheels
-          (λ p apart stands. wheel_on g h es p legal (free (Wheel p.number) apart) stands) stand.wheels;
-      inboxes = ordered_on (λ (q : Waiting). q.wheel) (InboxStands g h) (InboxStands g (h ++ es)) Inbox lent g.schedulers parts.inboxes
-          (λ q apart stands. inbox_on g h (h ++ es) q (longer h es) (own_same (Inbox q.wheel) h es (free (Inbox q.wheel) apart)) stands) stand.inboxes;
-      mails = ordered_on (λ (m : Mailbox). m.process) (MailStands g h) (MailStands g (h ++ es)) MailOf lent g.processes parts.mails
-          (λ m apart stands. mail_on g h (h ++ es) m (longer h es) (own_same (MailOf m.process) h es (free (MailOf m.process) apart)) stands) stand.mails;
-      scheds = ordered_on (λ (p : SchedPart). p.wheel) (SchedStands g h) (SchedStands g (h ++ es)) Sched lent g.schedulers parts.scheds
-          (λ p apart stands. sched_on g h es p (free (Sched p.wheel) apart) stands) stand.scheds;
+      legal = takes.legal;
+      keeper = λ apart. clock_on g f h parts.keeper takes.legal more (same Keeper tt tt apart) (stand.keeper refl);
+      wheels = ordered_on (λ (p : Part). p.number) (WheelStands g f) (WheelStands g h) Wheel lent g.schedulers parts.wheels
+          (λ p low apart stands. wheel_on g f h p more (same (Wheel p.number) low tt apart) takes.legal stands) stand.wheels;
+      inboxes = ordered_on (λ (q : Waiting). q.wheel) (InboxStands g f) (InboxStands g h) Inbox lent g.schedulers parts.inboxes
+          (λ q low apart stands. inbox_on g f h q more (same (Inbox q.wheel) low tt apart) stands) stand.inboxes;
+      mails = ordered_on (λ (m : Mailbox). m.process) (MailStands g f) (MailStands g h) MailOf lent g.processes parts.mails
+          (λ m low apart stands. mail_on g f h m more (same (MailOf m.process) low tt apart) stands) stand.mails;
+      scheds = ordered_on (λ (p : SchedPart). p.wheel) (SchedStands g f) (SchedStands g h) Sched lent g.schedulers parts.scheds
+          (λ p low apart stands. sched_on g f h p more (same (Sched p.wheel) low tt apart) stands) stand.scheds;
     }
-
--- what holds of the part at a place after one was replaced, by whether it is that
-pub at_place : {X : Type 0} (P : X → Type 0) (xs : List X) (i j : ℕ) (x d : X) → i < length xs → (j ≡ i → P x) → (j ≢ i → P (slice_index_or xs j d))
-    → P (slice_index_or (slice_set xs i x) j d)
-at_place P xs i j x d low same other = by_test (nat_eq j i) refl
-  where
-    by_test : (b : Bool) → nat_eq j i ≡ b → P (slice_index_or (slice_set xs i x) j d)
-    by_test true is =
-        let one : j ≡ i = eqb-true j i is in
-        subst P (sym (get_or-set_at xs i j x d one low)) (same one)
-    by_test false is =
-        let apart : j ≢ i = λ (e : j ≡ i). let clash : true ≡ false = sym (eq-eqb j i e) ∙ is in cc in
-        subst P (sym (get_or-set_other xs i j x d apart)) (other apart)
-
--- parts in order in which one was replaced that stands itself: it is lent no more
-ordered_back : {X : Type 0} (number : X → ℕ) (stands : X → Type 0) (actor : ℕ → Actor) (lent : List Actor) (count : ℕ) (xs : List X)
-    → ((m n : ℕ) → m ≢ n → same_actor (actor m) (actor n) ≡ false) → (i : ℕ) (x : X) → i < count → number x ≡ i → stands x
-    → AreOrdered number stands actor (actor i ∷ lent) count xs → AreOrdered number stands actor lent count (slice_set xs i x)
-ordered_back number stands actor lent count xs apart i x low is stand ordered =
-    let within : i < length xs = rw ordered.counted low in
-    record {
-      counted = length-set xs i x ∙ ordered.counted;
-      named = λ j d below. at_place (λ y. number y ≡ j) xs i j x d within (λ one. is ∙ sym one) (λ other. ordered.named j d below);
-      stand = λ j d below left. at_place stands xs i j x d within (λ one. stand)
-          (λ other. ordered.stand j d below (lent_more actor lent i j (apart i j (λ e. other (sym e))) left));
-    }
-  where
-    lent_more : (actor : ℕ → Actor) (lent : List Actor) (i j : ℕ) → same_actor (actor i) (actor j) ≡ false → is_held lent (actor j) ≡ false
-        → is_held (actor i ∷ lent) (actor j) ≡ false
-    lent_more actor lent i j one other = rw one other
-
--- of parts that all stand any may be lent
-ordered_lend : {X : Type 0} (number : X → ℕ) (stands : X → Type 0) (actor : ℕ → Actor) (lent : List Actor) (count : ℕ) (xs : List X)
-    → AreOrdered number stands actor [] count xs → AreOrdered number stands actor lent count xs
-ordered_lend number stands actor lent count xs ordered = record {
-  counted = ordered.counted;
-  named = ordered.named;
-  stand = λ i d low left. ordered.stand i d low refl;
-}
-
-pub lend : (g : Settings) (h : List Entry) (lent : List Actor) (parts : AllParts) → Stand g h [] parts → Stand g h lent parts
-lend g h lent parts stand = record {
-  legal = stand.legal;
-  keeper = λ left. stand.keeper refl;
-  wheels = ordered_lend (λ (p : Part). p.number) (WheelStands g h) Wheel lent g.schedulers parts.wheels stand.wheels;
-  inboxes = ordered_lend (λ (q : Waiting). q.wheel) (InboxStands g h) Inbox lent g.schedulers parts.inboxes stand.inboxes;
-  mails = ordered_lend (λ (m : Mailbox). m.process) (MailStands g h) MailOf lent g.processes parts.mails stand.mails;
-  scheds = ordered_lend (λ (p : SchedPart). p.wheel) (SchedStands g h) Sched lent g.schedulers parts.scheds stand.scheds;
-}
-
--- parts of another kind aren't lent by this actor
-ordered_still : {X : Type 0} (number : X → ℕ) (stands : X → Type 0) (actor : ℕ → Actor) (a : Actor) (lent : List Actor) (count : ℕ) (xs : List X)
-    → ((n : ℕ) → same_actor a (actor n) ≡ false) → AreOrdered number stands actor (a ∷ lent) count xs → AreOrdered number stands actor lent count xs
-ordered_still number stands actor a lent count xs apart ordered = record {
-  counted = ordered.counted;
-  named = ordered.named;
-  stand = λ i d low left. ordered.stand i d low (rw (apart i) left);
-}
-
-numbers_apart : (m n : ℕ) → m ≢ n → nat_eq m n ≡ false
-numbers_apart m n ne = by_test (nat_eq m n) refl
-  where
-    by_test : (b : Bool) → nat_eq m n ≡ b → b ≡ false
-    by_test true is = absurd (ne (eqb-true m n is))
-    by_test false is = refl
-
--- a wheel that stands comes back
-pub wheel_back : (g : Settings) (h : List Entry) (lent : List Actor) (parts : AllParts) (i : ℕ) (x : Part) → i < g.schedulers → x.number ≡ i
-    → WheelStands g h x → Stand g h (Wheel i ∷ lent) parts → Stand g h lent (record parts { wheels = slice_set parts.wheels i x })
-wheel_back g h lent parts i x low is stands stand = record {
-  legal = stand.legal;
-  keeper = stand.keeper;
-  wheels = ordered_back (λ (p : Part). p.number) (WheelStands g h) Wheel lent g.schedulers parts.wheels numbers_apart i x low is stands stand.wheels;
-  inboxes = ordered_still (λ (q : Waiting). q.wheel) (InboxStands g h) Inbox (Wheel i) lent g.schedulers parts.inboxes (λ n. refl) stand.inboxes;
-  mails = ordered_still (λ (m : Mailbox). m.process) (MailStands g h) MailOf (Wheel i) lent g.processes parts.mails (λ n. refl) stand.mails;
-  scheds = ordered_still (λ (p : SchedPart). p.wheel) (SchedStands g h) Sched (Wheel i) lent g.schedulers parts.scheds (λ n. refl) stand.scheds;
-}
-
--- an inbox that stands comes back
-pub inbox_back : (g : Settings) (h : List Entry) (lent : List Actor) (parts : AllParts) (i : ℕ) (x : Waiting) → i < g.schedulers → x.wheel ≡ i
-    → InboxStands g h x → Stand g h (Inbox i ∷ lent) parts → Stand g h lent (record parts { inboxes = slice_set parts.inboxes i x })
-inbox_back g h lent parts i x low is stands stand = record {
-  legal = stand.legal;
-  keeper = stand.keeper;
-  wheels = ordered_still (λ (p : Part). p.number) (WheelStands g h) Wheel (Inbox i) lent g.schedulers parts.wheels (λ n. refl) stand.wheels;
-  inboxes = ordered_back (λ (q : Waiting). q.wheel) (InboxStands g h) Inbox lent g.schedulers parts.inboxes numbers_apart i x low is stands stand.inboxes;
-  mails = ordered_still (λ (m : Mailbox). m.process) (MailStands g h) MailOf (Inbox i) lent g.processes parts.mails (λ n. refl) stand.mails;
-  scheds = ordered_still (λ (p : SchedPart). p.wheel) (SchedStands g h) Sched (Inbox i) lent g.schedulers parts.scheds (λ n. refl) stand.scheds;
-}
-
--- a mailbox that stands comes back
-pub mail_back : (g : Settings) (h : List Entry) (lent : List Actor) (parts : AllParts) (i : ℕ) (x : Mailbox) → i < g.processes → x.process ≡ i
-    → MailStands g h x → Stand g h (MailOf i ∷ lent) parts → Stand g h lent (record parts { mails = slice_set parts.mails i x })
-mail_back g h lent parts i x low is stands stand = record {
-  legal = stand.legal;
-  keeper = stand.keeper;
-  wheels = ordered_still (λ (p : Part). p.number) (WheelStands g h) Wheel (MailOf i) lent g.schedulers parts.wheels (λ n. refl) stand.wheels;
-  inboxes = ordered_still (λ (q : Waiting). q.wheel) (InboxStands g h) Inbox (MailOf i) lent g.schedulers parts.inboxes (λ n. refl) stand.inboxes;
-  mails = ordered_back (λ (m : Mailbox). m.process) (MailStands g h) MailOf lent g.processes parts.mails numbers_apart i x low is stands stand.mails;
-  scheds = ordered_still (λ (p : SchedPart). p.wheel) (SchedStands g h) Sched (MailOf i) lent g.schedulers parts.scheds (λ n. refl) stand.scheds;
-}
-
--- a scheduler's part that stands comes back
-pub sched_back : (g : Settings) (h : List Entry) (lent : List Actor) (parts : AllParts) (i : ℕ) (x : SchedPart) → i < g.schedulers → x.wheel ≡ i
-    → SchedStands g h x → Stand g h (Sched i ∷ lent) parts → Stand g h lent (record parts { scheds = slice_set parts.scheds i x })
-sched_back g h lent parts i x low is stands stand = record {
-  legal = stand.legal;
-  keeper = stand.keeper;
-  wheels = ordered_still (λ (p : Part). p.number) (WheelStands g h) Wheel (Sched i) lent g.schedulers parts.wheels (λ n. refl) stand.wheels;
-  inboxes = ordered_still (λ (q : Waiting). q.wheel) (InboxStands g h) Inbox (Sched i) lent g.schedulers parts.inboxes (λ n. refl) stand.inboxes;
-  mails = ordered_still (λ (m : Mailbox). m.process) (MailStands g h) MailOf (Sched i) lent g.processes parts.mails (λ n. refl) stand.mails;
-  scheds = ordered_back (λ (p : SchedPart). p.wheel) (SchedStands g h) Sched lent g.schedulers parts.scheds numbers_apart i x low is stands stand.scheds;
-}
-
--- the clock's part that stands comes back
-pub keeper_back : (g : Settings) (h : List Entry) (lent : List Actor) (parts : AllParts) (x : Shown)
-    → ClockStands g h x → Stand g h (Keeper ∷ lent) parts → Stand g h lent (record parts { keeper = x })
-keeper_back g h lent parts x stands stand = record {
-  legal = stand.legal;
-  keeper = λ left. stands;
-  wheels = ordered_still (λ (p : Part). p.number) (WheelStands g h) Wheel Keeper lent g.schedulers parts.wheels (λ n. refl) stand.wheels;
-  inboxes = ordered_still (λ (q : Waiting). q.wheel) (InboxStands g h) Inbox Keeper lent g.schedulers parts.inboxes (λ n. refl) stand.inboxes;
-  mails = ordered_still (λ (m : Mailbox). m.process) (MailStands g h) MailOf Keeper lent g.processes parts.mails (λ n. refl) stand.mails;
-  scheds = ordered_still (λ (p : SchedPart). p.wheel) (SchedStands g h) Sched Keeper lent g.schedulers parts.scheds (λ n. refl) stand.scheds;
-}
-
--- a caller has no part
-pub caller_back : (g : Settings) (h : List Entry) (lent : List Actor) (parts : AllParts) (n : ℕ) → Stand g h (Caller n ∷ lent) parts → Stand g h lent parts
-caller_back g h lent parts n stand = record {
-  legal = stand.legal;
-  keeper = stand.keeper;
-  wheels = ordered_still (λ (p : Part). p.number) (WheelStands g h) Wheel (Caller n) lent g.schedulers parts.wheels (λ n. refl) stand.wheels;
-  inboxes = ordered_still (λ (q : Waiting). q.wheel) (InboxStands g h) Inbox (Caller n) lent g.schedulers parts.inboxes (λ n. refl) stand.inboxes;
-  mails = ordered_still (λ (m : Mailbox). m.process) (MailStands g h) MailOf (Caller n) lent g.processes parts.mails (λ n. refl) stand.mails;
-  scheds = ordered_still (λ (p : SchedPart). p.wheel) (SchedStands g h) Sched (Caller n) lent g.schedulers parts.scheds (λ n. refl) stand.scheds;
-}

@@ -1,6 +1,7 @@
 -- The counts of all parts of a world together.
 
 use Rattle.std.proofs.Common.{◌≡◌, ℕ, zero, suc, ◌+◌, ◌-◌, ◌<◌, ◌≤◌, List, length, slice_index_or, count_by, refl, sym, ap, subst, ◌∙◌, arith, Fits, w64}
+use Rattle.std.specs.Arc.{arc_value}
 use Rattle.std.specs.Option.{is_some}
 use Rattle.ert_defs.specs.Legal.{Legal}
 use Rattle.ert_defs.specs.Settings.{IsChecked}
@@ -84,16 +85,16 @@ delivered_few g h checked legal n low =
     omega (arith, grows, all, few)
 
 -- a world's history is legal, and its settings are checked
-pub legal_now : (before : Seen) (b : Inside) → the_view b ≡ before → AreFit b.desk b.pass (parts_in b) → IsChecked before.settings × Legal before.settings before.history
+pub legal_now : (before : Seen) (b : Inside) → the_view b ≡ before → AreFit (arc_value b.desk) b.pass b.next (parts_in b) → IsChecked before.settings × Legal before.settings before.history
 legal_now before b is fit =
-    subst (λ (w : Seen). IsChecked w.settings × Legal w.settings w.history) is (b.desk.checked, fit.stand.legal)
+    subst (λ (w : Seen). IsChecked w.settings × Legal w.settings w.history) is ((arc_value b.desk).checked, fit.stand.legal)
 
 -- what a part of a world counts
-pub wheel_counts : (before : Seen) (b : Inside) (i : ℕ) (p : Part) → the_view b ≡ before → AreFit b.desk b.pass (parts_in b) → i < before.settings.schedulers
+pub wheel_counts : (before : Seen) (b : Inside) (i : ℕ) (p : Part) → the_view b ≡ before → AreFit (arc_value b.desk) b.pass b.next (parts_in b) → i < before.settings.schedulers
     → p ≡ slice_index_or b.wheels.items i p
     → (p.arms ≡ entries_of is_arm i before.history) × (p.expires ≡ entries_of is_expire i before.history) × (p.orphans ≡ entries_of is_orphan i before.history)
 wheel_counts before b i p is fit low lent =
-    let g : Settings = settings_of b.desk in
+    let g : Settings = settings_of (arc_value b.desk) in
     let below : i < g.schedulers = subst (λ (w : Seen). i < w.settings.schedulers) (sym is) low in
     let stands : WheelStands g (front_of b.pass) p = subst (WheelStands g (front_of b.pass)) (sym lent) (fit.stand.wheels.stand i p below refl) in
     let named : p.number ≡ i = ap (λ (x : Part). x.number) lent ∙ fit.stand.wheels.named i p below in
@@ -102,10 +103,10 @@ wheel_counts before b i p is fit low lent =
     subst (λ (w : Seen). (p.arms ≡ entries_of is_arm i w.history) × (p.expires ≡ entries_of is_expire i w.history) × (p.orphans ≡ entries_of is_orphan i w.history))
     is counted
 
-pub wheel_rows : (before : Seen) (b : Inside) (i : ℕ) (p : Part) → the_view b ≡ before → AreFit b.desk b.pass (parts_in b) → i < before.settings.schedulers
+pub wheel_rows : (before : Seen) (b : Inside) (i : ℕ) (p : Part) → the_view b ≡ before → AreFit (arc_value b.desk) b.pass b.next (parts_in b) → i < before.settings.schedulers
     → p ≡ slice_index_or b.wheels.items i p → IsTidyAt before i → count_by is_some p.keys ≡ count_at (state before.settings before.history) Armed i
 wheel_rows before b i p is fit low lent tidy =
-    let g : Settings = settings_of b.desk in
+    let g : Settings = settings_of (arc_value b.desk) in
     let s : State = state g (front_of b.pass) in
     let below : i < g.schedulers = subst (λ (w : Seen). i < w.settings.schedulers) (sym is) low in
     let stands : WheelStands g (front_of b.pass) p = subst (WheelStands g (front_of b.pass)) (sym lent) (fit.stand.wheels.stand i p below refl) in
@@ -115,19 +116,19 @@ wheel_rows before b i p is fit low lent tidy =
     subst (λ (w : Seen). count_by is_some p.keys ≡ count_at (state w.settings w.history) Armed i) is
     (subst (λ n. count_by is_some p.keys ≡ count_at s Armed n) named (tidy_counts g (front_of b.pass) p stands mine))
 
-pub sched_waits : (before : Seen) (b : Inside) (i : ℕ) (p : SchedPart) → the_view b ≡ before → AreFit b.desk b.pass (parts_in b) → i < before.settings.schedulers
+pub sched_waits : (before : Seen) (b : Inside) (i : ℕ) (p : SchedPart) → the_view b ≡ before → AreFit (arc_value b.desk) b.pass b.next (parts_in b) → i < before.settings.schedulers
     → p ≡ slice_index_or b.scheds.items i p → length p.fired.rows ≡ length (sched_of before i).fired
 sched_waits before b i p is fit low lent =
-    let g : Settings = settings_of b.desk in
+    let g : Settings = settings_of (arc_value b.desk) in
     let below : i < g.schedulers = subst (λ (w : Seen). i < w.settings.schedulers) (sym is) low in
     let stands = subst (λ (x : SchedPart). x.fired.rows ≡ ((state g (front_of b.pass)).scheds x.wheel).fired) (sym lent) (fit.stand.scheds.stand i p below refl).fired in
     let named : p.wheel ≡ i = ap (λ (x : SchedPart). x.wheel) lent ∙ fit.stand.scheds.named i p below in
     ap (λ (l : List _). length l) (stands ∙ (ap (λ n. ((state g (front_of b.pass)).scheds n).fired) named ∙ ap (λ (w : Seen). (sched_of w i).fired) is))
 
-pub mail_delivered : (before : Seen) (b : Inside) (i : ℕ) (m : Mailbox) → the_view b ≡ before → AreFit b.desk b.pass (parts_in b) → i < before.settings.processes
+pub mail_delivered : (before : Seen) (b : Inside) (i : ℕ) (m : Mailbox) → the_view b ≡ before → AreFit (arc_value b.desk) b.pass b.next (parts_in b) → i < before.settings.processes
     → m ≡ slice_index_or b.mails.items i m → m.delivered ≡ deliveries i before.history
 mail_delivered before b i m is fit low lent =
-    let g : Settings = settings_of b.desk in
+    let g : Settings = settings_of (arc_value b.desk) in
     let below : i < g.processes = subst (λ (w : Seen). i < w.settings.processes) (sym is) low in
     let stands = subst (λ (x : Mailbox). x.delivered ≡ deliveries x.process (front_of b.pass)) (sym lent) (fit.stand.mails.stand i m below refl).delivered in
     let named : m.process ≡ i = ap (λ (x : Mailbox). x.process) lent ∙ fit.stand.mails.named i m below in

@@ -1,63 +1,94 @@
--- The time and the offset that a world answers are those of its clock.
+-- The time and the offset that a world answers are those of its clock: nobody else moves that.
 
-use Rattle.std.proofs.Common.{◌≡◌, ℤ, ◌+ℤ◌, List, [], ◌∷◌, refl, sym, ap, subst, ◌∙◌}
+use Rattle.std.proofs.Common.{◌≡◌, ℤ, ◌+ℤ◌, Bool, true, false, List, [], ◌∷◌, filter, refl, sym, ap, subst, ◌∙◌}
 use Rattle.ert_answers.specs.ClockCalls.{TellsTime, TellsOffset, TellsSystemTime}
-use Rattle.ert_defs.specs.Clocks.{face}
-use Rattle.ert_defs.specs.Entries.{look_entry, off_entry}
-use Rattle.ert_defs.specs.Legal.{LegalFrom}
+use Rattle.ert_defs.proofs.Runs.{clock_stays, free_first, free_rest, legal_then}
+use Rattle.ert_defs.specs.Actors.{IsFree}
+use Rattle.ert_defs.specs.Clocks.{Clock, face}
+use Rattle.ert_defs.specs.Entries.{is_ours}
+use Rattle.ert_defs.specs.Legal.{Found, Legal, LegalFrom}
 use Rattle.ert_defs.specs.Lines.{Face}
-use Rattle.ert_defs.specs.States.{State, state}
-use Rattle.ert_defs.specs.declared.entry.Actor.TheVariants.{Caller}
+use Rattle.ert_defs.specs.States.{State, opening, next, state}
+use Rattle.ert_defs.specs.declared.entry.Actor.{Actor}
+use Rattle.ert_defs.specs.declared.entry.Actor.TheVariants.{Keeper, Caller}
 use Rattle.ert_defs.specs.declared.entry.Entry.{Entry}
+use Rattle.ert_defs.specs.declared.entry.Event.{Event}
+use Rattle.ert_defs.specs.declared.entry.Event.TheVariants.{Look, Off}
 use Rattle.ert_defs.specs.declared.settings.OffsetState.{OffsetState}
 use Rattle.ert_defs.specs.declared.settings.Settings.{Settings}
-use Rattle.ert_table.proofs.Calls.{whole_exact}
-use Rattle.ert_table.specs.Calls.{IsMade}
-use Rattle.ert_table.specs.Desks.{settings_of, view_of, front_of}
+use Rattle.ert_world.proofs.Calm.{time_quiet, offset_quiet, system_quiet}
+use Rattle.ert_table.proofs.Holders.{free_one}
+use Rattle.ert_table.specs.Calls.{AreOnlyOf, IsMade}
+use Rattle.ert_table.specs.Desks.{settings_of, view_of, front_of, actors_of}
+use Rattle.ert_table.specs.declared.desk.Desk.{Desk}
 use Rattle.ert_table.specs.declared.desk.Pass.{Pass}
-use Rattle.ert_world.specs.Worlds.{Seen, AreFit}
-use Rattle.ert_world.specs.contracts.world.World.{the_view}
+use Rattle.ert_world.proofs.Calls.{Has}
+use Rattle.ert_world.proofs.Standing.{free_kept}
+use Rattle.ert_world.specs.Worlds.{Seen}
 use Rattle.ert_world.specs.declared.world.World.TheInside.{Inside}
-use Rattle.ert_world.proofs.Calls.{parts_in, added}
 
--- the entries of a call are legal where they stand
-legal_of : (b : Inside) (q : Pass) (allows : State → List Entry → Type 0) → AreFit b.desk b.pass (parts_in b)
-    → (made : IsMade (settings_of b.desk) (view_of b.pass) allows (view_of q)) → LegalFrom (settings_of b.desk) (state (settings_of b.desk) (front_of b.pass)) made.entries
-legal_of b q allows fit made =
-    added b.desk b.pass q made.entries (whole_exact (settings_of b.desk) (view_of b.pass) (view_of q) made.entries fit.whole made.call) made.call.legal
+-- what an event shows of a clock is what that shows
+abbrev Sees : Face → Event → Type 0
+Sees f (Look now) = now ≡ f.time
+Sees f (Off offset offset_state) = (offset ≡ f.offset) × (offset_state ≡ f.state)
+Sees f _ = Unit {0}
 
--- what the clock of a world shows is what its history has
-shows : (before : Seen) (b : Inside) → the_view b ≡ before → AreFit b.desk b.pass (parts_in b)
-    → face (settings_of b.desk) (state (settings_of b.desk) (front_of b.pass)).clock ≡ before.clock.face
-shows before b is fit = sym (fit.stand.keeper refl).face ∙ ap (λ (w : Seen). w.clock.face) is
+abbrev AllSee : Face → List Entry → Type 0
+AllSee f [] = Unit {0}
+AllSee f (e ∷ es) = Sees f e.event × AllSee f es
 
-pub time_value : (before : Seen) (b : Inside) (q : Pass) (now : ℤ) → the_view b ≡ before → AreFit b.desk b.pass (parts_in b)
-    → IsMade (settings_of b.desk) (view_of b.pass) (TellsTime (settings_of b.desk) (Caller 0) now) (view_of q) → now ≡ before.clock.face.time
-time_value before b q now is fit made =
-    let g : Settings = settings_of b.desk in
+found_seen : (g : Settings) (s : State) (by : Actor) (event : Event) → Found g s by event → Sees (face g s.clock) event
+found_seen g s by (Look now) found = found
+found_seen g s by (Off offset offset_state) found = found
+found_seen g s by _ found = tt
+
+-- so it is at each entry of these actors, where the clock's part has none
+all_seen : (g : Settings) (actors : List Actor) (s : State) (m : List Entry) → LegalFrom g s m → IsFree m Keeper
+    → AllSee (face g s.clock) (filter (is_ours actors) m)
+all_seen g actors s [] legal free = tt
+all_seen g actors s (e ∷ m) legal free =
+    let still : (next g s e).clock ≡ s.clock = clock_stays g s (e ∷ []) (free_one e Keeper (free_first Keeper e m free)) in
+    at (is_ours actors e) refl (subst (λ (c : Clock). AllSee (face g c) (filter (is_ours actors) m)) still
+    (all_seen g actors (next g s e) m legal.1 (free_rest Keeper e m free)))
+  where
+    at : (b : Bool) → is_ours actors e ≡ b → AllSee (face g s.clock) (filter (is_ours actors) m) → AllSee (face g s.clock) (filter (is_ours actors) (e ∷ m))
+    at true is more = rw is (found_seen g s e.by e.event legal.0.found, more)
+    at false is more = rw is more
+
+seen_by : (before : Seen) (b : Inside) (d : Desk) (q : Pass) (allows : State → List Entry → Type 0) → Has before b d
+    → (made : IsMade (settings_of d) (view_of b.pass) allows (view_of q)) → AreOnlyOf (Caller 0 ∷ []) made.entries → AllSee before.clock.face made.entries
+seen_by before b d q allows has made only =
+    let g : Settings = settings_of d in
+    let free = free_kept g (view_of b.pass) made.entries (view_of q) (Caller 0 ∷ []) Keeper made.call only (has.fit.holds.rest Keeper tt tt) refl in
+    let legal = legal_then g (opening g) (front_of b.pass) made.call.later (subst (Legal g) made.call.grown made.call.legal) in
+    let shows : face g (state g (front_of b.pass)).clock ≡ before.clock.face =
+    sym (has.fit.stand.keeper refl).face ∙ ap (λ (w : Seen). w.clock.face) has.is in
+    subst (λ f. AllSee f made.entries) shows
+    (subst (λ l. AllSee (face g (state g (front_of b.pass)).clock) l) made.call.ours (all_seen g (actors_of b.pass) (state g (front_of b.pass)) made.call.later legal free))
+
+pub time_value : (before : Seen) (b : Inside) (d : Desk) (q : Pass) (now : ℤ) → Has before b d
+    → IsMade (settings_of d) (view_of b.pass) (TellsTime (settings_of d) (Caller 0) now) (view_of q) → now ≡ before.clock.face.time
+time_value before b d q now has made =
+    let g : Settings = settings_of d in
     let s : State = state g (front_of b.pass) in
-    let legal : LegalFrom g s (look_entry (Caller 0) now ∷ []) = subst (LegalFrom g s) made.allowed (legal_of b q (TellsTime g (Caller 0) now) fit made) in
-    legal.0.found ∙ ap (λ (f : Face). f.time) (shows before b is fit)
+    let all = seen_by before b d q (TellsTime g (Caller 0) now) has made (time_quiet g (Caller 0) now s made.entries made.allowed).only in
+    (subst (λ l. AllSee before.clock.face l) made.allowed all).0
 
-pub offset_value : (before : Seen) (b : Inside) (q : Pass) (answer : ℤ × OffsetState) → the_view b ≡ before → AreFit b.desk b.pass (parts_in b)
-    → IsMade (settings_of b.desk) (view_of b.pass) (TellsOffset (settings_of b.desk) (Caller 0) answer) (view_of q)
+pub offset_value : (before : Seen) (b : Inside) (d : Desk) (q : Pass) (answer : ℤ × OffsetState) → Has before b d
+    → IsMade (settings_of d) (view_of b.pass) (TellsOffset (settings_of d) (Caller 0) answer) (view_of q)
     → (answer.0 ≡ before.clock.face.offset) × (answer.1 ≡ before.clock.face.state)
-offset_value before b q answer is fit made =
-    let g : Settings = settings_of b.desk in
+offset_value before b d q answer has made =
+    let g : Settings = settings_of d in
     let s : State = state g (front_of b.pass) in
-    let legal : LegalFrom g s (off_entry (Caller 0) answer.0 answer.1 ∷ []) =
-    subst (LegalFrom g s) made.allowed (legal_of b q (TellsOffset g (Caller 0) answer) fit made) in
-    (legal.0.found.0 ∙ ap (λ (f : Face). f.offset) (shows before b is fit), legal.0.found.1 ∙ ap (λ (f : Face). f.state) (shows before b is fit))
+    let all = seen_by before b d q (TellsOffset g (Caller 0) answer) has made (offset_quiet g (Caller 0) answer s made.entries made.allowed).only in
+    (subst (λ l. AllSee before.clock.face l) made.allowed all).0
 
-pub system_value : (before : Seen) (b : Inside) (q : Pass) (answer : ℤ) → the_view b ≡ before → AreFit b.desk b.pass (parts_in b)
-    → IsMade (settings_of b.desk) (view_of b.pass) (TellsSystemTime (settings_of b.desk) (Caller 0) answer) (view_of q)
+pub system_value : (before : Seen) (b : Inside) (d : Desk) (q : Pass) (answer : ℤ) → Has before b d
+    → IsMade (settings_of d) (view_of b.pass) (TellsSystemTime (settings_of d) (Caller 0) answer) (view_of q)
     → answer ≡ (before.clock.face.time +ℤ before.clock.face.offset)
-system_value before b q answer is fit made =
-    let g : Settings = settings_of b.desk in
+system_value before b d q answer has made =
+    let g : Settings = settings_of d in
     let s : State = state g (front_of b.pass) in
-    let tells = made.allowed in
-    let legal : LegalFrom g s (look_entry (Caller 0) tells.now ∷ (off_entry (Caller 0) tells.offset tells.offset_state ∷ [])) =
-    subst (LegalFrom g s) tells.entries (legal_of b q (TellsSystemTime g (Caller 0) answer) fit made) in
-    let time : tells.now ≡ before.clock.face.time = legal.0.found ∙ ap (λ (f : Face). f.time) (shows before b is fit) in
-    let offset : tells.offset ≡ before.clock.face.offset = legal.1.0.found.0 ∙ ap (λ (f : Face). f.offset) (shows before b is fit) in
-    tells.sum ∙ ap (λ (x : ℤ). x +ℤ tells.offset) time ∙ ap (λ (x : ℤ). before.clock.face.time +ℤ x) offset
+    let all = seen_by before b d q (TellsSystemTime g (Caller 0) answer) has made (system_quiet g (Caller 0) answer s made.entries made.allowed).only in
+    let told = subst (λ l. AllSee before.clock.face l) made.allowed.entries all in
+    made.allowed.sum ∙ ap (λ (x : ℤ). x +ℤ made.allowed.offset) told.0 ∙ ap (λ (x : ℤ). before.clock.face.time +ℤ x) told.1.0.0

@@ -9,10 +9,10 @@ use Rattle.ert_timers.specs.Tidy.{IsTidy}
 use Rattle.ert_world.specs.Worlds.{Seen, StandsFor, IsTidyAt}
 use Rattle.ert_world.specs.declared.sched_part.SchedPart.{SchedPart}
 
--- a world was opened: it stands for the empty history, has no labels, and each wheel is tidy
+-- a world was opened: it stands for the empty history, has given out no seat, and each wheel is tidy
 pub record IsOpened (g : Settings) (w : Seen) : Type 0 where
   pub stands : StandsFor g [] w
-  pub labels : w.labels ≡ []
+  pub next : w.next ≡ 1
   pub tidy : (i : ℕ) → i < g.schedulers → IsTidyAt w i
 
 -- so many parts of one kind, each new as its number says

@@ -1,12 +1,15 @@
--- What callers see of a world, the history that it stands for, and how its calls make that longer.
+-- What callers see of a world, the history that it knows, and how its calls make that longer.
 
-use Rattle.std.specs.Prelude.{◌≡◌, ◌≢◌, ℕ, ◌<◌, true, List, [], slice_index_or, Option, Some, None, Result, Ok, Err}
-use Rattle.ert_answers.specs.Ways.{Growth, Grows, alone}
+use Rattle.std.specs.Prelude.{◌≡◌, ◌≢◌, ℕ, ◌<◌, ◌≤◌, ◌⊎◌, true, false, List, [], slice_index_or, Option, Some, None, Result, Ok, Err}
+use Rattle.atomic_table.specs.Seated.{TableId}
+use Rattle.ert_answers.specs.Ways.{Growth, Way, Grows, alone}
 use Rattle.ert_clock.specs.Shown.{Shown, Stands as ClockStands}
 use Rattle.ert_defs.specs.Mails.{SchedState}
 use Rattle.ert_defs.specs.Milliseconds.{down, natural}
 use Rattle.ert_defs.specs.Settings.{IsChecked}
 use Rattle.ert_defs.specs.States.{State, state}
+use Rattle.ert_defs.specs.declared.entry.Actor.{Actor}
+use Rattle.ert_defs.specs.declared.entry.Actor.TheVariants.{Caller}
 use Rattle.ert_defs.specs.declared.entry.Entry.{Entry}
 use Rattle.ert_defs.specs.declared.mail.Request.{Request}
 use Rattle.ert_defs.specs.declared.mail.RequestKind.{RequestKind}
@@ -16,111 +19,142 @@ use Rattle.ert_defs.specs.declared.settings.Settings.{Settings}
 use Rattle.ert_defs.specs.declared.timer.Status.TheVariants.{Armed}
 use Rattle.ert_defs.specs.declared.timer.TimerRef.{TimerRef}
 use Rattle.ert_table.specs.Desks.{settings_of, front_of, actors_of, Belongs}
-use Rattle.ert_table.specs.Held.{IsWhole}
+use Rattle.ert_table.specs.Held.{is_held, IsActor}
 use Rattle.ert_table.specs.declared.desk.Desk.{Desk}
 use Rattle.ert_table.specs.declared.desk.Pass.{Pass}
 use Rattle.ert_timers.specs.NextDue.{IsNearest, IsNextHeld, horizon_at}
 use Rattle.ert_timers.specs.Parts.{Part}
-use Rattle.ert_world.specs.Parts.{AllParts, Stand}
 use Rattle.ert_timers.specs.Tidy.{IsTidy, IsTidyBut}
+use Rattle.ert_world.specs.Parts.{AllParts, Stand}
+use Rattle.ert_world.specs.Ways.{beside_seats}
 
--- what callers see of a world: its settings, its history, what its clock shows, its labels, each with the
--- timer that it is bound to, and its wheels
-pub record Service : Type 0 where
+-- what callers see of a world: which desk it is of, with its settings, the history that it knows, what its clock
+-- shows, the next caller that is to get a seat, and its wheels
+pub record Seen : Type 0 where
+  pub table : TableId
   pub settings : Settings
   pub history : List Entry
   pub clock : Shown
-  pub labels : List (ℕ × TimerRef)
+  pub next : ℕ
   pub wheels : List Part
 
 -- what they see of a world with these: the history is the front of its pass
-abbrev pub seen : Desk → Pass → Shown → List (ℕ × TimerRef) → List Part → Service
-seen d p clock labels wheels =
-    record { settings = settings_of d; history = front_of p; clock = clock; labels = labels; wheels = wheels }
+abbrev pub seen : Desk → Pass → ℕ → Shown → List Part → Seen
+seen d p next clock wheels = record {
+  table = d.table.shared.table_id;
+  settings = settings_of d;
+  history = front_of p;
+  clock = clock;
+  next = next;
+  wheels = wheels;
+}
 
--- the parts of a world fit: the pass is of the desk and holds every actor, and each part stands for its front
-pub record AreFit (d : Desk) (p : Pass) (parts : AllParts) : Type 0 where
+-- an actor was given no seat: every one but the callers from 1 on, below the next
+abbrev pub IsUnseated : ℕ → Actor → Type 0
+IsUnseated next (Caller n) = (n ≡ 0) ⊎ (next ≤ n)
+IsUnseated next _ = Unit {0}
+
+-- of the actors in range just those are held that were given no seat
+pub record HoldsRest (g : Settings) (actors : List Actor) (next : ℕ) : Type 0 where
+  pub some : 0 < next
+  pub most : next ≤ g.callers
+  pub rest : (a : Actor) → IsActor g a → IsUnseated next a → is_held actors a ≡ true
+  pub given : (n : ℕ) → 0 < n → n < next → is_held actors (Caller n) ≡ false
+
+-- the parts of a world fit: the pass is of the desk and holds every actor but those with seats, and each part
+-- stands for its front
+pub record AreFit (d : Desk) (p : Pass) (next : ℕ) (parts : AllParts) : Type 0 where
   pub belongs : Belongs d p
-  pub whole : IsWhole (settings_of d) (actors_of p)
+  pub holds : HoldsRest (settings_of d) (actors_of p) next
   pub stand : Stand (settings_of d) (front_of p) [] parts
 
 -- a wheel of a world is tidy: all timers that it holds are armed
-abbrev pub IsTidyAt : Service → ℕ → Type 0
+abbrev pub IsTidyAt : Seen → ℕ → Type 0
 IsTidyAt w i = (d : Part) → IsTidy (state w.settings w.history) (slice_index_or w.wheels i d)
 
 -- how early the next of the rows that a wheel of a world holds is due, as a look ahead from the published time
 -- tells, and None where it holds none. It holds the row of each armed timer, and may hold the row of one that was
 -- cancelled until that would have been due
-abbrev pub IsNextHeldAt : Service → ℕ → Option ℕ → Type 0
+abbrev pub IsNextHeldAt : Seen → ℕ → Option ℕ → Type 0
 IsNextHeldAt w i answer = (d : Part) → IsNextHeld (slice_index_or w.wheels i d) (natural (down w.settings w.clock.face.time)) answer
 
 -- where a wheel of a world is tidy, a time that is answered is that of an armed timer, or some timer is armed and
 -- it is the end of a look ahead from the published time
-abbrev pub IsNearestAt : Service → ℕ → Option ℕ → Type 0
+abbrev pub IsNearestAt : Seen → ℕ → Option ℕ → Type 0
 IsNearestAt w i answer = IsTidyAt w i → IsNearest (state w.settings w.history) i (horizon_at w.settings w.clock.face.time) answer
 
--- each wheel that was tidy is so still
-abbrev pub StayTidy : Service → Service → Type 0
-StayTidy old new = (i : ℕ) → i < old.settings.schedulers → IsTidyAt old i → IsTidyAt new i
+-- where no seat was given out, each wheel that was tidy is so still
+abbrev pub StayTidy : Seen → Seen → Type 0
+StayTidy old new = old.next ≡ 1 → (i : ℕ) → i < old.settings.schedulers → IsTidyAt old i → IsTidyAt new i
 
 -- all timers that it holds but one are armed
-abbrev pub IsTidyButAt : Service → ℕ → TimerRef → Type 0
+abbrev pub IsTidyButAt : Seen → ℕ → TimerRef → Type 0
 IsTidyButAt w i timer = (d : Part) → IsTidyBut (state w.settings w.history) (slice_index_or w.wheels i d) timer
 
 -- each wheel that was tidy is so still, but for a timer that was cancelled, if this much was left of it
-abbrev pub StayTidyBut : TimerRef → Option ℕ → Service → Service → Type 0
+abbrev pub StayTidyBut : TimerRef → Option ℕ → Seen → Seen → Type 0
 StayTidyBut timer None old new = StayTidy old new
-StayTidyBut timer (Some left) old new = (i : ℕ) → i < old.settings.schedulers → IsTidyAt old i → IsTidyButAt new i timer
+StayTidyBut timer (Some left) old new = old.next ≡ 1 → (i : ℕ) → i < old.settings.schedulers → IsTidyAt old i → IsTidyButAt new i timer
 
--- a world makes a call: its history grows by it, and its settings and labels stay; a tidy wheel stays tidy
-pub record Goes (old : Service) (call : Growth) (new : Service) : Type 0 where
-  pub grows : Grows call old.history new.history
+-- a world's steps come about beside those of its seats
+abbrev pub way_of : Seen → Way
+way_of w = beside_seats w.settings w.next
+
+-- a world makes a call, which may be made in any way: its history grows by it, beside its seats, and as that of one
+-- thread where it gave out none. Its desk, its settings and its seats stay
+pub record Goes (old : Seen) (call : Way → Growth) (new : Seen) : Type 0 where
+  pub grows : Grows (call (way_of old)) old.history new.history
+  pub lone : old.next ≡ 1 → Grows (call (alone old.settings)) old.history new.history
+  pub table : new.table ≡ old.table
   pub settings : new.settings ≡ old.settings
-  pub labels : new.labels ≡ old.labels
+  pub next : new.next ≡ old.next
   pub tidy : StayTidy old new
 
+-- a timer isn't armed in the history of a world
+abbrev pub IsSettledIn : Seen → TimerRef → Type 0
+IsSettledIn w timer = (state w.settings w.history).status timer ≢ Some Armed
+
 -- a timer is of a wheel in range and no longer armed, if this much was left of it when it was cancelled
-abbrev pub IsGone : Settings → State → TimerRef → Option ℕ → Type 0
-IsGone g s timer None = Unit {0}
-IsGone g s timer (Some left) = (timer.wheel < g.schedulers) × (s.status timer ≢ Some Armed)
+abbrev pub IsGone : Seen → TimerRef → Option ℕ → Type 0
+IsGone w timer None = Unit {0}
+IsGone w timer (Some left) = (timer.wheel < w.settings.schedulers) × IsSettledIn w timer
 
 -- but for one timer that was cancelled, if this much was left of it: its row still stands
-pub record GoesBut (timer : TimerRef) (left : Option ℕ) (old : Service) (call : Growth) (new : Service) : Type 0 where
-  pub grows : Grows call old.history new.history
+pub record GoesBut (timer : TimerRef) (left : Option ℕ) (old : Seen) (call : Way → Growth) (new : Seen) : Type 0 where
+  pub grows : Grows (call (way_of old)) old.history new.history
+  pub lone : old.next ≡ 1 → Grows (call (alone old.settings)) old.history new.history
+  pub table : new.table ≡ old.table
   pub settings : new.settings ≡ old.settings
-  pub labels : new.labels ≡ old.labels
+  pub next : new.next ≡ old.next
   pub tidy : StayTidyBut timer left old new
-  pub gone : IsGone new.settings (state new.settings new.history) timer left
+  pub gone : IsGone new timer left
 
 -- the row of a timer goes, and nothing else changes
-pub record Forgets (timer : TimerRef) (old new : Service) : Type 0 where
+pub record Forgets (timer : TimerRef) (old new : Seen) : Type 0 where
+  pub table : new.table ≡ old.table
   pub history : new.history ≡ old.history
   pub settings : new.settings ≡ old.settings
   pub clock : new.clock ≡ old.clock
-  pub labels : new.labels ≡ old.labels
+  pub next : new.next ≡ old.next
   pub tidy : (i : ℕ) → i < old.settings.schedulers → IsTidyButAt old i timer → IsTidyAt new i
 
--- the entries of a call are what is allowed after the history of a world
-abbrev pub By : Service → (Settings → State → List Entry → Type 0) → Growth
-By w allows = alone w.settings [] (allows w.settings)
+-- of the entries that its history gains, those that come about so are what is allowed after the history before
+abbrev pub By : Seen → (Settings → State → List Entry → Type 0) → Way → Growth
+By w allows way = way [] (allows w.settings)
 
--- a world stands for a history of its settings: it is the world's, and the clock stands for it
-pub record StandsFor (g : Settings) (h : List Entry) (w : Service) : Type 0 where
+-- a world stands for a history of its settings: it knows that, and the clock stands for it
+pub record StandsFor (g : Settings) (h : List Entry) (w : Seen) : Type 0 where
   pub settings : w.settings ≡ g
   pub history : w.history ≡ h
   pub checked : IsChecked g
   pub clock : ClockStands g h w.clock
 
--- a timer isn't armed in the history of a world
-abbrev pub IsSettledIn : Service → TimerRef → Type 0
-IsSettledIn w timer = (state w.settings w.history).status timer ≢ Some Armed
-
 -- a process has exited in the history of a world
-abbrev pub HasExited : Service → ℕ → Type 0
+abbrev pub HasExited : Seen → ℕ → Type 0
 HasExited w process = (state w.settings w.history).exited process ≡ true
 
 -- what a scheduler has in the history of a world
-abbrev pub sched_of : Service → ℕ → SchedState
+abbrev pub sched_of : Seen → ℕ → SchedState
 sched_of w n = (state w.settings w.history).scheds n
 
 -- what was left of a timer that was cancelled for a request; None where the request was to read it

@@ -1,4 +1,4 @@
-//! The calls on the clock.
+//! The calls of a world on the clock.
 use crate::world::{CALLER, World};
 use ert_calls::{monotonic_time, system_time, time_offset};
 use ert_clock::{ClockErr, Moved};

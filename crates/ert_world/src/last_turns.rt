@@ -6,16 +6,16 @@ use ert_defs::NoMemory;
 impl World {
     ghost use Rattle.std.specs.Prelude.{◌≡◌, ◌<◌, OnOk};
     ghost use Rattle.ert_answers.specs.Chains.{AdvancesAllOfWheel, LastTurns};
-    ghost use Rattle.ert_answers.specs.Ways.{alone};
     ghost use Rattle.ert_world.specs.Worlds.{Goes, IsTidyAt};
 
     /// A turn that looks at every row that its wheel holds, so that the wheel is tidy then: the last turn of a
-    /// service, whose callers may have cancelled timers without telling the wheel.
+    /// service, whose callers may have cancelled timers without telling the wheel. No seat was given out.
     ///
     /// After want of memory what was done stays done.
     pub fn last_turn(&mut self, sched: u32) -> Result<Turned, NoMemory>
-        requires { sched < self.old.settings.schedulers }
-        ensures call { Goes self.old (LastTurns self.old.settings (alone self.old.settings) sched result) self.new }
+        requires sched { sched < self.old.settings.schedulers }
+        requires lone { self.old.next ≡ 1 }
+        ensures call { Goes self.old (λ way. LastTurns self.old.settings way sched result) self.new }
         ensures tidy { OnOk result (IsTidyAt self.new sched) }
         ensures clock { self.new.clock ≡ self.old.clock }
     {
@@ -33,8 +33,9 @@ impl World {
 
     /// As `advance`, and looks at every row that its wheel holds, so that the wheel is tidy then.
     fn advance_all(&mut self, sched: u32) -> Result<(u64, u32), NoMemory>
-        requires { sched < self.old.settings.schedulers }
-        ensures call { Goes self.old (AdvancesAllOfWheel self.old.settings (alone self.old.settings) sched result) self.new }
+        requires sched { sched < self.old.settings.schedulers }
+        requires lone { self.old.next ≡ 1 }
+        ensures call { Goes self.old (λ way. AdvancesAllOfWheel self.old.settings way sched result) self.new }
         ensures tidy { OnOk result (IsTidyAt self.new sched) }
         ensures clock { self.new.clock ≡ self.old.clock }
     {

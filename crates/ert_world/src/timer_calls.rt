@@ -11,7 +11,6 @@ impl World {
     ghost use Rattle.ert_answers.specs.RoomCalls.{TellsRoom};
     ghost use Rattle.ert_answers.specs.TimerCalls.{Reads, Cancels, Starts};
     ghost use Rattle.ert_answers.specs.WheelCalls.{TellsAlive, MarksExit};
-    ghost use Rattle.ert_answers.specs.Ways.{alone};
     ghost use Rattle.ert_answers.specs.declared.answers.StartErr.TheVariants.{NoMemory};
     ghost use Rattle.ert_defs.specs.declared.entry.Actor.TheVariants.{Caller};
     ghost use Rattle.ert_world.specs.Worlds.{Goes, GoesBut, Forgets, By, HasExited, IsSettledIn};
@@ -108,7 +107,7 @@ impl World {
     /// had exited before (`exit`).
     pub fn exit(&mut self, process: u32) -> bool
         requires { process < self.old.settings.processes }
-        ensures call { Goes self.old (Exits self.old.settings (alone self.old.settings) 0 process result) self.new }
+        ensures call { Goes self.old (λ way. Exits self.old.settings way 0 process result) self.new }
         ensures clock { self.new.clock ≡ self.old.clock }
     {
         if !self.mark_exit(process) {
@@ -122,7 +121,7 @@ impl World {
     fn sweep_all(&mut self, process: u32)
         requires in_range { process < self.old.settings.processes }
         requires exited { HasExited self.old process }
-        ensures call { Goes self.old (SweepsWheels self.old.settings (alone self.old.settings) 0 process 0 self.old.settings.schedulers) self.new }
+        ensures call { Goes self.old (λ way. SweepsWheels self.old.settings way 0 process 0 self.old.settings.schedulers) self.new }
         ensures clock { self.new.clock ≡ self.old.clock }
     {
         for wheel in 0..self.desk.settings().schedulers {
@@ -135,7 +134,7 @@ impl World {
         requires wheel { wheel < self.old.settings.schedulers }
         requires in_range { process < self.old.settings.processes }
         requires exited { HasExited self.old process }
-        ensures call { Goes self.old (SweepsWheel self.old.settings (alone self.old.settings) 0 process wheel) self.new }
+        ensures call { Goes self.old (λ way. SweepsWheel self.old.settings way 0 process wheel) self.new }
         ensures exited { HasExited self.new process }
         ensures clock { self.new.clock ≡ self.old.clock }
     {

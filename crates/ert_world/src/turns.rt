@@ -14,7 +14,6 @@ impl World {
     ghost use Rattle.std.specs.Prelude.{◌≡◌, ◌<◌, ◌≤◌, Some, None, length, OnOk};
     ghost use Rattle.ert_answers.specs.Chains.{Holds, Serves, ServesAll, AdvancesWheel, Hands, Delivers, Turns};
     ghost use Rattle.ert_answers.specs.RequestCalls.{Picks, Answers};
-    ghost use Rattle.ert_answers.specs.Ways.{alone};
     ghost use Rattle.ert_defs.specs.Mails.{first_of, others_of};
     ghost use Rattle.ert_defs.specs.States.{state};
     ghost use Rattle.ert_world.specs.Worlds.{Goes, GoesBut, By, IsNextHeldAt, IsNearestAt, sched_of, cancelled_by};
@@ -26,7 +25,7 @@ impl World {
     /// After want of memory the request stays in the hand.
     pub fn serve(&mut self, sched: u32) -> Result<bool, NoMemory>
         requires { sched < self.old.settings.schedulers }
-        ensures call { Goes self.old (Serves self.old.settings (alone self.old.settings) sched result) self.new }
+        ensures call { Goes self.old (λ way. Serves self.old.settings way sched result) self.new }
         ensures clock { self.new.clock ≡ self.old.clock }
     {
         let Some(request) = self.hold(sched) else {
@@ -39,7 +38,7 @@ impl World {
     /// The request in a scheduler's hand. Where the hand is empty, the first of the inbox is taken into it.
     fn hold(&mut self, sched: u32) -> Option<Request>
         requires { sched < self.old.settings.schedulers }
-        ensures call { Goes self.old (Holds self.old.settings (alone self.old.settings) sched result) self.new }
+        ensures call { Goes self.old (λ way. Holds self.old.settings way sched result) self.new }
         ensures hand { (sched_of self.new sched).hand ≡ result }
         ensures clock { self.new.clock ≡ self.old.clock }
     {
@@ -105,7 +104,7 @@ impl World {
     /// Serves requests until there is none, 64 at most, and answers how many were served.
     pub(crate) fn serve_all(&mut self, sched: u32) -> Result<u32, NoMemory>
         requires { sched < self.old.settings.schedulers }
-        ensures call { Goes self.old (ServesAll self.old.settings (alone self.old.settings) sched result) self.new }
+        ensures call { Goes self.old (λ way. ServesAll self.old.settings way sched result) self.new }
         ensures clock { self.new.clock ≡ self.old.clock }
     {
         for served in 0..SERVED_A_TURN {
@@ -122,7 +121,7 @@ impl World {
     /// After want of memory none has expired.
     pub fn advance(&mut self, sched: u32) -> Result<(u64, u32), NoMemory>
         requires { sched < self.old.settings.schedulers }
-        ensures call { Goes self.old (AdvancesWheel self.old.settings (alone self.old.settings) sched result) self.new }
+        ensures call { Goes self.old (λ way. AdvancesWheel self.old.settings way sched result) self.new }
         ensures clock { self.new.clock ≡ self.old.clock }
     {
         let part = &mut self.scheds[sched as usize];
@@ -152,7 +151,7 @@ impl World {
     /// After want of memory those that weren't handed over stay in the list.
     pub fn deliver(&mut self, sched: u32) -> Result<(u32, u32), NoMemory>
         requires { sched < self.old.settings.schedulers }
-        ensures call { Goes self.old (Delivers self.old.settings (alone self.old.settings) sched result) self.new }
+        ensures call { Goes self.old (λ way. Delivers self.old.settings way sched result) self.new }
         ensures clock { self.new.clock ≡ self.old.clock }
     {
         let mut put = 0;
@@ -179,7 +178,7 @@ impl World {
     fn hand_over(&mut self, sched: u32, fired: &Fired) -> Result<Handed, NoMemory>
         requires sched { sched < self.old.settings.schedulers }
         requires first { first_of (sched_of self.old sched).fired ≡ Some fired.now }
-        ensures call { Goes self.old (Hands self.old.settings (alone self.old.settings) sched result) self.new }
+        ensures call { Goes self.old (λ way. Hands self.old.settings way sched result) self.new }
         ensures fired { OnOk result ((sched_of self.new sched).fired ≡ others_of (sched_of self.old sched).fired) }
         ensures clock { self.new.clock ≡ self.old.clock }
     {
@@ -194,7 +193,7 @@ impl World {
     /// After want of memory what was done stays done.
     pub fn turn(&mut self, sched: u32) -> Result<Turned, NoMemory>
         requires { sched < self.old.settings.schedulers }
-        ensures call { Goes self.old (Turns self.old.settings (alone self.old.settings) sched result) self.new }
+        ensures call { Goes self.old (λ way. Turns self.old.settings way sched result) self.new }
         ensures clock { self.new.clock ≡ self.old.clock }
     {
         let served = self.serve_all(sched)?;

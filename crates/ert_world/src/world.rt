@@ -1,9 +1,11 @@
-ghost use Rattle.std.specs.Prelude.{◌≡◌, [], IfOk};
+ghost use Rattle.std.specs.Prelude.{IfOk};
 ghost use Rattle.ert_defs.specs.Settings.{IsChecked};
 
 use crate::opening::{open_inboxes, open_mails, open_scheds, open_wheels};
 use crate::sched_part::SchedPart;
-use ert_defs::{NoMemory, Settings, TimerRef};
+use crate::seat::Seat;
+use crate::seat_err::SeatErr;
+use ert_defs::{Actor, NoMemory, Settings};
 use ert_inbox::InboxPart;
 use ert_keeper::KeeperPart;
 use ert_mail::MailPart;
@@ -11,11 +13,13 @@ use ert_table::{Desk, Pass};
 use ert_timers::WheelPart;
 use std::alloc::Global;
 use std::marker::Model;
+use std::sync::Arc;
 
 /// Who makes the calls that no scheduler makes.
 pub(crate) const CALLER: u32 = 0;
 
-/// The clock and timer service, for one thread: a desk, the pass with every actor, and every part.
+/// The clock and timer service: a share of a desk, the pass with every actor of it but the callers that have seats,
+/// and every part.
 ///
 /// The calls of schedulers are made by the scheduler that is named, and all others by caller 0.
 ///
@@ -29,39 +33,43 @@ pub(crate) const CALLER: u32 = 0;
 ///     let message = world.take(0);                    // Taken::Mail(Mail::Timeout { timer, msg: 7 })
 #[derive(Drop)]
 pub struct World {
-    pub(crate) desk: Desk,
+    pub(crate) desk: Arc<Desk>,
     pub(crate) pass: Pass,
     pub(crate) keeper: KeeperPart,
     pub(crate) wheels: Vec<WheelPart>,
     pub(crate) inboxes: Vec<InboxPart>,
     pub(crate) mails: Vec<MailPart>,
     pub(crate) scheds: Vec<SchedPart>,
-    pub(crate) labels: Vec<(u32, TimerRef)>,
+    /// The least caller that was given no seat.
+    pub(crate) next: u32,
 }
 
 impl Model for World {
-    ghost use Rattle.ert_world.specs.Parts.{parts_of};
-    ghost use Rattle.ert_world.specs.Worlds.{Seen, seen, AreFit};
+    ghost use Rattle.std.specs.Arc.{arc_value};
     ghost use Rattle.std.specs.Coded.{codes};
     ghost use Rattle.ert_timers.specs.Parts.{part_code};
+    ghost use Rattle.ert_world.specs.Parts.{parts_of};
+    ghost use Rattle.ert_world.specs.Worlds.{Seen, seen, AreFit};
 
     ghost Value = { Seen };
 
     ghost coded = { Prim.hlevel (codes, part_code) };
 
-    ghost view = { λ w. seen w.desk w.pass w.keeper w.labels.items w.wheels.items };
+    ghost view = { λ w. seen (arc_value w.desk) w.pass w.next w.keeper w.wheels.items };
 
-    ghost invariant = { λ w. AreFit w.desk w.pass (parts_of w.keeper w.wheels.items w.inboxes.items w.mails.items w.scheds.items) };
+    ghost invariant = { λ w. AreFit (arc_value w.desk) w.pass w.next (parts_of w.keeper w.wheels.items w.inboxes.items w.mails.items w.scheds.items) };
 }
 
 impl World {
-    ghost use Rattle.std.specs.Prelude.{◌≡◌, ◌≢◌, ◌∷◌, ◌++◌, All, OnOk, OnErr};
+    ghost use Rattle.std.specs.Arc.{arc_value};
+    ghost use Rattle.std.specs.Prelude.{◌≡◌, IfErr, OnErr};
     ghost use Rattle.ert_table.specs.Desks.{settings_of, KnowsAll};
     ghost use Rattle.ert_world.specs.Lived.{IsLived};
     ghost use Rattle.ert_world.specs.Openings.{IsOpened};
+    ghost use Rattle.ert_world.specs.Seats.{GivesSeat, IsSeatRefused};
     ghost use Rattle.ert_world.specs.Worlds.{StandsFor};
 
-    /// Opens a service. Its history is empty.
+    /// Opens a service. Its history is empty, and no seat is given out.
     pub fn open(alloc: Global, settings: &Settings) -> Result<World, NoMemory>
         requires { IsChecked settings.now }
         ensures { IfOk result (IsOpened settings.now) }
@@ -71,6 +79,9 @@ impl World {
         let inboxes = open_inboxes(alloc, settings.schedulers)?;
         let mails = open_mails(alloc, settings.processes)?;
         let scheds = open_scheds(alloc, settings.schedulers)?;
+        let Ok(desk) = Arc::new(alloc, desk) else {
+            return Err(NoMemory);
+        };
         Ok(World {
             desk,
             pass,
@@ -79,8 +90,37 @@ impl World {
             inboxes,
             mails,
             scheds,
-            labels: Vec::new(alloc),
+            next: CALLER + 1,
         })
+    }
+
+    /// Gives the next caller a seat: it can step as that caller from any thread, and the world no longer can.
+    ///
+    /// After a refusal nothing has changed.
+    pub fn seat(&mut self, alloc: Global) -> Result<Box<Seat, Global>, SeatErr>
+        ensures seat { IfOk result (λ seat. GivesSeat self.old self.new seat.value) }
+        ensures refused { IfErr result (IsSeatRefused self.old) }
+        ensures same { OnErr result (self.new ≡ self.old) }
+    {
+        let number = self.next;
+        if number >= self.desk.settings().callers {
+            return Err(SeatErr::NoSeat);
+        }
+        let Ok(desk) = Arc::try_clone(&self.desk) else {
+            return Err(SeatErr::NoMemory);
+        };
+        let pass = self.pass.split(&self.desk, Actor::Caller(number));
+        match Box::new(alloc, Seat { desk, pass, number }) {
+            Ok(seat) => {
+                self.next = number + 1;
+                Ok(seat)
+            }
+            Err(failed) => {
+                let Seat { pass, .. } = failed.value;
+                self.pass.join(&self.desk, pass);
+                Err(SeatErr::NoMemory)
+            }
+        }
     }
 
     /// The settings that the service was opened with.
@@ -91,36 +131,19 @@ impl World {
         self.desk.settings()
     }
 
-    /// The last published time: monotonic time, without an entry of its own.
+    /// The last published time: monotonic time, in nanoseconds, without an entry of its own.
     pub fn published(&self) -> i64
         ensures { result ≡ self.now.clock.face.time }
     {
         self.keeper.clock().now()
     }
 
-    /// Binds a label to a timer, as the last of the labels. No entry is made.
-    pub fn bind(&mut self, label: u32, timer: TimerRef) -> Result<(), NoMemory>
-        requires { All (λ pair. pair.0 ≢ label) self.old.labels }
-        ensures last { OnOk result (self.new ≡ record self.old { labels = self.old.labels ++ (label, timer) ∷ [] }) }
-        ensures err { OnErr result (self.new ≡ self.old) }
-    {
-        self.labels.reserve(1)?;
-        self.labels.push_reserved((label, timer));
-        Ok(())
-    }
-
-    /// The labels that were bound, in order, each with its timer.
-    pub fn labels(&self) -> &[(u32, TimerRef)]
-        ensures { result.now ≡ self.now.labels }
-    {
-        &self.labels
-    }
-
-    /// Ends the service for one thread, and gives out its desk and the pass with every actor. Its history is
-    /// legal, each of its timers has one of six lives, and its mail is in order.
-    pub fn into_desk(self) -> (Desk, Pass)
-        ensures settings { settings_of result.0 ≡ self.settings }
-        ensures history { KnowsAll result.0 result.1 self.history }
+    /// Ends the service, of which no seat was given out, and gives out its share of the desk and the pass with every
+    /// actor. Its history is legal, each of its timers has one of six lives, and its mail is in order.
+    pub fn into_desk(self) -> (Arc<Desk>, Pass)
+        requires { self.next ≡ 1 }
+        ensures settings { settings_of (arc_value result.0) ≡ self.settings }
+        ensures history { KnowsAll (arc_value result.0) result.1 self.history }
         ensures lived { IsLived self.settings self.history }
     {
         let World { desk, pass, .. } = self;

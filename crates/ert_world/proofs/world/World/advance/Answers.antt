@@ -1,41 +1,43 @@
-use Rattle.std.proofs.Common.{◌≡◌, ◌-◌, ◌≤◌, Err, rules, refl, arith}
+use Rattle.std.proofs.Common.{◌≡◌, Err, rules, refl, arith}
 use Rattle.ert_answers.specs.WheelCalls.{Advances}
-use Rattle.ert_table.specs.Desks.{settings_of}
+use Rattle.ert_table.specs.Desks.{settings_of, view_of}
+use Rattle.ert_world.proofs.Calls.{has_at, does_at}
 use Rattle.ert_world.proofs.Advances.{advances_plain, advance_ok, advance_fits, advance_refused}
 use Rattle.ert_world.proofs.world.World.advance.Goals as goal
 
 pub invariant_of-self : goal.invariant_of-self
 invariant_of-self c =
-    (advance_refused c.args.self.now c.self.inside c.advance.new.pass c.args.sched c.in_err-to.field-0.0 c.index_mut.result.now c.advance.new.self
+    (does_at c.deref.ensures (advance_refused c.args.self.now c.self.inside c.deref.result.now c.advance.new.pass c.args.sched c.in_err-to.field-0.0 c.index_mut.result.now c.advance.new.self
     c.index_mut-part.result.now (record { wheel = c.index_mut-part.result.now.wheel; hand = c.index_mut-part.result.now.hand; fired = c.advance.new.fired })
-    c.self.view_is c.self.invariant c.advance.ensures.belongs c.requires c.index_mut.ensures.value c.index_mut-part.ensures.value c.advance.ensures.number
-    c.advance.ensures.stands c.advance.ensures.tidy c.in_err-to.ensures.call refl refl).fit
+    (has_at c.deref.ensures c.self.view_is c.self.invariant) c.advance.ensures.belongs c.requires c.index_mut.ensures.value c.index_mut-part.ensures.value c.advance.ensures.number
+    c.advance.ensures.stands c.advance.ensures.tidy c.in_err-to.ensures.call refl refl)).fit
 
 pub returns-in_err-to-clause-call : goal.returns-in_err-to-clause-call
 returns-in_err-to-clause-call c =
     let result : c.from_residual.result ≡ Err c.in_err-to.field-0.0 = search rules in
-    rw result (advance_refused c.args.self.now c.self.inside c.advance.new.pass c.args.sched c.in_err-to.field-0.0 c.index_mut.result.now c.advance.new.self
+    rw result (does_at c.deref.ensures (advance_refused c.args.self.now c.self.inside c.deref.result.now c.advance.new.pass c.args.sched c.in_err-to.field-0.0 c.index_mut.result.now c.advance.new.self
     c.index_mut-part.result.now (record { wheel = c.index_mut-part.result.now.wheel; hand = c.index_mut-part.result.now.hand; fired = c.advance.new.fired })
-    c.self.view_is c.self.invariant c.advance.ensures.belongs c.requires c.index_mut.ensures.value c.index_mut-part.ensures.value c.advance.ensures.number
-    c.advance.ensures.stands c.advance.ensures.tidy c.in_err-to.ensures.call refl refl).goes
+    (has_at c.deref.ensures c.self.view_is c.self.invariant) c.advance.ensures.belongs c.requires c.index_mut.ensures.value c.index_mut-part.ensures.value c.advance.ensures.number
+    c.advance.ensures.stands c.advance.ensures.tidy c.in_err-to.ensures.call refl refl)).goes
 
 pub overflow_cast-result : goal.overflow_cast-result
 overflow_cast-result c =
-    let few : c.len.result - c.len-before.result ≤ 65536 =
-    advance_fits (Advances (settings_of c.self.inside.desk) c.index_mut.result.now.number) c.args.self.now c.self.inside c.advance.new.pass c.args.sched c.in_ok-to.to c.len.result c.len-before.result c.index_mut.result.now
-    c.index_mut-part.result.now (record { wheel = c.index_mut-part.result.now.wheel; hand = c.index_mut-part.result.now.hand; fired = c.advance.new.fired }) c.self.view_is c.self.invariant c.requires c.index_mut-part.ensures.value c.in_ok-to.ensures.call c.len.ensures c.len-before.ensures in
-    omega (arith, few)
+    let g = settings_of c.deref.result.now in
+    let few = advance_fits (Advances g c.index_mut.result.now.number) g c.index_mut.result.now.number c.in_ok-to.to c.len.result c.len-before.result
+    c.index_mut-part.result.now.fired c.advance.new.fired (view_of c.self.inside.pass) (view_of c.advance.new.pass)
+    c.deref.result.now.checked.counts.slots_high c.in_ok-to.ensures.call c.len.ensures c.len-before.ensures in
+    omega (arith, few.1)
 
 pub invariant_of-self-2 : goal.invariant_of-self-2
 invariant_of-self-2 c =
-    (advance_ok Advances advances_plain c.args.self.now c.self.inside c.advance.new.pass c.args.sched c.in_ok-to.to c.len.result c.len-before.result c.index_mut.result.now
+    (does_at c.deref.ensures (advance_ok Advances advances_plain c.args.self.now c.self.inside c.deref.result.now c.advance.new.pass c.args.sched c.in_ok-to.to c.len.result c.len-before.result c.index_mut.result.now
     c.advance.new.self c.index_mut-part.result.now (record { wheel = c.index_mut-part.result.now.wheel; hand = c.index_mut-part.result.now.hand; fired = c.advance.new.fired })
-    c.self.view_is c.self.invariant c.advance.ensures.belongs c.requires c.index_mut.ensures.value c.index_mut-part.ensures.value c.advance.ensures.number
-    c.advance.ensures.stands c.advance.ensures.tidy c.in_ok-to.ensures.call refl refl c.len.ensures c.len-before.ensures).fit
+    (has_at c.deref.ensures c.self.view_is c.self.invariant) c.advance.ensures.belongs c.requires c.index_mut.ensures.value c.index_mut-part.ensures.value c.advance.ensures.number
+    c.advance.ensures.stands c.advance.ensures.tidy c.in_ok-to.ensures.call refl refl c.len.ensures c.len-before.ensures)).fit
 
 pub returns-clause-call : goal.returns-clause-call
 returns-clause-call c =
-    (advance_ok Advances advances_plain c.args.self.now c.self.inside c.advance.new.pass c.args.sched c.in_ok-to.to c.len.result c.len-before.result c.index_mut.result.now
+    (does_at c.deref.ensures (advance_ok Advances advances_plain c.args.self.now c.self.inside c.deref.result.now c.advance.new.pass c.args.sched c.in_ok-to.to c.len.result c.len-before.result c.index_mut.result.now
     c.advance.new.self c.index_mut-part.result.now (record { wheel = c.index_mut-part.result.now.wheel; hand = c.index_mut-part.result.now.hand; fired = c.advance.new.fired })
-    c.self.view_is c.self.invariant c.advance.ensures.belongs c.requires c.index_mut.ensures.value c.index_mut-part.ensures.value c.advance.ensures.number
-    c.advance.ensures.stands c.advance.ensures.tidy c.in_ok-to.ensures.call refl refl c.len.ensures c.len-before.ensures).goes
+    (has_at c.deref.ensures c.self.view_is c.self.invariant) c.advance.ensures.belongs c.requires c.index_mut.ensures.value c.index_mut-part.ensures.value c.advance.ensures.number
+    c.advance.ensures.stands c.advance.ensures.tidy c.in_ok-to.ensures.call refl refl c.len.ensures c.len-before.ensures)).goes

@@ -1,9 +1,9 @@
 use Rattle.std.proofs.Common.{◌≡◌, ◌+◌, [], ◌∷◌, ◌++◌, Ok, Err, inr, rules, arith, sym, ap, subst, ◌∙◌, add-zero}
 use Rattle.ert_answers.specs.Chains.{Hands, puts, drops}
-use Rattle.ert_answers.specs.Ways.{alone}
 use Rattle.ert_answers.specs.declared.answers.Handed.TheVariants.{Put, Dropped}
 use Rattle.ert_world.specs.Worlds.{Goes, sched_of}
-use Rattle.ert_world.proofs.Composed.{handed_more, puts_more, drops_more, undelivered, one_less, few_put, few_dropped}
+use Rattle.ert_world.proofs.Composed.{puts_more, drops_more, one_less, few_put, few_dropped}
+use Rattle.ert_world.proofs.Composed.{handed_more, undelivered}
 use Rattle.ert_world.proofs.world.World.deliver.Goals as goal
 
 pub returns-in_err-hand_over-clause-call : goal.returns-in_err-hand_over-clause-call
@@ -26,7 +26,7 @@ loop-fired-preserved-in-Put c =
       hows = c.loop-fired.invariant.hows ++ Put ∷ [];
       goes = handed_more c.args.self.now c.loop-fired.self c.hand_over.new.self c.args.sched c.loop-fired.invariant.hows Put
           c.loop-fired.invariant.goes
-          (subst (λ how. Goes c.loop-fired.self (Hands c.loop-fired.self.settings (alone c.loop-fired.self.settings) c.args.sched (Ok how)) c.hand_over.new.self)
+          (subst (λ how. Goes c.loop-fired.self (λ way. Hands c.loop-fired.self.settings way c.args.sched (Ok how)) c.hand_over.new.self)
           c.in-Put.is c.in_ok-hand_over.ensures.call);
       put_is = ap (λ n. n + 1) c.loop-fired.invariant.put_is ∙ sym (puts_more c.loop-fired.invariant.hows Put);
       dropped_is = c.loop-fired.invariant.dropped_is ∙ sym (drops_more c.loop-fired.invariant.hows Put ∙ add-zero (drops c.loop-fired.invariant.hows));
@@ -48,7 +48,7 @@ loop-fired-preserved c =
       hows = c.loop-fired.invariant.hows ++ Dropped ∷ [];
       goes = handed_more c.args.self.now c.loop-fired.self c.hand_over.new.self c.args.sched c.loop-fired.invariant.hows Dropped
           c.loop-fired.invariant.goes
-          (subst (λ how. Goes c.loop-fired.self (Hands c.loop-fired.self.settings (alone c.loop-fired.self.settings) c.args.sched (Ok how)) c.hand_over.new.self)
+          (subst (λ how. Goes c.loop-fired.self (λ way. Hands c.loop-fired.self.settings way c.args.sched (Ok how)) c.hand_over.new.self)
           c.in-Dropped.is c.in_ok-hand_over.ensures.call);
       put_is = c.loop-fired.invariant.put_is ∙ sym (puts_more c.loop-fired.invariant.hows Dropped ∙ add-zero (puts c.loop-fired.invariant.hows));
       dropped_is = ap (λ n. n + 1) c.loop-fired.invariant.dropped_is ∙ sym (drops_more c.loop-fired.invariant.hows Dropped);

@@ -1,74 +1,81 @@
-use Rattle.std.proofs.Common.{◌≡◌, ◌<◌, Some, Err, rules, refl, sym, subst, ◌∙◌}
+use Rattle.std.proofs.Common.{◌≡◌, Some, Err, rules, refl, sym, subst, ◌∙◌}
 use Rattle.ert_answers.specs.Chains.{Hands}
-use Rattle.ert_answers.specs.Ways.{alone}
-use Rattle.ert_defs.specs.Mails.{first_of}
+use Rattle.ert_defs.specs.Mails.{first_of, others_of}
+use Rattle.ert_defs.specs.States.{state}
 use Rattle.ert_mail.specs.Mailboxes.{Stands}
-use Rattle.ert_table.specs.Desks.{settings_of, front_of, state_of}
-use Rattle.ert_world.specs.Worlds.{Seen, sched_of}
-use Rattle.ert_world.proofs.Calls.{parts_in, mail_named}
+use Rattle.ert_world.proofs.Calls.{mail_named}
+use Rattle.ert_table.specs.Desks.{settings_of, front_of}
+use Rattle.ert_table.specs.declared.desk.Desk.{Desk}
+use Rattle.ert_world.proofs.Calls.{Has, has_at, does_at, parts_in, schedulers_at}
 use Rattle.ert_world.proofs.SchedCalls.{fired_placed, hands_on, sched_holds, handed_now, step_refused}
+use Rattle.ert_world.specs.Worlds.{Seen, sched_of}
 use Rattle.ert_world.proofs.world.World.hand_over.Goals as goal
 
 pub index_mut-requires : goal.index_mut-requires
 index_mut-requires c =
-    let placed = fired_placed c.args.self.now c.self.inside c.args.sched c.args.fired.now c.self.view_is c.self.invariant c.requires.first in
+    let placed = fired_placed c.args.self.now c.self.inside _ c.args.sched c.args.fired.now (has_at refl c.self.view_is c.self.invariant) c.requires.first in
     rw (c.self.inside.mails.ok.0 ∙ c.self.invariant.stand.mails.counted) placed.dest
 
 pub deliver-requires-clause-holds : goal.deliver-requires-clause-holds
 deliver-requires-clause-holds c =
-    let placed = fired_placed c.args.self.now c.self.inside c.args.sched c.args.fired.now c.self.view_is c.self.invariant c.requires.first in
-    let low = subst (λ (w : Seen). c.args.sched < w.settings.schedulers) (sym c.self.view_is) c.requires.sched in
-    sched_holds c.self.inside c.args.fired.now.timer.wheel c.args.fired.now.dest c.index_mut.result.now.process c.self.invariant
-    (rw placed.wheel low) placed.dest
-    (mail_named (settings_of c.self.inside.desk) (front_of c.self.inside.pass) _ (parts_in c.self.inside) c.args.fired.now.dest c.index_mut.result.now
-    c.self.invariant.stand placed.dest c.index_mut.ensures.value)
+    let has : Has c.args.self.now c.self.inside c.deref.result.now = has_at c.deref.ensures c.self.view_is c.self.invariant in
+    let placed = fired_placed c.args.self.now c.self.inside c.deref.result.now c.args.sched c.args.fired.now (has_at c.deref.ensures c.self.view_is c.self.invariant) c.requires.first in
+    sched_holds c.args.self.now c.self.inside c.deref.result.now c.args.fired.now.timer.wheel c.args.fired.now.dest c.index_mut.result.now.process has
+    (rw placed.wheel (schedulers_at has c.args.sched c.requires.sched)) placed.dest
+    (mail_named (settings_of c.deref.result.now) (front_of c.self.inside.pass) _ (parts_in c.self.inside) c.args.fired.now.dest c.index_mut.result.now
+    has.fit.stand placed.dest c.index_mut.ensures.value)
 
 pub deliver-requires-clause-dest : goal.deliver-requires-clause-dest
 deliver-requires-clause-dest c =
-    let placed = fired_placed c.args.self.now c.self.inside c.args.sched c.args.fired.now c.self.view_is c.self.invariant c.requires.first in
-    sym (mail_named (settings_of c.self.inside.desk) (front_of c.self.inside.pass) _ (parts_in c.self.inside) c.args.fired.now.dest c.index_mut.result.now
-    c.self.invariant.stand placed.dest c.index_mut.ensures.value)
+    let has : Has c.args.self.now c.self.inside c.deref.result.now = has_at c.deref.ensures c.self.view_is c.self.invariant in
+    let placed = fired_placed c.args.self.now c.self.inside c.deref.result.now c.args.sched c.args.fired.now (has_at c.deref.ensures c.self.view_is c.self.invariant) c.requires.first in
+    sym (mail_named (settings_of c.deref.result.now) (front_of c.self.inside.pass) _ (parts_in c.self.inside) c.args.fired.now.dest c.index_mut.result.now
+    has.fit.stand placed.dest c.index_mut.ensures.value)
 
 pub deliver-requires-clause-first : goal.deliver-requires-clause-first
 deliver-requires-clause-first c =
-    let placed = fired_placed c.args.self.now c.self.inside c.args.sched c.args.fired.now c.self.view_is c.self.invariant c.requires.first in
-    subst (λ n. first_of ((state_of c.self.inside.desk c.self.inside.pass).scheds n).fired ≡ Some c.args.fired.now) (sym placed.wheel)
-    (subst (λ (w : Seen). first_of (sched_of w c.args.sched).fired ≡ Some c.args.fired.now) (sym c.self.view_is) c.requires.first)
+    let has : Has c.args.self.now c.self.inside c.deref.result.now = has_at c.deref.ensures c.self.view_is c.self.invariant in
+    let placed = fired_placed c.args.self.now c.self.inside c.deref.result.now c.args.sched c.args.fired.now (has_at c.deref.ensures c.self.view_is c.self.invariant) c.requires.first in
+    subst (λ n. first_of ((state (settings_of c.deref.result.now) (front_of c.self.inside.pass)).scheds n).fired ≡ Some c.args.fired.now) (sym placed.wheel)
+    (subst (λ (w : Seen). first_of (sched_of w c.args.sched).fired ≡ Some c.args.fired.now) (sym has.is) c.requires.first)
 
 pub deliver-requires-clause-stands : goal.deliver-requires-clause-stands
 deliver-requires-clause-stands c =
-    let placed = fired_placed c.args.self.now c.self.inside c.args.sched c.args.fired.now c.self.view_is c.self.invariant c.requires.first in
-    subst (Stands (settings_of c.self.inside.desk) (front_of c.self.inside.pass)) (sym c.index_mut.ensures.value)
-    (c.self.invariant.stand.mails.stand c.args.fired.now.dest c.index_mut.result.now placed.dest refl)
+    let has : Has c.args.self.now c.self.inside c.deref.result.now = has_at c.deref.ensures c.self.view_is c.self.invariant in
+    let placed = fired_placed c.args.self.now c.self.inside c.deref.result.now c.args.sched c.args.fired.now (has_at c.deref.ensures c.self.view_is c.self.invariant) c.requires.first in
+    subst (Stands (settings_of c.deref.result.now) (front_of c.self.inside.pass)) (sym c.index_mut.ensures.value)
+    (has.fit.stand.mails.stand c.args.fired.now.dest c.index_mut.result.now placed.dest refl)
 
 pub returns-in_err-handed-clause-call : goal.returns-in_err-handed-clause-call
 returns-in_err-handed-clause-call c =
-    let placed = fired_placed c.args.self.now c.self.inside c.args.sched c.args.fired.now c.self.view_is c.self.invariant c.requires.first in
+    let has : Has c.args.self.now c.self.inside c.deref.result.now = has_at c.deref.ensures c.self.view_is c.self.invariant in
+    let placed = fired_placed c.args.self.now c.self.inside c.deref.result.now c.args.sched c.args.fired.now (has_at c.deref.ensures c.self.view_is c.self.invariant) c.requires.first in
     let result : c.from_residual.result ≡ Err c.in_err-handed.field-0.0 = search rules in
-    rw result (step_refused c.args.self.now c.self.inside c.deliver.new.pass c.args.fired.now.dest c.index_mut.result.now c.deliver.new.self
-    (λ w. Hands w.settings (alone w.settings) c.args.sched (Err c.in_err-handed.field-0.0)) c.self.view_is c.self.invariant c.deliver.ensures.belongs
+    rw result (does_at c.deref.ensures (step_refused c.args.self.now c.self.inside c.deref.result.now c.deliver.new.pass c.args.fired.now.dest c.index_mut.result.now c.deliver.new.self
+    (λ w way. Hands w.settings way c.args.sched (Err c.in_err-handed.field-0.0)) has c.deliver.ensures.belongs
     placed.dest c.index_mut.ensures.value c.deliver.ensures.process c.deliver.ensures.stands c.in_err-handed.ensures.call.same
-    (record {
+    (λ m grown own. record {
       fired = c.args.fired.now;
-      first = subst (λ (w : Seen). first_of (sched_of w c.args.sched).fired ≡ Some c.args.fired.now) (sym c.self.view_is) c.requires.first;
-      step = refl;
-    })).goes
+      first = subst (λ (w : Seen). first_of (sched_of w c.args.sched).fired ≡ Some c.args.fired.now) (sym has.is) c.requires.first;
+      step = own;
+    }))).goes
 
 pub invariant_of-self-2 : goal.invariant_of-self-2
 invariant_of-self-2 c =
-    (handed_now c.args.self.now c.self.inside c.deliver.new.pass c.args.sched c.index_mut.result.now c.deliver.new.self c.args.fired.now c.in_ok-handed.handed
+    (does_at c.deref.ensures (handed_now c.args.self.now c.self.inside c.deref.result.now c.deliver.new.pass c.args.sched c.index_mut.result.now c.deliver.new.self c.args.fired.now c.in_ok-handed.handed
     c.index_mut-2.result.now (record { wheel = c.index_mut-2.result.now.wheel; hand = c.index_mut-2.result.now.hand; fired = c.pop.new.self })
-    c.self.view_is c.self.invariant c.deliver.ensures.belongs c.requires.sched c.requires.first c.index_mut.ensures.value c.deliver.ensures.process
-    c.deliver.ensures.stands c.in_ok-handed.ensures.call c.in_ok-handed.ensures.sched c.index_mut-2.ensures.value refl refl c.pop.ensures.others).fit
+    (has_at c.deref.ensures c.self.view_is c.self.invariant) c.deliver.ensures.belongs c.requires.sched c.requires.first c.index_mut.ensures.value c.deliver.ensures.process
+    c.deliver.ensures.stands c.in_ok-handed.ensures.call c.in_ok-handed.ensures.sched c.index_mut-2.ensures.value refl refl c.pop.ensures.others)).fit
 
 pub returns-clause-call : goal.returns-clause-call
 returns-clause-call c =
-    (handed_now c.args.self.now c.self.inside c.deliver.new.pass c.args.sched c.index_mut.result.now c.deliver.new.self c.args.fired.now c.in_ok-handed.handed
+    (does_at c.deref.ensures (handed_now c.args.self.now c.self.inside c.deref.result.now c.deliver.new.pass c.args.sched c.index_mut.result.now c.deliver.new.self c.args.fired.now c.in_ok-handed.handed
     c.index_mut-2.result.now (record { wheel = c.index_mut-2.result.now.wheel; hand = c.index_mut-2.result.now.hand; fired = c.pop.new.self })
-    c.self.view_is c.self.invariant c.deliver.ensures.belongs c.requires.sched c.requires.first c.index_mut.ensures.value c.deliver.ensures.process
-    c.deliver.ensures.stands c.in_ok-handed.ensures.call c.in_ok-handed.ensures.sched c.index_mut-2.ensures.value refl refl c.pop.ensures.others).goes
+    (has_at c.deref.ensures c.self.view_is c.self.invariant) c.deliver.ensures.belongs c.requires.sched c.requires.first c.index_mut.ensures.value c.deliver.ensures.process
+    c.deliver.ensures.stands c.in_ok-handed.ensures.call c.in_ok-handed.ensures.sched c.index_mut-2.ensures.value refl refl c.pop.ensures.others)).goes
 
 pub returns-clause-fired : goal.returns-clause-fired
 returns-clause-fired c =
-    hands_on c.args.self.now c.self.inside c.deliver.new.pass c.args.sched c.args.fired.now c.in_ok-handed.handed c.self.view_is c.self.invariant
-    c.requires.first c.in_ok-handed.ensures.sched
+    subst (λ (d : Desk). ((state (settings_of d) (front_of c.deliver.new.pass)).scheds c.args.sched).fired ≡ others_of (sched_of c.args.self.now c.args.sched).fired) c.deref.ensures
+    (hands_on c.args.self.now c.self.inside c.deref.result.now c.deliver.new.pass c.args.sched c.args.fired.now c.in_ok-handed.handed (has_at c.deref.ensures c.self.view_is c.self.invariant)
+    c.requires.first c.in_ok-handed.ensures.sched)

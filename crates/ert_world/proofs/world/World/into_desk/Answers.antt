@@ -1,3 +1,4 @@
+use Rattle.std.specs.Arc.{arc_value}
 use Rattle.ert_laws.proofs.Expiries.{in_order}
 use Rattle.ert_laws.proofs.Mailboxes.{mailboxes}
 use Rattle.ert_laws.proofs.OwnTells.{messages_are_told}
@@ -10,7 +11,7 @@ use Rattle.ert_world.proofs.world.World.into_desk.Goals as goal
 
 pub returns-clause-lived : goal.returns-clause-lived
 returns-clause-lived c =
-    let g = settings_of c.self.inside.desk in
+    let g = settings_of (arc_value c.self.inside.desk) in
     let h = front_of c.self.inside.pass in
     let legal = c.self.invariant.stand.legal in
     subst (λ (w : Seen). IsLived w.settings w.history) c.self.view_is

@@ -1,6 +1,6 @@
 use Rattle.std.proofs.Common.{◌≡◌, ◌∙◌, Err, rules}
 use Rattle.ert_answers.specs.Chains.{AdvancesAllOfWheel}
-use Rattle.ert_answers.specs.Ways.{alone}
+use Rattle.ert_answers.specs.Ways.{Way}
 use Rattle.ert_defs.specs.declared.settings.Settings.{Settings}
 use Rattle.ert_world.proofs.Composed.{turned, turn_unadvanced, turn_undelivered}
 use Rattle.ert_world.proofs.world.World.last_turn.Goals as goal
@@ -8,22 +8,27 @@ use Rattle.ert_world.proofs.world.World.last_turn.Goals as goal
 pub returns-in_err-to-clause-call : goal.returns-in_err-to-clause-call
 returns-in_err-to-clause-call c =
     let result : c.from_residual-in_err-to.result ≡ Err c.in_err-to.field-0.0 = search rules in
-    rw result (turn_unadvanced (λ (g : Settings). AdvancesAllOfWheel g (alone g) c.args.sched) c.args.self.now c.serve_all.new.self c.advance_all.new.self c.args.sched c.in_ok-served.served c.in_err-to.field-0.0
+    rw result (turn_unadvanced (λ (g : Settings) (way : Way). AdvancesAllOfWheel g way c.args.sched) c.args.self.now c.serve_all.new.self c.advance_all.new.self c.args.sched c.in_ok-served.served c.in_err-to.field-0.0
     c.in_ok-served.ensures.call c.in_err-to.ensures.call)
 
 pub returns-in_err-put-clause-call : goal.returns-in_err-put-clause-call
 returns-in_err-put-clause-call c =
     let result : c.from_residual-in_err-put.result ≡ Err c.in_err-put.field-0.0 = search rules in
-    rw result (turn_undelivered (λ (g : Settings). AdvancesAllOfWheel g (alone g) c.args.sched) c.args.self.now c.serve_all.new.self c.advance_all.new.self c.deliver.new.self c.args.sched c.in_ok-served.served
+    rw result (turn_undelivered (λ (g : Settings) (way : Way). AdvancesAllOfWheel g way c.args.sched) c.args.self.now c.serve_all.new.self c.advance_all.new.self c.deliver.new.self c.args.sched c.in_ok-served.served
     (c.in_ok-to.to, c.in_ok-to.fired) c.in_err-put.field-0.0 c.in_ok-served.ensures.call c.in_ok-to.ensures.call c.in_err-put.ensures.call)
 
 pub returns-clause-call : goal.returns-clause-call
 returns-clause-call c =
-    turned (λ (g : Settings). AdvancesAllOfWheel g (alone g) c.args.sched) c.args.self.now c.serve_all.new.self c.advance_all.new.self c.deliver.new.self c.args.sched
+    turned (λ (g : Settings) (way : Way). AdvancesAllOfWheel g way c.args.sched) c.args.self.now c.serve_all.new.self c.advance_all.new.self c.deliver.new.self c.args.sched
     (record { served = c.in_ok-served.served; to = c.in_ok-to.to; fired = c.in_ok-to.fired; put = c.in_ok-put.put; dropped = c.in_ok-put.dropped })
     c.in_ok-served.ensures.call c.in_ok-to.ensures.call c.in_ok-put.ensures.call
 
+pub advance_all-requires-clause-lone : goal.advance_all-requires-clause-lone
+advance_all-requires-clause-lone c = c.in_ok-served.ensures.call.next ∙ c.requires.lone
+
 pub returns-clause-tidy : goal.returns-clause-tidy
 returns-clause-tidy c =
-    c.in_ok-put.ensures.call.tidy c.args.sched
-    (rw (c.in_ok-to.ensures.call.settings ∙ c.in_ok-served.ensures.call.settings) c.requires) c.in_ok-to.ensures.tidy
+    let served = c.in_ok-served.ensures.call in
+    let to = c.in_ok-to.ensures.call in
+    c.in_ok-put.ensures.call.tidy (to.next ∙ served.next ∙ c.requires.lone) c.args.sched (rw (to.settings ∙ served.settings) c.requires.sched)
+    c.in_ok-to.ensures.tidy

@@ -1,19 +1,28 @@
-use Rattle.ert_world.proofs.WheelCalls.{sweep_called, still_exited}
+use Rattle.std.proofs.Common.{◌≡◌, true, subst, sym}
+use Rattle.ert_table.specs.Desks.{settings_of, view_of, front_of}
+use Rattle.ert_table.specs.declared.desk.Desk.{Desk}
+use Rattle.ert_defs.specs.States.{state}
+use Rattle.ert_world.proofs.Calls.{Has, has_at, does_at}
+use Rattle.ert_world.proofs.Gone.{still_exited}
+use Rattle.ert_world.proofs.WheelCalls.{sweep_called}
+use Rattle.ert_world.specs.Worlds.{Seen}
 use Rattle.ert_world.proofs.world.World.sweep.Goals as goal
 
 pub invariant_of-self : goal.invariant_of-self
 invariant_of-self c =
-    (sweep_called c.args.self.now c.self.inside c.sweep.new.pass c.args.wheel c.args.process c.index_mut.result.now c.sweep.new.self
-    c.self.view_is c.self.invariant c.sweep.ensures.belongs c.requires.wheel c.index_mut.ensures.value c.sweep.ensures.number c.sweep.ensures.stands
-    c.sweep.ensures.call c.sweep.ensures.swept c.sweep.ensures.tidy).fit
+    (does_at c.deref.ensures (sweep_called c.args.self.now c.self.inside c.deref.result.now c.sweep.new.pass c.args.wheel c.args.process c.index_mut.result.now c.sweep.new.self (has_at c.deref.ensures c.self.view_is c.self.invariant)
+    c.sweep.ensures.belongs c.requires.wheel c.index_mut.ensures.value c.sweep.ensures.number c.sweep.ensures.stands c.sweep.ensures.call c.sweep.ensures.swept
+    c.sweep.ensures.tidy)).fit
 
 pub returns-clause-call : goal.returns-clause-call
 returns-clause-call c =
-    (sweep_called c.args.self.now c.self.inside c.sweep.new.pass c.args.wheel c.args.process c.index_mut.result.now c.sweep.new.self
-    c.self.view_is c.self.invariant c.sweep.ensures.belongs c.requires.wheel c.index_mut.ensures.value c.sweep.ensures.number c.sweep.ensures.stands
-    c.sweep.ensures.call c.sweep.ensures.swept c.sweep.ensures.tidy).goes
+    (does_at c.deref.ensures (sweep_called c.args.self.now c.self.inside c.deref.result.now c.sweep.new.pass c.args.wheel c.args.process c.index_mut.result.now c.sweep.new.self (has_at c.deref.ensures c.self.view_is c.self.invariant)
+    c.sweep.ensures.belongs c.requires.wheel c.index_mut.ensures.value c.sweep.ensures.number c.sweep.ensures.stands c.sweep.ensures.call c.sweep.ensures.swept
+    c.sweep.ensures.tidy)).goes
 
 pub returns-clause-exited : goal.returns-clause-exited
 returns-clause-exited c =
-    still_exited c.args.self.now c.self.inside c.sweep.new.pass c.args.process c.sweep.ensures.call.entries c.self.view_is c.self.invariant.whole
-    c.sweep.ensures.call.call c.requires.exited
+    let has : Has c.args.self.now c.self.inside c.deref.result.now = has_at c.deref.ensures c.self.view_is c.self.invariant in
+    let was = subst (λ (w : Seen). (state w.settings w.history).exited c.args.process ≡ true) (sym has.is) c.requires.exited in
+    subst (λ (d : Desk). (state (settings_of d) (front_of c.sweep.new.pass)).exited c.args.process ≡ true) c.deref.ensures
+    (still_exited (settings_of c.deref.result.now) (view_of c.self.inside.pass) c.sweep.ensures.call.entries (view_of c.sweep.new.pass) c.args.process c.sweep.ensures.call.call was)

@@ -1,5 +1,0 @@
-use Rattle.ert_seats.proofs.Divided.{none_given, given_away}
-use Rattle.ert_seats.proofs.laws.entries_are_divided.Goals as goal
-
-pub returns : goal.returns
-returns c = record { none = none_given; seats = given_away }

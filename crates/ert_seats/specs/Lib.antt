@@ -1,4 +1,0 @@
-pub mod Laws
-pub mod Seats
-pub mod SharedWorlds
-pub mod Ways

@@ -1,0 +1,57 @@
+-- Where no seat was given out, a world holds every actor, and what is said in its way is said of one thread.
+
+use Rattle.std.proofs.Common.{◌≡◌, ℕ, zero, suc, ◌<◌, List, inl, inr, refl, ap, subst, ◌∙◌, arith}
+use Rattle.std.proofs.Math.Path.{fun_ext}
+use Rattle.ert_answers.specs.Ways.{Step, Growth, Way, Grows, alone}
+use Rattle.ert_defs.specs.States.{state}
+use Rattle.ert_defs.specs.declared.entry.Actor.{Actor}
+use Rattle.ert_defs.specs.declared.entry.Actor.TheVariants.{Keeper, Wheel, Inbox, Sched, MailOf, Caller}
+use Rattle.ert_defs.specs.declared.entry.Entry.{Entry}
+use Rattle.ert_defs.specs.declared.settings.Settings.{Settings}
+use Rattle.ert_table.specs.Held.{IsWhole}
+use Rattle.ert_world.proofs.Divided.{none_given}
+use Rattle.ert_world.specs.Ways.{beside_seats}
+use Rattle.ert_world.specs.Worlds.{Seen, IsUnseated, HoldsRest, StayTidy, Goes, way_of}
+
+every : (next : ℕ) (a : Actor) → next ≡ 1 → IsUnseated next a
+every next Keeper one = tt
+every next (Wheel n) one = tt
+every next (Inbox n) one = tt
+every next (Sched n) one = tt
+every next (MailOf n) one = tt
+every next (Caller zero) one = inl refl
+every next (Caller (suc n)) one = inr (omega (arith, one))
+
+pub whole_of : (g : Settings) (actors : List Actor) (next : ℕ) → next ≡ 1 → HoldsRest g actors next → IsWhole g actors
+whole_of g actors next one holds a ranged = holds.rest a ranged (every next a one)
+
+-- who holds every actor has given none away
+pub holds_all : (g : Settings) (actors : List Actor) → 0 < g.callers → IsWhole g actors → HoldsRest g actors 1
+holds_all g actors some whole = record {
+  some = omega arith;
+  most = omega (arith, some);
+  rest = λ a ranged unseated. whole a ranged;
+  given = λ n some few. absurd (omega (arith, some, few));
+}
+
+-- the two ways are one
+no_seats : (g : Settings) → beside_seats g 1 ≡ alone g
+no_seats g =
+    fun_ext (λ (parts : List Actor). fun_ext (λ (allows : Step). fun_ext (λ (h : List Entry). fun_ext (λ (m : List Entry). ap (allows (state g h)) (none_given m)))))
+
+-- so a call of a world without seats is that of one thread, whatever it is made of
+pub lone : (old : Seen) (h : List Entry) (call : Way → Growth) → Grows (call (way_of old)) old.history h → old.next ≡ 1
+    → Grows (call (alone old.settings)) old.history h
+lone old h call grows one =
+    subst (λ (way : Way). Grows (call way) old.history h) (ap (λ (n : ℕ). beside_seats old.settings n) one ∙ no_seats old.settings) grows
+
+pub went : (old new : Seen) (call : Way → Growth) → Grows (call (way_of old)) old.history new.history → new.table ≡ old.table
+    → new.settings ≡ old.settings → new.next ≡ old.next → StayTidy old new → Goes old call new
+went old new call grows table settings next tidy = record {
+  grows = grows;
+  lone = lone old new.history call grows;
+  table = table;
+  settings = settings;
+  next = next;
+  tidy = tidy;
+}
