@@ -28,7 +28,7 @@ fn requests_are_answered_in_order(rt: HostRuntime) -> Result<(), NoMemory> {
         make(&rt, &mut world, 4, Take(1, Taken::Mail(answer)));
     }
     make(&rt, &mut world, 5, Take(1, Taken::Empty));
-    close(rt.alloc(), world)?;
+    close(&rt, rt.alloc(), world)?;
     Ok(())
 }
 
@@ -45,7 +45,7 @@ fn at_most_64_monitors_stand(rt: HostRuntime) -> Result<(), NoMemory> {
         Monitor(1, Ok(64)),
         Tell(1, 0),
     ];
-    close(rt.alloc(), run(&rt, world, &steps))?;
+    close(&rt, rt.alloc(), run(&rt, world, &steps))?;
     Ok(())
 }
 

@@ -1,12 +1,15 @@
 //! Worlds on which the steps of a table are made.
+ghost use Rattle.std.specs.Prelude.{◌≡◌};
+
 use crate::steps::{Step, make, same};
 use ert_calls::cancel_timer;
 use ert_defs::{Actor, NoMemory, Settings, TimerRef};
-use ert_world::World;
 use ert_table::Words;
 use ert_timers::Tally;
+use ert_world::World;
 use std::alloc::Global;
 use std::process::Abort;
+use std::sync::Arc;
 
 /// What a desk is left with.
 #[derive(Clone, Copy)]
@@ -23,9 +26,20 @@ pub(crate) fn open(rt: &impl Abort, alloc: Global, settings: &Settings) -> Resul
     World::open(alloc, settings)
 }
 
+/// A world gave out no seat.
+fn is_alone(rt: &impl Abort, world: &World)
+    ensures { world.now.next ≡ 1 }
+{
+    assert!(rt; world.seats() == 0);
+}
+
 /// Ends a world, and gives the words of its desk.
-pub(crate) fn close(alloc: Global, world: World) -> Result<Words, NoMemory> {
+pub(crate) fn close(rt: &impl Abort, alloc: Global, world: World) -> Result<Words, NoMemory> {
+    is_alone(rt, &world);
     let (desk, pass) = world.into_desk();
+    let Ok(desk) = Arc::try_unwrap(desk) else {
+        panic!(rt; "the desk is shared");
+    };
     desk.close(alloc, pass)
 }
 
@@ -36,7 +50,7 @@ pub(crate) fn make_all(
     settings: &Settings,
     steps: &[Step],
 ) -> Result<(), NoMemory> {
-    close(alloc, run(rt, open(rt, alloc, settings)?, steps))?;
+    close(rt, alloc, run(rt, open(rt, alloc, settings)?, steps))?;
     Ok(())
 }
 
@@ -48,7 +62,7 @@ pub(crate) fn make_all_to_end(
     steps: &[Step],
     want: Left,
 ) -> Result<(), NoMemory> {
-    let words = close(alloc, run(rt, open(rt, alloc, settings)?, steps))?;
+    let words = close(rt, alloc, run(rt, open(rt, alloc, settings)?, steps))?;
     assert!(rt; words.time == want.time, "time {}", words.time);
     assert!(rt; words.offset == want.offset, "offset {}", words.offset);
     same(rt, steps.len(), &words.timers.as_slice(), &want.timers);
@@ -83,6 +97,7 @@ fn next(rt: &impl Abort, mut world: World, at: usize, one: Step) -> World {
 
 /// Cancels a timer, and tells its wheel nothing.
 fn cancel(rt: &impl Abort, world: World, at: usize, timer: TimerRef, want: Option<u64>) -> World {
+    is_alone(rt, &world);
     let mut parts = world.into_parts();
     let left = cancel_timer(&parts.desk, &mut parts.pass, Actor::Caller(0), timer);
     same(rt, at, &left, &want);
@@ -90,6 +105,7 @@ fn cancel(rt: &impl Abort, world: World, at: usize, timer: TimerRef, want: Optio
 }
 
 fn count(rt: &impl Abort, world: World, at: usize, want: [u64; 4]) -> World {
+    is_alone(rt, &world);
     let parts = world.into_parts();
     for part in &parts.wheels {
         let Tally {

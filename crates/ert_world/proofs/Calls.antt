@@ -124,12 +124,13 @@ abbrev pub ComeBack : Inside → Desk → Pass → List Actor → AllParts → T
 ComeBack b d q lent new = Stand (settings_of d) (front_of q) lent (parts_in b) → Stand (settings_of d) (front_of q) [] new
 
 -- so the parts fit
-pub fit_on : {before : Seen} (b : Inside) (d : Desk) (q : Pass) (new : AllParts) (es : List Entry) (lent : List Actor) → Has before b d → Belongs d q
-    → TakesPlace (settings_of d) (view_of b.pass) es (view_of q) → AreOnlyOf lent es → ComeBack b d q lent new → AreFit d q b.next new
-fit_on b d q new es lent has belongs takes only back = record {
+pub fit_on : (d : Desk) (p q : Pass) (next : ℕ) (parts new : AllParts) (es : List Entry) (lent : List Actor) → AreFit d p next parts → Belongs d q
+    → TakesPlace (settings_of d) (view_of p) es (view_of q) → AreOnlyOf lent es
+    → (Stand (settings_of d) (front_of q) lent parts → Stand (settings_of d) (front_of q) [] new) → AreFit d q next new
+fit_on d p q next parts new es lent fit belongs takes only back = record {
   belongs = belongs;
-  holds = subst (λ l. HoldsRest (settings_of d) l b.next) (sym takes.actors) has.fit.holds;
-  stand = back (others_stand (settings_of d) (view_of b.pass) es (view_of q) b.next lent (parts_in b) takes only has.fit.holds has.fit.stand);
+  holds = subst (λ l. HoldsRest (settings_of d) l next) (sym takes.actors) fit.holds;
+  stand = back (others_stand (settings_of d) (view_of p) es (view_of q) next lent parts takes only fit.holds fit.stand);
 }
 
 -- a call of a world on the parts that these actors have
@@ -139,7 +140,7 @@ pub finish : (before : Seen) (b : Inside) (d : Desk) (q : Pass) (new : AllParts)
 finish before b d q new es lent call has belongs takes only unseated back allowed tidy =
     let g : Settings = settings_of d in
     record {
-      fit = fit_on b d q new es lent has belongs takes only back;
+      fit = fit_on d b.pass q b.next (parts_in b) new es lent has.fit belongs takes only back;
       goes = subst (λ w. Goes w (call w) (seen d q b.next new.keeper new.wheels)) has.is
           (went (seen_at d b) (seen d q b.next new.keeper new.wheels) (call (seen_at d b)) (record {
             piece = takes.later;

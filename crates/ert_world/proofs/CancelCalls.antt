@@ -71,7 +71,7 @@ finish_but before b d q new es lent timer left call has belongs takes only unsea
       made = allowed takes.later takes.grown (own_unseated g (view_of b.pass) es (view_of q) b.next lent has.fit.holds takes only unseated);
     } in
     record {
-      fit = fit_on b d q new es lent has belongs takes only back;
+      fit = fit_on d b.pass q b.next (parts_in b) new es lent has.fit belongs takes only back;
       goes = subst (λ w. GoesBut timer left w (call w) (seen d q b.next new.keeper new.wheels)) has.is (record {
         grows = grows;
         lone = lone (seen_at d b) (front_of q) (call (seen_at d b)) grows;

@@ -30,7 +30,7 @@
 //! | `deliver` | a scheduler | hands over its expired timers, until none is left | those timers |
 //! | `turn` | a scheduler | serves requests, 64 at most, advances, and delivers | as these three |
 //! | `last_turn` | a scheduler | does the same, and looks at every timer that its wheel holds | every slot of the wheel |
-//! | `settings`, `published` | | no entry: settings and the last published time | constant |
+//! | `seats`, `settings`, `published` | | no entry: how many seats were given out, settings and the last published time | constant |
 //! | `counts` | | no entry: how many timers have which status | the wheels, the schedulers and the processes |
 //! | `into_parts`, `from_parts`, `into_desk` | | no entry: takes a world apart, puts it together, ends it | constant |
 //!

@@ -62,7 +62,7 @@ impl Model for World {
 
 impl World {
     ghost use Rattle.std.specs.Arc.{arc_value};
-    ghost use Rattle.std.specs.Prelude.{◌≡◌, IfErr, OnErr};
+    ghost use Rattle.std.specs.Prelude.{◌≡◌, ◌+◌, IfErr, OnErr};
     ghost use Rattle.ert_table.specs.Desks.{settings_of, KnowsAll};
     ghost use Rattle.ert_world.specs.Lived.{IsLived};
     ghost use Rattle.ert_world.specs.Openings.{IsOpened};
@@ -121,6 +121,13 @@ impl World {
                 Err(SeatErr::NoMemory)
             }
         }
+    }
+
+    /// How many seats were given out: callers 1 to this number have one.
+    pub fn seats(&self) -> u32
+        ensures { result + 1 ≡ self.now.next }
+    {
+        self.next - 1
     }
 
     /// The settings that the service was opened with.

@@ -1,21 +1,22 @@
 use Rattle.std.proofs.Common.{[], ◌∷◌}
+use Rattle.std.specs.Arc.{arc_value}
 use Rattle.ert_defs.specs.States.{state}
 use Rattle.ert_defs.specs.declared.entry.Actor.TheVariants.{Caller}
 use Rattle.ert_table.specs.Desks.{settings_of, front_of}
 use Rattle.ert_world.specs.Parts.{parts_of}
-use Rattle.ert_world.proofs.Calls.{called}
+use Rattle.ert_world.proofs.Calls.{fit_on}
 use Rattle.ert_world.proofs.Cancelled.{cancel_only}
-use Rattle.ert_world.proofs.Standing.{caller_back}
+use Rattle.ert_world.proofs.Returned.{caller_back}
 use Rattle.ert_desk_tests.proofs.worlds.cancel.Goals as goal
 
 pub from_parts-requires-clause-fit : goal.from_parts-requires-clause-fit
 from_parts-requires-clause-fit g c =
     let p = c.into_parts-parts.result in
     let q = c.cancel_timer-left.new.pass in
-    let d = settings_of p.desk in
+    let e = arc_value p.desk in
+    let d = settings_of e in
     let made = c.cancel_timer-left.ensures.call.call in
     let parts = parts_of p.keeper p.wheels.items p.inboxes.items p.mails.items p.scheds.items in
-    let done =
-    called p.desk p.pass q made.entries (Caller 0 ∷ []) parts c.into_parts-parts.ensures.fit c.cancel_timer-left.ensures.belongs made.call
-    (cancel_only d (Caller 0) c.args.timer c.cancel_timer-left.result (state d (front_of p.pass)) made.entries made.allowed) in
-    record { belongs = done.belongs; whole = done.whole; stand = caller_back d (front_of q) [] parts 0 done.stand }
+    fit_on e p.pass q 1 parts parts made.entries (Caller 0 ∷ []) c.into_parts-parts.ensures.fit c.cancel_timer-left.ensures.belongs made.call
+    (cancel_only d (Caller 0) c.args.timer c.cancel_timer-left.result (state d (front_of p.pass)) made.entries made.allowed)
+    (caller_back d (front_of q) [] parts 0)
