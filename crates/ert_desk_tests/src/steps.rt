@@ -1,5 +1,5 @@
 //! Steps of a test: calls of a world of one scheduler, each with the answer that is wanted.
-ghost use Rattle.std.specs.Prelude.{◌<◌};
+ghost use Rattle.std.specs.Prelude.{◌≡◌, ◌<◌};
 
 use ert_answers::{MonitorErr, StartErr, Taken, Turned};
 use ert_clock::{ClockErr, Moved};
@@ -93,6 +93,13 @@ fn is_process(rt: &impl Abort, world: &World, process: u32)
     assert!(rt; process < world.settings().processes);
 }
 
+/// A world gave out no seat.
+pub(crate) fn is_alone(rt: &impl Abort, world: &World)
+    ensures { world.now.next ≡ 1 }
+{
+    assert!(rt; world.seats() == 0);
+}
+
 /// An answer is the wanted one.
 pub(crate) fn same<T: PartialEq + Debug>(rt: &impl Abort, at: usize, got: &T, want: &T) {
     assert!(rt; got == want, "step {at}: {got:?}, not {want:?}");
@@ -157,6 +164,7 @@ pub(crate) fn make(rt: &impl Abort, world: &mut World, at: usize, one: Step) {
         }
         Step::LastTurn(to) => {
             is_scheduler(rt, world, 0);
+            is_alone(rt, world);
             let idle = Turned {
                 served: 0,
                 to,

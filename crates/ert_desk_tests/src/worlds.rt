@@ -1,7 +1,5 @@
 //! Worlds on which the steps of a table are made.
-ghost use Rattle.std.specs.Prelude.{◌≡◌};
-
-use crate::steps::{Step, make, same};
+use crate::steps::{Step, is_alone, make, same};
 use ert_calls::cancel_timer;
 use ert_defs::{Actor, NoMemory, Settings, TimerRef};
 use ert_table::Words;
@@ -24,13 +22,6 @@ pub(crate) struct Left<'a> {
 pub(crate) fn open(rt: &impl Abort, alloc: Global, settings: &Settings) -> Result<World, NoMemory> {
     assert!(rt; settings.check().is_ok());
     World::open(alloc, settings)
-}
-
-/// A world gave out no seat.
-fn is_alone(rt: &impl Abort, world: &World)
-    ensures { world.now.next ≡ 1 }
-{
-    assert!(rt; world.seats() == 0);
 }
 
 /// Ends a world, and gives the words of its desk.
