@@ -20,6 +20,16 @@ use Rattle.ert_interval.proofs.Steps.{AllSpare, row_stays, fired_stays, used_sta
 abbrev pub with_state : Interval → IntervalState → Interval
 with_state i st = record i { state = st }
 
+-- and with the timers of `k`
+abbrev pub with_timers : Interval → Interval → IntervalState → Interval
+with_timers i k st = record i { state = st; firings = k.firings }
+
+in_timers : (s : State) (i k : Interval) (st : IntervalState) → IsIn s i st → IsIn s (with_timers i k st) st
+in_timers s i k Running is = is
+in_timers s i k Waiting is = is
+in_timers s i k Stopped is = is
+in_timers s i k Ended is = is
+
 -- the start of a timer stays
 told_grows : (g : Settings) (h m : List Entry) (r : TimerRef) (wanted : ℕ) → IsTold g h r wanted → IsTold g (h ++ m) r wanted
 told_grows g h m r wanted one = record {
@@ -82,16 +92,10 @@ kept_with g h m i st legal kept is_in =
       on = kept.on;
       row = subst (λ (t : State). row_of (t.rows i.last.wheel) i.last ≡ Some (row_for i i.last i.deadline)) grown
           (row_stays g s m i.last (row_for i i.last i.deadline) kept.row);
-      is_in = subst (λ (t : State). IsIn t (with_state i st) st) grown (in_with s i st is_in);
+      is_in = subst (λ (t : State). IsIn t (with_state i st) st) grown (in_timers (run g s m) i i st is_in);
     }
-  where
-    in_with : (s : State) (i : Interval) (st : IntervalState) → IsIn (run g (state g h) m) i st → IsIn (run g (state g h) m) (with_state i st) st
-    in_with s i Running is = is
-    in_with s i Waiting is = is
-    in_with s i Stopped is = is
-    in_with s i Ended is = is
 
-at_end_stays : (g : Settings) (s : State) (m : List Entry) (i : Interval) → IsAtEnd s i → IsAtEnd (run g s m) i
+pub at_end_stays : (g : Settings) (s : State) (m : List Entry) (i : Interval) → IsAtEnd s i → IsAtEnd (run g s m) i
 at_end_stays g s m i (inl exited) = inl (exit_stays g i.dest s m exited)
 at_end_stays g s m i (inr high) = inr high
 
@@ -110,10 +114,6 @@ pub kept_grows : (g : Settings) (h m : List Entry) (i : Interval) → Legal g (h
 kept_grows g h m i legal spare kept =
     kept_with g h m i i.state legal kept
     (in_stays g (state g h) m i i.state (ordered g h (legal_first g _ h m legal)) (legal_then g _ h m legal) spare kept.used kept.row kept.is_in)
-
--- the same interval, in another state and with the timers of `k`
-abbrev pub with_timers : Interval → Interval → IntervalState → Interval
-with_timers i k st = record i { state = st; firings = k.firings }
 
 -- an interval whose timers were moved to other memory
 pub kept_moved : (g : Settings) (h : List Entry) (i k : Interval) → k.firings.items ≡ i.firings.items → IsKept g h i → IsKept g h (with_timers i k i.state)
@@ -139,14 +139,8 @@ kept_moved g h i k same kept =
       named = kept.named;
       on = kept.on;
       row = kept.row;
-      is_in = in_moved i.state kept.is_in;
+      is_in = in_timers s i k i.state kept.is_in;
     }
   where
     as_moved : {j : ℕ} {r : TimerRef} → IsFiring g h i j r → IsFiring g h (with_timers i k i.state) j r
     as_moved one = record { wheel = one.wheel; deadline = one.deadline; due = one.due; row = one.row; told = one.told }
-
-    in_moved : (st : IntervalState) → IsIn (state g h) i st → IsIn (state g h) (with_timers i k i.state) st
-    in_moved Running is = is
-    in_moved Waiting is = is
-    in_moved Stopped is = is
-    in_moved Ended is = is

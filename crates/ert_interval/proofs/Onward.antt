@@ -1,6 +1,6 @@
 -- How an interval goes on while the world's history grows.
 
-use Rattle.std.proofs.Common.{◌≡◌, ◌≢◌, ℕ, ◌≤◌, ℤ, false, List, [], ◌++◌, Some, None, sym, ap, subst, ◌∙◌, inl, inr, append_assoc, append-nil}
+use Rattle.std.proofs.Common.{◌≡◌, ◌≢◌, ℕ, ◌≤◌, ℤ, false, List, [], ◌++◌, Some, None, sym, ap, subst, ◌∙◌, append_assoc, append-nil}
 use Rattle.ert_defs.specs.Legal.{Legal, LegalFrom}
 use Rattle.ert_defs.specs.Milliseconds.{deadline_of}
 use Rattle.ert_defs.specs.States.{State, state, run}
@@ -8,7 +8,6 @@ use Rattle.ert_defs.specs.declared.entry.Entry.{Entry}
 use Rattle.ert_defs.specs.declared.settings.Settings.{Settings}
 use Rattle.ert_defs.specs.declared.timer.Status.TheVariants.{Armed}
 use Rattle.ert_defs.specs.declared.timer.TimerRef.{TimerRef}
-use Rattle.ert_defs.proofs.Runs.{legal_then, state-append, exit_stays}
 use Rattle.ert_defs.proofs.Slots.{IsOrdered, ordered}
 use Rattle.ert_interval.specs.Calls.{Still, AreStill, EndsAs}
 use Rattle.ert_interval.specs.Deadlines.{base, start_at, time_of}
@@ -17,9 +16,10 @@ use Rattle.ert_interval.specs.declared.interval.Interval.{Interval}
 use Rattle.ert_interval.specs.declared.interval.IntervalState.{IntervalState}
 use Rattle.ert_interval.specs.declared.interval.IntervalState.TheVariants.{Running, Waiting, Stopped, Ended}
 use Rattle.ert_interval.proofs.Deadlines.{deadline_back}
-use Rattle.ert_interval.proofs.Growing.{with_state, with_timers, kept_with, kept_moved, kept_grows}
-use Rattle.ert_interval.proofs.Plain.{ArePlain, plain_spares, still_plain}
-use Rattle.ert_interval.proofs.Steps.{done_stays, used_stays, none_from}
+use Rattle.ert_interval.proofs.Growing.{with_state, with_timers, kept_with, kept_moved, kept_grows, at_end_stays}
+use Rattle.ert_interval.proofs.Plain.{plain_spares, still_plain}
+use Rattle.ert_interval.proofs.Reading.{grown_legal, piece_legal, piece_state}
+use Rattle.ert_interval.proofs.Steps.{AllSpare, done_stays, used_stays, none_from}
 use Rattle.ert_interval.proofs.Still.{still_armed, still_lives, still_full, still_append}
 use Rattle.ert_world.specs.Worlds.{Seen}
 
@@ -30,19 +30,19 @@ still_then a b c one other = record {
   grown = other.grown ∙ (ap (λ l. l ++ other.piece) one.grown ∙ append_assoc a.history one.piece other.piece);
   still = still_append one.piece other.piece one.still other.still;
   settings = other.settings ∙ one.settings;
+  next = other.next ∙ one.next;
 }
 
--- an interval stays in order over entries that cancel nothing
-pub plain_kept : (a b : Seen) (piece : List Entry) (i : Interval) → b.settings ≡ a.settings → b.history ≡ a.history ++ piece → ArePlain piece
+-- an interval stays in order over entries that don't cancel its last timer
+pub spare_kept : (a b : Seen) (piece : List Entry) (i : Interval) → b.settings ≡ a.settings → b.history ≡ a.history ++ piece → AllSpare i.last piece
     → Legal b.settings b.history → IsKept a.settings a.history i → IsKept b.settings b.history i
-plain_kept a b piece i settings grown plain legal kept =
-    let g : Settings = a.settings in
-    let legal_m : Legal g (a.history ++ piece) = subst (Legal g) grown (subst (λ x. Legal x b.history) settings legal) in
+spare_kept a b piece i settings grown spare legal kept =
     subst (λ x. IsKept x b.history i) (sym settings)
-    (subst (λ l. IsKept g l i) (sym grown) (kept_grows g a.history piece i legal_m (plain_spares i.last piece plain) kept))
+    (subst (λ l. IsKept a.settings l i) (sym grown) (kept_grows a.settings a.history piece i (grown_legal a b piece settings grown legal) spare kept))
 
 pub still_kept : (a b : Seen) (i : Interval) → Still a b → Legal b.settings b.history → IsKept a.settings a.history i → IsKept b.settings b.history i
-still_kept a b i still legal kept = plain_kept a b still.piece i still.settings still.grown (still_plain still.piece still.still) legal kept
+still_kept a b i still legal kept =
+    spare_kept a b still.piece i still.settings still.grown (plain_spares i.last still.piece (still_plain still.piece still.still)) legal kept
 
 -- and takes another state that fits
 pub in_other : (g : Settings) (h : List Entry) (i : Interval) (st : IntervalState) → Legal g h → IsKept g h i → IsIn (state g h) i st
@@ -71,23 +71,17 @@ pub ends_stay : (a b : Seen) (i : Interval) (st : IntervalState) → Still a b �
     → EndsAs a.settings (state a.settings a.history) i st → EndsAs b.settings (state b.settings b.history) i st
 ends_stay a b i st still legal_a legal used ends =
     let g : Settings = a.settings in
-    let s : State = state g a.history in
-    let legal_m : Legal g (a.history ++ still.piece) = subst (Legal g) still.grown (subst (λ x. Legal x b.history) still.settings legal) in
-    let end : state g b.history ≡ run g s still.piece = ap (state g) still.grown ∙ state-append g a.history still.piece in
-    subst (λ x. EndsAs x (state x b.history) i st) (sym still.settings)
-    (subst (λ t. EndsAs g t i st) (sym end) (over g s still.piece (ordered g a.history legal_a) (legal_then g _ a.history still.piece legal_m) still.still used st ends))
+    subst (λ (x : Settings). EndsAs x (state b.settings b.history) i st) (sym still.settings)
+    (subst (λ t. EndsAs g t i st) (sym (piece_state a b still.piece still.settings still.grown))
+    (over g (state g a.history) still.piece (ordered g a.history legal_a) (piece_legal a b still.piece still.settings still.grown legal) still.still used st ends))
   where
-    end_over : (g : Settings) (s : State) (m : List Entry) → IsAtEnd s i → IsAtEnd (run g s m) i
-    end_over g s m (inl exited) = inl (exit_stays g i.dest s m exited)
-    end_over g s m (inr high) = inr high
-
     over : (g : Settings) (s : State) (m : List Entry) → IsOrdered s → LegalFrom g s m → AreStill m → s.status i.last ≢ None → (st : IntervalState)
         → EndsAs g s i st → EndsAs g (run g s m) i st
     over g s m order legal still used Running ends = still_armed g s m i.last still ends
     over g s m order legal still used Waiting ends =
         (still_full g s m i.wheel legal still ends.0, still_lives g s m i.dest still ends.1, ends.2)
     over g s m order legal still used Stopped ends = ends
-    over g s m order legal still used Ended ends = ((done_stays g s m i.last order legal (used, ends.0)).1, end_over g s m ends.1)
+    over g s m order legal still used Ended ends = ((done_stays g s m i.last order legal (used, ends.0)).1, at_end_stays g s m i ends.1)
 
 -- a deadline within its limits is that of a start at its time
 pub due_at : (g : Settings) (d dest msg : ℕ) → d ≤ 8796093022207 → (look : ℤ) → deadline_of g (start_at (time_of g d) dest msg) look ≡ Some d
@@ -95,10 +89,8 @@ due_at g d dest msg low look = deadline_back d (base g) low
 
 pub lives_still : (a b : Seen) (p : ℕ) → Still a b → (state a.settings a.history).exited p ≡ false → (state b.settings b.history).exited p ≡ false
 lives_still a b p still lives =
-    let g : Settings = a.settings in
-    subst (λ x. (state x b.history).exited p ≡ false) (sym still.settings)
-    (subst (λ l. (state g l).exited p ≡ false) (sym still.grown)
-    (subst (λ (t : State). t.exited p ≡ false) (sym (state-append g a.history still.piece)) (still_lives g (state g a.history) still.piece p still.still lives)))
+    subst (λ (t : State). t.exited p ≡ false) (sym (piece_state a b still.piece still.settings still.grown))
+    (still_lives a.settings (state a.settings a.history) still.piece p still.still lives)
 
 -- an interval that isn't armed waits
 pub waits : (a b : Seen) (i k : Interval) → Still a b → Legal a.settings a.history → Legal b.settings b.history → IsKept a.settings a.history i
@@ -106,7 +98,6 @@ pub waits : (a b : Seen) (i k : Interval) → Still a b → Legal a.settings a.h
     → IsKept b.settings b.history (with_timers i k Waiting)
 waits a b i k still legal_a legal kept is_open other same =
     let g : Settings = a.settings in
-    let legal_m : Legal g (a.history ++ still.piece) = subst (Legal g) still.grown (subst (λ x. Legal x b.history) still.settings legal) in
     let before : IsKept g a.history (with_state i Waiting) =
     in_other g a.history i Waiting legal_a kept (open_going (state g a.history) i i.state is_open kept.is_in, other) in
     kept_moved b.settings b.history (with_state i Waiting) k same (still_kept a b (with_state i Waiting) still legal before)
@@ -116,12 +107,9 @@ pub new_before : (a b : Seen) (r : TimerRef) → Still a b → Legal a.settings 
     → (state b.settings b.history).status r ≡ None → (state a.settings a.history).status r ≡ None
 new_before a b r still legal_a legal none =
     let g : Settings = a.settings in
-    let legal_m : Legal g (a.history ++ still.piece) = subst (Legal g) still.grown (subst (λ x. Legal x b.history) still.settings legal) in
-    let end : state b.settings b.history ≡ run g (state g a.history) still.piece =
-    ap (λ x. state x b.history) still.settings ∙ (ap (state g) still.grown ∙ state-append g a.history still.piece) in
     none_from ((state g a.history).status r) (λ some.
-    used_stays g (state g a.history) still.piece r (ordered g a.history legal_a) (legal_then g _ a.history still.piece legal_m) some
-    (sym (ap (λ (t : State). t.status r) end) ∙ none))
+    used_stays g (state g a.history) still.piece r (ordered g a.history legal_a) (piece_legal a b still.piece still.settings still.grown legal) some
+    (sym (ap (λ (t : State). t.status r) (piece_state a b still.piece still.settings still.grown)) ∙ none))
 
 -- an interval ends
 pub ended : (a b : Seen) (i : Interval) → Still a b → Legal b.settings b.history → IsKept a.settings a.history i
@@ -134,8 +122,6 @@ pub other_later : (a b : Seen) (i : Interval) → Still a b → Legal a.settings
     → (state a.settings a.history).status i.last ≢ Some Armed → (state b.settings b.history).status i.last ≢ Some Armed
 other_later a b i still legal_a legal kept other =
     let g : Settings = a.settings in
-    let legal_m : Legal g (a.history ++ still.piece) = subst (Legal g) still.grown (subst (λ x. Legal x b.history) still.settings legal) in
-    let end : state b.settings b.history ≡ run g (state g a.history) still.piece =
-    ap (λ x. state x b.history) still.settings ∙ (ap (state g) still.grown ∙ state-append g a.history still.piece) in
-    subst (λ (t : State). t.status i.last ≢ Some Armed) (sym end)
-    (done_stays g (state g a.history) still.piece i.last (ordered g a.history legal_a) (legal_then g _ a.history still.piece legal_m) (kept.used, other)).1
+    subst (λ (t : State). t.status i.last ≢ Some Armed) (sym (piece_state a b still.piece still.settings still.grown))
+    (done_stays g (state g a.history) still.piece i.last (ordered g a.history legal_a) (piece_legal a b still.piece still.settings still.grown legal)
+    (kept.used, other)).1

@@ -5,7 +5,7 @@ use Rattle.std.proofs.lemmas.Bool.{cases_eq}
 use Rattle.ert_interval.proofs.Tables.{either}
 use Rattle.ert_defs.specs.Legal.{Legal}
 use Rattle.ert_defs.specs.declared.memory.NoMemory.{NoMemory}
-use Rattle.ert_interval.specs.Calls.{Still, IsOf, Passed, PassedBy, PassesOne, PassesAll, PassesSome, Unmoved, timers, Counts}
+use Rattle.ert_interval.specs.Calls.{Still, IsOf, Passed, PassedBy, PassesOne, PassesSome, Unmoved, timers, Counts}
 use Rattle.ert_interval.specs.Going.{one_if}
 use Rattle.ert_interval.specs.Intervals.{IsKept, AreKept}
 use Rattle.ert_interval.specs.declared.interval.Interval.{Interval}
@@ -29,14 +29,29 @@ passed_stays a b i j armed still legal_a legal kept passed = record {
   ends = ends_stay a b j j.state still legal_a legal kept.used passed.ends;
 }
 
-pub passes_none : (w : ℕ) (a : Seen) (is : List Interval) → PassesTo w 0 a is is 0
-passes_none w a is = record {
-  counted = refl;
-  started = omega arith;
-  passed = λ m d low high of_wheel. absurd (omega (arith, low));
-  untouched = λ m d low. refl;
-  others = λ m d low other. refl;
-}
+-- those that were passed have been so still after a step of another, and those of other wheels have not moved
+passed_before : (answer : Result Bool NoMemory) (w n : ℕ) (a b : Seen) (is js ks : List Interval) (armed : ℕ) → PassesTo w n a is js armed
+    → PassesOne answer n w b js ks → Still a b → AreKept a js → Legal b.settings b.history → (m : ℕ) (d : Interval) → m < n → m < length is
+    → IsOf w (slice_index_or is m d) → (o : Bool) × Passed b (slice_index_or is m d) (slice_index_or ks m d) o
+passed_before answer w n a b is js ks armed to step still kept legal m d low high of_wheel =
+    let p = to.passed m d low high of_wheel in
+    let j : Interval = slice_index_or js m d in (
+      p.0,
+      subst (λ k. Passed b (slice_index_or is m d) k p.0) (sym (step.others m d (omega (arith, low))))
+          (passed_stays a b (slice_index_or is m d) j p.0 still kept.legal legal (kept.each m d (subst (λ x. m < x) (sym to.counted) high)) p.1),
+    )
+
+others_stay : (answer : Result Bool NoMemory) (w n : ℕ) (a b : Seen) (is js ks : List Interval) (armed : ℕ) → PassesTo w n a is js armed
+    → PassesOne answer n w b js ks → (m : ℕ) (d : Interval) → m < length is → (IsOf w (slice_index_or is m d) → ⊥)
+    → slice_index_or ks m d ≡ slice_index_or is m d
+others_stay answer w n a b is js ks armed to step m d high other =
+    let at : slice_index_or js m d ≡ slice_index_or is m d = to.others m d high other in
+    elim (cases_eq m n) [
+      | inl same ↦
+          subst (λ x. slice_index_or ks x d ≡ slice_index_or js x d) (sym same)
+          (step.other d (λ of_n. other (subst (IsOf w) (ap (λ x. slice_index_or js x d) (sym same) ∙ at) of_n))).1 ∙ at
+      | inr not ↦ step.others m d not ∙ at
+    ]
 
 -- one more
 pub passes_more : (w n : ℕ) (a b : Seen) (is js ks : List Interval) (armed next : ℕ) (one : Bool) → PassesTo w n a is js armed
@@ -51,30 +66,10 @@ passes_more w n a b is js ks armed next one to step still kept legal count sum =
         let at : slice_index_or js n d ≡ slice_index_or is n d = to.untouched n d (omega arith) in
         (one, subst (λ i. Passed b i (slice_index_or ks n d) one) at (step.one d (subst (IsOf w) (sym at) of_n))))
         of_wheel
-    | inr not ↦
-        let p = to.passed m d (omega (arith, low, not)) high of_wheel in
-        let j : Interval = slice_index_or js m d in (
-          p.0,
-          subst (λ k. Passed b (slice_index_or is m d) k p.0) (sym (step.others m d not))
-              (passed_stays a b (slice_index_or is m d) j p.0 still kept.legal legal (kept.each m d (subst (λ x. m < x) (sym to.counted) high)) p.1),
-        )
+    | inr not ↦ passed_before (Ok one) w n a b is js ks armed to step still kept legal m d (omega (arith, low, not)) high of_wheel
   ];
   untouched = λ m d low. step.others m d (omega (arith, low)) ∙ to.untouched m d (omega (arith, low));
-  others = λ m d high other. elim (cases_eq m n) [
-    | inl same ↦
-        let at : slice_index_or js m d ≡ slice_index_or is m d = to.others m d high other in
-        subst (λ x. slice_index_or ks x d ≡ slice_index_or js x d) (sym same)
-        (step.other d (λ of_n. other (subst (IsOf w) (ap (λ x. slice_index_or js x d) (sym same) ∙ at) of_n))).1 ∙ at
-    | inr not ↦ step.others m d not ∙ to.others m d high other
-  ];
-}
-
-pub passes_all : (w n : ℕ) (b : Seen) (is js : List Interval) (armed : ℕ) → PassesTo w n b is js armed → length is ≤ n → PassesAll w b is js armed
-passes_all w n b is js armed to high = record {
-  counted = to.counted;
-  started = to.started;
-  passed = λ m d low of_wheel. to.passed m d (omega (arith, low, high)) low of_wheel;
-  others = to.others;
+  others = others_stay (Ok one) w n a b is js ks armed to step;
 }
 
 -- or no memory for the next
@@ -90,26 +85,13 @@ passes_some w n a b is js ks armed e to step still kept legal = record {
         inl (subst (λ i. Unmoved i (slice_index_or ks n d)) at (step.one d (subst (IsOf w) (sym at) of_n))))
         of_wheel
     | inr not ↦ elim (either m n not) [
-      | inl low ↦
-          let p = to.passed m d low high of_wheel in
-          let j : Interval = slice_index_or js m d in
-          inr (
-            p.0,
-            subst (λ k. Passed b (slice_index_or is m d) k p.0) (sym (step.others m d not))
-                (passed_stays a b (slice_index_or is m d) j p.0 still kept.legal legal (kept.each m d (subst (λ x. m < x) (sym to.counted) high)) p.1),
-          )
+      | inl low ↦ inr (passed_before (Err e) w n a b is js ks armed to step still kept legal m d low high of_wheel)
       | inr more ↦
           let at : slice_index_or ks m d ≡ slice_index_or is m d = step.others m d not ∙ to.untouched m d (omega (arith, more)) in
           inl (subst (Unmoved (slice_index_or is m d)) (sym at) (unmoved_self (slice_index_or is m d)))
     ]
   ];
-  others = λ m d high other. elim (cases_eq m n) [
-    | inl same ↦
-        let at : slice_index_or js m d ≡ slice_index_or is m d = to.others m d high other in
-        subst (λ x. slice_index_or ks x d ≡ slice_index_or js x d) (sym same)
-        (step.other d (λ of_n. other (subst (IsOf w) (ap (λ x. slice_index_or js x d) (sym same) ∙ at) of_n))).1 ∙ at
-    | inr not ↦ step.others m d not ∙ to.others m d high other
-  ];
+  others = others_stay (Err e) w n a b is js ks armed to step;
 }
   where
     unmoved_self : (i : Interval) → Unmoved i i

@@ -4,7 +4,7 @@ use Rattle.std.proofs.Common.{◌≡◌, ℕ, zero, suc, ℤ, Bool, true, false,
 use Rattle.ert_answers.specs.Chains.{Holds, HoldsBy, Serves, ServesMany, ServesAll, times, AdvancesWheel, Hands, HandsMany, Delivers, Turns, SweepsWheels, Exits}
 use Rattle.ert_answers.specs.ClockCalls.{RefusesTick, Ticks}
 use Rattle.ert_answers.specs.MailCalls.{Takes}
-use Rattle.ert_answers.specs.TimerCalls.{Starts, AreProbes, AreTaken, Closes}
+use Rattle.ert_answers.specs.TimerCalls.{Starts, Closes}
 use Rattle.ert_answers.specs.WheelCalls.{Try, expires_by, expiry_entries, orphans_by, orphan_entries}
 use Rattle.ert_answers.specs.Ways.{alone, Many, Then}
 use Rattle.ert_answers.specs.declared.answers.Handed.{Handed}
@@ -23,7 +23,6 @@ use Rattle.ert_defs.specs.Legal.{LegalFrom}
 use Rattle.ert_defs.specs.Mails.{first_of}
 use Rattle.ert_defs.specs.States.{State, state}
 use Rattle.ert_defs.specs.declared.entry.Act.{Act}
-use Rattle.ert_defs.specs.declared.entry.Actor.{Actor}
 use Rattle.ert_defs.specs.declared.entry.Entry.{Entry}
 use Rattle.ert_defs.specs.declared.entry.Event.{Event}
 use Rattle.ert_defs.specs.declared.entry.Event.TheVariants.{Cancel, Ask, Pick}
@@ -37,6 +36,7 @@ use Rattle.ert_defs.specs.declared.timer.TimerRef.{TimerRef}
 use Rattle.ert_defs.proofs.Runs.{legal_first, legal_then, state-append}
 use Rattle.ert_interval.specs.Calls.{is_still, AreStill}
 use Rattle.ert_interval.specs.Intervals.{HasNoRequests}
+use Rattle.ert_interval.proofs.Still.{probes_still, taken_still}
 use Rattle.ert_interval.proofs.Steps.{spares, AllSpare, asks, NoneAsks, idle_stays}
 
 -- whether an entry cancels no timer and is no request
@@ -86,15 +86,6 @@ plain_append (e ∷ es) fs one other = (one.0, plain_append es fs one.1 other)
 plain_as : (es fs : List Entry) → es ≡ fs → ArePlain fs → ArePlain es
 plain_as es fs same plain = subst ArePlain (sym same) plain
 
-pub probes_plain : (by : Actor) (w : ℕ) (es : List Entry) → AreProbes by w es → ArePlain es
-probes_plain by w [] probes = tt
-probes_plain by w (e ∷ es) probes =
-    (subst (λ (x : Entry). is_plain x.event ≡ true) (sym probes.2) refl, probes_plain by w es probes.3)
-
-taken_plain : (by w now : ℕ) (s : State) (slot n : ℕ) (es : List Entry) → AreTaken by w now s slot n es → ArePlain es
-taken_plain by w now s slot zero es taken = plain_as es [] taken tt
-taken_plain by w now s slot (suc n) es taken = plain_as es _ taken.2 (refl, taken_plain by w now s (suc slot) n taken.1 taken.4)
-
 closes_plain : (was : Bool) (by : ℕ) (timer : TimerRef) (es : List Entry) → Closes was by timer es → ArePlain es
 closes_plain false by timer es closes = plain_as es [] closes tt
 closes_plain true by timer es (inl is) = plain_as es _ is (refl, tt)
@@ -105,7 +96,7 @@ pub starts_plain : (g : Settings) (by w : ℕ) (start : Start) (answer : Result 
 starts_plain g by w start (Ok timer) s es starts =
     plain_as es _ starts.entries (
       refl,
-      plain_append starts.probes _ (probes_plain _ w starts.probes starts.are_probes)
+      plain_append starts.probes _ (still_plain starts.probes (probes_still _ w starts.probes starts.are_probes))
           (refl, (refl, closes_plain starts.was by timer starts.closing starts.closes)),
     )
 starts_plain g by w start (Err BadArg) s es starts = plain_as es _ starts.entries (refl, tt)
@@ -113,13 +104,13 @@ starts_plain g by w start (Err Full) s es starts =
     plain_as es _ starts.entries (
       refl,
       elim starts.are_taken [
-        | inl taken ↦ taken_plain by w _ s 0 g.slots starts.probes taken
+        | inl taken ↦ still_plain starts.probes (taken_still by w _ s 0 g.slots starts.probes taken)
         | inr many ↦ plain_as starts.probes [] many.1 tt
       ],
     )
 starts_plain g by w start (Err NoMemory) s es (inl none) = plain_as es [] none tt
 starts_plain g by w start (Err NoMemory) s es (inr probed) =
-    plain_as es _ probed.entries (refl, probes_plain _ w probed.probes probed.are_probes)
+    plain_as es _ probed.entries (refl, still_plain probed.probes (probes_still _ w probed.probes probed.are_probes))
 
 moves_plain : (by : ℕ) (r : Reading) (act : Act) (now : ℤ) (shift : Option ℤ) → ArePlain (tick_entries by r act now shift)
 moves_plain by r act now None = (refl, tt)

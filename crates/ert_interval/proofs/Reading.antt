@@ -19,11 +19,15 @@ use Rattle.ert_interval.specs.Intervals.{IsKept, row_for}
 use Rattle.ert_interval.specs.declared.interval.Interval.{Interval}
 use Rattle.ert_world.specs.Worlds.{Seen, Goes, By}
 
--- the entries of a call are legal after the history of the world before it
+-- the history of the world before a call is legal with its entries
+pub grown_legal : (a b : Seen) (piece : List Entry) → b.settings ≡ a.settings → b.history ≡ a.history ++ piece → Legal b.settings b.history
+    → Legal a.settings (a.history ++ piece)
+grown_legal a b piece settings grown legal = subst (Legal a.settings) grown (subst (λ g. Legal g b.history) settings legal)
+
+-- the entries are legal after that history
 pub piece_legal : (a b : Seen) (piece : List Entry) → b.settings ≡ a.settings → b.history ≡ a.history ++ piece → Legal b.settings b.history
     → LegalFrom a.settings (state a.settings a.history) piece
-piece_legal a b piece settings grown legal =
-    legal_then a.settings _ a.history piece (subst (Legal a.settings) grown (subst (λ g. Legal g b.history) settings legal))
+piece_legal a b piece settings grown legal = legal_then a.settings _ a.history piece (grown_legal a b piece settings grown legal)
 
 -- the state of the world after it
 pub piece_state : (a b : Seen) (piece : List Entry) → b.settings ≡ a.settings → b.history ≡ a.history ++ piece
@@ -31,20 +35,20 @@ pub piece_state : (a b : Seen) (piece : List Entry) → b.settings ≡ a.setting
 piece_state a b piece settings grown =
     ap (λ g. state g b.history) settings ∙ (ap (state a.settings) grown ∙ state-append a.settings a.history piece)
 
-or_none : (x b : Bool) → (x || (b && false)) ≡ x
+pub or_none : (x b : Bool) → (x || (b && false)) ≡ x
 or_none true b = refl
 or_none false true = refl
 or_none false false = refl
 
-pub alive_tells : (a b : Seen) (process : ℕ) (answer : Bool) → Goes a (By a (λ g. TellsAlive g (Caller 0) process answer)) b
+pub alive_tells : (a b : Seen) (process : ℕ) (answer : Bool) → Goes a (By a (λ g. TellsAlive g (Caller 0) process answer)) b → a.next ≡ 1
     → Legal b.settings b.history → (state b.settings b.history).exited process ≡ not answer
-alive_tells a b process answer goes legal =
+alive_tells a b process answer goes lone legal =
     let g : Settings = a.settings in
     let s : State = state g a.history in
+    let grows = goes.lone lone in
     let e : Entry = mark_entry (Caller 0) process false (not answer) in
-    let legal_e : LegalFrom g s (e ∷ []) = subst (LegalFrom g s) goes.grows.made (piece_legal a b goes.grows.piece goes.settings goes.grows.grown legal) in
-    let after : state b.settings b.history ≡ run g s (e ∷ []) =
-    piece_state a b goes.grows.piece goes.settings goes.grows.grown ∙ ap (run g s) goes.grows.made in
+    let legal_e : LegalFrom g s (e ∷ []) = subst (LegalFrom g s) grows.made (piece_legal a b grows.piece goes.settings grows.grown legal) in
+    let after : state b.settings b.history ≡ run g s (e ∷ []) = piece_state a b grows.piece goes.settings grows.grown ∙ ap (run g s) grows.made in
     ap (λ (t : State). t.exited process) after ∙ (or_none (s.exited process) (nat_eq process process) ∙ sym legal_e.0.found)
 
 -- something is left of a timer exactly where it is armed
@@ -68,18 +72,19 @@ read_at g s timer row now answer es legal is =
     let both = left_armed g now (s.status timer) (row_of (s.rows timer.wheel) timer) row is in
     (λ none. both.0 (sym found ∙ none), λ no. found ∙ both.1 no)
 
-pub read_tells : (a b : Seen) (i : Interval) (answer : Option ℕ) → Goes a (By a (λ g. Reads g (Caller 0) i.last answer)) b
+pub read_tells : (a b : Seen) (i : Interval) (answer : Option ℕ) → Goes a (By a (λ g. Reads g (Caller 0) i.last answer)) b → a.next ≡ 1
     → Legal b.settings b.history → Legal a.settings a.history → IsKept a.settings a.history i
     → (answer ≡ None) ↔ ((state b.settings b.history).status i.last ≢ Some Armed)
-read_tells a b i answer goes legal before kept =
+read_tells a b i answer goes lone legal before kept =
     let g : Settings = a.settings in
     let s : State = state g a.history in
-    let reads = goes.grows.made in
+    let grows = goes.lone lone in
+    let reads = grows.made in
     let es : List Entry = look_entry (Caller 0) reads.now ∷ (peek_entry (Caller 0) i.last answer ∷ []) in
-    let is : goes.grows.piece ≡ es =
+    let is : grows.piece ≡ es =
     reads.entries ∙ ap (λ x. look_entry (Caller 0) reads.now ∷ read_entries x (Caller 0) i.last answer) kept.named in
-    let legal_es : LegalFrom g s es = subst (LegalFrom g s) is (piece_legal a b goes.grows.piece goes.settings goes.grows.grown legal) in
-    let after : state b.settings b.history ≡ run g s es = piece_state a b goes.grows.piece goes.settings goes.grows.grown ∙ ap (run g s) is in
+    let legal_es : LegalFrom g s es = subst (LegalFrom g s) is (piece_legal a b grows.piece goes.settings grows.grown legal) in
+    let after : state b.settings b.history ≡ run g s es = piece_state a b grows.piece goes.settings grows.grown ∙ ap (run g s) is in
     subst (λ (t : State). (answer ≡ None) ↔ (t.status i.last ≢ Some Armed)) (sym after)
     (read_at g s i.last (row_for i i.last i.deadline) reads.now answer es legal_es kept.row)
 

@@ -154,10 +154,11 @@ closed : (was : Bool) (timer : TimerRef) (closing : List Entry) → was ≡ fals
 closed was timer closing is closes = subst (λ b. Closes b 0 timer closing) is closes
 
 pub started : (a b : Seen) (w : ℕ) (start : Start) (timer : TimerRef) (deadline : ℕ) → Goes a (By a (λ g. Starts g 0 w start (Ok timer))) b
-    → Legal b.settings b.history → ((look : ℤ) → deadline_of a.settings start look ≡ Some deadline) → HasStarted a b w start timer deadline
-started a b w start timer deadline goes legal_b due =
+    → a.next ≡ 1 → Legal b.settings b.history → ((look : ℤ) → deadline_of a.settings start look ≡ Some deadline) → HasStarted a b w start timer deadline
+started a b w start timer deadline goes lone legal_b due =
     let g : Settings = a.settings in
-    let st = goes.grows.made in
+    let grows = goes.lone lone in
+    let st = grows.made in
     let pre : List Entry = look_entry (Caller 0) st.now ∷ st.probes in
     let arm : Entry = arm_entry 0 timer start in
     let mark : Entry = mark_entry (Caller 0) start.dest false st.was in
@@ -165,7 +166,7 @@ started a b w start timer deadline goes legal_b due =
     let h1 : List Entry = a.history ++ pre in
     let s1 : State = state g h1 in
     let parted : b.history ≡ h1 ++ (arm ∷ post) =
-    goes.grows.grown ∙ (ap (λ l. a.history ++ l) st.entries ∙ sym (append_assoc a.history pre (arm ∷ post))) in
+    grows.grown ∙ (ap (λ l. a.history ++ l) st.entries ∙ sym (append_assoc a.history pre (arm ∷ post))) in
     let legal : Legal g (h1 ++ (arm ∷ post)) = subst (Legal g) parted (subst (λ k. Legal k b.history) goes.settings legal_b) in
     let legal_h1 : Legal g h1 = legal_first g _ h1 (arm ∷ post) legal in
     let legal_a : Legal g a.history = legal_first g _ a.history pre legal_h1 in
@@ -176,7 +177,7 @@ started a b w start timer deadline goes legal_b due =
     let end : state g b.history ≡ run g s2 post = ap (state g) parted ∙ state-append g h1 (arm ∷ post) in
     let at1 : s1 ≡ run g (state g a.history) pre = state-append g a.history pre in
     let plain : ArePlain (arm ∷ post) = plain_then (look_entry (Caller 0) st.now ∷ st.probes) (arm ∷ post)
-    (subst ArePlain st.entries (starts_plain g 0 w start (Ok timer) (state g a.history) goes.grows.piece st)) in
+    (subst ArePlain st.entries (starts_plain g 0 w start (Ok timer) (state g a.history) grows.piece st)) in
     let unarmed : s1.status timer ≡ None = armed_first g s1 (Caller 0) timer timer _ (ordered g h1 legal_h1) can.known (same_timer_self timer) in
     let status : s2.status timer ≡ Some Armed = armed_status g s1 timer start in
     let row2 : row_of (s2.rows timer.wheel) timer ≡ Some (row_at timer start deadline) =
@@ -215,11 +216,11 @@ started a b w start timer deadline goes legal_b due =
           let was : st.was ≡ false = legal_rest.1.0.found ∙ alive1 in
           let none : st.closing ≡ [] = closed st.was timer st.closing was st.closes in
           let still_rest : AreStill (arm ∷ (mark ∷ [])) = (refl, (refl, tt)) in
-          let still_es : AreStill goes.grows.piece =
+          let still_es : AreStill grows.piece =
           subst AreStill (sym st.entries) (still_append pre (arm ∷ post) still_pre (subst (λ l. AreStill (arm ∷ (mark ∷ l))) (sym none) still_rest)) in (
             subst (λ (s : State). s.status timer ≡ Some Armed) (sym end)
                 (still_armed g s2 post timer (subst (λ l. AreStill (mark ∷ l)) (sym none) (refl, tt)) status),
-            record { piece = goes.grows.piece; grown = goes.grows.grown; still = still_es; settings = goes.settings },
+            record { piece = grows.piece; grown = grows.grown; still = still_es; settings = goes.settings; next = goes.next },
           );
     }
   where
@@ -254,33 +255,34 @@ found_still g w now s probes (inr many) = subst AreStill (sym many.1) tt
 
 -- a start that found no free slot leaves a full wheel
 pub refused_full : (a b : Seen) (w : ℕ) (start : Start) (deadline : ℕ) (e : StartErr) → Goes a (By a (λ g. Starts g 0 w start (Err e))) b
-    → Legal b.settings b.history → ((look : ℤ) → deadline_of a.settings start look ≡ Some deadline) → (e ≡ NoMemory → ⊥)
+    → a.next ≡ 1 → Legal b.settings b.history → ((look : ℤ) → deadline_of a.settings start look ≡ Some deadline) → (e ≡ NoMemory → ⊥)
     → IsFull b.settings (state b.settings b.history) w × Still a b
-refused_full a b w start deadline BadArg goes legal due memory =
-    let st = goes.grows.made in
+refused_full a b w start deadline BadArg goes lone legal due memory =
+    let st = (goes.lone lone).made in
     let clash : Some deadline ≡ None = sym (due st.now) ∙ st.refused in
     absurd cc
-refused_full a b w start deadline NoMemory goes legal due memory = absurd (memory refl)
-refused_full a b w start deadline Full goes legal due memory =
+refused_full a b w start deadline NoMemory goes lone legal due memory = absurd (memory refl)
+refused_full a b w start deadline Full goes lone legal due memory =
     let g : Settings = a.settings in
     let s : State = state g a.history in
-    let st = goes.grows.made in
+    let grows = goes.lone lone in
+    let st = grows.made in
     let es : List Entry = look_entry (Caller 0) st.now ∷ st.probes in
-    let legal_es : LegalFrom g s es = subst (LegalFrom g s) st.entries (piece_legal a b goes.grows.piece goes.settings goes.grows.grown legal) in
+    let legal_es : LegalFrom g s es = subst (LegalFrom g s) st.entries (piece_legal a b grows.piece goes.settings grows.grown legal) in
     let still : AreStill es = (refl, found_still g w st.now s st.probes st.are_taken) in
-    let end : state b.settings b.history ≡ run g s es = piece_state a b goes.grows.piece goes.settings goes.grows.grown ∙ ap (run g s) st.entries in
+    let end : state b.settings b.history ≡ run g s es = piece_state a b grows.piece goes.settings grows.grown ∙ ap (run g s) st.entries in
     let full : IsFull g (run g s es) w = still_full g s es w legal_es still (taken_all g s w st.now st.probes legal_es st.are_taken) in (
       subst (λ (k : Settings). IsFull k (state b.settings b.history) w) (sym goes.settings)
           (subst (λ (t : State). IsFull g t w) (sym end) full),
-      record { piece = goes.grows.piece; grown = goes.grows.grown; still = subst AreStill (sym st.entries) still; settings = goes.settings },
+      record { piece = grows.piece; grown = grows.grown; still = subst AreStill (sym st.entries) still; settings = goes.settings; next = goes.next },
     )
 
 -- a start that has a deadline, and isn't refused for want of memory, is refused for a full wheel
 pub full_start : (a b : Seen) (w : ℕ) (start : Start) (deadline : ℕ) (e : StartErr) → Goes a (By a (λ g. Starts g 0 w start (Err e))) b
-    → ((look : ℤ) → deadline_of a.settings start look ≡ Some deadline) → (e ≡ NoMemory → ⊥) → Goes a (By a (λ g. Starts g 0 w start (Err Full))) b
-full_start a b w start deadline BadArg goes due memory =
-    let st = goes.grows.made in
+    → a.next ≡ 1 → ((look : ℤ) → deadline_of a.settings start look ≡ Some deadline) → (e ≡ NoMemory → ⊥) → Goes a (By a (λ g. Starts g 0 w start (Err Full))) b
+full_start a b w start deadline BadArg goes lone due memory =
+    let st = (goes.lone lone).made in
     let clash : Some deadline ≡ None = sym (due st.now) ∙ st.refused in
     absurd cc
-full_start a b w start deadline NoMemory goes due memory = absurd (memory refl)
-full_start a b w start deadline Full goes due memory = goes
+full_start a b w start deadline NoMemory goes lone due memory = absurd (memory refl)
+full_start a b w start deadline Full goes lone due memory = goes

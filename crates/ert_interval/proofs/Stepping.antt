@@ -2,7 +2,7 @@
 
 use Rattle.std.proofs.Common.{◌≡◌, ℕ, suc, ◌+◌, ◌<◌, ◌≤◌, Bool, true, false, List, length, slice_index_or, set, Result, Ok, Err, refl, sym, subst, ◌∙◌, inl, inr, arith, get_or-set_same, get_or-set_other}
 use Rattle.std.proofs.lemmas.List.{length-set}
-use Rattle.ert_answers.specs.Ways.{Growth}
+use Rattle.ert_answers.specs.Ways.{Growth, Way}
 use Rattle.ert_answers.specs.WheelCalls.{TellsAlive}
 use Rattle.ert_defs.specs.declared.entry.Actor.TheVariants.{Caller}
 use Rattle.ert_defs.specs.declared.memory.NoMemory.{NoMemory}
@@ -82,17 +82,17 @@ goes_start a r l n i j b lives answer reads is low look alive starts = record {
 }
 
 pub stays_none : (a : Seen) → Stays a a
-stays_none a = record { settings = refl; labels = refl; tidy = λ i low tidy. tidy }
+stays_none a = record { settings = refl; next = refl; tidy = λ lone i low tidy. tidy }
 
 pub stays_then : (a b c : Seen) → Stays a b → Stays b c → Stays a c
 stays_then a b c one other = record {
   settings = other.settings ∙ one.settings;
-  labels = other.labels ∙ one.labels;
-  tidy = λ i low tidy. other.tidy i (subst (λ (g : Settings). i < g.schedulers) (sym one.settings) low) (one.tidy i low tidy);
+  next = other.next ∙ one.next;
+  tidy = λ lone i low tidy. other.tidy (one.next ∙ lone) i (subst (λ (g : Settings). i < g.schedulers) (sym one.settings) low) (one.tidy lone i low tidy);
 }
 
-pub goes_stays : (a b : Seen) (call : Growth) → Goes a call b → Stays a b
-goes_stays a b call goes = record { settings = goes.settings; labels = goes.labels; tidy = goes.tidy }
+pub goes_stays : (a b : Seen) (call : Way → Growth) → Goes a call b → Stays a b
+goes_stays a b call goes = record { settings = goes.settings; next = goes.next; tidy = goes.tidy }
 
 same_stays : (a b : Seen) → b ≡ a → Stays a b
 same_stays a b same = subst (Stays a) (sym same) (stays_none a)

@@ -197,7 +197,7 @@ abbrev pub NoneAsks : List Entry → Type 0
 NoneAsks [] = Unit {0}
 NoneAsks (e ∷ es) = (asks e.event ≡ false) × NoneAsks es
 
-cond_same : {X : Type 0} (b : Bool) (x y z : X) → x ≡ z → y ≡ z → cond b x y ≡ z
+pub cond_same : {X : Type 0} (b : Bool) (x y z : X) → x ≡ z → y ≡ z → cond b x y ≡ z
 cond_same true x y z is other = is
 cond_same false x y z is other = other
 

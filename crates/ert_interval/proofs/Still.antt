@@ -1,6 +1,6 @@
 -- What entries that settle no timer leave: armed timers, living processes and full wheels.
 
-use Rattle.std.proofs.Common.{◌≡◌, ◌⊎◌, ℕ, zero, suc, ◌+◌, ◌<◌, ◌≤◌, ℤ, Bool, true, false, cond, ◌&&◌, ◌||◌, nat_eq, List, [], ◌∷◌, ◌++◌, length, Option, Some, refl, sym, ap, subst, ◌∙◌, inl, inr, arith, eqb-true, eq-eqb}
+use Rattle.std.proofs.Common.{◌≡◌, ◌⊎◌, ℕ, zero, suc, ◌+◌, ◌<◌, ◌≤◌, ℤ, Bool, true, false, cond, ◌&&◌, nat_eq, List, [], ◌∷◌, ◌++◌, length, Option, Some, refl, sym, ap, subst, ◌∙◌, inl, inr, arith, eqb-true, eq-eqb}
 use Rattle.std.proofs.lemmas.Bool.{cases_eq}
 use Rattle.ert_answers.specs.TimerCalls.{AreProbes, AreTaken}
 use Rattle.ert_defs.specs.Actors.{has_actor}
@@ -21,13 +21,11 @@ use Rattle.ert_defs.specs.declared.timer.Status.TheVariants.{Armed}
 use Rattle.ert_defs.specs.declared.timer.TimerRef.{TimerRef}
 use Rattle.ert_defs.proofs.Slots.{uses_after}
 use Rattle.ert_interval.specs.Calls.{is_still, AreStill, IsFull}
-
-armed_cond : (b : Bool) (x : Option Status) → x ≡ Some Armed → cond b (Some Armed) x ≡ Some Armed
-armed_cond true x is = refl
-armed_cond false x is = is
+use Rattle.ert_interval.proofs.Reading.{or_none}
+use Rattle.ert_interval.proofs.Steps.{cond_same}
 
 armed_one : (r : TimerRef) (b : Bool) (x : Option Status) (event : Event) → is_still event ≡ true → x ≡ Some Armed → status_after r b x event ≡ Some Armed
-armed_one r b x (Arm timer start) still is = armed_cond (b && same_timer timer r) x is
+armed_one r b x (Arm timer start) still is = cond_same (b && same_timer timer r) (Some Armed) x (Some Armed) refl is
 armed_one r b x (Cancel timer left) still is = absurd cc
 armed_one r b x (Expire timer) still is = absurd cc
 armed_one r b x (Orphan timer) still is = absurd cc
@@ -41,14 +39,9 @@ still_armed g s [] r still is = is
 still_armed g s (e ∷ es) r still is =
     still_armed g (next g s e) es r still.1 (armed_one r (has_actor e (Wheel r.wheel)) (s.status r) e.event still.0 is)
 
-or_none : (x b : Bool) → x ≡ false → (x || (b && false)) ≡ false
-or_none true b is = is
-or_none false true is = refl
-or_none false false is = refl
-
 lives_one : (p : ℕ) (x : Bool) (event : Event) → is_still event ≡ true → x ≡ false → exited_after p x event ≡ false
 lives_one p x (Mark process true was) still is = absurd cc
-lives_one p x (Mark process false was) still is = or_none x (nat_eq process p) is
+lives_one p x (Mark process false was) still is = or_none x (nat_eq process p) ∙ is
 lives_one p x _ still is = is
 
 -- a living process stays so

@@ -1,6 +1,6 @@
 -- What a stop leaves.
 
-use Rattle.std.proofs.Common.{◌≡◌, ◌≢◌, ◌↔◌, ℕ, ℤ, true, false, List, [], ◌∷◌, ◌++◌, Option, Some, None, refl, sym, ap, subst, ◌∙◌}
+use Rattle.std.proofs.Common.{◌≡◌, ◌≢◌, ◌↔◌, ℕ, ℤ, true, false, List, [], ◌∷◌, Option, Some, None, refl, sym, ap, subst, ◌∙◌}
 use Rattle.ert_answers.specs.TimerCalls.{Cancels, cancel_entries}
 use Rattle.ert_defs.specs.Entries.{look_entry, peek_entry, cancel_entry}
 use Rattle.ert_defs.specs.Legal.{Legal, LegalFrom}
@@ -23,7 +23,7 @@ use Rattle.ert_defs.specs.declared.entry.Event.{Event}
 use Rattle.ert_defs.specs.declared.entry.Event.TheVariants.{Look, Peek, Cancel}
 use Rattle.ert_interval.proofs.Steps.{spares, AllSpare, asks, NoneAsks}
 use Rattle.ert_interval.proofs.Growing.{with_state, kept_with}
-use Rattle.ert_interval.proofs.Reading.{piece_legal, left_armed}
+use Rattle.ert_interval.proofs.Reading.{grown_legal, piece_legal, left_armed}
 use Rattle.ert_world.specs.Worlds.{Seen, Goes, By}
 
 settled_other : (x : Option Status) → settled_as Cancelled x ≢ Some Armed
@@ -64,27 +64,23 @@ cancels_at g s timer row now (Some n) left es is quiet legal stands =
     }
 
 pub cancelled : (a b : Seen) (i : Interval) (left : Option ℕ) → Legal b.settings b.history → IsKept a.settings a.history i
-    → (goes : Goes a (By a (λ g. Cancels g (Caller 0) i.last left)) b)
-    → IsCancelled a.settings (state a.settings a.history) i.last left goes.grows.piece
-cancelled a b i left legal kept goes =
-    let c = goes.grows.made in
-    cancels_at a.settings (state a.settings a.history) i.last (row_for i i.last i.deadline) c.now c.found left goes.grows.piece
+    → (goes : Goes a (By a (λ g. Cancels g (Caller 0) i.last left)) b) (lone : a.next ≡ 1)
+    → IsCancelled a.settings (state a.settings a.history) i.last left (goes.lone lone).piece
+cancelled a b i left legal kept goes lone =
+    let grows = goes.lone lone in
+    let c = grows.made in
+    cancels_at a.settings (state a.settings a.history) i.last (row_for i i.last i.deadline) c.now c.found left grows.piece
     (c.entries ∙ ap (λ x. look_entry (Caller 0) c.now ∷ cancel_entries x (Caller 0) i.last c.found left) kept.named) c.quiet
-    (piece_legal a b goes.grows.piece goes.settings goes.grows.grown legal) kept.row
+    (piece_legal a b grows.piece goes.settings grows.grown legal) kept.row
 
-pub stopped_none : (a b : Seen) (i : Interval) (left : Option ℕ) → Legal b.settings b.history → IsKept a.settings a.history i
-    → Goes a (By a (λ g. Cancels g (Caller 0) i.last left)) b → (left ≡ None) ↔ ((state a.settings a.history).status i.last ≢ Some Armed)
-stopped_none a b i left legal kept goes = (cancelled a b i left legal kept goes).none
-
-pub stopped_kept : (a b : Seen) (i : Interval) (left : Option ℕ) → Legal a.settings a.history → Legal b.settings b.history
-    → IsKept a.settings a.history i → Goes a (By a (λ g. Cancels g (Caller 0) i.last left)) b → IsKept b.settings b.history (with_state i Stopped)
-stopped_kept a b i left legal_a legal kept goes =
-    let g : Settings = a.settings in
-    let m : List Entry = goes.grows.piece in
-    let legal_m : Legal g (a.history ++ m) = subst (Legal g) goes.grows.grown (subst (λ x. Legal x b.history) goes.settings legal) in
+pub stopped_kept : (a b : Seen) (i : Interval) (left : Option ℕ) → Legal b.settings b.history → IsKept a.settings a.history i
+    → Goes a (By a (λ g. Cancels g (Caller 0) i.last left)) b → a.next ≡ 1 → IsKept b.settings b.history (with_state i Stopped)
+stopped_kept a b i left legal kept goes lone =
+    let grows = goes.lone lone in
     subst (λ x. IsKept x b.history (with_state i Stopped)) (sym goes.settings)
-    (subst (λ l. IsKept g l (with_state i Stopped)) (sym goes.grows.grown)
-    (kept_with g a.history m i Stopped legal_m kept (cancelled a b i left legal kept goes).after))
+    (subst (λ l. IsKept a.settings l (with_state i Stopped)) (sym grows.grown)
+    (kept_with a.settings a.history grows.piece i Stopped (grown_legal a b grows.piece goes.settings grows.grown legal) kept
+    (cancelled a b i left legal kept goes lone).after))
 
 pub stops_open : (old : Seen) (i : Interval) (left : Option ℕ) (new : Seen) (j : Interval) (st : IntervalState) → IsOpen st → StopsOpen old i left new j
     → StopsIn st old i left new j
@@ -94,17 +90,14 @@ stops_open old i left new j Stopped is_open stops = absurd is_open
 stops_open old i left new j Ended is_open stops = absurd is_open
 
 -- entries that cancel only one timer spare another
-pub cancel_spares : (timer r : TimerRef) (es : List Entry) → CancelOnly timer es → timer ≢ r → AllSpare r es × NoneAsks es
-cancel_spares timer r [] only other = (tt, tt)
-cancel_spares timer r (e ∷ es) only other =
-    let rest = cancel_spares timer r es only.1 other in
-    let one = at e.event only.0 in
-    ((one.0, rest.0), (one.1, rest.1))
+pub cancel_spares : (timer r : TimerRef) (es : List Entry) → CancelOnly timer es → timer ≢ r → AllSpare r es
+cancel_spares timer r [] only other = tt
+cancel_spares timer r (e ∷ es) only other = (at e.event only.0, cancel_spares timer r es only.1 other)
   where
-    at : (event : Event) → CancelsOnly timer event → spares r event × (asks event ≡ false)
-    at (Look now) only = (tt, refl)
-    at (Peek t left) only = (tt, refl)
-    at (Cancel t left) only = (same_timer-false t r (λ same. other (sym only ∙ same)), refl)
+    at : (event : Event) → CancelsOnly timer event → spares r event
+    at (Look now) only = tt
+    at (Peek t left) only = tt
+    at (Cancel t left) only = same_timer-false t r (λ same. other (sym only ∙ same))
     at _ only = absurd only
 
 pub cancel_asks : (timer : TimerRef) (es : List Entry) → CancelOnly timer es → NoneAsks es

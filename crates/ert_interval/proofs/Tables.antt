@@ -5,6 +5,7 @@ use Rattle.std.proofs.lemmas.List.{length-set}
 use Rattle.std.proofs.Math.ListN.{get_or-append}
 use Rattle.std.proofs.Math.Seq.{get_or-append_seam}
 use Rattle.std.proofs.lemmas.Bool.{cases_eq}
+use Rattle.ert_answers.specs.Ways.{Growth, Way}
 use Rattle.ert_defs.specs.Legal.{Legal}
 use Rattle.ert_defs.specs.States.{state}
 use Rattle.ert_defs.specs.declared.entry.Entry.{Entry}
@@ -15,12 +16,11 @@ use Rattle.ert_interval.specs.Calls.{Still, IsNewOrSame}
 use Rattle.ert_interval.specs.Intervals.{HasNoRequests, IsKept, AreKept}
 use Rattle.ert_interval.specs.declared.interval.Interval.{Interval}
 use Rattle.ert_interval.specs.Spared.{Spares}
-use Rattle.ert_interval.proofs.Growing.{kept_grows}
 use Rattle.ert_interval.proofs.Stopping.{cancel_spares, cancel_asks}
-use Rattle.ert_interval.proofs.Onward.{plain_kept}
-use Rattle.ert_interval.proofs.Plain.{ArePlain, plain_asks}
+use Rattle.ert_interval.proofs.Onward.{spare_kept}
+use Rattle.ert_interval.proofs.Plain.{ArePlain, plain_spares, plain_asks}
 use Rattle.ert_interval.proofs.Steps.{NoneAsks, idle_stays}
-use Rattle.ert_world.specs.Worlds.{Seen}
+use Rattle.ert_world.specs.Worlds.{Seen, Goes}
 
 -- no request comes by entries that ask none
 pub idle_then : (a b : Seen) (piece : List Entry) → b.settings ≡ a.settings → b.history ≡ a.history ++ piece → NoneAsks piece
@@ -31,16 +31,21 @@ idle_then a b piece settings grown none idle =
     (subst (λ l. HasNoRequests (state g l)) (sym grown)
     (subst HasNoRequests (sym (state-append g a.history piece)) (idle_stays g (state g a.history) piece none idle)))
 
--- all stay in order by entries that cancel nothing
-pub all_kept : (a b : Seen) (piece : List Entry) (is : List Interval) → b.settings ≡ a.settings → b.history ≡ a.history ++ piece → ArePlain piece
-    → Legal b.settings b.history → AreKept a is → AreKept b is
-all_kept a b piece is settings grown plain legal kept = record {
-  legal = legal;
-  idle = idle_then a b piece settings grown (plain_asks piece plain) kept.idle;
-  each = λ n d low. plain_kept a b piece (slice_index_or is n d) settings grown plain legal (kept.each n d low);
-  few = kept.few;
-  apart = kept.apart;
-}
+-- all stay in order by a call that cancels nothing
+pub all_kept : (a b : Seen) (call : Way → Growth) (is : List Interval) (goes : Goes a call b) (kept : AreKept a is)
+    → ArePlain (goes.lone kept.lone).piece → Legal b.settings b.history → AreKept b is
+all_kept a b call is goes kept plain legal =
+    let grows = goes.lone kept.lone in
+    record {
+      lone = goes.next ∙ kept.lone;
+      legal = legal;
+      idle = idle_then a b grows.piece goes.settings grows.grown (plain_asks grows.piece plain) kept.idle;
+      each = λ n d low.
+          let i : Interval = slice_index_or is n d in
+          spare_kept a b grows.piece i goes.settings grows.grown (plain_spares i.last grows.piece plain) legal (kept.each n d low);
+      few = kept.few;
+      apart = kept.apart;
+    }
 
 pub either : (x y : ℕ) → x ≢ y → (x < y) ⊎ (y < x)
 either x y differ = lt_or x y differ (cases_eq (x - y) 0)
@@ -50,8 +55,8 @@ either x y differ = lt_or x y differ (cases_eq (x - y) 0)
     lt_or x y differ (inr some) = inr (omega (arith, some))
 
 -- a list with another interval at one place
-module _ (a b : Seen) (is : List Interval) (n : ℕ) (j : Interval) (kept : AreKept a is) (low : n < length is) (legal : Legal b.settings b.history)
-    (idle : HasNoRequests (state b.settings b.history))
+module _ (a b : Seen) (is : List Interval) (n : ℕ) (j : Interval) (kept : AreKept a is) (low : n < length is) (next : b.next ≡ a.next)
+    (legal : Legal b.settings b.history) (idle : HasNoRequests (state b.settings b.history))
     (others : (m : ℕ) (d : Interval) → m ≢ n → m < length is → IsKept b.settings b.history (slice_index_or is m d))
     (one : IsKept b.settings b.history j) (last : (d : Interval) → IsNewOrSame (state a.settings a.history) (slice_index_or is n d) j) where
   here : (d : Interval) → slice_index_or (set is n j) n d ≡ j
@@ -75,6 +80,7 @@ module _ (a b : Seen) (is : List Interval) (n : ℕ) (j : Interval) (kept : AreK
 
   pub set_kept : AreKept b (set is n j)
   set_kept = record {
+    lone = next ∙ kept.lone;
     legal = legal;
     idle = idle;
     each = λ m d high. elim (cases_eq m n) [
@@ -104,7 +110,7 @@ module _ (a b : Seen) (is : List Interval) (n : ℕ) (j : Interval) (kept : AreK
   }
 
 pub still_none : (a : Seen) → Still a a
-still_none a = record { piece = []; grown = sym (append-nil a.history); still = tt; settings = refl }
+still_none a = record { piece = []; grown = sym (append-nil a.history); still = tt; settings = refl; next = refl }
 
 -- within a list the default doesn't matter
 pub any_default : (xs : List Interval) (n : ℕ) (d e : Interval) → n < length xs → slice_index_or xs n d ≡ slice_index_or xs n e
@@ -117,14 +123,10 @@ pub spared_kept : (a b : Seen) (is : List Interval) (n : ℕ) (i : Interval) →
     → Spares i.last a b → Legal b.settings b.history → (m : ℕ) (d : Interval) → m ≢ n → m < length is
     → IsKept b.settings b.history (slice_index_or is m d)
 spared_kept a b is n i kept low here spares legal m d not high =
-    let g : Settings = a.settings in
     let k : Interval = slice_index_or is m d in
     let same : i ≡ slice_index_or is n d = here ∙ any_default is n i d low in
     let differ : i.last ≢ k.last = λ is_same. differ_at (subst (λ (x : Interval). x.last ≡ k.last) same is_same) in
-    let spare = cancel_spares i.last k.last spares.piece spares.spares differ in
-    let legal_m : Legal g (a.history ++ spares.piece) = subst (Legal g) spares.grown (subst (λ x. Legal x b.history) spares.settings legal) in
-    subst (λ x. IsKept x b.history k) (sym spares.settings)
-    (subst (λ l. IsKept g l k) (sym spares.grown) (kept_grows g a.history spares.piece k legal_m spare.0 (kept.each m d high)))
+    spare_kept a b spares.piece k spares.settings spares.grown (cancel_spares i.last k.last spares.piece spares.spares differ) legal (kept.each m d high)
   where
     differ_at : (slice_index_or is n d).last ≡ (slice_index_or is m d).last → ⊥
     differ_at is_same = elim (either m n not) [
@@ -137,13 +139,14 @@ pub spared_idle : (a b : Seen) (r : TimerRef) → Spares r a b → HasNoRequests
 spared_idle a b r spares idle = idle_then a b spares.piece spares.settings spares.grown (cancel_asks r spares.piece spares.spares) idle
 
 -- one interval more
-pub pushed_kept : (a b : Seen) (piece : List Entry) (is : List Interval) (j : Interval) → b.settings ≡ a.settings → b.history ≡ a.history ++ piece
-    → ArePlain piece → Legal b.settings b.history → AreKept a is → length is < 4294967295 → IsKept b.settings b.history j
+pub pushed_kept : (a b : Seen) (call : Way → Growth) (is : List Interval) (j : Interval) (goes : Goes a call b) (kept : AreKept a is)
+    → ArePlain (goes.lone kept.lone).piece → Legal b.settings b.history → length is < 4294967295 → IsKept b.settings b.history j
     → (state a.settings a.history).status j.last ≡ None → AreKept b (is ++ j ∷ [])
-pushed_kept a b piece is j settings grown plain legal kept few one new =
-    let all = all_kept a b piece is settings grown plain legal kept in
+pushed_kept a b call is j goes kept plain legal few one new =
+    let all = all_kept a b call is goes kept plain legal in
     let size : length (is ++ j ∷ []) ≡ length is + 1 = length-append is (j ∷ []) in
     record {
+      lone = all.lone;
       legal = legal;
       idle = all.idle;
       each = λ n d low. elim (cases_eq n (length is)) [

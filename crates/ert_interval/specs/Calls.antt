@@ -43,6 +43,7 @@ pub record Still (old new : Seen) : Type 0 where
   pub grown : new.history ≡ old.history ++ piece
   pub still : AreStill piece
   pub settings : new.settings ≡ old.settings
+  pub next : new.next ≡ old.next
 
 -- what was asked for stays
 pub record IsSame (old new : Interval) : Type 0 where

@@ -17,10 +17,10 @@ use Rattle.ert_interval.specs.declared.interval.IntervalState.{IntervalState}
 use Rattle.ert_interval.specs.declared.interval.IntervalState.TheVariants.{Running, Waiting, Ended}
 use Rattle.ert_world.specs.Worlds.{Seen, Goes, By, StayTidy}
 
--- the settings and the labels of a world stay, and each tidy wheel stays tidy
+-- the settings and the seats of a world stay, and each tidy wheel stays tidy
 pub record Stays (old new : Seen) : Type 0 where
   pub settings : new.settings ≡ old.settings
-  pub labels : new.labels ≡ old.labels
+  pub next : new.next ≡ old.next
   pub tidy : StayTidy old new
 
 -- the start of the next timer of an interval

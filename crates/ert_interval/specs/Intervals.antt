@@ -115,8 +115,9 @@ pub record IsKept (g : Settings) (h : List Entry) (i : Interval) : Type 0 where
 abbrev pub HasNoRequests : State → Type 0
 HasNoRequests s = (w : ℕ) → (s.inboxes w ≡ []) × ((s.scheds w).hand ≡ None)
 
--- the intervals of a world
+-- the intervals of a world that gave out no seat
 pub record AreKept (w : Seen) (is : List Interval) : Type 0 where
+  pub lone : w.next ≡ 1
   pub legal : Legal w.settings w.history
   pub idle : HasNoRequests (state w.settings w.history)
   pub each : (n : ℕ) (d : Interval) → n < length is → IsKept w.settings w.history (slice_index_or is n d)

@@ -25,3 +25,4 @@ pub record Spares (r : TimerRef) (old new : Seen) : Type 0 where
   pub grown : new.history ≡ old.history ++ piece
   pub spares : CancelOnly r piece
   pub settings : new.settings ≡ old.settings
+  pub next : new.next ≡ old.next

@@ -2,7 +2,6 @@
 
 use Rattle.std.specs.Prelude.{◌≡◌, ◌⊎◌, ℕ, List, Result, Ok, Err}
 use Rattle.ert_answers.specs.Chains.{Turns}
-use Rattle.ert_answers.specs.Ways.{alone}
 use Rattle.ert_answers.specs.declared.answers.Turned.{Turned}
 use Rattle.ert_defs.specs.declared.memory.NoMemory.{NoMemory}
 use Rattle.ert_interval.specs.Calls.{Still, PassesAll, PassesSome}
@@ -15,14 +14,14 @@ use Rattle.ert_world.specs.Worlds.{Seen, Goes}
 -- order of number, of which this is the answer
 pub record TurnsTo (w : ℕ) (turned : Turned) (answer : Result ℕ NoMemory) (old : Seen) (is : List Interval) (new : Seen) (js : List Interval) : Type 0 where
   pub between : Seen
-  pub turn : Goes old (Turns old.settings (alone old.settings) w (Ok turned)) between
+  pub turn : Goes old (λ way. Turns old.settings way w (Ok turned)) between
   pub still : Still between new
   pub steps : StepsAll w answer between is new js
 
 -- the world's turn had no memory, and no interval has gone on; or the turn of the intervals had none
 abbrev pub HasStopped : ℕ → NoMemory → Seen → List Interval → Seen → List Interval → Type 0
 HasStopped w e old is new js =
-    (Goes old (Turns old.settings (alone old.settings) w (Err e)) new × (js ≡ is))
+    (Goes old (λ way. Turns old.settings way w (Err e)) new × (js ≡ is))
     ⊎ (((turned : Turned) × TurnsTo w turned (Err e) old is new js) × PassesSome w new is js)
 
 -- `turn`

@@ -20,6 +20,7 @@ use ert_world::World;
 /// After want of memory the interval is as before.
 pub(crate) fn go_on(world: &mut World, interval: &mut Interval) -> Result<bool, NoMemory>
     requires legal { Legal world.old.settings world.old.history }
+    requires lone { world.old.next ≡ 1 }
     requires kept { IsKept world.old.settings world.old.history interval.old }
     requires is_open { IsOpen interval.old.state }
     ensures still { Still world.old world.new }
@@ -46,6 +47,7 @@ pub(crate) fn go_on(world: &mut World, interval: &mut Interval) -> Result<bool, 
 /// Whether the last timer of an interval is armed.
 fn is_armed(world: &mut World, interval: &Interval) -> bool
     requires legal { Legal world.old.settings world.old.history }
+    requires lone { world.old.next ≡ 1 }
     requires kept { IsKept world.old.settings world.old.history interval.now }
     ensures still { Still world.old world.new }
     ensures legal { Legal world.new.settings world.new.history }
@@ -60,6 +62,7 @@ fn is_armed(world: &mut World, interval: &Interval) -> bool
 /// Whether a process hasn't exited.
 fn lives(world: &mut World, process: u32) -> bool
     requires legal { Legal world.old.settings world.old.history }
+    requires lone { world.old.next ≡ 1 }
     requires process { process < world.old.settings.processes }
     ensures still { Still world.old world.new }
     ensures legal { Legal world.new.settings world.new.history }
@@ -75,6 +78,7 @@ fn lives(world: &mut World, process: u32) -> bool
 /// interval waits.
 fn start_next(world: &mut World, interval: &mut Interval, deadline: u64) -> Result<bool, NoMemory>
     requires legal { Legal world.old.settings world.old.history }
+    requires lone { world.old.next ≡ 1 }
     requires kept { IsKept world.old.settings world.old.history interval.old }
     requires is_open { IsOpen interval.old.state }
     requires unarmed { (state world.old.settings world.old.history).status interval.old.last ≢ Some Armed }
@@ -107,6 +111,7 @@ fn start_next(world: &mut World, interval: &mut Interval, deadline: u64) -> Resu
 /// timer.
 pub(crate) fn stop(world: &mut World, interval: &mut Interval) -> Option<u64>
     requires legal { Legal world.old.settings world.old.history }
+    requires lone { world.old.next ≡ 1 }
     requires kept { IsKept world.old.settings world.old.history interval.old }
     ensures legal { Legal world.new.settings world.new.history }
     ensures kept { IsKept world.new.settings world.new.history interval.new }

@@ -31,7 +31,6 @@ impl IntervalWorld {
     ghost use Rattle.ert_answers.specs.Chains.{Exits};
     ghost use Rattle.ert_answers.specs.ClockCalls.{Ticks};
     ghost use Rattle.ert_answers.specs.MailCalls.{Takes};
-    ghost use Rattle.ert_answers.specs.Ways.{alone};
     ghost use Rattle.ert_defs.specs.Settings.{IsChecked};
     ghost use Rattle.ert_interval.specs.Intervals.{AreKept};
     ghost use Rattle.ert_interval.specs.Calls.{FiringsAre, Every, Stops, StateIs};
@@ -155,7 +154,7 @@ impl IntervalWorld {
     pub fn exit(&mut self, process: u32) -> bool
         requires kept { AreKept self.old.world self.old.intervals.items }
         requires process { process < self.old.world.settings.processes }
-        ensures call { Goes self.old.world (Exits self.old.world.settings (alone self.old.world.settings) 0 process result) self.new.world }
+        ensures call { Goes self.old.world (λ way. Exits self.old.world.settings way 0 process result) self.new.world }
         ensures kept { AreKept self.new.world self.new.intervals.items }
         ensures same { self.new.intervals.items ≡ self.old.intervals.items }
     {

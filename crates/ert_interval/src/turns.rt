@@ -16,7 +16,6 @@ pub struct IntervalTurn {
 impl IntervalWorld {
     ghost use Rattle.std.specs.Prelude.{◌≡◌, ◌<◌, length};
     ghost use Rattle.ert_answers.specs.Chains.{Turns};
-    ghost use Rattle.ert_answers.specs.Ways.{alone};
     ghost use Rattle.ert_interval.specs.Calls.{Still, PassesBy, PassesOne, Counts};
     ghost use Rattle.ert_interval.specs.Going.{Stays, StepsAll, StepsOne};
     ghost use Rattle.ert_interval.specs.Intervals.{AreKept};
@@ -33,7 +32,6 @@ impl IntervalWorld {
         requires sched { sched < self.old.world.settings.schedulers }
         ensures kept { AreKept self.new.world self.new.intervals.items }
         ensures turns { TurnsBy sched result self.old.world self.old.intervals.items self.new.world self.new.intervals.items }
-        ensures labels { self.new.world.labels ≡ self.old.world.labels }
         ensures tidy { StayTidy self.old.world self.new.world }
     {
         let turned = self.turn_world(sched)?;
@@ -45,7 +43,7 @@ impl IntervalWorld {
     fn turn_world(&mut self, sched: u32) -> Result<Turned, NoMemory>
         requires kept { AreKept self.old.world self.old.intervals.items }
         requires sched { sched < self.old.world.settings.schedulers }
-        ensures turn { Goes self.old.world (Turns self.old.world.settings (alone self.old.world.settings) sched result) self.new.world }
+        ensures turn { Goes self.old.world (λ way. Turns self.old.world.settings way sched result) self.new.world }
         ensures kept { AreKept self.new.world self.new.intervals.items }
         ensures same { self.new.intervals.items ≡ self.old.intervals.items }
     {

@@ -7,6 +7,7 @@ returns-clause-kept c =
     let a = c.args.self.now.world in
     let b = c.exit-exited.new.self in
     let goes = c.exit-exited.ensures.call in
-    all_kept a b goes.grows.piece c.args.self.now.intervals.items goes.settings goes.grows.grown
-    (exits_plain a.settings c.args.process c.exit-exited.result a.history goes.grows.piece goes.grows.made)
-    c.settings-settings.ensures.stands.clock.legal c.requires.kept
+    let grows = goes.lone c.requires.kept.lone in
+    all_kept a b _ c.args.self.now.intervals.items goes c.requires.kept
+    (exits_plain a.settings c.args.process c.exit-exited.result a.history grows.piece grows.made)
+    c.settings-settings.ensures.stands.clock.legal

@@ -22,7 +22,7 @@ returns-clause-kept c =
     let is = c.args.self.now.intervals.items in
     let still = c.go_on.ensures.still in
     let value = c.index_mut-interval.ensures.value in
-    set_kept a b is c.args.number c.go_on.new.interval c.requires.kept c.requires.number c.go_on.ensures.legal
+    set_kept a b is c.args.number c.go_on.new.interval c.requires.kept c.requires.number still.next c.go_on.ensures.legal
     (idle_then a b still.piece still.settings still.grown (plain_asks still.piece (still_plain still.piece still.still)) c.requires.kept.idle)
     (λ m d not low. still_kept a b _ still c.go_on.ensures.legal (c.requires.kept.each m d low))
     c.go_on.ensures.kept

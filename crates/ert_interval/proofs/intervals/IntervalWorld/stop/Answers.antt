@@ -11,7 +11,7 @@ returns-clause-kept c =
     let is = c.args.self.now.intervals.items in
     let low : c.args.interval < length is = search rules in
     let value = c.index_mut.ensures.value in
-    set_kept a b is c.args.interval c.stop.new.interval c.requires.kept low c.stop.ensures.legal
+    set_kept a b is c.args.interval c.stop.new.interval c.requires.kept low c.stop.ensures.spared.next c.stop.ensures.legal
     (spared_idle a b c.index_mut.result.now.last c.stop.ensures.spared c.requires.kept.idle)
     (spared_kept a b is c.args.interval c.index_mut.result.now c.requires.kept low value c.stop.ensures.spared c.stop.ensures.legal)
     c.stop.ensures.kept

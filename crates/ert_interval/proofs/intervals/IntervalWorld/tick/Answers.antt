@@ -8,6 +8,7 @@ returns-clause-kept c =
     let a = c.args.self.now.world in
     let b = c.tick-moved.new.self in
     let goes = c.tick-moved.ensures.call in
-    all_kept a b goes.grows.piece c.args.self.now.intervals.items goes.settings goes.grows.grown
-    (ticks_plain a.settings 0 c.args.reading c.args.force c.tick-moved.result (state a.settings a.history) goes.grows.piece goes.grows.made)
-    c.settings-settings.ensures.stands.clock.legal c.requires.kept
+    let grows = goes.lone c.requires.kept.lone in
+    all_kept a b _ c.args.self.now.intervals.items goes c.requires.kept
+    (ticks_plain a.settings 0 c.args.reading c.args.force c.tick-moved.result (state a.settings a.history) grows.piece grows.made)
+    c.settings-settings.ensures.stands.clock.legal

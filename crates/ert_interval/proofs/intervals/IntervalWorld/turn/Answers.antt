@@ -1,4 +1,4 @@
-use Rattle.std.proofs.Common.{◌≡◌, ◌∙◌, Ok, Err, inr, rules, subst}
+use Rattle.std.proofs.Common.{◌≡◌, Ok, Err, inr, rules, subst}
 use Rattle.ert_interval.specs.Calls.{PassesAll, PassesSome}
 use Rattle.ert_interval.specs.Going.{StepsAll}
 use Rattle.ert_interval.proofs.Stepping.{goes_stays, stays_then}
@@ -35,16 +35,10 @@ returns-clause-turns c = (
       c.in_ok-armed.ensures.passed,
 )
 
-pub returns-in_err-armed-clause-labels : goal.returns-in_err-armed-clause-labels
-returns-in_err-armed-clause-labels c = c.go_on_all.ensures.stays.labels ∙ c.in_ok-turned.ensures.turn.labels
-
 pub returns-in_err-armed-clause-tidy : goal.returns-in_err-armed-clause-tidy
 returns-in_err-armed-clause-tidy c =
     (stays_then c.args.self.now.world c.turn_world.new.self.world c.go_on_all.new.self.world
     (goes_stays c.args.self.now.world c.turn_world.new.self.world _ c.in_ok-turned.ensures.turn) c.go_on_all.ensures.stays).tidy
-
-pub returns-clause-labels : goal.returns-clause-labels
-returns-clause-labels c = c.go_on_all.ensures.stays.labels ∙ c.in_ok-turned.ensures.turn.labels
 
 pub returns-clause-tidy : goal.returns-clause-tidy
 returns-clause-tidy c =

@@ -9,7 +9,8 @@ returns-clause-kept c =
     let b = c.turn-turned.new.self in
     let goes = c.turn-turned.ensures.call in
     let legal = c.settings-settings.ensures.stands.clock.legal in
-    all_kept a b goes.grows.piece c.args.self.now.intervals.items goes.settings goes.grows.grown
-    (turns_plain a.settings c.args.sched c.turn-turned.result a.history goes.grows.piece c.requires.kept.idle
-    (piece_legal a b goes.grows.piece goes.settings goes.grows.grown legal) goes.grows.made)
-    legal c.requires.kept
+    let grows = goes.lone c.requires.kept.lone in
+    all_kept a b _ c.args.self.now.intervals.items goes c.requires.kept
+    (turns_plain a.settings c.args.sched c.turn-turned.result a.history grows.piece c.requires.kept.idle
+    (piece_legal a b grows.piece goes.settings grows.grown legal) grows.made)
+    legal
