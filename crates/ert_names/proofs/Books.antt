@@ -3,16 +3,14 @@
 use Rattle.std.proofs.Common.{◌≡◌, ℕ, Bool, true, false, cond, nat_eq, List, [], ◌∷◌, map, Option, Some, None, String, string_bytes, refl, sym, ap, ◌∙◌}
 use Rattle.std.specs.BTreeMap as tree
 use Rattle.std.specs.BTreeMap.{BTreeMap, is_at}
-use Rattle.std.specs.Cmp.{nat_cmp_total, eq_by_cmp_equiv}
+use Rattle.std.specs.Cmp.{nat_cmp_total, eq_by_cmp_equiv, Equal-is}
 use Rattle.std.specs.Cmp.Lexicographic.{slice_cmp, nat_list_cmp_total}
 use Rattle.std.specs.FinMap as finite
 use Rattle.std.specs.Map.{lookup}
 use Rattle.std.specs.Option.{is_some, option_map}
-use Rattle.std.specs.Ordering.{nat_cmp, eq_by_cmp, is_eq}
+use Rattle.std.specs.Ordering.{nat_cmp, eq_by_cmp}
 use Rattle.std.specs.Str.{bytes_eq}
 use Rattle.std.specs.String.{string_cmp}
-use Rattle.std.specs.declared.cmp.Ordering.{Ordering}
-use Rattle.std.specs.declared.cmp.Ordering.TheVariants.{Less, Equal, Greater}
 use Rattle.std.specs.declared.alloc.Global.{Global}
 use Rattle.std.proofs.lemmas.Bool.{eqb-true, eq-eqb}
 use Rattle.std.proofs.lemmas.Map.Text.{btree_map_updates_text, is_eq-slice_cmp}
@@ -50,20 +48,10 @@ get_named es q = finite.get-from_entries nat_cmp_total (map (λ e. (e.0, string_
 
 -- equal keys, as the orders tell them
 equal_bytes : (x y : List ℕ) → by_bytes x y ≡ true → x ≡ y
-equal_bytes x y is = finite.slice_cmp-IsAntisymmetric finite.nat_cmp-IsAntisymmetric x y (at (slice_cmp nat_cmp x y) is)
-  where
-    at : (r : Ordering) → is_eq r ≡ true → r ≡ Equal
-    at Equal is = refl
-    at Less is = absurd cc
-    at Greater is = absurd cc
+equal_bytes x y is = finite.slice_cmp-IsAntisymmetric finite.nat_cmp-IsAntisymmetric x y ((Equal-is (slice_cmp nat_cmp x y)).0 is)
 
 equal_number : (x y : ℕ) → by_number x y ≡ true → x ≡ y
-equal_number x y is = finite.nat_cmp-IsAntisymmetric x y (at (nat_cmp x y) is)
-  where
-    at : (r : Ordering) → is_eq r ≡ true → r ≡ Equal
-    at Equal is = refl
-    at Less is = absurd cc
-    at Greater is = absurd cc
+equal_number x y is = finite.nat_cmp-IsAntisymmetric x y ((Equal-is (nat_cmp x y)).0 is)
 
 same_bytes : (x : List ℕ) → by_bytes x x ≡ true
 same_bytes x = (eq_by_cmp_equiv nat_list_cmp_total).refl x
@@ -102,34 +90,30 @@ names_unset m n name unsets =
     ∙ (ap (λ o. cond (by_bytes q name) None o) (sym (get_name m.entries q))
     ∙ sym (finite.get-remove nat_list_cmp_total (processes_of m.entries) name q)))))
 
+mapped : (b : Bool) (s o : Option (String Global)) → option_map string_bytes (cond b s o) ≡ cond b (option_map string_bytes s) (option_map string_bytes o)
+mapped true s o = refl
+mapped false s o = refl
+
 -- a process is added to the other map, or taken out of it
 pub named_set : (m n : BTreeMap ℕ (String Global)) (p : ℕ) (s : String Global) → tree.Updates nat_cmp m n p (Some s)
     → names_of n.entries ≡ finite.insert (names_of m.entries) p (string_bytes s)
 named_set m n p s sets =
     finite.same_map nat_cmp_total finite.nat_cmp-IsAntisymmetric _ _
     (λ q. get_named n.entries q ∙ (ap (option_map string_bytes) (sets.0 q)
-    ∙ (mapped (by_number p q) (tree.get nat_cmp m q)
+    ∙ (mapped (by_number p q) (Some s) (tree.get nat_cmp m q)
     ∙ (ap (λ b. cond b (Some (string_bytes s)) (option_map string_bytes (tree.get nat_cmp m q))) ((eq_by_cmp_equiv nat_cmp_total).symm p q)
     ∙ (ap (λ o. cond (by_number q p) (Some (string_bytes s)) o) (sym (get_named m.entries q))
     ∙ sym (finite.get-insert nat_cmp_total (names_of m.entries) p (string_bytes s) q))))))
-  where
-    mapped : (b : Bool) (o : Option (String Global)) → option_map string_bytes (cond b (Some s) o) ≡ cond b (Some (string_bytes s)) (option_map string_bytes o)
-    mapped true o = refl
-    mapped false o = refl
 
 pub named_unset : (m n : BTreeMap ℕ (String Global)) (p : ℕ) → tree.UpdatesBy nat_cmp (nat_cmp p) m n None
     → names_of n.entries ≡ finite.remove (names_of m.entries) p
 named_unset m n p unsets =
     finite.same_map nat_cmp_total finite.nat_cmp-IsAntisymmetric _ _
     (λ q. get_named n.entries q ∙ (ap (option_map string_bytes) (unsets.0 q)
-    ∙ (mapped (by_number p q) (tree.get nat_cmp m q)
+    ∙ (mapped (by_number p q) None (tree.get nat_cmp m q)
     ∙ (ap (λ b. cond b None (option_map string_bytes (tree.get nat_cmp m q))) ((eq_by_cmp_equiv nat_cmp_total).symm p q)
     ∙ (ap (λ o. cond (by_number q p) None o) (sym (get_named m.entries q))
     ∙ sym (finite.get-remove nat_cmp_total (names_of m.entries) p q))))))
-  where
-    mapped : (b : Bool) (o : Option (String Global)) → option_map string_bytes (cond b None o) ≡ cond b None (option_map string_bytes o)
-    mapped true o = refl
-    mapped false o = refl
 
 -- both maps stay the same pairs where a free name is given to a process without one, and where a pair goes
 pub inverse_insert : (names : Names) (named : Named) (name : List ℕ) (p : ℕ) → AreInverse names named → finite.get names name ≡ None → Unnamed names p

@@ -1,12 +1,12 @@
 -- What the calls of a world of names record fits its rows.
 
-use Rattle.std.proofs.Common.{◌≡◌, ◌≢◌, ℕ, zero, suc, ℤ, ◌<◌, ◌≤◌, Bool, true, false, cond, nat_lt, List, [], ◌∷◌, ◌++◌, Option, Some, None, Result, Ok, Err, inl, inr, refl, sym, subst, arith}
+use Rattle.std.proofs.Common.{◌≡◌, ◌≢◌, ℕ, zero, suc, ℤ, ◌<◌, ◌≤◌, Bool, true, false, cond, nat_lt, List, [], ◌∷◌, ◌++◌, Option, Some, None, Result, Ok, Err, inl, inr, refl, sym, subst, ◌∙◌, arith}
 use Rattle.ert_answers.specs.Chains.{HoldsBy, Holds, Serves, ServesMany, ServesAll, times, AdvancesWheel, Hands, HandsMany, Delivers, Turns, SweepsWheel, SweepsWheels, Exits}
 use Rattle.ert_answers.specs.ClockCalls.{RefusesTick, Acts}
 use Rattle.ert_answers.specs.MailCalls.{HandsOver, Takes}
 use Rattle.ert_answers.specs.RequestCalls.{Answers, DoesAsked}
 use Rattle.ert_answers.specs.TimerCalls.{Reads, read_entries, Cancels, cancel_entries, Starts, AreProbes, AreTaken, Closes}
-use Rattle.ert_answers.specs.Ways.{Growth, Then, Many, Grows, alone}
+use Rattle.ert_answers.specs.Ways.{Growth, Way, Then, Many, Grows, alone}
 use Rattle.ert_answers.specs.WheelCalls.{Try, expires_by, expiry_entries, orphans_by, orphan_entries, TellsAlive, MarksExit}
 use Rattle.ert_answers.specs.declared.answers.Handed.{Handed}
 use Rattle.ert_answers.specs.declared.answers.Handed.TheVariants.{Put, Dropped}
@@ -271,10 +271,12 @@ turns_fit n q g w (Err e) h m (inr (inr delivered)) =
     (delivers_fit n q g w (Err e))) h m delivered.2
 
 -- a world that fits goes on to one that does
-pub fits_on : (n : ℕ) (a b : Seen) (call : Growth) → AreFitting n 0 call → Goes a call b → FitsRows n a → FitsRows n b
+pub fits_on : (n : ℕ) (a b : Seen) (call : Way → Growth) → AreFitting n 0 (call (alone a.settings)) → Goes a call b → FitsRows n a
+    → FitsRows n b
 fits_on n a b call fitting goes fits = record {
   processes = subst (λ (g : Settings). 2 ≤ g.processes) (sym goes.settings) fits.processes;
-  entries = fit_grows n 0 call a.history b.history fitting fits.entries goes.grows;
+  lone = goes.next ∙ fits.lone;
+  entries = fit_grows n 0 (call (alone a.settings)) a.history b.history fitting fits.entries (goes.lone fits.lone);
 }
 
 pub fits_by : (n : ℕ) (a b : Seen) (allows : Settings → State → List Entry → Type 0)
@@ -282,4 +284,4 @@ pub fits_by : (n : ℕ) (a b : Seen) (allows : Settings → State → List Entry
 fits_by n a b allows fitting goes fits = fits_on n a b (By a allows) (λ h m made. fitting (state a.settings h) m made) goes fits
 
 pub fits_more : (n m : ℕ) (a : Seen) → n ≤ m → FitsRows n a → FitsRows m a
-fits_more n m a more fits = record { processes = fits.processes; entries = fit_more n m 0 a.history more fits.entries }
+fits_more n m a more fits = record { processes = fits.processes; lone = fits.lone; entries = fit_more n m 0 a.history more fits.entries }

@@ -1,17 +1,18 @@
 -- Messages that are handed over one after the other, and the mail of a process among all that waits.
 
 use Rattle.std.proofs.Common.{◌≡◌, ◌≢◌, Result, Ok, Err, ℕ, zero, suc, ◌+◌, ◌<◌, ◌≤◌, Bool, true, false, cond, nat_eq, List, [], ◌∷◌, ◌++◌, All, length, map, slice_index_or, Option, Some, None, string_bytes, refl, sym, ap, subst, ◌∙◌, arith, append-nil, append_assoc}
-use Rattle.std.proofs.lemmas.Bool.{eqb-true, eq-eqb}
-use Rattle.std.proofs.lemmas.List.{length-map}
+use Rattle.std.proofs.lemmas.List.{length-map, length_push}
 use Rattle.std.proofs.lemmas.List.Elements.{All-nil, All-push, filter_map-append}
 use Rattle.std.specs.FinMap as finite
-use Rattle.std.specs.List.{filter_map, remove}
+use Rattle.std.specs.List.{cons_option, filter_map, remove}
 use Rattle.std.specs.Option.{is_some, option_map}
 use Rattle.ert_answers.specs.Chains.{Turns}
-use Rattle.ert_answers.specs.Ways.{Then, alone}
+use Rattle.ert_answers.specs.Ways.{Growth, Way, Then}
 use Rattle.ert_answers.specs.declared.answers.StartErr.{StartErr}
 use Rattle.ert_answers.specs.declared.answers.StartErr.TheVariants as starts
 use Rattle.ert_answers.specs.declared.answers.Turned.{Turned}
+use Rattle.ert_defs.specs.declared.memory.NoMemory.{NoMemory}
+use Rattle.ert_defs.specs.declared.settings.Settings.{Settings}
 use Rattle.ert_defs.specs.declared.timer.When.{When}
 use Rattle.ert_defs.specs.declared.timer.TimerRef.{TimerRef}
 use Rattle.ert_names.specs.Calls.{HandsOver, AreCounted, Message, TakesFirst, TakesMany, FindsNone, GoesAlone, HasTurned, HasStopped, StartsAt, StartsNamed, posted, posted_by, row_at, mail_of, ArePast, first_for, others_for}
@@ -38,39 +39,28 @@ posted_row names items timer place r text found low is text_is found_is =
     ∙ (ap (λ t. option_map (λ process. (process, mail_of timer (row_of r))) (finite.get names t)) (sym text_is)
     ∙ ap (option_map (λ process. (process, mail_of timer (row_of r)))) (sym found_is))
 
--- one message goes to a process
-pub sent : (a b : Registered) (n : ℕ) (m : Message) (mail : ℕ × NamedMail) → n ≡ length a.rows → HasNext n a.world m b.world → b.names ≡ a.names
-    → b.rows ≡ a.rows → posted a.names a.rows m ≡ Some mail → b.mail ≡ a.mail ++ mail ∷ [] → HandsOne a true b
-sent a b n m mail rows next names_same rows_same goes_to put = record {
+suc_is : (n : ℕ) → suc n ≡ n + 1
+suc_is n = omega arith
+
+-- one message goes to a process, or to none
+pub hands_one : (a b : Registered) (n : ℕ) (m : Message) (mail : Option (ℕ × NamedMail)) → n ≡ length a.rows → HasNext n a.world m b.world → b.names ≡ a.names
+    → b.rows ≡ a.rows → posted a.names a.rows m ≡ mail → b.mail ≡ a.mail ++ cons_option mail [] → HandsOne a (is_some mail) b
+hands_one a b n m mail rows next names_same rows_same goes_to put = record {
   message = m;
   hands = record { goes = next.goes; names = names_same; rows = rows_same; mail = rw goes_to put };
   is_handed = rw goes_to refl;
   known = subst (λ k. m.1 < k) rows next.known;
-  fewer = ap length next.first ∙ more (length (waiting b.world));
+  fewer = ap length next.first ∙ suc_is (length (waiting b.world));
 }
-  where
-    more : (n : ℕ) → suc n ≡ n + 1
-    more n = omega arith
-
--- or to none
-pub unsent : (a b : Registered) (n : ℕ) (m : Message) → n ≡ length a.rows → HasNext n a.world m b.world → b.names ≡ a.names
-    → b.rows ≡ a.rows → posted a.names a.rows m ≡ None → b.mail ≡ a.mail → HandsOne a false b
-unsent a b n m rows next names_same rows_same goes_to put = record {
-  message = m;
-  hands = record { goes = next.goes; names = names_same; rows = rows_same; mail = rw (goes_to, append-nil) put };
-  is_handed = rw goes_to refl;
-  known = subst (λ k. m.1 < k) rows next.known;
-  fewer = ap length next.first ∙ more (length (waiting b.world));
-}
-  where
-    more : (n : ℕ) → suc n ≡ n + 1
-    more n = omega arith
 
 -- one more than some
 pub hands_more : (a b c : Registered) (messages : List Message) (m : Message) → HandsOver a messages (TakesMany a.world.settings messages) b
     → HandsOver b (m ∷ []) (TakesFirst b.world.settings m) c → HandsOver a (messages ++ m ∷ []) (TakesMany a.world.settings (messages ++ m ∷ [])) c
 hands_more a b c messages m some one = record {
-  goes = goes_more a.world b.world c.world (λ g message. TakesFirst g message) messages m some.goes one.goes;
+  goes = record {
+    goes = goes_more a.world b.world c.world (λ g way message. TakesFirst g message way) messages m some.goes.goes one.goes.goes;
+    lone = some.goes.lone;
+  };
   names = one.names ∙ some.names;
   rows = one.rows ∙ some.rows;
   mail = one.mail
@@ -81,9 +71,9 @@ hands_more a b c messages m some one = record {
       ∙ ap (λ l. a.mail ++ l) (sym (filter_map-append (posted a.names a.rows) messages (m ∷ [])))))));
 }
 
-pub hands_none : (a : Registered) → HandsOver a [] (TakesMany a.world.settings []) a
-hands_none a = record {
-  goes = goes_nothing a.world (TakesMany a.world.settings []) refl;
+pub hands_none : (a : Registered) → a.world.next ≡ 1 → HandsOver a [] (TakesMany a.world.settings []) a
+hands_none a lone = record {
+  goes = record { goes = goes_nothing a.world (TakesMany a.world.settings []) refl; lone = lone };
   names = refl;
   rows = refl;
   mail = sym (append-nil a.mail);
@@ -91,10 +81,6 @@ hands_none a = record {
 
 pub counted_none : (a : Registered) → AreCounted a [] 0 0
 counted_none a = record { handed_is = refl; taken_are = refl; known = All-nil (λ (message : Message). message.1 < length a.rows) }
-
-length_more : {X : Type 0} (xs : List X) (x : X) → length (xs ++ x ∷ []) ≡ length xs + 1
-length_more [] x = omega arith
-length_more (y ∷ ys) x = let more = length_more ys x in omega (arith, more)
 
 posted_more : (names : Names) (rows : List Row) (messages : List Message) (m : Message)
     → length (filter_map (posted names rows) (messages ++ m ∷ [])) ≡ length (filter_map (posted names rows) messages) + cond (is_some (posted names rows m)) 1 0
@@ -107,7 +93,7 @@ posted_more names rows messages m =
       where
         zero_more : (n : ℕ) → n ≡ n + 0
         zero_more n = omega arith
-    at (Some mail) is = rw is (length_more (filter_map (posted names rows) messages) mail)
+    at (Some mail) is = rw is (length_push (filter_map (posted names rows) messages) mail)
 
 -- how many then were handed over and lost
 pub counted_more : (a : Registered) (messages : List Message) (m : Message) (handed lost : ℕ) (b : Bool) → AreCounted a messages handed lost
@@ -116,7 +102,7 @@ pub counted_more : (a : Registered) (messages : List Message) (m : Message) (han
 counted_more a messages m handed lost b counted is known = record {
   handed_is = ap (λ n. n + cond b 1 0) counted.handed_is
       ∙ (ap (λ x. length (filter_map (posted a.names a.rows) messages) + cond x 1 0) is ∙ sym (posted_more a.names a.rows messages m));
-  taken_are = sum b ∙ sym (length_more messages m);
+  taken_are = sum b ∙ sym (length_push messages m);
   known = All-push (λ (message : Message). message.1 < length a.rows) messages m counted.known known;
 }
   where
@@ -130,7 +116,10 @@ pub hands_all : (a b c : Registered) (messages : List Message) (handed lost : �
 hands_all a b c messages handed lost some counted none = record {
   messages = messages;
   hands = record {
-    goes = goes_then a.world b.world c.world (TakesMany a.world.settings messages) (λ g. FindsNone g) some.goes none.alone.goes;
+    goes = record {
+      goes = goes_then a.world b.world c.world (TakesMany a.world.settings messages) FindsNone some.goes.goes none.alone.goes.goes;
+      lone = some.goes.lone;
+    };
     names = none.alone.names ∙ some.names;
     rows = none.alone.rows ∙ some.rows;
     mail = none.alone.mail ∙ some.mail;
@@ -168,11 +157,6 @@ none_others process k [] past all = refl
 none_others process zero (m ∷ ms) past all = absurd (omega (arith, all))
 none_others process (suc k) (m ∷ ms) past all = rw past.0 (ap (λ l. m ∷ l) (none_others process k ms past.1 (omega (arith, all))))
 
-pub found_place : (process k : ℕ) (ms : List (ℕ × NamedMail)) (d e : ℕ × NamedMail) → k < length ms → slice_index_or ms k d ≡ slice_index_or ms k e
-found_place process k [] d e low = absurd (omega (arith, low))
-found_place process zero (m ∷ ms) d e low = refl
-found_place process (suc k) (m ∷ ms) d e low = found_place process k ms d e (omega (arith, low))
-
 -- a start that the world refuses, and not for want of memory
 pub refused_named : (a b : Registered) (wheel : ℕ) (when : When) (row : Row) (e : StartErr)
     → ◌≢◌ {A = Result TimerRef StartErr} (Err e) (Err starts.NoMemory)
@@ -182,10 +166,6 @@ refused_named a b wheel when row starts.Full other goes = goes
 refused_named a b wheel when row starts.NoMemory other goes = absurd (other refl)
 
 -- one row more
-pub map_more : (items : List NamedRow) (r : NamedRow) → map row_of (items ++ r ∷ []) ≡ map row_of items ++ row_of r ∷ []
-map_more [] r = refl
-map_more (x ∷ items) r = ap (λ l. row_of x ∷ l) (map_more items r)
-
 pub place_of : (len : ℕ) (rows items : List NamedRow) → len ≡ length rows → rows ≡ items → len ≡ length items
 place_of len rows items is same = is ∙ ap length same
 
@@ -193,7 +173,7 @@ pub place_is : (len : ℕ) (rows items : List NamedRow) → len ≡ length rows 
 place_is len rows items is same = place_of len rows items is same ∙ sym (length-map items row_of)
 
 pub longer_by : (rows items : List NamedRow) (r : NamedRow) → rows ≡ items ++ r ∷ [] → length rows ≡ length items + 1
-longer_by rows items r is = ap length is ∙ length_more items r
+longer_by rows items r is = ap length is ∙ length_push items r
 
 -- where a process has no mail, none goes
 pub none_goes : (process : ℕ) (ms : List (ℕ × NamedMail)) → first_for process ms ≡ None → others_for process ms ≡ ms
@@ -229,27 +209,30 @@ pub counted_false : (a b : Registered) (messages : List Message) (m : Message) (
 counted_false a b messages m handed lost counted names rows is known =
     subst (λ n. AreCounted a (messages ++ m ∷ []) n (lost + 1)) (none_more handed) (counted_in a b messages m handed lost false counted names rows is known)
 
-pub few_true : (handed lost before after : ℕ) → (handed + lost) + before ≤ 576460752303423488 → before ≡ after + 1 → ((handed + 1) + lost) + after ≤ 576460752303423488
-few_true handed lost before after few fewer = omega (arith, few, fewer)
-
-pub few_false : (handed lost before after : ℕ) → (handed + lost) + before ≤ 576460752303423488 → before ≡ after + 1 → (handed + (lost + 1)) + after ≤ 576460752303423488
-few_false handed lost before after few fewer = omega (arith, few, fewer)
-
--- a turn of the scheduler and then of the messages
-pub turned : (a b c : Registered) (sched : ℕ) (t : Turned) (answer : ℕ × ℕ) → Goes a.world (Turns a.world.settings (alone a.world.settings) sched (Ok t)) b.world
-    → b.names ≡ a.names → b.rows ≡ a.rows → b.mail ≡ a.mail → HandsThem b answer c
-    → HasTurned a sched (record { turned = t; handed = answer.0; lost = answer.1 }) c
-turned a b c sched t answer goes names rows mail hands = record {
-  messages = hands.messages;
-  hands = record {
-    goes = goes_then a.world b.world c.world (Turns a.world.settings (alone a.world.settings) sched (Ok t)) (λ g. Then (TakesMany g hands.messages) (FindsNone g)) goes
-        hands.hands.goes;
-    names = hands.hands.names ∙ names;
-    rows = hands.hands.rows ∙ rows;
-    mail = hands.hands.mail
-        ∙ (ap (λ m. m ++ filter_map (posted b.names b.rows) hands.messages) mail
-        ∙ (ap (λ n. a.mail ++ filter_map (posted n b.rows) hands.messages) names ∙ ap (λ r. a.mail ++ filter_map (posted a.names r) hands.messages) rows));
+-- messages that are handed over after a turn of the scheduler
+hands_after : (a b c : Registered) (sched : ℕ) (t : Turned) (answer : Result Turned NoMemory) (messages : List Message) (call : Settings → Way → Growth)
+    → answer ≡ Ok t → Goes a.world (λ way. Turns a.world.settings way sched answer) b.world → a.world.next ≡ 1 → b.names ≡ a.names → b.rows ≡ a.rows
+    → b.mail ≡ a.mail → HandsOver b messages (call b.world.settings) c
+    → HandsOver a messages (λ way. Then (Turns a.world.settings way sched (Ok t)) (call a.world.settings way)) c
+hands_after a b c sched t answer messages call is goes lone names rows mail hands = record {
+  goes = record {
+    goes = goes_then a.world b.world c.world (λ way. Turns a.world.settings way sched (Ok t)) call
+        (subst (λ r. Goes a.world (λ way. Turns a.world.settings way sched r) b.world) is goes) hands.goes.goes;
+    lone = lone;
   };
+  names = hands.names ∙ names;
+  rows = hands.rows ∙ rows;
+  mail = hands.mail
+      ∙ (ap (λ m. m ++ filter_map (posted b.names b.rows) messages) mail
+      ∙ (ap (λ n. a.mail ++ filter_map (posted n b.rows) messages) names ∙ ap (λ r. a.mail ++ filter_map (posted a.names r) messages) rows));
+}
+
+pub turned : (a b c : Registered) (sched : ℕ) (t : Turned) (turn : Result Turned NoMemory) (answer : ℕ × ℕ) → turn ≡ Ok t
+    → Goes a.world (λ way. Turns a.world.settings way sched turn) b.world → a.world.next ≡ 1 → b.names ≡ a.names → b.rows ≡ a.rows → b.mail ≡ a.mail
+    → HandsThem b answer c → HasTurned a sched (record { turned = t; handed = answer.0; lost = answer.1 }) c
+turned a b c sched t turn answer is goes lone names rows mail hands = record {
+  messages = hands.messages;
+  hands = hands_after a b c sched t turn hands.messages (λ g way. Then (TakesMany g hands.messages way) (FindsNone g way)) is goes lone names rows mail hands.hands;
   counted = record {
     handed_is = hands.counted.handed_is
         ∙ (ap (λ n. length (filter_map (posted n b.rows) hands.messages)) names ∙ ap (λ r. length (filter_map (posted a.names r) hands.messages)) rows);
@@ -259,30 +242,11 @@ turned a b c sched t answer goes names rows mail hands = record {
   empty = hands.empty;
 }
 
-pub stopped : (a b c : Registered) (sched : ℕ) (t : Turned) → Goes a.world (Turns a.world.settings (alone a.world.settings) sched (Ok t)) b.world
-    → b.names ≡ a.names → b.rows ≡ a.rows → b.mail ≡ a.mail → HandsSome b c → HasStopped a sched c
-stopped a b c sched t goes names rows mail hands = record {
+pub stopped : (a b c : Registered) (sched : ℕ) (t : Turned) (turn : Result Turned NoMemory) → turn ≡ Ok t
+    → Goes a.world (λ way. Turns a.world.settings way sched turn) b.world → a.world.next ≡ 1 → b.names ≡ a.names → b.rows ≡ a.rows → b.mail ≡ a.mail
+    → HandsSome b c → HasStopped a sched c
+stopped a b c sched t turn is goes lone names rows mail hands = record {
   turned = t;
   messages = hands.messages;
-  hands = record {
-    goes = goes_then a.world b.world c.world (Turns a.world.settings (alone a.world.settings) sched (Ok t)) (λ g. TakesMany g hands.messages) goes hands.hands.goes;
-    names = hands.hands.names ∙ names;
-    rows = hands.hands.rows ∙ rows;
-    mail = hands.hands.mail
-        ∙ (ap (λ m. m ++ filter_map (posted b.names b.rows) hands.messages) mail
-        ∙ (ap (λ n. a.mail ++ filter_map (posted n b.rows) hands.messages) names ∙ ap (λ r. a.mail ++ filter_map (posted a.names r) hands.messages) rows));
-  };
+  hands = hands_after a b c sched t turn hands.messages (λ g. TakesMany g hands.messages) is goes lone names rows mail hands.hands;
 }
-
-pub few_none : (n : ℕ) → n ≤ 576460752303423488 → (0 + 0) + n ≤ 576460752303423488
-few_none n few = omega (arith, few)
-
-pub are_same : (x y : ℕ) → x ≡ y → nat_eq x y ≡ true
-are_same x y is = eq-eqb x y is
-
-pub are_other : (x y : ℕ) → (x ≡ y → ⊥) → nat_eq x y ≡ false
-are_other x y other = at (nat_eq x y) refl
-  where
-    at : (b : Bool) → nat_eq x y ≡ b → b ≡ false
-    at true is = absurd (other (eqb-true x y is))
-    at false is = refl

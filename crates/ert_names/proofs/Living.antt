@@ -8,7 +8,7 @@ use Rattle.std.specs.Ordering.{nat_cmp, eq_by_cmp}
 use Rattle.ert_answers.specs.Chains.{Exits}
 use Rattle.ert_answers.specs.MailCalls.{Takes}
 use Rattle.ert_answers.specs.WheelCalls.{TellsAlive}
-use Rattle.ert_answers.specs.Ways.{Growth, alone}
+use Rattle.ert_answers.specs.Ways.{Growth, Way, Grows, alone}
 use Rattle.ert_answers.specs.declared.answers.Taken.TheVariants.{Mail, Empty}
 use Rattle.ert_defs.proofs.Runs.{legal_then, state-append}
 use Rattle.ert_defs.specs.Entries.{mark_entry}
@@ -34,21 +34,21 @@ lives_run : (g : Settings) (n q : ℕ) (s : State) (es : List Entry) → AllFit 
 lives_run g n q s [] fit lives = lives
 lives_run g n q s (e ∷ es) fit lives = lives_run g n q (next g s e) es fit.1 (lives_event n q e.event (s.exited q) fit.0 lives)
 
-lives_on : (n q : ℕ) (a b : Seen) (call : Growth) → AreFitting n q call → Goes a call b → Lives a q → Lives b q
-lives_on n q a b call fitting goes lives =
+lives_on : (n q : ℕ) (a b : Seen) (call : Way → Growth) → AreFitting n q (call (alone a.settings)) → Goes a call b → a.next ≡ 1 → Lives a q → Lives b q
+lives_on n q a b call fitting goes lone lives =
     let g : Settings = a.settings in
-    let es : List Entry = goes.grows.piece in
-    let after : state b.settings b.history ≡ run g (state g a.history) es =
-    ap (λ k. state k b.history) goes.settings ∙ (ap (state g) goes.grows.grown ∙ state-append g a.history es) in
+    let grows : Grows (call (alone g)) a.history b.history = goes.lone lone in
+    let after : state b.settings b.history ≡ run g (state g a.history) grows.piece =
+    ap (λ k. state k b.history) goes.settings ∙ (ap (state g) grows.grown ∙ state-append g a.history grows.piece) in
     subst (λ (t : State). t.exited q ≡ false) (sym after)
-    (lives_run g n q (state g a.history) es (fitting a.history es goes.grows.made) lives)
+    (lives_run g n q (state g a.history) grows.piece (fitting a.history grows.piece grows.made) lives)
 
 -- a call that spares every process
-pub names_on : (n : ℕ) (names : Names) (a b : Seen) (call : Growth) → ((q : ℕ) → AreFitting n q call) → Goes a call b → FitsNames n names a
-    → FitsNames n names b
+pub names_on : (n : ℕ) (names : Names) (a b : Seen) (call : Way → Growth) → ((q : ℕ) → AreFitting n q (call (alone a.settings))) → Goes a call b
+    → FitsNames n names a → FitsNames n names b
 names_on n names a b call fitting goes fits = record {
   fits = fits_on n a b call (fitting 0) goes fits.fits;
-  living = λ name q has. lives_on n q a b call (fitting q) goes (fits.living name q has);
+  living = λ name q has. lives_on n q a b call (fitting q) goes fits.fits.lone (fits.living name q has);
 }
 
 pub names_by : (n : ℕ) (names : Names) (a b : Seen) (allows : Settings → State → List Entry → Type 0)
@@ -63,9 +63,9 @@ names_more n m names a more fits = record { fits = fits_more n m a more fits.fit
 pub names_next : (n : ℕ) (names : Names) (a b : Seen) (message : Option Message) → TakesNext n a message b → FitsNames n names a → FitsNames n names b
 names_next n names a b (Some message) next fits =
     let taken = Mail (Timeout message.0 message.1) in
-    names_by n names a b (λ g. Takes g 0 0 taken) (λ q s es. takes_fit n q a.settings 0 0 taken s es) next.0.goes fits
+    names_by n names a b (λ g. Takes g 0 0 taken) (λ q s es. takes_fit n q a.settings 0 0 taken s es) next.0.goes.goes fits
 names_next n names a b None next fits =
-    names_by n names a b (λ g. Takes g 0 0 Empty) (λ q s es. takes_fit n q a.settings 0 0 Empty s es) next.0.goes fits
+    names_by n names a b (λ g. Takes g 0 0 Empty) (λ q s es. takes_fit n q a.settings 0 0 Empty s es) next.0.goes.goes fits
 
 -- what a mark finds is whether the process had exited
 found_at : (p : ℕ) (exits was : Bool) (g : Settings) (f m h : List Entry) → h ≡ f ++ m → m ≡ mark_entry (Caller 0) p exits was ∷ [] → Legal g h
@@ -77,13 +77,14 @@ found_at p exits was g f m h grown is legal =
     one.0.found
 
 -- a process that was seen to live
-pub seen_living : (p : ℕ) (a b : Seen) → Goes a (By a (λ g. TellsAlive g (Caller 0) p true)) b → Legal b.settings b.history → Lives b p
-seen_living p a b goes legal =
+pub seen_living : (p : ℕ) (a b : Seen) → Goes a (By a (λ g. TellsAlive g (Caller 0) p true)) b → a.next ≡ 1 → Legal b.settings b.history → Lives b p
+seen_living p a b goes lone legal =
     let g : Settings = a.settings in
+    let grows = goes.lone lone in
     let whole : Legal g b.history = subst (λ k. Legal k b.history) goes.settings legal in
-    let lives : Lives a p = sym (found_at p false false g a.history goes.grows.piece b.history goes.grows.grown goes.grows.made whole) in
+    let lives : Lives a p = sym (found_at p false false g a.history grows.piece b.history grows.grown grows.made whole) in
     lives_on 0 p a b (By a (λ g. TellsAlive g (Caller 0) p true))
-    (λ h m made. alive_fits 0 p g (Caller 0) p true (state g h) m made) goes lives
+    (λ h m made. alive_fits 0 p g (Caller 0) p true (state g h) m made) goes lone lives
 
 -- a name is given to a process that lives
 inserted_living : (names : Names) (name : List ℕ) (p : ℕ) (w : Seen) → Lives w p → AreLiving names w → AreLiving (finite.insert names name p) w
@@ -130,32 +131,33 @@ pub without_unnamed : (old new : Names) (p : ℕ) → IsWithout old p new → Un
 without_unnamed old new p without = λ name has. (other_living p p (finite.get old name) (sym (without name) ∙ has)).1 refl
 
 -- a process exits, and no name is left to it
-exited_on : (n : ℕ) (names new : Names) (p : ℕ) (answer : Bool) (a b : Seen) → p ≢ 0 → Goes a (Exits a.settings (alone a.settings) 0 p answer) b
+exited_on : (n : ℕ) (names new : Names) (p : ℕ) (answer : Bool) (a b : Seen) → p ≢ 0 → Goes a (λ way. Exits a.settings way 0 p answer) b
     → ((name : List ℕ) (q : ℕ) → finite.get new name ≡ Some q → (finite.get names name ≡ Some q) × (q ≢ p)) → FitsNames n names a → FitsNames n new b
 exited_on n names new p answer a b other goes fewer fits = record {
-  fits = fits_on n a b (Exits a.settings (alone a.settings) 0 p answer) (exits_fit n 0 a.settings p answer other) goes fits.fits;
+  fits = fits_on n a b (λ way. Exits a.settings way 0 p answer) (exits_fit n 0 a.settings p answer other) goes fits.fits;
   living = λ name q has.
       let apart = (fewer name q has).1 in
-      lives_on n q a b (Exits a.settings (alone a.settings) 0 p answer) (exits_fit n q a.settings p answer (λ same. apart (sym same))) goes
+      lives_on n q a b (λ way. Exits a.settings way 0 p answer) (exits_fit n q a.settings p answer (λ same. apart (sym same))) goes fits.fits.lone
       (fits.living name q (fewer name q has).0);
 }
 
-pub exited_new : (n : ℕ) (names new : Names) (p : ℕ) (answer : Bool) (a b : Seen) → p ≢ 0 → Goes a (Exits a.settings (alone a.settings) 0 p answer) b
+pub exited_new : (n : ℕ) (names new : Names) (p : ℕ) (answer : Bool) (a b : Seen) → p ≢ 0 → Goes a (λ way. Exits a.settings way 0 p answer) b
     → IsWithout names p new → FitsNames n names a → FitsNames n new b
 exited_new n names new p answer a b other goes without fits =
     exited_on n names new p answer a b other goes (λ name q has. other_living p q (finite.get names name) (sym (without name) ∙ has)) fits
 
 -- a process that had exited before has no name
-pub exited_unnamed : (n : ℕ) (names : Names) (p : ℕ) (a b : Seen) → Goes a (Exits a.settings (alone a.settings) 0 p false) b
+pub exited_unnamed : (n : ℕ) (names : Names) (p : ℕ) (a b : Seen) → Goes a (λ way. Exits a.settings way 0 p false) b
     → Legal b.settings b.history → FitsNames n names a → Unnamed names p
 exited_unnamed n names p a b goes legal fits = λ name has.
     let g : Settings = a.settings in
+    let grows = goes.lone fits.fits.lone in
     let whole : Legal g b.history = subst (λ k. Legal k b.history) goes.settings legal in
-    let exited : true ≡ (state g a.history).exited p = found_at p true true g a.history goes.grows.piece b.history goes.grows.grown goes.grows.made whole in
+    let exited : true ≡ (state g a.history).exited p = found_at p true true g a.history grows.piece b.history grows.grown grows.made whole in
     let clash : true ≡ false = exited ∙ fits.living name p has in
     cc
 
-pub exited_old : (n : ℕ) (names : Names) (p : ℕ) (a b : Seen) → p ≢ 0 → Goes a (Exits a.settings (alone a.settings) 0 p false) b
+pub exited_old : (n : ℕ) (names : Names) (p : ℕ) (a b : Seen) → p ≢ 0 → Goes a (λ way. Exits a.settings way 0 p false) b
     → Legal b.settings b.history → FitsNames n names a → FitsNames n names b
 exited_old n names p a b other goes legal fits =
     let none = exited_unnamed n names p a b goes legal fits in

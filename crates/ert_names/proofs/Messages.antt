@@ -1,8 +1,9 @@
 -- What is taken from the registrar: the message of a row, or nothing where nothing waits.
 
-use Rattle.std.proofs.Common.{◌≡◌, ℕ, true, false, List, [], ◌∷◌, ◌++◌, All, Some, None, refl, sym, ap, subst, ◌∙◌}
+use Rattle.std.proofs.Common.{◌≡◌, ℕ, true, false, List, [], ◌∷◌, ◌++◌, All, Some, None, sym, ap, subst, ◌∙◌}
 use Rattle.std.proofs.lemmas.List.Elements.{All-head}
 use Rattle.ert_answers.specs.MailCalls.{Takes}
+use Rattle.ert_answers.specs.Ways.{Grows, alone}
 use Rattle.ert_answers.specs.declared.answers.Taken.{Taken}
 use Rattle.ert_answers.specs.declared.answers.Taken.TheVariants.{Mail, Empty, Exited}
 use Rattle.ert_defs.proofs.Runs.{legal_first, legal_then, state-append}
@@ -19,16 +20,13 @@ use Rattle.ert_names.proofs.Registrars.{IsKept, kept_run, kept_opening}
 use Rattle.ert_names.specs.Promised.{IsNamed}
 use Rattle.ert_names.specs.Fits.{FitsRows}
 use Rattle.ert_names.specs.Handing.{timeout_of, TakesNext}
+use Rattle.ert_world.proofs.Composed.{none_first}
 use Rattle.ert_world.specs.Worlds.{Seen, Goes, By}
 
 -- what is found in a list of which this is the first
 first_is : {X : Type 0} (x : X) (xs : List X) → Some x ≡ first_of xs → xs ≡ x ∷ others_of xs
 first_is x [] is = absurd cc
 first_is x (y ∷ ys) is = let same : y ≡ x = cc in ap (λ z. z ∷ ys) same
-
-none_is : {X : Type 0} (xs : List X) → None ≡ first_of xs → xs ≡ []
-none_is [] is = refl
-none_is (x ∷ xs) is = absurd cc
 
 -- what is so of a state and of that after a take
 abbrev Took : ℕ → State → State → Taken → Type 0
@@ -46,7 +44,7 @@ took_from g n s (Mail mail) es kept legal takes =
     (All-head (IsNamed n) mail (others_of (s.mails 0).queue) all, first)
 took_from g n s Empty es kept legal takes =
     let parts : LegalFrom g s (mark_entry (Caller 0) 0 false false ∷ (take_entry 0 0 None ∷ [])) = subst (LegalFrom g s) takes legal in
-    let none : (s.mails 0).queue ≡ [] = none_is (s.mails 0).queue parts.1.0.known in
+    let none : (s.mails 0).queue ≡ [] = none_first (s.mails 0).queue (sym parts.1.0.known) in
     subst (λ (l : List Entry). Took n s (run g s l) Empty) (sym takes) (ap others_of none)
 took_from g n s Exited es kept legal takes =
     let parts : LegalFrom g s (mark_entry (Caller 0) 0 false true ∷ []) = subst (LegalFrom g s) takes legal in
@@ -61,20 +59,21 @@ pub took : (n : ℕ) (a b : Seen) (taken : Taken) → Goes a (By a (λ g. Takes 
     → Took n (state a.settings a.history) (state b.settings b.history) taken
 took n a b taken goes legal fits =
     let g : Settings = a.settings in
-    let es : List Entry = goes.grows.piece in
-    let whole : Legal g (a.history ++ es) = subst (Legal g) goes.grows.grown (subst (λ k. Legal k b.history) goes.settings legal) in
+    let grows : Grows (By a (λ g. Takes g 0 0 taken) (alone g)) a.history b.history = goes.lone fits.lone in
+    let es : List Entry = grows.piece in
+    let whole : Legal g (a.history ++ es) = subst (Legal g) grows.grown (subst (λ k. Legal k b.history) goes.settings legal) in
     let kept = kept_world n a (legal_first g (opening g) a.history es whole) fits in
     let after : state b.settings b.history ≡ run g (state g a.history) es =
-    ap (λ k. state k b.history) goes.settings ∙ (ap (state g) goes.grows.grown ∙ state-append g a.history es) in
+    ap (λ k. state k b.history) goes.settings ∙ (ap (state g) grows.grown ∙ state-append g a.history es) in
     subst (λ (t : State). Took n (state g a.history) t taken) (sym after)
-    (took_from g n (state g a.history) taken es kept (legal_then g (opening g) a.history es whole) goes.grows.made)
+    (took_from g n (state g a.history) taken es kept (legal_then g (opening g) a.history es whole) grows.made)
 
 -- the next message
 pub takes_next : (n : ℕ) (a b : Seen) (taken : Taken) → Goes a (By a (λ g. Takes g 0 0 taken)) b → Legal b.settings b.history → FitsRows n a
     → TakesNext n a (timeout_of taken) b
 takes_next n a b (Mail (Timeout timer msg)) goes legal fits =
     let is = took n a b (Mail (Timeout timer msg)) goes legal fits in (
-      record { goes = goes; known = is.0; first = is.1 },
+      record { goes = record { goes = goes; lone = fits.lone }; known = is.0; first = is.1 },
       fits_by n a b (λ g. Takes g 0 0 (Mail (Timeout timer msg))) (λ s es. takes_fit n 0 a.settings 0 0 (Mail (Timeout timer msg)) s es) goes fits,
     )
 takes_next n a b (Mail (Bare msg)) goes legal fits = absurd (took n a b (Mail (Bare msg)) goes legal fits).0
@@ -82,7 +81,7 @@ takes_next n a b (Mail (CancelDone timer left)) goes legal fits = absurd (took n
 takes_next n a b (Mail (ReadDone timer left)) goes legal fits = absurd (took n a b (Mail (ReadDone timer left)) goes legal fits).0
 takes_next n a b (Mail (Change monitor offset)) goes legal fits = absurd (took n a b (Mail (Change monitor offset)) goes legal fits).0
 takes_next n a b Empty goes legal fits = (
-  record { goes = goes; empty = took n a b Empty goes legal fits },
+  record { goes = record { goes = goes; lone = fits.lone }; empty = took n a b Empty goes legal fits },
   fits_by n a b (λ g. Takes g 0 0 Empty) (λ s es. takes_fit n 0 a.settings 0 0 Empty s es) goes fits,
 )
 takes_next n a b Exited goes legal fits = absurd (took n a b Exited goes legal fits)

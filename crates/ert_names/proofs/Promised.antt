@@ -49,6 +49,7 @@ promised n w stands fits =
         order = λ w p. in_order g h w p legal;
         told = λ p. messages_are_told g h p legal;
       };
+      lone = fits.lone;
       registrar_lives = kept.lives;
       rows = kept.rows;
       messages = kept.queue;

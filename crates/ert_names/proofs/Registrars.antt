@@ -1,6 +1,6 @@
 -- What the registrar has after a legal history that fits some rows: messages of these rows alone, and few.
 
-use Rattle.std.proofs.Common.{◌≡◌, ℕ, ◌<◌, ◌≤◌, Bool, true, false, ◌&&◌, nat_eq, List, [], ◌∷◌, ◌++◌, All, length, Option, Some, None, refl, sym, ap, subst, ◌∙◌, arith, append-nil, eqb-true}
+use Rattle.std.proofs.Common.{◌≡◌, ℕ, ◌<◌, Bool, true, false, ◌&&◌, nat_eq, List, [], ◌∷◌, ◌++◌, All, Option, Some, None, refl, sym, ap, subst, ◌∙◌, append-nil, eqb-true}
 use Rattle.std.proofs.lemmas.Bool.{cond_both}
 use Rattle.std.proofs.lemmas.List.Elements.{All-nil, All-cons, All-push, All-append, All-head, All-tail}
 use Rattle.ert_defs.proofs.Standing.{of_row}
@@ -145,11 +145,3 @@ kept_opening g n = record {
 pub kept_run : (g : Settings) (n : ℕ) (s : State) (es : List Entry) → IsKept n s → LegalFrom g s es → AllFit n 0 es → IsKept n (run g s es)
 kept_run g n s [] kept legal fit = kept
 kept_run g n s (e ∷ es) kept legal fit = kept_run g n (next g s e) es (kept_next g n s e kept legal.0 fit.0) legal.1 fit.1
-
-message_one : (fired : List Row) → length (message_in fired) ≤ 1
-message_one [] = omega arith
-message_one (r ∷ rows) = omega arith
-
-others_fewer : {X : Type 0} (xs : List X) → length (others_of xs) ≤ length xs
-others_fewer [] = omega arith
-others_fewer (x ∷ xs) = omega arith

@@ -1,6 +1,7 @@
 -- Few messages wait for the registrar: no more than timers were ever delivered.
 
-use Rattle.std.proofs.Common.{◌≡◌, ℕ, ◌+◌, ◌≤◌, Bool, true, false, cond, List, [], ◌∷◌, ◌++◌, length, filter, Option, refl, arith, append-nil}
+use Rattle.std.proofs.Common.{◌≡◌, ℕ, ◌+◌, ◌≤◌, Bool, true, false, cond, List, [], ◌∷◌, length, filter, Option, refl, arith, append-nil}
+use Rattle.std.proofs.lemmas.List.{length-append}
 use Rattle.ert_defs.specs.Actors.{is_with, has_actor}
 use Rattle.ert_defs.specs.Legal.{Can, Keeps, LegalFrom}
 use Rattle.ert_defs.specs.Mails.{MailState, others_of, message_in, mail_after}
@@ -27,10 +28,6 @@ others_fewer : {X : Type 0} (xs : List X) → length (others_of xs) ≤ length x
 others_fewer [] = omega arith
 others_fewer (x ∷ xs) = omega arith
 
-length_both : {X : Type 0} (xs ys : List X) → length (xs ++ ys) ≡ length xs + length ys
-length_both [] ys = omega arith
-length_both (x ∷ xs) ys = let both = length_both xs ys in omega (arith, both)
-
 abbrev counts : ℕ → Entry → ℕ
 counts p e = cond (delivers_to p e) 1 0
 
@@ -50,7 +47,7 @@ queue_grows : (g : Settings) (n : ℕ) (s : State) (by : Actor) (with : Option A
     → length (mail_after s.scheds x event).queue ≤ length x.queue + counts 0 (record { by = by; with = with; event = event })
 queue_grows g n s by with (Deliver timer) x kept keeps fits has =
     let one = message_one (s.scheds timer.wheel).fired in
-    let both = length_both x.queue (message_in (s.scheds timer.wheel).fired) in
+    let both = length-append x.queue (message_in (s.scheds timer.wheel).fired) in
     rw (counts_one by with timer timer.wheel keeps.0 has) (omega (arith, one, both))
 queue_grows g n s by with (Answer wheel left) x kept keeps fits has = rw (kept.hands wheel, append-nil) (same_or (length x.queue) _)
 queue_grows g n s by with (Take process got) x kept keeps fits has =

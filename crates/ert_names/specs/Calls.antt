@@ -7,7 +7,7 @@ use Rattle.ert_answers.specs.Chains.{Turns}
 use Rattle.ert_answers.specs.MailCalls.{Takes}
 use Rattle.ert_answers.specs.TimerCalls.{Starts}
 use Rattle.ert_answers.specs.WheelCalls.{TellsAlive}
-use Rattle.ert_answers.specs.Ways.{Growth, Then, Many, alone}
+use Rattle.ert_answers.specs.Ways.{Growth, Way, Then, Many}
 use Rattle.ert_answers.specs.declared.answers.StartErr.{StartErr}
 use Rattle.ert_answers.specs.declared.answers.StartErr.TheVariants as starts
 use Rattle.ert_answers.specs.declared.answers.Taken.TheVariants.{Mail as OneMail, Empty as NoMail}
@@ -29,11 +29,16 @@ use Rattle.ert_names.specs.declared.named.NamedMail.{NamedMail}
 use Rattle.ert_names.specs.declared.named.NamedTaken.{NamedTaken}
 use Rattle.ert_names.specs.declared.named.NamedTaken.TheVariants.{Mail, Empty, Exited}
 use Rattle.ert_names.specs.declared.named.NamedTurn.{NamedTurn}
-use Rattle.ert_world.specs.Worlds.{Goes, By}
+use Rattle.ert_world.specs.Worlds.{Seen, Goes, By}
+
+-- a world that gave out no seat makes a call: so its history grows as that of one thread
+pub record GoesLone (old : Seen) (call : Way → Growth) (new : Seen) : Type 0 where
+  pub goes : Goes old call new
+  pub lone : old.next ≡ 1
 
 -- the world makes a call, and the names, the rows and the named mail stay
-pub record GoesAlone (old : Registered) (call : Growth) (new : Registered) : Type 0 where
-  pub goes : Goes old.world call new.world
+pub record GoesAlone (old : Registered) (call : Way → Growth) (new : Registered) : Type 0 where
+  pub goes : GoesLone old.world call new.world
   pub names : new.names ≡ old.names
   pub rows : new.rows ≡ old.rows
   pub mail : new.mail ≡ old.mail
@@ -58,7 +63,7 @@ pub record AreFree (names : Names) (name : List ℕ) (process : ℕ) : Type 0 wh
 -- a name was given to a process that lives
 pub record HasRegistered (old : Registered) (name : List ℕ) (process : ℕ) (new : Registered) : Type 0 where
   pub free : AreFree old.names name process
-  pub lives : Goes old.world (By old.world (λ g. TellsAlive g (Caller 0) process true)) new.world
+  pub lives : GoesLone old.world (By old.world (λ g. TellsAlive g (Caller 0) process true)) new.world
   pub names : new.names ≡ map.insert old.names name process
   pub rows : new.rows ≡ old.rows
   pub mail : new.mail ≡ old.mail
@@ -81,8 +86,8 @@ DropsName true old process new = IsWithout old process new
 DropsName false old process new = new ≡ old
 
 -- `exit`: the world makes this call, the names change so, and the rows and the named mail stay
-pub record HasExited (old : Registered) (process : ℕ) (answer : Bool) (call : Growth) (new : Registered) : Type 0 where
-  pub goes : Goes old.world call new.world
+pub record HasExited (old : Registered) (process : ℕ) (answer : Bool) (call : Way → Growth) (new : Registered) : Type 0 where
+  pub goes : GoesLone old.world call new.world
   pub names : DropsName answer old.names process new.names
   pub rows : new.rows ≡ old.rows
   pub mail : new.mail ≡ old.mail
@@ -92,12 +97,12 @@ abbrev pub start_at : When → ℕ → Start
 start_at when place = record { when = when; dest = 0; msg = place; kind = Wrapped }
 
 -- the world's start of such a timer by caller 0, whose row comes next
-abbrev pub StartsAt : Registered → ℕ → When → Result TimerRef StartErr → Growth
+abbrev pub StartsAt : Registered → ℕ → When → Result TimerRef StartErr → Way → Growth
 StartsAt old wheel when answer = By old.world (λ g. Starts g 0 wheel (start_at when (length old.rows)) answer)
 
 -- a timer was started for a name: its row is the last
-pub record HasStarted (old : Registered) (row : Row) (call : Growth) (new : Registered) : Type 0 where
-  pub goes : Goes old.world call new.world
+pub record HasStarted (old : Registered) (row : Row) (call : Way → Growth) (new : Registered) : Type 0 where
+  pub goes : GoesLone old.world call new.world
   pub names : new.names ≡ old.names
   pub rows : new.rows ≡ old.rows ++ row ∷ []
   pub mail : new.mail ≡ old.mail
@@ -132,20 +137,20 @@ abbrev pub posted : Names → List Row → Message → Option (ℕ × NamedMail)
 posted names rows message = posted_by names message.0 (row_at rows message.1)
 
 -- this message is taken from the registrar, as its first
-abbrev pub TakesFirst : Settings → Message → Growth
-TakesFirst g message = alone g [] (Takes g 0 0 (OneMail (Timeout message.0 message.1)))
+abbrev pub TakesFirst : Settings → Message → Way → Growth
+TakesFirst g message way = way [] (Takes g 0 0 (OneMail (Timeout message.0 message.1)))
 
 -- these messages are taken from the registrar, one after the other
-abbrev pub TakesMany : Settings → List Message → Growth
-TakesMany g messages = Many (TakesFirst g) messages
+abbrev pub TakesMany : Settings → List Message → Way → Growth
+TakesMany g messages way = Many (λ message. TakesFirst g message way) messages
 
 -- the registrar is found to have no message
-abbrev pub FindsNone : Settings → Growth
-FindsNone g = alone g [] (Takes g 0 0 NoMail)
+abbrev pub FindsNone : Settings → Way → Growth
+FindsNone g way = way [] (Takes g 0 0 NoMail)
 
 -- messages are handed over: each becomes the last of the named mail, where a process has its name now
-pub record HandsOver (old : Registered) (messages : List Message) (call : Growth) (new : Registered) : Type 0 where
-  pub goes : Goes old.world call new.world
+pub record HandsOver (old : Registered) (messages : List Message) (call : Way → Growth) (new : Registered) : Type 0 where
+  pub goes : GoesLone old.world call new.world
   pub names : new.names ≡ old.names
   pub rows : new.rows ≡ old.rows
   pub mail : new.mail ≡ old.mail ++ filter_map (posted old.names old.rows) messages
@@ -161,8 +166,8 @@ pub record AreCounted (old : Registered) (messages : List Message) (handed lost 
 pub record HasTurned (old : Registered) (sched : ℕ) (t : NamedTurn) (new : Registered) : Type 0 where
   pub messages : List Message
   pub hands : HandsOver old messages
-      (Then (Turns old.world.settings (alone old.world.settings) sched (Ok t.turned))
-      (Then (TakesMany old.world.settings messages) (FindsNone old.world.settings))) new
+      (λ way. Then (Turns old.world.settings way sched (Ok t.turned))
+      (Then (TakesMany old.world.settings messages way) (FindsNone old.world.settings way))) new
   pub counted : AreCounted old messages t.handed t.lost
   pub empty : ((state new.world.settings new.world.history).mails 0).queue ≡ []
 
@@ -172,13 +177,13 @@ pub record HasStopped (old : Registered) (sched : ℕ) (new : Registered) : Type
   pub turned : Turned
   pub messages : List Message
   pub hands : HandsOver old messages
-      (Then (Turns old.world.settings (alone old.world.settings) sched (Ok turned)) (TakesMany old.world.settings messages)) new
+      (λ way. Then (Turns old.world.settings way sched (Ok turned)) (TakesMany old.world.settings messages way)) new
 
 -- `turn`
 abbrev pub TurnsNamed : Registered → ℕ → Result NamedTurn WantOfMemory → Registered → Type 0
 TurnsNamed old sched (Ok t) new = HasTurned old sched t new
 TurnsNamed old sched (Err e) new =
-    GoesAlone old (Turns old.world.settings (alone old.world.settings) sched (Err e)) new ⊎ HasStopped old sched new
+    GoesAlone old (λ way. Turns old.world.settings way sched (Err e)) new ⊎ HasStopped old sched new
 
 -- the first mail of a process among all that waits
 abbrev pub first_for : ℕ → List (ℕ × NamedMail) → Option NamedMail
@@ -203,7 +208,7 @@ IsPlace process ms (Some k) = (k < length ms) × ((d : ℕ × NamedMail) → fir
 
 -- a process that lives takes its first mail
 pub record HasTaken (old : Registered) (process : ℕ) (new : Registered) : Type 0 where
-  pub lives : Goes old.world (By old.world (λ g. TellsAlive g (Caller 0) process true)) new.world
+  pub lives : GoesLone old.world (By old.world (λ g. TellsAlive g (Caller 0) process true)) new.world
   pub names : new.names ≡ old.names
   pub rows : new.rows ≡ old.rows
   pub mail : new.mail ≡ others_for process old.mail

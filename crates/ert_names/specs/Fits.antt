@@ -25,9 +25,10 @@ abbrev pub AllFit : ℕ → ℕ → List Entry → Type 0
 AllFit rows spared [] = Unit {0}
 AllFit rows spared (e ∷ es) = Fits rows spared e.event × AllFit rows spared es
 
--- a world fits so many rows, and its registrar doesn't exit
+-- a world gave out no seat and fits so many rows, and its registrar doesn't exit
 pub record FitsRows (rows : ℕ) (w : Seen) : Type 0 where
   pub processes : 2 ≤ w.settings.processes
+  pub lone : w.next ≡ 1
   pub entries : AllFit rows 0 w.history
 
 -- a world fits so many rows, and each of these names is that of a process that lives

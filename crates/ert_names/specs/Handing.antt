@@ -8,10 +8,10 @@ use Rattle.ert_defs.specs.States.{state}
 use Rattle.ert_defs.specs.declared.mail.Mail.{Mail}
 use Rattle.ert_defs.specs.declared.mail.Mail.TheVariants.{Timeout}
 use Rattle.ert_defs.specs.declared.memory.NoMemory.{NoMemory}
-use Rattle.ert_names.specs.Calls.{GoesAlone, HandsOver, AreCounted, Message, TakesFirst, TakesMany, FindsNone, posted}
+use Rattle.ert_names.specs.Calls.{GoesLone, GoesAlone, HandsOver, AreCounted, Message, TakesFirst, TakesMany, FindsNone, posted}
 use Rattle.ert_names.specs.Fits.{FitsRows}
 use Rattle.ert_names.specs.Registered.{Registered}
-use Rattle.ert_world.specs.Worlds.{Seen, Goes}
+use Rattle.ert_world.specs.Worlds.{Seen}
 
 -- the messages that wait for the registrar
 abbrev pub waiting : Seen → List Mail
@@ -24,13 +24,13 @@ timeout_of _ = None
 
 -- the first message is taken, and it is of one of so many rows
 pub record HasNext (n : ℕ) (old : Seen) (message : Message) (new : Seen) : Type 0 where
-  pub goes : Goes old (TakesFirst old.settings message) new
+  pub goes : GoesLone old (TakesFirst old.settings message) new
   pub known : message.1 < n
   pub first : waiting old ≡ Timeout message.0 message.1 ∷ waiting new
 
 -- none waits
 pub record HasNone (old new : Seen) : Type 0 where
-  pub goes : Goes old (FindsNone old.settings) new
+  pub goes : GoesLone old (FindsNone old.settings) new
   pub empty : waiting new ≡ []
 
 -- the registrar's first message is taken, or none waits; and the world fits so many rows still
@@ -60,7 +60,7 @@ HandsNext old (Err e) new = new ≡ old
 -- all messages that wait are handed over or lost: so many of each
 pub record HandsThem (old : Registered) (answer : ℕ × ℕ) (new : Registered) : Type 0 where
   pub messages : List Message
-  pub hands : HandsOver old messages (Then (TakesMany old.world.settings messages) (FindsNone old.world.settings)) new
+  pub hands : HandsOver old messages (λ way. Then (TakesMany old.world.settings messages way) (FindsNone old.world.settings way)) new
   pub counted : AreCounted old messages answer.0 answer.1
   pub empty : waiting new.world ≡ []
 

@@ -31,11 +31,12 @@ SparesNamed g f (Orphan timer) = (row : Row) × (row_of ((state g f).rows timer.
 SparesNamed g f (Drop timer) = (first : IsFirst ((state g f).scheds timer.wheel).fired timer) × (first.row.dest ≢ 0)
 SparesNamed g f _ = Unit {0}
 
--- a world in which so many timers were started for a name
+-- a world that gave out no seat, in which so many timers were started for a name
 pub record IsPromised (n : ℕ) (w : Seen) : Type 0 where
   -- legal, each timer with one of six lives: so its message is put once at most; and what was put into a mailbox
   -- is, in order, what was taken from it and then what stands in it
   pub lived : IsLived w.settings w.history
+  pub lone : w.next ≡ 1
   pub registrar_lives : (state w.settings w.history).exited 0 ≡ false
   pub rows : (i : ℕ) → All (IsForName n) ((state w.settings w.history).rows i)
   pub messages : All (IsNamed n) ((state w.settings w.history).mails 0).queue

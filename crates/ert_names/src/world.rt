@@ -62,9 +62,9 @@ impl NameWorld {
         })
     }
 
-    /// The world with its clock, its timers and its mailboxes. Its history is legal. The registrar lives and
-    /// has the messages of named timers alone, and no exit settles one of these. Each name is that of a process
-    /// that lives.
+    /// The world with its clock, its timers and its mailboxes. It gave out no seat, and its history is legal. The
+    /// registrar lives and has the messages of named timers alone, and no exit settles one of these. Each name is
+    /// that of a process that lives.
     pub fn world(&self) -> &World
         ensures value { result.now ≡ self.now.world }
         ensures promised { IsPromised (length self.now.rows) self.now.world }

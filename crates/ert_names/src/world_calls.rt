@@ -11,7 +11,6 @@ impl NameWorld {
     ghost use Rattle.ert_answers.specs.ClockCalls.{Ticks};
     ghost use Rattle.ert_answers.specs.MailCalls.{Takes};
     ghost use Rattle.ert_answers.specs.TimerCalls.{Reads, Cancels, Starts};
-    ghost use Rattle.ert_answers.specs.Ways.{alone};
     ghost use Rattle.ert_answers.specs.declared.answers.StartErr.TheVariants.{NoMemory};
     ghost use Rattle.ert_clock.specs.Ticks.{act_of, Gives};
     ghost use Rattle.ert_defs.specs.declared.entry.Actor.TheVariants.{Caller};
@@ -71,7 +70,7 @@ impl NameWorld {
     pub fn exit(&mut self, process: u32) -> bool
         requires in_range { process < self.old.world.settings.processes }
         requires not_registrar { process ≢ 0 }
-        ensures call { HasExited self.old process result (Exits self.old.world.settings (alone self.old.world.settings) 0 process result) self.new }
+        ensures call { HasExited self.old process result (λ way. Exits self.old.world.settings way 0 process result) self.new }
         ensures unnamed { Unnamed self.new.names process }
         ensures clock { self.new.world.clock ≡ self.old.world.clock }
     {

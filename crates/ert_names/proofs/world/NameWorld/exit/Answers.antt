@@ -1,7 +1,7 @@
 use Rattle.std.proofs.Common.{true, false, refl, subst}
 use Rattle.std.specs.Prelude.{length}
 use Rattle.ert_answers.specs.Chains.{Exits}
-use Rattle.ert_answers.specs.Ways.{alone}
+use Rattle.ert_answers.specs.Ways.{Way}
 use Rattle.ert_names.specs.Calls.{HasExited}
 use Rattle.ert_names.specs.Registered.{Registered, seen}
 use Rattle.ert_world.specs.Worlds.{Goes}
@@ -13,18 +13,20 @@ invariant_of-self c =
     let n = length c.self.inside.rows.items in
     let w = c.self.inside.world in
     exited_old n c.self.inside.registry c.args.process w c.exit.new.self c.requires.not_registrar
-    (subst (λ b. Goes w (Exits w.settings (alone w.settings) 0 c.args.process b) c.exit.new.self) c.if-not-exit.true c.exit.ensures.call)
+    (subst (λ b. Goes w (λ way. Exits w.settings way 0 c.args.process b) c.exit.new.self) c.if-not-exit.true c.exit.ensures.call)
     c.settings-settings.ensures.stands.clock.legal c.self.invariant
 
 pub returns-then-not-exit-clause-call : goal.returns-then-not-exit-clause-call
 returns-then-not-exit-clause-call c =
     let before = seen c.self.inside.world c.self.inside.registry c.self.inside.rows.items c.self.inside.mail.items in
     let after = seen c.exit.new.self c.self.inside.registry c.self.inside.rows.items c.self.inside.mail.items in
-    let call = λ (w : Registered). Exits w.world.settings (alone w.world.settings) 0 c.args.process false in
+    let call = λ (w : Registered) (way : Way). Exits w.world.settings way 0 c.args.process false in
     subst (λ (w : Registered). HasExited w c.args.process false (call w) after) c.self.view_is
     (record {
-      goes = subst (λ b. Goes before.world (Exits before.world.settings (alone before.world.settings) 0 c.args.process b) c.exit.new.self)
-          c.if-not-exit.true c.exit.ensures.call;
+      goes = record {
+        goes = subst (λ b. Goes before.world (λ way. Exits before.world.settings way 0 c.args.process b) c.exit.new.self) c.if-not-exit.true c.exit.ensures.call;
+        lone = c.self.invariant.fits.lone;
+      };
       names = refl;
       rows = refl;
       mail = refl;
@@ -35,7 +37,7 @@ returns-then-not-exit-clause-unnamed c =
     let n = length c.self.inside.rows.items in
     let w = c.self.inside.world in
     exited_unnamed n c.self.inside.registry c.args.process w c.exit.new.self
-    (subst (λ b. Goes w (Exits w.settings (alone w.settings) 0 c.args.process b) c.exit.new.self) c.if-not-exit.true c.exit.ensures.call)
+    (subst (λ b. Goes w (λ way. Exits w.settings way 0 c.args.process b) c.exit.new.self) c.if-not-exit.true c.exit.ensures.call)
     c.settings-settings.ensures.stands.clock.legal c.self.invariant
 
 pub invariant_of-self-2 : goal.invariant_of-self-2
@@ -52,11 +54,13 @@ pub returns-clause-call : goal.returns-clause-call
 returns-clause-call c =
     let before = seen c.self.inside.world c.self.inside.registry c.self.inside.rows.items c.self.inside.mail.items in
     let after = seen c.exit.new.self c.remove_process.new.self c.self.inside.rows.items c.self.inside.mail.items in
-    let call = λ (w : Registered). Exits w.world.settings (alone w.world.settings) 0 c.args.process true in
+    let call = λ (w : Registered) (way : Way). Exits w.world.settings way 0 c.args.process true in
     subst (λ (w : Registered). HasExited w c.args.process true (call w) after) c.self.view_is
     (record {
-      goes = subst (λ b. Goes before.world (Exits before.world.settings (alone before.world.settings) 0 c.args.process b) c.exit.new.self)
-          c.if-not-exit.false c.exit.ensures.call;
+      goes = record {
+        goes = subst (λ b. Goes before.world (λ way. Exits before.world.settings way 0 c.args.process b) c.exit.new.self) c.if-not-exit.false c.exit.ensures.call;
+        lone = c.self.invariant.fits.lone;
+      };
       names = c.remove_process.ensures;
       rows = refl;
       mail = refl;

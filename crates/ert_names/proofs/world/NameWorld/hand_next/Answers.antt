@@ -1,10 +1,10 @@
-use Rattle.std.proofs.Common.{◌≡◌, ℕ, ◌<◌, length, true, false, [], ◌∷◌, ◌++◌, Some, None, rules, refl, sym, ap, subst, ◌∙◌, arith}
+use Rattle.std.proofs.Common.{◌≡◌, ℕ, ◌<◌, length, true, false, [], ◌∷◌, ◌++◌, Some, None, rules, refl, sym, ap, subst, ◌∙◌, arith, append-nil}
 use Rattle.std.proofs.lemmas.List.{length-map}
 use Rattle.ert_names.specs.Calls.{mail_of}
 use Rattle.ert_names.specs.Handing.{TakesNext, HandsNone, HandsOne}
 use Rattle.ert_names.specs.declared.named.NamedMail.{NamedMail}
 use Rattle.ert_names.specs.Registered.{Registered, seen, row_of}
-use Rattle.ert_names.proofs.Handing.{posted_row, sent, unsent}
+use Rattle.ert_names.proofs.Handing.{posted_row, hands_one}
 use Rattle.ert_names.proofs.Living.{names_next}
 use Rattle.ert_names.proofs.world.NameWorld.hand_next.Goals as goal
 
@@ -52,7 +52,8 @@ returns-in_default-process-clause-call c =
     let goes_to = posted_row c.self.inside.registry c.self.inside.rows.items c.in-Some.timer c.in-Some.place c.index-row.result.now c.as_str.result.now None
     next.known c.index-row.ensures c.as_str.ensures.value (sym found ∙ c.process.ensures) in
     subst (λ (w : Registered). HandsOne w false after) c.self.view_is
-    (unsent before after n (c.in-Some.timer, c.in-Some.place) (sym (length-map c.self.inside.rows.items row_of)) next refl refl goes_to c.reserve.ensures.items)
+    (hands_one before after n (c.in-Some.timer, c.in-Some.place) None (sym (length-map c.self.inside.rows.items row_of)) next refl refl goes_to
+    (c.reserve.ensures.items ∙ sym (append-nil c.self.inside.mail.items)))
 
 pub invariant_of-self-2 : goal.invariant_of-self-2
 invariant_of-self-2 c =
@@ -73,4 +74,4 @@ returns-clause-call c =
     (Some c.in-Some-process.process) next.known c.index-row.ensures c.as_str.ensures.value (sym found ∙ c.process.ensures) in
     let put = c.push_reserved.ensures.items ∙ ap (λ l. l ++ mail ∷ []) c.reserve.ensures.items in
     subst (λ (w : Registered). HandsOne w true after) c.self.view_is
-    (sent before after n (c.in-Some.timer, c.in-Some.place) mail (sym (length-map c.self.inside.rows.items row_of)) next refl refl goes_to put)
+    (hands_one before after n (c.in-Some.timer, c.in-Some.place) (Some mail) (sym (length-map c.self.inside.rows.items row_of)) next refl refl goes_to put)

@@ -1,4 +1,5 @@
 use Rattle.std.proofs.Common.{◌≡◌, ◌≢◌, ◌+◌, ◌<◌, [], ◌∷◌, ◌++◌, length, map, Result, Ok, Err, string_bytes, rules, refl, sym, ap, subst, ◌∙◌, arith}
+use Rattle.std.proofs.lemmas.List.{map_push}
 use Rattle.ert_answers.specs.TimerCalls.{Starts}
 use Rattle.ert_answers.specs.declared.answers.StartErr.{StartErr}
 use Rattle.ert_answers.specs.declared.answers.StartErr.TheVariants.{NoMemory}
@@ -7,7 +8,7 @@ use Rattle.ert_names.specs.Calls.{HasStarted, StartsAt, StartsNamed, start_at}
 use Rattle.ert_names.specs.Fits.{FitsNames}
 use Rattle.ert_names.specs.Registered.{Registered, Row, seen, row_of}
 use Rattle.ert_names.proofs.Fitting.{starts_fit, refused_start_fits}
-use Rattle.ert_names.proofs.Handing.{refused_named, map_more, place_is, place_of, longer_by}
+use Rattle.ert_names.proofs.Handing.{refused_named, place_is, place_of, longer_by}
 use Rattle.ert_names.proofs.Living.{names_by, names_more}
 use Rattle.ert_world.specs.Worlds.{Goes, By}
 use Rattle.ert_names.proofs.world.NameWorld.start_named.Goals as goal
@@ -42,7 +43,10 @@ returns-in_err-timer-clause-call c =
     (subst (λ (w : Registered). StartsNamed w c.args.wheel c.args.when row (Err e) after) c.self.view_is
     (refused_named before after c.args.wheel c.args.when row e (subst (λ (r : Result TimerRef StartErr). r ≢ Err NoMemory) result c.start.ensures.memory)
     (record {
-      goes = subst (λ k. Goes w (By w (λ g. Starts g 0 c.args.wheel (start_at c.args.when k) (Err e))) c.start.new.self) place goes;
+      goes = record {
+        goes = subst (λ k. Goes w (By w (λ g. Starts g 0 c.args.wheel (start_at c.args.when k) (Err e))) c.start.new.self) place goes;
+        lone = c.self.invariant.fits.lone;
+      };
       names = refl;
       rows = ap (map row_of) c.reserve.ensures.items;
       mail = refl;
@@ -78,10 +82,13 @@ returns-clause-call c =
     let text : string_bytes c.in-Ok.name ≡ c.args.name.now = c.in-Ok.ensures.ok in
     subst (λ (w : Registered). HasStarted w row (StartsAt w c.args.wheel c.args.when (Ok timer)) after) c.self.view_is
     (record {
-      goes = subst (λ k. Goes w (By w (λ g. Starts g 0 c.args.wheel (start_at c.args.when k) (Ok timer))) c.start.new.self) place goes;
+      goes = record {
+        goes = subst (λ k. Goes w (By w (λ g. Starts g 0 c.args.wheel (start_at c.args.when k) (Ok timer))) c.start.new.self) place goes;
+        lone = c.self.invariant.fits.lone;
+      };
       names = refl;
       rows = ap (map row_of) (c.push_reserved.ensures.items ∙ ap (λ l. l ++ (record { name = c.in-Ok.name; msg = c.args.msg; kind = c.args.kind }) ∷ []) c.reserve.ensures.items)
-          ∙ (map_more c.self.inside.rows.items (record { name = c.in-Ok.name; msg = c.args.msg; kind = c.args.kind })
+          ∙ (map_push row_of c.self.inside.rows.items (record { name = c.in-Ok.name; msg = c.args.msg; kind = c.args.kind })
           ∙ ap (λ t. map row_of c.self.inside.rows.items ++ (record { name = t; msg = c.args.msg; kind = c.args.kind }) ∷ []) text);
       mail = refl;
     })

@@ -37,4 +37,4 @@ returns-in-None-clause-call c =
     rw c.first_mail.ensures.mail
     (subst (λ (w : Registered). (first_for c.args.process w.mail ≡ None) × LooksAt w c.args.process true (record between { mail = others_for c.args.process ms }))
     c.self.view_is
-    (none, record { goes = lives; names = refl; rows = refl; mail = after }))
+    (none, record { goes = record { goes = lives; lone = c.self.invariant.fits.lone }; names = refl; rows = refl; mail = after }))

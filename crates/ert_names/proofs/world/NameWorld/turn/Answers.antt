@@ -1,6 +1,5 @@
 use Rattle.std.proofs.Common.{◌≡◌, Ok, Err, inl, inr, length, rules, refl, subst}
 use Rattle.ert_answers.specs.Chains.{Turns}
-use Rattle.ert_answers.specs.Ways.{alone}
 use Rattle.ert_defs.specs.declared.memory.NoMemory.{NoMemory}
 use Rattle.ert_names.specs.Calls.{TurnsNamed, HasTurned}
 use Rattle.ert_names.specs.Handing.{HandsAll, HandsThem, HandsSome}
@@ -15,7 +14,7 @@ pub invariant_of-self : goal.invariant_of-self
 invariant_of-self c =
     let n = length c.self.inside.rows.items in
     let g = c.self.inside.world.settings in
-    names_on n c.self.inside.registry c.self.inside.world c.turn.new.self (Turns g (alone g) c.args.sched c.turn.result)
+    names_on n c.self.inside.registry c.self.inside.world c.turn.new.self (λ way. Turns g way c.args.sched c.turn.result)
     (λ q. turns_fit n q g c.args.sched c.turn.result) c.turn.ensures.call
     c.self.invariant
 
@@ -26,17 +25,17 @@ returns-in_err-turned-clause-call c =
     let result : c.turn.result ≡ Err e = search rules in
     let answer : c.from_residual.result ≡ Err e = search rules in
     let after = seen c.turn.new.self c.self.inside.registry c.self.inside.rows.items c.self.inside.mail.items in
-    let goes : Goes w (Turns w.settings (alone w.settings) c.args.sched (Err e)) c.turn.new.self =
-    subst (λ r. Goes w (Turns w.settings (alone w.settings) c.args.sched r) c.turn.new.self) result c.turn.ensures.call in
+    let goes : Goes w (λ way. Turns w.settings way c.args.sched (Err e)) c.turn.new.self =
+    subst (λ r. Goes w (λ way. Turns w.settings way c.args.sched r) c.turn.new.self) result c.turn.ensures.call in
     rw answer
     (subst (λ (w : Registered). TurnsNamed w c.args.sched (Err e) after) c.self.view_is
-    (inl (record { goes = goes; names = refl; rows = refl; mail = refl })))
+    (inl (record { goes = record { goes = goes; lone = c.self.invariant.fits.lone }; names = refl; rows = refl; mail = refl })))
 
 pub invariant_of-self-2 : goal.invariant_of-self-2
 invariant_of-self-2 c =
     let n = length c.self.inside.rows.items in
     let g = c.self.inside.world.settings in
-    names_on n c.self.inside.registry c.self.inside.world c.turn.new.self (Turns g (alone g) c.args.sched c.turn.result)
+    names_on n c.self.inside.registry c.self.inside.world c.turn.new.self (λ way. Turns g way c.args.sched c.turn.result)
     (λ q. turns_fit n q g c.args.sched c.turn.result) c.turn.ensures.call
     c.self.invariant
 
@@ -50,12 +49,10 @@ returns-in_err-handed-clause-call c =
     let handed : c.hand_all.result ≡ Err e = search rules in
     let before = seen w c.self.inside.registry c.self.inside.rows.items c.self.inside.mail.items in
     let between = seen c.turn.new.self c.self.inside.registry c.self.inside.rows.items c.self.inside.mail.items in
-    let goes : Goes w (Turns w.settings (alone w.settings) c.args.sched (Ok t)) c.turn.new.self =
-    subst (λ r. Goes w (Turns w.settings (alone w.settings) c.args.sched r) c.turn.new.self) result c.turn.ensures.call in
     let hands : HandsSome between c.hand_all.new.self = subst (λ r. HandsAll between r c.hand_all.new.self) handed c.hand_all.ensures.call in
     rw answer
     (subst (λ (w : Registered). TurnsNamed w c.args.sched (Err e) c.hand_all.new.self) c.self.view_is
-    (inr (stopped before between c.hand_all.new.self c.args.sched t goes refl refl refl hands)))
+    (inr (stopped before between c.hand_all.new.self c.args.sched t c.turn.result result c.turn.ensures.call c.self.invariant.fits.lone refl refl refl hands)))
 
 pub returns-clause-call : goal.returns-clause-call
 returns-clause-call c =
@@ -65,10 +62,9 @@ returns-clause-call c =
     let handed : c.hand_all.result ≡ Ok (c.in_ok-handed.handed, c.in_ok-handed.lost) = search rules in
     let before = seen w c.self.inside.registry c.self.inside.rows.items c.self.inside.mail.items in
     let between = seen c.turn.new.self c.self.inside.registry c.self.inside.rows.items c.self.inside.mail.items in
-    let goes : Goes w (Turns w.settings (alone w.settings) c.args.sched (Ok t)) c.turn.new.self =
-    subst (λ r. Goes w (Turns w.settings (alone w.settings) c.args.sched r) c.turn.new.self) result c.turn.ensures.call in
     let hands : HandsThem between (c.in_ok-handed.handed, c.in_ok-handed.lost) c.hand_all.new.self =
     subst (λ r. HandsAll between r c.hand_all.new.self) handed c.hand_all.ensures.call in
     subst (λ (w : Registered). HasTurned w c.args.sched (record { turned = t; handed = c.in_ok-handed.handed; lost = c.in_ok-handed.lost }) c.hand_all.new.self)
     c.self.view_is
-    (turned before between c.hand_all.new.self c.args.sched t (c.in_ok-handed.handed, c.in_ok-handed.lost) goes refl refl refl hands)
+    (turned before between c.hand_all.new.self c.args.sched t c.turn.result (c.in_ok-handed.handed, c.in_ok-handed.lost) result c.turn.ensures.call c.self.invariant.fits.lone
+    refl refl refl hands)
