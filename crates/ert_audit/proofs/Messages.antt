@@ -7,8 +7,8 @@ use Rattle.ert_defs.specs.States.{state}
 use Rattle.ert_defs.specs.declared.entry.Entry.{Entry}
 use Rattle.ert_defs.specs.declared.settings.Settings.{Settings}
 use Rattle.ert_judge.specs.Verdicts.{IsFirstIllegal}
-use Rattle.ert_reasons.specs.Reasons.{Holds}
-use Rattle.ert_reasons.specs.declared.reasons.Reason.{Reason}
+use Rattle.ert_judge.specs.Reasons.{Holds}
+use Rattle.ert_judge.specs.declared.reasons.Reason.{Reason}
 use Rattle.ert_spelling.specs.Spelling.{Spells}
 use Rattle.ert_audit.specs.Messages.{after_at, line_end, lines_on, hex_digit, is_plain, shown_byte, line_after, illegal_message, IsIllegalMessage}
 

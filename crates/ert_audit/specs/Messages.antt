@@ -6,9 +6,9 @@ use Rattle.std.specs.List.{flat_map}
 use Rattle.ert_defs.specs.States.{state}
 use Rattle.ert_defs.specs.declared.entry.Entry.{Entry}
 use Rattle.ert_judge.specs.Verdicts.{IsFirstIllegal}
-use Rattle.ert_reasons.specs.Reasons.{Holds}
-use Rattle.ert_reasons.specs.Texts.{◌⋅◌, reason_text}
-use Rattle.ert_reasons.specs.declared.reasons.Reason.{Reason}
+use Rattle.ert_judge.specs.Reasons.{Holds}
+use Rattle.ert_judge.specs.Texts.{◌⋅◌, reason_text}
+use Rattle.ert_judge.specs.declared.reasons.Reason.{Reason}
 use Rattle.ert_audit.specs.Verdicts.{IsHistory}
 
 -- the bytes after the first newline, where that stands at a place

@@ -4,7 +4,7 @@ use Rattle.std.specs.Prelude.{◌≡◌, ℕ, ◌+◌, ◌-◌, ◌≤◌, List,
 use Rattle.std.specs.Fmt.{decimal}
 use Rattle.ert_defs.specs.declared.settings.SettingsFault.{SettingsFault}
 use Rattle.ert_defs.specs.declared.settings.SettingsFault.TheVariants.{Start, First, Count}
-use Rattle.ert_reasons.specs.Texts.{◌⋅◌}
+use Rattle.ert_judge.specs.Texts.{◌⋅◌}
 use Rattle.ert_spelling.specs.Faults.{word_in, IsFaultIn, IsUnfit}
 use Rattle.ert_spelling.specs.Spelling.{MisspelledAt}
 use Rattle.ert_spelling.specs.declared.wanted.Wanted.{Wanted}

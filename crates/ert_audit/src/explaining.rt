@@ -7,15 +7,14 @@ ghost use Rattle.ert_audit.specs.Messages.{head_text, shown, illegal_message, Is
 ghost use Rattle.ert_audit.specs.Refusals.{IsRefusalMessage};
 ghost use Rattle.ert_audit.specs.Verdicts.{HasVerdict};
 ghost use Rattle.ert_io.specs.Writing.{WritesFront};
-ghost use Rattle.ert_reasons.specs.Texts.{◌⋅◌, reason_text};
+ghost use Rattle.ert_judge.specs.Texts.{◌⋅◌, reason_text};
 ghost use Rattle.ert_spelling.specs.Spelling.{MisspelledAt};
 
 use crate::lines::{line_after, write_shown};
 use crate::refusing::{refusal_of, write_refusal};
 use crate::verdict::Verdict;
 use ert_io::{Sink, write_all};
-use ert_judge::first_stop;
-use ert_reasons::{Reason, reason, write_reason};
+use ert_judge::{Reason, first_stop, reason, write_reason};
 use ert_spelling::read_history;
 use std::alloc::{AllocError, Global};
 use std::fmt::Write;

@@ -4,7 +4,7 @@
 //! `audit` is the whole program over any source and sink of bytes; its contract says what each status
 //! means, by the spelling of histories (`ert_spelling`) and the model of the service (`ert_defs`). `main`
 //! only hands it the standard streams. It stands on `ert_spelling`, which reads, `ert_judge`, which finds
-//! the first entry that isn't legal, `ert_reasons`, which tells why it isn't, and `ert_io`; no code of the
+//! the first entry that isn't legal, `ert_judge`, which tells why it isn't, and `ert_io`; no code of the
 //! service itself is in it.
 #![tactic(auto)]
 

@@ -3,7 +3,7 @@
 ghost use Rattle.std.specs.Prelude.{◌≡◌, ◌++◌, ◌-◌, ◌≤◌, ◌+◌, codes, drop, length, IfSome, OnOk, string_bytes};
 ghost use Rattle.ert_audit.specs.Messages.{line_after, head_text, shown};
 ghost use Rattle.ert_audit.specs.Refusals.{IsRefusal, LiesIn, wanted_text, unfit_text, place_text, refusal_message};
-ghost use Rattle.ert_reasons.specs.Texts.{◌⋅◌};
+ghost use Rattle.ert_judge.specs.Texts.{◌⋅◌};
 ghost use Rattle.ert_spelling.specs.Faults.{word_in};
 
 use crate::lines::{has_end, line_after, write_shown};

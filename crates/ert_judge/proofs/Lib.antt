@@ -1,10 +1,15 @@
 mod CellLaws
+mod EventsExclude
 mod Finds
 mod Goes
-pub mod Knows
-pub mod Makers
+mod Knows
+mod Makers
 mod NewTimers
+mod NextUses
 mod Opens
+mod Pieces
+mod RangesExclude
+mod Seen
 mod Stands
 mod TimerLaws
 mod TimersGo

@@ -1,2 +1,6 @@
+pub mod Breaks
+pub mod Ranges
+pub mod Reasons
 pub mod Shown
+pub mod Texts
 pub mod Verdicts

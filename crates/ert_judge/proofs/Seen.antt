@@ -1,0 +1,100 @@
+-- What a judge sees of its own parts is what the model's state says.
+
+use Rattle.std.proofs.Common.{◌≡◌, ℕ, ℤ, refl, sym, ap, ◌∙◌, subst, Bool, false, true, List, Option}
+use Rattle.std.specs.Prelude.{◌↔◌, IsTrue, IfSome}
+use Rattle.ert_clock.specs.Faces.{face_of}
+use Rattle.ert_defs.specs.Clocks.{Clock, face}
+use Rattle.ert_defs.specs.Legal.{Can, IsNext}
+use Rattle.ert_defs.specs.Lines.{Face, Due}
+use Rattle.ert_defs.specs.Mails.{MailState}
+use Rattle.ert_defs.specs.Milliseconds.{down}
+use Rattle.ert_defs.specs.States.{State, state}
+use Rattle.ert_defs.specs.declared.entry.Act.{Act}
+use Rattle.ert_defs.specs.declared.entry.Actor.{Actor}
+use Rattle.ert_defs.specs.declared.entry.Entry.{Entry}
+use Rattle.ert_defs.specs.declared.settings.OffsetState.{OffsetState}
+use Rattle.ert_defs.specs.declared.settings.Reading.{Reading}
+use Rattle.ert_defs.specs.declared.settings.Settings.{Settings}
+use Rattle.ert_defs.specs.declared.timer.TimerRef.{TimerRef}
+use Rattle.ert_judge.proofs.Knows.{next_known}
+use Rattle.ert_judge.specs.Shown.{ClockIs, OwnTimers, StandsFor, shown}
+use Rattle.ert_judge.specs.declared.judge.Judge.{Judge}
+use Rattle.ert_judge.specs.Breaks.{Breaks, TickBreaks, ShiftBreaks, LookBreaks, OffBreaks, WatchBreaks, TellBreaks}
+use Rattle.ert_judge.specs.Reasons.{Holds, IsOutOfRange}
+use Rattle.ert_judge.specs.Reasons.Holds.{out_of_range, breaks, other}
+use Rattle.ert_judge.specs.declared.reasons.Reason.{Reason}
+use Rattle.ert_judge.specs.declared.reasons.Reason.TheVariants.{Other}
+use Rattle.ert_state.specs.Parts.{looks_in, look_of}
+use Rattle.ert_state.specs.Wheels.{timers_at, IsFirstDue}
+use Rattle.ert_state.specs.declared.clock.Clock.{Clock as KeptClock}
+
+-- what was found false isn't so
+pub refuted : (P : Type 0) (b : Bool) → IsTrue b ↔ P → b ≡ false → P → ⊥
+refuted P b is fails p = let e : false ≡ true = sym fails ∙ is.1 p in absurd cc
+
+-- a timer that isn't the first that is due isn't the next
+pub never_next : (c : Clock) (j : Judge) (by : Actor) (timer : TimerRef) → OwnTimers j
+    → (IsFirstDue (timers_at j.timers timer.wheel) timer (down j.settings (look_of (looks_in j.looks) by)) → ⊥)
+    → IsNext j.settings (shown c j) by timer → ⊥
+never_next c j by timer own never next =
+    let is : IsTrue false ↔ IsFirstDue (timers_at j.timers timer.wheel) timer (down j.settings (look_of (looks_in j.looks) by))
+    = ((λ holds. let e : false ≡ true = holds in absurd cc), (λ first. absurd (never first))) in
+    refuted (IsNext j.settings (shown c j) by timer) false (next_known c j by timer false own is) refl next
+
+-- the numbers of the clock
+pub tick_seen : (g : Settings) (c : Clock) (k : KeptClock) (r : Reading) (act : Act) (now : ℤ) (o : Option Reason) → ClockIs g c k
+    → IfSome o (TickBreaks g (face_of k.face) k.due r act now) → IfSome o (TickBreaks g (face g c) c.due r act now)
+tick_seen g c k r act now o is h =
+    subst (λ (d : Option Due). IfSome o (TickBreaks g (face g c) d r act now)) (sym is.due)
+    (subst (λ (f : Face). IfSome o (TickBreaks g f k.due r act now)) (sym is.face) h)
+
+pub shift_seen : (g : Settings) (c : Clock) (k : KeptClock) (offset : ℤ) (new : OffsetState) (o : Option Reason) → ClockIs g c k
+    → IfSome o (ShiftBreaks k.due offset new) → IfSome o (ShiftBreaks c.due offset new)
+shift_seen g c k offset new o is h = subst (λ (d : Option Due). IfSome o (ShiftBreaks d offset new)) (sym is.due) h
+
+pub look_seen : (g : Settings) (c : Clock) (k : KeptClock) (told : ℤ) (o : Option Reason) → ClockIs g c k
+    → IfSome o (LookBreaks k.face.time told) → IfSome o (LookBreaks c.now told)
+look_seen g c k told o is h =
+    subst (λ (t : ℤ). IfSome o (LookBreaks t told)) (sym (ap (λ (f : Face). f.time) is.face)) h
+
+pub off_seen : (g : Settings) (c : Clock) (k : KeptClock) (told : ℤ) (new : OffsetState) (o : Option Reason) → ClockIs g c k
+    → IfSome o (OffBreaks k.face.offset k.face.state told new) → IfSome o (OffBreaks c.offset c.state told new)
+off_seen g c k told new o is h =
+    subst (λ (z : ℤ). IfSome o (OffBreaks z c.state told new)) (sym (ap (λ (f : Face). f.offset) is.face))
+    (subst (λ (x : OffsetState). IfSome o (OffBreaks k.face.offset x told new)) (sym (ap (λ (f : Face). f.state) is.face)) h)
+
+pub watch_seen : (g : Settings) (c : Clock) (k : KeptClock) (mail : MailState) (monitor : ℕ) (told : ℤ) (o : Option Reason)
+    → ClockIs g c k → IfSome o (WatchBreaks k.face.offset mail monitor told) → IfSome o (WatchBreaks c.offset mail monitor told)
+watch_seen g c k mail monitor told o is h =
+    subst (λ (z : ℤ). IfSome o (WatchBreaks z mail monitor told)) (sym (ap (λ (f : Face). f.offset) is.face)) h
+
+pub tell_seen : (g : Settings) (c : Clock) (k : KeptClock) (told : ℤ) (o : Option Reason) → ClockIs g c k
+    → IfSome o (TellBreaks k.face.offset told) → IfSome o (TellBreaks c.offset told)
+tell_seen g c k told o is h =
+    subst (λ (z : ℤ). IfSome o (TellBreaks z told)) (sym (ap (λ (f : Face). f.offset) is.face)) h
+
+-- what a judge sees broken is broken in the state that it stands for
+pub broken_in : (g : Settings) (h : List Entry) (j : Judge) (e : Entry) (r : Reason)
+    → ((c : Clock) → ClockIs j.settings c j.clock → OwnTimers j → Breaks j.settings (shown c j) e.by e.with e.event r)
+    → StandsFor g h j → Holds g (state g h) e r
+broken_in g h j e r is stands =
+    let clock : ClockIs j.settings (state g h).clock j.clock =
+    subst (λ (x : Settings). ClockIs x (state g h).clock j.clock) (sym stands.settings) stands.clock in
+    let here : Breaks j.settings (shown (state g h).clock j) e.by e.with e.event r = is (state g h).clock clock stands.own in
+    breaks (subst (λ (s : State). Breaks g s e.by e.with e.event r) (sym stands.kept)
+    (subst (λ (x : Settings). Breaks x (shown (state g h).clock j) e.by e.with e.event r) stands.settings here))
+
+-- an entry that isn't in range isn't in that state either
+pub outside : (g : Settings) (h : List Entry) (j : Judge) (e : Entry) (r : Reason) → IsOutOfRange j.settings e r
+    → StandsFor g h j → Holds g (state g h) e r
+outside g h j e r is stands = out_of_range (subst (λ (x : Settings). IsOutOfRange x e r) stands.settings is)
+
+-- an entry that can't follow, where no more is said
+pub refused : (g : Settings) (h : List Entry) (e : Entry) → (Can g (state g h) e → ⊥) → Holds g (state g h) e Other
+refused g h e never = other refl never
+
+-- a judge that refuses an entry tells that it can't follow
+pub not_can : (j : Judge) (e : Entry) (b : Bool)
+    → ((g : Settings) (h : List Entry) → StandsFor g h j → IsTrue b ↔ Can g (state g h) e) → b ≡ false
+    → (g : Settings) (h : List Entry) → StandsFor g h j → Can g (state g h) e → ⊥
+not_can j e b tells fails g h stands = refuted (Can g (state g h) e) b (tells g h stands) fails

@@ -1,0 +1,11 @@
+use Rattle.ert_defs.specs.Milliseconds.{down}
+use Rattle.ert_judge.proofs.Seen.{refuted}
+use Rattle.ert_state.specs.Parts.{looks_in, look_of}
+use Rattle.ert_state.specs.Wheels.{timers_at, IsFirstDue}
+use Rattle.ert_judge.proofs.timers.of_expire.Goals as goal
+
+pub of_not_next-requires-clause-never : goal.of_not_next-requires-clause-never
+of_not_next-requires-clause-never c =
+    refuted (IsFirstDue (timers_at c.args.judge.now.timers c.args.timer.wheel) c.args.timer
+    (down c.args.judge.now.settings (look_of (looks_in c.args.judge.now.looks) c.args.by)))
+    c.is_next.result c.is_next.ensures c.if-is_next.false

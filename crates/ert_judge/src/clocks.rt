@@ -1,0 +1,125 @@
+//! Why an event of the clock can't follow.
+
+ghost use Rattle.std.specs.Prelude.{◌≡◌, ◌↔◌, IsTrue, IfSome};
+ghost use Rattle.ert_clock.specs.Faces.{face_of};
+ghost use Rattle.ert_judge.specs.Breaks.{TickBreaks, ShiftBreaks, LookBreaks, OffBreaks, TellBreaks};
+
+use crate::reasons::Reason;
+use ert_clock::is_offset;
+use ert_defs::{Act, OffsetState, Reading, Settings};
+use ert_state::Clock;
+
+/// Why a tick can't be made.
+pub fn of_tick(
+    settings: &Settings,
+    clock: &Clock,
+    reading: Reading,
+    act: Act,
+    now: i64,
+) -> Option<Reason>
+    ensures { IfSome result (TickBreaks settings.now (face_of clock.now.face) clock.now.due reading act now) }
+{
+    if let Some((offset, state)) = clock.due {
+        return Some(Reason::ShiftFirst { offset, state });
+    }
+    if !reading.is_valid() {
+        return Some(Reason::BadReading);
+    }
+    if act == Act::Finalize && clock.face.state != OffsetState::Preliminary {
+        return Some(Reason::NotPreliminary {
+            state: clock.face.state,
+        });
+    }
+    of_time(settings, clock, reading, act, now)
+}
+
+/// Why a tick can't come to its time.
+fn of_time(
+    settings: &Settings,
+    clock: &Clock,
+    reading: Reading,
+    act: Act,
+    now: i64,
+) -> Option<Reason>
+    ensures { IfSome result (TickBreaks settings.now (face_of clock.now.face) clock.now.due reading act now) }
+{
+    let time = clock.face.time_after(settings, reading);
+    if !is_time(now, time) {
+        return Some(Reason::OtherTick { time });
+    }
+    of_offset_past(settings, clock, reading, act, now)
+}
+
+/// Why the shift that a tick would make due can't be made.
+fn of_offset_past(
+    settings: &Settings,
+    clock: &Clock,
+    reading: Reading,
+    act: Act,
+    now: i64,
+) -> Option<Reason>
+    ensures { IfSome result (TickBreaks settings.now (face_of clock.now.face) clock.now.due reading act now) }
+{
+    let (offset, state) = clock.face.due_after(settings, reading, act, now)?;
+    if is_offset(offset) {
+        None
+    } else {
+        Some(Reason::OffsetPast { offset, state })
+    }
+}
+
+fn is_time(told: i64, time: i128) -> bool
+    ensures { IsTrue result ↔ (told ≡ time) }
+{
+    told as i128 == time
+}
+
+/// Why a shift can't be made.
+pub fn of_shift(clock: &Clock, offset: i64, state: OffsetState) -> Option<Reason>
+    ensures { IfSome result (ShiftBreaks clock.now.due offset state) }
+{
+    if clock.due == Some((offset, state)) {
+        None
+    } else {
+        Some(Reason::OtherShift { due: clock.due })
+    }
+}
+
+/// Why a look can't tell this time.
+pub fn of_look(clock: &Clock, told: i64) -> Option<Reason>
+    ensures { IfSome result (LookBreaks clock.now.face.time told) }
+{
+    let now = clock.face.time;
+    if told == now {
+        None
+    } else {
+        Some(Reason::OtherTime { now })
+    }
+}
+
+/// Why a reading of the offset can't tell these.
+pub fn of_off(clock: &Clock, told: i64, told_state: OffsetState) -> Option<Reason>
+    ensures { IfSome result (OffBreaks clock.now.face.offset clock.now.face.state told told_state) }
+{
+    let offset = clock.face.offset;
+    let state = clock.face.state;
+    if told != offset {
+        Some(Reason::OtherOffset { offset })
+    } else if told_state != state {
+        Some(Reason::OtherState { state })
+    } else {
+        None
+    }
+}
+
+/// Why a process can't be told this offset.
+pub fn of_tell(clock: &Clock, told: i64) -> Option<Reason>
+    ensures { IfSome result (TellBreaks clock.now.face.offset told) }
+{
+    let offset = clock.face.offset;
+    if told == offset {
+        None
+    } else {
+        Some(Reason::OtherOffset { offset })
+    }
+}

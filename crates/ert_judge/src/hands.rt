@@ -1,0 +1,89 @@
+//! Why a scheduler can't hand over an expired timer, or take or answer a request.
+
+ghost use Rattle.std.specs.Prelude.{IfSome};
+ghost use Rattle.ert_judge.specs.Breaks.{DeliverBreaks, DropBreaks, PickBreaks, AnswerBreaks};
+ghost use Rattle.ert_state.specs.Parts.{sched_at, exited_at, inbox_at};
+
+use crate::judge::Judge;
+use crate::reasons::Reason;
+use ert_defs::{Actor, Request, TimerRef};
+
+/// Why an expired timer can't be put into a mailbox.
+pub fn of_deliver(judge: &Judge, with: Option<Actor>, timer: TimerRef) -> Option<Reason>
+    ensures { IfSome result (DeliverBreaks (sched_at judge.now.schedulers timer.wheel).fired with timer) }
+{
+    let Some(row) = judge.schedulers.first_fired(timer.wheel) else {
+        return Some(Reason::NoneWaits);
+    };
+    if row.timer != timer {
+        return Some(Reason::OtherWaits { first: row.timer });
+    }
+    if with == Some(Actor::MailOf(row.dest)) {
+        None
+    } else {
+        Some(Reason::OtherDest { dest: row.dest })
+    }
+}
+
+/// Why an expired timer can't be thrown away.
+pub fn of_drop(judge: &Judge, timer: TimerRef) -> Option<Reason>
+    ensures { IfSome result (DropBreaks (sched_at judge.now.schedulers timer.wheel).fired (exited_at judge.now.exits) timer) }
+{
+    let Some(row) = judge.schedulers.first_fired(timer.wheel) else {
+        return Some(Reason::NoneWaits);
+    };
+    if row.timer != timer {
+        return Some(Reason::OtherWaits { first: row.timer });
+    }
+    if judge.exits.has_exited(row.dest) {
+        None
+    } else {
+        Some(Reason::NotExited { dest: row.dest })
+    }
+}
+
+/// Why a scheduler can't take this from its inbox.
+pub fn of_pick(judge: &Judge, wheel: u32, got: Option<Request>) -> Option<Reason>
+    ensures { IfSome result (PickBreaks (sched_at judge.now.schedulers wheel) (inbox_at judge.now.inboxes wheel) got) }
+{
+    if let Some(request) = judge.schedulers.hand(wheel) {
+        return Some(Reason::HandFull { request });
+    }
+    let first = judge.inboxes.first(wheel);
+    if got == first {
+        None
+    } else {
+        Some(Reason::OtherRequest { first })
+    }
+}
+
+/// Why a scheduler can't answer so.
+pub fn of_answer(
+    judge: &Judge,
+    with: Option<Actor>,
+    wheel: u32,
+    left: Option<u64>,
+) -> Option<Reason>
+    ensures { IfSome result (AnswerBreaks judge.now.settings (sched_at judge.now.schedulers wheel) with left) }
+{
+    let Some(request) = judge.schedulers.hand(wheel) else {
+        return Some(Reason::HandEmpty);
+    };
+    if with != Some(Actor::MailOf(request.reply_to)) {
+        return Some(Reason::OtherAsker {
+            process: request.reply_to,
+        });
+    }
+    if request.timer.is_in_range(&judge.settings) {
+        let outcome = judge.schedulers.outcome(wheel);
+        if outcome == Some(left) {
+            None
+        } else {
+            Some(Reason::OtherOutcome { outcome })
+        }
+    } else if left.is_some() {
+        Some(Reason::NothingLeft)
+    } else {
+        None
+    }
+}

@@ -1,5 +1,0 @@
-mod EventsExclude
-mod NextUses
-mod Pieces
-mod RangesExclude
-mod Seen

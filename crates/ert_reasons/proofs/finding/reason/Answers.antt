@@ -1,5 +1,0 @@
-use Rattle.ert_reasons.proofs.Seen.{not_can}
-use Rattle.ert_reasons.proofs.finding.reason.Goals as goal
-
-pub cause-requires : goal.cause-requires
-cause-requires c = not_can c.args.judge.now c.args.entry.now c.can.result c.can.ensures c.if-can.false

@@ -1,4 +1,0 @@
-use Rattle.ert_reasons.proofs.texts.write_slot.Goals as goal
-
-pub returns-in-Some : goal.returns-in-Some
-returns-in-Some c = rw (c.in-Some.is, ← c.status_word.ensures) c.write-in-Some.ensures.bytes

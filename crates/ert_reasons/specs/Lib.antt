@@ -1,4 +1,0 @@
-pub mod Breaks
-pub mod Ranges
-pub mod Reasons
-pub mod Texts
