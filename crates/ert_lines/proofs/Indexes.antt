@@ -1,18 +1,14 @@
 -- What an index finds, and what it finds when a label was bound.
 
 use Rattle.std.proofs.Common.{◌≡◌, ℕ, Bool, true, false, cond, nat_eq, [], ◌∷◌, Option, Some, None, refl, sym, ap, ◌∙◌}
-use Rattle.std.specs.BTreeMap as tree
 use Rattle.std.specs.Cmp.{unsigned_ties, both_tied}
 use Rattle.std.specs.Option.{unwrap_or, option_or}
 use Rattle.std.specs.Ordering.{nat_cmp, eq_by_cmp}
 use Rattle.ert_defs.specs.Timers.{same_timer, timer_at}
 use Rattle.ert_defs.specs.declared.timer.TimerRef.{TimerRef}
-use Rattle.ert_lines.specs.Names.{IsIndexOf, first_ref, first_label, label_by}
+use Rattle.ert_lines.specs.Names.{AreFound, first_ref, first_label}
 use Rattle.ert_lines.specs.Keys.{key_of, key_cmp}
-use Rattle.ert_lines.specs.declared.names.Names.{Names}
 use Rattle.ert_transcript.specs.Labels.{Labels, bind, ref_of, label_in, label_of}
-use Rattle.ert_transcript.specs.Lines.{line_of}
-use Rattle.ert_transcript.specs.declared.reply.Reply.{Reply}
 
 -- the first of a list, or what stands for none
 first_or : {T : Type 0} (b : Bool) (x y d : T) (o : Option T) → y ≡ unwrap_or o d → cond b x y ≡ unwrap_or (cond b (Some x) o) d
@@ -24,7 +20,7 @@ last_counts : {T : Type 0} (b : Bool) (x : T) (o p z : Option T) → p ≡ optio
 last_counts true x o p z e = refl
 last_counts false x o p z e = e
 
-pub ref_first : (ls : Labels) (l : ℕ) → ref_of ls l ≡ unwrap_or (first_ref ls l) (timer_at 0 l 0)
+ref_first : (ls : Labels) (l : ℕ) → ref_of ls l ≡ unwrap_or (first_ref ls l) (timer_at 0 l 0)
 ref_first [] l = refl
 ref_first (p ∷ ps) l = first_or (nat_eq p.0 l) p.1 (ref_of ps l) (timer_at 0 l 0) (first_ref ps l) (ref_first ps l)
 
@@ -43,16 +39,18 @@ label_bound [] l t r = refl
 label_bound (p ∷ ps) l t r =
     last_counts (same_timer p.1 r) p.0 (first_label ps r) (first_label (bind ps l t) r) (cond (same_timer t r) (Some l) None) (label_bound ps l t r)
 
--- the timer of a label, as the index finds it
-pub found_ref : (ls : Labels) (n : Names) (l : ℕ) → IsIndexOf ls n → unwrap_or (tree.get nat_cmp n.references l) (timer_at 0 l 0) ≡ ref_of ls l
-found_ref ls n l i = ap (λ (o : Option TimerRef). unwrap_or o (timer_at 0 l 0)) (i.references l) ∙ sym (ref_first ls l)
+-- the timer of a label, as it is found
+pub found_ref : (ls now : Labels) (refs : ℕ → Option TimerRef) (labels : ℕ × ℕ × ℕ → Option ℕ) (l : ℕ) (o : Option TimerRef) → AreFound ls refs labels → ls ≡ now
+    → o ≡ refs l → unwrap_or o (timer_at 0 l 0) ≡ ref_of now l
+found_ref ls now refs labels l o found seen is =
+    ap (λ (x : Option TimerRef). unwrap_or x (timer_at 0 l 0)) (is ∙ found.of_label l) ∙ sym (ref_first ls l) ∙ ap (λ (x : Labels). ref_of x l) seen
 
--- the label of a timer, as the index tells it
-pub found_label : (ls : Labels) (n : Names) (r : TimerRef) → IsIndexOf ls n → label_by n r ≡ label_of ls r
-unfolding label_by
-found_label ls n r i =
-    ap (λ (x : ℕ). cond (nat_eq r.generation 0) r.slot x)
-    (ap (λ (o : Option ℕ). unwrap_or o r.slot) (i.labels r) ∙ sym (label_first ls r))
+-- the label of a timer, as it is found
+pub found_label : (ls now : Labels) (refs : ℕ → Option TimerRef) (labels : ℕ × ℕ × ℕ → Option ℕ) (r : TimerRef) (o : Option ℕ) → AreFound ls refs labels → ls ≡ now
+    → nat_eq r.generation 0 ≡ false → o ≡ labels (key_of r) → unwrap_or o r.slot ≡ label_of now r
+found_label ls now refs labels r o found seen named is =
+    ap (λ (x : Option ℕ). unwrap_or x r.slot) (is ∙ found.of_timer r) ∙ sym (label_first ls r) ∙ ap (λ (x : Labels). label_in x r) seen
+    ∙ ap (λ (b : Bool). cond b r.slot (label_in now r)) (sym named)
 
 -- equal keys are those of one reference
 key_ties : (t r : TimerRef) → same_timer t r ≡ eq_by_cmp key_cmp (key_of t) (key_of r)
@@ -60,19 +58,15 @@ key_ties t r =
     both_tied _ _ _ _ (both_tied _ _ _ _ (unsigned_ties t.wheel r.wheel) (unsigned_ties t.slot r.slot)) (unsigned_ties t.generation r.generation)
 
 -- a label was put into both maps
-pub index_bound : (ls : Labels) (n m : Names) (l : ℕ) (t : TimerRef)
-    → ((q : ℕ) → tree.get nat_cmp m.references q ≡ option_or (tree.get nat_cmp n.references q) (cond (eq_by_cmp nat_cmp l q) (Some t) None))
-    → ((q : ℕ × ℕ × ℕ) → tree.get key_cmp m.labels q ≡ option_or (tree.get key_cmp n.labels q) (cond (eq_by_cmp key_cmp (key_of t) q) (Some l) None))
-    → IsIndexOf ls n → IsIndexOf (bind ls l t) m
-index_bound ls n m l t refs labels i = record {
-  references = λ q. refs q
-      ∙ (λ j. option_or (i.references q j) (cond (sym (unsigned_ties l q) j) (Some t) None))
+pub found_bound : (ls : Labels) (refs refs_new : ℕ → Option TimerRef) (labels labels_new : ℕ × ℕ × ℕ → Option ℕ) (l : ℕ) (t : TimerRef)
+    → ((q : ℕ) → refs_new q ≡ option_or (refs q) (cond (eq_by_cmp nat_cmp l q) (Some t) None))
+    → ((q : ℕ × ℕ × ℕ) → labels_new q ≡ option_or (labels q) (cond (eq_by_cmp key_cmp (key_of t) q) (Some l) None))
+    → AreFound ls refs labels → AreFound (bind ls l t) refs_new labels_new
+found_bound ls refs refs_new labels labels_new l t put_ref put_label found = record {
+  of_label = λ q. put_ref q
+      ∙ (λ j. option_or (found.of_label q j) (cond (sym (unsigned_ties l q) j) (Some t) None))
       ∙ sym (ref_bound ls l t q);
-  labels = λ r. labels (key_of r)
-      ∙ (λ j. option_or (i.labels r j) (cond (sym (key_ties t r) j) (Some l) None))
+  of_timer = λ r. put_label (key_of r)
+      ∙ (λ j. option_or (found.of_timer r j) (cond (sym (key_ties t r) j) (Some l) None))
       ∙ sym (label_bound ls l t r);
 }
-
--- two names of timers that agree make one line
-pub same_line : (f g : TimerRef → ℕ) (r : Reply) → ((t : TimerRef) → f t ≡ g t) → line_of f r ≡ line_of g r
-same_line f g r e = ap (λ (name : TimerRef → ℕ). line_of name r) (λ i t. e t i)

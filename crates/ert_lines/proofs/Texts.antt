@@ -1,12 +1,17 @@
 -- Texts that are written piece by piece.
 
 use Rattle.std.proofs.Common.{◌≡◌, ℕ, List, ◌++◌, ap, ◌∙◌, append_assoc}
-use Rattle.std.specs.Prelude.{Result, Ok, Err, OnOk}
+use Rattle.std.specs.Prelude.{Result, Ok, Err, IfOk, OnOk}
 
 -- a call that may fail, and what follows where it doesn't
 pub ok_map : {T E P Q : Type 0} (r : Result T E) → (P → Q) → OnOk r P → OnOk r Q
 ok_map (Ok x) f p = f p
 ok_map (Err e) f p = p
+
+-- and what follows of its value
+pub if_map : {T E : Type 0} (r : Result T E) (P Q : T → Type 0) → ((x : T) → P x → Q x) → IfOk r P → IfOk r Q
+if_map (Ok x) P Q f p = f x p
+if_map (Err e) P Q f p = p
 
 -- two pieces after a text
 pub joined : (a b c x y : List ℕ) → b ≡ a ++ x → c ≡ b ++ y → c ≡ a ++ (x ++ y)

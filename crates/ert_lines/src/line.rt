@@ -1,12 +1,9 @@
 ghost use Rattle.std.specs.Prelude.{◌≡◌, ◌++◌, codes, OnOk, string_bytes};
-ghost use Rattle.ert_lines.specs.Names.{IsIndexOf, label_by};
-ghost use Rattle.ert_transcript.specs.Labels.{Labels, label_of};
+ghost use Rattle.ert_transcript.specs.Labels.{label_of};
 ghost use Rattle.ert_transcript.specs.Lines.{line_of};
 ghost use Rattle.ert_transcript.specs.Texts.{end_line};
 
-use crate::clock_line::{
-    write_finalize, write_info_behind, write_info_front, write_moved, write_offset,
-};
+use crate::clock_line::{write_finalize, write_info, write_moved, write_offset};
 use crate::mail_line::{write_left, write_mail, write_turn};
 use crate::names::Names;
 use crate::words::bool_word;
@@ -16,59 +13,21 @@ use std::fmt::Write;
 
 /// Appends the line of a reply. A message is told with the label of its timer: the first that was bound to
 /// it, or its slot where there is none.
-pub fn write_line(page: &mut String, reply: &Reply, names: &Names) -> Result<(), AllocError>
-    ensures named { OnOk result (string_bytes page.new ≡ string_bytes page.old ++ line_of (label_by names.now) reply.now) }
-    ensures labelled { (labels : Labels) → IsIndexOf labels names.now
-        → OnOk result (string_bytes page.new ≡ string_bytes page.old ++ line_of (label_of labels) reply.now) }
-{
-    write_named(page, reply, names)
-}
-
-/// Appends the last line of a transcript.
-pub fn write_end(page: &mut String, now: i64) -> Result<(), AllocError>
-    ensures { OnOk result (string_bytes page.new ≡ string_bytes page.old ++ end_line now) }
-{
-    write!(page, "end {now}\n")
-}
-
-// The line of a reply, with the labels that the index tells.
 #[tactic(auto, using(crate::proofs::Texts::joined))]
-fn write_named(page: &mut String, reply: &Reply, names: &Names) -> Result<(), AllocError>
-    ensures { OnOk result (string_bytes page.new ≡ string_bytes page.old ++ line_of (label_by names.now) reply.now) }
+pub fn write_line(page: &mut String, reply: &Reply, names: &Names) -> Result<(), AllocError>
+    ensures { OnOk result (string_bytes page.new ≡ string_bytes page.old ++ line_of (label_of names.now) reply.now) }
 {
     match *reply {
-        Reply::Tick { now, shift } => {
-            write!(page, "tick ")?;
-            write_moved(page, now, shift)
-        }
+        Reply::Tick { now, shift } => write_moved(page, "tick ", now, shift),
         Reply::TickWide { value } => write!(page, "tick offset_wide {value}\n"),
-        Reply::Check { now, shift } => {
-            write!(page, "check ")?;
-            write_moved(page, now, shift)
-        }
+        Reply::Check { now, shift } => write_moved(page, "check ", now, shift),
         Reply::CheckWide { value } => write!(page, "check offset_wide {value}\n"),
-        Reply::Finalize { old, now, shift } => {
-            write_finalize(page, old)?;
-            write_moved(page, now, shift)
-        }
+        Reply::Finalize { old, now, shift } => write_finalize(page, old, now, shift),
         Reply::FinalizeWide { value } => write!(page, "finalize offset_wide {value}\n"),
         Reply::Time { now } => write!(page, "time {now}\n"),
         Reply::System { time } => write!(page, "system {time}\n"),
-        Reply::Offset { offset, state } => {
-            write!(page, "offset ")?;
-            write_offset(page, offset, state)
-        }
-        Reply::Info {
-            start,
-            end,
-            mode,
-            correction,
-            offset,
-            state,
-        } => {
-            write_info_front(page, start, end, mode)?;
-            write_info_behind(page, correction, offset, state)
-        }
+        Reply::Offset { offset, state } => write_offset(page, offset, state),
+        Reply::Info { .. } => write_info(page, reply),
         Reply::Convert { value } => write!(page, "convert {value}\n"),
         Reply::ConvertTooWide => write!(page, "convert too_wide\n"),
         Reply::StartOk { .. } => write!(page, "start ok\n"),
@@ -77,15 +36,9 @@ fn write_named(page: &mut String, reply: &Reply, names: &Names) -> Result<(), Al
         Reply::SendAfterOk { .. } => write!(page, "send_after ok\n"),
         Reply::SendAfterBadArg => write!(page, "send_after badarg\n"),
         Reply::SendAfterFull => write!(page, "send_after full\n"),
-        Reply::Cancel { left } => {
-            write!(page, "cancel ")?;
-            write_left(page, left)
-        }
+        Reply::Cancel { left } => write_left(page, "cancel ", left),
         Reply::CancelQuiet => write!(page, "cancel_quiet ok\n"),
-        Reply::Read { left } => {
-            write!(page, "read ")?;
-            write_left(page, left)
-        }
+        Reply::Read { left } => write_left(page, "read ", left),
         Reply::CancelAsync => write!(page, "cancel_async ok\n"),
         Reply::ReadAsync => write!(page, "read_async ok\n"),
         Reply::Serve { served: true } => write!(page, "serve 1\n"),
@@ -104,4 +57,11 @@ fn write_named(page: &mut String, reply: &Reply, names: &Names) -> Result<(), Al
         Reply::Demonitor { stood } => write!(page, "demonitor {}\n", bool_word(stood)),
         Reply::Notify { put } => write!(page, "notify {put}\n"),
     }
+}
+
+/// Appends the last line of a transcript.
+pub fn write_end(page: &mut String, now: i64) -> Result<(), AllocError>
+    ensures { OnOk result (string_bytes page.new ≡ string_bytes page.old ++ end_line now) }
+{
+    write!(page, "end {now}\n")
 }

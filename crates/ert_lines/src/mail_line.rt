@@ -1,7 +1,7 @@
 //! The lines of what was received, and of what a turn did.
 ghost use Rattle.std.specs.Prelude.{◌≡◌, ◌++◌, codes, OnOk, string_bytes};
 ghost use Rattle.std.specs.Fmt.{decimal, signed_decimal};
-ghost use Rattle.ert_lines.specs.Names.{label_by};
+ghost use Rattle.ert_transcript.specs.Labels.{label_of};
 ghost use Rattle.ert_transcript.specs.Lines.{left_text, mail_line, turn_line};
 ghost use Rattle.ert_transcript.specs.Texts.{◌⋅◌};
 
@@ -13,24 +13,28 @@ use std::fmt::Write;
 
 /// The line of a message that was received.
 pub fn write_mail(page: &mut String, mail: &Mail, names: &Names) -> Result<(), AllocError>
-    ensures { OnOk result (string_bytes page.new ≡ string_bytes page.old ++ mail_line (label_by names.now) mail.now) }
+    ensures { OnOk result (string_bytes page.new ≡ string_bytes page.old ++ mail_line (label_of names.now) mail.now) }
 {
     match *mail {
         Mail::Timeout { timer, msg } => write_timeout(page, names.label(&timer), msg),
         Mail::Bare { msg } => write_bare(page, msg),
-        Mail::CancelDone { timer, left } => write_cancel_done(page, names.label(&timer), left),
-        Mail::ReadDone { timer, left } => write_read_done(page, names.label(&timer), left),
+        Mail::CancelDone { timer, left } => {
+            write_done(page, "receive cancel_timer ", names.label(&timer), left)
+        }
+        Mail::ReadDone { timer, left } => {
+            write_done(page, "receive read_timer ", names.label(&timer), left)
+        }
         Mail::Change { monitor, offset } => write_change(page, monitor, offset),
     }
 }
 
-/// The end of a line that tells the milliseconds left of a timer, or that it wasn't armed.
-pub fn write_left(page: &mut String, left: Option<u64>) -> Result<(), AllocError>
-    ensures { OnOk result (string_bytes page.new ≡ string_bytes page.old ++ left_text left) }
+/// A line with this front that tells the milliseconds left of a timer, or that it wasn't armed.
+pub fn write_left(page: &mut String, front: &str, left: Option<u64>) -> Result<(), AllocError>
+    ensures { OnOk result (string_bytes page.new ≡ string_bytes page.old ++ (front.now ⋅ left_text left)) }
 {
     match left {
-        Some(left) => write!(page, "{left}\n"),
-        None => write!(page, "false\n"),
+        Some(left) => write!(page, "{front}{left}\n"),
+        None => write!(page, "{front}false\n"),
     }
 }
 
@@ -61,24 +65,18 @@ fn write_bare(page: &mut String, msg: u64) -> Result<(), AllocError>
     write!(page, "receive message {msg}\n")
 }
 
-// The answer to a cancel: the label of its timer, and what was left.
+// The answer to a request, with this front: the label of its timer, and what was left.
 #[tactic(auto, using(crate::proofs::Texts::joined))]
-fn write_cancel_done(page: &mut String, label: u32, left: Option<u64>) -> Result<(), AllocError>
-    ensures { OnOk result (string_bytes page.new
-        ≡ string_bytes page.old ++ (codes "receive cancel_timer " ⋅ decimal label ⋅ codes " " ⋅ left_text left)) }
+fn write_done(
+    page: &mut String,
+    front: &str,
+    label: u32,
+    left: Option<u64>,
+) -> Result<(), AllocError>
+    ensures { OnOk result (string_bytes page.new ≡ string_bytes page.old ++ (front.now ⋅ decimal label ⋅ codes " " ⋅ left_text left)) }
 {
-    write!(page, "receive cancel_timer ")?;
-    write_answer(page, label, left)
-}
-
-// The answer to a read.
-#[tactic(auto, using(crate::proofs::Texts::joined))]
-fn write_read_done(page: &mut String, label: u32, left: Option<u64>) -> Result<(), AllocError>
-    ensures { OnOk result (string_bytes page.new
-        ≡ string_bytes page.old ++ (codes "receive read_timer " ⋅ decimal label ⋅ codes " " ⋅ left_text left)) }
-{
-    write!(page, "receive read_timer ")?;
-    write_answer(page, label, left)
+    write!(page, "{front}{label}")?;
+    write_left(page, " ", left)
 }
 
 fn write_change(page: &mut String, monitor: u32, offset: i64) -> Result<(), AllocError>
@@ -95,13 +93,4 @@ fn write_told(page: &mut String, monitor: u32, offset: i64) -> Result<(), AllocE
         ≡ string_bytes page.old ++ (decimal monitor ⋅ codes " " ⋅ signed_decimal offset ⋅ codes "\n")) }
 {
     write!(page, "{monitor} {offset}\n")
-}
-
-// The end of the line of an answer to a request: the label of its timer, and what was left.
-#[tactic(auto, using(crate::proofs::Texts::joined))]
-fn write_answer(page: &mut String, label: u32, left: Option<u64>) -> Result<(), AllocError>
-    ensures { OnOk result (string_bytes page.new ≡ string_bytes page.old ++ (decimal label ⋅ codes " " ⋅ left_text left)) }
-{
-    write!(page, "{label} ")?;
-    write_left(page, left)
 }

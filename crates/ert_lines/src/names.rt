@@ -5,36 +5,60 @@ use crate::first::put_first;
 use ert_defs::{NoMemory, TimerRef};
 use std::alloc::Global;
 use std::collections::BTreeMap;
+use std::marker::Model;
 
-/// An index of labels: it finds the timer of a label, and the label of a timer, each in a time that grows
-/// with the logarithm of the number of labels.
+/// Labels in the order in which they were bound, each with the timer that its start armed.
 ///
-/// It stands for a list of labels, each with the timer that its start armed.
+/// An index finds the timer of a label, and the label of a timer, each in a time that grows with the logarithm
+/// of the number of labels.
 #[derive(Drop)]
 pub struct Names {
+    pairs: Vec<(u32, TimerRef)>,
     references: BTreeMap<u32, TimerRef>,
     labels: BTreeMap<(u32, u32, u64), u32>,
 }
 
-impl Names {
-    ghost use Rattle.std.specs.Prelude.{◌≡◌, [], OnOk, OnErr};
-    ghost use Rattle.ert_lines.specs.Names.{IsIndexOf, first_ref, label_by};
-    ghost use Rattle.ert_transcript.specs.Labels.{Labels, bind, ref_of};
+impl Model for Names {
+    ghost use Rattle.std.specs.BTreeMap as tree;
+    ghost use Rattle.std.specs.Ordering.{nat_cmp};
+    ghost use Rattle.ert_lines.specs.Keys.{key_cmp};
+    ghost use Rattle.ert_lines.specs.Names.{AreFound};
+    ghost use Rattle.ert_transcript.specs.Labels.{Labels};
 
-    /// An index of no label.
+    ghost Value = { Labels };
+
+    ghost view = { λ n. n.pairs.items };
+
+    ghost invariant = { λ n. AreFound n.pairs.items (λ label. tree.get nat_cmp n.references label) (λ key. tree.get key_cmp n.labels key) };
+}
+
+impl Names {
+    ghost use Rattle.std.specs.Prelude.{◌≡◌, ◌++◌, [], OnOk, OnErr};
+    ghost use Rattle.ert_lines.specs.Names.{first_ref};
+    ghost use Rattle.ert_transcript.specs.Labels.{bind, ref_of, label_of};
+
+    /// No label.
     pub fn new(alloc: Global) -> Names
-        ensures { IsIndexOf [] result }
+        ensures { result ≡ [] }
     {
         Names {
+            pairs: Vec::new(alloc),
             references: BTreeMap::new(alloc),
             labels: BTreeMap::new(alloc),
         }
     }
 
+    /// The labels in order, each with its timer.
+    pub fn pairs(&self) -> &[(u32, TimerRef)]
+        ensures { result.now ≡ self.now }
+    {
+        &self.pairs
+    }
+
     /// The timer of a label: that of the first start with it. A label that isn't bound stands for a reference
     /// that never named a timer, whose slot is the label.
     pub fn reference(&self, label: u32) -> TimerRef
-        ensures { (labels : Labels) → IsIndexOf labels self.now → result ≡ ref_of labels label }
+        ensures { result ≡ ref_of self.now label }
     {
         match self.references.get(&label) {
             Some(timer) => *timer,
@@ -48,16 +72,15 @@ impl Names {
 
     /// The timer of a label: that of the first start with it. None where it isn't bound.
     pub fn find(&self, label: u32) -> Option<TimerRef>
-        ensures { (labels : Labels) → IsIndexOf labels self.now → result ≡ first_ref labels label }
+        ensures { result ≡ first_ref self.now label }
     {
         self.references.get(&label).copied()
     }
 
     /// The label of a timer: the first that was bound to it, and its slot where there is none. Of a reference
     /// that never named a timer it is the slot.
-    #[tactic(auto, unfolding(crate::specs::Names::label_by))]
     pub fn label(&self, timer: &TimerRef) -> u32
-        ensures { result ≡ label_by self.now timer.now }
+        ensures { result ≡ label_of self.now timer.now }
     {
         if timer.generation == 0 {
             return timer.slot;
@@ -70,12 +93,16 @@ impl Names {
 
     /// Binds a label to a timer, as the last of the labels. Without memory nothing changes.
     pub fn bind(&mut self, label: u32, timer: &TimerRef) -> Result<(), NoMemory>
-        ensures ok { OnOk result ((labels : Labels) → IsIndexOf labels self.old → IsIndexOf (bind labels label timer.now) self.new) }
-        ensures err { OnErr result ((labels : Labels) → IsIndexOf labels self.old → IsIndexOf labels self.new) }
+        ensures ok { OnOk result (self.new ≡ bind self.old label timer.now) }
+        ensures err { OnErr result (self.new ≡ self.old) }
     {
+        self.pairs.reserve(1)?;
         let is_new = put_first(&mut self.references, label, *timer)?;
         match put_first(&mut self.labels, key_of(timer), label) {
-            Ok(_) => Ok(()),
+            Ok(_) => {
+                self.pairs.push_reserved((label, *timer));
+                Ok(())
+            }
             Err(NoMemory) => {
                 if is_new {
                     let _ = self.references.remove(&label);
@@ -83,6 +110,16 @@ impl Names {
                 Err(NoMemory)
             }
         }
+    }
+
+    /// Binds labels as the last ones. Without memory some first ones of them may be bound.
+    pub fn bind_all(&mut self, pairs: &[(u32, TimerRef)]) -> Result<(), NoMemory>
+        ensures { OnOk result (self.new ≡ self.old ++ pairs.now) }
+    {
+        for (label, timer) in pairs {
+            self.bind(*label, timer)?;
+        }
+        Ok(())
     }
 }
 

@@ -2,9 +2,8 @@ ghost use Rattle.std.specs.Prelude.{◌≡◌, ◌≤◌, ◌++◌, OnOk, OnErr,
 ghost use Rattle.ert_io.specs.Faults.{Rose};
 ghost use Rattle.ert_io.specs.Known.{HasRoom};
 ghost use Rattle.ert_io.specs.Told.{told, took, TakesFront};
-ghost use Rattle.ert_lines.specs.Names.{IsIndexOf, label_by};
 ghost use Rattle.ert_lines.specs.Written.{Moves};
-ghost use Rattle.ert_transcript.specs.Labels.{Labels, label_of};
+ghost use Rattle.ert_transcript.specs.Labels.{label_of};
 ghost use Rattle.ert_transcript.specs.Lines.{line_of};
 
 use crate::line::write_line;
@@ -32,13 +31,13 @@ pub fn put<O: Sink>(
     reply: &Reply,
     names: &Names,
 ) -> Result<(), RunErr>
-    requires { HasRoom (O.room output.old) (length (string_bytes page.old ++ line_of (label_by names.now) reply.now)) }
-    ensures ok { (labels : Labels) → IsIndexOf labels names.now → OnOk result
+    requires { HasRoom (O.room output.old) (length (string_bytes page.old ++ line_of (label_of names.now) reply.now)) }
+    ensures ok { OnOk result
         (Moves (told (O.taken output.old) (O.room output.old)) (told (O.taken output.new) (O.room output.new))
-        (string_bytes page.old ++ line_of (label_of labels) reply.now) (string_bytes page.new)) }
-    ensures err { (labels : Labels) → IsIndexOf labels names.now → OnErr result
+        (string_bytes page.old ++ line_of (label_of names.now) reply.now) (string_bytes page.new)) }
+    ensures err { OnErr result
         (TakesFront (told (O.taken output.old) (O.room output.old)) (told (O.taken output.new) (O.room output.new))
-        (string_bytes page.old ++ line_of (label_of labels) reply.now)) }
+        (string_bytes page.old ++ line_of (label_of names.now) reply.now)) }
     ensures later { O.faults output.old ≤ O.faults output.new }
     ensures cause { IsErrOf result RunErr.WriteFault → Rose (O.faults output.old) (O.faults output.new) }
 {

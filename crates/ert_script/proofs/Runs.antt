@@ -4,7 +4,7 @@ use Rattle.std.proofs.Common.{◌≡◌, ℕ, ◌+◌, ◌<◌, List, [], ◌∷
 use Rattle.std.specs.Prelude.{Result, Ok, Err, OnErr, IfErr, ◌≤◌}
 use Rattle.std.proofs.Math.Seq.{drop-cons}
 use Rattle.std.proofs.lemmas.List.{take_more, take_all}
-use Rattle.ert_answers.specs.Ways.{alone}
+use Rattle.ert_answers.specs.Ways.{Way, alone}
 use Rattle.ert_io.proofs.Takes.{took-took, took-none, fits_after}
 use Rattle.ert_io.specs.Known.{HasRoom}
 use Rattle.ert_io.specs.Told.{Told, told, took, room_after, TakesFront}
@@ -16,8 +16,7 @@ use Rattle.ert_lines.specs.declared.output.RunErr.TheVariants.{NoMemory}
 use Rattle.ert_ops.specs.Ranges.{IsOpInRange, IsInRange}
 use Rattle.ert_ops.specs.declared.op.Op.{Op}
 use Rattle.ert_world.specs.Worlds.{Seen, StandsFor}
-use Rattle.ert_script.proofs.Labels.{MayGoOn, others_may_at}
-use Rattle.ert_script.specs.Scripts.{Does, Fails, Runs}
+use Rattle.ert_script.specs.Scripts.{DoesWith, Fails, Runs}
 use Rattle.ert_script.specs.Written.{RunsAll, RunsSome, StopsAt, WritesRun, WritesSome, LinesFit}
 use Rattle.ert_transcript.specs.Calls.{Calls}
 use Rattle.ert_transcript.specs.Labels.{Labels, label_of}
@@ -26,10 +25,10 @@ use Rattle.ert_transcript.specs.Scripts.{Script, labels_after, lines_of}
 use Rattle.ert_transcript.specs.declared.reply.Reply.{Reply}
 
 -- a script run and one more op
-script_more : (g : Settings) (ls : Labels) (list : List Op) (rs : List Reply) (after : Labels) (h m piece : List Entry) (op : Op) (r : Reply)
-    → Script g (alone g) 0 ls list rs after h m → Calls g (alone g) 0 after op r (h ++ m) piece
-    → Script g (alone g) 0 ls (list ++ op ∷ []) (rs ++ r ∷ []) (labels_after after op r) h (m ++ piece)
-script_more g ls [] rs after h m piece op r ran called =
+pub script_more : (g : Settings) (way : Way) (n : ℕ) (ls : Labels) (list : List Op) (rs : List Reply) (after : Labels) (h m piece : List Entry) (op : Op) (r : Reply)
+    → Script g way n ls list rs after h m → Calls g way n after op r (h ++ m) piece
+    → Script g way n ls (list ++ op ∷ []) (rs ++ r ∷ []) (labels_after after op r) h (m ++ piece)
+script_more g way n ls [] rs after h m piece op r ran called =
     let whole : h ++ m ≡ h = ap (λ (x : List Entry). h ++ x) ran.2 ∙ append-nil h in (
       piece,
       [],
@@ -37,11 +36,11 @@ script_more g ls [] rs after h m piece op r ran called =
       [],
       ap (λ (x : List Entry). x ++ piece) ran.2 ∙ sym (append-nil piece),
       ap (λ (x : List Reply). x ++ r ∷ []) ran.0,
-      subst (λ (x : Labels). Calls g (alone g) 0 x op r h piece) ran.1
-          (subst (λ (x : List Entry). Calls g (alone g) 0 after op r x piece) whole called),
+      subst (λ (x : Labels). Calls g way n x op r h piece) ran.1
+          (subst (λ (x : List Entry). Calls g way n after op r x piece) whole called),
       (refl, ap (λ (x : Labels). labels_after x op r) ran.1, refl),
     )
-script_more g ls (o ∷ list) rs after h m piece op r ran called =
+script_more g way n ls (o ∷ list) rs after h m piece op r ran called =
     let first : List Entry = ran.0 in
     let later : List Entry = ran.1 in
     let whole : h ++ m ≡ (h ++ first) ++ later = ap (λ (x : List Entry). h ++ x) ran.4 ∙ sym (append_assoc h first later) in (
@@ -52,8 +51,8 @@ script_more g ls (o ∷ list) rs after h m piece op r ran called =
       ap (λ (x : List Entry). x ++ piece) ran.4 ∙ append_assoc first later piece,
       ap (λ (x : List Reply). x ++ r ∷ []) ran.5,
       ran.6,
-      script_more g (labels_after ls o ran.2) list ran.3 after (h ++ first) later piece op r ran.7
-          (subst (λ (x : List Entry). Calls g (alone g) 0 after op r x piece) whole called),
+      script_more g way n (labels_after ls o ran.2) list ran.3 after (h ++ first) later piece op r ran.7
+          (subst (λ (x : List Entry). Calls g way n after op r x piece) whole called),
     )
 
 -- its lines, and one more
@@ -71,44 +70,45 @@ lines_more g ls (o ∷ list) rs after h m op r ran =
     ∙ ap (λ (x : List Reply). lines_of ls (o ∷ list) x ++ line_of (label_of (labels_after after op r)) r) (sym ran.5)
 
 -- before the first op a world has done nothing
-pub runs_none : (w : Seen) → Runs w [] [] w
-runs_none w = record { grows = record { piece = []; grown = sym (append-nil w.history); made = (refl, refl, refl) }; settings = refl; tidy = λ i below tidy. tidy }
+pub runs_none : (w : Seen) (ls : Labels) → Runs w ls [] [] w ls
+runs_none w ls = record { grows = record { piece = []; grown = sym (append-nil w.history); made = (refl, refl, refl) }; settings = refl; next = refl; tidy = λ lone i below tidy. tidy }
 
 -- a run and one more op
-pub runs_more : (start v w : Seen) (list : List Op) (rs : List Reply) (op : Op) (r : Reply) → Runs start list rs v → Does v op r w
-    → Runs start (list ++ op ∷ []) (rs ++ r ∷ []) w
-runs_more start v w list rs op r ran done =
+pub runs_more : (start v w : Seen) (ls before after : Labels) (list : List Op) (rs : List Reply) (op : Op) (r : Reply) → Runs start ls list rs v before
+    → DoesWith v before op r w after → Runs start ls (list ++ op ∷ []) (rs ++ r ∷ []) w after
+runs_more start v w ls before after list rs op r ran done =
     let one : List Entry = ran.grows.piece in
     let more : List Entry = done.grows.piece in
-    let called : Calls start.settings (alone start.settings) 0 v.labels op r (start.history ++ one) more =
-    subst (λ (x : Settings). Calls x (alone x) 0 v.labels op r (start.history ++ one) more) ran.settings
-    (subst (λ (x : List Entry). Calls v.settings (alone v.settings) 0 v.labels op r x more) ran.grows.grown done.grows.made) in
+    let called : Calls start.settings (alone start.settings) 0 before op r (start.history ++ one) more =
+    subst (λ (x : Settings). Calls x (alone x) 0 before op r (start.history ++ one) more) ran.settings
+    (subst (λ (x : List Entry). Calls v.settings (alone v.settings) 0 before op r x more) ran.grows.grown done.grows.made) in
     record {
       grows = record {
         piece = one ++ more;
         grown = done.grows.grown ∙ ap (λ (x : List Entry). x ++ more) ran.grows.grown ∙ append_assoc start.history one more;
-        made = subst (λ (x : Labels). Script start.settings (alone start.settings) 0 start.labels (list ++ op ∷ []) (rs ++ r ∷ []) x start.history (one ++ more))
+        made = subst (λ (x : Labels). Script start.settings (alone start.settings) 0 ls (list ++ op ∷ []) (rs ++ r ∷ []) x start.history (one ++ more))
             (sym done.labels)
-            (script_more start.settings start.labels list rs v.labels start.history one more op r ran.grows.made called);
+            (script_more start.settings (alone start.settings) 0 ls list rs before start.history one more op r ran.grows.made called);
       };
       settings = done.settings ∙ ran.settings;
-      tidy = λ i below tidy. done.tidy i (subst (λ (x : Settings). i < x.schedulers) (sym ran.settings) below) (ran.tidy i below tidy);
+      next = done.next ∙ ran.next;
+      tidy = λ lone i below tidy. done.tidy (ran.next ∙ lone) i (subst (λ (x : Settings). i < x.schedulers) (sym ran.settings) below) (ran.tidy lone i below tidy);
     }
 
--- the ops of a list were done, and came to a world; a first part of their lines was written, and this page
--- waits
-pub record IsSoFar (start : Seen) (list : List Op) (v : Seen) (old now : Told) (page : List ℕ) : Type 0 where
+-- the ops of a list were done, and came to a world and labels; a first part of their lines was written, and this
+-- page waits
+pub record IsSoFar (start : Seen) (ls : Labels) (list : List Op) (v : Seen) (after : Labels) (old now : Told) (page : List ℕ) : Type 0 where
   pub replies : List Reply
   pub front : List ℕ
-  pub runs : Runs start list replies v
+  pub runs : Runs start ls list replies v after
   pub stands : StandsFor v.settings v.history v
   pub took : now ≡ took old front
-  pub whole : front ++ page ≡ lines_of start.labels list replies
+  pub whole : front ++ page ≡ lines_of ls list replies
 
 -- before the first op nothing was done and nothing written
-pub so_far_first : (w : Seen) (taken : Option (List ℕ)) (room : Option ℕ) → StandsFor w.settings w.history w
-    → IsSoFar w [] w (told taken room) (told taken room) []
-so_far_first w taken room stands = record { replies = []; front = []; runs = runs_none w; stands = stands; took = took-none taken room; whole = refl }
+pub so_far_first : (w : Seen) (ls : Labels) (taken : Option (List ℕ)) (room : Option ℕ) → StandsFor w.settings w.history w
+    → IsSoFar w ls [] w ls (told taken room) (told taken room) []
+so_far_first w ls taken room stands = record { replies = []; front = []; runs = runs_none w ls; stands = stands; took = took-none taken room; whole = refl }
 
 -- what is written of what waits, at the end of what was written
 joined : (old now new : Told) (front part : List ℕ) → now ≡ took old front → new ≡ took now part → new ≡ took old (front ++ part)
@@ -120,25 +120,12 @@ lined front page line part rest lines e f =
     append_assoc front part rest ∙ ap (λ (t : List ℕ). front ++ t) f ∙ sym (append_assoc front page line) ∙ ap (λ (t : List ℕ). t ++ line) e
 
 -- the line that was put is that of the op, by the labels after it
-line_put : (start v w : Seen) (list : List Op) (rs : List Reply) (op : Op) (r : Reply) → Runs start list rs v → Does v op r w
-    → lines_of start.labels list rs ++ line_of (label_of w.labels) r ≡ lines_of start.labels (list ++ op ∷ []) (rs ++ r ∷ [])
-line_put start v w list rs op r ran done =
-    ap (λ (x : Labels). lines_of start.labels list rs ++ line_of (label_of x) r) done.labels
-    ∙ sym (lines_more start.settings start.labels list rs v.labels start.history ran.grows.piece op r ran.grows.made)
-
--- one more op was done and its line put
-goes_on : (start v w : Seen) (list : List Op) (old now new : Told) (page rest : List ℕ) (op : Op) (r : Reply)
-    → IsSoFar start list v old now page → Does v op r w → StandsFor w.settings w.history w → Moves now new (page ++ line_of (label_of w.labels) r) rest
-    → IsSoFar start (list ++ op ∷ []) w old new rest
-goes_on start v w list old now new page rest op r far done stands moves = record {
-  replies = far.replies ++ r ∷ [];
-  front = far.front ++ moves.part;
-  runs = runs_more start v w list far.replies op r far.runs done;
-  stands = stands;
-  took = joined old now new far.front moves.part far.took moves.took;
-  whole = lined far.front page (line_of (label_of w.labels) r) moves.part rest (lines_of start.labels list far.replies) far.whole moves.whole
-      ∙ line_put start v w list far.replies op r far.runs done;
-}
+line_put : (start v w : Seen) (ls before after : Labels) (list : List Op) (rs : List Reply) (op : Op) (r : Reply) → Runs start ls list rs v before
+    → DoesWith v before op r w after
+    → lines_of ls list rs ++ line_of (label_of after) r ≡ lines_of ls (list ++ op ∷ []) (rs ++ r ∷ [])
+line_put start v w ls before after list rs op r ran done =
+    ap (λ (x : Labels). lines_of ls list rs ++ line_of (label_of x) r) done.labels
+    ∙ sym (lines_more start.settings ls list rs before start.history ran.grows.piece op r ran.grows.made)
 
 -- the op at an index, of the list that the loop goes over
 at_index : (list : List Op) (i : ℕ) (d : Op) → i < length list → take (i + 1) list ≡ take i list ++ get_or list i d ∷ []
@@ -155,19 +142,22 @@ pub op_may : (g : Settings) (v : Seen) (list : List Op) (i : ℕ) (d : Op) → i
 op_may g v list i d below same all =
     subst (λ (x : Settings). IsOpInRange x (get_or list i d)) (sym same) (op_in_range g list i d all below)
 
-pub goes_on_at : (start v w : Seen) (list : List Op) (i : ℕ) (d : Op) (old now new : Told) (page rest : List ℕ) (r : Reply)
-    → i < length list → IsSoFar start (take i list) v old now page
-    → Does v (get_or list i d) r w → StandsFor w.settings w.history w → Moves now new (page ++ line_of (label_of w.labels) r) rest
-    → IsSoFar start (take (i + 1) list) w old new rest
-goes_on_at start v w list i d old now new page rest r below far done stands moves =
-    subst (λ (os : List Op). IsSoFar start os w old new rest) (sym (at_index list i d below))
-    (goes_on start v w (take i list) old now new page rest (get_or list i d) r far done stands moves)
-
--- the labels that the rest may bind, after one more op
-pub may_at : (v w : Seen) (list : List Op) (i : ℕ) (d : Op) (r : Reply) → i < length list → MayGoOn (drop i list) v.labels
-    → Does v (get_or list i d) r w → MayGoOn (drop (i + 1) list) w.labels
-may_at v w list i d r below may done =
-    subst (λ (ls : Labels). MayGoOn (drop (i + 1) list) ls) (sym done.labels) (others_may_at list i d v.labels r below may)
+-- one more op was done and its line put
+pub goes_on_at : (start v w : Seen) (ls before after : Labels) (list : List Op) (i : ℕ) (d : Op) (old now new : Told) (page rest : List ℕ) (r : Reply)
+    → i < length list → IsSoFar start ls (take i list) v before old now page
+    → DoesWith v before (get_or list i d) r w after → StandsFor w.settings w.history w → Moves now new (page ++ line_of (label_of after) r) rest
+    → IsSoFar start ls (take (i + 1) list) w after old new rest
+goes_on_at start v w ls before after list i d old now new page rest r below far done stands moves =
+    subst (λ (os : List Op). IsSoFar start ls os w after old new rest) (sym (at_index list i d below))
+    (record {
+      replies = far.replies ++ r ∷ [];
+      front = far.front ++ moves.part;
+      runs = runs_more start v w ls before after (take i list) far.replies (get_or list i d) r far.runs done;
+      stands = stands;
+      took = joined old now new far.front moves.part far.took moves.took;
+      whole = lined far.front page (line_of (label_of after) r) moves.part rest (lines_of ls (take i list) far.replies) far.whole moves.whole
+          ∙ line_put start v w ls before after (take i list) far.replies (get_or list i d) r far.runs done;
+    })
 
 -- a world that stopped as some ops had left it
 stops_here : (v : Seen) (rest : List Op) → StopsAt v rest v
@@ -178,24 +168,10 @@ stops_here v (op ∷ rest) = inl refl
 stops_in : (v w : Seen) (list : List Op) (i : ℕ) (d : Op) → i < length list → Fails v (get_or list i d) w → StopsAt v (drop i list) w
 stops_in v w list i d below failed = subst (λ (rest : List Op). StopsAt v rest w) (sym (drop-cons list i d below)) (inr failed)
 
--- there was no memory before the first op
-pub none_written : (w : Seen) (list : List Op) (taken : Option (List ℕ)) (room : Option ℕ) → StandsFor w.settings w.history w
-    → WritesSome w list w NoMemory (told taken room) (told taken room)
-none_written w list taken room stands = record {
-  done = 0;
-  replies = [];
-  reached = w;
-  runs = runs_none w;
-  stands = stands;
-  stops = stops_here w list;
-  between = λ fault. refl;
-  writes = record { front = []; others = []; took = took-none taken room; whole = refl };
-}
-
--- there was none for one more op
-pub fails_at : (start v w : Seen) (list : List Op) (i : ℕ) (d : Op) (old now : Told) (page : List ℕ) → i < length list
-    → IsSoFar start (take i list) v old now page → Fails v (get_or list i d) w → WritesSome start list w NoMemory old now
-fails_at start v w list i d old now page below far failed = record {
+-- there was no memory for one more op
+pub fails_at : (start v w : Seen) (ls after : Labels) (list : List Op) (i : ℕ) (d : Op) (old now : Told) (page : List ℕ) → i < length list
+    → IsSoFar start ls (take i list) v after old now page → Fails v (get_or list i d) w → WritesSome start ls list w after NoMemory old now
+fails_at start v w ls after list i d old now page below far failed = record {
   done = i;
   replies = far.replies;
   reached = v;
@@ -207,13 +183,13 @@ fails_at start v w list i d old now page below far failed = record {
 }
 
 -- the output stopped while the line of one more op was put, or there was no memory for it
-pub breaks_at : (start v w : Seen) (list : List Op) (i : ℕ) (d : Op) (old now new : Told) (page : List ℕ) (r : Reply) (why : RunErr)
-    → i < length list → IsSoFar start (take i list) v old now page
-    → Does v (get_or list i d) r w → StandsFor w.settings w.history w → TakesFront now new (page ++ line_of (label_of w.labels) r)
-    → WritesSome start list w why old new
-breaks_at start v w list i d old now new page r why below far done stands written =
-    let all : IsSoFar start (take (i + 1) list) w old new written.others =
-    goes_on_at start v w list i d old now new page written.others r below far done stands
+pub breaks_at : (start v w : Seen) (ls before after : Labels) (list : List Op) (i : ℕ) (d : Op) (old now new : Told) (page : List ℕ) (r : Reply) (why : RunErr)
+    → i < length list → IsSoFar start ls (take i list) v before old now page
+    → DoesWith v before (get_or list i d) r w after → StandsFor w.settings w.history w → TakesFront now new (page ++ line_of (label_of after) r)
+    → WritesSome start ls list w after why old new
+breaks_at start v w ls before after list i d old now new page r why below far done stands written =
+    let all : IsSoFar start ls (take (i + 1) list) w after old new written.others =
+    goes_on_at start v w ls before after list i d old now new page written.others r below far done stands
     (record { part = written.front; took = written.took; whole = written.whole }) in
     record {
       done = i + 1;
@@ -226,16 +202,12 @@ breaks_at start v w list i d old now new page r why below far done stands writte
       writes = record { front = all.front; others = written.others; took = all.took; whole = all.whole };
     }
 
--- the run of all ops, where the index has come to the end
-far_last : (start v : Seen) (list : List Op) (i : ℕ) (old now : Told) (page : List ℕ)
-    → length list ≤ i → IsSoFar start (take i list) v old now page → IsSoFar start list v old now page
-far_last start v list i old now page over far = subst (λ (os : List Op). IsSoFar start os v old now page) (take_all i list over) far
-
 -- all ops were done, and the page was written
-pub ends : (start v : Seen) (list : List Op) (i : ℕ) (old now new : Told) (page : List ℕ)
-    → length list ≤ i → IsSoFar start (take i list) v old now page → new ≡ took now page → WritesRun start list v old new
-ends start v list i old now new page over far taken =
-    let all : IsSoFar start list v old now page = far_last start v list i old now page over far in
+pub ends : (start v : Seen) (ls after : Labels) (list : List Op) (i : ℕ) (old now new : Told) (page : List ℕ)
+    → length list ≤ i → IsSoFar start ls (take i list) v after old now page → new ≡ took now page → WritesRun start ls list v after old new
+ends start v ls after list i old now new page over far taken =
+    let all : IsSoFar start ls list v after old now page =
+    subst (λ (os : List Op). IsSoFar start ls os v after old now page) (take_all i list over) far in
     record {
       replies = all.replies;
       runs = all.runs;
@@ -244,9 +216,9 @@ ends start v list i old now new page over far taken =
     }
 
 -- the output stopped at the last page
-pub breaks_last : (start v : Seen) (list : List Op) (i : ℕ) (old now new : Told) (page : List ℕ) (why : RunErr)
-    → IsSoFar start (take i list) v old now page → TakesFront now new page → WritesSome start list v why old new
-breaks_last start v list i old now new page why far w = record {
+pub breaks_last : (start v : Seen) (ls after : Labels) (list : List Op) (i : ℕ) (old now new : Told) (page : List ℕ) (why : RunErr)
+    → IsSoFar start ls (take i list) v after old now page → TakesFront now new page → WritesSome start ls list v after why old new
+breaks_last start v ls after list i old now new page why far w = record {
   done = i;
   replies = far.replies;
   reached = v;
@@ -276,45 +248,43 @@ waiting_fits old now front rest lines took whole fits =
     (fits_after old.room front rest (subst (λ (t : List ℕ). HasRoom old.room (length t)) (sym whole) fits))
 
 -- so the page and one more line fit
-pub line_fits : (start v w : Seen) (list : List Op) (i : ℕ) (d : Op) (old now : Told) (page : List ℕ) (r : Reply)
-    → i < length list → LinesFit start list old.room → IsSoFar start (take i list) v old now page
-    → Does v (get_or list i d) r w → StandsFor w.settings w.history w → HasRoom now.room (length (page ++ line_of (label_of w.labels) r))
-line_fits start v w list i d old now page r below fit far done stands =
+pub line_fits : (start v w : Seen) (ls before after : Labels) (list : List Op) (i : ℕ) (d : Op) (old now : Told) (page : List ℕ) (r : Reply)
+    → i < length list → LinesFit start ls list old.room → IsSoFar start ls (take i list) v before old now page
+    → DoesWith v before (get_or list i d) r w after → StandsFor w.settings w.history w → HasRoom now.room (length (page ++ line_of (label_of after) r))
+line_fits start v w ls before after list i d old now page r below fit far done stands =
     let op : Op = get_or list i d in
-    let line : List ℕ = line_of (label_of w.labels) r in
+    let line : List ℕ = line_of (label_of after) r in
     let some : List Op = take i list in
-    let ran : Runs start (some ++ op ∷ []) (far.replies ++ r ∷ []) w = runs_more start v w some far.replies op r far.runs done in
-    waiting_fits old now far.front (page ++ line) (lines_of start.labels (some ++ op ∷ []) (far.replies ++ r ∷ [])) far.took
-    (sym (append_assoc far.front page line) ∙ ap (λ (t : List ℕ). t ++ line) far.whole ∙ line_put start v w some far.replies op r far.runs done)
-    (subst (λ (os : List Op). HasRoom old.room (length (lines_of start.labels os (far.replies ++ r ∷ [])))) (at_index list i d below)
-    (fit (i + 1) (far.replies ++ r ∷ []) w
-    (subst (λ (os : List Op). Runs start os (far.replies ++ r ∷ []) w) (sym (at_index list i d below)) ran) stands))
+    let ran : Runs start ls (some ++ op ∷ []) (far.replies ++ r ∷ []) w after = runs_more start v w ls before after some far.replies op r far.runs done in
+    waiting_fits old now far.front (page ++ line) (lines_of ls (some ++ op ∷ []) (far.replies ++ r ∷ [])) far.took
+    (sym (append_assoc far.front page line) ∙ ap (λ (t : List ℕ). t ++ line) far.whole ∙ line_put start v w ls before after some far.replies op r far.runs done)
+    (subst (λ (os : List Op). HasRoom old.room (length (lines_of ls os (far.replies ++ r ∷ [])))) (at_index list i d below)
+    (fit (i + 1) (far.replies ++ r ∷ []) w after
+    (subst (λ (os : List Op). Runs start ls os (far.replies ++ r ∷ []) w after) (sym (at_index list i d below)) ran) stands))
 
 -- and so does the page
-pub page_fits : (start v : Seen) (list : List Op) (i : ℕ) (old now : Told) (page : List ℕ) → LinesFit start list old.room
-    → IsSoFar start (take i list) v old now page → HasRoom now.room (length page)
-page_fits start v list i old now page fit far =
-    waiting_fits old now far.front page (lines_of start.labels (take i list) far.replies) far.took far.whole (fit i far.replies v far.runs far.stands)
+pub page_fits : (start v : Seen) (ls after : Labels) (list : List Op) (i : ℕ) (old now : Told) (page : List ℕ) → LinesFit start ls list old.room
+    → IsSoFar start ls (take i list) v after old now page → HasRoom now.room (length page)
+page_fits start v ls after list i old now page fit far =
+    waiting_fits old now far.front page (lines_of ls (take i list) far.replies) far.took far.whole (fit i far.replies v after far.runs far.stands)
 
 -- the same without a line written: before the first op, and after one more
-pub done_none : (w : Seen) → StandsFor w.settings w.history w → RunsAll w [] w
-done_none w stands = record { replies = []; runs = runs_none w; stands = stands }
+pub done_none : (w : Seen) (ls : Labels) → StandsFor w.settings w.history w → RunsAll w ls [] w ls
+done_none w ls stands = record { replies = []; runs = runs_none w ls; stands = stands }
 
-pub done_more : (start v w : Seen) (list : List Op) (i : ℕ) (d : Op) (r : Reply) → i < length list → RunsAll start (take i list) v
-    → Does v (get_or list i d) r w → StandsFor w.settings w.history w → RunsAll start (take (i + 1) list) w
-done_more start v w list i d r below far done stands =
-    subst (λ (os : List Op). RunsAll start os w) (sym (at_index list i d below))
+pub done_more : (start v w : Seen) (ls before after : Labels) (list : List Op) (i : ℕ) (d : Op) (r : Reply) → i < length list
+    → RunsAll start ls (take i list) v before → DoesWith v before (get_or list i d) r w after → StandsFor w.settings w.history w
+    → RunsAll start ls (take (i + 1) list) w after
+done_more start v w ls before after list i d r below far done stands =
+    subst (λ (os : List Op). RunsAll start ls os w after) (sym (at_index list i d below))
     (record {
       replies = far.replies ++ r ∷ [];
-      runs = runs_more start v w (take i list) far.replies (get_or list i d) r far.runs done;
+      runs = runs_more start v w ls before after (take i list) far.replies (get_or list i d) r far.runs done;
       stands = stands;
     })
 
--- and where the world has stopped: before the first op, and in one more
-pub none_done : (w : Seen) (list : List Op) → StandsFor w.settings w.history w → RunsSome w list w
-none_done w list stands = record { done = 0; replies = []; reached = w; runs = runs_none w; stands = stands; stops = stops_here w list }
-
-pub some_done : (start v w : Seen) (list : List Op) (i : ℕ) (d : Op) → i < length list → RunsAll start (take i list) v → Fails v (get_or list i d) w
-    → RunsSome start list w
-some_done start v w list i d below far failed =
+-- and where the world has stopped in one more
+pub some_done : (start v w : Seen) (ls after : Labels) (list : List Op) (i : ℕ) (d : Op) → i < length list → RunsAll start ls (take i list) v after
+    → Fails v (get_or list i d) w → RunsSome start ls list w after
+some_done start v w ls after list i d below far failed =
     record { done = i; replies = far.replies; reached = v; runs = far.runs; stands = far.stands; stops = stops_in v w list i d below failed }

@@ -1,6 +1,6 @@
 -- What an op does to a world, and what a list of ops does.
 
-use Rattle.std.specs.Prelude.{◌≡◌, ◌≢◌, ℕ, List, [], All, Ok, Err}
+use Rattle.std.specs.Prelude.{◌≡◌, ℕ, List, [], Ok, Err}
 use Rattle.ert_answers.specs.Chains.{Serves, AdvancesWheel, Delivers, Turns}
 use Rattle.ert_answers.specs.TimerCalls.{Starts}
 use Rattle.ert_answers.specs.Ways.{Growth, Grows, alone}
@@ -9,7 +9,6 @@ use Rattle.ert_defs.specs.declared.settings.Settings.{Settings}
 use Rattle.ert_defs.specs.declared.timer.Kind.TheVariants.{Wrapped, Bare}
 use Rattle.ert_defs.specs.declared.timer.Start.{Start}
 use Rattle.ert_defs.specs.declared.timer.TimerRef.{TimerRef}
-use Rattle.ert_ops.specs.Labels.{labels_in}
 use Rattle.ert_ops.specs.declared.op.Op.{Op}
 use Rattle.ert_ops.specs.declared.op.Op.TheVariants as ops
 use Rattle.ert_world.specs.Worlds.{Seen, StayTidy}
@@ -18,27 +17,18 @@ use Rattle.ert_transcript.specs.Labels.{Labels}
 use Rattle.ert_transcript.specs.Scripts.{Script, labels_after}
 use Rattle.ert_transcript.specs.declared.reply.Reply.{Reply}
 
--- no label of a list is this one
-abbrev pub IsUnbound : Labels → ℕ → Type 0
-IsUnbound ls label = All (λ (pair : ℕ × TimerRef). pair.0 ≢ label) ls
-
--- the label that an op may bind isn't bound
-abbrev pub MayBind : Labels → Op → Type 0
-MayBind ls (ops.Start label wheel when dest msg) = IsUnbound ls label
-MayBind ls (ops.SendAfter label wheel when dest msg) = IsUnbound ls label
-MayBind ls op = Unit {0}
-
--- no start among ops has a label that is bound
-abbrev pub AreUnbound : Labels → List Op → Type 0
-AreUnbound ls list = All (IsUnbound ls) (labels_in list)
-
--- a world does an op, as caller 0: its history grows by what the op allows with its reply, and the label of a
--- timer that was started is bound; a tidy wheel stays tidy
-pub record Does (old : Seen) (op : Op) (reply : Reply) (new : Seen) : Type 0 where
-  pub grows : Grows (Calls old.settings (alone old.settings) 0 old.labels op reply) old.history new.history
+-- a world does an op, as caller 0 and with these labels: its history grows by what the op allows with its reply, and
+-- to the labels the label of a timer is bound that was started; a tidy wheel stays tidy
+pub record DoesWith (old : Seen) (ls : Labels) (op : Op) (reply : Reply) (new : Seen) (after : Labels) : Type 0 where
+  pub grows : Grows (Calls old.settings (alone old.settings) 0 ls op reply) old.history new.history
   pub settings : new.settings ≡ old.settings
-  pub labels : new.labels ≡ labels_after old.labels op reply
+  pub next : new.next ≡ old.next
+  pub labels : after ≡ labels_after ls op reply
   pub tidy : StayTidy old new
+
+-- so it does whatever the labels are, and binds none
+pub record Does (old : Seen) (op : Op) (reply : Reply) (new : Seen) : Type 0 where
+  pub with : (ls : Labels) → DoesWith old ls op reply new ls
 
 -- a timer of a wheel is started, as by caller 0
 abbrev pub StartsTimer : Settings → ℕ → Start → Growth
@@ -59,16 +49,16 @@ BreaksOff g (ops.Turn sched) h m = Turns g (alone g) sched (Err (record {})) h m
 BreaksOff g (ops.Monitor process) h m = m ≡ []
 BreaksOff g op h m = ⊥
 
--- a world had no memory for an op: its history has grown by what the op made before that, and no label was bound;
--- a tidy wheel stays tidy
+-- a world had no memory for an op: its history has grown by what the op made before that; a tidy wheel stays tidy
 pub record Fails (old : Seen) (op : Op) (new : Seen) : Type 0 where
   pub grows : Grows (BreaksOff old.settings op) old.history new.history
   pub settings : new.settings ≡ old.settings
-  pub labels : new.labels ≡ old.labels
+  pub next : new.next ≡ old.next
   pub tidy : StayTidy old new
 
--- it does a list of ops: its history grows by a script run of them; a tidy wheel stays tidy
-pub record Runs (old : Seen) (list : List Op) (replies : List Reply) (new : Seen) : Type 0 where
-  pub grows : Grows (Script old.settings (alone old.settings) 0 old.labels list replies new.labels) old.history new.history
+-- it does a list of ops, from labels to labels: its history grows by a script run of them; a tidy wheel stays tidy
+pub record Runs (old : Seen) (ls : Labels) (list : List Op) (replies : List Reply) (new : Seen) (after : Labels) : Type 0 where
+  pub grows : Grows (Script old.settings (alone old.settings) 0 ls list replies after) old.history new.history
   pub settings : new.settings ≡ old.settings
+  pub next : new.next ≡ old.next
   pub tidy : StayTidy old new

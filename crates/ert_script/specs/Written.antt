@@ -8,49 +8,52 @@ use Rattle.ert_lines.specs.declared.output.RunErr.TheVariants.{WriteFault}
 use Rattle.ert_ops.specs.declared.op.Op.{Op}
 use Rattle.ert_world.specs.Worlds.{Seen, StandsFor}
 use Rattle.ert_script.specs.Scripts.{Runs, Fails}
+use Rattle.ert_transcript.specs.Labels.{Labels}
 use Rattle.ert_transcript.specs.Scripts.{lines_of}
 use Rattle.ert_transcript.specs.declared.reply.Reply.{Reply}
 
--- the world did a list of ops, and came to a service that stands for its history
-pub record RunsAll (old : Seen) (ops : List Op) (new : Seen) : Type 0 where
+-- the world did a list of ops, from labels to labels, and came to a service that stands for its history
+pub record RunsAll (old : Seen) (ls : Labels) (ops : List Op) (new : Seen) (after : Labels) : Type 0 where
   pub replies : List Reply
-  pub runs : Runs old ops replies new
+  pub runs : Runs old ls ops replies new after
   pub stands : StandsFor new.settings new.history new
 
 -- the world did a list of ops, and came to a service that stands for its history; their lines were written
-pub record WritesRun (old : Seen) (ops : List Op) (new : Seen) (told told_new : Told) : Type 0 where
+pub record WritesRun (old : Seen) (ls : Labels) (ops : List Op) (new : Seen) (after : Labels) (told told_new : Told) : Type 0 where
   pub replies : List Reply
-  pub runs : Runs old ops replies new
+  pub runs : Runs old ls ops replies new after
   pub stands : StandsFor new.settings new.history new
-  pub writes : told_new ≡ took told (lines_of old.labels ops replies)
+  pub writes : told_new ≡ took told (lines_of ls ops replies)
 
 -- the world is as some ops left it, or it had no memory for the first of those that were to come
 abbrev pub StopsAt : Seen → List Op → Seen → Type 0
 StopsAt reached [] new = new ≡ reached
 StopsAt reached (op ∷ rest) new = (new ≡ reached) ⊎ Fails reached op new
 
--- the world did some first ops of a list, came to a service that stands for its history, and stopped there
-pub record RunsSome (old : Seen) (ops : List Op) (new : Seen) : Type 0 where
+-- the world did some first ops of a list, came to a service that stands for its history, and stopped there; the
+-- labels are as those ops left them
+pub record RunsSome (old : Seen) (ls : Labels) (ops : List Op) (new : Seen) (after : Labels) : Type 0 where
   pub done : ℕ
   pub replies : List Reply
   pub reached : Seen
-  pub runs : Runs old (take done ops) replies reached
+  pub runs : Runs old ls (take done ops) replies reached after
   pub stands : StandsFor reached.settings reached.history reached
   pub stops : StopsAt reached (drop done ops) new
 
 -- the world did some first ops of a list, came to a service that stands for its history, and stopped there; the
--- first part of their lines was written. Where the output failed, no op had begun after them
-pub record WritesSome (old : Seen) (ops : List Op) (new : Seen) (why : RunErr) (told told_new : Told) : Type 0 where
+-- labels are as those ops left them, and the first part of their lines was written. Where the output failed, no op
+-- had begun after them
+pub record WritesSome (old : Seen) (ls : Labels) (ops : List Op) (new : Seen) (after : Labels) (why : RunErr) (told told_new : Told) : Type 0 where
   pub done : ℕ
   pub replies : List Reply
   pub reached : Seen
-  pub runs : Runs old (take done ops) replies reached
+  pub runs : Runs old ls (take done ops) replies reached after
   pub stands : StandsFor reached.settings reached.history reached
   pub stops : StopsAt reached (drop done ops) new
   pub between : why ≡ WriteFault → new ≡ reached
-  pub writes : TakesFront told told_new (lines_of old.labels (take done ops) replies)
+  pub writes : TakesFront told told_new (lines_of ls (take done ops) replies)
 
 -- whatever a world answers to some first ops of a list, their lines fit the room
-abbrev pub LinesFit : Seen → List Op → Option ℕ → Type 0
-LinesFit old ops room = (done : ℕ) (replies : List Reply) (reached : Seen) → Runs old (take done ops) replies reached
-    → StandsFor reached.settings reached.history reached → HasRoom room (length (lines_of old.labels (take done ops) replies))
+abbrev pub LinesFit : Seen → Labels → List Op → Option ℕ → Type 0
+LinesFit old ls ops room = (done : ℕ) (replies : List Reply) (reached : Seen) (after : Labels) → Runs old ls (take done ops) replies reached after
+    → StandsFor reached.settings reached.history reached → HasRoom room (length (lines_of ls (take done ops) replies))

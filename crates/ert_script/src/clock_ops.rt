@@ -1,5 +1,5 @@
 //! The ops on the clock.
-ghost use Rattle.std.specs.Prelude.{[]};
+ghost use Rattle.std.specs.Prelude.{◌≡◌, []};
 ghost use Rattle.ert_defs.specs.Readings.{IsValid};
 ghost use Rattle.ert_ops.specs.declared.op.Op.{Op};
 ghost use Rattle.ert_script.specs.Scripts.{Does};
@@ -7,9 +7,9 @@ ghost use Rattle.ert_transcript.specs.Calls.{Converts};
 
 use ert_clock::ClockErr;
 use ert_defs::Reading;
-use ert_world::World;
 use ert_transcript::Reply;
 use ert_units::{TooWide, Unit, convert};
+use ert_world::World;
 
 /// How long a service may run: it ends this many nanoseconds after its start time, in more than a quarter
 /// of a millennium.
@@ -17,7 +17,8 @@ const SPAN: i64 = 8_796_093_022_207_000_000;
 
 /// The clock takes a reading, and checks itself where a check is due.
 pub fn tick(world: &mut World, mono: i64, sys: i64) -> Reply
-    requires { IsValid (record { mono = mono; sys = sys }) }
+    requires valid { IsValid (record { mono = mono; sys = sys }) }
+    requires lone { world.old.next ≡ 1 }
     ensures { Does world.old (Op.Tick mono sys) result world.new }
 {
     match world.tick(Reading { mono, sys }, false) {
@@ -32,7 +33,8 @@ pub fn tick(world: &mut World, mono: i64, sys: i64) -> Reply
 
 /// The clock takes a reading and checks itself.
 pub fn check(world: &mut World, mono: i64, sys: i64) -> Reply
-    requires { IsValid (record { mono = mono; sys = sys }) }
+    requires valid { IsValid (record { mono = mono; sys = sys }) }
+    requires lone { world.old.next ≡ 1 }
     ensures { Does world.old (Op.Check mono sys) result world.new }
 {
     match world.tick(Reading { mono, sys }, true) {
@@ -47,7 +49,8 @@ pub fn check(world: &mut World, mono: i64, sys: i64) -> Reply
 
 /// The time offset is finalized.
 pub fn finalize(world: &mut World, mono: i64, sys: i64) -> Reply
-    requires { IsValid (record { mono = mono; sys = sys }) }
+    requires valid { IsValid (record { mono = mono; sys = sys }) }
+    requires lone { world.old.next ≡ 1 }
     ensures { Does world.old (Op.Finalize mono sys) result world.new }
 {
     match world.finalize(Reading { mono, sys }) {
@@ -63,6 +66,7 @@ pub fn finalize(world: &mut World, mono: i64, sys: i64) -> Reply
 
 /// Monotonic time.
 pub fn time(world: &mut World) -> Reply
+    requires { world.old.next ≡ 1 }
     ensures { Does world.old Op.Time result world.new }
 {
     Reply::Time {
@@ -72,6 +76,7 @@ pub fn time(world: &mut World) -> Reply
 
 /// System time.
 pub fn system(world: &mut World) -> Reply
+    requires { world.old.next ≡ 1 }
     ensures { Does world.old Op.System result world.new }
 {
     Reply::System {
@@ -81,6 +86,7 @@ pub fn system(world: &mut World) -> Reply
 
 /// The time offset.
 pub fn offset(world: &mut World) -> Reply
+    requires { world.old.next ≡ 1 }
     ensures { Does world.old Op.Offset result world.new }
 {
     let (offset, state) = world.time_offset();
@@ -89,6 +95,7 @@ pub fn offset(world: &mut World) -> Reply
 
 /// The settings, with the offset as it is.
 pub fn info(world: &mut World) -> Reply
+    requires { world.old.next ≡ 1 }
     ensures { Does world.old Op.Info result world.new }
 {
     let (offset, state) = world.time_offset();

@@ -5,23 +5,23 @@
 //! of a start once its timer was started. `run_ops` does a list of them and writes one line for each, in
 //! large pieces; `do_ops` does them and writes nothing, and `write_settled` tells how many timers have which
 //! status. What they did is a script run: a piece of history for each op, with its reply. The labels of a list
-//! stay bound, so that the next list finds them.
+//! stand in `Names` (`ert_lines`), so that the next list finds them.
 //!
 //! Where memory runs out, a world has done some first ops, and of the next what it makes before it takes memory
 //! (`specs/Scripts`, `BreaksOff`): for most ops nothing.
 #![tactic(auto)]
 
-mod binding;
 mod clock_ops;
 mod mail_ops;
+mod replies;
 mod reply;
 mod run;
 mod sched_ops;
 mod settled;
 mod timer_ops;
 
-pub use binding::{bind_all, name_pairs};
-pub use clock_ops::tick;
+pub use clock_ops::{convert_time, tick};
+pub use replies::{asked, refused, start_of, started};
 pub use reply::reply_op;
 pub use run::{do_ops, history_stands, run_ops};
 pub use settled::write_settled;

@@ -1,16 +1,17 @@
 //! The ops of processes.
-ghost use Rattle.std.specs.Prelude.{◌<◌, IfOk, OnErr};
+ghost use Rattle.std.specs.Prelude.{◌≡◌, ◌<◌, IfOk, OnErr};
 ghost use Rattle.ert_ops.specs.declared.op.Op.{Op};
 ghost use Rattle.ert_script.specs.Scripts.{Does, Fails};
 
 use ert_answers::{MonitorErr, Taken};
 use ert_defs::NoMemory;
-use ert_world::World;
 use ert_transcript::Reply;
+use ert_world::World;
 
 /// A process takes the first message of its mailbox.
 pub fn receive(world: &mut World, process: u32) -> Reply
-    requires { process < world.old.settings.processes }
+    requires process { process < world.old.settings.processes }
+    requires lone { world.old.next ≡ 1 }
     ensures { Does world.old (Op.Receive process) result world.new }
 {
     match world.take(process) {
@@ -22,7 +23,8 @@ pub fn receive(world: &mut World, process: u32) -> Reply
 
 /// A process exits, and its timers are cancelled.
 pub fn exit(world: &mut World, process: u32) -> Reply
-    requires { process < world.old.settings.processes }
+    requires process { process < world.old.settings.processes }
+    requires lone { world.old.next ≡ 1 }
     ensures { Does world.old (Op.Exit process) result world.new }
 {
     Reply::Exit {
@@ -32,7 +34,8 @@ pub fn exit(world: &mut World, process: u32) -> Reply
 
 /// Whether a process hasn't exited.
 pub fn alive(world: &mut World, process: u32) -> Reply
-    requires { process < world.old.settings.processes }
+    requires process { process < world.old.settings.processes }
+    requires lone { world.old.next ≡ 1 }
     ensures { Does world.old (Op.Alive process) result world.new }
 {
     Reply::Alive {
@@ -42,7 +45,8 @@ pub fn alive(world: &mut World, process: u32) -> Reply
 
 /// A process monitors the time offset. Without memory nothing changes.
 pub fn monitor(world: &mut World, process: u32) -> Result<Reply, NoMemory>
-    requires { process < world.old.settings.processes }
+    requires process { process < world.old.settings.processes }
+    requires lone { world.old.next ≡ 1 }
     ensures ok { IfOk result (λ reply. Does world.old (Op.Monitor process) reply world.new) }
     ensures err { OnErr result (Fails world.old (Op.Monitor process) world.new) }
 {
@@ -55,7 +59,8 @@ pub fn monitor(world: &mut World, process: u32) -> Result<Reply, NoMemory>
 
 /// A process no longer does.
 pub fn demonitor(world: &mut World, process: u32, monitor: u32) -> Reply
-    requires { process < world.old.settings.processes }
+    requires process { process < world.old.settings.processes }
+    requires lone { world.old.next ≡ 1 }
     ensures { Does world.old (Op.Demonitor process monitor) result world.new }
 {
     Reply::Demonitor {
@@ -65,10 +70,13 @@ pub fn demonitor(world: &mut World, process: u32, monitor: u32) -> Reply
 
 /// A process is told the time offset, where it is news to it. Without memory nothing changes.
 pub fn notify(world: &mut World, process: u32) -> Result<Reply, NoMemory>
-    requires { process < world.old.settings.processes }
+    requires process { process < world.old.settings.processes }
+    requires lone { world.old.next ≡ 1 }
     ensures ok { IfOk result (λ reply. Does world.old (Op.Notify process) reply world.new) }
     ensures err { OnErr result (Fails world.old (Op.Notify process) world.new) }
 {
-    let put = world.tell(process)?;
-    Ok(Reply::Notify { put })
+    match world.tell(process) {
+        Ok(put) => Ok(Reply::Notify { put }),
+        Err(e) => Err(e),
+    }
 }

@@ -1,29 +1,48 @@
-ghost use Rattle.std.specs.Prelude.{IfOk, OnOk, OnErr};
-ghost use Rattle.ert_lines.specs.Names.{IsIndexOf};
+ghost use Rattle.std.specs.Prelude.{◌≡◌, IfOk, OnErr};
 ghost use Rattle.ert_ops.specs.Ranges.{IsOpInRange};
-ghost use Rattle.ert_script.specs.Scripts.{Does, Fails, MayBind};
+ghost use Rattle.ert_script.specs.Scripts.{Does, DoesWith, Fails};
+ghost use Rattle.ert_script.specs.Timers.{NamesNone};
 
 use crate::clock_ops::{check, convert_time, finalize, info, offset, system, tick, time};
 use crate::mail_ops::{alive, demonitor, exit, monitor, notify, receive};
 use crate::sched_ops::{advance, deliver, serve, turn};
-use crate::timer_ops::{cancel, cancel_async, cancel_quiet, read, read_async, send_after, start};
+use crate::timer_ops::timer_op;
 use ert_defs::NoMemory;
 use ert_lines::Names;
 use ert_ops::Op;
-use ert_world::World;
 use ert_transcript::Reply;
+use ert_world::World;
 
-/// Does one op: as the scheduler that it names, or else as caller 0. `names` is an index of the world's
-/// labels. A start binds its label once its timer was started.
+/// Does one op: as the scheduler that it names, or else as caller 0. A start binds its label once its timer was
+/// started. The world gave out no seat.
 ///
 /// After want of memory the world may have done a part of the op: it has started the timer of a start, and has
-/// done what it could of the steps of a scheduler. No label was bound, but the index may have it.
+/// done what it could of the steps of a scheduler. No label was bound.
 pub fn reply_op(world: &mut World, names: &mut Names, op: &Op) -> Result<Reply, NoMemory>
     requires range { IsOpInRange world.old.settings op.now }
-    requires unbound { MayBind world.old.labels op.now }
-    requires index { IsIndexOf world.old.labels names.old }
+    requires lone { world.old.next ≡ 1 }
+    ensures ok { IfOk result (λ reply. DoesWith world.old names.old op.now reply world.new names.new) }
+    ensures err { OnErr result (Fails world.old op.now world.new) }
+    ensures labels { OnErr result (names.new ≡ names.old) }
+{
+    match op {
+        Op::Start { .. }
+        | Op::SendAfter { .. }
+        | Op::Cancel { .. }
+        | Op::CancelQuiet { .. }
+        | Op::Read { .. }
+        | Op::CancelAsync { .. }
+        | Op::ReadAsync { .. } => timer_op(world, names, op),
+        _ => plain_op(world, op),
+    }
+}
+
+/// Does an op that names no timer.
+fn plain_op(world: &mut World, op: &Op) -> Result<Reply, NoMemory>
+    requires range { IsOpInRange world.old.settings op.now }
+    requires plain { NamesNone op.now }
+    requires lone { world.old.next ≡ 1 }
     ensures ok { IfOk result (λ reply. Does world.old op.now reply world.new) }
-    ensures index { OnOk result (IsIndexOf world.new.labels names.new) }
     ensures err { OnErr result (Fails world.old op.now world.new) }
 {
     match *op {
@@ -36,33 +55,6 @@ pub fn reply_op(world: &mut World, names: &mut Names, op: &Op) -> Result<Reply, 
         Op::Offset => Ok(offset(world)),
         Op::Info => Ok(info(world)),
         Op::Convert { time, from, to } => Ok(convert_time(time, from, to)),
-        Op::Start {
-            label,
-            wheel,
-            when,
-            dest,
-            msg,
-        } => start(world, names, label, wheel, when, dest, msg),
-        Op::SendAfter {
-            label,
-            wheel,
-            when,
-            dest,
-            msg,
-        } => send_after(world, names, label, wheel, when, dest, msg),
-        Op::Cancel { label } => Ok(cancel(world, names, label)),
-        Op::CancelQuiet { label } => Ok(cancel_quiet(world, names, label)),
-        Op::Read { label } => Ok(read(world, names, label)),
-        Op::CancelAsync {
-            label,
-            process,
-            info,
-        } => cancel_async(world, names, label, process, info),
-        Op::ReadAsync {
-            label,
-            process,
-            info,
-        } => read_async(world, names, label, process, info),
         Op::Serve { sched } => serve(world, sched),
         Op::Advance { sched } => advance(world, sched),
         Op::Deliver { sched } => deliver(world, sched),
@@ -72,5 +64,6 @@ pub fn reply_op(world: &mut World, names: &mut Names, op: &Op) -> Result<Reply, 
         Op::Alive { process } => Ok(alive(world, process)),
         Op::Monitor { process } => monitor(world, process),
         Op::Demonitor { process, monitor } => Ok(demonitor(world, process, monitor)),
+        _ => unreachable!(),
     }
 }

@@ -8,10 +8,10 @@ pub returns-in-Bare : goal.returns-in-Bare
 returns-in-Bare c = rw c.in-Bare.is c.write_bare.ensures
 
 pub returns-in-CancelDone : goal.returns-in-CancelDone
-returns-in-CancelDone c = rw (c.in-CancelDone.is, ← c.label-in-CancelDone.ensures) c.write_cancel_done.ensures
+returns-in-CancelDone c = rw (c.in-CancelDone.is, ← c.label-in-CancelDone.ensures) c.write_done.ensures
 
 pub returns-in-ReadDone : goal.returns-in-ReadDone
-returns-in-ReadDone c = rw (c.in-ReadDone.is, ← c.label-in-ReadDone.ensures) c.write_read_done.ensures
+returns-in-ReadDone c = rw (c.in-ReadDone.is, ← c.label-in-ReadDone.ensures) c.write_done-in-ReadDone.ensures
 
 pub returns-in-Change : goal.returns-in-Change
 returns-in-Change c =

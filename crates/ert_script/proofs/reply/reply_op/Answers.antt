@@ -1,12 +1,5 @@
-use Rattle.std.proofs.Common.{rules, FitsSigned, w64, to_z-of_z, refl, sym, subst}
-use Rattle.ert_ops.specs.declared.op.Op.{Op}
-use Rattle.ert_script.proofs.Conversions.{does_convert}
-use Rattle.ert_script.specs.Scripts.{Does}
+use Rattle.ert_lines.proofs.Texts.{if_map}
 use Rattle.ert_script.proofs.reply.reply_op.Goals as goal
 
-pub returns-in-Convert-clause-ok : goal.returns-in-Convert-clause-ok
-returns-in-Convert-clause-ok c =
-    let time : FitsSigned w64 c.in-Convert.time = search rules in
-    subst (λ (op : Op). Does c.args.world.now op c.convert_time.result c.args.world.now) (sym c.in-Convert.is)
-    (does_convert c.args.world.now c.in-Convert.time c.in-Convert.from c.in-Convert.to c.convert_time.result refl
-    (simp to_z-of_z at c.convert_time.ensures))
+pub returns-in_default-clause-ok : goal.returns-in_default-clause-ok
+returns-in_default-clause-ok c = if_map c.plain_op.result _ _ (λ reply does. does.with c.args.names.now) c.plain_op.ensures.ok

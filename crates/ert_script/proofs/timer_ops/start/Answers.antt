@@ -1,19 +1,24 @@
-use Rattle.std.proofs.Common.{sym, subst}
-use Rattle.std.proofs.lemmas.Result.{err_from_is_err_and}
-use Rattle.ert_ops.specs.declared.op.Op.TheVariants as ops
-use Rattle.ert_world.specs.Worlds.{Seen}
-use Rattle.ert_script.specs.Scripts.{Fails}
+use Rattle.std.proofs.Common.{rules}
+use Rattle.std.specs.Prelude.{◌≢◌}
+use Rattle.ert_answers.specs.Ways.{alone}
+use Rattle.ert_answers.specs.declared.answers.StartErr.TheVariants.{NoMemory}
+use Rattle.ert_script.proofs.Refusals.{refused_made}
 use Rattle.ert_script.proofs.timer_ops.start.Goals as goal
 
-pub returns-in_err-bind_label-in-Ok-clause-err : goal.returns-in_err-bind_label-in-Ok-clause-err
-returns-in_err-bind_label-in-Ok-clause-err c =
-    let p = err_from_is_err_and c.from_residual.result c.from_residual.ensures.1 in
-    let goes = c.in-Ok.ensures.call in
-    rw p.1
-    (subst (λ (w : Seen). Fails c.args.world.now (ops.Start c.args.label c.args.wheel c.args.when c.args.dest c.args.msg) w) (sym c.in_err-bind_label-in-Ok.ensures.err)
+pub returns-in-Err-clause-ok : goal.returns-in-Err-clause-ok
+returns-in-Err-clause-ok c =
+    let w = c.args.world.now in
+    let s = c.args.start.now in
+    let goes = c.in-Err.ensures.call in
+    let grows = goes.lone c.requires.lone in
+    let some : c.in-Err.why ≢ NoMemory = search rules in
+    let made = refused_made w.settings (alone w.settings) 0 c.args.names.now c.args.label c.args.wheel s.when s.dest s.msg s.kind c.in-Err.why
+    w.history grows.piece some grows.made in
+    rw c.refused.ensures
     (record {
-      grows = record { piece = goes.grows.piece; grown = goes.grows.grown; made = (c.in-Ok.timer, goes.grows.made) };
+      grows = record { piece = grows.piece; grown = grows.grown; made = made.0 };
       settings = goes.settings;
-      labels = goes.labels;
+      next = goes.next;
+      labels = made.1;
       tidy = goes.tidy;
-    }))
+    })

@@ -1,14 +1,8 @@
-use Rattle.std.proofs.Common.{Option, ap, ◌∙◌}
-use Rattle.std.specs.Option.{unwrap_or}
-use Rattle.ert_defs.specs.Timers.{timer_at}
-use Rattle.ert_defs.specs.declared.timer.TimerRef.{TimerRef}
 use Rattle.ert_lines.proofs.Indexes.{found_ref}
 use Rattle.ert_lines.proofs.names.Names.reference.Goals as goal
 
 pub returns-in-Some : goal.returns-in-Some
-returns-in-Some c ls i =
-    ap (λ (o : Option TimerRef). unwrap_or o (timer_at 0 c.args.label 0)) c.in-Some.ensures.value ∙ found_ref ls c.args.self.now c.args.label i
+returns-in-Some c = found_ref _ _ _ _ c.args.label _ c.self.invariant c.self.view_is c.in-Some.ensures.value
 
 pub returns-in-None : goal.returns-in-None
-returns-in-None c ls i =
-    ap (λ (o : Option TimerRef). unwrap_or o (timer_at 0 c.args.label 0)) c.in-None.ensures.value ∙ found_ref ls c.args.self.now c.args.label i
+returns-in-None c = found_ref _ _ _ _ c.args.label _ c.self.invariant c.self.view_is c.in-None.ensures.value
