@@ -1,6 +1,4 @@
 pub mod Carried
-pub mod Helds
-pub mod SeatCarried
-pub mod SeatHelds
-pub mod Values
+pub mod Cast
+pub mod Heap
 pub mod Ways

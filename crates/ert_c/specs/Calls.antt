@@ -6,7 +6,7 @@ use Rattle.ert_answers.specs.MailCalls.{Takes, Monitors, Demonitors, Tells}
 use Rattle.ert_answers.specs.RequestCalls.{Asks, inbox_for}
 use Rattle.ert_answers.specs.RoomCalls.{TellsRoom}
 use Rattle.ert_answers.specs.TimerCalls.{Reads, Cancels, Starts}
-use Rattle.ert_answers.specs.Ways.{Growth}
+use Rattle.ert_answers.specs.Ways.{Growth, Way}
 use Rattle.ert_answers.specs.WheelCalls.{TellsAlive}
 use Rattle.ert_answers.specs.declared.answers.MonitorErr.{MonitorErr}
 use Rattle.ert_answers.specs.declared.answers.Room.{Room}
@@ -20,8 +20,8 @@ use Rattle.ert_defs.specs.declared.mail.Request.{Request}
 use Rattle.ert_defs.specs.declared.memory.NoMemory.{NoMemory as WantOfMemory}
 use Rattle.ert_defs.specs.declared.timer.Start.{Start}
 use Rattle.ert_defs.specs.declared.timer.TimerRef.{TimerRef}
-use Rattle.ert_seats.specs.SharedWorlds.{Shared, Goes, By, IsTidyAt, IsNextHeldAt, way_of}
-use Rattle.ert_timers.specs.NextDue.{NoneArmedBefore, IsNearest, horizon_at}
+use Rattle.ert_world.specs.Worlds.{Seen, Goes, By, IsNextHeldAt, IsNearestAt}
+use Rattle.ert_timers.specs.NextDue.{NoneArmedBefore}
 use Rattle.ert_c.specs.Through.{Through, Answers, IfBelow, IsOutOfRange, IsRefusedAs}
 use Rattle.ert_c.specs.Told.{start_of, request_kind_at, request_of, IsStarted, IsRoomTold, IsAsked}
 use Rattle.ert_c.specs.declared.mail_calls.ErtRequest.{ErtRequest}
@@ -30,112 +30,112 @@ use Rattle.ert_c.specs.declared.timer_calls.ErtStart.{ErtStart}
 use Rattle.ert_c.specs.declared.timer_calls.ErtTimer.{ErtTimer}
 
 -- a service makes a call that isn't one on the clock
-pub record Makes (call : Shared → Growth) (old new : Shared) : Type 0 where
+pub record Makes (call : Seen → Way → Growth) (old new : Seen) : Type 0 where
   pub goes : Goes old (call old) new
   pub clock : new.clock ≡ old.clock
 
 -- a call at a scheduler, which is refused where there is no such one
-abbrev pub AtSched : {A : Type 0} → ℕ → (A → Shared → Shared → Type 0) → (A → Type 0) → ℤ → Type 0 → Shared → Shared → Type 0
+abbrev pub AtSched : {A : Type 0} → ℕ → (A → Seen → Seen → Type 0) → (A → Type 0) → ℤ → Type 0 → Seen → Seen → Type 0
 AtSched n call tells status kept old new = IfBelow n old.settings.schedulers (Answers call tells old new) (IsOutOfRange status kept old new)
 
 -- a call for a process, which is refused where there is no such one
-abbrev pub AtProcess : {A : Type 0} → ℕ → (A → Shared → Shared → Type 0) → (A → Type 0) → ℤ → Type 0 → Shared → Shared → Type 0
+abbrev pub AtProcess : {A : Type 0} → ℕ → (A → Seen → Seen → Type 0) → (A → Type 0) → ℤ → Type 0 → Seen → Seen → Type 0
 AtProcess n call tells status kept old new = IfBelow n old.settings.processes (Answers call tells old new) (IsOutOfRange status kept old new)
 
 -- a call at a scheduler goes through a handle, and C finds the answer in a place of its own; else that place is
 -- as it was
-abbrev pub AnswersAtSched : {A P : Type 0} → ℕ → (A → Shared → Shared → Type 0) → (A → P → ℤ → P → Type 0) → P → P
-    → Option Shared → ℤ → Option Shared → Type 0
+abbrev pub AnswersAtSched : {A P : Type 0} → ℕ → (A → Seen → Seen → Type 0) → (A → P → ℤ → P → Type 0) → P → P
+    → Option Seen → ℤ → Option Seen → Type 0
 AnswersAtSched n call tells kept found old status new =
     Through (found ≡ kept) (AtSched n call (λ answer. tells answer kept status found) status (found ≡ kept)) old status new
 
 -- and so does a call for a process
-abbrev pub AnswersAtProcess : {A P : Type 0} → ℕ → (A → Shared → Shared → Type 0) → (A → P → ℤ → P → Type 0) → P → P
-    → Option Shared → ℤ → Option Shared → Type 0
+abbrev pub AnswersAtProcess : {A P : Type 0} → ℕ → (A → Seen → Seen → Type 0) → (A → P → ℤ → P → Type 0) → P → P
+    → Option Seen → ℤ → Option Seen → Type 0
 AnswersAtProcess n call tells kept found old status new =
     Through (found ≡ kept) (AtProcess n call (λ answer. tells answer kept status found) status (found ≡ kept)) old status new
 
 -- caller 0 starts a timer, with this answer, which is never want of memory
-pub record StartsBy (wheel : ℕ) (start : Start) (answer : Result TimerRef StartErr) (old new : Shared) : Type 0 where
+pub record StartsBy (wheel : ℕ) (start : Start) (answer : Result TimerRef StartErr) (old new : Seen) : Type 0 where
   pub makes : Makes (λ w. By w (λ g. Starts g 0 wheel start answer)) old new
   pub memory : answer ≢ Err NoMemory
 
 -- C starts a timer on the wheel of a scheduler, for a process; where there is no such scheduler or process,
 -- nothing has changed
-abbrev pub StartsTimer : ℕ → ErtStart → ErtTimer → ErtTimer → Option Shared → ℤ → Option Shared → Type 0
+abbrev pub StartsTimer : ℕ → ErtStart → ErtTimer → ErtTimer → Option Seen → ℤ → Option Seen → Type 0
 StartsTimer sched start kept found old status new = Through (found ≡ kept) (λ was now. IfBelow sched was.settings.schedulers
     (AtProcess start.dest (StartsBy sched (start_of start)) (λ answer. IsStarted answer kept status found) status (found ≡ kept) was now)
     (IsOutOfRange status (found ≡ kept) was now)) old status new
 
 -- caller 0 looks how much room the wheel of a scheduler has
-abbrev pub TellsRoomBy : ℕ → Room → Shared → Shared → Type 0
+abbrev pub TellsRoomBy : ℕ → Room → Seen → Seen → Type 0
 TellsRoomBy sched answer = Makes (λ w. By w (λ g. TellsRoom g 0 sched answer))
 
 -- C asks how much room the wheel of a scheduler has; where there is no such one, what C passed is as it was
-abbrev pub AsksRoom : ℕ → Type 0 → ℕ → ℕ → Option Shared → ℤ → Option Shared → Type 0
+abbrev pub AsksRoom : ℕ → Type 0 → ℕ → ℕ → Option Seen → ℤ → Option Seen → Type 0
 AsksRoom sched kept room ready old status new =
     Through kept (AtSched sched (TellsRoomBy sched) (λ answer. IsRoomTold answer status room ready) status kept) old status new
 
 -- caller 0 cancels a timer: what was left of it, where it was armed
-abbrev pub CancelsBy : TimerRef → Option ℕ → Shared → Shared → Type 0
+abbrev pub CancelsBy : TimerRef → Option ℕ → Seen → Seen → Type 0
 CancelsBy timer answer = Makes (λ w. By w (λ g. Cancels g (Caller 0) timer answer))
 
 -- caller 0 reads a timer: what is left of it, where it is armed
-abbrev pub ReadsBy : TimerRef → Option ℕ → Shared → Shared → Type 0
+abbrev pub ReadsBy : TimerRef → Option ℕ → Seen → Seen → Type 0
 ReadsBy timer answer = Makes (λ w. By w (λ g. Reads g (Caller 0) timer answer))
 
 -- caller 0 sees whether a process is alive
-abbrev pub TellsAliveBy : ℕ → Bool → Shared → Shared → Type 0
+abbrev pub TellsAliveBy : ℕ → Bool → Seen → Seen → Type 0
 TellsAliveBy process answer = Makes (λ w. By w (λ g. TellsAlive g (Caller 0) process answer))
 
 -- caller 0 lets a process exit: whether it was alive, and then every wheel is swept
-abbrev pub ExitsBy : ℕ → Bool → Shared → Shared → Type 0
-ExitsBy process answer = Makes (λ w. Exits w.settings (way_of w) 0 process answer)
+abbrev pub ExitsBy : ℕ → Bool → Seen → Seen → Type 0
+ExitsBy process answer = Makes (λ w way. Exits w.settings way 0 process answer)
 
 -- caller 0 puts a request into the inbox of its scheduler, or there is no memory
-abbrev pub AsksBy : Request → Result (Unit {0}) WantOfMemory → Shared → Shared → Type 0
+abbrev pub AsksBy : Request → Result (Unit {0}) WantOfMemory → Seen → Seen → Type 0
 AsksBy request answer = Makes (λ w. By w (λ g. Asks g 0 (inbox_for g request) request answer))
 
 -- C puts a request; where no request has its kind, or there is no process to reply to, nothing has changed
-abbrev pub PutsRequest : ErtRequest → Option Shared → ℤ → Option Shared → Type 0
+abbrev pub PutsRequest : ErtRequest → Option Seen → ℤ → Option Seen → Type 0
 PutsRequest request old status new = Through ⊤ (λ was now. MatchOption (request_kind_at request.kind) (IsRefusedAs BAD_KIND status was now)
     (λ kind. AtProcess request.reply_to (AsksBy (request_of request kind)) (λ answer. IsAsked answer status) status ⊤ was now)) old status new
 
 -- caller 0 takes the first message of a process, if there is one and the process is alive
-abbrev pub TakesBy : ℕ → Taken → Shared → Shared → Type 0
+abbrev pub TakesBy : ℕ → Taken → Seen → Seen → Type 0
 TakesBy process answer = Makes (λ w. By w (λ g. Takes g 0 process answer))
 
 -- caller 0 makes a monitor of the time offset for a process: its number, or why there is none
-abbrev pub MonitorsBy : ℕ → Result ℕ MonitorErr → Shared → Shared → Type 0
+abbrev pub MonitorsBy : ℕ → Result ℕ MonitorErr → Seen → Seen → Type 0
 MonitorsBy process answer = Makes (λ w. By w (λ g. Monitors g 0 process answer))
 
 -- caller 0 removes a monitor of a process: whether it stood
-abbrev pub DemonitorsBy : ℕ → ℕ → Bool → Shared → Shared → Type 0
+abbrev pub DemonitorsBy : ℕ → ℕ → Bool → Seen → Seen → Type 0
 DemonitorsBy process monitor answer = Makes (λ w. By w (λ g. Demonitors g 0 process monitor answer))
 
 -- caller 0 has the monitors of a process told the offset: how many messages are put, or want of memory
-abbrev pub TellsBy : ℕ → Result ℕ WantOfMemory → Shared → Shared → Type 0
+abbrev pub TellsBy : ℕ → Result ℕ WantOfMemory → Seen → Seen → Type 0
 TellsBy process answer = Makes (λ w. By w (λ g. Tells g 0 process answer))
 
 -- a scheduler answers a request: whether there was one, or want of memory
-abbrev pub ServesBy : ℕ → Result Bool WantOfMemory → Shared → Shared → Type 0
-ServesBy sched answer = Makes (λ w. Serves w.settings (way_of w) sched answer)
+abbrev pub ServesBy : ℕ → Result Bool WantOfMemory → Seen → Seen → Type 0
+ServesBy sched answer = Makes (λ w way. Serves w.settings way sched answer)
 
 -- a scheduler advances its wheel: to which millisecond and how many timers expired, or want of memory
-abbrev pub AdvancesBy : ℕ → Result (ℕ × ℕ) WantOfMemory → Shared → Shared → Type 0
-AdvancesBy sched answer = Makes (λ w. AdvancesWheel w.settings (way_of w) sched answer)
+abbrev pub AdvancesBy : ℕ → Result (ℕ × ℕ) WantOfMemory → Seen → Seen → Type 0
+AdvancesBy sched answer = Makes (λ w way. AdvancesWheel w.settings way sched answer)
 
 -- a scheduler hands its expired timers over: how many were put and dropped, or want of memory
-abbrev pub DeliversBy : ℕ → Result (ℕ × ℕ) WantOfMemory → Shared → Shared → Type 0
-DeliversBy sched answer = Makes (λ w. Delivers w.settings (way_of w) sched answer)
+abbrev pub DeliversBy : ℕ → Result (ℕ × ℕ) WantOfMemory → Seen → Seen → Type 0
+DeliversBy sched answer = Makes (λ w way. Delivers w.settings way sched answer)
 
 -- a scheduler makes a turn: what it did, or want of memory
-abbrev pub TurnsBy : ℕ → Result Turned WantOfMemory → Shared → Shared → Type 0
-TurnsBy sched answer = Makes (λ w. Turns w.settings (way_of w) sched answer)
+abbrev pub TurnsBy : ℕ → Result Turned WantOfMemory → Seen → Seen → Type 0
+TurnsBy sched answer = Makes (λ w way. Turns w.settings way sched answer)
 
 -- what is told is how early a row of the wheel is due, no armed timer is due before it, and nothing has changed
-pub record LooksAhead (sched : ℕ) (answer : Option ℕ) (old new : Shared) : Type 0 where
+pub record LooksAhead (sched : ℕ) (answer : Option ℕ) (old new : Seen) : Type 0 where
   pub held : IsNextHeldAt old sched answer
   pub armed : NoneArmedBefore (state old.settings old.history) sched answer
-  pub nearest : IsTidyAt old sched → IsNearest (state old.settings old.history) sched (horizon_at old.settings old.clock.face.time) answer
+  pub nearest : IsNearestAt old sched answer
   pub unchanged : new ≡ old

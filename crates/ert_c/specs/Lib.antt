@@ -1,10 +1,7 @@
 pub mod Calls
 pub mod ClockCalls
-pub mod Lending
 pub mod Opened
 pub mod Places
 pub mod SeatCalls
-pub mod SeatLending
-pub mod SeatPlaces
 pub mod Through
 pub mod Told

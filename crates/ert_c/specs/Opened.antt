@@ -8,7 +8,8 @@ use Rattle.ert_defs.specs.declared.settings.Reading.{Reading}
 use Rattle.ert_defs.specs.declared.settings.Settings.{Settings}
 use Rattle.ert_defs.specs.declared.settings.SettingsFault.{SettingsFault}
 use Rattle.ert_defs.specs.declared.settings.SettingsFault.TheVariants.{Start, First, Count}
-use Rattle.ert_seats.specs.SharedWorlds.{Shared, IsOpened}
+use Rattle.ert_world.specs.Openings.{IsOpened}
+use Rattle.ert_world.specs.Worlds.{Seen}
 use Rattle.ert_c.specs.declared.opening.ErtReading.{ErtReading}
 use Rattle.ert_c.specs.declared.opening.ErtSettings.{ErtSettings}
 use Rattle.ert_c.specs.declared.opening.TheConstants.{SETTINGS_SIZE}
@@ -58,25 +59,25 @@ IsRead c (Err status) =
     ⊎ ((c.size ≡ SETTINGS_SIZE) × (((mode_at c.mode ≡ None) × (status ≡ BAD_MODE)) ⊎ HasFault c status))
 
 -- a service stands behind the handle: it was opened with these settings
-pub record HasOpened (g : Settings) (status : ℤ) (new : Option Shared) : Type 0 where
-  pub world : Shared
+pub record HasOpened (g : Settings) (status : ℤ) (new : Option Seen) : Type 0 where
+  pub world : Seen
   pub is : new ≡ Some world
   pub opened : IsOpened g world
   pub told : status ≡ OK
 
 -- what was read opens a service, or finds no memory for it; a refusal is told by its status
-abbrev pub OpensBy : Result Settings ℤ → ℤ → Option Shared → Type 0
+abbrev pub OpensBy : Result Settings ℤ → ℤ → Option Seen → Type 0
 OpensBy (Ok g) status new = HasOpened g status new ⊎ ((status ≡ NO_MEMORY) × (new ≡ None))
 OpensBy (Err why) status new = (status ≡ why) × (new ≡ None)
 
 -- behind a closed handle a service is opened with what C passed, or isn't
-pub record OpensNew (c : ErtSettings) (status : ℤ) (new : Option Shared) : Type 0 where
+pub record OpensNew (c : ErtSettings) (status : ℤ) (new : Option Seen) : Type 0 where
   pub read : Result Settings ℤ
   pub meant : IsRead c read
   pub opens : OpensBy read status new
 
 -- a closed handle is opened or stays closed, and an open one is left as it was
-abbrev pub Opens : ErtSettings → Option Shared → ℤ → Option Shared → Type 0
+abbrev pub Opens : ErtSettings → Option Seen → ℤ → Option Seen → Type 0
 Opens c None status new = OpensNew c status new
 Opens c (Some w) status new = (status ≡ OPEN) × (new ≡ Some w)
 

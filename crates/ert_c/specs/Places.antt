@@ -1,12 +1,11 @@
--- What the place of a world owns.
+-- What a place owns.
 
 use Rattle.std.specs.Prelude.{Option, Some, None, Bool}
 use Rattle.std.specs.Option.{is_some}
 use Rattle.std_alloc.specs.Box.Ownership.{box_owns}
 use Rattle.std_heap.specs.contracts.GlobalAllocator.TheImpl.{ghosts}
-use Rattle.ert_seats.specs.SharedWorlds.{Shared}
-use Rattle.ert_seats.specs.contracts.shared_world.SharedWorld.{the_row}
 use base.Fml.{Fml, ftrue}
+use denote.RattleType.{RattleType}
 use denote.RawPtr.{Ptr}
 use mir.Syntax.{Ty}
 
@@ -14,10 +13,10 @@ use mir.Syntax.{Ty}
 abbrev pub chunk : Ty → Ptr → Fml
 chunk = ghosts.dealloc_token (record { memory = record { seal = tt } })
 
--- the world and the right to free its memory, where there is one
-unfoldable pub held : Ptr → Option Shared → Fml
-held p (Some w) = box_owns chunk the_row p w
-held p None = ftrue
+-- the value and the right to free its memory, where there is one
+abbrev pub held : (R : RattleType) → Ptr → Option R.Denot → Fml
+held R p (Some x) = box_owns chunk R p x
+held R p None = ftrue
 
 -- whether something stands behind a handle
 abbrev pub is_there : {W : Type 0} → Option W → Bool

@@ -12,12 +12,12 @@ use Rattle.ert_c.specs.declared.status.TheConstants.{OK, CLOSED, OPEN, NO_MEMORY
 use Rattle.ert_defs.specs.declared.entry.Actor.TheVariants.{Caller}
 use Rattle.ert_defs.specs.declared.settings.OffsetState.{OffsetState}
 use Rattle.ert_defs.specs.declared.timer.TimerRef.{TimerRef}
-use Rattle.ert_seats.specs.Seats.{Seated, Steps, BySeat, GivesSeat}
-use Rattle.ert_seats.specs.SharedWorlds.{Shared}
+use Rattle.ert_world.specs.Seats.{Seated, Steps, BySeat, GivesSeat}
+use Rattle.ert_world.specs.Worlds.{Seen}
 
 -- a service gave its next caller a seat, and this one stands behind the seat's handle
-pub record HasSeat (old : Shared) (status : ℤ) (world : Option Shared) (seat : Option Seated) : Type 0 where
-  pub left : Shared
+pub record HasSeat (old : Seen) (status : ℤ) (world : Option Seen) (seat : Option Seated) : Type 0 where
+  pub left : Seen
   pub given : Seated
   pub world_is : world ≡ Some left
   pub seat_is : seat ≡ Some given
@@ -25,11 +25,11 @@ pub record HasSeat (old : Shared) (status : ℤ) (world : Option Shared) (seat :
   pub told : status ≡ OK
 
 -- why a service gives no seat: every caller but 0 has one, or there is no memory
-abbrev pub IsSeatless : Shared → ℤ → Type 0
+abbrev pub IsSeatless : Seen → ℤ → Type 0
 IsSeatless old status = ((status ≡ NO_SEAT) × (old.settings.callers ≤ old.next)) ⊎ ((status ≡ NO_MEMORY) × (old.next < old.settings.callers))
 
 -- a seat is opened, or nothing has changed: neither what stands behind the one handle nor behind the other
-abbrev pub OpensSeat : Option Shared → Option Seated → ℤ → Option Shared → Option Seated → Type 0
+abbrev pub OpensSeat : Option Seen → Option Seated → ℤ → Option Seen → Option Seated → Type 0
 OpensSeat world (Some s) status left given = (status ≡ OPEN) × (left ≡ world) × (given ≡ Some s)
 OpensSeat None None status left given = (status ≡ CLOSED) × (left ≡ None) × (given ≡ None)
 OpensSeat (Some old) None status left given = HasSeat old status left given ⊎ (IsSeatless old status × (left ≡ Some old) × (given ≡ None))

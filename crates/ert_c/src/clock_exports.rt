@@ -5,10 +5,10 @@ ghost use Rattle.ert_c.specs.Opened.{reading_as, Opens, Closes};
 ghost use Rattle.ert_c.specs.Through.{Through, Answers, AnswersThrough};
 
 use crate::clock_calls::{ErtMoved, ErtOffset, state_as, tell_finalized, tell_moved};
-use crate::ert_world::ErtWorld;
+use crate::handle::ErtWorld;
 use crate::opening::{ErtReading, ErtSettings};
 use crate::status::{CLOSED, NO_MEMORY, OK, OPEN};
-use ert_seats::SharedWorld;
+use ert_world::World;
 use std::alloc::Global;
 
 /// Opens a service.
@@ -23,13 +23,14 @@ pub extern "C" fn ert_world_open(alloc: Global, world: &mut ErtWorld, settings: 
         Ok(settings) => settings,
         Err(status) => return status,
     };
-    let Ok(opened) = SharedWorld::open(alloc, &settings) else {
+    let Ok(opened) = World::open(alloc, &settings) else {
         return NO_MEMORY;
     };
     let Ok(boxed) = Box::new(alloc, opened) else {
         return NO_MEMORY;
     };
-    world.fill(boxed);
+    world.place.as_place().fill(boxed);
+    world.live = true;
     OK
 }
 
@@ -41,7 +42,8 @@ pub extern "C" fn ert_world_close(alloc: Global, world: &mut ErtWorld) -> i32
     if !world.live {
         return CLOSED;
     }
-    let _world = world.empty(alloc);
+    let _world = world.place.as_place().empty(alloc);
+    world.live = false;
     OK
 }
 
@@ -58,7 +60,8 @@ pub extern "C" fn ert_world_tick(
     if !world.live {
         return CLOSED;
     }
-    let answer = world.place.lend().tick(reading.read(), force != 0);
+    let service = world.place.as_place().lend();
+    let answer = service.tick(reading.read(), force != 0);
     tell_moved(answer, moved)
 }
 
@@ -77,7 +80,7 @@ pub extern "C" fn ert_world_finalize(
     if !world.live {
         return CLOSED;
     }
-    let answer = world.place.lend().finalize(reading.read());
+    let answer = world.place.as_place().lend().finalize(reading.read());
     tell_finalized(answer, before, moved)
 }
 
@@ -89,7 +92,7 @@ pub extern "C" fn ert_world_monotonic_time(world: &mut ErtWorld, time: &mut i64)
     if !world.live {
         return CLOSED;
     }
-    *time = world.place.lend().monotonic_time();
+    *time = world.place.as_place().lend().monotonic_time();
     OK
 }
 
@@ -101,7 +104,7 @@ pub extern "C" fn ert_world_system_time(world: &mut ErtWorld, time: &mut i64) ->
     if !world.live {
         return CLOSED;
     }
-    *time = world.place.lend().system_time();
+    *time = world.place.as_place().lend().system_time();
     OK
 }
 
@@ -113,7 +116,7 @@ pub extern "C" fn ert_world_time_offset(world: &mut ErtWorld, offset: &mut ErtOf
     if !world.live {
         return CLOSED;
     }
-    let (value, state) = world.place.lend().time_offset();
+    let (value, state) = world.place.as_place().lend().time_offset();
     *offset = ErtOffset {
         offset: value,
         state: state_as(state),

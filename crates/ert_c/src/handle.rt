@@ -1,78 +1,89 @@
-//! A world in the caller's memory.
-ghost use Rattle.std.specs.Prelude.{Option};
-ghost use Rattle.ert_seats.specs.SharedWorlds.{Shared};
-ghost use Rattle.ert_timers.specs.Parts.{part_code};
+//! The handles that C has of a world and of a seat.
+ghost use Rattle.std.specs.Prelude.{◌≡◌, Option};
 ghost use Rattle.std.specs.Coded.{codes};
+ghost use Rattle.ert_c.specs.Places.{is_there};
+ghost use Rattle.ert_world.specs.Seats.{Seated};
+ghost use Rattle.ert_world.specs.Worlds.{Seen};
+ghost use Rattle.ert_timers.specs.Parts.{part_code};
 
-use crate::loose::Loose;
-use ert_seats::SharedWorld;
-use std::alloc::Global;
+use crate::place::Place;
+use ert_world::{Seat, World};
 use std::marker::Model;
-use std::ptr;
 
-/// Where a boxed world lies, if there is one.
-///
-/// It can't be dropped, so a service can't be forgotten.
+/// The place of a world, as C holds it: with no type parameter.
 #[repr(C)]
-pub struct Place {
+pub struct WorldPlace {
     at: *mut u8,
-    pub(crate) ghost value: { Option Shared } by { Prim.hlevel (codes, part_code) },
+    pub(crate) ghost value: { Option Seen } by { Prim.hlevel (codes, part_code) },
 }
 
-impl Model for Place {
+impl Model for WorldPlace {
     ghost use Rattle.ert_c.specs.Places.{held};
+    ghost use Rattle.ert_world.specs.contracts.world.World.{the_row};
 
-    ghost also_owns = { λ h. held h.at h.value };
+    ghost also_owns = { λ h. held the_row h.at h.value };
 }
 
-impl Place {
-    ghost use Rattle.std.specs.Prelude.{◌≡◌, true, false, None, Some};
-    ghost use Rattle.std.specs.Borrow.{sem};
-    ghost use Rattle.ert_c.specs.Lending.{place_follows};
-    ghost use Rattle.ert_c.specs.Places.{is_there};
+impl WorldPlace {
+    ghost use Rattle.std.specs.Prelude.{◌≡◌};
+    ghost use Rattle.std.specs.Borrow.{sem, Lends};
+    ghost use Rattle.ert_c.specs.contracts.handle.WorldPlace as held;
+    ghost use Rattle.ert_c.specs.contracts.place.Place as place;
+    ghost use Rattle.ert_world.specs.contracts.world.World as world;
 
-    /// No world.
-    pub(crate) fn empty() -> Place
-        ensures { result.value ≡ None }
+    /// The place.
+    pub(crate) fn as_place(&mut self) -> &mut Place<World>
+        ensures* writes_back { sem 𝓛 (Lends held.the_row (place.the_row world.the_row) self.entry result (λ p. record { at = p.at; value = p.value })) }
+        ensures value { self.old.value ≡ result.now.value }
     {
-        Place {
-            at: ptr::null_mut(),
-        }
+        unsafe { &mut *(self as *mut WorldPlace).cast::<Place<World>>() }
     }
+}
 
-    /// The place of a box.
-    pub(crate) fn of(world: Loose<SharedWorld, Global>) -> Place
-        ensures { result.value ≡ Some world.value }
-    {
-        let Loose { at, alloc: _ } = world;
-        Place { at: at.cast() }
-    }
+/// The place of a seat, as C holds it.
+#[repr(C)]
+pub struct SeatPlace {
+    at: *mut u8,
+    pub(crate) ghost value: { Option Seated } by { Prim.hlevel codes },
+}
 
-    /// The box again.
-    pub(crate) fn into_loose(self, alloc: Global) -> Loose<SharedWorld, Global>
-        requires { is_there self.value ≡ true }
-        ensures { self.value ≡ Some result.value }
-    {
-        let Place { at } = self;
-        Loose {
-            at: at.cast(),
-            alloc,
-        }
-    }
+impl Model for SeatPlace {
+    ghost use Rattle.ert_c.specs.Places.{held};
+    ghost use Rattle.ert_world.specs.contracts.seat.Seat.{the_row};
 
-    /// Lets go of the place of no world.
-    pub(crate) fn end(self)
-        requires { is_there self.value ≡ false }
-    {
-        let Place { at: _ } = self;
-    }
+    ghost also_owns = { λ h. held the_row h.at h.value };
+}
 
-    /// The world, for the time of a call.
-    pub(crate) fn lend(&mut self) -> &mut SharedWorld
-        requires { is_there self.old.value ≡ true }
-        ensures* writes_back { sem 𝓛 (place_follows self.entry result) }
-        ensures value { self.old.value ≡ Some result.now }
+impl SeatPlace {
+    ghost use Rattle.std.specs.Prelude.{◌≡◌};
+    ghost use Rattle.std.specs.Borrow.{sem, Lends};
+    ghost use Rattle.ert_c.specs.contracts.handle.SeatPlace as held;
+    ghost use Rattle.ert_c.specs.contracts.place.Place as place;
+    ghost use Rattle.ert_world.specs.contracts.seat.Seat as seat;
+
+    /// The place.
+    pub(crate) fn as_place(&mut self) -> &mut Place<Seat>
+        ensures* writes_back { sem 𝓛 (Lends held.the_row (place.the_row seat.the_row) self.entry result (λ p. record { at = p.at; value = p.value })) }
+        ensures value { self.old.value ≡ result.now.value }
     {
-        unsafe { &mut *self.at.cast::<SharedWorld>() }
+        unsafe { &mut *(self as *mut SeatPlace).cast::<Place<Seat>>() }
     }
+}
+
+/// A service, or none: two words in the caller's memory.
+#[repr(C)]
+pub struct ErtWorld {
+    pub(crate) place: WorldPlace,
+    /// Whether there is a service. It is read before the place is.
+    pub(crate) live: bool,
+    ghost told: { is_there place.value ≡ live },
+}
+
+/// A seat, or none: two words in the caller's memory.
+#[repr(C)]
+pub struct ErtSeat {
+    pub(crate) place: SeatPlace,
+    /// Whether there is a seat. It is read before the place is.
+    pub(crate) live: bool,
+    ghost told: { is_there place.value ≡ live },
 }

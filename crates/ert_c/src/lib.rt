@@ -1,44 +1,42 @@
 //! The service as a static library for C: what `include/ertime.h` declares.
 //!
-//! **The handle** (`ErtWorld`) is a struct of two words in the caller's memory: where a boxed `SharedWorld` lies,
+//! **The handle** (`ErtWorld`) is a struct of two words in the caller's memory: where a boxed `World` lies,
 //! and whether there is one. C may hold it, for a static library may not show C a type with atomic words in it.
-//! What lies behind it is a field of the contracts alone (`Place`, `value`), so each exported function says what
-//! it does to the service. Five short functions reach the pointer (`handle`), with proofs by hand over those of
-//! `Loose`, a box that was taken apart. `Place` can't be dropped: so no service can be forgotten.
+//! What lies behind it is a field of the contracts alone (`WorldPlace`, `value`), so each exported function says
+//! what it does to the service. The handle of a seat (`ErtSeat`, `SeatPlace`) is the same with a boxed `Seat`. No
+//! call follows both handles at once but the one that opens a seat, and that takes nothing of the seat's: two
+//! handles can't be known to be of one service.
 //!
-//! **The handle of a seat** (`ErtSeat`, `SeatPlace`) is the same with a boxed `Seat`. No call follows both handles
-//! at once but the one that opens a seat, and that takes nothing of the seat's: two handles can't be known to be
-//! of one service.
+//! **The place** (`Place`) is what the two have in common: three short functions reach the pointer, at any type,
+//! with proofs by hand. C is shown no type parameter, so what it holds are structs of their own, and one function
+//! of each (`as_place`) lends it as a `Place`: it owns the same, word for word, and the two have one proof by hand
+//! (`proofs/Cast`). A place can't be dropped: so nothing can be forgotten in one.
 //!
-//! **The calls** are those of `ert_seats::SharedWorld` and `Seat`, each between a test and a telling. A closed handle is answered
-//! and never followed; a number out of range is answered before the call, whose `requires` it would break; then
-//! the call is made, and its answer is told by a status and by what is written (`tell_..`). So a contract
+//! **The calls** are those of `ert_world::World` and `Seat`, each between a test and a telling. A closed handle is
+//! answered and never followed; a number out of range is answered before the call, whose `requires` it would break;
+//! then the call is made, and its answer is told by a status and by what is written (`tell_..`). So a contract
 //! reads, by `specs/Through`: through this handle the service makes this call with some answer, and that answer
 //! is told by this status and these values. No exported function asks anything of its caller.
 //!
 //! | file | what it has |
 //! |---|---|
-//! | `loose`, `handle`, `ert_world` | a box as its pointer, the place of a world, the handle |
-//! | `seat_place`, `ert_seat` | the same of a seat |
+//! | `place`, `handle` | where a box lies, and the handles of a world and of a seat |
 //! | `status` | the statuses |
 //! | `opening`, `clock_calls`, `timer_calls`, `mail_calls`, `turn_calls` | the structs that cross, what they mean, and how answers are told |
 //! | `clock_exports`, `timer_exports`, `mail_exports`, `turn_exports`, `seat_exports` | the exported functions |
 //!
 //! What C owes (pointers to values, one call at a time on a handle, no copy of an open handle) nothing checks;
-//! `docs/EMBEDDING.md` lists it. It stands on `ert_seats` and what that names, and on the allocator.
+//! `docs/EMBEDDING.md` lists it. It stands on `ert_world` and what that names, and on the allocator.
 #![tactic(auto)]
 
 mod clock_calls;
 mod clock_exports;
-mod ert_seat;
-mod ert_world;
 mod handle;
-mod loose;
 mod mail_calls;
 mod mail_exports;
 mod opening;
+mod place;
 mod seat_exports;
-mod seat_place;
 mod status;
 mod timer_calls;
 mod timer_exports;
@@ -46,8 +44,7 @@ mod turn_calls;
 mod turn_exports;
 
 pub use clock_calls::{ErtMoved, ErtOffset};
-pub use ert_seat::ErtSeat;
-pub use ert_world::ErtWorld;
+pub use handle::{ErtSeat, ErtWorld};
 pub use mail_calls::{ErtMail, ErtRequest};
 pub use opening::{ErtReading, ErtSettings};
 pub use timer_calls::{ErtStart, ErtTimer};

@@ -4,7 +4,7 @@ ghost use Rattle.ert_c.specs.Calls.{AtProcess, AnswersAtProcess, PutsRequest, Ta
 ghost use Rattle.ert_c.specs.Told.{IsTaken, IsMonitored, IsDemonitored, IsNumber};
 ghost use Rattle.ert_c.specs.Through.{Through};
 
-use crate::ert_world::ErtWorld;
+use crate::handle::ErtWorld;
 use crate::mail_calls::{
     ErtMail, ErtRequest, request_kind_at, tell_asked, tell_demonitored, tell_monitored, tell_taken,
 };
@@ -21,7 +21,7 @@ pub extern "C" fn ert_world_ask(world: &mut ErtWorld, request: &ErtRequest) -> i
     let Some(kind) = request_kind_at(request.kind) else {
         return BAD_KIND;
     };
-    let service = world.place.lend();
+    let service = world.place.as_place().lend();
     if request.reply_to >= service.settings().processes {
         return RANGE;
     }
@@ -37,7 +37,7 @@ pub extern "C" fn ert_world_take(world: &mut ErtWorld, process: u32, mail: &mut 
     if !world.live {
         return CLOSED;
     }
-    let service = world.place.lend();
+    let service = world.place.as_place().lend();
     if process >= service.settings().processes {
         return RANGE;
     }
@@ -53,7 +53,7 @@ pub extern "C" fn ert_world_monitor(world: &mut ErtWorld, process: u32, monitor:
     if !world.live {
         return CLOSED;
     }
-    let service = world.place.lend();
+    let service = world.place.as_place().lend();
     if process >= service.settings().processes {
         return RANGE;
     }
@@ -69,7 +69,7 @@ pub extern "C" fn ert_world_tell(world: &mut ErtWorld, process: u32, told: &mut 
     if !world.live {
         return CLOSED;
     }
-    let service = world.place.lend();
+    let service = world.place.as_place().lend();
     if process >= service.settings().processes {
         return RANGE;
     }
@@ -86,7 +86,7 @@ pub extern "C" fn ert_world_demonitor(world: &mut ErtWorld, process: u32, monito
     if !world.live {
         return CLOSED;
     }
-    let service = world.place.lend();
+    let service = world.place.as_place().lend();
     if process >= service.settings().processes {
         return RANGE;
     }

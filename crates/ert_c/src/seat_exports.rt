@@ -6,11 +6,10 @@ ghost use Rattle.ert_c.specs.Through.{Through, AnswersThrough};
 ghost use Rattle.ert_c.specs.Told.{timer_of, IsLeft};
 
 use crate::clock_calls::{ErtOffset, state_as};
-use crate::ert_seat::ErtSeat;
-use crate::ert_world::ErtWorld;
+use crate::handle::{ErtSeat, ErtWorld};
 use crate::status::{CLOSED, NO_MEMORY, NO_SEAT, OK, OPEN, RANGE};
 use crate::timer_calls::{ErtTimer, tell_flag, tell_left};
-use ert_seats::SeatErr;
+use ert_world::SeatErr;
 use std::alloc::Global;
 
 /// Gives the next caller of a service a seat.
@@ -24,9 +23,10 @@ pub extern "C" fn ert_seat_open(alloc: Global, seat: &mut ErtSeat, world: &mut E
     if !world.live {
         return CLOSED;
     }
-    match world.place.lend().seat(alloc) {
+    match world.place.as_place().lend().seat(alloc) {
         Ok(given) => {
-            seat.fill(given);
+            seat.place.as_place().fill(given);
+            seat.live = true;
             OK
         }
         Err(SeatErr::NoSeat) => NO_SEAT,
@@ -42,7 +42,8 @@ pub extern "C" fn ert_seat_close(alloc: Global, seat: &mut ErtSeat) -> i32
     if !seat.live {
         return CLOSED;
     }
-    let _seat = seat.empty(alloc);
+    let _seat = seat.place.as_place().empty(alloc);
+    seat.live = false;
     OK
 }
 
@@ -54,7 +55,7 @@ pub extern "C" fn ert_seat_monotonic_time(seat: &mut ErtSeat, time: &mut i64) ->
     if !seat.live {
         return CLOSED;
     }
-    *time = seat.place.lend().monotonic_time();
+    *time = seat.place.as_place().lend().monotonic_time();
     OK
 }
 
@@ -66,7 +67,7 @@ pub extern "C" fn ert_seat_system_time(seat: &mut ErtSeat, time: &mut i64) -> i3
     if !seat.live {
         return CLOSED;
     }
-    *time = seat.place.lend().system_time();
+    *time = seat.place.as_place().lend().system_time();
     OK
 }
 
@@ -78,7 +79,7 @@ pub extern "C" fn ert_seat_time_offset(seat: &mut ErtSeat, offset: &mut ErtOffse
     if !seat.live {
         return CLOSED;
     }
-    let (value, state) = seat.place.lend().time_offset();
+    let (value, state) = seat.place.as_place().lend().time_offset();
     *offset = ErtOffset {
         offset: value,
         state: state_as(state),
@@ -94,7 +95,7 @@ pub extern "C" fn ert_seat_cancel(seat: &mut ErtSeat, timer: &ErtTimer, left: &m
     if !seat.live {
         return CLOSED;
     }
-    let answer = seat.place.lend().cancel_timer(timer.read());
+    let answer = seat.place.as_place().lend().cancel_timer(timer.read());
     tell_left(answer, left)
 }
 
@@ -106,7 +107,7 @@ pub extern "C" fn ert_seat_read(seat: &mut ErtSeat, timer: &ErtTimer, left: &mut
     if !seat.live {
         return CLOSED;
     }
-    let answer = seat.place.lend().read_timer(timer.read());
+    let answer = seat.place.as_place().lend().read_timer(timer.read());
     tell_left(answer, left)
 }
 
@@ -118,7 +119,7 @@ pub extern "C" fn ert_seat_is_alive(seat: &mut ErtSeat, process: u32, alive: &mu
     if !seat.live {
         return CLOSED;
     }
-    let taken = seat.place.lend();
+    let taken = seat.place.as_place().lend();
     if process >= taken.processes() {
         return RANGE;
     }

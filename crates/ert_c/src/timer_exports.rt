@@ -4,7 +4,7 @@ ghost use Rattle.ert_c.specs.Calls.{AnswersAtProcess, StartsTimer, AsksRoom, Can
 ghost use Rattle.ert_c.specs.Told.{timer_of, IsLeft, IsFlag};
 ghost use Rattle.ert_c.specs.Through.{AnswersThrough};
 
-use crate::ert_world::ErtWorld;
+use crate::handle::ErtWorld;
 use crate::status::{CLOSED, RANGE};
 use crate::timer_calls::{ErtStart, ErtTimer, tell_flag, tell_left, tell_room, tell_started};
 /// Starts a timer on the wheel of a scheduler.
@@ -20,7 +20,7 @@ pub extern "C" fn ert_world_start(
     if !world.live {
         return CLOSED;
     }
-    let service = world.place.lend();
+    let service = world.place.as_place().lend();
     if sched >= service.settings().schedulers {
         return RANGE;
     }
@@ -44,7 +44,7 @@ pub extern "C" fn ert_world_ready(
     if !world.live {
         return CLOSED;
     }
-    let service = world.place.lend();
+    let service = world.place.as_place().lend();
     if sched >= service.settings().schedulers {
         return RANGE;
     }
@@ -60,7 +60,7 @@ pub extern "C" fn ert_world_cancel(world: &mut ErtWorld, timer: &ErtTimer, left:
     if !world.live {
         return CLOSED;
     }
-    let answer = world.place.lend().cancel_timer(timer.read());
+    let answer = world.place.as_place().lend().cancel_timer(timer.read());
     tell_left(answer, left)
 }
 
@@ -72,7 +72,7 @@ pub extern "C" fn ert_world_read(world: &mut ErtWorld, timer: &ErtTimer, left: &
     if !world.live {
         return CLOSED;
     }
-    let answer = world.place.lend().read_timer(timer.read());
+    let answer = world.place.as_place().lend().read_timer(timer.read());
     tell_left(answer, left)
 }
 
@@ -85,7 +85,7 @@ pub extern "C" fn ert_world_is_alive(world: &mut ErtWorld, process: u32, alive: 
     if !world.live {
         return CLOSED;
     }
-    let service = world.place.lend();
+    let service = world.place.as_place().lend();
     if process >= service.settings().processes {
         return RANGE;
     }
@@ -102,7 +102,7 @@ pub extern "C" fn ert_world_exit(world: &mut ErtWorld, process: u32, first: &mut
     if !world.live {
         return CLOSED;
     }
-    let service = world.place.lend();
+    let service = world.place.as_place().lend();
     if process >= service.settings().processes {
         return RANGE;
     }

@@ -2,7 +2,7 @@
 ghost use Rattle.ert_c.specs.Calls.{AnswersAtSched, ServesBy, AdvancesBy, DeliversBy, TurnsBy, LooksAhead};
 ghost use Rattle.ert_c.specs.Told.{IsServed, IsAdvanced, IsDelivered, IsTurned, IsDueTold};
 
-use crate::ert_world::ErtWorld;
+use crate::handle::ErtWorld;
 use crate::status::{CLOSED, RANGE};
 use crate::turn_calls::{
     ErtAdvanced, ErtDelivered, ErtTurned, tell_advanced, tell_delivered, tell_due, tell_served,
@@ -16,7 +16,7 @@ pub extern "C" fn ert_world_serve(world: &mut ErtWorld, sched: u32, served: &mut
     if !world.live {
         return CLOSED;
     }
-    let service = world.place.lend();
+    let service = world.place.as_place().lend();
     if sched >= service.settings().schedulers {
         return RANGE;
     }
@@ -36,7 +36,7 @@ pub extern "C" fn ert_world_advance(
     if !world.live {
         return CLOSED;
     }
-    let service = world.place.lend();
+    let service = world.place.as_place().lend();
     if sched >= service.settings().schedulers {
         return RANGE;
     }
@@ -56,7 +56,7 @@ pub extern "C" fn ert_world_deliver(
     if !world.live {
         return CLOSED;
     }
-    let service = world.place.lend();
+    let service = world.place.as_place().lend();
     if sched >= service.settings().schedulers {
         return RANGE;
     }
@@ -72,7 +72,7 @@ pub extern "C" fn ert_world_turn(world: &mut ErtWorld, sched: u32, turned: &mut 
     if !world.live {
         return CLOSED;
     }
-    let service = world.place.lend();
+    let service = world.place.as_place().lend();
     if sched >= service.settings().schedulers {
         return RANGE;
     }
@@ -88,7 +88,7 @@ pub extern "C" fn ert_world_next_due(world: &mut ErtWorld, sched: u32, due: &mut
     if !world.live {
         return CLOSED;
     }
-    let service = world.place.lend();
+    let service = world.place.as_place().lend();
     if sched >= service.settings().schedulers {
         return RANGE;
     }
