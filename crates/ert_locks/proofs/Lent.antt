@@ -1,7 +1,6 @@
--- A pass that was taken to the pass of a part: what a call does with both stands whole in the history, and
--- the part stands before and after it.
+-- A pass that was taken to the pass of a part: what a call does with both stands whole in the history.
 
-use Rattle.std.proofs.Common.{◌≡◌, Bool, true, false, cond, ◌||◌, List, [], ◌∷◌, ◌++◌, filter, Some, refl, sym, ap, subst, ◌∙◌, append-nil, append_assoc}
+use Rattle.std.proofs.Common.{◌≡◌, ℕ, Bool, true, false, cond, ◌||◌, List, [], ◌∷◌, ◌++◌, filter, Some, refl, sym, ap, subst, ◌∙◌, append-nil, append_assoc}
 use Rattle.atomic_table.specs.Seated.{TableId}
 use Rattle.ert_answers.proofs.Growing.{filter_within}
 use Rattle.ert_answers.specs.Ways.{Step, Grows, beside}
@@ -13,12 +12,12 @@ use Rattle.ert_defs.specs.declared.entry.Actor.{Actor}
 use Rattle.ert_defs.specs.declared.entry.Entry.{Entry}
 use Rattle.ert_defs.specs.declared.settings.Settings.{Settings}
 use Rattle.ert_locks.specs.Names.{IsDesk, IsOf}
+use Rattle.ert_locks.specs.Passes.{Meets}
 use Rattle.ert_table.proofs.Holders.{or_left, or_right, same_actor_self}
 use Rattle.ert_table.proofs.Parts.{free_later}
 use Rattle.ert_table.specs.Calls.{IsMade}
 use Rattle.ert_table.specs.Desks.{settings_of, view_of, front_of, actors_of, Belongs}
-use Rattle.ert_table.specs.Held.{is_held, actors_but}
-use Rattle.ert_table.specs.Takes.{TakesPlace}
+use Rattle.ert_table.specs.Held.{is_held}
 use Rattle.ert_table.specs.Views.{Begins, Joined, meeting}
 use Rattle.ert_table.specs.declared.desk.Desk.{Desk}
 use Rattle.ert_table.specs.declared.desk.Pass.{Pass}
@@ -45,44 +44,34 @@ ours_one a (e ∷ m) = rw (or_none (has_actor e a)) (ap (λ l. cond (has_actor e
 pub holds_self : (a : Actor) → is_held (a ∷ []) a ≡ true
 holds_self a = or_left (same_actor a a) false (same_actor_self a)
 
--- the pass of a part has met that of an actor
-pub record Lends (g : Settings) (part a : Actor) (k v j : View) : Type 0 where
-  pub k_actors : k.actors ≡ part ∷ []
-  pub v_actors : v.actors ≡ a ∷ []
-  pub actors : j.actors ≡ part ∷ (a ∷ [])
-  pub joined : Joined (meeting k v) j.front
-  pub legal : Legal g j.front
-
-pub lends : (table : TableId) (g : Settings) (part a : Actor) (d : Desk) (p q r : Pass) → IsDesk table g d → IsOf table g part p → IsOf table g a q
+-- passes of a part and of an actor have met
+pub met : (table : TableId) (g : Settings) (part a : Actor) (d : Desk) (p q r : Pass) → IsDesk table g d → IsOf table g part p → IsOf table g a q
     → actors_of r ≡ actors_of p ++ actors_of q → Joined (meeting (view_of p) (view_of q)) (front_of r) → Legal (settings_of d) (front_of r)
-    → Lends g part a (view_of p) (view_of q) (view_of r)
-lends table g part a d p q r desk one other actors joined legal = record {
-  k_actors = one.actors;
-  v_actors = other.actors;
+    → Meets g part a (view_of p) (view_of q) (view_of r)
+met table g part a d p q r desk one other actors joined legal = record {
+  part_alone = one.actors;
+  user_alone = other.actors;
   actors = actors ∙ (ap (λ l. l ++ actors_of q) one.actors ∙ ap (λ l. part ∷ l) other.actors);
   joined = joined;
   legal = subst (λ s. Legal s (front_of r)) desk.settings_is legal;
 }
 
--- it holds both
-pub has_part : (g : Settings) (part a : Actor) (k v j : View) → Lends g part a k v j → is_held j.actors part ≡ true
-has_part g part a k v j met = rw met.actors (or_left (same_actor part part) (is_held (a ∷ []) part) (same_actor_self part))
+-- the new pass holds both actors
+pub has_part : {g : Settings} {part a : Actor} {k v j : View} → Meets g part a k v j → is_held j.actors part ≡ true
+has_part {part = part} {a = a} meets = rw meets.actors (or_left (same_actor part part) (is_held (a ∷ []) part) (same_actor_self part))
 
-pub has_user : (g : Settings) (part a : Actor) (k v j : View) → Lends g part a k v j → is_held j.actors a ≡ true
-has_user g part a k v j met = rw met.actors (or_right (same_actor part a) (is_held (a ∷ []) a) (holds_self a))
+pub has_user : {g : Settings} {part a : Actor} {k v j : View} → Meets g part a k v j → is_held j.actors a ≡ true
+has_user {part = part} {a = a} meets = rw meets.actors (or_right (same_actor part a) (is_held (a ∷ []) a) (holds_self a))
 
--- the part has no more entries in the new front than in its own, nor has the actor
-pub part_same : (g : Settings) (part a : Actor) (k v j : View) → Lends g part a k v j → of j.front part ≡ of k.front part
-part_same g part a k v j met = met.joined.own part (rw met.k_actors (holds_self part))
-
-pub user_same : (g : Settings) (part a : Actor) (k v j : View) → Lends g part a k v j → of j.front a ≡ of v.front a
-user_same g part a k v j met = met.joined.other_own a (rw met.v_actors (holds_self a))
+-- the actor has no more entries in the new front than in its own
+user_same : {g : Settings} {part a : Actor} {k v j : View} → Meets g part a k v j → of j.front a ≡ of v.front a
+user_same {a = a} meets = meets.joined.other_own a (rw meets.user_alone (holds_self a))
 
 -- a call of both stands whole in what the actor's front gains
-pub lent : (g : Settings) (part a : Actor) (k v j : View) (allows : Step) (w : View) → Lends g part a k v j → (made : IsMade g j allows w)
-    → AllHave a made.entries → Grows (beside g a (part ∷ []) allows) v.front w.front
-lent g part a k v j allows w met made have =
-    let longer : Begins v.front j.front = met.joined.other_begins in
+lent : {g : Settings} {part a : Actor} {k v j w : View} (allows : Step) → Meets g part a k v j → (made : IsMade g j allows w) → AllHave a made.entries
+    → Grows (beside g a (part ∷ []) allows) v.front w.front
+lent {g} {part} {a} {k} {v} {j} {w} allows meets made have =
+    let longer : Begins v.front j.front = meets.joined.other_begins in
     let during : List Entry = made.call.later in
     record {
       piece = longer.later ++ during;
@@ -92,12 +81,22 @@ lent g part a k v j allows w met made have =
         during = during;
         entries = made.entries;
         parted = refl;
-        away = ours_one a longer.later ∙ free_later a v.front j.front longer (user_same g part a k v j met);
-        whole = subst (λ actors. filter (is_ours actors) during ≡ made.entries) met.actors made.call.ours;
+        away = ours_one a longer.later ∙ free_later a v.front j.front longer (user_same meets);
+        whole = subst (λ actors. filter (is_ours actors) during ≡ made.entries) meets.actors made.call.ours;
         own = all_own a made.entries have;
         allowed = subst (λ h. allows (state g h) made.entries) longer.grown made.allowed;
       };
     }
+
+-- so does a call at the desk by a part with a number, whose front the actor's pass then has
+pub lent_out : {g t : Settings} {a : Actor} {m n : ℕ} {k v j w : View} {h : List Entry} (sort : ℕ → Actor) (allows : Settings → ℕ → Step) → t ≡ g → m ≡ n
+    → Meets g (sort m) a k v j → IsMade t j (allows t m) w → ((s : State) (es : List Entry) → allows g m s es → AllHave a es) → h ≡ w.front
+    → Grows (beside g a (sort n ∷ []) (allows g n)) v.front h
+lent_out {g} {t} {a} {m} {n} {k} {v} {j} {w} {h} sort allows is at meets made have front =
+    let made_g : IsMade g j (allows g m) w = subst (λ t. IsMade t j (allows t m) w) is made in
+    subst (λ i. Grows (beside g a (sort i ∷ []) (allows g i)) v.front h) at
+    (subst (λ h. Grows (beside g a (sort m ∷ []) (allows g m)) v.front h) (sym front)
+    (lent (allows g m) meets made_g (have (state g j.front) made_g.entries made_g.allowed)))
 
 -- a call of an actor alone, which holds no part
 pub steps_alone : (g : Settings) (a : Actor) (v : View) (allows : Step) (w : View) → v.actors ≡ a ∷ [] → IsMade g v allows w
@@ -127,21 +126,3 @@ is_of table g a d p desk belongs actors = record {
   named = belongs.named ∙ ap (λ s. Some s) desk.settings_is;
   actors = actors;
 }
-
--- so is what is left of the pass that held both, where the actor has been taken out
-pub left_of : (table : TableId) (g : Settings) (part a : Actor) (d : Desk) (k v j w : View) (r : Pass) → IsDesk table g d → Belongs d r
-    → same_actor part a ≡ false → Lends g part a k v j → w.actors ≡ j.actors → actors_of r ≡ actors_but w.actors a → IsOf table g part r
-left_of table g part a d k v j w r desk belongs apart met same rest =
-    is_of table g part d r desk belongs (rest ∙ (ap (λ l. actors_but l a) (same ∙ met.actors) ∙ only))
-  where
-    only : actors_but (part ∷ (a ∷ [])) a ≡ part ∷ []
-    only = rw (apart, same_actor_self a) refl
-
--- a call of both at the desk, whose front the actor's pass then has
-pub lent_out : (d : Desk) (g : Settings) (part a : Actor) (k v j : View) (allows : Settings → Step) (w : View) (r : Pass) → settings_of d ≡ g → Lends g part a k v j
-    → (made : IsMade (settings_of d) j (allows (settings_of d)) w) → ((s : State) (es : List Entry) → allows g s es → AllHave a es) → front_of r ≡ w.front
-    → Grows (beside g a (part ∷ []) (allows g)) v.front (front_of r)
-lent_out d g part a k v j allows w r is met made have front =
-    let made_g : IsMade g j (allows g) w = subst (λ t. IsMade t j (allows t) w) is made in
-    subst (λ h. Grows (beside g a (part ∷ []) (allows g)) v.front h) (sym front)
-    (lent g part a k v j (allows g) w met made_g (have (state g j.front) made_g.entries made_g.allowed))

@@ -1,4 +1,3 @@
-pub mod Joined
 pub mod Least
 pub mod Lent
 pub mod Own

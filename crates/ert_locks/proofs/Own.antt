@@ -1,10 +1,10 @@
 -- Each entry of a call has the actor that makes the call.
 
-use Rattle.std.proofs.Common.{◌≡◌, ℕ, zero, suc, Bool, true, false, List, [], ◌∷◌, ◌++◌, Option, Some, None, Result, Ok, Err, inl, inr, refl, sym, ap, subst, ◌∙◌}
-use Rattle.ert_answers.specs.ClockCalls.{Ticks, Finalizes, FinalizesFrom, Acts, RefusesTick, Moves}
+use Rattle.std.proofs.Common.{◌≡◌, ℕ, zero, suc, Bool, true, false, List, [], ◌∷◌, ◌++◌, Option, Some, None, Result, Ok, Err, inl, inr, refl, sym, subst}
+use Rattle.ert_answers.specs.ClockCalls.{Ticks, Finalizes, FinalizesFrom, Acts}
 use Rattle.ert_answers.specs.MailCalls.{HandsOver, Takes, Monitors, Demonitors, Tells}
 use Rattle.ert_answers.specs.RequestCalls.{Asks, Picks, Answers, DoesAsked}
-use Rattle.ert_answers.specs.TimerCalls.{Starts, Reads, Cancels, AreProbes, AreTaken, Closes, read_entries, cancel_entries}
+use Rattle.ert_answers.specs.TimerCalls.{Starts, AreProbes, AreTaken, Closes, read_entries, cancel_entries}
 use Rattle.ert_answers.specs.WheelCalls.{Advances, Sweeps, Try, expires_by, expiry_entries, orphans_by, orphan_entries}
 use Rattle.ert_answers.specs.declared.answers.Handed.{Handed}
 use Rattle.ert_answers.specs.declared.answers.Handed.TheVariants.{Put, Dropped}
@@ -14,11 +14,11 @@ use Rattle.ert_answers.specs.declared.answers.StartErr.{StartErr}
 use Rattle.ert_answers.specs.declared.answers.StartErr.TheVariants.{BadArg, Full, NoMemory as WantForStart}
 use Rattle.ert_answers.specs.declared.answers.Taken.{Taken}
 use Rattle.ert_answers.specs.declared.answers.Taken.TheVariants.{Mail, Empty, Exited}
-use Rattle.ert_clock.specs.Ticks.{tick_entries, shift_entries, keeper_entry, act_of}
+use Rattle.ert_clock.specs.Ticks.{shift_entries, act_of}
 use Rattle.ert_clock.specs.declared.clock.ClockErr.{ClockErr}
 use Rattle.ert_clock.specs.declared.clock.ClockErr.TheVariants.{BadReading, OffsetWide}
 use Rattle.ert_clock.specs.declared.clock.Moved.{Moved}
-use Rattle.ert_defs.specs.Actors.{has_actor, same_actor, is_with}
+use Rattle.ert_defs.specs.Actors.{has_actor}
 use Rattle.ert_defs.specs.States.{State}
 use Rattle.ert_defs.specs.Timers.{Row}
 use Rattle.ert_defs.specs.declared.entry.Act.{Act}
@@ -37,7 +37,7 @@ use Rattle.ert_defs.specs.declared.settings.Settings.{Settings}
 use Rattle.ert_defs.specs.declared.timer.Start.{Start}
 use Rattle.ert_defs.specs.declared.timer.Status.{Status}
 use Rattle.ert_defs.specs.declared.timer.TimerRef.{TimerRef}
-use Rattle.ert_table.proofs.Holders.{or_left, same_actor_self}
+use Rattle.ert_table.proofs.Holders.{same_actor_self}
 use Rattle.ert_locks.proofs.Lent.{AllHave}
 
 -- entries that are these

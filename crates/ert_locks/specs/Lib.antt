@@ -1,3 +1,5 @@
 pub mod Hands
+pub mod KindLaws
+pub mod Kinds
 pub mod Names
 pub mod Passes

@@ -1,64 +1,17 @@
 //! An inbox behind its lock.
+use crate::locked::{Locked, meet};
 use crate::names::DeskName;
 use crate::seats::{CallerSeat, SchedSeat};
 use ert_defs::{Actor, NoMemory, Request};
 use ert_inbox::InboxPart;
-use ert_table::{Desk, Pass};
-use std::marker::{Model, PhantomData};
+use ert_table::Desk;
 
-/// The inbox of a scheduler, with the pass that has its actor.
-#[derive(Drop)]
-pub struct LockedInbox<L: DeskName> {
-    part: InboxPart,
-    pass: Pass,
-    of: PhantomData<L>,
-}
-
-impl<L: DeskName> Model for LockedInbox<L> {
-    ghost use Rattle.std.specs.Prelude.{ℕ};
-    ghost use Rattle.ert_locks.specs.Names.{IsInbox};
-
-    ghost Value = { ℕ };
-
-    ghost view = { λ k. k.part.wheel };
-
-    ghost invariant = { λ k. IsInbox L.table L.settings k.part k.pass };
-}
-
-impl<L: DeskName> LockedInbox<L> {
+impl<L: DeskName> Locked<InboxPart, L> {
     ghost use Rattle.std.specs.Prelude.{◌≡◌, ◌<◌, None};
     ghost use Rattle.ert_answers.specs.RequestCalls.{Asks, Picks};
     ghost use Rattle.ert_defs.specs.declared.entry.Actor.TheVariants.{Inbox, Sched, Caller};
-    ghost use Rattle.ert_locks.specs.Names.{IsDesk, IsInbox};
+    ghost use Rattle.ert_locks.specs.Names.{IsDesk};
     ghost use Rattle.ert_locks.specs.Passes.{StepsWith};
-
-    /// The inbox with the pass that has it alone, for whose front it stands.
-    pub fn new(part: InboxPart, pass: Pass) -> LockedInbox<L>
-        requires { IsInbox L.table L.settings part pass }
-        ensures { result ≡ part.wheel }
-    {
-        LockedInbox {
-            part,
-            pass,
-            of: PhantomData,
-        }
-    }
-
-    /// The part and its pass.
-    pub fn into_parts(self) -> (InboxPart, Pass)
-        ensures fits { IsInbox L.table L.settings result.0 result.1 }
-        ensures number { result.0.wheel ≡ self }
-    {
-        let LockedInbox { part, pass, .. } = self;
-        (part, pass)
-    }
-
-    /// The number of the scheduler.
-    pub fn number(&self) -> u32
-        ensures { result ≡ self.now }
-    {
-        self.part.wheel()
-    }
 
     /// Puts a request last, for a caller (`cancel_timer` and `read_timer`, option `async`).
     ///
@@ -77,7 +30,7 @@ impl<L: DeskName> LockedInbox<L> {
             (Asks L.settings seat.number self.old request result.1) seat.pass result.0.pass }
     {
         let by = seat.number;
-        self.pass.join(desk, seat.pass);
+        meet::<InboxPart, L>(desk, &self.part, &mut self.pass, seat.pass);
         let answer = self.part.ask(desk, &mut self.pass, by, request);
         let pass = self.pass.split(desk, Actor::Caller(by));
         (CallerSeat::new(by, pass), answer)
@@ -96,7 +49,7 @@ impl<L: DeskName> LockedInbox<L> {
     {
         let SchedSeat { mut part, pass, .. } = seat;
         let wheel = part.wheel;
-        self.pass.join(desk, pass);
+        meet::<InboxPart, L>(desk, &self.part, &mut self.pass, pass);
         let got = self.part.pick(desk, &mut self.pass);
         part.hand = got;
         let pass = self.pass.split(desk, Actor::Sched(wheel));

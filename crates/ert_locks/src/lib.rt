@@ -4,13 +4,13 @@
 //! (`CallerSeat`, `SchedSeat`); the seat of a scheduler also has the scheduler's part, which stands for what
 //! the pass knows.
 //!
-//! **Locked values.** The clock's part, each wheel, each inbox and each mailbox stands behind a lock of its
-//! own, with the pass that has its one actor. What is kept while the lock is free: the part stands for the
-//! front of that pass, and the actor has the part's number. A call is lent the value. It joins the seat's
-//! pass to the value's, makes its steps, and divides them again. So its entries stand whole in the history:
-//! from the place at which it has the lock on, no entry of the seat's actor or of the part comes between
-//! them, and they are allowed in the state at that place (`specs/Passes`, `StepsWith`; in `ert_answers`
-//! `specs/Ways`, `beside`).
+//! **Locked values.** The clock's part, each wheel, each inbox and each mailbox (`DeskPart`) stands behind a
+//! lock of its own, with the pass that has its one actor (`Locked`). What is kept while the lock is free: the
+//! part stands for the front of that pass, and the actor has the part's number (`specs/Kinds`, `Fits`). A call
+//! is lent the value. It joins the seat's pass to the value's, makes its steps, and divides them again. So its
+//! entries stand whole in the history: from the place at which it has the lock on, no entry of the seat's
+//! actor or of the part comes between them, and they are allowed in the state at that place (`specs/Passes`,
+//! `StepsWith`; in `ert_answers` `specs/Ways`, `beside`).
 //!
 //! **Names.** What is behind a lock is known by its type alone. So seats and locked values carry the name of
 //! one desk (`DeskName`): its identity and its settings.
@@ -19,16 +19,16 @@
 //! `ert_world` for a scheduler's part.
 #![tactic(auto)]
 
+mod desk_part;
 mod inbox;
 mod keeper;
+mod locked;
 mod mail;
 mod names;
 mod seats;
 mod wheel;
 
-pub use inbox::LockedInbox;
-pub use keeper::LockedKeeper;
-pub use mail::LockedMail;
+pub use desk_part::DeskPart;
+pub use locked::Locked;
 pub use names::DeskName;
 pub use seats::{CallerSeat, SchedSeat};
-pub use wheel::LockedWheel;

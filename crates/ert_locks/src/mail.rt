@@ -1,66 +1,19 @@
 //! A mailbox behind its lock.
+use crate::locked::{Locked, meet};
 use crate::names::DeskName;
 use crate::seats::CallerSeat;
 use ert_defs::{Actor, NoMemory};
 use ert_mail::{MailPart, MonitorErr, Taken};
-use ert_table::{Desk, Pass};
-use std::marker::{Model, PhantomData};
+use ert_table::Desk;
 
 mod handing;
 
-/// The mailbox of a process, with the pass that has its actor.
-#[derive(Drop)]
-pub struct LockedMail<L: DeskName> {
-    part: MailPart,
-    pass: Pass,
-    of: PhantomData<L>,
-}
-
-impl<L: DeskName> Model for LockedMail<L> {
-    ghost use Rattle.std.specs.Prelude.{ℕ};
-    ghost use Rattle.ert_locks.specs.Names.{IsMail};
-
-    ghost Value = { ℕ };
-
-    ghost view = { λ k. k.part.process };
-
-    ghost invariant = { λ k. IsMail L.table L.settings k.part k.pass };
-}
-
-impl<L: DeskName> LockedMail<L> {
+impl<L: DeskName> Locked<MailPart, L> {
     ghost use Rattle.std.specs.Prelude.{◌≡◌};
     ghost use Rattle.ert_answers.specs.MailCalls.{Takes, Monitors, Demonitors, Tells};
     ghost use Rattle.ert_defs.specs.declared.entry.Actor.TheVariants.{MailOf, Caller};
-    ghost use Rattle.ert_locks.specs.Names.{IsDesk, IsMail};
+    ghost use Rattle.ert_locks.specs.Names.{IsDesk};
     ghost use Rattle.ert_locks.specs.Passes.{StepsWith};
-
-    /// The mailbox with the pass that has it alone, for whose front it stands.
-    pub fn new(part: MailPart, pass: Pass) -> LockedMail<L>
-        requires { IsMail L.table L.settings part pass }
-        ensures { result ≡ part.process }
-    {
-        LockedMail {
-            part,
-            pass,
-            of: PhantomData,
-        }
-    }
-
-    /// The part and its pass.
-    pub fn into_parts(self) -> (MailPart, Pass)
-        ensures fits { IsMail L.table L.settings result.0 result.1 }
-        ensures number { result.0.process ≡ self }
-    {
-        let LockedMail { part, pass, .. } = self;
-        (part, pass)
-    }
-
-    /// The number of the process.
-    pub fn number(&self) -> u32
-        ensures { result ≡ self.now }
-    {
-        self.part.process()
-    }
 
     /// Takes the first message for a caller (`receive`): Exited where the process has exited, whatever it
     /// has, and Empty where it has none.
@@ -71,7 +24,7 @@ impl<L: DeskName> LockedMail<L> {
         ensures call { StepsWith L.settings (Caller seat.number) (MailOf self.old) (Takes L.settings seat.number self.old result.1) seat.pass result.0.pass }
     {
         let by = seat.number;
-        self.pass.join(desk, seat.pass);
+        meet::<MailPart, L>(desk, &self.part, &mut self.pass, seat.pass);
         let answer = self.part.take(desk, &mut self.pass, by);
         let pass = self.pass.split(desk, Actor::Caller(by));
         (CallerSeat::new(by, pass), answer)
@@ -93,7 +46,7 @@ impl<L: DeskName> LockedMail<L> {
         ensures call { StepsWith L.settings (Caller seat.number) (MailOf self.old) (Monitors L.settings seat.number self.old result.1) seat.pass result.0.pass }
     {
         let by = seat.number;
-        self.pass.join(desk, seat.pass);
+        meet::<MailPart, L>(desk, &self.part, &mut self.pass, seat.pass);
         let answer = self.part.monitor(desk, &mut self.pass, by);
         let pass = self.pass.split(desk, Actor::Caller(by));
         (CallerSeat::new(by, pass), answer)
@@ -113,7 +66,7 @@ impl<L: DeskName> LockedMail<L> {
             (Demonitors L.settings seat.number self.old monitor result.1) seat.pass result.0.pass }
     {
         let by = seat.number;
-        self.pass.join(desk, seat.pass);
+        meet::<MailPart, L>(desk, &self.part, &mut self.pass, seat.pass);
         let answer = self.part.demonitor(desk, &mut self.pass, by, monitor);
         let pass = self.pass.split(desk, Actor::Caller(by));
         (CallerSeat::new(by, pass), answer)
@@ -134,7 +87,7 @@ impl<L: DeskName> LockedMail<L> {
         ensures call { StepsWith L.settings (Caller seat.number) (MailOf self.old) (Tells L.settings seat.number self.old result.1) seat.pass result.0.pass }
     {
         let by = seat.number;
-        self.pass.join(desk, seat.pass);
+        meet::<MailPart, L>(desk, &self.part, &mut self.pass, seat.pass);
         let answer = self.part.tell(desk, &mut self.pass, by);
         let pass = self.pass.split(desk, Actor::Caller(by));
         (CallerSeat::new(by, pass), answer)

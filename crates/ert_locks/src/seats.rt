@@ -1,11 +1,12 @@
 //! What a thread holds: the seat of a caller or of a scheduler.
 ghost use Rattle.std.specs.Prelude.{◌≡◌, ◌<◌};
 ghost use Rattle.ert_defs.specs.declared.entry.Actor.TheVariants.{Caller};
-ghost use Rattle.ert_locks.specs.Names.{IsOf, IsSched};
+ghost use Rattle.ert_locks.specs.Kinds.{Fits, scheds};
+ghost use Rattle.ert_locks.specs.Names.{IsOf};
 
 use crate::names::DeskName;
-use ert_world::SchedPart;
 use ert_table::Pass;
+use ert_world::SchedPart;
 use std::marker::PhantomData;
 
 /// The seat of a caller on the desk that `L` names: the pass with that one actor.
@@ -26,7 +27,7 @@ pub struct SchedSeat<L: DeskName> {
     pub part: SchedPart,
     pub pass: Pass,
     pub of: PhantomData<L>,
-    pub ghost fits: { IsSched L.table L.settings part pass },
+    pub ghost fits: { Fits L.table L.settings scheds part pass },
 }
 
 impl<L: DeskName> CallerSeat<L> {
@@ -48,7 +49,7 @@ impl<L: DeskName> CallerSeat<L> {
 impl<L: DeskName> SchedSeat<L> {
     /// The seat of the scheduler with this part, which stands for the front of the pass.
     pub fn new(part: SchedPart, pass: Pass) -> SchedSeat<L>
-        requires fits { IsSched L.table L.settings part pass }
+        requires fits { Fits L.table L.settings scheds part pass }
         ensures part { result.part ≡ part }
         ensures pass { result.pass ≡ pass }
     {

@@ -2,34 +2,15 @@
 ghost use Rattle.std.specs.Prelude.{◌≡◌, ◌≤◌, ◌-◌, IfOk};
 ghost use Rattle.ert_locks.specs.Hands.{counted};
 
+use crate::locked::{Locked, meet};
 use crate::names::DeskName;
 use crate::seats::{CallerSeat, SchedSeat};
 use ert_answers::StartErr;
 use ert_defs::{Actor, NoMemory, Start, TimerRef};
-use ert_table::{Desk, Pass};
+use ert_table::Desk;
 use ert_timers::WheelPart;
-use std::marker::{Model, PhantomData};
 
-/// The timers of a scheduler, with the pass that has their wheel's actor.
-#[derive(Drop)]
-pub struct LockedWheel<L: DeskName> {
-    part: WheelPart,
-    pass: Pass,
-    of: PhantomData<L>,
-}
-
-impl<L: DeskName> Model for LockedWheel<L> {
-    ghost use Rattle.std.specs.Prelude.{ℕ};
-    ghost use Rattle.ert_locks.specs.Names.{IsWheel};
-
-    ghost Value = { ℕ };
-
-    ghost view = { λ k. k.part.number };
-
-    ghost invariant = { λ k. IsWheel L.table L.settings k.part k.pass };
-}
-
-impl<L: DeskName> LockedWheel<L> {
+impl<L: DeskName> Locked<WheelPart, L> {
     ghost use Rattle.std.specs.Prelude.{◌≡◌, ◌≢◌, ◌<◌, true, Err};
     ghost use Rattle.ert_answers.specs.Chains.{AdvancesWheel, SweepsWheel};
     ghost use Rattle.ert_answers.specs.TimerCalls.{Starts};
@@ -37,37 +18,9 @@ impl<L: DeskName> LockedWheel<L> {
     ghost use Rattle.ert_answers.specs.declared.answers.StartErr.TheVariants.{NoMemory as WantOfMemory};
     ghost use Rattle.ert_defs.specs.States.{state};
     ghost use Rattle.ert_defs.specs.declared.entry.Actor.TheVariants.{Wheel, Sched, Caller};
-    ghost use Rattle.ert_locks.specs.Names.{IsDesk, IsWheel};
+    ghost use Rattle.ert_locks.specs.Names.{IsDesk};
     ghost use Rattle.ert_locks.specs.Passes.{FrontGrows, StepsWith};
     ghost use Rattle.ert_table.specs.Desks.{front_of};
-
-    /// The wheel with the pass that has it alone, for whose front it stands.
-    pub fn new(part: WheelPart, pass: Pass) -> LockedWheel<L>
-        requires { IsWheel L.table L.settings part pass }
-        ensures { result ≡ part.number }
-    {
-        LockedWheel {
-            part,
-            pass,
-            of: PhantomData,
-        }
-    }
-
-    /// The part and its pass.
-    pub fn into_parts(self) -> (WheelPart, Pass)
-        ensures fits { IsWheel L.table L.settings result.0 result.1 }
-        ensures number { result.0.number ≡ self }
-    {
-        let LockedWheel { part, pass, .. } = self;
-        (part, pass)
-    }
-
-    /// The number of the scheduler and of its wheel.
-    pub fn number(&self) -> u32
-        ensures { result ≡ self.now }
-    {
-        self.part.number()
-    }
 
     /// Starts a timer for a caller (`erlang` module reference, `start_timer` and `send_after`).
     ///
@@ -89,7 +42,7 @@ impl<L: DeskName> LockedWheel<L> {
             (Starts L.settings seat.number self.old start.now result.1) seat.pass result.0.pass }
     {
         let by = seat.number;
-        self.pass.join(desk, seat.pass);
+        meet::<WheelPart, L>(desk, &self.part, &mut self.pass, seat.pass);
         let answer = self.part.start(desk, &mut self.pass, by, start);
         let pass = self.pass.split(desk, Actor::Caller(by));
         (CallerSeat::new(by, pass), answer)
@@ -105,7 +58,7 @@ impl<L: DeskName> LockedWheel<L> {
         ensures call { FrontGrows (SweepsWheel L.settings (beside L.settings (Caller seat.number)) seat.number process self.old) seat.pass result.pass }
     {
         let by = seat.number;
-        self.pass.join(desk, seat.pass);
+        meet::<WheelPart, L>(desk, &self.part, &mut self.pass, seat.pass);
         self.part.sweep(desk, &mut self.pass, by, process);
         let pass = self.pass.split(desk, Actor::Caller(by));
         CallerSeat::new(by, pass)
@@ -128,7 +81,7 @@ impl<L: DeskName> LockedWheel<L> {
     {
         let SchedSeat { mut part, pass, .. } = seat;
         let wheel = part.wheel;
-        self.pass.join(desk, pass);
+        meet::<WheelPart, L>(desk, &self.part, &mut self.pass, pass);
         let before = part.fired.len();
         let to = self.part.advance(desk, &mut self.pass, &mut part.fired);
         let pass = self.pass.split(desk, Actor::Sched(wheel));

@@ -1,25 +1,15 @@
 -- Seats that are joined one after the other.
 
-use Rattle.std.proofs.Common.{◌≡◌, ◌≢◌, ℕ, zero, suc, ◌+◌, ◌<◌, Bool, true, false, List, [], ◌∷◌, ◌++◌, length, slice_index_or, refl, sym, ap, subst, ◌∙◌, arith, eqb-true, eq-eqb, append-nil, append_assoc, length-append}
+use Rattle.std.proofs.Common.{◌≡◌, ◌≢◌, ℕ, zero, suc, ◌+◌, ◌<◌, Bool, true, false, List, [], ◌∷◌, ◌++◌, length, slice_index_or, refl, sym, subst, ◌∙◌, arith, eqb-true, eq-eqb, append-nil, append_assoc, length-append}
 use Rattle.std.specs.Prelude.{nat_eq, All}
 use Rattle.std.proofs.lemmas.List.Elements.{All-append}
 use Rattle.ert_defs.specs.declared.entry.Actor.{Actor}
-use Rattle.ert_defs.proofs.Runs.{state-append, sched_stays}
-use Rattle.ert_defs.specs.Actors.{of}
-use Rattle.ert_defs.specs.Mails.{SchedState}
-use Rattle.ert_defs.specs.States.{State, state}
-use Rattle.ert_defs.specs.declared.entry.Actor.TheVariants.{Sched}
-use Rattle.ert_defs.specs.declared.entry.Entry.{Entry}
-use Rattle.ert_defs.specs.declared.settings.Settings.{Settings}
 use Rattle.ert_locks.proofs.Lent.{holds_self}
-use Rattle.ert_world.specs.Parts.{SchedStands}
-use Rattle.ert_world.specs.declared.sched_part.SchedPart.{SchedPart}
-use Rattle.ert_table.proofs.Parts.{free_later}
 use Rattle.ert_service.proofs.Gathered.{seen_then, seen_left, seen_right}
 use Rattle.ert_service.specs.Gathering.{IsSeen}
-use Rattle.ert_service.specs.Joining.{AreNumbered, Joins}
+use Rattle.ert_service.specs.Joining.{Joins}
 use Rattle.ert_table.specs.Held.{is_held}
-use Rattle.ert_table.specs.Views.{Begins, Joined, meeting}
+use Rattle.ert_table.specs.Views.{Joined, meeting}
 use Rattle.ert_table.specs.declared.view.View.{View}
 
 pub all_as : {S : Type 0} (P Q : S → Type 0) (xs : List S) → ((x : S) → P x → Q x) → All P xs → All Q xs
@@ -32,14 +22,14 @@ all_one P x one (suc k) d low = absurd (omega (arith, low))
 all_more : {S : Type 0} (P : S → Type 0) (xs : List S) (x : S) → All P xs → P x → All P (xs ++ x ∷ [])
 all_more P xs x all one = All-append P xs (x ∷ []) all (all_one P x one)
 
-pub joins_next : {S : Type 0} (number : S → ℕ) (view : S → View) (sort : ℕ → Actor) (count : ℕ) (v j : View) (joined items left seats : List S) (x : S)
+pub joins_next : {S : Type 0} {number : S → ℕ} {view : S → View} {sort : ℕ → Actor} {count : ℕ} {v : View} {joined items left seats : List S} {x : S} (j : View)
     → items ≡ x ∷ left → j.actors ≡ v.actors ++ (view x).actors → Joined (meeting v (view x)) j.front → (view x).actors ≡ sort (number x) ∷ []
     → Joins number view sort count v joined items seats → Joins number view sort count j (joined ++ x ∷ []) left seats
-joins_next {S} number view sort count v j joined items left seats x is actors met own joins = record {
+joins_next {S} {number} {view} {sort} {count} {v} {joined} {items} {left} {seats} {x} j is actors met own joins = record {
   all = append_assoc joined (x ∷ []) left ∙ now.all;
   sum = let s : length joined + suc (length left) ≡ count = now.sum in omega (arith, s, longer);
   seen = all_more (λ s. IsSeen (view s) j) joined x
-      (all_as (λ s. IsSeen (view s) v) (λ s. IsSeen (view s) j) joined (λ s seen. seen_then (view s) v j seen before) now.seen) here;
+      (all_as (λ s. IsSeen (view s) v) (λ s. IsSeen (view s) j) joined (λ s seen. seen_then seen before) now.seen) here;
   each = λ i d low.
       let later = now.each (suc i) d (omega (arith, low)) in
       shift (number (slice_index_or left i d)) i (length joined) (length (joined ++ x ∷ [])) longer later;
@@ -79,32 +69,19 @@ joins_next {S} number view sort count v j joined items left seats x is actors me
         before.held (sort i) (now.held i (below i (length joined) (length (joined ++ x ∷ [])) low longer other))
 
 -- once none is left, all are seen, and all actors of the sort are held
-pub joins_all : {S : Type 0} (number : S → ℕ) (view : S → View) (sort : ℕ → Actor) (count : ℕ) (now : View) (joined left seats : List S)
-    → length left ≡ 0 → Joins number view sort count now joined left seats
+pub joins_all : {S : Type 0} {number : S → ℕ} {view : S → View} {sort : ℕ → Actor} {count : ℕ} {now : View} {joined left seats : List S}
+    → Joins number view sort count now joined left seats → length left ≡ 0
     → All (λ s. IsSeen (view s) now) seats × ((i : ℕ) → i < count → is_held now.actors (sort i) ≡ true)
-joins_all number view sort count now joined (x ∷ left) seats none joins = absurd (omega (arith, none))
-joins_all number view sort count now joined [] seats none joins =
+joins_all {left = x ∷ left} joins none = absurd (omega (arith, none))
+joins_all {view = view} {count = count} {now = now} {joined = joined} {left = []} {seats = seats} joins none =
     let same : joined ≡ seats = sym (append-nil joined) ∙ joins.all in
     let sum : length joined + 0 ≡ count = joins.sum in
     (subst (All (λ s. IsSeen (view s) now)) same joins.seen, λ i low. joins.held i (omega (arith, low, sum)))
 
--- a scheduler's part stands on without entries of the scheduler
-pub sched_on : (g : Settings) (f h : List Entry) (p : SchedPart) → Begins f h → of h (Sched p.wheel) ≡ of f (Sched p.wheel) → SchedStands g f p → SchedStands g h p
-sched_on g f h p longer same stands =
-    let kept : (state g h).scheds p.wheel ≡ (state g f).scheds p.wheel =
-    ap (λ l. (state g l).scheds p.wheel) longer.grown
-    ∙ (ap (λ (s : State). s.scheds p.wheel) (state-append g f longer.later)
-    ∙ sched_stays g p.wheel (state g f) longer.later (free_later (Sched p.wheel) f h longer same)) in
-    record {
-      in_range = stands.in_range;
-      hand = stands.hand ∙ ap (λ (s : SchedState). s.hand) (sym kept);
-      fired = stands.fired ∙ ap (λ (s : SchedState). s.fired) (sym kept);
-    }
-
 -- the next seat: its number
-pub next_named : {S : Type 0} (number : S → ℕ) (view : S → View) (sort : ℕ → Actor) (count : ℕ) (v : View) (joined items left seats : List S) (x : S)
+pub next_named : {S : Type 0} {number : S → ℕ} {view : S → View} {sort : ℕ → Actor} {count : ℕ} {v : View} {joined items left seats : List S} {x : S}
     → items ≡ x ∷ left → Joins number view sort count v joined items seats → (number x ≡ length joined) × (length joined < count)
-next_named number view sort count v joined items left seats x is joins =
+next_named {number = number} {view = view} {sort = sort} {count = count} {v = v} {joined = joined} {left = left} {seats = seats} {x = x} is joins =
     let now : Joins number view sort count v joined (x ∷ left) seats = subst (λ l. Joins number view sort count v joined l seats) is joins in
     let one = now.each 0 x (omega arith) in
     let sum : length joined + suc (length left) ≡ count = now.sum in
@@ -115,7 +92,3 @@ next_named number view sort count v joined items left seats x is joins =
 
 pub one_longer : {S : Type 0} (xs : List S) (x : S) → length (xs ++ x ∷ []) ≡ length xs + 1
 one_longer xs x = length-append xs (x ∷ [])
-
--- a pass with one scheduler's actor holds it
-pub sched_mine : (w : View) (n : ℕ) → w.actors ≡ Sched n ∷ [] → is_held w.actors (Sched n) ≡ true
-sched_mine w n own = rw own (holds_self (Sched n))

@@ -17,7 +17,6 @@ use Rattle.ert_defs.specs.Actors.{has_actor, IsFree}
 use Rattle.ert_defs.specs.Entries.{is_ours, look_entry, arm_entry, mark_entry, probe_entry, orphan_entry, advanced_entry}
 use Rattle.ert_defs.specs.Laws.{has_settled}
 use Rattle.ert_defs.specs.Legal.{Legal, Can, AllSettled}
-use Rattle.ert_defs.specs.Mails.{first_of}
 use Rattle.ert_defs.specs.Milliseconds.{natural, down, deadline_of}
 use Rattle.ert_defs.specs.States.{State, uses_at, opening, next, run, state}
 use Rattle.ert_defs.specs.Timers.{Row, row_from, rows_after, timer_at}
@@ -37,9 +36,6 @@ use Rattle.ert_defs.proofs.Settlings.{rows_stay_settled, settled_timers_stay}
 use Rattle.ert_defs.proofs.FiredTimers.{same_timer_self}
 use Rattle.ert_defs.proofs.Slots.{ordered}
 use Rattle.ert_defs.proofs.Uses.{Use, before_self}
-use Rattle.ert_world.proofs.Composed.{none_first}
-use Rattle.ert_world.specs.Parts.{SchedStands}
-use Rattle.ert_world.specs.declared.sched_part.SchedPart.{SchedPart}
 use Rattle.ert_service.specs.Settled.{LawOfAdvances, LawOfExits, LawOfStarts, LawOfTurns, NoneDue, NoneFor, NoneWaits, IsSettled}
 use Rattle.ert_table.proofs.OneStep.{legal_by}
 use Rattle.ert_table.specs.Desks.{front_of}

@@ -1,11 +1,13 @@
--- A pass that is divided: each actor of a sort goes to a pass of its own.
+-- A pass that is divided: each actor of a kind goes to a pass of its own.
 
-use Rattle.std.specs.Prelude.{◌≡◌, ℕ, ◌+◌, ◌<◌, ◌≤◌, true, false, List, length, slice_index_or, Some}
+use Rattle.std.specs.Prelude.{◌≡◌, ℕ, ◌+◌, ◌<◌, ◌≤◌, true, false, List, [], length, slice_index_or, Some}
 use Rattle.atomic_table.specs.Seated.{TableId}
 use Rattle.ert_defs.specs.Actors.{same_actor}
 use Rattle.ert_defs.specs.declared.entry.Actor.{Actor}
 use Rattle.ert_defs.specs.declared.entry.Entry.{Entry}
 use Rattle.ert_defs.specs.declared.settings.Settings.{Settings}
+use Rattle.ert_locks.specs.Kinds.{Kind}
+use Rattle.ert_world.specs.Parts.{AreOrdered}
 use Rattle.ert_table.specs.Held.{is_held}
 use Rattle.ert_table.specs.declared.desk.Pass.{Pass}
 
@@ -18,12 +20,16 @@ pub record AreSeated {S : Type 0} (number : S → ℕ) (front : S → List Entry
   pub counted : length seats ≡ count
   pub each : (i : ℕ) (d : S) → i < count → (number (slice_index_or seats i d) ≡ i) × (front (slice_index_or seats i d) ≡ h)
 
--- so many actors of a sort have been taken out of a pass; the parts that are left are those that follow
-pub record Divides {X : Type 0} (number : X → ℕ) (stands : X → Type 0) (sort : ℕ → Actor) (count : ℕ) (first now : List Actor) (done : ℕ) (left : List X) : Type 0 where
-  pub sum : done + length left ≡ count
-  pub each : (j : ℕ) (d : X) → j < length left → (number (slice_index_or left j d) ≡ done + j) × stands (slice_index_or left j d)
-  pub held : (i : ℕ) → done ≤ i → i < count → is_held now (sort i) ≡ true
-  pub kept : KeepsBut sort first now
+-- these are the first parts of a kind, so many of them, in order of number
+abbrev pub AreFirst : {X : Type 0} → Kind X → Settings → ℕ → List Entry → List X → Type 0
+AreFirst k g count h xs = AreOrdered k.number (k.stands g h) k.actor [] count xs
+
+-- so many actors of a kind have been taken out of a pass; the parts that are left are those that follow
+pub record Divides {X : Type 0} (k : Kind X) (g : Settings) (h : List Entry) (first now : List Actor) (done : ℕ) (left : List X) : Type 0 where
+  pub sum : done + length left ≡ k.count g
+  pub each : (j : ℕ) (d : X) → j < length left → (k.number (slice_index_or left j d) ≡ done + j) × k.stands g h (slice_index_or left j d)
+  pub held : (i : ℕ) → done ≤ i → i < k.count g → is_held now (k.actor i) ≡ true
+  pub kept : KeepsBut k.actor first now
 
 -- a pass of the named desk, with whatever actors
 pub record IsPassOf (table : TableId) (g : Settings) (p : Pass) : Type 0 where

@@ -3,8 +3,9 @@
 use Rattle.std.specs.Prelude.{◌≡◌, ℕ, suc, ◌<◌, true, List, [], ◌∷◌, length, slice_index_or, Option, Some, None}
 use Rattle.ert_defs.specs.Actors.{of}
 use Rattle.ert_defs.specs.declared.entry.Actor.{Actor}
-use Rattle.ert_defs.specs.declared.entry.Entry.{Entry}
-use Rattle.ert_world.specs.Parts.{AreOrdered}
+use Rattle.ert_defs.specs.declared.settings.Settings.{Settings}
+use Rattle.ert_locks.specs.Kinds.{Kind}
+use Rattle.ert_service.specs.Dividing.{AreFirst}
 use Rattle.ert_table.specs.Held.{is_held}
 use Rattle.ert_table.specs.Views.{Begins}
 use Rattle.ert_table.specs.declared.view.View.{View}
@@ -16,9 +17,9 @@ pub record IsSeen (v w : View) : Type 0 where
   pub own : (a : Actor) → is_held v.actors a ≡ true → of w.front a ≡ of v.front a
 
 -- the parts that stand in places, each at its number
-pub record Gathered {X : Type 0} (number : X → ℕ) (stands : List Entry → X → Type 0) (sort : ℕ → Actor) (count : ℕ) (v : View) (places : List (Option X)) : Type 0 where
-  pub counted : length places ≡ count
-  pub each : (i : ℕ) (x : X) → slice_index_or places i None ≡ Some x → (number x ≡ i) × stands v.front x × (is_held v.actors (sort i) ≡ true)
+pub record Gathered {X : Type 0} (k : Kind X) (g : Settings) (v : View) (places : List (Option X)) : Type 0 where
+  pub counted : length places ≡ k.count g
+  pub each : (i : ℕ) (x : X) → slice_index_or places i None ≡ Some x → (k.number x ≡ i) × k.stands g v.front x × (is_held v.actors (k.actor i) ≡ true)
 
 -- how many places are full
 abbrev pub filled : {X : Type 0} → List (Option X) → ℕ
@@ -32,10 +33,10 @@ somes [] = []
 somes (None ∷ places) = somes places
 somes (Some x ∷ places) = x ∷ somes places
 
--- all parts of a sort stand in order, and their actors are held
-pub record AreIn {X : Type 0} (number : X → ℕ) (stands : List Entry → X → Type 0) (sort : ℕ → Actor) (count : ℕ) (v : View) (xs : List X) : Type 0 where
-  pub ordered : AreOrdered number (stands v.front) sort [] count xs
-  pub held : (i : ℕ) → i < count → is_held v.actors (sort i) ≡ true
+-- the first parts of a kind, so many of them, stand in order, and their actors are held
+pub record AreIn {X : Type 0} (k : Kind X) (g : Settings) (count : ℕ) (v : View) (xs : List X) : Type 0 where
+  pub ordered : AreFirst k g count v.front xs
+  pub held : (i : ℕ) → i < count → is_held v.actors (k.actor i) ≡ true
 
 -- so many places with nothing in them
 pub record AreEmpty {X : Type 0} (count : ℕ) (places : List (Option X)) : Type 0 where

@@ -1,4 +1,6 @@
 //! The calls of callers on the clock and on wheels.
+#![tactic(auto, using(crate::proofs::LegalFronts::legal_front))]
+
 use crate::service::Service;
 use ert_answers::StartErr;
 use ert_clock::{ClockErr, Moved};
@@ -74,12 +76,6 @@ impl<L: DeskName> Service<L> {
             (Starts L.settings seat.number wheel start.now result.1) seat.pass result.0.pass }
         ensures legal { IsLegal L.settings (front_of result.0.pass) }
     {
-        for _ in rt.forever() {
-            let mut locked = self.wheels[wheel as usize].lock(rt);
-            if locked.number() == wheel {
-                return locked.start(&self.desk, seat, start);
-            }
-        }
-        unreachable!()
+        self.wheels.at(rt, wheel).start(&self.desk, seat, start)
     }
 }

@@ -1,4 +1,6 @@
 //! The exit of a process.
+#![tactic(auto, using(crate::proofs::LegalFronts::legal_front))]
+
 use crate::service::Service;
 use ert_calls::mark_exit;
 use ert_defs::Actor;
@@ -74,12 +76,6 @@ impl<L: DeskName> Service<L> {
         ensures number { result.number ≡ seat.number }
         ensures call { FrontGrows (SweepsWheel L.settings (beside L.settings (Caller seat.number)) seat.number process wheel) seat.pass result.pass }
     {
-        for _ in rt.forever() {
-            let mut locked = self.wheels[wheel as usize].lock(rt);
-            if locked.number() == wheel {
-                return locked.sweep(&self.desk, seat, process);
-            }
-        }
-        unreachable!()
+        self.wheels.at(rt, wheel).sweep(&self.desk, seat, process)
     }
 }

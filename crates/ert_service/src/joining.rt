@@ -2,17 +2,17 @@
 ghost use Rattle.std.specs.Prelude.{◌≡◌, ◌<◌, ◌≤◌, ℕ, true, [], All};
 ghost use Rattle.std.specs.Vec.{vec_capacity};
 ghost use Rattle.ert_defs.specs.Legal.{Legal};
-ghost use Rattle.ert_defs.specs.declared.entry.Actor.TheVariants.{Caller, Sched};
+ghost use Rattle.ert_defs.specs.declared.entry.Actor.TheVariants.{Caller};
+ghost use Rattle.ert_locks.specs.Kinds.{scheds};
 ghost use Rattle.ert_locks.specs.Names.{IsDesk};
-ghost use Rattle.ert_world.specs.Parts.{SchedStands};
 ghost use Rattle.ert_service.specs.Gathering.{IsSeen, AreIn};
 ghost use Rattle.ert_service.specs.Joining.{AreNumbered};
 ghost use Rattle.ert_table.specs.Desks.{view_of, front_of, actors_of, Belongs};
 ghost use Rattle.ert_table.specs.Held.{is_held};
 
 use ert_locks::{CallerSeat, DeskName, SchedSeat};
-use ert_world::SchedPart;
 use ert_table::{Desk, Pass};
+use ert_world::SchedPart;
 
 /// Joins the passes of all callers.
 pub(crate) fn join_callers<L: DeskName>(desk: &Desk, pass: &mut Pass, seats: Vec<CallerSeat<L>>)
@@ -49,7 +49,7 @@ pub(crate) fn join_scheds<L: DeskName>(
     ensures legal { Legal L.settings (front_of pass.new) }
     ensures seen { IsSeen (view_of pass.old) (view_of pass.new) }
     ensures seats { All (λ s. IsSeen (view_of s.pass) (view_of pass.new)) seats.items }
-    ensures parts { AreIn (λ p. p.wheel) (SchedStands L.settings) Sched L.settings.schedulers (view_of pass.new) result.items }
+    ensures parts { AreIn scheds L.settings L.settings.schedulers (view_of pass.new) result.items }
 {
     let mut parts = parts;
     for seat in seats {

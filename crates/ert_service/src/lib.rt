@@ -18,7 +18,6 @@
 #![tactic(auto)]
 
 mod clock_calls;
-mod closing;
 mod exits;
 mod gates;
 mod joining;

@@ -1,4 +1,6 @@
 //! The calls of callers on inboxes and mailboxes.
+#![tactic(auto, using(crate::proofs::LegalFronts::legal_front))]
+
 use crate::service::Service;
 use ert_defs::{NoMemory, Request};
 use ert_locks::{CallerSeat, DeskName};
@@ -31,13 +33,7 @@ impl<L: DeskName> Service<L> {
         ensures legal { IsLegal L.settings (front_of result.0.pass) }
     {
         let wheel = self.inbox_for(&request);
-        for _ in rt.forever() {
-            let mut locked = self.inboxes[wheel as usize].lock(rt);
-            if locked.number() == wheel {
-                return locked.ask(&self.desk, seat, request);
-            }
-        }
-        unreachable!()
+        self.inboxes.at(rt, wheel).ask(&self.desk, seat, request)
     }
 
     /// The number of the inbox that a request goes to. There is at least one.
@@ -61,13 +57,7 @@ impl<L: DeskName> Service<L> {
         ensures call { StepsWith L.settings (Caller seat.number) (MailOf process) (Takes L.settings seat.number process result.1) seat.pass result.0.pass }
         ensures legal { IsLegal L.settings (front_of result.0.pass) }
     {
-        for _ in rt.forever() {
-            let mut locked = self.mails[process as usize].lock(rt);
-            if locked.number() == process {
-                return locked.take(&self.desk, seat);
-            }
-        }
-        unreachable!()
+        self.mails.at(rt, process).take(&self.desk, seat)
     }
 
     /// Makes a monitor of the time offset for a process (`erlang` module reference, `monitor`, type
@@ -86,13 +76,7 @@ impl<L: DeskName> Service<L> {
         ensures call { StepsWith L.settings (Caller seat.number) (MailOf process) (Monitors L.settings seat.number process result.1) seat.pass result.0.pass }
         ensures legal { IsLegal L.settings (front_of result.0.pass) }
     {
-        for _ in rt.forever() {
-            let mut locked = self.mails[process as usize].lock(rt);
-            if locked.number() == process {
-                return locked.monitor(&self.desk, seat);
-            }
-        }
-        unreachable!()
+        self.mails.at(rt, process).monitor(&self.desk, seat)
     }
 
     /// Removes a monitor (`demonitor`), and tells whether it stood.
@@ -109,13 +93,9 @@ impl<L: DeskName> Service<L> {
             (Demonitors L.settings seat.number process monitor result.1) seat.pass result.0.pass }
         ensures legal { IsLegal L.settings (front_of result.0.pass) }
     {
-        for _ in rt.forever() {
-            let mut locked = self.mails[process as usize].lock(rt);
-            if locked.number() == process {
-                return locked.demonitor(&self.desk, seat, monitor);
-            }
-        }
-        unreachable!()
+        self.mails
+            .at(rt, process)
+            .demonitor(&self.desk, seat, monitor)
     }
 
     /// Tells a process the time offset by one message for each monitor to which it is news, and answers how
@@ -133,12 +113,6 @@ impl<L: DeskName> Service<L> {
         ensures call { StepsWith L.settings (Caller seat.number) (MailOf process) (Tells L.settings seat.number process result.1) seat.pass result.0.pass }
         ensures legal { IsLegal L.settings (front_of result.0.pass) }
     {
-        for _ in rt.forever() {
-            let mut locked = self.mails[process as usize].lock(rt);
-            if locked.number() == process {
-                return locked.tell(&self.desk, seat);
-            }
-        }
-        unreachable!()
+        self.mails.at(rt, process).tell(&self.desk, seat)
     }
 }

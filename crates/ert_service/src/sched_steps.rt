@@ -1,4 +1,6 @@
 //! The steps of a scheduler, each under one lock.
+#![tactic(auto, using(crate::proofs::LegalFronts::legal_front))]
+
 ghost use Rattle.std.specs.Prelude.{◌≡◌, ◌<◌, Some};
 ghost use Rattle.ert_defs.specs.Mails.{first_of};
 
@@ -46,13 +48,7 @@ impl<L: DeskName> Service<L> {
             (Picks L.settings seat.part.wheel result.1) seat.pass result.0.pass }
     {
         let wheel = seat.part.wheel;
-        for _ in rt.forever() {
-            let mut locked = self.inboxes[wheel as usize].lock(rt);
-            if locked.number() == wheel {
-                return locked.pick(&self.desk, seat);
-            }
-        }
-        unreachable!()
+        self.inboxes.at(rt, wheel).pick(&self.desk, seat)
     }
 
     /// Answers the request in the hand, and empties that.
@@ -68,13 +64,7 @@ impl<L: DeskName> Service<L> {
             (Answers L.settings seat.part.wheel request.now result.1) seat.pass result.0.pass }
     {
         let process = asker_of(&seat, request);
-        for _ in rt.forever() {
-            let mut locked = self.mails[process as usize].lock(rt);
-            if locked.number() == process {
-                return locked.answer(&self.desk, seat, request);
-            }
-        }
-        unreachable!()
+        self.mails.at(rt, process).answer(&self.desk, seat, request)
     }
 
     /// Lets every timer of the scheduler's wheel expire that is due, and answers the time, in whole
@@ -93,13 +83,7 @@ impl<L: DeskName> Service<L> {
         ensures legal { IsLegal L.settings (front_of result.0.pass) }
     {
         let wheel = seat.part.wheel;
-        for _ in rt.forever() {
-            let mut locked = self.wheels[wheel as usize].lock(rt);
-            if locked.number() == wheel {
-                return locked.advance(&self.desk, seat);
-            }
-        }
-        unreachable!()
+        self.wheels.at(rt, wheel).advance(&self.desk, seat)
     }
 
     /// Hands over the scheduler's first expired timer.
@@ -115,13 +99,9 @@ impl<L: DeskName> Service<L> {
         ensures call { FrontGrows (Hands L.settings (beside L.settings (Sched seat.part.wheel)) seat.part.wheel result.1) seat.pass result.0.pass }
     {
         let process = destination_of(&seat, fired);
-        for _ in rt.forever() {
-            let mut locked = self.mails[process as usize].lock(rt);
-            if locked.number() == process {
-                return locked.hand_over(&self.desk, seat, fired);
-            }
-        }
-        unreachable!()
+        self.mails
+            .at(rt, process)
+            .hand_over(&self.desk, seat, fired)
     }
 }
 

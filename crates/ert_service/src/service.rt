@@ -1,22 +1,21 @@
-ghost use Rattle.std.specs.Prelude.{◌≡◌, vec_len};
+ghost use Rattle.std.specs.Prelude.{◌≡◌, ◌≤◌, []};
+ghost use Rattle.std.specs.Vec.{vec_capacity};
 ghost use Rattle.ert_locks.specs.Names.{IsDesk};
 
-use crate::closing::{gather_inboxes, gather_mails, gather_wheels};
 use crate::joining::{join_callers, join_scheds};
-use crate::opening::{lock_inboxes, lock_mails, lock_wheels, seat_callers, seat_scheds};
-use crate::rooms::Rooms;
+use crate::opening::{seat_callers, seat_scheds};
+use crate::rooms::{PaddedLock, Room};
 use crossbeam_utils::CachePadded;
 use ert_defs::{Actor, NoMemory, TimerRef};
-use ert_locks::{
-    CallerSeat, DeskName, LockedInbox, LockedKeeper, LockedMail, LockedWheel, SchedSeat,
-};
-use ert_world::{Parts, World};
+use ert_inbox::InboxPart;
+use ert_keeper::KeeperPart;
+use ert_locks::{CallerSeat, DeskName, Locked, SchedSeat};
+use ert_mail::MailPart;
 use ert_table::{Desk, Pass};
+use ert_timers::WheelPart;
+use ert_world::{Parts, SchedPart, World};
 use std::alloc::Global;
 use std::sync::Mutex;
-
-/// A lock on cache lines of its own, so that threads at different parts don't write lines of each other's.
-pub(crate) type PaddedLock<T> = CachePadded<Mutex<T>>;
 
 /// The clock and timer service for many threads, on the desk that `L` names.
 ///
@@ -30,16 +29,16 @@ pub(crate) type PaddedLock<T> = CachePadded<Mutex<T>>;
 #[derive(Drop)]
 pub struct Service<L: DeskName> {
     pub(crate) desk: Desk,
-    pub(crate) keeper: PaddedLock<LockedKeeper<L>>,
-    pub(crate) wheels: Vec<PaddedLock<LockedWheel<L>>>,
-    pub(crate) inboxes: Vec<PaddedLock<LockedInbox<L>>>,
-    pub(crate) mails: Vec<PaddedLock<LockedMail<L>>>,
+    pub(crate) keeper: PaddedLock<Locked<KeeperPart, L>>,
+    pub(crate) wheels: Room<WheelPart, L>,
+    pub(crate) inboxes: Room<InboxPart, L>,
+    pub(crate) mails: Room<MailPart, L>,
     pub(crate) labels: Vec<(u32, TimerRef)>,
-    rooms: Rooms<L>,
+    /// Empty, with room for all parts of schedulers.
+    scheds: Vec<SchedPart>,
     ghost named: { IsDesk L.table L.settings desk },
-    ghost wheels_counted: { vec_len wheels ≡ L.settings.schedulers },
-    ghost inboxes_counted: { vec_len inboxes ≡ L.settings.schedulers },
-    ghost mails_counted: { vec_len mails ≡ L.settings.processes },
+    ghost no_scheds: { scheds.items ≡ [] },
+    ghost room: { L.settings.schedulers ≤ vec_capacity scheds },
 }
 
 /// A service that was opened: what threads share, the seats of its threads, in order of number, and the pass
@@ -87,12 +86,12 @@ impl<L: DeskName> Service<L> {
             labels,
             ..
         } = parts;
-        let rooms = Rooms::new(alloc, &desk)?;
+        let room = Vec::with_capacity(alloc, scheds.len())?;
         let own = pass.split(&desk, Actor::Keeper);
-        let keeper = LockedKeeper::new(keeper, own);
-        let wheels = lock_wheels(alloc, &desk, &mut pass, wheels)?;
-        let inboxes = lock_inboxes(alloc, &desk, &mut pass, inboxes)?;
-        let mails = lock_mails(alloc, &desk, &mut pass, mails)?;
+        let keeper = Locked::new(keeper, own);
+        let wheels = Room::lock_all(alloc, &desk, &mut pass, wheels)?;
+        let inboxes = Room::lock_all(alloc, &desk, &mut pass, inboxes)?;
+        let mails = Room::lock_all(alloc, &desk, &mut pass, mails)?;
         let scheds = seat_scheds(alloc, &desk, &mut pass, scheds)?;
         let callers = seat_callers(alloc, &desk, &mut pass)?;
         let service = Service {
@@ -102,7 +101,7 @@ impl<L: DeskName> Service<L> {
             inboxes,
             mails,
             labels,
-            rooms,
+            scheds: room,
         };
         Ok(Opened {
             service,
@@ -136,16 +135,16 @@ impl<L: DeskName> Service<L> {
             inboxes,
             mails,
             labels,
-            rooms,
+            scheds: room,
             ..
         } = self;
         let mut pass = rest;
         let (keeper, own) = keeper.into_inner().into_inner().into_parts();
         pass.join(&desk, own);
-        let wheels = gather_wheels(&desk, &mut pass, wheels, rooms.wheel_places, rooms.wheels);
-        let inboxes = gather_inboxes(&desk, &mut pass, inboxes, rooms.inbox_places, rooms.inboxes);
-        let mails = gather_mails(&desk, &mut pass, mails, rooms.mail_places, rooms.mails);
-        let scheds = join_scheds(&desk, &mut pass, scheds, rooms.scheds);
+        let wheels = wheels.gather_all(&desk, &mut pass);
+        let inboxes = inboxes.gather_all(&desk, &mut pass);
+        let mails = mails.gather_all(&desk, &mut pass);
+        let scheds = join_scheds(&desk, &mut pass, scheds, room);
         join_callers(&desk, &mut pass, callers);
         World::from_parts(Parts {
             settings: *desk.settings(),

@@ -1,4 +1,6 @@
 //! The calls of schedulers that take several locks, one after the other.
+#![tactic(auto, using(crate::proofs::LegalFronts::legal_front))]
+
 use crate::service::Service;
 use ert_answers::Turned;
 use ert_defs::NoMemory;

@@ -2,15 +2,15 @@
 ghost use Rattle.std.specs.Prelude.{◌≡◌};
 ghost use Rattle.ert_locks.specs.Hands.{hand_left, rows_left};
 
-use super::LockedMail;
+use crate::locked::{Locked, meet};
 use crate::names::DeskName;
 use crate::seats::SchedSeat;
 use ert_defs::{Actor, Fired, NoMemory, Request};
-use ert_mail::Handed;
+use ert_mail::{Handed, MailPart};
 use ert_table::Desk;
 use ert_timers::FiredList;
 
-impl<L: DeskName> LockedMail<L> {
+impl<L: DeskName> Locked<MailPart, L> {
     ghost use Rattle.std.specs.Prelude.{◌≡◌, Some, OnOk};
     ghost use Rattle.ert_answers.specs.Chains.{Hands};
     ghost use Rattle.ert_answers.specs.RequestCalls.{Answers};
@@ -40,7 +40,7 @@ impl<L: DeskName> LockedMail<L> {
     {
         let SchedSeat { mut part, pass, .. } = seat;
         let wheel = part.wheel;
-        self.pass.join(desk, pass);
+        meet::<MailPart, L>(desk, &self.part, &mut self.pass, pass);
         let left = self.part.answer(desk, &mut self.pass, wheel, request);
         part.hand = hand_after(part.hand, &left);
         let pass = self.pass.split(desk, Actor::Sched(wheel));
@@ -66,7 +66,7 @@ impl<L: DeskName> LockedMail<L> {
     {
         let SchedSeat { mut part, pass, .. } = seat;
         let wheel = part.wheel;
-        self.pass.join(desk, pass);
+        meet::<MailPart, L>(desk, &self.part, &mut self.pass, pass);
         let handed = self.part.deliver(desk, &mut self.pass, fired);
         drop_handed(&mut part.fired, &handed);
         let pass = self.pass.split(desk, Actor::Sched(wheel));

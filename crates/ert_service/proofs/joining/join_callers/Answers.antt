@@ -1,7 +1,5 @@
 use Rattle.std.proofs.Common.{length, arith, ap, subst}
-use Rattle.std.specs.Vec.Iter.{into_iter_items}
 use Rattle.ert_defs.specs.Legal.{Legal}
-use Rattle.ert_defs.specs.declared.entry.Actor.TheVariants.{Caller}
 use Rattle.ert_service.proofs.Gathered.{seen_then, seen_left}
 use Rattle.ert_service.proofs.Joined.{joins_next, joins_all}
 use Rattle.ert_table.specs.Desks.{front_of, view_of}
@@ -9,7 +7,6 @@ use Rattle.ert_service.proofs.joining.join_callers.Goals as goal
 
 pub loop-seat-preserved : goal.loop-seat-preserved
 loop-seat-preserved g c =
-    let s = g.L.DeskName.settings in
     let v = view_of c.loop-seat.pass in
     let w = view_of c.in-Some.seat.pass in
     let j = view_of c.join.new.self in
@@ -19,9 +16,8 @@ loop-seat-preserved g c =
     record {
       belongs = c.join.ensures.belongs;
       legal = subst (λ t. Legal t (front_of c.join.new.self)) c.requires.desk.settings_is c.join.ensures.legal;
-      seen = seen_then (view_of c.args.pass.now) v j c.loop-seat.invariant.seen (seen_left v w j c.join.ensures.actors c.join.ensures.joined);
-      joins = joins_next (λ s. s.number) (λ s. view_of s.pass) Caller s.callers v j c.loop-seat.yielded (into_iter_items c.loop-seat.seat-iterator) (into_iter_items c.next.new.self)
-          c.args.seats.items c.in-Some.seat c.in-Some.ensures.steps.0 c.join.ensures.actors c.join.ensures.joined c.in-Some.seat.sits.actors c.loop-seat.invariant.joins;
+      seen = seen_then c.loop-seat.invariant.seen (seen_left v w j c.join.ensures.actors c.join.ensures.joined);
+      joins = joins_next j c.in-Some.ensures.steps.0 c.join.ensures.actors c.join.ensures.joined c.in-Some.seat.sits.actors c.loop-seat.invariant.joins;
       remaining = omega arith;
     }
 
@@ -29,12 +25,10 @@ pub returns-clause-seats : goal.returns-clause-seats
 returns-clause-seats g c =
     let was = c.loop-seat.invariant.remaining in
     let none = c.in-None.ensures.steps.0 in
-    (joins_all (λ s. s.number) (λ s. view_of s.pass) Caller g.L.DeskName.settings.callers (view_of c.loop-seat.pass) c.loop-seat.yielded (into_iter_items c.loop-seat.seat-iterator) c.args.seats.items
-    (omega arith) c.loop-seat.invariant.joins).0
+    (joins_all c.loop-seat.invariant.joins (omega arith)).0
 
 pub returns-clause-held : goal.returns-clause-held
 returns-clause-held g c =
     let was = c.loop-seat.invariant.remaining in
     let none = c.in-None.ensures.steps.0 in
-    (joins_all (λ s. s.number) (λ s. view_of s.pass) Caller g.L.DeskName.settings.callers (view_of c.loop-seat.pass) c.loop-seat.yielded (into_iter_items c.loop-seat.seat-iterator) c.args.seats.items
-    (omega arith) c.loop-seat.invariant.joins).1
+    (joins_all c.loop-seat.invariant.joins (omega arith)).1

@@ -2,8 +2,7 @@ use Rattle.std.proofs.Common.{◌≡◌, ◌≤◌, length}
 use Rattle.std.specs.Vec.Iter.{into_iter_items, into_iter_len}
 use Rattle.ert_defs.specs.Legal.{Legal}
 use Rattle.ert_defs.specs.declared.entry.Actor.TheVariants.{Sched}
-use Rattle.ert_world.specs.Parts.{SchedStands}
-use Rattle.ert_world.specs.declared.sched_part.SchedPart.{SchedPart}
+use Rattle.ert_locks.specs.Kinds.{scheds}
 use Rattle.ert_service.specs.Gathering.{IsSeen, AreIn}
 use Rattle.ert_service.specs.Joining.{Joins}
 use Rattle.ert_table.specs.Desks.{front_of, view_of, Belongs}
@@ -16,7 +15,7 @@ invariant-loop-seat g l = record {
   seen : IsSeen (view_of l.fn.pass) (view_of l.pass);
   joins : Joins (λ s. s.part.wheel) (λ s. view_of s.pass) Sched g.L.DeskName.settings.schedulers (view_of l.pass) l.yielded (into_iter_items l.seat-iterator) l.fn.seats.items;
   remaining : into_iter_len l.seat-iterator ≡ length (into_iter_items l.seat-iterator);
-  inside : AreIn (λ (p : SchedPart). p.wheel) (SchedStands g.L.DeskName.settings) Sched (length l.yielded) (view_of l.pass) l.parts.items;
+  inside : AreIn scheds g.L.DeskName.settings (length l.yielded) (view_of l.pass) l.parts.items;
   len : l.parts.len ≡ length l.yielded;
   room : g.L.DeskName.settings.schedulers ≤ l.parts.cap;
 }

@@ -1,5 +1,4 @@
 use Rattle.std.proofs.Common.{◌+◌, ◌<◌, rules, arith, sym, ap, subst, ◌∙◌}
-use Rattle.ert_defs.specs.declared.entry.Actor.TheVariants.{Caller}
 use Rattle.ert_service.proofs.Divided.{held_next, seats_more}
 use Rattle.ert_service.specs.Dividing.{AreSeated}
 use Rattle.ert_table.specs.Desks.{front_of, actors_of}
@@ -14,11 +13,11 @@ pub loop-number-preserved : goal.loop-number-preserved
 loop-number-preserved g c = record {
   belongs = c.split-own.ensures.belongs;
   front = c.split-own.ensures.front ∙ c.loop-number.invariant.front;
-  held = held_next Caller (actors_of c.loop-number.pass) (actors_of c.split-own.new.self) c.loop-number.number g.L.DeskName.settings.callers (λ m n other. other) c.split-own.ensures.rest c.loop-number.invariant.held;
+  held = held_next (actors_of c.loop-number.pass) (actors_of c.split-own.new.self) c.loop-number.number g.L.DeskName.settings.callers c.split-own.ensures.rest c.loop-number.invariant.held;
   count = c.loop-number.invariant.count;
   len = search rules;
   room = search rules;
   seated = subst (λ l. AreSeated (λ s. s.number) (λ s. front_of s.pass) (c.loop-number.number + 1) (front_of c.args.pass.now) l) (sym c.push_reserved.ensures.items)
-      (seats_more (λ s. s.number) (λ s. front_of s.pass) c.loop-number.number (front_of c.args.pass.now) c.loop-number.seats.items c.new.result c.loop-number.invariant.seated
+      (seats_more c.new.result c.loop-number.invariant.seated
       c.new.ensures.number (ap (λ p. front_of p) c.new.ensures.pass ∙ (c.split-own.ensures.new_front ∙ c.loop-number.invariant.front)));
 }

@@ -1,37 +1,27 @@
 use Rattle.std.proofs.Common.{◌+◌, length, rules, arith, sym, ap, subst, ◌∙◌}
-use Rattle.std.specs.Vec.Iter.{into_iter_items}
-use Rattle.ert_world.specs.declared.sched_part.SchedPart.{SchedPart as Item}
-use Rattle.ert_world.specs.Parts.{SchedStands as Stands}
-use Rattle.ert_defs.specs.declared.entry.Actor.TheVariants.{Sched}
+use Rattle.ert_locks.specs.KindLaws.{scheds_are}
 use Rattle.ert_service.proofs.Divided.{next_of, divides_next, seats_more}
 use Rattle.ert_service.specs.Dividing.{AreSeated}
-use Rattle.ert_table.specs.Desks.{front_of, actors_of}
+use Rattle.ert_table.specs.Desks.{front_of}
 use Rattle.ert_service.proofs.opening.seat_scheds.Goals as goal
 
 pub split-own-requires-clause-held : goal.split-own-requires-clause-held
-split-own-requires-clause-held g c =
-    let next = next_of (λ (p : Item). p.wheel) (Stands g.L.DeskName.settings (front_of c.args.pass.now)) Sched g.L.DeskName.settings.schedulers (actors_of c.args.pass.now) (actors_of c.loop-part.pass) c.loop-part.seats.len c.in-Some.part
-    (into_iter_items c.loop-part.part-iterator) (into_iter_items c.next.new.self) c.in-Some.ensures.steps.0 c.loop-part.invariant.divides in
-    next.held
+split-own-requires-clause-held g c = (next_of c.in-Some.ensures.steps.0 c.loop-part.invariant.divides).held
 
 pub loop-part-preserved : goal.loop-part-preserved
 loop-part-preserved g c =
-    let next = next_of (λ (p : Item). p.wheel) (Stands g.L.DeskName.settings (front_of c.args.pass.now)) Sched g.L.DeskName.settings.schedulers (actors_of c.args.pass.now) (actors_of c.loop-part.pass) c.loop-part.seats.len c.in-Some.part
-    (into_iter_items c.loop-part.part-iterator) (into_iter_items c.next.new.self) c.in-Some.ensures.steps.0 c.loop-part.invariant.divides in
-    let steps = c.in-Some.ensures.steps.0 in
+    let next = next_of c.in-Some.ensures.steps.0 c.loop-part.invariant.divides in
     let gone = c.in-Some.ensures.steps.1 in
-    let short = ap length steps in
+    let short = ap length c.in-Some.ensures.steps.0 in
     let was = c.loop-part.invariant.remaining in
     record {
       belongs = c.split-own.ensures.belongs;
       front = c.split-own.ensures.front ∙ c.loop-part.invariant.front;
-      divides = divides_next (λ (p : Item). p.wheel) (Stands g.L.DeskName.settings (front_of c.args.pass.now)) Sched g.L.DeskName.settings.schedulers (actors_of c.args.pass.now) (actors_of c.loop-part.pass) (actors_of c.split-own.new.self)
-          c.loop-part.seats.len c.push_reserved.new.self.len c.in-Some.part (into_iter_items c.loop-part.part-iterator) (into_iter_items c.next.new.self) (λ m n other. other) c.push_reserved.ensures.len
-          c.in-Some.ensures.steps.0 c.split-own.ensures.rest c.loop-part.invariant.divides;
+      divides = divides_next scheds_are c.push_reserved.ensures.len c.in-Some.ensures.steps.0 c.split-own.ensures.rest c.loop-part.invariant.divides;
       remaining = omega arith;
       room = search rules;
       seated = subst (λ k. AreSeated (λ s. s.part.wheel) (λ s. front_of s.pass) k (front_of c.args.pass.now) c.push_reserved.new.self.items) (sym c.push_reserved.ensures.len)
           (subst (λ l. AreSeated (λ s. s.part.wheel) (λ s. front_of s.pass) (c.loop-part.seats.len + 1) (front_of c.args.pass.now) l) (sym c.push_reserved.ensures.items)
-          (seats_more (λ s. s.part.wheel) (λ s. front_of s.pass) c.loop-part.seats.len (front_of c.args.pass.now) c.loop-part.seats.items c.new.result c.loop-part.invariant.seated
+          (seats_more c.new.result c.loop-part.invariant.seated
           (ap (λ p. p.wheel) c.new.ensures.part ∙ next.named) (ap (λ p. front_of p) c.new.ensures.pass ∙ (c.split-own.ensures.new_front ∙ c.loop-part.invariant.front))));
     }

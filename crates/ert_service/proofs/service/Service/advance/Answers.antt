@@ -1,14 +1,10 @@
 use Rattle.ert_defs.specs.declared.entry.Actor.TheVariants.{Sched}
 use Rattle.ert_service.proofs.Settling.{due_in}
 use Rattle.ert_table.specs.Desks.{front_of}
-use Rattle.ert_service.proofs.LegalFronts.{legal_front}
 use Rattle.ert_service.proofs.service.Service.advance.Goals as goal
 
-pub returns-then-number-wheel-clause-due : goal.returns-then-number-wheel-clause-due
-returns-then-number-wheel-clause-due g c =
+pub returns-clause-due : goal.returns-clause-due
+returns-clause-due g c =
     let s = g.L.DeskName.settings in
     due_in s (Sched c.args.seat.part.wheel) c.args.seat.part.wheel c.advance.result.1 (front_of c.args.seat.pass) c.advance.result.0.pass
     c.advance.result.0.fits.sits.named c.advance.ensures.call
-
-pub returns-then-number-wheel-clause-legal : goal.returns-then-number-wheel-clause-legal
-returns-then-number-wheel-clause-legal g c = legal_front c.advance.result.0.fits.sits

@@ -8,7 +8,6 @@ use Rattle.ert_defs.specs.declared.entry.Actor.TheVariants.{Sched}
 use Rattle.ert_world.proofs.Composed.{puts_more, drops_more, one_less, few_put, few_dropped}
 use Rattle.ert_service.proofs.Chained.{handed_more, rows_few}
 use Rattle.ert_table.specs.Desks.{front_of}
-use Rattle.ert_service.proofs.LegalFronts.{legal_front}
 use Rattle.ert_service.proofs.service.Service.deliver.Goals as goal
 
 pub loop-fired-preserved-in-Ok-Put : goal.loop-fired-preserved-in-Ok-Put
@@ -58,9 +57,3 @@ loop-fired-preserved g c =
       dropped_is = ap (λ k. k + 1) c.loop-fired.invariant.dropped_is ∙ sym (drops_more c.loop-fired.invariant.hows Dropped);
       few = inr (few_dropped c.loop-fired.put c.loop-fired.dropped _ _ c.loop-fired.invariant.few few less);
     }
-
-pub returns-in-Err-clause-legal : goal.returns-in-Err-clause-legal
-returns-in-Err-clause-legal g c = legal_front c.hand_over-seat.result.0.fits.sits
-
-pub returns-clause-legal : goal.returns-clause-legal
-returns-clause-legal g c = legal_front c.loop-fired.next.fits.sits

@@ -6,7 +6,6 @@ use Rattle.ert_defs.specs.declared.entry.Actor.TheVariants.{Caller}
 use Rattle.ert_service.proofs.Chained.{exited}
 use Rattle.ert_service.proofs.Settling.{swept_in}
 use Rattle.ert_table.specs.Desks.{front_of}
-use Rattle.ert_service.proofs.LegalFronts.{legal_front}
 use Rattle.ert_service.proofs.service.Service.exit.Goals as goal
 
 pub returns-clause-swept : goal.returns-clause-swept
@@ -20,9 +19,3 @@ returns-clause-swept g c = λ answered.
     let mark = subst (λ b. Grows (beside s (Caller n) [] (MarksExit s (Caller n) c.args.process b)) f h) new c.mark-seat.ensures.call in
     let sweeps = subst (λ m. Grows (SweepsWheels s (beside s (Caller m)) m c.args.process 0 s.schedulers) h k) c.mark-seat.ensures.number c.sweep_all.ensures.call in
     swept_in s (Caller n) n c.args.process f c.sweep_all.result.pass c.sweep_all.result.sits.named (exited s (beside s (Caller n)) n c.args.process f h k mark sweeps)
-
-pub returns-then-not-new-clause-legal : goal.returns-then-not-new-clause-legal
-returns-then-not-new-clause-legal g c = legal_front c.mark-seat.result.0.sits
-
-pub returns-clause-legal : goal.returns-clause-legal
-returns-clause-legal g c = legal_front c.sweep_all.result.sits

@@ -4,16 +4,12 @@ use Rattle.ert_answers.specs.TimerCalls.{Starts}
 use Rattle.ert_answers.specs.Ways.{Grows, beside}
 use Rattle.ert_service.proofs.Settling.{settled_in}
 use Rattle.ert_table.specs.Desks.{front_of}
-use Rattle.ert_service.proofs.LegalFronts.{legal_front}
 use Rattle.ert_service.proofs.service.Service.start.Goals as goal
 
-pub returns-then-number-wheel-clause-settled : goal.returns-then-number-wheel-clause-settled
-returns-then-number-wheel-clause-settled g c = λ exited.
+pub returns-clause-settled : goal.returns-clause-settled
+returns-clause-settled g c = λ exited.
     let s = g.L.DeskName.settings in
     let n = c.args.seat.number in
     let call : Grows (beside s (Caller n) (Wheel c.args.wheel ∷ []) (Starts s n c.args.wheel c.args.start.now c.start.result.1)) (front_of c.args.seat.pass) (front_of c.start.result.0.pass) = search rules in
     settled_in s (Caller c.args.seat.number) c.args.seat.number c.args.wheel c.args.start.now c.start.result.1 (front_of c.args.seat.pass) c.start.result.0.pass
     c.start.result.0.sits.named exited call
-
-pub returns-then-number-wheel-clause-legal : goal.returns-then-number-wheel-clause-legal
-returns-then-number-wheel-clause-legal g c = legal_front c.start.result.0.sits

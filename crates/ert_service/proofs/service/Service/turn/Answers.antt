@@ -3,7 +3,6 @@ use Rattle.ert_answers.specs.Chains.{ServesAll, AdvancesWheel, Delivers}
 use Rattle.ert_answers.specs.Ways.{Grows, beside}
 use Rattle.ert_defs.specs.declared.entry.Actor.TheVariants.{Sched}
 use Rattle.ert_service.proofs.Chained.{turn_undelivered}
-use Rattle.ert_service.proofs.LegalFronts.{legal_front}
 use Rattle.ert_service.proofs.service.Service.turn.Goals as goal
 use Rattle.ert_table.specs.Desks.{front_of}
 
@@ -24,15 +23,3 @@ returns-in-Err-delivered-clause-call g c =
     let three_err = subst (λ r. Grows (Delivers s (beside s (Sched n)) n r) (front_of c.advance-seat.result.0.pass) (front_of c.deliver-seat.result.0.pass)) stopped three in
     turn_undelivered s (beside s (Sched n)) (front_of c.args.seat.pass) (front_of c.serve_all-seat.result.0.pass) (front_of c.advance-seat.result.0.pass) (front_of c.deliver-seat.result.0.pass)
     n c.in-Ok.served c.in-Ok-advanced.advanced c.in-Err-delivered.e one two_ok three_err
-
-pub returns-in-Err-clause-legal : goal.returns-in-Err-clause-legal
-returns-in-Err-clause-legal g c = legal_front c.serve_all-seat.result.0.fits.sits
-
-pub returns-in-Err-advanced-clause-legal : goal.returns-in-Err-advanced-clause-legal
-returns-in-Err-advanced-clause-legal g c = legal_front c.advance-seat.result.0.fits.sits
-
-pub returns-in-Err-delivered-clause-legal : goal.returns-in-Err-delivered-clause-legal
-returns-in-Err-delivered-clause-legal g c = legal_front c.deliver-seat.result.0.fits.sits
-
-pub returns-clause-legal : goal.returns-clause-legal
-returns-clause-legal g c = legal_front c.deliver-seat.result.0.fits.sits

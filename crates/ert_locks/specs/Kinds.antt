@@ -1,0 +1,59 @@
+-- The kinds of parts that a desk has, and a part that stands for what its pass knows.
+
+use Rattle.std.specs.Prelude.{◌≡◌, ℕ, ◌<◌, nat_eq, false, List}
+use Rattle.atomic_table.specs.Seated.{TableId}
+use Rattle.ert_clock.specs.Shown.{Shown, Stands as ClockStands}
+use Rattle.ert_defs.specs.Actors.{of, same_actor}
+use Rattle.ert_defs.specs.Legal.{Legal}
+use Rattle.ert_defs.specs.declared.entry.Actor.{Actor}
+use Rattle.ert_defs.specs.declared.entry.Actor.TheVariants.{Keeper, Wheel, Inbox, Sched, MailOf}
+use Rattle.ert_defs.specs.declared.entry.Entry.{Entry}
+use Rattle.ert_defs.specs.declared.settings.Settings.{Settings}
+use Rattle.ert_inbox.specs.Inboxes.{Waiting, Stands as InboxStands}
+use Rattle.ert_locks.specs.Names.{IsOf}
+use Rattle.ert_mail.specs.Mailboxes.{Mailbox, Stands as MailStands}
+use Rattle.ert_world.specs.Parts.{SchedStands}
+use Rattle.ert_world.specs.declared.sched_part.SchedPart.{SchedPart}
+use Rattle.ert_table.specs.Desks.{front_of}
+use Rattle.ert_table.specs.Views.{Begins}
+use Rattle.ert_table.specs.declared.desk.Pass.{Pass}
+use Rattle.ert_timers.specs.Parts.{Part, Stands as WheelStands}
+
+-- a kind of parts: the actor of each number, how many numbers there are, the number of a part, and when a part
+-- stands for a history
+pub record Kind (X : Type 0) : Type 1 where
+  pub actor : ℕ → Actor
+  pub count : Settings → ℕ
+  pub number : X → ℕ
+  pub stands : Settings → List Entry → X → Type 0
+
+-- the clock's part, of which there is one
+abbrev pub keepers : Kind Shown
+keepers = record { actor = λ n. Keeper; count = λ g. 1; number = λ k. 0; stands = ClockStands }
+
+-- the wheels, the inboxes and the schedulers, one each for every scheduler
+abbrev pub wheels : Kind Part
+wheels = record { actor = Wheel; count = λ g. g.schedulers; number = λ p. p.number; stands = WheelStands }
+
+abbrev pub inboxes : Kind Waiting
+inboxes = record { actor = Inbox; count = λ g. g.schedulers; number = λ q. q.wheel; stands = InboxStands }
+
+abbrev pub scheds : Kind SchedPart
+scheds = record { actor = Sched; count = λ g. g.schedulers; number = λ p. p.wheel; stands = SchedStands }
+
+-- the mailboxes, one for every process
+abbrev pub mails : Kind Mailbox
+mails = record { actor = MailOf; count = λ g. g.processes; number = λ m. m.process; stands = MailStands }
+
+-- what is so of each kind: a part stands for a longer history too, where none of the later entries has its
+-- actor; its number is below the count; and two numbers have two actors
+pub record IsKind {X : Type 0} (k : Kind X) : Type 0 where
+  pub stand_on : (g : Settings) (f h : List Entry) (x : X) → Begins f h → of h (k.actor (k.number x)) ≡ of f (k.actor (k.number x)) → Legal g h
+      → k.stands g f x → k.stands g h x
+  pub low : (g : Settings) (h : List Entry) (x : X) → k.stands g h x → k.number x < k.count g
+  pub apart : (g : Settings) (m n : ℕ) → m < k.count g → n < k.count g → nat_eq m n ≡ false → same_actor (k.actor m) (k.actor n) ≡ false
+
+-- a part stands for the front of a pass of the named desk that has its actor alone
+pub record Fits {X : Type 0} (table : TableId) (g : Settings) (k : Kind X) (part : X) (p : Pass) : Type 0 where
+  pub sits : IsOf table g (k.actor (k.number part)) p
+  pub stands : k.stands g (front_of p) part

@@ -1,0 +1,83 @@
+//! A part behind its lock.
+ghost use Rattle.std.specs.Prelude.{◌≡◌, ◌++◌};
+ghost use Rattle.ert_defs.specs.Legal.{Legal};
+ghost use Rattle.ert_defs.specs.declared.entry.Actor.{Actor};
+ghost use Rattle.ert_locks.specs.Kinds.{Fits, scheds};
+ghost use Rattle.ert_locks.specs.Names.{IsDesk, IsOf};
+ghost use Rattle.ert_locks.specs.Passes.{Meets};
+ghost use Rattle.ert_table.specs.Desks.{settings_of, view_of, front_of, actors_of, Belongs};
+
+use crate::desk_part::DeskPart;
+use crate::names::DeskName;
+use ert_table::{Desk, Pass};
+use std::marker::{Model, PhantomData};
+
+/// A part of the desk that `L` names, with the pass that has its actor. Contracts see its number.
+#[derive(Drop)]
+pub struct Locked<P: DeskPart + Drop, L: DeskName> {
+    pub(crate) part: P,
+    pub(crate) pass: Pass,
+    of: PhantomData<L>,
+}
+
+impl<P: DeskPart + Drop, L: DeskName> Model for Locked<P, L> {
+    ghost use Rattle.std.specs.Prelude.{ℕ};
+    ghost use Rattle.ert_locks.specs.Kinds.{Fits};
+
+    ghost Value = { ℕ };
+
+    ghost view = { λ k. P.kind.number k.part };
+
+    ghost invariant = { λ k. Fits L.table L.settings P.kind k.part k.pass };
+}
+
+impl<P: DeskPart + Drop, L: DeskName> Locked<P, L> {
+    ghost use Rattle.std.specs.Prelude.{◌≡◌};
+    ghost use Rattle.ert_locks.specs.Kinds.{Fits};
+
+    /// The part with the pass that has its actor alone, for whose front it stands.
+    pub fn new(part: P, pass: Pass) -> Locked<P, L>
+        requires { Fits L.table L.settings P.kind part pass }
+        ensures { result ≡ P.kind.number part }
+    {
+        Locked {
+            part,
+            pass,
+            of: PhantomData,
+        }
+    }
+
+    /// The part and its pass.
+    pub fn into_parts(self) -> (P, Pass)
+        ensures fits { Fits L.table L.settings P.kind result.0 result.1 }
+        ensures number { P.kind.number result.0 ≡ self }
+    {
+        let Locked { part, pass, .. } = self;
+        (part, pass)
+    }
+
+    /// The number of the part among its kind.
+    pub fn number(&self) -> u32
+        ensures { result ≡ self.now }
+    {
+        self.part.own_number()
+    }
+}
+
+/// Joins the pass of a seat to that of a part. The part stands for what both know, and so does the part of a
+/// scheduler's seat.
+pub(crate) fn meet<P: DeskPart, L: DeskName>(desk: &Desk, part: &P, pass: &mut Pass, own: Pass)
+    requires desk { IsDesk L.table L.settings desk.now }
+    requires fits { Fits L.table L.settings P.kind part.now pass.old }
+    requires belongs { Belongs desk.now own }
+    ensures belongs { Belongs desk.now pass.new }
+    ensures actors { actors_of pass.new ≡ actors_of pass.old ++ actors_of own }
+    ensures legal { Legal (settings_of desk.now) (front_of pass.new) }
+    ensures stands { P.kind.stands (settings_of desk.now) (front_of pass.new) part.now }
+    ensures meets { (a : Actor) → IsOf L.table L.settings a own
+        → Meets L.settings (P.kind.actor (P.kind.number part.now)) a (view_of pass.old) (view_of own) (view_of pass.new) }
+    ensures sched { (x : _) → Fits L.table L.settings scheds x own → scheds.stands (settings_of desk.now) (front_of pass.new) x }
+{
+    let _part = part;
+    pass.join(desk, own);
+}

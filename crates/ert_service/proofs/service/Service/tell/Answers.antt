@@ -1,5 +1,0 @@
-use Rattle.ert_service.proofs.LegalFronts.{legal_front}
-use Rattle.ert_service.proofs.service.Service.tell.Goals as goal
-
-pub returns-then-number-process-clause-legal : goal.returns-then-number-process-clause-legal
-returns-then-number-process-clause-legal g c = legal_front c.tell.result.0.sits
