@@ -1,6 +1,6 @@
 -- What a scheduler has after its steps with a part.
 
-use Rattle.std.proofs.Common.{◌≡◌, ℕ, ◌+◌, ◌-◌, ◌<◌, ◌≤◌, true, List, [], ◌∷◌, ◌++◌, length, Option, Some, Result, Ok, Err, inl, inr, refl, sym, ap, subst, ◌∙◌, arith, length-append}
+use Rattle.std.proofs.Common.{◌≡◌, ℕ, ◌-◌, ◌<◌, ◌≤◌, true, List, [], ◌∷◌, ◌++◌, length, Option, Some, Result, Ok, Err, refl, sym, ap, subst, ◌∙◌}
 use Rattle.std.specs.Prelude.{IfOk}
 use Rattle.atomic_table.specs.Seated.{TableId}
 use Rattle.ert_answers.specs.Chains.{Hands, SweepsWheel}
@@ -11,11 +11,9 @@ use Rattle.ert_answers.specs.declared.answers.Handed.{Handed}
 use Rattle.ert_answers.specs.declared.answers.MonitorErr.{MonitorErr}
 use Rattle.ert_answers.specs.declared.answers.MonitorErr.TheVariants.{Full, NoMemory as WantForMonitor}
 use Rattle.ert_defs.proofs.Runs.{state-append, exit_stays}
-use Rattle.ert_defs.specs.Actors.{has_actor}
-use Rattle.ert_defs.specs.Entries.{look_entry}
 use Rattle.ert_defs.specs.Legal.{Legal}
 use Rattle.ert_defs.specs.Mails.{SchedState, first_of, others_of}
-use Rattle.ert_defs.specs.States.{State, next, run, state}
+use Rattle.ert_defs.specs.States.{State, run, state}
 use Rattle.ert_defs.specs.Timers.{Row}
 use Rattle.ert_defs.specs.declared.entry.Actor.{Actor}
 use Rattle.ert_defs.specs.declared.entry.Actor.TheVariants.{Wheel, MailOf, Sched}
@@ -23,7 +21,6 @@ use Rattle.ert_defs.specs.declared.entry.Entry.{Entry}
 use Rattle.ert_defs.specs.declared.mail.Request.{Request}
 use Rattle.ert_defs.specs.declared.memory.NoMemory.{NoMemory}
 use Rattle.ert_defs.specs.declared.settings.Settings.{Settings}
-use Rattle.ert_laws.proofs.Few.{fired_few}
 use Rattle.ert_laws.proofs.RowRanges.{first_placed}
 use Rattle.ert_locks.proofs.Lent.{is_of}
 use Rattle.ert_locks.specs.Hands.{hand_left, rows_left, counted}
@@ -31,18 +28,17 @@ use Rattle.ert_locks.specs.Kinds.{Fits, scheds}
 use Rattle.ert_locks.specs.Names.{IsDesk}
 use Rattle.ert_locks.specs.Passes.{Meets}
 use Rattle.ert_mail.specs.Mailboxes.{IsMonitor, handed, answered}
-use Rattle.ert_world.proofs.Advances.{LeaveHand, hand_at, advances_leave, cond_same}
+use Rattle.ert_world.proofs.Advances.{advances_plain, advance_hand, advance_still, advance_fits, difference}
 use Rattle.ert_world.proofs.Calls.{omitted_made}
 use Rattle.ert_world.specs.Parts.{SchedStands}
 use Rattle.ert_world.specs.declared.sched_part.SchedPart.{SchedPart}
-use Rattle.ert_table.proofs.Parts.{own_after, sched_own, AreByThemselves}
 use Rattle.ert_table.specs.Calls.{IsMade}
 use Rattle.ert_table.specs.Desks.{settings_of, front_of, actors_of, Belongs}
 use Rattle.ert_table.specs.Held.{is_held}
 use Rattle.ert_table.specs.declared.desk.Desk.{Desk}
 use Rattle.ert_table.specs.declared.desk.Pass.{Pass}
 use Rattle.ert_table.specs.declared.view.View.{View}
-use Rattle.ert_timers.specs.Expiring.{fired_in, IsAdvanced}
+use Rattle.ert_timers.specs.Expiring.{IsAdvanced}
 
 -- after a step the part and its pass make a seat again, where the part has what the history has
 pub seat_after : {table : TableId} {g : Settings} {x : SchedPart} {p : Pass} {h : List Entry} (d : Desk) (after : SchedState) → IsDesk table g d → Belongs d p
@@ -78,52 +74,6 @@ pub handed_fired : (how : Result Handed NoMemory) (s : SchedState) (rows : List 
 handed_fired (Ok how) s rows is = ap (λ (l : List Row). others_of l) is
 handed_fired (Err e) s rows is = is
 
--- entries that leave the hand, for a pass that holds the scheduler
-leave_by : (g : Settings) (w : ℕ) (es : List Entry) → LeaveHand es → AreByThemselves g (λ (s : State). (s.scheds w).hand) es
-leave_by g w [] leave = tt
-leave_by g w (e ∷ es) leave = (
-  (λ s t same. hand_at s.rows (s.scheds w) e.event (has_actor e (Sched w)) leave.0
-      ∙ (same ∙ sym (hand_at t.rows (t.scheds w) e.event (has_actor e (Sched w)) leave.0))),
-  leave_by g w es leave.1,
-)
-
-leave_run : (g : Settings) (w : ℕ) (s : State) (es : List Entry) → LeaveHand es → ((run g s es).scheds w).hand ≡ (s.scheds w).hand
-leave_run g w s [] leave = refl
-leave_run g w s (e ∷ es) leave = leave_run g w (next g s e) es leave.1 ∙ hand_at s.rows (s.scheds w) e.event (has_actor e (Sched w)) leave.0
-
--- an advance leaves the hand
-pub advance_hand : (g : Settings) (w : ℕ) (answer : Result (ℕ × ℕ) NoMemory) (v u : View) → is_held v.actors (Sched w) ≡ true
-    → IsMade g v (Advances g w answer) u → ((state g u.front).scheds w).hand ≡ ((state g v.front).scheds w).hand
-advance_hand g w answer v u held made =
-    let leave = advances_leave g w answer (state g v.front) made.entries made.allowed in
-    own_after g v made.entries u (λ (s : State). (s.scheds w).hand)
-    (λ s e not. ap (λ (x : SchedState). x.hand) (sched_own g v.actors w held s e not)) made.call (leave_by g w made.entries leave)
-    ∙ leave_run g w (state g v.front) made.entries leave
-
--- and without memory it leaves the list
-still_by : (g : Settings) (w : ℕ) (e : NoMemory) (s : State) (es : List Entry) → Advances g w (Err e) s es
-    → AreByThemselves g (λ (s : State). (s.scheds w).fired) es × (((run g s es).scheds w).fired ≡ (s.scheds w).fired)
-still_by g w e s es (inl none) =
-    (subst (AreByThemselves g (λ (s : State). (s.scheds w).fired)) (sym none) tt, ap (λ l. ((run g s l).scheds w).fired) none)
-still_by g w e s es (inr look) =
-    let l = look_entry (Sched w) look.0 in (
-      subst (AreByThemselves g (λ (s : State). (s.scheds w).fired)) (sym look.1)
-          ((λ s t same. cond_same (has_actor l (Sched w)) (s.scheds w) ∙ (same ∙ sym (cond_same (has_actor l (Sched w)) (t.scheds w)))), tt),
-      ap (λ m. ((run g s m).scheds w).fired) look.1 ∙ cond_same (has_actor l (Sched w)) (s.scheds w),
-    )
-
-pub advance_still : (g : Settings) (w : ℕ) (e : NoMemory) (v u : View) → is_held v.actors (Sched w) ≡ true
-    → IsMade g v (Advances g w (Err e)) u → ((state g u.front).scheds w).fired ≡ ((state g v.front).scheds w).fired
-advance_still g w e v u held made =
-    let still = still_by g w e (state g v.front) made.entries made.allowed in
-    own_after g v made.entries u (λ (s : State). (s.scheds w).fired)
-    (λ s e not. ap (λ (x : SchedState). x.fired) (sched_own g v.actors w held s e not)) made.call still.0 ∙ still.1
-
-difference : (a b : ℕ) (xs ys : List Row) → a ≡ length (xs ++ ys) → b ≡ length xs → a - b ≡ length ys
-difference a b xs ys whole first =
-    let sum : length (xs ++ ys) ≡ length xs + length ys = length-append xs ys in
-    omega (arith, whole, first, sum)
-
 -- an advance of a scheduler, with its count, which is small
 pub record Advanced (g : Settings) (n m : ℕ) (to : Result ℕ NoMemory) (p : SchedPart) (x : SchedPart) (j u : View) : Type 0 where
   pub made : IsMade g j (Advances g p.wheel (counted to (n - m))) u
@@ -136,20 +86,15 @@ pub advanced : (g : Settings) (n m : ℕ) (to : Result ℕ NoMemory) (p x : Sche
 advanced g n m (Ok to) p x j u high held has is now was =
     let w = p.wheel in
     let count : n - m ≡ length is.gained = difference n m p.fired.rows is.gained (now ∙ ap (λ (l : List Row). length l) is.fired) was in
-    let low : length (fired_in g u.front w) ≤ g.slots = fired_few g u.front w is.call.call.legal in
-    let sum : length (fired_in g u.front w) ≡ length (fired_in g j.front w) + length is.gained =
-    ap (λ (l : List Row). length l) is.waits ∙ length-append (fired_in g j.front w) is.gained in
-    let more : length x.fired.rows ≡ length p.fired.rows + length is.gained =
-    ap (λ (l : List Row). length l) is.fired ∙ length-append p.fired.rows is.gained in
     record {
       made = subst (λ k. IsMade g j (Advances g w (Ok (to, k))) u) (sym count) is.call;
-      hand = has.hand ∙ sym (advance_hand g w (Ok (to, length is.gained)) j u held is.call);
+      hand = has.hand ∙ sym (advance_hand Advances advances_plain g w (Ok (to, length is.gained)) j u held is.call);
       fired = is.fired ∙ (ap (λ l. l ++ is.gained) has.fired ∙ sym is.waits);
-      few = (omega (arith, now, was, more), omega (arith, count, low, sum, high));
+      few = advance_fits (Advances g w) g w to n m p.fired x.fired j u high is now was;
     }
 advanced g n m (Err e) p x j u high held has is now was = record {
   made = is.call;
-  hand = has.hand ∙ sym (advance_hand g p.wheel (Err e) j u held is.call);
+  hand = has.hand ∙ sym (advance_hand Advances advances_plain g p.wheel (Err e) j u held is.call);
   fired = is.fired ∙ (has.fired ∙ sym (advance_still g p.wheel e j u held is.call));
   few = tt;
 }

@@ -16,12 +16,13 @@ use Rattle.ert_locks.proofs.Lent.{holds_self}
 use Rattle.ert_locks.specs.KindLaws.{keepers_are}
 use Rattle.ert_locks.specs.Kinds.{Fits, keepers, wheels, inboxes, scheds, mails}
 use Rattle.ert_locks.specs.Names.{IsDesk}
+use Rattle.ert_world.proofs.Alone.{holds_all}
 use Rattle.ert_world.specs.Lived.{IsLived}
 use Rattle.ert_world.specs.Parts.{AllParts, Stand}
 use Rattle.ert_world.specs.Worlds.{AreFit}
 use Rattle.ert_service.specs.Gathering.{IsSeen, AreIn, AreEmpty, filled}
 use Rattle.ert_service.specs.Joining.{HasOwn}
-use Rattle.ert_table.specs.Desks.{view_of, front_of, actors_of, Belongs}
+use Rattle.ert_table.specs.Desks.{settings_of, view_of, front_of, actors_of, Belongs}
 use Rattle.ert_table.specs.Held.{is_held, IsWhole}
 use Rattle.ert_table.specs.declared.desk.Desk.{Desk}
 use Rattle.ert_table.specs.declared.desk.Pass.{Pass}
@@ -56,10 +57,10 @@ pub record AreJoined (table : TableId) (g : Settings) (own p : Pass) (parts : Al
   pub scheds : AreIn scheds g g.schedulers (view_of p) parts.scheds
   pub callers : (i : ℕ) → i < g.callers → is_held (actors_of p) (Caller i) ≡ true
 
-pub fit_of : {table : TableId} {g : Settings} {d : Desk} {own p : Pass} {parts : AllParts} → IsDesk table g d → Belongs d p → AreJoined table g own p parts → AreFit d p parts
+pub fit_of : {table : TableId} {g : Settings} {d : Desk} {own p : Pass} {parts : AllParts} → IsDesk table g d → Belongs d p → AreJoined table g own p parts → AreFit d p 1 parts
 fit_of {table} {g} {d} {own} {p} {parts} desk belongs joined = record {
   belongs = belongs;
-  whole = subst (λ s. IsWhole s (actors_of p)) (sym desk.settings_is) whole;
+  holds = holds_all (settings_of d) (actors_of p) d.checked.counts.callers_low (subst (λ s. IsWhole s (actors_of p)) (sym desk.settings_is) whole);
   stand = subst (λ s. Stand s (front_of p) [] parts) (sym desk.settings_is) stand;
 }
   where

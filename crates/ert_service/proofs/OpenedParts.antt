@@ -1,6 +1,6 @@
 -- The parts of a world that was taken apart, told of by the name of its desk.
 
-use Rattle.std.proofs.Common.{◌≡◌, true, false, List, [], sym, subst}
+use Rattle.std.proofs.Common.{◌≡◌, true, false, List, [], refl, sym, subst}
 use Rattle.atomic_table.specs.Seated.{TableId}
 use Rattle.ert_defs.specs.Actors.{same_actor}
 use Rattle.ert_defs.specs.declared.entry.Actor.{Actor}
@@ -8,22 +8,24 @@ use Rattle.ert_defs.specs.declared.entry.Actor.TheVariants.{Keeper}
 use Rattle.ert_defs.specs.declared.entry.Entry.{Entry}
 use Rattle.ert_defs.specs.declared.settings.Settings.{Settings}
 use Rattle.ert_locks.specs.Names.{IsDesk}
+use Rattle.ert_world.proofs.Alone.{whole_of}
 use Rattle.ert_world.specs.Parts.{AllParts, Stand}
 use Rattle.ert_world.specs.Worlds.{AreFit}
 use Rattle.ert_table.proofs.Holders.{held_but_other}
-use Rattle.ert_table.specs.Desks.{front_of, actors_of}
-use Rattle.ert_table.specs.Held.{is_held, actors_but, IsActor, IsWhole}
+use Rattle.ert_table.specs.Desks.{settings_of, front_of, actors_of}
+use Rattle.ert_table.specs.Held.{is_held, actors_but, IsActor}
 use Rattle.ert_table.specs.declared.desk.Desk.{Desk}
 use Rattle.ert_table.specs.declared.desk.Pass.{Pass}
 
-pub stand_at : {table : TableId} {g : Settings} {d : Desk} {p : Pass} {parts : AllParts} {h : List Entry} → IsDesk table g d → AreFit d p parts → h ≡ front_of p
+pub stand_at : {table : TableId} {g : Settings} {d : Desk} {p : Pass} {parts : AllParts} {h : List Entry} → IsDesk table g d → AreFit d p 1 parts → h ≡ front_of p
     → Stand g h [] parts
 stand_at {g = g} {p = p} {parts = parts} desk fit front =
     subst (λ l. Stand g l [] parts) (sym front) (subst (λ t. Stand t (front_of p) [] parts) desk.settings_is fit.stand)
 
 -- all actors but the clock's are held once that was taken out
-pub held_at : {table : TableId} {g : Settings} {d : Desk} {p : Pass} {parts : AllParts} {left : List Actor} (a : Actor) → IsDesk table g d → AreFit d p parts
+pub held_at : {table : TableId} {g : Settings} {d : Desk} {p : Pass} {parts : AllParts} {left : List Actor} (a : Actor) → IsDesk table g d → AreFit d p 1 parts
     → left ≡ actors_but (actors_of p) Keeper → same_actor a Keeper ≡ false → IsActor g a → is_held left a ≡ true
-held_at {p = p} a desk fit rest apart ranged =
+held_at {d = d} {p = p} a desk fit rest apart ranged =
     subst (λ l. is_held l a ≡ true) (sym rest)
-    (held_but_other (actors_of p) Keeper a apart (subst (λ t. IsWhole t (actors_of p)) desk.settings_is fit.whole a ranged))
+    (held_but_other (actors_of p) Keeper a apart
+    (whole_of (settings_of d) (actors_of p) 1 refl fit.holds a (subst (λ t. IsActor t a) (sym desk.settings_is) ranged)))

@@ -34,7 +34,7 @@ impl<L: DeskName> Service<L> {
         ensures call { StepsWith L.settings (Caller seat.number) Keeper (Ticks L.settings seat.number reading force result.1) seat.pass result.0.pass }
         ensures legal { IsLegal L.settings (front_of result.0.pass) }
     {
-        self.keeper.lock(rt).tick(&self.desk, seat, reading, force)
+        self.keeper.lock(rt).tick(self.desk(), seat, reading, force)
     }
 
     /// Finalizes the time offset (`erlang:system_flag(time_offset, finalize)`), and answers the state
@@ -51,7 +51,7 @@ impl<L: DeskName> Service<L> {
         ensures call { StepsWith L.settings (Caller seat.number) Keeper (Finalizes L.settings seat.number reading result.1) seat.pass result.0.pass }
         ensures legal { IsLegal L.settings (front_of result.0.pass) }
     {
-        self.keeper.lock(rt).finalize(&self.desk, seat, reading)
+        self.keeper.lock(rt).finalize(self.desk(), seat, reading)
     }
 
     /// Starts a timer on a wheel (`erlang` module reference, `start_timer` and `send_after`).
@@ -76,6 +76,6 @@ impl<L: DeskName> Service<L> {
             (Starts L.settings seat.number wheel start.now result.1) seat.pass result.0.pass }
         ensures legal { IsLegal L.settings (front_of result.0.pass) }
     {
-        self.wheels.at(rt, wheel).start(&self.desk, seat, start)
+        self.wheels.at(rt, wheel).start(self.desk(), seat, start)
     }
 }

@@ -49,7 +49,7 @@ impl<L: DeskName> Service<L> {
             mut pass,
             ..
         } = seat;
-        let new = mark_exit(&self.desk, &mut pass, Actor::Caller(number), process);
+        let new = mark_exit(self.desk(), &mut pass, Actor::Caller(number), process);
         (CallerSeat::new(number, pass), new)
     }
 
@@ -62,7 +62,7 @@ impl<L: DeskName> Service<L> {
             seat.pass result.pass }
     {
         let mut next = seat;
-        for wheel in 0..self.desk.settings().schedulers {
+        for wheel in 0..self.desk().settings().schedulers {
             next = self.sweep(rt, next, wheel, process);
         }
         next
@@ -76,6 +76,6 @@ impl<L: DeskName> Service<L> {
         ensures number { result.number ≡ seat.number }
         ensures call { FrontGrows (SweepsWheel L.settings (beside L.settings (Caller seat.number)) seat.number process wheel) seat.pass result.pass }
     {
-        self.wheels.at(rt, wheel).sweep(&self.desk, seat, process)
+        self.wheels.at(rt, wheel).sweep(self.desk(), seat, process)
     }
 }

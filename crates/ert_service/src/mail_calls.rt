@@ -33,7 +33,7 @@ impl<L: DeskName> Service<L> {
         ensures legal { IsLegal L.settings (front_of result.0.pass) }
     {
         let wheel = self.inbox_for(&request);
-        self.inboxes.at(rt, wheel).ask(&self.desk, seat, request)
+        self.inboxes.at(rt, wheel).ask(self.desk(), seat, request)
     }
 
     /// The number of the inbox that a request goes to. There is at least one.
@@ -42,7 +42,7 @@ impl<L: DeskName> Service<L> {
         ensures in_range { result < L.settings.schedulers }
     {
         let wheel = request.timer.wheel;
-        if wheel < self.desk.settings().schedulers {
+        if wheel < self.desk().settings().schedulers {
             wheel
         } else {
             0
@@ -57,7 +57,7 @@ impl<L: DeskName> Service<L> {
         ensures call { StepsWith L.settings (Caller seat.number) (MailOf process) (Takes L.settings seat.number process result.1) seat.pass result.0.pass }
         ensures legal { IsLegal L.settings (front_of result.0.pass) }
     {
-        self.mails.at(rt, process).take(&self.desk, seat)
+        self.mails.at(rt, process).take(self.desk(), seat)
     }
 
     /// Makes a monitor of the time offset for a process (`erlang` module reference, `monitor`, type
@@ -76,7 +76,7 @@ impl<L: DeskName> Service<L> {
         ensures call { StepsWith L.settings (Caller seat.number) (MailOf process) (Monitors L.settings seat.number process result.1) seat.pass result.0.pass }
         ensures legal { IsLegal L.settings (front_of result.0.pass) }
     {
-        self.mails.at(rt, process).monitor(&self.desk, seat)
+        self.mails.at(rt, process).monitor(self.desk(), seat)
     }
 
     /// Removes a monitor (`demonitor`), and tells whether it stood.
@@ -95,7 +95,7 @@ impl<L: DeskName> Service<L> {
     {
         self.mails
             .at(rt, process)
-            .demonitor(&self.desk, seat, monitor)
+            .demonitor(self.desk(), seat, monitor)
     }
 
     /// Tells a process the time offset by one message for each monitor to which it is news, and answers how
@@ -113,6 +113,6 @@ impl<L: DeskName> Service<L> {
         ensures call { StepsWith L.settings (Caller seat.number) (MailOf process) (Tells L.settings seat.number process result.1) seat.pass result.0.pass }
         ensures legal { IsLegal L.settings (front_of result.0.pass) }
     {
-        self.mails.at(rt, process).tell(&self.desk, seat)
+        self.mails.at(rt, process).tell(self.desk(), seat)
     }
 }

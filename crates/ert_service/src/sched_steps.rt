@@ -48,7 +48,7 @@ impl<L: DeskName> Service<L> {
             (Picks L.settings seat.part.wheel result.1) seat.pass result.0.pass }
     {
         let wheel = seat.part.wheel;
-        self.inboxes.at(rt, wheel).pick(&self.desk, seat)
+        self.inboxes.at(rt, wheel).pick(self.desk(), seat)
     }
 
     /// Answers the request in the hand, and empties that.
@@ -64,7 +64,9 @@ impl<L: DeskName> Service<L> {
             (Answers L.settings seat.part.wheel request.now result.1) seat.pass result.0.pass }
     {
         let process = asker_of(&seat, request);
-        self.mails.at(rt, process).answer(&self.desk, seat, request)
+        self.mails
+            .at(rt, process)
+            .answer(self.desk(), seat, request)
     }
 
     /// Lets every timer of the scheduler's wheel expire that is due, and answers the time, in whole
@@ -83,7 +85,7 @@ impl<L: DeskName> Service<L> {
         ensures legal { IsLegal L.settings (front_of result.0.pass) }
     {
         let wheel = seat.part.wheel;
-        self.wheels.at(rt, wheel).advance(&self.desk, seat)
+        self.wheels.at(rt, wheel).advance(self.desk(), seat)
     }
 
     /// Hands over the scheduler's first expired timer.
@@ -101,7 +103,7 @@ impl<L: DeskName> Service<L> {
         let process = destination_of(&seat, fired);
         self.mails
             .at(rt, process)
-            .hand_over(&self.desk, seat, fired)
+            .hand_over(self.desk(), seat, fired)
     }
 }
 

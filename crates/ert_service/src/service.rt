@@ -1,4 +1,5 @@
 ghost use Rattle.std.specs.Prelude.{◌≡◌, ◌≤◌, []};
+ghost use Rattle.std.specs.Arc.{arc_value};
 ghost use Rattle.std.specs.Vec.{vec_capacity};
 ghost use Rattle.ert_locks.specs.Names.{IsDesk};
 
@@ -6,7 +7,7 @@ use crate::joining::{join_callers, join_scheds};
 use crate::opening::{seat_callers, seat_scheds};
 use crate::rooms::{PaddedLock, Room};
 use crossbeam_utils::CachePadded;
-use ert_defs::{Actor, NoMemory, TimerRef};
+use ert_defs::{Actor, NoMemory};
 use ert_inbox::InboxPart;
 use ert_keeper::KeeperPart;
 use ert_locks::{CallerSeat, DeskName, Locked, SchedSeat};
@@ -15,7 +16,7 @@ use ert_table::{Desk, Pass};
 use ert_timers::WheelPart;
 use ert_world::{Parts, SchedPart, World};
 use std::alloc::Global;
-use std::sync::Mutex;
+use std::sync::{Arc, Mutex};
 
 /// The clock and timer service for many threads, on the desk that `L` names.
 ///
@@ -28,15 +29,14 @@ use std::sync::Mutex;
 ///     (CallerSeat::new(number, pass), left)
 #[derive(Drop)]
 pub struct Service<L: DeskName> {
-    pub(crate) desk: Desk,
+    desk: Arc<Desk>,
     pub(crate) keeper: PaddedLock<Locked<KeeperPart, L>>,
     pub(crate) wheels: Room<WheelPart, L>,
     pub(crate) inboxes: Room<InboxPart, L>,
     pub(crate) mails: Room<MailPart, L>,
-    pub(crate) labels: Vec<(u32, TimerRef)>,
     /// Empty, with room for all parts of schedulers.
     scheds: Vec<SchedPart>,
-    ghost named: { IsDesk L.table L.settings desk },
+    ghost named: { IsDesk L.table L.settings (arc_value desk) },
     ghost no_scheds: { scheds.items ≡ [] },
     ghost room: { L.settings.schedulers ≤ vec_capacity scheds },
 }
@@ -53,6 +53,7 @@ pub struct Opened<L: DeskName> {
 
 impl<L: DeskName> Service<L> {
     ghost use Rattle.std.specs.Prelude.{◌≡◌, IfOk, All};
+    ghost use Rattle.std.specs.Arc.{arc_value};
     ghost use Rattle.ert_defs.specs.declared.entry.Actor.TheVariants.{Caller, Sched};
     ghost use Rattle.ert_world.specs.Lived.{IsLived};
     ghost use Rattle.ert_world.specs.Parts.{parts_of};
@@ -67,11 +68,10 @@ impl<L: DeskName> Service<L> {
     ///
     /// After want of memory the parts are given up.
     pub fn open(alloc: Global, parts: Parts) -> Result<Opened<L>, NoMemory>
-        requires desk { IsDesk L.table L.settings parts.desk }
-        requires fit { AreFit parts.desk parts.pass (parts_of parts.keeper parts.wheels.items parts.inboxes.items parts.mails.items parts.scheds.items) }
+        requires desk { IsDesk L.table L.settings (arc_value parts.desk) }
+        requires fit { AreFit (arc_value parts.desk) parts.pass 1 (parts_of parts.keeper parts.wheels.items parts.inboxes.items parts.mails.items parts.scheds.items) }
         ensures rest { IfOk result (λ o. IsPassOf L.table L.settings o.rest) }
         ensures front { IfOk result (λ o. front_of o.rest ≡ front_of parts.pass) }
-        ensures labels { IfOk result (λ o. o.service.labels.items ≡ parts.labels.items) }
         ensures scheds { IfOk result (λ o. AreSeated (λ s. s.part.wheel) (λ s. front_of s.pass) L.settings.schedulers (front_of parts.pass) o.scheds.items) }
         ensures callers { IfOk result (λ o. AreSeated (λ s. s.number) (λ s. front_of s.pass) L.settings.callers (front_of parts.pass) o.callers.items) }
     {
@@ -83,24 +83,23 @@ impl<L: DeskName> Service<L> {
             inboxes,
             mails,
             scheds,
-            labels,
             ..
         } = parts;
         let room = Vec::with_capacity(alloc, scheds.len())?;
-        let own = pass.split(&desk, Actor::Keeper);
+        let shared: &Desk = &desk;
+        let own = pass.split(shared, Actor::Keeper);
         let keeper = Locked::new(keeper, own);
-        let wheels = Room::lock_all(alloc, &desk, &mut pass, wheels)?;
-        let inboxes = Room::lock_all(alloc, &desk, &mut pass, inboxes)?;
-        let mails = Room::lock_all(alloc, &desk, &mut pass, mails)?;
-        let scheds = seat_scheds(alloc, &desk, &mut pass, scheds)?;
-        let callers = seat_callers(alloc, &desk, &mut pass)?;
+        let wheels = Room::lock_all(alloc, shared, &mut pass, wheels)?;
+        let inboxes = Room::lock_all(alloc, shared, &mut pass, inboxes)?;
+        let mails = Room::lock_all(alloc, shared, &mut pass, mails)?;
+        let scheds = seat_scheds(alloc, shared, &mut pass, scheds)?;
+        let callers = seat_callers(alloc, shared, &mut pass)?;
         let service = Service {
             desk,
             keeper: CachePadded::new(Mutex::new(keeper)),
             wheels,
             inboxes,
             mails,
-            labels,
             scheds: room,
         };
         Ok(Opened {
@@ -112,7 +111,7 @@ impl<L: DeskName> Service<L> {
     }
 
     /// Closes the service: the passes are joined, the parts are taken from their locks, and a world is put
-    /// together of them, with the labels. No entry is made, and no memory is taken.
+    /// together of them. No entry is made, and no memory is taken.
     ///
     /// It takes the pass that `open` gave and all seats, in order of number. The world's history begins with
     /// what each of them knew, and has no other entries of a seat's actor. It is legal, each of its timers has
@@ -122,7 +121,7 @@ impl<L: DeskName> Service<L> {
         requires scheds { AreNumbered (λ s. s.part.wheel) L.settings.schedulers scheds.items }
         requires callers { AreNumbered (λ s. s.number) L.settings.callers callers.items }
         ensures settings { result.settings ≡ L.settings }
-        ensures labels { result.labels ≡ self.labels.items }
+        ensures next { result.next ≡ 1 }
         ensures lived { IsLived result.settings result.history }
         ensures rest { Begins (front_of rest) result.history }
         ensures scheds { All (λ s. HasOwn (Sched s.part.wheel) (front_of s.pass) result.history) scheds.items }
@@ -134,20 +133,21 @@ impl<L: DeskName> Service<L> {
             wheels,
             inboxes,
             mails,
-            labels,
             scheds: room,
             ..
         } = self;
         let mut pass = rest;
         let (keeper, own) = keeper.into_inner().into_inner().into_parts();
-        pass.join(&desk, own);
-        let wheels = wheels.gather_all(&desk, &mut pass);
-        let inboxes = inboxes.gather_all(&desk, &mut pass);
-        let mails = mails.gather_all(&desk, &mut pass);
-        let scheds = join_scheds(&desk, &mut pass, scheds, room);
-        join_callers(&desk, &mut pass, callers);
+        let shared: &Desk = &desk;
+        pass.join(shared, own);
+        let wheels = wheels.gather_all(shared, &mut pass);
+        let inboxes = inboxes.gather_all(shared, &mut pass);
+        let mails = mails.gather_all(shared, &mut pass);
+        let scheds = join_scheds(shared, &mut pass, scheds, room);
+        join_callers(shared, &mut pass, callers);
+        let settings = *shared.settings();
         World::from_parts(Parts {
-            settings: *desk.settings(),
+            settings,
             desk,
             pass,
             keeper,
@@ -155,7 +155,6 @@ impl<L: DeskName> Service<L> {
             inboxes,
             mails,
             scheds,
-            labels,
         })
     }
 

@@ -1,4 +1,5 @@
 use Rattle.std.proofs.Common.{sym, ap, subst}
+use Rattle.std.specs.Arc.{arc_value}
 use Rattle.ert_defs.specs.Legal.{Legal}
 use Rattle.ert_defs.specs.declared.entry.Actor.TheVariants.{Caller, Sched}
 use Rattle.ert_locks.specs.KindLaws.{wheels_are, inboxes_are, mails_are, scheds_are}
@@ -9,7 +10,7 @@ use Rattle.ert_service.proofs.Gathered.{seen_then, seen_right, in_later}
 use Rattle.ert_service.proofs.Joined.{all_as}
 use Rattle.ert_service.specs.Gathering.{IsSeen}
 use Rattle.ert_service.specs.Joining.{HasOwn}
-use Rattle.ert_table.specs.Desks.{front_of, view_of}
+use Rattle.ert_table.specs.Desks.{settings_of, front_of, view_of, Belongs}
 use Rattle.ert_service.proofs.service.Service.close.Goals as goal
 
 pub from_parts-requires-clause-fit : goal.from_parts-requires-clause-fit
@@ -20,7 +21,7 @@ from_parts-requires-clause-fit g c =
     let at_inboxes = seen_then c.gather_all-mails.ensures.seen at_mails in
     let at_wheels = seen_then c.gather_all-inboxes.ensures.seen at_inboxes in
     let at_keeper = seen_then c.gather_all-wheels.ensures.seen at_wheels in
-    fit_of c.args.self.named c.join_callers.ensures.belongs (record {
+    fit_of c.args.self.named (subst (λ d. Belongs d c.join_callers.new.pass) c.deref-shared.ensures c.join_callers.ensures.belongs) (record {
       legal = legal;
       keeper_fits = c.into_parts-keeper.ensures.fits;
       keeper = seen_then (seen_right (view_of c.args.rest) (view_of c.into_parts-keeper.result.1) (view_of c.join.new.self) c.join.ensures.actors c.join.ensures.joined) at_keeper;
@@ -49,6 +50,6 @@ returns-clause-callers g c =
 
 pub returns-clause-lived : goal.returns-clause-lived
 returns-clause-lived g c =
-    let s = c.args.self.desk.settings in
+    let s = settings_of (arc_value c.args.self.desk) in
     let legal = subst (λ t. Legal t (front_of c.join_callers.new.pass)) (sym c.args.self.named.settings_is) c.join_callers.ensures.legal in
     subst (λ (w : Shows). IsLived w.settings w.history) (sym c.from_parts.ensures) (lived_of s (front_of c.join_callers.new.pass) legal)

@@ -1,4 +1,5 @@
 use Rattle.std.proofs.Common.{◌≡◌, ◌≤◌, ◌+◌, [], ◌∷◌, ◌++◌, Some, Ok, inr, rules, sym, ap, subst, ◌∙◌, add-zero}
+use Rattle.std.specs.Arc.{arc_value}
 use Rattle.std.specs.Prelude.{OnOk}
 use Rattle.ert_answers.specs.Chains.{Hands, puts, drops}
 use Rattle.ert_answers.specs.Ways.{Grows, beside}
@@ -22,7 +23,7 @@ loop-fired-preserved-in-Ok-Put g c =
     let one_ok = subst (λ r. Grows (Hands s (beside s (Sched n)) n r) (front_of c.loop-fired.next.pass) (front_of c.hand_over-seat.result.0.pass)) done one in
     let gone = subst (λ r. OnOk r (c.hand_over-seat.result.0.part.fired.rows ≡ others_of c.loop-fired.next.part.fired.rows)) done c.hand_over-seat.ensures.fired in
     let less = one_less c.loop-fired.next.part.fired.rows c.hand_over-seat.result.0.part.fired.rows c.in-Some.fired first gone in
-    let few = rows_few s c.loop-fired.next.pass c.loop-fired.next.part (subst (λ t. t.slots ≤ 65536) c.args.self.now.named.settings_is c.args.self.now.desk.checked.counts.slots_high)
+    let few = rows_few s c.loop-fired.next.pass c.loop-fired.next.part (subst (λ t. t.slots ≤ 65536) c.args.self.now.named.settings_is (arc_value c.args.self.now.desk).checked.counts.slots_high)
     c.loop-fired.next.fits.sits.named c.loop-fired.next.fits.stands in
     record {
       number = c.hand_over-seat.ensures.number ∙ c.loop-fired.invariant.number;
@@ -46,7 +47,7 @@ loop-fired-preserved g c =
     let one_ok = subst (λ r. Grows (Hands s (beside s (Sched n)) n r) (front_of c.loop-fired.next.pass) (front_of c.hand_over-seat.result.0.pass)) done one in
     let gone = subst (λ r. OnOk r (c.hand_over-seat.result.0.part.fired.rows ≡ others_of c.loop-fired.next.part.fired.rows)) done c.hand_over-seat.ensures.fired in
     let less = one_less c.loop-fired.next.part.fired.rows c.hand_over-seat.result.0.part.fired.rows c.in-Some.fired first gone in
-    let few = rows_few s c.loop-fired.next.pass c.loop-fired.next.part (subst (λ t. t.slots ≤ 65536) c.args.self.now.named.settings_is c.args.self.now.desk.checked.counts.slots_high)
+    let few = rows_few s c.loop-fired.next.pass c.loop-fired.next.part (subst (λ t. t.slots ≤ 65536) c.args.self.now.named.settings_is (arc_value c.args.self.now.desk).checked.counts.slots_high)
     c.loop-fired.next.fits.sits.named c.loop-fired.next.fits.stands in
     record {
       number = c.hand_over-seat.ensures.number ∙ c.loop-fired.invariant.number;

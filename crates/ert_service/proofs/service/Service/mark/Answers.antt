@@ -11,6 +11,6 @@ pub returns-clause-exited : goal.returns-clause-exited
 returns-clause-exited g c =
     let s = g.L.DeskName.settings in
     let n = c.args.seat.number in
-    let made = subst (λ t. IsMade t (view_of c.args.seat.pass) (MarksExit t (Caller n) c.args.process c.mark_exit-new.result) (view_of c.mark_exit-new.new.pass)) c.args.self.now.named.settings_is c.mark_exit-new.ensures.call in
+    let made = subst (λ t. IsMade t (view_of c.args.seat.pass) (MarksExit t (Caller n) c.args.process c.mark_exit-new.result) (view_of c.mark_exit-new.new.pass)) c.desk.ensures.settings_is c.mark_exit-new.ensures.call in
     subst (λ p. HasExited s (front_of p) c.args.process) (sym c.new.ensures.pass)
     (marked s (Caller n) c.args.process c.mark_exit-new.result (view_of c.args.seat.pass) (view_of c.mark_exit-new.new.pass) made)
