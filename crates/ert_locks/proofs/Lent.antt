@@ -6,7 +6,6 @@ use Rattle.ert_answers.proofs.Growing.{filter_within}
 use Rattle.ert_answers.specs.Ways.{Step, Grows, beside}
 use Rattle.ert_defs.specs.Actors.{has_actor, same_actor, of}
 use Rattle.ert_defs.specs.Entries.{is_ours}
-use Rattle.ert_defs.specs.Legal.{Legal}
 use Rattle.ert_defs.specs.States.{State, state}
 use Rattle.ert_defs.specs.declared.entry.Actor.{Actor}
 use Rattle.ert_defs.specs.declared.entry.Entry.{Entry}
@@ -16,9 +15,9 @@ use Rattle.ert_locks.specs.Passes.{Meets}
 use Rattle.ert_table.proofs.Holders.{or_left, or_right, same_actor_self}
 use Rattle.ert_table.proofs.Parts.{free_later}
 use Rattle.ert_table.specs.Calls.{IsMade}
-use Rattle.ert_table.specs.Desks.{settings_of, view_of, front_of, actors_of, Belongs}
+use Rattle.ert_table.specs.Desks.{actors_of, Belongs}
 use Rattle.ert_table.specs.Held.{is_held}
-use Rattle.ert_table.specs.Views.{Begins, Joined, meeting}
+use Rattle.ert_table.specs.Views.{Begins}
 use Rattle.ert_table.specs.declared.desk.Desk.{Desk}
 use Rattle.ert_table.specs.declared.desk.Pass.{Pass}
 use Rattle.ert_table.specs.declared.view.View.{View}
@@ -43,18 +42,6 @@ ours_one a (e ∷ m) = rw (or_none (has_actor e a)) (ap (λ l. cond (has_actor e
 
 pub holds_self : (a : Actor) → is_held (a ∷ []) a ≡ true
 holds_self a = or_left (same_actor a a) false (same_actor_self a)
-
--- passes of a part and of an actor have met
-pub met : (table : TableId) (g : Settings) (part a : Actor) (d : Desk) (p q r : Pass) → IsDesk table g d → IsOf table g part p → IsOf table g a q
-    → actors_of r ≡ actors_of p ++ actors_of q → Joined (meeting (view_of p) (view_of q)) (front_of r) → Legal (settings_of d) (front_of r)
-    → Meets g part a (view_of p) (view_of q) (view_of r)
-met table g part a d p q r desk one other actors joined legal = record {
-  part_alone = one.actors;
-  user_alone = other.actors;
-  actors = actors ∙ (ap (λ l. l ++ actors_of q) one.actors ∙ ap (λ l. part ∷ l) other.actors);
-  joined = joined;
-  legal = subst (λ s. Legal s (front_of r)) desk.settings_is legal;
-}
 
 -- the new pass holds both actors
 pub has_part : {g : Settings} {part a : Actor} {k v j : View} → Meets g part a k v j → is_held j.actors part ≡ true

@@ -1,6 +1,6 @@
 -- Seats that are joined one after the other.
 
-use Rattle.std.proofs.Common.{◌≡◌, ◌≢◌, ℕ, zero, suc, ◌+◌, ◌<◌, Bool, true, false, List, [], ◌∷◌, ◌++◌, length, slice_index_or, refl, sym, subst, ◌∙◌, arith, eqb-true, eq-eqb, append-nil, append_assoc, length-append}
+use Rattle.std.proofs.Common.{◌≡◌, ◌≢◌, ℕ, zero, suc, ◌+◌, ◌<◌, Bool, true, false, List, [], ◌∷◌, ◌++◌, length, slice_index_or, refl, sym, subst, ◌∙◌, arith, eqb-true, eq-eqb, append_assoc, length-append}
 use Rattle.std.specs.Prelude.{nat_eq, All}
 use Rattle.std.proofs.lemmas.List.Elements.{All-append}
 use Rattle.ert_defs.specs.declared.entry.Actor.{Actor}
@@ -67,16 +67,6 @@ joins_next {S} {number} {view} {sort} {count} {v} {joined} {items} {left} {seats
     by_place i low false differs =
         let other : i ≢ length joined = λ (at : i ≡ length joined). let clash : true ≡ false = sym (eq-eqb i (length joined) at) ∙ differs in cc in
         before.held (sort i) (now.held i (below i (length joined) (length (joined ++ x ∷ [])) low longer other))
-
--- once none is left, all are seen, and all actors of the sort are held
-pub joins_all : {S : Type 0} {number : S → ℕ} {view : S → View} {sort : ℕ → Actor} {count : ℕ} {now : View} {joined left seats : List S}
-    → Joins number view sort count now joined left seats → length left ≡ 0
-    → All (λ s. IsSeen (view s) now) seats × ((i : ℕ) → i < count → is_held now.actors (sort i) ≡ true)
-joins_all {left = x ∷ left} joins none = absurd (omega (arith, none))
-joins_all {view = view} {count = count} {now = now} {joined = joined} {left = []} {seats = seats} joins none =
-    let same : joined ≡ seats = sym (append-nil joined) ∙ joins.all in
-    let sum : length joined + 0 ≡ count = joins.sum in
-    (subst (All (λ s. IsSeen (view s) now)) same joins.seen, λ i low. joins.held i (omega (arith, low, sum)))
 
 -- the next seat: its number
 pub next_named : {S : Type 0} {number : S → ℕ} {view : S → View} {sort : ℕ → Actor} {count : ℕ} {v : View} {joined items left seats : List S} {x : S}

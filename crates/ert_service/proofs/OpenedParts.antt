@@ -1,26 +1,20 @@
 -- The parts of a world that was taken apart, told of by the name of its desk.
 
-use Rattle.std.proofs.Common.{◌≡◌, true, false, List, [], refl, sym, subst}
+use Rattle.std.proofs.Common.{◌≡◌, true, false, List, refl, sym, subst}
 use Rattle.atomic_table.specs.Seated.{TableId}
 use Rattle.ert_defs.specs.Actors.{same_actor}
 use Rattle.ert_defs.specs.declared.entry.Actor.{Actor}
 use Rattle.ert_defs.specs.declared.entry.Actor.TheVariants.{Keeper}
-use Rattle.ert_defs.specs.declared.entry.Entry.{Entry}
 use Rattle.ert_defs.specs.declared.settings.Settings.{Settings}
 use Rattle.ert_locks.specs.Names.{IsDesk}
 use Rattle.ert_world.proofs.Alone.{whole_of}
-use Rattle.ert_world.specs.Parts.{AllParts, Stand}
+use Rattle.ert_world.specs.Parts.{AllParts}
 use Rattle.ert_world.specs.Worlds.{AreFit}
 use Rattle.ert_table.proofs.Holders.{held_but_other}
-use Rattle.ert_table.specs.Desks.{settings_of, front_of, actors_of}
+use Rattle.ert_table.specs.Desks.{settings_of, actors_of}
 use Rattle.ert_table.specs.Held.{is_held, actors_but, IsActor}
 use Rattle.ert_table.specs.declared.desk.Desk.{Desk}
 use Rattle.ert_table.specs.declared.desk.Pass.{Pass}
-
-pub stand_at : {table : TableId} {g : Settings} {d : Desk} {p : Pass} {parts : AllParts} {h : List Entry} → IsDesk table g d → AreFit d p 1 parts → h ≡ front_of p
-    → Stand g h [] parts
-stand_at {g = g} {p = p} {parts = parts} desk fit front =
-    subst (λ l. Stand g l [] parts) (sym front) (subst (λ t. Stand t (front_of p) [] parts) desk.settings_is fit.stand)
 
 -- all actors but the clock's are held once that was taken out
 pub held_at : {table : TableId} {g : Settings} {d : Desk} {p : Pass} {parts : AllParts} {left : List Actor} (a : Actor) → IsDesk table g d → AreFit d p 1 parts

@@ -2,7 +2,7 @@ use Rattle.std.proofs.Common.{sym, subst}
 use Rattle.ert_defs.specs.Legal.{Legal}
 use Rattle.ert_defs.specs.declared.entry.Actor.TheVariants.{Sched}
 use Rattle.ert_locks.specs.KindLaws.{scheds_are}
-use Rattle.ert_locks.proofs.Lent.{met, holds_self}
+use Rattle.ert_locks.proofs.Lent.{holds_self}
 use Rattle.ert_locks.specs.Kinds.{scheds}
 use Rattle.ert_table.specs.Desks.{front_of}
 use Rattle.ert_locks.proofs.locked.meet.Goals as goal
@@ -16,11 +16,6 @@ returns-clause-stands g c =
     let own = c.join.ensures.joined.own (k.actor (k.number x)) (rw c.requires.fits.sits.actors (holds_self (k.actor (k.number x)))) in
     subst (λ t. k.stands t (front_of c.join.new.self) x) (sym c.requires.desk.settings_is)
     (g.met.P.DeskPart.is_kind.stand_on s (front_of c.args.pass.now) (front_of c.join.new.self) x c.join.ensures.joined.begins own legal c.requires.fits.stands)
-
-pub returns-clause-meets : goal.returns-clause-meets
-returns-clause-meets g c = λ a sits.
-    met g.L.DeskName.table g.L.DeskName.settings _ a c.args.desk.now c.args.pass.now c.args.own c.join.new.self
-    c.requires.desk c.requires.fits.sits sits c.join.ensures.actors c.join.ensures.joined c.join.ensures.legal
 
 pub returns-clause-sched : goal.returns-clause-sched
 returns-clause-sched g c = λ x fits.

@@ -1,7 +1,7 @@
 use Rattle.std.proofs.Common.{length, arith, ap, subst}
 use Rattle.ert_defs.specs.Legal.{Legal}
 use Rattle.ert_service.proofs.Gathered.{seen_then, seen_left}
-use Rattle.ert_service.proofs.Joined.{joins_next, joins_all}
+use Rattle.ert_service.proofs.Joined.{joins_next}
 use Rattle.ert_table.specs.Desks.{front_of, view_of}
 use Rattle.ert_service.proofs.joining.join_callers.Goals as goal
 
@@ -20,15 +20,3 @@ loop-seat-preserved g c =
       joins = joins_next j c.in-Some.ensures.steps.0 c.join.ensures.actors c.join.ensures.joined c.in-Some.seat.sits.actors c.loop-seat.invariant.joins;
       remaining = omega arith;
     }
-
-pub returns-clause-seats : goal.returns-clause-seats
-returns-clause-seats g c =
-    let was = c.loop-seat.invariant.remaining in
-    let none = c.in-None.ensures.steps.0 in
-    (joins_all c.loop-seat.invariant.joins (omega arith)).0
-
-pub returns-clause-held : goal.returns-clause-held
-returns-clause-held g c =
-    let was = c.loop-seat.invariant.remaining in
-    let none = c.in-None.ensures.steps.0 in
-    (joins_all c.loop-seat.invariant.joins (omega arith)).1

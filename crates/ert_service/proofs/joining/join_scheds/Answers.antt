@@ -1,21 +1,14 @@
-use Rattle.std.proofs.Common.{◌+◌, ◌<◌, [], ◌∷◌, ◌++◌, length, rules, arith, sym, ap, subst, ◌∙◌, ◌≡◌}
+use Rattle.std.proofs.Common.{◌+◌, ◌<◌, [], ◌∷◌, ◌++◌, length, rules, arith, sym, ap, subst, ◌∙◌}
 use Rattle.ert_defs.specs.Legal.{Legal}
 use Rattle.ert_defs.specs.declared.entry.Actor.TheVariants.{Sched}
 use Rattle.ert_locks.proofs.Lent.{holds_self}
 use Rattle.ert_locks.specs.KindLaws.{scheds_are}
 use Rattle.ert_locks.specs.Kinds.{scheds}
 use Rattle.ert_service.proofs.Gathered.{seen_then, seen_left, seen_right, in_later, in_more}
-use Rattle.ert_service.proofs.Joined.{joins_next, joins_all, next_named, one_longer}
+use Rattle.ert_service.proofs.Joined.{joins_next, next_named, one_longer}
 use Rattle.ert_service.specs.Gathering.{AreIn}
 use Rattle.ert_table.specs.Desks.{front_of, view_of}
 use Rattle.ert_service.proofs.joining.join_scheds.Goals as goal
-
-pub push_reserved-requires : goal.push_reserved-requires
-push_reserved-requires g c =
-    let low = (next_named c.in-Some.ensures.steps.0 c.loop-seat.invariant.joins).1 in
-    let len = c.loop-seat.invariant.len in
-    let room = c.loop-seat.invariant.room in
-    omega (arith, low, len, room)
 
 pub loop-seat-preserved : goal.loop-seat-preserved
 loop-seat-preserved g c =
@@ -49,18 +42,3 @@ loop-seat-preserved g c =
       len = c.push_reserved.ensures.len ∙ (ap (λ m. m + 1) c.loop-seat.invariant.len ∙ sym longer);
       room = search rules;
     }
-
-pub returns-clause-seats : goal.returns-clause-seats
-returns-clause-seats g c =
-    let was = c.loop-seat.invariant.remaining in
-    let none = c.in-None.ensures.steps.0 in
-    (joins_all c.loop-seat.invariant.joins (omega arith)).0
-
-pub returns-clause-parts : goal.returns-clause-parts
-returns-clause-parts g c =
-    let s = g.L.DeskName.settings in
-    let was = c.loop-seat.invariant.remaining in
-    let none = c.in-None.ensures.steps.0 in
-    let sum = c.loop-seat.invariant.joins.sum in
-    let all : length c.loop-seat.yielded ≡ s.schedulers = omega arith in
-    subst (λ n. AreIn scheds s n (view_of c.loop-seat.pass) c.loop-seat.parts.items) all c.loop-seat.invariant.inside

@@ -1,13 +1,8 @@
-use Rattle.std.proofs.Common.{◌+◌, ◌<◌, rules, arith, sym, ap, subst, ◌∙◌}
+use Rattle.std.proofs.Common.{◌+◌, rules, sym, ap, subst, ◌∙◌}
 use Rattle.ert_service.proofs.Divided.{held_next, seats_more}
 use Rattle.ert_service.specs.Dividing.{AreSeated}
 use Rattle.ert_table.specs.Desks.{front_of, actors_of}
 use Rattle.ert_service.proofs.opening.seat_callers.Goals as goal
-
-pub split-own-requires-clause-held : goal.split-own-requires-clause-held
-split-own-requires-clause-held g c =
-    let below : c.loop-number.number < g.L.DeskName.settings.callers = search rules in
-    c.loop-number.invariant.held c.loop-number.number (omega arith) below
 
 pub loop-number-preserved : goal.loop-number-preserved
 loop-number-preserved g c = record {

@@ -1,4 +1,4 @@
-use Rattle.std.proofs.Common.{◌≡◌, None, refl, sym, subst, ◌∙◌}
+use Rattle.std.proofs.Common.{◌≡◌, refl, subst, ◌∙◌}
 use Rattle.ert_answers.specs.RequestCalls.{Picks}
 use Rattle.ert_defs.specs.States.{state}
 use Rattle.ert_defs.specs.declared.entry.Actor.TheVariants.{Inbox, Sched}
@@ -9,11 +9,6 @@ use Rattle.ert_locks.proofs.Scheds.{seat_after}
 use Rattle.ert_table.specs.Calls.{IsMade}
 use Rattle.ert_table.specs.Desks.{settings_of, front_of, view_of}
 use Rattle.ert_locks.proofs.inbox.Locked+InboxPart+L.pick.Goals as goal
-
-pub pick-got-requires-clause-empty : goal.pick-got-requires-clause-empty
-pick-got-requires-clause-empty g c =
-    subst (λ m. ((state (settings_of c.args.desk.now) (front_of c.meet.new.pass)).scheds m).hand ≡ None) (sym (c.self.view_is ∙ c.requires.own))
-    (sym (c.meet.ensures.sched c.args.seat.part c.args.seat.fits).hand ∙ c.requires.empty)
 
 pub new-requires : goal.new-requires
 new-requires g c =

@@ -1,16 +1,10 @@
-use Rattle.std.proofs.Common.{refl, ◌∙◌}
+use Rattle.std.proofs.Common.{refl}
 use Rattle.ert_defs.specs.declared.entry.Actor.TheVariants.{Wheel, Inbox, Sched, MailOf, Caller}
-use Rattle.ert_service.proofs.OpenedParts.{stand_at, held_at}
+use Rattle.ert_service.proofs.OpenedParts.{held_at}
 use Rattle.ert_service.proofs.service.Service.open.Goals as goal
-
-pub lock_all-requires-clause-parts : goal.lock_all-requires-clause-parts
-lock_all-requires-clause-parts g c = (stand_at c.requires.desk c.requires.fit c.split-own.ensures.front).wheels
 
 pub lock_all-requires-clause-held : goal.lock_all-requires-clause-held
 lock_all-requires-clause-held g c = λ i low. held_at (Wheel i) c.requires.desk c.requires.fit c.split-own.ensures.rest refl low
-
-pub lock_all-requires-2-clause-parts : goal.lock_all-requires-2-clause-parts
-lock_all-requires-2-clause-parts g c = (stand_at c.requires.desk c.requires.fit (c.lock_all.ensures.front ∙ c.split-own.ensures.front)).inboxes
 
 pub lock_all-requires-2-clause-held : goal.lock_all-requires-2-clause-held
 lock_all-requires-2-clause-held g c = λ i low. c.lock_all.ensures.kept.others (Inbox i) (λ n. refl) (held_at (Inbox i) c.requires.desk c.requires.fit c.split-own.ensures.rest refl low)

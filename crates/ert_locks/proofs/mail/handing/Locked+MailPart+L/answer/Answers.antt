@@ -1,4 +1,4 @@
-use Rattle.std.proofs.Common.{sym, ◌∙◌}
+use Rattle.std.proofs.Common.{◌∙◌}
 use Rattle.ert_answers.specs.RequestCalls.{Answers}
 use Rattle.ert_defs.specs.States.{state}
 use Rattle.ert_defs.specs.declared.entry.Actor.TheVariants.{MailOf, Sched}
@@ -9,9 +9,6 @@ use Rattle.ert_mail.specs.Mailboxes.{answered}
 use Rattle.ert_world.proofs.Calls.{if_ok_made}
 use Rattle.ert_table.specs.Desks.{settings_of, front_of, view_of}
 use Rattle.ert_locks.proofs.mail.handing.Locked+MailPart+L.answer.Goals as goal
-
-pub answer-left-requires-clause-hand : goal.answer-left-requires-clause-hand
-answer-left-requires-clause-hand g c = sym (c.meet.ensures.sched c.args.seat.part c.args.seat.fits).hand ∙ c.requires.hand
 
 pub new-requires : goal.new-requires
 new-requires g c =
