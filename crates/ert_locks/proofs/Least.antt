@@ -1,6 +1,7 @@
 -- The one caller that a pass holds is its caller of least number.
 
-use Rattle.std.proofs.Common.{◌≡◌, ◌≢◌, ℕ, zero, suc, ◌<◌, ◌≤◌, Bool, true, false, List, [], ◌∷◌, Some, None, refl, sym, ap, ◌∙◌, arith, eqb-true, eq-eqb}
+use Rattle.std.proofs.Common.{◌≡◌, ◌≢◌, ℕ, zero, suc, ◌<◌, ◌≤◌, Bool, true, false, List, [], ◌∷◌, Some, None, refl, sym, ap, arith, eqb-true}
+use Rattle.std.proofs.lemmas.Bool.{eqb-false, ne_eqb}
 use Rattle.std.specs.Prelude.{nat_eq}
 use Rattle.ert_defs.specs.declared.entry.Actor.{Actor}
 use Rattle.ert_defs.specs.declared.entry.Actor.TheVariants.{Keeper, Caller}
@@ -14,18 +15,11 @@ use Rattle.ert_table.specs.declared.view.View.{View}
 abbrev pair : ℕ → List Actor
 pair n = Keeper ∷ (Caller n ∷ [])
 
-numbers_apart : (m n : ℕ) → m ≢ n → nat_eq m n ≡ false
-numbers_apart m n ne = by_test (nat_eq m n) refl
-  where
-    by_test : (b : Bool) → nat_eq m n ≡ b → b ≡ false
-    by_test true is = absurd (ne (eqb-true m n is))
-    by_test false is = refl
-
 none_least : (n m : ℕ) → m ≤ n → least_caller (pair n) m ≡ None
 none_least n zero low = refl
 none_least n (suc m) low =
     let ne : n ≢ m = λ (e : n ≡ m). absurd (omega arith) in
-    rw (none_least n m (omega arith), numbers_apart n m ne) refl
+    rw (none_least n m (omega arith), ne_eqb n m ne) refl
 
 less : (n m : ℕ) → n ≢ m → n < suc m → n < m
 less n m ne low = omega (arith, ne, low)
@@ -40,7 +34,7 @@ least_one n (suc m) low = by_test (nat_eq n m) refl (λ below. least_one n m bel
         let none : least_caller (pair n) m ≡ None = none_least n m (omega arith) in
         rw (none, is) (ap (λ k. Some k) (sym at))
     by_test false is more =
-        let ne : n ≢ m = λ (e : n ≡ m). let clash : true ≡ false = sym (eq-eqb n m e) ∙ is in cc in
+        let ne : n ≢ m = eqb-false n m is in
         let below : n < m = less n m ne low in
         rw (more below) refl
 

@@ -1,6 +1,6 @@
 -- Steps one after the other are a call, whatever the way.
 
-use Rattle.std.proofs.Common.{◌≡◌, ℕ, suc, ◌+◌, ◌<◌, ◌≤◌, Bool, true, false, ◌||◌, ◌&&◌, List, [], ◌∷◌, ◌++◌, length, Some, Ok, Err, inr, refl, sym, ap, subst, ◌∙◌, arith, append-nil, append_assoc, eq-eqb}
+use Rattle.std.proofs.Common.{◌≡◌, ℕ, suc, ◌+◌, ◌<◌, ◌≤◌, Bool, true, ◌&&◌, List, [], ◌∷◌, ◌++◌, length, Some, Ok, Err, inr, refl, sym, ap, subst, ◌∙◌, arith, append-nil, append_assoc, eq-eqb}
 use Rattle.std.specs.Prelude.{nat_eq, not}
 use Rattle.ert_answers.proofs.Growing.{grows_then, grows_as, grows_more}
 use Rattle.ert_answers.specs.Chains.{Serves, ServesMany, ServesAll, times, AdvancesWheel, Hands, HandsMany, Delivers, Turns, SweepsWheel, SweepsWheels, Exits}
@@ -25,6 +25,7 @@ use Rattle.ert_laws.proofs.Requests.{held_have_askers}
 use Rattle.ert_laws.proofs.RowRanges.{first_placed}
 use Rattle.ert_service.proofs.Settling.{place}
 use Rattle.ert_world.specs.Parts.{SchedStands}
+use Rattle.ert_table.proofs.Holders.{or_right}
 use Rattle.ert_table.proofs.OneStep.{legal_by}
 use Rattle.ert_table.specs.Calls.{IsMade}
 use Rattle.ert_table.specs.Desks.{front_of}
@@ -87,10 +88,6 @@ pub still_exited : (g : Settings) (call : Growth) (p : ℕ) (f h : List Entry) �
 still_exited g call p f h grows was =
     subst (λ (s : State). s.exited p ≡ true) (sym (ap (state g) grows.grown ∙ state-append g f grows.piece)) (exit_stays g p (state g f) grows.piece was)
 
-or_true : (x y : Bool) → y ≡ true → (x || y) ≡ true
-or_true true y is = refl
-or_true false y is = is
-
 -- after a mark among other entries the process has exited
 pub marked : (g : Settings) (by : Actor) (p : ℕ) (answer : Bool) (v w : View) → IsMade g v (MarksExit g by p answer) w → (state g w.front).exited p ≡ true
 marked g by p answer v w made =
@@ -100,7 +97,7 @@ marked g by p answer v w made =
     let at : w.front ≡ q ++ (mark ∷ spot.last) =
     made.call.grown ∙ (ap (λ l. v.front ++ l) spot.parted ∙ sym (append_assoc v.front spot.first (mark ∷ spot.last))) in
     subst (λ (s : State). s.exited p ≡ true) (sym (ap (state g) at ∙ state-append g q (mark ∷ spot.last)))
-    (exit_stays g p (next g (state g q) mark) spot.last (or_true ((state g q).exited p) (nat_eq p p && true) (rw (eq-eqb p p refl) refl)))
+    (exit_stays g p (next g (state g q) mark) spot.last (or_right ((state g q).exited p) (nat_eq p p && true) (rw (eq-eqb p p refl) refl)))
 
 -- who is to get an answer is in range, and so is who is to get a message
 pub asker_low : (g : Settings) (p : Pass) (part : SchedPart) (q : Request) → p.seat.me.0.settings ≡ Some g → SchedStands g (front_of p) part → part.hand ≡ Some q

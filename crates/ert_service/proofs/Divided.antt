@@ -1,23 +1,17 @@
 -- How a pass is divided, one actor of a sort after the other.
 
-use Rattle.std.proofs.Common.{◌≡◌, ◌≢◌, ℕ, suc, ◌+◌, ◌<◌, ◌≤◌, Bool, true, false, List, [], ◌∷◌, ◌++◌, length, slice_index_or, refl, sym, ap, subst, ◌∙◌, arith, eqb-true, eq-eqb, length-append}
+use Rattle.std.proofs.Common.{◌≡◌, ℕ, suc, ◌+◌, ◌<◌, ◌≤◌, true, false, List, [], ◌∷◌, ◌++◌, length, slice_index_or, refl, sym, subst, arith}
 use Rattle.std.specs.Prelude.{nat_eq}
-use Rattle.std.proofs.lemmas.List.{get_or_push, get_or_append_left}
+use Rattle.std.proofs.lemmas.Bool.{ne_eqb}
 use Rattle.ert_defs.specs.declared.entry.Actor.{Actor}
 use Rattle.ert_defs.specs.declared.entry.Actor.TheVariants.{Caller}
 use Rattle.ert_defs.specs.declared.entry.Entry.{Entry}
 use Rattle.ert_defs.specs.declared.settings.Settings.{Settings}
 use Rattle.ert_locks.specs.Kinds.{Kind, IsKind}
 use Rattle.ert_service.specs.Dividing.{AreSeated, AreFirst, Divides}
+use Rattle.ert_world.proofs.Opened.{new_more}
 use Rattle.ert_table.proofs.Holders.{held_but_other}
 use Rattle.ert_table.specs.Held.{is_held, actors_but}
-
-numbers_apart : (m n : ℕ) → m ≢ n → nat_eq m n ≡ false
-numbers_apart m n ne = by_test (nat_eq m n) refl
-  where
-    by_test : (b : Bool) → nat_eq m n ≡ b → b ≡ false
-    by_test true is = absurd (ne (eqb-true m n is))
-    by_test false is = refl
 
 -- the next one: its number, that it stands, and that its actor is held
 pub record Next {X : Type 0} (k : Kind X) (g : Settings) (h : List Entry) (now : List Actor) (done : ℕ) (x : X) : Type 0 where
@@ -72,7 +66,7 @@ divides_next {k = k} {g = g} {h = h} {first = first} {now = now} {done = done} {
           let later = d.each (suc j) e (omega (arith, low)) in
           (shift (k.number (slice_index_or left j e)) j done more one_more later.0, later.1);
       held = λ i low below.
-          let other : nat_eq i (k.number x) ≡ false = numbers_apart i (k.number x) (λ (at : i ≡ k.number x). absurd (clash i done more (k.number x) low one_more one.named at)) in
+          let other : nat_eq i (k.number x) ≡ false = ne_eqb i (k.number x) (λ (at : i ≡ k.number x). absurd (clash i done more (k.number x) low one_more one.named at)) in
           let ranged : k.number x < k.count g = subst (λ n. n < k.count g) (sym one.named) one.low in
           subst (λ l. is_held l (k.actor i) ≡ true) (sym rest)
           (held_but_other now (k.actor (k.number x)) (k.actor i) (kind.apart g i (k.number x) below ranged other) (d.held i (less i done more low one_more) below));
@@ -94,27 +88,13 @@ divides_next {k = k} {g = g} {h = h} {first = first} {now = now} {done = done} {
 -- one seat more
 pub seats_more : {S : Type 0} {number : S → ℕ} {front : S → List Entry} {n : ℕ} {h : List Entry} {seats : List S} (s : S) → AreSeated number front n h seats
     → number s ≡ n → front s ≡ h → AreSeated number front (n + 1) h (seats ++ s ∷ [])
-seats_more {number = number} {front = front} {n = n} {h = h} {seats = seats} s are named shows = record {
-  counted = length-append seats (s ∷ []) ∙ ap (λ k. k + 1) are.counted;
-  each = λ i d low. by_place i d low (nat_eq i n) refl;
-}
-  where
-    below : {i n : ℕ} → i < n + 1 → i ≢ n → i < n
-    below {i} {n} low other = omega (arith, low, other)
-
-    by_place : (i : ℕ) (d : _) → i < n + 1 → (b : Bool) → nat_eq i n ≡ b
-        → (number (slice_index_or (seats ++ s ∷ []) i d) ≡ i) × (front (slice_index_or (seats ++ s ∷ []) i d) ≡ h)
-    by_place i d low true is =
-        let at : i ≡ n = eqb-true i n is in
-        subst (λ x. (number x ≡ i) × (front x ≡ h)) (sym (get_or_push seats s d i (are.counted ∙ sym at))) (named ∙ sym at, shows)
-    by_place i d low false is =
-        let other : i ≢ n = λ (at : i ≡ n). let clash : true ≡ false = sym (eq-eqb i n at) ∙ is in cc in
-        let within : i < n = below low other in
-        subst (λ x. (number x ≡ i) × (front x ≡ h)) (sym (get_or_append_left seats (s ∷ []) d i (rw are.counted within))) (are.each i d within)
+seats_more {number = number} {front = front} {n = n} {h = h} {seats = seats} s are named shows =
+    let more = new_more (λ i s. (number s ≡ i) × (front s ≡ h)) n seats s (record { counted = are.counted; each = are.each }) (named, shows) in
+    record { counted = more.counted; each = more.each }
 
 -- callers with later numbers are held still
 pub held_next : (now new : List Actor) (done count : ℕ) → new ≡ actors_but now (Caller done) → ((i : ℕ) → done ≤ i → i < count → is_held now (Caller i) ≡ true)
     → (i : ℕ) → done + 1 ≤ i → i < count → is_held new (Caller i) ≡ true
 held_next now new done count rest held i low below =
-    let other : nat_eq i done ≡ false = numbers_apart i done (λ (at : i ≡ done). absurd (omega (arith, low, at))) in
+    let other : nat_eq i done ≡ false = ne_eqb i done (λ (at : i ≡ done). absurd (omega (arith, low, at))) in
     subst (λ l. is_held l (Caller i) ≡ true) (sym rest) (held_but_other now (Caller done) (Caller i) other (held i (omega (arith, low)) below))

@@ -1,15 +1,17 @@
 -- Parts that are gathered in places by their numbers: no two of a sort have one number, so all places are full
 -- once as many were put as there are.
 
-use Rattle.std.proofs.Common.{◌≡◌, ◌≢◌, ◌⊎◌, inl, inr, ⊎_elim, ℕ, zero, suc, ◌+◌, ◌<◌, ◌≤◌, Bool, true, false, List, [], ◌∷◌, ◌++◌, length, slice_index_or, Option, Some, None, refl, sym, ap, subst, ◌∙◌, arith, eqb-true, eq-eqb, append-nil, append_assoc, length-append}
-use Rattle.std.specs.Prelude.{nat_eq, slice_set}
-use Rattle.std.proofs.lemmas.Grind.{get_or-set_at}
-use Rattle.std.proofs.lemmas.List.{get_or-set_other, length-set, get_or_push, get_or_append_left}
+use Rattle.std.proofs.Common.{◌≡◌, ◌⊎◌, inl, inr, ⊎_elim, ℕ, zero, suc, ◌+◌, ◌<◌, ◌≤◌, true, List, [], ◌∷◌, ◌++◌, length, slice_index_or, Option, Some, None, refl, sym, ap, subst, ◌∙◌, arith, append-nil, append_assoc}
+use borrow.Author.Count.{below_more}
+use Rattle.std.specs.Prelude.{slice_set}
+use Rattle.std.proofs.lemmas.List.{length-set}
 use Rattle.ert_defs.specs.Legal.{Legal}
 use Rattle.ert_defs.specs.declared.settings.Settings.{Settings}
 use Rattle.ert_locks.proofs.Lent.{holds_self}
 use Rattle.ert_locks.specs.Kinds.{Kind, IsKind}
 use Rattle.ert_service.specs.Gathering.{IsSeen, Gathered, filled, somes, AreEmpty, AreIn}
+use Rattle.ert_world.proofs.Opened.{new_more}
+use Rattle.ert_world.proofs.Returned.{at_place}
 use Rattle.ert_table.proofs.Holders.{held_first, held_then}
 use Rattle.ert_table.specs.Held.{is_held}
 use Rattle.ert_table.specs.Views.{Joined, meeting}
@@ -86,7 +88,8 @@ put : {X : Type 0} {k : Kind X} {g : Settings} {v w j : View} {places : List (Op
 put {X} {k} {g} {v} {w} {j} {places} {x} is comes gathered = record {
   gathered = record {
     counted = length-set places (k.number x) (Some x) ∙ gathered.counted;
-    each = λ i y at. by_place i y at (nat_eq i (k.number x)) refl;
+    each = λ i y. at_place (λ (o : Option X). o ≡ Some y → (k.number y ≡ i) × k.stands g j.front y × (is_held j.actors (k.actor i) ≡ true))
+        places (k.number x) i (Some x) None within (λ at same. here i y at cc) (λ other. there i y);
   };
   more = count_set places (k.number x) x within empty;
 }
@@ -104,22 +107,19 @@ put {X} {k} {g} {v} {w} {j} {places} {x} is comes gathered = record {
     later : IsSeen v j
     later = seen_left v w j comes.actors comes.joined
 
-    here : k.stands g j.front x
-    here = is.stand_on g w.front j.front x comes.joined.other_begins (comes.joined.other_own (k.actor (k.number x)) mine) comes.legal comes.stand
+    stands : k.stands g j.front x
+    stands = is.stand_on g w.front j.front x comes.joined.other_begins (comes.joined.other_own (k.actor (k.number x)) mine) comes.legal comes.stand
 
-    by_place : (i : ℕ) (y : X) → slice_index_or (slice_set places (k.number x) (Some x)) i None ≡ Some y → (b : Bool) → nat_eq i (k.number x) ≡ b
-        → (k.number y ≡ i) × k.stands g j.front y × (is_held j.actors (k.actor i) ≡ true)
-    by_place i y at true same =
-        let here_is : i ≡ k.number x = eqb-true i (k.number x) same in
-        let put_there : Some x ≡ Some y = sym (get_or-set_at places (k.number x) i (Some x) None here_is within) ∙ at in
-        let it : x ≡ y = cc in (
-          ap k.number (sym it) ∙ sym here_is,
-          subst (k.stands g j.front) it here,
-          subst (λ n. is_held j.actors (k.actor n) ≡ true) (sym here_is) ((seen_right v w j comes.actors comes.joined).held (k.actor (k.number x)) mine),
-        )
-    by_place i y at false differs =
-        let other : i ≢ k.number x = λ (same : i ≡ k.number x). let clash : true ≡ false = sym (eq-eqb i (k.number x) same) ∙ differs in cc in
-        let was = gathered.each i y (sym (get_or-set_other places (k.number x) i (Some x) None other) ∙ at) in (
+    here : (i : ℕ) (y : X) → i ≡ k.number x → x ≡ y → (k.number y ≡ i) × k.stands g j.front y × (is_held j.actors (k.actor i) ≡ true)
+    here i y at it = (
+      ap k.number (sym it) ∙ sym at,
+      subst (k.stands g j.front) it stands,
+      subst (λ n. is_held j.actors (k.actor n) ≡ true) (sym at) ((seen_right v w j comes.actors comes.joined).held (k.actor (k.number x)) mine),
+    )
+
+    there : (i : ℕ) (y : X) → slice_index_or places i None ≡ Some y → (k.number y ≡ i) × k.stands g j.front y × (is_held j.actors (k.actor i) ≡ true)
+    there i y is_there =
+        let was = gathered.each i y is_there in (
           was.0,
           is.stand_on g v.front j.front y later.begins
               (later.own (k.actor (k.number y)) (subst (λ n. is_held v.actors (k.actor n) ≡ true) (sym was.0) was.2)) comes.legal was.1,
@@ -172,33 +172,18 @@ all_in {X} {k} {g} {v} {places} gathered full = record {
 -- one part more at the end
 pub in_more : {X : Type 0} {k : Kind X} {g : Settings} {n : ℕ} {v : View} {xs : List X} (x : X) → AreIn k g n v xs → k.number x ≡ n → k.stands g v.front x
     → is_held v.actors (k.actor n) ≡ true → AreIn k g (n + 1) v (xs ++ x ∷ [])
-in_more {X} {k} {g} {n} {v} {xs} x are at stand held = record {
-  ordered = record {
-    counted = length-append xs (x ∷ []) ∙ ap (λ k. k + 1) are.ordered.counted;
-    named = λ i d low. (here i d low (nat_eq i n) refl).0;
-    stand = λ i d low left. (here i d low (nat_eq i n) refl).1;
-  };
-  held = λ i low. held_at i low (nat_eq i n) refl;
-}
-  where
-    below : (i : ℕ) → i < n + 1 → nat_eq i n ≡ false → i < n
-    below i low is =
-        let other : i ≢ n = λ (same : i ≡ n). let clash : true ≡ false = sym (eq-eqb i n same) ∙ is in cc in
-        omega (arith, low, other)
-
-    here : (i : ℕ) (d : X) → i < n + 1 → (b : Bool) → nat_eq i n ≡ b
-        → (k.number (slice_index_or (xs ++ x ∷ []) i d) ≡ i) × k.stands g v.front (slice_index_or (xs ++ x ∷ []) i d)
-    here i d low true is =
-        let same : i ≡ n = eqb-true i n is in
-        subst (λ y. (k.number y ≡ i) × k.stands g v.front y) (sym (get_or_push xs x d i (are.ordered.counted ∙ sym same))) (at ∙ sym same, stand)
-    here i d low false is =
-        let within : i < n = below i low is in
-        subst (λ y. (k.number y ≡ i) × k.stands g v.front y) (sym (get_or_append_left xs (x ∷ []) d i (rw are.ordered.counted within)))
-        (are.ordered.named i d within, are.ordered.stand i d within refl)
-
-    held_at : (i : ℕ) → i < n + 1 → (b : Bool) → nat_eq i n ≡ b → is_held v.actors (k.actor i) ≡ true
-    held_at i low true is = subst (λ m. is_held v.actors (k.actor m) ≡ true) (sym (eqb-true i n is)) held
-    held_at i low false is = are.held i (below i low is)
+in_more {X} {k} {g} {n} {v} {xs} x are at stand held =
+    let first = are.ordered in
+    let more = new_more (λ i y. (k.number y ≡ i) × k.stands g v.front y) n xs x
+    (record { counted = first.counted; each = λ i d low. (first.named i d low, first.stand i d low refl) }) (at, stand) in
+    record {
+      ordered = record {
+        counted = more.counted;
+        named = λ i d low. (more.each i d low).0;
+        stand = λ i d low left. (more.each i d low).1;
+      };
+      held = below_more (λ i. is_held v.actors (k.actor i) ≡ true) n are.held held;
+    }
 
 -- the parts that are put in their places so far, and how many are left
 pub record Gathers {X : Type 0} (k : Kind X) (g : Settings) (first v : View) (places : List (Option X)) (left : ℕ) : Type 0 where

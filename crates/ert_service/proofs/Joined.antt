@@ -1,7 +1,8 @@
 -- Seats that are joined one after the other.
 
-use Rattle.std.proofs.Common.{◌≡◌, ◌≢◌, ℕ, zero, suc, ◌+◌, ◌<◌, Bool, true, false, List, [], ◌∷◌, ◌++◌, length, slice_index_or, refl, sym, subst, ◌∙◌, arith, eqb-true, eq-eqb, append_assoc, length-append}
-use Rattle.std.specs.Prelude.{nat_eq, All}
+use Rattle.std.proofs.Common.{◌≡◌, ℕ, zero, suc, ◌+◌, ◌<◌, true, List, [], ◌∷◌, ◌++◌, length, slice_index_or, subst, ◌∙◌, arith, append_assoc, length-append}
+use borrow.Author.Count.{below_more}
+use Rattle.std.specs.Prelude.{All}
 use Rattle.std.proofs.lemmas.List.Elements.{All-append}
 use Rattle.ert_defs.specs.declared.entry.Actor.{Actor}
 use Rattle.ert_locks.proofs.Lent.{holds_self}
@@ -33,7 +34,8 @@ joins_next {S} {number} {view} {sort} {count} {v} {joined} {items} {left} {seats
   each = λ i d low.
       let later = now.each (suc i) d (omega (arith, low)) in
       shift (number (slice_index_or left i d)) i (length joined) (length (joined ++ x ∷ [])) longer later;
-  held = λ i low. by_place i low (nat_eq i (length joined)) refl;
+  held = λ i low. below_more (λ n. is_held j.actors (sort n) ≡ true) (length joined) (λ n below. before.held (sort n) (now.held n below)) mine i
+      (subst (λ n. i < n) longer low);
 }
   where
     now : Joins number view sort count v joined (x ∷ left) seats
@@ -51,22 +53,12 @@ joins_next {S} {number} {view} {sort} {count} {v} {joined} {items} {left} {seats
     plain : (a b : ℕ) → a ≡ b + 0 → a ≡ b
     plain a b e = omega (arith, e)
 
-    named : number x ≡ length joined
-    named = plain (number x) (length joined) (now.each 0 x (omega arith))
+    mine : is_held j.actors (sort (length joined)) ≡ true
+    mine = subst (λ n. is_held j.actors (sort n) ≡ true) (plain (number x) (length joined) (now.each 0 x (omega arith)))
+        (here.held (sort (number x)) (rw own (holds_self (sort (number x)))))
 
     shift : (n i a b : ℕ) → b ≡ a + 1 → n ≡ a + suc i → n ≡ b + i
     shift n i a b more e = omega (arith, more, e)
-
-    below : (i a b : ℕ) → i < b → b ≡ a + 1 → i ≢ a → i < a
-    below i a b low more other = omega (arith, low, more, other)
-
-    by_place : (i : ℕ) → i < length (joined ++ x ∷ []) → (b : Bool) → nat_eq i (length joined) ≡ b → is_held j.actors (sort i) ≡ true
-    by_place i low true same =
-        let at : number x ≡ i = named ∙ sym (eqb-true i (length joined) same) in
-        subst (λ n. is_held j.actors (sort n) ≡ true) at (here.held (sort (number x)) (rw own (holds_self (sort (number x)))))
-    by_place i low false differs =
-        let other : i ≢ length joined = λ (at : i ≡ length joined). let clash : true ≡ false = sym (eq-eqb i (length joined) at) ∙ differs in cc in
-        before.held (sort i) (now.held i (below i (length joined) (length (joined ++ x ∷ [])) low longer other))
 
 -- the next seat: its number
 pub next_named : {S : Type 0} {number : S → ℕ} {view : S → View} {sort : ℕ → Actor} {count : ℕ} {v : View} {joined items left seats : List S} {x : S}

@@ -1,9 +1,9 @@
 -- What the calls of a service leave settled: the place of an entry of a call in its piece, and what is known
 -- there.
 
-use Rattle.std.proofs.Common.{◌≡◌, ◌≢◌, ⊎_elim, ℕ, zero, suc, ◌<◌, ◌≤◌, ℤ, Bool, true, false, cond, ◌||◌, List, [], ◌∷◌, ◌++◌, length, filter, slice_index_or, Contains, Option, Some, None, Result, Ok, Err, refl, sym, ap, subst, ◌∙◌, arith, append_assoc, append-nil, eq-eqb}
+use Rattle.std.proofs.Common.{◌≡◌, ◌≢◌, ⊎_elim, ℕ, zero, suc, ◌<◌, ◌≤◌, ℤ, Bool, true, false, cond, List, [], ◌∷◌, ◌++◌, length, filter, slice_index_or, Contains, Option, Some, None, Result, Ok, Err, refl, sym, ap, subst, ◌∙◌, arith, append_assoc, append-nil, eq-eqb}
 use Rattle.std.specs.Prelude.{nat_eq, nat_le, IfOk}
-use Rattle.std.proofs.lemmas.Bool.{le-leb}
+use Rattle.std.proofs.lemmas.Bool.{le-leb, true_from_ne_false}
 use Rattle.std.proofs.lemmas.List.Elements.{Contains-append_left}
 use Rattle.ert_answers.proofs.Growing.{filter_within}
 use Rattle.ert_answers.proofs.Swept.{exits_settle_timers}
@@ -37,6 +37,7 @@ use Rattle.ert_defs.proofs.FiredTimers.{same_timer_self}
 use Rattle.ert_defs.proofs.Slots.{ordered}
 use Rattle.ert_defs.proofs.Uses.{Use, before_self}
 use Rattle.ert_service.specs.Settled.{LawOfAdvances, LawOfExits, LawOfStarts, LawOfTurns, NoneDue, NoneFor, NoneWaits, IsSettled}
+use Rattle.ert_table.proofs.Holders.{or_left}
 use Rattle.ert_table.proofs.OneStep.{legal_by}
 use Rattle.ert_table.specs.Desks.{front_of}
 use Rattle.ert_table.specs.declared.desk.Pass.{Pass}
@@ -95,14 +96,10 @@ at_place f m b d after first x last parted more =
 can_at : (g : Settings) (p : List Entry) (x : Entry) (later : List Entry) → Legal g (p ++ (x ∷ later)) → Can g (state g p) x
 can_at g p x later legal = (legal_then g (opening g) p (x ∷ later) legal).0
 
-or_here : (x y : Bool) → x ≡ true → (x || y) ≡ true
-or_here true y is = refl
-or_here false y is = absurd cc
-
 -- where what passes the test of the wheel's actor and another has no entry of the wheel, nothing has
 free_of : (w : ℕ) (a : Actor) (m es : List Entry) → filter (is_ours (Wheel w ∷ (a ∷ []))) m ≡ es → IsFree es (Wheel w) → IsFree m (Wheel w)
 free_of w a m es is free =
-    sym (filter_within (λ e. has_actor e (Wheel w)) (is_ours (Wheel w ∷ (a ∷ []))) (λ e own. or_here (has_actor e (Wheel w)) (is_ours (a ∷ []) e) own) m)
+    sym (filter_within (λ e. has_actor e (Wheel w)) (is_ours (Wheel w ∷ (a ∷ []))) (λ e own. or_left (has_actor e (Wheel w)) (is_ours (a ∷ []) e) own) m)
     ∙ (ap (λ l. filter (λ e. has_actor e (Wheel w)) l) is ∙ free)
 
 cond_one : {X : Type 0} (b : Bool) (x : X) → cond b x x ≡ x
@@ -325,16 +322,12 @@ start_was g a by wheel start timer f m legal step exited =
     (exit_stays g start.dest (state g f) (step.before ++ spot.first) exited) in
     can.found ∙ still
 
-by_test : (b : Bool) → (b ≡ false → ⊥) → b ≡ true
-by_test true other = refl
-by_test false other = absurd (other refl)
-
 -- so its timer is settled at the end
 pub settled_in : (g : Settings) (a : Actor) (by wheel : ℕ) (start : Start) (answer : Result TimerRef StartErr) (f : List Entry) (p : Pass) → p.seat.me.0.settings ≡ Some g
     → (state g f).exited start.dest ≡ true → Grows (beside g a (Wheel wheel ∷ []) (Starts g by wheel start answer)) f (front_of p)
     → IfOk answer (λ timer. IsSettled (state g (front_of p)) timer)
 settled_in g a by wheel start (Ok timer) f p named exited call =
-    by_test (has_settled ((state g (front_of p)).status timer)) (λ isnt.
+    true_from_ne_false (has_settled ((state g (front_of p)).status timer)) (λ isnt.
     refute_by g p named (λ legal.
     let was = start_was g a by wheel start timer f call.piece (subst (Legal g) call.grown legal) call.made exited in
     let settled = starts_settle g a by wheel start timer f (front_of p) [] (subst (Legal g) (sym (append-nil (front_of p))) legal) call was in
