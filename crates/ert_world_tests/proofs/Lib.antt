@@ -1,2 +1,2 @@
 pub mod Counted
-mod Tidiness
+mod Orderliness

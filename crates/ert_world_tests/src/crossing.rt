@@ -1,5 +1,6 @@
 //! Four callers and two schedulers on one service, at once.
 ghost use Rattle.std.specs.Prelude.{OnOk};
+ghost use Rattle.std.specs.Arc.{arc_value};
 ghost use Rattle.ert_locks.specs.Names.{IsDesk};
 ghost use Rattle.ert_world.specs.Counted.{AreTidy};
 ghost use Rattle.ert_world.specs.Parts.{parts_of};
@@ -11,8 +12,8 @@ use crate::workers::{Answers, MORTAL, Totals, turns, work};
 use ert_answers::Taken;
 use ert_defs::{Mode, NoMemory, Reading, Settings};
 use ert_locks::{CallerSeat, DeskName, SchedSeat};
-use ert_world::{Counts, Parts, World};
 use ert_service::{Opened, Service};
+use ert_world::{Counts, Parts, World};
 use std::alloc::{AllocError, Global};
 use std::marker::Brand;
 use std::process::Abort;
@@ -48,8 +49,8 @@ fn cross<L: DeskName + Send + Sync, R: Threads + Wait + Abort + Sync>(
     alloc: Global,
     parts: Parts,
 ) -> Result<Crossed, NoMemory>
-    requires desk { IsDesk L.table L.settings parts.desk }
-    requires fit { AreFit parts.desk parts.pass (parts_of parts.keeper parts.wheels.items parts.inboxes.items parts.mails.items parts.scheds.items) }
+    requires desk { IsDesk L.table L.settings (arc_value parts.desk) }
+    requires fit { AreFit (arc_value parts.desk) parts.pass 1 (parts_of parts.keeper parts.wheels.items parts.inboxes.items parts.mails.items parts.scheds.items) }
 {
     let Opened {
         service,
@@ -112,7 +113,7 @@ fn scheds_of<L: DeskName>(
 }
 
 /// All turns that were made, the last ones too, so that no request waits and no timer that is due is armed.
-fn finish(world: &mut World, totals: &[Totals]) -> Result<Totals, NoMemory>
+fn finish(rt: &impl Abort, world: &mut World, totals: &[Totals]) -> Result<Totals, NoMemory>
     ensures { OnOk result (AreTidy world.new) }
 {
     let mut all = Totals::new();
@@ -120,9 +121,9 @@ fn finish(world: &mut World, totals: &[Totals]) -> Result<Totals, NoMemory>
         all.join(one);
     }
     for _ in 0..LAST_TURNS {
-        last_turns(world, &mut all)?;
+        last_turns(rt, world, &mut all)?;
     }
-    last_turns(world, &mut all)?;
+    last_turns(rt, world, &mut all)?;
     Ok(all)
 }
 
@@ -212,7 +213,7 @@ fn threads_cross(rt: HostRuntime) -> Result<(), NoMemory> {
         answers,
         totals,
     } = cross::<Brand, HostRuntime>(&rt, rt.alloc(), parts)?;
-    let totals = finish(&mut world, totals.as_slice())?;
+    let totals = finish(&rt, &mut world, totals.as_slice())?;
     let counts = world.counts();
     let answers = gather(&rt, rt.alloc(), &mut world, answers.as_slice())?;
     are_settled_once(&rt, rt.alloc(), &mut world, &answers)?;

@@ -1,5 +1,6 @@
 //! The examples of the documentation: `.ci/check_examples` looks that each stands here word for word.
 ghost use Rattle.std.specs.Prelude.{◌<◌};
+ghost use Rattle.std.specs.Arc.{arc_value};
 ghost use Rattle.ert_locks.specs.Names.{IsDesk};
 ghost use Rattle.ert_world.specs.Parts.{parts_of};
 ghost use Rattle.ert_world.specs.Worlds.{AreFit};
@@ -9,8 +10,8 @@ use ert_answers::Taken;
 use ert_calls::cancel_timer;
 use ert_defs::{Actor, Kind, Mail, Mode, NoMemory, Reading, Settings, Start, When};
 use ert_locks::{CallerSeat, DeskName};
-use ert_world::{Parts, World};
 use ert_service::{Opened, Service};
+use ert_world::{Parts, World};
 use std::alloc::Global;
 use std::marker::Brand;
 use std::process::Abort;
@@ -84,8 +85,8 @@ fn serve<L: DeskName, R: Wait + Abort>(
     alloc: Global,
     parts: Parts,
 ) -> Result<Option<u64>, NoMemory>
-    requires desk { IsDesk L.table L.settings parts.desk }
-    requires fit { AreFit parts.desk parts.pass (parts_of parts.keeper parts.wheels.items parts.inboxes.items parts.mails.items parts.scheds.items) }
+    requires desk { IsDesk L.table L.settings (arc_value parts.desk) }
+    requires fit { AreFit (arc_value parts.desk) parts.pass 1 (parts_of parts.keeper parts.wheels.items parts.inboxes.items parts.mails.items parts.scheds.items) }
 {
     let Opened {
         service,

@@ -1,8 +1,9 @@
 //! Worlds and a service whose slots are used more often than a round has uses.
+ghost use Rattle.std.specs.Arc.{arc_value};
 ghost use Rattle.ert_locks.specs.Names.{IsDesk};
-ghost use Rattle.ert_world.specs.Counted.{AreTidy};
 ghost use Rattle.ert_world.specs.Parts.{parts_of};
 ghost use Rattle.ert_world.specs.Worlds.{AreFit};
+ghost use Rattle.ert_world_tests.specs.Orderly.{IsOrderly};
 
 use crate::compare::same;
 use crate::service_calls::{
@@ -16,8 +17,8 @@ use ert_defs::{
     Kind, Mail, Mode, NoMemory, Reading, Settings, Start, TimerRef, USES_OF_ROUND, When,
 };
 use ert_locks::{CallerSeat, DeskName};
-use ert_world::{Parts, World};
 use ert_service::{Opened, Service};
+use ert_world::{Parts, World};
 use std::alloc::Global;
 use std::marker::Brand;
 use std::process::Abort;
@@ -66,8 +67,8 @@ const fn timer(generation: u64) -> TimerRef {
 /// Tries so often to start a timer, and cancels it. Where none can be started, a millisecond goes by. How often that
 /// was is told.
 fn use_slots(rt: &impl Abort, world: &mut World, tries: u32) -> u32
-    requires { AreTidy world.old }
-    ensures { AreTidy world.new }
+    requires { IsOrderly world.old }
+    ensures { IsOrderly world.new }
 {
     let mut refused: u32 = 0;
     for _ in 0..tries {
@@ -85,8 +86,8 @@ fn use_slots(rt: &impl Abort, world: &mut World, tries: u32) -> u32
 
 /// It is so many milliseconds after the start time from now on.
 fn pass(rt: &impl Abort, world: &mut World, milliseconds: u32)
-    requires { AreTidy world.old }
-    ensures { AreTidy world.new }
+    requires { IsOrderly world.old }
+    ensures { IsOrderly world.new }
 {
     let moved = tick(world, milliseconds as i64 * MILLISECOND);
     assert!(rt; moved.is_ok());
@@ -219,8 +220,8 @@ fn use_service<L: DeskName + Send + Sync, R: Threads + Wait + Abort + Sync>(
     alloc: Global,
     parts: Parts,
 ) -> Result<(World, u64), NoMemory>
-    requires desk { IsDesk L.table L.settings parts.desk }
-    requires fit { AreFit parts.desk parts.pass (parts_of parts.keeper parts.wheels.items parts.inboxes.items parts.mails.items parts.scheds.items) }
+    requires desk { IsDesk L.table L.settings (arc_value parts.desk) }
+    requires fit { AreFit (arc_value parts.desk) parts.pass 1 (parts_of parts.keeper parts.wheels.items parts.inboxes.items parts.mails.items parts.scheds.items) }
 {
     let Opened {
         service,
@@ -263,7 +264,7 @@ fn a_service_lasts(rt: HostRuntime) -> Result<(), NoMemory> {
     let parts = World::open(rt.alloc(), &FOUR_SLOTS)?.into_parts();
     let (mut world, started) = use_service::<Brand, HostRuntime>(&rt, rt.alloc(), parts)?;
     let mut totals = Totals::new();
-    last_turns(&mut world, &mut totals)?;
+    last_turns(&rt, &mut world, &mut totals)?;
     same(&rt, 0, &totals.fired, &0);
     same(&rt, 1, &world.counts().cancelled, &started);
     Ok(())

@@ -1,4 +1,5 @@
 //! Each call of a service once, on one thread.
+ghost use Rattle.std.specs.Arc.{arc_value};
 ghost use Rattle.ert_locks.specs.Names.{IsDesk};
 ghost use Rattle.ert_world.specs.Parts.{parts_of};
 ghost use Rattle.ert_world.specs.Worlds.{AreFit};
@@ -12,8 +13,8 @@ use ert_defs::{
     Kind, Mail, Mode, NoMemory, OffsetState, Reading, RequestKind, Settings, Start, TimerRef, When,
 };
 use ert_locks::{CallerSeat, DeskName, SchedSeat};
-use ert_world::{Counts, Parts, World};
 use ert_service::{Opened, Service};
+use ert_world::{Counts, Parts, World};
 use std::alloc::Global;
 use std::marker::Brand;
 use std::process::Abort;
@@ -251,8 +252,8 @@ fn each_call<L: DeskName, R: Wait + Abort>(
     alloc: Global,
     parts: Parts,
 ) -> Result<World, NoMemory>
-    requires desk { IsDesk L.table L.settings parts.desk }
-    requires fit { AreFit parts.desk parts.pass (parts_of parts.keeper parts.wheels.items parts.inboxes.items parts.mails.items parts.scheds.items) }
+    requires desk { IsDesk L.table L.settings (arc_value parts.desk) }
+    requires fit { AreFit (arc_value parts.desk) parts.pass 1 (parts_of parts.keeper parts.wheels.items parts.inboxes.items parts.mails.items parts.scheds.items) }
 {
     let Opened {
         service,
@@ -278,7 +279,7 @@ fn each_call_of_a_service(rt: HostRuntime) -> Result<(), NoMemory> {
     let parts = World::open(rt.alloc(), &SETTINGS)?.into_parts();
     let mut world = each_call::<Brand, HostRuntime>(&rt, rt.alloc(), parts)?;
     same(&rt, 0, &world.published(), &5_000_000);
-    last_turns(&mut world, &mut Totals::new())?;
+    last_turns(&rt, &mut world, &mut Totals::new())?;
     let counts = Counts {
         armed: 0,
         expired: 0,

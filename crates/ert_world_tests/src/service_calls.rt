@@ -8,8 +8,8 @@ use ert_answers::StartErr;
 use ert_calls::{cancel_timer, monotonic_time, system_time};
 use ert_defs::{Actor, NoMemory, Request, RequestKind, Start, TimerRef};
 use ert_locks::{CallerSeat, DeskName, SchedSeat};
-use ert_world::World;
 use ert_service::Service;
+use ert_world::World;
 use std::process::Abort;
 use std::sync::Wait;
 
@@ -116,10 +116,15 @@ pub(crate) fn are_scheds<L: DeskName>(
 }
 
 /// A last turn of every scheduler, added to what their turns did before.
-pub(crate) fn last_turns(world: &mut World, totals: &mut Totals) -> Result<(), NoMemory>
+pub(crate) fn last_turns(
+    rt: &impl Abort,
+    world: &mut World,
+    totals: &mut Totals,
+) -> Result<(), NoMemory>
     ensures { OnOk result (AreTidy world.new) }
 {
     for sched in 0..world.settings().schedulers {
+        assert!(rt; world.seats() == 0);
         let turned = world.last_turn(sched)?;
         totals.add(&turned);
     }

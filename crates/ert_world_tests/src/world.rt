@@ -1,7 +1,6 @@
 //! What no scenario can show of a world: readings that aren't valid, the steps of an exit, the words of its
-//! desk, its parts, its labels and its counts.
-ghost use Rattle.std.specs.Prelude.{◌≡◌, []};
-ghost use Rattle.ert_world.specs.Counted.{AreTidy};
+//! desk, its parts and its counts.
+ghost use Rattle.ert_world_tests.specs.Orderly.{IsOrderly};
 
 use crate::compare::same;
 use crate::world_calls::open;
@@ -12,6 +11,7 @@ use ert_defs::{Mail, Mode, NoMemory, Reading, RequestKind, Settings, TimerRef, W
 use ert_world::{Counts, World};
 use std::alloc::Global;
 use std::process::Abort;
+use std::sync::Arc;
 
 /// One of each.
 const SMALL: Settings = Settings {
@@ -121,8 +121,13 @@ fn has_words(
     world: World,
     time: u64,
     timer: u64,
-) -> Result<(), NoMemory> {
+) -> Result<(), NoMemory>
+    requires { IsOrderly world }
+{
     let (desk, pass) = world.into_desk();
+    let Ok(desk) = Arc::try_unwrap(desk) else {
+        panic!(rt; "the desk is shared");
+    };
     let words = desk.close(alloc, pass)?;
     same(rt, 0, &words.time, &time);
     same(rt, 1, &words.offset, &9_223_372_036_854_775_809);
@@ -170,8 +175,8 @@ fn a_timer_has_a_word(rt: HostRuntime) -> Result<(), NoMemory> {
 
 /// Takes a world apart and puts it together.
 fn rebuild(rt: &impl Abort, world: World) -> World
-    requires { AreTidy world }
-    ensures { AreTidy result }
+    requires { IsOrderly world }
+    ensures { IsOrderly result }
 {
     let parts = world.into_parts();
     same(rt, 0, &parts.settings, &LARGE);
@@ -215,22 +220,6 @@ fn a_world_is_taken_apart(rt: HostRuntime) -> Result<(), NoMemory> {
         Step::Read(Q, None),
     ];
     go(&rt, &mut world, &steps);
-    Ok(())
-}
-
-/// Binds a label in a world that has none.
-fn bind_one(world: &mut World, label: u32, timer: TimerRef) -> Result<(), NoMemory>
-    requires { world.old.labels ≡ [] }
-{
-    world.bind(label, timer)
-}
-
-#[test]
-fn a_label_is_bound(rt: HostRuntime) -> Result<(), NoMemory> {
-    assert!(rt; SMALL.check().is_ok());
-    let mut world = World::open(rt.alloc(), &SMALL)?;
-    bind_one(&mut world, 5, FIRST)?;
-    same(&rt, 0, &world.labels(), &[(5, FIRST)].as_slice());
     Ok(())
 }
 

@@ -1,6 +1,6 @@
-//! Each call of a world whose wheels are tidy. What a caller has to know is looked up first.
+//! Each call of an orderly world. What a caller has to know is looked up first.
 ghost use Rattle.std.specs.Prelude.{◌<◌, IfOk};
-ghost use Rattle.ert_world.specs.Counted.{AreTidy};
+ghost use Rattle.ert_world_tests.specs.Orderly.{IsOrderly};
 
 use ert_answers::{StartErr, Taken, Turned};
 use ert_clock::{ClockErr, Moved};
@@ -11,7 +11,7 @@ use std::process::Abort;
 
 /// A world that was just opened.
 pub(crate) fn open(rt: &impl Abort, alloc: Global, settings: &Settings) -> Result<World, NoMemory>
-    ensures { IfOk result AreTidy }
+    ensures { IfOk result IsOrderly }
 {
     assert!(rt; settings.check().is_ok());
     World::open(alloc, settings)
@@ -30,65 +30,65 @@ fn is_process(rt: &impl Abort, world: &World, process: u32)
 }
 
 /// A reading of OS system time alone.
-#[tactic(auto, using(crate::proofs::Tidiness::still_tidy))]
+#[tactic(auto, using(crate::proofs::Orderliness::still_orderly))]
 pub(crate) fn tick(world: &mut World, sys: i64) -> Result<Moved, ClockErr>
-    requires { AreTidy world.old }
-    ensures { AreTidy world.new }
+    requires { IsOrderly world.old }
+    ensures { IsOrderly world.new }
 {
     world.tick(Reading { mono: 0, sys }, false)
 }
 
-#[tactic(auto, using(crate::proofs::Tidiness::still_tidy))]
+#[tactic(auto, using(crate::proofs::Orderliness::still_orderly))]
 pub(crate) fn start(
     rt: &impl Abort,
     world: &mut World,
     wheel: u32,
     start: &Start,
 ) -> Result<TimerRef, StartErr>
-    requires { AreTidy world.old }
-    ensures { AreTidy world.new }
+    requires { IsOrderly world.old }
+    ensures { IsOrderly world.new }
 {
     is_scheduler(rt, world, wheel);
     is_process(rt, world, start.dest);
     world.start(wheel, start)
 }
 
-#[tactic(auto, using(crate::proofs::Tidiness::still_tidy))]
+#[tactic(auto, using(crate::proofs::Orderliness::still_orderly))]
 pub(crate) fn cancel(world: &mut World, timer: TimerRef) -> Option<u64>
-    requires { AreTidy world.old }
-    ensures { AreTidy world.new }
+    requires { IsOrderly world.old }
+    ensures { IsOrderly world.new }
 {
     world.cancel_timer(timer)
 }
 
-#[tactic(auto, using(crate::proofs::Tidiness::still_tidy))]
+#[tactic(auto, using(crate::proofs::Orderliness::still_orderly))]
 pub(crate) fn read(world: &mut World, timer: TimerRef) -> Option<u64>
-    requires { AreTidy world.old }
-    ensures { AreTidy world.new }
+    requires { IsOrderly world.old }
+    ensures { IsOrderly world.new }
 {
     world.read_timer(timer)
 }
 
-#[tactic(auto, using(crate::proofs::Tidiness::still_tidy))]
+#[tactic(auto, using(crate::proofs::Orderliness::still_orderly))]
 pub(crate) fn mark_exit(rt: &impl Abort, world: &mut World, process: u32) -> bool
-    requires { AreTidy world.old }
-    ensures { AreTidy world.new }
+    requires { IsOrderly world.old }
+    ensures { IsOrderly world.new }
 {
     is_process(rt, world, process);
     world.mark_exit(process)
 }
 
-#[tactic(auto, using(crate::proofs::Tidiness::still_tidy))]
+#[tactic(auto, using(crate::proofs::Orderliness::still_orderly))]
 pub(crate) fn exit(rt: &impl Abort, world: &mut World, process: u32) -> bool
-    requires { AreTidy world.old }
-    ensures { AreTidy world.new }
+    requires { IsOrderly world.old }
+    ensures { IsOrderly world.new }
 {
     is_process(rt, world, process);
     world.exit(process)
 }
 
 /// Asks for a cancel or a read of a timer, with an answer to the process.
-#[tactic(auto, using(crate::proofs::Tidiness::still_tidy))]
+#[tactic(auto, using(crate::proofs::Orderliness::still_orderly))]
 pub(crate) fn ask(
     rt: &impl Abort,
     world: &mut World,
@@ -96,8 +96,8 @@ pub(crate) fn ask(
     timer: TimerRef,
     reply_to: u32,
 ) -> Result<(), NoMemory>
-    requires { AreTidy world.old }
-    ensures { AreTidy world.new }
+    requires { IsOrderly world.old }
+    ensures { IsOrderly world.new }
 {
     is_process(rt, world, reply_to);
     world.ask(Request {
@@ -108,61 +108,61 @@ pub(crate) fn ask(
     })
 }
 
-#[tactic(auto, using(crate::proofs::Tidiness::still_tidy))]
+#[tactic(auto, using(crate::proofs::Orderliness::still_orderly))]
 pub(crate) fn take(rt: &impl Abort, world: &mut World, process: u32) -> Taken
-    requires { AreTidy world.old }
-    ensures { AreTidy world.new }
+    requires { IsOrderly world.old }
+    ensures { IsOrderly world.new }
 {
     is_process(rt, world, process);
     world.take(process)
 }
 
-#[tactic(auto, using(crate::proofs::Tidiness::still_tidy))]
+#[tactic(auto, using(crate::proofs::Orderliness::still_orderly))]
 pub(crate) fn serve(rt: &impl Abort, world: &mut World, sched: u32) -> Result<bool, NoMemory>
-    requires { AreTidy world.old }
-    ensures { AreTidy world.new }
+    requires { IsOrderly world.old }
+    ensures { IsOrderly world.new }
 {
     is_scheduler(rt, world, sched);
     world.serve(sched)
 }
 
-#[tactic(auto, using(crate::proofs::Tidiness::still_tidy))]
+#[tactic(auto, using(crate::proofs::Orderliness::still_orderly))]
 pub(crate) fn advance(
     rt: &impl Abort,
     world: &mut World,
     sched: u32,
 ) -> Result<(u64, u32), NoMemory>
-    requires { AreTidy world.old }
-    ensures { AreTidy world.new }
+    requires { IsOrderly world.old }
+    ensures { IsOrderly world.new }
 {
     is_scheduler(rt, world, sched);
     world.advance(sched)
 }
 
-#[tactic(auto, using(crate::proofs::Tidiness::still_tidy))]
+#[tactic(auto, using(crate::proofs::Orderliness::still_orderly))]
 pub(crate) fn deliver(
     rt: &impl Abort,
     world: &mut World,
     sched: u32,
 ) -> Result<(u32, u32), NoMemory>
-    requires { AreTidy world.old }
-    ensures { AreTidy world.new }
+    requires { IsOrderly world.old }
+    ensures { IsOrderly world.new }
 {
     is_scheduler(rt, world, sched);
     world.deliver(sched)
 }
 
 pub(crate) fn turn(rt: &impl Abort, world: &mut World, sched: u32) -> Result<Turned, NoMemory>
-    requires { AreTidy world.old }
-    ensures { AreTidy world.new }
+    requires { IsOrderly world.old }
+    ensures { IsOrderly world.new }
 {
     is_scheduler(rt, world, sched);
     world.turn(sched)
 }
 
 pub(crate) fn last_turn(rt: &impl Abort, world: &mut World, sched: u32) -> Result<Turned, NoMemory>
-    requires { AreTidy world.old }
-    ensures { AreTidy world.new }
+    requires { IsOrderly world.old }
+    ensures { IsOrderly world.new }
 {
     is_scheduler(rt, world, sched);
     world.last_turn(sched)

@@ -1,5 +1,5 @@
-//! Steps of a world whose wheels are tidy: a call, its arguments, and last its answer.
-ghost use Rattle.ert_world.specs.Counted.{AreTidy};
+//! Steps of an orderly world: a call, its arguments, and last its answer.
+ghost use Rattle.ert_world_tests.specs.Orderly.{IsOrderly};
 
 use crate::compare::same;
 use crate::world_calls::{
@@ -40,8 +40,8 @@ pub(crate) enum Step {
 
 /// Makes each call in turn.
 pub(crate) fn go(rt: &impl Abort, world: &mut World, steps: &[Step])
-    requires { AreTidy world.old }
-    ensures { AreTidy world.new }
+    requires { IsOrderly world.old }
+    ensures { IsOrderly world.new }
 {
     for (at, step) in steps.iter().enumerate() {
         go_on(rt, world, at, step);
@@ -49,8 +49,8 @@ pub(crate) fn go(rt: &impl Abort, world: &mut World, steps: &[Step])
 }
 
 fn go_on(rt: &impl Abort, world: &mut World, at: usize, step: &Step)
-    requires { AreTidy world.old }
-    ensures { AreTidy world.new }
+    requires { IsOrderly world.old }
+    ensures { IsOrderly world.new }
 {
     match *step {
         Step::Tick(sys, now) => same(rt, at, &tick(world, sys), &Ok(Moved { now, shift: None })),
