@@ -1,5 +1,6 @@
 //! A service of several threads. A row's time is that of a pass by the calls of all its threads.
 ghost use Rattle.std.specs.Prelude.{◌<◌, ◌≤◌, IfOk};
+ghost use Rattle.std.specs.Arc.{arc_value};
 ghost use Rattle.ert_locks.specs.Names.{IsDesk};
 ghost use Rattle.ert_world.specs.Parts.{parts_of};
 ghost use Rattle.ert_world.specs.Worlds.{AreFit};
@@ -11,8 +12,8 @@ use ert_calls::{cancel_timer, monotonic_time};
 use ert_defs::{Actor, Kind, Mode, Reading, Settings, Start, When};
 use ert_io::OsClock;
 use ert_locks::{CallerSeat, DeskName};
-use ert_world::{Parts, World};
 use ert_service::{Opened, Service};
+use ert_world::{Parts, World};
 use std::alloc::Global;
 use std::marker::Brand;
 use std::sync::Wait;
@@ -75,7 +76,7 @@ impl Job {
 /// The parts of a service for so many callers, with four wheels.
 fn open(alloc: Global, callers: u32) -> Result<Parts, BenchErr>
     requires { (1 ≤ callers) × (callers ≤ 17) }
-    ensures { IfOk result (λ parts. AreFit parts.desk parts.pass
+    ensures { IfOk result (λ parts. AreFit (arc_value parts.desk) parts.pass 1
         (parts_of parts.keeper parts.wheels.items parts.inboxes.items parts.mails.items parts.scheds.items)) }
 {
     let settings = Settings {
@@ -112,8 +113,8 @@ fn measure_on<L: DeskName + Send + Sync, R: AllocGlobal + Threads + Wait + Sync,
     job: Job,
     mut passes: Passes,
 ) -> Result<Passes, BenchErr>
-    requires desk { IsDesk L.table L.settings parts.desk }
-    requires fit { AreFit parts.desk parts.pass (parts_of parts.keeper parts.wheels.items parts.inboxes.items parts.mails.items parts.scheds.items) }
+    requires desk { IsDesk L.table L.settings (arc_value parts.desk) }
+    requires fit { AreFit (arc_value parts.desk) parts.pass 1 (parts_of parts.keeper parts.wheels.items parts.inboxes.items parts.mails.items parts.scheds.items) }
 {
     let Opened {
         service,
