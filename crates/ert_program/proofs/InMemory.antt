@@ -4,10 +4,9 @@ use Rattle.std.proofs.Common.{◌≡◌, ◌≤◌, ◌⊎◌, ℕ, Bool, false,
 use Rattle.std.specs.Prelude.{IsSomeAnd}
 use Rattle.ert_io.specs.Faults.{Rose}
 use Rattle.ert_io.specs.Told.{Told, told, took}
+use Rattle.ert_race.specs.Written.{Returned}
 use Rattle.ert_scenario.specs.Scenarios.{Plan, IsScenario, HasRefusal}
 use Rattle.ert_scenario.specs.declared.scenario.ScenarioErr.{ScenarioErr}
-use Rattle.ert_table.specs.declared.desk.Desk.{Desk}
-use Rattle.ert_table.specs.declared.desk.Pass.{Pass}
 use Rattle.ert_program.specs.Inputs.{TakesAll}
 use Rattle.ert_program.specs.Runs.{transcript, Did, InputFits}
 use Rattle.ert_program.specs.declared.ending.Ended.{Ended}
@@ -29,7 +28,7 @@ all_taken text bytes (Some later) takes =
     sym (same ∙ ap (λ (xs : List ℕ). bytes ++ xs) takes.end ∙ append-nil bytes)
 
 -- what was done is the scenario that the text is
-did_it : (text : List ℕ) (plan : Plan) (rest : Option (List ℕ)) (old new : Told) (r : Option (Desk × Pass)) → OneScenario → IsScenario false text plan
+did_it : (text : List ℕ) (plan : Plan) (rest : Option (List ℕ)) (old new : Told) (r : Option Returned) → OneScenario → IsScenario false text plan
     → IsSomeAnd r (Did (Some text) rest old new) → new ≡ took old (transcript plan)
 did_it text plan rest old new None one is did = absurd did
 did_it text plan rest old new (Some r) one is did =
@@ -37,7 +36,7 @@ did_it text plan rest old new (Some r) one is did =
     subst (λ (p : Plan). new ≡ took old (transcript p)) (one false text did.plan plan there is) did.ran.took
 
 -- the text is what was done
-text_is : (text : List ℕ) (rest : Option (List ℕ)) (old new : Told) (r : Option (Desk × Pass)) → IsSomeAnd r (Did (Some text) rest old new)
+text_is : (text : List ℕ) (rest : Option (List ℕ)) (old new : Told) (r : Option Returned) → IsSomeAnd r (Did (Some text) rest old new)
     → (plan : Plan) × IsScenario false text plan
 text_is text rest old new None did = absurd did
 text_is text rest old new (Some r) did =
@@ -64,7 +63,7 @@ ends_in_memory left left_new taken taken_new room room_new e plan one done compl
     ]
 
 -- a run that was done into an empty sink tells the room that the input needs
-told_room : (text bytes : List ℕ) (rest : Option (List ℕ)) (room : Option ℕ) (r : Option (Desk × Pass)) → OneScenario → NeverBoth
+told_room : (text bytes : List ℕ) (rest : Option (List ℕ)) (room : Option ℕ) (r : Option Returned) → OneScenario → NeverBoth
     → IsSomeAnd r (Did (Some text) rest (told (Some []) None) (told (Some bytes) room)) → InputFits (Some text) (Some (length bytes))
 told_room text bytes rest room r one never did = record {
   done = λ left others plan takes is.
@@ -79,7 +78,7 @@ told_room text bytes rest room r one never did = record {
       absurd (never false text found.0 why found.1 (subst (λ (b : List ℕ). HasRefusal false b why) (all_taken text others left takes) has));
 }
 
-pub room_told : (text bytes : List ℕ) (left rest taken taken_new : Option (List ℕ)) (room : Option ℕ) (r : Option (Desk × Pass)) → OneScenario → NeverBoth
+pub room_told : (text bytes : List ℕ) (left rest taken taken_new : Option (List ℕ)) (room : Option ℕ) (r : Option Returned) → OneScenario → NeverBoth
     → left ≡ Some text → taken ≡ Some [] → taken_new ≡ Some bytes → IsSomeAnd r (Did left rest (told taken None) (told taken_new room))
     → InputFits (Some text) (Some (length bytes))
 room_told text bytes left rest taken taken_new room r one never here none there did =

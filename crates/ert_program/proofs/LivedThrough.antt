@@ -1,5 +1,6 @@
 -- Readings that a world lived through.
 
+use Rattle.std.specs.Arc.{arc_value}
 use Rattle.std.proofs.Common.{◌≡◌, ◌<◌, ◌+◌, ℕ, ℤ, List, [], ◌∷◌, ◌++◌, length, length-append, Option, None, Some, refl, inl, inr, sym, ap, subst, ◌∙◌, append_assoc, append-nil, arith}
 use Rattle.ert_answers.specs.Ways.{Way, alone}
 use Rattle.ert_defs.specs.Lines.{Face}
@@ -11,14 +12,13 @@ use Rattle.ert_io.specs.Faults.{Rose}
 use Rattle.ert_io.specs.Readings.{reading_before}
 use Rattle.ert_ops.specs.declared.op.Op.{Op}
 use Rattle.ert_ops.specs.declared.op.Op.TheVariants as ops
+use Rattle.ert_race.specs.Written.{Returned}
 use Rattle.ert_world.specs.Lived.{IsLived}
 use Rattle.ert_world.specs.Openings.{IsOpened}
 use Rattle.ert_world.specs.Worlds.{Seen}
 use Rattle.ert_script.proofs.Runs.{runs_none, runs_more}
 use Rattle.ert_script.specs.Scripts.{Does, Runs}
 use Rattle.ert_table.specs.Desks.{settings_of, KnowsAll}
-use Rattle.ert_table.specs.declared.desk.Desk.{Desk}
-use Rattle.ert_table.specs.declared.desk.Pass.{Pass}
 use Rattle.ert_transcript.specs.Calls.{Calls}
 use Rattle.ert_transcript.specs.Labels.{Labels}
 use Rattle.ert_transcript.specs.Texts.{end_line}
@@ -66,8 +66,8 @@ lived_first first start w text opened tells = record {
   start = start;
   opened = opened;
   replies = replies.Time tells.now ∷ replies.System tells.time ∷ [];
-  runs = runs_more start tells.mid w (ops.Time ∷ []) (replies.Time tells.now ∷ []) ops.System (replies.System tells.time)
-      (runs_more start start tells.mid [] [] ops.Time (replies.Time tells.now) (runs_none start) tells.first) tells.second;
+  runs = runs_more start tells.mid w [] [] [] (ops.Time ∷ []) (replies.Time tells.now ∷ []) ops.System (replies.System tells.time)
+      (runs_more start start tells.mid [] [] [] [] [] ops.Time (replies.Time tells.now) (runs_none start []) (tells.first.with [])) (tells.second.with []);
   stands = tells.stands;
   reads = tells.writes ∙ ap (λ (t : List ℕ). live_part (replies.Time tells.now) ++ t) (sym (append-nil (live_part (replies.System tells.time))));
 }
@@ -78,21 +78,23 @@ pub lived_more : (first : Reading) (others : List Reading) (r : Reading) (w v u 
 lived_more first others r w v u reply text text_new lived ticked tells =
     let list : List Op = ops.Time ∷ ops.System ∷ live_ops others in
     let rs : List Reply = lived.replies in
-    let one = runs_more lived.start w v list rs (ops.Tick r.mono r.sys) reply lived.runs ticked in
-    let two = runs_more lived.start v tells.mid (list ++ ops.Tick r.mono r.sys ∷ []) (rs ++ reply ∷ []) ops.Time (replies.Time tells.now) one tells.first in
-    let three = runs_more lived.start tells.mid u ((list ++ ops.Tick r.mono r.sys ∷ []) ++ ops.Time ∷ []) ((rs ++ reply ∷ []) ++ replies.Time tells.now ∷ [])
-    ops.System (replies.System tells.time) two tells.second in
+    let tick = ticked.with [] in
+    let one = runs_more lived.start w v [] [] [] list rs (ops.Tick r.mono r.sys) reply lived.runs tick in
+    let two = runs_more lived.start v tells.mid [] [] [] (list ++ ops.Tick r.mono r.sys ∷ []) (rs ++ reply ∷ []) ops.Time (replies.Time tells.now) one
+    (tells.first.with []) in
+    let three = runs_more lived.start tells.mid u [] [] [] ((list ++ ops.Tick r.mono r.sys ∷ []) ++ ops.Time ∷ []) ((rs ++ reply ∷ []) ++ replies.Time tells.now ∷ [])
+    ops.System (replies.System tells.time) two (tells.second.with []) in
     let all : List Reply = ((rs ++ reply ∷ []) ++ replies.Time tells.now ∷ []) ++ replies.System tells.time ∷ [] in
     record {
       start = lived.start;
       opened = lived.opened;
       replies = all;
-      runs = subst (λ (more : List Op). Runs lived.start (ops.Time ∷ ops.System ∷ more) all u) (sym (live_ops_more others r)) three;
+      runs = subst (λ (more : List Op). Runs lived.start [] (ops.Time ∷ ops.System ∷ more) all u []) (sym (live_ops_more others r)) three;
       stands = tells.stands;
       reads = tells.writes
           ∙ ap (λ (t : List ℕ). t ++ (live_part (replies.Time tells.now) ++ live_part (replies.System tells.time))) lived.reads
           ∙ sym (three_more rs reply (replies.Time tells.now) (replies.System tells.time)
-          (tick_prints w.settings (alone w.settings) 0 w.labels r.mono r.sys reply w.history ticked.grows.piece ticked.grows.made));
+          (tick_prints w.settings (alone w.settings) 0 [] r.mono r.sys reply w.history tick.grows.piece tick.grows.made));
     }
 
 -- its history is a script run of their ops
@@ -100,9 +102,9 @@ abbrev pub is_live : (first : Reading) (others : List Reading) (w : Seen) (text 
 is_live first others w text lived = record {
   entries = lived.runs.grows.piece;
   replies = lived.replies;
-  labels = w.labels;
-  legal = (stands_for (live_settings first) lived.start w (ops.Time ∷ ops.System ∷ live_ops others) lived.replies lived.opened lived.runs lived.stands).clock.legal;
-  runs = script_of (live_settings first) lived.start w (ops.Time ∷ ops.System ∷ live_ops others) lived.replies lived.opened lived.runs;
+  labels = [];
+  legal = (stands_for (live_settings first) lived.start w (ops.Time ∷ ops.System ∷ live_ops others) lived.replies [] lived.opened lived.runs lived.stands).clock.legal;
+  runs = script_of (live_settings first) lived.start w (ops.Time ∷ ops.System ∷ live_ops others) lived.replies [] lived.opened lived.runs;
   reads = lived.reads;
 }
 
@@ -205,14 +207,14 @@ refused_later n c d count now w lines text bad below far given not whole =
       whole = whole ∙ ap (λ (k : ℕ). lines ++ refused_reading (k + 1)) (sym before);
     })
 
-pub watched_all : (n : ℕ) (c d : Clock) (count : ℕ) (w : Seen) (lines text : List ℕ) (r : Desk × Pass) → count ≡ n
+pub watched_all : (n : ℕ) (c d : Clock) (count : ℕ) (w : Seen) (lines text : List ℕ) (r : Returned) → count ≡ n
     → IsWatched count c.left d.left w lines → text ≡ lines ++ end_line w.clock.face.time
-    → settings_of r.0 ≡ w.settings → KnowsAll r.0 r.1 w.history → IsLived w.settings w.history
+    → settings_of (arc_value r.0) ≡ w.settings → KnowsAll (arc_value r.0) r.1 w.history → IsLived w.settings w.history
     → Watched n c d (record { status = Done; desk = Some r }) text
 watched_all n c d count w lines text r all far whole named knows lived =
     let first : Reading = far.first in
     let has : Lived first far.others w lines = far.lived in
-    let there = stands_for (live_settings first) has.start w (ops.Time ∷ ops.System ∷ live_ops far.others) has.replies has.opened has.runs has.stands in
+    let there = stands_for (live_settings first) has.start w (ops.Time ∷ ops.System ∷ live_ops far.others) has.replies [] has.opened has.runs has.stands in
     let made : LiveDone n c.left d.left text r = record {
       first = first;
       others = far.others;
@@ -223,7 +225,7 @@ watched_all n c d count w lines text r all far whole named knows lived =
       is = is_live first far.others w lines has;
       whole = whole ∙ ap (λ (f : Face). lines ++ end_line f.time) there.clock.face;
       settings = named ∙ there.settings;
-      history = subst (λ (h : List Entry). KnowsAll r.0 r.1 h) there.history knows;
+      history = subst (λ (h : List Entry). KnowsAll (arc_value r.0) r.1 h) there.history knows;
       lived = subst (λ (g : Settings). IsLived g has.runs.grows.piece) there.settings (subst (λ (h : List Entry). IsLived w.settings h) there.history lived);
     } in
     record {

@@ -8,13 +8,12 @@ use Rattle.ert_io.specs.Faults.{Rose}
 use Rattle.ert_io.specs.Told.{took, TakesFront}
 use Rattle.ert_lines.specs.declared.output.RunErr.{RunErr}
 use Rattle.ert_lines.specs.declared.output.RunErr.TheVariants.{WriteFault as OutputFailed, NoMemory as OutOfMemory}
-use Rattle.ert_table.specs.declared.desk.Desk.{Desk}
-use Rattle.ert_table.specs.declared.desk.Pass.{Pass}
 use Rattle.ert_program.specs.Refusals.{usage_line}
 use Rattle.ert_program.specs.Streams.{Output}
 use Rattle.ert_program.specs.declared.ending.EndStatus.{EndStatus}
 use Rattle.ert_program.specs.declared.ending.Ended.{Ended}
 use Rattle.ert_program.specs.declared.ending.EndStatus.TheVariants.{Done, Usage, Refused, ReadFault, WriteFault, ClockFault, NoMemory, TooLong}
+use Rattle.ert_race.specs.Written.{Returned}
 
 -- the number of a status
 abbrev pub code_of : EndStatus → ℕ
@@ -32,7 +31,7 @@ abbrev pub without_desk : EndStatus → Ended
 without_desk status = record { status = status; desk = None }
 
 -- the end of a run: its desk is there where it is done
-abbrev pub end_of : Result (Desk × Pass) RunErr → Ended
+abbrev pub end_of : Result Returned RunErr → Ended
 end_of (Ok returned) = record { status = Done; desk = Some returned }
 end_of (Err OutputFailed) = without_desk WriteFault
 end_of (Err OutOfMemory) = without_desk NoMemory

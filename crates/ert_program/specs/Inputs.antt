@@ -4,10 +4,9 @@ use Rattle.std.specs.Prelude.{◌≡◌, ◌≢◌, ◌≤◌, ◌⊎◌, ℕ, B
 use Rattle.ert_io.specs.Faults.{Rose}
 use Rattle.ert_io.specs.Known.{before, IsAtEnd, TakesUpTo}
 use Rattle.ert_io.specs.Told.{Told, took, TakesFront}
+use Rattle.ert_race.specs.Written.{Returned}
 use Rattle.ert_scenario.specs.Scenarios.{Plan, IsScenario, HasRefusal}
 use Rattle.ert_scenario.specs.declared.scenario.ScenarioErr.{ScenarioErr}
-use Rattle.ert_table.specs.declared.desk.Desk.{Desk}
-use Rattle.ert_table.specs.declared.desk.Pass.{Pass}
 use Rattle.ert_program.specs.Refusals.{refusal_line}
 use Rattle.ert_program.specs.Streams.{Input, Output}
 use Rattle.ert_program.specs.declared.ending.Ended.{Ended}
@@ -15,7 +14,7 @@ use Rattle.ert_program.specs.declared.ending.EndStatus.TheVariants.{Done, Usage,
 
 -- a plan was run on a desk, and all that it asks for was written
 abbrev pub Ran : Type 1
-Ran = Plan → Told → Told → Desk × Pass → Type 0
+Ran = Plan → Told → Told → Returned → Type 0
 
 -- a first part of what a plan asks for was written
 abbrev pub Began : Type 1
@@ -34,7 +33,7 @@ pub record TakesMore (left left_new : Option (List ℕ)) : Type 0 where
   pub taken : left ≡ before bytes left_new
 
 -- all bytes were read, they are a scenario, with a race or without as is wanted, and it was run
-pub record DidAll (race : Bool) (runs : Ran) (left left_new : Option (List ℕ)) (old new : Told) (r : Desk × Pass) : Type 0 where
+pub record DidAll (race : Bool) (runs : Ran) (left left_new : Option (List ℕ)) (old new : Told) (r : Returned) : Type 0 where
   pub bytes : List ℕ
   pub takes : TakesAll left left_new bytes
   pub plan : Plan

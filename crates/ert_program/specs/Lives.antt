@@ -1,5 +1,6 @@
 -- What `live` leaves.
 
+use Rattle.std.specs.Arc.{arc_value}
 use Rattle.std.specs.Prelude.{◌≡◌, ◌≢◌, ◌<◌, ◌+◌, ◌⊎◌, ℕ, ℤ, pos, true, List, [], ◌∷◌, ◌++◌, length, codes, decimal, Option, Some, None, option_map, IsSomeAnd}
 use Rattle.std.specs.Fmt.{signed_decimal}
 use Rattle.ert_answers.specs.Ways.{alone}
@@ -14,13 +15,12 @@ use Rattle.ert_io.specs.Faults.{Rose}
 use Rattle.ert_io.specs.Told.{took, TakesFront}
 use Rattle.ert_ops.specs.declared.op.Op.{Op}
 use Rattle.ert_ops.specs.declared.op.Op.TheVariants as ops
+use Rattle.ert_race.specs.Written.{Returned}
 use Rattle.ert_world.specs.Lived.{IsLived}
 use Rattle.ert_world.specs.Openings.{IsOpened}
 use Rattle.ert_world.specs.Worlds.{Seen, StandsFor}
 use Rattle.ert_script.specs.Scripts.{Does, Runs}
 use Rattle.ert_table.specs.Desks.{settings_of, KnowsAll}
-use Rattle.ert_table.specs.declared.desk.Desk.{Desk}
-use Rattle.ert_table.specs.declared.desk.Pass.{Pass}
 use Rattle.ert_transcript.specs.Labels.{Labels}
 use Rattle.ert_transcript.specs.Scripts.{Script}
 use Rattle.ert_transcript.specs.Texts.{◌⋅◌, end_line}
@@ -80,7 +80,7 @@ readings_before taken known = option_map (λ later. taken ++ later) known
 
 -- n valid readings were taken; the text is their lines and the end line, and the pass has every actor and
 -- for its history just the entries of their script run
-pub record LiveDone (n : ℕ) (left left_new : Option (List Reading)) (text : List ℕ) (r : Desk × Pass) : Type 0 where
+pub record LiveDone (n : ℕ) (left left_new : Option (List Reading)) (text : List ℕ) (r : Returned) : Type 0 where
   pub first : Reading
   pub others : List Reading
   pub lines : List ℕ
@@ -89,8 +89,8 @@ pub record LiveDone (n : ℕ) (left left_new : Option (List Reading)) (text : Li
   pub valid : AreValid (first ∷ others)
   pub is : IsLive first others lines
   pub whole : text ≡ lines ⋅ end_line (state (live_settings first) is.entries).clock.now
-  pub settings : settings_of r.0 ≡ live_settings first
-  pub history : KnowsAll r.0 r.1 is.entries
+  pub settings : settings_of (arc_value r.0) ≡ live_settings first
+  pub history : KnowsAll (arc_value r.0) r.1 is.entries
   pub lived : IsLived (live_settings first) is.entries
 
 -- fewer than n valid readings were taken, and then one that isn't valid; the text is the lines of the valid
@@ -152,7 +152,7 @@ pub record Lived (first : Reading) (others : List Reading) (w : Seen) (text : Li
   pub start : Seen
   pub opened : IsOpened (live_settings first) start
   pub replies : List Reply
-  pub runs : Runs start (ops.Time ∷ ops.System ∷ live_ops others) replies w
+  pub runs : Runs start [] (ops.Time ∷ ops.System ∷ live_ops others) replies w []
   pub stands : StandsFor w.settings w.history w
   pub reads : text ≡ live_lines replies
 

@@ -3,17 +3,15 @@
 use Rattle.std.specs.Prelude.{◌≡◌, ℕ, true, List, Option, Some}
 use Rattle.ert_io.specs.Told.{Told}
 use Rattle.ert_ops.specs.Races.{Race}
-use Rattle.ert_race.specs.Written.{RacesOn, StopsRace}
+use Rattle.ert_race.specs.Written.{Returned, RacesOn, StopsRace}
 use Rattle.ert_scenario.specs.Scenarios.{Plan}
-use Rattle.ert_table.specs.declared.desk.Desk.{Desk}
-use Rattle.ert_table.specs.declared.desk.Pass.{Pass}
 use Rattle.ert_program.specs.Inputs.{DidAll, StopsAt, InputEnds}
 use Rattle.ert_program.specs.Streams.{Input, Output}
 use Rattle.ert_program.specs.declared.ending.Ended.{Ended}
 
 -- the race of a plan was run on a desk: what was written is the report of an outcome, whose history is that of
 -- the desk
-pub record RacesPlan (plan : Plan) (old new : Told) (r : Desk × Pass) : Type 0 where
+pub record RacesPlan (plan : Plan) (old new : Told) (r : Returned) : Type 0 where
   pub race : Race
   pub has : plan.race ≡ Some race
   pub ran : RacesOn plan.settings plan.ops race old new r
@@ -25,7 +23,7 @@ pub record StopsPlan (plan : Plan) (old new : Told) : Type 0 where
   pub writes : StopsRace plan.settings plan.ops race old new
 
 -- all bytes were read, they are a scenario with a race, and that was run
-abbrev pub DidRace : Option (List ℕ) → Option (List ℕ) → Told → Told → Desk × Pass → Type 0
+abbrev pub DidRace : Option (List ℕ) → Option (List ℕ) → Told → Told → Returned → Type 0
 DidRace = DidAll true RacesPlan
 
 -- all bytes were read, and the first part of what they ask `race` to write was written

@@ -1,16 +1,16 @@
 -- What `run` leaves.
 
+use Rattle.std.specs.Arc.{arc_value}
 use Rattle.std.specs.Prelude.{◌≡◌, ℕ, false, List, Option, Some, length, IfSome}
 use Rattle.ert_command.specs.declared.command.Command.{Command}
 use Rattle.ert_command.specs.declared.command.Command.TheVariants.{Run}
 use Rattle.ert_io.specs.Known.{HasRoom}
 use Rattle.ert_io.specs.Told.{Told, took, TakesFront}
+use Rattle.ert_race.specs.Written.{Returned}
 use Rattle.ert_scenario.specs.Scenarios.{Plan, IsScenario, HasRefusal}
 use Rattle.ert_scenario.specs.declared.scenario.ScenarioErr.{ScenarioErr}
 use Rattle.ert_world.specs.Lived.{IsLived}
 use Rattle.ert_table.specs.Desks.{settings_of, KnowsAll}
-use Rattle.ert_table.specs.declared.desk.Desk.{Desk}
-use Rattle.ert_table.specs.declared.desk.Pass.{Pass}
 use Rattle.ert_transcript.specs.Plain.{plain_text}
 use Rattle.ert_transcript.specs.Scripts.{IsTranscript}
 use Rattle.ert_program.specs.Inputs.{Began, TakesAll, DidAll, StopsAt, InputEnds}
@@ -24,11 +24,11 @@ transcript plan = plain_text plan.settings plan.ops
 
 -- the plan was run on a desk: its transcript was written, which is the text of one script run, and the pass
 -- has every actor and for its history just the entries of that script run
-pub record RunsOn (plan : Plan) (old new : Told) (r : Desk × Pass) : Type 0 where
+pub record RunsOn (plan : Plan) (old new : Told) (r : Returned) : Type 0 where
   pub is : IsTranscript plan.settings plan.ops (transcript plan)
   pub took : new ≡ took old (transcript plan)
-  pub settings : settings_of r.0 ≡ plan.settings
-  pub history : KnowsAll r.0 r.1 is.entries
+  pub settings : settings_of (arc_value r.0) ≡ plan.settings
+  pub history : KnowsAll (arc_value r.0) r.1 is.entries
   pub lived : IsLived plan.settings is.entries
 
 -- the first part of a plan's transcript was written
@@ -36,7 +36,7 @@ abbrev pub PartRun : Began
 PartRun plan old new = TakesFront old new (transcript plan)
 
 -- all bytes were read, they are a scenario without a race, and that was run
-abbrev pub Did : Option (List ℕ) → Option (List ℕ) → Told → Told → Desk × Pass → Type 0
+abbrev pub Did : Option (List ℕ) → Option (List ℕ) → Told → Told → Returned → Type 0
 Did = DidAll false RunsOn
 
 -- all bytes were read, and the first part of what they ask `run` to write was written

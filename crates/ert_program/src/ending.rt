@@ -3,6 +3,7 @@ ghost use Rattle.ert_program.specs.Endings.{code_of, without_desk, end_of};
 
 use ert_lines::RunErr;
 use ert_table::{Desk, Pass};
+use std::sync::Arc;
 
 /// How a run of the program ended.
 #[derive(Clone, Copy, Debug, PartialEq, Eq)]
@@ -48,14 +49,14 @@ impl EndStatus {
 #[derive(Drop)]
 pub struct Ended {
     pub status: EndStatus,
-    /// The desk that the calls were made on, with the pass that holds every actor of it. It is there at
+    /// A share of the desk that the calls were made on, with the pass that holds every actor of it. It is there at
     /// Done, and only there. `Desk::close` reads its words.
-    pub desk: Option<(Desk, Pass)>,
+    pub desk: Option<(Arc<Desk>, Pass)>,
 }
 
 impl Ended {
     /// The end of a run.
-    pub(crate) fn of_run(ran: Result<(Desk, Pass), RunErr>) -> Ended
+    pub(crate) fn of_run(ran: Result<(Arc<Desk>, Pass), RunErr>) -> Ended
         ensures { result ≡ end_of ran }
     {
         match ran {

@@ -12,8 +12,8 @@ use crate::ending::{EndStatus, Ended};
 use ert_defs::{Mode, NoMemory, Reading, Settings};
 use ert_io::{OsClock, Sink};
 use ert_lines::{write_end, write_page};
-use ert_world::World;
 use ert_script::{history_stands, tick};
+use ert_world::World;
 use std::alloc::{AllocError, Global};
 use std::fmt::Write;
 
@@ -110,7 +110,8 @@ fn live_settings(first: Reading) -> Settings
 
 /// The clock ticks by one more reading, and its line is appended.
 fn go_on(world: &mut World, reading: Reading, page: &mut String) -> Result<(), AllocError>
-    requires { IsValid reading }
+    requires valid { IsValid reading }
+    requires lone { world.old.next ≡ 1 }
     ensures { (first : OneReading) (others : List OneReading) → Lived first others world.old (string_bytes page.old)
         → OnOk result (Lived first (others ++ reading ∷ []) world.new (string_bytes page.new)) }
 {
@@ -120,6 +121,7 @@ fn go_on(world: &mut World, reading: Reading, page: &mut String) -> Result<(), A
 
 /// Appends the line of both times.
 fn tell(world: &mut World, page: &mut String) -> Result<(), AllocError>
+    requires { world.old.next ≡ 1 }
     ensures { OnOk result (Tells world.old world.new (string_bytes page.old) (string_bytes page.new)) }
 {
     let now = monotonic_time(world);
@@ -135,12 +137,14 @@ fn write_times(page: &mut String, now: i64, time: i64) -> Result<(), AllocError>
 }
 
 fn monotonic_time(world: &mut World) -> i64
+    requires { world.old.next ≡ 1 }
     ensures { Does world.old ops.Time (replies.Time result) world.new }
 {
     world.monotonic_time()
 }
 
 fn system_time(world: &mut World) -> i64
+    requires { world.old.next ≡ 1 }
     ensures { Does world.old ops.System (replies.System result) world.new }
 {
     world.system_time()

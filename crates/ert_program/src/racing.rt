@@ -21,7 +21,7 @@ use ert_scenario::{Scenario, ScenarioErr, one_verdict, read_scenario, scenarios_
 use ert_service::Gate;
 use ert_table::{Desk, Pass};
 use std::alloc::Global;
-use std::sync::Wait;
+use std::sync::{Arc, Wait};
 use std::thread::Threads;
 
 /// Reads a scenario with a race to the end of the input, lets threads run it on a new world, and writes its
@@ -85,7 +85,7 @@ fn race_scenario<R: Threads + Wait + Sync, G: Gate + Sync, O: Sink>(
     scenario: &Scenario,
     output: &mut O,
     gate: &G,
-) -> Result<(Desk, Pass), RunErr>
+) -> Result<(Arc<Desk>, Pass), RunErr>
     requires room { O.room output.old ≡ None }
     requires checked { IsChecked scenario.now.settings }
     requires ranges { IsInRange scenario.now.settings scenario.now.ops.items }

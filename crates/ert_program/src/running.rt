@@ -16,12 +16,13 @@ ghost use Rattle.ert_program.specs.Streams.{told_of};
 use crate::ending::{EndStatus, Ended};
 use crate::refusal::refuse;
 use ert_io::{ReadErr, Sink, Source, read_all};
-use ert_lines::{RunErr, write_end, write_page};
+use ert_lines::{Names, RunErr, write_end, write_page};
 use ert_scenario::{Scenario, ScenarioErr, one_verdict, read_scenario, scenarios_are_valid};
-use ert_world::World;
 use ert_script::run_ops;
 use ert_table::{Desk, Pass};
+use ert_world::World;
 use std::alloc::Global;
+use std::sync::Arc;
 
 /// The most bytes of an input.
 pub(crate) const MAX_INPUT: usize = 16_777_216;
@@ -83,7 +84,7 @@ fn run_scenario<O: Sink>(
     alloc: Global,
     scenario: &Scenario,
     output: &mut O,
-) -> Result<(Desk, Pass), RunErr>
+) -> Result<(Arc<Desk>, Pass), RunErr>
     requires fits { HasRoom (O.room output.old) (length (transcript (plan_of scenario.now))) }
     requires checked { IsChecked scenario.now.settings }
     requires ranges { IsInRange scenario.now.settings scenario.now.ops.items }
@@ -96,7 +97,8 @@ fn run_scenario<O: Sink>(
     let Ok(mut world) = World::open(alloc, &scenario.settings) else {
         return Err(RunErr::NoMemory);
     };
-    run_ops(alloc, &mut world, &scenario.ops, output)?;
+    let mut names = Names::new(alloc);
+    run_ops(alloc, &mut world, &mut names, &scenario.ops, output)?;
     finish(alloc, world.published(), output)?;
     Ok(world.into_desk())
 }

@@ -12,11 +12,12 @@ ghost use Rattle.ert_program.specs.Stresses.{summary, summary_of, CountsOn, HasR
 use ert_defs::NoMemory;
 use ert_generate::{generate, generated_scenarios_are_valid};
 use ert_io::Sink;
-use ert_lines::{RunErr, write_end, write_page};
-use ert_world::World;
+use ert_lines::{Names, RunErr, write_end, write_page};
 use ert_script::{do_ops, write_settled};
 use ert_table::{Desk, Pass};
+use ert_world::World;
 use std::alloc::{AllocError, Global};
+use std::sync::Arc;
 
 /// Runs the scenario of a seed with `n` ops, writes how many of its timers have which status in the end,
 /// and gives the desk that it was run on. The sink tells no room.
@@ -25,7 +26,7 @@ pub fn stress<O: Sink>(
     seed: u64,
     n: u64,
     output: &mut O,
-) -> Result<(Desk, Pass), RunErr>
+) -> Result<(Arc<Desk>, Pass), RunErr>
     requires room { O.room output.old ≡ None }
     requires count { n ≤ 100000 }
     ensures ok { IfOk result (λ r. CountsOn (generated seed n) (told_of O.taken O.room output.old) (told_of O.taken O.room output.new) r) }
@@ -57,7 +58,7 @@ fn run_generated(alloc: Global, seed: u64, n: u64) -> Result<World, NoMemory>
     generated_scenarios_are_valid();
     let scenario = generate(alloc, seed, n)?;
     let mut world = World::open(alloc, &scenario.settings)?;
-    do_ops(alloc, &mut world, &scenario.ops)?;
+    do_ops(&mut world, &mut Names::new(alloc), &scenario.ops)?;
     Ok(world)
 }
 

@@ -8,8 +8,6 @@ use Rattle.ert_defs.specs.declared.entry.Actor.{Actor}
 use Rattle.ert_defs.specs.declared.entry.Actor.TheVariants.{Caller, Sched}
 use Rattle.ert_defs.specs.declared.entry.Entry.{Entry}
 use Rattle.ert_defs.specs.declared.settings.Settings.{Settings}
-use Rattle.ert_lines.specs.Names.{IsIndexOf}
-use Rattle.ert_lines.specs.declared.names.Names.{Names}
 use Rattle.ert_ops.specs.Races.{Race, lists_of, race_of}
 use Rattle.ert_ops.specs.declared.race.RaceLists.{RaceLists}
 use Rattle.ert_ops.specs.declared.op.Op.{Op}
@@ -23,7 +21,7 @@ use Rattle.ert_service.specs.Joining.{HasOwn}
 use Rattle.ert_table.proofs.Parts.{free_later}
 use Rattle.ert_table.specs.Views.{Begins}
 use Rattle.ert_transcript.specs.Labels.{Labels}
-use Rattle.ert_workers.specs.declared.list.ListDone.{ListDone}
+use Rattle.ert_race.specs.declared.list.ListDone.{ListDone}
 
 -- a call that an actor's seat tells is made in the history
 own_made : (a : Actor) (call : Growth) (f front h : List Entry) (longer : Begins f h) → Grows call f front → HasOwn a front h → Makes a call f longer.later
@@ -53,12 +51,12 @@ in_order g labels k (ops ∷ lists) (d ∷ dones) f m same each = (
 pub count_callers : (g : Settings) (r : RaceLists) → g.callers ≡ suc (length r.callers.items) → g.callers ≡ suc (length (race_of r).callers)
 count_callers g r many = many ∙ ap (λ n. suc n) (sym (length_mapped (λ (ops : Vec Op Global). ops.items) r.callers.items))
 
-module _ {S C : Type 0} (wheel : S → ℕ) (sched_front : S → List Entry) (number : C → ℕ) (caller_front : C → List Entry) (g : Settings) (labels : Labels) (known : Names) (race : Race) (f h : List Entry) (scheds : List S) (callers : List C) (dones : List ListDone) where
-  pub at_once : IsIndexOf labels known → Begins f h → Legal g h → g.callers ≡ suc (length race.callers)
+module _ {S C : Type 0} (wheel : S → ℕ) (sched_front : S → List Entry) (number : C → ℕ) (caller_front : C → List Entry) (g : Settings) (labels : Labels) (race : Race) (f h : List Entry) (scheds : List S) (callers : List C) (dones : List ListDone) where
+  pub at_once : Begins f h → Legal g h → g.callers ≡ suc (length race.callers)
       → TurnsDone wheel sched_front g race.turns f scheds → All (λ (s : S). HasOwn (Sched (wheel s)) (sched_front s) h) scheds
-      → ListsDone number caller_front g known (lists_of race) f callers dones → All (λ (s : C). HasOwn (Caller (number s)) (caller_front s) h) callers
+      → ListsDone number caller_front g labels (lists_of race) f callers dones → All (λ (s : C). HasOwn (Caller (number s)) (caller_front s) h) callers
       → Grows (ActAtOnce g labels race (dids_of dones)) f h
-  at_once index longer legal many turns sched_own lists caller_own = record {
+  at_once longer legal many turns sched_own lists caller_own = record {
     piece = longer.later;
     grown = longer.grown;
     made = record {
@@ -92,4 +90,4 @@ module _ {S C : Type 0} (wheel : S → ℕ) (sched_front : S → List Entry) (nu
           let own = subst (λ n. HasOwn (Caller n) (caller_front (slice_index_or callers i x.element)) h) (lists.numbered.each i x.element low_number)
           (caller_own i x.element there) in
           subst (λ n. DoesList g labels n (list_at (lists_of race) i) (did_of (slice_index_or dones i d)) f longer.later) (from_zero i)
-          (own_made (Caller i) _ f (caller_front (slice_index_or callers i x.element)) h longer (lists.each i x.element d low_number labels index) own)
+          (own_made (Caller i) _ f (caller_front (slice_index_or callers i x.element)) h longer (lists.each i x.element d low_number) own)

@@ -1,6 +1,10 @@
 pub mod AtOnce
+pub mod CallsMade
 pub mod Listed
+pub mod ListsMade
 pub mod Reported
 pub mod Rounds
+pub mod StartsMade
+pub mod TurnsMade
 pub mod Worked
 pub mod Written

@@ -4,7 +4,7 @@ use Rattle.std.proofs.Common.{◌≡◌, ℕ, suc, zero, ◌+◌, ◌<◌, List,
 use Rattle.std.proofs.lemmas.List.{take_more}
 use Rattle.ert_outcome.specs.Reports.{Did, all_labels, lines_by, heading, lists_text}
 use Rattle.ert_race.specs.Lists.{did_of, dids_of}
-use Rattle.ert_workers.specs.declared.list.ListDone.{ListDone}
+use Rattle.ert_race.specs.declared.list.ListDone.{ListDone}
 use Rattle.ert_transcript.specs.Labels.{Labels, label_of}
 use Rattle.ert_transcript.specs.Lines.{line_of}
 use Rattle.ert_transcript.specs.declared.reply.Reply.{Reply}
@@ -24,7 +24,7 @@ dids_more lists i d low =
     ap (λ l. dids_of l) (take_more lists i d low) ∙ dids_last (take i lists) (slice_index_or lists i d)
 
 pub labels_more : (labels : Labels) (lists : List ListDone) (i : ℕ) (d : ListDone) → i < length lists
-    → all_labels labels (dids_of (take i lists)) ++ (slice_index_or lists i d).own.items ≡ all_labels labels (dids_of (take (i + 1) lists))
+    → all_labels labels (dids_of (take i lists)) ++ (slice_index_or lists i d).own ≡ all_labels labels (dids_of (take (i + 1) lists))
 labels_more labels lists i d low =
     sym (ap (λ l. all_labels labels l) (dids_more lists i d low)
     ∙ labels_last labels (dids_of (take i lists)) (did_of (slice_index_or lists i d)))

@@ -12,13 +12,14 @@ use Rattle.ert_outcome.specs.Outcomes.{ActAtOnce}
 use Rattle.ert_outcome.specs.Reports.{Did}
 use Rattle.ert_ops.specs.Races.{Race}
 use Rattle.ert_race.specs.Ends.{RunsAtOnce, EndsRound, RacesTo}
+use Rattle.ert_transcript.specs.Labels.{Labels}
 use Rattle.ert_world.specs.Worlds.{Seen, Goes, IsTidyAt}
 
 -- so many schedulers have made their last turn, and their wheels are tidy
 pub record IsRoundSoFar (start : Seen) (n : ℕ) (w : Seen) : Type 0 where
   pub grows : Grows (MakesRound start.settings n) start.history w.history
   pub settings : w.settings ≡ start.settings
-  pub labels : w.labels ≡ start.labels
+  pub next : w.next ≡ start.next
   pub tidy : (i : ℕ) → i < n → IsTidyAt w i
   pub low : n ≤ start.settings.schedulers
 
@@ -26,21 +27,21 @@ pub so_far_first : (w : Seen) → IsRoundSoFar w 0 w
 so_far_first w = record {
   grows = round_none w.settings w.history;
   settings = refl;
-  labels = refl;
+  next = refl;
   tidy = λ i low. absurd (omega arith);
   low = omega arith;
 }
 
 -- one scheduler more
-pub so_far_more : (start v w : Seen) (n : ℕ) (t : Turned) → n < start.settings.schedulers → IsRoundSoFar start n v
-    → Goes v (LastTurns v.settings (alone v.settings) n (Ok t)) w → IsTidyAt w n → IsRoundSoFar start (n + 1) w
-so_far_more start v w n t low far goes tidy = record {
+pub so_far_more : (start v w : Seen) (n : ℕ) (t : Turned) → start.next ≡ 1 → n < start.settings.schedulers → IsRoundSoFar start n v
+    → Goes v (λ way. LastTurns v.settings way n (Ok t)) w → IsTidyAt w n → IsRoundSoFar start (n + 1) w
+so_far_more start v w n t alone_is low far goes tidy = record {
   grows = round_then start.settings n t start.history v.history w.history far.grows
-      (subst (λ (g : Settings). Grows (LastTurns g (alone g) n (Ok t)) v.history w.history) far.settings goes.grows);
+      (subst (λ (g : Settings). Grows (LastTurns g (alone g) n (Ok t)) v.history w.history) far.settings (goes.lone (far.next ∙ alone_is)));
   settings = goes.settings ∙ far.settings;
-  labels = goes.labels ∙ far.labels;
+  next = goes.next ∙ far.next;
   tidy = below_more (IsTidyAt w) n
-      (λ i less. goes.tidy i (subst (λ (g : Settings). i < g.schedulers) (sym far.settings) (omega (arith, less, low))) (far.tidy i less)) tidy;
+      (λ i less. goes.tidy (far.next ∙ alone_is) i (subst (λ (g : Settings). i < g.schedulers) (sym far.settings) (omega (arith, less, low))) (far.tidy i less)) tidy;
   low = omega (arith, low);
 }
 
@@ -50,18 +51,19 @@ ends start w n over far =
     record {
       grows = subst (λ k. Grows (MakesRound start.settings k) start.history w.history) all far.grows;
       settings = far.settings;
-      labels = far.labels;
+      next = far.next;
       tidy = λ i low. far.tidy i (subst (λ k. i < k) (sym all) (subst (λ (g : Settings). i < g.schedulers) far.settings low));
     }
 
 -- a race is what all do at once, and then the last turns
-pub races_to : (old seen v w : Seen) (race : Race) (dids : List Did) → old ≡ seen → RunsAtOnce seen race dids v → EndsRound v w → RacesTo old race dids w
-races_to old seen v w race dids same one last =
-    subst (λ (s : Seen). RacesTo s race dids w) (sym same)
+pub races_to : (old seen v w : Seen) (labels : Labels) (race : Race) (dids : List Did) → old ≡ seen → RunsAtOnce seen labels race dids v → EndsRound v w
+    → RacesTo old labels race dids w
+races_to old seen v w labels race dids same one last =
+    subst (λ (s : Seen). RacesTo s labels race dids w) (sym same)
     (record {
-      grows = grows_then (ActAtOnce seen.settings seen.labels race dids) (MakesRound seen.settings seen.settings.schedulers) seen.history v.history w.history one.grows
+      grows = grows_then (ActAtOnce seen.settings labels race dids) (MakesRound seen.settings seen.settings.schedulers) seen.history v.history w.history one.grows
           (subst (λ (g : Settings). Grows (MakesRound g g.schedulers) v.history w.history) one.settings last.grows);
       settings = last.settings ∙ one.settings;
-      labels = last.labels ∙ one.labels;
+      next = last.next ∙ one.next;
       tidy = last.tidy;
     })

@@ -1,7 +1,8 @@
 -- What a race wrote, as an outcome has it.
 
-use Rattle.std.proofs.Common.{◌≡◌, ◌≢◌, ℕ, ◌+◌, List, [], ◌∷◌, ◌++◌, length, take, AllPairs, Option, None, inl, inr, refl, sym, ap, subst, ◌∙◌, arith, append-nil, length-append, get_or}
-use Rattle.std.proofs.lemmas.List.{get_or_append_left, take_all}
+use Rattle.std.specs.Arc.{arc_value}
+use Rattle.std.proofs.Common.{◌≡◌, ℕ, List, [], ◌++◌, length, take, Option, None, inl, inr, refl, sym, ap, subst, ◌∙◌, arith, append-nil}
+use Rattle.std.proofs.lemmas.List.{take_all}
 use Rattle.ert_answers.specs.Ways.{alone}
 use Rattle.ert_defs.specs.Legal.{Legal}
 use Rattle.ert_defs.specs.Lines.{Face}
@@ -12,124 +13,99 @@ use Rattle.ert_io.proofs.Takes.{took-took, front_after}
 use Rattle.ert_io.specs.Known.{HasRoom}
 use Rattle.ert_io.specs.Told.{Told, took, room_after, TakesFront}
 use Rattle.ert_laws.specs.Counts.{counts_of}
-use Rattle.ert_ops.specs.Labels.{labels_in, AreOps}
 use Rattle.ert_ops.specs.Races.{Race}
 use Rattle.ert_ops.specs.declared.op.Op.{Op}
-use Rattle.ert_ops.specs.declared.op.Op.TheVariants as ops
 use Rattle.ert_outcome.specs.Outcomes.{Races, IsOutcome}
 use Rattle.ert_outcome.specs.Reports.{Did, behind}
 use Rattle.ert_race.specs.Ends.{RacesTo}
-use Rattle.ert_race.specs.Written.{MayWrite, RacesOn, StopsRace}
+use Rattle.ert_race.specs.Written.{Returned, MayWrite, RacesOn, StopsRace}
 use Rattle.ert_world.specs.Lived.{IsLived}
 use Rattle.ert_world.specs.Openings.{IsOpened}
 use Rattle.ert_world.specs.Worlds.{Seen, StandsFor}
 use Rattle.ert_script.specs.Scripts.{Runs}
 use Rattle.ert_script.specs.Written.{WritesRun, LinesFit}
 use Rattle.ert_table.specs.Desks.{settings_of, KnowsAll}
-use Rattle.ert_table.specs.declared.desk.Desk.{Desk}
-use Rattle.ert_table.specs.declared.desk.Pass.{Pass}
 use Rattle.ert_transcript.specs.Labels.{Labels}
 use Rattle.ert_transcript.specs.Scripts.{Script, lines_of}
 use Rattle.ert_transcript.specs.declared.reply.Reply.{Reply}
 
--- the first of two lists of ops is one where both together are
-labels_joined : (a b : List Op) → labels_in (a ++ b) ≡ labels_in a ++ labels_in b
-labels_joined [] b = refl
-labels_joined (ops.Start l w when p msg ∷ a) b = ap (λ (ls : List ℕ). l ∷ ls) (labels_joined a b)
-labels_joined (ops.SendAfter l w when p msg ∷ a) b = ap (λ (ls : List ℕ). l ∷ ls) (labels_joined a b)
-labels_joined (_ ∷ a) b = labels_joined a b
-
-apart_front : (xs ys : List ℕ) → AllPairs (λ (l : ℕ) k. l ≢ k) (xs ++ ys) → AllPairs (λ (l : ℕ) k. l ≢ k) xs
-apart_front xs ys pairs i j d before low =
-    let long : length (xs ++ ys) ≡ length xs + length ys = length-append xs ys in
-    subst (λ (k : ℕ). get_or xs i d ≢ k) (get_or_append_left xs ys d j low)
-    (subst (λ (l : ℕ). l ≢ get_or (xs ++ ys) j d) (get_or_append_left xs ys d i (omega arith)) (pairs i j d before (omega arith)))
-
-pub first_ops : (a b : List Op) → AreOps (a ++ b) → AreOps a
-first_ops a b are = record {
-  apart = apart_front (labels_in a) (labels_in b) (subst (λ (ls : List ℕ). AllPairs (λ (l : ℕ) k. l ≢ k) ls) (labels_joined a b) are.apart);
-  few = let long : length (a ++ b) ≡ length a + length b = length-append a b in omega (arith, are.few, long);
-}
-
--- a run from an opened world on is a script run from the empty history on
-pub script_of : (g : Settings) (start v : Seen) (list : List Op) (rs : List Reply) → IsOpened g start → (ran : Runs start list rs v)
-    → Script g (alone g) 0 [] list rs v.labels [] ran.grows.piece
-script_of g start v list rs opened ran =
-    subst (λ (x : Settings). Script x (alone x) 0 [] list rs v.labels [] ran.grows.piece) opened.stands.settings
-    (subst (λ (x : Labels). Script start.settings (alone start.settings) 0 x list rs v.labels [] ran.grows.piece) opened.labels
-    (subst (λ (x : List Entry). Script start.settings (alone start.settings) 0 start.labels list rs v.labels x ran.grows.piece) opened.stands.history
-    ran.grows.made))
+-- a run from an opened world on, where no label is bound, is a script run from the empty history on
+pub script_of : (g : Settings) (start v : Seen) (list : List Op) (rs : List Reply) (after : Labels) → IsOpened g start → (ran : Runs start [] list rs v after)
+    → Script g (alone g) 0 [] list rs after [] ran.grows.piece
+script_of g start v list rs after opened ran =
+    subst (λ (x : Settings). Script x (alone x) 0 [] list rs after [] ran.grows.piece) opened.stands.settings
+    (subst (λ (x : List Entry). Script start.settings (alone start.settings) 0 [] list rs after x ran.grows.piece) opened.stands.history
+    ran.grows.made)
 
 -- its piece is the whole history
-whole_piece : (g : Settings) (start v : Seen) (list : List Op) (rs : List Reply) → IsOpened g start → (ran : Runs start list rs v)
+whole_piece : (g : Settings) (start v : Seen) (list : List Op) (rs : List Reply) (after : Labels) → IsOpened g start → (ran : Runs start [] list rs v after)
     → v.history ≡ ran.grows.piece
-whole_piece g start v list rs opened ran = ran.grows.grown ∙ ap (λ (x : List Entry). x ++ ran.grows.piece) opened.stands.history
+whole_piece g start v list rs after opened ran = ran.grows.grown ∙ ap (λ (x : List Entry). x ++ ran.grows.piece) opened.stands.history
 
 -- the lines of some first ops are what a race may write
-pub beginning : (g : Settings) (list : List Op) (race : Race) (start v : Seen) (n : ℕ) (rs : List Reply) → IsOpened g start → Runs start (take n list) rs v
-    → StandsFor v.settings v.history v → MayWrite g list race (lines_of start.labels (take n list) rs)
-beginning g list race start v n rs opened ran stands = inl (record {
+pub beginning : (g : Settings) (list : List Op) (race : Race) (start v : Seen) (n : ℕ) (rs : List Reply) (after : Labels) → IsOpened g start
+    → Runs start [] (take n list) rs v after → StandsFor v.settings v.history v → MayWrite g list race (lines_of [] (take n list) rs)
+beginning g list race start v n rs after opened ran stands = inl (record {
   done = n;
   entries = ran.grows.piece;
   replies = rs;
-  labels = v.labels;
+  labels = after;
   legal = subst (λ (x : Settings). Legal x ran.grows.piece) (ran.settings ∙ opened.stands.settings)
-      (subst (λ (x : List Entry). Legal v.settings x) (whole_piece g start v (take n list) rs opened ran) stands.clock.legal);
-  runs = script_of g start v (take n list) rs opened ran;
-  reads = ap (λ (x : Labels). lines_of x (take n list) rs) opened.labels;
+      (subst (λ (x : List Entry). Legal v.settings x) (whole_piece g start v (take n list) rs after opened ran) stands.clock.legal);
+  runs = script_of g start v (take n list) rs after opened ran;
+  reads = refl;
 })
 
 -- the ops and then the race are an outcome
-pub outcome_of : (g : Settings) (list : List Op) (race : Race) (start v w : Seen) (rs : List Reply) (dids : List Did) → IsOpened g start → Runs start list rs v
-    → RacesTo v race dids w → StandsFor w.settings w.history w
-    → IsOutcome g list race w.history
-    (lines_of start.labels list rs ++ behind w.labels dids (counts_of w.settings (state w.settings w.history)) w.clock.face.time)
-outcome_of g list race start v w rs dids opened ran raced stands = record {
+pub outcome_of : (g : Settings) (list : List Op) (race : Race) (start v w : Seen) (rs : List Reply) (after : Labels) (dids : List Did) → IsOpened g start
+    → Runs start [] list rs v after → RacesTo v after race dids w → StandsFor w.settings w.history w
+    → IsOutcome g list race w.history (lines_of [] list rs ++ behind after dids (counts_of w.settings (state w.settings w.history)) w.clock.face.time)
+outcome_of g list race start v w rs after dids opened ran raced stands = record {
   legal = subst (λ (x : Settings). Legal x w.history) named stands.clock.legal;
   first = v.history;
   later = raced.grows.piece;
   parted = raced.grows.grown;
   replies = rs;
-  labels = v.labels;
-  began = subst (λ (x : List Entry). Script g (alone g) 0 [] list rs v.labels [] x) (sym (whole_piece g start v list rs opened ran)) (script_of g start v list rs opened ran);
+  labels = after;
+  began = subst (λ (x : List Entry). Script g (alone g) 0 [] list rs after [] x) (sym (whole_piece g start v list rs after opened ran))
+      (script_of g start v list rs after opened ran);
   dids = dids;
-  raced = subst (λ (x : Settings). Races x v.labels race dids v.history raced.grows.piece) (ran.settings ∙ opened.stands.settings) raced.grows.made;
-  reads = ap (λ (x : Labels). lines_of x list rs ++ behind w.labels dids (counts_of w.settings (state w.settings w.history)) w.clock.face.time) opened.labels
-      ∙ (ap (λ (x : Labels). lines_of [] list rs ++ behind x dids (counts_of w.settings (state w.settings w.history)) w.clock.face.time) raced.labels
-      ∙ (ap (λ (f : Face). lines_of [] list rs ++ behind v.labels dids (counts_of w.settings (state w.settings w.history)) f.time) stands.clock.face
-      ∙ ap (λ (x : Settings). lines_of [] list rs ++ behind v.labels dids (counts_of x (state x w.history)) (state x w.history).clock.now) named));
+  raced = subst (λ (x : Settings). Races x after race dids v.history raced.grows.piece) (ran.settings ∙ opened.stands.settings) raced.grows.made;
+  reads = ap (λ (f : Face). lines_of [] list rs ++ behind after dids (counts_of w.settings (state w.settings w.history)) f.time) stands.clock.face
+      ∙ ap (λ (x : Settings). lines_of [] list rs ++ behind after dids (counts_of x (state x w.history)) (state x w.history).clock.now) named;
 }
   where
     named : w.settings ≡ g
     named = raced.settings ∙ (ran.settings ∙ opened.stands.settings)
 
 -- the race stopped behind the lines of the ops
-pub stops_behind : (g : Settings) (list : List Op) (race : Race) (start v : Seen) (old new : Told) → IsOpened g start → WritesRun start list v old new
-    → StopsRace g list race old new
-stops_behind g list race start v old new opened ran =
+pub stops_behind : (g : Settings) (list : List Op) (race : Race) (start v : Seen) (after : Labels) (old new : Told) → IsOpened g start
+    → WritesRun start [] list v after old new → StopsRace g list race old new
+stops_behind g list race start v after old new opened ran =
     let all : take (length list) list ≡ list = take_all (length list) list (omega arith) in
     record {
-      text = lines_of start.labels (take (length list) list) ran.replies;
-      may = beginning g list race start v (length list) ran.replies opened (subst (λ (x : List Op). Runs start x ran.replies v) (sym all) ran.runs) ran.stands;
+      text = lines_of [] (take (length list) list) ran.replies;
+      may = beginning g list race start v (length list) ran.replies after opened
+          (subst (λ (x : List Op). Runs start [] x ran.replies v after) (sym all) ran.runs) ran.stands;
       writes = record {
-        front = lines_of start.labels list ran.replies;
+        front = lines_of [] list ran.replies;
         others = [];
         took = ran.writes;
-        whole = append-nil (lines_of start.labels list ran.replies) ∙ ap (λ (x : List Op). lines_of start.labels x ran.replies) (sym all);
+        whole = append-nil (lines_of [] list ran.replies) ∙ ap (λ (x : List Op). lines_of [] x ran.replies) (sym all);
       };
     }
 
 -- all was written: it is an outcome, and the desk is given out
-pub ends : (g : Settings) (list : List Op) (race : Race) (start v w : Seen) (dids : List Did) (page : List ℕ) (old mid new : Told) (r : Desk × Pass)
-    → IsOpened g start → WritesRun start list v old mid → RacesTo v race dids w → StandsFor w.settings w.history w
-    → page ≡ behind w.labels dids (counts_of w.settings (state w.settings w.history)) w.clock.face.time → new ≡ took mid page
-    → settings_of r.0 ≡ w.settings → KnowsAll r.0 r.1 w.history → IsLived w.settings w.history → RacesOn g list race old new r
-ends g list race start v w dids page old mid new r opened ran raced stands told_all written named all lived = record {
+pub ends : (g : Settings) (list : List Op) (race : Race) (start v w : Seen) (after : Labels) (dids : List Did) (page : List ℕ) (old mid new : Told) (r : Returned)
+    → IsOpened g start → WritesRun start [] list v after old mid → RacesTo v after race dids w → StandsFor w.settings w.history w
+    → page ≡ behind after dids (counts_of w.settings (state w.settings w.history)) w.clock.face.time → new ≡ took mid page
+    → settings_of (arc_value r.0) ≡ w.settings → KnowsAll (arc_value r.0) r.1 w.history → IsLived w.settings w.history → RacesOn g list race old new r
+ends g list race start v w after dids page old mid new r opened ran raced stands told_all written named all lived = record {
   history = w.history;
-  text = lines_of start.labels list ran.replies ++ page;
-  is = subst (λ (t : List ℕ). IsOutcome g list race w.history (lines_of start.labels list ran.replies ++ t)) (sym told_all)
-      (outcome_of g list race start v w ran.replies dids opened ran.runs raced stands);
-  writes = written ∙ (ap (λ (t : Told). took t page) ran.writes ∙ took-took old (lines_of start.labels list ran.replies) page);
+  text = lines_of [] list ran.replies ++ page;
+  is = subst (λ (t : List ℕ). IsOutcome g list race w.history (lines_of [] list ran.replies ++ t)) (sym told_all)
+      (outcome_of g list race start v w ran.replies after dids opened ran.runs raced stands);
+  writes = written ∙ (ap (λ (t : Told). took t page) ran.writes ∙ took-took old (lines_of [] list ran.replies) page);
   settings = named ∙ settings_are;
   knows = all;
   lived = subst (λ (x : Settings). IsLived x w.history) settings_are lived;
@@ -139,29 +115,30 @@ ends g list race start v w dids page old mid new r opened ran raced stands told_
     settings_are = raced.settings ∙ (ran.runs.settings ∙ opened.stands.settings)
 
 -- the output stopped at the page behind the lines of the ops
-pub breaks : (g : Settings) (list : List Op) (race : Race) (start v w : Seen) (dids : List Did) (page : List ℕ) (old mid new : Told)
-    → IsOpened g start → WritesRun start list v old mid → RacesTo v race dids w → StandsFor w.settings w.history w
-    → page ≡ behind w.labels dids (counts_of w.settings (state w.settings w.history)) w.clock.face.time → TakesFront mid new page
+pub breaks : (g : Settings) (list : List Op) (race : Race) (start v w : Seen) (after : Labels) (dids : List Did) (page : List ℕ) (old mid new : Told)
+    → IsOpened g start → WritesRun start [] list v after old mid → RacesTo v after race dids w → StandsFor w.settings w.history w
+    → page ≡ behind after dids (counts_of w.settings (state w.settings w.history)) w.clock.face.time → TakesFront mid new page
     → StopsRace g list race old new
-breaks g list race start v w dids page old mid new opened ran raced stands told_all part = record {
-  text = lines_of start.labels list ran.replies ++ page;
+breaks g list race start v w after dids page old mid new opened ran raced stands told_all part = record {
+  text = lines_of [] list ran.replies ++ page;
   may = inr (
     w.history,
-    subst (λ (t : List ℕ). IsOutcome g list race w.history (lines_of start.labels list ran.replies ++ t)) (sym told_all)
-        (outcome_of g list race start v w ran.replies dids opened ran.runs raced stands),
+    subst (λ (t : List ℕ). IsOutcome g list race w.history (lines_of [] list ran.replies ++ t)) (sym told_all)
+        (outcome_of g list race start v w ran.replies after dids opened ran.runs raced stands),
   );
-  writes = front_after old mid new (lines_of start.labels list ran.replies) page ran.writes part;
+  writes = front_after old mid new (lines_of [] list ran.replies) page ran.writes part;
 }
 
 -- all fits where no room is told
-pub lines_fit : (start : Seen) (list : List Op) (room : Option ℕ) → room ≡ None → LinesFit start list room
-lines_fit start list room untold n rs v ran stands =
-    subst (λ (r : Option ℕ). HasRoom r (length (lines_of start.labels (take n list) rs))) (sym untold) tt
+pub lines_fit : (start : Seen) (ls : Labels) (list : List Op) (room : Option ℕ) → room ≡ None → LinesFit start ls list room
+lines_fit start ls list room untold n rs v after ran stands =
+    subst (λ (r : Option ℕ). HasRoom r (length (lines_of ls (take n list) rs))) (sym untold) tt
 
 -- and no room is told after the lines of the ops
-pub page_fits : (start v : Seen) (list : List Op) (page : List ℕ) (old mid : Told) → WritesRun start list v old mid → old.room ≡ None → HasRoom mid.room (length page)
-page_fits start v list page old mid ran untold =
-    let text : List ℕ = lines_of start.labels list ran.replies in
+pub page_fits : (start v : Seen) (ls after : Labels) (list : List Op) (page : List ℕ) (old mid : Told) → WritesRun start ls list v after old mid
+    → old.room ≡ None → HasRoom mid.room (length page)
+page_fits start v ls after list page old mid ran untold =
+    let text : List ℕ = lines_of ls list ran.replies in
     let left : mid.room ≡ room_after (length text) None =
     ap (λ (t : Told). t.room) ran.writes ∙ ap (λ (r : Option ℕ). room_after (length text) r) untold in
     subst (λ (r : Option ℕ). HasRoom r (length page)) (sym left) tt

@@ -2,11 +2,11 @@
 
 use Rattle.std.specs.Prelude.{List, map}
 use Rattle.ert_outcome.specs.Reports.{Did}
-use Rattle.ert_workers.specs.declared.list.ListDone.{ListDone}
+use Rattle.ert_race.specs.declared.list.ListDone.{ListDone}
 
 -- what came of one list: its replies, and the labels that it bound
 abbrev pub did_of : ListDone → Did
-did_of d = record { replies = d.replies.items; own = d.own.items }
+did_of d = record { replies = d.replies.items; own = d.own }
 
 -- what came of each list
 abbrev pub dids_of : List ListDone → List Did

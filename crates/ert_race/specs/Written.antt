@@ -1,6 +1,9 @@
 -- What a race has written.
 
+use Rattle.std.specs.Arc.{arc_value}
 use Rattle.std.specs.Prelude.{◌≡◌, ◌⊎◌, ℕ, List, [], take}
+use Rattle.std.specs.declared.alloc.Global.{Global}
+use Rattle.std.specs.declared.sync.Arc.{Arc}
 use Rattle.ert_answers.specs.Ways.{alone}
 use Rattle.ert_defs.specs.Legal.{Legal}
 use Rattle.ert_defs.specs.States.{state}
@@ -21,6 +24,10 @@ use Rattle.ert_transcript.specs.Labels.{Labels}
 use Rattle.ert_transcript.specs.Scripts.{Script, lines_of}
 use Rattle.ert_transcript.specs.declared.reply.Reply.{Reply}
 
+-- what a run returns: a share of its desk, and the pass that holds every actor of it
+abbrev pub Returned : Type 0
+Returned = Arc Desk Global × Pass
+
 -- a text is the lines of a script run of some first ops
 pub record IsBeginning (g : Settings) (ops : List Op) (text : List ℕ) : Type 0 where
   pub done : ℕ
@@ -36,19 +43,19 @@ pub record IsBeginning (g : Settings) (ops : List Op) (text : List ℕ) : Type 0
 abbrev pub MayWrite : Settings → List Op → Race → List ℕ → Type 0
 MayWrite g ops race text = IsBeginning g ops text ⊎ ((h : List Entry) × IsOutcome g ops race h text)
 
--- the report behind the lines of the ops: what came of the lists, and what the race has left of the world
-abbrev pub report_behind : Seen → List Did → List ℕ
-report_behind w dids = behind w.labels dids (counts_of w.settings (state w.settings w.history)) w.clock.face.time
+-- the report behind the lines of the ops, which bound these labels: what came of the lists, and what the race has left of the world
+abbrev pub report_behind : Seen → Labels → List Did → List ℕ
+report_behind w labels dids = behind labels dids (counts_of w.settings (state w.settings w.history)) w.clock.face.time
 
 -- a race was run on a desk: the report of an outcome was written, and the pass has every actor and for its
 -- history just that of the outcome, in which all timers and mail are as they may be
-pub record RacesOn (g : Settings) (ops : List Op) (race : Race) (old new : Told) (r : Desk × Pass) : Type 0 where
+pub record RacesOn (g : Settings) (ops : List Op) (race : Race) (old new : Told) (r : Returned) : Type 0 where
   pub history : List Entry
   pub text : List ℕ
   pub is : IsOutcome g ops race history text
   pub writes : new ≡ took old text
-  pub settings : settings_of r.0 ≡ g
-  pub knows : KnowsAll r.0 r.1 history
+  pub settings : settings_of (arc_value r.0) ≡ g
+  pub knows : KnowsAll (arc_value r.0) r.1 history
   pub lived : IsLived g history
 
 -- a race has stopped: the first part of what it may write was written

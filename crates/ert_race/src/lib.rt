@@ -5,17 +5,33 @@
 //! `run_race` does the ops first, and writes the report. What comes of it is an outcome (`ert_outcome`): one
 //! legal history, and the report of its replies.
 //!
-//! It stands on `ert_service` and `ert_workers` for the threads, on `ert_script` for the ops, and on `ert_lines`
-//! for the text.
+//! **The threads.** One of them keeps the clock, and acts as caller 0; one makes turns, for each scheduler; and
+//! each further one does a list of ops as a caller of its own. Each worker has its seat (`ert_locks`), whose pass
+//! knows a first part of the history. What it knows at the end is longer by what it did and what others did
+//! meanwhile. A list of ops is a script run of them (`ert_transcript`), told over the way `beside`: it stands piece
+//! by piece, each piece allowed with its reply in the state at its place. The turns of a scheduler stand so too.
+//! After want of memory a worker stops, and has its seat still, whose pass knows what the first ops made, and the
+//! one that failed.
+//!
+//! **Labels.** A list knows the labels that were bound before the race, by the `Names` of the ops, which all workers
+//! share, and its own, for which it keeps others. It knows none of another list.
+//!
+//! It stands on `ert_service` and `ert_locks` for the threads, on `ert_calls` for the calls that take no lock, on
+//! `ert_script` for the ops, and on `ert_lines` for the text.
 #![tactic(auto)]
 
-mod naming;
+mod clock_ops;
+mod list;
+mod mail_ops;
+mod op;
 mod race;
 mod report;
 mod round;
 mod run;
+mod timer_ops;
+mod turns;
 mod workers;
 
-pub use ert_workers::ListDone;
+pub use list::ListDone;
 pub use race::{RaceEnd, race_on};
 pub use run::run_race;

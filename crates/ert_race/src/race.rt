@@ -1,4 +1,5 @@
 //! A race over a world.
+ghost use Rattle.std.specs.Arc.{arc_value};
 ghost use Rattle.std.specs.Prelude.{◌≡◌, suc, List, length, IfOk};
 ghost use Rattle.ert_defs.specs.declared.entry.Entry.{Entry};
 ghost use Rattle.ert_locks.specs.Names.{IsDesk};
@@ -11,16 +12,16 @@ ghost use Rattle.ert_world.specs.Worlds.{AreFit, seen};
 ghost use Rattle.ert_service.specs.Dividing.{AreSeated};
 ghost use Rattle.ert_table.specs.Desks.{front_of};
 
+use crate::list::ListDone;
 use crate::round::last_round;
 use crate::workers::{do_lists, make_turns};
 use ert_defs::NoMemory;
 use ert_lines::Names;
 use ert_locks::{CallerSeat, DeskName, SchedSeat};
 use ert_ops::RaceLists;
-use ert_world::{Parts, World};
-use ert_script::{history_stands, name_pairs};
+use ert_script::history_stands;
 use ert_service::{Gate, Opened, Service};
-use ert_workers::ListDone;
+use ert_world::{Parts, World};
 use std::alloc::Global;
 use std::marker::Brand;
 use std::sync::Wait;
@@ -36,7 +37,8 @@ pub struct RaceEnd {
 }
 
 /// Runs a race on a world: each caller does its list and each scheduler makes its turns, all at once, in threads
-/// where they can be made. When all have returned, each scheduler makes one turn more.
+/// where they can be made. When all have returned, each scheduler makes one turn more. The world gave out no seat,
+/// and `known` has the labels that were bound on it.
 ///
 /// A worker passes the gate before each of its ops or turns. Worker 0 does the keeper list, the workers from 1
 /// on make the turns of the schedulers, and those after them do the lists of the callers from 1 on.
@@ -46,15 +48,19 @@ pub fn race_on<R: Threads + Wait + Sync, G: Gate + Sync>(
     rt: &R,
     alloc: Global,
     world: World,
+    known: &Names,
     race: &RaceLists,
     gate: &G,
 ) -> Result<RaceEnd, NoMemory>
     requires callers { world.settings.callers ≡ suc (length race.now.callers.items) }
     requires may { MayDoAll world.settings (lists_of (race_of race.now)) }
-    ensures { IfOk result (λ e. RacesTo world (race_of race.now) (dids_of e.lists.items) e.world) }
+    requires lone { world.next ≡ 1 }
+    ensures { IfOk result (λ e. RacesTo world known.now (race_of race.now) (dids_of e.lists.items) e.world) }
 {
     let parts = world.into_parts();
-    let RaceEnd { mut world, lists } = run_at_once::<Brand, R, G>(rt, alloc, parts, race, gate)?;
+    let RaceEnd { mut world, lists } = run_at_once::<Brand, R, G>(
+        rt, alloc, parts, known, race, gate,
+    )?;
     last_round(&mut world)?;
     Ok(RaceEnd { world, lists })
 }
@@ -64,24 +70,24 @@ fn run_at_once<L: DeskName + Send + Sync, R: Threads + Wait + Sync, G: Gate + Sy
     rt: &R,
     alloc: Global,
     parts: Parts,
+    known: &Names,
     race: &RaceLists,
     gate: &G,
 ) -> Result<RaceEnd, NoMemory>
-    requires desk { IsDesk L.table L.settings parts.desk }
-    requires fit { AreFit parts.desk parts.pass (parts_of parts.keeper parts.wheels.items parts.inboxes.items parts.mails.items parts.scheds.items) }
+    requires desk { IsDesk L.table L.settings (arc_value parts.desk) }
+    requires fit { AreFit (arc_value parts.desk) parts.pass 1 (parts_of parts.keeper parts.wheels.items parts.inboxes.items parts.mails.items parts.scheds.items) }
     requires callers { L.settings.callers ≡ suc (length race.now.callers.items) }
     requires may { MayDoAll L.settings (lists_of (race_of race.now)) }
-    ensures { IfOk result (λ e. RunsAtOnce (seen parts.desk parts.pass parts.keeper parts.labels.items parts.wheels.items)
-        (race_of race.now) (dids_of e.lists.items) e.world) }
+    ensures { IfOk result (λ e. RunsAtOnce (seen (arc_value parts.desk) parts.pass 1 parts.keeper parts.wheels.items)
+        known.now (race_of race.now) (dids_of e.lists.items) e.world) }
 {
-    let known = name_pairs(alloc, &parts.labels)?;
     let Opened {
         service,
         rest,
         scheds,
         callers,
     } = Service::<L>::open(alloc, parts)?;
-    let (scheds, callers) = work_at_once(rt, alloc, &service, scheds, callers, race, &known, gate);
+    let (scheds, callers) = work_at_once(rt, alloc, &service, (scheds, callers), known, race, gate);
     let scheds = scheds?;
     let (callers, lists) = callers?;
     let world = service.close(rest, scheds, callers);
@@ -94,10 +100,9 @@ fn work_at_once<L: DeskName + Send + Sync, R: Threads + Wait + Sync, G: Gate + S
     rt: &R,
     alloc: Global,
     service: &Service<L>,
-    scheds: Vec<SchedSeat<L>>,
-    callers: Vec<CallerSeat<L>>,
-    race: &RaceLists,
+    seats: (Vec<SchedSeat<L>>, Vec<CallerSeat<L>>),
     known: &Names,
+    race: &RaceLists,
     gate: &G,
 ) -> (
     Result<Vec<SchedSeat<L>>, NoMemory>,
@@ -105,11 +110,12 @@ fn work_at_once<L: DeskName + Send + Sync, R: Threads + Wait + Sync, G: Gate + S
 )
     requires callers { L.settings.callers ≡ suc (length race.now.callers.items) }
     requires may { MayDoAll L.settings (lists_of (race_of race.now)) }
-    ensures turned { (f : List Entry) → AreSeated (λ s. s.part.wheel) (λ s. front_of s.pass) L.settings.schedulers f scheds.items
+    ensures turned { (f : List Entry) → AreSeated (λ s. s.part.wheel) (λ s. front_of s.pass) L.settings.schedulers f seats.0.items
         → IfOk result.0 (λ r. TurnsDone (λ s. s.part.wheel) (λ s. front_of s.pass) L.settings race.now.turns f r.items) }
-    ensures done { (f : List Entry) → AreSeated (λ s. s.number) (λ s. front_of s.pass) L.settings.callers f callers.items
+    ensures done { (f : List Entry) → AreSeated (λ s. s.number) (λ s. front_of s.pass) L.settings.callers f seats.1.items
         → IfOk result.1 (λ r. ListsDone (λ s. s.number) (λ s. front_of s.pass) L.settings known.now (lists_of (race_of race.now)) f r.0.items r.1.items) }
 {
+    let (scheds, callers) = seats;
     thread::join(
         rt,
         || make_turns(rt, alloc, service, scheds, race.turns, gate),

@@ -9,19 +9,18 @@ ghost use Rattle.ert_race.specs.Lists.{dids_of};
 ghost use Rattle.ert_race.specs.Written.{RacesOn, StopsRace, report_behind};
 ghost use Rattle.ert_world.specs.Counted.{AreTidy};
 
-use crate::naming::name_all;
 use crate::race::{RaceEnd, race_on};
-use crate::report::write_lists;
+use crate::report::{name_all, write_lists};
 use ert_defs::{NoMemory, Settings};
 use ert_io::Sink;
-use ert_lines::{RunErr, write_end, write_page};
+use ert_lines::{Names, RunErr, write_end, write_page};
 use ert_ops::{Op, RaceLists};
-use ert_world::World;
 use ert_script::{history_stands, run_ops, write_settled};
 use ert_service::Gate;
 use ert_table::{Desk, Pass};
+use ert_world::World;
 use std::alloc::Global;
-use std::sync::Wait;
+use std::sync::{Arc, Wait};
 use std::thread::Threads;
 
 /// Runs the ops on a new world, then the race, writes the report, and gives the world's desk. The sink tells
@@ -36,7 +35,7 @@ pub fn run_race<R: Threads + Wait + Sync, G: Gate + Sync, O: Sink>(
     race: &RaceLists,
     gate: &G,
     output: &mut O,
-) -> Result<(Desk, Pass), RunErr>
+) -> Result<(Arc<Desk>, Pass), RunErr>
     requires room { O.room output.old ≡ None }
     requires checked { IsChecked settings.now }
     requires ranges { IsInRange settings.now ops.now }
@@ -51,24 +50,25 @@ pub fn run_race<R: Threads + Wait + Sync, G: Gate + Sync, O: Sink>(
     let Ok(mut world) = World::open(alloc, settings) else {
         return Err(RunErr::NoMemory);
     };
-    run_ops(alloc, &mut world, ops, output)?;
-    let Ok(end) = race_on(rt, alloc, world, race, gate) else {
+    let mut names = Names::new(alloc);
+    run_ops(alloc, &mut world, &mut names, ops, output)?;
+    let Ok(end) = race_on(rt, alloc, world, &names, race, gate) else {
         return Err(RunErr::NoMemory);
     };
     history_stands(&end.world);
-    let Ok(mut page) = report_page(alloc, &end) else {
+    let Ok(mut page) = report_page(alloc, names, &end) else {
         return Err(RunErr::NoMemory);
     };
     write_page(output, &mut page)?;
     Ok(end.world.into_desk())
 }
 
-/// The report behind the lines of the ops.
-fn report_page(alloc: Global, end: &RaceEnd) -> Result<String, NoMemory>
+/// The report behind the lines of the ops, which bound these labels.
+fn report_page(alloc: Global, mut names: Names, end: &RaceEnd) -> Result<String, NoMemory>
     requires { AreTidy end.now.world }
-    ensures { IfOk result (λ page. string_bytes page ≡ report_behind end.now.world (dids_of end.now.lists.items)) }
+    ensures { IfOk result (λ page. string_bytes page ≡ report_behind end.now.world names (dids_of end.now.lists.items)) }
 {
-    let names = name_all(alloc, end.world.labels(), &end.lists)?;
+    name_all(&mut names, &end.lists)?;
     let mut page = String::new(alloc);
     write_lists(&mut page, &end.lists, &names)?;
     write_settled(&mut page, &end.world.counts())?;

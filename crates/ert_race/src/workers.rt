@@ -6,12 +6,13 @@ ghost use Rattle.ert_race.specs.Worked.{list_at, list_ok, turns_ok, CallerWorked
 ghost use Rattle.ert_service.specs.Dividing.{AreSeated};
 ghost use Rattle.ert_table.specs.Desks.{front_of};
 
+use crate::list::{ListDone, do_list};
+use crate::turns::do_turns;
 use ert_defs::NoMemory;
 use ert_lines::Names;
 use ert_locks::{CallerSeat, DeskName, SchedSeat};
 use ert_ops::{Op, RaceLists};
 use ert_service::{Gate, Service};
-use ert_workers::{ListDone, do_list, do_turns};
 use std::alloc::Global;
 use std::sync::Wait;
 use std::thread;
@@ -43,7 +44,7 @@ fn list_for(race: &RaceLists, number: u32) -> &[Op]
     }
 }
 
-/// Does the list of a caller. Its worker's number is that of the caller, or above those of the schedulers.
+/// Does the list of a caller.
 fn work_as_caller<L: DeskName, R: Wait, G: Gate>(
     rt: &R,
     alloc: Global,
@@ -58,14 +59,8 @@ fn work_as_caller<L: DeskName, R: Wait, G: Gate>(
     ensures { CallerWorked L.settings known.now (lists_of (race_of race.now))
         seat.number (front_of seat.pass) result.seat.number (front_of result.seat.pass) result.done }
 {
-    let number = seat.number;
-    let worker = if number == 0 {
-        0
-    } else {
-        service.desk().settings().schedulers + number
-    };
-    let ops = list_for(race, number);
-    let (seat, done) = do_list(rt, alloc, service, seat, worker, known, ops, gate);
+    let ops = list_for(race, seat.number);
+    let (seat, done) = do_list(rt, alloc, service, seat, known, ops, gate);
     CallerDone { seat, done }
 }
 

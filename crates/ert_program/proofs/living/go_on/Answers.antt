@@ -1,7 +1,10 @@
-use Rattle.std.proofs.Common.{rules, FitsSigned, w64, to_z-of_z}
+use Rattle.std.proofs.Common.{rules, [], ◌∙◌, FitsSigned, w64, to_z-of_z}
 use Rattle.ert_lines.proofs.Texts.{ok_map}
 use Rattle.ert_program.proofs.LivedThrough.{lived_more}
 use Rattle.ert_program.proofs.living.go_on.Goals as goal
+
+pub tell-requires : goal.tell-requires
+tell-requires c = (c.tick.ensures.with []).next ∙ c.requires.lone
 
 pub returns : goal.returns
 returns c = λ first others lived.

@@ -1,4 +1,4 @@
-use Rattle.std.proofs.Common.{rules, arith, ◌≡◌, ◌<◌, FitsSigned, w64, to_z-of_z, string_bytes}
+use Rattle.std.proofs.Common.{rules, arith, ◌≡◌, ◌<◌, ◌∙◌, FitsSigned, w64, to_z-of_z, string_bytes}
 use Rattle.ert_defs.specs.Readings.{IsValid}
 use Rattle.ert_io.specs.Faults.{Rose}
 use Rattle.ert_program.proofs.LivedThrough.{watched_first, watched_more, stopped_later, refused_first, refused_later, watched_all}
@@ -29,6 +29,12 @@ returns-then-not-is_valid-2-clause-ok g c =
     rw c.without_desk-then-not-is_valid-2.ensures
     (refused_later c.args.n _ _ c.readings.taken _ c.readings.world _ _ c.in-Ok-read.reading below c.readings.invariant.so_far c.in-Ok-read.ensures.given not
     c.in_ok-write_bad_reading-2.ensures)
+
+pub go_on-requires-clause-lone : goal.go_on-requires-clause-lone
+go_on-requires-clause-lone g c = let lived = c.readings.invariant.so_far.lived in lived.runs.next ∙ lived.opened.next
+
+pub into_desk-requires : goal.into_desk-requires
+into_desk-requires g c = let lived = c.readings.invariant.so_far.lived in lived.runs.next ∙ lived.opened.next
 
 pub readings-preserved : goal.readings-preserved
 readings-preserved g c =

@@ -1,16 +1,12 @@
-use Rattle.std.proofs.Common.{◌≡◌, List, sym, subst}
+use Rattle.std.proofs.Common.{◌≡◌, List, [], sym, subst}
 use Rattle.ert_generate.specs.Generated.{generated}
 use Rattle.ert_ops.specs.Labels.{AreOps}
 use Rattle.ert_ops.specs.declared.op.Op.{Op}
 use Rattle.ert_scenario.specs.Scenarios.{Plan, plan_of}
-use Rattle.ert_script.proofs.Labels.{none_bound}
 use Rattle.ert_script.specs.Written.{RunsAll}
 use Rattle.ert_program.specs.Stresses.{HasRun}
 use Rattle.ert_program.proofs.Made.{has_run}
 use Rattle.ert_program.proofs.stressing.run_generated.Goals as goal
-
-pub do_ops-requires-clause-unbound : goal.do_ops-requires-clause-unbound
-do_ops-requires-clause-unbound c = none_bound c.in_ok-world.world.labels c.deref.result.now c.in_ok-world.ensures.labels
 
 pub returns : goal.returns
 returns c =
@@ -18,5 +14,6 @@ returns c =
     let same : plan ≡ generated c.args.seed c.args.n = c.in_ok-scenario.ensures in
     let are : AreOps plan.ops = subst (λ (p : Plan). AreOps p.ops) (sym same) (c.generated_scenarios_are_valid.ensures.labels c.args.seed c.args.n c.requires) in
     subst (λ (p : Plan). HasRun p c.do_ops.new.world) same
-    (has_run plan c.in_ok-world.world c.do_ops.new.world are c.in_ok-world.ensures
-    (subst (λ (ops : List Op). RunsAll c.in_ok-world.world ops c.do_ops.new.world) c.deref.ensures.value c.in_ok-do_ops.ensures.ok))
+    (has_run plan c.in_ok-world.world c.do_ops.new.world c.do_ops.new.names are c.in_ok-world.ensures
+    (subst (λ (ops : List Op). RunsAll c.in_ok-world.world [] ops c.do_ops.new.world c.do_ops.new.names) c.deref.ensures.value
+    (rw c.new.ensures at c.in_ok-do_ops.ensures.ok)))

@@ -5,5 +5,5 @@ use Rattle.ert_race.proofs.race.race_on.Goals as goal
 
 pub returns : goal.returns
 returns g c =
-    races_to c.args.world _ c.in_ok-world.field-0.world c.last_round.new.world (race_of c.args.race.now) (dids_of c.in_ok-world.field-0.lists.items)
+    races_to c.args.world _ c.in_ok-world.field-0.world c.last_round.new.world c.args.known.now (race_of c.args.race.now) (dids_of c.in_ok-world.field-0.lists.items)
     c.into_parts-parts.ensures.same c.in_ok-world.ensures c.in_ok-last_round.ensures

@@ -3,7 +3,6 @@ use Rattle.ert_answers.specs.Ways.{Grows}
 use Rattle.ert_defs.specs.Legal.{Legal}
 use Rattle.ert_defs.specs.declared.entry.Entry.{Entry}
 use Rattle.ert_defs.specs.declared.settings.Settings.{Settings}
-use Rattle.ert_lines.specs.Names.{IsIndexOf}
 use Rattle.ert_ops.specs.Races.{race_of}
 use Rattle.ert_outcome.specs.Outcomes.{ActAtOnce}
 use Rattle.ert_race.proofs.AtOnce.{at_once, count_callers}
@@ -11,7 +10,6 @@ use Rattle.ert_race.proofs.Worked.{if_ok_at}
 use Rattle.ert_race.specs.Lists.{dids_of}
 use Rattle.ert_table.specs.Desks.{front_of}
 use Rattle.ert_table.specs.Views.{Begins}
-use Rattle.ert_transcript.specs.Labels.{Labels}
 use Rattle.ert_race.proofs.race.run_at_once.Goals as goal
 
 pub close-world-requires-clause-scheds : goal.close-world-requires-clause-scheds
@@ -30,18 +28,17 @@ returns g c =
     let f : List Entry = front_of c.args.parts.pass in
     let h : List Entry = c.close-world.result.history in
     let legal = subst (λ (x : Settings). Legal x h) c.close-world.ensures.settings c.history_stands.ensures.clock.legal in
-    let index = subst (λ (l : Labels). IsIndexOf l c.in_ok-known.known) c.deref.ensures.value c.in_ok-known.ensures in
     let longer = subst (λ (l : List Entry). Begins l h) c.in_ok-service.ensures.front c.close-world.ensures.rest in
     let turned = if_ok_at c.work_at_once-scheds.result.0 c.in_ok-scheds.scheds _
     (c.work_at_once-scheds.ensures.turned f c.in_ok-service.ensures.scheds) c.in_ok-scheds.was in
     let done = if_ok_at c.work_at_once-scheds.result.1 (c.in_ok-callers.callers, c.in_ok-callers.lists) _
     (c.work_at_once-scheds.ensures.done f c.in_ok-service.ensures.callers) c.in_ok-callers.was in
-    let grown = at_once (λ s. s.part.wheel) (λ s. front_of s.pass) (λ s. s.number) (λ s. front_of s.pass) s c.args.parts.labels.items c.in_ok-known.known
+    let grown = at_once (λ s. s.part.wheel) (λ s. front_of s.pass) (λ s. s.number) (λ s. front_of s.pass) s c.args.known.now
     (race_of c.args.race.now) f h c.in_ok-scheds.scheds.items c.in_ok-callers.callers.items c.in_ok-callers.lists.items
-    index longer legal (count_callers s c.args.race.now c.requires.callers) turned c.close-world.ensures.scheds done c.close-world.ensures.callers in
+    longer legal (count_callers s c.args.race.now c.requires.callers) turned c.close-world.ensures.scheds done c.close-world.ensures.callers in
     record {
-      grows = subst (λ (x : Settings). Grows (ActAtOnce x c.args.parts.labels.items (race_of c.args.race.now) (dids_of c.in_ok-callers.lists.items)) f h)
+      grows = subst (λ (x : Settings). Grows (ActAtOnce x c.args.known.now (race_of c.args.race.now) (dids_of c.in_ok-callers.lists.items)) f h)
           (sym c.requires.desk.settings_is) grown;
       settings = c.close-world.ensures.settings ∙ sym c.requires.desk.settings_is;
-      labels = c.close-world.ensures.labels ∙ c.in_ok-service.ensures.labels;
+      next = c.close-world.ensures.next;
     }

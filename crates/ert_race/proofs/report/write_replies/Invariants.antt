@@ -1,9 +1,6 @@
 use Rattle.std.proofs.Common.{◌≡◌, ◌++◌, string_bytes, take}
-use Rattle.ert_lines.specs.Names.{IsIndexOf}
 use Rattle.ert_outcome.specs.Reports.{lines_by}
-use Rattle.ert_transcript.specs.Labels.{Labels}
 use Rattle.ert_race.proofs.report.write_replies.Given as goal
 
 abbrev pub invariant-loop-reply : goal.invariant-loop-reply
-invariant-loop-reply l = (labels : Labels) → IsIndexOf labels l.names
-    → string_bytes l.page ≡ string_bytes l.fn.page ++ lines_by labels (take l.reply-index l.replies)
+invariant-loop-reply l = string_bytes l.page ≡ string_bytes l.fn.page ++ lines_by l.names (take l.reply-index l.replies)

@@ -13,11 +13,12 @@ returns c =
     let now : FitsSigned w64 c.published.result = search rules in
     let w = c.args.end.now.world in
     let dids = dids_of c.args.end.now.lists.items in
-    let index = rw c.deref.ensures.value at (rw c.labels.ensures at c.in_ok-names.ensures) in
-    let lists = rw c.deref-2.ensures.value at (c.in_ok-write_lists.ensures (all_labels w.labels dids) index) in
+    let all = all_labels c.args.names dids in
+    let named = rw c.deref.ensures.value at c.in_ok-name_all.ensures in
+    let lists = rw (c.deref-2.ensures.value, named) at c.in_ok-write_lists.ensures in
     let settled = subst (λ (n : Counts). string_bytes c.write_settled.new.page ≡ string_bytes c.write_lists.new.page ++ settled_line n) c.counts.ensures
     c.in_ok-write_settled.ensures in
     let last = simp to_z-of_z at c.in_ok-write_end.ensures in
     page_of (string_bytes c.new-page.result) (string_bytes c.write_lists.new.page) (string_bytes c.write_settled.new.page) (string_bytes c.write_end.new.page)
-    (lists_text (all_labels w.labels dids) 0 dids) (settled_line (counts_of w.settings (state w.settings w.history))) (end_line w.clock.face.time)
+    (lists_text all 0 dids) (settled_line (counts_of w.settings (state w.settings w.history))) (end_line w.clock.face.time)
     c.new-page.ensures.bytes lists settled (rw c.published.ensures at last)

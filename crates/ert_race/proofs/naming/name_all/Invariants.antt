@@ -1,8 +1,0 @@
-use Rattle.std.proofs.Common.{take}
-use Rattle.ert_lines.specs.Names.{IsIndexOf}
-use Rattle.ert_outcome.specs.Reports.{all_labels}
-use Rattle.ert_race.specs.Lists.{dids_of}
-use Rattle.ert_race.proofs.naming.name_all.Given as goal
-
-abbrev pub invariant-loop-list : goal.invariant-loop-list
-invariant-loop-list l = IsIndexOf (all_labels l.labels (dids_of (take l.list-index l.lists))) l.names

@@ -1,0 +1,17 @@
+use Rattle.std.proofs.Common.{[], sym, subst}
+use Rattle.ert_answers.specs.TimerCalls.{Cancels}
+use Rattle.ert_answers.specs.Ways.{Grows, beside}
+use Rattle.ert_defs.specs.declared.entry.Actor.TheVariants.{Caller}
+use Rattle.ert_table.specs.Desks.{front_of}
+use Rattle.ert_race.proofs.CallsMade.{made_alone}
+use Rattle.ert_race.proofs.timer_ops.cancel_quiet.Goals as goal
+
+pub returns-clause-answer : goal.returns-clause-answer
+returns-clause-answer g c label ls bound =
+    let s = g.L.DeskName.settings in
+    let by = Caller c.args.seat.number in
+    let left = c.cancel_timer.result in
+    let grows = subst (λ t. Grows (beside s by [] (Cancels s by t left)) (front_of c.args.seat.pass) (front_of c.new.result.pass)) (sym bound)
+    (made_alone s _ by (λ t. Cancels t by c.args.timer left) c.args.seat.pass c.cancel_timer.new.pass c.new.result.pass c.desk.ensures.settings_is c.args.seat.sits.actors
+    c.cancel_timer.ensures.call.call c.new.ensures.pass) in
+    record { does = record { piece = grows.piece; grown = grows.grown; made = (left, grows.made) }; fails = tt }

@@ -1,0 +1,10 @@
+use Rattle.std.proofs.Common.{◌≡◌}
+use Rattle.ert_table.specs.Desks.{front_of}
+use Rattle.ert_race.specs.Workers.{TurnsSoOften}
+use Rattle.ert_race.proofs.turns.do_turns.Given as goal
+
+abbrev pub invariant-loop-done : goal.invariant-loop-done
+invariant-loop-done g l = record {
+  number : l.next.part.wheel ≡ l.fn.seat.part.wheel;
+  so_far : TurnsSoOften g.L.DeskName.settings l.fn.seat.part.wheel l.done (front_of l.fn.seat.pass) (front_of l.next.pass);
+}
