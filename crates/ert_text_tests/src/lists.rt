@@ -1,8 +1,9 @@
 //! A list of ops that goes on where another has ended, on one world.
 use ert_defs::{Mode, NoMemory, Reading, Settings, TimerRef, When};
+use ert_lines::Names;
 use ert_ops::Op;
-use ert_world::World;
 use ert_script::do_ops;
+use ert_world::World;
 
 /// One of each.
 const SETTINGS: Settings = Settings {
@@ -21,6 +22,7 @@ const SETTINGS: Settings = Settings {
 fn a_list_goes_on(rt: HostRuntime) -> Result<(), NoMemory> {
     assert!(rt; SETTINGS.check().is_ok());
     let mut world = World::open(rt.alloc(), &SETTINGS)?;
+    let mut names = Names::new(rt.alloc());
     assert!(rt; world.settings().schedulers == 1 && world.settings().processes == 1);
     let start = Op::Start {
         label: 1,
@@ -29,15 +31,15 @@ fn a_list_goes_on(rt: HostRuntime) -> Result<(), NoMemory> {
         dest: 0,
         msg: 7,
     };
-    do_ops(rt.alloc(), &mut world, &[start])?;
+    do_ops(&mut world, &mut names, &[start])?;
     let timer = TimerRef {
         wheel: 0,
         slot: 0,
         generation: 1,
     };
-    assert!(rt; world.labels() == [(1, timer)].as_slice());
+    assert!(rt; names.pairs() == [(1, timer)].as_slice());
     assert!(rt; world.read_timer(timer) == Some(5));
-    do_ops(rt.alloc(), &mut world, &[Op::Cancel { label: 1 }])?;
+    do_ops(&mut world, &mut names, &[Op::Cancel { label: 1 }])?;
     assert!(rt; world.read_timer(timer).is_none());
     Ok(())
 }
