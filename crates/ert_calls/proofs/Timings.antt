@@ -3,7 +3,7 @@
 use Rattle.std.proofs.Common.{◌≡◌, ◌≢◌, ℕ, ◌-◌, ℤ, pos, negsuc, ◌-ℤ◌, arith, Bool, true, false, cond, List, [], ◌∷◌, ◌++◌, Option, Some, None, option_map, refl, sym, subst, ◌∙◌}
 use Rattle.std.proofs.lemmas.Int.{ints}
 use Rattle.std.specs.Prelude.{IsSome}
-use Rattle.ert_answers.specs.TimerCalls.{read_entries, Reads, cancel_entries, Cancels}
+use Rattle.ert_effects.specs.TimerCalls.{read_entries, Reads, cancel_entries, Cancels}
 use Rattle.ert_defs.specs.Entries.{look_entry, peek_entry, cancel_entry}
 use Rattle.ert_defs.specs.Legal.{Legal, left_by, left_of, names_timer}
 use Rattle.ert_defs.specs.Milliseconds.{natural, left}
@@ -130,7 +130,7 @@ in_or_out true is other = absurd cc
 in_or_out false is other = absurd cc
 
 -- a read of one in range
-pub reads : (g : Settings) (v : View) (by : Actor) (timer : TimerRef) (now : ℤ) (u : View) (deadline : Option ℕ) (w : View)
+reads : (g : Settings) (v : View) (by : Actor) (timer : TimerRef) (now : ℤ) (u : View) (deadline : Option ℕ) (w : View)
     → is_held v.actors by ≡ true → names_timer g timer ≡ true → Appends g v (look_entry by now) u → Peeks g u by timer deadline w
     → Tells g v by timer (option_map (λ d. left g d now) deadline) (Reads g by timer (option_map (λ d. left g d now) deadline)) w
 reads g v by timer now u deadline w held within step peek =
@@ -144,6 +144,22 @@ reads g v by timer now u deadline w held within step peek =
       };
       left = subst (λ b. TellsLeft b g by timer answer w) (sym within) read.left;
     }
+
+-- where it isn't armed
+pub reads_unarmed : (g : Settings) (v : View) (by : Actor) (timer : TimerRef) (now : ℤ) (u : View) (found answer : Option ℕ) (w : View)
+    → found ≡ None → answer ≡ None → is_held v.actors by ≡ true → names_timer g timer ≡ true → Appends g v (look_entry by now) u
+    → Peeks g u by timer found w → Tells g v by timer answer (Reads g by timer answer) w
+reads_unarmed g v by timer now u found answer w none nothing held within step peek =
+    subst (λ x. Tells g v by timer x (Reads g by timer x) w) (sym nothing)
+    (reads g v by timer now u None w held within step (subst (λ x. Peeks g u by timer x w) none peek))
+
+-- and where it is
+pub reads_armed : (g : Settings) (v : View) (by : Actor) (timer : TimerRef) (now : ℤ) (u : View) (found : Option ℕ) (deadline told : ℕ) (w : View)
+    → found ≡ Some deadline → told ≡ left g deadline now → is_held v.actors by ≡ true → names_timer g timer ≡ true
+    → Appends g v (look_entry by now) u → Peeks g u by timer found w → Tells g v by timer (Some told) (Reads g by timer (Some told)) w
+reads_armed g v by timer now u found deadline told w some is held within step peek =
+    subst (λ n. Tells g v by timer (Some n) (Reads g by timer (Some n)) w) (sym is)
+    (reads g v by timer now u (Some deadline) w held within step (subst (λ x. Peeks g u by timer x w) some peek))
 
 -- a cancel of a reference out of range
 pub cancels_none : (g : Settings) (v : View) (by : Actor) (timer : TimerRef) (now : ℤ) (u : View) → names_timer g timer ≡ false
@@ -159,19 +175,20 @@ cancels_none g v by timer now u out step = record {
 }
 
 -- a cancel of a timer that isn't armed when it is read
-pub cancels_unarmed : (g : Settings) (v : View) (by : Actor) (timer : TimerRef) (now : ℤ) (u w : View)
-    → is_held v.actors by ≡ true → names_timer g timer ≡ true → Appends g v (look_entry by now) u → Peeks g u by timer None w
-    → Tells g v by timer None (Cancels g by timer None) w
-cancels_unarmed g v by timer now u w held within step peek =
-    let read = peeked g v by timer now u None w held step peek in
-    record {
+pub cancels_unarmed : (g : Settings) (v : View) (by : Actor) (timer : TimerRef) (now : ℤ) (u : View) (found answer : Option ℕ) (w : View)
+    → found ≡ None → answer ≡ None → is_held v.actors by ≡ true → names_timer g timer ≡ true → Appends g v (look_entry by now) u
+    → Peeks g u by timer found w → Tells g v by timer answer (Cancels g by timer answer) w
+cancels_unarmed g v by timer now u found answer w none nothing held within step peek =
+    let read = peeked g v by timer now u None w held step (subst (λ x. Peeks g u by timer x w) none peek) in
+    subst (λ x. Tells g v by timer x (Cancels g by timer x) w) (sym nothing)
+    (record {
       call = record {
         entries = look_entry by now ∷ cancel_entries (names_timer g timer) by timer None None;
         allowed = record { now = now; found = None; entries = refl; unread = λ _. refl; quiet = λ _. refl };
         call = subst (λ b. TakesPlace g v (look_entry by now ∷ cancel_entries b by timer None None) w) (sym within) read.call;
       };
       left = subst (λ b. TellsLeft b g by timer None w) (sym within) read.left;
-    }
+    })
 
 -- the step of a cancel
 cancelled : (g : Settings) (v : View) (by : Actor) (timer : TimerRef) (deadline : ℕ) (hit : Bool) (w : View)
@@ -181,7 +198,7 @@ cancelled g v by timer deadline true w step = step
 cancelled g v by timer deadline false w step = step
 
 -- a cancel of one that is armed then, and at the last step or not
-pub cancels : (g : Settings) (v : View) (by : Actor) (timer : TimerRef) (now : ℤ) (u : View) (deadline : ℕ) (w : View) (hit : Bool) (x : View)
+cancels : (g : Settings) (v : View) (by : Actor) (timer : TimerRef) (now : ℤ) (u : View) (deadline : ℕ) (w : View) (hit : Bool) (x : View)
     → is_held v.actors by ≡ true → names_timer g timer ≡ true → Appends g v (look_entry by now) u → Peeks g u by timer (Some deadline) w
     → Settles g w by timer deadline ToCancel hit x
     → Tells g v by timer (cond hit (Some (left g deadline now)) None) (Cancels g by timer (cond hit (Some (left g deadline now)) None)) x
@@ -210,3 +227,19 @@ cancels g v by timer now u deadline w hit x held within step peek settled =
           (left_found g w (cancel_entry by timer answer) x timer answer last
           (can_step g w (cancel_entry by timer answer) x last).found);
     }
+
+-- where it was armed at the last step
+pub cancels_hit : (g : Settings) (v : View) (by : Actor) (timer : TimerRef) (now : ℤ) (u : View) (found : Option ℕ) (deadline told : ℕ) (w x : View)
+    → found ≡ Some deadline → told ≡ left g deadline now → is_held v.actors by ≡ true → names_timer g timer ≡ true
+    → Appends g v (look_entry by now) u → Peeks g u by timer found w → Settles g w by timer deadline ToCancel true x
+    → Tells g v by timer (Some told) (Cancels g by timer (Some told)) x
+cancels_hit g v by timer now u found deadline told w x some is held within step peek settled =
+    subst (λ n. Tells g v by timer (Some n) (Cancels g by timer (Some n)) x) (sym is)
+    (cancels g v by timer now u deadline w true x held within step (subst (λ y. Peeks g u by timer y w) some peek) settled)
+
+-- and where it wasn't
+pub cancels_missed : (g : Settings) (v : View) (by : Actor) (timer : TimerRef) (now : ℤ) (u : View) (found : Option ℕ) (deadline : ℕ) (w x : View)
+    → found ≡ Some deadline → is_held v.actors by ≡ true → names_timer g timer ≡ true → Appends g v (look_entry by now) u
+    → Peeks g u by timer found w → Settles g w by timer deadline ToCancel false x → Tells g v by timer None (Cancels g by timer None) x
+cancels_missed g v by timer now u found deadline w x some held within step peek settled =
+    cancels g v by timer now u deadline w false x held within step (subst (λ y. Peeks g u by timer y w) some peek) settled

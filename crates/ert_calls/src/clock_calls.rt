@@ -8,7 +8,7 @@ ghost use Rattle.ert_table.specs.Held.{is_held};
 ghost use Rattle.ert_table.specs.Takes.{Appends};
 ghost use Rattle.ert_table.specs.Calls.{IsMade};
 ghost use Rattle.ert_defs.specs.Entries.{look_entry};
-ghost use Rattle.ert_answers.specs.ClockCalls.{TellsTime, TellsOffset, TellsSystemTime};
+ghost use Rattle.ert_effects.specs.ClockCalls.{TellsTime, TellsOffset, TellsSystemTime};
 
 use ert_defs::{Actor, OffsetState};
 use ert_table::{Desk, OffsetCarry, Pass, TimeCarry};

@@ -15,11 +15,11 @@
 //! | `is_alive` | Mark | whether the process had not exited |
 //! | `mark_exit` | Mark, which exits it | the same |
 //!
-//! What each call may record with its answer stands in `ert_answers`: its entries in order, and the answer
+//! What each call may record with its answer stands in `ert_effects`: its entries in order, and the answer
 //! that is read from them. What is left of a timer is told by the look that the same call made: the whole
 //! milliseconds from that time to the deadline (`specs/Left.antt`).
 //!
-//! It stands on `ert_defs`, `ert_answers` and `ert_table`.
+//! It stands on `ert_defs`, `ert_effects` and `ert_table`.
 #![tactic(auto)]
 
 mod clock_calls;
@@ -28,4 +28,4 @@ mod timer_calls;
 
 pub use clock_calls::{look, monotonic_time, system_time, time_offset};
 pub use process_calls::{is_alive, mark_exit};
-pub use timer_calls::{cancel_timer, read_timer, rounded_up};
+pub use timer_calls::{cancel_timer, read_timer};

@@ -4,7 +4,7 @@ ghost use Rattle.ert_defs.specs.Actors.{IsUser};
 ghost use Rattle.ert_table.specs.Desks.{settings_of, view_of, actors_of, Belongs};
 ghost use Rattle.ert_table.specs.Held.{is_held};
 ghost use Rattle.ert_table.specs.Calls.{IsMade};
-ghost use Rattle.ert_answers.specs.WheelCalls.{TellsAlive, MarksExit};
+ghost use Rattle.ert_effects.specs.WheelCalls.{TellsAlive, MarksExit};
 
 use ert_defs::Actor;
 use ert_table::{Desk, Pass};

@@ -1,20 +1,19 @@
 //! Calls that read and cancel timers.
-ghost use Rattle.std.specs.Prelude.{pos, ◌≡◌, ◌≤ℤ◌, ◌<ℤ◌, true};
+ghost use Rattle.std.specs.Prelude.{◌≡◌, ◌≤ℤ◌, ◌<ℤ◌, true};
 ghost use Rattle.ert_defs.specs.Actors.{IsUser};
 ghost use Rattle.ert_defs.specs.Legal.{names_timer};
 ghost use Rattle.ert_defs.specs.Lines.{end_time};
 ghost use Rattle.ert_defs.specs.Milliseconds as milliseconds;
 ghost use Rattle.ert_table.specs.Desks.{settings_of, view_of, actors_of, Belongs};
 ghost use Rattle.ert_table.specs.Held.{is_held};
-ghost use Rattle.ert_answers.specs.TimerCalls.{Reads, Cancels};
+ghost use Rattle.ert_effects.specs.TimerCalls.{Reads, Cancels};
 ghost use Rattle.ert_calls.specs.Left.{Tells};
 ghost use Rattle.ert_calls.specs.Deadlines.{deadline_shown, Peeks};
 
 use crate::clock_calls::look;
+use ert_defs::milliseconds::rounded_up;
 use ert_defs::{Actor, Settings, Status, TimerRef};
 use ert_table::{Desk, Pass, Settle, TimerCarry};
-
-const NANOSECONDS_PER_MILLISECOND: i64 = 1_000_000;
 
 /// The whole milliseconds left of a timer (`erlang` module reference, `read_timer`).
 ///
@@ -88,14 +87,4 @@ fn left(settings: &Settings, deadline: u64, now: i64) -> u64
     ensures { result ≡ milliseconds.left settings.now deadline now }
 {
     deadline.saturating_sub(rounded_up(settings, now))
-}
-
-/// The milliseconds from the start time to a time, rounded up.
-pub fn rounded_up(settings: &Settings, now: i64) -> u64
-    requires low { settings.now.start ≤ℤ now }
-    requires high { now <ℤ end_time settings.now }
-    ensures { pos result ≡ milliseconds.up settings.now now }
-{
-    let nanoseconds = now - settings.start + (NANOSECONDS_PER_MILLISECOND - 1);
-    nanoseconds.div_euclid(NANOSECONDS_PER_MILLISECOND) as u64
 }

@@ -1,9 +1,9 @@
 -- What the code computes in parts is what the rules on numbers say, over plain variables.
 
-use Rattle.std.proofs.Common.{◌≡◌, refl, sym, ap, ◌∙◌, true, false, FitsSigned, w64}
+use Rattle.std.proofs.Common.{◌≡◌, refl, sym, ◌∙◌, true, false, FitsSigned, w64}
 use Rattle.std.specs.Prelude.{ℤ, pos, ◌-ℤ◌, ◌+ℤ◌, int_le}
 use Rattle.std.specs.Int.{int_max}
-use Rattle.ert_defs.specs.Lines.{Face, mono_after, line_time, time_after, due_at, rate_after, base_from, ticked}
+use Rattle.ert_defs.specs.Lines.{Face, mono_after, time_after, due_at, rate_after, base_from, ticked}
 use Rattle.ert_defs.specs.Readings.{IsValid}
 use Rattle.ert_defs.specs.declared.entry.Act.{Act}
 use Rattle.ert_defs.specs.declared.entry.Act.TheVariants.{Plain}

@@ -17,7 +17,7 @@ use Rattle.ert_defs.specs.declared.entry.Act.TheVariants.{Plain, Force, Finalize
 use Rattle.ert_defs.specs.declared.entry.Actor.{Actor}
 use Rattle.ert_defs.specs.declared.entry.Actor.TheVariants.{Keeper, Caller}
 use Rattle.ert_defs.specs.declared.entry.Entry.{Entry}
-use Rattle.ert_defs.specs.declared.entry.Event.TheVariants.{Tick, Shift, Off}
+use Rattle.ert_defs.specs.declared.entry.Event.TheVariants.{Tick, Shift}
 use Rattle.ert_defs.specs.declared.settings.OffsetState.{OffsetState}
 use Rattle.ert_defs.specs.declared.settings.OffsetState.TheVariants.{Preliminary, Final, Volatile}
 use Rattle.ert_defs.specs.declared.settings.Reading.{Reading}

@@ -134,7 +134,8 @@ impl Clock {
         let settings = &self.settings;
         let now = time_after(settings, &self.face, reading);
         let shift = limit(self.face.due_after(settings, reading, act, now))?;
-        self.face = self.face.ticked(settings, reading, act, now).shifted(shift);
+        self.face.tick(settings, reading, act, now);
+        self.face.shift(shift);
         Ok(Moved {
             now,
             shift: offset_of(shift),

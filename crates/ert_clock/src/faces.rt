@@ -1,11 +1,11 @@
-ghost use Rattle.std.specs.Prelude.{◌≡◌, ◌↔◌, pos, IsTrue};
-ghost use Rattle.std.specs.Int.{int_div_euclid};
+ghost use Rattle.std.specs.Prelude.{◌≡◌, ◌↔◌, IsTrue};
 ghost use Rattle.ert_defs.specs.Clocks.{face, first_clock};
 ghost use Rattle.ert_defs.specs.Lines.{IsOffset, rate_of, rate_after, is_base, shift_of};
 ghost use Rattle.ert_defs.specs.Lines.{mono_after, line_time, time_after, base_from, due_at};
 ghost use Rattle.ert_defs.specs.Lines.{due_after, ticked, shifted};
 ghost use Rattle.ert_defs.specs.Settings.{IsChecked};
 
+use ert_defs::milliseconds::{NANOSECONDS_PER_MILLISECOND, millionth};
 use ert_defs::{Act, OffsetState, Reading, Settings};
 
 /// How far away the last check is, in nanoseconds, where the next is due: a minute (profile).
@@ -13,7 +13,7 @@ const CHECK_INTERVAL: u64 = 60_000_000_000;
 
 /// How far OS system time may lie from system time, in nanoseconds, before a check acts: a millisecond
 /// (profile).
-const TOLERANCE: i128 = 1_000_000;
+const TOLERANCE: i128 = NANOSECONDS_PER_MILLISECOND as i128;
 
 /// From how far on a check corrects at full strength, in nanoseconds: 100 milliseconds (profile).
 const FAR: i128 = 100_000_000;
@@ -85,22 +85,6 @@ fn rate_after(act: Act, state: OffsetState, error: i128) -> i16
     match act {
         Act::Finalize => 0,
         Act::Plain | Act::Force => rate_after_check(state, error),
-    }
-}
-
-/// A millionth of a number, rounded down.
-///
-/// A division of 128 bits takes several times as long as one of 64, and none is needed while a clock runs at the
-/// rate of OS monotonic time.
-pub fn millionth(product: i128) -> i128
-    ensures { result ≡ int_div_euclid product (pos 1000000) }
-{
-    if product == 0 {
-        0
-    } else if i64::MIN as i128 <= product && product <= i64::MAX as i128 {
-        (product as i64).div_euclid(1_000_000) as i128
-    } else {
-        product.div_euclid(1_000_000)
     }
 }
 
@@ -198,22 +182,16 @@ impl Face {
         }
     }
 
-    /// The face after a tick to a time, before any shift.
-    pub fn ticked(&self, settings: &Settings, reading: Reading, act: Act, now: i64) -> Face
-        ensures { face_of result ≡ ticked settings.now (face_of self.now) reading act now }
+    /// Takes a tick to a time, before any shift.
+    pub fn tick(&mut self, settings: &Settings, reading: Reading, act: Act, now: i64)
+        ensures { face_of self.new ≡ ticked settings.now (face_of self.old) reading act now }
     {
-        let line = if self.ends_line(settings, reading, act) {
-            self.line_from(reading, act, now)
-        } else {
-            self.line
-        };
-        Face {
-            time: now,
-            offset: self.offset,
-            state: self.state,
-            line,
-            mono: self.mono_after(reading),
+        let mono = self.mono_after(reading);
+        if self.ends_line(settings, reading, act) {
+            self.line = self.line_from(reading, act, now);
         }
+        self.mono = mono;
+        self.time = now;
     }
 
     /// The offset and the state that are due after a tick to a time. The offset may be outside its limits.
@@ -248,17 +226,13 @@ impl Face {
         }
     }
 
-    /// The face after a shift.
-    pub fn shifted(&self, due: Option<(i64, OffsetState)>) -> Face
-        ensures { face_of result ≡ shifted (face_of self.now) due }
+    /// Sets the offset and its state as a tick made due.
+    pub fn shift(&mut self, due: Option<(i64, OffsetState)>)
+        ensures { face_of self.new ≡ shifted (face_of self.old) due }
     {
-        match due {
-            Some((offset, state)) => Face {
-                offset,
-                state,
-                ..*self
-            },
-            None => *self,
+        if let Some((offset, state)) = due {
+            self.offset = offset;
+            self.state = state;
         }
     }
 }

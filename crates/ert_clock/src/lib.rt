@@ -36,4 +36,4 @@ mod clock;
 mod faces;
 
 pub use clock::{Clock, ClockErr, Moved};
-pub use faces::{Face, Line, is_offset, millionth};
+pub use faces::{Face, Line, is_offset};

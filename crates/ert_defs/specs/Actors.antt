@@ -48,3 +48,10 @@ abbrev pub IsUser : Settings → Actor → Type 0
 IsUser g (Caller n) = n < g.callers
 IsUser g (Sched n) = n < g.schedulers
 IsUser g _ = ⊥
+
+-- who makes entries: the clock, the callers and the schedulers of the settings
+abbrev pub IsMaker : Settings → Actor → Type 0
+IsMaker g Keeper = Unit {0}
+IsMaker g (Caller n) = n < g.callers
+IsMaker g (Sched n) = n < g.schedulers
+IsMaker g _ = ⊥

@@ -6,7 +6,7 @@ use Rattle.std.specs.List.{list_any}
 use Rattle.ert_defs.specs.Actors.{IsCaller, IsUser}
 use Rattle.ert_defs.specs.Clocks.{face}
 use Rattle.ert_defs.specs.Lines.{Face, time_after, due_after, MayAct, IsInRange}
-use Rattle.ert_defs.specs.Mails.{Monitor, first_of}
+use Rattle.ert_defs.specs.Mails.{first_of}
 use Rattle.ert_defs.specs.Milliseconds.{natural, down, left, deadline_of}
 use Rattle.ert_defs.specs.Readings.{IsValid}
 use Rattle.ert_defs.specs.States.{State, uses_at, opening, next}
@@ -17,6 +17,7 @@ use Rattle.ert_defs.specs.declared.entry.Actor.TheVariants.{Keeper, Wheel, Inbox
 use Rattle.ert_defs.specs.declared.entry.Entry.{Entry}
 use Rattle.ert_defs.specs.declared.entry.Event.{Event}
 use Rattle.ert_defs.specs.declared.entry.Event.TheVariants.{Tick, Shift, Look, Off, Arm, Probe, Peek, Cancel, Expire, Orphan, Deliver, Drop, Mark, Advanced, Ask, Pick, Answer, Take, Unwatch, Watch, Tell}
+use Rattle.ert_defs.specs.declared.mail.Monitor.{Monitor}
 use Rattle.ert_defs.specs.declared.mail.Request.{Request}
 use Rattle.ert_defs.specs.declared.settings.Reading.{Reading}
 use Rattle.ert_defs.specs.declared.settings.Settings.{Settings}

@@ -1,16 +1,18 @@
 -- Mailboxes, offset monitors, inboxes and what a scheduler holds (`erlang` module reference,
 -- `cancel_timer` and `read_timer` with `async`, and `monitor` with `time_offset`).
 
-use Rattle.std.specs.Prelude.{ℕ, ℤ, Bool, false, cond, not, nat_eq, List, [], ◌∷◌, ◌++◌, ◌+◌, map, filter, Option, Some, None}
+use Rattle.std.specs.Prelude.{ℕ, ℤ, Bool, false, cond, not, nat_eq, nat_lt, List, [], ◌∷◌, ◌++◌, ◌+◌, map, filter, Option, Some, None}
 use Rattle.std.specs.Ordering.{int_eq}
 use Rattle.ert_defs.specs.Timers.{Row, same_timer, row_of}
 use Rattle.ert_defs.specs.declared.entry.Event.{Event}
 use Rattle.ert_defs.specs.declared.entry.Event.TheVariants.{Peek, Cancel, Expire, Deliver, Drop, Ask, Pick, Answer, Take, Unwatch, Watch, Tell}
 use Rattle.ert_defs.specs.declared.mail.Mail.{Mail}
 use Rattle.ert_defs.specs.declared.mail.Mail.TheVariants.{Timeout, Bare as BareMail, CancelDone, ReadDone, Change}
+use Rattle.ert_defs.specs.declared.mail.Monitor.{Monitor}
 use Rattle.ert_defs.specs.declared.mail.Request.{Request}
 use Rattle.ert_defs.specs.declared.mail.RequestKind.{RequestKind}
 use Rattle.ert_defs.specs.declared.mail.RequestKind.TheVariants.{Cancel as ToCancel, Read as ToRead}
+use Rattle.ert_defs.specs.declared.settings.Settings.{Settings}
 use Rattle.ert_defs.specs.declared.timer.Kind.{Kind}
 use Rattle.ert_defs.specs.declared.timer.Kind.TheVariants.{Wrapped, Bare}
 use Rattle.ert_defs.specs.declared.timer.TimerRef.{TimerRef}
@@ -24,11 +26,6 @@ first_of (x ∷ xs) = Some x
 abbrev pub others_of : {X : Type 0} → List X → List X
 others_of [] = []
 others_of (x ∷ xs) = xs
-
--- a monitor that stands, with the offset that its process was last told
-pub record Monitor : Type 0 where
-  pub number : ℕ
-  pub told : ℤ
 
 -- what a process has: its messages, its monitors in order of number, and the next number
 pub record MailState : Type 0 where
@@ -64,6 +61,10 @@ message_of r = message_by r.kind r.timer r.msg
 abbrev pub answer_by : RequestKind → TimerRef → Option ℕ → Mail
 answer_by ToCancel timer left = CancelDone timer left
 answer_by ToRead timer left = ReadDone timer left
+
+-- the inbox of a request: that of its timer's wheel, and the first where there is no such wheel
+abbrev pub inbox_for : Settings → Request → ℕ
+inbox_for g request = cond (nat_lt request.timer.wheel g.schedulers) request.timer.wheel 0
 
 -- what is put into the asker's mailbox: nothing where no answer is wanted
 abbrev pub answer_of : Request → Option ℕ → List Mail

@@ -1,8 +1,9 @@
 -- What a service can be opened with.
 
-use Rattle.std.specs.Prelude.{◌≡◌, ℤ, pos, negsuc, ◌*◌, ◌≤◌, ◌≤ℤ◌, Result, Ok, Err}
+use Rattle.std.specs.Prelude.{◌≡◌, ℤ, pos, negsuc, ◌*◌, ◌≤◌, ◌≤ℤ◌, false, Result, Ok, Err}
 use Rattle.std.specs.Int.{int_rem_euclid}
 use Rattle.ert_defs.specs.Readings.{IsValid}
+use Rattle.ert_defs.specs.declared.settings.Mode.TheVariants.{No}
 use Rattle.ert_defs.specs.declared.settings.Settings.{Settings}
 use Rattle.ert_defs.specs.declared.settings.SettingsFault.{SettingsFault}
 use Rattle.ert_defs.specs.declared.settings.SettingsFault.TheVariants.{Start, First, Count}
@@ -37,3 +38,16 @@ Checks g (Ok _) = IsChecked g
 Checks g (Err Start) = IsStart g.start → ⊥
 Checks g (Err First) = IsStart g.start × (IsValid g.first → ⊥)
 Checks g (Err Count) = IsStart g.start × IsValid g.first × (HasCounts g → ⊥)
+
+-- settings that nobody uses
+abbrev pub any_settings : Settings
+any_settings = record {
+  mode = No;
+  correction = false;
+  start = pos 0;
+  schedulers = 0;
+  processes = 0;
+  slots = 0;
+  callers = 0;
+  first = record { mono = pos 0; sys = pos 0 };
+}

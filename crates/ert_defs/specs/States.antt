@@ -1,7 +1,7 @@
 -- The state after a history. Each part that belongs to an actor changes only by the entries that have
 -- that actor. The statuses of timers and the exits of processes belong to nobody, and move forward alone.
 
-use Rattle.std.specs.Prelude.{ℕ, ℤ, Bool, false, cond, ◌&&◌, ◌||◌, nat_eq, List, [], ◌∷◌, Option, None}
+use Rattle.std.specs.Prelude.{◌≡◌, ℕ, ℤ, Bool, true, false, cond, ◌&&◌, ◌||◌, nat_eq, List, [], ◌∷◌, Option, None}
 use Rattle.ert_defs.specs.Actors.{same_actor, has_actor}
 use Rattle.ert_defs.specs.Clocks.{Clock, first_clock, clock_after}
 use Rattle.ert_defs.specs.Mails.{MailState, SchedState, no_mail, idle_sched, mail_after, inbox_after, sched_after}
@@ -94,3 +94,11 @@ run g s (e ∷ es) = run g (next g s e) es
 -- the state after a history
 abbrev pub state : Settings → List Entry → State
 state g h = run g (opening g) h
+
+-- a process has exited in a history
+abbrev pub HasExited : Settings → List Entry → ℕ → Type 0
+HasExited g h process = (state g h).exited process ≡ true
+
+-- what a scheduler has after a history
+abbrev pub sched_of : Settings → List Entry → ℕ → SchedState
+sched_of g h n = (state g h).scheds n

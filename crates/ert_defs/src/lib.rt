@@ -11,12 +11,13 @@ mod entry;
 mod laws;
 mod mail;
 mod memory;
+pub mod milliseconds;
 mod settings;
 mod timer;
 
 pub use entry::{Act, Actor, Entry, Event};
 pub use laws::{entries_are_local, prefixes_are_legal, timers_settle_once};
-pub use mail::{Mail, Request, RequestKind};
+pub use mail::{Mail, Monitor, Request, RequestKind};
 pub use memory::NoMemory;
 pub use settings::{Mode, OffsetState, Reading, Settings, SettingsFault};
 pub use timer::{

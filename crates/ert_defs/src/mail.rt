@@ -1,4 +1,8 @@
-use crate::timer::TimerRef;
+ghost use Rattle.std.specs.Prelude.{◌≡◌, ◌<◌, ◌≤◌, Option};
+ghost use Rattle.ert_defs.specs.Mails as mails;
+
+use crate::settings::Settings;
+use crate::timer::{Fired, Kind, TimerRef};
 
 /// A message in the mailbox of a process.
 #[derive(Clone, Copy, Debug, PartialEq, Eq)]
@@ -13,6 +17,41 @@ pub enum Mail {
     ReadDone { timer: TimerRef, left: Option<u64> },
     /// The time offset changed (`erlang` module reference, `monitor`, type `time_offset`).
     Change { monitor: u32, offset: i64 },
+}
+
+impl Mail {
+    /// The message of an expired timer.
+    pub fn of_fired(fired: &Fired) -> Mail
+        ensures { result ≡ mails.message_of fired.now }
+    {
+        match fired.kind {
+            Kind::Wrapped => Mail::Timeout {
+                timer: fired.timer,
+                msg: fired.msg,
+            },
+            Kind::Bare => Mail::Bare { msg: fired.msg },
+        }
+    }
+
+    /// The answer to a request.
+    pub fn of_answer(request: &Request, left: Option<u64>) -> Mail
+        ensures { result ≡ mails.answer_by request.now.kind request.now.timer left }
+    {
+        let timer = request.timer;
+        match request.kind {
+            RequestKind::Cancel => Mail::CancelDone { timer, left },
+            RequestKind::Read => Mail::ReadDone { timer, left },
+        }
+    }
+}
+
+/// A monitor of the time offset that stands (`erlang` module reference, `monitor`, type `time_offset`).
+#[derive(Clone, Copy, Debug, PartialEq, Eq)]
+pub struct Monitor {
+    /// Unique among those that its process ever had.
+    pub number: u32,
+    /// The offset that its process was last told, in nanoseconds.
+    pub told: i64,
 }
 
 /// What an asynchronous request asks for (`erlang` module reference, `cancel_timer` and `read_timer`,
@@ -33,4 +72,21 @@ pub struct Request {
     pub reply_to: u32,
     /// Whether an answer is sent at all.
     pub info: bool,
+}
+
+impl Request {
+    /// The number of the inbox that the request goes to: that of its timer's scheduler, and the first where
+    /// there is no such scheduler.
+    pub fn inbox(&self, settings: &Settings) -> u32
+        requires { 1 ≤ settings.now.schedulers }
+        ensures value { result ≡ mails.inbox_for settings.now self.now }
+        ensures in_range { result < settings.now.schedulers }
+    {
+        let wheel = self.timer.wheel;
+        if wheel < settings.schedulers {
+            wheel
+        } else {
+            0
+        }
+    }
 }

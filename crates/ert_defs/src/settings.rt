@@ -1,7 +1,12 @@
 ghost use Rattle.std.specs.Prelude.{◌≡◌, ◌↔◌, IsTrue};
-ghost use Rattle.ert_defs.specs.Lines.{first_state};
+ghost use Rattle.ert_defs.specs.Lines.{first_state, end_time};
 ghost use Rattle.ert_defs.specs.Settings.{IsStart, HasCounts, Checks};
 ghost use Rattle.ert_defs.specs.Readings.{IsValid};
+
+use crate::milliseconds::{LAST_DEADLINE, NANOSECONDS_PER_MILLISECOND};
+
+/// How long a service may run, in nanoseconds: more than a quarter of a millennium (profile).
+const SPAN: i64 = LAST_DEADLINE as i64 * NANOSECONDS_PER_MILLISECOND;
 
 /// The time warp modes (ERTS User's Guide, "Time Warp Modes").
 #[derive(Clone, Copy, Debug, PartialEq, Eq)]
@@ -106,10 +111,20 @@ impl Settings {
         Ok(())
     }
 
+    /// The end time, which valid readings never reach, in nanoseconds (`erlang:system_info`, `end_time`).
+    pub fn end(&self) -> i64
+        requires { IsStart self.now.start }
+        ensures { result ≡ end_time self.now }
+    {
+        self.start + SPAN
+    }
+
     fn has_start(&self) -> bool
         ensures { IsTrue result ↔ IsStart self.now.start }
     {
-        self.start.rem_euclid(1_000_000) == 0 && -(1 << 58) <= self.start && self.start <= 1 << 58
+        self.start.rem_euclid(NANOSECONDS_PER_MILLISECOND) == 0
+            && -(1 << 58) <= self.start
+            && self.start <= 1 << 58
     }
 
     fn has_counts(&self) -> bool

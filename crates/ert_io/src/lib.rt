@@ -35,7 +35,7 @@ pub use mem_clock::MemClock;
 pub use mem_sink::MemSink;
 pub use mem_source::MemSource;
 pub use os_clock::OsClock;
-pub use reading::{ReadErr, read_all};
+pub use reading::{MAX_INPUT, ReadErr, read_all};
 pub use sink::Sink;
 pub use source::Source;
 pub use sure_sink::SureSink;

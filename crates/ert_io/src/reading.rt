@@ -7,6 +7,9 @@ use crate::source::Source;
 use std::alloc::{AllocError, Global};
 use thiserror::Error;
 
+/// The most bytes that a program reads of an input.
+pub const MAX_INPUT: usize = 16_777_216;
+
 /// Why `read_all` gives no bytes.
 #[derive(Clone, Copy, Debug, PartialEq, Eq, Error)]
 pub enum ReadErr {

@@ -2,7 +2,7 @@
 
 use Rattle.std.proofs.Common.{◌≡◌, ℕ, ℤ, Bool, true, false, List, [], ◌∷◌, ◌++◌, Option, Some, None, refl, sym, subst, ap, ◌∙◌}
 use Rattle.std.specs.Prelude.{option_map, Err}
-use Rattle.ert_answers.specs.ClockCalls.{RefusesTick, Acts, Finalizes}
+use Rattle.ert_effects.specs.ClockCalls.{RefusesTick, Acts, Finalizes}
 use Rattle.ert_clock.proofs.Stand.{shown_is, owed, stands_none, stands_some, stands_kept}
 use Rattle.ert_clock.specs.Shown.{Shown, Stands}
 use Rattle.ert_clock.specs.Ticks.{act_of, state_by, keeper_entry, tick_entry, tick_entries, due_of, IsWide, Gives, FinalizesFrom}

@@ -13,7 +13,7 @@
 //! answers exactly as the clock does, and takes place on the pass with exactly its entries. A refused call
 //! takes no step and changes nothing. No call takes memory.
 //!
-//! It stands on `ert_defs`, `ert_clock`, `ert_answers` and `ert_table`.
+//! It stands on `ert_defs`, `ert_clock`, `ert_effects` and `ert_table`.
 #![tactic(auto)]
 
 mod part;

@@ -23,7 +23,7 @@ impl Model for KeeperPart {
 impl KeeperPart {
     ghost use Rattle.std.specs.Prelude.{◌≡◌, []};
     ghost use Rattle.std.specs.Result.{IfErr};
-    ghost use Rattle.ert_answers.specs.ClockCalls.{Ticks, Finalizes};
+    ghost use Rattle.ert_effects.specs.ClockCalls.{Ticks, Finalizes};
     ghost use Rattle.ert_table.specs.Calls.{IsMade};
     ghost use Rattle.ert_defs.specs.Settings.{IsChecked};
     ghost use Rattle.ert_clock.specs.Shown.{Stands, opening_shown};

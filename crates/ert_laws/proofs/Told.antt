@@ -4,7 +4,7 @@ use Rattle.std.proofs.Common.{◌≡◌, ℕ, ℤ, ◌+◌, ◌<◌, Bool, true,
 use Rattle.std.proofs.lemmas.List.Elements.{All-nil, All-push, All-filter, All-map}
 use Rattle.ert_defs.specs.Actors.{has_actor}
 use Rattle.ert_defs.specs.Legal.{Can, Legal}
-use Rattle.ert_defs.specs.Mails.{MailState, Monitor, changes_of, mail_after, told_of, without}
+use Rattle.ert_defs.specs.Mails.{MailState, changes_of, mail_after, told_of, without}
 use Rattle.ert_defs.specs.States.{State, next, state}
 use Rattle.ert_defs.proofs.FiredLists.{made}
 use Rattle.ert_defs.proofs.Runs.{carry}
@@ -14,6 +14,7 @@ use Rattle.ert_defs.specs.declared.entry.Entry.{Entry}
 use Rattle.ert_defs.specs.declared.entry.Event.{Event}
 use Rattle.ert_defs.specs.declared.entry.Event.TheVariants.{Watch, Unwatch, Tell}
 use Rattle.ert_defs.specs.declared.mail.Mail.{Mail}
+use Rattle.ert_defs.specs.declared.mail.Monitor.{Monitor}
 use Rattle.ert_defs.specs.declared.settings.Settings.{Settings}
 use Rattle.ert_laws.specs.Changes.{told_by, LastTold}
 use Rattle.ert_laws.proofs.Histories.{by_entries, state-more}

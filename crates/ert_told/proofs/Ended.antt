@@ -1,17 +1,18 @@
 -- What the entries of the calls tell, alone and beside others.
 
 use Rattle.std.proofs.Common.{◌≡◌, ℕ, zero, suc, ◌+◌, ◌*◌, Bool, true, false, not, cond, List, [], ◌∷◌, filter, Option, Some, None, Result, Ok, Err, is_ok, refl, sym, ap, ◌∙◌, arith}
-use Rattle.ert_answers.proofs.Advanced.{IsAdvance, advance_is, advance_all_is}
-use Rattle.ert_answers.specs.Chains.{Serves, Delivers, Advance, HasTurnedBy, SweepsWheel, SweepsWheels, Exits}
-use Rattle.ert_answers.specs.RequestCalls.{Asks}
-use Rattle.ert_answers.specs.Ways.{Step, Way, alone, beside}
-use Rattle.ert_answers.specs.WheelCalls.{Try, Advances, AdvancesAll, MarksExit, Sweeps, orphans_by, orphan_entries}
-use Rattle.ert_answers.specs.declared.answers.Turned.{Turned}
+use Rattle.ert_effects.proofs.Advanced.{IsAdvance, advance_is, advance_all_is}
+use Rattle.ert_effects.specs.Chains.{Serves, Delivers, Advance, HasTurnedBy, SweepsWheel, SweepsWheels, Exits}
+use Rattle.ert_effects.specs.RequestCalls.{Asks}
+use Rattle.ert_effects.specs.Ways.{Step, Way, alone, beside}
+use Rattle.ert_effects.specs.WheelCalls.{Try, Advances, AdvancesAll, MarksExit, Sweeps, orphans_by, orphan_entries}
+use Rattle.ert_effects.specs.declared.answers.Turned.{Turned}
 use Rattle.ert_defs.specs.Entries.{is_ours, mark_entry}
 use Rattle.ert_defs.specs.States.{State}
 use Rattle.ert_defs.specs.declared.entry.Actor.TheVariants.{Wheel, Inbox, Caller}
 use Rattle.ert_defs.specs.declared.entry.Entry.{Entry}
 use Rattle.ert_defs.specs.declared.entry.Event.{Event}
+use Rattle.ert_defs.specs.declared.entry.Event.TheVariants.{Expire, Deliver, Drop, Advanced, Answer}
 use Rattle.ert_defs.specs.declared.mail.Request.{Request}
 use Rattle.ert_defs.specs.declared.memory.NoMemory.{NoMemory}
 use Rattle.ert_defs.specs.declared.settings.Settings.{Settings}
@@ -22,79 +23,24 @@ use Rattle.ert_told.proofs.Turning.{Weighs, advance_sum, serve_sum, delivers_sum
 use Rattle.ert_told.specs.Told.{by_answer, by_expiry, by_delivery, by_drop, by_advance, by_exit, by_ask, sum_of, served_by, turn_in, LawOfServes, LawOfDeliveries, LawOfTurns, LawOfLastTurns, LawOfExits, LawOfAsks}
 
 answers_weigh : Weighs by_answer 1 0 0 0 (λ _. 0)
-answers_weigh = record {
-  look = λ now. refl;
-  peek = λ timer left. refl;
-  cancel = λ timer left. refl;
-  probe = λ wheel slot found. refl;
-  pick = λ wheel got. refl;
-  seen = λ process was. refl;
-  answered = λ wheel left. refl;
-  expired = λ timer. refl;
-  delivered = λ timer. refl;
-  dropped = λ timer. refl;
-  advanced = λ wheel time. refl;
-}
+answers_weigh (Answer wheel left) = refl
+answers_weigh _ = refl
 
 expiries_weigh : Weighs by_expiry 0 1 0 0 (λ _. 0)
-expiries_weigh = record {
-  look = λ now. refl;
-  peek = λ timer left. refl;
-  cancel = λ timer left. refl;
-  probe = λ wheel slot found. refl;
-  pick = λ wheel got. refl;
-  seen = λ process was. refl;
-  answered = λ wheel left. refl;
-  expired = λ timer. refl;
-  delivered = λ timer. refl;
-  dropped = λ timer. refl;
-  advanced = λ wheel time. refl;
-}
+expiries_weigh (Expire timer) = refl
+expiries_weigh _ = refl
 
 deliveries_weigh : Weighs by_delivery 0 0 1 0 (λ _. 0)
-deliveries_weigh = record {
-  look = λ now. refl;
-  peek = λ timer left. refl;
-  cancel = λ timer left. refl;
-  probe = λ wheel slot found. refl;
-  pick = λ wheel got. refl;
-  seen = λ process was. refl;
-  answered = λ wheel left. refl;
-  expired = λ timer. refl;
-  delivered = λ timer. refl;
-  dropped = λ timer. refl;
-  advanced = λ wheel time. refl;
-}
+deliveries_weigh (Deliver timer) = refl
+deliveries_weigh _ = refl
 
 drops_weigh : Weighs by_drop 0 0 0 1 (λ _. 0)
-drops_weigh = record {
-  look = λ now. refl;
-  peek = λ timer left. refl;
-  cancel = λ timer left. refl;
-  probe = λ wheel slot found. refl;
-  pick = λ wheel got. refl;
-  seen = λ process was. refl;
-  answered = λ wheel left. refl;
-  expired = λ timer. refl;
-  delivered = λ timer. refl;
-  dropped = λ timer. refl;
-  advanced = λ wheel time. refl;
-}
+drops_weigh (Drop timer) = refl
+drops_weigh _ = refl
 
 advances_weigh : Weighs by_advance 0 0 0 0 (λ time. time)
-advances_weigh = record {
-  look = λ now. refl;
-  peek = λ timer left. refl;
-  cancel = λ timer left. refl;
-  probe = λ wheel slot found. refl;
-  pick = λ wheel got. refl;
-  seen = λ process was. refl;
-  answered = λ wheel left. refl;
-  expired = λ timer. refl;
-  delivered = λ timer. refl;
-  dropped = λ timer. refl;
-  advanced = λ wheel time. refl;
-}
+advances_weigh (Advanced wheel time) = refl
+advances_weigh _ = refl
 
 -- the answer of a turn
 abbrev turned_of : ℕ → ℕ → ℕ → ℕ → ℕ → Turned

@@ -3,8 +3,8 @@
 use Rattle.std.proofs.Common.{◌≡◌, ℕ, ◌+◌, List, [], ◌∷◌, ◌++◌, filter, refl, ap, ◌∙◌}
 use Rattle.std.proofs.lemmas.List.Elements.{filter-append}
 use Rattle.std.proofs.lemmas.List.Sums.{sum_by-append, sum_by-cons}
-use Rattle.ert_answers.proofs.Growing.{whole_own}
-use Rattle.ert_answers.specs.Ways.{Step, Growth, Way, Then, alone, beside}
+use Rattle.ert_effects.proofs.Growing.{whole_own}
+use Rattle.ert_effects.specs.Ways.{Step, Growth, Way, Then, alone, beside}
 use Rattle.ert_defs.specs.Entries.{is_ours}
 use Rattle.ert_defs.specs.States.{State, state}
 use Rattle.ert_defs.specs.declared.entry.Actor.{Actor}

@@ -1,17 +1,17 @@
 -- The sum of a number of each event over what a scheduler makes in its calls.
 
-use Rattle.std.proofs.Common.{◌≡◌, ℕ, zero, suc, ◌+◌, ◌*◌, ℤ, Bool, true, false, cond, List, [], ◌∷◌, ◌++◌, Option, Some, None, Result, Ok, Err, refl, ap, ◌∙◌, arith}
+use Rattle.std.proofs.Common.{◌≡◌, ℕ, zero, suc, ◌+◌, ◌*◌, Bool, true, false, cond, List, [], ◌∷◌, ◌++◌, Option, Some, None, Result, Ok, Err, refl, ap, ◌∙◌, arith}
 use Rattle.std.specs.Prelude.{nat_lt}
-use Rattle.ert_answers.proofs.Advanced.{IsAdvance}
-use Rattle.ert_answers.specs.Chains.{HoldsBy, Serves, HasServed, ServesAll, ServesMany, Advance, Hands, HandsMany, Delivers, HasTurnedBy, put_by, puts, dropped_by, drops}
-use Rattle.ert_answers.specs.MailCalls.{handed_entries, HandsOver}
-use Rattle.ert_answers.specs.RequestCalls.{Picks, Answers, DoesAsked, HasAnswered}
-use Rattle.ert_answers.specs.TimerCalls.{read_entries, cancel_entries}
-use Rattle.ert_answers.specs.Ways.{Way, Then}
-use Rattle.ert_answers.specs.WheelCalls.{Try, expires_by, expiry_entries, hit_by, hits}
-use Rattle.ert_answers.specs.declared.answers.Handed.{Handed}
-use Rattle.ert_answers.specs.declared.answers.Handed.TheVariants.{Put, Dropped}
-use Rattle.ert_answers.specs.declared.answers.Turned.{Turned}
+use Rattle.ert_effects.proofs.Advanced.{IsAdvance}
+use Rattle.ert_effects.specs.Chains.{HoldsBy, Serves, HasServed, ServesAll, ServesMany, Advance, Hands, HandsMany, Delivers, HasTurnedBy, put_by, puts, dropped_by, drops}
+use Rattle.ert_effects.specs.MailCalls.{handed_entries, HandsOver}
+use Rattle.ert_effects.specs.RequestCalls.{Picks, Answers, DoesAsked, HasAnswered}
+use Rattle.ert_effects.specs.TimerCalls.{read_entries, cancel_entries}
+use Rattle.ert_effects.specs.Ways.{Way, Then}
+use Rattle.ert_effects.specs.WheelCalls.{Try, expires_by, expiry_entries, hit_by, hits}
+use Rattle.ert_effects.specs.declared.answers.Handed.{Handed}
+use Rattle.ert_effects.specs.declared.answers.Handed.TheVariants.{Put, Dropped}
+use Rattle.ert_effects.specs.declared.answers.Turned.{Turned}
 use Rattle.ert_defs.specs.Entries.{look_entry, peek_entry, cancel_entry, pick_entry, mark_entry, deliver_entry, drop_entry, answer_entry, advanced_entry}
 use Rattle.ert_defs.specs.Legal.{names_timer}
 use Rattle.ert_defs.specs.States.{State, state}
@@ -31,43 +31,42 @@ use Rattle.ert_defs.specs.declared.timer.TimerRef.{TimerRef}
 use Rattle.ert_told.proofs.Sums.{sum-cons, sum-append, IsSum, step_sum, then_sum, none_sum}
 use Rattle.ert_told.specs.Told.{sum_of, served_by}
 
--- what the events of a scheduler's calls count: an answer, an expiry, a message that is put or thrown away, and the
+-- what an event of a scheduler's calls counts: an answer, an expiry, a message that is put or thrown away, and the
 -- record of an advance; all others nothing
-pub record Weighs (f : Event → ℕ) (answer expiry put thrown : ℕ) (to : ℕ → ℕ) : Type 0 where
-  pub look : (now : ℤ) → f (Look now) ≡ 0
-  pub peek : (timer : TimerRef) (left : Option ℕ) → f (Peek timer left) ≡ 0
-  pub cancel : (timer : TimerRef) (left : Option ℕ) → f (Cancel timer left) ≡ 0
-  pub probe : (wheel slot : ℕ) (found : Option Status) → f (Probe wheel slot found) ≡ 0
-  pub pick : (wheel : ℕ) (got : Option Request) → f (Pick wheel got) ≡ 0
-  pub seen : (process : ℕ) (was : Bool) → f (Mark process false was) ≡ 0
-  pub answered : (wheel : ℕ) (left : Option ℕ) → f (Answer wheel left) ≡ answer
-  pub expired : (timer : TimerRef) → f (Expire timer) ≡ expiry
-  pub delivered : (timer : TimerRef) → f (Deliver timer) ≡ put
-  pub dropped : (timer : TimerRef) → f (Drop timer) ≡ thrown
-  pub advanced : (wheel time : ℕ) → f (Advanced wheel time) ≡ to time
+abbrev pub weight : ℕ → ℕ → ℕ → ℕ → (ℕ → ℕ) → Event → ℕ
+weight answer expiry put thrown to (Answer wheel left) = answer
+weight answer expiry put thrown to (Expire timer) = expiry
+weight answer expiry put thrown to (Deliver timer) = put
+weight answer expiry put thrown to (Drop timer) = thrown
+weight answer expiry put thrown to (Advanced wheel time) = to time
+weight answer expiry put thrown to _ = 0
+
+-- a number of each event counts them so
+abbrev pub Weighs : (Event → ℕ) → ℕ → ℕ → ℕ → ℕ → (ℕ → ℕ) → Type 0
+Weighs f answer expiry put thrown to = (event : Event) → f event ≡ weight answer expiry put thrown to event
 
 module _ (f : Event → ℕ) (answer expiry put thrown : ℕ) (to : ℕ → ℕ) (is : Weighs f answer expiry put thrown to) where
   read_none : (names : Bool) (by : Actor) (timer : TimerRef) (left : Option ℕ) → sum_of f (read_entries names by timer left) ≡ 0
   read_none false by timer left = refl
-  read_none true by timer left = sum-cons f (peek_entry by timer left) [] ∙ omega (arith, is.peek timer left)
+  read_none true by timer left = sum-cons f (peek_entry by timer left) [] ∙ omega (arith, is (Peek timer left))
 
   cancel_none : (names : Bool) (by : Actor) (timer : TimerRef) (found left : Option ℕ) → sum_of f (cancel_entries names by timer found left) ≡ 0
   cancel_none false by timer found left = refl
-  cancel_none true by timer None left = sum-cons f (peek_entry by timer None) [] ∙ omega (arith, is.peek timer None)
+  cancel_none true by timer None left = sum-cons f (peek_entry by timer None) [] ∙ omega (arith, is (Peek timer None))
   cancel_none true by timer (Some found) left =
       sum-cons f (peek_entry by timer (Some found)) (cancel_entry by timer left ∷ [])
-      ∙ omega (arith, is.peek timer (Some found), sum-cons f (cancel_entry by timer left) [], is.cancel timer left)
+      ∙ omega (arith, is (Peek timer (Some found)), sum-cons f (cancel_entry by timer left) [], is (Cancel timer left))
 
   asked_none : (kind : RequestKind) (g : Settings) (w : ℕ) (timer : TimerRef) (left : Option ℕ) (s : State) (es : List Entry)
       → DoesAsked kind g w timer left s es → sum_of f es ≡ 0
   asked_none ToCancel g w timer left s es done =
       ap (λ (l : List Entry). sum_of f l) done.entries
       ∙ (sum-cons f (look_entry (Sched w) done.now) (cancel_entries (names_timer g timer) (Sched w) timer done.found left)
-      ∙ omega (arith, is.look done.now, cancel_none (names_timer g timer) (Sched w) timer done.found left))
+      ∙ omega (arith, is (Look done.now), cancel_none (names_timer g timer) (Sched w) timer done.found left))
   asked_none ToRead g w timer left s es done =
       ap (λ (l : List Entry). sum_of f l) done.entries
       ∙ (sum-cons f (look_entry (Sched w) done.now) (read_entries (names_timer g timer) (Sched w) timer left)
-      ∙ omega (arith, is.look done.now, read_none (names_timer g timer) (Sched w) timer left))
+      ∙ omega (arith, is (Look done.now), read_none (names_timer g timer) (Sched w) timer left))
 
   answered_sum : (g : Settings) (w : ℕ) (request : Request) (left : Option ℕ) (s : State) (es : List Entry) → HasAnswered g w request left s es
       → sum_of f es ≡ answer
@@ -78,22 +77,22 @@ module _ (f : Event → ℕ) (answer expiry put thrown : ℕ) (to : ℕ → ℕ)
         arith,
         asked_none request.kind g w request.timer left s answered.steps answered.done,
         sum-cons f last [],
-        is.answered w left,
+        is (Answer w left),
       ))
 
   handed_sum : (w : ℕ) (fired : Row) (how : Handed) → sum_of f (handed_entries w fired how) ≡ put_by how * put + dropped_by how * thrown
   handed_sum w fired Put =
       let last : Entry = deliver_entry w fired.dest fired.timer in
       sum-cons f (mark_entry (Sched w) fired.dest false false) (last ∷ [])
-      ∙ omega (arith, is.seen fired.dest false, sum-cons f last [], is.delivered fired.timer)
+      ∙ omega (arith, is (Mark fired.dest false false), sum-cons f last [], is (Deliver fired.timer))
   handed_sum w fired Dropped =
       let last : Entry = drop_entry w fired.timer in
       sum-cons f (mark_entry (Sched w) fired.dest false true) (last ∷ [])
-      ∙ omega (arith, is.seen fired.dest true, sum-cons f last [], is.dropped fired.timer)
+      ∙ omega (arith, is (Mark fired.dest false true), sum-cons f last [], is (Drop fired.timer))
 
   try_sum : (w : ℕ) (timer : TimerRef) (missed : Option (Option Status)) → f (expires_by w timer missed).event ≡ hit_by missed * expiry
-  try_sum w timer None = is.expired timer ∙ omega arith
-  try_sum w timer (Some found) = is.probe w timer.slot found ∙ omega arith
+  try_sum w timer None = is (Expire timer) ∙ omega arith
+  try_sum w timer (Some found) = is (Probe w timer.slot found) ∙ omega arith
 
   tries_sum : (w : ℕ) (tries : List Try) → sum_of f (expiry_entries w tries) ≡ hits tries * expiry
   tries_sum w [] = omega arith
@@ -109,10 +108,10 @@ module _ (f : Event → ℕ) (answer expiry put thrown : ℕ) (to : ℕ → ℕ)
       ∙ (sum-cons f (look_entry (Sched w) advance.now) (tries ++ last ∷ [])
       ∙ omega (
         arith,
-        is.look advance.now,
+        is (Look advance.now),
         sum-append f tries (last ∷ []),
         sum-cons f last [],
-        is.advanced w answer.0,
+        is (Advanced w answer.0),
         tries_sum w advance.tries,
         ap (λ n. n * expiry) advance.fired,
       ))
@@ -122,7 +121,7 @@ module _ (f : Event → ℕ) (answer expiry put thrown : ℕ) (to : ℕ → ℕ)
     holds_none (Some request) got h m held = none_sum f way count sums m held.1
     holds_none None got h m held =
         step_sum f way count sums (Inbox w ∷ []) (Picks g w got) h m 0
-        (λ s es picks. ap (λ (l : List Entry). sum_of f l) picks ∙ (sum-cons f (pick_entry w got) [] ∙ omega (arith, is.pick w got))) held
+        (λ s es picks. ap (λ (l : List Entry). sum_of f l) picks ∙ (sum-cons f (pick_entry w got) [] ∙ omega (arith, is (Pick w got)))) held
 
     served_sum : (h m : List Entry) → HasServed g way w h m → count m ≡ answer
     served_sum h m served =

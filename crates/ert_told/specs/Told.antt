@@ -2,10 +2,10 @@
 -- carry the laws as contracts, so that they are proved.
 
 use Rattle.std.specs.Prelude.{◌≡◌, ℕ, Bool, true, false, cond, sum_by, filter, List, [], ◌∷◌, Result, Ok, Err, is_ok}
-use Rattle.ert_answers.specs.Chains.{Serves, Delivers, Turns, LastTurns, Exits}
-use Rattle.ert_answers.specs.RequestCalls.{Asks}
-use Rattle.ert_answers.specs.Ways.{Growth, Way, alone, beside}
-use Rattle.ert_answers.specs.declared.answers.Turned.{Turned}
+use Rattle.ert_effects.specs.Chains.{Serves, Delivers, Turns, LastTurns, Exits}
+use Rattle.ert_effects.specs.RequestCalls.{Asks}
+use Rattle.ert_effects.specs.Ways.{Growth, Way, alone, beside}
+use Rattle.ert_effects.specs.declared.answers.Turned.{Turned}
 use Rattle.ert_defs.specs.Entries.{is_ours}
 use Rattle.ert_defs.specs.declared.entry.Actor.{Actor}
 use Rattle.ert_defs.specs.declared.entry.Actor.TheVariants.{Inbox}

@@ -1,5 +1,5 @@
 use Rattle.std.proofs.Common.{rules, refl, FitsSigned, w64, to_z-of_z}
-use Rattle.ert_answers.specs.ClockCalls.{TellsTime}
+use Rattle.ert_effects.specs.ClockCalls.{TellsTime}
 use Rattle.ert_defs.specs.Entries.{look_entry}
 use Rattle.ert_table.specs.Desks.{settings_of, view_of}
 use Rattle.ert_table.proofs.Makings.{step_made}

@@ -1,5 +1,5 @@
 use Rattle.std.proofs.Common.{subst, refl}
-use Rattle.ert_answers.specs.ClockCalls.{TellsOffset}
+use Rattle.ert_effects.specs.ClockCalls.{TellsOffset}
 use Rattle.ert_defs.specs.Entries.{off_entry}
 use Rattle.ert_table.specs.Desks.{settings_of, view_of}
 use Rattle.ert_table.specs.Takes.{Appends}

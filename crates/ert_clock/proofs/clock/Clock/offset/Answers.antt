@@ -1,4 +1,4 @@
-use Rattle.std.proofs.Common.{arith, subst, ◌+ℤ◌, ◌≤ℤ◌, FitsSigned, w64}
+use Rattle.std.proofs.Common.{arith, subst, ◌+ℤ◌, FitsSigned, w64}
 use Rattle.std.proofs.lemmas.Int.{ints}
 use Rattle.ert_defs.proofs.Bounds.{sum_fits}
 use Rattle.ert_clock.specs.Faces.{face_of}

@@ -6,7 +6,7 @@ use Rattle.ert_defs.specs.declared.settings.Settings.{Settings}
 use Rattle.ert_clock.specs.Faces.{face_of}
 use Rattle.ert_clock.specs.Shown.{Shown}
 use Rattle.ert_clock.specs.Ticks.{Limits, Gives}
-use Rattle.ert_clock.proofs.Steps.{refuses, done_keeps, done_gives}
+use Rattle.ert_clock.proofs.Steps.{Done, refuses, done_keeps, done_gives}
 use Rattle.ert_clock.proofs.clock.Clock.step.Goals as goal
 
 pub time_after-now-requires-clause-valid : goal.time_after-now-requires-clause-valid
@@ -25,39 +25,36 @@ returns-in_err-shift c =
     (refuses g f c.args.reading c.args.act c.time_after-now.result c.due_after.result c.in_err-shift.field-0.0
     (record { valid = c.if-not-is_valid.ensures.0 refl; told = c.time_after-now.ensures; due_is = due }) limits))
 
+done : (c : goal.After-offset_of)
+    → Done c.self.inside.settings (face_of c.self.inside.face) c.args.reading c.args.act c.time_after-now.result c.due_after.result c.in_ok-shift.shift
+    (face_of c.shift.new.self)
+done c =
+    let now : FitsSigned w64 c.time_after-now.result = search rules in
+    let ticked = simp to_z-of_z at c.tick.ensures in
+    record {
+      computed = record {
+        valid = c.if-not-is_valid.ensures.0 refl;
+        told = c.time_after-now.ensures;
+        due_is = simp to_z-of_z at c.due_after.ensures;
+      };
+      limits = c.in_ok-shift.ensures;
+      next_is = c.shift.ensures ∙ ap (λ (x : Face). shifted x c.in_ok-shift.shift) ticked;
+    }
+
 pub invariant_of-self : goal.invariant_of-self
 invariant_of-self c =
-    let g : Settings = c.self.inside.settings in
-    let f : Face = face_of c.self.inside.face in
-    let next : Face = face_of c.shifted-self-inside.result in
-    let now : FitsSigned w64 c.time_after-now.result = search rules in
-    let due = simp to_z-of_z at c.due_after.ensures in
-    let ticked = simp to_z-of_z at c.ticked.ensures in
-    let limits : Limits c.due_after.result (Ok c.in_ok-shift.shift) = c.in_ok-shift.ensures in
-    done_keeps g f c.args.reading c.args.act c.time_after-now.result c.due_after.result c.in_ok-shift.shift next
-    c.self.invariant (record {
-      computed = record { valid = c.if-not-is_valid.ensures.0 refl; told = c.time_after-now.ensures; due_is = due };
-      limits = limits;
-      next_is = c.shifted-self-inside.ensures ∙ ap (λ (x : Face). shifted x c.in_ok-shift.shift) ticked;
-    })
+    done_keeps c.self.inside.settings (face_of c.self.inside.face) c.args.reading c.args.act c.time_after-now.result c.due_after.result
+    c.in_ok-shift.shift (face_of c.shift.new.self) c.self.invariant (done c)
 
 pub returns : goal.returns
 returns c =
     let g : Settings = c.self.inside.settings in
-    let f : Face = face_of c.self.inside.face in
-    let next : Face = face_of c.shifted-self-inside.result in
+    let next : Face = face_of c.shift.new.self in
     let now : FitsSigned w64 c.time_after-now.result = search rules in
-    let due = simp to_z-of_z at c.due_after.ensures in
-    let ticked = simp to_z-of_z at c.ticked.ensures in
-    let limits : Limits c.due_after.result (Ok c.in_ok-shift.shift) = c.in_ok-shift.ensures in
     simp to_z-of_z
     (subst (λ (v : Shown). Gives v c.args.reading c.args.act
     (Ok (record { now = c.time_after-now.result; shift = c.offset_of.result }))
     (record { settings = g; face = next }))
     c.self.view_is
-    (done_gives g f c.args.reading c.args.act c.time_after-now.result c.due_after.result c.in_ok-shift.shift next
-    c.offset_of.result c.offset_of.ensures (record {
-      computed = record { valid = c.if-not-is_valid.ensures.0 refl; told = c.time_after-now.ensures; due_is = due };
-      limits = limits;
-      next_is = c.shifted-self-inside.ensures ∙ ap (λ (x : Face). shifted x c.in_ok-shift.shift) ticked;
-    })))
+    (done_gives g (face_of c.self.inside.face) c.args.reading c.args.act c.time_after-now.result c.due_after.result c.in_ok-shift.shift next
+    c.offset_of.result c.offset_of.ensures (done c)))

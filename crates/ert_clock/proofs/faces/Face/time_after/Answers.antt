@@ -2,7 +2,7 @@ use Rattle.std.proofs.Common.{rules, FitsSigned, w64, to_z-of_z}
 use Rattle.std.specs.Prelude.{ℤ, ◌-ℤ◌}
 use Rattle.std.specs.Int.{w128}
 use Rattle.ert_clock.specs.Faces.{face_of}
-use Rattle.ert_clock.proofs.Casts.{wide, wide_difference}
+use Rattle.ert_defs.proofs.Numbers.{wide, wide_difference}
 use Rattle.ert_clock.proofs.Rules.{off_line}
 use Rattle.ert_clock.proofs.faces.Face.time_after.Goals as goal
 

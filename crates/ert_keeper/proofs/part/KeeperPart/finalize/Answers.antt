@@ -1,6 +1,6 @@
 use Rattle.std.proofs.Common.{◌≡◌, rules, refl, sym, subst}
 use Rattle.std.specs.Prelude.{Err}
-use Rattle.ert_answers.specs.ClockCalls.{Finalizes}
+use Rattle.ert_effects.specs.ClockCalls.{Finalizes}
 use Rattle.ert_keeper.proofs.Steps.{final_refused}
 use Rattle.ert_table.specs.Desks.{settings_of, view_of}
 use Rattle.ert_table.specs.Calls.{IsMade}

@@ -1,6 +1,6 @@
 use Rattle.std.proofs.Common.{◌≡◌, rules, refl, sym, subst}
 use Rattle.std.specs.Prelude.{Err}
-use Rattle.ert_answers.specs.ClockCalls.{Ticks}
+use Rattle.ert_effects.specs.ClockCalls.{Ticks}
 use Rattle.ert_clock.specs.Shown.{Shown}
 use Rattle.ert_clock.specs.Ticks.{act_of, Gives}
 use Rattle.ert_keeper.proofs.Steps.{tick_refused}

@@ -19,17 +19,7 @@ picked c =
     c.self.view_is
     (picks_first _ held.cap _ _ c.pop_front.result c.pop_front.ensures.items c.self.invariant none)
 
-pub returns-clause-none : goal.returns-clause-none
-returns-clause-none c = (picked c).none
-
-pub returns-clause-held : goal.returns-clause-held
-returns-clause-held c = (picked c).held
-
-pub returns-clause-taken : goal.returns-clause-taken
-returns-clause-taken c = (picked c).taken
-
-pub returns-clause-in_range : goal.returns-clause-in_range
-returns-clause-in_range c = (picked c).in_range
-
-pub returns-clause-unchanged : goal.returns-clause-unchanged
-returns-clause-unchanged c = (picked c).unchanged
+pub returns : goal.returns
+returns c =
+    let p = picked c in
+    record { none = p.none; unchanged = p.unchanged; held = p.held; taken = p.taken; in_range = p.in_range }

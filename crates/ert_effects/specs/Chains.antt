@@ -1,0 +1,167 @@
+-- The calls that make several locked steps, one after the other: of a scheduler `serve`, `advance`, `deliver`
+-- and `turn`, and of a caller `exit`. Each is said once, over a way.
+
+use Rattle.std.specs.Prelude.{◌≡◌, ◌⊎◌, ℕ, zero, suc, ◌+◌, ◌<◌, ◌≤◌, Bool, true, false, cond, nat_lt, List, [], ◌∷◌, ◌++◌, Option, Some, None, Result, Ok, Err}
+use Rattle.ert_defs.specs.Mails.{first_of}
+use Rattle.ert_defs.specs.States.{state}
+use Rattle.ert_defs.specs.Timers.{Row}
+use Rattle.ert_defs.specs.declared.entry.Actor.TheVariants.{Wheel, Inbox, MailOf, Caller}
+use Rattle.ert_defs.specs.declared.entry.Entry.{Entry}
+use Rattle.ert_defs.specs.declared.mail.Request.{Request}
+use Rattle.ert_defs.specs.declared.memory.NoMemory.{NoMemory}
+use Rattle.ert_defs.specs.declared.settings.Settings.{Settings}
+use Rattle.ert_effects.specs.MailCalls.{HandsOver}
+use Rattle.ert_effects.specs.RequestCalls.{Picks, Answers}
+use Rattle.ert_effects.specs.Ways.{Growth, Way, Then, Many}
+use Rattle.ert_effects.specs.WheelCalls.{Advances, AdvancesAll, Sweeps, IsSwept, MarksExit}
+use Rattle.ert_effects.specs.declared.answers.Handed.{Handed}
+use Rattle.ert_effects.specs.declared.answers.Handed.TheVariants.{Put, Dropped}
+use Rattle.ert_effects.specs.declared.answers.Turned.{Turned}
+
+-- a scheduler has a request in its hand: the one that was there, or else the one that it picks
+abbrev pub HoldsBy : Option Request → Way → Settings → ℕ → Option Request → Growth
+HoldsBy (Some request) way g w got h m = (got ≡ Some request) × (m ≡ [])
+HoldsBy None way g w got h m = way (Inbox w ∷ []) (Picks g w got) h m
+
+-- so a scheduler has a request in its hand, by what was there after a history
+abbrev pub Holds : Settings → Way → ℕ → Option Request → Growth
+Holds g way w got h m = HoldsBy ((state g h).scheds w).hand way g w got h m
+
+-- a request is held and answered
+pub record HasServed (g : Settings) (way : Way) (w : ℕ) (h m : List Entry) : Type 0 where
+  pub request : Request
+  pub left : Option ℕ
+  pub steps : Then (Holds g way w (Some request)) (way (MailOf request.reply_to ∷ []) (Answers g w request (Ok left))) h m
+
+-- a request is held, and there is no memory to answer it: it stays in the hand
+pub record CannotServe (g : Settings) (way : Way) (w : ℕ) (e : NoMemory) (h m : List Entry) : Type 0 where
+  pub request : Request
+  pub steps : Then (Holds g way w (Some request)) (way (MailOf request.reply_to ∷ []) (Answers g w request (Err e))) h m
+
+-- `serve`: false where the hand was empty and nothing was picked
+abbrev pub Serves : Settings → Way → ℕ → Result Bool NoMemory → Growth
+Serves g way w (Ok true) h m = HasServed g way w h m
+Serves g way w (Ok false) h m = Holds g way w None h m
+Serves g way w (Err e) h m = CannotServe g way w e h m
+
+-- so many
+abbrev pub times : ℕ → List (Unit {0})
+times zero = []
+times (suc n) = tt ∷ times n
+
+-- so many requests are served
+abbrev pub ServesMany : Settings → Way → ℕ → ℕ → Growth
+ServesMany g way w n h m = Many (λ (one : Unit {0}). Serves g way w (Ok true)) (times n) h m
+
+-- requests are served until there is none, 64 at most
+abbrev pub ServesAll : Settings → Way → ℕ → Result ℕ NoMemory → Growth
+ServesAll g way w (Ok n) h m =
+    (n ≤ 64) × cond (nat_lt n 64) (Then (ServesMany g way w n) (Serves g way w (Ok false)) h m) (ServesMany g way w n h m)
+ServesAll g way w (Err e) h m = (n : ℕ) × (n < 64) × Then (ServesMany g way w n) (Serves g way w (Err e)) h m
+
+-- `advance`, of a scheduler
+abbrev pub AdvancesWheel : Settings → Way → ℕ → Result (ℕ × ℕ) NoMemory → Growth
+AdvancesWheel g way w answer = way (Wheel w ∷ []) (Advances g w answer)
+
+-- the advance of its last turn
+abbrev pub AdvancesAllOfWheel : Settings → Way → ℕ → Result (ℕ × ℕ) NoMemory → Growth
+AdvancesAllOfWheel g way w answer = way (Wheel w ∷ []) (AdvancesAll g w answer)
+
+-- the first expired timer of a scheduler is handed over
+pub record Hands (g : Settings) (way : Way) (w : ℕ) (how : Result Handed NoMemory) (h m : List Entry) : Type 0 where
+  pub fired : Row
+  pub first : first_of ((state g h).scheds w).fired ≡ Some fired
+  pub step : way (MailOf fired.dest ∷ []) (HandsOver g w fired how) h m
+
+-- expired timers of a scheduler are handed over one after the other, each in this way
+abbrev pub HandsMany : Settings → Way → ℕ → List Handed → Growth
+HandsMany g way w hows h m = Many (λ how. Hands g way w (Ok how)) hows h m
+
+-- 1 where a message was put, and 0 where it was thrown away
+abbrev pub put_by : Handed → ℕ
+put_by Put = 1
+put_by Dropped = 0
+
+-- how many messages were put
+abbrev pub puts : List Handed → ℕ
+puts [] = 0
+puts (how ∷ hows) = put_by how + puts hows
+
+-- 1 where a message was thrown away, and 0 where it was put
+abbrev pub dropped_by : Handed → ℕ
+dropped_by Put = 0
+dropped_by Dropped = 1
+
+-- how many messages were thrown away
+abbrev pub drops : List Handed → ℕ
+drops [] = 0
+drops (how ∷ hows) = dropped_by how + drops hows
+
+-- expired timers are handed over until none is left: so many are put, and so many thrown away
+pub record HasDelivered (g : Settings) (way : Way) (w : ℕ) (answer : ℕ × ℕ) (h m : List Entry) : Type 0 where
+  pub hows : List Handed
+  pub runs : HandsMany g way w hows h m
+  pub put_is : answer.0 ≡ puts hows
+  pub dropped_is : answer.1 ≡ drops hows
+  pub done : ((state g (h ++ m)).scheds w).fired ≡ []
+
+-- some are handed over, and there is no memory for the next: it stays in the list
+pub record CannotDeliver (g : Settings) (way : Way) (w : ℕ) (e : NoMemory) (h m : List Entry) : Type 0 where
+  pub hows : List Handed
+  pub runs : Then (HandsMany g way w hows) (Hands g way w (Err e)) h m
+
+-- `deliver`, of all expired timers of a scheduler
+abbrev pub Delivers : Settings → Way → ℕ → Result (ℕ × ℕ) NoMemory → Growth
+Delivers g way w (Ok answer) h m = HasDelivered g way w answer h m
+Delivers g way w (Err e) h m = CannotDeliver g way w e h m
+
+-- how a scheduler's wheel is advanced, by the answer
+abbrev pub Advance : Type 1
+Advance = Result (ℕ × ℕ) NoMemory → Growth
+
+-- a turn is done: requests are served, the wheel is advanced so, and expired timers are handed over
+abbrev pub HasTurnedBy : Advance → Settings → Way → ℕ → Turned → Growth
+HasTurnedBy advances g way w t = Then (ServesAll g way w (Ok t.served))
+    (Then (advances (Ok (t.to, t.fired))) (Delivers g way w (Ok (t.put, t.dropped))))
+
+-- there is no memory to serve, to advance or to deliver; what was done before stays
+abbrev pub CannotTurnBy : Advance → Settings → Way → ℕ → NoMemory → Growth
+CannotTurnBy advances g way w e h m =
+    ServesAll g way w (Err e) h m
+    ⊎ ((served : ℕ) × Then (ServesAll g way w (Ok served)) (advances (Err e)) h m)
+    ⊎ ((served : ℕ) × (advanced : ℕ × ℕ)
+    × Then (ServesAll g way w (Ok served)) (Then (advances (Ok advanced)) (Delivers g way w (Err e))) h m)
+
+-- a turn in which the wheel is advanced so
+abbrev pub TurnsBy : Advance → Settings → Way → ℕ → Result Turned NoMemory → Growth
+TurnsBy advances g way w (Ok t) h m = HasTurnedBy advances g way w t h m
+TurnsBy advances g way w (Err e) h m = CannotTurnBy advances g way w e h m
+
+-- a turn is done, by an advance as `advance` makes it
+abbrev pub HasTurned : Settings → Way → ℕ → Turned → Growth
+HasTurned g way w t = HasTurnedBy (AdvancesWheel g way w) g way w t
+
+-- `turn`
+abbrev pub Turns : Settings → Way → ℕ → Result Turned NoMemory → Growth
+Turns g way w answer h m = TurnsBy (AdvancesWheel g way w) g way w answer h m
+
+-- `last_turn`: a turn in which the wheel is advanced with a look at the slots
+abbrev pub LastTurns : Settings → Way → ℕ → Result Turned NoMemory → Growth
+LastTurns g way w answer h m = TurnsBy (AdvancesAllOfWheel g way w) g way w answer h m
+
+-- a wheel is swept for a process: then none of its timers for that is armed
+pub record SweepsWheel (g : Settings) (way : Way) (by process w : ℕ) (h m : List Entry) : Type 0 where
+  pub steps : way (Wheel w ∷ []) (Sweeps g by w process) h m
+  pub swept : IsSwept (state g (h ++ m)) w process
+
+-- so many wheels from one on
+abbrev pub SweepsWheels : Settings → Way → ℕ → ℕ → ℕ → ℕ → Growth
+SweepsWheels g way by process w zero h m = m ≡ []
+SweepsWheels g way by process w (suc n) h m =
+    Then (SweepsWheel g way by process w) (SweepsWheels g way by process (suc w) n) h m
+
+-- `exit`, by a caller: the process exits, and where it hadn't before, every wheel is swept
+abbrev pub Exits : Settings → Way → ℕ → ℕ → Bool → Growth
+Exits g way by process true h m =
+    Then (way [] (MarksExit g (Caller by) process true)) (SweepsWheels g way by process 0 g.schedulers) h m
+Exits g way by process false h m = way [] (MarksExit g (Caller by) process false) h m

@@ -1,0 +1,69 @@
+-- What the calls on the mailbox of a process, and on its monitors, record and answer (`erlang` module
+-- reference, `monitor` with `time_offset`).
+
+use Rattle.std.specs.Prelude.{◌≡◌, ◌⊎◌, ℕ, ◌<◌, ◌≤◌, ℤ, Bool, true, false, List, [], ◌∷◌, length, Some, None, Result, Ok, Err}
+use Rattle.ert_defs.specs.Entries.{off_entry, mark_entry, deliver_entry, drop_entry, take_entry, watch_entry, unwatch_entry, tell_entry}
+use Rattle.ert_defs.specs.Mails.{MailState, changes_of}
+use Rattle.ert_defs.specs.States.{State}
+use Rattle.ert_defs.specs.Timers.{Row}
+use Rattle.ert_defs.specs.declared.entry.Actor.TheVariants.{Caller, Sched}
+use Rattle.ert_defs.specs.declared.entry.Entry.{Entry}
+use Rattle.ert_defs.specs.declared.memory.NoMemory.{NoMemory as WantOfMemory}
+use Rattle.ert_defs.specs.declared.settings.OffsetState.{OffsetState}
+use Rattle.ert_defs.specs.declared.settings.Settings.{Settings}
+use Rattle.ert_effects.specs.declared.answers.Handed.{Handed}
+use Rattle.ert_effects.specs.declared.answers.Handed.TheVariants.{Put, Dropped}
+use Rattle.ert_effects.specs.declared.answers.MonitorErr.{MonitorErr}
+use Rattle.ert_effects.specs.declared.answers.MonitorErr.TheVariants.{Full, NoMemory}
+use Rattle.ert_effects.specs.declared.answers.Taken.{Taken}
+use Rattle.ert_effects.specs.declared.answers.Taken.TheVariants.{Mail, Empty, Exited}
+
+-- the entries of one that is handed over: its destination is found to have exited, or it is put
+abbrev pub handed_entries : ℕ → Row → Handed → List Entry
+handed_entries w fired Put = mark_entry (Sched w) fired.dest false false ∷ (deliver_entry w fired.dest fired.timer ∷ [])
+handed_entries w fired Dropped = mark_entry (Sched w) fired.dest false true ∷ (drop_entry w fired.timer ∷ [])
+
+-- `deliver` of one expired timer, by a scheduler
+abbrev pub HandsOver : Settings → ℕ → Row → Result Handed WantOfMemory → State → List Entry → Type 0
+HandsOver g w fired (Ok how) s es = es ≡ handed_entries w fired how
+HandsOver g w fired (Err e) s es = es ≡ []
+
+-- `take`, by a caller: it is seen whether the process had exited, and else the first message is taken
+abbrev pub Takes : Settings → ℕ → ℕ → Taken → State → List Entry → Type 0
+Takes g by process Exited s es = es ≡ mark_entry (Caller by) process false true ∷ []
+Takes g by process Empty s es = es ≡ mark_entry (Caller by) process false false ∷ (take_entry by process None ∷ [])
+Takes g by process (Mail mail) s es = es ≡ mark_entry (Caller by) process false false ∷ (take_entry by process (Some mail) ∷ [])
+
+-- a monitor is made, of a number of 32 bits
+pub record IsMonitored (by process number : ℕ) (es : List Entry) : Type 0 where
+  pub offset : ℤ
+  pub low : number ≤ 4294967295
+  pub entries : es ≡ watch_entry by process number offset ∷ []
+
+-- no monitor can be made: 64 stand, or the number 4294967295 was given; the offset is looked at
+pub record AreMonitorsFull (by : ℕ) (m : MailState) (es : List Entry) : Type 0 where
+  pub offset : ℤ
+  pub offset_state : OffsetState
+  pub full : (64 ≤ length m.monitors) ⊎ (4294967295 < m.next)
+  pub entries : es ≡ off_entry (Caller by) offset offset_state ∷ []
+
+-- `monitor`, by a caller
+abbrev pub Monitors : Settings → ℕ → ℕ → Result ℕ MonitorErr → State → List Entry → Type 0
+Monitors g by process (Ok number) s es = IsMonitored by process number es
+Monitors g by process (Err Full) s es = AreMonitorsFull by (s.mails process) es
+Monitors g by process (Err NoMemory) s es = es ≡ []
+
+-- `demonitor`, by a caller: the answer is whether the monitor stood
+abbrev pub Demonitors : Settings → ℕ → ℕ → ℕ → Bool → State → List Entry → Type 0
+Demonitors g by process monitor answer s es = es ≡ unwatch_entry by process monitor answer ∷ []
+
+-- the monitors of a process are told the offset; the answer is the number of messages that are put
+pub record HasTold (by process : ℕ) (m : MailState) (put : ℕ) (es : List Entry) : Type 0 where
+  pub offset : ℤ
+  pub put_is : put ≡ length (changes_of offset m.monitors)
+  pub entries : es ≡ tell_entry by process offset ∷ []
+
+-- `tell`, by a caller
+abbrev pub Tells : Settings → ℕ → ℕ → Result ℕ WantOfMemory → State → List Entry → Type 0
+Tells g by process (Ok put) s es = HasTold by process (s.mails process) put es
+Tells g by process (Err e) s es = es ≡ []

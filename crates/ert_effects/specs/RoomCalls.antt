@@ -1,0 +1,46 @@
+-- What the call that looks how much room a wheel has records and answers.
+
+use Rattle.std.specs.Prelude.{◌≡◌, ℕ, zero, suc, ◌+◌, ℤ, Bool, true, false, min, nat_lt, List, [], ◌∷◌, Option, Some, None}
+use Rattle.ert_defs.specs.Entries.{look_entry, probe_entry}
+use Rattle.ert_defs.specs.Milliseconds.{natural, down}
+use Rattle.ert_defs.specs.States.{State, uses_at}
+use Rattle.ert_defs.specs.Timers.{turned, is_taken}
+use Rattle.ert_defs.specs.declared.entry.Actor.TheVariants.{Caller}
+use Rattle.ert_defs.specs.declared.entry.Entry.{Entry}
+use Rattle.ert_defs.specs.declared.settings.Settings.{Settings}
+use Rattle.ert_defs.specs.declared.timer.Status.{Status}
+use Rattle.ert_effects.specs.declared.answers.Room.{Room}
+
+-- no slot was looked at yet
+abbrev pub no_room : Room
+no_room = record { free = 0; ready = None }
+
+-- the lesser of two times, where there are two
+abbrev pub sooner : ℕ → Option ℕ → Option ℕ
+sooner time None = Some time
+sooner time (Some other) = Some (min time other)
+
+-- what is known with one slot more, by whether it is taken, whether it rests, and from when on it doesn't
+abbrev pub with_slot : Bool → Bool → ℕ → Room → Room
+with_slot true rests since room = room
+with_slot false false since room = record { free = room.free + 1; ready = room.ready }
+with_slot false true since room = record { free = room.free; ready = sooner since room.ready }
+
+-- what is known with a slot that was found in this status at a look of so many milliseconds
+abbrev pub with_found : State → ℕ → ℕ → ℕ → Option Status → Room → Room
+with_found s now wheel slot found room =
+    with_slot (is_taken found) (nat_lt now (turned (uses_at s wheel slot)).since) (turned (uses_at s wheel slot)).since room
+
+-- so many slots from one on were looked at in order, and what was known before became this
+abbrev pub ShowsRoom : ℕ → ℕ → ℕ → State → ℕ → ℕ → Room → Room → List Entry → Type 0
+ShowsRoom by wheel now s slot zero before room es = (es ≡ []) × (room ≡ before)
+ShowsRoom by wheel now s slot (suc n) before room es =
+    (found : Option Status) × (later : List Entry) × (es ≡ probe_entry (Caller by) wheel slot found ∷ later)
+    × ShowsRoom by wheel now s (suc slot) n (with_found s now wheel slot found before) room later
+
+-- a look, and then each slot was looked at
+pub record TellsRoom (g : Settings) (by wheel : ℕ) (room : Room) (s : State) (es : List Entry) : Type 0 where
+  pub now : ℤ
+  pub probes : List Entry
+  pub shows : ShowsRoom by wheel (natural (down g now)) s 0 g.slots no_room room probes
+  pub entries : es ≡ look_entry (Caller by) now ∷ probes

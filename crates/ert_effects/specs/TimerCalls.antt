@@ -1,0 +1,118 @@
+-- What the calls that read, cancel and start timers record and answer (`erlang` module reference,
+-- `read_timer`, `cancel_timer`, `start_timer`).
+
+use Rattle.std.specs.Prelude.{◌≡◌, ◌≢◌, ◌⊎◌, ℕ, zero, suc, ◌<◌, ℤ, length, Bool, true, false, List, [], ◌∷◌, ◌++◌, Option, Some, None, Result, Ok, Err}
+use Rattle.ert_defs.specs.Entries.{look_entry, probe_entry, peek_entry, cancel_entry, arm_entry, orphan_entry, mark_entry}
+use Rattle.ert_defs.specs.Legal.{names_timer}
+use Rattle.ert_defs.specs.Milliseconds.{natural, down, deadline_of}
+use Rattle.ert_defs.specs.States.{State, uses_at}
+use Rattle.ert_defs.specs.Timers.{turned, is_taken}
+use Rattle.ert_defs.specs.declared.entry.Actor.{Actor}
+use Rattle.ert_defs.specs.declared.entry.Actor.TheVariants.{Caller}
+use Rattle.ert_defs.specs.declared.entry.Entry.{Entry}
+use Rattle.ert_defs.specs.declared.settings.Settings.{Settings}
+use Rattle.ert_defs.specs.declared.timer.Start.{Start}
+use Rattle.ert_defs.specs.declared.timer.Status.{Status}
+use Rattle.ert_defs.specs.declared.timer.Status.TheVariants.{Armed}
+use Rattle.ert_defs.specs.declared.timer.TimerRef.{TimerRef}
+use Rattle.ert_effects.specs.declared.answers.StartErr.{StartErr}
+use Rattle.ert_effects.specs.declared.answers.StartErr.TheVariants.{BadArg, Full, NoMemory}
+
+-- the entries of a read after its look: nothing is read of a reference out of range
+abbrev pub read_entries : Bool → Actor → TimerRef → Option ℕ → List Entry
+read_entries false by timer left = []
+read_entries true by timer left = peek_entry by timer left ∷ []
+
+-- `read_timer`: a look, and then the timer is read where the reference is in range; the answer is what was
+-- left, and nothing where it is out of range
+pub record Reads (g : Settings) (by : Actor) (timer : TimerRef) (answer : Option ℕ) (s : State) (es : List Entry) : Type 0 where
+  pub now : ℤ
+  pub entries : es ≡ look_entry by now ∷ read_entries (names_timer g timer) by timer answer
+  pub quiet : names_timer g timer ≡ false → answer ≡ None
+
+-- the entries of a cancel after its look, where this was left when the timer was read: it is cancelled
+-- only where something was
+abbrev pub cancel_entries : Bool → Actor → TimerRef → Option ℕ → Option ℕ → List Entry
+cancel_entries false by timer found left = []
+cancel_entries true by timer None left = peek_entry by timer None ∷ []
+cancel_entries true by timer (Some found) left = peek_entry by timer (Some found) ∷ (cancel_entry by timer left ∷ [])
+
+-- `cancel_timer`: a look, then the timer is read where the reference is in range, and it is cancelled
+-- where something was left; the answer is what the cancel found left, and nothing where there is no cancel
+pub record Cancels (g : Settings) (by : Actor) (timer : TimerRef) (answer : Option ℕ) (s : State) (es : List Entry) : Type 0 where
+  pub now : ℤ
+  pub found : Option ℕ
+  pub entries : es ≡ look_entry by now ∷ cancel_entries (names_timer g timer) by timer found answer
+  pub unread : names_timer g timer ≡ false → found ≡ None
+  pub quiet : found ≡ None → answer ≡ None
+
+-- entries that look at slots of a wheel
+abbrev pub AreProbes : Actor → ℕ → List Entry → Type 0
+AreProbes by wheel [] = Unit {0}
+AreProbes by wheel (e ∷ es) = (slot : ℕ) × (found : Option Status) × (e ≡ probe_entry by wheel slot found) × AreProbes by wheel es
+
+-- a timer couldn't be cancelled for the exit of its destination: another had settled it before
+pub record IsMissed (by : Actor) (timer : TimerRef) (es : List Entry) : Type 0 where
+  pub found : Option Status
+  pub settled : found ≢ Some Armed
+  pub entries : es ≡ probe_entry by timer.wheel timer.slot found ∷ []
+
+-- what ends a start: where the destination had exited, the timer is cancelled for that, or was settled by
+-- another
+abbrev pub Closes : Bool → ℕ → TimerRef → List Entry → Type 0
+Closes false by timer es = es ≡ []
+Closes true by timer es = (es ≡ orphan_entry by timer.wheel timer ∷ []) ⊎ IsMissed (Caller by) timer es
+
+-- a timer of the wheel is started: a look, some probes, the arming, a look at the exit of the destination,
+-- and what follows from that
+pub record IsStarted (g : Settings) (by wheel : ℕ) (start : Start) (timer : TimerRef) (s : State) (es : List Entry) : Type 0 where
+  pub now : ℤ
+  pub probes : List Entry
+  pub was : Bool
+  pub closing : List Entry
+  pub on_wheel : timer.wheel ≡ wheel
+  pub are_probes : AreProbes (Caller by) wheel probes
+  pub closes : Closes was by timer closing
+  pub entries : es ≡ look_entry (Caller by) now
+      ∷ (probes ++ (arm_entry by timer start ∷ (mark_entry (Caller by) start.dest false was ∷ closing)))
+
+-- a start has no deadline within the limits, by the look
+pub record IsBadArg (g : Settings) (by : ℕ) (start : Start) (es : List Entry) : Type 0 where
+  pub now : ℤ
+  pub refused : deadline_of g start now ≡ None
+  pub entries : es ≡ look_entry (Caller by) now ∷ []
+
+-- at a look of so many milliseconds a slot rests: it was used 262143 times in its round, and the deadlines of
+-- all its timers haven't passed
+abbrev pub Rests : State → ℕ → ℕ → ℕ → Type 0
+Rests s now wheel slot = now < (turned (uses_at s wheel slot)).since
+
+-- so many slots from one on were looked at in order, and each was taken or rests
+abbrev pub AreTaken : ℕ → ℕ → ℕ → State → ℕ → ℕ → List Entry → Type 0
+AreTaken by wheel now s slot zero es = es ≡ []
+AreTaken by wheel now s slot (suc n) es =
+    (found : Option Status) × (later : List Entry) × (es ≡ probe_entry (Caller by) wheel slot found ∷ later)
+    × ((is_taken found ≡ true) ⊎ Rests s now wheel slot) × AreTaken by wheel now s (suc slot) n later
+
+-- no slot is free for a start that has a deadline: each was looked at, or the wheel has had 2^53 timers
+pub record IsWheelFull (g : Settings) (by wheel : ℕ) (start : Start) (s : State) (es : List Entry) : Type 0 where
+  pub now : ℤ
+  pub probes : List Entry
+  pub accepted : deadline_of g start now ≢ None
+  pub are_taken : AreTaken by wheel (natural (down g now)) s 0 g.slots probes
+      ⊎ ((length (s.rows wheel) ≡ 9007199254740992) × (probes ≡ []))
+  pub entries : es ≡ look_entry (Caller by) now ∷ probes
+
+-- want of memory: no entry, or a look and some probes
+pub record HasProbed (by wheel : ℕ) (es : List Entry) : Type 0 where
+  pub now : ℤ
+  pub probes : List Entry
+  pub are_probes : AreProbes (Caller by) wheel probes
+  pub entries : es ≡ look_entry (Caller by) now ∷ probes
+
+-- `start`, of a timer of a wheel
+abbrev pub Starts : Settings → ℕ → ℕ → Start → Result TimerRef StartErr → State → List Entry → Type 0
+Starts g by wheel start (Ok timer) s es = IsStarted g by wheel start timer s es
+Starts g by wheel start (Err BadArg) s es = IsBadArg g by start es
+Starts g by wheel start (Err Full) s es = IsWheelFull g by wheel start s es
+Starts g by wheel start (Err NoMemory) s es = (es ≡ []) ⊎ HasProbed by wheel es

@@ -1,0 +1,37 @@
+//! What each call of the service may record, and what it answers.
+//!
+//! A call makes entries and answers by them. `specs/` has a relation for each call: of the settings, of who
+//! makes the call, of its arguments and its answer, of the state before, and of the list of its entries. The
+//! cases go by the answer, refusals and want of memory among them. What no step of the call tells is asked of
+//! the state; what a step tells, a time or an offset, is a field of its entry. So the same relation is read
+//! where others step between: there too, what it asks of the state belongs to an actor that the call holds.
+//!
+//! | calls | relations |
+//! |---|---|
+//! | on the clock | `specs/ClockCalls` |
+//! | that read, cancel and start timers | `specs/TimerCalls` |
+//! | that looks how much room a wheel has | `specs/RoomCalls` |
+//! | over the timers of a wheel, and on exits | `specs/WheelCalls` |
+//! | on the mailbox and the monitors of a process | `specs/MailCalls` |
+//! | on asynchronous requests | `specs/RequestCalls` |
+//! | of several locked steps: to serve, to deliver, a turn, an exit | `specs/Chains` |
+//!
+//! **Ways.** A locked step comes about in a way (`specs/Ways`): alone, so that its entries are the whole
+//! piece by which the history grows, or beside others, so that they stand in the piece among entries of
+//! others. A call of several locked steps is said once, with the way as an argument. A history that grows by
+//! a call after another grows by both, whatever the way.
+//!
+//! It stands on `ert_defs`, and on `ert_clock` for what a tick answers. The answers that the parts of the
+//! service give are types of this crate.
+#![tactic(auto)]
+
+mod answers;
+mod laws;
+mod worked;
+
+pub use answers::{Handed, MonitorErr, Room, SERVED_A_TURN, StartErr, Taken, Turned};
+pub use laws::{answers_are_read, exits_settle_timers, messages_are_read, turns_deliver_all};
+pub use worked::{
+    advances_are_judged, cancels_are_judged, exits_are_judged, messages_are_judged,
+    monitors_are_judged, refusals_are_judged, starts_are_judged, turns_are_judged,
+};
