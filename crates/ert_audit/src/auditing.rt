@@ -10,11 +10,8 @@ ghost use Rattle.ert_audit.specs.declared.verdict.Verdict as verdicts;
 use crate::explaining::explain;
 use crate::status::AuditStatus;
 use crate::verdict::{Verdict, one_verdict, verdict_on, write_verdict};
-use ert_io::{ReadErr, Sink, Source, read_all, write_all};
+use ert_io::{MAX_INPUT, ReadErr, Sink, Source, read_all, write_all};
 use std::alloc::Global;
-
-/// The most bytes of an input.
-const MAX_INPUT: usize = 16_777_216;
 
 /// The program: it reads a history from the input, and writes one line to the output, which tells whether
 /// the history is legal. Where it isn't, it then tells the errors why, for a person, as far as they can be

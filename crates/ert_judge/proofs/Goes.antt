@@ -2,7 +2,7 @@
 
 use Rattle.std.proofs.Common.{◌≡◌, ◌<◌, ◌++◌, ◌∷◌, [], ℕ, refl, sym, ap, ◌∙◌, subst, Bool, cond, List, length, Option, Some}
 use Rattle.std.specs.Prelude.{ℤ}
-use Rattle.ert_defs.specs.Actors.{is_with, IsUser}
+use Rattle.ert_defs.specs.Actors.{is_with, IsMaker, IsUser}
 use Rattle.ert_defs.specs.Clocks.{Clock}
 use Rattle.ert_defs.specs.Legal.{Can, Keeps}
 use Rattle.ert_defs.specs.States.{State, next, state}
@@ -23,7 +23,7 @@ use Rattle.ert_state.specs.Wheels.{timers_at, IsOwn}
 use Rattle.ert_judge.specs.declared.judge.Judge.{Judge}
 use Rattle.ert_state.specs.declared.wheels.Timer.{Timer}
 use Rattle.ert_judge.proofs.CellLaws.{mails_follow, length-mails_after, inboxes_follow, length-inboxes_after, scheds_follow, length-scheds_after, looks_follow, length-callers_after, length-schedulers_after, exits_follow, length-exits_after}
-use Rattle.ert_judge.proofs.Makers.{IsMade, IsMaker, IsPartner, made, looker, marked, not_by_wheel, not_by_inbox, not_by_mail, not_with_sched}
+use Rattle.ert_judge.proofs.Makers.{IsMade, IsPartner, made, looker, marked, not_by_wheel, not_by_inbox, not_by_mail, not_with_sched}
 use Rattle.ert_judge.proofs.Stands.{same_states, by_other, with_other, clock_stands}
 
 -- the timers have gone on by an event that is made with an actor

@@ -2,7 +2,7 @@
 
 use Rattle.std.proofs.Common.{◌≡◌, ◌<◌, ℕ, refl, sym, subst, Bool, false, Option, Some, None}
 use Rattle.std.specs.Prelude.{ℤ}
-use Rattle.ert_defs.specs.Actors.{same_actor, is_with, IsCaller, IsUser}
+use Rattle.ert_defs.specs.Actors.{same_actor, is_with, IsCaller, IsMaker, IsUser}
 use Rattle.ert_defs.specs.Legal.{Keeps, IsWithCaller, IsWithMail, IsProber, IsReader}
 use Rattle.ert_defs.specs.declared.entry.Actor.{Actor}
 use Rattle.ert_defs.specs.declared.entry.Actor.TheVariants.{Keeper, Wheel, Inbox, Sched, MailOf, Caller}
@@ -10,14 +10,7 @@ use Rattle.ert_defs.specs.declared.entry.Event.{Event}
 use Rattle.ert_defs.specs.declared.entry.Event.TheVariants.{Tick, Shift, Look, Off, Arm, Probe, Peek, Cancel, Expire, Orphan, Deliver, Drop, Mark, Advanced, Ask, Pick, Answer, Take, Unwatch, Watch, Tell}
 use Rattle.ert_defs.specs.declared.settings.Settings.{Settings}
 
--- entries are made by the clock, a scheduler or a caller in range
-abbrev pub IsMaker : Settings → Actor → Type 0
-IsMaker g Keeper = Unit {0}
-IsMaker g (Sched n) = n < g.schedulers
-IsMaker g (Caller n) = n < g.callers
-IsMaker g _ = ⊥
-
--- and alone, or with a wheel, an inbox, a mailbox or a caller in range
+-- entries are made alone, or with a wheel, an inbox, a mailbox or a caller in range
 abbrev pub IsPartner : Settings → Option Actor → Type 0
 IsPartner g None = Unit {0}
 IsPartner g (Some (Wheel w)) = w < g.schedulers

@@ -1,7 +1,7 @@
 -- An entry in range is made as its event asks, and names nothing past its count.
 
 use Rattle.std.proofs.Common.{◌≡◌, ◌<◌, ◌≤◌, inl, inr, ℕ, arith, sym, subst, Option, Some, None}
-use Rattle.ert_defs.specs.Actors.{IsCaller, IsUser}
+use Rattle.ert_defs.specs.Actors.{IsCaller, IsMaker, IsUser}
 use Rattle.ert_defs.specs.Legal.{Keeps, IsWithCaller, IsWithMail, IsProber, IsReader}
 use Rattle.ert_defs.specs.declared.entry.Actor.{Actor}
 use Rattle.ert_defs.specs.declared.entry.Actor.TheVariants.{Keeper, Wheel, Inbox, Sched, MailOf, Caller}
@@ -9,7 +9,7 @@ use Rattle.ert_defs.specs.declared.entry.Entry.{Entry}
 use Rattle.ert_defs.specs.declared.entry.Event.{Event}
 use Rattle.ert_defs.specs.declared.entry.Event.TheVariants.{Tick, Shift, Look, Off, Arm, Probe, Peek, Cancel, Expire, Orphan, Deliver, Drop, Mark, Advanced, Ask, Pick, Answer, Take, Unwatch, Watch, Tell}
 use Rattle.ert_defs.specs.declared.settings.Settings.{Settings}
-use Rattle.ert_judge.proofs.Makers.{IsMaker, IsPartner, made}
+use Rattle.ert_judge.proofs.Makers.{IsPartner, made}
 use Rattle.ert_judge.specs.Ranges.{maker_of, partner_of, reads_with, wheel_of, slot_of, process_of, count_of, IsMadeBy, IsMadeWith, Names}
 use Rattle.ert_judge.specs.Reasons.{IsOutOfRange}
 use Rattle.ert_judge.specs.declared.reasons.Counted.{Counted}

@@ -38,6 +38,11 @@ maker_of (Unwatch process monitor was) = AnyCaller
 maker_of (Watch process monitor offset) = AnyCaller
 maker_of (Tell process offset) = AnyCaller
 
+-- only a scheduler makes it
+abbrev pub IsScheduler : Maker → Type 0
+IsScheduler (Scheduler w) = Unit {0}
+IsScheduler _ = ⊥
+
 -- an actor may make such an event, whatever the count of its kind
 abbrev pub IsMadeBy : Maker → Actor → Type 0
 IsMadeBy Clock by = by ≡ Keeper

@@ -198,3 +198,35 @@ reason_text (OtherMonitor stands) = monitor_text stands
 reason_text (OtherNumber next) = codes "the next monitor of the process is " ⋅ decimal next
 reason_text (TooMany count) = decimal count ⋅ codes " monitors of the process stand, which is the limit"
 reason_text Other = codes "it can't follow"
+
+-- a reason isn't of the range or of the clock
+abbrev pub IsPastClock : Reason → Type 0
+IsPastClock (NotBy maker) = ⊥
+IsPastClock (NotWith partner) = ⊥
+IsPastClock (TooHigh thing number count) = ⊥
+IsPastClock (ShiftFirst offset state) = ⊥
+IsPastClock BadReading = ⊥
+IsPastClock (NotPreliminary state) = ⊥
+IsPastClock (OtherTick time) = ⊥
+IsPastClock (OffsetPast offset state) = ⊥
+IsPastClock (OtherShift due) = ⊥
+IsPastClock (OtherTime now) = ⊥
+IsPastClock (OtherOffset offset) = ⊥
+IsPastClock (OtherState state) = ⊥
+IsPastClock _ = Unit {0}
+
+-- nor of a timer
+abbrev pub IsPastTimers : Reason → Type 0
+IsPastTimers (SlotTaken status) = ⊥
+IsPastTimers (OtherGeneration next) = ⊥
+IsPastTimers (Rests until) = ⊥
+IsPastTimers WheelUsed = ⊥
+IsPastTimers NoDeadline = ⊥
+IsPastTimers (OtherStatus status) = ⊥
+IsPastTimers (OtherLeft left) = ⊥
+IsPastTimers (NotArmed status) = ⊥
+IsPastTimers (NotDue scheduler deadline looked) = ⊥
+IsPastTimers (Later first deadline) = ⊥
+IsPastTimers NotNext = ⊥
+IsPastTimers (NotExited dest) = ⊥
+IsPastTimers _ = Unit {0}

@@ -5,7 +5,7 @@ use Rattle.ert_defs.specs.Legal.{Legal}
 use Rattle.ert_defs.specs.declared.entry.Entry.{Entry}
 use Rattle.ert_defs.specs.declared.settings.Settings.{Settings}
 use Rattle.ert_judge.specs.Shown.{StandsFor}
-use Rattle.ert_judge.specs.declared.judge.Stop.{Stop}
+use Rattle.ert_judge.specs.declared.stops.Stop.{Stop}
 
 -- the entries before a place are legal, and with that at the place they aren't
 pub record IsFirstIllegal (g : Settings) (h : List Entry) (place : ℕ) : Type 0 where

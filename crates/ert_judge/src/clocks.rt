@@ -30,36 +30,10 @@ pub fn of_tick(
             state: clock.face.state,
         });
     }
-    of_time(settings, clock, reading, act, now)
-}
-
-/// Why a tick can't come to its time.
-fn of_time(
-    settings: &Settings,
-    clock: &Clock,
-    reading: Reading,
-    act: Act,
-    now: i64,
-) -> Option<Reason>
-    ensures { IfSome result (TickBreaks settings.now (face_of clock.now.face) clock.now.due reading act now) }
-{
     let time = clock.face.time_after(settings, reading);
     if !is_time(now, time) {
         return Some(Reason::OtherTick { time });
     }
-    of_offset_past(settings, clock, reading, act, now)
-}
-
-/// Why the shift that a tick would make due can't be made.
-fn of_offset_past(
-    settings: &Settings,
-    clock: &Clock,
-    reading: Reading,
-    act: Act,
-    now: i64,
-) -> Option<Reason>
-    ensures { IfSome result (TickBreaks settings.now (face_of clock.now.face) clock.now.due reading act now) }
-{
     let (offset, state) = clock.face.due_after(settings, reading, act, now)?;
     if is_offset(offset) {
         None

@@ -22,12 +22,15 @@ mod mails;
 mod range;
 mod ranges;
 mod reasons;
+mod rules;
+mod stops;
 mod texts;
 mod timers;
 mod words;
 
 pub use finding::reason;
-pub use judge::{Judge, Stop, TIMERS_OF_WHEEL, first_illegal, first_stop, is_left};
+pub use judge::Judge;
 pub use laws::reasons_exclude;
 pub use reasons::{Counted, Maker, Partner, Reason};
+pub use stops::{Stop, first_illegal, first_stop};
 pub use texts::write_reason;

@@ -1,6 +1,7 @@
 ghost use Rattle.std.specs.Prelude.{◌≡◌, ◌↔◌, ◌<◌, IsTrue};
 ghost use Rattle.ert_defs.specs.Actors.{IsCaller, IsUser};
 ghost use Rattle.ert_defs.specs.Legal.{IsSlot, IsWithCaller, IsWithMail, IsProber, IsReader, Keeps};
+ghost use Rattle.ert_judge.specs.Ranges.{IsScheduler, maker_of};
 
 use ert_defs::{Actor, Entry, Event, Settings, TimerRef};
 
@@ -28,6 +29,32 @@ pub fn is_in_range(settings: &Settings, entry: &Entry) -> bool
                 && with == Some(Actor::Wheel(wheel))
                 && is_slot(settings, wheel, slot)
         }
+        Event::Mark { process, .. } => {
+            is_user(settings, by) && with.is_none() && process < settings.processes
+        }
+        Event::Ask { wheel, request } => {
+            is_by_caller(settings, by, with, Actor::Inbox(wheel))
+                && wheel < settings.schedulers
+                && request.reply_to < settings.processes
+        }
+        Event::Take { process, .. }
+        | Event::Unwatch { process, .. }
+        | Event::Watch { process, .. }
+        | Event::Tell { process, .. } => {
+            is_by_caller(settings, by, with, Actor::MailOf(process)) && process < settings.processes
+        }
+        _ => is_scheduled_in_range(settings, entry),
+    }
+}
+
+/// Whether an entry with an event that a scheduler makes is in range.
+fn is_scheduled_in_range(settings: &Settings, entry: &Entry) -> bool
+    requires { IsScheduler (maker_of entry.now.event) }
+    ensures { IsTrue result ↔ Keeps settings.now entry.now.by entry.now.with entry.now.event }
+{
+    let by = entry.by;
+    let with = entry.with;
+    match entry.event {
         Event::Expire { timer } => {
             is_by_sched(settings, by, timer) && with == Some(Actor::Wheel(timer.wheel))
         }
@@ -35,18 +62,10 @@ pub fn is_in_range(settings: &Settings, entry: &Entry) -> bool
             is_by_sched(settings, by, timer) && is_with_mail(settings, with)
         }
         Event::Drop { timer } => is_by_sched(settings, by, timer) && with.is_none(),
-        Event::Mark { process, .. } => {
-            is_user(settings, by) && with.is_none() && process < settings.processes
-        }
         Event::Advanced { wheel, .. } => {
             by == Actor::Sched(wheel)
                 && with == Some(Actor::Wheel(wheel))
                 && wheel < settings.schedulers
-        }
-        Event::Ask { wheel, request } => {
-            is_by_caller(settings, by, with, Actor::Inbox(wheel))
-                && wheel < settings.schedulers
-                && request.reply_to < settings.processes
         }
         Event::Pick { wheel, .. } => {
             by == Actor::Sched(wheel)
@@ -56,12 +75,7 @@ pub fn is_in_range(settings: &Settings, entry: &Entry) -> bool
         Event::Answer { wheel, .. } => {
             by == Actor::Sched(wheel) && is_with_mail(settings, with) && wheel < settings.schedulers
         }
-        Event::Take { process, .. }
-        | Event::Unwatch { process, .. }
-        | Event::Watch { process, .. }
-        | Event::Tell { process, .. } => {
-            is_by_caller(settings, by, with, Actor::MailOf(process)) && process < settings.processes
-        }
+        _ => false,
     }
 }
 

@@ -165,29 +165,26 @@ fn with_too_high(settings: &Settings, entry: &Entry) -> Option<Reason>
             number,
             count: settings.processes,
         }),
-        _ => wheel_too_high(settings, entry),
+        _ => event_too_high(settings, entry),
     }
 }
 
-/// The same of the scheduler that the event is about, and of its other numbers.
-fn wheel_too_high(settings: &Settings, entry: &Entry) -> Option<Reason>
+/// The same of the scheduler and the slot that the event is about, and of its process.
+fn event_too_high(settings: &Settings, entry: &Entry) -> Option<Reason>
     ensures { IfSome result (IsOutOfRange settings.now entry.now) }
 {
-    match wheel_of(&entry.event) {
-        Some(number) if number >= settings.schedulers => Some(Reason::TooHigh {
-            thing: Counted::Schedulers,
-            number,
-            count: settings.schedulers,
-        }),
-        _ => slot_too_high(settings, entry),
+    let (wheel, slot) = place_of(&entry.event);
+    match wheel {
+        Some(number) if number >= settings.schedulers => {
+            return Some(Reason::TooHigh {
+                thing: Counted::Schedulers,
+                number,
+                count: settings.schedulers,
+            });
+        }
+        _ => {}
     }
-}
-
-/// The same of the slot, and of the process.
-fn slot_too_high(settings: &Settings, entry: &Entry) -> Option<Reason>
-    ensures { IfSome result (IsOutOfRange settings.now entry.now) }
-{
-    match slot_of(&entry.event) {
+    match slot {
         Some(number) if number >= settings.slots => Some(Reason::TooHigh {
             thing: Counted::Slots,
             number,
@@ -211,9 +208,10 @@ fn process_too_high(settings: &Settings, entry: &Entry) -> Option<Reason>
     }
 }
 
-/// The scheduler whose timers or inbox an event is about.
-fn wheel_of(event: &Event) -> Option<u32>
-    ensures { result ≡ wheel_of event.now }
+/// The scheduler whose timers or inbox an event is about, and the slot that it is about.
+fn place_of(event: &Event) -> (Option<u32>, Option<u32>)
+    ensures wheel { result.0 ≡ wheel_of event.now }
+    ensures slot { result.1 ≡ slot_of event.now }
 {
     match *event {
         Event::Arm { timer, .. }
@@ -222,30 +220,13 @@ fn wheel_of(event: &Event) -> Option<u32>
         | Event::Expire { timer }
         | Event::Orphan { timer }
         | Event::Deliver { timer }
-        | Event::Drop { timer } => Some(timer.wheel),
-        Event::Probe { wheel, .. }
-        | Event::Advanced { wheel, .. }
+        | Event::Drop { timer } => (Some(timer.wheel), Some(timer.slot)),
+        Event::Probe { wheel, slot, .. } => (Some(wheel), Some(slot)),
+        Event::Advanced { wheel, .. }
         | Event::Ask { wheel, .. }
         | Event::Pick { wheel, .. }
-        | Event::Answer { wheel, .. } => Some(wheel),
-        _ => None,
-    }
-}
-
-/// The slot that an event is about.
-fn slot_of(event: &Event) -> Option<u32>
-    ensures { result ≡ slot_of event.now }
-{
-    match *event {
-        Event::Arm { timer, .. }
-        | Event::Peek { timer, .. }
-        | Event::Cancel { timer, .. }
-        | Event::Expire { timer }
-        | Event::Orphan { timer }
-        | Event::Deliver { timer }
-        | Event::Drop { timer } => Some(timer.slot),
-        Event::Probe { slot, .. } => Some(slot),
-        _ => None,
+        | Event::Answer { wheel, .. } => (Some(wheel), None),
+        _ => (None, None),
     }
 }
 

@@ -2,7 +2,7 @@
 
 ghost use Rattle.std.specs.Prelude.{◌≡◌, ◌++◌, OnOk, string_bytes};
 ghost use Rattle.ert_judge.specs.Texts.{maker_text, actor_text, partner_text, due_text, slot_text, ms_text, unarmed_text};
-ghost use Rattle.ert_judge.specs.Texts.{waiting_text, outcome_text, first_text, exit_text, monitor_text, reason_text};
+ghost use Rattle.ert_judge.specs.Texts.{waiting_text, outcome_text, first_text, exit_text, monitor_text, reason_text, IsPastClock, IsPastTimers};
 
 use crate::reasons::{Maker, Partner, Reason};
 use crate::words::{state_word, status_word, thing_word, write_left, write_mail, write_request};
@@ -50,6 +50,16 @@ pub fn write_reason(page: &mut String, reason: Reason) -> Result<(), AllocError>
         Reason::OtherState { state } => {
             write!(page, "the state of the offset is {}", state_word(state))
         }
+        _ => write_timer_reason(page, reason),
+    }
+}
+
+/// The text of a reason that isn't of the range or the clock.
+fn write_timer_reason(page: &mut String, reason: Reason) -> Result<(), AllocError>
+    requires { IsPastClock reason }
+    ensures { OnOk result (string_bytes page.new ≡ string_bytes page.old ++ reason_text reason) }
+{
+    match reason {
         Reason::SlotTaken { status } => write!(
             page,
             "the slot is taken: its last timer is {}",
@@ -80,6 +90,17 @@ pub fn write_reason(page: &mut String, reason: Reason) -> Result<(), AllocError>
         Reason::NotExited { dest } => {
             write!(page, "its destination, process {dest}, hasn't exited")
         }
+        _ => write_last_reason(page, reason),
+    }
+}
+
+/// The text of a reason that isn't of a timer either: it is of what waits, of a request or of a mailbox.
+fn write_last_reason(page: &mut String, reason: Reason) -> Result<(), AllocError>
+    requires clock { IsPastClock reason }
+    requires timers { IsPastTimers reason }
+    ensures { OnOk result (string_bytes page.new ≡ string_bytes page.old ++ reason_text reason) }
+{
+    match reason {
         Reason::NoneWaits => write!(page, "no expired timer of the scheduler waits"),
         Reason::OtherWaits { first } => write_waits(page, first),
         Reason::OtherDest { dest } => { write!(page, "the timer's destination is process {dest}") }
@@ -114,6 +135,7 @@ pub fn write_reason(page: &mut String, reason: Reason) -> Result<(), AllocError>
             )
         }
         Reason::Other => write!(page, "it can't follow"),
+        _ => Ok(()),
     }
 }
 
@@ -201,42 +223,30 @@ fn write_unarmed(page: &mut String, status: Option<Status>) -> Result<(), AllocE
 fn write_later(page: &mut String, first: TimerRef, deadline: u64) -> Result<(), AllocError>
     ensures { OnOk result (string_bytes page.new ≡ string_bytes page.old ++ reason_text (Reason.Later first deadline)) }
 {
-    let TimerRef {
-        wheel,
-        slot,
-        generation,
-    } = first;
     write!(
         page,
-        "timer {wheel} {slot} {generation} comes first, with deadline {deadline} ms"
+        "timer {} {} {} comes first, with deadline {deadline} ms",
+        first.wheel, first.slot, first.generation
     )
 }
 
 fn write_waits(page: &mut String, first: TimerRef) -> Result<(), AllocError>
     ensures { OnOk result (string_bytes page.new ≡ string_bytes page.old ++ reason_text (Reason.OtherWaits first)) }
 {
-    let TimerRef {
-        wheel,
-        slot,
-        generation,
-    } = first;
     write!(
         page,
-        "timer {wheel} {slot} {generation} is the first that waits"
+        "timer {} {} {} is the first that waits",
+        first.wheel, first.slot, first.generation
     )
 }
 
 fn write_still(page: &mut String, timer: TimerRef, deadline: u64) -> Result<(), AllocError>
     ensures { OnOk result (string_bytes page.new ≡ string_bytes page.old ++ reason_text (Reason.StillArmed timer deadline)) }
 {
-    let TimerRef {
-        wheel,
-        slot,
-        generation,
-    } = timer;
     write!(
         page,
-        "timer {wheel} {slot} {generation} is still armed, with deadline {deadline} ms"
+        "timer {} {} {} is still armed, with deadline {deadline} ms",
+        timer.wheel, timer.slot, timer.generation
     )
 }
 

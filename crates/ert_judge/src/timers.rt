@@ -10,10 +10,12 @@ ghost use Rattle.ert_defs.specs.Timers.{turned};
 ghost use Rattle.ert_state.specs.Uses.{uses_of};
 ghost use Rattle.ert_state.specs.Wheels.{timers_at, IsFirstDue};
 
-use crate::judge::{Judge, TIMERS_OF_WHEEL, is_left};
+use crate::judge::Judge;
 use crate::reasons::Reason;
+use crate::rules::{TIMERS_OF_WHEEL, is_left};
+use ert_defs::milliseconds::{deadline_of, down, passed};
 use ert_defs::{Actor, Start, Status, TimerRef, use_of};
-use ert_state::{Uses, deadline_of, down, passed};
+use ert_state::Uses;
 
 /// Why a timer can't be armed.
 pub fn of_arm(judge: &Judge, by: Actor, timer: TimerRef, start: Start) -> Option<Reason>

@@ -105,12 +105,11 @@ pub fn write_mail(page: &mut String, mail: Mail) -> Result<(), AllocError>
 fn write_timeout(page: &mut String, timer: TimerRef, msg: u64) -> Result<(), AllocError>
     ensures { OnOk result (string_bytes page.new ≡ string_bytes page.old ++ mail_text (Mail.Timeout timer msg)) }
 {
-    let TimerRef {
-        wheel,
-        slot,
-        generation,
-    } = timer;
-    write!(page, "timeout {wheel} {slot} {generation} {msg}")
+    write!(
+        page,
+        "timeout {} {} {} {msg}",
+        timer.wheel, timer.slot, timer.generation
+    )
 }
 
 fn write_cancel_done(
@@ -120,27 +119,21 @@ fn write_cancel_done(
 ) -> Result<(), AllocError>
     ensures { OnOk result (string_bytes page.new ≡ string_bytes page.old ++ mail_text (Mail.CancelDone timer left)) }
 {
-    let TimerRef {
-        wheel,
-        slot,
-        generation,
-    } = timer;
+    let TimerRef { wheel, slot, .. } = timer;
+    let last = timer.generation;
     match left {
-        None => write!(page, "cancel_done {wheel} {slot} {generation} none"),
-        Some(left) => write!(page, "cancel_done {wheel} {slot} {generation} {left}"),
+        None => write!(page, "cancel_done {wheel} {slot} {last} none"),
+        Some(left) => write!(page, "cancel_done {wheel} {slot} {last} {left}"),
     }
 }
 
 fn write_read_done(page: &mut String, timer: TimerRef, left: Option<u64>) -> Result<(), AllocError>
     ensures { OnOk result (string_bytes page.new ≡ string_bytes page.old ++ mail_text (Mail.ReadDone timer left)) }
 {
-    let TimerRef {
-        wheel,
-        slot,
-        generation,
-    } = timer;
+    let TimerRef { wheel, slot, .. } = timer;
+    let last = timer.generation;
     match left {
-        None => write!(page, "read_done {wheel} {slot} {generation} none"),
-        Some(left) => write!(page, "read_done {wheel} {slot} {generation} {left}"),
+        None => write!(page, "read_done {wheel} {slot} {last} none"),
+        Some(left) => write!(page, "read_done {wheel} {slot} {last} {left}"),
     }
 }

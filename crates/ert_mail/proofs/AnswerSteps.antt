@@ -13,8 +13,8 @@ use Rattle.ert_defs.specs.declared.mail.RequestKind.{RequestKind}
 use Rattle.ert_defs.specs.declared.mail.RequestKind.TheVariants.{Cancel, Read}
 use Rattle.ert_defs.specs.declared.settings.Settings.{Settings}
 use Rattle.ert_defs.specs.declared.timer.TimerRef.{TimerRef}
-use Rattle.ert_answers.specs.RequestCalls.{DoesAsked}
-use Rattle.ert_answers.specs.TimerCalls.{Reads, Cancels, read_entries, cancel_entries}
+use Rattle.ert_effects.specs.RequestCalls.{DoesAsked}
+use Rattle.ert_effects.specs.TimerCalls.{Reads, Cancels, read_entries, cancel_entries}
 use Rattle.ert_table.specs.Held.{is_held}
 use Rattle.ert_table.specs.Calls.{IsMade}
 use Rattle.ert_table.specs.Takes.{MayStep, Appends}

@@ -15,9 +15,9 @@ use Rattle.ert_defs.specs.declared.entry.Actor.TheVariants.{Sched, MailOf}
 use Rattle.ert_defs.specs.declared.entry.Entry.{Entry}
 use Rattle.ert_defs.specs.declared.entry.Event.TheVariants.{Deliver}
 use Rattle.ert_defs.specs.declared.settings.Settings.{Settings}
-use Rattle.ert_answers.specs.MailCalls.{handed_entries}
-use Rattle.ert_answers.specs.declared.answers.Handed.{Handed}
-use Rattle.ert_answers.specs.declared.answers.Handed.TheVariants.{Put, Dropped}
+use Rattle.ert_effects.specs.MailCalls.{handed_entries}
+use Rattle.ert_effects.specs.declared.answers.Handed.{Handed}
+use Rattle.ert_effects.specs.declared.answers.Handed.TheVariants.{Put, Dropped}
 use Rattle.ert_laws.proofs.RowRanges.{first_placed}
 use Rattle.ert_table.specs.Held.{is_held}
 use Rattle.ert_table.specs.Settlings.{HasRow, hit_entry, mail_of, Settles}
@@ -188,14 +188,17 @@ handed_count : (n p : ℕ) (fired : Row) (how : Handed) → fired.dest ≡ p →
 handed_count n p fired Put same = rw same (rw (eq-eqb p p refl) refl)
 handed_count n p fired Dropped same = refl
 
-pub stands_handed : (g : Settings) (v w : View) (fired : Row) (how : Handed) (m n : Mailbox) → fired.dest ≡ m.process
-    → is_held v.actors (MailOf m.process) ≡ true → Stands g v.front m → IsHanded g v fired how w → n.process ≡ m.process
+pub stands_handed : (g : Settings) (v w : View) (fired : Row) (how : Handed) (m n now : Mailbox) → m ≡ now → fired.dest ≡ now.process
+    → is_held v.actors (MailOf now.process) ≡ true → Stands g v.front now → IsHanded g v fired how w → n.process ≡ m.process
     → n.held ≡ with_fired how fired m.held → n.delivered ≡ m.delivered + counted how → Stands g w.front n
-stands_handed g v w fired how m n dest held stands steps process has delivered =
+stands_handed g v w fired how m n now is same held standing steps process has delivered =
     let p = m.process in
+    let dest : fired.dest ≡ p = subst (λ (m : Mailbox). fired.dest ≡ m.process) (sym is) same in
+    let stands = subst (Stands g v.front) (sym is) standing in
     let mails : (state g w.front).mails p ≡ with_fired how fired ((state g v.front).mails p) =
     subst (λ p. (state g w.front).mails p ≡ with_fired how fired ((state g v.front).mails p)) dest steps.mails in
-    let count = deliveries_after g v (handed_entries fired.timer.wheel fired how) w p held steps.call in
+    let count = deliveries_after g v (handed_entries fired.timer.wheel fired how) w p
+    (subst (λ (m : Mailbox). is_held v.actors (MailOf m.process) ≡ true) (sym is) held) steps.call in
     record {
       in_range = rw process stands.in_range;
       held = has ∙ (ap (with_fired how fired) stands.held ∙ (sym mails ∙ ap (λ p. (state g w.front).mails p) (sym process)));

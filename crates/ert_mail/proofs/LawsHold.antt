@@ -1,21 +1,21 @@
--- A mailbox stands on without entries of its own, and each call makes entries of its actors alone.
+-- Mailboxes and inboxes stand on without entries of their own, and each call makes entries of its actors alone.
 
 use Rattle.std.proofs.Common.{◌≡◌, ℕ, false, List, [], ◌∷◌, ◌++◌, length, filter, Option, Ok, Err, inl, inr, refl, sym, ap, subst, ◌∙◌, append-nil}
 use Rattle.std.proofs.lemmas.List.Elements.{filter-append}
 use Rattle.ert_defs.specs.Actors.{IsFree}
 use Rattle.ert_defs.specs.States.{State, state}
-use Rattle.ert_defs.proofs.Runs.{state-append, mail_stays, free_first, free_rest}
+use Rattle.ert_defs.proofs.Runs.{state-append, inbox_stays, mail_stays, free_first, free_rest}
 use Rattle.ert_defs.specs.declared.entry.Actor.{Actor}
-use Rattle.ert_defs.specs.declared.entry.Actor.TheVariants.{Sched, MailOf, Caller}
+use Rattle.ert_defs.specs.declared.entry.Actor.TheVariants.{Sched, MailOf, Inbox, Caller}
 use Rattle.ert_defs.specs.declared.entry.Entry.{Entry}
 use Rattle.ert_defs.specs.declared.settings.Settings.{Settings}
 use Rattle.ert_defs.specs.declared.timer.TimerRef.{TimerRef}
-use Rattle.ert_answers.specs.declared.answers.Handed.TheVariants.{Put, Dropped}
-use Rattle.ert_answers.specs.declared.answers.MonitorErr.TheVariants.{Full, NoMemory}
-use Rattle.ert_answers.specs.declared.answers.Taken.TheVariants.{Mail, Empty, Exited}
+use Rattle.ert_effects.specs.declared.answers.Handed.TheVariants.{Put, Dropped}
+use Rattle.ert_effects.specs.declared.answers.MonitorErr.TheVariants.{Full, NoMemory}
+use Rattle.ert_effects.specs.declared.answers.Taken.TheVariants.{Mail, Empty, Exited}
 use Rattle.ert_table.specs.Calls.{AreOnlyOf}
 use Rattle.ert_table.proofs.Parts.{free_later, of_one, of_both}
-use Rattle.ert_mail.specs.Laws.{AreWithMail, LawOfStanding, LawOfTakes, LawOfMonitors, LawOfDemonitors, LawOfTells, LawOfHandingOver, LawOfAnswers}
+use Rattle.ert_mail.specs.Laws.{AreWithMail, LawOfMailboxes, LawOfInboxes, LawOfTakes, LawOfMonitors, LawOfDemonitors, LawOfTells, LawOfHandingOver, LawOfAnswers, LawOfAsks, LawOfPicks}
 use Rattle.ert_laws.specs.Counts.{delivers_to, deliveries}
 use Rattle.ert_mail.proofs.AnswerSteps.{AreAsked, asked}
 use Rattle.ert_mail.proofs.Standing.{undelivered}
@@ -26,8 +26,8 @@ none_delivered p (e ∷ m) free =
     let none : delivers_to p e ≡ false = undelivered p e (free_first (MailOf p) e m free) in
     rw none (none_delivered p m (free_rest (MailOf p) e m free))
 
-pub stand_on : LawOfStanding
-stand_on g f h m longer same stands =
+pub mail_on : LawOfMailboxes
+mail_on g f h m longer same stands =
     let p = m.process in
     let free : IsFree longer.later (MailOf p) = free_later (MailOf p) f h longer same in
     let mails : (state g h).mails p ≡ (state g f).mails p =
@@ -38,6 +38,15 @@ stand_on g f h m longer same stands =
     ∙ ap length (filter-append (delivers_to p) f longer.later
     ∙ (ap (λ l. filter (delivers_to p) f ++ l) (none_delivered p longer.later free) ∙ append-nil (filter (delivers_to p) f))) in
     record { in_range = stands.in_range; held = stands.held ∙ sym mails; delivered = stands.delivered ∙ sym count }
+
+pub inbox_on : LawOfInboxes
+inbox_on g f h q longer same stands =
+    let w = q.wheel in
+    let requests : (state g h).inboxes w ≡ (state g f).inboxes w =
+    ap (λ h. (state g h).inboxes w) longer.grown
+    ∙ (ap (λ (s : State). s.inboxes w) (state-append g f longer.later)
+    ∙ inbox_stays g w (state g f) longer.later (free_later (Inbox w) f h longer same)) in
+    record { in_range = stands.in_range; requests = stands.requests ∙ sym requests }
 
 -- entries that are these
 same_only : (by : Actor) (p : ℕ) (es fs : List Entry) → es ≡ fs → AreWithMail by p fs → AreWithMail by p es
@@ -87,3 +96,11 @@ answers_only g w q (Ok left) s es answers =
     (asked_only g w q.reply_to q.timer left answers.steps (asked g w q.kind q.timer left s answers.steps answers.done))
     (of_both (Sched w) (MailOf q.reply_to), tt))
 answers_only g w q (Err e) s es answers = same_only (Sched w) q.reply_to es _ answers tt
+
+pub asks_only : LawOfAsks
+asks_only g by w request (Ok done) s es asks =
+    subst (AreOnlyOf (Caller by ∷ (Inbox w ∷ []))) (sym asks) (of_both (Caller by) (Inbox w), tt)
+asks_only g by w request (Err e) s es asks = subst (AreOnlyOf (Caller by ∷ (Inbox w ∷ []))) (sym asks) tt
+
+pub picks_only : LawOfPicks
+picks_only g w got s es picks = subst (AreOnlyOf (Sched w ∷ (Inbox w ∷ []))) (sym picks) (of_both (Sched w) (Inbox w), tt)

@@ -3,6 +3,6 @@ pub mod Takings
 pub mod Watchings
 pub mod Handings
 pub mod AnswerSteps
-pub mod MonitorLaws
 pub mod Counts
+pub mod InboxStanding
 pub mod LawsHold

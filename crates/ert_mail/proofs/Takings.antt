@@ -1,17 +1,16 @@
 -- The steps of a take.
 
-use Rattle.std.proofs.Common.{◌≡◌, ℕ, Bool, true, false, [], ◌∷◌, Option, Some, None, refl, ap, subst, ◌∙◌, eq-eqb}
+use Rattle.std.proofs.Common.{◌≡◌, ℕ, Bool, true, false, [], ◌∷◌, Option, Some, None, refl, sym, ap, subst, ◌∙◌, eq-eqb}
 use Rattle.ert_defs.specs.Entries.{mark_entry, take_entry}
 use Rattle.ert_defs.specs.Mails.{MailState, first_of, others_of}
 use Rattle.ert_defs.specs.declared.entry.Actor.TheVariants.{MailOf, Caller}
 use Rattle.ert_defs.specs.declared.entry.Entry.{Entry}
 use Rattle.ert_defs.specs.declared.mail.Mail.{Mail}
 use Rattle.ert_defs.specs.declared.settings.Settings.{Settings}
-use Rattle.ert_answers.specs.MailCalls.{Takes}
-use Rattle.ert_answers.specs.declared.answers.Taken.{Taken}
-use Rattle.ert_answers.specs.declared.answers.Taken.TheVariants.{Mail as First, Empty, Exited}
+use Rattle.ert_effects.specs.MailCalls.{Takes}
+use Rattle.ert_effects.specs.declared.answers.Taken.{Taken}
+use Rattle.ert_effects.specs.declared.answers.Taken.TheVariants.{Mail as First, Empty, Exited}
 use Rattle.ert_table.specs.Calls.{IsMade}
-use Rattle.ert_table.specs.Held.{is_held}
 use Rattle.ert_table.specs.Takes.{MayStep, Appends}
 use Rattle.ert_table.proofs.Makings.{step_made}
 use Rattle.ert_table.proofs.Parts.{two_steps, held_on}
@@ -19,29 +18,35 @@ use Rattle.ert_table.specs.declared.view.View.{View}
 use Rattle.ert_mail.specs.Mailboxes.{Mailbox, Stands, IsCallers}
 use Rattle.ert_mail.proofs.Standing.{stands_step, stands_apart}
 
--- a pass holds after a step what it held
-pub callers_on : (g : Settings) (v : View) (e : Entry) (w : View) (by p : ℕ) → Appends g v e w → IsCallers g v by p → IsCallers g w by p
-callers_on g v e w by p step holds = record {
-  caller = held_on g v e w (Caller by) step holds.caller;
-  below = holds.below;
-  mail = held_on g v e w (MailOf p) step holds.mail;
-}
+-- what a take knows once it looked at the process, of the mailbox as it is kept
+pub record IsMarked (g : Settings) (u : View) (by : ℕ) (m : Mailbox) : Type 0 where
+  pub holds : IsCallers g u by m.process
+  pub stands : Stands g u.front m
 
--- a mailbox stands after its process was looked at
-pub stands_marked : (g : Settings) (v u : View) (by : ℕ) (was : Bool) (m : Mailbox) → is_held v.actors (MailOf m.process) ≡ true
-    → Stands g v.front m → Appends g v (mark_entry (Caller by) m.process false was) u → Stands g u.front m
-stands_marked g v u by was m held stands step = stands_apart g v (mark_entry (Caller by) m.process false was) u m held refl stands step
+pub marked : (g : Settings) (v u : View) (by : ℕ) (was : Bool) (m now : Mailbox) → m ≡ now → IsCallers g v by now.process → Stands g v.front now
+    → Appends g v (mark_entry (Caller by) m.process false was) u → IsMarked g u by m
+marked g v u by was m now is holds stands step =
+    let e : Entry = mark_entry (Caller by) m.process false was in
+    let held : IsCallers g v by m.process = subst (λ (m : Mailbox). IsCallers g v by m.process) (sym is) holds in
+    record {
+      holds = record {
+        caller = held_on g v e u (Caller by) step held.caller;
+        below = held.below;
+        mail = held_on g v e u (MailOf m.process) step held.mail;
+      };
+      stands = stands_apart g v e u m held.mail refl (subst (Stands g v.front) (sym is) stands) step;
+    }
 
 pub exited_made : (g : Settings) (v u : View) (by p : ℕ) → Appends g v (mark_entry (Caller by) p false true) u → IsMade g v (Takes g by p Exited) u
 exited_made g v u by p step = step_made g v (mark_entry (Caller by) p false true) u (Takes g by p Exited) refl step
 
 -- the first message may be taken
-pub may_take : (g : Settings) (u : View) (by : ℕ) (m : Mailbox) (got : Option Mail) → IsCallers g u by m.process → Stands g u.front m
+pub may_take : (g : Settings) (u : View) (by : ℕ) (m : Mailbox) (got : Option Mail) → IsMarked g u by m
     → got ≡ first_of m.held.queue → MayStep g u (take_entry by m.process got)
-may_take g u by m got holds stands first = record {
-  ours = (holds.caller, holds.mail);
-  keeps = (holds.below, refl, stands.in_range);
-  known = first ∙ ap (λ (has : MailState). first_of has.queue) stands.held;
+may_take g u by m got at first = record {
+  ours = (at.holds.caller, at.holds.mail);
+  keeps = (at.holds.below, refl, at.stands.in_range);
+  known = first ∙ ap (λ (has : MailState). first_of has.queue) at.stands.held;
 }
 
 -- the answer by the first message
@@ -76,11 +81,11 @@ empty_made g v u w by p got is mark take =
 abbrev without_first : MailState → MailState
 without_first has = record { queue = others_of has.queue; monitors = has.monitors; next = has.next }
 
-pub stands_taken : (g : Settings) (u w : View) (by : ℕ) (m n : Mailbox) (got : Option Mail) → is_held u.actors (MailOf m.process) ≡ true
-    → Stands g u.front m → Appends g u (take_entry by m.process got) w → n.process ≡ m.process
+pub stands_taken : (g : Settings) (u w : View) (by : ℕ) (m n : Mailbox) (got : Option Mail) → IsMarked g u by m
+    → Appends g u (take_entry by m.process got) w → n.process ≡ m.process
     → n.held.queue ≡ others_of m.held.queue → n.held.monitors ≡ m.held.monitors → n.held.next ≡ m.held.next → n.delivered ≡ m.delivered
     → Stands g w.front n
-stands_taken g u w by m n got held stands step process queue monitors next delivered =
-    stands_step g u (take_entry by m.process got) w m n without_first held stands step
+stands_taken g u w by m n got at step process queue monitors next delivered =
+    stands_step g u (take_entry by m.process got) w m n without_first at.holds.mail at.stands step
     (λ s. rw (eq-eqb m.process m.process refl) refl) (rw (eq-eqb m.process m.process refl) refl) process
     queue monitors next delivered

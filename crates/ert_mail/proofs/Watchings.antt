@@ -2,21 +2,20 @@
 
 use Rattle.std.proofs.Common.{◌≡◌, ℕ, ◌+◌, ◌≤◌, ℤ, Bool, true, List, [], ◌∷◌, ◌++◌, length, Ok, Err, inl, inr, refl, sym, ap, subst, ◌∙◌, eq-eqb}
 use Rattle.std.proofs.lemmas.Bool.{cases_lt}
-use Rattle.std.proofs.lemmas.List.{map-append}
 use Rattle.ert_defs.specs.Entries.{off_entry, watch_entry, unwatch_entry, tell_entry}
 use Rattle.ert_defs.specs.Mails.{MailState, changes_of, told_of, without}
 use Rattle.ert_defs.specs.declared.entry.Actor.TheVariants.{MailOf, Caller}
+use Rattle.ert_defs.specs.declared.mail.Monitor.{Monitor}
 use Rattle.ert_defs.specs.declared.settings.OffsetState.{OffsetState}
 use Rattle.ert_defs.specs.declared.settings.Settings.{Settings}
-use Rattle.ert_answers.specs.MailCalls.{Monitors, Demonitors, Tells}
-use Rattle.ert_answers.specs.declared.answers.MonitorErr.TheVariants.{Full}
+use Rattle.ert_effects.specs.MailCalls.{Monitors, Demonitors, Tells}
+use Rattle.ert_effects.specs.declared.answers.MonitorErr.TheVariants.{Full}
 use Rattle.ert_table.specs.Calls.{IsMade}
 use Rattle.ert_table.specs.Held.{is_held}
 use Rattle.ert_table.specs.Takes.{Appends}
 use Rattle.ert_table.proofs.Makings.{step_made}
 use Rattle.ert_table.specs.declared.view.View.{View}
-use Rattle.ert_mail.specs.Mailboxes.{Mailbox, Stands, AreMany, monitor_of, monitors_of}
-use Rattle.ert_mail.specs.declared.monitors.Monitor.{Monitor}
+use Rattle.ert_mail.specs.Mailboxes.{Mailbox, Stands, AreMany}
 use Rattle.ert_mail.proofs.Standing.{stands_step, stands_apart}
 
 pub unwatch_made : (g : Settings) (v w : View) (by p monitor : ℕ) (was : Bool) → Appends g v (unwatch_entry by p monitor was) w
@@ -63,16 +62,14 @@ watched number offset has = record {
   next = number + 1;
 }
 
-pub stands_watched : (g : Settings) (v w : View) (by : ℕ) (made : Monitor) (old new : List Monitor) (m n : Mailbox) → is_held v.actors (MailOf m.process) ≡ true
+pub stands_watched : (g : Settings) (v w : View) (by : ℕ) (made : Monitor) (m n : Mailbox) → is_held v.actors (MailOf m.process) ≡ true
     → Stands g v.front m → Appends g v (watch_entry by m.process made.number made.told) w → n.process ≡ m.process
-    → m.held.monitors ≡ monitors_of old → n.held.monitors ≡ monitors_of new → new ≡ old ++ made ∷ []
+    → n.held.monitors ≡ m.held.monitors ++ made ∷ []
     → n.held.queue ≡ m.held.queue → n.held.next ≡ made.number + 1 → n.delivered ≡ m.delivered
     → Stands g w.front n
-stands_watched g v w by made old new m n held stands step process before after one_more queue next delivered =
+stands_watched g v w by made m n held stands step process one_more queue next delivered =
     stands_step g v (watch_entry by m.process made.number made.told) w m n (watched made.number made.told) held stands step
-    (λ s. rw (eq-eqb m.process m.process refl) refl) (rw (eq-eqb m.process m.process refl) refl) process queue
-    (after ∙ (ap monitors_of one_more ∙ (map-append monitor_of old (made ∷ []) ∙ ap (λ ms. ms ++ monitor_of made ∷ []) (sym before))))
-    next delivered
+    (λ s. rw (eq-eqb m.process m.process refl) refl) (rw (eq-eqb m.process m.process refl) refl) process queue one_more next delivered
 
 pub tell_made : (g : Settings) (v w : View) (by put : ℕ) (m : Mailbox) (offset : ℤ) → Stands g v.front m → put ≡ length (changes_of offset m.held.monitors)
     → Appends g v (tell_entry by m.process offset) w → IsMade g v (Tells g by m.process (Ok put)) w

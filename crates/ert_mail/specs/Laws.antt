@@ -1,29 +1,35 @@
--- Laws of mailboxes. The functions of src/laws.rt carry them as contracts, so that they are proved.
+-- Laws of mailboxes and inboxes. The functions of src/laws.rt carry them as contracts, so that they are proved.
 
 use Rattle.std.specs.Prelude.{◌≡◌, ℕ, Bool, List, [], ◌∷◌, Option, Result}
 use Rattle.ert_defs.specs.Actors.{of}
 use Rattle.ert_defs.specs.States.{State}
 use Rattle.ert_defs.specs.Timers.{Row}
 use Rattle.ert_defs.specs.declared.entry.Actor.{Actor}
-use Rattle.ert_defs.specs.declared.entry.Actor.TheVariants.{Sched, MailOf, Caller}
+use Rattle.ert_defs.specs.declared.entry.Actor.TheVariants.{Sched, MailOf, Inbox, Caller}
 use Rattle.ert_defs.specs.declared.entry.Entry.{Entry}
 use Rattle.ert_defs.specs.declared.mail.Request.{Request}
 use Rattle.ert_defs.specs.declared.memory.NoMemory.{NoMemory}
 use Rattle.ert_defs.specs.declared.settings.Settings.{Settings}
-use Rattle.ert_answers.specs.MailCalls.{HandsOver, Takes, Monitors, Demonitors, Tells}
-use Rattle.ert_answers.specs.RequestCalls.{Answers}
-use Rattle.ert_answers.specs.declared.answers.Handed.{Handed}
-use Rattle.ert_answers.specs.declared.answers.MonitorErr.{MonitorErr}
-use Rattle.ert_answers.specs.declared.answers.Taken.{Taken}
+use Rattle.ert_effects.specs.MailCalls.{HandsOver, Takes, Monitors, Demonitors, Tells}
+use Rattle.ert_effects.specs.RequestCalls.{Answers, Asks, Picks}
+use Rattle.ert_effects.specs.declared.answers.Handed.{Handed}
+use Rattle.ert_effects.specs.declared.answers.MonitorErr.{MonitorErr}
+use Rattle.ert_effects.specs.declared.answers.Taken.{Taken}
 use Rattle.ert_table.specs.Calls.{AreOnlyOf}
 use Rattle.ert_table.specs.Views.{Begins}
+use Rattle.ert_mail.specs.Inboxes.{Waiting, Stands as InboxStands}
 use Rattle.ert_mail.specs.Mailboxes.{Mailbox, Stands}
 
 -- a mailbox that stands for a history stands for each longer one that has no more entries of the mailbox:
 -- where others have made theirs, and where a pass that holds it was joined to another
-abbrev pub LawOfStanding : Type 0
-LawOfStanding = (g : Settings) (f h : List Entry) (m : Mailbox) → Begins f h → of h (MailOf m.process) ≡ of f (MailOf m.process)
+abbrev pub LawOfMailboxes : Type 0
+LawOfMailboxes = (g : Settings) (f h : List Entry) (m : Mailbox) → Begins f h → of h (MailOf m.process) ≡ of f (MailOf m.process)
     → Stands g f m → Stands g h m
+
+-- and so does an inbox
+abbrev pub LawOfInboxes : Type 0
+LawOfInboxes = (g : Settings) (f h : List Entry) (q : Waiting) → Begins f h → of h (Inbox q.wheel) ≡ of f (Inbox q.wheel)
+    → InboxStands g f q → InboxStands g h q
 
 -- these entries are of an actor and of the mailbox of a process alone
 abbrev pub AreWithMail : Actor → ℕ → List Entry → Type 0
@@ -58,3 +64,13 @@ LawOfHandingOver = (g : Settings) (w : ℕ) (fired : Row) (answer : Result Hande
 abbrev pub LawOfAnswers : Type 0
 LawOfAnswers = (g : Settings) (w : ℕ) (request : Request) (answer : Result (Option ℕ) NoMemory) (s : State) (es : List Entry)
     → Answers g w request answer s es → AreWithMail (Sched w) request.reply_to es
+
+-- the entries of a request that is put are of its caller and of the inbox alone
+abbrev pub LawOfAsks : Type 0
+LawOfAsks = (g : Settings) (by w : ℕ) (request : Request) (answer : Result (Unit {0}) NoMemory) (s : State) (es : List Entry)
+    → Asks g by w request answer s es → AreOnlyOf (Caller by ∷ (Inbox w ∷ [])) es
+
+-- those of a request that is taken are of the scheduler and of its inbox alone
+abbrev pub LawOfPicks : Type 0
+LawOfPicks = (g : Settings) (w : ℕ) (got : Option Request) (s : State) (es : List Entry) → Picks g w got s es
+    → AreOnlyOf (Sched w ∷ (Inbox w ∷ [])) es

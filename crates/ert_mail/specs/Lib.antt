@@ -1,3 +1,4 @@
 pub mod Mailboxes
+pub mod Inboxes
 pub mod Laws
 pub mod Steps

@@ -1,24 +1,24 @@
 -- The mailbox of a process, as callers see it, and when it stands for a history.
 
-use Rattle.std.specs.Prelude.{◌≡◌, ◌⊎◌, ℕ, ◌<◌, ◌≤◌, true, List, [], ◌∷◌, length, map, Option, None, Result, Ok, Err}
-use Rattle.ert_defs.specs.Mails.{MailState, Monitor, SchedState, no_mail, others_of}
+use Rattle.std.specs.Prelude.{◌≡◌, ◌⊎◌, ℕ, ◌<◌, ◌≤◌, true, List, [], ◌∷◌, length, Option, None, Result, Ok, Err}
+use Rattle.ert_defs.specs.Mails.{MailState, SchedState, no_mail, others_of}
 use Rattle.ert_defs.specs.States.{state}
 use Rattle.ert_defs.specs.declared.entry.Actor.TheVariants.{Sched, MailOf, Caller}
 use Rattle.ert_defs.specs.declared.entry.Entry.{Entry}
 use Rattle.ert_defs.specs.declared.mail.Mail.{Mail}
+use Rattle.ert_defs.specs.declared.mail.Monitor.{Monitor}
 use Rattle.ert_defs.specs.declared.memory.NoMemory.{NoMemory}
 use Rattle.ert_defs.specs.declared.settings.Settings.{Settings}
 use Rattle.ert_laws.specs.Counts.{deliveries}
-use Rattle.ert_answers.specs.MailCalls.{Monitors}
-use Rattle.ert_answers.specs.declared.answers.Handed.{Handed}
-use Rattle.ert_answers.specs.declared.answers.MonitorErr.{MonitorErr}
-use Rattle.ert_answers.specs.declared.answers.MonitorErr.TheVariants.{Full, NoMemory as WantOfMemory}
-use Rattle.ert_answers.specs.declared.answers.Taken.{Taken}
-use Rattle.ert_answers.specs.declared.answers.Taken.TheVariants.{Mail as First, Empty, Exited}
+use Rattle.ert_effects.specs.MailCalls.{Monitors}
+use Rattle.ert_effects.specs.declared.answers.Handed.{Handed}
+use Rattle.ert_effects.specs.declared.answers.MonitorErr.{MonitorErr}
+use Rattle.ert_effects.specs.declared.answers.MonitorErr.TheVariants.{Full, NoMemory as WantOfMemory}
+use Rattle.ert_effects.specs.declared.answers.Taken.{Taken}
+use Rattle.ert_effects.specs.declared.answers.Taken.TheVariants.{Mail as First, Empty, Exited}
 use Rattle.ert_table.specs.Calls.{IsMade, IsOmitted}
 use Rattle.ert_table.specs.Held.{is_held}
 use Rattle.ert_table.specs.declared.view.View.{View}
-use Rattle.ert_mail.specs.declared.monitors.Monitor.{Monitor as KeptMonitor}
 
 -- the mailbox of a process: what the process has, how many messages of expired timers were ever put into
 -- it, and for how many more messages it has room
@@ -28,19 +28,11 @@ pub record Mailbox : Type 0 where
   pub delivered : ℕ
   pub room : ℕ
 
--- a monitor that is kept
-abbrev pub monitor_of : KeptMonitor → Monitor
-monitor_of m = record { number = m.number; told = m.told }
-
--- the monitors that are kept, in their order
-abbrev pub monitors_of : List KeptMonitor → List Monitor
-monitors_of ms = map monitor_of ms
-
 -- a mailbox of which this is kept
-abbrev pub seen : ℕ → List Mail → List KeptMonitor → ℕ → ℕ → ℕ → Mailbox
+abbrev pub seen : ℕ → List Mail → List Monitor → ℕ → ℕ → ℕ → Mailbox
 seen process queue monitors next delivered room = record {
   process = process;
-  held = record { queue = queue; monitors = monitors_of monitors; next = next };
+  held = record { queue = queue; monitors = monitors; next = next };
   delivered = delivered;
   room = room;
 }

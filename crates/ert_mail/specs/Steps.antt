@@ -6,10 +6,10 @@ use Rattle.ert_defs.specs.States.{state}
 use Rattle.ert_defs.specs.Timers.{Row}
 use Rattle.ert_defs.specs.declared.mail.Request.{Request}
 use Rattle.ert_defs.specs.declared.settings.Settings.{Settings}
-use Rattle.ert_answers.specs.MailCalls.{handed_entries}
-use Rattle.ert_answers.specs.RequestCalls.{HasAnswered}
-use Rattle.ert_answers.specs.declared.answers.Handed.{Handed}
-use Rattle.ert_answers.specs.declared.answers.Handed.TheVariants.{Put, Dropped}
+use Rattle.ert_effects.specs.MailCalls.{handed_entries}
+use Rattle.ert_effects.specs.RequestCalls.{HasAnswered}
+use Rattle.ert_effects.specs.declared.answers.Handed.{Handed}
+use Rattle.ert_effects.specs.declared.answers.Handed.TheVariants.{Put, Dropped}
 use Rattle.ert_table.specs.Calls.{IsMade}
 use Rattle.ert_table.specs.Takes.{TakesPlace}
 use Rattle.ert_table.specs.declared.view.View.{View}

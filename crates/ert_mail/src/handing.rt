@@ -1,12 +1,12 @@
 //! The steps by which an expired timer is handed over.
 ghost use Rattle.std.specs.Prelude.{◌≡◌, ◌<◌, Some};
-ghost use Rattle.ert_defs.specs.Mails.{first_of, message_of};
+ghost use Rattle.ert_defs.specs.Mails.{first_of};
 ghost use Rattle.ert_table.specs.Desks.{settings_of, view_of, state_of, Belongs};
 ghost use Rattle.ert_mail.specs.Mailboxes.{IsScheds};
 ghost use Rattle.ert_mail.specs.Steps.{IsHanded};
 
-use ert_answers::Handed;
-use ert_defs::{Actor, Fired, Kind, Mail};
+use ert_defs::{Actor, Fired};
+use ert_effects::Handed;
 use ert_table::{Desk, Pass, Settle};
 
 /// Looks whether the destination of its scheduler's first expired timer has exited, and then records that
@@ -26,17 +26,4 @@ pub(crate) fn hand_over(desk: &Desk, pass: &mut Pass, fired: &Fired) -> Handed
     }
     pass.settle(desk, by, fired.timer, fired.deadline, Settle::Deliver);
     Handed::Put
-}
-
-/// The message of an expired timer.
-pub(crate) fn message_of(fired: &Fired) -> Mail
-    ensures { result ≡ message_of fired.now }
-{
-    match fired.kind {
-        Kind::Wrapped => Mail::Timeout {
-            timer: fired.timer,
-            msg: fired.msg,
-        },
-        Kind::Bare => Mail::Bare { msg: fired.msg },
-    }
 }

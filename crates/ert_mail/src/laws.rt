@@ -1,15 +1,20 @@
-//! Laws of mailboxes, each the contract of a function that does nothing.
+//! Laws of mailboxes and inboxes, each the contract of a function that does nothing.
 
-ghost use Rattle.ert_mail.specs.Laws.{LawOfStanding, LawOfTakes, LawOfMonitors, LawOfDemonitors, LawOfTells};
-ghost use Rattle.ert_mail.specs.Laws.{LawOfHandingOver, LawOfAnswers};
+ghost use Rattle.ert_mail.specs.Laws.{LawOfMailboxes, LawOfInboxes, LawOfTakes, LawOfMonitors, LawOfDemonitors, LawOfTells};
+ghost use Rattle.ert_mail.specs.Laws.{LawOfHandingOver, LawOfAnswers, LawOfAsks, LawOfPicks};
 
 /// A mailbox stands on while its process's mailbox has no more entries, whatever others do meanwhile.
 pub fn mailboxes_stand_on()
-    ensures { LawOfStanding }
+    ensures { LawOfMailboxes }
 {}
 
-/// Each call on a mailbox makes entries of the caller or scheduler and of that mailbox alone. So every other
-/// part of the service stands on.
+/// An inbox stands on while it has no more entries, whatever others do meanwhile.
+pub fn inboxes_stand_on()
+    ensures { LawOfInboxes }
+{}
+
+/// Each call on a mailbox or an inbox makes entries of the caller or scheduler and of that one alone. So every
+/// other part of the service stands on.
 pub fn calls_leave_other_parts()
     ensures takes { LawOfTakes }
     ensures monitors { LawOfMonitors }
@@ -17,4 +22,6 @@ pub fn calls_leave_other_parts()
     ensures tells { LawOfTells }
     ensures hands_over { LawOfHandingOver }
     ensures answers { LawOfAnswers }
+    ensures asks { LawOfAsks }
+    ensures picks { LawOfPicks }
 {}

@@ -1,4 +1,5 @@
-//! The mailbox of a process: its messages, and its monitors of the time offset.
+//! The mailbox of a process: its messages, and its monitors of the time offset. And the inbox of a scheduler:
+//! the asynchronous requests that wait for it.
 //!
 //! **What it is.** One thread at a time has a process's part, and with it a pass that holds the actor of that
 //! mailbox, beside the caller or the scheduler who acts. What the part keeps is data of its own and no word
@@ -6,6 +7,9 @@
 //! the process was last told, the number of the next monitor, and how many messages of timers were ever put.
 //! Each change of it is recorded by a step on the desk, on a word that is read at the same time: an exit, the
 //! time or the offset.
+//!
+//! An inbox is the same for a scheduler: one thread has it, with a pass that holds its actor, beside the caller
+//! who asks or the scheduler itself. Its requests stand first to last.
 //!
 //! | call | made by | steps | answer |
 //! |---|---|---|---|
@@ -15,26 +19,30 @@
 //! | `monitor` | a caller | reads the offset, which counts as told | the number, or Full |
 //! | `demonitor` | a caller | records that it was removed | whether it stood |
 //! | `tell` | a caller | reads the offset | how many messages were put |
+//! | `ask` | a caller | records the request, which is put last | |
+//! | `pick` | a scheduler | records the first request, which goes into its empty hand | that request, if one waits |
 //!
-//! **What it promises.** The part stands for the front of the pass before and after each call: its messages,
-//! monitors, numbers and count are those of the history. Each call makes just the entries that it may make
-//! with its answer (`ert_answers`, `specs/MailCalls` and `specs/RequestCalls`). Where a call also changes what
-//! the scheduler has, it tells what that is then. A part stands on while others act (`mailboxes_stand_on`).
+//! **What it promises.** A part stands for the front of the pass before and after each call: its messages,
+//! monitors, numbers and count, or its requests, are those of the history. Each call makes just the entries that
+//! it may make with its answer (`ert_effects`, `specs/MailCalls` and `specs/RequestCalls`). Where a call also
+//! changes what the scheduler has, it tells what that is then. A part stands on while others act
+//! (`mailboxes_stand_on`, `inboxes_stand_on`).
 //!
 //! **Memory.** A call that may put something makes room first, and takes no step where it finds none. So after
-//! want of memory nothing has changed: a request is still in the hand, and its timer as it was. `take` and
-//! `demonitor` take no memory. Messages stand in a ring: to put or to take one moves no other.
+//! want of memory nothing has changed: a request is still in the hand, and its timer as it was. `take`,
+//! `demonitor` and `pick` take no memory. Messages and requests stand in rings: to put or to take one moves no other.
 //!
-//! It stands on `ert_defs`, `ert_laws`, `ert_answers`, `ert_table` and `ert_calls`.
+//! It stands on `ert_defs`, `ert_laws`, `ert_effects`, `ert_table`, `ert_calls` and `ert_monitors`.
 #![tactic(auto)]
 
 mod handing;
+mod inbox;
 mod laws;
-mod monitors;
 mod part;
 mod replies;
 mod watching;
 
-pub use ert_answers::{Handed, MonitorErr, Taken};
-pub use laws::{calls_leave_other_parts, mailboxes_stand_on};
+pub use ert_effects::{Handed, MonitorErr, Taken};
+pub use inbox::InboxPart;
+pub use laws::{calls_leave_other_parts, inboxes_stand_on, mailboxes_stand_on};
 pub use part::MailPart;

@@ -1,10 +1,9 @@
 ghost use Rattle.std.specs.Prelude.{◌≡◌};
 
-use crate::handing::{hand_over, message_of};
-use crate::monitors::Monitor;
+use crate::handing::hand_over;
 use crate::replies::{put_answer, reply};
-use ert_answers::{Handed, Taken};
-use ert_defs::{Actor, Fired, Mail, NoMemory, Request};
+use ert_defs::{Actor, Fired, Mail, Monitor, NoMemory, Request};
+use ert_effects::{Handed, Taken};
 use ert_table::{Desk, Pass, TimeCarry};
 use std::alloc::Global;
 use std::collections::VecDeque;
@@ -39,8 +38,8 @@ impl Model for MailPart {
 impl MailPart {
     ghost use Rattle.std.specs.Prelude.{◌<◌, Some, OnOk, OnErr};
     ghost use Rattle.ert_defs.specs.Mails.{first_of};
-    ghost use Rattle.ert_answers.specs.MailCalls.{HandsOver, Takes};
-    ghost use Rattle.ert_answers.specs.RequestCalls.{Answers};
+    ghost use Rattle.ert_effects.specs.MailCalls.{HandsOver, Takes};
+    ghost use Rattle.ert_effects.specs.RequestCalls.{Answers};
     ghost use Rattle.ert_table.specs.Calls.{IsMade, IsMadeIfOk};
     ghost use Rattle.ert_table.specs.Desks.{settings_of, view_of, front_of, state_of, Belongs};
     ghost use Rattle.ert_mail.specs.Mailboxes.{IsEmpty, IsSame, IsCallers, IsScheds, IsTaken, Stands, handed, answered};
@@ -134,7 +133,7 @@ impl MailPart {
         if let Handed::Dropped = hand_over(desk, pass, fired) {
             return Ok(Handed::Dropped);
         }
-        self.queue.push_back_reserved(message_of(fired));
+        self.queue.push_back_reserved(Mail::of_fired(fired));
         self.delivered += 1;
         Ok(Handed::Put)
     }
@@ -159,10 +158,10 @@ impl MailPart {
         ensures belongs { Belongs desk.now pass.new }
         ensures call { IsMadeIfOk (settings_of desk.now) (view_of pass.old) (Answers (settings_of desk.now) sched request.now) result (view_of pass.new) }
         ensures sched { (state_of desk.now pass.new).scheds sched ≡ answered result ((state_of desk.now pass.old).scheds sched) }
-        ensures memory { OnErr result (self.old.room ≡ 0) }
-        ensures err { OnErr result (IsSame self.old self.new) }
         ensures process { self.new.process ≡ self.old.process }
         ensures stands { Stands (settings_of desk.now) (front_of pass.new) self.new }
+        ensures memory { OnErr result (self.old.room ≡ 0) }
+        ensures err { OnErr result (IsSame self.old self.new) }
     {
         self.queue.reserve(1)?;
         let left = reply(desk, pass, sched, request);

@@ -1,8 +1,8 @@
 //! The steps by which an asynchronous request is answered.
 ghost use Rattle.std.specs.Prelude.{◌≡◌, ◌<◌, ◌++◌, true, Some};
 ghost use Rattle.std.specs.VecDeque.{deque_len, deque_capacity};
-ghost use Rattle.ert_answers.specs.RequestCalls.{DoesAsked};
-ghost use Rattle.ert_defs.specs.Mails.{answer_by, answer_of};
+ghost use Rattle.ert_effects.specs.RequestCalls.{DoesAsked};
+ghost use Rattle.ert_defs.specs.Mails.{answer_of};
 ghost use Rattle.ert_defs.specs.declared.entry.Actor.TheVariants.{Sched};
 ghost use Rattle.ert_table.specs.Desks.{settings_of, view_of, actors_of, state_of, Belongs};
 ghost use Rattle.ert_table.specs.Held.{is_held};
@@ -56,17 +56,6 @@ pub(crate) fn put_answer(queue: &mut VecDeque<Mail>, request: &Request, left: Op
     ensures { queue.new.items ≡ queue.old.items ++ answer_of request.now left }
 {
     if request.info {
-        queue.push_back_reserved(answer_by(request, left));
-    }
-}
-
-/// The answer to a request.
-fn answer_by(request: &Request, left: Option<u64>) -> Mail
-    ensures { result ≡ answer_by request.now.kind request.now.timer left }
-{
-    let timer = request.timer;
-    match request.kind {
-        RequestKind::Cancel => Mail::CancelDone { timer, left },
-        RequestKind::Read => Mail::ReadDone { timer, left },
+        queue.push_back_reserved(Mail::of_answer(request, left));
     }
 }

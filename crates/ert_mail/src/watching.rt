@@ -1,10 +1,10 @@
 //! The calls on the monitors of a process (`erlang` module reference, `monitor` with `time_offset`).
 ghost use Rattle.std.specs.Prelude.{◌≡◌};
 
-use crate::monitors::{Monitor, has_monitor, remove, tell_all};
 use crate::part::MailPart;
-use ert_answers::MonitorErr;
-use ert_defs::{Actor, NoMemory};
+use ert_defs::{Actor, Monitor, NoMemory};
+use ert_effects::MonitorErr;
+use ert_monitors::{has_monitor, remove_monitor, tell_monitors};
 use ert_table::{Desk, OffsetCarry, Pass, TimeCarry};
 
 /// The greatest number of monitors that a process can have (profile).
@@ -13,8 +13,8 @@ const MOST_MONITORS: usize = 64;
 impl MailPart {
     ghost use Rattle.std.specs.Prelude.{◌↔◌, IsTrue, IfOk, OnErr, Err};
     ghost use Rattle.ert_defs.specs.Legal.{stands_in};
-    ghost use Rattle.ert_answers.specs.MailCalls.{Demonitors, Tells};
-    ghost use Rattle.ert_answers.specs.declared.answers.MonitorErr.TheVariants.{Full};
+    ghost use Rattle.ert_effects.specs.MailCalls.{Demonitors, Tells};
+    ghost use Rattle.ert_effects.specs.declared.answers.MonitorErr.TheVariants.{Full};
     ghost use Rattle.ert_table.specs.Calls.{IsMade, IsMadeIfOk};
     ghost use Rattle.ert_table.specs.Desks.{settings_of, view_of, front_of, Belongs};
     ghost use Rattle.ert_mail.specs.Mailboxes.{AreMany, IsCallers, IsMonitor, IsSame, Stands};
@@ -82,7 +82,7 @@ impl MailPart {
             was,
         };
         pass.load_time(desk, Actor::Caller(by), &carry);
-        remove(&mut self.monitors, monitor);
+        remove_monitor(&mut self.monitors, monitor);
         was
     }
 
@@ -102,6 +102,6 @@ impl MailPart {
         self.queue.reserve(self.monitors.len())?;
         let process = self.process;
         let (offset, _) = pass.load_offset(desk, Actor::Caller(by), &OffsetCarry::Tell { process });
-        Ok(tell_all(&mut self.monitors, &mut self.queue, offset))
+        Ok(tell_monitors(&mut self.monitors, &mut self.queue, offset) as u32)
     }
 }

@@ -1,7 +1,6 @@
 mod ArmedLaws
 mod FindLaws
 mod IndexLaws
-mod MonitorLaws
 mod MoveLaws
 mod PairLaws
 mod PlaceLaws

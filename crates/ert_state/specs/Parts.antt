@@ -2,7 +2,7 @@
 -- past its end is as at the opening.
 
 use Rattle.std.specs.Prelude.{ℕ, ℤ, Bool, true, false, cond, List, [], ◌∷◌, ◌++◌, ◌+◌, get_or, set, map, replicate, Option, Some, None}
-use Rattle.ert_defs.specs.Mails.{MailState, SchedState, no_mail, idle_sched, mail_after, inbox_after, sched_after, is_about, with_row, Monitor, message_in, answer_in, without, changes_of, told_of}
+use Rattle.ert_defs.specs.Mails.{MailState, SchedState, no_mail, idle_sched, mail_after, inbox_after, sched_after, is_about, with_row, message_in, answer_in, without, changes_of, told_of}
 use Rattle.ert_defs.specs.Timers.{Row, row_from}
 use Rattle.ert_defs.specs.declared.entry.Actor.{Actor}
 use Rattle.ert_defs.specs.declared.entry.Actor.TheVariants.{Inbox, Sched, MailOf, Caller}
@@ -17,7 +17,6 @@ use Rattle.ert_defs.specs.declared.timer.TimerRef.{TimerRef}
 use Rattle.ert_state.specs.Uses.{IsNewUse}
 use Rattle.ert_state.specs.Wheels.{timers_at, rows_of, status_in, moved}
 use Rattle.ert_state.specs.declared.looks.Looks.{Looks}
-use Rattle.ert_state.specs.declared.mailboxes.Monitor.{Monitor as KeptMonitor}
 use Rattle.ert_state.specs.declared.wheels.Timer.{Timer}
 
 -- whether a process has exited
@@ -128,14 +127,6 @@ scheds_after rows _ event xs = xs
 -- what each scheduler has
 abbrev pub scheds_in : List SchedState → ℕ → SchedState
 scheds_in xs w = sched_at xs w
-
--- a monitor that is kept
-abbrev pub monitor_of : KeptMonitor → Monitor
-monitor_of m = record { number = m.number; told = m.told }
-
--- the monitors that are kept, in their order
-abbrev pub monitors_of : List KeptMonitor → List Monitor
-monitors_of ms = map monitor_of ms
 
 -- what a process has after the message of an expired timer was put in
 abbrev pub with_message : Option Row → MailState → MailState

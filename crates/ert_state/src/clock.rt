@@ -96,7 +96,7 @@ impl Clock {
         ensures due { self.new.due ≡ due_after settings.now (face_of self.old.face) reading act now }
     {
         let due = narrowed(self.face.due_after(settings, reading, act, now));
-        self.face = self.face.ticked(settings, reading, act, now);
+        self.face.tick(settings, reading, act, now);
         self.due = due;
     }
 
@@ -105,7 +105,7 @@ impl Clock {
         ensures face { face_of self.new.face ≡ shifted (face_of self.old.face) (Some (offset, state)) }
         ensures due { self.new.due ≡ None }
     {
-        self.face = self.face.shifted(Some((offset, state)));
+        self.face.shift(Some((offset, state)));
         self.due = None;
     }
 }

@@ -7,7 +7,8 @@
 //! front. A wheel's timers stand in order of arming, and beside them what finds them (`specs/Indexes`): the
 //! place of each by slot and generation, the uses of each slot, and the armed ones in order of
 //! deadline and then of arming. So an entry takes time that grows with the logarithm of what stands, but for
-//! the at most 64 monitors of a process. It stands on `ert_defs`, and on the numbers of `ert_clock`.
+//! the at most 64 monitors of a process. It stands on `ert_defs`, on the clock of `ert_clock` and on
+//! the monitors of `ert_monitors`.
 #![tactic(auto)]
 
 mod clock;
@@ -16,18 +17,17 @@ mod inboxes;
 mod lists;
 mod looks;
 mod mailboxes;
-mod milliseconds;
 mod schedulers;
 mod timers;
 mod uses;
 mod wheels;
 
 pub use clock::Clock;
+pub use ert_defs::milliseconds::{deadline_of, down, left, passed};
 pub use exits::Exits;
 pub use inboxes::Inboxes;
 pub use looks::Looks;
 pub use mailboxes::Mailboxes;
-pub use milliseconds::{deadline_of, down, left, passed};
 pub use schedulers::Schedulers;
 pub use timers::Timers;
 pub use uses::Uses;

@@ -1,34 +1,14 @@
-ghost use Rattle.std.specs.Prelude.{◌≡◌, ◌++◌, OnOk};
-ghost use Rattle.ert_defs.specs.Legal.{stands_in};
-ghost use Rattle.ert_defs.specs.Mails.{mail_after, message_of, answer_by, changes_of, told_of, without};
-ghost use Rattle.ert_state.specs.Parts.{monitors_of, scheds_in, with_message, with_answer, unwatched, watched, told_all};
+ghost use Rattle.std.specs.Prelude.{◌≡◌, OnOk};
+ghost use Rattle.ert_defs.specs.Mails.{mail_after};
+ghost use Rattle.ert_state.specs.Parts.{scheds_in, with_message, with_answer, unwatched, watched, told_all};
 
 use crate::lists::{drop_first, first, push, put};
 use crate::schedulers::Schedulers;
-use ert_defs::{Actor, Event, Fired, Kind, Mail, NoMemory, Request, RequestKind};
+use ert_defs::{Actor, Event, Fired, Mail, Monitor, NoMemory, Request};
+use ert_monitors::{has_monitor, remove_monitor, tell_monitors};
 use std::alloc::Global;
 use std::collections::VecDeque;
 use std::marker::Model;
-
-/// A monitor of the time offset, with the offset that its process was last told.
-#[derive(Clone, Copy)]
-pub struct Monitor {
-    number: u32,
-    told: i64,
-}
-
-impl Monitor {
-    ghost use Rattle.std.specs.Prelude.{◌≡◌};
-    ghost use Rattle.ert_defs.specs.Mails.{is_news};
-    ghost use Rattle.ert_state.specs.Parts.{monitor_of};
-
-    /// Whether its process has to be told an offset.
-    fn needs(self, offset: i64) -> bool
-        ensures { result ≡ is_news offset (monitor_of self) }
-    {
-        self.told != offset
-    }
-}
 
 /// What one process has.
 #[derive(Drop)]
@@ -42,11 +22,10 @@ struct Mailbox {
 
 impl Model for Mailbox {
     ghost use Rattle.ert_defs.specs.Mails.{MailState};
-    ghost use Rattle.ert_state.specs.Parts.{monitors_of};
 
     ghost Value = { MailState };
 
-    ghost view = { λ m. record { queue = m.queue.items; monitors = monitors_of m.monitors.items; next = m.next } };
+    ghost view = { λ m. record { queue = m.queue.items; monitors = m.monitors.items; next = m.next } };
 }
 
 impl Mailbox {
@@ -80,7 +59,7 @@ impl Mailbox {
         ensures { OnOk result (self.new ≡ with_message row self.old) }
     {
         match row {
-            Some(row) => put(&mut self.queue, message_of(row)),
+            Some(row) => put(&mut self.queue, Mail::of_fired(&row)),
             None => Ok(()),
         }
     }
@@ -90,7 +69,7 @@ impl Mailbox {
         ensures { OnOk result (self.new ≡ with_answer request left self.old) }
     {
         match request {
-            Some(request) if request.info => put(&mut self.queue, answer_by(request, left)),
+            Some(request) if request.info => put(&mut self.queue, Mail::of_answer(&request, left)),
             _ => Ok(()),
         }
     }
@@ -99,7 +78,7 @@ impl Mailbox {
     fn unwatch(&mut self, monitor: u32)
         ensures { self.new ≡ unwatched monitor self.old }
     {
-        remove(&mut self.monitors, monitor);
+        remove_monitor(&mut self.monitors, monitor);
     }
 
     /// Adds a monitor, which has been told this offset.
@@ -118,69 +97,9 @@ impl Mailbox {
     fn tell(&mut self, offset: i64) -> Result<(), NoMemory>
         ensures { OnOk result (self.new ≡ told_all offset self.old) }
     {
-        put_changes(&mut self.queue, &self.monitors, offset)?;
-        tell_all(&mut self.monitors, offset);
+        self.queue.reserve(self.monitors.len())?;
+        tell_monitors(&mut self.monitors, &mut self.queue, offset);
         Ok(())
-    }
-}
-
-/// The message of an expired timer.
-fn message_of(row: Fired) -> Mail
-    ensures { result ≡ message_of row }
-{
-    match row.kind {
-        Kind::Wrapped => Mail::Timeout {
-            timer: row.timer,
-            msg: row.msg,
-        },
-        Kind::Bare => Mail::Bare { msg: row.msg },
-    }
-}
-
-/// The answer to a request.
-fn answer_by(request: Request, left: Option<u64>) -> Mail
-    ensures { result ≡ answer_by request.kind request.timer left }
-{
-    let timer = request.timer;
-    match request.kind {
-        RequestKind::Cancel => Mail::CancelDone { timer, left },
-        RequestKind::Read => Mail::ReadDone { timer, left },
-    }
-}
-
-/// Puts a message for each monitor that an offset is new to.
-fn put_changes(
-    queue: &mut VecDeque<Mail>,
-    monitors: &[Monitor],
-    offset: i64,
-) -> Result<(), NoMemory>
-    ensures { OnOk result (queue.new.items ≡ queue.old.items ++ changes_of offset (monitors_of monitors.now)) }
-{
-    for monitor in monitors {
-        if monitor.needs(offset) {
-            let change = Mail::Change {
-                monitor: monitor.number,
-                offset,
-            };
-            put(queue, change)?;
-        }
-    }
-    Ok(())
-}
-
-/// Removes the monitors of a number.
-fn remove(monitors: &mut Vec<Monitor>, number: u32)
-    ensures { monitors_of monitors.new.items ≡ without number (monitors_of monitors.old.items) }
-{
-    monitors.retain(|monitor| monitor.number != number);
-}
-
-/// Counts an offset as told to each monitor.
-fn tell_all(monitors: &mut [Monitor], offset: i64)
-    ensures { monitors_of monitors.new ≡ told_of offset (monitors_of monitors.old) }
-{
-    for monitor in monitors {
-        monitor.told = offset;
     }
 }
 
@@ -277,16 +196,4 @@ impl Mailboxes {
             None => Ok(()),
         }
     }
-}
-
-/// Whether a monitor of this number is among these.
-fn has_monitor(monitors: &[Monitor], number: u32) -> bool
-    ensures { result ≡ stands_in number (monitors_of monitors.now) }
-{
-    for monitor in monitors {
-        if monitor.number == number {
-            return true;
-        }
-    }
-    false
 }

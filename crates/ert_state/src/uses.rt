@@ -1,10 +1,8 @@
 ghost use Rattle.std.specs.Prelude.{◌≡◌, ◌≤◌, zero, suc};
 ghost use Rattle.ert_defs.specs.Timers as timers;
 
+use ert_defs::milliseconds::LAST_DEADLINE;
 use ert_defs::{FIRST_LATER_GENERATION, Fired, USES_OF_ROUND, use_of};
-
-/// The last deadline that a timer can have, in milliseconds after the start time.
-const LAST_DEADLINE: u64 = 8_796_093_022_207;
 
 /// The uses of a slot.
 #[derive(Clone, Copy)]

@@ -1,4 +1,4 @@
-use Rattle.ert_mail.proofs.LawsHold.{takes_only, monitors_only, demonitors_only, tells_only, handing_only, answers_only}
+use Rattle.ert_mail.proofs.LawsHold.{takes_only, monitors_only, demonitors_only, tells_only, handing_only, answers_only, asks_only, picks_only}
 use Rattle.ert_mail.proofs.laws.calls_leave_other_parts.Goals as goal
 
 pub returns-clause-takes : goal.returns-clause-takes
@@ -18,3 +18,9 @@ returns-clause-hands_over c = handing_only
 
 pub returns-clause-answers : goal.returns-clause-answers
 returns-clause-answers c = answers_only
+
+pub returns-clause-asks : goal.returns-clause-asks
+returns-clause-asks c = asks_only
+
+pub returns-clause-picks : goal.returns-clause-picks
+returns-clause-picks c = picks_only

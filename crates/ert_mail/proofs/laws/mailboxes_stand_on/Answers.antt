@@ -1,5 +1,5 @@
-use Rattle.ert_mail.proofs.LawsHold.{stand_on}
+use Rattle.ert_mail.proofs.LawsHold.{mail_on}
 use Rattle.ert_mail.proofs.laws.mailboxes_stand_on.Goals as goal
 
 pub returns : goal.returns
-returns c = stand_on
+returns c = mail_on

@@ -1,5 +1,5 @@
 use Rattle.std.proofs.Common.{sym, subst, refl}
-use Rattle.ert_answers.specs.MailCalls.{Demonitors}
+use Rattle.ert_effects.specs.MailCalls.{Demonitors}
 use Rattle.ert_table.specs.Calls.{IsMade}
 use Rattle.ert_table.specs.Desks.{settings_of, view_of}
 use Rattle.ert_mail.specs.Mailboxes.{Mailbox, Stands, IsCallers}
@@ -23,4 +23,4 @@ returns-clause-stands c =
     let holds = subst (λ (m : Mailbox). IsCallers g v c.args.by m.process) (sym c.self.view_is) c.requires.holds in
     let stands = subst (Stands g v.front) (sym c.self.view_is) c.requires.stands in
     stands_unwatched g v (view_of c.load_time.new.self) c.args.by c.args.monitor c.has_monitor-was.result m _ holds.mail stands
-    c.load_time.ensures.step refl refl c.remove.ensures.monitors refl refl
+    c.load_time.ensures.step refl refl c.remove_monitor.ensures.monitors refl refl

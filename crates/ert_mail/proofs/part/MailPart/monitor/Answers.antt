@@ -1,13 +1,12 @@
-use Rattle.std.proofs.Common.{◌≡◌, ℤ, rules, true, Ok, FitsSigned, ◌≤◌, sym, ap, subst, refl, to_z, of_z, w64, to_z-of_z}
-use Rattle.ert_answers.specs.MailCalls.{Monitors}
+use Rattle.std.proofs.Common.{◌≡◌, ℤ, rules, true, Ok, FitsSigned, List, [], ◌∷◌, ◌++◌, ◌∙◌, ◌≤◌, sym, ap, subst, refl, to_z, of_z, w64, to_z-of_z}
+use Rattle.ert_effects.specs.MailCalls.{Monitors}
 use Rattle.ert_table.specs.Calls.{IsMade}
 use Rattle.ert_table.specs.Desks.{settings_of, view_of}
 use Rattle.ert_mail.specs.Mailboxes.{Mailbox, Stands, IsCallers, AreMany}
 use Rattle.ert_mail.specs.contracts.part.MailPart.{the_view}
 use Rattle.ert_defs.specs.Entries.{watch_entry}
+use Rattle.ert_defs.specs.declared.mail.Monitor.{Monitor}
 use Rattle.ert_table.specs.Takes.{Appends}
-use Rattle.ert_mail.specs.Mailboxes.{monitors_of}
-use Rattle.ert_mail.specs.declared.monitors.Monitor.{Monitor}
 use Rattle.ert_mail.proofs.Watchings.{full_made, stands_full, not_many, watch_made, stands_watched}
 use Rattle.ert_mail.proofs.part.MailPart.monitor.Goals as goal
 
@@ -44,5 +43,5 @@ returns-clause-stands c =
     let told : ℤ = to_z w64 (of_z w64 c.load_offset-told.result.0) in
     let made : Monitor = record { number = c.self.inside.next; told = told } in
     let step = subst (λ x. Appends g v (watch_entry c.args.by m.process made.number x) w) (sym (to_z-of_z fits)) c.load_offset-told.ensures.step in
-    stands_watched g v w c.args.by made c.reserve.new.self.items c.push_reserved.new.self.items m _ holds.mail stands step refl
-    (ap monitors_of (sym c.reserve.ensures.items)) refl c.push_reserved.ensures.items refl refl refl
+    stands_watched g v w c.args.by made m _ holds.mail stands step refl
+    (c.push_reserved.ensures.items ∙ ap (λ (ms : List Monitor). ms ++ made ∷ []) c.reserve.ensures.items) refl refl refl

@@ -1,15 +1,15 @@
 use Rattle.std.proofs.Common.{false, sym, subst, refl}
 use Rattle.ert_defs.specs.Entries.{mark_entry}
-use Rattle.ert_defs.specs.declared.entry.Actor.TheVariants.{MailOf, Caller}
-use Rattle.ert_answers.specs.MailCalls.{Takes}
-use Rattle.ert_answers.specs.declared.answers.Taken.TheVariants.{Exited}
+use Rattle.ert_defs.specs.declared.entry.Actor.TheVariants.{Caller}
+use Rattle.ert_effects.specs.MailCalls.{Takes}
+use Rattle.ert_effects.specs.declared.answers.Taken.TheVariants.{Exited}
 use Rattle.ert_table.specs.Calls.{IsMade}
 use Rattle.ert_table.specs.Desks.{settings_of, view_of}
 use Rattle.ert_table.specs.Takes.{Appends}
-use Rattle.ert_table.proofs.Parts.{popped, held_on}
-use Rattle.ert_mail.specs.Mailboxes.{Mailbox, Stands, IsCallers}
+use Rattle.ert_table.proofs.Parts.{popped}
+use Rattle.ert_mail.specs.Mailboxes.{Mailbox, Stands}
 use Rattle.ert_mail.specs.contracts.part.MailPart.{the_view}
-use Rattle.ert_mail.proofs.Takings.{callers_on, stands_marked, exited_made, may_take, first_made, empty_made, stands_taken}
+use Rattle.ert_mail.proofs.Takings.{marked, exited_made, may_take, first_made, empty_made, stands_taken}
 use Rattle.ert_mail.proofs.part.MailPart.take.Goals as goal
 use Rattle.ert_mail.proofs.part.MailPart.take.Goals.{in-Some, in-None}
 
@@ -25,24 +25,19 @@ returns-then-mark-clause-call c =
 pub returns-then-mark-clause-stands : goal.returns-then-mark-clause-stands
 returns-then-mark-clause-stands c =
     let g = settings_of c.args.desk.now in
-    let v = view_of c.args.pass.now in
     let u = view_of c.mark.new.self in
-    let holds = subst (λ (m : Mailbox). IsCallers g v c.args.by m.process) (sym c.self.view_is) c.requires.holds in
-    let stands = subst (Stands g v.front) (sym c.self.view_is) c.requires.stands in
-    subst (Stands g u.front) c.self.view_is (stands_marked g v u c.args.by c.mark.result (the_view c.self.inside) holds.mail stands c.mark.ensures.step)
+    subst (Stands g u.front) c.self.view_is
+    (marked g (view_of c.args.pass.now) u c.args.by c.mark.result (the_view c.self.inside) c.args.self.now c.self.view_is
+    c.requires.holds c.requires.stands c.mark.ensures.step).stands
 
 pub load_time-requires-clause-may : goal.load_time-requires-clause-may
 load_time-requires-clause-may c =
     let g = settings_of c.args.desk.now in
-    let v = view_of c.args.pass.now in
     let u = view_of c.mark.new.self in
     let m : Mailbox = the_view c.self.inside in
-    let e = mark_entry (Caller c.args.by) m.process false c.mark.result in
-    let holds = subst (λ (m : Mailbox). IsCallers g v c.args.by m.process) (sym c.self.view_is) c.requires.holds in
-    let stands = subst (Stands g v.front) (sym c.self.view_is) c.requires.stands in
+    let at = marked g (view_of c.args.pass.now) u c.args.by c.mark.result m c.args.self.now c.self.view_is c.requires.holds c.requires.stands c.mark.ensures.step in
     let first = popped c.self.inside.queue.items c.pop_front-got.new.self.items c.pop_front-got.result c.pop_front-got.ensures.items c.pop_front-got.ensures.rest in
-    λ now. may_take g u c.args.by m c.pop_front-got.result (callers_on g v e u c.args.by m.process c.mark.ensures.step holds)
-    (stands_marked g v u c.args.by c.mark.result m holds.mail stands c.mark.ensures.step) first.0
+    λ now. may_take g u c.args.by m c.pop_front-got.result at first.0
 
 pub returns-clause-call : goal.returns-clause-call
 returns-clause-call c =
@@ -65,14 +60,9 @@ returns-clause-call c =
 pub returns-clause-stands : goal.returns-clause-stands
 returns-clause-stands c =
     let g = settings_of c.args.desk.now in
-    let v = view_of c.args.pass.now in
     let u = view_of c.mark.new.self in
     let m : Mailbox = the_view c.self.inside in
-    let e = mark_entry (Caller c.args.by) m.process false c.mark.result in
-    let holds = subst (λ (m : Mailbox). IsCallers g v c.args.by m.process) (sym c.self.view_is) c.requires.holds in
-    let stands = subst (Stands g v.front) (sym c.self.view_is) c.requires.stands in
+    let at = marked g (view_of c.args.pass.now) u c.args.by c.mark.result m c.args.self.now c.self.view_is c.requires.holds c.requires.stands c.mark.ensures.step in
     let first = popped c.self.inside.queue.items c.pop_front-got.new.self.items c.pop_front-got.result c.pop_front-got.ensures.items c.pop_front-got.ensures.rest in
-    stands_taken g u (view_of c.load_time.new.self) c.args.by m _ c.pop_front-got.result
-    (held_on g v e u (MailOf m.process) c.mark.ensures.step holds.mail)
-    (stands_marked g v u c.args.by c.mark.result m holds.mail stands c.mark.ensures.step) c.load_time.ensures.step
+    stands_taken g u (view_of c.load_time.new.self) c.args.by m _ c.pop_front-got.result at c.load_time.ensures.step
     refl first.1 refl refl refl
