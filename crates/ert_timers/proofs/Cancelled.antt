@@ -17,7 +17,7 @@ use Rattle.ert_defs.specs.declared.settings.Settings.{Settings}
 use Rattle.ert_defs.specs.declared.timer.Status.{Status}
 use Rattle.ert_defs.specs.declared.timer.Status.TheVariants.{Armed, Expired, Delivered, Cancelled, Orphaned, Dropped}
 use Rattle.ert_defs.specs.declared.timer.TimerRef.{TimerRef}
-use Rattle.ert_answers.specs.TimerCalls.{cancel_entries}
+use Rattle.ert_effects.specs.TimerCalls.{cancel_entries}
 use Rattle.ert_table.proofs.Calls.{whole_exact}
 use Rattle.ert_timers.specs.Laws.{LawOfCancels}
 use Rattle.ert_timers.specs.Parts.{Part, last_timer, held_row}

@@ -9,12 +9,13 @@ use Rattle.ert_defs.specs.Laws.{is_armed}
 use Rattle.ert_defs.specs.States.{State, state}
 use Rattle.ert_defs.specs.Timers.{Row}
 use Rattle.ert_defs.specs.declared.timer.Status.{Status}
-use Rattle.ert_defs.specs.declared.timer.Status.TheVariants.{Armed, Expired, Delivered, Cancelled, Orphaned, Dropped}
+use Rattle.ert_defs.specs.declared.timer.Status.TheVariants.{Armed}
 use Rattle.ert_defs.specs.declared.timer.TimerRef.{TimerRef}
 use Rattle.ert_laws.specs.Counts.{count_of, has_status}
 use Rattle.ert_timers.specs.Laws.{LawOfTidyCounts}
 use Rattle.ert_timers.specs.Parts.{HoldsRows, Part, held_row}
 use Rattle.ert_timers.specs.Tidy.{IsTidy}
+use Rattle.ert_timers.proofs.Dropped.{armed_is}
 use Rattle.ert_wheel.specs.Rows.{key_in}
 use Rattle.ert_wheel.specs.declared.row.Key.{Key}
 
@@ -112,15 +113,6 @@ mark_key : (keys : List (Option Key)) (k : ℕ) (key : Key) → key_in keys k �
 mark_key [] k key is = absurd cc
 mark_key (o ∷ keys) zero key is = ap is_some is
 mark_key (o ∷ keys) (suc k) key is = mark_key keys k key is
-
-armed_is : (x : Option Status) → is_armed x ≡ true → x ≡ Some Armed
-armed_is None is = absurd cc
-armed_is (Some Armed) is = refl
-armed_is (Some Expired) is = absurd cc
-armed_is (Some Delivered) is = absurd cc
-armed_is (Some Cancelled) is = absurd cc
-armed_is (Some Orphaned) is = absurd cc
-armed_is (Some Dropped) is = absurd cc
 
 abbrev no_key : Key
 no_key = record { deadline = 0; order = 0 }

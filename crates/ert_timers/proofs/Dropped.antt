@@ -1,9 +1,8 @@
 -- Rows are looked at, and those of settled timers go.
 
-use Rattle.std.proofs.Common.{◌≡◌, ◌≢◌, ℕ, ◌+◌, ◌<◌, ◌≤◌, Bool, true, false, not, ◌||◌, option_map, [], ◌∷◌, ◌++◌, length, Option, Some, None, inl, inr, refl, sym, ap, subst, ◌∙◌, arith, append-nil}
+use Rattle.std.proofs.Common.{◌≡◌, ◌≢◌, ℕ, ◌+◌, ◌<◌, ◌≤◌, true, false, not, ◌||◌, option_map, [], ◌∷◌, ◌++◌, length, Option, Some, None, inl, inr, refl, sym, ap, subst, ◌∙◌, arith, append-nil}
 use Rattle.std.proofs.lemmas.Bool.{cases_eq}
 use Rattle.std.proofs.lemmas.List.Elements.{All-nil}
-use Rattle.std.specs.Option.{is_some}
 use Rattle.ert_defs.specs.Actors.{has_actor}
 use Rattle.ert_defs.specs.Entries.{look_entry, probe_entry}
 use Rattle.ert_defs.specs.Laws.{is_armed}
@@ -15,8 +14,8 @@ use Rattle.ert_defs.specs.declared.settings.Settings.{Settings}
 use Rattle.ert_defs.specs.declared.timer.Status.{Status}
 use Rattle.ert_defs.specs.declared.timer.Status.TheVariants.{Armed, Expired, Delivered, Cancelled, Orphaned, Dropped}
 use Rattle.ert_defs.specs.declared.timer.TimerRef.{TimerRef}
-use Rattle.ert_answers.proofs.Advanced.{looks-append}
-use Rattle.ert_answers.specs.WheelCalls.{expiry_entries, AreLooks}
+use Rattle.ert_effects.proofs.Advanced.{looks-append}
+use Rattle.ert_effects.specs.WheelCalls.{expiry_entries, AreLooks}
 use Rattle.ert_calls.proofs.Looks.{look_stepped}
 use Rattle.ert_table.specs.Held.{IsWhole}
 use Rattle.ert_table.specs.Settlings.{Shown}
@@ -42,7 +41,7 @@ use Rattle.ert_wheel.specs.Rows.{key_in, key_of, due_at}
 use Rattle.ert_wheel.specs.declared.row.Key.{Key}
 use Rattle.ert_wheel.proofs.Collect.{key_low}
 
-armed_is : (x : Option Status) → is_armed x ≡ true → x ≡ Some Armed
+pub armed_is : (x : Option Status) → is_armed x ≡ true → x ≡ Some Armed
 armed_is None is = absurd cc
 armed_is (Some Armed) is = refl
 armed_is (Some Expired) is = absurd cc
@@ -54,24 +53,21 @@ armed_is (Some Dropped) is = absurd cc
 unarmed : (x : Option Status) → is_armed x ≡ false → x ≢ Some Armed
 unarmed x not is = (let bad : true ≡ false = sym (ap is_armed is) ∙ not in cc)
 
-some_of : {X : Type 0} (f : Key → X) (o : Option Key) (b : Bool) → is_some (option_map f o) ≡ not b → b ≡ false → (key : Key) × (o ≡ Some key)
-some_of f None true is unmet = absurd cc
-some_of f None false is unmet = absurd cc
-some_of f (Some key) b is unmet = (key, refl)
+some_of : {X : Type 0} (f : Key → X) (o : Option Key) (x : X) → option_map f o ≡ Some x → (key : Key) × (o ≡ Some key) × (f key ≡ x)
+some_of f None x is = absurd cc
+some_of f (Some key) x is = (key, refl, cc)
 
 -- whether a slot has a row, as the row tells
-pub told_some : {X : Type 0} (f : Key → X) (o : Option Key) (row : Option X) (b : Bool) → row ≡ option_map f o → is_some row ≡ not b → b ≡ false
-    → (key : Key) × (o ≡ Some key)
-told_some f o row b told is unmet = some_of f o b (ap is_some (sym told) ∙ is) unmet
+pub told_some : {X : Type 0} (f : Key → X) (o : Option Key) (row : Option X) (x : X) → row ≡ option_map f o → row ≡ Some x
+    → (key : Key) × (o ≡ Some key) × (f key ≡ x)
+told_some f o row x told is = some_of f o x (sym told ∙ is)
 
-none_of : {X : Type 0} (f : Key → X) (o : Option Key) (b : Bool) → is_some (option_map f o) ≡ not b → b ≡ true → o ≡ None
-none_of f None b is met = refl
-none_of f (Some key) true is met = absurd cc
-none_of f (Some key) false is met = absurd cc
+none_of : {X : Type 0} (f : Key → X) (o : Option Key) → option_map f o ≡ None → o ≡ None
+none_of f None is = refl
+none_of f (Some key) is = absurd cc
 
-pub told_none : {X : Type 0} (f : Key → X) (o : Option Key) (row : Option X) (b : Bool) → row ≡ option_map f o → is_some row ≡ not b → b ≡ true
-    → o ≡ None
-told_none f o row b told is met = none_of f o b (ap is_some (sym told) ∙ is) met
+pub told_none : {X : Type 0} (f : Key → X) (o : Option Key) (row : Option X) → row ≡ option_map f o → row ≡ None → o ≡ None
+told_none f o row told is = none_of f o (sym told ∙ is)
 
 -- a look of a scheduler, of what the code has
 pub sched_probe : (g : Settings) (v : View) (w w' k : ℕ) (shown : Option Shown) (u : View) → w' ≡ w

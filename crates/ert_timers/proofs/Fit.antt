@@ -1,6 +1,6 @@
 -- What the fields of a part keep, as each of its small calls changes them.
 
-use Rattle.std.proofs.Common.{◌≡◌, ◌≢◌, ℕ, ◌+◌, ◌<◌, ◌≤◌, Bool, true, false, not, ◌&&◌, ◌||◌, nat_eq, List, length, count_by, Option, Some, None, IsSome, refl, sym, ap, subst, ◌∙◌, arith, inl, inr, set, get_or-set_same, get_or-set_other, eqb-true, eq-eqb}
+use Rattle.std.proofs.Common.{◌≡◌, ◌≢◌, ℕ, ◌+◌, ◌<◌, ◌≤◌, Bool, true, false, not, ◌&&◌, ◌||◌, nat_eq, List, length, count_by, Option, Some, None, IfSome, IsNone, IsSome, refl, sym, ap, subst, ◌∙◌, arith, inl, inr, set, get_or-set_same, get_or-set_other, eqb-true, eq-eqb}
 use Rattle.std.proofs.lemmas.Bool.{and_parts, cases_eq}
 use Rattle.std.proofs.lemmas.List.{length-set, set-get_or}
 use Rattle.std.specs.Cmp.{nat_cmp_total, unsigned_tied}
@@ -11,11 +11,10 @@ use Rattle.ert_timers.specs.Changes.{LostRow, dropped}
 use Rattle.ert_timers.specs.Parts.{AreFit, AreOwned, Part}
 use Rattle.ert_timers.specs.declared.part.Slot.{Slot}
 use Rattle.ert_timers.proofs.Rows.{key_left}
-use Rattle.ert_wheel.specs.Rings.{Rings, MayTake, Takes, with_place}
+use Rattle.ert_wheel.specs.Rings.{Rings, MayTake}
 use Rattle.ert_wheel.specs.Rows.{key_in}
 use Rattle.ert_wheel.specs.declared.row.Key.{Key}
 use Rattle.ert_wheel.proofs.Collect.{key_low}
-use Rattle.ert_wheel.proofs.Parts.{with_place_there, kept_place}
 use Rattle.ert_wheel.proofs.Views.{counts_less}
 use Rattle.ert_words.specs.Free.{Free}
 
@@ -66,7 +65,7 @@ fit_owned processes slots keys free owners new a x o fit same homes are = record
   wide = fit.wide;
   all_slots = fit.all_slots;
   owned = same ∙ fit.owned;
-  homes = homes ∙ fit.homes;
+  homes = omega (arith, homes, fit.homes);
   few_homes = fit.few_homes;
   vacant = fit.vacant;
   below = fit.below;
@@ -77,26 +76,16 @@ fit_owned processes slots keys free owners new a x o fit same homes are = record
   chained = are;
 }
 
--- a slot without a row leaves its chain
-pub owned_taken : (slots : List Slot) (keys : List (Option Key)) (owners new : Rings) (a k : ℕ) → AreOwned slots keys owners a
-    → key_in keys k ≡ None → Takes owners new k → AreOwned slots keys new a
-owned_taken slots keys owners new a k are vacant takes = record {
-  places = with_place are.places k None;
-  are = takes are.places are.are;
-  held = λ j key is.
-      let other : j ≢ k = λ e. (let none : None ≡ Some key = sym vacant ∙ (ap (key_in keys) (sym e) ∙ is) in cc) in
-      with_place_there are.places k None j other ∙ are.held j key is;
-  orders = λ j place is. are.orders j place (kept_place are.places k j place is);
-}
-
--- the row of a slot goes, and the slot leaves its chain
-pub fit_left : (processes : ℕ) (slots : List Slot) (keys : List (Option Key)) (free : Free) (owners new : Rings) (a x o k : ℕ) (key : Key)
-    → AreFit processes slots keys free owners a x o → key_in keys k ≡ Some key → new.slots ≡ owners.slots → new.homes ≡ owners.homes
-    → Takes owners new k → AreFit processes slots (set keys k None) free new a x o
-fit_left processes slots keys free owners new a x o k key fit held same homes takes =
-    let gone = fit_dropped processes slots keys free owners a x o k key fit held in
-    fit_owned processes slots (set keys k None) free owners new a x o gone same homes
-    (owned_taken slots (set keys k None) owners new a k gone.chained (get_or-set_same keys k None None (key_low keys k key held)) takes)
+-- the row of a slot goes, where it has one
+pub fit_removed : (processes : ℕ) (slots : List Slot) (keys left : List (Option Key)) (free : Free) (owners new : Rings) (a x o k : ℕ)
+    → AreFit processes slots keys free owners a x o → left ≡ set keys k None → new ≡ owners → AreFit processes slots left free new a x o
+fit_removed processes slots keys left free owners new a x o k fit is same =
+    subst (λ ks. AreFit processes slots ks free new a x o) (sym is)
+    (subst (λ r. AreFit processes slots (set keys k None) free r a x o) (sym same) (at (key_in keys k) refl))
+  where
+    at : (o' : Option Key) → key_in keys k ≡ o' → AreFit processes slots (set keys k None) free owners a x o
+    at None none = subst (λ ks. AreFit processes slots ks free owners a x o) (sym (set_none keys k none)) fit
+    at (Some key) held = fit_dropped processes slots keys free owners a x o k key fit held
 
 -- the chains have each slot
 pub may_leave : (processes : ℕ) (slots : List Slot) (keys : List (Option Key)) (free : Free) (owners : Rings) (a x o k : ℕ)
@@ -125,6 +114,10 @@ fit_lost p owners free k key fit same held =
 pub some_key : (o : Option Key) → IsSome o → (key : Key) × (o ≡ Some key)
 some_key None is = absurd cc
 some_key (Some key) is = (key, refl)
+
+pub some_held : (o : Option Key) → o ≢ None → IsSome o
+some_held None not = absurd (not refl)
+some_held (Some key) not = refl
 
 pub none_key : (o : Option Key) → (IsSome o → ⊥) → o ≡ None
 none_key None not = refl
@@ -204,6 +197,43 @@ taken_out s k =
 
 pub taken_was : (s : sets.FinSet nat_cmp) (k j : ℕ) → sets.contains (sets.remove s k) j ≡ true → sets.contains s j ≡ true
 taken_was s k j is = (and_parts (not (nat_eq j k)) (sets.contains s j) (sym (taken_and s k j) ∙ is)).1
+
+-- a slot that was taken out and put in again
+put_again : (s : sets.FinSet nat_cmp) (k : ℕ) → sets.contains s k ≡ true → sets.insert (sets.remove s k) k ≡ s
+put_again s k held =
+    let less = sets.remove s k in
+    sets.same_set nat_cmp_total sets.nat_cmp-IsAntisymmetric (sets.insert less k) s
+    (λ q. (sets.contains-insert nat_cmp_total less k q ∙ (λ i. unsigned_tied q k i || sets.contains less q)) ∙ at q (nat_eq q k) refl)
+  where
+    at : (q : ℕ) (b : Bool) → nat_eq q k ≡ b → (nat_eq q k || sets.contains (sets.remove s k) q) ≡ sets.contains s q
+    at q true is = ap (λ b. b || sets.contains (sets.remove s k) q) is ∙ sym (ap (sets.contains s) (eqb-true q k is) ∙ held)
+    at q false is =
+        ap (λ b. b || sets.contains (sets.remove s k) q) is ∙ (taken_and s k q ∙ ap (λ b. not b && sets.contains s q) is)
+
+-- one slot is taken out, and then another in its place
+pub record IsExchanged (free new : Free) (o : Option ℕ) : Type 0 where
+  pub held : IfSome o (λ k. sets.contains free.held k ≡ true)
+  pub taken : IfSome o (λ k. new ≡ record free { held = sets.remove free.held k })
+
+pub exchanged : (free mid new : Free) (k : ℕ) (o : Option ℕ) → sets.contains free.held k ≡ true
+    → mid ≡ record free { held = sets.remove free.held k } → IfSome o (λ j. sets.contains (sets.insert mid.held k) j ≡ true)
+    → IfSome o (λ j. new ≡ record mid { held = sets.remove (sets.insert mid.held k) j }) → IsExchanged free new o
+exchanged free mid new k None held is other taken = record { held = tt; taken = tt }
+exchanged free mid new k (Some j) held is other taken =
+    let back : sets.insert (sets.remove free.held k) k ≡ free.held = put_again free.held k held in record {
+      held = ap (λ s. sets.contains s j) (sym back) ∙ (ap (λ (m : Free). sets.contains (sets.insert m.held k) j) (sym is) ∙ other);
+      taken = taken ∙ (ap (λ (m : Free). let f : Free = record m { held = sets.remove (sets.insert m.held k) j } in f) is
+          ∙ ap (λ s. let f : Free = record free { held = sets.remove s j } in f) back);
+    }
+
+-- and some is left to be taken
+pub some_left : (s : sets.FinSet nat_cmp) (k : ℕ) (o : Option ℕ) → (IsNone o → sets.insert s k ≡ sets.empty) → IsSome o
+some_left s k None empty =
+    let here : sets.contains (sets.insert s k) k ≡ true =
+    (sets.contains-insert nat_cmp_total s k k ∙ (λ i. unsigned_tied k k i || sets.contains s k)) ∙ ap (λ b. b || sets.contains s k) (eq-eqb k k refl) in
+    let none : sets.contains (sets.insert s k) k ≡ false = ap (λ t. sets.contains t k) (empty refl) ∙ sets.contains-empty nat_cmp k in
+    absurd cc
+some_left s k (Some x) empty = refl
 
 pub fit_picked : (processes : ℕ) (slots : List Slot) (keys : List (Option Key)) (free new : Free) (owners : Rings) (a x o k : ℕ)
     → AreFit processes slots keys free owners a x o → new ≡ record free { held = sets.remove free.held k }

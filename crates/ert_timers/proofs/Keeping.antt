@@ -1,6 +1,6 @@
 -- A timer is put in; the newest row of a process; a part of a new desk.
 
-use Rattle.std.proofs.Common.{◌≡◌, ◌≢◌, ℕ, ◌+◌, ◌^◌, ◌<◌, ◌≤◌, Bool, true, false, List, length, Option, Some, None, IsNone, IfNone, IfSome, refl, sym, ap, subst, ◌∙◌, arith, inl, inr, get_or, set, get_or-set_same, get_or-set_other}
+use Rattle.std.proofs.Common.{◌≡◌, ◌≢◌, ℕ, ◌+◌, ◌^◌, ◌<◌, ◌≤◌, Bool, true, false, List, length, Option, Some, None, IsNone, IsSome, IfNone, IfSome, refl, sym, ap, subst, ◌∙◌, arith, inl, inr, get_or, set, get_or-set_same, get_or-set_other}
 use Rattle.std.proofs.lemmas.Bool.{cases_eq}
 use Rattle.std.proofs.lemmas.List.{length-set}
 use Rattle.std.proofs.lemmas.Option.{get_or_from_slice_get, slice_get_read}
@@ -27,6 +27,10 @@ use Rattle.ert_words.specs.Free.{Free}
 pub on_true : (b : Bool) (P : Type 0) → b ≡ true → OnTrue b P → P
 on_true true P is h = h
 on_true false P is h = absurd cc
+
+pub on_if : (b : Bool) (P : Type 0) → (b ≡ true → P) → OnTrue b P
+on_if true P h = h refl
+on_if false P h = tt
 
 -- each order is below the number of timers that were armed
 pub orders_if : (keys : List (Option Key)) (a : ℕ) → ((k : ℕ) (key : Key) → key_in keys k ≡ Some key → key.order < a)
@@ -117,7 +121,7 @@ fit_kept p free owners taken new k start next fit same can few dest slots homes 
       wide = length-set p.keys k (Some key) ∙ (fit.wide ∙ sym (length-set p.slots k slot));
       all_slots = fit.all_slots ∙ sym (length-set p.slots k slot);
       owned = slots ∙ (fit.owned ∙ sym (length-set p.slots k slot));
-      homes = homes ∙ fit.homes;
+      homes = omega (arith, homes, fit.homes);
       few_homes = fit.few_homes;
       vacant = λ j is. get_or-set_other p.keys k j (Some key) None (other_free j is) ∙ fit.vacant j is;
       below = λ j is. subst (λ n. j < n) (sym (length-set p.slots k slot)) (fit.below j is);
@@ -204,6 +208,18 @@ pub pick_none : (s : sets.FinSet nat_cmp) (o : Option ℕ) → (IsNone o → s �
     → IfNone o ((slot : ℕ) → sets.contains s slot ≡ false)
 pick_none s None empty = λ slot. ap (λ t. sets.contains t slot) (empty refl) ∙ sets.contains-empty nat_cmp slot
 pick_none s (Some k) empty = tt
+
+pub pick_taken : (p : Part) (free new : Free) (o : Option ℕ) → free.held ≡ p.free
+    → IfSome o (λ k. new ≡ record free { held = sets.remove free.held k })
+    → IfSome o (λ k. (let q : Part = record p { free = new.held } in q) ≡ picked p k)
+pick_taken p free new None same taken = tt
+pick_taken p free new (Some k) same taken =
+    ap (λ s. let q : Part = record p { free = s } in q) (ap (λ (f : Free). f.held) taken ∙ ap (λ s. sets.remove s k) same)
+
+-- where something is answered nothing is asked of no answer
+pub if_some : (o : Option ℕ) (P : Type 0) → IsSome o → IfNone o P
+if_some None P some = absurd cc
+if_some (Some k) P some = tt
 
 pub pick_usable : (p : Part) (free new : Free) (owners : Rings) (o : Option ℕ) → AreFit p.processes p.slots p.keys free owners p.arms p.expires p.orphans
     → free.held ≡ p.free → IfSome o (λ k. sets.contains free.held k ≡ true)

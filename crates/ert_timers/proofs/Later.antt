@@ -65,7 +65,7 @@ uses_unarmed g look w k u true (Arm timer start) unmet = absurd cc
 uses_unarmed g look w k u true _ unmet = refl
 
 -- only an armed timer stays armed
-was_armed : (x y : Option Status) → Forward x y → y ≡ Some Armed → x ≡ Some Armed
+pub was_armed : (x y : Option Status) → Forward x y → y ≡ Some Armed → x ≡ Some Armed
 was_armed None y h is = absurd (forward_not_armed None y h (λ is. cc) is)
 was_armed (Some Armed) y h is = refl
 was_armed (Some Expired) y h is = absurd (forward_not_armed (Some Expired) y h (λ is. cc) is)

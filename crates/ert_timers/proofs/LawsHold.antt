@@ -14,12 +14,12 @@ use Rattle.ert_defs.specs.declared.entry.Event.{Event}
 use Rattle.ert_defs.specs.declared.timer.Status.{Status}
 use Rattle.ert_defs.specs.declared.timer.Status.TheVariants.{Expired}
 use Rattle.ert_defs.specs.declared.timer.TimerRef.{TimerRef}
-use Rattle.ert_answers.proofs.Advanced.{IsAdvance, advance_is, advance_all_is}
-use Rattle.ert_answers.specs.RoomCalls.{ShowsRoom, no_room, with_found}
-use Rattle.ert_answers.specs.declared.answers.Room.{Room}
-use Rattle.ert_answers.specs.TimerCalls.{AreProbes, AreTaken, Closes}
-use Rattle.ert_answers.specs.WheelCalls.{Try, expires_by, expiry_entries, orphans_by, orphan_entries}
-use Rattle.ert_answers.specs.declared.answers.StartErr.TheVariants.{BadArg, Full, NoMemory}
+use Rattle.ert_effects.proofs.Advanced.{IsAdvance, advance_is, advance_all_is}
+use Rattle.ert_effects.specs.RoomCalls.{ShowsRoom, no_room, with_found}
+use Rattle.ert_effects.specs.declared.answers.Room.{Room}
+use Rattle.ert_effects.specs.TimerCalls.{AreProbes, AreTaken, Closes}
+use Rattle.ert_effects.specs.WheelCalls.{Try, expires_by, expiry_entries, orphans_by, orphan_entries}
+use Rattle.ert_effects.specs.declared.answers.StartErr.TheVariants.{BadArg, Full, NoMemory}
 use Rattle.ert_table.specs.Held.{IsOurs}
 use Rattle.ert_table.proofs.Parts.{free_later, of_one, of_both}
 use Rattle.ert_timers.specs.Laws.{AreWithWheel, LawOfStanding, LawOfStarts, LawOfAdvances, LawOfFullAdvances, LawOfSweeps, LawOfRooms}

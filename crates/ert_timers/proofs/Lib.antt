@@ -19,6 +19,7 @@ pub mod Dropped
 pub mod Starts
 pub mod Roomed
 pub mod Swept
+pub mod Settled
 pub mod Forgotten
 pub mod LawsHold
 pub mod Counted

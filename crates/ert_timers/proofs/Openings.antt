@@ -37,7 +37,7 @@ no_keys n = omega (arith, sum_by-replicate (λ (o : Option Key). cond (is_some o
 
 pub fit_open : (processes n : ℕ) (slots : List Slot) (keys : List (Option Key)) (free : Free) (owners : Rings) → n ≤ 65536 → processes ≤ 1024
     → slots ≡ replicate n unused → keys ≡ replicate n None → free.slots ≡ n
-    → ((k : ℕ) → sets.contains free.held k ≡ nat_lt k n) → owners.slots ≡ n → owners.homes ≡ processes
+    → ((k : ℕ) → sets.contains free.held k ≡ nat_lt k n) → owners.slots ≡ n → processes ≤ owners.homes
     → AreChains owners (λ _. None) → AreFit processes slots keys free owners 0 0 0
 fit_open processes n slots keys free owners few few_homes slots_are keys_are all every owned homes chains =
     let wide : length slots ≡ n = ap length slots_are ∙ length-replicate n unused in

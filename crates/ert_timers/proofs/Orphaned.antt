@@ -10,8 +10,8 @@ use Rattle.ert_defs.specs.declared.settings.Settings.{Settings}
 use Rattle.ert_defs.specs.declared.timer.Status.{Status}
 use Rattle.ert_defs.specs.declared.timer.Status.TheVariants.{Armed, Expired}
 use Rattle.ert_defs.specs.declared.timer.TimerRef.{TimerRef}
-use Rattle.ert_answers.specs.TimerCalls.{Closes}
-use Rattle.ert_answers.specs.WheelCalls.{orphans_by, IsSettled}
+use Rattle.ert_effects.specs.TimerCalls.{Closes}
+use Rattle.ert_effects.specs.WheelCalls.{orphans_by, IsSettled}
 use Rattle.ert_calls.proofs.Looks.{can_step}
 use Rattle.ert_table.specs.Held.{is_held}
 use Rattle.ert_table.specs.Settlings.{Settles, hit_entry}

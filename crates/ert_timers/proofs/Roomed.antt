@@ -12,8 +12,8 @@ use Rattle.ert_defs.specs.declared.entry.Actor.TheVariants.{Caller}
 use Rattle.ert_defs.specs.declared.entry.Entry.{Entry}
 use Rattle.ert_defs.specs.declared.settings.Settings.{Settings}
 use Rattle.ert_defs.specs.declared.timer.Status.{Status}
-use Rattle.ert_answers.specs.RoomCalls.{ShowsRoom, TellsRoom, no_room, with_slot, with_found}
-use Rattle.ert_answers.specs.declared.answers.Room.{Room}
+use Rattle.ert_effects.specs.RoomCalls.{ShowsRoom, TellsRoom, no_room, with_slot, with_found}
+use Rattle.ert_effects.specs.declared.answers.Room.{Room}
 use Rattle.ert_calls.proofs.Looks.{can_step}
 use Rattle.ert_laws.proofs.Since.{rounds_begun}
 use Rattle.ert_table.specs.Calls.{IsMade}

@@ -13,8 +13,8 @@ use Rattle.ert_defs.specs.declared.settings.Settings.{Settings}
 use Rattle.ert_defs.specs.declared.timer.Start.{Start}
 use Rattle.ert_defs.specs.declared.timer.Status.{Status}
 use Rattle.ert_defs.specs.declared.timer.TimerRef.{TimerRef}
-use Rattle.ert_answers.specs.TimerCalls.{AreProbes, AreTaken, Rests, Starts}
-use Rattle.ert_answers.specs.declared.answers.StartErr.TheVariants.{BadArg, Full}
+use Rattle.ert_effects.specs.TimerCalls.{AreProbes, AreTaken, Rests, Starts}
+use Rattle.ert_effects.specs.declared.answers.StartErr.TheVariants.{BadArg, Full}
 use Rattle.ert_calls.proofs.Looks.{look_stepped}
 use Rattle.ert_table.specs.Calls.{IsMade}
 use Rattle.ert_table.specs.Takes.{TakesPlace}

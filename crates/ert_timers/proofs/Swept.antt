@@ -12,7 +12,7 @@ use Rattle.ert_defs.specs.declared.settings.Settings.{Settings}
 use Rattle.ert_defs.specs.declared.timer.Status.{Status}
 use Rattle.ert_defs.specs.declared.timer.Status.TheVariants.{Armed}
 use Rattle.ert_defs.specs.declared.timer.TimerRef.{TimerRef}
-use Rattle.ert_answers.specs.WheelCalls.{AllMaySweep, AreSwept, IsFor, IsSettled, IsSwept, MaySweep, Sweeps, Try, orphan_entries, orphans_by}
+use Rattle.ert_effects.specs.WheelCalls.{AllMaySweep, AreSwept, IsFor, IsSettled, IsSwept, MaySweep, Sweeps, Try, orphan_entries, orphans_by}
 use Rattle.ert_defs.specs.declared.entry.Actor.TheVariants.{Wheel}
 use Rattle.ert_table.specs.Held.{is_held}
 use Rattle.ert_table.specs.Calls.{IsMade}

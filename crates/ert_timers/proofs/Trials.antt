@@ -17,8 +17,8 @@ use Rattle.ert_defs.specs.declared.memory.NoMemory.{NoMemory}
 use Rattle.ert_defs.specs.declared.settings.Settings.{Settings}
 use Rattle.ert_defs.specs.declared.timer.Status.{Status}
 use Rattle.ert_defs.specs.declared.timer.TimerRef.{TimerRef}
-use Rattle.ert_answers.specs.WheelCalls.{Try, expires_by, expiry_entries, hit_by, hits, IsSettled, AllSettled, Advances, AdvancesAll}
-use Rattle.ert_answers.specs.Ways.{Step}
+use Rattle.ert_effects.specs.WheelCalls.{Try, expires_by, expiry_entries, hit_by, hits, IsSettled, AllSettled, Advances, AdvancesAll}
+use Rattle.ert_effects.specs.Ways.{Step}
 use Rattle.ert_calls.proofs.Looks.{look_stepped}
 use Rattle.ert_table.specs.Held.{is_held}
 use Rattle.ert_table.specs.Takes.{Appends, MayStep, TakesPlace}

@@ -71,6 +71,10 @@ given_back p k orphaned = record p {
   orphans = p.orphans + cond orphaned 1 0;
 }
 
+-- a slot whose timer takes it no more is held free where its round has uses left
+abbrev pub reused : Part → ℕ → Part
+reused p k = record p { free = cond (has_uses (slot_at p.slots k)) (set.insert p.free k) p.free }
+
 -- what is kept of a slot with the timer of a start, where this was one above the greatest deadline before
 abbrev pub slot_for : Use → ℕ → Start → Slot
 slot_for next above start = record {

@@ -11,8 +11,8 @@ use Rattle.ert_defs.specs.declared.entry.Entry.{Entry}
 use Rattle.ert_defs.specs.declared.memory.NoMemory.{NoMemory}
 use Rattle.ert_defs.specs.declared.settings.Settings.{Settings}
 use Rattle.ert_defs.specs.declared.timer.Status.{Status}
-use Rattle.ert_answers.specs.Ways.{Step}
-use Rattle.ert_answers.specs.WheelCalls.{Try, expires_by, expiry_entries, hits, IsSettled, AllSettled, Advances, AdvancesAll, AreLooks}
+use Rattle.ert_effects.specs.Ways.{Step}
+use Rattle.ert_effects.specs.WheelCalls.{Try, expires_by, expiry_entries, hits, IsSettled, AllSettled, Advances, AdvancesAll, AreLooks}
 use Rattle.ert_table.specs.Calls.{IsMade}
 use Rattle.ert_table.specs.Takes.{Appends, TakesPlace}
 use Rattle.ert_table.specs.declared.view.View.{View}

@@ -14,11 +14,11 @@ use Rattle.ert_defs.specs.declared.settings.Settings.{Settings}
 use Rattle.ert_defs.specs.declared.timer.Start.{Start}
 use Rattle.ert_defs.specs.declared.timer.Status.TheVariants.{Armed}
 use Rattle.ert_defs.specs.declared.timer.TimerRef.{TimerRef}
-use Rattle.ert_answers.specs.RoomCalls.{TellsRoom}
-use Rattle.ert_answers.specs.TimerCalls.{Cancels, Starts}
-use Rattle.ert_answers.specs.WheelCalls.{Advances, AdvancesAll, Sweeps}
-use Rattle.ert_answers.specs.declared.answers.Room.{Room}
-use Rattle.ert_answers.specs.declared.answers.StartErr.{StartErr}
+use Rattle.ert_effects.specs.RoomCalls.{TellsRoom}
+use Rattle.ert_effects.specs.TimerCalls.{Cancels, Starts}
+use Rattle.ert_effects.specs.WheelCalls.{Advances, AdvancesAll, Sweeps}
+use Rattle.ert_effects.specs.declared.answers.Room.{Room}
+use Rattle.ert_effects.specs.declared.answers.StartErr.{StartErr}
 use Rattle.ert_laws.specs.Counts.{count_at}
 use Rattle.ert_table.specs.Calls.{AreOnlyOf, IsMade}
 use Rattle.ert_table.specs.Held.{IsWhole}

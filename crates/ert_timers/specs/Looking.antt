@@ -1,8 +1,8 @@
 -- The look with which a call of a part begins.
 
-use Rattle.std.specs.Prelude.{◌≡◌, ℕ, ℤ, pos, negsuc, ◌+ℤ◌, Option, None, option_map, IfSome}
+use Rattle.std.specs.Prelude.{◌≡◌, ℕ, ℤ, pos, Option, option_map, IfSome}
 use Rattle.ert_defs.specs.Entries.{look_entry}
-use Rattle.ert_defs.specs.Milliseconds.{down, deadline_at, deadline_of}
+use Rattle.ert_defs.specs.Milliseconds.{down, deadline_of}
 use Rattle.ert_defs.specs.States.{state}
 use Rattle.ert_defs.specs.declared.entry.Actor.{Actor}
 use Rattle.ert_defs.specs.declared.entry.Actor.TheVariants.{Caller}
@@ -25,8 +25,3 @@ pub record LooksAhead (g : Settings) (v : View) (by : ℕ) (start : Start) (ahea
   pub told : option_map (λ (a : Ahead). a.deadline) ahead ≡ deadline_of g start now
   pub down_to : IfSome ahead (λ a. pos a.now ≡ down g now)
   pub time : now ≡ (state g u.front).clock.now
-
--- the deadline so many milliseconds after others
-abbrev pub deadline_after : ℕ → ℤ → Option ℕ
-deadline_after from (pos n) = deadline_at (pos from +ℤ pos n)
-deadline_after from (negsuc n) = None

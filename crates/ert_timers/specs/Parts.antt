@@ -98,7 +98,7 @@ pub record AreFit (processes : ℕ) (slots : List Slot) (keys : List (Option Key
   pub wide : length keys ≡ length slots
   pub all_slots : free.slots ≡ length slots
   pub owned : owners.slots ≡ length slots
-  pub homes : owners.homes ≡ processes
+  pub homes : processes ≤ owners.homes
   pub few_homes : processes ≤ 1024
   -- a slot that is held free has no row
   pub vacant : (k : ℕ) → set.contains free.held k ≡ true → key_in keys k ≡ None

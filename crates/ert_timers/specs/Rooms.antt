@@ -8,8 +8,8 @@ use Rattle.ert_defs.specs.Timers.{is_taken}
 use Rattle.ert_defs.specs.declared.entry.Actor.TheVariants.{Caller}
 use Rattle.ert_defs.specs.declared.settings.Settings.{Settings}
 use Rattle.ert_defs.specs.declared.timer.Status.{Status}
-use Rattle.ert_answers.specs.RoomCalls.{no_room, with_slot, with_found}
-use Rattle.ert_answers.specs.declared.answers.Room.{Room}
+use Rattle.ert_effects.specs.RoomCalls.{no_room, with_slot, with_found}
+use Rattle.ert_effects.specs.declared.answers.Room.{Room}
 use Rattle.ert_table.specs.Takes.{Appends, TakesPlace}
 use Rattle.ert_table.specs.declared.view.View.{View}
 use Rattle.ert_timers.specs.Changes.{is_resting}

@@ -12,8 +12,8 @@ use Rattle.ert_defs.specs.declared.settings.Settings.{Settings}
 use Rattle.ert_defs.specs.declared.timer.Start.{Start}
 use Rattle.ert_defs.specs.declared.timer.Status.{Status}
 use Rattle.ert_defs.specs.declared.timer.TimerRef.{TimerRef}
-use Rattle.ert_answers.specs.TimerCalls.{Closes}
-use Rattle.ert_answers.specs.WheelCalls.{orphans_by, IsSettled}
+use Rattle.ert_effects.specs.TimerCalls.{Closes}
+use Rattle.ert_effects.specs.WheelCalls.{orphans_by, IsSettled}
 use Rattle.ert_table.specs.Settlings.{Shown}
 use Rattle.ert_table.specs.Takes.{Appends, TakesPlace}
 use Rattle.ert_table.specs.declared.view.View.{View}

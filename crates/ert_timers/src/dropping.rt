@@ -28,11 +28,11 @@ impl WheelPart {
         pass: &mut Pass,
         fired: &mut FiredList,
     ) -> Result<u64, NoMemory>
+        requires stands { Stands (settings_of desk.now) (front_of pass.old) self.old }
         requires belongs { Belongs desk.now pass.old }
         requires holds { HoldsSched (view_of pass.old) self.old.number }
-        requires stands { Stands (settings_of desk.now) (front_of pass.old) self.old }
-        ensures belongs { Belongs desk.now pass.new }
         ensures number { self.new.number ≡ self.old.number }
+        ensures belongs { Belongs desk.now pass.new }
         ensures stands { Stands (settings_of desk.now) (front_of pass.new) self.new }
         ensures call { IsAdvancedAll (settings_of desk.now) (view_of pass.old) self.old.number result fired.old fired.new (view_of pass.new) }
         ensures keeps { KeepsTidy (settings_of desk.now) (view_of pass.old) self.old self.new (view_of pass.new) }
@@ -72,16 +72,16 @@ impl WheelPart {
         ensures belongs { Belongs desk.now pass.new }
         ensures call { DropsRow (settings_of desk.now) (view_of pass.old) self.old self.new slot (view_of pass.new) }
     {
-        if self.row(slot).is_none() {
+        let Some(row) = self.row(slot) else {
             return;
-        }
+        };
         let wheel = self.number();
         let carry = TimerCarry::Probe { wheel, slot };
         let shown = pass.load_timer(desk, Actor::Sched(wheel), &carry);
         if is_armed(shown) {
             return;
         }
-        self.give_back(slot, false);
+        self.give_back(self.timer(row).timer, false);
     }
 }
 

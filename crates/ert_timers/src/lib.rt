@@ -4,14 +4,16 @@
 //! a pass that holds the wheel. The state that all threads share of a timer is the word of its slot on the
 //! desk (`ert_table`): status, deadline and use. The part keeps what has no word, by slot: the destination,
 //! the message and the kind of the last timer, its generation, and one above the greatest deadline of all the
-//! slot's timers. A timer that is held as armed also stands in two structures over the same slots: in a timing
-//! wheel (`ert_wheel`), which tells what is due, and in a chain for each process, so that an exit costs in proportion to the timers of that process.
-//! Its order in both is how many timers of the wheel were armed before it. A timer that expires leaves the wheel,
-//! and its slot leaves the chain later: when it is used again, or when the process is swept.
+//! slot's timers. A timer that is held as armed also has a row in a timing wheel (`ert_wheel`), which tells what is
+//! due, and its slot stands in the chain of its process there, so that an exit costs in proportion to the timers of
+//! that process. Its order in both is how many timers of the wheel were armed before it. A timer that is settled
+//! leaves the wheel, and its slot leaves the chain later: when it is used again, or when the process is swept.
 //!
 //! **What others do.** Any thread may cancel a timer by one exchange on its word, and tells the part nothing.
 //! So a held timer may be settled already. An advance finds that out when its own exchange misses; a start
-//! finds it out when it runs out of free slots and looks at every slot.
+//! finds it out when it runs out of free slots and looks at every slot. Whoever has the part when a timer is
+//! cancelled or its message is handed over says so, by `forget` or `reuse`: then the slot is held free at once, and
+//! no start has to look for it.
 //!
 //! **Rounds.** A slot is used 262,143 times in a round, which is as far as a word counts. Then it rests until
 //! the deadlines of all its timers have passed, and begins its next round. The generations of the first round
@@ -25,12 +27,13 @@
 //! where the wheel has had 2^53 timers, which bounds all counts.
 //!
 //! How long a slot rests depends on the longest wait of its round. So the slots that are held free stand in a
-//! row. A start with a long wait, of 2^22 milliseconds or more, takes the first, and one with a short wait the
-//! last; and a slot that is freed comes first again where it has had a long wait that isn't over. Then few slots
-//! have the long waits, and the others rest for as long as short waits take. With one end, each slot would soon
-//! have had a long wait, and all would rest until those pass: of 64 slots, with 50 starts a second that are
-//! all cancelled and one in a hundred of which waits 49.7 days, 87 of 100 starts of sixty days find all
-//! resting, in a simulation; with two ends none does.
+//! row, and one that is freed comes last, since nothing of it is read then. A start looks at the last one. Where that
+//! has had a long wait, of 2^22 milliseconds or more, that isn't over, a start with a long wait takes it, and one
+//! with a short wait makes it the first and takes the next one. Else a short wait takes it, and a long one takes the
+//! first. Then few slots have the long waits, and the others rest for as long as short waits take. If each start took
+//! the last one, each slot would soon have had a long wait, and all would rest until those pass: of 64 slots, with 50
+//! starts a second that are all cancelled and one in a hundred of which waits 49.7 days, 87 of 100 starts of sixty
+//! days find all resting, in a simulation; with two ends none does.
 //!
 //! | call | what it does | work |
 //! |---|---|---|
@@ -39,27 +42,28 @@
 //! | `advance_all` | does the same, and then looks at each timer that is left | every slot once |
 //! | `sweep` | tries each timer of a process that has exited | those timers, each once |
 //! | `forget` | drops the row of a timer that the pass has seen settled, and holds its slot free where its round has uses left | constant |
+//! | `reuse` | holds the slot of a timer free whose message was handed over, where its round has uses left | constant |
 //! | `room` | looks at the time and at every slot, and tells how many can take a timer and from when on one more can | every slot once |
 //! | `next_due` | tells how early a timer may be due | the buckets of a look ahead, and the timers of the first that has any |
 //! | `tally` | counts | none |
 //!
 //! A start that looks at every slot knows from then on all that can be used again; so only where all rest or
 //! are taken does each start look at every slot. Where a window of 512 milliseconds begins, an advance also
-//! does work for each timer that is due in it. A sweep does work too for the timers of the process that have
-//! expired and whose slots were not used again. A look ahead has 1,024 buckets as a rule where the wheel was
+//! does work for each timer that is due in it. A sweep does work too for the timers of the process that were
+//! settled and whose slots were not used again. A look ahead has 1,024 buckets as a rule where the wheel was
 //! advanced, and never over 4,096.
 //!
 //! Each timer is tried once, by one exchange, and then its row goes. No call waits for anybody. Only `open`
 //! takes memory, and `advance` for its list of expired timers, before the first of them expires.
 //!
 //! **What it promises.** The part stands for the front of its pass (`specs/Parts`, `Stands`). Each call keeps
-//! that, and takes place with exactly the entries that `ert_answers` says for its answer.
+//! that, and takes place with exactly the entries that `ert_effects` says for its answer.
 //!
 //! A part is tidy where each timer that it holds is armed (`specs/Tidy`); then it holds as many as are. A new part
 //! is tidy, and each call of a pass that holds every actor leaves a tidy part tidy. `forget` makes a part tidy
 //! again after a cancel, and `advance_all` makes any part tidy.
 //!
-//! It stands on `ert_defs`, `ert_answers`, `ert_words`, `ert_wheel`, `ert_table` and `ert_calls`.
+//! It stands on `ert_defs`, `ert_effects`, `ert_words`, `ert_wheel`, `ert_table` and `ert_calls`.
 #![tactic(auto)]
 
 mod advancing;
@@ -73,7 +77,7 @@ mod sleeping;
 mod starting;
 mod sweeping;
 
-pub use ert_answers::{Room, StartErr};
+pub use ert_effects::{Room, StartErr};
 pub use fired_list::FiredList;
 pub use laws::{
     calls_leave_other_parts, cancels_leave_other_timers_tidy, parts_stand_on,

@@ -5,7 +5,7 @@ ghost use Rattle.ert_wheel.specs.Rings.{Place, AreChains};
 
 use crate::fired_list::FiredList;
 use ert_defs::{Fired, Kind, NoMemory, Settings, TimerRef};
-use ert_wheel::{Chains, Row, Wheel};
+use ert_wheel::{Row, Wheel};
 use ert_words::FreeSlots;
 use std::alloc::Global;
 use std::marker::Model;
@@ -20,8 +20,9 @@ pub struct Slot {
     pub(crate) generation: u64,
     /// In milliseconds after the start time, at most 2^43; 0 where the slot was never used.
     pub(crate) above: u64,
-    pub(crate) dest: u32,
     pub(crate) msg: u64,
+    // The two small fields come last, side by side: so a slot has 32 bytes, and two have a line of the caches.
+    pub(crate) dest: u32,
     pub(crate) kind: Kind,
 }
 
@@ -45,15 +46,11 @@ pub struct WheelPart {
     /// How many processes the desk has.
     processes: u32,
     slots: Vec<Slot>,
-    /// The timers that are held as armed.
+    /// The timers that are held as armed, and for each process the chain of the slots whose timers go to it. A slot
+    /// without such a timer stays in its chain until it is used again, or until the chain is swept.
     wheel: Wheel,
-    /// The same timers, in a chain for each process that they go to. The slot of a timer that has expired stays
-    /// in its chain until it is used again, or until the chain is swept.
-    owners: Chains,
     /// The slots that are known to be free: first those that have had a long wait.
     free: FreeSlots,
-    /// To where the wheel was advanced, in milliseconds after the start time.
-    advanced: u64,
     /// How many timers were armed. That is also the order of the next one.
     arms: u64,
     /// How many expired, and how many were cancelled because their destination had exited.
@@ -88,14 +85,14 @@ impl Model for WheelPart {
       number = p.number;
       processes = p.processes;
       slots = p.slots.items;
-      keys = p.wheel;
+      keys = p.wheel.keys;
       free = p.free.held;
       arms = p.arms;
       expires = p.expires;
       orphans = p.orphans;
     } };
 
-    ghost invariant = { λ p. AreFit p.processes p.slots.items p.wheel p.free p.owners p.arms p.expires p.orphans };
+    ghost invariant = { λ p. AreFit p.processes p.slots.items p.wheel.keys p.free p.wheel.owners p.arms p.expires p.orphans };
 }
 
 impl WheelPart {
@@ -119,18 +116,15 @@ impl WheelPart {
         ensures tidy { IfOk result (IsTidy (state settings.now [])) }
     {
         let slots = no_slots(alloc, settings.slots)?;
-        let rows = Wheel::new(alloc, settings.slots)?;
-        let owners = Chains::new(alloc, settings.slots, settings.processes)?;
+        let timers = Wheel::new(alloc, settings.slots)?;
         let free = FreeSlots::new(alloc, settings.slots)?;
         let due = Vec::with_capacity(alloc, settings.slots as usize)?;
         Ok(WheelPart {
             number: wheel,
             processes: settings.processes,
             slots,
-            wheel: rows,
-            owners,
+            wheel: timers,
             free,
-            advanced: 0,
             arms: 0,
             expires: 0,
             orphans: 0,
@@ -209,7 +203,7 @@ impl WheelPart {
         ensures part { self.new ≡ self.old }
         ensures row { NextOf self.new process result }
     {
-        find_row(&mut self.owners, &self.wheel, process)
+        find_row(&mut self.wheel, process)
     }
 
     /// The rows with a deadline up to `to`, in order of deadline and then of start, with room for their timers
@@ -240,7 +234,6 @@ impl WheelPart {
         requires { (slot : ℕ) → IfSome (key_in self.old.keys slot) (λ key. to < key.deadline) }
         ensures { self.new ≡ self.old }
     {
-        self.advanced = to;
         self.wheel.pass(to);
     }
 
@@ -259,19 +252,20 @@ pub(crate) fn is_long(now: u64, deadline: u64) -> bool {
 }
 
 /// A row of the chain of a process; None where it has none. Slots without a row that are met leave the chain.
-fn find_row(owners: &mut Chains, wheel: &Wheel, process: u32) -> Option<Row>
-    requires process { process < owners.old.homes }
-    requires may { MayThin owners.old wheel.now }
-    ensures slots { owners.new.slots ≡ owners.old.slots }
-    ensures homes { owners.new.homes ≡ owners.old.homes }
-    ensures finds { (places : ℕ → Option Place) → AreChains owners.old places
-        → FindsRow wheel.now places process owners.new result }
+fn find_row(wheel: &mut Wheel, process: u32) -> Option<Row>
+    requires process { process < wheel.old.owners.homes }
+    requires may { MayThin wheel.old.owners wheel.old.keys }
+    ensures keys { wheel.new.keys ≡ wheel.old.keys }
+    ensures slots { wheel.new.owners.slots ≡ wheel.old.owners.slots }
+    ensures homes { wheel.new.owners.homes ≡ wheel.old.owners.homes }
+    ensures finds { (places : ℕ → Option Place) → AreChains wheel.old.owners places
+        → FindsRow wheel.old.keys places process wheel.new.owners result }
 {
-    while let Some(slot) = owners.newest(process) {
+    while let Some(slot) = wheel.newest_owned(process) {
         if let Some(row) = wheel.row(slot) {
             return Some(row);
         }
-        owners.take(slot);
+        wheel.disown(slot);
     }
     None
 }

@@ -1,17 +1,17 @@
 //! How much room a wheel has.
 ghost use Rattle.std.specs.Prelude.{◌≡◌};
-ghost use Rattle.ert_answers.specs.RoomCalls.{sooner};
+ghost use Rattle.ert_effects.specs.RoomCalls.{sooner};
 
 use crate::looking::look_down;
 use crate::part::WheelPart;
 use crate::starting::is_taken;
-use ert_answers::Room;
 use ert_defs::Actor;
+use ert_effects::Room;
 use ert_table::{Desk, Pass, TimerCarry};
 
 impl WheelPart {
     ghost use Rattle.std.specs.Prelude.{◌≡◌, ◌<◌, ◌≤◌, ◌+◌, length};
-    ghost use Rattle.ert_answers.specs.RoomCalls.{TellsRoom};
+    ghost use Rattle.ert_effects.specs.RoomCalls.{TellsRoom};
     ghost use Rattle.ert_table.specs.Calls.{IsMade};
     ghost use Rattle.ert_table.specs.Desks.{settings_of, view_of, front_of, Belongs};
     ghost use Rattle.ert_timers.specs.Parts.{HoldsCaller, Stands};

@@ -1,7 +1,7 @@
 //! How long nothing can be due.
-use crate::looking::rounded_down;
 use crate::part::WheelPart;
 use ert_defs::Settings;
+use ert_defs::milliseconds::rounded_down;
 
 impl WheelPart {
     ghost use Rattle.std.specs.Prelude.{◌≡◌, ◌≤ℤ◌, ◌<ℤ◌, List};

@@ -4,9 +4,9 @@ ghost use Rattle.ert_defs.specs.Timers as timers;
 ghost use Rattle.ert_timers.specs.Starting.{status_shown};
 
 use crate::looking::{Ahead, look_ahead};
-use crate::part::{Use, WheelPart, is_long};
-use ert_answers::StartErr;
+use crate::part::{Use, WheelPart};
 use ert_defs::{Actor, Start, Status, TimerRef};
+use ert_effects::StartErr;
 use ert_table::{Desk, Pass, Settle, TimerCarry};
 
 /// How many timers a wheel can have.
@@ -16,8 +16,8 @@ impl WheelPart {
     ghost use Rattle.std.specs.FinSet as set;
     ghost use Rattle.std.specs.Prelude.{◌≡◌, ◌≢◌, ◌<◌, ◌≤◌, ℕ, true, false, length, Err};
     ghost use Rattle.ert_defs.specs.Milliseconds.{natural, down};
-    ghost use Rattle.ert_answers.specs.TimerCalls.{Starts};
-    ghost use Rattle.ert_answers.specs.declared.answers.StartErr.TheVariants.{NoMemory};
+    ghost use Rattle.ert_effects.specs.TimerCalls.{Starts};
+    ghost use Rattle.ert_effects.specs.declared.answers.StartErr.TheVariants.{NoMemory};
     ghost use Rattle.ert_defs.specs.States.{state};
     ghost use Rattle.ert_table.specs.Desks.{settings_of, view_of, front_of, state_of, Belongs};
     ghost use Rattle.ert_table.specs.Calls.{IsMade};
@@ -75,12 +75,11 @@ impl WheelPart {
         ensures belongs { Belongs desk.now pass.new }
         ensures call { TakesSlot (settings_of desk.now) (view_of pass.old) by ahead.now self.old self.new result (view_of pass.new) }
     {
-        let long = is_long(ahead.now, ahead.deadline);
-        if let Some(slot) = self.pick(long) {
+        if let Some(slot) = self.pick(ahead.now, ahead.deadline) {
             return Some(slot);
         }
         self.look_at_all(desk, pass, by, ahead.now);
-        self.pick(long)
+        self.pick(ahead.now, ahead.deadline)
     }
 
     /// Looks at every slot, where none is held free, and holds those free that can take a timer at a time in
@@ -121,7 +120,7 @@ impl WheelPart {
         if self.is_resting(slot, now) {
             return;
         }
-        self.free_slot(slot);
+        self.free_slot(slot, now);
     }
 
     /// Arms the next timer of a slot that can take it, by the caller's last look.
@@ -194,7 +193,7 @@ impl WheelPart {
         ensures call { Orphans (settings_of desk.now) (view_of pass.old) by self.old self.new timer (view_of pass.new) }
     {
         let hit = pass.settle(desk, Actor::Caller(by), timer, deadline, Settle::Orphan);
-        self.give_back(timer.slot, hit);
+        self.give_back(timer, hit);
     }
 }
 

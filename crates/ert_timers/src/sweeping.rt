@@ -5,13 +5,14 @@ use ert_table::{Desk, Pass};
 
 impl WheelPart {
     ghost use Rattle.std.specs.Prelude.{◌≡◌, ◌≢◌, ◌<◌, false, true, Some};
-    ghost use Rattle.ert_answers.specs.WheelCalls.{Sweeps, IsSwept};
+    ghost use Rattle.ert_effects.specs.WheelCalls.{Sweeps, IsSwept};
     ghost use Rattle.ert_defs.specs.States.{state};
+    ghost use Rattle.ert_defs.specs.Timers.{is_taken};
     ghost use Rattle.ert_table.specs.Desks.{settings_of, view_of, front_of, Belongs};
     ghost use Rattle.ert_table.specs.Calls.{IsMade};
-    ghost use Rattle.ert_timers.specs.Changes.{given_back};
+    ghost use Rattle.ert_timers.specs.Changes.{given_back, reused};
+    ghost use Rattle.ert_timers.specs.Freeing.{IsHeld, IsLast, IsLetGo};
     ghost use Rattle.ert_timers.specs.Parts.{HoldsCaller, Stands};
-    ghost use Rattle.ert_timers.specs.Sweeping.{IsHeld};
     ghost use Rattle.ert_timers.specs.Tidy.{IsTidy, IsTidyBut, KeepsTidy};
     ghost use Rattle.ert_defs.specs.declared.settings.Settings.{Settings};
     ghost use Rattle.ert_defs.specs.declared.timer.Status.TheVariants.{Armed};
@@ -19,7 +20,7 @@ impl WheelPart {
     /// Cancels all timers of a process that has exited, and holds those of their slots free whose rounds have uses
     /// left.
     ///
-    /// It does work for the timers of that process alone, for those that have expired only where their slots were
+    /// It does work for the timers of that process alone, for those that were settled only where their slots were
     /// not used again, and for each of them once. It takes no memory.
     pub fn sweep(&mut self, desk: &Desk, pass: &mut Pass, by: u32, process: u32)
         requires belongs { Belongs desk.now pass.old }
@@ -43,10 +44,12 @@ impl WheelPart {
     /// Drops the row of a timer that the pass has seen settled, where the row is held, and holds its slot
     /// free where the slot's round has uses left. So a start that follows finds the slot at once.
     ///
-    /// It makes no entry, and takes no memory.
+    /// The timer is the last of its slot, as each is that a cancel hit since the part stood. It makes no entry, takes
+    /// no memory, and reads neither key nor what is kept of the slot.
     #[inline]
     pub fn forget(&mut self, pass: &Pass, timer: TimerRef)
         requires stands { (g : Settings) → (view_of pass.now).settings ≡ Some g → Stands g (front_of pass.now) self.old }
+        requires last { IsLast self.old timer }
         requires settled { (g : Settings) → (view_of pass.now).settings ≡ Some g → (state g (front_of pass.now)).status timer ≢ Some Armed }
         ensures number { self.new.number ≡ self.old.number }
         ensures stands { (g : Settings) → (view_of pass.now).settings ≡ Some g → Stands g (front_of pass.now) self.new }
@@ -57,18 +60,28 @@ impl WheelPart {
             → IsTidyBut (state g (front_of pass.now)) self.old timer → IsTidy (state g (front_of pass.now)) self.new }
     {
         let _seen = pass;
-        if timer.wheel != self.number() {
-            return;
+        if self.drop_row(timer.slot) {
+            self.free_after(timer);
         }
-        if timer.slot >= self.slot_count() {
-            return;
-        }
-        let Some(row) = self.row(timer.slot) else {
-            return;
-        };
-        if self.timer(row).timer.generation != timer.generation {
-            return;
-        }
-        self.give_back(timer.slot, false);
+    }
+
+    /// Holds the slot of an expired timer free whose message was handed over, where the slot's round has uses left.
+    /// So a start that follows finds the slot, and needn't look at every one.
+    ///
+    /// The timer was the first of its scheduler's expired ones, and takes its slot no more. It makes no entry,
+    /// and takes no memory.
+    #[inline]
+    pub fn reuse(&mut self, pass: &Pass, timer: TimerRef)
+        requires stands { (g : Settings) → (view_of pass.now).settings ≡ Some g → Stands g (front_of pass.now) self.old }
+        requires let_go { IsLetGo self.old timer }
+        requires handed { (g : Settings) → (view_of pass.now).settings ≡ Some g → is_taken ((state g (front_of pass.now)).status timer) ≡ false }
+        ensures number { self.new.number ≡ self.old.number }
+        ensures stands { (g : Settings) → (view_of pass.now).settings ≡ Some g → Stands g (front_of pass.now) self.new }
+        ensures freed { self.new ≡ reused self.old timer.slot }
+        ensures tidy { (g : Settings) → (view_of pass.now).settings ≡ Some g
+            → IsTidy (state g (front_of pass.now)) self.old → IsTidy (state g (front_of pass.now)) self.new }
+    {
+        let _handed = pass;
+        self.free_after(timer);
     }
 }

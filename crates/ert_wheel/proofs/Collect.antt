@@ -6,11 +6,11 @@ use Rattle.std.proofs.lemmas.Bool.{cases_eq, cases_lt, eq-eqb, ne_eqb, and_right
 use Rattle.std.proofs.lemmas.Bool.Decides.{eqb_tells}
 use Rattle.std.proofs.lemmas.List.Elements.{All-push}
 use Rattle.std.proofs.lemmas.List.Sums.{sum_by_push}
-use Rattle.ert_wheel.proofs.Views.{place_is, kept_in}
+use Rattle.ert_wheel.proofs.Views.{place_is, held_in}
 use Rattle.ert_wheel.specs.Rings.{Rings, Place, AreChains, StandsIn, bound_of, order_of, Finds}
 use Rattle.ert_wheel.specs.Rows.{key_in, key_of, row_at, times, passing}
 use Rattle.ert_wheel.specs.Walks.{AreRows, is_due_in, MayCollect, Collects}
-use Rattle.ert_wheel.specs.Wheels.{kept_keys, place_of, places}
+use Rattle.ert_wheel.specs.Wheels.{no_key, held_keys, place_of, places}
 use Rattle.ert_wheel.specs.declared.row.Key.{Key}
 use Rattle.ert_wheel.specs.declared.row.Row.{Row}
 
@@ -151,19 +151,14 @@ step_at keys home bucket to bound slot j key (Some k) has at_home down is once g
 -- one step of the walk: the row of the slot is added where it is due
 pub walk_steps : (chains : Rings) (keys : List (Option Key)) (home : Key → ℕ) (bucket to slot : ℕ) (key : Key) (next : Option ℕ)
     (old now new : List Row) → MayCollect chains keys home bucket to old
-    → IsWalked keys home bucket to (Some slot) old now → key_in keys slot ≡ Some key
-    → Finds chains (places home keys) (home key) key.order next
+    → IsWalked keys home bucket to (Some slot) old now → key_in keys slot ≡ Some key → home key ≡ bucket
+    → Finds chains (places home keys) bucket key.order next
     → ((j : ℕ) → times j new ≡ times j now + cond (nat_eq slot j && nat_le key.deadline to) 1 0) → AreRows keys new
     → IsWalked keys home bucket to next old new
-walk_steps chains keys home bucket to slot key next old now new may w has f more rows =
-    let some : Some w.stands.key ≡ Some key = sym w.stands.has ∙ has in
-    let same : w.stands.key ≡ key = cc in
-    let at_home : home key ≡ bucket = ap home (sym same) ∙ w.stands.at_home in
+walk_steps chains keys home bucket to slot key next old now new may w has at_home g more rows =
     let bound : ℕ = bound_of (places home keys) next in
     let here : bound_of (places home keys) (Some slot) ≡ key.order + 1 =
     ap (λ (o : Option Key). order_of (place_of home o) + 1) has in
-    let g : Finds chains (places home keys) bucket key.order next =
-    subst (λ (b : ℕ). Finds chains (places home keys) b key.order next) at_home f in
     record {
       each = λ j.
           let was : times j now ≡ times j old + passing (is_due_from home bucket to (key.order + 1)) (key_in keys j) =
@@ -196,60 +191,38 @@ walk_ends keys home bucket to old now w = record {
   are_rows = w.are_rows;
 }
 
--- what a turn of the loop meets: the slot that came next, and what comes after it
-pub record Turns (chains : Rings) (keys : List Key) (home : Key → ℕ) (bucket to slot : ℕ) (here next : Option ℕ) (old now : List Row) : Type 0 where
-  pub may : MayCollect chains (kept_keys keys) home bucket to old
-  pub walked : IsWalked (kept_keys keys) home bucket to here old now
+-- what a turn of a walk meets: the slot that came next, and what comes after it
+pub record Steps (chains : Rings) (stored : List Key) (home : Key → ℕ) (bucket slot : ℕ) (here next : Option ℕ) : Type 0 where
+  pub slots : length (held_keys chains stored) ≡ chains.slots
+  pub are : AreChains chains (places home (held_keys chains stored))
+  pub stands : IfSome here (InBucket (held_keys chains stored) home bucket)
   pub is : here ≡ Some slot
   pub older : (places : ℕ → Option Place) (place : Place) → AreChains chains places → places slot ≡ Some place
       → Finds chains places place.home place.order next
 
 -- the key that is read there
-record AtKey (chains : Rings) (keys : List Key) (home : Key → ℕ) (bucket to slot : ℕ) (next : Option ℕ) (old now : List Row) (key : Key) : Type 0 where
-  walked : IsWalked (kept_keys keys) home bucket to (Some slot) old now
-  has : key_in (kept_keys keys) slot ≡ Some key
-  follows : Finds chains (places home (kept_keys keys)) (home key) key.order next
+pub record AtKey (chains : Rings) (stored : List Key) (home : Key → ℕ) (bucket slot : ℕ) (next : Option ℕ) (key : Key) : Type 0 where
+  pub low : slot < length stored
+  pub has : key_in (held_keys chains stored) slot ≡ Some key
+  pub at_home : home key ≡ bucket
+  pub follows : Finds chains (places home (held_keys chains stored)) bucket key.order next
 
-at_key : (chains : Rings) (keys : List Key) (home : Key → ℕ) (bucket to slot : ℕ) (here next : Option ℕ) (old now : List Row) (d : Key)
-    → Turns chains keys home bucket to slot here next old now
-    → AtKey chains keys home bucket to slot next old now (get_or keys slot d)
-at_key chains keys home bucket to slot here next old now d t =
-    let w : IsWalked (kept_keys keys) home bucket to (Some slot) old now =
-    subst (λ (o : Option ℕ). IsWalked (kept_keys keys) home bucket to o old now) t.is t.walked in
-    let has : key_in (kept_keys keys) slot ≡ Some (get_or keys slot d) =
-    w.stands.has ∙ ap (λ (k : Key). Some k) (kept_in keys slot d w.stands.key w.stands.has).1 in
-    let key : Key = get_or keys slot d in
+pub at_key : (chains : Rings) (stored : List Key) (home : Key → ℕ) (bucket slot : ℕ) (here next : Option ℕ) (d : Key)
+    → Steps chains stored home bucket slot here next → AtKey chains stored home bucket slot next (get_or stored slot d)
+at_key chains stored home bucket slot here next d t =
+    let keys : List (Option Key) = held_keys chains stored in
+    let stands : InBucket keys home bucket slot = subst (λ (o : Option ℕ). IfSome o (InBucket keys home bucket)) t.is t.stands in
+    let key : Key = get_or stored slot d in
+    let same : stands.key ≡ key = (held_in chains stored slot d stands.key stands.has).1 in
+    let has : key_in keys slot ≡ Some key = stands.has ∙ ap (λ (k : Key). Some k) same in
+    let at_home : home key ≡ bucket = ap home (sym same) ∙ stands.at_home in
     record {
-      walked = w;
+      low = (held_in chains stored slot d stands.key stands.has).0;
       has = has;
-      follows = t.older (places home (kept_keys keys)) (record { home = home key; order = key.order }) t.may.are (ap (place_of home) has);
+      at_home = at_home;
+      follows = subst (λ (b : ℕ). Finds chains (places home keys) b key.order next) at_home
+          (t.older (places home keys) (record { home = home key; order = key.order }) t.are (ap (place_of home) has));
     }
-
--- its row is added where it is due
-pub walk_adds : (chains : Rings) (keys : List Key) (home : Key → ℕ) (bucket to slot : ℕ) (here next : Option ℕ) (old now : List Row) (d : Key)
-    → Turns chains keys home bucket to slot here next old now → (get_or keys slot d).deadline ≤ to
-    → IsWalked (kept_keys keys) home bucket to next old (now ++ row_at slot (get_or keys slot d) ∷ [])
-walk_adds chains keys home bucket to slot here next old now d t due =
-    let a = at_key chains keys home bucket to slot here next old now d t in
-    let key : Key = get_or keys slot d in
-    walk_steps chains (kept_keys keys) home bucket to slot key next old now (now ++ row_at slot key ∷ []) t.may a.walked a.has a.follows
-    (λ j. times_push now (row_at slot key) j ∙ ap (λ b. times j now + cond b 1 0)
-    (sym (ap (λ b. nat_eq slot j && b) (le-leb key.deadline to due) ∙ and_true (nat_eq slot j))))
-    (All-push (λ row. key_in (kept_keys keys) row.slot ≡ Some (key_of row)) now (row_at slot key) a.walked.are_rows a.has)
-
--- and nothing where it isn't
-pub walk_leaves : (chains : Rings) (keys : List Key) (home : Key → ℕ) (bucket to slot : ℕ) (here next : Option ℕ) (old now : List Row) (d : Key)
-    → Turns chains keys home bucket to slot here next old now → to < (get_or keys slot d).deadline
-    → IsWalked (kept_keys keys) home bucket to next old now
-walk_leaves chains keys home bucket to slot here next old now d t later =
-    let a = at_key chains keys home bucket to slot here next old now d t in
-    let key : Key = get_or keys slot d in
-    walk_steps chains (kept_keys keys) home bucket to slot key next old now now t.may a.walked a.has a.follows
-    (λ j.
-    let none : ◌≡◌ {A = ℕ} (cond (nat_eq slot j && nat_le key.deadline to) 1 0) 0 =
-    ap (λ b. cond b 1 0) (and_right (nat_eq slot j) (nat_le key.deadline to) (lt-leb key.deadline to later)) in
-    omega (arith, none))
-    a.walked.are_rows
 
 -- the orders don't depend on the homes
 bound_same : (g h : Key → ℕ) (keys : List (Option Key)) (next : Option ℕ)
@@ -260,12 +233,53 @@ bound_same g h keys (Some slot) =
     [ None ↦ refl | Some key ↦ refl ])
 
 -- each turn leaves fewer orders
-pub walk_falls : (chains : Rings) (keys : List Key) (home : Key → ℕ) (bucket to slot : ℕ) (here next : Option ℕ) (old now : List Row) (d : Key)
-    → Turns chains keys home bucket to slot here next old now
-    → bound_of (places (λ _. 0) (kept_keys keys)) next < bound_of (places (λ _. 0) (kept_keys keys)) here
-walk_falls chains keys home bucket to slot here next old now d t =
-    let a = at_key chains keys home bucket to slot here next old now d t in
+pub steps_fall : (chains : Rings) (stored : List Key) (home : Key → ℕ) (bucket slot : ℕ) (here next : Option ℕ)
+    → Steps chains stored home bucket slot here next
+    → bound_of (places (λ _. 0) (held_keys chains stored)) next < bound_of (places (λ _. 0) (held_keys chains stored)) here
+steps_fall chains stored home bucket slot here next t =
+    let keys : List (Option Key) = held_keys chains stored in
+    let a = at_key chains stored home bucket slot here next no_key t in
+    let e : bound_of (places (λ _. 0) keys) here ≡ (get_or stored slot no_key).order + 1 =
+    ap (bound_of (places (λ _. 0) keys)) t.is ∙ ap (λ (o : Option Key). order_of (place_of (λ _. 0) o) + 1) a.has in
+    omega (arith, a.follows.down, bound_same (λ _. 0) home keys next)
+
+-- and a turn of this walk
+pub record Turns (chains : Rings) (keys : List Key) (home : Key → ℕ) (bucket to slot : ℕ) (here next : Option ℕ) (old now : List Row) : Type 0 where
+  pub may : MayCollect chains (held_keys chains keys) home bucket to old
+  pub walked : IsWalked (held_keys chains keys) home bucket to here old now
+  pub is : here ≡ Some slot
+  pub older : (places : ℕ → Option Place) (place : Place) → AreChains chains places → places slot ≡ Some place
+      → Finds chains places place.home place.order next
+
+pub turn_steps : (chains : Rings) (keys : List Key) (home : Key → ℕ) (bucket to slot : ℕ) (here next : Option ℕ) (old now : List Row)
+    → Turns chains keys home bucket to slot here next old now → Steps chains keys home bucket slot here next
+turn_steps chains keys home bucket to slot here next old now t =
+    record { slots = t.may.slots; are = t.may.are; stands = t.walked.stands; is = t.is; older = t.older }
+
+-- its row is added where it is due
+pub walk_adds : (chains : Rings) (keys : List Key) (home : Key → ℕ) (bucket to slot : ℕ) (here next : Option ℕ) (old now : List Row) (d : Key)
+    → Turns chains keys home bucket to slot here next old now → (get_or keys slot d).deadline ≤ to
+    → IsWalked (held_keys chains keys) home bucket to next old (now ++ row_at slot (get_or keys slot d) ∷ [])
+walk_adds chains keys home bucket to slot here next old now d t due =
+    let a = at_key chains keys home bucket slot here next d (turn_steps chains keys home bucket to slot here next old now t) in
+    let w = subst (λ (o : Option ℕ). IsWalked (held_keys chains keys) home bucket to o old now) t.is t.walked in
     let key : Key = get_or keys slot d in
-    let e : bound_of (places (λ _. 0) (kept_keys keys)) here ≡ key.order + 1 =
-    ap (bound_of (places (λ _. 0) (kept_keys keys))) t.is ∙ ap (λ (o : Option Key). order_of (place_of (λ _. 0) o) + 1) a.has in
-    omega (arith, a.follows.down, bound_same (λ _. 0) home (kept_keys keys) next)
+    walk_steps chains (held_keys chains keys) home bucket to slot key next old now (now ++ row_at slot key ∷ []) t.may w a.has a.at_home a.follows
+    (λ j. times_push now (row_at slot key) j ∙ ap (λ b. times j now + cond b 1 0)
+    (sym (ap (λ b. nat_eq slot j && b) (le-leb key.deadline to due) ∙ and_true (nat_eq slot j))))
+    (All-push (λ row. key_in (held_keys chains keys) row.slot ≡ Some (key_of row)) now (row_at slot key) w.are_rows a.has)
+
+-- and nothing where it isn't
+pub walk_leaves : (chains : Rings) (keys : List Key) (home : Key → ℕ) (bucket to slot : ℕ) (here next : Option ℕ) (old now : List Row) (d : Key)
+    → Turns chains keys home bucket to slot here next old now → to < (get_or keys slot d).deadline
+    → IsWalked (held_keys chains keys) home bucket to next old now
+walk_leaves chains keys home bucket to slot here next old now d t later =
+    let a = at_key chains keys home bucket slot here next d (turn_steps chains keys home bucket to slot here next old now t) in
+    let w = subst (λ (o : Option ℕ). IsWalked (held_keys chains keys) home bucket to o old now) t.is t.walked in
+    let key : Key = get_or keys slot d in
+    walk_steps chains (held_keys chains keys) home bucket to slot key next old now now t.may w a.has a.at_home a.follows
+    (λ j.
+    let none : ◌≡◌ {A = ℕ} (cond (nat_eq slot j && nat_le key.deadline to) 1 0) 0 =
+    ap (λ b. cond b 1 0) (and_right (nat_eq slot j) (nat_le key.deadline to) (lt-leb key.deadline to later)) in
+    omega (arith, none))
+    w.are_rows

@@ -9,6 +9,7 @@ pub mod Lists
 pub mod NextDue
 mod Opening
 pub mod Parts
+pub mod Sides
 mod Splice
 mod Unsplice
 pub mod Views

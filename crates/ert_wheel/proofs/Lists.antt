@@ -9,10 +9,11 @@ use Rattle.std.proofs.lemmas.List.Sums.{sum_by-cons}
 use Rattle.std.proofs.lemmas.Map.Steps.{length-le_from_distinct_below}
 use Rattle.std.specs.List.{IsDistinct, AllByRecursion, list_any}
 use Rattle.ert_wheel.proofs.Collect.{key_low, IsWalked, Turns, walk_adds}
+use Rattle.ert_wheel.proofs.Views.{held_len}
 use Rattle.ert_wheel.specs.Rings.{Rings, bound_of}
 use Rattle.ert_wheel.specs.Rows.{key_in, key_of, row_at, times, passing}
 use Rattle.ert_wheel.specs.Walks.{AreRows, is_due_in, MayCollect}
-use Rattle.ert_wheel.specs.Wheels.{kept, kept_keys, places}
+use Rattle.ert_wheel.specs.Wheels.{held_keys, places}
 use Rattle.ert_wheel.specs.declared.row.Key.{Key}
 use Rattle.ert_wheel.specs.declared.row.Row.{Row}
 
@@ -90,7 +91,7 @@ pub walk_room : (chains : Rings) (keys : List Key) (home : Key → ℕ) (bucket 
     → Turns chains keys home bucket to slot here next old now → (get_or keys slot d).deadline ≤ to
     → length now + 1 ≤ length keys
 walk_room chains keys home bucket to slot here next old now d t due =
-    let fits : length (now ++ row_at slot (get_or keys slot d) ∷ []) ≤ length (kept_keys keys) =
-    walk_fits chains (kept_keys keys) home bucket to next old (now ++ row_at slot (get_or keys slot d) ∷ []) t.may
+    let fits : length (now ++ row_at slot (get_or keys slot d) ∷ []) ≤ length (held_keys chains keys) =
+    walk_fits chains (held_keys chains keys) home bucket to next old (now ++ row_at slot (get_or keys slot d) ∷ []) t.may
     (walk_adds chains keys home bucket to slot here next old now d t due) in
-    omega (arith, length-append now (row_at slot (get_or keys slot d) ∷ []), length-map keys kept)
+    omega (arith, length-append now (row_at slot (get_or keys slot d) ∷ []), held_len chains keys)

@@ -1,17 +1,16 @@
 -- The least deadline of a bucket, and of the buckets of a look ahead.
 
-use Rattle.std.proofs.Common.{◌≡◌, ◌≢◌, ℕ, ◌+◌, ◌-◌, ◌<◌, ◌≤◌, ◌^◌, ◌⊎◌, max, min, zero, suc, cond, count_by, List, [], ◌∷◌, Option, Some, None, IfSome, length, get_or, sym, subst, ◌∙◌, ap, inl, inr, refl, arith}
+use Rattle.std.proofs.Common.{◌≡◌, ◌≢◌, ℕ, ◌+◌, ◌<◌, ◌≤◌, ◌^◌, ◌⊎◌, max, min, zero, suc, cond, count_by, List, [], ◌∷◌, Option, Some, None, IfSome, length, get_or, sym, subst, ◌∙◌, ap, inl, inr, refl, arith}
 use Rattle.std.proofs.lemmas.Bool.{cases_eq, cases_lt}
 use Rattle.std.proofs.lemmas.List.Sums.{sum_by-cons}
 use Rattle.std.specs.Option.{is_some}
-use Rattle.ert_wheel.proofs.Collect.{InBucket, key_low, found}
+use Rattle.ert_wheel.proofs.Collect.{InBucket, Steps, key_low, found, at_key}
 use Rattle.ert_wheel.proofs.Levels.{home_up}
-use Rattle.ert_wheel.proofs.Views.{kept_in}
-use Rattle.ert_wheel.specs.NextDue.{NoRow, HasRow, NoneBefore, IsDueAt, IsDueIn, IsLeastIn}
+use Rattle.ert_wheel.specs.NextDue.{MayWalk, NoRow, HasRow, NoneBefore, IsDueAt, IsDueIn, IsLeastIn}
 use Rattle.ert_wheel.specs.Rings.{Rings, Place, AreChains, bound_of, order_of, Finds}
 use Rattle.ert_wheel.specs.Rows.{key_in}
 use Rattle.ert_wheel.specs.Walks.{Spans}
-use Rattle.ert_wheel.specs.Wheels.{kept_keys, bucket_of, home_by, place_of, places, IsWheel}
+use Rattle.ert_wheel.specs.Wheels.{held_keys, bucket_of, home_by, place_of, places, IsWheel}
 use Rattle.ert_wheel.specs.declared.row.Key.{Key}
 
 -- where none is counted there is no row, and else there is one
@@ -99,64 +98,14 @@ passes_key chains keys home bucket bound slot least key next slots are p has at_
       stands = found chains keys home bucket key.order next f;
     }
 
--- what a turn of the loop meets: the slot that came next, and what comes after it
-pub record Steps (chains : Rings) (keys : List Key) (home : Key → ℕ) (bucket bound slot : ℕ) (here next : Option ℕ) (least : ℕ) : Type 0 where
-  pub slots : length (kept_keys keys) ≡ chains.slots
-  pub are : AreChains chains (places home (kept_keys keys))
-  pub passed : IsPassed (kept_keys keys) home bucket bound here least
-  pub is : here ≡ Some slot
-  pub older : (places : ℕ → Option Place) (place : Place) → AreChains chains places → places slot ≡ Some place
-      → Finds chains places place.home place.order next
-
--- the key that is read there
-record AtKey (chains : Rings) (keys : List Key) (home : Key → ℕ) (bucket bound slot : ℕ) (next : Option ℕ) (least : ℕ) (key : Key) : Type 0 where
-  passed : IsPassed (kept_keys keys) home bucket bound (Some slot) least
-  has : key_in (kept_keys keys) slot ≡ Some key
-  at_home : home key ≡ bucket
-  follows : Finds chains (places home (kept_keys keys)) (home key) key.order next
-
-at_key : (chains : Rings) (keys : List Key) (home : Key → ℕ) (bucket bound slot : ℕ) (here next : Option ℕ) (least : ℕ) (d : Key)
-    → Steps chains keys home bucket bound slot here next least
-    → AtKey chains keys home bucket bound slot next least (get_or keys slot d)
-at_key chains keys home bucket bound slot here next least d t =
-    let p : IsPassed (kept_keys keys) home bucket bound (Some slot) least =
-    subst (λ (o : Option ℕ). IsPassed (kept_keys keys) home bucket bound o least) t.is t.passed in
-    let same : p.stands.key ≡ get_or keys slot d = (kept_in keys slot d p.stands.key p.stands.has).1 in
-    let has : key_in (kept_keys keys) slot ≡ Some (get_or keys slot d) =
-    p.stands.has ∙ ap (λ (k : Key). Some k) same in
-    record {
-      passed = p;
-      has = has;
-      at_home = ap home (sym same) ∙ p.stands.at_home;
-      follows = t.older (places home (kept_keys keys)) (record { home = home (get_or keys slot d); order = (get_or keys slot d).order }) t.are (ap (place_of home) has);
-    }
-
-pub steps_on : (chains : Rings) (keys : List Key) (home : Key → ℕ) (bucket bound slot : ℕ) (here next : Option ℕ) (least : ℕ) (d : Key)
-    → Steps chains keys home bucket bound slot here next least
-    → IsPassed (kept_keys keys) home bucket bound next (min least (get_or keys slot d).deadline)
-steps_on chains keys home bucket bound slot here next least d t =
-    let a = at_key chains keys home bucket bound slot here next least d t in
-    passes_key chains (kept_keys keys) home bucket bound slot least (get_or keys slot d) next t.slots t.are a.passed a.has a.at_home
-    (subst (λ (b : ℕ). Finds chains (places home (kept_keys keys)) b (get_or keys slot d).order next) a.at_home a.follows)
-
--- the orders don't depend on the homes
-bound_same : (g h : Key → ℕ) (keys : List (Option Key)) (next : Option ℕ)
-    → bound_of (places g keys) next ≡ bound_of (places h keys) next
-bound_same g h keys None = refl
-bound_same g h keys (Some slot) =
-    ap (λ n. n + 1) (elim (key_in keys slot) as (λ (o : Option Key). order_of (place_of g o) ≡ order_of (place_of h o))
-    [ None ↦ refl | Some key ↦ refl ])
-
--- each turn leaves fewer orders
-pub steps_fall : (chains : Rings) (keys : List Key) (home : Key → ℕ) (bucket bound slot : ℕ) (here next : Option ℕ) (least : ℕ) (d : Key)
-    → Steps chains keys home bucket bound slot here next least
-    → bound_of (places (λ _. 0) (kept_keys keys)) next < bound_of (places (λ _. 0) (kept_keys keys)) here
-steps_fall chains keys home bucket bound slot here next least d t =
-    let a = at_key chains keys home bucket bound slot here next least d t in
-    let key : Key = get_or keys slot d in
-    let e : bound_of (places (λ _. 0) (kept_keys keys)) here ≡ key.order + 1 =
-    ap (bound_of (places (λ _. 0) (kept_keys keys))) t.is ∙ ap (λ (o : Option Key). order_of (place_of (λ _. 0) o) + 1) a.has in
-    omega (arith, a.follows.down, bound_same (λ _. 0) home (kept_keys keys) next)
+-- the key that is read there passes
+pub steps_on : (chains : Rings) (stored : List Key) (home : Key → ℕ) (bucket bound slot : ℕ) (here next : Option ℕ) (least : ℕ) (d : Key)
+    → Steps chains stored home bucket slot here next → IsPassed (held_keys chains stored) home bucket bound here least
+    → IsPassed (held_keys chains stored) home bucket bound next (min least (get_or stored slot d).deadline)
+steps_on chains stored home bucket bound slot here next least d t p =
+    let a = at_key chains stored home bucket slot here next d t in
+    passes_key chains (held_keys chains stored) home bucket bound slot least (get_or stored slot d) next t.slots t.are
+    (subst (λ (o : Option ℕ). IsPassed (held_keys chains stored) home bucket bound o least) t.is p) a.has a.at_home a.follows
 
 -- the walk ends where nothing comes next
 pub passes_all : (keys : List (Option Key)) (home : Key → ℕ) (bucket bound : ℕ) (here : Option ℕ) (least : ℕ) → here ≡ None
@@ -182,22 +131,27 @@ visits_none next bucket bound keys e = record {
       absurd (omega (arith, home_up 7 next next (max key.deadline next) (omega arith) (omega arith)));
 }
 
--- what a bucket has: `lent` is the keys as they are lent
-pub visits_bucket : (next count bucket bound : ℕ) (keys lent : List Key) (chains : Rings) (least new : ℕ)
-    → IsWheel next count keys chains → lent ≡ keys
-    → ((home : Key → ℕ) → AreChains chains (places home (kept_keys lent))
-    → IsLeastIn (kept_keys lent) home bucket least new)
-    → IsLeastIn (kept_keys keys) (home_by next) bucket least new
-visits_bucket next count bucket bound keys lent chains least new w same looks =
-    subst (λ (ks : List Key). IsLeastIn (kept_keys ks) (home_by next) bucket least new) same
-    (looks (home_by next)
-    (subst (λ (ks : List Key). AreChains chains (places (home_by next) (kept_keys ks))) (sym same) w.are))
+-- the chains may be walked: `lent` is the stored keys as they are lent
+pub may_walk : {next count : ℕ} {keys : List (Option Key)} {chains : Rings} (lent : List Key) → IsWheel next count keys chains
+    → held_keys chains lent ≡ keys → MayWalk chains (held_keys chains lent)
+may_walk {next = next} {chains = chains} lent w is =
+    subst (λ (ks : List (Option Key)). MayWalk chains ks) (sym is) (record { slots = w.slots; home = home_by next; are = w.are })
+
+-- what a bucket has
+pub visits_bucket : {next count bucket : ℕ} {keys : List (Option Key)} {chains : Rings} {least new : ℕ} (lent : List Key)
+    → IsWheel next count keys chains → held_keys chains lent ≡ keys
+    → ((home : Key → ℕ) → AreChains chains (places home (held_keys chains lent))
+    → IsLeastIn (held_keys chains lent) home bucket least new)
+    → IsLeastIn keys (home_by next) bucket least new
+visits_bucket {next = next} {bucket = bucket} {chains = chains} {least = least} {new = new} lent w is looks =
+    subst (λ (ks : List (Option Key)). IsLeastIn ks (home_by next) bucket least new) is
+    (looks (home_by next) (subst (λ (ks : List (Option Key)). AreChains chains (places (home_by next) ks)) (sym is) w.are))
 
 -- one more is visited
-pub visits_one : (next bucket bound : ℕ) (keys : List (Option Key)) (least new : ℕ)
+pub visits_one : {next bucket bound : ℕ} {keys : List (Option Key)} {least new : ℕ}
     → IsLeast next bucket bound keys least → IsLeastIn keys (home_by next) bucket least new → bound ≤ new
     → IsLeast next (bucket + 1) bound keys new
-visits_one next bucket bound keys least new was now none = record {
+visits_one {next = next} {bucket = bucket} was now none = record {
   is = omega (arith, was.is, now.low);
   below = λ j key has low.
       elim (cases_eq (home_by next key) bucket) [
@@ -207,10 +161,10 @@ visits_one next bucket bound keys least new was now none = record {
 }
 
 -- the first bucket that has a row before the bound has the least
-pub none_before_soon : (next bucket bound : ℕ) (keys : List (Option Key)) (least new : ℕ) (due : IsDueIn keys (home_by next) bucket new)
+pub none_before_soon : {next bucket bound : ℕ} {keys : List (Option Key)} {least new : ℕ} → IsDueIn keys (home_by next) bucket new
     → IsLeast next bucket bound keys least → IsLeastIn keys (home_by next) bucket least new
     → new < bound → NoneBefore keys new
-none_before_soon next bucket bound keys least new due was now less j key has =
+none_before_soon {next = next} {bucket = bucket} {new = new} due was now less j key has =
     elim (cases_lt (home_by next key) bucket) [
       | inl low ↦ omega (arith, was.below j key has low)
       | inr more ↦ elim (cases_eq (home_by next key) bucket) [
@@ -225,23 +179,21 @@ none_before_soon next bucket bound keys least new due was now less j key has =
     ]
 
 -- and where all buckets were visited, none is before the least
-pub none_before_all : (next end bound : ℕ) (keys : List Key) (least : ℕ) (d : Key) → next < 2 ^ 64 - 1
-    → Spans next bound end → IsLeast next end bound (kept_keys keys) least
-    → NoneBefore (kept_keys keys) least
-none_before_all next end bound keys least d fits span seen j key has =
+pub none_before_all : (next count end bound : ℕ) (keys : List (Option Key)) (chains : Rings) (least : ℕ)
+    → IsWheel next count keys chains → Spans next bound end → IsLeast next end bound keys least → NoneBefore keys least
+none_before_all next count end bound keys chains least w span seen j key has =
     elim (cases_lt bound key.deadline) [
       | inl later ↦ omega (arith, seen.is)
       | inr due ↦
-          let low : key.deadline < 2 ^ 64 - 1 = (kept_in keys j d key has).2 in
-          let v = span.covers (max key.deadline next) (omega arith) (omega arith) (omega arith) in
+          let v = span.covers (max key.deadline next) (omega arith) (omega arith) (omega (arith, w.low j key has, w.time)) in
           omega (arith, seen.is, seen.below j key has v)
     ]
 
 -- what was found below the bound stands in the bucket
-pub soon : (next bucket bound : ℕ) (keys : List (Option Key)) (least new : ℕ) → IsLeast next bucket bound keys least
+pub soon : {next bucket bound : ℕ} {keys : List (Option Key)} {least new : ℕ} → IsLeast next bucket bound keys least
     → IsLeastIn keys (home_by next) bucket least new → new < bound → IsDueIn keys (home_by next) bucket new
-soon next bucket bound keys least new was now less =
+soon was now less =
     elim now.near [ inl due ↦ due | inr e ↦ absurd (omega (arith, was.is)) ]
 
-pub due_at_of : (keys : List (Option Key)) (home : Key → ℕ) (bucket time : ℕ) → IsDueIn keys home bucket time → IsDueAt keys time
-due_at_of keys home bucket time d = record { slot = d.slot; key = d.key; has = d.has; at = d.at }
+pub due_at_of : {keys : List (Option Key)} {home : Key → ℕ} {bucket time : ℕ} → IsDueIn keys home bucket time → IsDueAt keys time
+due_at_of d = record { slot = d.slot; key = d.key; has = d.has; at = d.at }

@@ -181,6 +181,15 @@ goes_in r places slot home order can =
       highest = highest r places slot home order can;
     }
 
+-- a slot that has a place isn't alone
+pub placed_apart : (r : Rings) (places : ℕ → Option Place) (slot : ℕ) (place : Place) → AreChains r places
+    → slot < r.slots → places slot ≡ Some place → next_at r.links slot ≢ slot
+placed_apart r places slot place are low has e =
+    let s : IsSlot r.slots r.homes places slot place = slot_is r.slots r.homes places slot place low has in
+    let same : (shape r.slots r.homes places).low (next_at r.links slot) ≡ (shape r.slots r.homes places).low slot =
+    ap (shape r.slots r.homes places).low e in
+    omega (arith, same, s.bound, s.top, are.chained.down slot s.on)
+
 -- a slot without a place isn't on
 off : (slots homes : ℕ) (places : ℕ → Option Place) (x : ℕ) → x < slots → places x ≡ None
     → (shape slots homes places).on x ≡ false

@@ -1,56 +1,121 @@
--- A wheel's keys as they are seen, and its chains after a key was written.
+-- A wheel's keys as they are held, and its chains after a key was written.
 
-use Rattle.std.proofs.Common.{◌≡◌, ℕ, ◌+◌, ◌-◌, ◌<◌, ◌≤◌, ◌^◌, cond, List, Option, Some, None, length, get_or, set, count_by, sym, subst, ◌∙◌, ap, inl, inr, refl, arith, get_or-set_same, get_or-set_other}
-use Rattle.std.proofs.lemmas.Bool.{cases_eq, cases_lt, lt-ltb, le-ltb}
-use Rattle.std.proofs.lemmas.List.{get_or-map, length-map, map-set}
+use Rattle.std.proofs.Common.{◌≡◌, ◌≢◌, ◌⊎◌, ℕ, ◌+◌, ◌<◌, ◌≤◌, cond, List, Option, Some, None, length, get_or, set, count_by, sym, subst, ◌∙◌, ap, inl, inr, refl, arith, get_or-set_same, get_or-set_other}
+use Rattle.std.proofs.lemmas.Bool.{cases_eq, cases_lt, eq-eqb, ne_eqb}
+use Rattle.std.proofs.lemmas.List.{get_or_default, length-set}
+use Rattle.std.proofs.lemmas.List.FromFn.{fill_by_all, get_or-map-range_with_len, length-map-range_with_len}
 use Rattle.std.proofs.lemmas.List.Sums.{sum_by-set}
 use Rattle.std.proofs.Math.ListN.{get_or-eq_default}
 use Rattle.std.specs.Option.{is_some}
-use Rattle.ert_wheel.proofs.Parts.{with_place_here, with_place_there}
+use Rattle.ert_wheel.proofs.Parts.{placed_apart, with_place_here, with_place_there}
+use Rattle.ert_wheel.specs.Links.{next_at}
 use Rattle.ert_wheel.specs.Rings.{Rings, Place, AreChains, with_place}
 use Rattle.ert_wheel.specs.Rows.{key_in}
-use Rattle.ert_wheel.specs.Wheels.{kept, kept_keys, place_of, places}
+use Rattle.ert_wheel.specs.Wheels.{no_key, held_key, held_keys, place_of, places}
+use Rattle.ert_wheel.specs.declared.links.Link.{Link}
 use Rattle.ert_wheel.specs.declared.row.Key.{Key}
 
--- what a slot that was read is seen as
-pub key_read : (keys : List Key) (slot : ℕ) (key : Key) → slot < length keys → key ≡ get_or keys slot key
-    → key_in (kept_keys keys) slot ≡ kept key
-key_read keys slot key low read = get_or-map kept keys slot key None low ∙ ap kept (sym read)
+-- what a slot is seen as
+pub held_at : (chains : Rings) (stored : List Key) (slot : ℕ) → slot < length stored
+    → key_in (held_keys chains stored) slot ≡ held_key chains.links stored slot
+held_at chains stored slot low =
+    get_or-map-range_with_len (held_key chains.links stored) 0 (length stored) slot slot None low (omega arith)
 
--- a key whose deadline is in range is seen, and one with the mark isn't
-pub kept_low : (key : Key) → key.deadline < 2 ^ 64 - 1 → kept key ≡ Some key
-kept_low key low = ap (λ b. cond b (Some key) None) (lt-ltb key.deadline (2 ^ 64 - 1) low)
+pub held_len : (chains : Rings) (stored : List Key) → length (held_keys chains stored) ≡ length stored
+held_len chains stored = length-map-range_with_len (held_key chains.links stored) 0 (length stored)
 
-pub kept_high : (key : Key) → 2 ^ 64 - 1 ≤ key.deadline → kept key ≡ None
-kept_high key high = ap (λ b. cond b (Some key) None) (le-ltb key.deadline (2 ^ 64 - 1) high)
+-- alone it has no key, and else the stored one
+pub key_alone : (links : List Link) (stored : List Key) (slot : ℕ) → next_at links slot ≡ slot
+    → held_key links stored slot ≡ None
+key_alone links stored slot e =
+    ap (λ b. cond b None (Some (get_or stored slot no_key))) (eq-eqb (next_at links slot) slot e)
 
--- a key that is seen has a deadline in range
-pub low_of_kept : (key seen : Key) → kept key ≡ Some seen → (key ≡ seen) × (key.deadline < 2 ^ 64 - 1)
-low_of_kept key seen h =
-    elim (cases_lt key.deadline (2 ^ 64 - 1)) [
-      | inl low ↦ let e : Some key ≡ Some seen = sym (kept_low key low) ∙ h in (cc, low)
-      | inr high ↦ let e : None ≡ Some seen = sym (kept_high key high) ∙ h in cc
-    ]
+pub key_apart : (links : List Link) (stored : List Key) (slot : ℕ) → next_at links slot ≢ slot
+    → held_key links stored slot ≡ Some (get_or stored slot no_key)
+key_apart links stored slot ne =
+    ap (λ b. cond b None (Some (get_or stored slot no_key))) (ne_eqb (next_at links slot) slot ne)
 
--- each key that is seen is one that is stored
-pub kept_in : (keys : List Key) (slot : ℕ) (d seen : Key) → key_in (kept_keys keys) slot ≡ Some seen
-    → (slot < length keys) × (seen ≡ get_or keys slot d) × (seen.deadline < 2 ^ 64 - 1)
-kept_in keys slot d seen h =
-    elim (cases_lt slot (length keys)) [
+-- each key that is held is one that is stored
+pub held_in : (chains : Rings) (stored : List Key) (slot : ℕ) (d seen : Key)
+    → key_in (held_keys chains stored) slot ≡ Some seen → (slot < length stored) × (seen ≡ get_or stored slot d)
+held_in chains stored slot d seen h =
+    elim (cases_lt slot (length stored)) [
       | inl low ↦
-          let k : (get_or keys slot d ≡ seen) × ((get_or keys slot d).deadline < 2 ^ 64 - 1) =
-          low_of_kept (get_or keys slot d) seen (sym (get_or-map kept keys slot d None low) ∙ h) in
-          (low, sym k.0, subst (λ (key : Key). key.deadline < 2 ^ 64 - 1) k.0 k.1)
+          let at : held_key chains.links stored slot ≡ Some seen = sym (held_at chains stored slot low) ∙ h in
+          elim (cases_eq (next_at chains.links slot) slot) [
+            | inl e ↦ let none : None ≡ Some seen = sym (key_alone chains.links stored slot e) ∙ at in cc
+            | inr ne ↦
+                let some : Some (get_or stored slot no_key) ≡ Some seen =
+                sym (key_apart chains.links stored slot ne) ∙ at in
+                let same : get_or stored slot no_key ≡ seen = cc in
+                (low, sym same ∙ get_or_default stored slot no_key d low)
+          ]
       | inr high ↦
-          let long : length (kept_keys keys) ≤ slot = omega (arith, length-map keys kept) in
-          let e : None ≡ Some seen = sym (get_or-eq_default (kept_keys keys) None long) ∙ h in
+          let long : length (held_keys chains stored) ≤ slot = omega (arith, held_len chains stored) in
+          let e : None ≡ Some seen = sym (get_or-eq_default (held_keys chains stored) None long) ∙ h in
           cc
     ]
 
--- a write of a key, as it is seen
-pub kept_set : (keys : List Key) (slot : ℕ) (key : Key) (seen : Option Key) → kept key ≡ seen
-    → kept_keys (set keys slot key) ≡ set (kept_keys keys) slot seen
-kept_set keys slot key seen h = map-set kept keys slot key ∙ ap (set (kept_keys keys) slot) h
+-- the keys that are seen are those that are stored
+pub record AreStored (stored : List Key) (seen : List (Option Key)) : Type 0 where
+  pub len : length seen ≡ length stored
+  pub has : (slot : ℕ) (key : Key) → key_in seen slot ≡ Some key → key ≡ get_or stored slot no_key
+
+-- and a slot is alone just where it has none: so they are those that are held
+pub held_is : (chains : Rings) (home : Key → ℕ) (stored : List Key) (seen : List (Option Key))
+    → length seen ≡ chains.slots → AreStored stored seen → AreChains chains (places home seen)
+    → held_keys chains stored ≡ seen
+held_is chains home stored seen slots are_stored are =
+    sym (fill_by_all (held_key chains.links stored) seen (length stored) None are_stored.len
+    (λ slot low. at slot low (key_in seen slot) refl))
+  where
+    at : (slot : ℕ) → slot < length stored → (o : Option Key) → key_in seen slot ≡ o
+        → key_in seen slot ≡ held_key chains.links stored slot
+    at slot low None none =
+        none ∙ sym (key_alone chains.links stored slot
+        (are.alone slot (omega (arith, slots, are_stored.len)) (ap (place_of home) none)).forth)
+    at slot low (Some key) has =
+        has ∙ ap (λ (k : Key). Some k) (are_stored.has slot key has)
+        ∙ sym (key_apart chains.links stored slot
+        (placed_apart chains (places home seen) slot _ are (omega (arith, slots, are_stored.len)) (ap (place_of home) has)))
+
+-- who has a key after one was written
+pub key_set : (keys : List (Option Key)) (slot : ℕ) (new : Option Key) (j : ℕ) (key : Key) → slot < length keys
+    → key_in (set keys slot new) j ≡ Some key
+    → ((j ≡ slot) × (new ≡ Some key)) ⊎ ((j ≢ slot) × (key_in keys j ≡ Some key))
+key_set keys slot new j key low has =
+    elim (cases_eq j slot) [
+      | inl e ↦ inl (e, sym (get_or-set_same keys slot new None low) ∙ ap (key_in (set keys slot new)) (sym e) ∙ has)
+      | inr ne ↦ inr (ne, sym (get_or-set_other keys slot j new None ne) ∙ has)
+    ]
+
+-- what is held is stored, also after a key was written, and after one was given up
+pub stored_held : (chains : Rings) (stored : List Key) → AreStored stored (held_keys chains stored)
+stored_held chains stored = record {
+  len = held_len chains stored;
+  has = λ j k has. (held_in chains stored j no_key k has).1;
+}
+
+pub stored_set : (stored : List Key) (seen : List (Option Key)) (slot : ℕ) (key : Key) → AreStored stored seen
+    → slot < length seen → AreStored (set stored slot key) (set seen slot (Some key))
+stored_set stored seen slot key are low = record {
+  len = length-set seen slot (Some key) ∙ are.len ∙ sym (length-set stored slot key);
+  has = λ j k has. elim (key_set seen slot (Some key) j k low has) [
+    | inl (e, is) ↦
+        let same : key ≡ k = cc in
+        sym same ∙ sym (get_or-set_same stored slot key no_key (omega (arith, are.len)))
+        ∙ ap (λ x. get_or (set stored slot key) x no_key) (sym e)
+    | inr (ne, was) ↦ are.has j k was ∙ sym (get_or-set_other stored slot j key no_key ne)
+  ];
+}
+
+pub stored_less : (stored : List Key) (seen : List (Option Key)) (slot : ℕ) → AreStored stored seen → slot < length seen
+    → AreStored stored (set seen slot None)
+stored_less stored seen slot are low = record {
+  len = length-set seen slot None ∙ are.len;
+  has = λ j k has. elim (key_set seen slot None j k low has)
+      [ inl (e, is) ↦ let none : None ≡ Some k = is in cc | inr (ne, was) ↦ are.has j k was ];
+}
 
 -- the key of a place
 pub place_is : (home : Key → ℕ) (key : Option Key) (p : Place) → place_of home key ≡ Some p

@@ -2,6 +2,7 @@ pub mod Chained
 pub mod Levels
 pub mod Links
 pub mod NextDue
+pub mod Nodes
 pub mod Rings
 pub mod Rows
 pub mod Walks

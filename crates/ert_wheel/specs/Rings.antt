@@ -1,6 +1,6 @@
 -- Chains of slots, for whoever knows where each slot belongs.
 
-use Rattle.std.specs.Prelude.{◌≡◌, ◌≢◌, ℕ, ◌+◌, ◌-◌, ◌<◌, ◌≤◌, ◌^◌, List, Option, Some, None, nat_lt, nat_eq, if◌then◌else◌, length, IfSome}
+use Rattle.std.specs.Prelude.{◌≡◌, ◌≢◌, ℕ, ◌+◌, ◌-◌, ◌<◌, ◌≤◌, ◌^◌, List, Option, Some, None, nat_lt, nat_eq, if◌then◌else◌, IfSome}
 use Rattle.std.specs.Option.{is_some}
 use Rattle.ert_wheel.specs.Chained.{Shape, Chained, Alone}
 use Rattle.ert_wheel.specs.Links.{next_at, prev_at}
@@ -11,11 +11,6 @@ pub record Rings : Type 0 where
   pub slots : ℕ
   pub homes : ℕ
   pub links : List Link
-
--- there are links for all, and their numbers fit
-pub record HasLinks (r : Rings) : Type 0 where
-  pub len : length r.links ≡ r.slots + r.homes
-  pub few : r.slots + r.homes < 2 ^ 32
 
 -- where a slot belongs: the home whose chain it is in, and its rank there
 pub record Place : Type 0 where

@@ -1,8 +1,14 @@
--- A wheel as its user sees it: the key of each slot that has a row.
+-- A wheel as its user sees it: the key of each slot that has a row, and the chains of the owners.
 
 use Rattle.std.specs.Prelude.{ℕ, Bool, ◌||◌, ◌&&◌, List, Option, Some, None, cond, nat_lt, nat_le, nat_eq, count_by, slice_index_or}
+use Rattle.ert_wheel.specs.Rings.{Rings}
 use Rattle.ert_wheel.specs.declared.row.Key.{Key}
 use Rattle.ert_wheel.specs.declared.row.Row.{Row}
+
+-- what a wheel holds: by slot the key of its row, and for each owner a chain of slots
+pub record Held : Type 0 where
+  pub keys : List (Option Key)
+  pub owners : Rings
 
 -- the key of a slot; None where it has no row
 abbrev pub key_in : List (Option Key) → ℕ → Option Key

@@ -1,20 +1,27 @@
 -- What a wheel keeps: keys by slot, and a chain of the rows of each bucket.
 
-use Rattle.std.specs.Prelude.{◌≡◌, ℕ, ◌<◌, ◌^◌, List, Option, Some, None, cond, nat_lt, map, max, length, count_by, option_map}
+use Rattle.std.specs.Prelude.{◌≡◌, ℕ, ◌<◌, ◌^◌, List, Option, Some, None, cond, nat_eq, map, max, length, count_by, option_map, slice_index_or}
+use Rattle.std.specs.List.{range_with_len}
 use Rattle.std.specs.Option.{is_some}
 use Rattle.ert_wheel.specs.Levels.{home_at}
+use Rattle.ert_wheel.specs.Links.{next_at}
 use Rattle.ert_wheel.specs.Rings.{Rings, Place, AreChains}
 use Rattle.ert_wheel.specs.Rows.{key_in}
-use Rattle.ert_wheel.specs.declared.row.TheConstants.{VACANT, BUCKETS}
+use Rattle.ert_wheel.specs.declared.links.Link.{Link}
+use Rattle.ert_wheel.specs.declared.row.TheConstants.{NEVER, BUCKETS}
 use Rattle.ert_wheel.specs.declared.row.Key.{Key}
 
--- what a slot's stored key says: none where its deadline is the mark of a slot without a row
-abbrev pub kept : Key → Option Key
-kept key = cond (nat_lt key.deadline VACANT) (Some key) None
+-- what is read past the end of the keys
+abbrev pub no_key : Key
+no_key = record { deadline = 0; order = 0 }
 
--- the keys that are stored, as the wheel is seen
-abbrev pub kept_keys : List Key → List (Option Key)
-kept_keys keys = map kept keys
+-- the key of a slot: none where the slot is alone in the ring of its bucket, and else the one that is stored
+abbrev pub held_key : List Link → List Key → ℕ → Option Key
+held_key links stored slot = cond (nat_eq (next_at links slot) slot) None (Some (slice_index_or stored slot no_key))
+
+-- the keys that are held
+abbrev pub held_keys : Rings → List Key → List (Option Key)
+held_keys chains stored = map (held_key chains.links stored) (range_with_len 0 (length stored))
 
 -- the bucket of a time, seen from the next time: there are eight levels
 abbrev pub bucket_of : ℕ → ℕ → ℕ
@@ -33,10 +40,11 @@ abbrev pub places : (Key → ℕ) → List (Option Key) → ℕ → Option Place
 places home keys slot = place_of home (key_in keys slot)
 
 -- the chains are those of the buckets, and the count is that of the rows
-pub record IsWheel (next_time count : ℕ) (keys : List Key) (chains : Rings) : Type 0 where
+pub record IsWheel (next_time count : ℕ) (keys : List (Option Key)) (chains : Rings) : Type 0 where
   pub slots : length keys ≡ chains.slots
   pub few : length keys < 2 ^ 32
   pub homes : chains.homes ≡ BUCKETS
-  pub time : next_time < VACANT
-  pub counts : count ≡ count_by is_some (kept_keys keys)
-  pub are : AreChains chains (places (home_by next_time) (kept_keys keys))
+  pub time : next_time < NEVER
+  pub counts : count ≡ count_by is_some keys
+  pub low : (slot : ℕ) (key : Key) → key_in keys slot ≡ Some key → key.deadline < NEVER
+  pub are : AreChains chains (places (home_by next_time) keys)

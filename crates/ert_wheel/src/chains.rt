@@ -1,103 +1,117 @@
 ghost use Rattle.std.specs.Prelude.{◌≡◌, IfOk};
 
-use crate::links::{Link, alone, link_in, unlink};
+use crate::links::{Node, Side, alone, link_in, link_of, unlink};
+use crate::row::BUCKETS;
 use ert_defs::NoMemory;
 use std::alloc::Global;
 use std::marker::Model;
 
-/// A chain of slots for each of some homes.
+/// Two families of chains of slots: a chain for each bucket, and one for each owner.
 ///
-/// Each slot is in the chain of one home, or in none. A chain has its slots in the order in which they
-/// were put in, the newest first. What the slots and homes are, and why a slot belongs to a home, is
-/// its owner's to know.
+/// On each side a slot is in the chain of one home, or in none. A chain has its slots in the order in which they
+/// were put in, the newest first. Why a slot belongs to a home is the wheel's to know.
 #[derive(Drop)]
 pub struct Chains {
     slots: u32,
-    homes: u32,
-    links: Vec<Link>,
+    // Those of the slots, and then the heads: one for the bucket and the owner of each number.
+    nodes: Vec<Node>,
 }
 
 impl Model for Chains {
-    ghost use Rattle.ert_wheel.specs.Rings.{Rings, HasLinks};
+    ghost use Rattle.ert_wheel.specs.Nodes.{Nodes, HasNodes};
 
-    ghost Value = { Rings };
+    ghost Value = { Nodes };
 
-    ghost view = { λ c. record { slots = c.slots; homes = c.homes; links = c.links.items } };
+    ghost view = { λ c. record { slots = c.slots; nodes = c.nodes.items } };
 
-    ghost invariant = { λ c. HasLinks (record { slots = c.slots; homes = c.homes; links = c.links.items }) };
+    ghost invariant = { λ c. HasNodes (record { slots = c.slots; nodes = c.nodes.items }) };
 }
 
 impl Chains {
-    ghost use Rattle.std.specs.Prelude.{◌≡◌, ◌+◌, ◌<◌, ◌^◌, ℕ, Option, Some, None, IfOk};
+    ghost use Rattle.std.specs.Prelude.{◌≡◌, ◌↔◌, ◌<◌, ◌≤◌, ◌^◌, ℕ, Option, Some, None, IfOk, IsTrue};
+    ghost use Rattle.ert_wheel.specs.Links.{other, next_at};
+    ghost use Rattle.ert_wheel.specs.Nodes.{rings};
     ghost use Rattle.ert_wheel.specs.Rings.{Place, AreChains, MayPut, Puts, PutsInHome, MayTake, Takes, Finds, FindsOldest, slot_at};
+    ghost use Rattle.ert_wheel.specs.declared.links.Side.{Side};
+    ghost use Rattle.ert_wheel.specs.declared.row.TheConstants.{BUCKETS};
 
     /// All chains empty. No call takes memory after this.
-    pub fn new(alloc: Global, slots: u32, homes: u32) -> Result<Chains, NoMemory>
-        requires { slots + homes < 2 ^ 32 }
+    pub fn new(alloc: Global, slots: u32) -> Result<Chains, NoMemory>
+        requires { slots ≤ 2 ^ 30 }
         ensures slots { IfOk result (λ chains. chains.slots ≡ slots) }
-        ensures homes { IfOk result (λ chains. chains.homes ≡ homes) }
-        ensures empty { IfOk result (λ chains. AreChains chains (λ _. None)) }
+        ensures empty { IfOk result (λ chains. (side : Side) → AreChains (rings side chains) (λ _. None)) }
     {
-        let links = alone(alloc, slots + homes)?;
-        Ok(Chains {
-            slots,
-            homes,
-            links,
-        })
+        let nodes = alone(alloc, slots + BUCKETS)?;
+        Ok(Chains { slots, nodes })
     }
 
     /// Puts a slot that is in no chain into that of a home, as its newest.
-    pub fn put(&mut self, slot: u32, home: u32)
-        requires { MayPut self.old slot home }
+    #[inline]
+    pub fn put(&mut self, side: Side, slot: u32, home: u32)
+        requires { MayPut (rings side self.old) slot home }
         ensures slots { self.new.slots ≡ self.old.slots }
-        ensures homes { self.new.homes ≡ self.old.homes }
-        ensures chains { Puts self.old self.new slot home }
-        ensures in_home { PutsInHome self.old self.new slot home }
+        ensures other { rings (other side) self.new ≡ rings (other side) self.old }
+        ensures chains { Puts (rings side self.old) (rings side self.new) slot home }
+        ensures in_home { PutsInHome (rings side self.old) (rings side self.new) slot home }
     {
         let head = self.slots + home;
-        link_in(&mut self.links, head, slot);
+        link_in(&mut self.nodes, side, head, slot);
     }
 
     /// Takes a slot out of its chain, where it is in one.
-    pub fn take(&mut self, slot: u32)
-        requires { MayTake self.old slot }
+    #[inline]
+    pub fn take(&mut self, side: Side, slot: u32)
+        requires { MayTake (rings side self.old) slot }
         ensures slots { self.new.slots ≡ self.old.slots }
-        ensures homes { self.new.homes ≡ self.old.homes }
-        ensures chains { Takes self.old self.new slot }
+        ensures other { rings (other side) self.new ≡ rings (other side) self.old }
+        ensures chains { Takes (rings side self.old) (rings side self.new) slot }
     {
-        unlink(&mut self.links, slot);
+        unlink(&mut self.nodes, side, slot);
+    }
+
+    /// Whether a slot is alone in its ring: it is in no chain.
+    #[inline]
+    pub fn is_alone(&self, side: Side, slot: u32) -> bool
+        requires { slot < self.now.slots }
+        ensures { IsTrue result ↔ (next_at (rings side self.now).links slot ≡ slot) }
+    {
+        link_of(&self.nodes, side, slot).next == slot
     }
 
     /// The newest slot of a home; None where it has none.
-    pub fn newest(&self, home: u32) -> Option<u32>
-        requires { home < self.now.homes }
-        ensures { (places : ℕ → Option Place) → AreChains self.now places
-            → Finds self.now places home (2 ^ 64) result }
+    #[inline]
+    pub fn newest(&self, side: Side, home: u32) -> Option<u32>
+        requires { home < BUCKETS }
+        ensures { (places : ℕ → Option Place) → AreChains (rings side self.now) places
+            → Finds (rings side self.now) places home (2 ^ 64) result }
     {
         let head = self.slots + home;
-        self.slot_at(self.links[head as usize].next)
+        self.slot_at(link_of(&self.nodes, side, head).next)
     }
 
     /// The oldest slot of a home; None where it has none.
-    pub fn oldest(&self, home: u32) -> Option<u32>
-        requires { home < self.now.homes }
-        ensures { (places : ℕ → Option Place) → AreChains self.now places
-            → FindsOldest self.now places home result }
+    #[inline]
+    pub fn oldest(&self, side: Side, home: u32) -> Option<u32>
+        requires { home < BUCKETS }
+        ensures { (places : ℕ → Option Place) → AreChains (rings side self.now) places
+            → FindsOldest (rings side self.now) places home result }
     {
         let head = self.slots + home;
-        self.slot_at(self.links[head as usize].prev)
+        self.slot_at(link_of(&self.nodes, side, head).prev)
     }
 
     /// The slot that is next older than this one in its chain; None where there is none.
-    pub fn older(&self, slot: u32) -> Option<u32>
+    #[inline]
+    pub fn older(&self, side: Side, slot: u32) -> Option<u32>
         requires { slot < self.now.slots }
-        ensures { (places : ℕ → Option Place) (place : Place) → AreChains self.now places
-            → places slot ≡ Some place → Finds self.now places place.home place.order result }
+        ensures { (places : ℕ → Option Place) (place : Place) → AreChains (rings side self.now) places
+            → places slot ≡ Some place → Finds (rings side self.now) places place.home place.order result }
     {
-        self.slot_at(self.links[slot as usize].next)
+        self.slot_at(link_of(&self.nodes, side, slot).next)
     }
 
     // The slot of a node, and none of a head.
+    #[inline]
     fn slot_at(&self, node: u32) -> Option<u32>
         ensures { result ≡ slot_at self.now.slots node }
     {

@@ -1,14 +1,25 @@
 //! The timing wheel of levels: the rows of a scheduler's timers by their slots, and the due ones in order of
 //! deadline. It stands on `ert_defs` for want of memory alone.
 //!
-//! **Chains** (`Chains`). Each slot is in the chain of one home, or in none. A chain is a ring of links
-//! through its home's head, and the heads stand behind the slots in the same vector. A slot in no chain is alone
-//! in a ring of its own. So putting a slot in writes four links, as does taking it out, with no case for an
-//! empty chain, a first or a last slot, or a slot in none. A chain runs from its newest slot to its oldest.
-//! `Chains` keeps links and nothing else: its owner knows where each slot belongs, and its contract speaks of
-//! every assignment of places that fits.
+//! **Chains** (`Chains`). A slot is in the chain of one bucket, or in none, and beside that in the chain of one
+//! owner, or in none. A chain is a ring of links through its head. A slot in no chain is alone in a ring of its own.
+//! So putting a slot in writes four links, as does taking it out, with no case for an empty chain, a first or a
+//! last slot, or a slot in none. A chain runs from its newest slot to its oldest.
 //!
-//! **Levels** (`Wheel`). The homes of a wheel's chains are its buckets, 512 on each of eight levels. A bucket of
+//! **Nodes.** Both links of a slot stand in one node of 16 bytes, so a call on both its chains misses the caches once
+//! for the slot. The nodes of the slots come first in one vector, and behind them those of the heads, where node i has
+//! the head of bucket i and that of owner i:
+//!
+//!     slot 0    slot 1    ...    head 0              head 1      ...    head 4,095
+//!     bucket    bucket           bucket 0's newest   bucket 1's         bucket 4,095's
+//!     owner     owner            owner 0's newest    owner 1's          owner 4,095's
+//!
+//! Whether a slot has a row is told by its bucket link alone. So `remove` reads and writes nodes and nothing else, and
+//! a row's key stays where it was stored until the slot has another. `Chains` knows nothing of rows: why a slot
+//! belongs to a home is the wheel's or its user's to know, and a contract speaks of every assignment of places that
+//! fits.
+//!
+//! **Levels** (`Wheel`). A wheel has 4,096 buckets, 512 on each of eight levels. A bucket of
 //! the lowest level is a millisecond; one of the next is a window of 512 milliseconds, and so on: a bucket is as
 //! wide as all of the level below. A row's home is told by its deadline and by the next time, the first that
 //! wasn't passed: the lowest level in which both stand in one window, and there the deadline's place. With the
@@ -34,13 +45,16 @@
 //! **A step of time** visits one bucket for a millisecond. Where time leaps it visits those up to the bucket of the
 //! time that it leaps to, at most all 4,096.
 //!
-//! **At rest** a slot takes 24 bytes: 16 of key and 8 of link; and a wheel 32 KiB for its heads. All is taken
+//! **Owners.** `own` puts a slot into the chain of an owner as its newest, `disown` takes it out, and `newest_owned`
+//! tells the newest. This hangs on no row: a slot may have an owner without a row, and a row without an owner.
+//!
+//! **At rest** a slot takes 32 bytes: 16 of key and 16 of node; and a wheel 64 KiB for its heads. All is taken
 //! when the wheel is made, and no call takes memory after that.
 //!
 //! `due` gives the due rows and leaves them, so that the part above can settle and `remove` them one by
 //! one, and then tell by `pass` that nothing is left; `advance` does all three. What they answer is said
-//! of the list of the slots' keys; no clause of a wheel shows a bucket or a chain. That `pass` was called
-//! no clause can show: without it a wheel answers the same, and slower.
+//! of the list of the slots' keys, which leaves the owners as they are; no clause of a wheel shows a bucket. That
+//! `pass` was called no clause can show: without it a wheel answers the same, and slower.
 #![tactic(auto)]
 
 mod chains;
@@ -49,6 +63,5 @@ mod row;
 mod walk;
 mod wheel;
 
-pub use chains::Chains;
-pub use row::{Key, Row};
+pub use row::{BUCKETS, Key, Row};
 pub use wheel::{LOOK_AHEAD, Wheel};

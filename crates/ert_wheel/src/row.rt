@@ -1,10 +1,10 @@
-/// Stands in place of a deadline where a slot has no row. No row has this deadline.
-pub const VACANT: u64 = u64::MAX;
+/// No row has this deadline.
+pub const NEVER: u64 = u64::MAX;
 
 /// The greatest deadline that a row can have.
-pub const LAST: u64 = VACANT - 1;
+pub const LAST: u64 = NEVER - 1;
 
-/// How many buckets a wheel has: 512 on each of eight levels.
+/// How many buckets a wheel has: 512 on each of eight levels. There are as many owners, whose numbers are below it.
 pub const BUCKETS: u32 = 4_096;
 
 /// What a wheel keeps of a row.

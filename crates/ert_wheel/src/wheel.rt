@@ -1,7 +1,9 @@
 ghost use Rattle.std.specs.Prelude.{◌≡◌, IfOk, replicate};
+ghost use Rattle.ert_wheel.specs.Wheels.{no_key};
 
 use crate::chains::Chains;
-use crate::row::{BUCKETS, Key, LAST, Row, VACANT};
+use crate::links::Side;
+use crate::row::{Key, LAST, Row};
 use crate::walk::{bucket, collect, least_in, move_on, visit_end};
 use ert_defs::NoMemory;
 use std::alloc::Global;
@@ -10,11 +12,12 @@ use std::marker::Model;
 /// How far `Wheel::next_due` looks ahead, in milliseconds: over three windows of the lowest level at most.
 pub const LOOK_AHEAD: u64 = 1_024;
 
-/// A timing wheel of levels: rows by their slots, and the due ones in order of deadline.
+/// A timing wheel of levels: rows by their slots, and the due ones in order of deadline. Beside these it has a chain
+/// of slots for each owner.
 ///
 /// It has room for one row of each slot below a number that is fixed when it is made, and takes no
 /// memory after that. A contract sees it as the list of the slots' keys, with None for a slot without a
-/// row.
+/// row, and as the chains of the owners. A slot may be in an owner's chain with a row or without.
 ///
 ///     let mut wheel = Wheel::new(alloc, 64)?;
 ///     let mut due = Vec::with_capacity(alloc, 64)?;
@@ -30,32 +33,37 @@ pub struct Wheel {
 }
 
 impl Model for Wheel {
-    ghost use Rattle.std.specs.Prelude.{List, Option};
-    ghost use Rattle.ert_wheel.specs.Wheels.{kept_keys, IsWheel};
-    ghost use Rattle.ert_wheel.specs.declared.row.Key.{Key};
+    ghost use Rattle.ert_wheel.specs.Nodes.{buckets, owners};
+    ghost use Rattle.ert_wheel.specs.Rows.{Held};
+    ghost use Rattle.ert_wheel.specs.Wheels.{held_keys, IsWheel};
 
-    ghost Value = { List (Option Key) };
+    ghost Value = { Held };
 
-    ghost view = { λ w. kept_keys w.keys.items };
+    ghost view = { λ w. record { keys = held_keys (buckets w.chains) w.keys.items; owners = owners w.chains } };
 
-    ghost invariant = { λ w. IsWheel w.next_time w.len w.keys.items w.chains };
+    ghost invariant = { λ w. IsWheel w.next_time w.len (held_keys (buckets w.chains) w.keys.items) (buckets w.chains) };
 }
 
 impl Wheel {
-    ghost use Rattle.std.specs.Prelude.{◌≡◌, ◌↔◌, ◌⊎◌, ◌<◌, ◌≤◌, ◌^◌, ℕ, Some, None, IsTrue, IsSome, IfSome, IfOk, MatchOption, All};
+    ghost use Rattle.std.specs.Prelude.{◌≡◌, ◌↔◌, ◌⊎◌, ◌<◌, ◌≤◌, ◌^◌, ℕ, Option, Some, None, IsTrue, IsSome, IfSome, IfOk, MatchOption, All};
     ghost use Rattle.std.specs.Prelude.{count_by, length, map, option_map, replicate, slice_set, vec_capacity};
     ghost use Rattle.std.specs.List.Sorted.{IsSortedBy};
     ghost use Rattle.std.specs.Option.{is_some};
     ghost use Rattle.ert_wheel.specs.NextDue.{NoRow, NoneBefore, IsDueAt, IsNextDue};
+    ghost use Rattle.ert_wheel.specs.Rings.{Place, AreChains, MayPut, Puts, PutsInHome, MayTake, Takes, Finds};
     ghost use Rattle.ert_wheel.specs.Rows.{key_in, key_of, row_at, times, due_at, left_at, comes_before};
+    ghost use Rattle.ert_wheel.specs.declared.row.TheConstants.{BUCKETS};
 
-    /// A wheel without rows, with room for one of each slot below `slots`.
+    /// A wheel without rows, with room for one of each slot below `slots`. No owner has a slot.
     pub fn new(alloc: Global, slots: u32) -> Result<Wheel, NoMemory>
         requires { slots ≤ 2 ^ 30 }
-        ensures { IfOk result (λ wheel. wheel ≡ replicate slots None) }
+        ensures keys { IfOk result (λ wheel. wheel.keys ≡ replicate slots None) }
+        ensures slots { IfOk result (λ wheel. wheel.owners.slots ≡ slots) }
+        ensures homes { IfOk result (λ wheel. wheel.owners.homes ≡ BUCKETS) }
+        ensures unowned { IfOk result (λ wheel. AreChains wheel.owners (λ _. None)) }
     {
         let keys = no_keys(alloc, slots)?;
-        let chains = Chains::new(alloc, slots, BUCKETS)?;
+        let chains = Chains::new(alloc, slots)?;
         Ok(Wheel {
             next_time: 0,
             len: 0,
@@ -66,25 +74,28 @@ impl Wheel {
 
     /// How many rows there are.
     pub fn len(&self) -> usize
-        ensures { result ≡ count_by is_some self.now }
+        ensures { result ≡ count_by is_some self.now.keys }
     {
         self.len as usize
     }
 
     /// Whether there is no row.
     pub fn is_empty(&self) -> bool
-        ensures { IsTrue result ↔ (count_by is_some self.now ≡ 0) }
+        ensures { IsTrue result ↔ (count_by is_some self.now.keys ≡ 0) }
     {
         self.len == 0
     }
 
     /// The row of a slot; None where it has none.
     pub fn row(&self, slot: u32) -> Option<Row>
-        requires { slot < length self.now }
-        ensures { result ≡ option_map (row_at slot) (key_in self.now slot) }
+        requires { slot < length self.now.keys }
+        ensures { result ≡ option_map (row_at slot) (key_in self.now.keys slot) }
     {
+        if self.chains.is_alone(Side::Bucket, slot) {
+            return None;
+        }
         let Key { deadline, order } = self.keys[slot as usize];
-        (deadline < VACANT).then_some(Row {
+        Some(Row {
             deadline,
             order,
             slot,
@@ -94,12 +105,14 @@ impl Wheel {
     /// Puts a row in. Its slot has none, and its order is above that of every row that is held.
     ///
     /// A row whose deadline was passed already is given by the next advance.
+    #[inline]
     pub fn insert(&mut self, row: Row)
-        requires slot { row.slot < length self.old }
-        requires vacant { key_in self.old row.slot ≡ None }
+        requires slot { row.slot < length self.old.keys }
+        requires vacant { key_in self.old.keys row.slot ≡ None }
         requires deadline { row.deadline < u64.MAX }
-        requires newest { (slot : ℕ) → IfSome (key_in self.old slot) (λ key. key.order < row.order) }
-        ensures { self.new ≡ slice_set self.old row.slot (Some (key_of row)) }
+        requires newest { (slot : ℕ) → IfSome (key_in self.old.keys slot) (λ key. key.order < row.order) }
+        ensures keys { self.new.keys ≡ slice_set self.old.keys row.slot (Some (key_of row)) }
+        ensures owners { self.new.owners ≡ self.old.owners }
     {
         let Row {
             deadline,
@@ -107,32 +120,68 @@ impl Wheel {
             slot,
         } = row;
         let home = bucket(self.next_time, deadline.max(self.next_time));
-        self.chains.put(slot, home);
+        self.chains.put(Side::Bucket, slot, home);
         self.keys[slot as usize] = Key { deadline, order };
         self.len += 1;
     }
 
     /// Takes the row of a slot out; false exactly where there is none.
+    #[inline]
     pub fn remove(&mut self, slot: u32) -> bool
-        requires { slot < length self.old }
-        ensures found { IsTrue result ↔ IsSome (key_in self.old slot) }
-        ensures left { self.new ≡ slice_set self.old slot None }
+        requires { slot < length self.old.keys }
+        ensures found { IsTrue result ↔ IsSome (key_in self.old.keys slot) }
+        ensures left { self.new.keys ≡ slice_set self.old.keys slot None }
+        ensures owners { self.new.owners ≡ self.old.owners }
     {
-        if self.keys[slot as usize].deadline == VACANT {
+        if self.chains.is_alone(Side::Bucket, slot) {
             return false;
         }
-        self.chains.take(slot);
-        self.keys[slot as usize].deadline = VACANT;
+        self.chains.take(Side::Bucket, slot);
         self.len -= 1;
         true
+    }
+
+    /// Puts a slot that is in no owner's chain into that of an owner, as its newest.
+    #[inline]
+    pub fn own(&mut self, slot: u32, owner: u32)
+        requires { MayPut self.old.owners slot owner }
+        ensures keys { self.new.keys ≡ self.old.keys }
+        ensures slots { self.new.owners.slots ≡ self.old.owners.slots }
+        ensures homes { self.new.owners.homes ≡ self.old.owners.homes }
+        ensures owned { Puts self.old.owners self.new.owners slot owner }
+        ensures in_home { PutsInHome self.old.owners self.new.owners slot owner }
+    {
+        self.chains.put(Side::Owner, slot, owner);
+    }
+
+    /// Takes a slot out of its owner's chain, where it is in one.
+    #[inline]
+    pub fn disown(&mut self, slot: u32)
+        requires { MayTake self.old.owners slot }
+        ensures keys { self.new.keys ≡ self.old.keys }
+        ensures slots { self.new.owners.slots ≡ self.old.owners.slots }
+        ensures homes { self.new.owners.homes ≡ self.old.owners.homes }
+        ensures disowned { Takes self.old.owners self.new.owners slot }
+    {
+        self.chains.take(Side::Owner, slot);
+    }
+
+    /// The newest slot of an owner; None where it has none.
+    #[inline]
+    pub fn newest_owned(&self, owner: u32) -> Option<u32>
+        requires { owner < self.now.owners.homes }
+        ensures { (places : ℕ → Option Place) → AreChains self.now.owners places
+            → Finds self.now.owners places owner (2 ^ 64) result }
+    {
+        self.chains.newest(Side::Owner, owner)
     }
 
     /// Writes the rows with a deadline at most `to`, in order of deadline, then of order, into `out`,
     /// which is cleared first and has room for one row of each slot.
     pub fn due(&self, to: u64, out: &mut Vec<Row>)
-        requires { length self.now ≤ vec_capacity out.old }
-        ensures each { (slot : ℕ) → times slot out.new.items ≡ due_at to (key_in self.now slot) }
-        ensures rows { All (λ row. key_in self.now row.slot ≡ Some (key_of row)) out.new.items }
+        requires { length self.now.keys ≤ vec_capacity out.old }
+        ensures each { (slot : ℕ) → times slot out.new.items ≡ due_at to (key_in self.now.keys slot) }
+        ensures rows { All (λ row. key_in self.now.keys row.slot ≡ Some (key_of row)) out.new.items }
         ensures sorted { IsSortedBy comes_before out.new.items }
         ensures capacity { vec_capacity out.new ≡ vec_capacity out.old }
     {
@@ -151,7 +200,7 @@ impl Wheel {
     /// again. It visits the buckets of the times that weren't passed, as `due` does, and stops at the first
     /// that has a row before this end; there it looks at all rows.
     pub fn next_due(&self, now: u64) -> Option<u64>
-        ensures { MatchOption result (NoRow self.now) (IsNextDue self.now now) }
+        ensures { MatchOption result (NoRow self.now.keys) (IsNextDue self.now.keys now) }
     {
         if self.is_empty() {
             return None;
@@ -162,8 +211,8 @@ impl Wheel {
     /// The least deadline, where it is below a bound, and else the bound.
     fn least_deadline(&self, bound: u64) -> u64
         ensures low { result ≤ bound }
-        ensures none_before { NoneBefore self.now result }
-        ensures near { IsDueAt self.now result ⊎ (result ≡ bound) }
+        ensures none_before { NoneBefore self.now.keys result }
+        ensures near { IsDueAt self.now.keys result ⊎ (result ≡ bound) }
     {
         let mut least = bound;
         let first = bucket(self.next_time, self.next_time);
@@ -181,7 +230,7 @@ impl Wheel {
     ///
     /// A wheel that isn't told so gives the same rows, but looks at more and more buckets.
     pub fn pass(&mut self, to: u64)
-        requires { (slot : ℕ) → IfSome (key_in self.old slot) (λ key. to < key.deadline) }
+        requires { (slot : ℕ) → IfSome (key_in self.old.keys slot) (λ key. to < key.deadline) }
         ensures { self.new ≡ self.old }
     {
         let next_time = self.next_time.max(to.min(LAST - 1) + 1);
@@ -191,12 +240,13 @@ impl Wheel {
 
     /// Takes the rows with a deadline at most `to` out, and writes them into `out` as `due` does.
     pub fn advance(&mut self, to: u64, out: &mut Vec<Row>)
-        requires { length self.old ≤ vec_capacity out.old }
-        ensures each { (slot : ℕ) → times slot out.new.items ≡ due_at to (key_in self.old slot) }
-        ensures rows { All (λ row. key_in self.old row.slot ≡ Some (key_of row)) out.new.items }
+        requires { length self.old.keys ≤ vec_capacity out.old }
+        ensures each { (slot : ℕ) → times slot out.new.items ≡ due_at to (key_in self.old.keys slot) }
+        ensures rows { All (λ row. key_in self.old.keys row.slot ≡ Some (key_of row)) out.new.items }
         ensures sorted { IsSortedBy comes_before out.new.items }
         ensures capacity { vec_capacity out.new ≡ vec_capacity out.old }
-        ensures left { self.new ≡ map (left_at to) self.old }
+        ensures left { self.new.keys ≡ map (left_at to) self.old.keys }
+        ensures owners { self.new.owners ≡ self.old.owners }
     {
         self.due(to, out);
         for row in out.iter() {
@@ -207,11 +257,11 @@ impl Wheel {
 }
 
 fn no_keys(alloc: Global, slots: u32) -> Result<Vec<Key>, NoMemory>
-    ensures { IfOk result (λ keys. keys.items ≡ replicate slots (record { deadline = u64.MAX; order = 0 })) }
+    ensures { IfOk result (λ keys. keys.items ≡ replicate slots no_key) }
 {
-    let vacant = Key {
-        deadline: VACANT,
+    let none = Key {
+        deadline: 0,
         order: 0,
     };
-    Ok(vec![in alloc; vacant; slots as usize]?)
+    Ok(vec![in alloc; none; slots as usize]?)
 }

@@ -1,6 +1,7 @@
 //! How the small calls change what a part keeps.
 ghost use Rattle.std.specs.FinSet as set;
-ghost use Rattle.std.specs.Prelude.{◌≡◌, ◌≤◌, ◌<◌, false};
+ghost use Rattle.std.specs.Prelude.{◌≡◌, ◌≤◌, ◌<◌, IfSome, IsSome, false, true, nat_lt};
+ghost use Rattle.ert_defs.specs.Timers as timers;
 ghost use Rattle.ert_timers.specs.Changes as changes;
 
 use super::{Slot, Use, WheelPart, is_long};
@@ -13,7 +14,7 @@ impl Slot {
     fn has_uses(self) -> bool
         ensures { result ≡ changes.has_uses self }
     {
-        use_of(self.generation) < USES_OF_ROUND
+        has_uses(self.generation)
     }
 
     /// Whether it rests at a time in milliseconds after the start time: its round has no use left, and the
@@ -58,31 +59,28 @@ impl WheelPart {
     ghost use Rattle.std.specs.FinSet as set;
     ghost use Rattle.std.specs.Prelude.{◌≡◌, ◌↔◌, ◌<◌, ◌≤◌, IfSome, IfNone, IsSome, IsTrue, ℕ, false, true, length, None};
     ghost use Rattle.ert_timers.specs.Parts.{slot_at, last_timer};
-    ghost use Rattle.ert_timers.specs.Changes.{IsFree, freed, picked, kept, dropped, let_go, given_back, LostRow};
+    ghost use Rattle.ert_timers.specs.Changes.{IsFree, freed, picked, kept, dropped, let_go, given_back, reused, LostRow};
+    ghost use Rattle.ert_timers.specs.Freeing.{IsHeld, IsLetGo};
     ghost use Rattle.ert_wheel.specs.Rows.{key_in};
 
-    /// Takes a slot out that is held free, for a timer with a long wait or a short one; None exactly where none
-    /// is.
-    pub(crate) fn pick(&mut self, long: bool) -> Option<u32>
+    /// Takes a slot out that is held free, for a timer that is started at a time with a deadline, both in
+    /// milliseconds after the start time; None exactly where none is.
+    ///
+    /// That is the last one, where it has had a long wait that isn't over and the timer's is long too, or neither is
+    /// so. Else a long wait takes the first one, and for a short one the last comes first and the next is taken.
+    pub(crate) fn pick(&mut self, now: u64, deadline: u64) -> Option<u32>
         ensures none { IfNone result ((slot : ℕ) → set.contains self.old.free slot ≡ false) }
         ensures unchanged { IfNone result (self.new ≡ self.old) }
         ensures held { IfSome result (λ slot. set.contains self.old.free slot ≡ true) }
         ensures picked { IfSome result (λ slot. self.new ≡ picked self.old slot) }
         ensures usable { IfSome result (IsFree self.new) }
     {
-        if long {
-            self.free.pick_first()
-        } else {
-            self.free.pick()
+        let long = is_long(now, deadline);
+        let slot = self.free.pick()?;
+        if is_long(now, self.slots[slot as usize].above) == long {
+            return Some(slot);
         }
-    }
-
-    /// Whether a slot was used less often than a round allows.
-    fn has_uses(&self, slot: u32) -> bool
-        requires { slot < length self.now.slots }
-        ensures { result ≡ changes.has_uses (slot_at self.now.slots slot) }
-    {
-        self.slots[slot as usize].has_uses()
+        exchange(&mut self.free, slot, long)
     }
 
     /// Whether a slot rests at a time in milliseconds after the start time.
@@ -113,53 +111,58 @@ impl WheelPart {
         self.slots[slot as usize].next_use(now, deadline)
     }
 
-    /// Holds a slot free from now on: among the first where it has had a long wait that isn't over.
-    pub(crate) fn free_slot(&mut self, slot: u32)
+    /// Holds a slot free from now on: as the first one where it has had a wait that is long at a time in milliseconds
+    /// after the start time, and else as the last.
+    pub(crate) fn free_slot(&mut self, slot: u32, now: u64)
         requires low { slot < length self.old.slots }
         requires away { set.contains self.old.free slot ≡ false }
         requires vacant { key_in self.old.keys slot ≡ None }
         ensures { self.new ≡ freed self.old slot }
     {
-        let long = is_long(self.advanced, self.slots[slot as usize].above);
+        let long = is_long(now, self.slots[slot as usize].above);
         put(&mut self.free, slot, long);
     }
 
-    /// Drops the row of a slot, and tells whether there was one.
+    /// Drops the row of a slot, and tells whether there was one. The slot stays in the chain of its process: to take
+    /// it out here would touch two more slots.
     pub(crate) fn drop_row(&mut self, slot: u32) -> bool
         requires { slot < length self.old.slots }
         ensures found { IsTrue result ↔ IsSome (key_in self.old.keys slot) }
         ensures left { self.new ≡ dropped self.old slot }
         ensures lost { OnTrue result (LostRow self.new slot) }
     {
-        if !self.wheel.remove(slot) {
-            return false;
-        }
-        self.owners.take(slot);
-        true
+        self.wheel.remove(slot)
     }
 
-    /// Drops the row of a timer that was tried, and counts whether it expired. The slot stays in the chain of its
-    /// process: to take it out here would be a miss of the caches between the steps on two timers' words.
+    /// Drops the row of a timer that was tried, and counts whether it expired.
     pub(crate) fn let_go(&mut self, slot: u32, expired: bool)
         requires low { slot < length self.old.slots }
         requires held { IsSome (key_in self.old.keys slot) }
         ensures { self.new ≡ let_go self.old slot expired }
     {
-        self.wheel.remove(slot);
+        self.drop_row(slot);
         self.expires += u64::from(expired);
     }
 
     /// Drops the row of a timer that has been settled but hasn't expired, counts whether it was cancelled
     /// for an exit, and holds its slot free where the slot's round has uses left.
-    pub(crate) fn give_back(&mut self, slot: u32, orphaned: bool)
-        requires low { slot < length self.old.slots }
-        requires held { IsSome (key_in self.old.keys slot) }
-        ensures { self.new ≡ given_back self.old slot orphaned }
+    pub(crate) fn give_back(&mut self, timer: TimerRef, orphaned: bool)
+        requires { IsHeld self.old timer }
+        ensures { self.new ≡ given_back self.old timer.slot orphaned }
     {
-        self.drop_row(slot);
+        self.drop_row(timer.slot);
         self.orphans += u64::from(orphaned);
-        if self.has_uses(slot) {
-            self.free_slot(slot);
+        self.free_after(timer);
+    }
+
+    /// Holds the slot of its last timer free where the slot's round has uses left, as the last one. That is told by
+    /// the timer's generation, so what is kept of the slot isn't read for it: a start that takes it looks at that.
+    pub(crate) fn free_after(&mut self, timer: TimerRef)
+        requires { IsLetGo self.old timer }
+        ensures { self.new ≡ reused self.old timer.slot }
+    {
+        if has_uses(timer.generation) {
+            self.free.put(timer.slot);
         }
     }
 
@@ -182,19 +185,40 @@ impl WheelPart {
             kind: start.kind,
         };
         self.arms += 1;
-        self.owners.take(slot);
-        self.owners.put(slot, start.dest);
         self.wheel.insert(Row {
             deadline: next.deadline,
             order,
             slot,
         });
+        self.wheel.disown(slot);
+        self.wheel.own(slot, start.dest);
         TimerRef {
             wheel: self.number,
             slot,
             generation: next.generation,
         }
     }
+}
+
+/// Whether a slot was used less often than a round allows, by the generation of its last timer.
+fn has_uses(generation: u64) -> bool
+    ensures { result ≡ nat_lt (timers.use_of generation) 262143 }
+{
+    use_of(generation) < USES_OF_ROUND
+}
+
+/// Adds a slot that was taken out again, at the other end than that of the one that is taken instead: the first
+/// for a long wait, and the last for a short one.
+fn exchange(free: &mut FreeSlots, slot: u32, long: bool) -> Option<u32>
+    requires in_range { slot < free.old.slots }
+    requires away { set.contains free.old.held slot ≡ false }
+    ensures some { IsSome result }
+    ensures held { IfSome result (λ other. set.contains (set.insert free.old.held slot) other ≡ true) }
+    ensures taken { IfSome result (λ other.
+        free.new ≡ record free.old { held = set.remove (set.insert free.old.held slot) other }) }
+{
+    put(free, slot, !long);
+    if long { free.pick_first() } else { free.pick() }
 }
 
 /// Adds a slot that isn't held free, as the first one or the last.

@@ -1,36 +1,50 @@
-use Rattle.std.proofs.Common.{refl, sym, ◌∙◌, arith}
+use Rattle.std.proofs.Common.{List, Option, Some, None, length, refl, sym, ap, subst, ◌∙◌, arith}
+use Rattle.ert_timers.specs.Owners.{Thinned, FindsRow}
 use Rattle.ert_timers.proofs.Owners.{thinned_none, thinned_more, linked_falls, finds_some, finds_none, no_row}
 use Rattle.ert_timers.proofs.part.find_row.Goals as goal
+use Rattle.ert_wheel.specs.Rings.{with_place}
+use Rattle.ert_wheel.specs.declared.row.Key.{Key}
 
 pub loop-slot-init : goal.loop-slot-init
 loop-slot-init c = record {
+  keys_stay = refl;
   slots_stay = refl;
   homes_stay = refl;
-  thins = λ places are. (places, thinned_none c.args.owners.now c.args.wheel.now places are);
+  thins = λ places are. (places, thinned_none c.args.wheel.now.owners c.args.wheel.now.keys places are);
 }
 
-pub newest-requires : goal.newest-requires
-newest-requires c = omega (arith, c.requires.process, c.loop-slot.invariant.homes_stay)
+pub newest_owned-requires : goal.newest_owned-requires
+newest_owned-requires c = omega (arith, c.requires.process, c.loop-slot.invariant.homes_stay)
 
 pub row-requires : goal.row-requires
 row-requires c =
     let t = c.loop-slot.invariant.thins c.requires.may.places c.requires.may.are in
-    omega (arith, (c.in-Some.ensures t.0 t.1.are).stands.0, c.loop-slot.invariant.slots_stay, c.requires.may.wide)
+    omega (
+      arith,
+      (c.in-Some.ensures t.0 t.1.are).stands.0,
+      c.loop-slot.invariant.slots_stay,
+      c.requires.may.wide,
+      ap (λ (keys : List (Option Key)). length keys) c.loop-slot.invariant.keys_stay,
+    )
 
-pub take-requires : goal.take-requires
-take-requires c =
+pub disown-requires : goal.disown-requires
+disown-requires c =
     let t = c.loop-slot.invariant.thins c.requires.may.places c.requires.may.are in
     record { places = t.0; are = t.1.are; low = (c.in-Some.ensures t.0 t.1.are).stands.0 }
 
 pub loop-slot-preserved : goal.loop-slot-preserved
 loop-slot-preserved c = record {
-  slots_stay = c.take.ensures.slots ∙ c.loop-slot.invariant.slots_stay;
-  homes_stay = c.take.ensures.homes ∙ c.loop-slot.invariant.homes_stay;
+  keys_stay = c.disown.ensures.keys ∙ c.loop-slot.invariant.keys_stay;
+  slots_stay = c.disown.ensures.slots ∙ c.loop-slot.invariant.slots_stay;
+  homes_stay = c.disown.ensures.homes ∙ c.loop-slot.invariant.homes_stay;
   thins = λ places are.
       let t = c.loop-slot.invariant.thins places are in
-      let none = no_row c.args.wheel.now c.in-Some.slot c.row.result c.row.ensures c.in_default-row.is in (
-        _,
-        thinned_more c.loop-slot.owners c.take.new.self c.args.wheel.now places t.0 c.in-Some.slot t.1 none c.take.ensures.chains,
+      let keys = c.loop-slot.wheel.keys in
+      let none = no_row keys c.in-Some.slot c.row.result c.row.ensures c.in_default-row.is in
+      let left = with_place t.0 c.in-Some.slot None in (
+        left,
+        subst (λ ks. Thinned c.disown.new.self.owners ks places left) (sym c.disown.ensures.keys)
+            (thinned_more c.loop-slot.wheel.owners c.disown.new.self.owners keys places t.0 c.in-Some.slot t.1 none c.disown.ensures.disowned),
       );
 }
 
@@ -38,17 +52,21 @@ pub loop-slot-smaller : goal.loop-slot-smaller
 loop-slot-smaller c =
     let t = c.loop-slot.invariant.thins c.requires.may.places c.requires.may.are in
     let found = c.in-Some.ensures t.0 t.1.are in
-    linked_falls c.loop-slot.owners c.take.new.self t.0 c.in-Some.slot found.stands.1.place t.1.are (c.take.ensures.chains t.0 t.1.are)
-    c.take.ensures.slots found.stands.0 found.stands.1.has
+    linked_falls c.loop-slot.wheel.owners c.disown.new.self.owners t.0 c.in-Some.slot found.stands.1.place t.1.are
+    (c.disown.ensures.disowned t.0 t.1.are) c.disown.ensures.slots found.stands.0 found.stands.1.has
 
 pub returns-in-Some-row-clause-finds : goal.returns-in-Some-row-clause-finds
 returns-in-Some-row-clause-finds c = λ places are.
     let t = c.loop-slot.invariant.thins places are in
-    finds_some c.loop-slot.owners c.args.wheel.now places t.0 c.args.process _ c.in-Some.slot c.row.result c.in-Some-row.row t.1
-    (c.in-Some.ensures t.0 t.1.are) c.row.ensures c.in-Some-row.is
+    subst (λ ks. FindsRow ks places c.args.process c.loop-slot.wheel.owners (Some c.in-Some-row.row)) c.loop-slot.invariant.keys_stay
+    (finds_some c.loop-slot.wheel.owners c.loop-slot.wheel.keys places t.0 c.args.process _ c.in-Some.slot c.row.result c.in-Some-row.row t.1
+    (c.in-Some.ensures t.0 t.1.are) c.row.ensures c.in-Some-row.is)
 
 pub returns-clause-finds : goal.returns-clause-finds
 returns-clause-finds c = λ places are.
     let t = c.loop-slot.invariant.thins places are in
-    finds_none c.loop-slot.owners c.args.wheel.now places t.0 c.args.process (c.requires.may.wide ∙ sym c.loop-slot.invariant.slots_stay) t.1
-    (c.in_default.ensures t.0 t.1.are)
+    let keys = c.loop-slot.invariant.keys_stay in
+    subst (λ ks. FindsRow ks places c.args.process c.loop-slot.wheel.owners None) keys
+    (finds_none c.loop-slot.wheel.owners c.loop-slot.wheel.keys places t.0 c.args.process
+    (ap (λ (ks : List (Option Key)). length ks) keys ∙ (c.requires.may.wide ∙ sym c.loop-slot.invariant.slots_stay)) t.1
+    (c.in_default.ensures t.0 t.1.are))

@@ -3,18 +3,18 @@ use Rattle.ert_timers.specs.Owners.{Thinned}
 use Rattle.ert_timers.proofs.Owners.{linked}
 use Rattle.ert_timers.proofs.part.find_row.Given as goal
 use Rattle.ert_wheel.specs.Rings.{Place, AreChains}
+use Rattle.ert_wheel.specs.Rows.{Held}
 
 -- what stays, and which slots have left
-pub record Keeps (slots slots' homes homes' : ℕ) (thinned : Type 0) : Type 0 where
-  pub slots_stay : slots ≡ slots'
-  pub homes_stay : homes ≡ homes'
-  pub thins : thinned
+pub record Keeps (old new : Held) : Type 0 where
+  pub keys_stay : new.keys ≡ old.keys
+  pub slots_stay : new.owners.slots ≡ old.owners.slots
+  pub homes_stay : new.owners.homes ≡ old.owners.homes
+  pub thins : (places : ℕ → Option Place) → AreChains old.owners places
+      → (left : ℕ → Option Place) × Thinned new.owners new.keys places left
 
 abbrev pub invariant-loop-slot : goal.invariant-loop-slot
-invariant-loop-slot l =
-    Keeps l.owners.slots l.fn.owners.slots l.owners.homes l.fn.owners.homes
-    ((places : ℕ → Option Place) → AreChains l.fn.owners places
-    → (left : ℕ → Option Place) × Thinned l.owners l.wheel places left)
+invariant-loop-slot l = Keeps l.fn.wheel l.wheel
 
 abbrev pub decreases-loop-slot : goal.decreases-loop-slot
-decreases-loop-slot l = linked l.owners
+decreases-loop-slot l = linked l.wheel.owners

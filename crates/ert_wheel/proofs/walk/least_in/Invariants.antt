@@ -1,14 +1,15 @@
 use Rattle.std.proofs.Common.{ℕ}
 use Rattle.ert_wheel.proofs.NextDue.{IsPassed}
 use Rattle.ert_wheel.proofs.walk.least_in.Given as goal
+use Rattle.ert_wheel.specs.Nodes.{buckets}
 use Rattle.ert_wheel.specs.Rings.{AreChains, bound_of}
-use Rattle.ert_wheel.specs.Wheels.{kept_keys, places}
+use Rattle.ert_wheel.specs.Wheels.{held_keys, places}
 use Rattle.ert_wheel.specs.declared.row.Key.{Key}
 
 abbrev pub invariant-loop-next : goal.invariant-loop-next
 invariant-loop-next l =
-    (home : Key → ℕ) → AreChains l.chains (places home (kept_keys l.keys))
-    → IsPassed (kept_keys l.keys) home l.bucket l.bound l.next l.least
+    (home : Key → ℕ) → AreChains (buckets l.chains) (places home (held_keys (buckets l.chains) l.keys))
+    → IsPassed (held_keys (buckets l.chains) l.keys) home l.bucket l.bound l.next l.least
 
 abbrev pub decreases-loop-next : goal.decreases-loop-next
-decreases-loop-next l = bound_of (places (λ _. 0) (kept_keys l.keys)) l.next
+decreases-loop-next l = bound_of (places (λ _. 0) (held_keys (buckets l.chains) l.keys)) l.next

@@ -1,45 +1,42 @@
-use Rattle.std.proofs.Common.{◌≡◌, ℕ, ◌+◌, ◌<◌, List, length, Option, refl, sym, subst, ◌∙◌, set, arith}
+use Rattle.std.proofs.Common.{◌≡◌, ℕ, ◌+◌, ◌<◌, List, length, Option, refl, sym, ap, subst, ◌∙◌, set, arith}
 use Rattle.ert_timers.specs.Changes.{IsFree, slot_for}
 use Rattle.ert_timers.specs.Parts.{Part, AreFit, slot_at}
+use Rattle.ert_timers.specs.contracts.part.WheelPart.{the_view}
 use Rattle.ert_timers.specs.declared.part.Slot.{Slot}
 use Rattle.ert_timers.proofs.Fit.{may_leave}
 use Rattle.ert_timers.proofs.Keeping.{orders_if, slot_read, fit_kept, may_keep}
 use Rattle.ert_timers.proofs.part.WheelPart.keep.Goals as goal
+use Rattle.ert_wheel.specs.Rings.{Rings, MayTake, Takes}
 use Rattle.ert_wheel.specs.declared.row.Key.{Key}
 
 pub overflow_add-self : goal.overflow_add-self
 overflow_add-self c = omega (arith, c.self.invariant.few_arms)
 
-pub take-requires : goal.take-requires
-take-requires c =
-    let p = c.self.inside in
-    may_leave p.processes p.slots.items p.wheel p.free p.owners p.arms p.expires p.orphans c.args.slot c.self.invariant
-    (subst (λ (q : Part). c.args.slot < length q.slots) (sym c.self.view_is) c.requires.free.low)
-
-pub put-requires : goal.put-requires
-put-requires c =
-    let p = c.self.inside in
-    may_keep p.processes p.slots.items p.wheel p.free p.owners c.take.new.self p.arms p.expires p.orphans c.args.slot c.args.start.now.dest
-    c.self.invariant (subst (λ (q : Part). c.args.slot < length q.slots) (sym c.self.view_is) c.requires.free.low)
-    (subst (λ (q : Part). c.args.start.now.dest < q.processes) (sym c.self.view_is) c.requires.dest) c.take.ensures.slots
-    c.take.ensures.homes c.take.ensures.chains
-
 pub insert-requires-clause-newest : goal.insert-requires-clause-newest
-insert-requires-clause-newest c = orders_if c.self.inside.wheel c.self.inside.arms c.self.invariant.orders
+insert-requires-clause-newest c = orders_if c.self.inside.wheel.keys c.self.inside.arms c.self.invariant.orders
+
+pub disown-requires : goal.disown-requires
+disown-requires c =
+    let p = c.self.inside in
+    subst (λ (r : Rings). MayTake r c.args.slot) (sym c.insert.ensures.owners)
+    (may_leave p.processes p.slots.items p.wheel.keys p.free p.wheel.owners p.arms p.expires p.orphans c.args.slot c.self.invariant
+    (subst (λ (q : Part). c.args.slot < length q.slots) (sym c.self.view_is) c.requires.free.low))
+
+pub own-requires : goal.own-requires
+own-requires c =
+    let p = c.self.inside in
+    let same = c.insert.ensures.owners in
+    let taken = c.disown.new.self.owners in
+    may_keep p.processes p.slots.items p.wheel.keys p.free p.wheel.owners taken p.arms p.expires p.orphans c.args.slot c.args.start.now.dest
+    c.self.invariant (subst (λ (q : Part). c.args.slot < length q.slots) (sym c.self.view_is) c.requires.free.low)
+    (subst (λ (q : Part). c.args.start.now.dest < q.processes) (sym c.self.view_is) c.requires.dest)
+    (c.disown.ensures.slots ∙ ap (λ (r : Rings). r.slots) same) (c.disown.ensures.homes ∙ ap (λ (r : Rings). r.homes) same)
+    (subst (λ (r : Rings). Takes r taken c.args.slot) same c.disown.ensures.disowned)
 
 pub invariant_of-self : goal.invariant_of-self
 invariant_of-self c =
     let p = c.self.inside in
-    let seen : Part = record {
-      number = p.number;
-      processes = p.processes;
-      slots = p.slots.items;
-      keys = p.wheel;
-      free = p.free.held;
-      arms = p.arms;
-      expires = p.expires;
-      orphans = p.orphans;
-    } in
+    let seen : Part = the_view p in
     let k = c.args.slot in
     let free = subst (λ (q : Part). IsFree q k) (sym c.self.view_is) c.requires.free in
     let dest = subst (λ (q : Part). c.args.start.now.dest < q.processes) (sym c.self.view_is) c.requires.dest in
@@ -52,13 +49,17 @@ invariant_of-self c =
       msg = start.msg;
       kind = start.kind;
     } in
-    subst (λ above. AreFit p.processes (set p.slots.items k (kept above)) c.insert.new.self p.free c.put.new.self
-    (p.arms + 1) p.expires p.orphans) (sym c.max-above.ensures)
-    (subst (λ (slot : Slot). AreFit p.processes (set p.slots.items k (slot_for c.args.next slot.above start)) c.insert.new.self p.free c.put.new.self
+    let same = c.insert.ensures.owners in
+    let taken = c.disown.new.self.owners in
+    let new = c.own.new.self in
+    subst (λ above. AreFit p.processes (set p.slots.items k (kept above)) new.keys p.free new.owners (p.arms + 1) p.expires p.orphans)
+    (sym c.max-above.ensures)
+    (subst (λ (slot : Slot). AreFit p.processes (set p.slots.items k (slot_for c.args.next slot.above start)) new.keys p.free new.owners
     (p.arms + 1) p.expires p.orphans) read
     (subst (λ (keys : List (Option Key)). AreFit p.processes (set p.slots.items k (slot_for c.args.next (slot_at p.slots.items k).above start)) keys
-    p.free c.put.new.self (p.arms + 1) p.expires p.orphans) (sym c.insert.ensures)
-    (fit_kept seen p.free p.owners c.take.new.self c.put.new.self k start c.args.next c.self.invariant refl free
+    p.free new.owners (p.arms + 1) p.expires p.orphans) (sym (c.own.ensures.keys ∙ (c.disown.ensures.keys ∙ c.insert.ensures.keys)))
+    (fit_kept seen p.free p.wheel.owners taken new.owners k start c.args.next c.self.invariant refl free
     (subst (λ (q : Part). q.arms < 9007199254740992) (sym c.self.view_is) c.requires.few) dest
-    (c.put.ensures.slots ∙ c.take.ensures.slots) (c.put.ensures.homes ∙ c.take.ensures.homes) c.take.ensures.chains
-    c.put.ensures.chains)))
+    (c.own.ensures.slots ∙ (c.disown.ensures.slots ∙ ap (λ (r : Rings). r.slots) same))
+    (c.own.ensures.homes ∙ (c.disown.ensures.homes ∙ ap (λ (r : Rings). r.homes) same))
+    (subst (λ (r : Rings). Takes r taken k) same c.disown.ensures.disowned) c.own.ensures.owned)))

@@ -1,64 +1,55 @@
-use Rattle.std.proofs.Common.{◌≡◌, ℕ, false, IfNone, refl, subst}
+use Rattle.std.proofs.Common.{◌≡◌, ℕ, true, false, Some, IfNone, IfSome, refl, ap, subst, ◌∙◌}
 use Rattle.std.specs.FinSet as sets
+use Rattle.ert_timers.specs.Changes.{picked}
 use Rattle.ert_timers.specs.Parts.{Part}
-use Rattle.ert_timers.proofs.Keeping.{pick_fit, pick_none, pick_usable}
+use Rattle.ert_timers.specs.contracts.part.WheelPart.{the_view}
+use Rattle.ert_timers.proofs.Fit.{IsExchanged, exchanged, fit_picked, taken_out}
+use Rattle.ert_timers.proofs.Keeping.{if_some, pick_fit, pick_none, pick_taken, pick_usable}
 use Rattle.ert_timers.proofs.part.WheelPart.pick.Goals as goal
-use Rattle.ert_timers.proofs.part.WheelPart.pick.Goals.{After-pick, After-pick_first}
+use Rattle.ert_timers.proofs.part.WheelPart.pick.Goals.{After-exchange}
+use Rattle.ert_words.specs.Free.{Free}
 
-seen_first : After-pick_first → Part
-seen_first c = record {
-  number = c.self.inside.number;
-  processes = c.self.inside.processes;
-  slots = c.self.inside.slots.items;
-  keys = c.self.inside.wheel;
-  free = c.self.inside.free.held;
-  arms = c.self.inside.arms;
-  expires = c.self.inside.expires;
-  orphans = c.self.inside.orphans;
-}
+pub returns-in_err-slot-clause-none : goal.returns-in_err-slot-clause-none
+returns-in_err-slot-clause-none c =
+    subst (λ (p : Part). IfNone c.from_residual.result ((slot : ℕ) → sets.contains p.free slot ≡ false)) c.self.view_is
+    (pick_none c.self.inside.free.held c.from_residual.result (λ none. c.in_err-slot.ensures.none.0 refl))
 
-seen : After-pick → Part
-seen c = record {
-  number = c.self.inside.number;
-  processes = c.self.inside.processes;
-  slots = c.self.inside.slots.items;
-  keys = c.self.inside.wheel;
-  free = c.self.inside.free.held;
-  arms = c.self.inside.arms;
-  expires = c.self.inside.expires;
-  orphans = c.self.inside.orphans;
-}
+pub invariant_of-self-then-is_long-long : goal.invariant_of-self-then-is_long-long
+invariant_of-self-then-is_long-long c =
+    let p = c.self.inside in
+    fit_picked p.processes p.slots.items p.wheel.keys p.free c.pick.new.self p.wheel.owners p.arms p.expires p.orphans c.in_ok-slot.slot
+    c.self.invariant c.in_ok-slot.ensures.taken
 
-pub invariant_of-self : goal.invariant_of-self
-unfolding seen_first
-invariant_of-self c =
-    pick_fit (seen_first c) c.self.inside.free c.pick_first.new.self c.self.inside.owners c.pick_first.result c.self.invariant
-    c.pick_first.ensures.unchanged c.pick_first.ensures.taken
+pub returns-then-is_long-long-clause-usable : goal.returns-then-is_long-long-clause-usable
+returns-then-is_long-long-clause-usable c =
+    let p = c.self.inside in
+    pick_usable (the_view p) p.free c.pick.new.self p.wheel.owners (Some c.in_ok-slot.slot) c.self.invariant refl c.in_ok-slot.ensures.held
+    c.in_ok-slot.ensures.taken
 
-pub returns-then-long-clause-none : goal.returns-then-long-clause-none
-returns-then-long-clause-none c =
-    subst (λ (p : Part). IfNone c.pick_first.result ((slot : ℕ) → sets.contains p.free slot ≡ false)) c.self.view_is
-    (pick_none c.self.inside.free.held c.pick_first.result c.pick_first.ensures.none.0)
+pub exchange-requires-clause-away : goal.exchange-requires-clause-away
+exchange-requires-clause-away c =
+    ap (λ (f : Free). sets.contains f.held c.in_ok-slot.slot) c.in_ok-slot.ensures.taken ∙ taken_out c.self.inside.free.held c.in_ok-slot.slot
 
-pub returns-then-long-clause-usable : goal.returns-then-long-clause-usable
-unfolding seen_first
-returns-then-long-clause-usable c =
-    pick_usable (seen_first c) c.self.inside.free c.pick_first.new.self c.self.inside.owners c.pick_first.result c.self.invariant refl
-    c.pick_first.ensures.held c.pick_first.ensures.taken
+taken_instead : (c : After-exchange) → IsExchanged c.self.inside.free c.exchange.new.free c.exchange.result
+taken_instead c =
+    exchanged c.self.inside.free c.pick.new.self c.exchange.new.free c.in_ok-slot.slot c.exchange.result c.in_ok-slot.ensures.held
+    c.in_ok-slot.ensures.taken c.exchange.ensures.held c.exchange.ensures.taken
 
-pub invariant_of-self-else-long : goal.invariant_of-self-else-long
-unfolding seen
-invariant_of-self-else-long c =
-    pick_fit (seen c) c.self.inside.free c.pick.new.self c.self.inside.owners c.pick.result c.self.invariant c.pick.ensures.unchanged
-    c.pick.ensures.taken
+pub invariant_of-self-2 : goal.invariant_of-self-2
+invariant_of-self-2 c =
+    pick_fit (the_view c.self.inside) c.self.inside.free c.exchange.new.free c.self.inside.wheel.owners c.exchange.result c.self.invariant
+    (if_some c.exchange.result (c.exchange.new.free ≡ c.self.inside.free) c.exchange.ensures.some) (taken_instead c).taken
 
-pub returns-else-long-clause-none : goal.returns-else-long-clause-none
-returns-else-long-clause-none c =
-    subst (λ (p : Part). IfNone c.pick.result ((slot : ℕ) → sets.contains p.free slot ≡ false)) c.self.view_is
-    (pick_none c.self.inside.free.held c.pick.result c.pick.ensures.none.0)
+pub returns-clause-held : goal.returns-clause-held
+returns-clause-held c =
+    subst (λ (p : Part). IfSome c.exchange.result (λ slot. sets.contains p.free slot ≡ true)) c.self.view_is (taken_instead c).held
 
-pub returns-else-long-clause-usable : goal.returns-else-long-clause-usable
-unfolding seen
-returns-else-long-clause-usable c =
-    pick_usable (seen c) c.self.inside.free c.pick.new.self c.self.inside.owners c.pick.result c.self.invariant refl c.pick.ensures.held
-    c.pick.ensures.taken
+pub returns-clause-picked : goal.returns-clause-picked
+returns-clause-picked c =
+    subst (λ (p : Part). IfSome c.exchange.result (λ slot. record (the_view c.self.inside) { free = c.exchange.new.free.held } ≡ picked p slot)) c.self.view_is
+    (pick_taken (the_view c.self.inside) c.self.inside.free c.exchange.new.free c.exchange.result refl (taken_instead c).taken)
+
+pub returns-clause-usable : goal.returns-clause-usable
+returns-clause-usable c =
+    pick_usable (the_view c.self.inside) c.self.inside.free c.exchange.new.free c.self.inside.wheel.owners c.exchange.result c.self.invariant refl (taken_instead c).held
+    (taken_instead c).taken

@@ -1,15 +1,16 @@
-use Rattle.std.proofs.Common.{List, None, sym, subst}
-use Rattle.ert_wheel.proofs.Calls.{empty_chains, has_links}
+use Rattle.std.proofs.Common.{List, None, sym, subst, arith}
+use Rattle.ert_wheel.proofs.Calls.{empty_chains, has_nodes}
 use Rattle.ert_wheel.proofs.chains.Chains.new.Goals as goal
-use Rattle.ert_wheel.specs.Rings.{HasLinks, AreChains}
-use Rattle.ert_wheel.specs.declared.links.Link.{Link}
+use Rattle.ert_wheel.specs.Nodes.{HasNodes, rings}
+use Rattle.ert_wheel.specs.Rings.{AreChains}
+use Rattle.ert_wheel.specs.declared.links.Node.{Node}
 
 pub invariant_of-result : goal.invariant_of-result
 invariant_of-result c =
-    subst (λ (links : List Link). HasLinks (record { slots = c.args.slots; homes = c.args.homes; links = links }))
-    (sym c.in_ok-links.ensures) (has_links c.args.slots c.args.homes c.requires)
+    subst (λ (nodes : List Node). HasNodes (record { slots = c.args.slots; nodes = nodes }))
+    (sym c.in_ok-nodes.ensures) (has_nodes c.args.slots (omega (arith, c.requires)))
 
 pub returns-clause-empty : goal.returns-clause-empty
-returns-clause-empty c =
-    subst (λ (links : List Link). AreChains (record { slots = c.args.slots; homes = c.args.homes; links = links }) (λ _. None))
-    (sym c.in_ok-links.ensures) (empty_chains c.args.slots c.args.homes)
+returns-clause-empty c = λ side.
+    subst (λ (nodes : List Node). AreChains (rings side (record { slots = c.args.slots; nodes = nodes })) (λ _. None))
+    (sym c.in_ok-nodes.ensures) (empty_chains side c.args.slots)

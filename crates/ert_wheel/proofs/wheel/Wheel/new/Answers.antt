@@ -1,13 +1,21 @@
-use Rattle.std.proofs.Common.{ap, ◌∙◌, arith}
-use Rattle.ert_wheel.proofs.Opening.{opened, kept_none}
+use Rattle.std.proofs.Common.{refl, arith}
+use Rattle.ert_wheel.proofs.Opening.{opened}
+use Rattle.ert_wheel.proofs.Writes.{is_held, is_wheel}
 use Rattle.ert_wheel.proofs.wheel.Wheel.new.Goals as goal
-use Rattle.ert_wheel.specs.Wheels.{kept_keys}
+use Rattle.ert_wheel.specs.Nodes.{buckets}
+use Rattle.ert_wheel.specs.declared.links.Side.TheVariants.{Bucket, Owner}
 
 pub invariant_of-result : goal.invariant_of-result
 invariant_of-result c =
+    let keys = c.in_ok-keys.keys.items in
     let chains = c.in_ok-chains in
-    opened c.args.slots c.in_ok-keys.keys.items chains.chains c.in_ok-keys.ensures
-    chains.ensures.slots chains.ensures.homes chains.ensures.empty (omega (arith, c.requires))
+    is_wheel (opened c.args.slots keys (buckets chains.chains) c.in_ok-keys.ensures chains.ensures.slots refl (chains.ensures.empty Bucket) (omega (arith, c.requires)))
 
-pub returns : goal.returns
-returns c = ap kept_keys c.in_ok-keys.ensures ∙ kept_none c.args.slots
+pub returns-clause-keys : goal.returns-clause-keys
+returns-clause-keys c =
+    let keys = c.in_ok-keys.keys.items in
+    let chains = c.in_ok-chains in
+    is_held (opened c.args.slots keys (buckets chains.chains) c.in_ok-keys.ensures chains.ensures.slots refl (chains.ensures.empty Bucket) (omega (arith, c.requires)))
+
+pub returns-clause-unowned : goal.returns-clause-unowned
+returns-clause-unowned c = c.in_ok-chains.ensures.empty Owner

@@ -1,33 +1,40 @@
-use Rattle.std.proofs.Common.{◌-◌, ◌^◌, arith}
-use Rattle.ert_wheel.proofs.Writes.{may_take, count_holds, removed_wheel, removed_view, vacant_view}
+use Rattle.std.proofs.Common.{sym, ◌∙◌, refl}
+use Rattle.std.proofs.lemmas.Bool.{true≢false}
+use Rattle.ert_wheel.proofs.Writes.{sees, is_held, is_wheel, found_none, found_some, looks_alone, looks_apart, may_take, count_holds, removed, vacant_view}
 use Rattle.ert_wheel.proofs.wheel.Wheel.remove.Goals as goal
 
-pub returns-then-index-clause-left : goal.returns-then-index-clause-left
-returns-then-index-clause-left c =
-    vacant_view c.self.inside.keys.items c.args.self.now c.args.slot c.index.result.now
-    (record { is = c.self.view_is; low = c.requires; read = c.index.ensures }) (omega arith)
+pub is_alone-requires : goal.is_alone-requires
+is_alone-requires c = (may_take (sees c.self.invariant c.self.view_is) c.requires).low
+
+pub returns-then-is_alone-clause-found : goal.returns-then-is_alone-clause-found
+returns-then-is_alone-clause-found c =
+    found_none _ (looks_alone (sees c.self.invariant c.self.view_is) c.requires (c.is_alone.ensures.0 c.if-is_alone.true))
+
+pub returns-then-is_alone-clause-left : goal.returns-then-is_alone-clause-left
+returns-then-is_alone-clause-left c =
+    vacant_view c.args.self.now.keys c.args.slot (looks_alone (sees c.self.invariant c.self.view_is) c.requires (c.is_alone.ensures.0 c.if-is_alone.true))
 
 pub take-requires : goal.take-requires
-take-requires c =
-    let w = c.self.inside in
-    may_take w.next_time w.len w.keys.items w.chains c.args.self.now c.args.slot c.index.result.now c.self.invariant
-    (record { is = c.self.view_is; low = c.requires; read = c.index.ensures })
+take-requires c = may_take (sees c.self.invariant c.self.view_is) c.requires
 
 pub overflow_sub-self : goal.overflow_sub-self
 overflow_sub-self c =
-    let w = c.self.inside in
-    count_holds w.next_time w.len w.keys.items w.chains c.args.self.now c.args.slot c.index.result.now c.self.invariant
-    (record { is = c.self.view_is; low = c.requires; read = c.index.ensures }) (omega arith)
+    count_holds (sees c.self.invariant c.self.view_is) c.requires
+    (looks_apart (sees c.self.invariant c.self.view_is) c.requires (λ e. true≢false (sym (c.is_alone.ensures.1 e) ∙ c.if-is_alone.false)))
 
 pub invariant_of-self : goal.invariant_of-self
 invariant_of-self c =
-    let w = c.self.inside in
-    removed_wheel w.next_time w.len w.keys.items w.chains c.take.new.self c.args.self.now c.args.slot c.index.result.now
-    (record { deadline = 2 ^ 64 - 1; order = c.index_mut.result.now.order }) c.self.invariant
-    (record { is = c.self.view_is; low = c.requires; read = c.index.ensures }) (omega arith) (omega arith)
-    c.take.ensures.slots c.take.ensures.homes c.take.ensures.chains
+    is_wheel (removed (sees c.self.invariant c.self.view_is) c.requires
+    (looks_apart (sees c.self.invariant c.self.view_is) c.requires (λ e. true≢false (sym (c.is_alone.ensures.1 e) ∙ c.if-is_alone.false)))
+    c.take.ensures.slots refl c.take.ensures.chains)
+
+pub returns-clause-found : goal.returns-clause-found
+returns-clause-found c =
+    found_some _ _
+    (looks_apart (sees c.self.invariant c.self.view_is) c.requires (λ e. true≢false (sym (c.is_alone.ensures.1 e) ∙ c.if-is_alone.false)))
 
 pub returns-clause-left : goal.returns-clause-left
 returns-clause-left c =
-    removed_view c.self.inside.keys.items c.args.self.now c.args.slot
-    (record { deadline = 2 ^ 64 - 1; order = c.index_mut.result.now.order }) c.self.view_is (omega arith)
+    is_held (removed (sees c.self.invariant c.self.view_is) c.requires
+    (looks_apart (sees c.self.invariant c.self.view_is) c.requires (λ e. true≢false (sym (c.is_alone.ensures.1 e) ∙ c.if-is_alone.false)))
+    c.take.ensures.slots refl c.take.ensures.chains)
