@@ -1,19 +1,19 @@
 -- The calls on intervals cancel no timer but by a stop, and ask nothing.
 
 use Rattle.std.proofs.Common.{◌≡◌, ℕ, zero, suc, ℤ, Bool, true, false, cond, nat_lt, List, [], ◌∷◌, ◌++◌, Option, Some, None, Result, Ok, Err, refl, sym, ap, subst, ◌∙◌, inl, inr}
-use Rattle.ert_answers.specs.Chains.{Holds, HoldsBy, Serves, ServesMany, ServesAll, times, AdvancesWheel, Hands, HandsMany, Delivers, Turns, SweepsWheels, Exits}
-use Rattle.ert_answers.specs.ClockCalls.{RefusesTick, Ticks}
-use Rattle.ert_answers.specs.MailCalls.{Takes}
-use Rattle.ert_answers.specs.TimerCalls.{Starts, Closes}
-use Rattle.ert_answers.specs.WheelCalls.{Try, expires_by, expiry_entries, orphans_by, orphan_entries}
-use Rattle.ert_answers.specs.Ways.{alone, Many, Then}
-use Rattle.ert_answers.specs.declared.answers.Handed.{Handed}
-use Rattle.ert_answers.specs.declared.answers.Handed.TheVariants.{Put, Dropped}
-use Rattle.ert_answers.specs.declared.answers.StartErr.{StartErr}
-use Rattle.ert_answers.specs.declared.answers.StartErr.TheVariants.{BadArg, Full, NoMemory}
-use Rattle.ert_answers.specs.declared.answers.Taken.{Taken}
-use Rattle.ert_answers.specs.declared.answers.Taken.TheVariants.{Mail, Empty, Exited}
-use Rattle.ert_answers.specs.declared.answers.Turned.{Turned}
+use Rattle.ert_effects.specs.Chains.{Holds, HoldsBy, Serves, ServesMany, ServesAll, times, AdvancesWheel, Hands, HandsMany, Delivers, Turns, SweepsWheels, Exits}
+use Rattle.ert_effects.specs.ClockCalls.{RefusesTick, Ticks}
+use Rattle.ert_effects.specs.MailCalls.{Takes}
+use Rattle.ert_effects.specs.TimerCalls.{Starts, Closes}
+use Rattle.ert_effects.specs.WheelCalls.{Try, expires_by, expiry_entries, orphans_by, orphan_entries}
+use Rattle.ert_effects.specs.Ways.{alone, Many, Then}
+use Rattle.ert_effects.specs.declared.answers.Handed.{Handed}
+use Rattle.ert_effects.specs.declared.answers.Handed.TheVariants.{Put, Dropped}
+use Rattle.ert_effects.specs.declared.answers.StartErr.{StartErr}
+use Rattle.ert_effects.specs.declared.answers.StartErr.TheVariants.{BadArg, Full, NoMemory}
+use Rattle.ert_effects.specs.declared.answers.Taken.{Taken}
+use Rattle.ert_effects.specs.declared.answers.Taken.TheVariants.{Mail, Empty, Exited}
+use Rattle.ert_effects.specs.declared.answers.Turned.{Turned}
 use Rattle.ert_clock.specs.Ticks.{act_of, tick_entries}
 use Rattle.ert_clock.specs.declared.clock.ClockErr.{ClockErr}
 use Rattle.ert_clock.specs.declared.clock.ClockErr.TheVariants.{BadReading, OffsetWide}

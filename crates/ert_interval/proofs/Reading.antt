@@ -2,8 +2,8 @@
 
 use Rattle.std.proofs.Common.{◌≡◌, ◌≢◌, ◌↔◌, ℕ, ℤ, nat_eq, ◌&&◌, ◌||◌, Bool, true, false, not, IsTrue, List, [], ◌∷◌, ◌++◌, Option, Some, None, refl, sym, ap, subst, ◌∙◌}
 use Rattle.std.specs.Option.{is_some}
-use Rattle.ert_answers.specs.TimerCalls.{Reads, read_entries}
-use Rattle.ert_answers.specs.WheelCalls.{TellsAlive}
+use Rattle.ert_effects.specs.TimerCalls.{Reads, read_entries}
+use Rattle.ert_effects.specs.WheelCalls.{TellsAlive}
 use Rattle.ert_defs.specs.Entries.{look_entry, peek_entry, mark_entry}
 use Rattle.ert_defs.specs.Legal.{Legal, LegalFrom, left_by}
 use Rattle.ert_defs.specs.States.{State, state, run}

@@ -3,9 +3,9 @@
 use Rattle.std.proofs.Common.{◌≡◌, ◌≢◌, ◌⊎◌, inl, inr, ℕ, zero, suc, ◌<◌, ◌≤◌, max, ℤ, Bool, true, false, cond, ◌&&◌, ◌||◌, nat_lt, nat_le, List, [], ◌∷◌, ◌++◌, length, All, Option, Some, None, Ok, Err, refl, sym, ap, subst, ◌∙◌, arith, append_assoc, eq-eqb, lt-ltb}
 use Rattle.std.proofs.lemmas.Bool.{cases_eq, le-leb, ltb-true}
 use Rattle.std.proofs.lemmas.Bool.Decides.{nat_tests}
-use Rattle.ert_answers.specs.TimerCalls.{Starts, Closes, AreTaken}
-use Rattle.ert_answers.specs.declared.answers.StartErr.{StartErr}
-use Rattle.ert_answers.specs.declared.answers.StartErr.TheVariants.{BadArg, Full, NoMemory}
+use Rattle.ert_effects.specs.TimerCalls.{Starts, Closes, AreTaken}
+use Rattle.ert_effects.specs.declared.answers.StartErr.{StartErr}
+use Rattle.ert_effects.specs.declared.answers.StartErr.TheVariants.{BadArg, Full, NoMemory}
 use Rattle.ert_defs.specs.Actors.{has_actor}
 use Rattle.ert_defs.specs.Entries.{look_entry, arm_entry, mark_entry}
 use Rattle.ert_defs.specs.Legal.{Legal, LegalFrom, Can, CanArm, IsSlot, is_generation, names_timer}

@@ -2,8 +2,8 @@
 
 use Rattle.std.proofs.Common.{◌≡◌, ℕ, suc, ◌+◌, ◌<◌, ◌≤◌, Bool, true, false, List, length, slice_index_or, set, Result, Ok, Err, refl, sym, subst, ◌∙◌, inl, inr, arith, get_or-set_same, get_or-set_other}
 use Rattle.std.proofs.lemmas.List.{length-set}
-use Rattle.ert_answers.specs.Ways.{Growth, Way}
-use Rattle.ert_answers.specs.WheelCalls.{TellsAlive}
+use Rattle.ert_effects.specs.Ways.{Growth, Way}
+use Rattle.ert_effects.specs.WheelCalls.{TellsAlive}
 use Rattle.ert_defs.specs.declared.entry.Actor.TheVariants.{Caller}
 use Rattle.ert_defs.specs.declared.memory.NoMemory.{NoMemory}
 use Rattle.ert_defs.specs.declared.settings.Settings.{Settings}
@@ -44,42 +44,30 @@ goes_high a r i b reads is high = record {
   goes = inl (high, (refl, refl, put i Ended));
 }
 
--- one whose destination has exited
-pub goes_dead : (a r l : Seen) (i : Interval) (b lives : Bool) → ReadsLast i b a r → b ≡ false → i.deadline + i.period ≤ 8796093022207
-    → Goes r (By r (λ g. TellsAlive g (Caller 0) i.dest lives)) l → lives ≡ false → GoesOn (Ok false) a i l (with_state i Ended)
-goes_dead a r l i b lives reads is low look dead = record {
+-- one whose next deadline isn't, by whether its destination lives
+goes_low : (a r l n : Seen) (i j : Interval) (b lives : Bool) (answer : Result Bool NoMemory) → ReadsLast i b a r → b ≡ false
+    → i.deadline + i.period ≤ 8796093022207 → Goes r (By r (λ g. TellsAlive g (Caller 0) i.dest lives)) l
+    → StartsWhere lives answer l i n j → GoesOn answer a i n j
+goes_low a r l n i j b lives answer reads is low look starts = record {
   read = r;
   armed = false;
   reads = subst (λ x. ReadsLast i x a r) is reads;
-  goes = inr (
-    low,
-    record {
-      looked = l;
-      lives = false;
-      look = subst (λ x. Goes r (By r (λ g. TellsAlive g (Caller 0) i.dest x)) l) dead look;
-      starts = (refl, refl, put i Ended);
-    },
-  );
+  goes = inr (low, record { looked = l; lives = lives; look = look; starts = starts });
 }
 
--- one whose next timer is to be started
+-- its destination has exited
+pub goes_dead : (a r l : Seen) (i : Interval) (b lives : Bool) → ReadsLast i b a r → b ≡ false → i.deadline + i.period ≤ 8796093022207
+    → Goes r (By r (λ g. TellsAlive g (Caller 0) i.dest lives)) l → lives ≡ false → GoesOn (Ok false) a i l (with_state i Ended)
+goes_dead a r l i b lives reads is low look dead =
+    goes_low a r l l i (with_state i Ended) b lives (Ok false) reads is low look
+    (subst (λ x. StartsWhere x (Ok false) l i l (with_state i Ended)) (sym dead) (refl, refl, put i Ended))
+
+-- its next timer is to be started
 pub goes_start : (a r l n : Seen) (i j : Interval) (b lives : Bool) (answer : Result Bool NoMemory) → ReadsLast i b a r → b ≡ false
     → i.deadline + i.period ≤ 8796093022207 → Goes r (By r (λ g. TellsAlive g (Caller 0) i.dest lives)) l → lives ≡ true
     → StartsNext answer l i n j → GoesOn answer a i n j
-goes_start a r l n i j b lives answer reads is low look alive starts = record {
-  read = r;
-  armed = false;
-  reads = subst (λ x. ReadsLast i x a r) is reads;
-  goes = inr (
-    low,
-    record {
-      looked = l;
-      lives = true;
-      look = subst (λ x. Goes r (By r (λ g. TellsAlive g (Caller 0) i.dest x)) l) alive look;
-      starts = starts;
-    },
-  );
-}
+goes_start a r l n i j b lives answer reads is low look alive starts =
+    goes_low a r l n i j b lives answer reads is low look (subst (λ x. StartsWhere x answer l i n j) (sym alive) starts)
 
 pub stays_none : (a : Seen) → Stays a a
 stays_none a = record { settings = refl; next = refl; tidy = λ lone i low tidy. tidy }

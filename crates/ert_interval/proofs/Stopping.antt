@@ -1,7 +1,7 @@
 -- What a stop leaves.
 
 use Rattle.std.proofs.Common.{◌≡◌, ◌≢◌, ◌↔◌, ℕ, ℤ, true, false, List, [], ◌∷◌, Option, Some, None, refl, sym, ap, subst, ◌∙◌}
-use Rattle.ert_answers.specs.TimerCalls.{Cancels, cancel_entries}
+use Rattle.ert_effects.specs.TimerCalls.{Cancels, cancel_entries}
 use Rattle.ert_defs.specs.Entries.{look_entry, peek_entry, cancel_entry}
 use Rattle.ert_defs.specs.Legal.{Legal, LegalFrom}
 use Rattle.ert_defs.specs.States.{State, state, run}

@@ -1,8 +1,8 @@
 -- What the calls on intervals answer, and how they move the intervals.
 
 use Rattle.std.specs.Prelude.{◌≡◌, ◌≢◌, ◌⊎◌, ◌↔◌, ℕ, ◌+◌, ◌<◌, ◌≤◌, ℤ, ◌-ℤ◌, Bool, true, false, List, [], ◌∷◌, ◌++◌, length, slice_index_or, Option, Some, None, Result, Ok, Err}
-use Rattle.ert_answers.specs.TimerCalls.{Starts, Cancels, Rests}
-use Rattle.ert_answers.specs.declared.answers.StartErr.TheVariants.{Full as WheelIsFull}
+use Rattle.ert_effects.specs.TimerCalls.{Starts, Cancels, Rests}
+use Rattle.ert_effects.specs.declared.answers.StartErr.TheVariants.{Full as WheelIsFull}
 use Rattle.ert_defs.specs.Milliseconds.{natural, down, deadline_at}
 use Rattle.ert_defs.specs.States.{State, state}
 use Rattle.ert_defs.specs.Timers.{is_taken, timer_at}

@@ -1,8 +1,7 @@
 -- The fixed deadlines of an interval, in milliseconds after the start time.
 
-use Rattle.std.specs.Prelude.{◌≡◌, ℕ, ◌<◌, ◌≤◌, ℤ, pos, ◌+ℤ◌, ◌-ℤ◌, Option, Some, None}
+use Rattle.std.specs.Prelude.{◌≡◌, ℕ, ◌<◌, ◌≤◌, ℤ, pos, ◌+ℤ◌, Option, Some, None}
 use Rattle.std.specs.Int.{int_div_euclid}
-use Rattle.ert_defs.specs.Milliseconds.{deadline_at}
 use Rattle.ert_defs.specs.declared.settings.Settings.{Settings}
 use Rattle.ert_defs.specs.declared.timer.Kind.TheVariants.{Wrapped}
 use Rattle.ert_defs.specs.declared.timer.Start.{Start}
@@ -19,10 +18,6 @@ time_of g deadline = pos deadline +ℤ base g
 -- the start of a timer of an interval, at a monotonic time in milliseconds
 abbrev pub start_at : ℤ → ℕ → ℕ → Start
 start_at time dest msg = record { when = At time; dest = dest; msg = msg; kind = Wrapped }
-
--- the deadline at a monotonic time, None where it is outside its limits
-abbrev pub FirstIs : Settings → ℤ → Option ℕ → Type 0
-FirstIs g time answer = answer ≡ deadline_at (time -ℤ base g)
 
 -- a deadline is given where it is within its limits
 abbrev pub NextIs : ℕ → Option ℕ → Type 0

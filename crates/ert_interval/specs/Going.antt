@@ -2,9 +2,9 @@
 
 use Rattle.std.specs.Prelude.{◌≡◌, ◌≢◌, ◌⊎◌, ℕ, zero, suc, ◌+◌, ◌<◌, ◌≤◌, Bool, true, false, List, [], ◌∷◌, ◌++◌, length, slice_index_or, Option, Result, Ok, Err}
 use Rattle.std.specs.Option.{is_some}
-use Rattle.ert_answers.specs.TimerCalls.{Reads, Starts}
-use Rattle.ert_answers.specs.WheelCalls.{TellsAlive}
-use Rattle.ert_answers.specs.declared.answers.StartErr.TheVariants.{Full as WheelIsFull}
+use Rattle.ert_effects.specs.TimerCalls.{Reads, Starts}
+use Rattle.ert_effects.specs.WheelCalls.{TellsAlive}
+use Rattle.ert_effects.specs.declared.answers.StartErr.TheVariants.{Full as WheelIsFull}
 use Rattle.ert_defs.specs.declared.entry.Actor.TheVariants.{Caller}
 use Rattle.ert_defs.specs.declared.memory.NoMemory.{NoMemory}
 use Rattle.ert_defs.specs.declared.settings.Settings.{Settings}

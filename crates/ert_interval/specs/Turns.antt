@@ -1,8 +1,8 @@
 -- What a turn answers, and how it moves the world and the intervals.
 
 use Rattle.std.specs.Prelude.{◌≡◌, ◌⊎◌, ℕ, List, Result, Ok, Err}
-use Rattle.ert_answers.specs.Chains.{Turns}
-use Rattle.ert_answers.specs.declared.answers.Turned.{Turned}
+use Rattle.ert_effects.specs.Chains.{Turns}
+use Rattle.ert_effects.specs.declared.answers.Turned.{Turned}
 use Rattle.ert_defs.specs.declared.memory.NoMemory.{NoMemory}
 use Rattle.ert_interval.specs.Calls.{Still, PassesAll, PassesSome}
 use Rattle.ert_interval.specs.Going.{StepsAll}

@@ -6,7 +6,7 @@ ghost use Rattle.ert_interval.specs.Intervals.{IsOpen, IsKept};
 ghost use Rattle.ert_interval.specs.Calls.{Still, PassedBy, StopsOne, IsNewOrSame};
 ghost use Rattle.ert_interval.specs.Going.{GoesOn, ReadsLast, StartsNext};
 ghost use Rattle.ert_interval.specs.Spared.{Spares};
-ghost use Rattle.ert_answers.specs.WheelCalls.{TellsAlive};
+ghost use Rattle.ert_effects.specs.WheelCalls.{TellsAlive};
 ghost use Rattle.ert_defs.specs.declared.entry.Actor.TheVariants.{Caller};
 ghost use Rattle.ert_world.specs.Worlds.{Goes, By};
 ghost use Rattle.ert_defs.specs.declared.timer.Status.TheVariants.{Armed};

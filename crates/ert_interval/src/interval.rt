@@ -1,15 +1,10 @@
 //! One interval, and its fixed deadlines.
 ghost use Rattle.std.specs.Prelude.{◌≡◌, ◌+◌, ◌≤◌, ◌↔◌, IsTrue};
-ghost use Rattle.ert_interval.specs.Deadlines.{NextIs, FirstIs, start_at, time_of};
+ghost use Rattle.ert_interval.specs.Deadlines.{NextIs, start_at, time_of};
 ghost use Rattle.ert_defs.specs.Settings.{IsStart};
 
+use ert_defs::milliseconds::{LAST_DEADLINE, NANOSECONDS_PER_MILLISECOND};
 use ert_defs::{Kind, Settings, Start, TimerRef, When};
-
-/// The greatest deadline of a timer, in milliseconds after the start time (profile).
-const LAST_DEADLINE: u64 = 8_796_093_022_207;
-
-/// Nanoseconds in a millisecond.
-const NANOSECONDS_PER_MILLISECOND: i64 = 1_000_000;
 
 /// Where an interval stands.
 #[derive(Clone, Copy, Debug, PartialEq, Eq)]
@@ -54,19 +49,6 @@ pub struct Interval {
     pub(crate) deadline: u64,
     /// All its timers, in order.
     pub(crate) firings: Vec<TimerRef>,
-}
-
-/// The deadline at a monotonic time in milliseconds, in milliseconds after the start time; None where it is
-/// outside its limits, 0 to 8796093022207.
-pub(crate) fn deadline_at(time: i64, settings: &Settings) -> Option<u64>
-    ensures { FirstIs settings.now time result }
-{
-    let after = time as i128 - settings.start.div_euclid(NANOSECONDS_PER_MILLISECOND) as i128;
-    if 0 <= after && after <= LAST_DEADLINE as i128 {
-        Some(after as u64)
-    } else {
-        None
-    }
 }
 
 /// The deadline after one that a timer was started for; None where it is above 8796093022207.

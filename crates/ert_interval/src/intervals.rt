@@ -1,7 +1,8 @@
 //! A world with intervals: how they are made, stopped and seen.
 use crate::going::stop;
-use crate::interval::{Interval, IntervalState, deadline_at, start_at};
+use crate::interval::{Interval, IntervalState, start_at};
 use ert_clock::{ClockErr, Moved};
+use ert_defs::milliseconds::deadline_at;
 use ert_defs::{NoMemory, Reading, Settings, TimerRef};
 use ert_mail::Taken;
 use ert_world::World;
@@ -28,9 +29,9 @@ pub struct IntervalWorld {
 
 impl IntervalWorld {
     ghost use Rattle.std.specs.Prelude.{◌≡◌, ◌<◌, [], IfOk, length};
-    ghost use Rattle.ert_answers.specs.Chains.{Exits};
-    ghost use Rattle.ert_answers.specs.ClockCalls.{Ticks};
-    ghost use Rattle.ert_answers.specs.MailCalls.{Takes};
+    ghost use Rattle.ert_effects.specs.Chains.{Exits};
+    ghost use Rattle.ert_effects.specs.ClockCalls.{Ticks};
+    ghost use Rattle.ert_effects.specs.MailCalls.{Takes};
     ghost use Rattle.ert_defs.specs.Settings.{IsChecked};
     ghost use Rattle.ert_interval.specs.Intervals.{AreKept};
     ghost use Rattle.ert_interval.specs.Calls.{FiringsAre, Every, Stops, StateIs};
@@ -77,7 +78,7 @@ impl IntervalWorld {
         ensures made { Every wheel first period dest msg self.old.world self.old.intervals.items result self.new.world self.new.intervals.items }
     {
         let settings = *self.world.settings();
-        let Some(deadline) = deadline_at(first, &settings) else {
+        let Some(deadline) = deadline_at(&settings, first) else {
             return Err(IntervalErr::BadArg);
         };
         if period == 0 {

@@ -15,7 +15,7 @@ pub struct IntervalTurn {
 
 impl IntervalWorld {
     ghost use Rattle.std.specs.Prelude.{◌≡◌, ◌<◌, length};
-    ghost use Rattle.ert_answers.specs.Chains.{Turns};
+    ghost use Rattle.ert_effects.specs.Chains.{Turns};
     ghost use Rattle.ert_interval.specs.Calls.{Still, PassesBy, PassesOne, Counts};
     ghost use Rattle.ert_interval.specs.Going.{Stays, StepsAll, StepsOne};
     ghost use Rattle.ert_interval.specs.Intervals.{AreKept};

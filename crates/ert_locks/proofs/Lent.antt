@@ -2,8 +2,8 @@
 
 use Rattle.std.proofs.Common.{◌≡◌, ℕ, Bool, true, false, cond, ◌||◌, List, [], ◌∷◌, ◌++◌, filter, Some, refl, sym, ap, subst, ◌∙◌, append-nil, append_assoc}
 use Rattle.atomic_table.specs.Seated.{TableId}
-use Rattle.ert_answers.proofs.Growing.{filter_within}
-use Rattle.ert_answers.specs.Ways.{Step, Grows, beside}
+use Rattle.ert_effects.proofs.Growing.{filter_within}
+use Rattle.ert_effects.specs.Ways.{Step, Grows, beside}
 use Rattle.ert_defs.specs.Actors.{has_actor, same_actor, of}
 use Rattle.ert_defs.specs.Entries.{is_ours}
 use Rattle.ert_defs.specs.States.{State, state}

@@ -1,19 +1,19 @@
 -- Each entry of a call has the actor that makes the call.
 
 use Rattle.std.proofs.Common.{◌≡◌, ℕ, zero, suc, Bool, true, false, List, [], ◌∷◌, ◌++◌, Option, Some, None, Result, Ok, Err, inl, inr, refl, sym, subst}
-use Rattle.ert_answers.specs.ClockCalls.{Ticks, Finalizes, FinalizesFrom, Acts}
-use Rattle.ert_answers.specs.MailCalls.{HandsOver, Takes, Monitors, Demonitors, Tells}
-use Rattle.ert_answers.specs.RequestCalls.{Asks, Picks, Answers, DoesAsked}
-use Rattle.ert_answers.specs.TimerCalls.{Starts, AreProbes, AreTaken, Closes, read_entries, cancel_entries}
-use Rattle.ert_answers.specs.WheelCalls.{Advances, Sweeps, Try, expires_by, expiry_entries, orphans_by, orphan_entries}
-use Rattle.ert_answers.specs.declared.answers.Handed.{Handed}
-use Rattle.ert_answers.specs.declared.answers.Handed.TheVariants.{Put, Dropped}
-use Rattle.ert_answers.specs.declared.answers.MonitorErr.{MonitorErr}
-use Rattle.ert_answers.specs.declared.answers.MonitorErr.TheVariants.{Full as MonitorsFull, NoMemory as WantForMonitor}
-use Rattle.ert_answers.specs.declared.answers.StartErr.{StartErr}
-use Rattle.ert_answers.specs.declared.answers.StartErr.TheVariants.{BadArg, Full, NoMemory as WantForStart}
-use Rattle.ert_answers.specs.declared.answers.Taken.{Taken}
-use Rattle.ert_answers.specs.declared.answers.Taken.TheVariants.{Mail, Empty, Exited}
+use Rattle.ert_effects.specs.ClockCalls.{Ticks, Finalizes, FinalizesFrom, Acts}
+use Rattle.ert_effects.specs.MailCalls.{HandsOver, Takes, Monitors, Demonitors, Tells}
+use Rattle.ert_effects.specs.RequestCalls.{Asks, Picks, Answers, DoesAsked}
+use Rattle.ert_effects.specs.TimerCalls.{Starts, AreProbes, AreTaken, Closes, read_entries, cancel_entries}
+use Rattle.ert_effects.specs.WheelCalls.{Advances, Sweeps, Try, expires_by, expiry_entries, orphans_by, orphan_entries}
+use Rattle.ert_effects.specs.declared.answers.Handed.{Handed}
+use Rattle.ert_effects.specs.declared.answers.Handed.TheVariants.{Put, Dropped}
+use Rattle.ert_effects.specs.declared.answers.MonitorErr.{MonitorErr}
+use Rattle.ert_effects.specs.declared.answers.MonitorErr.TheVariants.{Full as MonitorsFull, NoMemory as WantForMonitor}
+use Rattle.ert_effects.specs.declared.answers.StartErr.{StartErr}
+use Rattle.ert_effects.specs.declared.answers.StartErr.TheVariants.{BadArg, Full, NoMemory as WantForStart}
+use Rattle.ert_effects.specs.declared.answers.Taken.{Taken}
+use Rattle.ert_effects.specs.declared.answers.Taken.TheVariants.{Mail, Empty, Exited}
 use Rattle.ert_clock.specs.Ticks.{shift_entries, act_of}
 use Rattle.ert_clock.specs.declared.clock.ClockErr.{ClockErr}
 use Rattle.ert_clock.specs.declared.clock.ClockErr.TheVariants.{BadReading, OffsetWide}

@@ -3,13 +3,11 @@
 use Rattle.std.proofs.Common.{◌≡◌, ℕ, ◌-◌, ◌<◌, ◌≤◌, true, List, [], ◌∷◌, ◌++◌, length, Option, Some, Result, Ok, Err, refl, sym, ap, subst, ◌∙◌}
 use Rattle.std.specs.Prelude.{IfOk}
 use Rattle.atomic_table.specs.Seated.{TableId}
-use Rattle.ert_answers.specs.Chains.{Hands, SweepsWheel}
-use Rattle.ert_answers.specs.MailCalls.{HandsOver, Monitors}
-use Rattle.ert_answers.specs.WheelCalls.{Advances, Sweeps, IsSwept}
-use Rattle.ert_answers.specs.Ways.{Grows, beside}
-use Rattle.ert_answers.specs.declared.answers.Handed.{Handed}
-use Rattle.ert_answers.specs.declared.answers.MonitorErr.{MonitorErr}
-use Rattle.ert_answers.specs.declared.answers.MonitorErr.TheVariants.{Full, NoMemory as WantForMonitor}
+use Rattle.ert_effects.specs.Chains.{Hands, SweepsWheel}
+use Rattle.ert_effects.specs.MailCalls.{HandsOver}
+use Rattle.ert_effects.specs.WheelCalls.{Advances, Sweeps, IsSwept}
+use Rattle.ert_effects.specs.Ways.{Grows, beside}
+use Rattle.ert_effects.specs.declared.answers.Handed.{Handed}
 use Rattle.ert_defs.proofs.Runs.{state-append, exit_stays}
 use Rattle.ert_defs.specs.Legal.{Legal}
 use Rattle.ert_defs.specs.Mails.{SchedState, first_of, others_of}
@@ -27,9 +25,9 @@ use Rattle.ert_locks.specs.Hands.{hand_left, rows_left, counted}
 use Rattle.ert_locks.specs.Kinds.{Fits, scheds}
 use Rattle.ert_locks.specs.Names.{IsDesk}
 use Rattle.ert_locks.specs.Passes.{Meets}
-use Rattle.ert_mail.specs.Mailboxes.{IsMonitor, handed, answered}
+use Rattle.ert_mail.specs.Mailboxes.{handed, answered}
 use Rattle.ert_world.proofs.Advances.{advances_plain, advance_hand, advance_still, advance_fits, difference}
-use Rattle.ert_world.proofs.Calls.{omitted_made}
+use Rattle.ert_world.proofs.SchedCalls.{sched_stands}
 use Rattle.ert_world.specs.Parts.{SchedStands}
 use Rattle.ert_world.specs.declared.sched_part.SchedPart.{SchedPart}
 use Rattle.ert_table.specs.Calls.{IsMade}
@@ -45,15 +43,10 @@ pub seat_after : {table : TableId} {g : Settings} {x : SchedPart} {p : Pass} {h 
     → actors_of p ≡ Sched x.wheel ∷ [] → front_of p ≡ h → x.wheel < g.schedulers → (state (settings_of d) h).scheds x.wheel ≡ after
     → x.hand ≡ after.hand → x.fired.rows ≡ after.fired → Fits table g scheds x p
 seat_after {table} {g} {x} {p} {h} d after desk belongs actors front low made hand fired =
-    let made_g : (state g (front_of p)).scheds x.wheel ≡ after =
-    ap (λ l. (state g l).scheds x.wheel) front ∙ subst (λ s. (state s h).scheds x.wheel ≡ after) desk.settings_is made in
     record {
       sits = is_of table g (Sched x.wheel) d p desk belongs actors;
-      stands = record {
-        in_range = low;
-        hand = hand ∙ ap (λ (s : SchedState). s.hand) (sym made_g);
-        fired = fired ∙ ap (λ (s : SchedState). s.fired) (sym made_g);
-      };
+      stands = sched_stands g (front_of p) x after low
+          (ap (λ l. (state g l).scheds x.wheel) front ∙ subst (λ s. (state s h).scheds x.wheel ≡ after) desk.settings_is made) hand fired;
     }
 
 -- an answer empties the hand, or leaves what the scheduler has
@@ -137,10 +130,3 @@ pub first_in : {t : Settings} {h : List Entry} {x : SchedPart} (row : Row) → L
 first_in {t} {h} {x} row legal stands first =
     let here : first_of ((state t h).scheds x.wheel).fired ≡ Some row = ap (λ (l : List Row). first_of l) (sym stands.fired) ∙ first in
     (here, (first_placed t h x.wheel row legal here).wheel)
-
--- a monitor was made, or couldn't be
-pub monitor_made : (g : Settings) (v : View) (by process : ℕ) (answer : Result ℕ MonitorErr) (w : View) → Legal g v.front
-    → IsMonitor g v by process answer w → IsMade g v (Monitors g by process answer) w
-monitor_made g v by process (Ok number) w legal is = is
-monitor_made g v by process (Err Full) w legal is = is
-monitor_made g v by process (Err WantForMonitor) w legal is = omitted_made g v (Monitors g by process (Err WantForMonitor)) w legal is

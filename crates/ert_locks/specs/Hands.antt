@@ -1,7 +1,7 @@
 -- What a scheduler has after a step, and what its advance answers.
 
 use Rattle.std.specs.Prelude.{ℕ, List, Option, None, Result, Ok, Err}
-use Rattle.ert_answers.specs.declared.answers.Handed.{Handed}
+use Rattle.ert_effects.specs.declared.answers.Handed.{Handed}
 use Rattle.ert_defs.specs.Mails.{others_of}
 use Rattle.ert_defs.specs.Timers.{Row}
 use Rattle.ert_defs.specs.declared.mail.Request.{Request}

@@ -14,9 +14,8 @@ use Rattle.ert_defs.specs.States.{State, state}
 use Rattle.ert_defs.specs.declared.entry.Actor.TheVariants.{Keeper, Sched}
 use Rattle.ert_defs.specs.declared.entry.Entry.{Entry}
 use Rattle.ert_defs.specs.declared.settings.Settings.{Settings}
-use Rattle.ert_inbox.proofs.LawsHold.{stand_on as inbox_on}
 use Rattle.ert_locks.specs.Kinds.{IsKind, keepers, wheels, inboxes, scheds, mails}
-use Rattle.ert_mail.proofs.LawsHold.{stand_on as mail_on}
+use Rattle.ert_mail.proofs.LawsHold.{inbox_on, mail_on}
 use Rattle.ert_world.specs.Parts.{SchedStands}
 use Rattle.ert_world.specs.declared.sched_part.SchedPart.{SchedPart}
 use Rattle.ert_table.proofs.Parts.{free_later}

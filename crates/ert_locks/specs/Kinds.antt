@@ -9,7 +9,7 @@ use Rattle.ert_defs.specs.declared.entry.Actor.{Actor}
 use Rattle.ert_defs.specs.declared.entry.Actor.TheVariants.{Keeper, Wheel, Inbox, Sched, MailOf}
 use Rattle.ert_defs.specs.declared.entry.Entry.{Entry}
 use Rattle.ert_defs.specs.declared.settings.Settings.{Settings}
-use Rattle.ert_inbox.specs.Inboxes.{Waiting, Stands as InboxStands}
+use Rattle.ert_mail.specs.Inboxes.{Waiting, Stands as InboxStands}
 use Rattle.ert_locks.specs.Names.{IsOf}
 use Rattle.ert_mail.specs.Mailboxes.{Mailbox, Stands as MailStands}
 use Rattle.ert_world.specs.Parts.{SchedStands}

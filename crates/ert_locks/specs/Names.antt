@@ -1,9 +1,8 @@
 -- The desk that a service has, and the passes of one actor that belong to it.
 
-use Rattle.std.specs.Prelude.{◌≡◌, pos, [], ◌∷◌, Some, false}
+use Rattle.std.specs.Prelude.{◌≡◌, [], ◌∷◌, Some}
 use Rattle.atomic_table.specs.Seated.{TableId}
 use Rattle.ert_defs.specs.declared.entry.Actor.{Actor}
-use Rattle.ert_defs.specs.declared.settings.Mode.TheVariants.{No}
 use Rattle.ert_defs.specs.declared.settings.Settings.{Settings}
 use Rattle.ert_table.specs.Desks.{settings_of}
 use Rattle.ert_table.specs.declared.desk.Desk.{Desk}
@@ -12,19 +11,6 @@ use Rattle.ert_table.specs.declared.desk.Pass.{Pass}
 -- a table that nobody uses
 abbrev pub any_table : TableId
 any_table = record { words = 0; slots = 0; views_name = 0; atom = 0; block = 0; offset = 0; slot_names = [] }
-
--- settings that nobody uses
-abbrev pub any_settings : Settings
-any_settings = record {
-  mode = No;
-  correction = false;
-  start = pos 0;
-  schedulers = 0;
-  processes = 0;
-  slots = 0;
-  callers = 0;
-  first = record { mono = pos 0; sys = pos 0 };
-}
 
 -- a desk is the named one
 pub record IsDesk (table : TableId) (g : Settings) (d : Desk) : Type 0 where

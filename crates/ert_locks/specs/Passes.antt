@@ -1,7 +1,7 @@
 -- How the pass of a seat goes on, and how it meets that of a part.
 
 use Rattle.std.specs.Prelude.{◌≡◌, [], ◌∷◌}
-use Rattle.ert_answers.specs.Ways.{Step, Growth, Grows, beside}
+use Rattle.ert_effects.specs.Ways.{Step, Growth, Grows, beside}
 use Rattle.ert_defs.specs.Legal.{Legal}
 use Rattle.ert_defs.specs.declared.entry.Actor.{Actor}
 use Rattle.ert_defs.specs.declared.settings.Settings.{Settings}

@@ -3,9 +3,8 @@ ghost use Rattle.std.specs.Prelude.{◌≡◌};
 ghost use Rattle.ert_locks.specs.Kinds.{Kind, IsKind};
 
 use ert_defs::Actor;
-use ert_inbox::InboxPart;
 use ert_keeper::KeeperPart;
-use ert_mail::MailPart;
+use ert_mail::{InboxPart, MailPart};
 use ert_timers::WheelPart;
 
 /// A part of a desk, which has one actor and stands for a history.

@@ -9,7 +9,7 @@ use ert_table::Desk;
 
 impl<L: DeskName> Locked<KeeperPart, L> {
     ghost use Rattle.std.specs.Prelude.{◌≡◌};
-    ghost use Rattle.ert_answers.specs.ClockCalls.{Ticks, Finalizes};
+    ghost use Rattle.ert_effects.specs.ClockCalls.{Ticks, Finalizes};
     ghost use Rattle.ert_defs.specs.declared.entry.Actor.TheVariants.{Keeper, Caller};
     ghost use Rattle.ert_locks.specs.Names.{IsDesk};
     ghost use Rattle.ert_locks.specs.Passes.{StepsWith};
@@ -20,19 +20,19 @@ impl<L: DeskName> Locked<KeeperPart, L> {
     pub fn tick(
         &mut self,
         desk: &Desk,
-        seat: CallerSeat<L>,
+        seat: &mut CallerSeat<L>,
         reading: Reading,
         force: bool,
-    ) -> (CallerSeat<L>, Result<Moved, ClockErr>)
+    ) -> Result<Moved, ClockErr>
         requires desk { IsDesk L.table L.settings desk.now }
-        ensures number { result.0.number ≡ seat.number }
-        ensures call { StepsWith L.settings (Caller seat.number) Keeper (Ticks L.settings seat.number reading force result.1) seat.pass result.0.pass }
+        ensures number { seat.new.number ≡ seat.old.number }
+        ensures call { StepsWith L.settings (Caller seat.old.number) Keeper (Ticks L.settings seat.old.number reading force result) seat.old.pass seat.new.pass }
     {
         let by = seat.number;
-        meet::<KeeperPart, L>(desk, &self.part, &mut self.pass, seat.pass);
+        meet::<KeeperPart, L>(desk, &self.part, &mut self.pass, &mut seat.pass);
         let answer = self.part.tick(desk, &mut self.pass, by, reading, force);
-        let pass = self.pass.split(desk, Actor::Caller(by));
-        (CallerSeat::new(by, pass), answer)
+        seat.pass = self.pass.split(desk, Actor::Caller(by));
+        answer
     }
 
     /// Finalizes the time offset for a caller (`erlang:system_flag(time_offset, finalize)`), and answers the
@@ -42,17 +42,17 @@ impl<L: DeskName> Locked<KeeperPart, L> {
     pub fn finalize(
         &mut self,
         desk: &Desk,
-        seat: CallerSeat<L>,
+        seat: &mut CallerSeat<L>,
         reading: Reading,
-    ) -> (CallerSeat<L>, Result<(OffsetState, Moved), ClockErr>)
+    ) -> Result<(OffsetState, Moved), ClockErr>
         requires desk { IsDesk L.table L.settings desk.now }
-        ensures number { result.0.number ≡ seat.number }
-        ensures call { StepsWith L.settings (Caller seat.number) Keeper (Finalizes L.settings seat.number reading result.1) seat.pass result.0.pass }
+        ensures number { seat.new.number ≡ seat.old.number }
+        ensures call { StepsWith L.settings (Caller seat.old.number) Keeper (Finalizes L.settings seat.old.number reading result) seat.old.pass seat.new.pass }
     {
         let by = seat.number;
-        meet::<KeeperPart, L>(desk, &self.part, &mut self.pass, seat.pass);
+        meet::<KeeperPart, L>(desk, &self.part, &mut self.pass, &mut seat.pass);
         let answer = self.part.finalize(desk, &mut self.pass, by, reading);
-        let pass = self.pass.split(desk, Actor::Caller(by));
-        (CallerSeat::new(by, pass), answer)
+        seat.pass = self.pass.split(desk, Actor::Caller(by));
+        answer
     }
 }

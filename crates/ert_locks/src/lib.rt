@@ -10,12 +10,12 @@
 //! is lent the value. It joins the seat's pass to the value's, makes its steps, and divides them again. So its
 //! entries stand whole in the history: from the place at which it has the lock on, no entry of the seat's
 //! actor or of the part comes between them, and they are allowed in the state at that place (`specs/Passes`,
-//! `StepsWith`; in `ert_answers` `specs/Ways`, `beside`).
+//! `StepsWith`; in `ert_effects` `specs/Ways`, `beside`).
 //!
 //! **Names.** What is behind a lock is known by its type alone. So seats and locked values carry the name of
 //! one desk (`DeskName`): its identity and its settings.
 //!
-//! It stands on `ert_defs`, `ert_clock`, `ert_answers`, `ert_table`, `ert_calls`, on the parts' crates and on
+//! It stands on `ert_defs`, `ert_clock`, `ert_effects`, `ert_table`, `ert_calls`, on the parts' crates and on
 //! `ert_world` for a scheduler's part.
 #![tactic(auto)]
 

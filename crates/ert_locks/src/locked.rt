@@ -64,20 +64,20 @@ impl<P: DeskPart + Drop, L: DeskName> Locked<P, L> {
     }
 }
 
-/// Joins the pass of a seat to that of a part. The part stands for what both know, and so does the part of a
-/// scheduler's seat.
-pub(crate) fn meet<P: DeskPart, L: DeskName>(desk: &Desk, part: &P, pass: &mut Pass, own: Pass)
+/// Takes the actor of a seat to the pass of a part, which then knows what both knew. The part stands for that,
+/// and so does the part of a scheduler's seat.
+pub(crate) fn meet<P: DeskPart, L: DeskName>(desk: &Desk, part: &P, pass: &mut Pass, own: &mut Pass)
     requires desk { IsDesk L.table L.settings desk.now }
     requires fits { Fits L.table L.settings P.kind part.now pass.old }
-    requires belongs { Belongs desk.now own }
+    requires belongs { Belongs desk.now own.old }
     ensures belongs { Belongs desk.now pass.new }
-    ensures actors { actors_of pass.new ≡ actors_of pass.old ++ actors_of own }
+    ensures actors { actors_of pass.new ≡ actors_of pass.old ++ actors_of own.old }
     ensures legal { Legal (settings_of desk.now) (front_of pass.new) }
     ensures stands { P.kind.stands (settings_of desk.now) (front_of pass.new) part.now }
-    ensures meets { (a : Actor) → IsOf L.table L.settings a own
-        → Meets L.settings (P.kind.actor (P.kind.number part.now)) a (view_of pass.old) (view_of own) (view_of pass.new) }
-    ensures sched { (x : _) → Fits L.table L.settings scheds x own → scheds.stands (settings_of desk.now) (front_of pass.new) x }
+    ensures meets { (a : Actor) → IsOf L.table L.settings a own.old
+        → Meets L.settings (P.kind.actor (P.kind.number part.now)) a (view_of pass.old) (view_of own.old) (view_of pass.new) }
+    ensures sched { (x : _) → Fits L.table L.settings scheds x own.old → scheds.stands (settings_of desk.now) (front_of pass.new) x }
 {
     let _part = part;
-    pass.join(desk, own);
+    pass.join(desk, own.take(desk));
 }

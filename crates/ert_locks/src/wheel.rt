@@ -5,17 +5,17 @@ ghost use Rattle.ert_locks.specs.Hands.{counted};
 use crate::locked::{Locked, meet};
 use crate::names::DeskName;
 use crate::seats::{CallerSeat, SchedSeat};
-use ert_answers::StartErr;
 use ert_defs::{Actor, NoMemory, Start, TimerRef};
+use ert_effects::StartErr;
 use ert_table::Desk;
 use ert_timers::WheelPart;
 
 impl<L: DeskName> Locked<WheelPart, L> {
     ghost use Rattle.std.specs.Prelude.{◌≡◌, ◌≢◌, ◌<◌, true, Err};
-    ghost use Rattle.ert_answers.specs.Chains.{AdvancesWheel, SweepsWheel};
-    ghost use Rattle.ert_answers.specs.TimerCalls.{Starts};
-    ghost use Rattle.ert_answers.specs.Ways.{beside};
-    ghost use Rattle.ert_answers.specs.declared.answers.StartErr.TheVariants.{NoMemory as WantOfMemory};
+    ghost use Rattle.ert_effects.specs.Chains.{AdvancesWheel, SweepsWheel};
+    ghost use Rattle.ert_effects.specs.TimerCalls.{Starts};
+    ghost use Rattle.ert_effects.specs.Ways.{beside};
+    ghost use Rattle.ert_effects.specs.declared.answers.StartErr.TheVariants.{NoMemory as WantOfMemory};
     ghost use Rattle.ert_defs.specs.States.{state};
     ghost use Rattle.ert_defs.specs.declared.entry.Actor.TheVariants.{Wheel, Sched, Caller};
     ghost use Rattle.ert_locks.specs.Names.{IsDesk};
@@ -30,63 +30,59 @@ impl<L: DeskName> Locked<WheelPart, L> {
     pub fn start(
         &mut self,
         desk: &Desk,
-        seat: CallerSeat<L>,
+        seat: &mut CallerSeat<L>,
         start: &Start,
-    ) -> (CallerSeat<L>, Result<TimerRef, StartErr>)
+    ) -> Result<TimerRef, StartErr>
         requires desk { IsDesk L.table L.settings desk.now }
         requires dest { start.now.dest < L.settings.processes }
         ensures same { self.new ≡ self.old }
-        ensures number { result.0.number ≡ seat.number }
-        ensures memory { result.1 ≢ Err WantOfMemory }
-        ensures call { StepsWith L.settings (Caller seat.number) (Wheel self.old)
-            (Starts L.settings seat.number self.old start.now result.1) seat.pass result.0.pass }
+        ensures number { seat.new.number ≡ seat.old.number }
+        ensures memory { result ≢ Err WantOfMemory }
+        ensures call { StepsWith L.settings (Caller seat.old.number) (Wheel self.old)
+            (Starts L.settings seat.old.number self.old start.now result) seat.old.pass seat.new.pass }
     {
         let by = seat.number;
-        meet::<WheelPart, L>(desk, &self.part, &mut self.pass, seat.pass);
+        meet::<WheelPart, L>(desk, &self.part, &mut self.pass, &mut seat.pass);
         let answer = self.part.start(desk, &mut self.pass, by, start);
-        let pass = self.pass.split(desk, Actor::Caller(by));
-        (CallerSeat::new(by, pass), answer)
+        seat.pass = self.pass.split(desk, Actor::Caller(by));
+        answer
     }
 
     /// Cancels all timers of a process that the caller has seen to have exited.
-    pub fn sweep(&mut self, desk: &Desk, seat: CallerSeat<L>, process: u32) -> CallerSeat<L>
+    pub fn sweep(&mut self, desk: &Desk, seat: &mut CallerSeat<L>, process: u32)
         requires desk { IsDesk L.table L.settings desk.now }
         requires in_range { process < L.settings.processes }
-        requires exited { (state L.settings (front_of seat.pass)).exited process ≡ true }
+        requires exited { (state L.settings (front_of seat.old.pass)).exited process ≡ true }
         ensures same { self.new ≡ self.old }
-        ensures number { result.number ≡ seat.number }
-        ensures call { FrontGrows (SweepsWheel L.settings (beside L.settings (Caller seat.number)) seat.number process self.old) seat.pass result.pass }
+        ensures number { seat.new.number ≡ seat.old.number }
+        ensures call { FrontGrows (SweepsWheel L.settings (beside L.settings (Caller seat.old.number)) seat.old.number process self.old) seat.old.pass seat.new.pass }
     {
         let by = seat.number;
-        meet::<WheelPart, L>(desk, &self.part, &mut self.pass, seat.pass);
+        meet::<WheelPart, L>(desk, &self.part, &mut self.pass, &mut seat.pass);
         self.part.sweep(desk, &mut self.pass, by, process);
-        let pass = self.pass.split(desk, Actor::Caller(by));
-        CallerSeat::new(by, pass)
+        seat.pass = self.pass.split(desk, Actor::Caller(by));
     }
 
     /// Lets every due timer expire, for the scheduler of this wheel, and answers the time, in whole
     /// milliseconds since the start time, and how many expired.
     ///
     /// After want of memory none has expired.
-    pub fn advance(
-        &mut self,
-        desk: &Desk,
-        seat: SchedSeat<L>,
-    ) -> (SchedSeat<L>, Result<(u64, u32), NoMemory>)
+    pub fn advance(&mut self, desk: &Desk, seat: &mut SchedSeat<L>) -> Result<(u64, u32), NoMemory>
         requires desk { IsDesk L.table L.settings desk.now }
-        requires own { self.old ≡ seat.part.wheel }
+        requires own { self.old ≡ seat.old.part.wheel }
         ensures same { self.new ≡ self.old }
-        ensures number { result.0.part.wheel ≡ seat.part.wheel }
-        ensures call { FrontGrows (AdvancesWheel L.settings (beside L.settings (Sched seat.part.wheel)) seat.part.wheel result.1) seat.pass result.0.pass }
+        ensures number { seat.new.part.wheel ≡ seat.old.part.wheel }
+        ensures call { FrontGrows (AdvancesWheel L.settings (beside L.settings (Sched seat.old.part.wheel)) seat.old.part.wheel result) seat.old.pass seat.new.pass }
     {
-        let SchedSeat { mut part, pass, .. } = seat;
-        let wheel = part.wheel;
-        meet::<WheelPart, L>(desk, &self.part, &mut self.pass, pass);
-        let before = part.fired.len();
-        let to = self.part.advance(desk, &mut self.pass, &mut part.fired);
-        let pass = self.pass.split(desk, Actor::Sched(wheel));
-        let answer = counted(to, before, part.fired.len());
-        (SchedSeat::new(part, pass), answer)
+        let wheel = seat.part.wheel;
+        meet::<WheelPart, L>(desk, &self.part, &mut self.pass, &mut seat.pass);
+        let before = seat.part.fired.len();
+        let to = self
+            .part
+            .advance(desk, &mut self.pass, &mut seat.part.fired);
+        let after = seat.part.fired.len();
+        seat.pass = self.pass.split(desk, Actor::Sched(wheel));
+        counted(to, before, after)
     }
 }
 

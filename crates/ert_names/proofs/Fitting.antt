@@ -1,20 +1,20 @@
 -- What the calls of a world of names record fits its rows.
 
 use Rattle.std.proofs.Common.{◌≡◌, ◌≢◌, ℕ, zero, suc, ℤ, ◌<◌, ◌≤◌, Bool, true, false, cond, nat_lt, List, [], ◌∷◌, ◌++◌, Option, Some, None, Result, Ok, Err, inl, inr, refl, sym, subst, ◌∙◌, arith}
-use Rattle.ert_answers.specs.Chains.{HoldsBy, Holds, Serves, ServesMany, ServesAll, times, AdvancesWheel, Hands, HandsMany, Delivers, Turns, SweepsWheel, SweepsWheels, Exits}
-use Rattle.ert_answers.specs.ClockCalls.{RefusesTick, Acts}
-use Rattle.ert_answers.specs.MailCalls.{HandsOver, Takes}
-use Rattle.ert_answers.specs.RequestCalls.{Answers, DoesAsked}
-use Rattle.ert_answers.specs.TimerCalls.{Reads, read_entries, Cancels, cancel_entries, Starts, AreProbes, AreTaken, Closes}
-use Rattle.ert_answers.specs.Ways.{Growth, Way, Then, Many, Grows, alone}
-use Rattle.ert_answers.specs.WheelCalls.{Try, expires_by, expiry_entries, orphans_by, orphan_entries, TellsAlive, MarksExit}
-use Rattle.ert_answers.specs.declared.answers.Handed.{Handed}
-use Rattle.ert_answers.specs.declared.answers.Handed.TheVariants.{Put, Dropped}
-use Rattle.ert_answers.specs.declared.answers.StartErr.{StartErr}
-use Rattle.ert_answers.specs.declared.answers.StartErr.TheVariants as starts
-use Rattle.ert_answers.specs.declared.answers.Taken.{Taken}
-use Rattle.ert_answers.specs.declared.answers.Taken.TheVariants.{Mail, Empty, Exited}
-use Rattle.ert_answers.specs.declared.answers.Turned.{Turned}
+use Rattle.ert_effects.specs.Chains.{HoldsBy, Holds, Serves, ServesMany, ServesAll, times, AdvancesWheel, Hands, HandsMany, Delivers, Turns, SweepsWheel, SweepsWheels, Exits}
+use Rattle.ert_effects.specs.ClockCalls.{RefusesTick, Acts}
+use Rattle.ert_effects.specs.MailCalls.{HandsOver, Takes}
+use Rattle.ert_effects.specs.RequestCalls.{Answers, DoesAsked}
+use Rattle.ert_effects.specs.TimerCalls.{Reads, read_entries, Cancels, cancel_entries, Starts, AreProbes, AreTaken, Closes}
+use Rattle.ert_effects.specs.Ways.{Growth, Way, Then, Many, Grows, alone}
+use Rattle.ert_effects.specs.WheelCalls.{Try, expires_by, expiry_entries, orphans_by, orphan_entries, TellsAlive, MarksExit}
+use Rattle.ert_effects.specs.declared.answers.Handed.{Handed}
+use Rattle.ert_effects.specs.declared.answers.Handed.TheVariants.{Put, Dropped}
+use Rattle.ert_effects.specs.declared.answers.StartErr.{StartErr}
+use Rattle.ert_effects.specs.declared.answers.StartErr.TheVariants as starts
+use Rattle.ert_effects.specs.declared.answers.Taken.{Taken}
+use Rattle.ert_effects.specs.declared.answers.Taken.TheVariants.{Mail, Empty, Exited}
+use Rattle.ert_effects.specs.declared.answers.Turned.{Turned}
 use Rattle.ert_clock.specs.Ticks.{tick_entries}
 use Rattle.ert_clock.specs.declared.clock.ClockErr.{ClockErr}
 use Rattle.ert_clock.specs.declared.clock.ClockErr.TheVariants.{BadReading, OffsetWide}

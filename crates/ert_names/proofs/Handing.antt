@@ -6,11 +6,11 @@ use Rattle.std.proofs.lemmas.List.Elements.{All-nil, All-push, filter_map-append
 use Rattle.std.specs.FinMap as finite
 use Rattle.std.specs.List.{cons_option, filter_map, remove}
 use Rattle.std.specs.Option.{is_some, option_map}
-use Rattle.ert_answers.specs.Chains.{Turns}
-use Rattle.ert_answers.specs.Ways.{Growth, Way, Then}
-use Rattle.ert_answers.specs.declared.answers.StartErr.{StartErr}
-use Rattle.ert_answers.specs.declared.answers.StartErr.TheVariants as starts
-use Rattle.ert_answers.specs.declared.answers.Turned.{Turned}
+use Rattle.ert_effects.specs.Chains.{Turns}
+use Rattle.ert_effects.specs.Ways.{Growth, Way, Then}
+use Rattle.ert_effects.specs.declared.answers.StartErr.{StartErr}
+use Rattle.ert_effects.specs.declared.answers.StartErr.TheVariants as starts
+use Rattle.ert_effects.specs.declared.answers.Turned.{Turned}
 use Rattle.ert_defs.specs.declared.memory.NoMemory.{NoMemory}
 use Rattle.ert_defs.specs.declared.settings.Settings.{Settings}
 use Rattle.ert_defs.specs.declared.timer.When.{When}
@@ -250,3 +250,10 @@ stopped a b c sched t turn is goes lone names rows mail hands = record {
   messages = hands.messages;
   hands = hands_after a b c sched t turn hands.messages (λ g. TakesMany g hands.messages) is goes lone names rows mail hands.hands;
 }
+
+-- the counts of those that were handed over and of those that were lost stay few
+pub few_handed : (handed lost n m : ℕ) → (handed + lost) + n ≤ 576460752303423488 → n ≡ m + 1 → ((handed + 1) + lost) + m ≤ 576460752303423488
+few_handed handed lost n m few fewer = omega (arith, few, fewer)
+
+pub few_lost : (handed lost n m : ℕ) → (handed + lost) + n ≤ 576460752303423488 → n ≡ m + 1 → (handed + (lost + 1)) + m ≤ 576460752303423488
+few_lost handed lost n m few fewer = omega (arith, few, fewer)

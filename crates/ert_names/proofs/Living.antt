@@ -5,11 +5,11 @@ use Rattle.std.proofs.lemmas.Bool.{eq-eqb}
 use Rattle.std.specs.Cmp.Lexicographic.{slice_cmp, nat_list_cmp_total}
 use Rattle.std.specs.FinMap as finite
 use Rattle.std.specs.Ordering.{nat_cmp, eq_by_cmp}
-use Rattle.ert_answers.specs.Chains.{Exits}
-use Rattle.ert_answers.specs.MailCalls.{Takes}
-use Rattle.ert_answers.specs.WheelCalls.{TellsAlive}
-use Rattle.ert_answers.specs.Ways.{Growth, Way, Grows, alone}
-use Rattle.ert_answers.specs.declared.answers.Taken.TheVariants.{Mail, Empty}
+use Rattle.ert_effects.specs.Chains.{Exits}
+use Rattle.ert_effects.specs.MailCalls.{Takes}
+use Rattle.ert_effects.specs.WheelCalls.{TellsAlive}
+use Rattle.ert_effects.specs.Ways.{Growth, Way, Grows, alone}
+use Rattle.ert_effects.specs.declared.answers.Taken.TheVariants.{Mail, Empty}
 use Rattle.ert_defs.proofs.Runs.{legal_then, state-append}
 use Rattle.ert_defs.specs.Entries.{mark_entry}
 use Rattle.ert_defs.specs.Legal.{Legal, LegalFrom}
@@ -55,6 +55,12 @@ pub names_by : (n : ℕ) (names : Names) (a b : Seen) (allows : Settings → Sta
     → ((q : ℕ) (s : State) (es : List Entry) → allows a.settings s es → AllFit n q es) → Goes a (By a allows) b → FitsNames n names a → FitsNames n names b
 names_by n names a b allows fitting goes fits =
     names_on n names a b (By a allows) (λ q h m made. fitting q (state a.settings h) m made) goes fits
+
+-- a look whether a process lives
+pub names_looked : (n : ℕ) (names : Names) (a b : Seen) (process : ℕ) (answer : Bool) → Goes a (By a (λ g. TellsAlive g (Caller 0) process answer)) b
+    → FitsNames n names a → FitsNames n names b
+names_looked n names a b process answer goes fits =
+    names_by n names a b (λ g. TellsAlive g (Caller 0) process answer) (λ q s es. alive_fits n q a.settings (Caller 0) process answer s es) goes fits
 
 pub names_more : (n m : ℕ) (names : Names) (a : Seen) → n ≤ m → FitsNames n names a → FitsNames m names a
 names_more n m names a more fits = record { fits = fits_more n m a more fits.fits; living = fits.living }

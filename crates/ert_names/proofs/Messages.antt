@@ -2,10 +2,10 @@
 
 use Rattle.std.proofs.Common.{◌≡◌, ℕ, true, false, List, [], ◌∷◌, ◌++◌, All, Some, None, sym, ap, subst, ◌∙◌}
 use Rattle.std.proofs.lemmas.List.Elements.{All-head}
-use Rattle.ert_answers.specs.MailCalls.{Takes}
-use Rattle.ert_answers.specs.Ways.{Grows, alone}
-use Rattle.ert_answers.specs.declared.answers.Taken.{Taken}
-use Rattle.ert_answers.specs.declared.answers.Taken.TheVariants.{Mail, Empty, Exited}
+use Rattle.ert_effects.specs.MailCalls.{Takes}
+use Rattle.ert_effects.specs.Ways.{Grows, alone}
+use Rattle.ert_effects.specs.declared.answers.Taken.{Taken}
+use Rattle.ert_effects.specs.declared.answers.Taken.TheVariants.{Mail, Empty, Exited}
 use Rattle.ert_defs.proofs.Runs.{legal_first, legal_then, state-append}
 use Rattle.ert_defs.specs.Entries.{mark_entry, take_entry}
 use Rattle.ert_defs.specs.Legal.{Legal, LegalFrom}

@@ -3,15 +3,15 @@
 use Rattle.std.specs.Prelude.{◌≡◌, ◌≢◌, ◌⊎◌, ℕ, zero, suc, ◌+◌, All, Bool, ◌<◌, ◌≤◌, true, false, cond, nat_eq, List, [], ◌∷◌, ◌++◌, length, slice_index_or, filter_map, Option, Some, None, option_map, Result, Ok, Err, codes}
 use Rattle.std.specs.FinMap as map
 use Rattle.std.specs.List.{remove}
-use Rattle.ert_answers.specs.Chains.{Turns}
-use Rattle.ert_answers.specs.MailCalls.{Takes}
-use Rattle.ert_answers.specs.TimerCalls.{Starts}
-use Rattle.ert_answers.specs.WheelCalls.{TellsAlive}
-use Rattle.ert_answers.specs.Ways.{Growth, Way, Then, Many}
-use Rattle.ert_answers.specs.declared.answers.StartErr.{StartErr}
-use Rattle.ert_answers.specs.declared.answers.StartErr.TheVariants as starts
-use Rattle.ert_answers.specs.declared.answers.Taken.TheVariants.{Mail as OneMail, Empty as NoMail}
-use Rattle.ert_answers.specs.declared.answers.Turned.{Turned}
+use Rattle.ert_effects.specs.Chains.{Turns}
+use Rattle.ert_effects.specs.MailCalls.{Takes}
+use Rattle.ert_effects.specs.TimerCalls.{Starts}
+use Rattle.ert_effects.specs.WheelCalls.{TellsAlive}
+use Rattle.ert_effects.specs.Ways.{Growth, Way, Then, Many}
+use Rattle.ert_effects.specs.declared.answers.StartErr.{StartErr}
+use Rattle.ert_effects.specs.declared.answers.StartErr.TheVariants as starts
+use Rattle.ert_effects.specs.declared.answers.Taken.TheVariants.{Mail as OneMail, Empty as NoMail}
+use Rattle.ert_effects.specs.declared.answers.Turned.{Turned}
 use Rattle.ert_defs.specs.States.{state}
 use Rattle.ert_defs.specs.declared.entry.Actor.TheVariants.{Caller}
 use Rattle.ert_defs.specs.declared.mail.Mail.TheVariants.{Timeout}

@@ -1,9 +1,9 @@
 -- How the messages of the registrar are handed over, one after the other.
 
 use Rattle.std.specs.Prelude.{◌≡◌, ℕ, ◌+◌, ◌<◌, Bool, List, [], ◌∷◌, length, Option, Some, None, is_some, Result, Ok, Err}
-use Rattle.ert_answers.specs.Ways.{Then}
-use Rattle.ert_answers.specs.declared.answers.Taken.{Taken}
-use Rattle.ert_answers.specs.declared.answers.Taken.TheVariants.{Mail as OneMail}
+use Rattle.ert_effects.specs.Ways.{Then}
+use Rattle.ert_effects.specs.declared.answers.Taken.{Taken}
+use Rattle.ert_effects.specs.declared.answers.Taken.TheVariants.{Mail as OneMail}
 use Rattle.ert_defs.specs.States.{state}
 use Rattle.ert_defs.specs.declared.mail.Mail.{Mail}
 use Rattle.ert_defs.specs.declared.mail.Mail.TheVariants.{Timeout}

@@ -7,11 +7,11 @@ use ert_timers::StartErr;
 
 impl NameWorld {
     ghost use Rattle.std.specs.Prelude.{◌≡◌, ◌≢◌, ◌<◌, Err};
-    ghost use Rattle.ert_answers.specs.Chains.{Exits};
-    ghost use Rattle.ert_answers.specs.ClockCalls.{Ticks};
-    ghost use Rattle.ert_answers.specs.MailCalls.{Takes};
-    ghost use Rattle.ert_answers.specs.TimerCalls.{Reads, Cancels, Starts};
-    ghost use Rattle.ert_answers.specs.declared.answers.StartErr.TheVariants.{NoMemory};
+    ghost use Rattle.ert_effects.specs.Chains.{Exits};
+    ghost use Rattle.ert_effects.specs.ClockCalls.{Ticks};
+    ghost use Rattle.ert_effects.specs.MailCalls.{Takes};
+    ghost use Rattle.ert_effects.specs.TimerCalls.{Reads, Cancels, Starts};
+    ghost use Rattle.ert_effects.specs.declared.answers.StartErr.TheVariants.{NoMemory};
     ghost use Rattle.ert_clock.specs.Ticks.{act_of, Gives};
     ghost use Rattle.ert_defs.specs.declared.entry.Actor.TheVariants.{Caller};
     ghost use Rattle.ert_names.specs.Calls.{GoesAlone, HasExited};

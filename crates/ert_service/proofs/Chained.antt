@@ -1,29 +1,26 @@
--- Steps one after the other are a call, whatever the way.
+-- What is known after the steps of a service, and at a seat.
 
-use Rattle.std.proofs.Common.{◌≡◌, ℕ, suc, ◌+◌, ◌<◌, ◌≤◌, Bool, true, ◌&&◌, List, [], ◌∷◌, ◌++◌, length, Some, Ok, Err, inr, refl, sym, ap, subst, ◌∙◌, arith, append-nil, append_assoc, eq-eqb}
-use Rattle.std.specs.Prelude.{nat_eq, not}
-use Rattle.ert_answers.proofs.Growing.{grows_then, grows_as, grows_more}
-use Rattle.ert_answers.specs.Chains.{Serves, ServesMany, ServesAll, times, AdvancesWheel, Hands, HandsMany, Delivers, Turns, SweepsWheel, SweepsWheels, Exits}
-use Rattle.ert_answers.specs.WheelCalls.{MarksExit}
-use Rattle.ert_answers.specs.Ways.{Growth, Way, Grows, Many}
-use Rattle.ert_answers.specs.declared.answers.Handed.{Handed}
+use Rattle.std.proofs.Common.{◌≡◌, ℕ, ◌<◌, ◌≤◌, Bool, true, ◌&&◌, List, [], ◌∷◌, ◌++◌, length, Some, Result, Ok, Err, refl, sym, ap, subst, ◌∙◌, arith, append_assoc, eq-eqb}
+use Rattle.std.specs.Prelude.{nat_eq, not, OnOk}
+use Rattle.ert_effects.specs.Chains.{Delivers, Turns}
+use Rattle.ert_effects.specs.WheelCalls.{MarksExit}
+use Rattle.ert_effects.specs.Ways.{Growth, Way, Grows, beside}
+use Rattle.ert_effects.specs.declared.answers.Turned.{Turned}
 use Rattle.ert_defs.proofs.Runs.{state-append, exit_stays}
-use Rattle.ert_defs.specs.Entries.{mark_entry}
+use Rattle.ert_defs.specs.Entries.{mark_entry, is_ours}
 use Rattle.ert_defs.specs.Mails.{first_of}
 use Rattle.ert_defs.specs.States.{State, next, state}
 use Rattle.ert_defs.specs.Timers.{Row}
 use Rattle.ert_defs.specs.declared.entry.Actor.{Actor}
-use Rattle.ert_defs.specs.declared.entry.Actor.TheVariants.{Caller}
 use Rattle.ert_defs.specs.declared.entry.Entry.{Entry}
 use Rattle.ert_defs.specs.declared.mail.Request.{Request}
 use Rattle.ert_defs.specs.declared.memory.NoMemory.{NoMemory}
 use Rattle.ert_defs.specs.declared.settings.Settings.{Settings}
-use Rattle.ert_world.proofs.Composed.{times_more, sweeps_more}
-use Rattle.ert_defs.specs.Entries.{is_ours}
 use Rattle.ert_laws.proofs.Few.{fired_few}
 use Rattle.ert_laws.proofs.Requests.{held_have_askers}
 use Rattle.ert_laws.proofs.RowRanges.{first_placed}
-use Rattle.ert_service.proofs.Settling.{place}
+use Rattle.ert_service.proofs.Settling.{place, turns_leave_none}
+use Rattle.ert_service.specs.Settled.{NoneWaits}
 use Rattle.ert_world.specs.Parts.{SchedStands}
 use Rattle.ert_table.proofs.Holders.{or_right}
 use Rattle.ert_table.proofs.OneStep.{legal_by}
@@ -34,54 +31,16 @@ use Rattle.ert_table.specs.declared.view.View.{View}
 use native.Mathlib.Bridge.{le_prop}
 use Rattle.ert_world.specs.declared.sched_part.SchedPart.{SchedPart}
 
-arith_suc : (n : ℕ) → suc n ≡ n + 1
-arith_suc n = omega arith
+-- after a turn no expired timer waits, nor after all were handed over
+pub turn_ends : (g : Settings) (a : Actor) (wheel : ℕ) (answer : Result Turned NoMemory) (f h : List Entry) → Grows (Turns g (beside g a) wheel answer) f h
+    → OnOk answer (NoneWaits (state g h) wheel)
+turn_ends g a wheel (Ok t) f h call = turns_leave_none g a wheel t f h call
+turn_ends g a wheel (Err e) f h call = tt
 
--- one request more is served
-pub served_more : (g : Settings) (way : Way) (f h k : List Entry) (w n : ℕ) → Grows (ServesMany g way w n) f h
-    → Grows (Serves g way w (Ok true)) h k → Grows (ServesMany g way w (n + 1)) f k
-served_more g way f h k w n one other =
-    subst (λ i. Grows (ServesMany g way w i) f k) (arith_suc n)
-    (subst (λ l. Grows (Many (λ (one : Unit {0}). Serves g way w (Ok true)) l) f k) (times_more n)
-    (grows_more (λ (one : Unit {0}). Serves g way w (Ok true)) (times n) tt f h k one other))
-
--- 64 are served
-pub served_most : (g : Settings) (way : Way) (f h : List Entry) (w : ℕ) → Grows (ServesMany g way w 64) f h → Grows (ServesAll g way w (Ok 64)) f h
-served_most g way f h w one = grows_as _ (ServesAll g way w (Ok 64)) f h (λ m steps. (omega arith, steps)) one
-
--- one timer more is handed over
-pub handed_more : (g : Settings) (way : Way) (f h k : List Entry) (w : ℕ) (hows : List Handed) (how : Handed) → Grows (HandsMany g way w hows) f h
-    → Grows (Hands g way w (Ok how)) h k → Grows (HandsMany g way w (hows ++ how ∷ [])) f k
-handed_more g way f h k w hows how one other = grows_more (λ how. Hands g way w (Ok how)) hows how f h k one other
-
--- a turn stops for want of memory when it delivers
-pub turn_undelivered : (g : Settings) (way : Way) (f h i k : List Entry) (w served : ℕ) (answer : ℕ × ℕ) (e : NoMemory) → Grows (ServesAll g way w (Ok served)) f h
-    → Grows (AdvancesWheel g way w (Ok answer)) h i → Grows (Delivers g way w (Err e)) i k → Grows (Turns g way w (Err e)) f k
-turn_undelivered g way f h i k w served answer e one two three =
-    grows_as _ (Turns g way w (Err e)) f k (λ m steps. inr (inr (served, answer, steps)))
-    (grows_then (ServesAll g way w (Ok served)) _ f h k one (grows_then (AdvancesWheel g way w (Ok answer)) (Delivers g way w (Err e)) h i k two three))
-
--- no wheel is swept, and one more
-pub swept_none : (g : Settings) (way : Way) (by p : ℕ) (f : List Entry) → Grows (SweepsWheels g way by p 0 0) f f
-swept_none g way by p f = record { piece = []; grown = sym (append-nil f); made = refl }
-
-pub swept_more : (g : Settings) (way : Way) (by p n : ℕ) (f h k : List Entry) → Grows (SweepsWheels g way by p 0 n) f h
-    → Grows (SweepsWheel g way by p n) h k → Grows (SweepsWheels g way by p 0 (n + 1)) f k
-swept_more g way by p n f h k one last = record {
-  piece = one.piece ++ last.piece;
-  grown = last.grown ∙ (ap (λ l. l ++ last.piece) one.grown ∙ append_assoc f one.piece last.piece);
-  made = subst (λ i. SweepsWheels g way by p 0 i f (one.piece ++ last.piece)) (arith_suc n)
-      (sweeps_more g way by p 0 n f one.piece last.piece one.made
-      (subst (λ i. SweepsWheel g way by p i (f ++ one.piece) last.piece) (from_zero n)
-      (subst (λ l. SweepsWheel g way by p n l last.piece) one.grown last.made)));
-}
-  where
-    from_zero : (n : ℕ) → n ≡ 0 + n
-    from_zero n = omega arith
-
-pub exited : (g : Settings) (way : Way) (by p : ℕ) (f h k : List Entry) → Grows (way [] (MarksExit g (Caller by) p true)) f h
-    → Grows (SweepsWheels g way by p 0 g.schedulers) h k → Grows (Exits g way by p true) f k
-exited g way by p f h k one other = grows_then (way [] (MarksExit g (Caller by) p true)) (SweepsWheels g way by p 0 g.schedulers) f h k one other
+pub deliver_ends : (g : Settings) (way : Way) (wheel : ℕ) (answer : Result (ℕ × ℕ) NoMemory) (f h : List Entry) → Grows (Delivers g way wheel answer) f h
+    → OnOk answer (NoneWaits (state g h) wheel)
+deliver_ends g way wheel (Ok counts) f h call = subst (λ l. NoneWaits (state g l) wheel) (sym call.grown) call.made.done
+deliver_ends g way wheel (Err e) f h call = tt
 
 -- a process that has exited stays so
 pub still_exited : (g : Settings) (call : Growth) (p : ℕ) (f h : List Entry) → Grows call f h → (state g f).exited p ≡ true → (state g h).exited p ≡ true

@@ -5,14 +5,14 @@ use Rattle.std.proofs.Common.{◌≡◌, ◌≢◌, ⊎_elim, ℕ, zero, suc, �
 use Rattle.std.specs.Prelude.{nat_eq, nat_le, IfOk}
 use Rattle.std.proofs.lemmas.Bool.{le-leb, true_from_ne_false}
 use Rattle.std.proofs.lemmas.List.Elements.{Contains-append_left}
-use Rattle.ert_answers.proofs.Growing.{filter_within}
-use Rattle.ert_answers.proofs.Swept.{exits_settle_timers}
-use Rattle.ert_answers.proofs.TurnEnds.{turns_end}
-use Rattle.ert_answers.specs.Chains.{AdvancesWheel, Exits}
-use Rattle.ert_answers.specs.TimerCalls.{Starts, Closes, IsMissed}
-use Rattle.ert_answers.specs.WheelCalls.{expiry_entries}
-use Rattle.ert_answers.specs.Ways.{Whole, Grows, beside}
-use Rattle.ert_answers.specs.declared.answers.StartErr.{StartErr}
+use Rattle.ert_effects.proofs.Growing.{filter_within}
+use Rattle.ert_effects.proofs.Swept.{exits_settle_timers}
+use Rattle.ert_effects.proofs.TurnEnds.{turns_end}
+use Rattle.ert_effects.specs.Chains.{AdvancesWheel, Exits}
+use Rattle.ert_effects.specs.TimerCalls.{Starts, Closes, IsMissed}
+use Rattle.ert_effects.specs.WheelCalls.{expiry_entries}
+use Rattle.ert_effects.specs.Ways.{Whole, Grows, beside}
+use Rattle.ert_effects.specs.declared.answers.StartErr.{StartErr}
 use Rattle.ert_defs.specs.Actors.{has_actor, IsFree}
 use Rattle.ert_defs.specs.Entries.{is_ours, look_entry, arm_entry, mark_entry, probe_entry, orphan_entry, advanced_entry}
 use Rattle.ert_defs.specs.Laws.{has_settled}
@@ -36,7 +36,7 @@ use Rattle.ert_defs.proofs.Settlings.{rows_stay_settled, settled_timers_stay}
 use Rattle.ert_defs.proofs.FiredTimers.{same_timer_self}
 use Rattle.ert_defs.proofs.Slots.{ordered}
 use Rattle.ert_defs.proofs.Uses.{Use, before_self}
-use Rattle.ert_service.specs.Settled.{LawOfAdvances, LawOfExits, LawOfStarts, LawOfTurns, NoneDue, NoneFor, NoneWaits, IsSettled}
+use Rattle.ert_service.specs.Settled.{LawOfAdvances, LawOfExits, LawOfStarts, LawOfTurns, NoneDue, NoneFor, NoneWaits, WasSettled}
 use Rattle.ert_table.proofs.Holders.{or_left}
 use Rattle.ert_table.proofs.OneStep.{legal_by}
 use Rattle.ert_table.specs.Desks.{front_of}
@@ -254,7 +254,7 @@ exits_settle g a by process wheel row f h after legal call low among dest =
 pub starts_settle : LawOfStarts
 starts_settle g a by wheel start timer f h after legal call was =
     let on = grown_on f h call.piece after call.grown in
-    subst (λ l. IsSettled (state g l) timer) (sym on)
+    subst (λ l. WasSettled (state g l) timer) (sym on)
     (start_settled g a by wheel start timer f call.piece after (subst (Legal g) on legal) call.made was)
 
 pub turns_leave_none : LawOfTurns
@@ -325,14 +325,14 @@ start_was g a by wheel start timer f m legal step exited =
 -- so its timer is settled at the end
 pub settled_in : (g : Settings) (a : Actor) (by wheel : ℕ) (start : Start) (answer : Result TimerRef StartErr) (f : List Entry) (p : Pass) → p.seat.me.0.settings ≡ Some g
     → (state g f).exited start.dest ≡ true → Grows (beside g a (Wheel wheel ∷ []) (Starts g by wheel start answer)) f (front_of p)
-    → IfOk answer (λ timer. IsSettled (state g (front_of p)) timer)
+    → IfOk answer (λ timer. WasSettled (state g (front_of p)) timer)
 settled_in g a by wheel start (Ok timer) f p named exited call =
     true_from_ne_false (has_settled ((state g (front_of p)).status timer)) (λ isnt.
     refute_by g p named (λ legal.
     let was = start_was g a by wheel start timer f call.piece (subst (Legal g) call.grown legal) call.made exited in
     let settled = starts_settle g a by wheel start timer f (front_of p) [] (subst (Legal g) (sym (append-nil (front_of p))) legal) call was in
-    let here : IsSettled (state g (front_of p)) timer =
-    subst (λ l. IsSettled (state g l) timer) (append-nil (front_of p)) settled in
+    let here : WasSettled (state g (front_of p)) timer =
+    subst (λ l. WasSettled (state g l) timer) (append-nil (front_of p)) settled in
     let clash : true ≡ false = sym here ∙ isnt in
     absurd cc))
 settled_in g a by wheel start (Err e) f p named exited call = tt

@@ -1,15 +1,10 @@
 -- What a front shows.
 
-use Rattle.std.specs.Prelude.{◌≡◌, ℕ, true, List}
+use Rattle.std.specs.Prelude.{List}
 use Rattle.ert_defs.specs.Legal.{Legal}
-use Rattle.ert_defs.specs.States.{state}
 use Rattle.ert_defs.specs.declared.entry.Entry.{Entry}
 use Rattle.ert_defs.specs.declared.settings.Settings.{Settings}
 
 -- a history is legal, as a bare fact: it shows whatever has one proof at most, as an equation, an order or a denial
 abbrev pub IsLegal : Settings → List Entry → Type 0
 IsLegal g h = ∥ Legal g h ∥₁
-
--- a process has exited
-abbrev pub HasExited : Settings → List Entry → ℕ → Type 0
-HasExited g h process = (state g h).exited process ≡ true

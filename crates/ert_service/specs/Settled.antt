@@ -2,10 +2,10 @@
 -- that they are proved.
 
 use Rattle.std.specs.Prelude.{◌≡◌, ◌≢◌, ℕ, ◌<◌, ◌≤◌, true, Contains, List, [], ◌∷◌, ◌++◌, Some, Ok}
-use Rattle.ert_answers.specs.Chains.{AdvancesWheel, Exits, Turns}
-use Rattle.ert_answers.specs.TimerCalls.{Starts}
-use Rattle.ert_answers.specs.Ways.{Grows, beside}
-use Rattle.ert_answers.specs.declared.answers.Turned.{Turned}
+use Rattle.ert_effects.specs.Chains.{AdvancesWheel, Exits, Turns}
+use Rattle.ert_effects.specs.TimerCalls.{Starts}
+use Rattle.ert_effects.specs.Ways.{Grows, beside}
+use Rattle.ert_effects.specs.declared.answers.Turned.{Turned}
 use Rattle.ert_defs.specs.Laws.{has_settled}
 use Rattle.ert_defs.specs.Legal.{Legal}
 use Rattle.ert_defs.specs.States.{State, state}
@@ -31,8 +31,8 @@ abbrev pub NoneWaits : State → ℕ → Type 0
 NoneWaits s wheel = (s.scheds wheel).fired ≡ []
 
 -- a timer was started and has been settled
-abbrev pub IsSettled : State → TimerRef → Type 0
-IsSettled s timer = has_settled (s.status timer) ≡ true
+abbrev pub WasSettled : State → TimerRef → Type 0
+WasSettled s timer = has_settled (s.status timer) ≡ true
 
 -- after an advance to a time, no timer is armed that the wheel has by then and that is due, whatever comes
 -- after the call
@@ -54,7 +54,7 @@ LawOfExits = (g : Settings) (a : Actor) (by process wheel : ℕ) (row : Row) (f 
 abbrev pub LawOfStarts : Type 0
 LawOfStarts = (g : Settings) (a : Actor) (by wheel : ℕ) (start : Start) (timer : TimerRef) (f h after : List Entry) → Legal g (h ++ after)
     → (call : Grows (beside g a (Wheel wheel ∷ []) (Starts g by wheel start (Ok timer))) f h) → call.made.allowed.was ≡ true
-    → IsSettled (state g (h ++ after)) timer
+    → WasSettled (state g (h ++ after)) timer
 
 -- after a turn no expired timer waits at the scheduler
 abbrev pub LawOfTurns : Type 0

@@ -2,22 +2,22 @@
 #![tactic(auto, using(crate::proofs::LegalFronts::legal_front))]
 
 use crate::service::Service;
-use ert_answers::StartErr;
 use ert_clock::{ClockErr, Moved};
 use ert_defs::{OffsetState, Reading, Start, TimerRef};
+use ert_effects::StartErr;
 use ert_locks::{CallerSeat, DeskName};
 use std::sync::Wait;
 
 impl<L: DeskName> Service<L> {
     ghost use Rattle.std.specs.Prelude.{◌≡◌, ◌≢◌, ◌<◌, Err, IfOk};
-    ghost use Rattle.ert_answers.specs.ClockCalls.{Ticks, Finalizes};
-    ghost use Rattle.ert_answers.specs.TimerCalls.{Starts};
-    ghost use Rattle.ert_answers.specs.declared.answers.StartErr.TheVariants.{NoMemory as WantOfMemory};
-    ghost use Rattle.ert_defs.specs.States.{state};
+    ghost use Rattle.ert_effects.specs.ClockCalls.{Ticks, Finalizes};
+    ghost use Rattle.ert_effects.specs.TimerCalls.{Starts};
+    ghost use Rattle.ert_effects.specs.declared.answers.StartErr.TheVariants.{NoMemory as WantOfMemory};
+    ghost use Rattle.ert_defs.specs.States.{HasExited, state};
     ghost use Rattle.ert_defs.specs.declared.entry.Actor.TheVariants.{Keeper, Wheel, Caller};
     ghost use Rattle.ert_locks.specs.Passes.{StepsWith};
-    ghost use Rattle.ert_service.specs.Fronts.{HasExited, IsLegal};
-    ghost use Rattle.ert_service.specs.Settled.{IsSettled};
+    ghost use Rattle.ert_service.specs.Fronts.{IsLegal};
+    ghost use Rattle.ert_service.specs.Settled.{WasSettled};
     ghost use Rattle.ert_table.specs.Desks.{front_of};
 
     /// Takes one reading of the OS clocks. `force` asks for a check of the clock, as if one were due.
@@ -26,13 +26,13 @@ impl<L: DeskName> Service<L> {
     pub fn tick<R: Wait>(
         &self,
         rt: &R,
-        seat: CallerSeat<L>,
+        seat: &mut CallerSeat<L>,
         reading: Reading,
         force: bool,
-    ) -> (CallerSeat<L>, Result<Moved, ClockErr>)
-        ensures number { result.0.number ≡ seat.number }
-        ensures call { StepsWith L.settings (Caller seat.number) Keeper (Ticks L.settings seat.number reading force result.1) seat.pass result.0.pass }
-        ensures legal { IsLegal L.settings (front_of result.0.pass) }
+    ) -> Result<Moved, ClockErr>
+        ensures call { StepsWith L.settings (Caller seat.old.number) Keeper (Ticks L.settings seat.old.number reading force result) seat.old.pass seat.new.pass }
+        ensures number { seat.new.number ≡ seat.old.number }
+        ensures legal { IsLegal L.settings (front_of seat.new.pass) }
     {
         self.keeper.lock(rt).tick(self.desk(), seat, reading, force)
     }
@@ -44,12 +44,12 @@ impl<L: DeskName> Service<L> {
     pub fn finalize<R: Wait>(
         &self,
         rt: &R,
-        seat: CallerSeat<L>,
+        seat: &mut CallerSeat<L>,
         reading: Reading,
-    ) -> (CallerSeat<L>, Result<(OffsetState, Moved), ClockErr>)
-        ensures number { result.0.number ≡ seat.number }
-        ensures call { StepsWith L.settings (Caller seat.number) Keeper (Finalizes L.settings seat.number reading result.1) seat.pass result.0.pass }
-        ensures legal { IsLegal L.settings (front_of result.0.pass) }
+    ) -> Result<(OffsetState, Moved), ClockErr>
+        ensures call { StepsWith L.settings (Caller seat.old.number) Keeper (Finalizes L.settings seat.old.number reading result) seat.old.pass seat.new.pass }
+        ensures number { seat.new.number ≡ seat.old.number }
+        ensures legal { IsLegal L.settings (front_of seat.new.pass) }
     {
         self.keeper.lock(rt).finalize(self.desk(), seat, reading)
     }
@@ -62,19 +62,19 @@ impl<L: DeskName> Service<L> {
     pub fn start<R: Wait>(
         &self,
         rt: &R,
-        seat: CallerSeat<L>,
+        seat: &mut CallerSeat<L>,
         wheel: u32,
         start: &Start,
-    ) -> (CallerSeat<L>, Result<TimerRef, StartErr>)
+    ) -> Result<TimerRef, StartErr>
         requires wheel { wheel < L.settings.schedulers }
         requires dest { start.now.dest < L.settings.processes }
-        ensures number { result.0.number ≡ seat.number }
-        ensures memory { result.1 ≢ Err WantOfMemory }
-        ensures settled { HasExited L.settings (front_of seat.pass) start.now.dest
-            → IfOk result.1 (λ timer. IsSettled (state L.settings (front_of result.0.pass)) timer) }
-        ensures call { StepsWith L.settings (Caller seat.number) (Wheel wheel)
-            (Starts L.settings seat.number wheel start.now result.1) seat.pass result.0.pass }
-        ensures legal { IsLegal L.settings (front_of result.0.pass) }
+        ensures memory { result ≢ Err WantOfMemory }
+        ensures settled { HasExited L.settings (front_of seat.old.pass) start.now.dest
+            → IfOk result (λ timer. WasSettled (state L.settings (front_of seat.new.pass)) timer) }
+        ensures call { StepsWith L.settings (Caller seat.old.number) (Wheel wheel)
+            (Starts L.settings seat.old.number wheel start.now result) seat.old.pass seat.new.pass }
+        ensures number { seat.new.number ≡ seat.old.number }
+        ensures legal { IsLegal L.settings (front_of seat.new.pass) }
     {
         self.wheels.at(rt, wheel).start(self.desk(), seat, start)
     }

@@ -1,25 +1,24 @@
 //! The service for many threads: one desk, and every part behind a lock of its own.
 //!
 //! **What it is.** Threads share a `Service` by a `&`. A thread acts as a caller or as a scheduler, by its
-//! seat (`ert_locks`), which each call takes and gives back. The calls of `ert_calls` take the seat's pass and
+//! seat (`ert_locks`), which is lent to each call by `&mut`. The calls of `ert_calls` take the seat's pass and
 //! the desk (`Service::desk`), and no lock. Each other call takes the lock of the part that it needs, one
 //! after the other where it needs several, and at most one is held at a time.
 //!
 //! **What it promises.** Each call that returns takes place: the history has grown by it, in the words that
-//! tell a call of one thread too (`ert_answers`), said over the way `beside`. So from the place at which a
+//! tell a call of one thread too (`ert_effects`), said over the way `beside`. So from the place at which a
 //! call gets a lock on, no other entry of the seat's actor or of the part stands between its own, and they
 //! are allowed in the state at that place. A call that has taken several locks is the chain of its steps,
-//! between which others may step. What the seat that a call gives back knows is a legal history.
+//! between which others may step. What a seat knows is a legal history.
 //!
 //! Which number a lock guards is known to nobody but who holds it. So a call that finds another number lets
 //! go and tries again. Nothing is claimed of progress: a call may wait for a lock for ever.
 //!
-//! It stands on `ert_locks` and `ert_world`, on the parts' crates, `ert_calls`, `ert_table` and `ert_answers`.
+//! It stands on `ert_locks` and `ert_world`, on the parts' crates, `ert_calls`, `ert_table` and `ert_effects`.
 #![tactic(auto)]
 
 mod clock_calls;
 mod exits;
-mod gates;
 mod joining;
 mod laws;
 mod mail_calls;
@@ -27,10 +26,10 @@ mod opening;
 mod rooms;
 mod sched_steps;
 mod service;
+mod sitting;
 mod turns;
 
-pub use ert_answers::Turned;
+pub use ert_effects::Turned;
 pub use ert_locks::{CallerSeat, DeskName, SchedSeat};
-pub use gates::{FreeGate, Gate, LedgerGate};
 pub use laws::calls_settle_timers;
 pub use service::{Opened, Service};

@@ -9,8 +9,8 @@ use std::sync::Wait;
 
 impl<L: DeskName> Service<L> {
     ghost use Rattle.std.specs.Prelude.{◌≡◌, ◌<◌};
-    ghost use Rattle.ert_answers.specs.MailCalls.{Takes, Monitors, Demonitors, Tells};
-    ghost use Rattle.ert_answers.specs.RequestCalls.{Asks, inbox_for};
+    ghost use Rattle.ert_effects.specs.MailCalls.{Takes, Monitors, Demonitors, Tells};
+    ghost use Rattle.ert_effects.specs.RequestCalls.{Asks, inbox_for};
     ghost use Rattle.ert_defs.specs.declared.entry.Actor.TheVariants.{Inbox, MailOf, Caller};
     ghost use Rattle.ert_locks.specs.Passes.{StepsWith};
     ghost use Rattle.ert_service.specs.Fronts.{IsLegal};
@@ -23,39 +23,26 @@ impl<L: DeskName> Service<L> {
     pub fn ask<R: Wait>(
         &self,
         rt: &R,
-        seat: CallerSeat<L>,
+        seat: &mut CallerSeat<L>,
         request: Request,
-    ) -> (CallerSeat<L>, Result<(), NoMemory>)
+    ) -> Result<(), NoMemory>
         requires { request.reply_to < L.settings.processes }
-        ensures number { result.0.number ≡ seat.number }
-        ensures call { StepsWith L.settings (Caller seat.number) (Inbox (inbox_for L.settings request))
-            (Asks L.settings seat.number (inbox_for L.settings request) request result.1) seat.pass result.0.pass }
-        ensures legal { IsLegal L.settings (front_of result.0.pass) }
+        ensures call { StepsWith L.settings (Caller seat.old.number) (Inbox (inbox_for L.settings request))
+            (Asks L.settings seat.old.number (inbox_for L.settings request) request result) seat.old.pass seat.new.pass }
+        ensures number { seat.new.number ≡ seat.old.number }
+        ensures legal { IsLegal L.settings (front_of seat.new.pass) }
     {
-        let wheel = self.inbox_for(&request);
+        let wheel = request.inbox(self.desk().settings());
         self.inboxes.at(rt, wheel).ask(self.desk(), seat, request)
-    }
-
-    /// The number of the inbox that a request goes to. There is at least one.
-    fn inbox_for(&self, request: &Request) -> u32
-        ensures value { result ≡ inbox_for L.settings request.now }
-        ensures in_range { result < L.settings.schedulers }
-    {
-        let wheel = request.timer.wheel;
-        if wheel < self.desk().settings().schedulers {
-            wheel
-        } else {
-            0
-        }
     }
 
     /// Takes the first message of a process (`receive`): Exited where the process has exited, whatever it
     /// has, and Empty where it has none.
-    pub fn take<R: Wait>(&self, rt: &R, seat: CallerSeat<L>, process: u32) -> (CallerSeat<L>, Taken)
+    pub fn take<R: Wait>(&self, rt: &R, seat: &mut CallerSeat<L>, process: u32) -> Taken
         requires { process < L.settings.processes }
-        ensures number { result.0.number ≡ seat.number }
-        ensures call { StepsWith L.settings (Caller seat.number) (MailOf process) (Takes L.settings seat.number process result.1) seat.pass result.0.pass }
-        ensures legal { IsLegal L.settings (front_of result.0.pass) }
+        ensures call { StepsWith L.settings (Caller seat.old.number) (MailOf process) (Takes L.settings seat.old.number process result) seat.old.pass seat.new.pass }
+        ensures number { seat.new.number ≡ seat.old.number }
+        ensures legal { IsLegal L.settings (front_of seat.new.pass) }
     {
         self.mails.at(rt, process).take(self.desk(), seat)
     }
@@ -68,13 +55,13 @@ impl<L: DeskName> Service<L> {
     pub fn monitor<R: Wait>(
         &self,
         rt: &R,
-        seat: CallerSeat<L>,
+        seat: &mut CallerSeat<L>,
         process: u32,
-    ) -> (CallerSeat<L>, Result<u32, MonitorErr>)
+    ) -> Result<u32, MonitorErr>
         requires { process < L.settings.processes }
-        ensures number { result.0.number ≡ seat.number }
-        ensures call { StepsWith L.settings (Caller seat.number) (MailOf process) (Monitors L.settings seat.number process result.1) seat.pass result.0.pass }
-        ensures legal { IsLegal L.settings (front_of result.0.pass) }
+        ensures call { StepsWith L.settings (Caller seat.old.number) (MailOf process) (Monitors L.settings seat.old.number process result) seat.old.pass seat.new.pass }
+        ensures number { seat.new.number ≡ seat.old.number }
+        ensures legal { IsLegal L.settings (front_of seat.new.pass) }
     {
         self.mails.at(rt, process).monitor(self.desk(), seat)
     }
@@ -83,15 +70,15 @@ impl<L: DeskName> Service<L> {
     pub fn demonitor<R: Wait>(
         &self,
         rt: &R,
-        seat: CallerSeat<L>,
+        seat: &mut CallerSeat<L>,
         process: u32,
         monitor: u32,
-    ) -> (CallerSeat<L>, bool)
+    ) -> bool
         requires { process < L.settings.processes }
-        ensures number { result.0.number ≡ seat.number }
-        ensures call { StepsWith L.settings (Caller seat.number) (MailOf process)
-            (Demonitors L.settings seat.number process monitor result.1) seat.pass result.0.pass }
-        ensures legal { IsLegal L.settings (front_of result.0.pass) }
+        ensures call { StepsWith L.settings (Caller seat.old.number) (MailOf process)
+            (Demonitors L.settings seat.old.number process monitor result) seat.old.pass seat.new.pass }
+        ensures number { seat.new.number ≡ seat.old.number }
+        ensures legal { IsLegal L.settings (front_of seat.new.pass) }
     {
         self.mails
             .at(rt, process)
@@ -105,13 +92,13 @@ impl<L: DeskName> Service<L> {
     pub fn tell<R: Wait>(
         &self,
         rt: &R,
-        seat: CallerSeat<L>,
+        seat: &mut CallerSeat<L>,
         process: u32,
-    ) -> (CallerSeat<L>, Result<u32, NoMemory>)
+    ) -> Result<u32, NoMemory>
         requires { process < L.settings.processes }
-        ensures number { result.0.number ≡ seat.number }
-        ensures call { StepsWith L.settings (Caller seat.number) (MailOf process) (Tells L.settings seat.number process result.1) seat.pass result.0.pass }
-        ensures legal { IsLegal L.settings (front_of result.0.pass) }
+        ensures call { StepsWith L.settings (Caller seat.old.number) (MailOf process) (Tells L.settings seat.old.number process result) seat.old.pass seat.new.pass }
+        ensures number { seat.new.number ≡ seat.old.number }
+        ensures legal { IsLegal L.settings (front_of seat.new.pass) }
     {
         self.mails.at(rt, process).tell(self.desk(), seat)
     }

@@ -12,9 +12,9 @@ use std::sync::Wait;
 
 impl<L: DeskName> Service<L> {
     ghost use Rattle.std.specs.Prelude.{◌≡◌, ◌<◌, Some, None, IfOk, OnOk};
-    ghost use Rattle.ert_answers.specs.Chains.{Holds, AdvancesWheel, Hands};
-    ghost use Rattle.ert_answers.specs.RequestCalls.{Picks, Answers};
-    ghost use Rattle.ert_answers.specs.Ways.{beside};
+    ghost use Rattle.ert_effects.specs.Chains.{Holds, AdvancesWheel, Hands};
+    ghost use Rattle.ert_effects.specs.RequestCalls.{Picks, Answers};
+    ghost use Rattle.ert_effects.specs.Ways.{beside};
     ghost use Rattle.ert_defs.specs.Mails.{first_of, others_of};
     ghost use Rattle.ert_defs.specs.States.{state};
     ghost use Rattle.ert_defs.specs.declared.entry.Actor.TheVariants.{Inbox, Sched, MailOf};
@@ -24,28 +24,24 @@ impl<L: DeskName> Service<L> {
     ghost use Rattle.ert_table.specs.Desks.{front_of};
 
     /// The request in a scheduler's hand. Where the hand is empty, the first of the inbox is taken into it.
-    pub(crate) fn hold<R: Wait>(
-        &self,
-        rt: &R,
-        seat: SchedSeat<L>,
-    ) -> (SchedSeat<L>, Option<Request>)
-        ensures number { result.0.part.wheel ≡ seat.part.wheel }
-        ensures hand { result.0.part.hand ≡ result.1 }
-        ensures call { FrontGrows (Holds L.settings (beside L.settings (Sched seat.part.wheel)) seat.part.wheel result.1) seat.pass result.0.pass }
+    pub(crate) fn hold<R: Wait>(&self, rt: &R, seat: &mut SchedSeat<L>) -> Option<Request>
+        ensures hand { seat.new.part.hand ≡ result }
+        ensures call { FrontGrows (Holds L.settings (beside L.settings (Sched seat.old.part.wheel)) seat.old.part.wheel result) seat.old.pass seat.new.pass }
+        ensures number { seat.new.part.wheel ≡ seat.old.part.wheel }
     {
         match seat.part.hand {
-            Some(request) => (seat, Some(request)),
+            Some(request) => Some(request),
             None => self.pick(rt, seat),
         }
     }
 
     /// Takes the first request of the inbox into the empty hand.
-    fn pick<R: Wait>(&self, rt: &R, seat: SchedSeat<L>) -> (SchedSeat<L>, Option<Request>)
-        requires empty { seat.part.hand ≡ None }
-        ensures number { result.0.part.wheel ≡ seat.part.wheel }
-        ensures hand { result.0.part.hand ≡ result.1 }
-        ensures call { StepsWith L.settings (Sched seat.part.wheel) (Inbox seat.part.wheel)
-            (Picks L.settings seat.part.wheel result.1) seat.pass result.0.pass }
+    fn pick<R: Wait>(&self, rt: &R, seat: &mut SchedSeat<L>) -> Option<Request>
+        requires empty { seat.old.part.hand ≡ None }
+        ensures hand { seat.new.part.hand ≡ result }
+        ensures call { StepsWith L.settings (Sched seat.old.part.wheel) (Inbox seat.old.part.wheel)
+            (Picks L.settings seat.old.part.wheel result) seat.old.pass seat.new.pass }
+        ensures number { seat.new.part.wheel ≡ seat.old.part.wheel }
     {
         let wheel = seat.part.wheel;
         self.inboxes.at(rt, wheel).pick(self.desk(), seat)
@@ -55,15 +51,15 @@ impl<L: DeskName> Service<L> {
     pub(crate) fn answer<R: Wait>(
         &self,
         rt: &R,
-        seat: SchedSeat<L>,
+        seat: &mut SchedSeat<L>,
         request: &Request,
-    ) -> (SchedSeat<L>, Result<Option<u64>, NoMemory>)
-        requires hand { seat.part.hand ≡ Some request.now }
-        ensures number { result.0.part.wheel ≡ seat.part.wheel }
-        ensures call { StepsWith L.settings (Sched seat.part.wheel) (MailOf request.now.reply_to)
-            (Answers L.settings seat.part.wheel request.now result.1) seat.pass result.0.pass }
+    ) -> Result<Option<u64>, NoMemory>
+        requires hand { seat.old.part.hand ≡ Some request.now }
+        ensures call { StepsWith L.settings (Sched seat.old.part.wheel) (MailOf request.now.reply_to)
+            (Answers L.settings seat.old.part.wheel request.now result) seat.old.pass seat.new.pass }
+        ensures number { seat.new.part.wheel ≡ seat.old.part.wheel }
     {
-        let process = asker_of(&seat, request);
+        let process = asker_of(seat, request);
         self.mails
             .at(rt, process)
             .answer(self.desk(), seat, request)
@@ -74,15 +70,11 @@ impl<L: DeskName> Service<L> {
     /// is due by then.
     ///
     /// After want of memory none has expired.
-    pub fn advance<R: Wait>(
-        &self,
-        rt: &R,
-        seat: SchedSeat<L>,
-    ) -> (SchedSeat<L>, Result<(u64, u32), NoMemory>)
-        ensures number { result.0.part.wheel ≡ seat.part.wheel }
-        ensures due { IfOk result.1 (λ answer. NoneDue (state L.settings (front_of result.0.pass)) seat.part.wheel answer.0) }
-        ensures call { FrontGrows (AdvancesWheel L.settings (beside L.settings (Sched seat.part.wheel)) seat.part.wheel result.1) seat.pass result.0.pass }
-        ensures legal { IsLegal L.settings (front_of result.0.pass) }
+    pub fn advance<R: Wait>(&self, rt: &R, seat: &mut SchedSeat<L>) -> Result<(u64, u32), NoMemory>
+        ensures due { IfOk result (λ answer. NoneDue (state L.settings (front_of seat.new.pass)) seat.old.part.wheel answer.0) }
+        ensures call { FrontGrows (AdvancesWheel L.settings (beside L.settings (Sched seat.old.part.wheel)) seat.old.part.wheel result) seat.old.pass seat.new.pass }
+        ensures number { seat.new.part.wheel ≡ seat.old.part.wheel }
+        ensures legal { IsLegal L.settings (front_of seat.new.pass) }
     {
         let wheel = seat.part.wheel;
         self.wheels.at(rt, wheel).advance(self.desk(), seat)
@@ -92,15 +84,15 @@ impl<L: DeskName> Service<L> {
     pub(crate) fn hand_over<R: Wait>(
         &self,
         rt: &R,
-        seat: SchedSeat<L>,
+        seat: &mut SchedSeat<L>,
         fired: &Fired,
-    ) -> (SchedSeat<L>, Result<Handed, NoMemory>)
-        requires first { first_of seat.part.fired.rows ≡ Some fired.now }
-        ensures number { result.0.part.wheel ≡ seat.part.wheel }
-        ensures fired { OnOk result.1 (result.0.part.fired.rows ≡ others_of seat.part.fired.rows) }
-        ensures call { FrontGrows (Hands L.settings (beside L.settings (Sched seat.part.wheel)) seat.part.wheel result.1) seat.pass result.0.pass }
+    ) -> Result<Handed, NoMemory>
+        requires first { first_of seat.old.part.fired.rows ≡ Some fired.now }
+        ensures fired { OnOk result (seat.new.part.fired.rows ≡ others_of seat.old.part.fired.rows) }
+        ensures call { FrontGrows (Hands L.settings (beside L.settings (Sched seat.old.part.wheel)) seat.old.part.wheel result) seat.old.pass seat.new.pass }
+        ensures number { seat.new.part.wheel ≡ seat.old.part.wheel }
     {
-        let process = destination_of(&seat, fired);
+        let process = destination_of(seat, fired);
         self.mails
             .at(rt, process)
             .hand_over(self.desk(), seat, fired)

@@ -8,10 +8,9 @@ use crate::opening::{seat_callers, seat_scheds};
 use crate::rooms::{PaddedLock, Room};
 use crossbeam_utils::CachePadded;
 use ert_defs::{Actor, NoMemory};
-use ert_inbox::InboxPart;
 use ert_keeper::KeeperPart;
 use ert_locks::{CallerSeat, DeskName, Locked, SchedSeat};
-use ert_mail::MailPart;
+use ert_mail::{InboxPart, MailPart};
 use ert_table::{Desk, Pass};
 use ert_timers::WheelPart;
 use ert_world::{Parts, SchedPart, World};
@@ -20,13 +19,9 @@ use std::sync::{Arc, Mutex};
 
 /// The clock and timer service for many threads, on the desk that `L` names.
 ///
-///     let (seat, started) = service.start(rt, seat, 0, start);    // takes the lock of wheel 0
-///     let Ok(timer) = started else {
-///         return (seat, None);
-///     };
-///     let CallerSeat { number, mut pass, .. } = seat;
-///     let left = cancel_timer(service.desk(), &mut pass, Actor::Caller(number), timer);   // takes none
-///     (CallerSeat::new(number, pass), left)
+///     let timer = service.start(rt, seat, 0, start)?;    // takes the lock of wheel 0
+///     let by = Actor::Caller(seat.number);
+///     let left = cancel_timer(service.desk(), &mut seat.pass, by, timer);   // takes none
 #[derive(Drop)]
 pub struct Service<L: DeskName> {
     desk: Arc<Desk>,
@@ -148,13 +143,13 @@ impl<L: DeskName> Service<L> {
         let settings = *shared.settings();
         World::from_parts(Parts {
             settings,
-            desk,
-            pass,
             keeper,
             wheels,
             inboxes,
             mails,
             scheds,
+            pass,
+            desk,
         })
     }
 

@@ -1,6 +1,6 @@
 -- What a pass that holds every actor knows: the whole history.
 
-use Rattle.std.proofs.Common.{◌≡◌, ℕ, zero, suc, vec_len, ◌+◌, ◌*◌, ◌/◌, ◌%◌, ◌<◌, true, false, List, [], ◌∷◌, ◌++◌, slice_index, Option, None, refl, sym, ap, subst, ◌∙◌, arith, append-nil}
+use Rattle.std.proofs.Common.{◌≡◌, ℕ, zero, suc, vec_len, ◌+◌, ◌*◌, ◌/◌, ◌%◌, ◌<◌, true, false, List, [], ◌∷◌, ◌++◌, slice_index, Option, refl, sym, ap, subst, ◌∙◌, arith, append-nil}
 use lib.ListN.{get_elem?}
 use mathlib.Core.Option.{some, some-injective, some-ne-none}
 use Rattle.atomic_table.specs.Table.{Final, Seen}

@@ -1,6 +1,6 @@
 -- Loads of the words of slots take place with their entries.
 
-use Rattle.std.proofs.Common.{◌≡◌, ◌≢◌, inl, inr, ⊎_elim, ℕ, ℤ, ◌≤◌, true, Option, Some, None, option_map, refl, sym, ap, subst, ◌∙◌, eq-eqb, ne_eqb}
+use Rattle.std.proofs.Common.{◌≡◌, ◌≢◌, inl, inr, ⊎_elim, ℕ, ℤ, true, Option, Some, None, option_map, refl, sym, ap, subst, ◌∙◌, eq-eqb, ne_eqb}
 use Rattle.std.specs.Prelude.{IsNone}
 use Rattle.std.proofs.lemmas.Bool.{cases_eq}
 use Rattle.ert_defs.specs.Legal.{IsSlot, Keeps, Found, left_by}

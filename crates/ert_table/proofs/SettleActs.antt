@@ -1,6 +1,6 @@
 -- An exchange of a slot's word takes place with its entry, whether it finds the word that it expects or not.
 
-use Rattle.std.proofs.Common.{◌≡◌, ◌≢◌, ℕ, ◌≤◌, Bool, true, false, cond, nat_eq, List, [], ◌∷◌, ◌++◌, Some, refl, sym, ap, subst, ◌∙◌, eqb-true, eq-eqb}
+use Rattle.std.proofs.Common.{◌≡◌, ◌≢◌, ℕ, Bool, true, false, cond, nat_eq, List, [], ◌∷◌, ◌++◌, Some, refl, sym, ap, subst, ◌∙◌, eqb-true, eq-eqb}
 use prog.Atomic.{either}
 use Rattle.ert_defs.specs.Actors.{has_actor}
 use Rattle.ert_defs.specs.Legal.{IsSlot, Found, Legal}

@@ -1,12 +1,12 @@
 -- What holds of the slots and their timers after each legal history.
 
-use Rattle.std.proofs.Common.{◌≡◌, ◌⊎◌, inl, inr, ◌<◌, ◌%◌, nat_lt, sym, ℕ, ℤ, pos, negsuc, ◌+ℤ◌, ◌-ℤ◌, ◌≤◌, Bool, true, false, cond, ◌&&◌, nat_eq, nat_le, List, ◌++◌, All, Option, Some, None, refl, ap, subst, arith, append-nil}
+use Rattle.std.proofs.Common.{◌≡◌, ◌⊎◌, inl, inr, ◌<◌, ◌%◌, nat_lt, sym, ℕ, ℤ, pos, negsuc, ◌+ℤ◌, ◌-ℤ◌, ◌≤◌, Bool, true, false, cond, nat_eq, nat_le, List, ◌++◌, All, Option, Some, None, refl, subst, arith, append-nil}
 use Rattle.std.proofs.Props.{props}
 use Rattle.std.proofs.lemmas.Bool.Decides.{nat_tests}
 use Rattle.std.proofs.lemmas.List.Elements.{All-nil, All-push}
 use Rattle.std.specs.Int.{int_div_euclid}
 use Rattle.ert_defs.specs.Actors.{has_actor}
-use Rattle.ert_defs.specs.Legal.{Can, Known, Legal}
+use Rattle.ert_defs.specs.Legal.{Can, Legal}
 use Rattle.ert_defs.specs.Milliseconds.{up, deadline_at, deadline_when, deadline_of}
 use Rattle.ert_defs.specs.States.{State, uses_at, opening, next, state}
 use Rattle.ert_defs.specs.Timers.{Row, Uses, deadline_told, row_from, rows_after, row_of}
@@ -15,7 +15,6 @@ use Rattle.ert_defs.proofs.Rows.{IsRow, rows_hold}
 use Rattle.ert_defs.proofs.Runs.{kept_from}
 use Rattle.ert_defs.proofs.Slots.{IsOrdered, ordered}
 use Rattle.ert_defs.proofs.Standing.{AllStand, all_stand, of_row}
-use Rattle.ert_defs.specs.declared.entry.Actor.{Actor}
 use Rattle.ert_defs.specs.declared.entry.Actor.TheVariants.{Wheel}
 use Rattle.ert_defs.specs.declared.entry.Entry.{Entry}
 use Rattle.ert_defs.specs.declared.entry.Event.{Event}

@@ -1,6 +1,6 @@
 -- What the word of a slot tells of its last timer, and of an older one.
 
-use Rattle.std.proofs.Common.{◌≡◌, ◌≢◌, ◌⊎◌, inl, inr, ⊎_elim, ℕ, zero, ◌<◌, ◌≤◌, true, false, Option, Some, None, refl, sym, ap, subst, ◌∙◌, arith}
+use Rattle.std.proofs.Common.{◌≡◌, ◌≢◌, ◌⊎◌, inl, inr, ⊎_elim, ℕ, true, Option, Some, None, refl, sym, ap, subst, ◌∙◌, arith}
 use Rattle.ert_defs.specs.States.{State, uses_at}
 use Rattle.ert_defs.specs.Timers.{Row, row_of, is_taken, timer_at}
 use Rattle.ert_defs.specs.Words.{timer_word, slot_word, word_of_slot}

@@ -1,6 +1,6 @@
 -- What the proof of a step owes, and what a step tells.
 
-use Rattle.std.specs.Prelude.{◌≡◌, ◌≢◌, ℕ, pos, ◌<◌, false, true, List, [], ◌++◌, None}
+use Rattle.std.specs.Prelude.{◌≡◌, ◌≢◌, ℕ, pos, ◌<◌, true, List, [], ◌++◌, None}
 use Rattle.atomic_table.specs.Table.{Me, Step}
 use Rattle.ert_defs.specs.Actors.{IsFree}
 use Rattle.ert_defs.specs.Legal.{Keeps, Known, Found, Legal}
@@ -10,7 +10,6 @@ use Rattle.ert_defs.specs.declared.entry.Actor.{Actor}
 use Rattle.ert_defs.specs.declared.entry.Actor.TheVariants.{Keeper}
 use Rattle.ert_defs.specs.declared.entry.Entry.{Entry}
 use Rattle.ert_defs.specs.declared.entry.Event.TheVariants.{Look}
-use Rattle.ert_defs.specs.declared.settings.Mode.TheVariants.{No}
 use Rattle.ert_defs.specs.declared.settings.Settings.{Settings}
 use Rattle.ert_table.specs.Held.{is_held, IsOurs}
 use Rattle.ert_table.specs.Takes.{Appends}
@@ -60,19 +59,6 @@ Compared g step me e n now = (now.1 ≡ []) × (now.0.settings ≡ me.0.settings
 -- the pass is as it was, and knows what is so of the two that met
 abbrev pub Meets : Settings → Sitter → Sitter → Type 0
 Meets g me now = (now ≡ me) × HasMet me.0.met me.0.front × Legal g me.0.front
-
--- settings that nobody uses
-abbrev pub any_settings : Settings
-any_settings = record {
-  mode = No;
-  correction = false;
-  start = pos 0;
-  schedulers = 0;
-  processes = 0;
-  slots = 0;
-  callers = 0;
-  first = record { mono = pos 0; sys = pos 0 };
-}
 
 -- an entry that nobody uses
 abbrev pub any_entry : Entry

@@ -20,6 +20,12 @@ IsOurs actors by (Some a) = (is_held actors by ≡ true) × (is_held actors a �
 abbrev pub actors_but : List Actor → Actor → List Actor
 actors_but actors a = filter (λ b. not (same_actor b a)) actors
 
+-- some of these actors are kept and some given away, and none is both
+pub record AreShared (actors kept given : List Actor) : Type 0 where
+  pub less : (a : Actor) → is_held kept a ≡ true → is_held actors a ≡ true
+  pub gave : (a : Actor) → is_held given a ≡ true → is_held actors a ≡ true
+  pub apart : (a : Actor) → is_held kept a ≡ true → is_held given a ≡ true → ⊥
+
 -- an actor in range
 abbrev pub IsActor : Settings → Actor → Type 0
 IsActor g Keeper = Unit {0}

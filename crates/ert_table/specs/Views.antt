@@ -1,11 +1,11 @@
 -- What a pass knows, and how that is divided and put together.
 
-use Rattle.std.specs.Prelude.{◌≡◌, true, cond, nat_le, List, [], ◌∷◌, ◌++◌, length, Option, Some, None}
+use Rattle.std.specs.Prelude.{◌≡◌, true, cond, nat_le, List, [], ◌++◌, length, Option, Some, None}
 use Rattle.ert_defs.specs.Actors.{of}
 use Rattle.ert_defs.specs.declared.entry.Actor.{Actor}
 use Rattle.ert_defs.specs.declared.entry.Entry.{Entry}
 use Rattle.ert_defs.specs.declared.settings.Settings.{Settings}
-use Rattle.ert_table.specs.Held.{is_held, actors_but, everyone}
+use Rattle.ert_table.specs.Held.{is_held, everyone}
 use Rattle.ert_table.specs.declared.view.Met.{Met}
 use Rattle.ert_table.specs.declared.view.View.{View}
 
@@ -18,13 +18,9 @@ pub record Begins (front h : List Entry) : Type 0 where
 abbrev pub first_view : Settings → View
 first_view g = record { front = []; actors = everyone g; settings = Some g; met = None }
 
--- what a pass knows that gave an actor away
-abbrev pub rest_of : View → Actor → View
-rest_of v a = record { front = v.front; actors = actors_but v.actors a; settings = v.settings; met = None }
-
--- what the pass knows that got it
-abbrev pub part_of : View → Actor → View
-part_of v a = record { front = v.front; actors = a ∷ []; settings = v.settings; met = None }
+-- what a pass knows that holds these actors after it was divided
+abbrev pub holding : View → List Actor → View
+holding v actors = record { front = v.front; actors = actors; settings = v.settings; met = None }
 
 -- the longer of two fronts
 abbrev pub longer : List Entry → List Entry → List Entry

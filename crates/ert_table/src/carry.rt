@@ -23,16 +23,16 @@ pub enum TimeCarry {
         left: Option<u64>,
         process: u32,
     },
-    /// The first message of a mailbox was taken.
-    Take {
-        process: u32,
-        got: Option<Mail>,
-    },
     /// A monitor was removed, where it stood.
     Unwatch {
         process: u32,
         monitor: u32,
         was: bool,
+    },
+    /// The first message of a mailbox was taken.
+    Take {
+        process: u32,
+        got: Option<Mail>,
     },
 }
 

@@ -3,10 +3,10 @@ ghost use Rattle.std.specs.Prelude.{◌≡◌, ◌++◌, true, [], ◌∷◌};
 ghost use Rattle.ert_defs.specs.Legal.{Legal};
 ghost use Rattle.ert_table.specs.Desks.{settings_of, view_of, front_of, actors_of, Belongs};
 ghost use Rattle.ert_table.specs.Held.{is_held, actors_but};
-ghost use Rattle.ert_table.specs.Views.{HasMet, Joined, both, longer, meeting};
+ghost use Rattle.ert_table.specs.Views.{HasMet, Joined, both, holding, longer, meeting};
 
 use crate::desk::{Desk, Pass};
-use crate::plays::{Chosen, Cuts, Glues, Learns, Named};
+use crate::plays::{Chosen, Cuts, Empties, Glues, Learns, Named};
 use ert_defs::Actor;
 use std::marker::Brand;
 
@@ -31,13 +31,26 @@ impl Pass {
         requires held { is_held (actors_of self.old) actor ≡ true }
         ensures belongs { Belongs desk.now self.new }
         ensures new_belongs { Belongs desk.now result }
-        ensures rest { actors_of self.new ≡ actors_but (actors_of self.old) actor }
-        ensures actor { actors_of result ≡ actor ∷ [] }
+        ensures kept { view_of self.new ≡ holding (view_of self.old) (actors_but (actors_of self.old) actor) }
+        ensures given { view_of result ≡ holding (view_of self.old) (actor ∷ []) }
+    {
+        Pass {
+            seat: desk.table.shared.split_seat::<Cuts<C>>(&mut self.seat),
+        }
+    }
+
+    /// Moves all actors into a new pass, which knows as much; this one is left with none.
+    pub fn take(&mut self, desk: &Desk) -> Pass
+        requires { Belongs desk.now self.old }
+        ensures belongs { Belongs desk.now self.new }
+        ensures new_belongs { Belongs desk.now result }
+        ensures none { actors_of self.new ≡ [] }
+        ensures actors { actors_of result ≡ actors_of self.old }
         ensures front { front_of self.new ≡ front_of self.old }
         ensures new_front { front_of result ≡ front_of self.old }
     {
         Pass {
-            seat: desk.table.shared.split_seat::<Cuts<C>>(&mut self.seat),
+            seat: desk.table.shared.split_seat::<Empties>(&mut self.seat),
         }
     }
 

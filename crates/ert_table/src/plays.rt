@@ -1,12 +1,14 @@
 //! What a step on the table tells a pass, for entries, actors and settings that a call picks. They stand in
 //! proofs alone.
-ghost use Rattle.std.specs.Prelude.{ℕ};
+ghost use Rattle.std.specs.Prelude.{ℕ, [], ◌∷◌};
 ghost use Rattle.ert_defs.specs.declared.entry.Actor.{Actor};
 ghost use Rattle.ert_defs.specs.declared.entry.Actor.TheVariants.{Keeper};
 ghost use Rattle.ert_defs.specs.declared.entry.Entry.{Entry};
+ghost use Rattle.ert_defs.specs.Settings.{any_settings};
 ghost use Rattle.ert_defs.specs.declared.settings.Settings.{Settings};
-ghost use Rattle.ert_table.specs.Acts.{Told, Read, Compared, Meets, any_settings, any_entry};
-ghost use Rattle.ert_table.specs.Views.{rest_of, part_of, both, spent};
+ghost use Rattle.ert_table.specs.Acts.{Told, Read, Compared, Meets, any_entry};
+ghost use Rattle.ert_table.specs.Held.{actors_but};
+ghost use Rattle.ert_table.specs.Views.{holding, both, spent};
 
 use crate::view::View;
 use atomic_table::{Join, Play, Split};
@@ -85,9 +87,18 @@ pub(crate) struct Cuts<C> {
 }
 
 impl<C: Chosen> Split<View> for Cuts<C> {
-    ghost left = { λ v. rest_of v C.actor };
+    ghost left = { λ v. holding v (actors_but v.actors C.actor) };
 
-    ghost right = { λ v. part_of v C.actor };
+    ghost right = { λ v. holding v (C.actor ∷ []) };
+}
+
+/// All actors go to a new pass.
+pub(crate) struct Empties;
+
+impl Split<View> for Empties {
+    ghost left = { λ v. holding v [] };
+
+    ghost right = { λ v. holding v v.actors };
 }
 
 /// Two passes become one.

@@ -62,9 +62,9 @@ impl Pass {
         deadline: u64,
     )
         requires settings { C.settings ≡ settings_of desk.now }
-        requires entry { C.entry ≡ (λ n. arm_entry by timer start.now) }
         requires belongs { Belongs desk.now self.old }
         requires may { MayMake desk.now self.old (arm_entry by timer start.now) }
+        requires entry { C.entry ≡ (λ n. arm_entry by timer start.now) }
         requires deadline { IsDeadlineOf desk.now self.old by timer start.now deadline }
         ensures belongs { Belongs desk.now self.new }
         ensures step { Makes desk.now self.old (arm_entry by timer start.now) self.new }
@@ -95,21 +95,21 @@ impl Pass {
         ensures step { SettlesOrMisses desk.now self.old by timer deadline how result self.new }
         ensures settled { (state_of desk.now self.new).status timer ≢ Some Armed }
     {
-        self.settle_as::<Brand>(desk, by, timer, deadline, how)
+        self.settle_as::<Brand>(desk, by, how, timer, deadline)
     }
 
     fn settle_as<C: Carried>(
         &mut self,
         desk: &Desk,
         by: Actor,
+        how: Settle,
         timer: TimerRef,
         deadline: u64,
-        how: Settle,
     ) -> bool
         requires settings { C.settings ≡ settings_of desk.now }
-        requires entry { C.entry ≡ settle_entry (settings_of desk.now) (state_of desk.now self.old) by timer deadline how }
         requires belongs { Belongs desk.now self.old }
         requires row { HasRow (state_of desk.now self.old) timer deadline }
+        requires entry { C.entry ≡ settle_entry (settings_of desk.now) (state_of desk.now self.old) by timer deadline how }
         requires may { MayMake desk.now self.old (settled_made desk.now self.old by timer deadline how) }
         ensures belongs { Belongs desk.now self.new }
         ensures step { SettlesOrMisses desk.now self.old by timer deadline how result self.new }

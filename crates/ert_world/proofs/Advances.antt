@@ -2,10 +2,10 @@
 
 use Rattle.std.proofs.Common.{◌≡◌, ℕ, ◌+◌, ◌-◌, ◌<◌, ◌≤◌, Bool, true, false, cond, List, [], ◌∷◌, ◌++◌, length, slice_index_or, Some, None, Result, Ok, Err, inl, inr, refl, sym, ap, subst, ◌∙◌, arith, length-append}
 use Rattle.std.specs.Prelude.{slice_set}
-use Rattle.ert_answers.specs.Chains.{AdvancesWheel}
-use Rattle.ert_answers.proofs.Advanced.{IsAdvance, advance_is, advance_all_is}
-use Rattle.ert_answers.specs.WheelCalls.{Advances, AdvancesAll, Try, expires_by, expiry_entries}
-use Rattle.ert_answers.specs.Ways.{Step}
+use Rattle.ert_effects.specs.Chains.{AdvancesWheel}
+use Rattle.ert_effects.proofs.Advanced.{IsAdvance, advance_is, advance_all_is}
+use Rattle.ert_effects.specs.WheelCalls.{Advances, AdvancesAll, Try, expires_by, expiry_entries}
+use Rattle.ert_effects.specs.Ways.{Step}
 use Rattle.ert_defs.specs.Actors.{has_actor}
 use Rattle.ert_defs.specs.Entries.{look_entry}
 use Rattle.ert_defs.specs.Mails.{SchedState, sched_after}

@@ -2,7 +2,7 @@
 
 use Rattle.std.proofs.Common.{◌≡◌, ℕ, zero, suc, ◌<◌, List, inl, inr, refl, ap, subst, ◌∙◌, arith}
 use Rattle.std.proofs.Math.Path.{fun_ext}
-use Rattle.ert_answers.specs.Ways.{Step, Growth, Way, Grows, alone}
+use Rattle.ert_effects.specs.Ways.{Step, Growth, Way, Grows, alone}
 use Rattle.ert_defs.specs.States.{state}
 use Rattle.ert_defs.specs.declared.entry.Actor.{Actor}
 use Rattle.ert_defs.specs.declared.entry.Actor.TheVariants.{Keeper, Wheel, Inbox, Sched, MailOf, Caller}
@@ -10,6 +10,7 @@ use Rattle.ert_defs.specs.declared.entry.Entry.{Entry}
 use Rattle.ert_defs.specs.declared.settings.Settings.{Settings}
 use Rattle.ert_table.specs.Held.{IsWhole}
 use Rattle.ert_world.proofs.Divided.{none_given}
+use Rattle.ert_world.specs.Stepping.{Stays}
 use Rattle.ert_world.specs.Ways.{beside_seats}
 use Rattle.ert_world.specs.Worlds.{Seen, IsUnseated, HoldsRest, StayTidy, Goes, way_of}
 
@@ -55,3 +56,11 @@ went old new call grows table settings next tidy = record {
   next = next;
   tidy = tidy;
 }
+
+-- a chain that a world made is a call
+pub goes_on : (old new : Seen) (call : Way → Growth) → Grows (call (way_of old)) old.history new.history → Stays old new → Goes old call new
+goes_on old new call grows stays = went old new call grows stays.table stays.settings stays.next stays.tidy
+
+-- and each call leaves what every step leaves
+pub stays_by : {old new : Seen} {call : Way → Growth} → Goes old call new → new.clock ≡ old.clock → Stays old new
+stays_by goes clock = record { table = goes.table; settings = goes.settings; next = goes.next; clock = clock; tidy = goes.tidy }

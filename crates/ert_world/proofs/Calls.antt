@@ -2,11 +2,11 @@
 
 use Rattle.std.proofs.Common.{◌≡◌, ℕ, zero, suc, ◌<◌, arith, true, false, List, [], ◌∷◌, ◌++◌, filter, slice_index_or, Some, Result, Ok, Err, inl, refl, sym, ap, subst, ◌∙◌, append-nil}
 use Rattle.std.specs.Prelude.{slice_set}
-use Rattle.ert_answers.specs.MailCalls.{Monitors}
-use Rattle.ert_answers.specs.RequestCalls.{Asks}
-use Rattle.ert_answers.specs.Ways.{Growth, Way}
-use Rattle.ert_answers.specs.declared.answers.MonitorErr.{MonitorErr}
-use Rattle.ert_answers.specs.declared.answers.MonitorErr.TheVariants.{Full, NoMemory as WantOfRoom}
+use Rattle.ert_effects.specs.MailCalls.{Monitors}
+use Rattle.ert_effects.specs.RequestCalls.{Asks}
+use Rattle.ert_effects.specs.Ways.{Growth, Way}
+use Rattle.ert_effects.specs.declared.answers.MonitorErr.{MonitorErr}
+use Rattle.ert_effects.specs.declared.answers.MonitorErr.TheVariants.{Full, NoMemory as WantOfRoom}
 use Rattle.ert_clock.specs.Shown.{Shown, Stands as ClockStands}
 use Rattle.ert_defs.proofs.Runs.{state-append, legal_then}
 use Rattle.ert_defs.specs.Legal.{Legal, LegalFrom}
@@ -21,7 +21,7 @@ use Rattle.ert_defs.specs.declared.settings.OffsetState.TheVariants.{Preliminary
 use Rattle.ert_defs.specs.declared.settings.Settings.{Settings}
 use Rattle.ert_defs.specs.declared.timer.Status.TheVariants.{Armed}
 use Rattle.ert_defs.specs.declared.timer.TimerRef.{TimerRef}
-use Rattle.ert_inbox.specs.Inboxes.{Waiting, Stands as InboxStands}
+use Rattle.ert_mail.specs.Inboxes.{Waiting, Stands as InboxStands}
 use Rattle.ert_keeper.specs.Published.{ReadsBy}
 use Rattle.ert_keeper.specs.declared.part.KeeperPart.{KeeperPart}
 use Rattle.ert_mail.specs.Mailboxes.{Mailbox, IsMonitor, Stands as MailStands}
@@ -172,23 +172,26 @@ called_with before b d q new lent allows has belongs made only calm none unseate
     (makes b d q made.entries allows made.allowed)
 
 -- a call by caller 0 alone, that has no part of its own
-pub alone_called : (before : Seen) (b : Inside) (d : Desk) (q : Pass) (allows : Settings → State → List Entry → Type 0) → Has before b d → Belongs d q
-    → (made : IsMade (settings_of d) (view_of b.pass) (allows (settings_of d)) (view_of q)) → IsQuiet (Caller 0 ∷ []) made.entries
-    → Does before d q b.next (parts_in b) (λ w. By w allows)
-alone_called before b d q allows has belongs made quiet =
-    called_with before b d q (parts_in b) (Caller 0 ∷ []) allows has belongs made quiet.only quiet.calm (λ i. refl) (refl, tt) refl
-    (caller_back (settings_of d) (front_of q) [] (parts_in b) 0)
+pub alone_called : (before : Seen) (b : Inside) (d e : Desk) (q : Pass) (allows : Settings → State → List Entry → Type 0) → d ≡ e → seen_at e b ≡ before
+    → AreFit e b.pass b.next (parts_in b) → Belongs d q → IsMade (settings_of d) (view_of b.pass) (allows (settings_of d)) (view_of q)
+    → ((s : State) (es : List Entry) → allows (settings_of d) s es → IsQuiet (Caller 0 ∷ []) es) → Does before e q b.next (parts_in b) (λ w. By w allows)
+alone_called before b d e q allows same is fit belongs made quiet =
+    let it = quiet (state (settings_of d) (front_of b.pass)) made.entries made.allowed in
+    does_at same (called_with before b d q (parts_in b) (Caller 0 ∷ []) allows (has_at same is fit) belongs made it.only it.calm (λ i. refl) (refl, tt) refl
+    (caller_back (settings_of d) (front_of q) [] (parts_in b) 0))
 
 -- a call on the clock, by caller 0
-pub keeper_called : (before : Seen) (b : Inside) (d : Desk) (q : Pass) (x : KeeperPart) (allows : Settings → State → List Entry → Type 0)
-    → Has before b d → Belongs d q → ClockStands (settings_of d) (front_of q) x
-    → (made : IsMade (settings_of d) (view_of b.pass) (allows (settings_of d)) (view_of q)) → IsQuiet (Keeper ∷ (Caller 0 ∷ [])) made.entries
-    → Does before d q b.next (record (parts_in b) { keeper = x }) (λ w. By w allows)
-keeper_called before b d q x allows has belongs stands made quiet =
+pub keeper_called : (before : Seen) (b : Inside) (d e : Desk) (q : Pass) (x : KeeperPart) (allows : Settings → State → List Entry → Type 0) → d ≡ e
+    → seen_at e b ≡ before → AreFit e b.pass b.next (parts_in b) → Belongs d q → ClockStands (settings_of d) (front_of q) x
+    → IsMade (settings_of d) (view_of b.pass) (allows (settings_of d)) (view_of q)
+    → ((s : State) (es : List Entry) → allows (settings_of d) s es → IsQuiet (Keeper ∷ (Caller 0 ∷ [])) es)
+    → Does before e q b.next (record (parts_in b) { keeper = x }) (λ w. By w allows)
+keeper_called before b d e q x allows same is fit belongs stands made quiet =
     let g : Settings = settings_of d in
-    called_with before b d q (record (parts_in b) { keeper = x }) (Keeper ∷ (Caller 0 ∷ [])) allows has belongs made quiet.only quiet.calm (λ i. refl)
-    (refl, (refl, tt)) refl
-    (λ stand. caller_back g (front_of q) [] (record (parts_in b) { keeper = x }) 0 (keeper_back g (front_of q) (Caller 0 ∷ []) (parts_in b) x stands stand))
+    let it = quiet (state g (front_of b.pass)) made.entries made.allowed in
+    does_at same (called_with before b d q (record (parts_in b) { keeper = x }) (Keeper ∷ (Caller 0 ∷ [])) allows (has_at same is fit) belongs made it.only it.calm
+    (λ i. refl) (refl, (refl, tt)) refl
+    (λ stand. caller_back g (front_of q) [] (record (parts_in b) { keeper = x }) 0 (keeper_back g (front_of q) (Caller 0 ∷ []) (parts_in b) x stands stand)))
 
 -- a number in range of what callers see is in range of the desk
 pub processes_at : {before : Seen} {b : Inside} {d : Desk} → Has before b d → (i : ℕ) → i < before.settings.processes → i < (settings_of d).processes
@@ -207,38 +210,46 @@ pub inbox_named : (g : Settings) (h : List Entry) (lent : List Actor) (parts : A
 inbox_named g h lent parts i x stand low is = ap (λ (q : Waiting). q.wheel) is ∙ stand.inboxes.named i x low
 
 -- a call on a mailbox, by caller 0
-pub mail_called : (before : Seen) (b : Inside) (d : Desk) (q : Pass) (i : ℕ) (old new : Mailbox) (allows : ℕ → Settings → State → List Entry → Type 0)
-    → Has before b d → Belongs d q → i < before.settings.processes → old ≡ slice_index_or b.mails.items i old → new.process ≡ old.process
-    → MailStands (settings_of d) (front_of q) new
-    → (made : IsMade (settings_of d) (view_of b.pass) (allows old.process (settings_of d)) (view_of q))
-    → AreOnlyOf (Caller 0 ∷ (MailOf old.process ∷ [])) made.entries → AreCalm made.entries
-    → Does before d q b.next (record (parts_in b) { mails = slice_set b.mails.items i new }) (λ w. By w (allows i))
-mail_called before b d q i old new allows has belongs low lent named stands made only calm =
+pub mail_called : (before : Seen) (b : Inside) (d e : Desk) (q : Pass) (i : ℕ) (old new : Mailbox) (allows : ℕ → Settings → State → List Entry → Type 0)
+    → d ≡ e → seen_at e b ≡ before → AreFit e b.pass b.next (parts_in b) → Belongs d q → i < before.settings.processes
+    → old ≡ slice_index_or b.mails.items i old → new.process ≡ old.process → MailStands (settings_of d) (front_of q) new
+    → (Legal (settings_of d) (front_of b.pass) → IsMade (settings_of d) (view_of b.pass) (allows old.process (settings_of d)) (view_of q))
+    → ((s : State) (es : List Entry) → allows old.process (settings_of d) s es → AreOnlyOf (Caller 0 ∷ (MailOf old.process ∷ [])) es)
+    → ((s : State) (es : List Entry) → allows old.process (settings_of d) s es → AreCalm es)
+    → Does before e q b.next (record (parts_in b) { mails = slice_set b.mails.items i new }) (λ w. By w (allows i))
+mail_called before b d e q i old new allows same is fit belongs low lent named stands making only calm =
+    let has : Has before b d = has_at same is fit in
     let g : Settings = settings_of d in
     let p : ℕ = old.process in
     let below : i < g.processes = processes_at has i low in
     let one : p ≡ i = mail_named g (front_of b.pass) [] (parts_in b) i old has.fit.stand below lent in
-    subst (λ n. Does before d q b.next (record (parts_in b) { mails = slice_set b.mails.items n new }) (λ w. By w (allows n))) one
-    (called_with before b d q (record (parts_in b) { mails = slice_set b.mails.items p new }) (Caller 0 ∷ (MailOf p ∷ [])) (allows p) has belongs made only calm
-    (λ j. refl) (refl, (refl, tt)) refl
-    (λ stand. mail_back g (front_of q) [] (parts_in b) p new (rw one below) named stands (caller_back g (front_of q) (MailOf p ∷ []) (parts_in b) 0 stand)))
+    let made = making has.fit.stand.legal in
+    let s : State = state g (front_of b.pass) in
+    does_at same (subst (λ n. Does before d q b.next (record (parts_in b) { mails = slice_set b.mails.items n new }) (λ w. By w (allows n))) one
+    (called_with before b d q (record (parts_in b) { mails = slice_set b.mails.items p new }) (Caller 0 ∷ (MailOf p ∷ [])) (allows p) has belongs made
+    (only s made.entries made.allowed) (calm s made.entries made.allowed) (λ j. refl) (refl, (refl, tt)) refl
+    (λ stand. mail_back g (front_of q) [] (parts_in b) p new (rw one below) named stands (caller_back g (front_of q) (MailOf p ∷ []) (parts_in b) 0 stand))))
 
 -- a request was put into an inbox, by caller 0
-pub inbox_called : (before : Seen) (b : Inside) (d : Desk) (q : Pass) (i : ℕ) (old new : Waiting) (allows : ℕ → Settings → State → List Entry → Type 0)
-    → Has before b d → Belongs d q → i < before.settings.schedulers → old ≡ slice_index_or b.inboxes.items i old → new.wheel ≡ old.wheel
-    → InboxStands (settings_of d) (front_of q) new
-    → (made : IsMade (settings_of d) (view_of b.pass) (allows old.wheel (settings_of d)) (view_of q))
-    → AreOnlyOf (Caller 0 ∷ (Inbox old.wheel ∷ [])) made.entries → AreCalm made.entries
-    → Does before d q b.next (record (parts_in b) { inboxes = slice_set b.inboxes.items i new }) (λ w. By w (allows i))
-inbox_called before b d q i old new allows has belongs low lent named stands made only calm =
+pub inbox_called : (before : Seen) (b : Inside) (d e : Desk) (q : Pass) (i : ℕ) (old new : Waiting) (allows : ℕ → Settings → State → List Entry → Type 0)
+    → d ≡ e → seen_at e b ≡ before → AreFit e b.pass b.next (parts_in b) → Belongs d q → i < before.settings.schedulers
+    → old ≡ slice_index_or b.inboxes.items i old → new.wheel ≡ old.wheel → InboxStands (settings_of d) (front_of q) new
+    → (Legal (settings_of d) (front_of b.pass) → IsMade (settings_of d) (view_of b.pass) (allows old.wheel (settings_of d)) (view_of q))
+    → ((s : State) (es : List Entry) → allows old.wheel (settings_of d) s es → AreOnlyOf (Caller 0 ∷ (Inbox old.wheel ∷ [])) es)
+    → ((s : State) (es : List Entry) → allows old.wheel (settings_of d) s es → AreCalm es)
+    → Does before e q b.next (record (parts_in b) { inboxes = slice_set b.inboxes.items i new }) (λ w. By w (allows i))
+inbox_called before b d e q i old new allows same is fit belongs low lent named stands making only calm =
+    let has : Has before b d = has_at same is fit in
     let g : Settings = settings_of d in
     let n : ℕ = old.wheel in
     let below : i < g.schedulers = schedulers_at has i low in
     let one : n ≡ i = inbox_named g (front_of b.pass) [] (parts_in b) i old has.fit.stand below lent in
-    subst (λ n. Does before d q b.next (record (parts_in b) { inboxes = slice_set b.inboxes.items n new }) (λ w. By w (allows n))) one
-    (called_with before b d q (record (parts_in b) { inboxes = slice_set b.inboxes.items n new }) (Caller 0 ∷ (Inbox n ∷ [])) (allows n) has belongs made only calm
-    (λ j. refl) (refl, (refl, tt)) refl
-    (λ stand. inbox_back g (front_of q) [] (parts_in b) n new (rw one below) named stands (caller_back g (front_of q) (Inbox n ∷ []) (parts_in b) 0 stand)))
+    let made = making has.fit.stand.legal in
+    let s : State = state g (front_of b.pass) in
+    does_at same (subst (λ n. Does before d q b.next (record (parts_in b) { inboxes = slice_set b.inboxes.items n new }) (λ w. By w (allows n))) one
+    (called_with before b d q (record (parts_in b) { inboxes = slice_set b.inboxes.items n new }) (Caller 0 ∷ (Inbox n ∷ [])) (allows n) has belongs made
+    (only s made.entries made.allowed) (calm s made.entries made.allowed) (λ j. refl) (refl, (refl, tt)) refl
+    (λ stand. inbox_back g (front_of q) [] (parts_in b) n new (rw one below) named stands (caller_back g (front_of q) (Inbox n ∷ []) (parts_in b) 0 stand))))
 
 -- a monitor was made or wasn't
 pub monitor_made : (g : Settings) (v : View) (by process : ℕ) (answer : Result ℕ MonitorErr) (w : View) → Legal g v.front

@@ -5,17 +5,17 @@ use Rattle.ert_clock.specs.Ticks.{tick_entries}
 use Rattle.ert_clock.specs.declared.clock.ClockErr.{ClockErr}
 use Rattle.ert_clock.specs.declared.clock.ClockErr.TheVariants.{BadReading, OffsetWide}
 use Rattle.ert_clock.specs.declared.clock.Moved.{Moved}
-use Rattle.ert_answers.specs.ClockCalls.{RefusesTick, Acts, Finalizes, FinalizesFrom, TellsTime, TellsOffset, TellsSystemTime}
-use Rattle.ert_answers.specs.MailCalls.{HandsOver, Takes, Monitors, Demonitors, Tells}
-use Rattle.ert_answers.specs.RequestCalls.{Asks, Picks}
-use Rattle.ert_answers.specs.TimerCalls.{Reads, read_entries}
-use Rattle.ert_answers.specs.WheelCalls.{TellsAlive, MarksExit}
-use Rattle.ert_answers.specs.declared.answers.Handed.{Handed}
-use Rattle.ert_answers.specs.declared.answers.Handed.TheVariants.{Put, Dropped}
-use Rattle.ert_answers.specs.declared.answers.MonitorErr.{MonitorErr}
-use Rattle.ert_answers.specs.declared.answers.MonitorErr.TheVariants.{Full, NoMemory}
-use Rattle.ert_answers.specs.declared.answers.Taken.{Taken}
-use Rattle.ert_answers.specs.declared.answers.Taken.TheVariants.{Mail, Empty, Exited}
+use Rattle.ert_effects.specs.ClockCalls.{RefusesTick, Acts, Finalizes, FinalizesFrom, TellsTime, TellsOffset, TellsSystemTime}
+use Rattle.ert_effects.specs.MailCalls.{HandsOver, Takes, Monitors, Demonitors, Tells}
+use Rattle.ert_effects.specs.RequestCalls.{Asks, Picks}
+use Rattle.ert_effects.specs.TimerCalls.{Reads, read_entries}
+use Rattle.ert_effects.specs.WheelCalls.{TellsAlive, MarksExit}
+use Rattle.ert_effects.specs.declared.answers.Handed.{Handed}
+use Rattle.ert_effects.specs.declared.answers.Handed.TheVariants.{Put, Dropped}
+use Rattle.ert_effects.specs.declared.answers.MonitorErr.{MonitorErr}
+use Rattle.ert_effects.specs.declared.answers.MonitorErr.TheVariants.{Full, NoMemory}
+use Rattle.ert_effects.specs.declared.answers.Taken.{Taken}
+use Rattle.ert_effects.specs.declared.answers.Taken.TheVariants.{Mail, Empty, Exited}
 use Rattle.ert_defs.specs.Legal.{names_timer}
 use Rattle.ert_defs.specs.States.{State}
 use Rattle.ert_defs.specs.Timers.{Row}
@@ -35,7 +35,7 @@ use Rattle.ert_table.specs.Calls.{AreOnlyOf}
 use Rattle.ert_table.proofs.Parts.{of_one, of_both}
 use Rattle.ert_world.proofs.Armed.{AreCalm}
 
-calm_as : (es fs : List Entry) → es ≡ fs → AreCalm fs → AreCalm es
+pub calm_as : (es fs : List Entry) → es ≡ fs → AreCalm fs → AreCalm es
 calm_as es fs same calm = subst AreCalm (sym same) calm
 
 pub takes_calm : (g : Settings) (by process : ℕ) (answer : Taken) (s : State) (es : List Entry) → Takes g by process answer s es → AreCalm es

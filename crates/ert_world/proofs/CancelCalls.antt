@@ -2,8 +2,8 @@
 
 use Rattle.std.proofs.Common.{◌≡◌, ◌≢◌, ℕ, ◌<◌, false, List, [], ◌∷◌, slice_index_or, Option, Some, None, refl, sym, ap, subst, ◌∙◌}
 use Rattle.std.specs.Prelude.{slice_set}
-use Rattle.ert_answers.specs.TimerCalls.{Cancels}
-use Rattle.ert_answers.specs.Ways.{Growth, Way, Grows}
+use Rattle.ert_effects.specs.TimerCalls.{Cancels}
+use Rattle.ert_effects.specs.Ways.{Growth, Way, Grows}
 use Rattle.ert_defs.specs.States.{State, state}
 use Rattle.ert_defs.specs.declared.entry.Actor.{Actor}
 use Rattle.ert_defs.specs.declared.entry.Actor.TheVariants.{Wheel, Caller}
@@ -27,6 +27,7 @@ use Rattle.ert_world.proofs.Returned.{wheel_back, caller_back, at_place, lend}
 use Rattle.ert_world.proofs.Unseated.{AreUnseated, own_unseated}
 use Rattle.ert_world.proofs.WheelCalls.{wheel_named}
 use Rattle.ert_world.specs.Parts.{AllParts}
+use Rattle.ert_world.specs.Stepping.{Stays}
 use Rattle.ert_world.specs.Worlds.{Seen, seen, AreFit, StayTidyBut, Goes, GoesBut, Forgets, By, way_of}
 use Rattle.ert_world.specs.declared.world.World.TheInside.{Inside}
 
@@ -79,7 +80,7 @@ finish_but before b d q new es lent timer left call has belongs takes only unsea
         settings = refl;
         next = refl;
         tidy = subst (λ ws. StayTidyBut timer left (seen_at d b) (seen d q b.next new.keeper ws)) (sym wheels) (settled_tidy b d q new es timer left has takes settles);
-        gone = gone_in before b d q es lent timer left (seen d q b.next new.keeper new.wheels) has takes only apart hits refl refl;
+        gone = gone_in before b d q es lent timer left (seen d q b.next new.keeper new.wheels) has takes only apart hits refl refl wheels;
       });
     }
 
@@ -98,6 +99,19 @@ cancel_called before b d q timer left has belongs made =
     (added d b.pass q made.entries (exact b d q made.entries has made.call alone) made.call.legal))
     (λ n is. cancels_hit g (Caller 0) timer n s made.entries (subst (λ l. Cancels g (Caller 0) timer l s made.entries) is made.allowed))
 
+-- a wheel that changed without an entry comes back
+put_back : (b : Inside) (d : Desk) (i : ℕ) (old new : Part) → AreFit d b.pass b.next (parts_in b) → i < (settings_of d).schedulers
+    → old ≡ slice_index_or b.wheels.items i old → new.number ≡ old.number → WheelStands (settings_of d) (front_of b.pass) new
+    → AreFit d b.pass b.next (record (parts_in b) { wheels = slice_set b.wheels.items i new })
+put_back b d i old new fit low lent named stands =
+    let g : Settings = settings_of d in
+    record {
+      belongs = fit.belongs;
+      holds = fit.holds;
+      stand = wheel_back g (front_of b.pass) [] (parts_in b) i new low (named ∙ wheel_named g (front_of b.pass) [] (parts_in b) i old fit.stand low lent) stands
+          (lend g (front_of b.pass) (Wheel i ∷ []) (parts_in b) fit.stand);
+    }
+
 -- a world whose wheel forgot a timer
 pub record Forgot (timer : TimerRef) (before : Seen) (b : Inside) (d : Desk) (new : List Part) : Type 0 where
   pub fit : AreFit d b.pass b.next (record (parts_in b) { wheels = new })
@@ -110,18 +124,12 @@ pub forgot : (before : Seen) (b : Inside) (d : Desk) (old new : Part) (timer : T
     → (IsTidyBut (state (settings_of d) (front_of b.pass)) old timer → IsTidy (state (settings_of d) (front_of b.pass)) new)
     → Forgot timer before b d (slice_set b.wheels.items timer.wheel new)
 forgot before b d old new timer has low lent named stands tidy =
-    let g : Settings = settings_of d in
-    let s : State = state g (front_of b.pass) in
+    let s : State = state (settings_of d) (front_of b.pass) in
     let i : ℕ = timer.wheel in
-    let below : i < g.schedulers = schedulers_at has i low in
+    let below : i < (settings_of d).schedulers = schedulers_at has i low in
     let ordered = has.fit.stand.wheels in
     record {
-      fit = record {
-        belongs = has.fit.belongs;
-        holds = has.fit.holds;
-        stand = wheel_back g (front_of b.pass) [] (parts_in b) i new below (named ∙ wheel_named g (front_of b.pass) [] (parts_in b) i old has.fit.stand below lent) stands
-            (lend g (front_of b.pass) (Wheel i ∷ []) (parts_in b) has.fit.stand);
-      };
+      fit = put_back b d i old new has.fit below lent named stands;
       forgets = subst (λ w. Forgets timer w (seen d b.pass b.next b.keeper (slice_set b.wheels.items i new))) has.is (record {
         table = refl;
         history = refl;
@@ -133,6 +141,32 @@ forgot before b d old new timer has low lent named stands tidy =
             (λ one. tidy (subst (λ (y : Part). IsTidyBut s y timer) (sym lent) (subst (λ n. IsTidyBut s (slice_index_or b.wheels.items n old) timer) one (but old))))
             (λ other k key held. but x k key held (λ same.
             other (sym (ordered.named j x in_range) ∙ ap (λ (r : TimerRef). r.wheel) same)));
+      });
+    }
+
+-- a world whose wheel holds a slot free again
+pub record Freed (before : Seen) (b : Inside) (d : Desk) (new : List Part) : Type 0 where
+  pub fit : AreFit d b.pass b.next (record (parts_in b) { wheels = new })
+  pub stays : Stays before (seen d b.pass b.next b.keeper new)
+
+-- the wheel at a place holds a slot free again
+pub freed : (before : Seen) (b : Inside) (d : Desk) (i : ℕ) (old new : Part) → Has before b d → i < before.settings.schedulers
+    → old ≡ slice_index_or b.wheels.items i old → new.number ≡ old.number → WheelStands (settings_of d) (front_of b.pass) new
+    → (IsTidy (state (settings_of d) (front_of b.pass)) old → IsTidy (state (settings_of d) (front_of b.pass)) new)
+    → Freed before b d (slice_set b.wheels.items i new)
+freed before b d i old new has low lent named stands tidy =
+    let s : State = state (settings_of d) (front_of b.pass) in
+    let below : i < (settings_of d).schedulers = schedulers_at has i low in
+    record {
+      fit = put_back b d i old new has.fit below lent named stands;
+      stays = subst (λ w. Stays w (seen d b.pass b.next b.keeper (slice_set b.wheels.items i new))) has.is (record {
+        table = refl;
+        settings = refl;
+        next = refl;
+        clock = refl;
+        tidy = λ alone j in_range was x.
+            at_place (λ (y : Part). IsTidy s y) b.wheels.items i j new x (rw has.fit.stand.wheels.counted below)
+            (λ one. tidy (subst (λ (y : Part). IsTidy s y) (sym lent) (subst (λ n. IsTidy s (slice_index_or b.wheels.items n old)) one (was old)))) (λ other. was x);
       });
     }
 

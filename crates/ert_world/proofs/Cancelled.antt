@@ -1,8 +1,8 @@
 -- A cancel settles no timer but its own.
 
 use Rattle.std.proofs.Common.{◌≡◌, ◌≢◌, ℕ, ℤ, Bool, true, false, cond, List, [], ◌∷◌, ◌++◌, Option, Some, None, Result, Ok, Err, refl, sym, ap, subst, ◌∙◌}
-use Rattle.ert_answers.specs.RequestCalls.{DoesAsked, Answers}
-use Rattle.ert_answers.specs.TimerCalls.{Cancels, read_entries, cancel_entries}
+use Rattle.ert_effects.specs.RequestCalls.{DoesAsked, Answers}
+use Rattle.ert_effects.specs.TimerCalls.{Cancels, read_entries, cancel_entries}
 use Rattle.ert_defs.specs.Entries.{look_entry, peek_entry, cancel_entry, answer_entry}
 use Rattle.ert_defs.specs.Actors.{same_actor, has_actor}
 use Rattle.ert_defs.specs.Legal.{names_timer, left_of, left_by as left_by_look, LegalFrom}

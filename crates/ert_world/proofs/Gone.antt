@@ -1,13 +1,13 @@
 -- What an entry of a call brought about holds after it, whatever others did since: a process has exited, a timer
 -- isn't armed.
 
-use Rattle.std.proofs.Common.{◌≡◌, ◌≢◌, ◌⊎◌, ⊎_elim, ℕ, ◌<◌, Bool, true, false, not, ◌&&◌, ◌||◌, List, [], ◌∷◌, ◌++◌, filter, Option, Some, None, Ok, inl, inr, refl, sym, ap, subst, ◌∙◌, eq-eqb}
+use Rattle.std.proofs.Common.{◌≡◌, ◌≢◌, ℕ, ◌<◌, Bool, true, false, not, ◌&&◌, ◌||◌, List, [], ◌∷◌, ◌++◌, filter, slice_index_or, Option, Some, None, Ok, inl, inr, refl, sym, ap, subst, ◌∙◌, eq-eqb}
 use Rattle.std.specs.Option.{is_some}
 use Rattle.std.specs.Prelude.{nat_eq, nat_lt}
 use Rattle.std.proofs.lemmas.Bool.{ltb-true}
-use Rattle.ert_answers.specs.RequestCalls.{DoesAsked, Answers}
-use Rattle.ert_answers.specs.TimerCalls.{Cancels, cancel_entries}
-use Rattle.ert_answers.specs.WheelCalls.{MarksExit}
+use Rattle.ert_effects.specs.RequestCalls.{DoesAsked, Answers}
+use Rattle.ert_effects.specs.TimerCalls.{Cancels, cancel_entries}
+use Rattle.ert_effects.specs.WheelCalls.{MarksExit}
 use Rattle.ert_defs.proofs.FiredTimers.{same_timer_self}
 use Rattle.ert_defs.proofs.Runs.{state-append, exit_stays, free_rest}
 use Rattle.ert_defs.specs.Actors.{IsFree}
@@ -34,19 +34,13 @@ use Rattle.ert_table.specs.declared.desk.Desk.{Desk}
 use Rattle.ert_table.specs.declared.desk.Pass.{Pass}
 use Rattle.ert_table.specs.declared.view.View.{View}
 use Rattle.ert_timers.proofs.Later.{later_free}
+use Rattle.ert_timers.proofs.Settled.{HasOne, has_front, one_of, IsHit, hit_last}
+use Rattle.ert_timers.specs.Freeing.{IsLast}
+use Rattle.ert_timers.specs.Parts.{Part}
 use Rattle.ert_world.proofs.Calls.{Has}
 use Rattle.ert_world.proofs.Standing.{free_kept}
-use Rattle.ert_world.specs.Worlds.{Seen, IsGone, IsSettledIn}
+use Rattle.ert_world.specs.Worlds.{Seen, IsGone, IsSettledIn, IsLastIn}
 use Rattle.ert_world.specs.declared.world.World.TheInside.{Inside}
-
--- one of these entries is such
-abbrev pub HasOne : (Entry → Type 0) → List Entry → Type 0
-HasOne D [] = ⊥
-HasOne D (e ∷ es) = D e ⊎ HasOne D es
-
-has_front : (D : Entry → Type 0) (es fs : List Entry) → HasOne D es → HasOne D (es ++ fs)
-has_front D [] fs has = absurd has
-has_front D (e ∷ es) fs has = ⊎_elim (λ one. inl one) (λ more. inr (has_front D es fs more)) has
 
 -- entries that such an entry makes true, and that all entries of a kind keep
 module _ (g : Settings) (actors : List Actor) (P : State → Type 0) (D : Entry → Type 0) (F : List Entry → Type 0) where
@@ -54,15 +48,8 @@ module _ (g : Settings) (actors : List Actor) (P : State → Type 0) (D : Entry 
       → ((s : State) (m : List Entry) → F m → P s → P (run g s m)) → (s : State) (m : List Entry) → F m → HasOne D (filter (is_ours actors) m) → P (run g s m)
   came_about rest makes stays s [] free has = absurd has
   came_about rest makes stays s (e ∷ m) free has =
-      at (is_ours actors e) refl (λ more. came_about rest makes stays (next g s e) m (rest e m free) more)
-    where
-      at : (b : Bool) → is_ours actors e ≡ b → (HasOne D (filter (is_ours actors) m) → P (run g (next g s e) m)) → P (run g (next g s e) m)
-      at true is more =
-          let mine : filter (is_ours actors) (e ∷ m) ≡ e ∷ filter (is_ours actors) m = rw is refl in
-          ⊎_elim (λ made. stays (next g s e) m (rest e m free) (makes s e made)) more (subst (HasOne D) mine has)
-      at false is more =
-          let theirs : filter (is_ours actors) (e ∷ m) ≡ filter (is_ours actors) m = rw is refl in
-          more (subst (HasOne D) theirs has)
+      one_of D actors e m (P (run g s (e ∷ m))) (λ made. stays (next g s e) m (rest e m free) (makes s e made))
+      (λ more. came_about rest makes stays (next g s e) m (rest e m free) more) has
 
 -- the state after a call is that before it, with all that its front gained
 grown_state : (g : Settings) (v : View) (es : List Entry) (w : View) → (takes : TakesPlace g v es w) → state g w.front ≡ run g (state g v.front) takes.later
@@ -95,43 +82,40 @@ marked g v w process answer made =
     (came_about g v.actors (λ (s : State). s.exited process ≡ true) (IsMark process) (λ m. Unit {0}) (λ e m free. tt) (mark_exits g process)
     (λ s m free exited. exit_stays g process s m exited) (state g v.front) made.call.later tt (subst (HasOne (IsMark process)) (sym made.call.ours) has))
 
-abbrev IsCancel : TimerRef → Entry → Type 0
-IsCancel timer e = (by : Actor) × (left : Option ℕ) × (e ≡ cancel_entry by timer left)
-
 not_armed : (x : Option Status) → settled_as Cancelled x ≢ Some Armed
 not_armed None = λ is. cc
 not_armed (Some Armed) = λ is. cc
 not_armed (Some _) = λ is. cc
 
-cancel_settles : (g : Settings) (timer : TimerRef) (s : State) (e : Entry) → IsCancel timer e → (next g s e).status timer ≢ Some Armed
+cancel_settles : (g : Settings) (timer : TimerRef) (s : State) (e : Entry) → IsHit timer e → (next g s e).status timer ≢ Some Armed
 cancel_settles g timer s e cancel =
     subst (λ x. (next g s x).status timer ≢ Some Armed) (sym cancel.2) (rw (same_timer_self timer) (not_armed (s.status timer)))
 
 -- a timer that was cancelled isn't armed
 settled : (g : Settings) (v : View) (es : List Entry) (w : View) (timer : TimerRef) → (takes : TakesPlace g v es w) → IsFree takes.later (Wheel timer.wheel)
-    → HasOne (IsCancel timer) es → (state g w.front).status timer ≢ Some Armed
+    → HasOne (IsHit timer) es → (state g w.front).status timer ≢ Some Armed
 settled g v es w timer takes free has =
     subst (λ (s : State). s.status timer ≢ Some Armed) (sym (grown_state g v es w takes))
-    (came_about g v.actors (λ (s : State). s.status timer ≢ Some Armed) (IsCancel timer) (λ m. IsFree m (Wheel timer.wheel))
+    (came_about g v.actors (λ (s : State). s.status timer ≢ Some Armed) (IsHit timer) (λ m. IsFree m (Wheel timer.wheel))
     (λ e m free. free_rest (Wheel timer.wheel) e m free) (cancel_settles g timer)
     (λ s m free over is. over ((later_free g timer.wheel s m free).armed timer refl is)) (state g v.front) takes.later free
-    (subst (HasOne (IsCancel timer)) (sym takes.ours) has))
+    (subst (HasOne (IsHit timer)) (sym takes.ours) has))
 
 -- a cancel that hit names its timer, and has the entry of it
 abbrev pub Hits : Settings → TimerRef → List Entry → Type 0
-Hits g timer es = (names_timer g timer ≡ true) × HasOne (IsCancel timer) es
+Hits g timer es = (names_timer g timer ≡ true) × HasOne (IsHit timer) es
 
 cancels_at : (g : Settings) (by : Actor) (timer : TimerRef) (now : _) (names : Bool) (found : Option ℕ) (left : ℕ) → names_timer g timer ≡ names
     → (found ≡ None → Some left ≡ None) → (names ≡ false → found ≡ None)
-    → (names_timer g timer ≡ true) × HasOne (IsCancel timer) (look_entry by now ∷ cancel_entries names by timer found (Some left))
+    → (names_timer g timer ≡ true) × HasOne (IsHit timer) (look_entry by now ∷ cancel_entries names by timer found (Some left))
 cancels_at g by timer now false found left is quiet unread = absurd (let none : Some left ≡ None = quiet (unread refl) in cc)
 cancels_at g by timer now true None left is quiet unread = absurd (let none : Some left ≡ None = quiet refl in cc)
-cancels_at g by timer now true (Some found) left is quiet unread = (is, inr (inr (inl (by, Some left, refl))))
+cancels_at g by timer now true (Some found) left is quiet unread = (is, inr (inr (inl (by, left, refl))))
 
 pub cancels_hit : (g : Settings) (by : Actor) (timer : TimerRef) (left : ℕ) (s : State) (es : List Entry) → Cancels g by timer (Some left) s es → Hits g timer es
 cancels_hit g by timer left s es cancels =
     let at = cancels_at g by timer cancels.now (names_timer g timer) cancels.found left refl cancels.quiet cancels.unread in
-    (at.0, subst (HasOne (IsCancel timer)) (sym cancels.entries) at.1)
+    (at.0, subst (HasOne (IsHit timer)) (sym cancels.entries) at.1)
 
 asked_hit : (kind : RequestKind) (g : Settings) (w : ℕ) (timer : TimerRef) (left : Option ℕ) (n : ℕ) (s : State) (es : List Entry)
     → DoesAsked kind g w timer left s es → left_by kind left ≡ Some n → Hits g timer es
@@ -144,8 +128,8 @@ pub answers_hit : (g : Settings) (w : ℕ) (request : Request) (left : Option �
 answers_hit g w request left n s es answers is =
     let asked = asked_hit request.kind g w request.timer left n s answers.steps answers.done is in (
       asked.0,
-      subst (HasOne (IsCancel request.timer)) (sym answers.entries)
-          (has_front (IsCancel request.timer) answers.steps (answer_entry w request.reply_to left ∷ []) asked.1),
+      subst (HasOne (IsHit request.timer)) (sym answers.entries)
+          (has_front (IsHit request.timer) answers.steps (answer_entry w request.reply_to left ∷ []) asked.1),
     )
 
 and_first : (x y : Bool) → (x && y) ≡ true → x ≡ true
@@ -159,17 +143,21 @@ wheel_low g timer is =
 -- so it is in the history of a world
 pub gone_in : (before : Seen) (b : Inside) (d : Desk) (q : Pass) (es : List Entry) (lent : List Actor) (timer : TimerRef) (left : Option ℕ) (after : Seen)
     → Has before b d → TakesPlace (settings_of d) (view_of b.pass) es (view_of q) → AreOnlyOf lent es → ((n : ℕ) → is_held lent (Wheel n) ≡ false)
-    → ((n : ℕ) → left ≡ Some n → Hits (settings_of d) timer es) → after.settings ≡ settings_of d → after.history ≡ front_of q → IsGone after timer left
-gone_in before b d q es lent timer None after has takes only apart hits settings history = tt
-gone_in before b d q es lent timer (Some left) after has takes only apart hits settings history =
+    → ((n : ℕ) → left ≡ Some n → Hits (settings_of d) timer es) → after.settings ≡ settings_of d → after.history ≡ front_of q
+    → after.wheels ≡ b.wheels.items → IsGone after timer left
+gone_in before b d q es lent timer None after has takes only apart hits settings history wheels = tt
+gone_in before b d q es lent timer (Some left) after has takes only apart hits settings history wheels =
     let g : Settings = settings_of d in
     let hit = hits left refl in
     let low : timer.wheel < g.schedulers = wheel_low g timer hit.0 in
     let free = free_kept g (view_of b.pass) es (view_of q) lent (Wheel timer.wheel) takes only (has.fit.holds.rest (Wheel timer.wheel) low tt) (apart timer.wheel) in
     let over = settled g (view_of b.pass) es (view_of q) timer takes free hit.1 in
-    (rw settings low, rw (settings, history) over)
+    let last : (x : Part) → IsLast (slice_index_or b.wheels.items timer.wheel x) timer = λ x.
+    hit_last g (view_of b.pass) es (view_of q) (slice_index_or b.wheels.items timer.wheel x) timer (has.fit.stand.wheels.stand timer.wheel x low refl)
+    (sym (has.fit.stand.wheels.named timer.wheel x low)) takes free hit.1 in
+    (rw settings low, rw (settings, history) over, subst (λ (ws : List Part). (x : Part) → IsLast (slice_index_or ws timer.wheel x) timer) (sym wheels) last)
 
 pub gone_some : (w : Seen) (timer : TimerRef) (left : Option ℕ) → is_some left ≡ true → IsGone w timer left
-    → (timer.wheel < w.settings.schedulers) × IsSettledIn w timer
+    → (timer.wheel < w.settings.schedulers) × IsSettledIn w timer × IsLastIn w timer
 gone_some w timer None some gone = absurd cc
 gone_some w timer (Some left) some gone = gone

@@ -32,6 +32,20 @@ pub record IsMeeting (d : Desk) (p s j q r : Pass) (a : Actor) : Type 0 where
   pub sits_again : actors_of r ≡ a ∷ []
   pub seat_front : front_of r ≡ front_of j
 
+pub is_meeting : (d e : Desk) (p s j q r : Pass) (a : Actor) → e ≡ d → actors_of s ≡ a ∷ [] → actors_of j ≡ actors_of p ++ actors_of s
+    → Joined (meeting (view_of p) (view_of s)) (front_of j) → Legal (settings_of e) (front_of j) → actors_of q ≡ actors_but (actors_of j) a
+    → front_of q ≡ front_of j → actors_of r ≡ a ∷ [] → front_of r ≡ front_of j → IsMeeting d p s j q r a
+is_meeting d e p s j q r a same sits actors joined legal rest front again seat_front = record {
+  sits = sits;
+  actors = actors;
+  joined = joined;
+  legal = subst (λ (d : Desk). Legal (settings_of d) (front_of j)) same legal;
+  rest = rest;
+  front = front;
+  sits_again = again;
+  seat_front = seat_front;
+}
+
 holds_self : (a : Actor) → is_held (a ∷ []) a ≡ true
 holds_self a = or_left (same_actor a a) false (same_actor_self a)
 

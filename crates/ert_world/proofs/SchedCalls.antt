@@ -2,25 +2,24 @@
 
 use Rattle.std.proofs.Common.{◌≡◌, ℕ, ◌<◌, List, [], ◌∷◌, slice_index_or, Option, Some, None, Ok, refl, sym, ap, subst, ◌∙◌, append-nil}
 use Rattle.std.specs.Prelude.{slice_set}
-use Rattle.ert_answers.specs.Chains.{Hands}
-use Rattle.ert_answers.specs.MailCalls.{HandsOver}
-use Rattle.ert_answers.specs.RequestCalls.{Picks, Answers}
-use Rattle.ert_answers.specs.Ways.{Growth, Way}
-use Rattle.ert_answers.specs.declared.answers.Handed.{Handed}
+use Rattle.ert_effects.specs.Chains.{Hands}
+use Rattle.ert_effects.specs.MailCalls.{HandsOver}
+use Rattle.ert_effects.specs.RequestCalls.{Picks, Answers}
+use Rattle.ert_effects.specs.Ways.{Growth, Way}
+use Rattle.ert_effects.specs.declared.answers.Handed.{Handed}
 use Rattle.ert_defs.specs.Mails.{SchedState, first_of, others_of}
 use Rattle.ert_defs.specs.States.{State, state}
 use Rattle.ert_defs.specs.Timers.{Row}
 use Rattle.ert_defs.specs.declared.entry.Actor.{Actor}
-use Rattle.ert_defs.specs.declared.entry.Actor.TheVariants.{Inbox, Sched, MailOf}
+use Rattle.ert_defs.specs.declared.entry.Actor.TheVariants.{Wheel, Inbox, Sched, MailOf}
 use Rattle.ert_defs.specs.declared.entry.Entry.{Entry}
 use Rattle.ert_defs.specs.declared.mail.Request.{Request}
 use Rattle.ert_defs.specs.declared.settings.Settings.{Settings}
-use Rattle.ert_inbox.proofs.LawsHold.{picks_only}
-use Rattle.ert_inbox.specs.Inboxes.{Waiting, picked, Stands as InboxStands}
+use Rattle.ert_mail.specs.Inboxes.{Waiting, picked, Stands as InboxStands}
 use Rattle.ert_laws.proofs.Requests.{held_have_askers}
 use Rattle.ert_laws.proofs.RowRanges.{first_placed}
 use Rattle.ert_laws.specs.Ranges.{IsPlaced}
-use Rattle.ert_mail.proofs.LawsHold.{handing_only, answers_only}
+use Rattle.ert_mail.proofs.LawsHold.{handing_only, answers_only, picks_only}
 use Rattle.ert_mail.specs.Mailboxes.{Mailbox, IsScheds, handed, answered, Stands as MailStands}
 use Rattle.ert_world.proofs.Calm.{picks_calm, hands_calm}
 use Rattle.ert_world.proofs.Returned.{inbox_back, mail_back, sched_back}
@@ -31,12 +30,14 @@ use Rattle.ert_table.specs.Desks.{settings_of, view_of, front_of, Belongs}
 use Rattle.ert_table.specs.Takes.{TakesPlace}
 use Rattle.ert_table.specs.declared.desk.Desk.{Desk}
 use Rattle.ert_table.specs.declared.desk.Pass.{Pass}
+use Rattle.ert_timers.proofs.Settled.{fired_let_go, handed_free}
 use Rattle.ert_timers.specs.FiredLists.{Queue}
 use Rattle.ert_world.proofs.Calls.{Has, Does, Makes, ComeBack, parts_in, exact, added, calm_called, called_with, inbox_named, mail_named, schedulers_at}
 use Rattle.ert_world.proofs.CancelCalls.{DoesBut, finish_but}
 use Rattle.ert_world.proofs.Cancelled.{answer_settles}
 use Rattle.ert_world.proofs.Gone.{answers_hit}
-use Rattle.ert_world.specs.Worlds.{Seen, By, sched_of, cancelled_by}
+use Rattle.ert_world.proofs.Standing.{free_kept}
+use Rattle.ert_world.specs.Worlds.{Seen, seen, IsHandedIn, By, sched_of, cancelled_by}
 use Rattle.ert_world.specs.declared.world.World.TheInside.{Inside}
 
 -- a scheduler's part stands that has what the state has
@@ -205,6 +206,28 @@ hands_on before b d q n fired how has first sched =
     let placed : IsPlaced g n fired = fired_placed before b d n fired has first in
     let mine = subst (λ m. (state g (front_of q)).scheds m ≡ handed (Ok how) ((state g (front_of b.pass)).scheds m)) placed.wheel sched in
     ap (λ (s : SchedState). s.fired) mine ∙ ap (λ (w : Seen). others_of (sched_of w n).fired) has.is
+
+-- its slot can be used again
+pub handed_in : (before : Seen) (b : Inside) (d : Desk) (q : Pass) (n : ℕ) (fired : Row) (how : Handed) → Has before b d → n < before.settings.schedulers
+    → first_of (sched_of before n).fired ≡ Some fired
+    → IsMade (settings_of d) (view_of b.pass) (HandsOver (settings_of d) fired.timer.wheel fired (Ok how)) (view_of q)
+    → IsHandedIn (seen d q b.next b.keeper b.wheels.items) fired.timer
+handed_in before b d q n fired how has low first made =
+    let g : Settings = settings_of d in
+    let h : List Entry = front_of b.pass in
+    let w : ℕ = fired.timer.wheel in
+    let placed : IsPlaced g n fired = fired_placed before b d n fired has first in
+    let below : w < g.schedulers = subst (λ m. m < g.schedulers) (sym placed.wheel) (schedulers_at has n low) in
+    let first_w : first_of ((state g h).scheds w).fired ≡ Some fired =
+    subst (λ m. first_of ((state g h).scheds m).fired ≡ Some fired) (sym placed.wheel)
+    (subst (λ (w : Seen). first_of (sched_of w n).fired ≡ Some fired) (sym has.is) first) in
+    let free = free_kept g (view_of b.pass) made.entries (view_of q) (Sched w ∷ (MailOf fired.dest ∷ [])) (Wheel w) made.call
+    (handing_only g w fired (Ok how) (state g h) made.entries made.allowed) (has.fit.holds.rest (Wheel w) below tt) refl in (
+      below,
+      (λ x. fired_let_go g h (slice_index_or b.wheels.items w x) fired (has.fit.stand.wheels.stand w x below refl)
+          (subst (λ m. first_of ((state g h).scheds m).fired ≡ Some fired) (sym (has.fit.stand.wheels.named w x below)) first_w)),
+      handed_free g (view_of b.pass) (view_of q) w fired how has.fit.stand.legal first_w made free,
+    )
 
 -- a scheduler's step that found no memory changed nothing but the room of a mailbox
 none_taken : (b : Inside) (d : Desk) (q : Pass) → Stand (settings_of d) (front_of b.pass) [] (parts_in b) → view_of q ≡ view_of b.pass

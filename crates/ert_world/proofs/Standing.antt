@@ -12,9 +12,8 @@ use Rattle.ert_defs.specs.declared.entry.Actor.{Actor}
 use Rattle.ert_defs.specs.declared.entry.Actor.TheVariants.{Keeper, Wheel, Inbox, Sched, MailOf}
 use Rattle.ert_defs.specs.declared.entry.Entry.{Entry}
 use Rattle.ert_defs.specs.declared.settings.Settings.{Settings}
-use Rattle.ert_inbox.proofs.LawsHold.{stand_on as inbox_on}
-use Rattle.ert_inbox.specs.Inboxes.{Waiting, Stands as InboxStands}
-use Rattle.ert_mail.proofs.LawsHold.{stand_on as mail_on}
+use Rattle.ert_mail.specs.Inboxes.{Waiting, Stands as InboxStands}
+use Rattle.ert_mail.proofs.LawsHold.{inbox_on, mail_on}
 use Rattle.ert_mail.specs.Mailboxes.{Mailbox, Stands as MailStands}
 use Rattle.ert_world.specs.Parts.{AllParts, SchedStands, AreOrdered, Stand}
 use Rattle.ert_world.specs.declared.sched_part.SchedPart.{SchedPart}

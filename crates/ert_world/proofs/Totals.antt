@@ -142,44 +142,21 @@ sum_on all one f n before is = ap (λ x. x + one) before ∙ (ap (λ x. total f 
 pub sum_fits : (all one : ℕ) (f : ℕ → ℕ) (n : ℕ) → all ≡ total f n → one ≡ f n → total f (n + 1) ≤ most → Fits w64 (all + one)
 sum_fits all one f n before is few = (let sum = sum_on all one f n before is in omega (arith, sum, few))
 
--- what the counters of all parts tell
-pub record AreSums (w : Seen) (arms expires orphans rows expired delivered : ℕ) : Type 0 where
-  pub arms_is : arms ≡ total (λ i. entries_of is_arm i w.history) w.settings.schedulers
-  pub expires_is : expires ≡ total (λ i. entries_of is_expire i w.history) w.settings.schedulers
-  pub orphans_is : orphans ≡ total (λ i. entries_of is_orphan i w.history) w.settings.schedulers
-  pub rows_is : rows ≡ count_in (state w.settings w.history) Armed w.settings.schedulers
-  pub expired_is : expired ≡ total (λ i. length (sched_of w i).fired) w.settings.schedulers
-  pub delivered_is : delivered ≡ total (λ p. deliveries p w.history) w.settings.processes
-
--- the counts by status are differences of them, and none falls below 0
-pub record AreDifferences (n : Numbers) (arms expires orphans rows expired delivered : ℕ) : Type 0 where
-  pub expiries : expires ≡ (expired + delivered) + n.dropped
-  pub armings : arms ≡ ((rows + n.cancelled) + orphans) + expires
-  pub armed : n.armed ≡ rows
-  pub expired_same : n.expired ≡ expired
-  pub delivered_same : n.delivered ≡ delivered
-  pub orphaned : n.orphaned ≡ orphans
-
-pub differences : (w : Seen) (arms expires orphans rows expired delivered : ℕ) → Legal w.settings w.history
-    → AreSums w arms expires orphans rows expired delivered
-    → AreDifferences (counts_of w.settings (state w.settings w.history)) arms expires orphans rows expired delivered
-differences w arms expires orphans rows expired delivered legal sums =
-    let n : Numbers = counts_of w.settings (state w.settings w.history) in
-    let own : Agrees w.settings w.history n = counts_agree w.settings w.history legal in
-    let e : n.expired ≡ expired = own.expired ∙ sym sums.expired_is in
-    let d : n.delivered ≡ delivered = own.delivered ∙ sym sums.delivered_is in
-    let o : n.orphaned ≡ orphans = own.orphaned ∙ sym sums.orphans_is in
-    let a : n.armed ≡ rows = own.armed ∙ sym sums.rows_is in
-    record {
-      expiries = sums.expires_is ∙ (own.expiries ∙ (ap (λ x. x + n.delivered + n.dropped) e ∙ ap (λ x. expired + x + n.dropped) d));
-      armings = sums.arms_is ∙ (own.arms ∙ (ap (λ x. x + n.cancelled + n.orphaned + total (λ i. entries_of is_expire i w.history) w.settings.schedulers) a
-          ∙ (ap (λ x. rows + n.cancelled + x + total (λ i. entries_of is_expire i w.history) w.settings.schedulers) o
-          ∙ ap (λ x. rows + n.cancelled + orphans + x) (sym sums.expires_is))));
-      armed = a;
-      expired_same = e;
-      delivered_same = d;
-      orphaned = o;
-    }
+-- the counts by status are differences of what the counters of all parts tell, and none falls below 0
+pub record AreCounted (n : Numbers) (arms expires orphans rows expired delivered : ℕ) : Type 0 where
+  pub expired_under : expired ≤ expires
+  pub delivered_under : delivered ≤ expires - expired
+  pub rows_under : rows ≤ arms
+  pub expires_under : expires ≤ arms - rows
+  pub orphans_under : orphans ≤ (arms - rows) - expires
+  pub numbers : record {
+    armed = rows;
+    expired = expired;
+    delivered = delivered;
+    dropped = (expires - expired) - delivered;
+    cancelled = ((arms - rows) - expires) - orphans;
+    orphaned = orphans;
+  } ≡ n
 
 same_numbers : (n : Numbers) (armed expired delivered dropped cancelled orphaned : ℕ) → armed ≡ n.armed → expired ≡ n.expired → delivered ≡ n.delivered
     → dropped ≡ n.dropped → cancelled ≡ n.cancelled → orphaned ≡ n.orphaned
@@ -198,49 +175,48 @@ dropped_rest expires expired delivered dropped sum = omega (arith, sum)
 cancelled_rest : (arms rows cancelled orphans expires : ℕ) → arms ≡ ((rows + cancelled) + orphans) + expires → ((arms - rows) - expires) - orphans ≡ cancelled
 cancelled_rest arms rows cancelled orphans expires sum = omega (arith, sum)
 
-pub counted : (n : Numbers) (arms expires orphans rows expired delivered : ℕ) → AreDifferences n arms expires orphans rows expired delivered
-    → record {
-      armed = rows;
-      expired = expired;
-      delivered = delivered;
-      dropped = (expires - expired) - delivered;
-      cancelled = ((arms - rows) - expires) - orphans;
-      orphaned = orphans;
-    } ≡ n
-counted n arms expires orphans rows expired delivered are =
-    same_numbers n rows expired delivered ((expires - expired) - delivered) (((arms - rows) - expires) - orphans) orphans
-    (sym are.armed) (sym are.expired_same) (sym are.delivered_same) (dropped_rest expires expired delivered n.dropped are.expiries)
-    (cancelled_rest arms rows n.cancelled orphans expires are.armings) (sym are.orphaned)
+first_under : (a b c d : ℕ) → a ≡ (b + c) + d → b ≤ a
+first_under a b c d sum = omega (arith, sum)
 
-pub expired_under : (n : Numbers) (arms expires orphans rows expired delivered : ℕ) → AreDifferences n arms expires orphans rows expired delivered → expired ≤ expires
-expired_under n arms expires orphans rows expired delivered are = under expires expired delivered n.dropped are.expiries
-  where
-    under : (a b c d : ℕ) → a ≡ (b + c) + d → b ≤ a
-    under a b c d sum = omega (arith, sum)
+second_under : (a b c d : ℕ) → a ≡ (b + c) + d → c ≤ a - b
+second_under a b c d sum = omega (arith, sum)
 
-pub delivered_under : (n : Numbers) (arms expires orphans rows expired delivered : ℕ) → AreDifferences n arms expires orphans rows expired delivered
-    → delivered ≤ expires - expired
-delivered_under n arms expires orphans rows expired delivered are = under expires expired delivered n.dropped are.expiries
-  where
-    under : (a b c d : ℕ) → a ≡ (b + c) + d → c ≤ a - b
-    under a b c d sum = omega (arith, sum)
+last_under : (a b c d e : ℕ) → a ≡ ((b + c) + d) + e → e ≤ a - b
+last_under a b c d e sum = omega (arith, sum)
 
-pub rows_under : (n : Numbers) (arms expires orphans rows expired delivered : ℕ) → AreDifferences n arms expires orphans rows expired delivered → rows ≤ arms
-rows_under n arms expires orphans rows expired delivered are = under arms rows n.cancelled orphans expires are.armings
-  where
-    under : (a b c d e : ℕ) → a ≡ ((b + c) + d) + e → b ≤ a
-    under a b c d e sum = omega (arith, sum)
+third_under : (a b c d e : ℕ) → a ≡ ((b + c) + d) + e → d ≤ (a - b) - e
+third_under a b c d e sum = omega (arith, sum)
 
-pub expires_under : (n : Numbers) (arms expires orphans rows expired delivered : ℕ) → AreDifferences n arms expires orphans rows expired delivered
-    → expires ≤ arms - rows
-expires_under n arms expires orphans rows expired delivered are = under arms rows n.cancelled orphans expires are.armings
-  where
-    under : (a b c d e : ℕ) → a ≡ ((b + c) + d) + e → e ≤ a - b
-    under a b c d e sum = omega (arith, sum)
+four_under : (a b c d e : ℕ) → a ≡ ((b + c) + d) + e → b ≤ a
+four_under a b c d e sum = omega (arith, sum)
 
-pub orphans_under : (n : Numbers) (arms expires orphans rows expired delivered : ℕ) → AreDifferences n arms expires orphans rows expired delivered
-    → orphans ≤ (arms - rows) - expires
-orphans_under n arms expires orphans rows expired delivered are = under arms rows n.cancelled orphans expires are.armings
-  where
-    under : (a b c d e : ℕ) → a ≡ ((b + c) + d) + e → d ≤ (a - b) - e
-    under a b c d e sum = omega (arith, sum)
+pub counted : (w : Seen) {arms expires orphans rows expired delivered : ℕ} → Legal w.settings w.history
+    → arms ≡ total (λ i. entries_of is_arm i w.history) w.settings.schedulers
+    → expires ≡ total (λ i. entries_of is_expire i w.history) w.settings.schedulers
+    → orphans ≡ total (λ i. entries_of is_orphan i w.history) w.settings.schedulers
+    → rows ≡ count_in (state w.settings w.history) Armed w.settings.schedulers
+    → expired ≡ total (λ i. length (sched_of w i).fired) w.settings.schedulers
+    → delivered ≡ total (λ p. deliveries p w.history) w.settings.processes
+    → AreCounted (counts_of w.settings (state w.settings w.history)) arms expires orphans rows expired delivered
+counted w {arms} {expires} {orphans} {rows} {expired} {delivered} legal arms_is expires_is orphans_is rows_is expired_is delivered_is =
+    let n : Numbers = counts_of w.settings (state w.settings w.history) in
+    let own : Agrees w.settings w.history n = counts_agree w.settings w.history legal in
+    let e : n.expired ≡ expired = own.expired ∙ sym expired_is in
+    let d : n.delivered ≡ delivered = own.delivered ∙ sym delivered_is in
+    let o : n.orphaned ≡ orphans = own.orphaned ∙ sym orphans_is in
+    let a : n.armed ≡ rows = own.armed ∙ sym rows_is in
+    let expiries : expires ≡ (expired + delivered) + n.dropped =
+    expires_is ∙ (own.expiries ∙ (ap (λ x. x + n.delivered + n.dropped) e ∙ ap (λ x. expired + x + n.dropped) d)) in
+    let armings : arms ≡ ((rows + n.cancelled) + orphans) + expires =
+    arms_is ∙ (own.arms ∙ (ap (λ x. x + n.cancelled + n.orphaned + total (λ i. entries_of is_expire i w.history) w.settings.schedulers) a
+    ∙ (ap (λ x. rows + n.cancelled + x + total (λ i. entries_of is_expire i w.history) w.settings.schedulers) o
+    ∙ ap (λ x. rows + n.cancelled + orphans + x) (sym expires_is)))) in
+    record {
+      expired_under = first_under expires expired delivered n.dropped expiries;
+      delivered_under = second_under expires expired delivered n.dropped expiries;
+      rows_under = four_under arms rows n.cancelled orphans expires armings;
+      expires_under = last_under arms rows n.cancelled orphans expires armings;
+      orphans_under = third_under arms rows n.cancelled orphans expires armings;
+      numbers = same_numbers n rows expired delivered ((expires - expired) - delivered) (((arms - rows) - expires) - orphans) orphans
+          (sym a) (sym e) (sym d) (dropped_rest expires expired delivered n.dropped expiries) (cancelled_rest arms rows n.cancelled orphans expires armings) (sym o);
+    }

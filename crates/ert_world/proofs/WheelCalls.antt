@@ -2,13 +2,13 @@
 
 use Rattle.std.proofs.Common.{◌≡◌, ◌≢◌, ℕ, zero, suc, ◌<◌, Bool, true, false, List, [], ◌∷◌, ◌++◌, slice_index_or, Option, Some, None, Result, Ok, Err, inl, inr, refl, sym, ap, subst, ◌∙◌, eqb-true}
 use Rattle.std.specs.Prelude.{slice_set, nat_eq}
-use Rattle.ert_answers.proofs.Advanced.{IsAdvance, advance_is}
-use Rattle.ert_answers.specs.TimerCalls.{Starts, Closes, AreProbes, AreTaken}
-use Rattle.ert_answers.specs.Chains.{SweepsWheel}
-use Rattle.ert_answers.specs.WheelCalls.{Advances, Sweeps, IsSwept, Try, expires_by, expiry_entries, orphans_by, orphan_entries}
-use Rattle.ert_answers.specs.Ways.{Growth, Way}
-use Rattle.ert_answers.specs.declared.answers.StartErr.{StartErr}
-use Rattle.ert_answers.specs.declared.answers.StartErr.TheVariants.{BadArg, Full, NoMemory}
+use Rattle.ert_effects.proofs.Advanced.{IsAdvance, advance_is}
+use Rattle.ert_effects.specs.TimerCalls.{Starts, Closes, AreProbes, AreTaken}
+use Rattle.ert_effects.specs.Chains.{SweepsWheel}
+use Rattle.ert_effects.specs.WheelCalls.{Advances, Sweeps, IsSwept, Try, expires_by, expiry_entries, orphans_by, orphan_entries}
+use Rattle.ert_effects.specs.Ways.{Growth, Way}
+use Rattle.ert_effects.specs.declared.answers.StartErr.{StartErr}
+use Rattle.ert_effects.specs.declared.answers.StartErr.TheVariants.{BadArg, Full, NoMemory}
 use Rattle.ert_defs.specs.Actors.{same_actor}
 use Rattle.ert_defs.specs.States.{State, state}
 use Rattle.ert_defs.specs.declared.entry.Actor.{Actor}
@@ -32,18 +32,16 @@ use Rattle.ert_timers.specs.Parts.{Part, last_timer, Stands as WheelStands}
 use Rattle.ert_timers.specs.Tidy.{IsTidy, KeepsTidy}
 use Rattle.ert_world.proofs.Alone.{whole_of}
 use Rattle.ert_world.proofs.Armed.{is_cancel, AreCalm, armed_stays}
-use Rattle.ert_world.proofs.Calls.{Has, Does, Makes, parts_in, seen_at, exact, finish, after, added, schedulers_at}
+use Rattle.ert_world.proofs.Calm.{calm_as}
+use Rattle.ert_world.proofs.Calls.{Has, Does, Makes, parts_in, seen_at, has_at, does_at, exact, finish, after, added, makes, schedulers_at}
 use Rattle.ert_world.proofs.Returned.{at_place, wheel_back, caller_back}
 use Rattle.ert_world.specs.Parts.{AllParts, Stand}
-use Rattle.ert_world.specs.Worlds.{Seen, seen, StayTidy}
+use Rattle.ert_world.specs.Worlds.{Seen, seen, AreFit, StayTidy, By}
 use Rattle.ert_world.specs.declared.world.World.TheInside.{Inside}
 
 calm_append : (es fs : List Entry) → AreCalm es → AreCalm fs → AreCalm (es ++ fs)
 calm_append [] fs one other = other
 calm_append (e ∷ es) fs one other = (one.0, calm_append es fs one.1 other)
-
-calm_as : (es fs : List Entry) → es ≡ fs → AreCalm fs → AreCalm es
-calm_as es fs same calm = subst AreCalm (sym same) calm
 
 probes_calm : (by : Actor) (w : ℕ) (es : List Entry) → AreProbes by w es → AreCalm es
 probes_calm by w [] are = tt
@@ -159,6 +157,19 @@ wheel_called before b d q i old new es call has belongs low lent named stands ta
     (finish before b d q (record (parts_in b) { wheels = slice_set b.wheels.items n new }) es (Caller 0 ∷ (Wheel n ∷ [])) (call n) has belongs takes only (refl, (refl, tt))
     (λ stand. wheel_back g (front_of q) [] (parts_in b) n new (rw one below) named stands (caller_back g (front_of q) (Wheel n ∷ []) (parts_in b) 0 stand)) allowed
     (wheel_tidy b d q n old new es (Caller 0 ∷ (Wheel n ∷ [])) has (rw one below) mine takes only (λ j apart. one_wheel (Caller 0) n j refl apart) calm keeps))
+
+-- one that makes a single step
+pub wheel_stepped : (before : Seen) (b : Inside) (d e : Desk) (q : Pass) (i : ℕ) (old new : Part) (allows : ℕ → Settings → State → List Entry → Type 0)
+    → d ≡ e → seen_at e b ≡ before → AreFit e b.pass b.next (parts_in b) → Belongs d q → i < before.settings.schedulers
+    → old ≡ slice_index_or b.wheels.items i old → new.number ≡ old.number → WheelStands (settings_of d) (front_of q) new
+    → (made : IsMade (settings_of d) (view_of b.pass) (allows old.number (settings_of d)) (view_of q))
+    → ((s : State) (es : List Entry) → allows old.number (settings_of d) s es → AreOnlyOf (Caller 0 ∷ (Wheel old.number ∷ [])) es)
+    → ((s : State) (es : List Entry) → allows old.number (settings_of d) s es → AreCalm es) → KeepsTidy (settings_of d) (view_of b.pass) old new (view_of q)
+    → Does before e q b.next (record (parts_in b) { wheels = slice_set b.wheels.items i new }) (λ w. By w (allows i))
+wheel_stepped before b d e q i old new allows same is fit belongs low lent named stands made only calm keeps =
+    let s : State = state (settings_of d) (front_of b.pass) in
+    does_at same (wheel_called before b d q i old new made.entries (λ n w. By w (allows n)) (has_at same is fit) belongs low lent named stands made.call
+    (only s made.entries made.allowed) (calm s made.entries made.allowed) keeps (makes b d q made.entries (allows old.number) made.allowed))
 
 -- caller 0 swept a wheel
 pub sweep_called : (before : Seen) (b : Inside) (d : Desk) (q : Pass) (i process : ℕ) (old new : Part) → Has before b d → Belongs d q

@@ -4,5 +4,6 @@ pub mod Lived
 pub mod Openings
 pub mod Parts
 pub mod Seats
+pub mod Stepping
 pub mod Ways
 pub mod Worlds

@@ -3,7 +3,7 @@
 use Rattle.std.specs.Prelude.{◌≡◌, ℕ, ◌<◌, List, [], length, slice_index_or, None}
 use Rattle.ert_defs.specs.States.{opening}
 use Rattle.ert_defs.specs.declared.settings.Settings.{Settings}
-use Rattle.ert_inbox.specs.Inboxes.{Waiting}
+use Rattle.ert_mail.specs.Inboxes.{Waiting}
 use Rattle.ert_timers.specs.Parts.{Part, Stands}
 use Rattle.ert_timers.specs.Tidy.{IsTidy}
 use Rattle.ert_world.specs.Worlds.{Seen, StandsFor, IsTidyAt}

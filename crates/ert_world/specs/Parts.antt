@@ -8,7 +8,7 @@ use Rattle.ert_defs.specs.declared.entry.Actor.{Actor}
 use Rattle.ert_defs.specs.declared.entry.Actor.TheVariants.{Keeper, Wheel, Inbox, Sched, MailOf}
 use Rattle.ert_defs.specs.declared.entry.Entry.{Entry}
 use Rattle.ert_defs.specs.declared.settings.Settings.{Settings}
-use Rattle.ert_inbox.specs.Inboxes.{Waiting, Stands as InboxStands}
+use Rattle.ert_mail.specs.Inboxes.{Waiting, Stands as InboxStands}
 use Rattle.ert_mail.specs.Mailboxes.{Mailbox, Stands as MailStands}
 use Rattle.ert_table.specs.Held.{is_held}
 use Rattle.ert_timers.specs.Parts.{Part, Stands as WheelStands}

@@ -1,7 +1,7 @@
 -- How the entries of a step come about beside threads that have seats.
 
 use Rattle.std.specs.Prelude.{◌≡◌, ℕ, Bool, false, ◌&&◌, not, nat_lt, List, [], ◌∷◌, filter}
-use Rattle.ert_answers.specs.Ways.{Way}
+use Rattle.ert_effects.specs.Ways.{Way}
 use Rattle.ert_defs.specs.Entries.{is_ours}
 use Rattle.ert_defs.specs.States.{State, state}
 use Rattle.ert_defs.specs.declared.entry.Actor.{Actor}

@@ -2,12 +2,13 @@
 
 use Rattle.std.specs.Prelude.{◌≡◌, ◌≢◌, ℕ, ◌<◌, ◌≤◌, ◌⊎◌, true, false, List, [], slice_index_or, Option, Some, None, Result, Ok, Err}
 use Rattle.atomic_table.specs.Seated.{TableId}
-use Rattle.ert_answers.specs.Ways.{Growth, Way, Grows, alone}
+use Rattle.ert_effects.specs.Ways.{Growth, Way, Grows, alone}
 use Rattle.ert_clock.specs.Shown.{Shown, Stands as ClockStands}
 use Rattle.ert_defs.specs.Mails.{SchedState}
 use Rattle.ert_defs.specs.Milliseconds.{down, natural}
 use Rattle.ert_defs.specs.Settings.{IsChecked}
 use Rattle.ert_defs.specs.States.{State, state}
+use Rattle.ert_defs.specs.Timers.{is_taken}
 use Rattle.ert_defs.specs.declared.entry.Actor.{Actor}
 use Rattle.ert_defs.specs.declared.entry.Actor.TheVariants.{Caller}
 use Rattle.ert_defs.specs.declared.entry.Entry.{Entry}
@@ -22,6 +23,7 @@ use Rattle.ert_table.specs.Desks.{settings_of, front_of, actors_of, Belongs}
 use Rattle.ert_table.specs.Held.{is_held, IsActor}
 use Rattle.ert_table.specs.declared.desk.Desk.{Desk}
 use Rattle.ert_table.specs.declared.desk.Pass.{Pass}
+use Rattle.ert_timers.specs.Freeing.{IsLast, IsLetGo}
 use Rattle.ert_timers.specs.NextDue.{IsNearest, IsNextHeld, horizon_at}
 use Rattle.ert_timers.specs.Parts.{Part}
 use Rattle.ert_timers.specs.Tidy.{IsTidy, IsTidyBut}
@@ -114,10 +116,15 @@ pub record Goes (old : Seen) (call : Way → Growth) (new : Seen) : Type 0 where
 abbrev pub IsSettledIn : Seen → TimerRef → Type 0
 IsSettledIn w timer = (state w.settings w.history).status timer ≢ Some Armed
 
--- a timer is of a wheel in range and no longer armed, if this much was left of it when it was cancelled
+-- a timer is the last of its slot, of a wheel of a world
+abbrev pub IsLastIn : Seen → TimerRef → Type 0
+IsLastIn w timer = (d : Part) → IsLast (slice_index_or w.wheels timer.wheel d) timer
+
+-- a timer is of a wheel in range, no longer armed and the last of its slot, if this much was left of it when it was
+-- cancelled
 abbrev pub IsGone : Seen → TimerRef → Option ℕ → Type 0
 IsGone w timer None = Unit {0}
-IsGone w timer (Some left) = (timer.wheel < w.settings.schedulers) × IsSettledIn w timer
+IsGone w timer (Some left) = (timer.wheel < w.settings.schedulers) × IsSettledIn w timer × IsLastIn w timer
 
 -- but for one timer that was cancelled, if this much was left of it: its row still stands
 pub record GoesBut (timer : TimerRef) (left : Option ℕ) (old : Seen) (call : Way → Growth) (new : Seen) : Type 0 where
@@ -137,6 +144,14 @@ pub record Forgets (timer : TimerRef) (old new : Seen) : Type 0 where
   pub clock : new.clock ≡ old.clock
   pub next : new.next ≡ old.next
   pub tidy : (i : ℕ) → i < old.settings.schedulers → IsTidyButAt old i timer → IsTidyAt new i
+
+-- a timer was let go, of a wheel of a world
+abbrev pub IsLetGoIn : Seen → TimerRef → Type 0
+IsLetGoIn w timer = (d : Part) → IsLetGo (slice_index_or w.wheels timer.wheel d) timer
+
+-- the message of a timer of a wheel in range was handed over: it takes its slot no more, which can be used again
+abbrev pub IsHandedIn : Seen → TimerRef → Type 0
+IsHandedIn w timer = (timer.wheel < w.settings.schedulers) × IsLetGoIn w timer × (is_taken ((state w.settings w.history).status timer) ≡ false)
 
 -- of the entries that its history gains, those that come about so are what is allowed after the history before
 abbrev pub By : Seen → (Settings → State → List Entry → Type 0) → Way → Growth

@@ -6,7 +6,7 @@ use ert_defs::{Actor, OffsetState, Reading};
 
 impl World {
     ghost use Rattle.std.specs.Prelude.{◌≡◌, ◌+ℤ◌};
-    ghost use Rattle.ert_answers.specs.ClockCalls.{Ticks, Finalizes, TellsTime, TellsOffset, TellsSystemTime};
+    ghost use Rattle.ert_effects.specs.ClockCalls.{Ticks, Finalizes, TellsTime, TellsOffset, TellsSystemTime};
     ghost use Rattle.ert_clock.specs.Ticks.{act_of, Gives, FinalizesFrom};
     ghost use Rattle.ert_defs.specs.declared.entry.Actor.TheVariants.{Caller};
     ghost use Rattle.ert_world.specs.Worlds.{Goes, By};

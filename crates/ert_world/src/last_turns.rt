@@ -1,11 +1,12 @@
 //! The last turn of a scheduler of a service, which looks at every row that its wheel holds.
+use crate::chains::{deliver, serve_all};
 use crate::world::World;
-use ert_answers::Turned;
 use ert_defs::NoMemory;
+use ert_effects::Turned;
 
 impl World {
     ghost use Rattle.std.specs.Prelude.{◌≡◌, ◌<◌, OnOk};
-    ghost use Rattle.ert_answers.specs.Chains.{AdvancesAllOfWheel, LastTurns};
+    ghost use Rattle.ert_effects.specs.Chains.{AdvancesAllOfWheel, LastTurns};
     ghost use Rattle.ert_world.specs.Worlds.{Goes, IsTidyAt};
 
     /// A turn that looks at every row that its wheel holds, so that the wheel is tidy then: the last turn of a
@@ -19,15 +20,15 @@ impl World {
         ensures tidy { OnOk result (IsTidyAt self.new sched) }
         ensures clock { self.new.clock ≡ self.old.clock }
     {
-        let served = self.serve_all(sched)?;
-        let (to, fired) = self.advance_all(sched)?;
-        let (put, dropped) = self.deliver(sched)?;
+        let served = serve_all(self, sched)?;
+        let advanced = self.advance_all(sched)?;
+        let delivered = deliver(self, sched)?;
         Ok(Turned {
             served,
-            to,
-            fired,
-            put,
-            dropped,
+            to: advanced.0,
+            fired: advanced.1,
+            put: delivered.0,
+            dropped: delivered.1,
         })
     }
 

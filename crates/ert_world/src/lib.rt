@@ -2,8 +2,8 @@
 //!
 //! **Who has what.** A desk's atomic words (`ert_table`) are shared by counted references (`Arc`). A `World` has a
 //! pass that holds every actor of the desk but the callers that have seats, and all parts: the clock's
-//! (`ert_keeper`), for each scheduler its wheel (`ert_timers`), its inbox (`ert_inbox`) and a `SchedPart`, for each
-//! process its mailbox (`ert_mail`). It makes all calls, by one thread at a time. A seat (`Seat`) has the pass with
+//! (`ert_keeper`), for each scheduler its wheel (`ert_timers`), its inbox and a `SchedPart`, for each process its
+//! mailbox (both `ert_mail`). It makes all calls, by one thread at a time. A seat (`Seat`) has the pass with
 //! one caller: it tells the time, reads and cancels timers and looks whether a process lives, beside the calls of
 //! the world and of all other seats. Nobody takes a lock, and nobody waits. Both may go from thread to thread
 //! (`Send`).
@@ -37,7 +37,7 @@
 //! **What it promises.** Users see of a world its settings, the history that it knows, what its clock shows, the
 //! caller that is to get the next seat, and its wheels (`specs/Worlds`, `Seen`). Each call says what it answers, and
 //! that the history grows by entries which this call may make with this answer and by no others (`Goes`); the
-//! definition of each call stands in `ert_answers`, over a way in which its steps come about. Where seats were given
+//! definition of each call stands in `ert_effects`, over a way in which its steps come about. Where seats were given
 //! out, entries of theirs stand between: of the entries that the history gains, those that no seat made are just what
 //! the call may make, in the state before the piece (`specs/Ways`, `beside_seats`). Where none was, the piece is
 //! the call's entries, as those of one thread (`lone`): a list of calls stands for one legal history. `into_desk`
@@ -61,10 +61,11 @@
 //! no timer expire, `serve` keeps the request in the hand, `deliver` keeps what wasn't handed over, and of a turn
 //! what was done stays done. So each of them can be made again. No call copies a part.
 //!
-//! It stands on `ert_defs`, `ert_clock`, `ert_answers`, `ert_table`, `ert_calls`, `ert_keeper`, `ert_timers`,
-//! `ert_inbox` and `ert_mail`, and its proofs on the laws of `ert_laws`.
+//! It stands on `ert_defs`, `ert_clock`, `ert_effects`, `ert_table`, `ert_calls`, `ert_keeper`, `ert_timers`
+//! and `ert_mail`, and its proofs on the laws of `ert_laws`.
 #![tactic(auto)]
 
+pub mod chains;
 mod clock_calls;
 mod counts;
 mod last_turns;
@@ -76,15 +77,18 @@ mod parts;
 mod sched_part;
 mod seat;
 mod seat_err;
+mod stepping;
+mod steps;
 mod timer_calls;
 mod turns;
 mod world;
 
 pub use counts::Counts;
-pub use ert_answers::{Room, Turned};
+pub use ert_effects::{Room, Turned};
 pub use laws::entries_are_divided;
 pub use parts::Parts;
 pub use sched_part::SchedPart;
 pub use seat::Seat;
 pub use seat_err::SeatErr;
+pub use steps::{CallerSteps, SchedSteps};
 pub use world::World;

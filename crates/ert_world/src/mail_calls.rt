@@ -5,8 +5,8 @@ use ert_mail::{MonitorErr, Taken};
 
 impl World {
     ghost use Rattle.std.specs.Prelude.{◌≡◌, ◌<◌};
-    ghost use Rattle.ert_answers.specs.MailCalls.{Takes, Monitors, Demonitors, Tells};
-    ghost use Rattle.ert_answers.specs.RequestCalls.{Asks, inbox_for};
+    ghost use Rattle.ert_effects.specs.MailCalls.{Takes, Monitors, Demonitors, Tells};
+    ghost use Rattle.ert_effects.specs.RequestCalls.{Asks, inbox_for};
     ghost use Rattle.ert_world.specs.Worlds.{Goes, By};
 
     /// Asks the scheduler of a timer to cancel or to read it (`erlang` module reference, `cancel_timer` and
@@ -27,12 +27,7 @@ impl World {
         ensures value { result ≡ inbox_for self.now.settings request.now }
         ensures in_range { result < self.now.settings.schedulers }
     {
-        let wheel = request.timer.wheel;
-        if wheel < self.desk.settings().schedulers {
-            wheel
-        } else {
-            0
-        }
+        request.inbox(self.desk.settings())
     }
 
     /// Takes the first message of a process (`receive`): Exited where the process has exited, whatever it

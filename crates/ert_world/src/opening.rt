@@ -6,8 +6,7 @@ ghost use Rattle.ert_world.specs.Openings.{AreNew, IsNewWheel, IsNewInbox, IsNew
 
 use crate::sched_part::SchedPart;
 use ert_defs::{NoMemory, Settings};
-use ert_inbox::InboxPart;
-use ert_mail::MailPart;
+use ert_mail::{InboxPart, MailPart};
 use ert_timers::WheelPart;
 use std::alloc::Global;
 

@@ -4,9 +4,8 @@ ghost use Rattle.std.specs.Prelude.{◌≡◌};
 use crate::sched_part::SchedPart;
 use crate::world::{CALLER, World};
 use ert_defs::Settings;
-use ert_inbox::InboxPart;
 use ert_keeper::KeeperPart;
-use ert_mail::MailPart;
+use ert_mail::{InboxPart, MailPart};
 use ert_table::{Desk, Pass};
 use ert_timers::WheelPart;
 use std::sync::Arc;
@@ -37,25 +36,15 @@ impl World {
         ensures fit { AreFit (arc_value result.desk) result.pass 1 (parts_of result.keeper result.wheels.items result.inboxes.items result.mails.items result.scheds.items) }
         ensures same { self ≡ seen (arc_value result.desk) result.pass 1 result.keeper result.wheels.items }
     {
-        let World {
-            desk,
-            pass,
-            keeper,
-            wheels,
-            inboxes,
-            mails,
-            scheds,
-            ..
-        } = self;
         Parts {
-            settings: *desk.settings(),
-            desk,
-            pass,
-            keeper,
-            wheels,
-            inboxes,
-            mails,
-            scheds,
+            settings: *self.desk.settings(),
+            desk: self.desk,
+            pass: self.pass,
+            keeper: self.keeper,
+            wheels: self.wheels,
+            inboxes: self.inboxes,
+            mails: self.mails,
+            scheds: self.scheds,
         }
     }
 
@@ -67,24 +56,14 @@ impl World {
         requires fit { AreFit (arc_value parts.desk) parts.pass 1 (parts_of parts.keeper parts.wheels.items parts.inboxes.items parts.mails.items parts.scheds.items) }
         ensures { result ≡ seen (arc_value parts.desk) parts.pass 1 parts.keeper parts.wheels.items }
     {
-        let Parts {
-            settings: _,
-            desk,
-            pass,
-            keeper,
-            wheels,
-            inboxes,
-            mails,
-            scheds,
-        } = parts;
         World {
-            desk,
-            pass,
-            keeper,
-            wheels,
-            inboxes,
-            mails,
-            scheds,
+            desk: parts.desk,
+            pass: parts.pass,
+            keeper: parts.keeper,
+            wheels: parts.wheels,
+            inboxes: parts.inboxes,
+            mails: parts.mails,
+            scheds: parts.scheds,
             next: CALLER + 1,
         }
     }

@@ -1,19 +1,23 @@
 //! The calls of callers on timers and on the exits of processes.
+use crate::chains::exit;
 use crate::world::{CALLER, World};
-use ert_answers::Room;
 use ert_calls::{cancel_timer, is_alive, mark_exit, read_timer};
 use ert_defs::{Actor, Start, TimerRef};
+use ert_effects::Room;
 use ert_timers::StartErr;
 
 impl World {
-    ghost use Rattle.std.specs.Prelude.{◌≡◌, ◌≢◌, ◌<◌, true, Err};
-    ghost use Rattle.ert_answers.specs.Chains.{Exits, SweepsWheel, SweepsWheels};
-    ghost use Rattle.ert_answers.specs.RoomCalls.{TellsRoom};
-    ghost use Rattle.ert_answers.specs.TimerCalls.{Reads, Cancels, Starts};
-    ghost use Rattle.ert_answers.specs.WheelCalls.{TellsAlive, MarksExit};
-    ghost use Rattle.ert_answers.specs.declared.answers.StartErr.TheVariants.{NoMemory};
+    ghost use Rattle.std.specs.Prelude.{◌≡◌, ◌≢◌, ◌<◌, true, false, Err};
+    ghost use Rattle.ert_effects.specs.Chains.{Exits};
+    ghost use Rattle.ert_effects.specs.RoomCalls.{TellsRoom};
+    ghost use Rattle.ert_effects.specs.TimerCalls.{Reads, Cancels, Starts};
+    ghost use Rattle.ert_effects.specs.WheelCalls.{TellsAlive, MarksExit};
+    ghost use Rattle.ert_effects.specs.declared.answers.StartErr.TheVariants.{NoMemory};
     ghost use Rattle.ert_defs.specs.declared.entry.Actor.TheVariants.{Caller};
-    ghost use Rattle.ert_world.specs.Worlds.{Goes, GoesBut, Forgets, By, HasExited, IsSettledIn};
+    ghost use Rattle.ert_defs.specs.States.{state};
+    ghost use Rattle.ert_defs.specs.Timers.{is_taken};
+    ghost use Rattle.ert_world.specs.Stepping.{Stays};
+    ghost use Rattle.ert_world.specs.Worlds.{Goes, GoesBut, Forgets, By, HasExited, IsSettledIn, IsLastIn, IsLetGoIn};
 
     /// Starts a timer on a wheel (`erlang` module reference, `start_timer` and `send_after`).
     ///
@@ -38,13 +42,13 @@ impl World {
         ensures call { Goes self.old (By self.old (λ g. Cancels g (Caller 0) timer result)) self.new }
         ensures clock { self.new.clock ≡ self.old.clock }
     {
-        let left = self.cancel(timer)?;
+        let left = self.settle(timer)?;
         self.forget(timer);
         Some(left)
     }
 
     /// Cancels a timer, whose row then still stands in its wheel.
-    fn cancel(&mut self, timer: TimerRef) -> Option<u64>
+    fn settle(&mut self, timer: TimerRef) -> Option<u64>
         ensures call { GoesBut timer result self.old (By self.old (λ g. Cancels g (Caller 0) timer result)) self.new }
         ensures clock { self.new.clock ≡ self.old.clock }
     {
@@ -55,9 +59,21 @@ impl World {
     pub(crate) fn forget(&mut self, timer: TimerRef)
         requires wheel { timer.wheel < self.old.settings.schedulers }
         requires cancelled { IsSettledIn self.old timer }
+        requires last { IsLastIn self.old timer }
         ensures { Forgets timer self.old self.new }
     {
         self.wheels[timer.wheel as usize].forget(&self.pass, timer);
+    }
+
+    /// Holds the slot of a timer free whose message was handed over.
+    pub(crate) fn reuse(&mut self, timer: TimerRef)
+        requires wheel { timer.wheel < self.old.settings.schedulers }
+        requires let_go { IsLetGoIn self.old timer }
+        requires handed { is_taken ((state self.old.settings self.old.history).status timer) ≡ false }
+        ensures history { self.new.history ≡ self.old.history }
+        ensures stays { Stays self.old self.new }
+    {
+        self.wheels[timer.wheel as usize].reuse(&self.pass, timer);
     }
 
     /// How many milliseconds are left of a timer (`read_timer`); None where the reference names no timer
@@ -110,34 +126,6 @@ impl World {
         ensures call { Goes self.old (λ way. Exits self.old.settings way 0 process result) self.new }
         ensures clock { self.new.clock ≡ self.old.clock }
     {
-        if !self.mark_exit(process) {
-            return false;
-        }
-        self.sweep_all(process);
-        true
-    }
-
-    /// Cancels all timers of a process that has exited.
-    fn sweep_all(&mut self, process: u32)
-        requires in_range { process < self.old.settings.processes }
-        requires exited { HasExited self.old process }
-        ensures call { Goes self.old (λ way. SweepsWheels self.old.settings way 0 process 0 self.old.settings.schedulers) self.new }
-        ensures clock { self.new.clock ≡ self.old.clock }
-    {
-        for wheel in 0..self.desk.settings().schedulers {
-            self.sweep(wheel, process);
-        }
-    }
-
-    /// Cancels the timers of a process that has exited, in one wheel.
-    fn sweep(&mut self, wheel: u32, process: u32)
-        requires wheel { wheel < self.old.settings.schedulers }
-        requires in_range { process < self.old.settings.processes }
-        requires exited { HasExited self.old process }
-        ensures call { Goes self.old (λ way. SweepsWheel self.old.settings way 0 process wheel) self.new }
-        ensures exited { HasExited self.new process }
-        ensures clock { self.new.clock ≡ self.old.clock }
-    {
-        self.wheels[wheel as usize].sweep(&self.desk, &mut self.pass, CALLER, process);
+        exit(self, CALLER, process)
     }
 }

@@ -2,21 +2,19 @@
 ghost use Rattle.std.specs.Prelude.{◌≡◌};
 ghost use Rattle.ert_world.specs.Worlds.{left_by};
 
+use crate::chains;
 use crate::world::World;
-use ert_answers::Turned;
 use ert_defs::{Fired, NoMemory, Request, RequestKind};
+use ert_effects::Turned;
 use ert_mail::Handed;
-
-/// How many requests a turn serves at most.
-const SERVED_A_TURN: u32 = 64;
 
 impl World {
     ghost use Rattle.std.specs.Prelude.{◌≡◌, ◌<◌, ◌≤◌, Some, None, length, OnOk};
-    ghost use Rattle.ert_answers.specs.Chains.{Holds, Serves, ServesAll, AdvancesWheel, Hands, Delivers, Turns};
-    ghost use Rattle.ert_answers.specs.RequestCalls.{Picks, Answers};
+    ghost use Rattle.ert_effects.specs.Chains.{Serves, AdvancesWheel, Hands, Delivers, Turns};
+    ghost use Rattle.ert_effects.specs.RequestCalls.{Picks, Answers};
     ghost use Rattle.ert_defs.specs.Mails.{first_of, others_of};
     ghost use Rattle.ert_defs.specs.States.{state};
-    ghost use Rattle.ert_world.specs.Worlds.{Goes, GoesBut, By, IsNextHeldAt, IsNearestAt, sched_of, cancelled_by};
+    ghost use Rattle.ert_world.specs.Worlds.{Goes, GoesBut, By, IsNextHeldAt, IsNearestAt, IsHandedIn, sched_of, cancelled_by};
     ghost use Rattle.ert_timers.specs.NextDue.{NoneArmedBefore};
 
     /// Serves one request: that in the scheduler's hand, or the first of its inbox. False comes where there is
@@ -28,28 +26,11 @@ impl World {
         ensures call { Goes self.old (λ way. Serves self.old.settings way sched result) self.new }
         ensures clock { self.new.clock ≡ self.old.clock }
     {
-        let Some(request) = self.hold(sched) else {
-            return Ok(false);
-        };
-        self.reply(sched, &request)?;
-        Ok(true)
-    }
-
-    /// The request in a scheduler's hand. Where the hand is empty, the first of the inbox is taken into it.
-    fn hold(&mut self, sched: u32) -> Option<Request>
-        requires { sched < self.old.settings.schedulers }
-        ensures call { Goes self.old (λ way. Holds self.old.settings way sched result) self.new }
-        ensures hand { (sched_of self.new sched).hand ≡ result }
-        ensures clock { self.new.clock ≡ self.old.clock }
-    {
-        match self.hand(sched) {
-            Some(request) => Some(request),
-            None => self.pick(sched),
-        }
+        chains::serve(self, sched)
     }
 
     /// The request in a scheduler's hand.
-    fn hand(&self, sched: u32) -> Option<Request>
+    pub(crate) fn hand(&self, sched: u32) -> Option<Request>
         requires { sched < self.now.settings.schedulers }
         ensures { result ≡ (sched_of self.now sched).hand }
     {
@@ -57,7 +38,7 @@ impl World {
     }
 
     /// Takes the first request of the inbox into the empty hand.
-    fn pick(&mut self, sched: u32) -> Option<Request>
+    pub(crate) fn pick(&mut self, sched: u32) -> Option<Request>
         requires sched { sched < self.old.settings.schedulers }
         requires empty { (sched_of self.old sched).hand ≡ None }
         ensures call { Goes self.old (By self.old (λ g. Picks g sched result)) self.new }
@@ -69,23 +50,8 @@ impl World {
         got
     }
 
-    /// Answers the request in the hand. Where a timer was cancelled by it, its row goes.
-    fn reply(&mut self, sched: u32, request: &Request) -> Result<Option<u64>, NoMemory>
-        requires sched { sched < self.old.settings.schedulers }
-        requires hand { (sched_of self.old sched).hand ≡ Some request.now }
-        ensures call { Goes self.old (By self.old (λ g. Answers g sched request.now result)) self.new }
-        ensures clock { self.new.clock ≡ self.old.clock }
-    {
-        let left = self.answer(sched, request)?;
-        if cancelled_left(request.kind, left).is_none() {
-            return Ok(left);
-        }
-        self.forget(request.timer);
-        Ok(left)
-    }
-
     /// Answers the request in the hand, and empties that.
-    fn answer(&mut self, sched: u32, request: &Request) -> Result<Option<u64>, NoMemory>
+    pub(crate) fn answer(&mut self, sched: u32, request: &Request) -> Result<Option<u64>, NoMemory>
         requires sched { sched < self.old.settings.schedulers }
         requires hand { (sched_of self.old sched).hand ≡ Some request.now }
         ensures call { GoesBut request.now.timer (cancelled_by request.now result) self.old (By self.old (λ g. Answers g sched request.now result)) self.new }
@@ -99,20 +65,6 @@ impl World {
         )?;
         self.scheds[sched as usize].hand = None;
         Ok(left)
-    }
-
-    /// Serves requests until there is none, 64 at most, and answers how many were served.
-    pub(crate) fn serve_all(&mut self, sched: u32) -> Result<u32, NoMemory>
-        requires { sched < self.old.settings.schedulers }
-        ensures call { Goes self.old (λ way. ServesAll self.old.settings way sched result) self.new }
-        ensures clock { self.new.clock ≡ self.old.clock }
-    {
-        for served in 0..SERVED_A_TURN {
-            if !self.serve(sched)? {
-                return Ok(served);
-            }
-        }
-        Ok(SERVED_A_TURN)
     }
 
     /// Lets every timer of the scheduler's wheel expire that is due, and answers the time, in whole
@@ -154,32 +106,16 @@ impl World {
         ensures call { Goes self.old (λ way. Delivers self.old.settings way sched result) self.new }
         ensures clock { self.new.clock ≡ self.old.clock }
     {
-        let mut put = 0;
-        let mut dropped = 0;
-        while let Some(fired) = self.first_fired(sched) {
-            match self.hand_over(sched, &fired)? {
-                Handed::Put => put += 1,
-                Handed::Dropped => dropped += 1,
-            }
-        }
-        Ok((put, dropped))
-    }
-
-    /// The scheduler's first expired timer.
-    fn first_fired(&self, sched: u32) -> Option<Fired>
-        requires { sched < self.now.settings.schedulers }
-        ensures first { result ≡ first_of (sched_of self.now sched).fired }
-        ensures few { length (sched_of self.now sched).fired ≤ 65536 }
-    {
-        self.scheds[sched as usize].fired.first()
+        chains::deliver(self, sched)
     }
 
     /// Hands over the scheduler's first expired timer.
-    fn hand_over(&mut self, sched: u32, fired: &Fired) -> Result<Handed, NoMemory>
+    pub(crate) fn hand_over(&mut self, sched: u32, fired: &Fired) -> Result<Handed, NoMemory>
         requires sched { sched < self.old.settings.schedulers }
         requires first { first_of (sched_of self.old sched).fired ≡ Some fired.now }
         ensures call { Goes self.old (λ way. Hands self.old.settings way sched result) self.new }
         ensures fired { OnOk result ((sched_of self.new sched).fired ≡ others_of (sched_of self.old sched).fired) }
+        ensures handed { OnOk result (IsHandedIn self.new fired.now.timer) }
         ensures clock { self.new.clock ≡ self.old.clock }
     {
         let handed = self.mails[fired.dest as usize].deliver(&self.desk, &mut self.pass, fired)?;
@@ -196,21 +132,12 @@ impl World {
         ensures call { Goes self.old (λ way. Turns self.old.settings way sched result) self.new }
         ensures clock { self.new.clock ≡ self.old.clock }
     {
-        let served = self.serve_all(sched)?;
-        let (to, fired) = self.advance(sched)?;
-        let (put, dropped) = self.deliver(sched)?;
-        Ok(Turned {
-            served,
-            to,
-            fired,
-            put,
-            dropped,
-        })
+        chains::turn(self, sched)
     }
 }
 
 /// What was left of a timer that was cancelled for a request; None where it wasn't, or was only read.
-fn cancelled_left(kind: RequestKind, left: Option<u64>) -> Option<u64>
+pub(crate) fn cancelled_left(kind: RequestKind, left: Option<u64>) -> Option<u64>
     ensures { result ≡ left_by kind left }
 {
     match kind {

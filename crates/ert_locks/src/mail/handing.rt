@@ -12,9 +12,9 @@ use ert_timers::FiredList;
 
 impl<L: DeskName> Locked<MailPart, L> {
     ghost use Rattle.std.specs.Prelude.{◌≡◌, Some, OnOk};
-    ghost use Rattle.ert_answers.specs.Chains.{Hands};
-    ghost use Rattle.ert_answers.specs.RequestCalls.{Answers};
-    ghost use Rattle.ert_answers.specs.Ways.{beside};
+    ghost use Rattle.ert_effects.specs.Chains.{Hands};
+    ghost use Rattle.ert_effects.specs.RequestCalls.{Answers};
+    ghost use Rattle.ert_effects.specs.Ways.{beside};
     ghost use Rattle.ert_defs.specs.Mails.{first_of, others_of};
     ghost use Rattle.ert_defs.specs.declared.entry.Actor.TheVariants.{MailOf, Sched};
     ghost use Rattle.ert_locks.specs.Names.{IsDesk};
@@ -27,24 +27,23 @@ impl<L: DeskName> Locked<MailPart, L> {
     pub fn answer(
         &mut self,
         desk: &Desk,
-        seat: SchedSeat<L>,
+        seat: &mut SchedSeat<L>,
         request: &Request,
-    ) -> (SchedSeat<L>, Result<Option<u64>, NoMemory>)
+    ) -> Result<Option<u64>, NoMemory>
         requires desk { IsDesk L.table L.settings desk.now }
         requires own { self.old ≡ request.now.reply_to }
-        requires hand { seat.part.hand ≡ Some request.now }
+        requires hand { seat.old.part.hand ≡ Some request.now }
         ensures same { self.new ≡ self.old }
-        ensures number { result.0.part.wheel ≡ seat.part.wheel }
-        ensures call { StepsWith L.settings (Sched seat.part.wheel) (MailOf request.now.reply_to)
-            (Answers L.settings seat.part.wheel request.now result.1) seat.pass result.0.pass }
+        ensures number { seat.new.part.wheel ≡ seat.old.part.wheel }
+        ensures call { StepsWith L.settings (Sched seat.old.part.wheel) (MailOf request.now.reply_to)
+            (Answers L.settings seat.old.part.wheel request.now result) seat.old.pass seat.new.pass }
     {
-        let SchedSeat { mut part, pass, .. } = seat;
-        let wheel = part.wheel;
-        meet::<MailPart, L>(desk, &self.part, &mut self.pass, pass);
+        let wheel = seat.part.wheel;
+        meet::<MailPart, L>(desk, &self.part, &mut self.pass, &mut seat.pass);
         let left = self.part.answer(desk, &mut self.pass, wheel, request);
-        part.hand = hand_after(part.hand, &left);
-        let pass = self.pass.split(desk, Actor::Sched(wheel));
-        (SchedSeat::new(part, pass), left)
+        seat.part.hand = hand_after(seat.part.hand, &left);
+        seat.pass = self.pass.split(desk, Actor::Sched(wheel));
+        left
     }
 
     /// Hands over the first expired timer of a scheduler, whose destination is this mailbox's process.
@@ -53,24 +52,23 @@ impl<L: DeskName> Locked<MailPart, L> {
     pub fn hand_over(
         &mut self,
         desk: &Desk,
-        seat: SchedSeat<L>,
+        seat: &mut SchedSeat<L>,
         fired: &Fired,
-    ) -> (SchedSeat<L>, Result<Handed, NoMemory>)
+    ) -> Result<Handed, NoMemory>
         requires desk { IsDesk L.table L.settings desk.now }
         requires own { self.old ≡ fired.now.dest }
-        requires first { first_of seat.part.fired.rows ≡ Some fired.now }
+        requires first { first_of seat.old.part.fired.rows ≡ Some fired.now }
         ensures same { self.new ≡ self.old }
-        ensures number { result.0.part.wheel ≡ seat.part.wheel }
-        ensures fired { OnOk result.1 (result.0.part.fired.rows ≡ others_of seat.part.fired.rows) }
-        ensures call { FrontGrows (Hands L.settings (beside L.settings (Sched seat.part.wheel)) seat.part.wheel result.1) seat.pass result.0.pass }
+        ensures number { seat.new.part.wheel ≡ seat.old.part.wheel }
+        ensures fired { OnOk result (seat.new.part.fired.rows ≡ others_of seat.old.part.fired.rows) }
+        ensures call { FrontGrows (Hands L.settings (beside L.settings (Sched seat.old.part.wheel)) seat.old.part.wheel result) seat.old.pass seat.new.pass }
     {
-        let SchedSeat { mut part, pass, .. } = seat;
-        let wheel = part.wheel;
-        meet::<MailPart, L>(desk, &self.part, &mut self.pass, pass);
+        let wheel = seat.part.wheel;
+        meet::<MailPart, L>(desk, &self.part, &mut self.pass, &mut seat.pass);
         let handed = self.part.deliver(desk, &mut self.pass, fired);
-        drop_handed(&mut part.fired, &handed);
-        let pass = self.pass.split(desk, Actor::Sched(wheel));
-        (SchedSeat::new(part, pass), handed)
+        drop_handed(&mut seat.part.fired, &handed);
+        seat.pass = self.pass.split(desk, Actor::Sched(wheel));
+        handed
     }
 }
 

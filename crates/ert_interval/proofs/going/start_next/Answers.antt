@@ -1,17 +1,31 @@
-use Rattle.std.proofs.Common.{◌≡◌, refl, sym, ap, subst, ◌∙◌, ◌≤◌, inl, inr, Some, Ok, Err, ◌∷◌, [], ◌++◌}
-use Rattle.ert_answers.specs.TimerCalls.{Starts}
-use Rattle.ert_answers.specs.declared.answers.StartErr.TheVariants.{Full}
+use Rattle.std.proofs.Common.{◌≡◌, ℕ, ◌+◌, refl, sym, ap, subst, ◌∙◌, ◌≤◌, inl, inr, Some, Ok, Err, ◌∷◌, [], ◌++◌}
+use Rattle.ert_effects.specs.TimerCalls.{Starts}
+use Rattle.ert_effects.specs.declared.answers.StartErr.TheVariants.{Full}
 use Rattle.ert_defs.specs.States.{state}
+use Rattle.ert_defs.specs.declared.settings.Settings.{Settings}
 use Rattle.ert_defs.specs.declared.timer.Start.{Start}
 use Rattle.ert_defs.specs.declared.timer.Status.TheVariants.{Armed}
 use Rattle.ert_interval.specs.Deadlines.{start_at, time_of}
 use Rattle.ert_interval.specs.Going.{next_start}
+use Rattle.ert_interval.specs.declared.interval.Interval.{Interval}
 use Rattle.ert_interval.specs.declared.interval.IntervalState.TheVariants.{Running}
 use Rattle.ert_interval.proofs.Onward.{waits, lives_still, open_going, due_at}
 use Rattle.ert_interval.proofs.Pushing.{pushed}
 use Rattle.ert_interval.proofs.Starting.{started, refused_full, full_start}
-use Rattle.ert_world.specs.Worlds.{Goes, By}
+use Rattle.ert_world.specs.Worlds.{Seen, Goes, By}
 use Rattle.ert_interval.proofs.going.start_next.Goals as goal
+
+-- the start that is asked for is that of the next deadline
+record Asked (a : Seen) (i : Interval) (deadline : ℕ) (start : Start) : Type 0 where
+  time : start ≡ start_at (time_of a.settings deadline) i.dest i.msg
+  next : start_at (time_of a.settings deadline) i.dest i.msg ≡ next_start a.settings i
+
+is_asked : (a : Seen) (i : Interval) (g : Settings) (deadline : ℕ) (start : Start) → start ≡ start_at (time_of g deadline) i.dest i.msg
+    → g ≡ a.settings → deadline ≡ i.deadline + i.period → Asked a i deadline start
+is_asked a i g deadline start told same next = record {
+  time = told ∙ ap (λ g. start_at (time_of g deadline) i.dest i.msg) same;
+  next = ap (λ d. start_at (time_of a.settings d) i.dest i.msg) next;
+}
 
 pub returns-in_default : goal.returns-in_default
 returns-in_default c =
@@ -20,11 +34,9 @@ returns-in_default c =
     let i = c.args.interval.now in
     let legal = c.settings-settings.ensures.stands.clock.legal in
     let start : Start = start_at (time_of a.settings c.args.deadline) i.dest i.msg in
-    let time : c.start_for-start.result ≡ start =
-    c.start_for-start.ensures ∙ ap (λ g. start_at (time_of g c.args.deadline) i.dest i.msg) c.settings.ensures.value in
-    let next : start ≡ next_start a.settings i = ap (λ d. start_at (time_of a.settings d) i.dest i.msg) c.requires.next in
+    let asked = is_asked a i _ c.args.deadline c.start_for-start.result c.start_for-start.ensures c.settings.ensures.value c.requires.next in
     let call : Goes a (By a (λ g. Starts g 0 i.wheel start (Err c.in_default.field-0))) b =
-    subst (λ x. Goes a (By a (λ g. Starts g 0 i.wheel x (Err c.in_default.field-0))) b) time c.in_default.ensures.call in
+    subst (λ x. Goes a (By a (λ g. Starts g 0 i.wheel x (Err c.in_default.field-0))) b) asked.time c.in_default.ensures.call in
     let due = due_at a.settings c.args.deadline i.dest i.msg c.requires.high in
     let full = refused_full a b i.wheel start c.args.deadline c.in_default.field-0 call c.requires.lone legal due (λ is. c.in_default.ensures.memory (ap Err is)) in
     record {
@@ -39,7 +51,7 @@ returns-in_default c =
         ends = (full.0, lives_still a b i.dest full.1 c.requires.lives, subst (λ n. n ≤ 8796093022207) c.requires.next c.requires.high);
       };
       starts = (
-        subst (λ x. Goes a (By a (λ g. Starts g 0 i.wheel x (Err Full))) b) next
+        subst (λ x. Goes a (By a (λ g. Starts g 0 i.wheel x (Err Full))) b) asked.next
             (full_start a b i.wheel start c.args.deadline c.in_default.field-0 call c.requires.lone due (λ is. c.in_default.ensures.memory (ap Err is))),
         record {
           same = record { wheel = refl; first = refl; period = refl; dest = refl; msg = refl };
@@ -56,13 +68,11 @@ returns c =
     let a = c.args.world.now in
     let b = c.start-started.new.self in
     let i = c.args.interval.now in
-    let legal = c.settings-settings.ensures.stands.clock.legal in
     let start : Start = start_at (time_of a.settings c.args.deadline) i.dest i.msg in
-    let time : c.start_for-start.result ≡ start =
-    c.start_for-start.ensures ∙ ap (λ g. start_at (time_of g c.args.deadline) i.dest i.msg) c.settings.ensures.value in
-    let next : start ≡ next_start a.settings i = ap (λ d. start_at (time_of a.settings d) i.dest i.msg) c.requires.next in
+    let asked = is_asked a i _ c.args.deadline c.start_for-start.result c.start_for-start.ensures c.settings.ensures.value c.requires.next in
     let call : Goes a (By a (λ g. Starts g 0 i.wheel start (Ok c.in-Ok.timer))) b =
-    subst (λ x. Goes a (By a (λ g. Starts g 0 i.wheel x (Ok c.in-Ok.timer))) b) time c.in-Ok.ensures.call in
+    subst (λ x. Goes a (By a (λ g. Starts g 0 i.wheel x (Ok c.in-Ok.timer))) b) asked.time c.in-Ok.ensures.call in
+    let legal = c.settings-settings.ensures.stands.clock.legal in
     let begun = started a b i.wheel start c.in-Ok.timer c.args.deadline call c.requires.lone legal (due_at a.settings c.args.deadline i.dest i.msg c.requires.high) in
     let armed = begun.lives c.requires.lives in
     let firings : c.push_reserved.new.self.items ≡ i.firings.items ++ c.in-Ok.timer ∷ [] =
@@ -82,7 +92,7 @@ returns c =
       };
       starts = (
         c.in-Ok.timer,
-        subst (λ x. Goes a (By a (λ g. Starts g 0 i.wheel x (Ok c.in-Ok.timer))) b) next call,
+        subst (λ x. Goes a (By a (λ g. Starts g 0 i.wheel x (Ok c.in-Ok.timer))) b) asked.next call,
         record {
           same = record { wheel = refl; first = refl; period = refl; dest = refl; msg = refl };
           state_is = refl;

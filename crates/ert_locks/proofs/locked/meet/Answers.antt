@@ -1,10 +1,11 @@
-use Rattle.std.proofs.Common.{sym, subst}
+use Rattle.std.proofs.Common.{sym, subst, subst₂}
 use Rattle.ert_defs.specs.Legal.{Legal}
 use Rattle.ert_defs.specs.declared.entry.Actor.TheVariants.{Sched}
 use Rattle.ert_locks.specs.KindLaws.{scheds_are}
 use Rattle.ert_locks.proofs.Lent.{holds_self}
 use Rattle.ert_locks.specs.Kinds.{scheds}
-use Rattle.ert_table.specs.Desks.{front_of}
+use Rattle.ert_table.specs.Desks.{front_of, view_of}
+use Rattle.ert_table.specs.Views.{Joined}
 use Rattle.ert_locks.proofs.locked.meet.Goals as goal
 
 pub returns-clause-stands : goal.returns-clause-stands
@@ -20,7 +21,11 @@ returns-clause-stands g c =
 pub returns-clause-sched : goal.returns-clause-sched
 returns-clause-sched g c = λ x fits.
     let s = g.L.DeskName.settings in
-    let legal = subst (λ t. Legal t (front_of c.join.new.self)) c.requires.desk.settings_is c.join.ensures.legal in
-    let own = c.join.ensures.joined.other_own (Sched x.wheel) (rw fits.sits.actors (holds_self (Sched x.wheel))) in
-    subst (λ t. scheds.stands t (front_of c.join.new.self) x) (sym c.requires.desk.settings_is)
-    (scheds_are.stand_on s (front_of c.args.own) (front_of c.join.new.self) x c.join.ensures.joined.other_begins own legal fits.stands)
+    let v = view_of c.args.pass.now in
+    let h = front_of c.join.new.self in
+    let legal = subst (λ t. Legal t h) c.requires.desk.settings_is c.join.ensures.legal in
+    let joined = subst₂ (λ f l. Joined (record { front = v.front; actors = v.actors; other_front = f; other_actors = l }) h)
+    c.take.ensures.new_front c.take.ensures.actors c.join.ensures.joined in
+    let own = joined.other_own (Sched x.wheel) (rw fits.sits.actors (holds_self (Sched x.wheel))) in
+    subst (λ t. scheds.stands t h x) (sym c.requires.desk.settings_is)
+    (scheds_are.stand_on s (front_of c.args.own.now) h x joined.other_begins own legal fits.stands)

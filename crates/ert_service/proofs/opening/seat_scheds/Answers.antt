@@ -15,10 +15,10 @@ loop-part-preserved g c =
     let short = ap length c.in-Some.ensures.steps.0 in
     let was = c.loop-part.invariant.remaining in
     record {
+      remaining = omega arith;
       belongs = c.split-own.ensures.belongs;
       front = c.split-own.ensures.front ∙ c.loop-part.invariant.front;
       divides = divides_next scheds_are c.push_reserved.ensures.len c.in-Some.ensures.steps.0 c.split-own.ensures.rest c.loop-part.invariant.divides;
-      remaining = omega arith;
       room = search rules;
       seated = subst (λ k. AreSeated (λ s. s.part.wheel) (λ s. front_of s.pass) k (front_of c.args.pass.now) c.push_reserved.new.self.items) (sym c.push_reserved.ensures.len)
           (subst (λ l. AreSeated (λ s. s.part.wheel) (λ s. front_of s.pass) (c.loop-part.seats.len + 1) (front_of c.args.pass.now) l) (sym c.push_reserved.ensures.items)

@@ -4,7 +4,7 @@ use Rattle.ert_defs.specs.Milliseconds.{deadline_at}
 use Rattle.ert_defs.specs.declared.settings.Settings.{Settings}
 use Rattle.ert_interval.specs.Calls.{IsRefused}
 use Rattle.ert_interval.specs.Deadlines.{start_at, base}
-use Rattle.ert_answers.specs.TimerCalls.{Starts}
+use Rattle.ert_effects.specs.TimerCalls.{Starts}
 use Rattle.ert_interval.specs.Intervals.{AreKept}
 use Rattle.ert_interval.specs.declared.interval.Interval.{Interval}
 use Rattle.ert_interval.specs.declared.interval.IntervalState.TheVariants.{Running}
@@ -43,7 +43,7 @@ returns-in_default-started-clause-made c =
     let fits : FitsSigned w64 c.args.first = search rules in
     let first : to_z w64 (of_z w64 c.args.first) ≡ c.args.first = to_z-of_z fits in
     let start : c.start_at-start.result ≡ start_at c.args.first c.args.dest c.args.msg = rw first at c.start_at-start.ensures in
-    let due = due_of a.settings c.settings.result.now c.args.first _ c.in-Some.deadline first c.settings.ensures.value c.in-Some.ensures in (
+    let due = due_of a.settings c.settings.result.now c.args.first _ c.in-Some.deadline first c.settings.ensures.value c.in-Some.ensures.told in (
       accepted a.settings c.args.first c.args.period c.in-Some.deadline c.if-period-eq0.false due,
       full_start a b c.args.wheel (start_at c.args.first c.args.dest c.args.msg) c.in-Some.deadline e
           (subst (λ x. Goes a (By a (λ g. Starts g 0 c.args.wheel x (Err e))) b) start c.in_default-started.ensures.call)
@@ -58,7 +58,7 @@ returns c =
     let fits : FitsSigned w64 c.args.first = search rules in
     let first : to_z w64 (of_z w64 c.args.first) ≡ c.args.first = to_z-of_z fits in
     let start : c.start_at-start.result ≡ start_at c.args.first c.args.dest c.args.msg = rw first at c.start_at-start.ensures in
-    let due = due_of a.settings c.settings.result.now c.args.first _ c.in-Some.deadline first c.settings.ensures.value c.in-Some.ensures in
+    let due = due_of a.settings c.settings.result.now c.args.first _ c.in-Some.deadline first c.settings.ensures.value c.in-Some.ensures.told in
     let call : Goes a (By a (λ g. Starts g 0 c.args.wheel (start_at c.args.first c.args.dest c.args.msg) (Ok c.in-Ok.last))) b =
     subst (λ x. Goes a (By a (λ g. Starts g 0 c.args.wheel x (Ok c.in-Ok.last))) b) start c.in-Ok.ensures.call in
     let grows = call.lone c.requires.kept.lone in

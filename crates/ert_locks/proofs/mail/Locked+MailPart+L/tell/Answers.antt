@@ -1,4 +1,4 @@
-use Rattle.ert_answers.specs.MailCalls.{Tells}
+use Rattle.ert_effects.specs.MailCalls.{Tells}
 use Rattle.ert_defs.specs.declared.entry.Actor.TheVariants.{MailOf, Caller}
 use Rattle.ert_locks.proofs.Lent.{lent_out}
 use Rattle.ert_locks.proofs.Own.{tells_have}
@@ -9,7 +9,7 @@ use Rattle.ert_locks.proofs.mail.Locked+MailPart+L.tell.Goals as goal
 pub returns-clause-call : goal.returns-clause-call
 returns-clause-call g c =
     let t = settings_of c.args.desk.now in
-    let by = c.args.seat.number in
+    let by = c.args.seat.now.number in
     lent_out MailOf (λ s n. Tells s by n c.tell-answer.result) c.requires.desk.settings_is c.self.view_is
-    (c.meet.ensures.meets (Caller by) c.args.seat.sits) (if_ok_made t (view_of c.meet.new.pass) (Tells t by c.self.inside.part.process) c.tell-answer.result (view_of c.tell-answer.new.pass) c.meet.ensures.legal c.tell-answer.ensures.call)
+    (c.meet.ensures.meets (Caller by) c.args.seat.now.sits) (if_ok_made t (view_of c.meet.new.pass) (Tells t by c.self.inside.part.process) c.tell-answer.result (view_of c.tell-answer.new.pass) c.meet.ensures.legal c.tell-answer.ensures.call)
     (tells_have g.L.DeskName.settings by _ c.tell-answer.result) (cc)

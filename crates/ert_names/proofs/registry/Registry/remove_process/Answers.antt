@@ -7,19 +7,17 @@ use Rattle.ert_names.proofs.registry.Registry.remove_process.Goals as goal
 
 pub invariant_of-self : goal.invariant_of-self
 invariant_of-self c =
-    let names = processes_of c.self.inside.processes.entries in
-    let named = names_of c.self.inside.names.entries in
     let name = string_bytes c.in-Some.name in
     let result : c.remove.result ≡ Some c.in-Some.name = search rules in
     let text : c.as_str.result.now ≡ name = search rules in
-    let has : map.get named c.args.process ≡ Some name =
+    let has : map.get (names_of c.self.inside.names.entries) c.args.process ≡ Some name =
     get_named c.self.inside.names.entries c.args.process ∙ ap (option_map string_bytes) (sym c.remove.ensures.value ∙ result) in
     rw (
       names_unset c.self.inside.processes c.remove-in-Some.new.self c.as_str.result.now c.remove-in-Some.ensures.updates,
       named_unset c.self.inside.names c.remove.new.self c.args.process c.remove.ensures.updates,
       text,
     )
-    (inverse_remove names named name c.args.process c.self.invariant (c.self.invariant.back name c.args.process has))
+    (inverse_remove (processes_of c.self.inside.processes.entries) (names_of c.self.inside.names.entries) name c.args.process c.self.invariant (c.self.invariant.back name c.args.process has))
 
 pub returns-in-Some : goal.returns-in-Some
 returns-in-Some c =

@@ -1,7 +1,7 @@
 use Rattle.std.proofs.Common.{true, false, refl, subst}
 use Rattle.std.specs.Prelude.{length}
-use Rattle.ert_answers.specs.Chains.{Exits}
-use Rattle.ert_answers.specs.Ways.{Way}
+use Rattle.ert_effects.specs.Chains.{Exits}
+use Rattle.ert_effects.specs.Ways.{Way}
 use Rattle.ert_names.specs.Calls.{HasExited}
 use Rattle.ert_names.specs.Registered.{Registered, seen}
 use Rattle.ert_world.specs.Worlds.{Goes}

@@ -2,7 +2,7 @@ use Rattle.std.proofs.Common.{◌≡◌, ◌≤◌, true, false, Some, None, Ok,
 use Rattle.ert_defs.specs.declared.memory.NoMemory.{NoMemory}
 use Rattle.ert_names.specs.Handing.{waiting, HandsNext, HandsOne, HandsNone}
 use Rattle.ert_names.specs.Registered.{Registered}
-use Rattle.ert_names.proofs.Handing.{hands_none, counted_none, hands_more, counted_true, counted_false, hands_all}
+use Rattle.ert_names.proofs.Handing.{hands_none, counted_none, hands_more, counted_true, counted_false, few_handed, few_lost, hands_all}
 use Rattle.ert_names.proofs.Waiting.{few_waiting}
 use Rattle.ert_names.proofs.world.NameWorld.hand_all.Goals as goal
 
@@ -34,14 +34,12 @@ loop-was_handed-preserved-then-was_handed c =
     let one : HandsOne c.loop-was_handed.self true c.hand_next.new.self =
     subst (λ r. HandsNext c.loop-was_handed.self r c.hand_next.new.self) result c.hand_next.ensures.call in
     let i = c.loop-was_handed.invariant in
-    let few = i.few in
-    let fewer = one.fewer in
     record {
       messages = i.messages ++ one.message ∷ [];
       some = hands_more c.args.self.now c.loop-was_handed.self c.hand_next.new.self i.messages one.message i.some one.hands;
       counted = counted_true c.args.self.now c.loop-was_handed.self i.messages one.message c.loop-was_handed.handed c.loop-was_handed.lost i.counted
           i.some.names i.some.rows one.is_handed one.known;
-      few = omega (arith, few, fewer);
+      few = few_handed c.loop-was_handed.handed c.loop-was_handed.lost _ _ i.few one.fewer;
       clock = c.hand_next.ensures.clock ∙ i.clock;
     }
 
@@ -59,14 +57,12 @@ loop-was_handed-preserved c =
     let one : HandsOne c.loop-was_handed.self false c.hand_next.new.self =
     subst (λ r. HandsNext c.loop-was_handed.self r c.hand_next.new.self) result c.hand_next.ensures.call in
     let i = c.loop-was_handed.invariant in
-    let few = i.few in
-    let fewer = one.fewer in
     record {
       messages = i.messages ++ one.message ∷ [];
       some = hands_more c.args.self.now c.loop-was_handed.self c.hand_next.new.self i.messages one.message i.some one.hands;
       counted = counted_false c.args.self.now c.loop-was_handed.self i.messages one.message c.loop-was_handed.handed c.loop-was_handed.lost i.counted
           i.some.names i.some.rows one.is_handed one.known;
-      few = omega (arith, few, fewer);
+      few = few_lost c.loop-was_handed.handed c.loop-was_handed.lost _ _ i.few one.fewer;
       clock = c.hand_next.ensures.clock ∙ i.clock;
     }
 

@@ -1,5 +1,5 @@
 use Rattle.std.specs.Prelude.{length}
-use Rattle.ert_answers.specs.TimerCalls.{Reads}
+use Rattle.ert_effects.specs.TimerCalls.{Reads}
 use Rattle.ert_defs.specs.declared.entry.Actor.TheVariants.{Caller}
 use Rattle.ert_names.proofs.Fitting.{reads_fit}
 use Rattle.ert_names.proofs.Living.{names_by}

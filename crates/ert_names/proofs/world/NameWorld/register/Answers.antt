@@ -1,20 +1,16 @@
 use Rattle.std.proofs.Common.{true, inr, length, rules, refl, subst}
-use Rattle.ert_answers.specs.WheelCalls.{TellsAlive}
+use Rattle.ert_effects.specs.WheelCalls.{TellsAlive}
 use Rattle.ert_defs.specs.declared.entry.Actor.TheVariants.{Caller}
 use Rattle.ert_names.specs.Calls.{GoesLone, IsBadName, AreFree, HasRegistered, LooksAt}
 use Rattle.ert_names.specs.Registered.{Registered, seen}
-use Rattle.ert_names.proofs.Fitting.{alive_fits}
-use Rattle.ert_names.proofs.Living.{names_by, registered_if, seen_living}
+use Rattle.ert_names.proofs.Living.{names_looked, registered_if, seen_living}
 use Rattle.ert_world.specs.Worlds.{Goes, By}
 use Rattle.ert_names.proofs.world.NameWorld.register.Goals as goal
 use Rattle.ert_names.proofs.world.NameWorld.register.Goals.{in-Ok, in-Err}
 
 pub invariant_of-self : goal.invariant_of-self
 invariant_of-self c =
-    let n = length c.self.inside.rows.items in
-    let w = c.self.inside.world in
-    names_by n c.self.inside.registry w c.is_alive.new.self (λ g. TellsAlive g (Caller 0) c.args.process c.is_alive.result)
-    (λ q s es. alive_fits n q w.settings (Caller 0) c.args.process c.is_alive.result s es) c.is_alive.ensures.call c.self.invariant
+    names_looked (length c.self.inside.rows.items) c.self.inside.registry c.self.inside.world c.is_alive.new.self c.args.process c.is_alive.result c.is_alive.ensures.call c.self.invariant
 
 pub invariant_of-self-2 : goal.invariant_of-self-2
 invariant_of-self-2 c =
@@ -25,8 +21,7 @@ invariant_of-self-2 c =
     subst (λ b. Goes w (By w (λ g. TellsAlive g (Caller 0) c.args.process b)) c.is_alive.new.self) c.if-not-is_alive.false c.is_alive.ensures.call in
     registered_if n names c.insert.new.self c.args.name.now c.args.process c.is_alive.new.self c.insert.result c.insert.ensures.ok c.insert.ensures.err
     (seen_living c.args.process w c.is_alive.new.self alive c.self.invariant.fits.lone c.settings-settings.ensures.stands.clock.legal)
-    (names_by n names w c.is_alive.new.self (λ g. TellsAlive g (Caller 0) c.args.process true)
-    (λ q s es. alive_fits n q w.settings (Caller 0) c.args.process true s es) alive c.self.invariant)
+    (names_looked n names w c.is_alive.new.self c.args.process true alive c.self.invariant)
 
 pub returns-then-not-is_alive-clause-call : goal.returns-then-not-is_alive-clause-call
 returns-then-not-is_alive-clause-call c =

@@ -1,5 +1,5 @@
 use Rattle.std.specs.Prelude.{length}
-use Rattle.ert_answers.specs.MailCalls.{Takes}
+use Rattle.ert_effects.specs.MailCalls.{Takes}
 use Rattle.ert_names.proofs.Fitting.{takes_fit}
 use Rattle.ert_names.proofs.Living.{names_by}
 use Rattle.ert_names.proofs.world.NameWorld.take.Goals as goal

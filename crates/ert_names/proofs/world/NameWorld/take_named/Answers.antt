@@ -4,25 +4,18 @@ use Rattle.ert_names.specs.Registered.{Registered, seen}
 use Rattle.ert_names.proofs.Handing.{none_goes}
 use Rattle.ert_world.specs.Worlds.{Goes, By}
 use Rattle.std.specs.Prelude.{length}
-use Rattle.ert_answers.specs.WheelCalls.{TellsAlive}
+use Rattle.ert_effects.specs.WheelCalls.{TellsAlive}
 use Rattle.ert_defs.specs.declared.entry.Actor.TheVariants.{Caller}
-use Rattle.ert_names.proofs.Fitting.{alive_fits}
-use Rattle.ert_names.proofs.Living.{names_by}
+use Rattle.ert_names.proofs.Living.{names_looked}
 use Rattle.ert_names.proofs.world.NameWorld.take_named.Goals as goal
 
 pub invariant_of-self : goal.invariant_of-self
 invariant_of-self c =
-    let n = length c.self.inside.rows.items in
-    let w = c.self.inside.world in
-    names_by n c.self.inside.registry w c.is_alive.new.self (λ g. TellsAlive g (Caller 0) c.args.process c.is_alive.result)
-    (λ q s es. alive_fits n q w.settings (Caller 0) c.args.process c.is_alive.result s es) c.is_alive.ensures.call c.self.invariant
+    names_looked (length c.self.inside.rows.items) c.self.inside.registry c.self.inside.world c.is_alive.new.self c.args.process c.is_alive.result c.is_alive.ensures.call c.self.invariant
 
 pub invariant_of-self-2 : goal.invariant_of-self-2
 invariant_of-self-2 c =
-    let n = length c.self.inside.rows.items in
-    let w = c.self.inside.world in
-    names_by n c.self.inside.registry w c.is_alive.new.self (λ g. TellsAlive g (Caller 0) c.args.process c.is_alive.result)
-    (λ q s es. alive_fits n q w.settings (Caller 0) c.args.process c.is_alive.result s es) c.is_alive.ensures.call c.self.invariant
+    names_looked (length c.self.inside.rows.items) c.self.inside.registry c.self.inside.world c.is_alive.new.self c.args.process c.is_alive.result c.is_alive.ensures.call c.self.invariant
 
 pub returns-in-None-clause-call : goal.returns-in-None-clause-call
 returns-in-None-clause-call c =

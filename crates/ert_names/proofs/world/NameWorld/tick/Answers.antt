@@ -1,5 +1,5 @@
 use Rattle.std.proofs.Common.{length, refl, subst}
-use Rattle.ert_answers.specs.ClockCalls.{Ticks}
+use Rattle.ert_effects.specs.ClockCalls.{Ticks}
 use Rattle.ert_clock.specs.Ticks.{act_of}
 use Rattle.ert_names.specs.Calls.{GoesAlone}
 use Rattle.ert_names.specs.Registered.{Registered, seen}

@@ -1,5 +1,5 @@
 use Rattle.std.proofs.Common.{◌≡◌, Ok, Err, inl, inr, length, rules, refl, subst}
-use Rattle.ert_answers.specs.Chains.{Turns}
+use Rattle.ert_effects.specs.Chains.{Turns}
 use Rattle.ert_defs.specs.declared.memory.NoMemory.{NoMemory}
 use Rattle.ert_names.specs.Calls.{TurnsNamed, HasTurned}
 use Rattle.ert_names.specs.Handing.{HandsAll, HandsThem, HandsSome}

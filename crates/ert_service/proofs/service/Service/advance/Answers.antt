@@ -5,6 +5,6 @@ use Rattle.ert_service.proofs.service.Service.advance.Goals as goal
 
 pub returns-clause-due : goal.returns-clause-due
 returns-clause-due g c =
-    let s = g.L.DeskName.settings in
-    due_in s (Sched c.args.seat.part.wheel) c.args.seat.part.wheel c.advance.result.1 (front_of c.args.seat.pass) c.advance.result.0.pass
-    c.advance.result.0.fits.sits.named c.advance.ensures.call
+    let n = c.args.seat.now.part.wheel in
+    due_in g.L.DeskName.settings (Sched n) n c.advance.result (front_of c.args.seat.now.pass) c.advance.new.seat.pass
+    c.advance.new.seat.fits.sits.named c.advance.ensures.call

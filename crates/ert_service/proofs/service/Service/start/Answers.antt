@@ -1,7 +1,7 @@
 use Rattle.ert_defs.specs.declared.entry.Actor.TheVariants.{Caller, Wheel}
 use Rattle.std.proofs.Common.{[], ◌∷◌, rules}
-use Rattle.ert_answers.specs.TimerCalls.{Starts}
-use Rattle.ert_answers.specs.Ways.{Grows, beside}
+use Rattle.ert_effects.specs.TimerCalls.{Starts}
+use Rattle.ert_effects.specs.Ways.{Grows, beside}
 use Rattle.ert_service.proofs.Settling.{settled_in}
 use Rattle.ert_table.specs.Desks.{front_of}
 use Rattle.ert_service.proofs.service.Service.start.Goals as goal
@@ -9,7 +9,7 @@ use Rattle.ert_service.proofs.service.Service.start.Goals as goal
 pub returns-clause-settled : goal.returns-clause-settled
 returns-clause-settled g c = λ exited.
     let s = g.L.DeskName.settings in
-    let n = c.args.seat.number in
-    let call : Grows (beside s (Caller n) (Wheel c.args.wheel ∷ []) (Starts s n c.args.wheel c.args.start.now c.start.result.1)) (front_of c.args.seat.pass) (front_of c.start.result.0.pass) = search rules in
-    settled_in s (Caller c.args.seat.number) c.args.seat.number c.args.wheel c.args.start.now c.start.result.1 (front_of c.args.seat.pass) c.start.result.0.pass
-    c.start.result.0.sits.named exited call
+    let n = c.args.seat.now.number in
+    let call : Grows (beside s (Caller n) (Wheel c.args.wheel ∷ []) (Starts s n c.args.wheel c.args.start.now c.start.result)) (front_of c.args.seat.now.pass) (front_of c.start.new.seat.pass) = search rules in
+    settled_in s (Caller n) n c.args.wheel c.args.start.now c.start.result (front_of c.args.seat.now.pass) c.start.new.seat.pass
+    c.start.new.seat.sits.named exited call

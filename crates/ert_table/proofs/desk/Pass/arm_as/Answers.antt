@@ -1,7 +1,5 @@
 use Rattle.std.proofs.Common.{◌<◌, sym, subst, subst₂}
-use Rattle.ert_defs.specs.States.{state}
 use Rattle.ert_defs.specs.Words.{word_count}
-use Rattle.ert_defs.specs.declared.entry.Actor.TheVariants.{Caller}
 use Rattle.ert_defs.specs.declared.entry.Entry.{Entry}
 use Rattle.ert_table.specs.Acts.{Acts}
 use Rattle.ert_defs.specs.Entries.{arm_entry}

@@ -1,5 +1,5 @@
 use Rattle.std.proofs.Common.{◌≡◌, Err, rules, refl, arith}
-use Rattle.ert_answers.specs.WheelCalls.{Advances}
+use Rattle.ert_effects.specs.WheelCalls.{Advances}
 use Rattle.ert_table.specs.Desks.{settings_of, view_of}
 use Rattle.ert_world.proofs.Calls.{has_at, does_at}
 use Rattle.ert_world.proofs.Advances.{advances_plain, advance_ok, advance_fits, advance_refused}

@@ -8,7 +8,7 @@ use Rattle.std.specs.Prelude.{slice_set}
 use Rattle.ert_world.proofs.Alone.{whole_of}
 use Rattle.ert_world.specs.Worlds.{Seen}
 use Rattle.ert_world.proofs.WheelCalls.{replaced_tidy}
-use Rattle.ert_answers.specs.WheelCalls.{AdvancesAll}
+use Rattle.ert_effects.specs.WheelCalls.{AdvancesAll}
 use Rattle.ert_world.proofs.Calls.{Has, has_at, does_at}
 use Rattle.ert_world.proofs.Advances.{full_advances_plain, advance_ok, advance_fits, advance_refused}
 use Rattle.ert_world.proofs.world.World.advance_all.Goals as goal

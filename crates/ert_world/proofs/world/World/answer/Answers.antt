@@ -1,5 +1,5 @@
 use Rattle.std.proofs.Common.{◌≡◌, None, Err, rules, refl, sym, subst, ◌∙◌}
-use Rattle.ert_answers.specs.RequestCalls.{Answers}
+use Rattle.ert_effects.specs.RequestCalls.{Answers}
 use Rattle.ert_mail.specs.Mailboxes.{Stands}
 use Rattle.ert_world.proofs.Calls.{mail_named}
 use Rattle.ert_table.specs.Desks.{settings_of, front_of}

@@ -3,5 +3,5 @@ use Rattle.ert_world.proofs.world.World.cancel_timer.Goals as goal
 
 pub returns-clause-call : goal.returns-clause-call
 returns-clause-call c =
-    goes_forgetting c.args.timer c.in_ok-left.left c.args.self.now c.cancel.new.self c.forget.new.self _ c.in_ok-left.ensures.call
+    goes_forgetting c.args.timer c.in_ok-left.left c.args.self.now c.settle.new.self c.forget.new.self _ c.in_ok-left.ensures.call
     c.forget.ensures

@@ -1,6 +1,8 @@
-use Rattle.ert_world.proofs.Composed.{exited}
+use Rattle.ert_effects.specs.Chains.{Exits}
+use Rattle.ert_effects.specs.Ways.{Way}
+use Rattle.ert_world.proofs.Alone.{goes_on}
 use Rattle.ert_world.proofs.world.World.exit.Goals as goal
 
 pub returns-clause-call : goal.returns-clause-call
 returns-clause-call c =
-    exited c.args.self.now c.mark_exit.new.self c.sweep_all.new.self c.args.process c.if-not-mark_exit.ensures.call c.sweep_all.ensures.call
+    goes_on c.args.self.now c.exit.new.steps (λ (way : Way). Exits c.args.self.now.settings way 0 c.args.process c.exit.result) c.exit.ensures.call c.exit.ensures.stays

@@ -1,21 +1,18 @@
-use Rattle.ert_answers.specs.ClockCalls.{Finalizes}
-use Rattle.ert_defs.specs.States.{state}
-use Rattle.ert_table.specs.Desks.{settings_of, front_of}
+use Rattle.ert_effects.specs.ClockCalls.{Finalizes}
+use Rattle.ert_table.specs.Desks.{settings_of}
 use Rattle.ert_world.proofs.Calm.{finalizes_quiet}
-use Rattle.ert_world.proofs.Calls.{Has, has_at, does_at, keeper_called, reads_by}
+use Rattle.ert_world.proofs.Calls.{Has, has_at, keeper_called, reads_by}
 use Rattle.ert_world.proofs.world.World.finalize.Goals as goal
 
 pub invariant_of-self : goal.invariant_of-self
 invariant_of-self c =
-    (does_at c.deref.ensures (keeper_called c.args.self.now c.self.inside c.deref.result.now c.finalize.new.pass c.finalize.new.self (λ g. Finalizes g 0 c.args.reading c.finalize.result) (has_at c.deref.ensures c.self.view_is c.self.invariant)
-    c.finalize.ensures.belongs c.finalize.ensures.stands c.finalize.ensures.call (finalizes_quiet (settings_of c.deref.result.now) 0 c.args.reading c.finalize.result (state (settings_of c.deref.result.now) (front_of c.self.inside.pass))
-    c.finalize.ensures.call.entries c.finalize.ensures.call.allowed))).fit
+    (keeper_called c.args.self.now c.self.inside c.deref.result.now _ c.finalize.new.pass c.finalize.new.self (λ g. Finalizes g 0 c.args.reading c.finalize.result) c.deref.ensures c.self.view_is c.self.invariant
+    c.finalize.ensures.belongs c.finalize.ensures.stands c.finalize.ensures.call (finalizes_quiet (settings_of c.deref.result.now) 0 c.args.reading c.finalize.result)).fit
 
 pub returns-clause-call : goal.returns-clause-call
 returns-clause-call c =
-    (does_at c.deref.ensures (keeper_called c.args.self.now c.self.inside c.deref.result.now c.finalize.new.pass c.finalize.new.self (λ g. Finalizes g 0 c.args.reading c.finalize.result) (has_at c.deref.ensures c.self.view_is c.self.invariant)
-    c.finalize.ensures.belongs c.finalize.ensures.stands c.finalize.ensures.call (finalizes_quiet (settings_of c.deref.result.now) 0 c.args.reading c.finalize.result (state (settings_of c.deref.result.now) (front_of c.self.inside.pass))
-    c.finalize.ensures.call.entries c.finalize.ensures.call.allowed))).goes
+    (keeper_called c.args.self.now c.self.inside c.deref.result.now _ c.finalize.new.pass c.finalize.new.self (λ g. Finalizes g 0 c.args.reading c.finalize.result) c.deref.ensures c.self.view_is c.self.invariant
+    c.finalize.ensures.belongs c.finalize.ensures.stands c.finalize.ensures.call (finalizes_quiet (settings_of c.deref.result.now) 0 c.args.reading c.finalize.result)).goes
 
 pub finalize-requires-clause-least : goal.finalize-requires-clause-least
 finalize-requires-clause-least c =

@@ -1,5 +1,5 @@
 use Rattle.std.proofs.Common.{◌≡◌, Some, Err, rules, refl, sym, subst, ◌∙◌}
-use Rattle.ert_answers.specs.Chains.{Hands}
+use Rattle.ert_effects.specs.Chains.{Hands}
 use Rattle.ert_defs.specs.Mails.{first_of, others_of}
 use Rattle.ert_defs.specs.States.{state}
 use Rattle.ert_mail.specs.Mailboxes.{Stands}
@@ -7,8 +7,8 @@ use Rattle.ert_world.proofs.Calls.{mail_named}
 use Rattle.ert_table.specs.Desks.{settings_of, front_of}
 use Rattle.ert_table.specs.declared.desk.Desk.{Desk}
 use Rattle.ert_world.proofs.Calls.{Has, has_at, does_at, parts_in, schedulers_at}
-use Rattle.ert_world.proofs.SchedCalls.{fired_placed, hands_on, sched_holds, handed_now, step_refused}
-use Rattle.ert_world.specs.Worlds.{Seen, sched_of}
+use Rattle.ert_world.proofs.SchedCalls.{fired_placed, hands_on, handed_in, sched_holds, handed_now, step_refused}
+use Rattle.ert_world.specs.Worlds.{Seen, seen, IsHandedIn, sched_of}
 use Rattle.ert_world.proofs.world.World.hand_over.Goals as goal
 
 pub index_mut-requires : goal.index_mut-requires
@@ -79,3 +79,9 @@ returns-clause-fired c =
     subst (λ (d : Desk). ((state (settings_of d) (front_of c.deliver.new.pass)).scheds c.args.sched).fired ≡ others_of (sched_of c.args.self.now c.args.sched).fired) c.deref.ensures
     (hands_on c.args.self.now c.self.inside c.deref.result.now c.deliver.new.pass c.args.sched c.args.fired.now c.in_ok-handed.handed (has_at c.deref.ensures c.self.view_is c.self.invariant)
     c.requires.first c.in_ok-handed.ensures.sched)
+
+pub returns-clause-handed : goal.returns-clause-handed
+returns-clause-handed c =
+    subst (λ (d : Desk). IsHandedIn (seen d c.deliver.new.pass c.self.inside.next c.self.inside.keeper c.self.inside.wheels.items) c.args.fired.now.timer) c.deref.ensures
+    (handed_in c.args.self.now c.self.inside c.deref.result.now c.deliver.new.pass c.args.sched c.args.fired.now c.in_ok-handed.handed (has_at c.deref.ensures c.self.view_is c.self.invariant)
+    c.requires.sched c.requires.first c.in_ok-handed.ensures.call)

@@ -1,25 +1,23 @@
 use Rattle.std.proofs.Common.{◌≡◌, true, subst}
 use Rattle.ert_table.specs.declared.desk.Desk.{Desk}
-use Rattle.ert_answers.specs.WheelCalls.{MarksExit}
+use Rattle.ert_effects.specs.WheelCalls.{MarksExit}
 use Rattle.ert_defs.specs.States.{state}
 use Rattle.ert_defs.specs.declared.entry.Actor.TheVariants.{Caller}
 use Rattle.ert_table.specs.Desks.{settings_of, view_of, front_of}
 use Rattle.ert_world.proofs.Calm.{mark_quiet}
-use Rattle.ert_world.proofs.Calls.{has_at, does_at, alone_called}
+use Rattle.ert_world.proofs.Calls.{alone_called}
 use Rattle.ert_world.proofs.Gone.{marked}
 use Rattle.ert_world.proofs.world.World.mark_exit.Goals as goal
 
 pub invariant_of-self : goal.invariant_of-self
 invariant_of-self c =
-    (does_at c.deref.ensures (alone_called c.args.self.now c.self.inside c.deref.result.now c.mark_exit.new.pass (λ g. MarksExit g (Caller 0) c.args.process c.mark_exit.result) (has_at c.deref.ensures c.self.view_is c.self.invariant)
-    c.mark_exit.ensures.belongs c.mark_exit.ensures.call (mark_quiet (settings_of c.deref.result.now) (Caller 0) c.args.process c.mark_exit.result (state (settings_of c.deref.result.now) (front_of c.self.inside.pass))
-    c.mark_exit.ensures.call.entries c.mark_exit.ensures.call.allowed))).fit
+    (alone_called c.args.self.now c.self.inside c.deref.result.now _ c.mark_exit.new.pass (λ g. MarksExit g (Caller 0) c.args.process c.mark_exit.result) c.deref.ensures c.self.view_is c.self.invariant
+    c.mark_exit.ensures.belongs c.mark_exit.ensures.call (mark_quiet (settings_of c.deref.result.now) (Caller 0) c.args.process c.mark_exit.result)).fit
 
 pub returns-clause-call : goal.returns-clause-call
 returns-clause-call c =
-    (does_at c.deref.ensures (alone_called c.args.self.now c.self.inside c.deref.result.now c.mark_exit.new.pass (λ g. MarksExit g (Caller 0) c.args.process c.mark_exit.result) (has_at c.deref.ensures c.self.view_is c.self.invariant)
-    c.mark_exit.ensures.belongs c.mark_exit.ensures.call (mark_quiet (settings_of c.deref.result.now) (Caller 0) c.args.process c.mark_exit.result (state (settings_of c.deref.result.now) (front_of c.self.inside.pass))
-    c.mark_exit.ensures.call.entries c.mark_exit.ensures.call.allowed))).goes
+    (alone_called c.args.self.now c.self.inside c.deref.result.now _ c.mark_exit.new.pass (λ g. MarksExit g (Caller 0) c.args.process c.mark_exit.result) c.deref.ensures c.self.view_is c.self.invariant
+    c.mark_exit.ensures.belongs c.mark_exit.ensures.call (mark_quiet (settings_of c.deref.result.now) (Caller 0) c.args.process c.mark_exit.result)).goes
 
 pub returns-clause-exited : goal.returns-clause-exited
 returns-clause-exited c =

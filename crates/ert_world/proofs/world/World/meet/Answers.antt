@@ -1,13 +1,12 @@
 use Rattle.std.proofs.Common.{sym, ap, subst, ◌∙◌}
 use Rattle.std.specs.Arc.{arc_value}
-use Rattle.ert_defs.specs.Legal.{Legal}
 use Rattle.ert_defs.specs.declared.entry.Actor.TheVariants.{Caller}
-use Rattle.ert_table.specs.Desks.{settings_of, front_of, Belongs}
+use Rattle.ert_table.specs.Desks.{Belongs}
 use Rattle.ert_table.specs.declared.desk.Desk.{Desk}
 use Rattle.ert_world.specs.Seats.{Seated}
 use Rattle.ert_world.specs.Worlds.{Seen}
 use Rattle.ert_world.proofs.Calls.{Has}
-use Rattle.ert_world.proofs.Meetings.{IsMeeting, can_split, belongs_as, met_fit, met_both}
+use Rattle.ert_world.proofs.Meetings.{is_meeting, can_split, belongs_as, met_fit, met_both}
 use Rattle.ert_world.proofs.world.World.meet.Goals as goal
 
 pub join-requires-clause-other_belongs : goal.join-requires-clause-other_belongs
@@ -25,16 +24,8 @@ split-pass-requires-clause-held c =
 pub invariant_of-self : goal.invariant_of-self
 invariant_of-self c =
     let d = arc_value c.self.inside.desk in
-    let met : IsMeeting d c.self.inside.pass c.seat.inside.pass c.join.new.self c.split-pass.new.self c.split-pass.result (Caller c.seat.inside.number) = record {
-      sits = c.seat.invariant.actors;
-      actors = c.join.ensures.actors;
-      joined = c.join.ensures.joined;
-      legal = subst (λ (d : Desk). Legal (settings_of d) (front_of c.join.new.self)) c.deref.ensures c.join.ensures.legal;
-      rest = c.split-pass.ensures.rest;
-      front = c.split-pass.ensures.front;
-      sits_again = c.split-pass.ensures.actor;
-      seat_front = c.split-pass.ensures.new_front;
-    } in
+    let met = is_meeting d _ c.self.inside.pass c.seat.inside.pass c.join.new.self c.split-pass.new.self c.split-pass.result (Caller c.seat.inside.number) c.deref.ensures c.seat.invariant.actors
+    c.join.ensures.actors c.join.ensures.joined c.join.ensures.legal c.split-pass.ensures.rest c.split-pass.ensures.front c.split-pass.ensures.actor c.split-pass.ensures.new_front in
     let has : Has c.args.self.now c.self.inside d = record { is = c.self.view_is; fit = c.self.invariant } in
     let belongs = subst (λ (d : Desk). Belongs d c.split-pass.new.self) c.deref-2.ensures c.split-pass.ensures.belongs in
     met_fit c.args.self.now c.self.inside d c.seat.inside.pass c.join.new.self c.split-pass.new.self c.split-pass.result c.seat.inside.number has belongs met
@@ -52,16 +43,8 @@ invariant_of-result c = record {
 pub returns : goal.returns
 returns c =
     let d = arc_value c.self.inside.desk in
-    let met : IsMeeting d c.self.inside.pass c.seat.inside.pass c.join.new.self c.split-pass.new.self c.split-pass.result (Caller c.seat.inside.number) = record {
-      sits = c.seat.invariant.actors;
-      actors = c.join.ensures.actors;
-      joined = c.join.ensures.joined;
-      legal = subst (λ (d : Desk). Legal (settings_of d) (front_of c.join.new.self)) c.deref.ensures c.join.ensures.legal;
-      rest = c.split-pass.ensures.rest;
-      front = c.split-pass.ensures.front;
-      sits_again = c.split-pass.ensures.actor;
-      seat_front = c.split-pass.ensures.new_front;
-    } in
+    let met = is_meeting d _ c.self.inside.pass c.seat.inside.pass c.join.new.self c.split-pass.new.self c.split-pass.result (Caller c.seat.inside.number) c.deref.ensures c.seat.invariant.actors
+    c.join.ensures.actors c.join.ensures.joined c.join.ensures.legal c.split-pass.ensures.rest c.split-pass.ensures.front c.split-pass.ensures.actor c.split-pass.ensures.new_front in
     let has : Has c.args.self.now c.self.inside d = record { is = c.self.view_is; fit = c.self.invariant } in
     let belongs = subst (λ (d : Desk). Belongs d c.split-pass.new.self) c.deref-2.ensures c.split-pass.ensures.belongs in
     met_both c.args.self.now c.self.inside d c.seat.inside.pass c.join.new.self c.split-pass.new.self c.split-pass.result c.seat.inside.number has belongs met

@@ -1,26 +1,23 @@
 use Rattle.std.proofs.Common.{rules, FitsSigned, w64, to_z-of_z}
-use Rattle.ert_answers.specs.ClockCalls.{TellsTime}
-use Rattle.ert_defs.specs.States.{state}
+use Rattle.ert_effects.specs.ClockCalls.{TellsTime}
 use Rattle.ert_defs.specs.declared.entry.Actor.TheVariants.{Caller}
-use Rattle.ert_table.specs.Desks.{settings_of, front_of}
+use Rattle.ert_table.specs.Desks.{settings_of}
 use Rattle.ert_world.proofs.Calm.{time_quiet}
-use Rattle.ert_world.proofs.Calls.{has_at, does_at, alone_called}
+use Rattle.ert_world.proofs.Calls.{has_at, alone_called}
 use Rattle.ert_world.proofs.Values.{time_value}
 use Rattle.ert_world.proofs.world.World.monotonic_time.Goals as goal
 
 pub invariant_of-self : goal.invariant_of-self
 invariant_of-self c =
-    (does_at c.deref.ensures (alone_called c.args.self.now c.self.inside c.deref.result.now c.monotonic_time.new.pass (λ g. TellsTime g (Caller 0) c.monotonic_time.result) (has_at c.deref.ensures c.self.view_is c.self.invariant)
-    c.monotonic_time.ensures.belongs c.monotonic_time.ensures.call (time_quiet (settings_of c.deref.result.now) (Caller 0) c.monotonic_time.result (state (settings_of c.deref.result.now) (front_of c.self.inside.pass))
-    c.monotonic_time.ensures.call.entries c.monotonic_time.ensures.call.allowed))).fit
+    (alone_called c.args.self.now c.self.inside c.deref.result.now _ c.monotonic_time.new.pass (λ g. TellsTime g (Caller 0) c.monotonic_time.result) c.deref.ensures c.self.view_is c.self.invariant
+    c.monotonic_time.ensures.belongs c.monotonic_time.ensures.call (time_quiet (settings_of c.deref.result.now) (Caller 0) c.monotonic_time.result)).fit
 
 pub returns-clause-call : goal.returns-clause-call
 returns-clause-call c =
     let fits : FitsSigned w64 c.monotonic_time.result = search rules in
     simp to_z-of_z
-    (does_at c.deref.ensures (alone_called c.args.self.now c.self.inside c.deref.result.now c.monotonic_time.new.pass (λ g. TellsTime g (Caller 0) c.monotonic_time.result) (has_at c.deref.ensures c.self.view_is c.self.invariant)
-    c.monotonic_time.ensures.belongs c.monotonic_time.ensures.call (time_quiet (settings_of c.deref.result.now) (Caller 0) c.monotonic_time.result (state (settings_of c.deref.result.now) (front_of c.self.inside.pass))
-    c.monotonic_time.ensures.call.entries c.monotonic_time.ensures.call.allowed))).goes
+    (alone_called c.args.self.now c.self.inside c.deref.result.now _ c.monotonic_time.new.pass (λ g. TellsTime g (Caller 0) c.monotonic_time.result) c.deref.ensures c.self.view_is c.self.invariant
+    c.monotonic_time.ensures.belongs c.monotonic_time.ensures.call (time_quiet (settings_of c.deref.result.now) (Caller 0) c.monotonic_time.result)).goes
 
 pub returns-clause-value : goal.returns-clause-value
 returns-clause-value c =

@@ -1,12 +1,8 @@
-use Rattle.std.proofs.Common.{◌≡◌, Err, rules}
-use Rattle.ert_world.proofs.Composed.{served, unserved}
+use Rattle.ert_effects.specs.Chains.{Serves}
+use Rattle.ert_effects.specs.Ways.{Way}
+use Rattle.ert_world.proofs.Alone.{goes_on}
 use Rattle.ert_world.proofs.world.World.serve.Goals as goal
-
-pub returns-in_err-reply-clause-call : goal.returns-in_err-reply-clause-call
-returns-in_err-reply-clause-call c =
-    let result : c.from_residual.result ≡ Err c.in_err-reply.field-0.0 = search rules in
-    rw result (unserved c.args.self.now c.hold.new.self c.reply.new.self c.args.sched c.in-Some.request c.in_err-reply.field-0.0 c.in-Some.ensures.call c.in_err-reply.ensures.call)
 
 pub returns-clause-call : goal.returns-clause-call
 returns-clause-call c =
-    served c.args.self.now c.hold.new.self c.reply.new.self c.args.sched c.in-Some.request c.in_ok-reply.field-0 c.in-Some.ensures.call c.in_ok-reply.ensures.call
+    goes_on c.args.self.now c.serve.new.steps (λ (way : Way). Serves c.args.self.now.settings way c.args.sched c.serve.result) c.serve.ensures.call c.serve.ensures.stays

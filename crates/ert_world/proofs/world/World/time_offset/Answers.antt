@@ -1,23 +1,20 @@
-use Rattle.ert_answers.specs.ClockCalls.{TellsOffset}
-use Rattle.ert_defs.specs.States.{state}
+use Rattle.ert_effects.specs.ClockCalls.{TellsOffset}
 use Rattle.ert_defs.specs.declared.entry.Actor.TheVariants.{Caller}
-use Rattle.ert_table.specs.Desks.{settings_of, front_of}
+use Rattle.ert_table.specs.Desks.{settings_of}
 use Rattle.ert_world.proofs.Calm.{offset_quiet}
-use Rattle.ert_world.proofs.Calls.{has_at, does_at, alone_called}
+use Rattle.ert_world.proofs.Calls.{has_at, alone_called}
 use Rattle.ert_world.proofs.Values.{offset_value}
 use Rattle.ert_world.proofs.world.World.time_offset.Goals as goal
 
 pub invariant_of-self : goal.invariant_of-self
 invariant_of-self c =
-    (does_at c.deref.ensures (alone_called c.args.self.now c.self.inside c.deref.result.now c.time_offset.new.pass (λ g. TellsOffset g (Caller 0) c.time_offset.result) (has_at c.deref.ensures c.self.view_is c.self.invariant)
-    c.time_offset.ensures.belongs c.time_offset.ensures.call (offset_quiet (settings_of c.deref.result.now) (Caller 0) c.time_offset.result (state (settings_of c.deref.result.now) (front_of c.self.inside.pass))
-    c.time_offset.ensures.call.entries c.time_offset.ensures.call.allowed))).fit
+    (alone_called c.args.self.now c.self.inside c.deref.result.now _ c.time_offset.new.pass (λ g. TellsOffset g (Caller 0) c.time_offset.result) c.deref.ensures c.self.view_is c.self.invariant
+    c.time_offset.ensures.belongs c.time_offset.ensures.call (offset_quiet (settings_of c.deref.result.now) (Caller 0) c.time_offset.result)).fit
 
 pub returns-clause-call : goal.returns-clause-call
 returns-clause-call c =
-    (does_at c.deref.ensures (alone_called c.args.self.now c.self.inside c.deref.result.now c.time_offset.new.pass (λ g. TellsOffset g (Caller 0) c.time_offset.result) (has_at c.deref.ensures c.self.view_is c.self.invariant)
-    c.time_offset.ensures.belongs c.time_offset.ensures.call (offset_quiet (settings_of c.deref.result.now) (Caller 0) c.time_offset.result (state (settings_of c.deref.result.now) (front_of c.self.inside.pass))
-    c.time_offset.ensures.call.entries c.time_offset.ensures.call.allowed))).goes
+    (alone_called c.args.self.now c.self.inside c.deref.result.now _ c.time_offset.new.pass (λ g. TellsOffset g (Caller 0) c.time_offset.result) c.deref.ensures c.self.view_is c.self.invariant
+    c.time_offset.ensures.belongs c.time_offset.ensures.call (offset_quiet (settings_of c.deref.result.now) (Caller 0) c.time_offset.result)).goes
 
 pub returns-clause-value : goal.returns-clause-value
 returns-clause-value c =

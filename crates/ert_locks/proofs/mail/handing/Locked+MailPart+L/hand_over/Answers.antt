@@ -1,5 +1,5 @@
 use Rattle.std.proofs.Common.{◌≡◌, ◌<◌, Some, sym, subst, ◌∙◌}
-use Rattle.ert_answers.specs.MailCalls.{HandsOver}
+use Rattle.ert_effects.specs.MailCalls.{HandsOver}
 use Rattle.ert_defs.specs.Mails.{first_of}
 use Rattle.ert_defs.specs.States.{state}
 use Rattle.ert_defs.specs.declared.entry.Actor.TheVariants.{MailOf, Sched}
@@ -15,43 +15,43 @@ use Rattle.ert_locks.proofs.mail.handing.Locked+MailPart+L.hand_over.Goals as go
 pub deliver-handed-requires-clause-holds : goal.deliver-handed-requires-clause-holds
 deliver-handed-requires-clause-holds g c =
     let t = settings_of c.args.desk.now in
-    let n = c.args.seat.part.wheel in
-    let meets = c.meet.ensures.meets (Sched n) c.args.seat.fits.sits in
-    let first = first_in c.args.fired.now c.meet.ensures.legal (c.meet.ensures.sched c.args.seat.part c.args.seat.fits) c.requires.first in
+    let n = c.args.seat.now.part.wheel in
+    let meets = c.meet.ensures.meets (Sched n) c.args.seat.now.fits.sits in
+    let first = first_in c.args.fired.now c.meet.ensures.legal (c.meet.ensures.sched c.args.seat.now.part c.args.seat.now.fits) c.requires.first in
     subst (λ m. IsScheds t (view_of c.meet.new.pass) m c.self.inside.part.process) (sym first.1) (record {
       sched = has_user meets;
-      below = subst (λ k. n < k.schedulers) (sym c.requires.desk.settings_is) c.args.seat.fits.stands.in_range;
+      below = subst (λ k. n < k.schedulers) (sym c.requires.desk.settings_is) c.args.seat.now.fits.stands.in_range;
       mail = has_part meets;
     })
 
 pub deliver-handed-requires-clause-first : goal.deliver-handed-requires-clause-first
 deliver-handed-requires-clause-first g c =
-    let first = first_in c.args.fired.now c.meet.ensures.legal (c.meet.ensures.sched c.args.seat.part c.args.seat.fits) c.requires.first in
+    let first = first_in c.args.fired.now c.meet.ensures.legal (c.meet.ensures.sched c.args.seat.now.part c.args.seat.now.fits) c.requires.first in
     subst (λ m. first_of ((state (settings_of c.args.desk.now) (front_of c.meet.new.pass)).scheds m).fired ≡ Some c.args.fired.now) (sym first.1) first.0
 
-pub new-requires : goal.new-requires
-new-requires g c =
+pub invariant_of-seat : goal.invariant_of-seat
+invariant_of-seat g c =
     let t = settings_of c.args.desk.now in
     let how = c.deliver-handed.result in
-    let has = c.meet.ensures.sched c.args.seat.part c.args.seat.fits in
+    let has = c.meet.ensures.sched c.args.seat.now.part c.args.seat.now.fits in
     let first = first_in c.args.fired.now c.meet.ensures.legal has c.requires.first in
-    let was = (state t (front_of c.meet.new.pass)).scheds c.args.seat.part.wheel in
+    let was = (state t (front_of c.meet.new.pass)).scheds c.args.seat.now.part.wheel in
     let made = subst (λ m. (state t (front_of c.deliver-handed.new.pass)).scheds m ≡ handed how ((state t (front_of c.meet.new.pass)).scheds m)) first.1 c.deliver-handed.ensures.sched in
     record {
-      fits = seat_after c.args.desk.now (handed how was) c.requires.desk c.split-pass.ensures.new_belongs
-          c.split-pass.ensures.actor c.split-pass.ensures.new_front c.args.seat.fits.stands.in_range made
-          (handed_hand how was c.args.seat.part.hand has.hand) (c.drop_handed.ensures ∙ handed_fired how was c.args.seat.part.fired.rows has.fired);
+      fits = seat_after c.args.desk.now (handed how was) c.requires.desk c.split.ensures.new_belongs
+          c.split.ensures.actor c.split.ensures.new_front c.args.seat.now.fits.stands.in_range made
+          (handed_hand how was c.args.seat.now.part.hand has.hand) (c.drop_handed.ensures ∙ handed_fired how was c.args.seat.now.part.fired.rows has.fired);
     }
 
 pub returns-clause-call : goal.returns-clause-call
 returns-clause-call g c =
-    let n = c.args.seat.part.wheel in
+    let n = c.args.seat.now.part.wheel in
     let t = settings_of c.args.desk.now in
     let how = c.deliver-handed.result in
-    let first = first_in c.args.fired.now c.meet.ensures.legal (c.meet.ensures.sched c.args.seat.part c.args.seat.fits) c.requires.first in
+    let first = first_in c.args.fired.now c.meet.ensures.legal (c.meet.ensures.sched c.args.seat.now.part c.args.seat.now.fits) c.requires.first in
     let made = if_ok_made t (view_of c.meet.new.pass) (HandsOver t c.args.fired.now.timer.wheel c.args.fired.now) how (view_of c.deliver-handed.new.pass) c.meet.ensures.legal c.deliver-handed.ensures.call in
-    hands g.L.DeskName.settings c.args.seat.part c.args.fired.now how (front_of c.args.seat.pass) (front_of c.new.result.pass) c.args.seat.fits.stands c.requires.first
+    hands g.L.DeskName.settings c.args.seat.now.part c.args.fired.now how (front_of c.args.seat.now.pass) (front_of c.split.result) c.args.seat.now.fits.stands c.requires.first
     (lent_out MailOf (λ s _. HandsOver s n c.args.fired.now how) c.requires.desk.settings_is (c.self.view_is ∙ c.requires.own)
-    (c.meet.ensures.meets (Sched n) c.args.seat.fits.sits)
+    (c.meet.ensures.meets (Sched n) c.args.seat.now.fits.sits)
     (subst (λ m. IsMade t (view_of c.meet.new.pass) (HandsOver t m c.args.fired.now how) (view_of c.deliver-handed.new.pass)) first.1 made)
     (hands_have g.L.DeskName.settings n c.args.fired.now how) (cc))

@@ -1,0 +1,13 @@
+use Rattle.ert_effects.specs.Chains.{SweepsWheel}
+use Rattle.ert_effects.specs.Ways.{beside}
+use Rattle.ert_defs.specs.declared.entry.Actor.TheVariants.{Caller}
+use Rattle.ert_service.proofs.Chained.{still_exited}
+use Rattle.ert_table.specs.Desks.{front_of}
+use Rattle.ert_service.proofs.sitting.CallingCallerSteps.sweep_wheel.Goals as goal
+
+pub returns-clause-exited : goal.returns-clause-exited
+returns-clause-exited g c =
+    let s = g.L.DeskName.settings in
+    let seat = c.args.self.now.seat.now in
+    still_exited s (SweepsWheel s (beside s (Caller seat.number)) seat.number c.args.process c.args.wheel) c.args.process (front_of seat.pass) (front_of c.sweep.new.seat.pass)
+    c.sweep.ensures.call c.requires.exited

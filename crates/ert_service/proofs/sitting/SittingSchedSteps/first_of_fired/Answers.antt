@@ -1,0 +1,15 @@
+use Rattle.std.proofs.Common.{ℕ, ◌≤◌, length, subst}
+use Rattle.std.specs.Arc.{arc_value}
+use Rattle.ert_defs.specs.States.{state}
+use Rattle.ert_service.proofs.Chained.{rows_few}
+use Rattle.ert_table.specs.Desks.{front_of}
+use Rattle.ert_service.proofs.sitting.SittingSchedSteps.first_of_fired.Goals as goal
+
+pub returns-clause-few : goal.returns-clause-few
+returns-clause-few g c =
+    let s = g.L.DeskName.settings in
+    let service = c.args.self.now.service.now in
+    let seat = c.args.self.now.seat.now in
+    let high = subst (λ t. t.slots ≤ 65536) service.named.settings_is (arc_value service.desk).checked.counts.slots_high in
+    let few = rows_few s seat.pass seat.part high seat.fits.sits.named seat.fits.stands in
+    subst (λ (n : ℕ). length ((state s (front_of seat.pass)).scheds n).fired ≤ 65536) c.requires (subst (λ l. length l ≤ 65536) seat.fits.stands.fired few)

@@ -1,0 +1,157 @@
+-- Steps one after the other are a call, whatever makes them.
+
+use Rattle.std.proofs.Common.{◌≡◌, ◌⊎◌, ℕ, zero, suc, ◌+◌, ◌≤◌, true, List, [], ◌∷◌, ◌++◌, length, Some, Ok, Err, inl, inr, refl, sym, ap, subst, ◌∙◌, arith, append-nil, append_assoc}
+use Rattle.ert_effects.proofs.Growing.{grows_then, grows_more}
+use Rattle.ert_effects.specs.Chains.{Serves, ServesMany, ServesAll, times, Advance, Hands, HandsMany, Delivers, puts, put_by, drops, dropped_by, TurnsBy, SweepsWheel, SweepsWheels, Exits}
+use Rattle.ert_effects.specs.WheelCalls.{MarksExit}
+use Rattle.ert_effects.specs.Ways.{Growth, Way, Grows, Then, Many}
+use Rattle.ert_effects.specs.declared.answers.Handed.{Handed}
+use Rattle.ert_effects.specs.declared.answers.Turned.{Turned}
+use Rattle.ert_defs.specs.Mails.{first_of, others_of}
+use Rattle.ert_defs.specs.declared.entry.Actor.TheVariants.{Caller}
+use Rattle.ert_defs.specs.declared.entry.Entry.{Entry}
+use Rattle.ert_defs.specs.declared.memory.NoMemory.{NoMemory}
+use Rattle.ert_defs.specs.declared.settings.Settings.{Settings}
+
+times_more : (n : ℕ) → times n ++ tt ∷ [] ≡ times (suc n)
+times_more zero = refl
+times_more (suc n) = ap (λ l. tt ∷ l) (times_more n)
+
+from_zero : (n : ℕ) → n ≡ 0 + n
+from_zero n = omega arith
+
+suc_is : (n : ℕ) → suc n ≡ n + 1
+suc_is n = omega arith
+
+pub puts_more : (hows : List Handed) (how : Handed) → puts (hows ++ how ∷ []) ≡ puts hows + put_by how
+puts_more [] how = omega arith
+puts_more (h ∷ hows) how = let more = puts_more hows how in omega (arith, more)
+
+pub drops_more : (hows : List Handed) (how : Handed) → drops (hows ++ how ∷ []) ≡ drops hows + dropped_by how
+drops_more [] how = omega arith
+drops_more (h ∷ hows) how = let more = drops_more hows how in omega (arith, more)
+
+-- what is left of a list of which the first is taken
+pub one_less : {X : Type 0} (xs ys : List X) (x : X) → first_of xs ≡ Some x → ys ≡ others_of xs → suc (length ys) ≡ length xs
+one_less [] ys x first is = absurd cc
+one_less (y ∷ xs) ys x first is = ap (λ l. suc (length l)) is
+
+-- so the counts stay few
+pub few_put : (put dropped n m : ℕ) → (put + dropped ≡ 0) ⊎ ((put + dropped) + n ≤ 65536) → n ≤ 65536 → suc m ≡ n → ((put + 1) + dropped) + m ≤ 65536
+few_put put dropped n m (inl none) few next = omega (arith, none, few, next)
+few_put put dropped n m (inr some) few next = omega (arith, some, few, next)
+
+pub few_dropped : (put dropped n m : ℕ) → (put + dropped ≡ 0) ⊎ ((put + dropped) + n ≤ 65536) → n ≤ 65536 → suc m ≡ n → (put + (dropped + 1)) + m ≤ 65536
+few_dropped put dropped n m (inl none) few next = omega (arith, none, few, next)
+few_dropped put dropped n m (inr some) few next = omega (arith, some, few, next)
+
+-- one wheel more is swept
+sweeps_more : (g : Settings) (way : Way) (by p w n : ℕ) (h m k : List Entry) → SweepsWheels g way by p w n h m → SweepsWheel g way by p (w + n) (h ++ m) k
+    → SweepsWheels g way by p w (suc n) h (m ++ k)
+sweeps_more g way by p w zero h m k many one = record {
+  before = k;
+  after = [];
+  joined = ap (λ l. l ++ k) many ∙ sym (append-nil k);
+  one = subst (λ l. SweepsWheel g way by p w l k) (ap (λ l. h ++ l) many ∙ append-nil h) (subst (λ i. SweepsWheel g way by p i (h ++ m) k) (plus_none w) one);
+  other = refl;
+}
+  where
+    plus_none : (w : ℕ) → w + 0 ≡ w
+    plus_none w = omega arith
+sweeps_more g way by p w (suc n) h m k many one = record {
+  before = many.before;
+  after = many.after ++ k;
+  joined = ap (λ l. l ++ k) many.joined ∙ append_assoc many.before many.after k;
+  one = many.one;
+  other = sweeps_more g way by p (suc w) n (h ++ many.before) many.after k many.other
+      (subst (λ l. SweepsWheel g way by p (suc w + n) l k) (ap (λ l. h ++ l) many.joined ∙ sym (append_assoc h many.before many.after))
+      (subst (λ i. SweepsWheel g way by p i (h ++ m) k) (plus_suc w n) one));
+}
+  where
+    plus_suc : (w n : ℕ) → w + suc n ≡ suc w + n
+    plus_suc w n = omega arith
+
+-- over what tells settings, history and mark of whatever makes the steps, and how these come about for one actor
+module _ {S : Type 0} (settings : S → Settings) (history : S → List Entry) (mark : S → ℕ) (way : Settings → ℕ → ℕ → Way) (w : ℕ) where
+  -- a call was made from one to the other
+  abbrev pub Made : (Settings → Way → Growth) → S → S → Type 0
+  Made call a b = Grows (call (settings a) (way (settings a) (mark a) w)) (history a) (history b)
+
+  abbrev Same : S → S → Type 0
+  Same a b = (settings b ≡ settings a) × (mark b ≡ mark a)
+
+  -- a later call is one of the settings and the mark at the start
+  since : (call : Settings → Way → Growth) (a b c : S) → Same a b → Made call b c
+      → Grows (call (settings a) (way (settings a) (mark a) w)) (history b) (history c)
+  since call a b c same made =
+      subst (λ n. Grows (call (settings a) (way (settings a) n w)) (history b) (history c)) same.1
+      (subst (λ g. Grows (call g (way g (mark b) w)) (history b) (history c)) same.0 made)
+
+  made_then : (first second : Settings → Way → Growth) (a b c : S) → Same a b → Made first a b → Made second b c
+      → Made (λ g way. Then (first g way) (second g way)) a c
+  made_then first second a b c same one other =
+      grows_then (first (settings a) (way (settings a) (mark a) w)) (second (settings a) (way (settings a) (mark a) w)) (history a) (history b) (history c) one
+      (since second a b c same other)
+
+  -- one call more of a kind
+  made_more : {A : Type 0} (call : Settings → Way → A → Growth) (answers : List A) (answer : A) (a b c : S) → Same a b
+      → Made (λ g way. Many (call g way) answers) a b → Made (λ g way. call g way answer) b c → Made (λ g way. Many (call g way) (answers ++ answer ∷ [])) a c
+  made_more call answers answer a b c same many one =
+      grows_more (call (settings a) (way (settings a) (mark a) w)) answers answer (history a) (history b) (history c) many
+      (since (λ g way. call g way answer) a b c same one)
+
+  -- one request more is served
+  pub served_more : (a b c : S) (n : ℕ) → Same a b → Made (λ g way. ServesMany g way w n) a b → Made (λ g way. Serves g way w (Ok true)) b c
+      → Made (λ g way. ServesMany g way w (n + 1)) a c
+  served_more a b c n same one other =
+      subst (λ k. Made (λ g way. ServesMany g way w k) a c) (suc_is n)
+      (subst (λ l. Made (λ g way. Many (λ (one : Unit {0}). Serves g way w (Ok true)) l) a c) (times_more n)
+      (made_more (λ g way (one : Unit {0}). Serves g way w (Ok true)) (times n) tt a b c same one other))
+
+  -- one timer more is handed over
+  pub handed_more : (a b c : S) (hows : List Handed) (how : Handed) → Same a b → Made (λ g way. HandsMany g way w hows) a b
+      → Made (λ g way. Hands g way w (Ok how)) b c → Made (λ g way. HandsMany g way w (hows ++ how ∷ [])) a c
+  handed_more a b c hows how same one other = made_more (λ g way how. Hands g way w (Ok how)) hows how a b c same one other
+
+  -- a turn is done, with an advance of a kind, or stops for want of memory
+  pub turned : (advances : Settings → Way → Advance) (a b c d : S) (t : Turned) → Same a b → Same b c → Made (λ g way. ServesAll g way w (Ok t.served)) a b
+      → Made (λ g way. advances g way (Ok (t.to, t.fired))) b c → Made (λ g way. Delivers g way w (Ok (t.put, t.dropped))) c d
+      → Made (λ g way. TurnsBy (advances g way) g way w (Ok t)) a d
+  turned advances a b c d t on_b on_c one two three =
+      made_then (λ g way. ServesAll g way w (Ok t.served)) (λ g way. Then (advances g way (Ok (t.to, t.fired))) (Delivers g way w (Ok (t.put, t.dropped)))) a b d on_b one
+      (made_then (λ g way. advances g way (Ok (t.to, t.fired))) (λ g way. Delivers g way w (Ok (t.put, t.dropped))) b c d on_c two three)
+
+  pub turn_unadvanced : (advances : Settings → Way → Advance) (a b c : S) (served : ℕ) (e : NoMemory) → Same a b
+      → Made (λ g way. ServesAll g way w (Ok served)) a b → Made (λ g way. advances g way (Err e)) b c
+      → Made (λ g way. TurnsBy (advances g way) g way w (Err e)) a c
+  turn_unadvanced advances a b c served e same one two =
+      let both = made_then (λ g way. ServesAll g way w (Ok served)) (λ g way. advances g way (Err e)) a b c same one two in
+      record { piece = both.piece; grown = both.grown; made = inr (inl (served, both.made)) }
+
+  pub turn_undelivered : (advances : Settings → Way → Advance) (a b c d : S) (served : ℕ) (answer : ℕ × ℕ) (e : NoMemory) → Same a b → Same b c
+      → Made (λ g way. ServesAll g way w (Ok served)) a b → Made (λ g way. advances g way (Ok answer)) b c
+      → Made (λ g way. Delivers g way w (Err e)) c d → Made (λ g way. TurnsBy (advances g way) g way w (Err e)) a d
+  turn_undelivered advances a b c d served answer e on_b on_c one two three =
+      let all = made_then (λ g way. ServesAll g way w (Ok served)) (λ g way. Then (advances g way (Ok answer)) (Delivers g way w (Err e))) a b d on_b one
+      (made_then (λ g way. advances g way (Ok answer)) (λ g way. Delivers g way w (Err e)) b c d on_c two three) in
+      record { piece = all.piece; grown = all.grown; made = inr (inr (served, answer, all.made)) }
+
+  pub swept_more : (a b c : S) (p n : ℕ) → Same a b → Made (λ g way. SweepsWheels g way w p 0 n) a b → Made (λ g way. SweepsWheel g way w p n) b c
+      → Made (λ g way. SweepsWheels g way w p 0 (n + 1)) a c
+  swept_more a b c p n same one other =
+      let g : Settings = settings a in
+      let by : Way = way g (mark a) w in
+      let last = since (λ g way. SweepsWheel g way w p n) a b c same other in
+      record {
+        piece = one.piece ++ last.piece;
+        grown = last.grown ∙ (ap (λ l. l ++ last.piece) one.grown ∙ append_assoc (history a) one.piece last.piece);
+        made = subst (λ k. SweepsWheels g by w p 0 k (history a) (one.piece ++ last.piece)) (suc_is n)
+            (sweeps_more g by w p 0 n (history a) one.piece last.piece one.made
+            (subst (λ i. SweepsWheel g by w p i (history a ++ one.piece) last.piece) (from_zero n)
+            (subst (λ h. SweepsWheel g by w p n h last.piece) one.grown last.made)));
+      }
+
+  pub exited : (a b c : S) (p : ℕ) → Same a b → Made (λ g way. way [] (MarksExit g (Caller w) p true)) a b
+      → Made (λ g way. SweepsWheels g way w p 0 g.schedulers) b c → Made (λ g way. Exits g way w p true) a c
+  exited a b c p same one other =
+      made_then (λ g way. way [] (MarksExit g (Caller w) p true)) (λ g way. SweepsWheels g way w p 0 g.schedulers) a b c same one other

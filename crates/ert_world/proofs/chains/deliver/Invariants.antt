@@ -1,0 +1,21 @@
+use Rattle.std.proofs.Common.{◌≡◌, ◌⊎◌, ◌≤◌, ◌+◌, List, length}
+use Rattle.ert_effects.specs.Chains.{HandsMany, puts, drops}
+use Rattle.ert_effects.specs.declared.answers.Handed.{Handed}
+use Rattle.ert_defs.specs.States.{state}
+use Rattle.ert_world.proofs.Chained.{Made}
+use Rattle.ert_world.proofs.chains.deliver.Given as goal
+
+abbrev pub invariant-loop-fired : goal.invariant-loop-fired
+invariant-loop-fired g l =
+    let s = g.S.SchedSteps in
+    record {
+      hows : List Handed;
+      made : Made s.settings s.history s.mark s.way l.fn.sched (λ g way. HandsMany g way l.fn.sched hows) l.fn.steps l.steps;
+      put_is : l.put ≡ puts hows;
+      dropped_is : l.dropped ≡ drops hows;
+      few : (l.put + l.dropped ≡ 0) ⊎ ((l.put + l.dropped) + length ((state (s.settings l.steps) (s.history l.steps)).scheds l.fn.sched).fired ≤ 65536);
+      stays : s.stays l.fn.steps l.steps;
+    }
+
+abbrev pub decreases-loop-fired : goal.decreases-loop-fired
+decreases-loop-fired g l = length ((state (g.S.SchedSteps.settings l.steps) (g.S.SchedSteps.history l.steps)).scheds l.fn.sched).fired

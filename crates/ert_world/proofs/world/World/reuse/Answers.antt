@@ -1,0 +1,25 @@
+use Rattle.std.proofs.Common.{slice_index_or, sym, subst}
+use Rattle.std.specs.Arc.{arc_value}
+use Rattle.ert_table.specs.Desks.{settings_of}
+use Rattle.ert_timers.specs.Freeing.{IsLetGo}
+use Rattle.ert_timers.specs.Parts.{Part}
+use Rattle.ert_world.proofs.CancelCalls.{freed}
+use Rattle.ert_world.specs.Worlds.{Seen}
+use Rattle.ert_world.proofs.world.World.reuse.Goals as goal
+
+pub reuse-requires-clause-let_go : goal.reuse-requires-clause-let_go
+reuse-requires-clause-let_go c =
+    subst (λ (p : Part). IsLetGo p c.args.timer) (sym c.index_mut.ensures.value)
+    (subst (λ (w : Seen). IsLetGo (slice_index_or w.wheels c.args.timer.wheel c.index_mut.result.now) c.args.timer) (sym c.self.view_is) (c.requires.let_go c.index_mut.result.now))
+
+pub invariant_of-self : goal.invariant_of-self
+invariant_of-self c =
+    let d = arc_value c.self.inside.desk in
+    (freed c.args.self.now c.self.inside d c.args.timer.wheel c.index_mut.result.now c.reuse.new.self (record { is = c.self.view_is; fit = c.self.invariant }) c.requires.wheel
+    c.index_mut.ensures.value c.reuse.ensures.number (c.reuse.ensures.stands (settings_of d) c.self.invariant.belongs.named) (c.reuse.ensures.tidy (settings_of d) c.self.invariant.belongs.named)).fit
+
+pub returns-clause-stays : goal.returns-clause-stays
+returns-clause-stays c =
+    let d = arc_value c.self.inside.desk in
+    (freed c.args.self.now c.self.inside d c.args.timer.wheel c.index_mut.result.now c.reuse.new.self (record { is = c.self.view_is; fit = c.self.invariant }) c.requires.wheel
+    c.index_mut.ensures.value c.reuse.ensures.number (c.reuse.ensures.stands (settings_of d) c.self.invariant.belongs.named) (c.reuse.ensures.tidy (settings_of d) c.self.invariant.belongs.named)).stays

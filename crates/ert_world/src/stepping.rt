@@ -1,0 +1,104 @@
+//! A world makes the single steps of its schedulers, and those of caller 0.
+use crate::steps::{CallerSteps, SchedSteps};
+use crate::turns::cancelled_left;
+use crate::world::{CALLER, World};
+use ert_defs::{Fired, NoMemory, Request};
+use ert_mail::Handed;
+
+impl SchedSteps for World {
+    ghost use Rattle.std.specs.Prelude.{◌≡◌, ◌<◌};
+    ghost use Rattle.ert_world.specs.Stepping.{Stays, stay, same, in_range};
+    ghost use Rattle.ert_world.specs.Ways.{beside_seats};
+
+    ghost settings = { λ w. w.settings };
+
+    ghost history = { λ w. w.history };
+
+    ghost mark = { λ w. w.next };
+
+    ghost way = { λ g next sched. beside_seats g next };
+
+    ghost acts = { λ w sched. sched < w.settings.schedulers };
+
+    ghost stays = { Stays };
+
+    fn hold(&mut self, sched: u32) -> Option<Request> {
+        match self.hand(sched) {
+            Some(request) => Some(request),
+            None => self.pick(sched),
+        }
+    }
+
+    fn answer_held(&mut self, sched: u32, request: &Request) -> Result<Option<u64>, NoMemory> {
+        let left = self.answer(sched, request)?;
+        if cancelled_left(request.kind, left).is_none() {
+            return Ok(left);
+        }
+        self.forget(request.timer);
+        Ok(left)
+    }
+
+    fn advance_wheel(&mut self, sched: u32) -> Result<(u64, u32), NoMemory> {
+        self.advance(sched)
+    }
+
+    fn first_of_fired(&self, sched: u32) -> Option<Fired> {
+        self.scheds[sched as usize].fired.first()
+    }
+
+    fn hand_first(&mut self, sched: u32, fired: &Fired) -> Result<Handed, NoMemory> {
+        let handed = self.hand_over(sched, fired)?;
+        self.reuse(fired.timer);
+        Ok(handed)
+    }
+
+    ghost same_settings = { λ a b stays. stays.settings };
+
+    ghost same_mark = { λ a b stays. stays.next };
+
+    ghost acts_on = { in_range };
+
+    ghost stay = { stay };
+
+    ghost same = { same };
+}
+
+impl CallerSteps for World {
+    ghost use Rattle.std.specs.Prelude.{◌≡◌};
+    ghost use Rattle.ert_world.specs.Stepping.{Stays, stay, same};
+    ghost use Rattle.ert_world.specs.Ways.{beside_seats};
+
+    ghost settings = { λ w. w.settings };
+
+    ghost history = { λ w. w.history };
+
+    ghost mark = { λ w. w.next };
+
+    ghost way = { λ g next by. beside_seats g next };
+
+    ghost acts = { λ w by. by ≡ 0 };
+
+    ghost stays = { Stays };
+
+    fn schedulers(&self) -> u32 {
+        self.desk.settings().schedulers
+    }
+
+    fn mark_exited(&mut self, by: u32, process: u32) -> bool {
+        self.mark_exit(process)
+    }
+
+    fn sweep_wheel(&mut self, by: u32, process: u32, wheel: u32) {
+        self.wheels[wheel as usize].sweep(&self.desk, &mut self.pass, CALLER, process);
+    }
+
+    ghost same_settings = { λ a b stays. stays.settings };
+
+    ghost same_mark = { λ a b stays. stays.next };
+
+    ghost acts_on = { λ a b by stays acts. acts };
+
+    ghost stay = { stay };
+
+    ghost same = { same };
+}
