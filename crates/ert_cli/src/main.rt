@@ -6,7 +6,7 @@
 
 use ert_io::{HostClock, StdSink, StdSource};
 use ert_program::{EndStatus, ertime};
-use ert_service::FreeGate;
+use ert_race::FreeGate;
 use std::io::ErrorKind;
 use std::process::ExitCode;
 use std::rt::Env;

@@ -1,5 +1,5 @@
+use crate::unit::Unit;
 use ert_defs::When;
-use ert_units::Unit;
 
 /// One op of a scenario, with the call of the `erlang` module reference that it is like.
 ///

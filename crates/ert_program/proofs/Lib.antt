@@ -1,6 +1,10 @@
+pub mod Chosen
+pub mod Draws
 pub mod InMemory
 pub mod LiveEndings
 pub mod LivedThrough
 pub mod Made
 pub mod Ranges
 pub mod Transcripts
+pub mod Valid
+pub mod Within

@@ -2,7 +2,7 @@
 
 use Rattle.std.specs.Arc.{arc_value}
 use Rattle.std.proofs.Common.{◌≡◌, ◌<◌, ◌+◌, ℕ, ℤ, List, [], ◌∷◌, ◌++◌, length, length-append, Option, None, Some, refl, inl, inr, sym, ap, subst, ◌∙◌, append_assoc, append-nil, arith}
-use Rattle.ert_answers.specs.Ways.{Way, alone}
+use Rattle.ert_effects.specs.Ways.{Way, alone}
 use Rattle.ert_defs.specs.Lines.{Face}
 use Rattle.ert_defs.specs.Readings.{IsValid}
 use Rattle.ert_defs.specs.declared.entry.Entry.{Entry}

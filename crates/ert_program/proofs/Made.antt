@@ -8,7 +8,7 @@ use Rattle.ert_defs.specs.States.{State, state}
 use Rattle.ert_defs.specs.declared.entry.Entry.{Entry}
 use Rattle.ert_defs.specs.declared.settings.Settings.{Settings}
 use Rattle.std.specs.Prelude.{Result, Ok, Err, IfOk, IsErrOf}
-use Rattle.ert_generate.specs.Generated.{generated}
+use Rattle.ert_program.specs.Generated.{generated}
 use Rattle.ert_io.specs.Faults.{Rose}
 use Rattle.ert_io.specs.Told.{Told, took, TakesFront}
 use Rattle.ert_laws.specs.Counts.{counts_of, Counts}
@@ -24,8 +24,8 @@ use Rattle.ert_transcript.proofs.Runs.{done, counts_agree}
 use Rattle.ert_transcript.specs.Counts.{plain_counts}
 use Rattle.ert_transcript.specs.Labels.{Labels}
 use Rattle.ert_program.proofs.Transcripts.{script_run, stands_for}
-use Rattle.ert_lines.specs.declared.output.RunErr.{RunErr}
-use Rattle.ert_lines.specs.declared.output.RunErr.TheVariants.{WriteFault as OutputFailed, NoMemory as OutOfMemory}
+use Rattle.ert_script.specs.declared.output.RunErr.{RunErr}
+use Rattle.ert_script.specs.declared.output.RunErr.TheVariants.{WriteFault as OutputFailed, NoMemory as OutOfMemory}
 use Rattle.ert_program.specs.Endings.{end_of}
 use Rattle.ert_program.specs.Runs.{transcript}
 use Rattle.ert_program.specs.Streams.{Output}

@@ -30,7 +30,7 @@ use Rattle.ert_transcript.specs.declared.reply.Reply.{Reply}
 use Rattle.ert_program.specs.Endings.{end_of}
 use Rattle.ert_program.specs.Runs.{transcript, RunsOn}
 use Rattle.ert_program.specs.declared.ending.EndStatus.TheVariants.{WriteFault, NoMemory}
-use Rattle.ert_lines.specs.declared.output.RunErr.{RunErr}
+use Rattle.ert_script.specs.declared.output.RunErr.{RunErr}
 use Rattle.std.specs.Prelude.{◌⊎◌, Result, Ok, Err, OnErr}
 
 -- the world that it came to stands for that history

@@ -6,8 +6,8 @@ use Rattle.ert_command.specs.Commands.{command_of}
 use Rattle.ert_command.specs.declared.command.Command.{Command}
 use Rattle.ert_io.specs.Faults.{Rose}
 use Rattle.ert_io.specs.Told.{took, TakesFront}
-use Rattle.ert_lines.specs.declared.output.RunErr.{RunErr}
-use Rattle.ert_lines.specs.declared.output.RunErr.TheVariants.{WriteFault as OutputFailed, NoMemory as OutOfMemory}
+use Rattle.ert_script.specs.declared.output.RunErr.{RunErr}
+use Rattle.ert_script.specs.declared.output.RunErr.TheVariants.{WriteFault as OutputFailed, NoMemory as OutOfMemory}
 use Rattle.ert_program.specs.Refusals.{usage_line}
 use Rattle.ert_program.specs.Streams.{Output}
 use Rattle.ert_program.specs.declared.ending.EndStatus.{EndStatus}

@@ -1,9 +1,12 @@
+pub mod Draws
 pub mod Endings
 pub mod Explained
+pub mod Generated
 pub mod Inputs
 pub mod Lives
 pub mod Races
 pub mod Refusals
 pub mod Runs
+pub mod Steps
 pub mod Streams
 pub mod Stresses

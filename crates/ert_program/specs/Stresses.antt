@@ -3,7 +3,7 @@
 use Rattle.std.specs.Arc.{arc_value}
 use Rattle.std.specs.Prelude.{◌≡◌, ◌≢◌, ◌⊎◌, ℕ, ℤ, List, [], None, IsSomeAnd}
 use Rattle.ert_defs.specs.States.{opening, state}
-use Rattle.ert_generate.specs.Generated.{generated}
+use Rattle.ert_program.specs.Generated.{generated}
 use Rattle.ert_io.specs.Faults.{Rose}
 use Rattle.ert_io.specs.Told.{Told, took, TakesFront}
 use Rattle.ert_laws.specs.Counts.{Counts, counts_of}

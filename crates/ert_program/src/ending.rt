@@ -1,7 +1,7 @@
 ghost use Rattle.std.specs.Prelude.{◌≡◌};
 ghost use Rattle.ert_program.specs.Endings.{code_of, without_desk, end_of};
 
-use ert_lines::RunErr;
+use ert_script::RunErr;
 use ert_table::{Desk, Pass};
 use std::sync::Arc;
 

@@ -5,11 +5,20 @@
 //! `racing`, `living` and `stressing`. It stands on `ert_scenario`, which reads, `ert_script`, which runs the ops
 //! on a world, `ert_race`, which lets threads run lists of them, `ert_explain`, which explains a refusal, `ert_io`, and
 //! `ert_table`, whose desk it returns.
+//!
+//! `stress` runs a scenario that `generate` makes from a number, the same each time. `specs/Generated` defines the
+//! scenario of each seed as a function that computes: the draws of a linear congruential generator (`specs/Draws`),
+//! and the op that each draw chooses (`specs/Steps`). A generated scenario keeps the ranges that one read from bytes
+//! keeps (`generated_scenarios_are_valid`).
+//!
 //! The crate `ert_cli` hands it the command line and the standard streams of the machine.
 #![tactic(auto)]
 
 mod ending;
+mod generation;
+mod generator;
 mod in_memory;
+mod laws;
 mod living;
 mod nowhere;
 mod program;
@@ -19,6 +28,8 @@ mod running;
 mod stressing;
 
 pub use ending::{EndStatus, Ended};
+pub use generation::generate;
 pub use in_memory::run_in_memory;
+pub use laws::{first_draws, generated_scenarios_are_valid};
 pub use program::ertime;
 pub use running::run;

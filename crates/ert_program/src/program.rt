@@ -18,7 +18,7 @@ use crate::running::run;
 use crate::stressing::stress;
 use ert_command::{Command, command_of};
 use ert_io::{OsClock, Sink, Source, write_all};
-use ert_service::Gate;
+use ert_race::Gate;
 use std::sync::Wait;
 use std::thread::Threads;
 

@@ -13,12 +13,10 @@ ghost use Rattle.ert_program.specs.Streams.{told_of};
 
 use crate::ending::{EndStatus, Ended};
 use crate::refusal::refuse;
-use crate::running::MAX_INPUT;
-use ert_io::{ReadErr, Sink, Source, read_all};
-use ert_lines::RunErr;
-use ert_race::run_race;
+use ert_io::{MAX_INPUT, ReadErr, Sink, Source, read_all};
+use ert_race::{Gate, run_race};
 use ert_scenario::{Scenario, ScenarioErr, one_verdict, read_scenario, scenarios_are_valid};
-use ert_service::Gate;
+use ert_script::RunErr;
 use ert_table::{Desk, Pass};
 use std::alloc::Global;
 use std::sync::{Arc, Wait};

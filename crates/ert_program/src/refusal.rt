@@ -12,8 +12,8 @@ ghost use Rattle.ert_program.specs.Streams.{told_of};
 use crate::ending::EndStatus;
 use ert_explain::{explain, write_message};
 use ert_io::Sink;
-use ert_lines::write_page;
 use ert_scenario::ScenarioErr;
+use ert_script::write_page;
 use std::alloc::{AllocError, Global};
 use std::fmt::Write;
 

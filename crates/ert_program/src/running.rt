@@ -15,17 +15,13 @@ ghost use Rattle.ert_program.specs.Streams.{told_of};
 
 use crate::ending::{EndStatus, Ended};
 use crate::refusal::refuse;
-use ert_io::{ReadErr, Sink, Source, read_all};
-use ert_lines::{Names, RunErr, write_end, write_page};
+use ert_io::{MAX_INPUT, ReadErr, Sink, Source, read_all};
 use ert_scenario::{Scenario, ScenarioErr, one_verdict, read_scenario, scenarios_are_valid};
-use ert_script::run_ops;
+use ert_script::{LabelMap, RunErr, run_ops, write_end, write_page};
 use ert_table::{Desk, Pass};
 use ert_world::World;
 use std::alloc::Global;
 use std::sync::Arc;
-
-/// The most bytes of an input.
-pub(crate) const MAX_INPUT: usize = 16_777_216;
 
 /// Reads a scenario to the end of the input, runs it on a new world, and writes its transcript. At Done it
 /// returns the world's desk. Input that is no scenario is refused by a line, and a message to `errors` tells why; that
@@ -97,8 +93,8 @@ fn run_scenario<O: Sink>(
     let Ok(mut world) = World::open(alloc, &scenario.settings) else {
         return Err(RunErr::NoMemory);
     };
-    let mut names = Names::new(alloc);
-    run_ops(alloc, &mut world, &mut names, &scenario.ops, output)?;
+    let mut labels = LabelMap::new(alloc);
+    run_ops(alloc, &mut world, &mut labels, &scenario.ops, output)?;
     finish(alloc, world.published(), output)?;
     Ok(world.into_desk())
 }

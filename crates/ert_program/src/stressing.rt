@@ -1,7 +1,7 @@
 //! The command `stress`.
 ghost use Rattle.std.specs.Prelude.{◌≡◌, ◌≤◌, ◌++◌, None, IfOk, OnOk, IsErrOf, string_bytes};
 ghost use Rattle.ert_defs.specs.States.{state};
-ghost use Rattle.ert_generate.specs.Generated.{generated};
+ghost use Rattle.ert_program.specs.Generated.{generated};
 ghost use Rattle.ert_io.specs.Faults.{Rose};
 ghost use Rattle.ert_io.specs.Told.{TakesFront};
 ghost use Rattle.ert_laws.specs.Counts.{counts_of};
@@ -9,11 +9,11 @@ ghost use Rattle.ert_world.specs.Counted.{AreTidy};
 ghost use Rattle.ert_program.specs.Streams.{told_of};
 ghost use Rattle.ert_program.specs.Stresses.{summary, summary_of, CountsOn, HasRun};
 
+use crate::generation::generate;
+use crate::laws::generated_scenarios_are_valid;
 use ert_defs::NoMemory;
-use ert_generate::{generate, generated_scenarios_are_valid};
 use ert_io::Sink;
-use ert_lines::{Names, RunErr, write_end, write_page};
-use ert_script::{do_ops, write_settled};
+use ert_script::{LabelMap, RunErr, do_ops, write_end, write_page, write_settled};
 use ert_table::{Desk, Pass};
 use ert_world::World;
 use std::alloc::{AllocError, Global};
@@ -58,7 +58,7 @@ fn run_generated(alloc: Global, seed: u64, n: u64) -> Result<World, NoMemory>
     generated_scenarios_are_valid();
     let scenario = generate(alloc, seed, n)?;
     let mut world = World::open(alloc, &scenario.settings)?;
-    do_ops(&mut world, &mut Names::new(alloc), &scenario.ops)?;
+    do_ops(&mut world, &mut LabelMap::new(alloc), &scenario.ops)?;
     Ok(world)
 }
 

@@ -1,8 +1,8 @@
 -- All act at once: what the seats knew at the end, seen in the history of the world that was put together.
 
 use Rattle.std.proofs.Common.{◌≡◌, ℕ, suc, ◌+◌, ◌<◌, All, List, [], ◌∷◌, length, slice_index_or, Ok, Vec, Global, sym, ap, subst, ◌∙◌, arith}
-use Rattle.ert_answers.specs.Ways.{Growth, Grows, Many, beside}
-use Rattle.ert_answers.specs.Chains.{Turns}
+use Rattle.ert_effects.specs.Ways.{Growth, Grows, Many, beside}
+use Rattle.ert_effects.specs.Chains.{Turns}
 use Rattle.ert_defs.specs.Legal.{Legal}
 use Rattle.ert_defs.specs.declared.entry.Actor.{Actor}
 use Rattle.ert_defs.specs.declared.entry.Actor.TheVariants.{Caller, Sched}
@@ -11,9 +11,9 @@ use Rattle.ert_defs.specs.declared.settings.Settings.{Settings}
 use Rattle.ert_ops.specs.Races.{Race, lists_of, race_of}
 use Rattle.ert_ops.specs.declared.race.RaceLists.{RaceLists}
 use Rattle.ert_ops.specs.declared.op.Op.{Op}
-use Rattle.ert_outcome.proofs.Makings.{made, makers}
-use Rattle.ert_outcome.specs.Made.{Makes, MakesTurns}
-use Rattle.ert_outcome.specs.Outcomes.{DoesList, DoLists, ActAtOnce}
+use Rattle.ert_race.proofs.Makings.{made, makers}
+use Rattle.ert_race.specs.Made.{Makes, MakesTurns}
+use Rattle.ert_race.specs.Outcomes.{DoesList, DoLists, ActAtOnce}
 use Rattle.ert_race.proofs.Worked.{at_low, length_mapped}
 use Rattle.ert_race.specs.Lists.{did_of, dids_of}
 use Rattle.ert_race.specs.Worked.{list_at, ListsDone, TurnsDone}

@@ -1,23 +1,31 @@
 -- Calls of a caller that take no lock, and labels that are looked up twice.
 
-use Rattle.std.proofs.Common.{rules, ◌≡◌, ℕ, Bool, true, false, cond, nat_eq, [], ◌∷◌, ◌++◌, Some, None, refl, sym, subst}
-use Rattle.ert_answers.specs.Ways.{Step, Grows, beside}
+use Rattle.std.proofs.Common.{rules, ◌≡◌, ℕ, Bool, true, false, cond, nat_eq, [], ◌∷◌, ◌++◌, List, Some, None, Ok, Err, refl, sym, subst}
+use Rattle.ert_effects.specs.Ways.{Step, Grows, beside}
 use Rattle.ert_defs.specs.declared.entry.Actor.{Actor}
+use Rattle.ert_defs.specs.declared.entry.Actor.TheVariants.{Caller}
+use Rattle.ert_defs.specs.declared.entry.Entry.{Entry}
+use Rattle.ert_defs.specs.declared.memory.NoMemory.{NoMemory}
 use Rattle.ert_defs.specs.declared.settings.Settings.{Settings}
 use Rattle.ert_defs.specs.declared.timer.TimerRef.{TimerRef}
-use Rattle.ert_lines.specs.Names.{first_ref}
+use Rattle.ert_ops.specs.declared.op.Op.{Op}
+use Rattle.ert_race.specs.Workers.{AnswersOwn}
+use Rattle.ert_script.proofs.Answered.{unbound}
+use Rattle.ert_script.specs.Doing.{IsAnswered, IsTimerOf, HasStarted}
+use Rattle.ert_script.specs.LabelMaps.{first_ref}
 use Rattle.ert_locks.proofs.Lent.{steps_alone}
 use Rattle.ert_table.specs.Calls.{IsMade}
 use Rattle.ert_table.specs.Desks.{view_of, front_of}
 use Rattle.ert_table.specs.declared.desk.Pass.{Pass}
 use Rattle.ert_transcript.specs.Labels.{Labels, ref_of}
+use Rattle.ert_transcript.specs.Scripts.{labels_after}
+use Rattle.ert_transcript.specs.declared.reply.Reply.{Reply}
 
 -- a call at a desk with these settings, by a pass with one actor
-pub made_alone : (g s : Settings) (a : Actor) (allows : Settings → Step) (p q r : Pass) → s ≡ g → (view_of p).actors ≡ a ∷ []
-    → IsMade s (view_of p) (allows s) (view_of q) → r ≡ q → Grows (beside g a [] (allows g)) (front_of p) (front_of r)
-made_alone g s a allows p q r same actors made is =
-    subst (λ (x : Pass). Grows (beside g a [] (allows g)) (front_of p) (front_of x)) (sym is)
-    (steps_alone g a (view_of p) (allows g) (view_of q) actors (subst (λ t. IsMade t (view_of p) (allows t) (view_of q)) same made))
+pub made_alone : (g s : Settings) (a : Actor) (allows : Settings → Step) (p q : Pass) → s ≡ g → (view_of p).actors ≡ a ∷ [] → IsMade s (view_of p) (allows s) (view_of q)
+    → Grows (beside g a [] (allows g)) (front_of p) (front_of q)
+made_alone g s a allows p q same actors made =
+    steps_alone g a (view_of p) (allows g) (view_of q) actors (subst (λ t. IsMade t (view_of p) (allows t) (view_of q)) same made)
 
 -- a label that is bound in the first of two lists
 pub ref_first : (ls own : Labels) (label : ℕ) (timer : TimerRef) → Some timer ≡ first_ref ls label → ref_of (ls ++ own) label ≡ timer
@@ -38,3 +46,21 @@ ref_second (p ∷ ps) own label none = at (nat_eq p.0 label) none (λ later. ref
         → cond b p.1 (ref_of (ps ++ own) label) ≡ ref_of own label
     at true here later = absurd cc
     at false here later = later here
+
+module _ (g : Settings) (n : ℕ) (known own : Labels) (op : Op) (timer : TimerRef) (f h : List Entry) (of : IsTimerOf (known ++ own) op timer) where
+  -- an op was done, and its label bound
+  pub own_done : (reply : Reply) (own_new : Labels) → IsAnswered g (beside g (Caller n)) n op timer (Ok reply) f h → own_new ≡ labels_after own op reply
+      → AnswersOwn g n known own op (Ok reply) own_new f h
+  own_done reply own_new answered bound = record { does = record { does = answered.does (known ++ own) of; labels = bound }; fails = tt }
+
+  -- there was no memory for its call
+  pub own_failed : (e : NoMemory) (own_new : Labels) → IsAnswered g (beside g (Caller n)) n op timer (Err e) f h → AnswersOwn g n known own op (Err e) own_new f h
+  own_failed e own_new answered = record { does = tt; fails = answered.fails (known ++ own) of }
+
+  -- there was none for its label
+  pub own_unbound : (reply : Reply) (e : NoMemory) (own_new : Labels) → IsAnswered g (beside g (Caller n)) n op timer (Ok reply) f h → HasStarted op reply
+      → AnswersOwn g n known own op (Err e) own_new f h
+  own_unbound reply e own_new answered has = record {
+    does = tt;
+    fails = unbound g (beside g (Caller n)) n (known ++ own) op reply f h has (answered.does (known ++ own) of);
+  }

@@ -1,10 +1,12 @@
+pub mod Advancing
 pub mod AtOnce
 pub mod CallsMade
+pub mod Kept
 pub mod Listed
 pub mod ListsMade
+pub mod Makings
 pub mod Reported
 pub mod Rounds
-pub mod StartsMade
 pub mod TurnsMade
 pub mod Worked
 pub mod Written

@@ -1,27 +1,23 @@
 -- Lists of ops, as far as they have come.
 
-use Rattle.std.specs.Prelude.{ℤ}
-use Rattle.std.proofs.Common.{◌≡◌, ◌<◌, ℕ, zero, suc, ◌+◌, List, [], ◌∷◌, ◌++◌, take, drop, length, get_or, Result, Ok, inl, inr, arith, refl, sym, subst, ap, ◌∙◌, append_assoc, append-nil}
+use Rattle.std.proofs.Common.{◌≡◌, ◌<◌, ℕ, zero, suc, ◌+◌, List, [], ◌∷◌, ◌++◌, take, drop, length, get_or, inl, inr, arith, refl, sym, subst, ap, ◌∙◌, append_assoc}
 use Rattle.std.proofs.Math.Seq.{drop-cons}
 use Rattle.std.proofs.lemmas.List.{take_more}
-use Rattle.ert_answers.specs.Ways.{Way, beside}
+use Rattle.ert_effects.specs.Ways.{Way, beside}
 use Rattle.ert_defs.specs.declared.entry.Actor.TheVariants.{Caller}
 use Rattle.ert_defs.specs.declared.entry.Entry.{Entry}
 use Rattle.ert_defs.specs.declared.settings.Settings.{Settings}
-use Rattle.ert_defs.specs.declared.memory.NoMemory.{NoMemory}
-use Rattle.ert_lines.proofs.Texts.{if_map}
 use Rattle.ert_ops.specs.Races.{MayDo, IsCallersOp}
 use Rattle.ert_ops.specs.Ranges.{IsOpInRange}
 use Rattle.ert_ops.specs.declared.op.Op.{Op}
 use Rattle.ert_ops.specs.declared.op.Op.TheVariants as ops
-use Rattle.ert_transcript.specs.Calls.{Calls, Converts}
+use Rattle.ert_transcript.specs.Calls.{Calls}
 use Rattle.ert_script.proofs.Runs.{script_more}
-use Rattle.ert_script.specs.Timers.{NamesNone}
 use Rattle.ert_transcript.specs.Labels.{Labels}
 use Rattle.ert_transcript.specs.Scripts.{Script, labels_after}
 use Rattle.ert_transcript.specs.declared.reply.Reply.{Reply}
 use Rattle.ert_transcript.specs.declared.reply.Reply.TheVariants as replies
-use Rattle.ert_race.specs.Workers.{DoesOwn, DoesList, FailsOwn, Answers, AnswersOwn, AnswersWith, StopsAt, DoesSome}
+use Rattle.ert_race.specs.Workers.{DoesOwn, DoesAll, FailsOwn, StopsOwn, DoesSome}
 
 -- what a start adds to labels is added to those that stand before them
 pub after_known : (ls own : Labels) (op : Op) (r : Reply) → labels_after (ls ++ own) op r ≡ ls ++ labels_after own op r
@@ -31,8 +27,8 @@ after_known ls own op r = refl
 
 -- one more op was done
 list_more : (g : Settings) (n : ℕ) (known : Labels) (list : List Op) (rs : List Reply) (own own_new : Labels) (f h k : List Entry) (op : Op) (r : Reply)
-    → DoesList g n known list rs own f h → DoesOwn g n known own op r own_new h k
-    → DoesList g n known (list ++ op ∷ []) (rs ++ r ∷ []) own_new f k
+    → DoesAll g n known list rs own f h → DoesOwn g n known own op r own_new h k
+    → DoesAll g n known (list ++ op ∷ []) (rs ++ r ∷ []) own_new f k
 list_more g n known list rs own own_new f h k op r one done =
     let way : Way = beside g (Caller n) in
     let more = done.does in
@@ -48,10 +44,10 @@ list_more g n known list rs own own_new f h k op r one done =
     }
 
 pub list_more_at : (g : Settings) (n : ℕ) (known : Labels) (list : List Op) (i : ℕ) (d : Op) (rs : List Reply) (own own_new : Labels) (f h k : List Entry) (r : Reply)
-    → i < length list → DoesList g n known (take i list) rs own f h → DoesOwn g n known own (get_or list i d) r own_new h k
-    → DoesList g n known (take (i + 1) list) (rs ++ r ∷ []) own_new f k
+    → i < length list → DoesAll g n known (take i list) rs own f h → DoesOwn g n known own (get_or list i d) r own_new h k
+    → DoesAll g n known (take (i + 1) list) (rs ++ r ∷ []) own_new f k
 list_more_at g n known list i d rs own own_new f h k r below far done =
-    subst (λ (os : List Op). DoesList g n known os (rs ++ r ∷ []) own_new f k) (sym (take_more list i d below))
+    subst (λ (os : List Op). DoesAll g n known os (rs ++ r ∷ []) own_new f k) (sym (take_more list i d below))
     (list_more g n known (take i list) rs own own_new f h k (get_or list i d) r far done)
 
 -- each op of a list is a caller's, in range
@@ -61,51 +57,26 @@ may_do_at g [] i d below may = absurd (omega arith)
 may_do_at g (op ∷ list) zero d below may = (may.0, may.1)
 may_do_at g (op ∷ list) (suc i) d below may = may_do_at g list i d (omega arith) may.2
 
--- an op that names no timer binds no label
-binds_none : (own : Labels) (op : Op) (reply : Reply) → NamesNone op → own ≡ labels_after own op reply
-binds_none own (ops.Start label wheel when dest msg) reply none = absurd none
-binds_none own (ops.SendAfter label wheel when dest msg) reply none = absurd none
-binds_none own _ reply none = refl
-
--- what an op answers that binds none, by the labels of a list
-pub own_with : (g : Settings) (n : ℕ) (known own : Labels) (op o : Op) (answer : Result Reply NoMemory) (f h : List Entry) → op ≡ o
-    → ((reply : Reply) → own ≡ labels_after own o reply) → AnswersWith g n (known ++ own) o answer f h → AnswersOwn g n known own op answer own f h
-own_with g n known own op o answer f h is none answers =
-    subst (λ (x : Op). AnswersOwn g n known own x answer own f h) (sym is)
-    (record { does = if_map answer _ _ (λ reply grows. record { does = grows; labels = none reply }) answers.does; fails = answers.fails })
-
-pub own_plain : (g : Settings) (n : ℕ) (known own : Labels) (op : Op) (answer : Result Reply NoMemory) (f h : List Entry) → NamesNone op → Answers g n op answer f h
-    → AnswersOwn g n known own op answer own f h
-own_plain g n known own op answer f h none answers =
-    own_with g n known own op op answer f h refl (λ reply. binds_none own op reply none) (answers.with (known ++ own))
-
--- a conversion makes no entry
-pub converts_plain : (g : Settings) (n : ℕ) (op : Op) (time : ℤ) (from to : ℕ) (reply : Reply) (f : List Entry)
-    → op ≡ ops.Convert time from to → Converts time from to reply [] → Answers g n op (Ok reply) f f
-converts_plain g n op time from to reply f is converts =
-    subst (λ (x : Op). Answers g n x (Ok reply) f f) (sym is)
-    (record { with = λ ls. record { does = record { piece = []; grown = sym (append-nil f); made = converts }; fails = tt } })
-
 -- a list that stopped as some ops had left it
-stops_here : (g : Settings) (n : ℕ) (known own : Labels) (list : List Op) (f : List Entry) → StopsAt g n known own list f f
+stops_here : (g : Settings) (n : ℕ) (known own : Labels) (list : List Op) (f : List Entry) → StopsOwn g n known own list f f
 stops_here g n known own [] f = refl
 stops_here g n known own (op ∷ rest) f = inl refl
 
 -- there was no memory for one more op
 pub some_done : (g : Settings) (n : ℕ) (known : Labels) (list : List Op) (i : ℕ) (d : Op) (rs : List Reply) (own : Labels) (f h k : List Entry)
-    → i < length list → DoesList g n known (take i list) rs own f h → FailsOwn g n known own (get_or list i d) h k → DoesSome g n known list f k
+    → i < length list → DoesAll g n known (take i list) rs own f h → FailsOwn g n known own (get_or list i d) h k → DoesSome g n known list f k
 some_done g n known list i d rs own f h k below far fails = record {
   done = i;
   replies = rs;
   own = own;
   reached = h;
   does = far;
-  stops = subst (λ (rest : List Op). StopsAt g n known own rest h k) (sym (drop-cons list i d below)) (inr fails);
+  stops = subst (λ (rest : List Op). StopsOwn g n known own rest h k) (sym (drop-cons list i d below)) (inr fails);
 }
 
 -- there was none for the reply of the last op that was done
 pub reply_lost : (g : Settings) (n : ℕ) (known : Labels) (list : List Op) (i : ℕ) (rs : List Reply) (own : Labels) (f h : List Entry)
-    → DoesList g n known (take i list) rs own f h → DoesSome g n known list f h
+    → DoesAll g n known (take i list) rs own f h → DoesSome g n known list f h
 reply_lost g n known list i rs own f h far = record {
   done = i;
   replies = rs;

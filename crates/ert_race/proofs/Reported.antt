@@ -2,7 +2,7 @@
 
 use Rattle.std.proofs.Common.{◌≡◌, ℕ, suc, zero, ◌+◌, ◌<◌, List, [], ◌∷◌, ◌++◌, length, take, slice_index_or, refl, sym, ap, ◌∙◌, arith, append-nil, append_assoc}
 use Rattle.std.proofs.lemmas.List.{take_more}
-use Rattle.ert_outcome.specs.Reports.{Did, all_labels, lines_by, heading, lists_text}
+use Rattle.ert_race.specs.Reports.{Did, all_labels, lines_by, heading, lists_text}
 use Rattle.ert_race.specs.Lists.{did_of, dids_of}
 use Rattle.ert_race.specs.declared.list.ListDone.{ListDone}
 use Rattle.ert_transcript.specs.Labels.{Labels, label_of}

@@ -1,10 +1,10 @@
 -- The turns of a scheduler, as far as they have come.
 
 use Rattle.std.proofs.Common.{ℕ, ◌+◌, List, [], ◌∷◌, ◌++◌, Ok, ap, ◌∙◌, length-append}
-use Rattle.ert_answers.proofs.Growing.{grows_more}
-use Rattle.ert_answers.specs.Chains.{Turns}
-use Rattle.ert_answers.specs.Ways.{Grows, beside}
-use Rattle.ert_answers.specs.declared.answers.Turned.{Turned}
+use Rattle.ert_effects.proofs.Growing.{grows_more}
+use Rattle.ert_effects.specs.Chains.{Turns}
+use Rattle.ert_effects.specs.Ways.{Grows, beside}
+use Rattle.ert_effects.specs.declared.answers.Turned.{Turned}
 use Rattle.ert_defs.specs.declared.entry.Actor.TheVariants.{Sched}
 use Rattle.ert_defs.specs.declared.entry.Entry.{Entry}
 use Rattle.ert_defs.specs.declared.settings.Settings.{Settings}

@@ -9,7 +9,7 @@ use Rattle.ert_ops.specs.Races.{MayDo, MayDoAll}
 use Rattle.ert_ops.specs.declared.op.Op.{Op}
 use Rattle.ert_race.specs.Worked.{list_at, list_ok, turns_ok, CallerWorked, SchedWorked, ListsDone, TurnsDone}
 use Rattle.ert_service.specs.Dividing.{AreSeated}
-use Rattle.ert_race.specs.Workers.{DoesList, TurnsSoOften}
+use Rattle.ert_race.specs.Workers.{DoesAll, TurnsSoOften}
 use Rattle.ert_transcript.specs.Labels.{Labels}
 use Rattle.ert_race.specs.declared.list.ListDone.{ListDone}
 
@@ -41,13 +41,13 @@ length_mapped f (x ∷ xs) = ap (λ n. suc n) (length_mapped f xs)
 
 -- what one caller has done, and what one scheduler
 one_list : (g : Settings) (known : Labels) (lists : List (List Op)) (n k : ℕ) (e f h l : List Entry) (r : Result ListDone NoMemory) (d : ListDone)
-    → IfOk r (λ d. DoesList g n known (list_at lists n) d.replies.items d.own e h) → r ≡ list_ok d → n ≡ k → e ≡ f → h ≡ l
-    → DoesList g k known (list_at lists k) d.replies.items d.own f l
+    → IfOk r (λ d. DoesAll g n known (list_at lists n) d.replies.items d.own e h) → r ≡ list_ok d → n ≡ k → e ≡ f → h ≡ l
+    → DoesAll g k known (list_at lists k) d.replies.items d.own f l
 one_list g known lists n k e f h l r d does is number front seat =
-    subst (λ x. DoesList g k known (list_at lists k) d.replies.items d.own f x) seat
-    (subst (λ x. DoesList g k known (list_at lists k) d.replies.items d.own x h) front
-    (subst (λ x. DoesList g x known (list_at lists x) d.replies.items d.own e h) number
-    (subst (λ (x : Result ListDone NoMemory). IfOk x (λ d. DoesList g n known (list_at lists n) d.replies.items d.own e h)) is does)))
+    subst (λ x. DoesAll g k known (list_at lists k) d.replies.items d.own f x) seat
+    (subst (λ x. DoesAll g k known (list_at lists k) d.replies.items d.own x h) front
+    (subst (λ x. DoesAll g x known (list_at lists x) d.replies.items d.own e h) number
+    (subst (λ (x : Result ListDone NoMemory). IfOk x (λ d. DoesAll g n known (list_at lists n) d.replies.items d.own e h)) is does)))
 
 one_turns : (g : Settings) (turns n k : ℕ) (e f h l : List Entry) (r : Result (Unit {0}) NoMemory)
     → OnOk r (TurnsSoOften g n turns e h) → r ≡ Ok tt → n ≡ k → e ≡ f → h ≡ l → TurnsSoOften g k turns f l
@@ -83,7 +83,7 @@ module _ {S D : Type 0} (number : S → ℕ) (front : S → List Entry) (seat : 
           ap number (seat_at k low x s) ∙ (w.number ∙ (seated.each k s low).0)
 
       does : (k : ℕ) (s : S) (d : ListDone) → k < g.callers
-          → DoesList g k known (list_at lists k) (slice_index_or dones k d).replies.items (slice_index_or dones k d).own f (front (slice_index_or new k s))
+          → DoesAll g k known (list_at lists k) (slice_index_or dones k d).replies.items (slice_index_or dones k d).own f (front (slice_index_or new k s))
       does k s d low =
           let x = at_low ds k (omega (arith, low, total)) in
           let w = worked k x.element s (omega (arith, low, seated.counted)) in

@@ -3,7 +3,7 @@
 use Rattle.std.specs.Arc.{arc_value}
 use Rattle.std.proofs.Common.{◌≡◌, ℕ, List, [], ◌++◌, length, take, Option, None, inl, inr, refl, sym, ap, subst, ◌∙◌, arith, append-nil}
 use Rattle.std.proofs.lemmas.List.{take_all}
-use Rattle.ert_answers.specs.Ways.{alone}
+use Rattle.ert_effects.specs.Ways.{alone}
 use Rattle.ert_defs.specs.Legal.{Legal}
 use Rattle.ert_defs.specs.Lines.{Face}
 use Rattle.ert_defs.specs.States.{state}
@@ -15,8 +15,8 @@ use Rattle.ert_io.specs.Told.{Told, took, room_after, TakesFront}
 use Rattle.ert_laws.specs.Counts.{counts_of}
 use Rattle.ert_ops.specs.Races.{Race}
 use Rattle.ert_ops.specs.declared.op.Op.{Op}
-use Rattle.ert_outcome.specs.Outcomes.{Races, IsOutcome}
-use Rattle.ert_outcome.specs.Reports.{Did, behind}
+use Rattle.ert_race.specs.Outcomes.{Races, IsOutcome}
+use Rattle.ert_race.specs.Reports.{Did, behind}
 use Rattle.ert_race.specs.Ends.{RacesTo}
 use Rattle.ert_race.specs.Written.{Returned, MayWrite, RacesOn, StopsRace}
 use Rattle.ert_world.specs.Lived.{IsLived}

@@ -1,11 +1,11 @@
 -- What a race does to a world.
 
 use Rattle.std.specs.Prelude.{◌≡◌, List}
-use Rattle.ert_answers.specs.Ways.{Grows}
+use Rattle.ert_effects.specs.Ways.{Grows}
 use Rattle.ert_ops.specs.Races.{Race}
-use Rattle.ert_outcome.specs.Made.{MakesRound}
-use Rattle.ert_outcome.specs.Outcomes.{ActAtOnce, Races}
-use Rattle.ert_outcome.specs.Reports.{Did}
+use Rattle.ert_race.specs.Made.{MakesRound}
+use Rattle.ert_race.specs.Outcomes.{ActAtOnce, Races}
+use Rattle.ert_race.specs.Reports.{Did}
 use Rattle.ert_world.specs.Counted.{AreTidy}
 use Rattle.ert_transcript.specs.Labels.{Labels}
 use Rattle.ert_world.specs.Worlds.{Seen}

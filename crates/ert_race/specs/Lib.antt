@@ -1,5 +1,9 @@
 pub mod Ends
+pub mod Laws
 pub mod Lists
+pub mod Made
+pub mod Outcomes
+pub mod Reports
 pub mod Worked
 pub mod Workers
 pub mod Written

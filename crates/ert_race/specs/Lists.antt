@@ -1,7 +1,7 @@
 -- What came of lists, as the outcome of a race has it.
 
 use Rattle.std.specs.Prelude.{List, map}
-use Rattle.ert_outcome.specs.Reports.{Did}
+use Rattle.ert_race.specs.Reports.{Did}
 use Rattle.ert_race.specs.declared.list.ListDone.{ListDone}
 
 -- what came of one list: its replies, and the labels that it bound

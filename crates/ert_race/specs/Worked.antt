@@ -7,7 +7,7 @@ use Rattle.ert_defs.specs.declared.settings.Settings.{Settings}
 use Rattle.ert_ops.specs.declared.op.Op.{Op}
 use Rattle.ert_service.specs.Joining.{AreNumbered}
 use Rattle.ert_transcript.specs.Labels.{Labels}
-use Rattle.ert_race.specs.Workers.{DoesList, TurnsSoOften}
+use Rattle.ert_race.specs.Workers.{DoesAll, TurnsSoOften}
 use Rattle.ert_race.specs.declared.list.ListDone.{ListDone}
 
 -- the list of a number
@@ -25,7 +25,7 @@ turns_ok s = Ok tt
 -- a caller has done its list, from the front of its pass on, unless there was no memory
 pub record CallerWorked (g : Settings) (known : Labels) (lists : List (List Op)) (n : ℕ) (f : List Entry) (n_new : ℕ) (h : List Entry) (done : Result ListDone NoMemory) : Type 0 where
   pub number : n_new ≡ n
-  pub does : IfOk done (λ d. DoesList g n known (list_at lists n) d.replies.items d.own f h)
+  pub does : IfOk done (λ d. DoesAll g n known (list_at lists n) d.replies.items d.own f h)
 
 -- a scheduler has made its turns
 pub record SchedWorked (g : Settings) (turns w : ℕ) (f : List Entry) (w_new : ℕ) (h : List Entry) (done : Result (Unit {0}) NoMemory) : Type 0 where
@@ -37,7 +37,7 @@ pub record ListsDone {S : Type 0} (number : S → ℕ) (front : S → List Entry
   pub numbered : AreNumbered number g.callers seats
   pub counted : length dones ≡ g.callers
   pub each : (k : ℕ) (s : S) (d : ListDone) → k < g.callers
-      → DoesList g k known (list_at lists k) (slice_index_or dones k d).replies.items (slice_index_or dones k d).own f (front (slice_index_or seats k s))
+      → DoesAll g k known (list_at lists k) (slice_index_or dones k d).replies.items (slice_index_or dones k d).own f (front (slice_index_or seats k s))
 
 -- all schedulers have made their turns
 pub record TurnsDone {S : Type 0} (number : S → ℕ) (front : S → List Entry) (g : Settings) (turns : ℕ) (f : List Entry) (seats : List S) : Type 0 where

@@ -4,7 +4,7 @@ use Rattle.std.specs.Arc.{arc_value}
 use Rattle.std.specs.Prelude.{◌≡◌, ◌⊎◌, ℕ, List, [], take}
 use Rattle.std.specs.declared.alloc.Global.{Global}
 use Rattle.std.specs.declared.sync.Arc.{Arc}
-use Rattle.ert_answers.specs.Ways.{alone}
+use Rattle.ert_effects.specs.Ways.{alone}
 use Rattle.ert_defs.specs.Legal.{Legal}
 use Rattle.ert_defs.specs.States.{state}
 use Rattle.ert_defs.specs.declared.entry.Entry.{Entry}
@@ -13,8 +13,8 @@ use Rattle.ert_io.specs.Told.{Told, took, TakesFront}
 use Rattle.ert_laws.specs.Counts.{counts_of}
 use Rattle.ert_ops.specs.Races.{Race}
 use Rattle.ert_ops.specs.declared.op.Op.{Op}
-use Rattle.ert_outcome.specs.Outcomes.{IsOutcome}
-use Rattle.ert_outcome.specs.Reports.{Did, behind}
+use Rattle.ert_race.specs.Outcomes.{IsOutcome}
+use Rattle.ert_race.specs.Reports.{Did, behind}
 use Rattle.ert_world.specs.Lived.{IsLived}
 use Rattle.ert_world.specs.Worlds.{Seen}
 use Rattle.ert_table.specs.Desks.{settings_of, KnowsAll}

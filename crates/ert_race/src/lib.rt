@@ -2,8 +2,10 @@
 //!
 //! `race_on` lends a world to several threads: each caller does its list and each scheduler its turns, over one
 //! service. When all have returned, the world is put together again, and each scheduler makes one turn more.
-//! `run_race` does the ops first, and writes the report. What comes of it is an outcome (`ert_outcome`): one
-//! legal history, and the report of its replies.
+//! `run_race` does the ops first, and writes the report. What comes of it is an outcome (`specs/Outcomes`): one
+//! legal history, and the report of its replies. `specs/Made` says what one actor makes in a stretch of a history
+//! beside others, and `specs/Reports` what the text is. Many outcomes come of one race, since the threads may step
+//! in any order.
 //!
 //! **The threads.** One of them keeps the clock, and acts as caller 0; one makes turns, for each scheduler; and
 //! each further one does a list of ops as a caller of its own. Each worker has its seat (`ert_locks`), whose pass
@@ -13,25 +15,27 @@
 //! After want of memory a worker stops, and has its seat still, whose pass knows what the first ops made, and the
 //! one that failed.
 //!
-//! **Labels.** A list knows the labels that were bound before the race, by the `Names` of the ops, which all workers
-//! share, and its own, for which it keeps others. It knows none of another list.
+//! **Labels.** A list knows the labels that were bound before the race, by the `LabelMap` of the ops, which all
+//! workers share, and its own, for which it keeps another. It knows none of another list.
 //!
-//! It stands on `ert_service` and `ert_locks` for the threads, on `ert_calls` for the calls that take no lock, on
-//! `ert_script` for the ops, and on `ert_lines` for the text.
+//! It stands on `ert_service` and `ert_locks` for the threads, on `ert_calls` for the calls that take no lock, and
+//! on `ert_script` for the ops and the text.
 #![tactic(auto)]
 
-mod clock_ops;
+mod gates;
+mod laws;
 mod list;
-mod mail_ops;
+mod member;
 mod op;
 mod race;
 mod report;
 mod round;
 mod run;
-mod timer_ops;
 mod turns;
 mod workers;
 
+pub use gates::{FreeGate, Gate, LedgerGate};
+pub use laws::{lists_are_done_whole, outcomes_keep_the_laws};
 pub use list::ListDone;
 pub use race::{RaceEnd, race_on};
 pub use run::run_race;

@@ -4,12 +4,13 @@ ghost use Rattle.ert_ops.specs.Races.{MayDo};
 ghost use Rattle.ert_race.specs.Workers.{DoesWhole, DoesSome};
 ghost use Rattle.ert_table.specs.Desks.{front_of};
 
-use crate::op::do_op;
+use crate::gates::Gate;
+use crate::member::Member;
+use crate::op::do_one;
 use ert_defs::NoMemory;
-use ert_lines::Names;
-use ert_locks::{CallerSeat, DeskName};
+use ert_locks::DeskName;
 use ert_ops::Op;
-use ert_service::{Gate, Service};
+use ert_script::LabelMap;
 use ert_transcript::Reply;
 use std::alloc::Global;
 use std::sync::Wait;
@@ -20,7 +21,7 @@ pub struct ListDone {
     /// The replies, in order.
     pub replies: Vec<Reply>,
     /// The labels that the list's own starts bound, in order, each with its timer.
-    pub own: Names,
+    pub own: LabelMap,
 }
 
 /// Does a list of ops as a caller, one after the other. `known` has the labels that were bound before; a label
@@ -30,38 +31,34 @@ pub struct ListDone {
 /// After want of memory it has stopped at an op, and what was done stays done: some first ops, and of the next
 /// what it makes before it takes memory.
 pub(crate) fn do_list<L: DeskName, R: Wait, G: Gate>(
-    rt: &R,
     alloc: Global,
-    service: &Service<L>,
-    seat: CallerSeat<L>,
-    known: &Names,
+    member: &mut Member<L, R>,
+    known: &LabelMap,
     ops: &[Op],
     gate: &G,
-) -> (CallerSeat<L>, Result<ListDone, NoMemory>)
+) -> Result<ListDone, NoMemory>
     requires { MayDo L.settings ops.now }
-    ensures number { result.0.number ≡ seat.number }
-    ensures done { IfOk result.1 (λ done. DoesWhole L.settings seat.number known.now ops.now done (front_of seat.pass) (front_of result.0.pass)) }
-    ensures stops { OnErr result.1 (DoesSome L.settings seat.number known.now ops.now (front_of seat.pass) (front_of result.0.pass)) }
+    ensures number { member.new.seat.number ≡ member.old.seat.number }
+    ensures done { IfOk result (λ done. DoesWhole L.settings member.old.seat.number known.now ops.now done (front_of member.old.seat.pass) (front_of member.new.seat.pass)) }
+    ensures stops { OnErr result (DoesSome L.settings member.old.seat.number known.now ops.now (front_of member.old.seat.pass) (front_of member.new.seat.pass)) }
 {
-    let worker = if seat.number == 0 {
+    let number = member.seat.number;
+    let worker = if number == 0 {
         0
     } else {
-        service.desk().settings().schedulers + seat.number
+        member.service.desk().settings().schedulers + number
     };
-    let mut next = seat;
-    let mut own = Names::new(alloc);
+    let mut own = LabelMap::new(alloc);
     let mut replies = Vec::new(alloc);
     for op in ops {
         gate.before(worker, replies.len() as u64 + 1);
-        let (seat, reply) = do_op(rt, service, next, known, &mut own, op);
-        next = seat;
-        let reply = match reply {
+        let reply = match do_one(member, known, &mut own, op) {
             Ok(reply) => reply,
-            Err(e) => return (next, Err(e)),
+            Err(e) => return Err(e),
         };
         if replies.push(reply).is_err() {
-            return (next, Err(NoMemory));
+            return Err(NoMemory);
         }
     }
-    (next, Ok(ListDone { replies, own }))
+    Ok(ListDone { replies, own })
 }

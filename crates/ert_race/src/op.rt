@@ -1,19 +1,16 @@
-ghost use Rattle.std.specs.Prelude.{◌≡◌};
+ghost use Rattle.std.specs.Prelude.{◌≡◌, ◌++◌};
 ghost use Rattle.ert_ops.specs.Races.{IsCallersOp};
 ghost use Rattle.ert_ops.specs.Ranges.{IsOpInRange};
-ghost use Rattle.ert_race.specs.Workers.{Answers, AnswersOwn};
-ghost use Rattle.ert_script.specs.Timers.{NamesNone};
+ghost use Rattle.ert_race.specs.Workers.{AnswersOwn};
+ghost use Rattle.ert_script.specs.Doing.{IsTimerOf};
 ghost use Rattle.ert_table.specs.Desks.{front_of};
+ghost use Rattle.ert_transcript.specs.Labels.{ref_of};
 
-use crate::clock_ops::{check, finalize, info, offset, system, tick, time};
-use crate::mail_ops::{alive, demonitor, exit, monitor, notify, receive};
-use crate::timer_ops::timer_op;
-use ert_defs::NoMemory;
-use ert_lines::Names;
-use ert_locks::{CallerSeat, DeskName};
+use crate::member::Member;
+use ert_defs::{NoMemory, TimerRef};
+use ert_locks::DeskName;
 use ert_ops::Op;
-use ert_script::convert_time;
-use ert_service::Service;
+use ert_script::{LabelMap, NO_TIMER, do_op, label_asked};
 use ert_transcript::Reply;
 use std::sync::Wait;
 
@@ -22,59 +19,45 @@ use std::sync::Wait;
 ///
 /// After want of memory the timer of a start was started, and its label isn't bound; of another op nothing was
 /// done.
-pub(crate) fn do_op<L: DeskName, R: Wait>(
-    rt: &R,
-    service: &Service<L>,
-    seat: CallerSeat<L>,
-    known: &Names,
-    own: &mut Names,
+#[tactic(auto, using(crate::proofs::CallsMade::own_done, crate::proofs::CallsMade::own_failed, crate::proofs::CallsMade::own_unbound))]
+pub(crate) fn do_one<L: DeskName, R: Wait>(
+    member: &mut Member<L, R>,
+    known: &LabelMap,
+    own: &mut LabelMap,
     op: &Op,
-) -> (CallerSeat<L>, Result<Reply, NoMemory>)
+) -> Result<Reply, NoMemory>
     requires callers { IsCallersOp op.now }
     requires range { IsOpInRange L.settings op.now }
-    ensures number { result.0.number ≡ seat.number }
-    ensures answer { AnswersOwn L.settings seat.number known.now own.old op.now result.1 own.new (front_of seat.pass) (front_of result.0.pass) }
+    ensures number { member.new.seat.number ≡ member.old.seat.number }
+    ensures answer { AnswersOwn L.settings member.old.seat.number known.now own.old op.now result own.new
+        (front_of member.old.seat.pass) (front_of member.new.seat.pass) }
 {
-    match op {
-        Op::Start { .. }
-        | Op::SendAfter { .. }
-        | Op::Cancel { .. }
-        | Op::CancelQuiet { .. }
-        | Op::Read { .. }
-        | Op::CancelAsync { .. }
-        | Op::ReadAsync { .. } => timer_op(rt, service, seat, known, own, op),
-        _ => plain_op(rt, service, seat, op),
+    let timer = timer_in(known, own, op);
+    match do_op(member, op, timer) {
+        Ok(reply) => match own.bind_started(op, &reply) {
+            Ok(()) => Ok(reply),
+            Err(e) => Err(e),
+        },
+        Err(e) => Err(e),
     }
 }
 
-/// Does an op that names no timer.
-fn plain_op<L: DeskName, R: Wait>(
-    rt: &R,
-    service: &Service<L>,
-    seat: CallerSeat<L>,
-    op: &Op,
-) -> (CallerSeat<L>, Result<Reply, NoMemory>)
-    requires callers { IsCallersOp op.now }
-    requires range { IsOpInRange L.settings op.now }
-    requires plain { NamesNone op.now }
-    ensures number { result.0.number ≡ seat.number }
-    ensures answer { Answers L.settings seat.number op.now result.1 (front_of seat.pass) (front_of result.0.pass) }
+/// The timer that an op cancels, reads or asks for: by the labels that were bound before the list, and else by its
+/// own. A label that isn't bound stands for a reference that never named a timer.
+fn timer_in(known: &LabelMap, own: &LabelMap, op: &Op) -> TimerRef
+    ensures { IsTimerOf (known.now ++ own.now) op.now result }
 {
-    match *op {
-        Op::Tick { mono, sys } => tick(rt, service, seat, mono, sys),
-        Op::Check { mono, sys } => check(rt, service, seat, mono, sys),
-        Op::Finalize { mono, sys } => finalize(rt, service, seat, mono, sys),
-        Op::Notify { process } => notify(rt, service, seat, process),
-        Op::Time => time(service, seat),
-        Op::System => system(service, seat),
-        Op::Offset => offset(service, seat),
-        Op::Info => info(service, seat),
-        Op::Convert { time, from, to } => (seat, Ok(convert_time(time, from, to))),
-        Op::Receive { process } => receive(rt, service, seat, process),
-        Op::Exit { process } => exit(rt, service, seat, process),
-        Op::Alive { process } => alive(service, seat, process),
-        Op::Monitor { process } => monitor(rt, service, seat, process),
-        Op::Demonitor { process, monitor } => demonitor(rt, service, seat, process, monitor),
-        _ => unreachable!(),
+    match label_asked(op) {
+        Some(label) => timer_of(known, own, label),
+        None => NO_TIMER,
+    }
+}
+
+fn timer_of(known: &LabelMap, own: &LabelMap, label: u32) -> TimerRef
+    ensures { ref_of (known.now ++ own.now) label ≡ result }
+{
+    match known.find(label) {
+        Some(timer) => timer,
+        None => own.reference(label),
     }
 }

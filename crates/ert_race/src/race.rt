@@ -12,15 +12,15 @@ ghost use Rattle.ert_world.specs.Worlds.{AreFit, seen};
 ghost use Rattle.ert_service.specs.Dividing.{AreSeated};
 ghost use Rattle.ert_table.specs.Desks.{front_of};
 
+use crate::gates::Gate;
 use crate::list::ListDone;
 use crate::round::last_round;
 use crate::workers::{do_lists, make_turns};
 use ert_defs::NoMemory;
-use ert_lines::Names;
 use ert_locks::{CallerSeat, DeskName, SchedSeat};
 use ert_ops::RaceLists;
-use ert_script::history_stands;
-use ert_service::{Gate, Opened, Service};
+use ert_script::{LabelMap, history_stands};
+use ert_service::{Opened, Service};
 use ert_world::{Parts, World};
 use std::alloc::Global;
 use std::marker::Brand;
@@ -48,7 +48,7 @@ pub fn race_on<R: Threads + Wait + Sync, G: Gate + Sync>(
     rt: &R,
     alloc: Global,
     world: World,
-    known: &Names,
+    known: &LabelMap,
     race: &RaceLists,
     gate: &G,
 ) -> Result<RaceEnd, NoMemory>
@@ -70,7 +70,7 @@ fn run_at_once<L: DeskName + Send + Sync, R: Threads + Wait + Sync, G: Gate + Sy
     rt: &R,
     alloc: Global,
     parts: Parts,
-    known: &Names,
+    known: &LabelMap,
     race: &RaceLists,
     gate: &G,
 ) -> Result<RaceEnd, NoMemory>
@@ -101,7 +101,7 @@ fn work_at_once<L: DeskName + Send + Sync, R: Threads + Wait + Sync, G: Gate + S
     alloc: Global,
     service: &Service<L>,
     seats: (Vec<SchedSeat<L>>, Vec<CallerSeat<L>>),
-    known: &Names,
+    known: &LabelMap,
     race: &RaceLists,
     gate: &G,
 ) -> (

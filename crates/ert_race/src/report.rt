@@ -1,32 +1,36 @@
 //! The text of a report behind the lines of the ops.
 ghost use Rattle.std.specs.Prelude.{◌≡◌, ◌++◌, OnOk, string_bytes};
-ghost use Rattle.ert_outcome.specs.Reports.{all_labels, heading, lines_by, lists_text};
+ghost use Rattle.ert_race.specs.Reports.{all_labels, heading, lines_by, lists_text};
 ghost use Rattle.ert_race.specs.Lists.{dids_of};
 
 use crate::list::ListDone;
 use ert_defs::NoMemory;
-use ert_lines::{Names, write_line};
+use ert_script::{LabelMap, write_line};
 use ert_transcript::Reply;
 use std::alloc::AllocError;
 use std::fmt::Write;
 
 /// Binds the labels that the lists bound, list after list, behind those of the ops.
-pub fn name_all(names: &mut Names, lists: &[ListDone]) -> Result<(), NoMemory>
-    ensures { OnOk result (names.new ≡ all_labels names.old (dids_of lists.now)) }
+pub fn name_all(labels: &mut LabelMap, lists: &[ListDone]) -> Result<(), NoMemory>
+    ensures { OnOk result (labels.new ≡ all_labels labels.old (dids_of lists.now)) }
 {
     for list in lists {
-        names.bind_all(list.own.pairs())?;
+        labels.bind_all(list.own.pairs())?;
     }
     Ok(())
 }
 
 /// Appends the lines of all lists, each under its heading.
-pub fn write_lists(page: &mut String, lists: &[ListDone], names: &Names) -> Result<(), AllocError>
-    ensures { OnOk result (string_bytes page.new ≡ string_bytes page.old ++ lists_text names.now 0 (dids_of lists.now)) }
+pub fn write_lists(
+    page: &mut String,
+    lists: &[ListDone],
+    labels: &LabelMap,
+) -> Result<(), AllocError>
+    ensures { OnOk result (string_bytes page.new ≡ string_bytes page.old ++ lists_text labels.now 0 (dids_of lists.now)) }
 {
     for (number, list) in lists.iter().enumerate() {
         write_heading(page, number)?;
-        write_replies(page, &list.replies, names)?;
+        write_replies(page, &list.replies, labels)?;
     }
     Ok(())
 }
@@ -43,11 +47,11 @@ fn write_heading(page: &mut String, number: usize) -> Result<(), AllocError>
 }
 
 /// Appends the lines of replies.
-fn write_replies(page: &mut String, replies: &[Reply], names: &Names) -> Result<(), AllocError>
-    ensures { OnOk result (string_bytes page.new ≡ string_bytes page.old ++ lines_by names.now replies.now) }
+fn write_replies(page: &mut String, replies: &[Reply], labels: &LabelMap) -> Result<(), AllocError>
+    ensures { OnOk result (string_bytes page.new ≡ string_bytes page.old ++ lines_by labels.now replies.now) }
 {
     for reply in replies {
-        write_line(page, reply, names)?;
+        write_line(page, reply, labels)?;
     }
     Ok(())
 }

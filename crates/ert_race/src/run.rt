@@ -9,14 +9,13 @@ ghost use Rattle.ert_race.specs.Lists.{dids_of};
 ghost use Rattle.ert_race.specs.Written.{RacesOn, StopsRace, report_behind};
 ghost use Rattle.ert_world.specs.Counted.{AreTidy};
 
+use crate::gates::Gate;
 use crate::race::{RaceEnd, race_on};
 use crate::report::{name_all, write_lists};
 use ert_defs::{NoMemory, Settings};
 use ert_io::Sink;
-use ert_lines::{Names, RunErr, write_end, write_page};
 use ert_ops::{Op, RaceLists};
-use ert_script::{history_stands, run_ops, write_settled};
-use ert_service::Gate;
+use ert_script::{LabelMap, RunErr, history_stands, run_ops, write_end, write_page, write_settled};
 use ert_table::{Desk, Pass};
 use ert_world::World;
 use std::alloc::Global;
@@ -50,13 +49,13 @@ pub fn run_race<R: Threads + Wait + Sync, G: Gate + Sync, O: Sink>(
     let Ok(mut world) = World::open(alloc, settings) else {
         return Err(RunErr::NoMemory);
     };
-    let mut names = Names::new(alloc);
-    run_ops(alloc, &mut world, &mut names, ops, output)?;
-    let Ok(end) = race_on(rt, alloc, world, &names, race, gate) else {
+    let mut labels = LabelMap::new(alloc);
+    run_ops(alloc, &mut world, &mut labels, ops, output)?;
+    let Ok(end) = race_on(rt, alloc, world, &labels, race, gate) else {
         return Err(RunErr::NoMemory);
     };
     history_stands(&end.world);
-    let Ok(mut page) = report_page(alloc, names, &end) else {
+    let Ok(mut page) = report_page(alloc, labels, &end) else {
         return Err(RunErr::NoMemory);
     };
     write_page(output, &mut page)?;
@@ -64,13 +63,13 @@ pub fn run_race<R: Threads + Wait + Sync, G: Gate + Sync, O: Sink>(
 }
 
 /// The report behind the lines of the ops, which bound these labels.
-fn report_page(alloc: Global, mut names: Names, end: &RaceEnd) -> Result<String, NoMemory>
+fn report_page(alloc: Global, mut labels: LabelMap, end: &RaceEnd) -> Result<String, NoMemory>
     requires { AreTidy end.now.world }
-    ensures { IfOk result (λ page. string_bytes page ≡ report_behind end.now.world names (dids_of end.now.lists.items)) }
+    ensures { IfOk result (λ page. string_bytes page ≡ report_behind end.now.world labels (dids_of end.now.lists.items)) }
 {
-    name_all(&mut names, &end.lists)?;
+    name_all(&mut labels, &end.lists)?;
     let mut page = String::new(alloc);
-    write_lists(&mut page, &end.lists, &names)?;
+    write_lists(&mut page, &end.lists, &labels)?;
     write_settled(&mut page, &end.world.counts())?;
     write_end(&mut page, end.world.published())?;
     Ok(page)

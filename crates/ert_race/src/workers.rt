@@ -6,13 +6,15 @@ ghost use Rattle.ert_race.specs.Worked.{list_at, list_ok, turns_ok, CallerWorked
 ghost use Rattle.ert_service.specs.Dividing.{AreSeated};
 ghost use Rattle.ert_table.specs.Desks.{front_of};
 
+use crate::gates::Gate;
 use crate::list::{ListDone, do_list};
+use crate::member::Member;
 use crate::turns::do_turns;
 use ert_defs::NoMemory;
-use ert_lines::Names;
 use ert_locks::{CallerSeat, DeskName, SchedSeat};
 use ert_ops::{Op, RaceLists};
-use ert_service::{Gate, Service};
+use ert_script::LabelMap;
+use ert_service::Service;
 use std::alloc::Global;
 use std::sync::Wait;
 use std::thread;
@@ -51,7 +53,7 @@ fn work_as_caller<L: DeskName, R: Wait, G: Gate>(
     service: &Service<L>,
     seat: CallerSeat<L>,
     race: &RaceLists,
-    known: &Names,
+    known: &LabelMap,
     gate: &G,
 ) -> CallerDone<L>
     requires callers { L.settings.callers ≡ suc (length race.now.callers.items) }
@@ -60,8 +62,12 @@ fn work_as_caller<L: DeskName, R: Wait, G: Gate>(
         seat.number (front_of seat.pass) result.seat.number (front_of result.seat.pass) result.done }
 {
     let ops = list_for(race, seat.number);
-    let (seat, done) = do_list(rt, alloc, service, seat, known, ops, gate);
-    CallerDone { seat, done }
+    let mut member = Member { rt, service, seat };
+    let done = do_list(alloc, &mut member, known, ops, gate);
+    CallerDone {
+        seat: member.seat,
+        done,
+    }
 }
 
 /// Makes the turns of a scheduler. The workers of schedulers count from 1.
@@ -75,7 +81,8 @@ fn work_as_sched<L: DeskName, R: Wait, G: Gate>(
     ensures { SchedWorked L.settings turns seat.part.wheel (front_of seat.pass) result.seat.part.wheel (front_of result.seat.pass) result.done }
 {
     let worker = seat.part.wheel + 1;
-    let (seat, done) = do_turns(rt, service, seat, turns, worker, gate);
+    let mut seat = seat;
+    let done = do_turns(rt, service, &mut seat, turns, worker, gate);
     SchedDone { seat, done }
 }
 
@@ -86,7 +93,7 @@ fn run_callers<L: DeskName + Send + Sync, R: Threads + Wait + Sync, G: Gate + Sy
     service: &Service<L>,
     callers: Vec<CallerSeat<L>>,
     race: &RaceLists,
-    known: &Names,
+    known: &LabelMap,
     gate: &G,
 ) -> Result<Vec<CallerDone<L>>, NoMemory>
     requires callers { L.settings.callers ≡ suc (length race.now.callers.items) }
@@ -168,7 +175,7 @@ pub(crate) fn do_lists<L: DeskName + Send + Sync, R: Threads + Wait + Sync, G: G
     service: &Service<L>,
     callers: Vec<CallerSeat<L>>,
     race: &RaceLists,
-    known: &Names,
+    known: &LabelMap,
     gate: &G,
 ) -> Result<(Vec<CallerSeat<L>>, Vec<ListDone>), NoMemory>
     requires callers { L.settings.callers ≡ suc (length race.now.callers.items) }

@@ -4,15 +4,15 @@ use Rattle.std.proofs.Common.{◌≡◌, ℕ, ◌+◌, ◌<◌, List, [], ◌∷
 use Rattle.std.specs.Prelude.{Result, Ok, Err, OnErr, IfErr, ◌≤◌}
 use Rattle.std.proofs.Math.Seq.{drop-cons}
 use Rattle.std.proofs.lemmas.List.{take_more, take_all}
-use Rattle.ert_answers.specs.Ways.{Way, alone}
+use Rattle.ert_effects.specs.Ways.{Way, alone}
 use Rattle.ert_io.proofs.Takes.{took-took, took-none, fits_after}
 use Rattle.ert_io.specs.Known.{HasRoom}
 use Rattle.ert_io.specs.Told.{Told, told, took, room_after, TakesFront}
 use Rattle.ert_defs.specs.declared.entry.Entry.{Entry}
 use Rattle.ert_defs.specs.declared.settings.Settings.{Settings}
-use Rattle.ert_lines.specs.Written.{Moves}
-use Rattle.ert_lines.specs.declared.output.RunErr.{RunErr}
-use Rattle.ert_lines.specs.declared.output.RunErr.TheVariants.{NoMemory}
+use Rattle.ert_script.specs.Pages.{Moves}
+use Rattle.ert_script.specs.declared.output.RunErr.{RunErr}
+use Rattle.ert_script.specs.declared.output.RunErr.TheVariants.{NoMemory}
 use Rattle.ert_ops.specs.Ranges.{IsOpInRange, IsInRange}
 use Rattle.ert_ops.specs.declared.op.Op.{Op}
 use Rattle.ert_world.specs.Worlds.{Seen, StandsFor}
@@ -160,24 +160,24 @@ goes_on_at start v w ls before after list i d old now new page rest r below far 
     })
 
 -- a world that stopped as some ops had left it
-stops_here : (v : Seen) (rest : List Op) → StopsAt v rest v
-stops_here v [] = refl
-stops_here v (op ∷ rest) = inl refl
+stops_here : (v : Seen) (ls : Labels) (rest : List Op) → StopsAt v ls rest v
+stops_here v ls [] = refl
+stops_here v ls (op ∷ rest) = inl refl
 
 -- a world that had no memory for the op at an index
-stops_in : (v w : Seen) (list : List Op) (i : ℕ) (d : Op) → i < length list → Fails v (get_or list i d) w → StopsAt v (drop i list) w
-stops_in v w list i d below failed = subst (λ (rest : List Op). StopsAt v rest w) (sym (drop-cons list i d below)) (inr failed)
+stops_in : (v w : Seen) (ls : Labels) (list : List Op) (i : ℕ) (d : Op) → i < length list → Fails v ls (get_or list i d) w → StopsAt v ls (drop i list) w
+stops_in v w ls list i d below failed = subst (λ (rest : List Op). StopsAt v ls rest w) (sym (drop-cons list i d below)) (inr failed)
 
 -- there was no memory for one more op
 pub fails_at : (start v w : Seen) (ls after : Labels) (list : List Op) (i : ℕ) (d : Op) (old now : Told) (page : List ℕ) → i < length list
-    → IsSoFar start ls (take i list) v after old now page → Fails v (get_or list i d) w → WritesSome start ls list w after NoMemory old now
+    → IsSoFar start ls (take i list) v after old now page → Fails v after (get_or list i d) w → WritesSome start ls list w after NoMemory old now
 fails_at start v w ls after list i d old now page below far failed = record {
   done = i;
   replies = far.replies;
   reached = v;
   runs = far.runs;
   stands = far.stands;
-  stops = stops_in v w list i d below failed;
+  stops = stops_in v w after list i d below failed;
   between = λ fault. absurd cc;
   writes = record { front = far.front; others = page; took = far.took; whole = far.whole };
 }
@@ -197,7 +197,7 @@ breaks_at start v w ls before after list i d old now new page r why below far do
       reached = w;
       runs = all.runs;
       stands = stands;
-      stops = stops_here w (drop (i + 1) list);
+      stops = stops_here w after (drop (i + 1) list);
       between = λ fault. refl;
       writes = record { front = all.front; others = written.others; took = all.took; whole = all.whole };
     }
@@ -224,7 +224,7 @@ breaks_last start v ls after list i old now new page why far w = record {
   reached = v;
   runs = far.runs;
   stands = far.stands;
-  stops = stops_here v (drop i list);
+  stops = stops_here v after (drop i list);
   between = λ fault. refl;
   writes = record {
     front = far.front ++ w.front;
@@ -285,6 +285,6 @@ done_more start v w ls before after list i d r below far done stands =
 
 -- and where the world has stopped in one more
 pub some_done : (start v w : Seen) (ls after : Labels) (list : List Op) (i : ℕ) (d : Op) → i < length list → RunsAll start ls (take i list) v after
-    → Fails v (get_or list i d) w → RunsSome start ls list w after
+    → Fails v after (get_or list i d) w → RunsSome start ls list w after
 some_done start v w ls after list i d below far failed =
-    record { done = i; replies = far.replies; reached = v; runs = far.runs; stands = far.stands; stops = stops_in v w list i d below failed }
+    record { done = i; replies = far.replies; reached = v; runs = far.runs; stands = far.stands; stops = stops_in v w after list i d below failed }

@@ -3,8 +3,8 @@
 use Rattle.std.specs.Prelude.{◌≡◌, ◌⊎◌, ℕ, List, [], ◌∷◌, length, take, drop, Option}
 use Rattle.ert_io.specs.Known.{HasRoom}
 use Rattle.ert_io.specs.Told.{Told, took, TakesFront}
-use Rattle.ert_lines.specs.declared.output.RunErr.{RunErr}
-use Rattle.ert_lines.specs.declared.output.RunErr.TheVariants.{WriteFault}
+use Rattle.ert_script.specs.declared.output.RunErr.{RunErr}
+use Rattle.ert_script.specs.declared.output.RunErr.TheVariants.{WriteFault}
 use Rattle.ert_ops.specs.declared.op.Op.{Op}
 use Rattle.ert_world.specs.Worlds.{Seen, StandsFor}
 use Rattle.ert_script.specs.Scripts.{Runs, Fails}
@@ -26,9 +26,9 @@ pub record WritesRun (old : Seen) (ls : Labels) (ops : List Op) (new : Seen) (af
   pub writes : told_new ≡ took told (lines_of ls ops replies)
 
 -- the world is as some ops left it, or it had no memory for the first of those that were to come
-abbrev pub StopsAt : Seen → List Op → Seen → Type 0
-StopsAt reached [] new = new ≡ reached
-StopsAt reached (op ∷ rest) new = (new ≡ reached) ⊎ Fails reached op new
+abbrev pub StopsAt : Seen → Labels → List Op → Seen → Type 0
+StopsAt reached ls [] new = new ≡ reached
+StopsAt reached ls (op ∷ rest) new = (new ≡ reached) ⊎ Fails reached ls op new
 
 -- the world did some first ops of a list, came to a service that stands for its history, and stopped there; the
 -- labels are as those ops left them
@@ -38,7 +38,7 @@ pub record RunsSome (old : Seen) (ls : Labels) (ops : List Op) (new : Seen) (aft
   pub reached : Seen
   pub runs : Runs old ls (take done ops) replies reached after
   pub stands : StandsFor reached.settings reached.history reached
-  pub stops : StopsAt reached (drop done ops) new
+  pub stops : StopsAt reached after (drop done ops) new
 
 -- the world did some first ops of a list, came to a service that stands for its history, and stopped there; the
 -- labels are as those ops left them, and the first part of their lines was written. Where the output failed, no op
@@ -49,7 +49,7 @@ pub record WritesSome (old : Seen) (ls : Labels) (ops : List Op) (new : Seen) (a
   pub reached : Seen
   pub runs : Runs old ls (take done ops) replies reached after
   pub stands : StandsFor reached.settings reached.history reached
-  pub stops : StopsAt reached (drop done ops) new
+  pub stops : StopsAt reached after (drop done ops) new
   pub between : why ≡ WriteFault → new ≡ reached
   pub writes : TakesFront told told_new (lines_of ls (take done ops) replies)
 

@@ -5,32 +5,33 @@ ghost use Rattle.ert_ops.specs.Ranges.{IsInRange};
 ghost use Rattle.ert_world.specs.Worlds.{StandsFor};
 ghost use Rattle.ert_script.specs.Written.{RunsAll, RunsSome, WritesRun, WritesSome, LinesFit};
 
+use crate::label_map::LabelMap;
+use crate::output::{RunErr, put, write_page};
 use crate::reply::reply_op;
 use ert_defs::NoMemory;
 use ert_io::Sink;
-use ert_lines::{Names, RunErr, put, write_page};
 use ert_ops::Op;
 use ert_world::World;
 use std::alloc::Global;
 
 /// Does the ops one after the other on a world, and writes one line for each. A sink that tells its room has
-/// room for all lines. `names` has the labels that were bound, so a list goes on where another has ended.
+/// room for all lines. `labels` has the labels that were bound, so a list goes on where another has ended.
 ///
 /// Where the output fails, or memory, the lines of some first ops may be there, in part. Where memory fails,
 /// a part of the next op may have been done.
 pub fn run_ops<K: Sink>(
     alloc: Global,
     world: &mut World,
-    names: &mut Names,
+    labels: &mut LabelMap,
     ops: &[Op],
     sink: &mut K,
 ) -> Result<(), RunErr>
-    requires fits { LinesFit world.old names.old ops.now (K.room sink.old) }
+    requires fits { LinesFit world.old labels.old ops.now (K.room sink.old) }
     requires ranges { IsInRange world.old.settings ops.now }
     requires lone { world.old.next ≡ 1 }
-    ensures ok { OnOk result (WritesRun world.old names.old ops.now world.new names.new
+    ensures ok { OnOk result (WritesRun world.old labels.old ops.now world.new labels.new
         (told (K.taken sink.old) (K.room sink.old)) (told (K.taken sink.new) (K.room sink.new))) }
-    ensures err { IfErr result (λ why. WritesSome world.old names.old ops.now world.new names.new why
+    ensures err { IfErr result (λ why. WritesSome world.old labels.old ops.now world.new labels.new why
         (told (K.taken sink.old) (K.room sink.old)) (told (K.taken sink.new) (K.room sink.new))) }
     ensures later { K.faults sink.old ≤ K.faults sink.new }
     ensures cause { IsErrOf result RunErr.WriteFault → Rose (K.faults sink.old) (K.faults sink.new) }
@@ -38,28 +39,28 @@ pub fn run_ops<K: Sink>(
     history_stands(world);
     let mut page = String::new(alloc);
     for op in ops {
-        let Ok(reply) = reply_op(world, names, op) else {
+        let Ok(reply) = reply_op(world, labels, op) else {
             return Err(RunErr::NoMemory);
         };
         history_stands(world);
-        put(sink, &mut page, &reply, names)?;
+        put(sink, &mut page, &reply, labels)?;
     }
     write_page(sink, &mut page)
 }
 
-/// Does the ops one after the other on a world, and writes nothing. `names` has the labels that were bound, so a
+/// Does the ops one after the other on a world, and writes nothing. `labels` has the labels that were bound, so a
 /// list goes on where another has ended.
 ///
 /// Where memory fails, some first ops were done, and maybe a part of the next.
-pub fn do_ops(world: &mut World, names: &mut Names, ops: &[Op]) -> Result<(), NoMemory>
+pub fn do_ops(world: &mut World, labels: &mut LabelMap, ops: &[Op]) -> Result<(), NoMemory>
     requires ranges { IsInRange world.old.settings ops.now }
     requires lone { world.old.next ≡ 1 }
-    ensures ok { OnOk result (RunsAll world.old names.old ops.now world.new names.new) }
-    ensures err { OnErr result (RunsSome world.old names.old ops.now world.new names.new) }
+    ensures ok { OnOk result (RunsAll world.old labels.old ops.now world.new labels.new) }
+    ensures err { OnErr result (RunsSome world.old labels.old ops.now world.new labels.new) }
 {
     history_stands(world);
     for op in ops {
-        reply_op(world, names, op)?;
+        reply_op(world, labels, op)?;
         history_stands(world);
     }
     Ok(())

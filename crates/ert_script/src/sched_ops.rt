@@ -1,7 +1,8 @@
 //! The ops of schedulers. Without memory each leaves what it did before.
 ghost use Rattle.std.specs.Prelude.{◌≡◌, ◌<◌, IfOk, OnErr};
 ghost use Rattle.ert_ops.specs.declared.op.Op.{Op};
-ghost use Rattle.ert_script.specs.Scripts.{Does, Fails};
+ghost use Rattle.ert_script.specs.Scripts.{DoesWith, Fails};
+ghost use Rattle.ert_transcript.specs.Labels.{Labels};
 
 use ert_defs::NoMemory;
 use ert_transcript::Reply;
@@ -11,8 +12,8 @@ use ert_world::World;
 pub fn serve(world: &mut World, sched: u32) -> Result<Reply, NoMemory>
     requires sched { sched < world.old.settings.schedulers }
     requires lone { world.old.next ≡ 1 }
-    ensures ok { IfOk result (λ reply. Does world.old (Op.Serve sched) reply world.new) }
-    ensures err { OnErr result (Fails world.old (Op.Serve sched) world.new) }
+    ensures ok { (ls : Labels) → IfOk result (λ reply. DoesWith world.old ls (Op.Serve sched) reply world.new ls) }
+    ensures err { (ls : Labels) → OnErr result (Fails world.old ls (Op.Serve sched) world.new) }
 {
     match world.serve(sched) {
         Ok(served) => Ok(Reply::Serve { served }),
@@ -24,8 +25,8 @@ pub fn serve(world: &mut World, sched: u32) -> Result<Reply, NoMemory>
 pub fn advance(world: &mut World, sched: u32) -> Result<Reply, NoMemory>
     requires sched { sched < world.old.settings.schedulers }
     requires lone { world.old.next ≡ 1 }
-    ensures ok { IfOk result (λ reply. Does world.old (Op.Advance sched) reply world.new) }
-    ensures err { OnErr result (Fails world.old (Op.Advance sched) world.new) }
+    ensures ok { (ls : Labels) → IfOk result (λ reply. DoesWith world.old ls (Op.Advance sched) reply world.new ls) }
+    ensures err { (ls : Labels) → OnErr result (Fails world.old ls (Op.Advance sched) world.new) }
 {
     match world.advance(sched) {
         Ok((to, fired)) => Ok(Reply::Advance { to, fired }),
@@ -37,8 +38,8 @@ pub fn advance(world: &mut World, sched: u32) -> Result<Reply, NoMemory>
 pub fn deliver(world: &mut World, sched: u32) -> Result<Reply, NoMemory>
     requires sched { sched < world.old.settings.schedulers }
     requires lone { world.old.next ≡ 1 }
-    ensures ok { IfOk result (λ reply. Does world.old (Op.Deliver sched) reply world.new) }
-    ensures err { OnErr result (Fails world.old (Op.Deliver sched) world.new) }
+    ensures ok { (ls : Labels) → IfOk result (λ reply. DoesWith world.old ls (Op.Deliver sched) reply world.new ls) }
+    ensures err { (ls : Labels) → OnErr result (Fails world.old ls (Op.Deliver sched) world.new) }
 {
     match world.deliver(sched) {
         Ok((put, dropped)) => Ok(Reply::Deliver { put, dropped }),
@@ -50,8 +51,8 @@ pub fn deliver(world: &mut World, sched: u32) -> Result<Reply, NoMemory>
 pub fn turn(world: &mut World, sched: u32) -> Result<Reply, NoMemory>
     requires sched { sched < world.old.settings.schedulers }
     requires lone { world.old.next ≡ 1 }
-    ensures ok { IfOk result (λ reply. Does world.old (Op.Turn sched) reply world.new) }
-    ensures err { OnErr result (Fails world.old (Op.Turn sched) world.new) }
+    ensures ok { (ls : Labels) → IfOk result (λ reply. DoesWith world.old ls (Op.Turn sched) reply world.new ls) }
+    ensures err { (ls : Labels) → OnErr result (Fails world.old ls (Op.Turn sched) world.new) }
 {
     match world.turn(sched) {
         Ok(turned) => Ok(Reply::Turn { turned }),

@@ -5,7 +5,7 @@ use Rattle.std.proofs.Common.{◌≡◌, ◌≢◌, ℕ, ℤ, pos, ◌≤◌, �
 use Rattle.std.proofs.lemmas.Int.{ints}
 use Rattle.std.proofs.lemmas.Bool.Decides.{nat_tests}
 use Rattle.std.proofs.lemmas.List.Elements.{All-head, All-tail}
-use Rattle.ert_answers.specs.WheelCalls.{Try, expires_by, expiry_entries, hits, HasAdvanced}
+use Rattle.ert_effects.specs.WheelCalls.{Try, expires_by, expiry_entries, hits, HasAdvanced}
 use Rattle.ert_defs.proofs.FiredTimers.{cond_same, same_timer_self, same_timer-false}
 use Rattle.ert_defs.proofs.Lists.{pairs_head, pairs_tail}
 use Rattle.ert_defs.proofs.Rows.{Differ}

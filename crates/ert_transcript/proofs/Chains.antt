@@ -1,10 +1,10 @@
 -- The ops of several steps: serving, advancing, delivering, turns and exits print the same.
 
 use Rattle.std.proofs.Common.{◌≡◌, ℕ, zero, suc, Bool, true, false, List, [], ◌∷◌, ◌++◌, None, Ok, refl, sym, ap, ◌∙◌, subst}
-use Rattle.ert_answers.specs.Chains.{Serves, HasDelivered, HasTurned, Exits, SweepsWheels, puts, drops}
-use Rattle.ert_answers.specs.Ways.{alone}
-use Rattle.ert_answers.specs.WheelCalls.{HasAdvanced, IsSwept}
-use Rattle.ert_answers.specs.declared.answers.Turned.{Turned}
+use Rattle.ert_effects.specs.Chains.{Serves, HasDelivered, HasTurned, Exits, SweepsWheels, puts, drops}
+use Rattle.ert_effects.specs.Ways.{alone}
+use Rattle.ert_effects.specs.WheelCalls.{HasAdvanced, IsSwept}
+use Rattle.ert_effects.specs.declared.answers.Turned.{Turned}
 use Rattle.ert_defs.proofs.Runs.{run-append, state-append}
 use Rattle.ert_defs.specs.Entries.{mark_entry}
 use Rattle.ert_defs.specs.Legal.{LegalFrom}

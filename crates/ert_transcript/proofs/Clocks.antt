@@ -4,7 +4,7 @@ use Rattle.std.proofs.Common.{◌≡◌, ℕ, ℤ, ◌≤ℤ◌, ◌<ℤ◌, Boo
 use Rattle.std.proofs.lemmas.Int.{ints}
 use Rattle.std.specs.Bool.{Decides}
 use Rattle.std.proofs.lemmas.Bool.Decides.{Decides-and, Decides-like}
-use Rattle.ert_answers.specs.ClockCalls.{Moves, IsTooWide}
+use Rattle.ert_effects.specs.ClockCalls.{Moves, IsTooWide}
 use Rattle.ert_clock.specs.Ticks.{tick_entries, shift_entries, offset_of, IsWide, state_by}
 use Rattle.ert_clock.specs.declared.clock.Moved.{Moved}
 use Rattle.ert_defs.specs.Clocks.{Clock, face}

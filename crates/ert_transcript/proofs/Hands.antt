@@ -1,11 +1,11 @@
 -- Delivering: both services put and drop the same messages, in the order of expiry.
 
 use Rattle.std.proofs.Common.{◌≡◌, ℕ, Bool, true, false, cond, ◌&&◌, ◌||◌, nat_eq, List, [], ◌∷◌, ◌++◌, Some, None, refl, sym, ap, ◌∙◌, subst, eq-eqb, append_assoc, append-nil}
-use Rattle.ert_answers.specs.Chains.{HandsMany, HasDelivered, puts, drops}
-use Rattle.ert_answers.specs.MailCalls.{handed_entries}
-use Rattle.ert_answers.specs.Ways.{alone}
-use Rattle.ert_answers.specs.declared.answers.Handed.{Handed}
-use Rattle.ert_answers.specs.declared.answers.Handed.TheVariants.{Put, Dropped}
+use Rattle.ert_effects.specs.Chains.{HandsMany, HasDelivered, puts, drops}
+use Rattle.ert_effects.specs.MailCalls.{handed_entries}
+use Rattle.ert_effects.specs.Ways.{alone}
+use Rattle.ert_effects.specs.declared.answers.Handed.{Handed}
+use Rattle.ert_effects.specs.declared.answers.Handed.TheVariants.{Put, Dropped}
 use Rattle.ert_defs.proofs.FiredTimers.{cond_same}
 use Rattle.ert_defs.proofs.Runs.{run-append, state-append}
 use Rattle.ert_defs.specs.Actors.{has_actor}

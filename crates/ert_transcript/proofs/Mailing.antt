@@ -2,17 +2,18 @@
 
 use Rattle.std.proofs.Common.{◌≡◌, ◌⊎◌, ℕ, ℤ, ◌<◌, ◌≤◌, Bool, true, false, cond, not, ◌&&◌, nat_lt, nat_le, List, [], ◌∷◌, length, Option, Some, None, refl, sym, ap, ◌∙◌, subst, inl, inr, arith}
 use Rattle.std.proofs.lemmas.Bool.Decides.{nat_tests}
-use Rattle.ert_answers.specs.MailCalls.{HasTold, IsMonitored, AreMonitorsFull}
-use Rattle.ert_answers.specs.RequestCalls.{inbox_for}
+use Rattle.ert_effects.specs.MailCalls.{HasTold, IsMonitored, AreMonitorsFull}
+use Rattle.ert_effects.specs.RequestCalls.{inbox_for}
 use Rattle.ert_defs.specs.Clocks.{Clock}
 use Rattle.ert_defs.specs.Entries.{off_entry, mark_entry, ask_entry, take_entry, watch_entry, unwatch_entry, tell_entry}
 use Rattle.ert_defs.specs.Legal.{LegalFrom, stands_in}
-use Rattle.ert_defs.specs.Mails.{Monitor, first_of, changes_of}
+use Rattle.ert_defs.specs.Mails.{first_of, changes_of}
 use Rattle.ert_defs.specs.States.{State, next}
 use Rattle.ert_defs.specs.declared.entry.Actor.TheVariants.{Inbox, MailOf, Caller}
 use Rattle.ert_defs.specs.declared.entry.Entry.{Entry}
 use Rattle.ert_defs.specs.declared.mail.Mail.{Mail}
 use Rattle.ert_defs.specs.declared.mail.Mail.TheVariants.{Timeout, Bare, CancelDone, ReadDone, Change}
+use Rattle.ert_defs.specs.declared.mail.Monitor.{Monitor}
 use Rattle.ert_defs.specs.declared.mail.Request.{Request}
 use Rattle.ert_defs.specs.declared.settings.OffsetState.{OffsetState}
 use Rattle.ert_defs.specs.declared.settings.Settings.{Settings}

@@ -2,8 +2,8 @@
 
 use Rattle.std.proofs.Common.{◌≡◌, ℕ, zero, suc, ◌≤◌, Bool, true, false, cond, nat_lt, List, [], ◌++◌, Ok, refl, sym, ap, ◌∙◌, subst, arith, append-nil, append_assoc}
 use Rattle.std.proofs.lemmas.Bool.Decides.{nat_tests}
-use Rattle.ert_answers.specs.Chains.{Serves, ServesMany, ServesAll}
-use Rattle.ert_answers.specs.Ways.{Then, alone}
+use Rattle.ert_effects.specs.Chains.{Serves, ServesMany, ServesAll}
+use Rattle.ert_effects.specs.Ways.{Then, alone}
 use Rattle.ert_defs.proofs.Runs.{run-append, state-append, legal_first, legal_then}
 use Rattle.ert_defs.specs.Legal.{LegalFrom}
 use Rattle.ert_defs.specs.States.{State, run, state}

@@ -17,7 +17,7 @@ use Rattle.ert_defs.specs.declared.entry.Entry.{Entry}
 use Rattle.ert_defs.specs.declared.settings.Settings.{Settings}
 use Rattle.ert_defs.specs.declared.timer.Status.{Status}
 use Rattle.ert_defs.specs.declared.timer.TimerRef.{TimerRef}
-use Rattle.ert_answers.specs.TimerCalls.{AreProbes}
+use Rattle.ert_effects.specs.TimerCalls.{AreProbes}
 use Rattle.ert_transcript.proofs.Bound.{IsName, names_are}
 use Rattle.ert_transcript.proofs.Shown.{Names, Shows}
 use Rattle.ert_transcript.proofs.Steps.{Step, as_tick, first, second, shows_next, shows_probed}

@@ -1,7 +1,7 @@
 -- Each op but a start, with each of its replies: the service answers and does as the plain one.
 
 use Rattle.std.proofs.Common.{ℕ, ℤ, Bool, List, Some, None, refl}
-use Rattle.ert_answers.specs.Ways.{alone}
+use Rattle.ert_effects.specs.Ways.{alone}
 use Rattle.ert_defs.specs.Legal.{LegalFrom}
 use Rattle.ert_defs.specs.States.{State, state}
 use Rattle.ert_defs.specs.declared.entry.Act.TheVariants.{Plain, Force}

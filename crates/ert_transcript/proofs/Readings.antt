@@ -6,7 +6,7 @@ use Rattle.std.specs.Prelude.{FitsSigned}
 use Rattle.std.specs.Int.{w64}
 use Rattle.std.specs.Bool.{Decides}
 use Rattle.std.proofs.lemmas.Bool.Decides.{Decides-and, Decides-like}
-use Rattle.ert_answers.specs.ClockCalls.{Stays, FinalizesFrom, IsTooWide, TellsSystemTime}
+use Rattle.ert_effects.specs.ClockCalls.{Stays, FinalizesFrom, IsTooWide, TellsSystemTime}
 use Rattle.ert_clock.specs.Ticks.{keeper_entry}
 use Rattle.ert_clock.specs.declared.clock.Moved.{Moved}
 use Rattle.ert_defs.specs.Clocks.{Clock}
@@ -34,7 +34,7 @@ use Rattle.ert_transcript.specs.Plain.{slot_of}
 use Rattle.ert_transcript.specs.PlainClock.{finalize_piece, time_piece, system_piece, info_piece, fits_64_bits, convert_piece}
 use Rattle.ert_transcript.specs.declared.reply.Reply.{Reply}
 use Rattle.ert_transcript.specs.declared.reply.Reply.TheVariants.{Finalize, FinalizeWide, Time, System, Info, Convert, ConvertTooWide}
-use Rattle.ert_units.specs.Conversions.{converted}
+use Rattle.ert_ops.specs.Conversions.{converted}
 
 -- a finalization of what isn't preliminary
 stays_piece : (s : State) (old : OffsetState) (now offset : ℤ) (shift : Option ℤ) → now ≡ s.clock.now → offset ≡ s.clock.offset → old ≡ s.clock.state

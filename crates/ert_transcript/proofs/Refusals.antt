@@ -4,7 +4,7 @@
 use Rattle.std.proofs.Common.{◌≡◌, ◌≢◌, ◌⊎◌, ℕ, ℤ, zero, suc, ◌+◌, ◌<◌, ◌≤◌, Bool, true, cond, nat_le, List, [], ◌∷◌, Option, Some, None, refl, sym, ap, ◌∙◌, subst, inl, inr, arith}
 use Rattle.std.proofs.lemmas.Bool.Decides.{nat_tests}
 use Rattle.std.proofs.lemmas.Bool.{cases_eq}
-use Rattle.ert_answers.specs.TimerCalls.{AreProbes, AreTaken, Rests, IsBadArg, IsWheelFull}
+use Rattle.ert_effects.specs.TimerCalls.{AreProbes, AreTaken, Rests, IsBadArg, IsWheelFull}
 use Rattle.ert_defs.proofs.FiredTimers.{cond_same}
 use Rattle.ert_defs.specs.Actors.{has_actor}
 use Rattle.ert_defs.specs.Clocks.{Clock}

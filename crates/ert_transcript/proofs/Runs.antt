@@ -2,7 +2,7 @@
 
 use Rattle.std.proofs.Common.{◌≡◌, ◌≢◌, ℕ, zero, suc, ◌+◌, ◌<◌, ◌≤◌, All, AllPairs, List, [], ◌∷◌, ◌++◌, length, refl, sym, ap, ◌∙◌, subst, arith, append_assoc}
 use Rattle.std.proofs.lemmas.List.Elements.{All-head, All-tail}
-use Rattle.ert_answers.specs.Ways.{alone}
+use Rattle.ert_effects.specs.Ways.{alone}
 use Rattle.ert_defs.proofs.Lists.{pairs_head, pairs_tail}
 use Rattle.ert_defs.proofs.Rows.{rows_hold}
 use Rattle.ert_defs.proofs.Runs.{state-append}

@@ -1,9 +1,9 @@
 -- Serving: both services answer the same requests, and as many.
 
 use Rattle.std.proofs.Common.{◌≡◌, ℕ, Bool, true, false, cond, nat_eq, List, [], ◌∷◌, ◌++◌, Option, Some, None, Ok, refl, sym, ap, ◌∙◌, subst}
-use Rattle.ert_answers.specs.Chains.{HoldsBy, HasServed, Serves}
-use Rattle.ert_answers.specs.RequestCalls.{DoesAsked, HasAnswered}
-use Rattle.ert_answers.specs.Ways.{alone}
+use Rattle.ert_effects.specs.Chains.{HoldsBy, HasServed, Serves}
+use Rattle.ert_effects.specs.RequestCalls.{DoesAsked, HasAnswered}
+use Rattle.ert_effects.specs.Ways.{alone}
 use Rattle.ert_defs.proofs.Runs.{run-append, state-append, legal_first, legal_then}
 use Rattle.ert_defs.specs.Entries.{look_entry, pick_entry, answer_entry}
 use Rattle.ert_defs.specs.Legal.{LegalFrom}

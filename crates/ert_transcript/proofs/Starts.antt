@@ -2,7 +2,7 @@
 
 use Rattle.std.proofs.Common.{◌≡◌, ◌≢◌, ℕ, ℤ, suc, ◌<◌, Bool, true, false, cond, nat_le, List, [], ◌∷◌, ◌++◌, Option, Some, None, refl, sym, ap, ◌∙◌, subst, inl, inr, arith}
 use Rattle.std.proofs.lemmas.Bool.Decides.{nat_tests}
-use Rattle.ert_answers.specs.TimerCalls.{AreProbes, Closes, IsStarted}
+use Rattle.ert_effects.specs.TimerCalls.{AreProbes, Closes, IsStarted}
 use Rattle.ert_defs.proofs.Runs.{run-append, legal_first, legal_then}
 use Rattle.ert_defs.specs.Clocks.{Clock}
 use Rattle.ert_defs.specs.Entries.{look_entry, arm_entry, mark_entry, orphan_entry}

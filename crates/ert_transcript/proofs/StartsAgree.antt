@@ -2,7 +2,7 @@
 -- stands for.
 
 use Rattle.std.proofs.Common.{◌≡◌, ℕ, suc, ◌<◌, Bool, true, false, cond, nat_eq, List, [], ◌∷◌, refl, sym, ap, ◌∙◌, subst, arith}
-use Rattle.ert_answers.specs.Ways.{alone}
+use Rattle.ert_effects.specs.Ways.{alone}
 use Rattle.ert_defs.specs.Legal.{LegalFrom}
 use Rattle.ert_defs.specs.States.{State, run, state}
 use Rattle.ert_defs.specs.Timers.{timer_at}

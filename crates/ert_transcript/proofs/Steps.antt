@@ -5,7 +5,7 @@ use Rattle.ert_defs.proofs.FiredTimers.{cond_same}
 use Rattle.ert_defs.specs.Actors.{same_actor, has_actor}
 use Rattle.ert_defs.specs.Clocks.{Clock, clock_after}
 use Rattle.ert_defs.specs.Entries.{entry_by, probe_entry}
-use Rattle.ert_defs.specs.Mails.{MailState, SchedState, Monitor, mail_after, inbox_after, sched_after, changes_of, is_news, told_of, without}
+use Rattle.ert_defs.specs.Mails.{MailState, SchedState, mail_after, inbox_after, sched_after, changes_of, is_news, told_of, without}
 use Rattle.ert_defs.specs.States.{State, next, look_after, exited_after}
 use Rattle.ert_defs.specs.Timers.{Row, same_timer, rows_after, status_after, settled_as, handed_as}
 use Rattle.ert_defs.specs.declared.entry.Act.{Act}
@@ -16,6 +16,7 @@ use Rattle.ert_defs.specs.declared.entry.Event.{Event}
 use Rattle.ert_defs.specs.declared.entry.Event.TheVariants.{Tick, Shift, Look, Off, Peek, Cancel, Expire, Orphan, Deliver, Drop, Mark, Advanced, Ask, Pick, Answer, Take, Unwatch, Watch, Tell}
 use Rattle.ert_defs.specs.declared.mail.Mail.{Mail}
 use Rattle.ert_defs.specs.declared.mail.Mail.TheVariants.{Change}
+use Rattle.ert_defs.specs.declared.mail.Monitor.{Monitor}
 use Rattle.ert_defs.specs.declared.mail.Request.{Request}
 use Rattle.ert_defs.specs.declared.settings.OffsetState.{OffsetState}
 use Rattle.ert_defs.specs.declared.settings.Reading.{Reading}

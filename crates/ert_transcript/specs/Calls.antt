@@ -3,16 +3,16 @@
 
 use Rattle.std.specs.Prelude.{◌≡◌, ℕ, ℤ, FitsSigned, Bool, true, false, List, [], ◌∷◌, Option, Ok, Err}
 use Rattle.std.specs.Int.{w64}
-use Rattle.ert_answers.specs.Chains.{Serves, AdvancesWheel, Delivers, Turns, Exits}
-use Rattle.ert_answers.specs.ClockCalls.{Ticks, Finalizes, TellsTime, TellsOffset, TellsSystemTime}
-use Rattle.ert_answers.specs.MailCalls.{Takes, Monitors, Demonitors, Tells}
-use Rattle.ert_answers.specs.RequestCalls.{inbox_for, Asks}
-use Rattle.ert_answers.specs.TimerCalls.{Reads, Cancels, Starts}
-use Rattle.ert_answers.specs.Ways.{Way}
-use Rattle.ert_answers.specs.WheelCalls.{TellsAlive}
-use Rattle.ert_answers.specs.declared.answers.MonitorErr.TheVariants.{Full as NoMore}
-use Rattle.ert_answers.specs.declared.answers.StartErr.TheVariants.{BadArg, Full}
-use Rattle.ert_answers.specs.declared.answers.Taken.TheVariants.{Mail as Taking, Empty, Exited}
+use Rattle.ert_effects.specs.Chains.{Serves, AdvancesWheel, Delivers, Turns, Exits}
+use Rattle.ert_effects.specs.ClockCalls.{Ticks, Finalizes, TellsTime, TellsOffset, TellsSystemTime}
+use Rattle.ert_effects.specs.MailCalls.{Takes, Monitors, Demonitors, Tells}
+use Rattle.ert_effects.specs.RequestCalls.{inbox_for, Asks}
+use Rattle.ert_effects.specs.TimerCalls.{Reads, Cancels, Starts}
+use Rattle.ert_effects.specs.Ways.{Way}
+use Rattle.ert_effects.specs.WheelCalls.{TellsAlive}
+use Rattle.ert_effects.specs.declared.answers.MonitorErr.TheVariants.{Full as NoMore}
+use Rattle.ert_effects.specs.declared.answers.StartErr.TheVariants.{BadArg, Full}
+use Rattle.ert_effects.specs.declared.answers.Taken.TheVariants.{Mail as Taking, Empty, Exited}
 use Rattle.ert_clock.specs.declared.clock.ClockErr.TheVariants.{OffsetWide}
 use Rattle.ert_defs.specs.Lines.{end_time}
 use Rattle.ert_defs.specs.declared.entry.Actor.TheVariants.{Keeper, Wheel, Inbox, MailOf, Caller}
@@ -32,7 +32,7 @@ use Rattle.ert_ops.specs.declared.op.Op.{Op}
 use Rattle.ert_ops.specs.declared.op.Op.TheVariants as ops
 use Rattle.ert_transcript.specs.declared.reply.Reply.{Reply}
 use Rattle.ert_transcript.specs.declared.reply.Reply.TheVariants.{Tick, TickWide, Check, CheckWide, Finalize, FinalizeWide, Time, System, Offset, Info, Convert, ConvertTooWide, StartOk, StartBadArg, StartFull, SendAfterOk, SendAfterBadArg, SendAfterFull, Cancel, CancelQuiet, Read, CancelAsync, ReadAsync, Serve, Advance, Deliver, Turn, Received, ReceivedEmpty, ReceivedExited, Exit, Alive, Monitor, MonitorFull, Demonitor, Notify}
-use Rattle.ert_units.specs.Conversions.{converted}
+use Rattle.ert_ops.specs.Conversions.{converted}
 
 -- the reading of the OS clocks that an op gives
 abbrev pub reading_of : ℤ → ℤ → Reading

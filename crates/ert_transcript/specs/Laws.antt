@@ -1,7 +1,7 @@
 -- The laws of transcripts: what every script run of a list of ops prints.
 
 use Rattle.std.specs.Prelude.{◌≡◌, ℕ, List, [], ◌++◌, take}
-use Rattle.ert_answers.specs.Ways.{alone}
+use Rattle.ert_effects.specs.Ways.{alone}
 use Rattle.ert_defs.specs.Legal.{Legal}
 use Rattle.ert_defs.specs.States.{state}
 use Rattle.ert_defs.specs.declared.entry.Entry.{Entry}

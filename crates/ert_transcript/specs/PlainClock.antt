@@ -17,7 +17,7 @@ use Rattle.ert_defs.specs.declared.settings.Settings.{Settings}
 use Rattle.ert_transcript.specs.Pieces.{Piece}
 use Rattle.ert_transcript.specs.declared.reply.Reply.{Reply}
 use Rattle.ert_transcript.specs.declared.reply.Reply.TheVariants.{Tick, TickWide, Check, CheckWide, Finalize, FinalizeWide, Time, System, Offset, Info, Convert, ConvertTooWide}
-use Rattle.ert_units.specs.Conversions.{converted}
+use Rattle.ert_ops.specs.Conversions.{converted}
 
 -- whether an offset is within its limits
 abbrev pub is_within : ℤ → Bool

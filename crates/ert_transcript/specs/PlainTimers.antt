@@ -1,7 +1,7 @@
 -- The plain service: starting, cancelling and reading timers.
 
 use Rattle.std.specs.Prelude.{ℕ, Bool, true, false, cond, nat_le, List, [], ◌∷◌, Option, Some, None}
-use Rattle.ert_answers.specs.TimerCalls.{read_entries, cancel_entries}
+use Rattle.ert_effects.specs.TimerCalls.{read_entries, cancel_entries}
 use Rattle.ert_defs.specs.Entries.{look_entry, arm_entry, mark_entry, orphan_entry}
 use Rattle.ert_defs.specs.Legal.{left_by}
 use Rattle.ert_defs.specs.Milliseconds.{deadline_of}

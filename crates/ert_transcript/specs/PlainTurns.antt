@@ -1,12 +1,12 @@
 -- The plain service: asking schedulers, and what they do.
 
 use Rattle.std.specs.Prelude.{ℕ, suc, zero, ◌+◌, Bool, true, false, cond, ◌&&◌, nat_eq, nat_le, List, [], ◌∷◌, ◌++◌, length, map, filter, Option, Some, None}
-use Rattle.ert_answers.specs.Chains.{puts, drops}
-use Rattle.ert_answers.specs.MailCalls.{handed_entries}
-use Rattle.ert_answers.specs.RequestCalls.{inbox_for}
-use Rattle.ert_answers.specs.TimerCalls.{read_entries, cancel_entries}
-use Rattle.ert_answers.specs.declared.answers.Handed.{Handed}
-use Rattle.ert_answers.specs.declared.answers.Handed.TheVariants.{Put, Dropped}
+use Rattle.ert_effects.specs.Chains.{puts, drops}
+use Rattle.ert_effects.specs.MailCalls.{handed_entries}
+use Rattle.ert_effects.specs.RequestCalls.{inbox_for}
+use Rattle.ert_effects.specs.TimerCalls.{read_entries, cancel_entries}
+use Rattle.ert_effects.specs.declared.answers.Handed.{Handed}
+use Rattle.ert_effects.specs.declared.answers.Handed.TheVariants.{Put, Dropped}
 use Rattle.ert_defs.specs.Entries.{look_entry, expire_entry, advanced_entry, ask_entry, pick_entry, answer_entry}
 use Rattle.ert_defs.specs.Laws.{is_armed}
 use Rattle.ert_defs.specs.Mails.{first_of}

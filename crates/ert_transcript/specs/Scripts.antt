@@ -1,7 +1,7 @@
 -- Script runs of a list of ops, and its transcript.
 
 use Rattle.std.specs.Prelude.{◌≡◌, ℕ, List, [], ◌∷◌, ◌++◌}
-use Rattle.ert_answers.specs.Ways.{Way, alone}
+use Rattle.ert_effects.specs.Ways.{Way, alone}
 use Rattle.ert_defs.specs.Legal.{Legal}
 use Rattle.ert_defs.specs.States.{state}
 use Rattle.ert_defs.specs.declared.entry.Entry.{Entry}

@@ -1,5 +1,5 @@
-use ert_answers::Turned;
 use ert_defs::{Mail, Mode, OffsetState, TimerRef};
+use ert_effects::Turned;
 
 /// What an op answers. Times and offsets are in nanoseconds, what is left of a timer in milliseconds.
 #[derive(Clone, Copy, Debug, PartialEq, Eq)]

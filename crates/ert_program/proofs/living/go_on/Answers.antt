@@ -1,5 +1,5 @@
 use Rattle.std.proofs.Common.{rules, [], ◌∙◌, FitsSigned, w64, to_z-of_z}
-use Rattle.ert_lines.proofs.Texts.{ok_map}
+use Rattle.ert_script.proofs.Texts.{ok_map}
 use Rattle.ert_program.proofs.LivedThrough.{lived_more}
 use Rattle.ert_program.proofs.living.go_on.Goals as goal
 

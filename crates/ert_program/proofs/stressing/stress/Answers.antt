@@ -1,6 +1,6 @@
 use Rattle.std.proofs.Common.{rules, ◌≡◌, ◌∙◌, ℕ, List, string_bytes, subst}
 use Rattle.ert_defs.specs.States.{state}
-use Rattle.ert_generate.specs.Generated.{generated}
+use Rattle.ert_program.specs.Generated.{generated}
 use Rattle.ert_io.specs.Told.{told, took, TakesFront}
 use Rattle.ert_laws.specs.Counts.{counts_of}
 use Rattle.ert_program.specs.Stresses.{summary_of}

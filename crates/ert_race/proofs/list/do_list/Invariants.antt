@@ -1,10 +1,10 @@
 use Rattle.std.proofs.Common.{◌≡◌, take}
-use Rattle.ert_race.specs.Workers.{DoesList}
+use Rattle.ert_race.specs.Workers.{DoesAll}
 use Rattle.ert_table.specs.Desks.{front_of}
 use Rattle.ert_race.proofs.list.do_list.Given as goal
 
 abbrev pub invariant-loop-op : goal.invariant-loop-op
 invariant-loop-op g l = record {
-  number : l.next.number ≡ l.fn.seat.number;
-  so_far : DoesList g.L.DeskName.settings l.fn.seat.number l.known (take l.op-index l.ops) l.replies.items l.own (front_of l.fn.seat.pass) (front_of l.next.pass);
+  number : l.member.seat.number ≡ l.fn.member.seat.number;
+  so_far : DoesAll g.L.DeskName.settings l.fn.member.seat.number l.known (take l.op-index l.ops) l.replies.items l.own (front_of l.fn.member.seat.pass) (front_of l.member.seat.pass);
 }

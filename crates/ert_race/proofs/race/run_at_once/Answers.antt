@@ -1,10 +1,10 @@
 use Rattle.std.proofs.Common.{List, sym, subst, ◌∙◌}
-use Rattle.ert_answers.specs.Ways.{Grows}
+use Rattle.ert_effects.specs.Ways.{Grows}
 use Rattle.ert_defs.specs.Legal.{Legal}
 use Rattle.ert_defs.specs.declared.entry.Entry.{Entry}
 use Rattle.ert_defs.specs.declared.settings.Settings.{Settings}
 use Rattle.ert_ops.specs.Races.{race_of}
-use Rattle.ert_outcome.specs.Outcomes.{ActAtOnce}
+use Rattle.ert_race.specs.Outcomes.{ActAtOnce}
 use Rattle.ert_race.proofs.AtOnce.{at_once, count_callers}
 use Rattle.ert_race.proofs.Worked.{if_ok_at}
 use Rattle.ert_race.specs.Lists.{dids_of}

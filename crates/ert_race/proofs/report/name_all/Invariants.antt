@@ -1,7 +1,7 @@
 use Rattle.std.proofs.Common.{◌≡◌, take}
-use Rattle.ert_outcome.specs.Reports.{all_labels}
+use Rattle.ert_race.specs.Reports.{all_labels}
 use Rattle.ert_race.specs.Lists.{dids_of}
 use Rattle.ert_race.proofs.report.name_all.Given as goal
 
 abbrev pub invariant-loop-list : goal.invariant-loop-list
-invariant-loop-list l = l.names ≡ all_labels l.fn.names (dids_of (take l.list-index l.lists))
+invariant-loop-list l = l.labels ≡ all_labels l.fn.labels (dids_of (take l.list-index l.lists))

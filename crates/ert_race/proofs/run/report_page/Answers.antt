@@ -1,7 +1,7 @@
 use Rattle.std.proofs.Common.{◌≡◌, ◌++◌, string_bytes, rules, subst, FitsSigned, w64, to_z-of_z}
 use Rattle.ert_defs.specs.States.{state}
 use Rattle.ert_laws.specs.Counts.{Counts, counts_of}
-use Rattle.ert_outcome.specs.Reports.{all_labels, lists_text}
+use Rattle.ert_race.specs.Reports.{all_labels, lists_text}
 use Rattle.ert_race.proofs.Reported.{page_of}
 use Rattle.ert_race.specs.Lists.{dids_of}
 use Rattle.ert_transcript.specs.Counts.{settled_line}
@@ -13,7 +13,7 @@ returns c =
     let now : FitsSigned w64 c.published.result = search rules in
     let w = c.args.end.now.world in
     let dids = dids_of c.args.end.now.lists.items in
-    let all = all_labels c.args.names dids in
+    let all = all_labels c.args.labels dids in
     let named = rw c.deref.ensures.value at c.in_ok-name_all.ensures in
     let lists = rw (c.deref-2.ensures.value, named) at c.in_ok-write_lists.ensures in
     let settled = subst (λ (n : Counts). string_bytes c.write_settled.new.page ≡ string_bytes c.write_lists.new.page ++ settled_line n) c.counts.ensures

@@ -1,19 +1,19 @@
 use Rattle.std.proofs.Common.{arith, sym, subst}
 use Rattle.std.proofs.lemmas.Result.{err_from_is_err_and}
 use Rattle.ert_io.specs.Told.{Told, told}
-use Rattle.ert_lines.specs.declared.output.RunErr.{RunErr}
+use Rattle.ert_script.specs.declared.output.RunErr.{RunErr}
 use Rattle.ert_ops.specs.Ranges.{IsOpInRange}
 use Rattle.ert_ops.specs.declared.op.Op.{Op}
 use Rattle.ert_script.specs.Scripts.{DoesWith, Fails}
 use Rattle.ert_script.specs.Written.{WritesSome}
-use Rattle.ert_lines.proofs.Texts.{ok_map}
+use Rattle.ert_script.proofs.Texts.{ok_map}
 use Rattle.ert_script.proofs.Runs.{so_far_first, op_may, goes_on_at, fails_at, breaks_at, ends, breaks_last, err_map, line_fits, page_fits}
 use Rattle.ert_script.proofs.run.run_ops.Goals as goal
 
 pub loop-op-init : goal.loop-op-init
 loop-op-init g c = record {
   so_far = rw c.new-page.ensures.bytes
-      (so_far_first c.args.world.now c.args.names.now (g.K.Sink.taken c.args.sink.now) (g.K.Sink.room c.args.sink.now) c.history_stands.ensures);
+      (so_far_first c.args.world.now c.args.labels.now (g.K.Sink.taken c.args.sink.now) (g.K.Sink.room c.args.sink.now) c.history_stands.ensures);
   later = omega arith;
 }
 
@@ -26,26 +26,26 @@ reply_op-requires-clause-range g c =
 pub returns-in_default-clause-err : goal.returns-in_default-clause-err
 returns-in_default-clause-err g c =
     rw c.in_default.ensures.labels
-    (fails_at c.args.world.now c.loop-op.world c.reply_op.new.world c.args.names.now c.loop-op.names c.args.ops.now c.loop-op.op-index c.op-item.result _ _ _
+    (fails_at c.args.world.now c.loop-op.world c.reply_op.new.world c.args.labels.now c.loop-op.labels c.args.ops.now c.loop-op.op-index c.op-item.result _ _ _
     c.loop-op-test.true c.loop-op.invariant.so_far
-    (subst (λ (op : Op). Fails c.loop-op.world op c.reply_op.new.world) c.op-item.is c.in_default.ensures.err))
+    (subst (λ (op : Op). Fails c.loop-op.world c.loop-op.labels op c.reply_op.new.world) c.op-item.is c.in_default.ensures.err))
 
 pub returns-in_err-put-clause-err : goal.returns-in_err-put-clause-err
 returns-in_err-put-clause-err g c =
     let p = err_from_is_err_and c.from_residual.result c.from_residual.ensures.1 in
     rw p.1
-    (breaks_at c.args.world.now c.loop-op.world c.reply_op.new.world c.args.names.now c.loop-op.names c.reply_op.new.names c.args.ops.now c.loop-op.op-index
+    (breaks_at c.args.world.now c.loop-op.world c.reply_op.new.world c.args.labels.now c.loop-op.labels c.reply_op.new.labels c.args.ops.now c.loop-op.op-index
     c.op-item.result _ _ _ _ c.in-Ok.reply _ c.loop-op-test.true c.loop-op.invariant.so_far
-    (subst (λ (op : Op). DoesWith c.loop-op.world c.loop-op.names op c.in-Ok.reply c.reply_op.new.world c.reply_op.new.names) c.op-item.is c.in-Ok.ensures.ok)
+    (subst (λ (op : Op). DoesWith c.loop-op.world c.loop-op.labels op c.in-Ok.reply c.reply_op.new.world c.reply_op.new.labels) c.op-item.is c.in-Ok.ensures.ok)
     c.history_stands-in-loop-op.ensures c.in_err-put.ensures.err)
 
 pub loop-op-preserved : goal.loop-op-preserved
 loop-op-preserved g c =
-    let done = subst (λ (op : Op). DoesWith c.loop-op.world c.loop-op.names op c.in-Ok.reply c.reply_op.new.world c.reply_op.new.names) c.op-item.is
+    let done = subst (λ (op : Op). DoesWith c.loop-op.world c.loop-op.labels op c.in-Ok.reply c.reply_op.new.world c.reply_op.new.labels) c.op-item.is
     c.in-Ok.ensures.ok in
     record {
       so_far =
-          goes_on_at c.args.world.now c.loop-op.world c.reply_op.new.world c.args.names.now c.loop-op.names c.reply_op.new.names c.args.ops.now
+          goes_on_at c.args.world.now c.loop-op.world c.reply_op.new.world c.args.labels.now c.loop-op.labels c.reply_op.new.labels c.args.ops.now
           c.loop-op.op-index c.op-item.result _ _ _ _ _ c.in-Ok.reply c.loop-op-test.true c.loop-op.invariant.so_far done c.history_stands-in-loop-op.ensures
           c.in_ok-put.ensures.ok;
       later = omega (arith, c.loop-op.invariant.later, c.put.ensures.later);
@@ -54,7 +54,7 @@ loop-op-preserved g c =
 pub returns-clause-ok : goal.returns-clause-ok
 returns-clause-ok g c =
     ok_map c.write_page.result
-    (ends c.args.world.now c.loop-op.world c.args.names.now c.loop-op.names c.args.ops.now c.loop-op.op-index _ _ _ _ c.loop-op-test.false
+    (ends c.args.world.now c.loop-op.world c.args.labels.now c.loop-op.labels c.args.ops.now c.loop-op.op-index _ _ _ _ c.loop-op-test.false
     c.loop-op.invariant.so_far)
     c.write_page.ensures.ok
 
@@ -62,19 +62,19 @@ pub returns-clause-err : goal.returns-clause-err
 returns-clause-err g c =
     let old : Told = told (g.K.Sink.taken c.args.sink.now) (g.K.Sink.room c.args.sink.now) in
     let new : Told = told (g.K.Sink.taken c.write_page.new.output) (g.K.Sink.room c.write_page.new.output) in
-    err_map (λ (why : RunErr). WritesSome c.args.world.now c.args.names.now c.args.ops.now c.loop-op.world c.loop-op.names why old new) c.write_page.result
-    (λ why. breaks_last c.args.world.now c.loop-op.world c.args.names.now c.loop-op.names c.args.ops.now c.loop-op.op-index _ _ _ _ why
+    err_map (λ (why : RunErr). WritesSome c.args.world.now c.args.labels.now c.args.ops.now c.loop-op.world c.loop-op.labels why old new) c.write_page.result
+    (λ why. breaks_last c.args.world.now c.loop-op.world c.args.labels.now c.loop-op.labels c.args.ops.now c.loop-op.op-index _ _ _ _ why
     c.loop-op.invariant.so_far)
     c.write_page.ensures.err
 
 pub put-requires : goal.put-requires
 put-requires g c =
-    line_fits c.args.world.now c.loop-op.world c.reply_op.new.world c.args.names.now c.loop-op.names c.reply_op.new.names c.args.ops.now c.loop-op.op-index
+    line_fits c.args.world.now c.loop-op.world c.reply_op.new.world c.args.labels.now c.loop-op.labels c.reply_op.new.labels c.args.ops.now c.loop-op.op-index
     c.op-item.result _ _ _ c.in-Ok.reply c.loop-op-test.true c.requires.fits c.loop-op.invariant.so_far
-    (subst (λ (op : Op). DoesWith c.loop-op.world c.loop-op.names op c.in-Ok.reply c.reply_op.new.world c.reply_op.new.names) c.op-item.is c.in-Ok.ensures.ok)
+    (subst (λ (op : Op). DoesWith c.loop-op.world c.loop-op.labels op c.in-Ok.reply c.reply_op.new.world c.reply_op.new.labels) c.op-item.is c.in-Ok.ensures.ok)
     c.history_stands-in-loop-op.ensures
 
 pub write_page-requires : goal.write_page-requires
 write_page-requires g c =
-    page_fits c.args.world.now c.loop-op.world c.args.names.now c.loop-op.names c.args.ops.now c.loop-op.op-index _ _ _ c.requires.fits
+    page_fits c.args.world.now c.loop-op.world c.args.labels.now c.loop-op.labels c.args.ops.now c.loop-op.op-index _ _ _ c.requires.fits
     c.loop-op.invariant.so_far

@@ -5,7 +5,7 @@ use Rattle.ert_script.proofs.run.run_ops.Given as goal
 
 abbrev pub invariant-loop-op : goal.invariant-loop-op
 invariant-loop-op g l = record {
-  so_far : IsSoFar l.fn.world l.fn.names (take l.op-index l.ops) l.world l.names (told (g.K.Sink.taken l.fn.sink) (g.K.Sink.room l.fn.sink))
+  so_far : IsSoFar l.fn.world l.fn.labels (take l.op-index l.ops) l.world l.labels (told (g.K.Sink.taken l.fn.sink) (g.K.Sink.room l.fn.sink))
       (told (g.K.Sink.taken l.sink) (g.K.Sink.room l.sink)) (string_bytes l.page);
   later : g.K.Sink.faults l.fn.sink ≤ g.K.Sink.faults l.sink;
 }

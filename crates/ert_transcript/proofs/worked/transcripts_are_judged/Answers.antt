@@ -2,8 +2,8 @@
 
 use Rattle.std.proofs.Common.{◌≡◌, pos, true, false, List, [], ◌∷◌, ◌++◌, Some, None, codes, refl, rules}
 use Rattle.std.specs.Fmt.{digits}
-use Rattle.ert_answers.specs.TimerCalls.{IsStarted, Cancels}
-use Rattle.ert_answers.specs.Ways.{alone}
+use Rattle.ert_effects.specs.TimerCalls.{IsStarted, Cancels}
+use Rattle.ert_effects.specs.Ways.{alone}
 use Rattle.ert_defs.specs.Entries.{look_entry, arm_entry, mark_entry, peek_entry, cancel_entry}
 use Rattle.ert_defs.specs.States.{state}
 use Rattle.ert_defs.specs.Timers.{timer_at}

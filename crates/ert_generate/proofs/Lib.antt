@@ -1,4 +1,0 @@
-pub mod Draws
-pub mod Made
-pub mod Valid
-pub mod Within

@@ -1,4 +1,0 @@
-pub mod Keys
-pub mod Names
-pub mod Told
-pub mod Written

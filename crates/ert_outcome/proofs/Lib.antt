@@ -1,4 +1,0 @@
-pub mod Advancing
-pub mod Kept
-pub mod Makings
-pub mod Rounds

@@ -1,4 +1,0 @@
-pub mod Laws
-pub mod Made
-pub mod Outcomes
-pub mod Reports

@@ -1,0 +1,72 @@
+-- Laws of outcomes. The functions of src/laws.rt carry them as contracts, so that they are proved.
+
+use Rattle.std.specs.Prelude.{◌≡◌, ℕ, ◌≤ℤ◌, Bool, true, false, List, [], ◌∷◌, ◌++◌, map, filter, length}
+use Rattle.ert_defs.specs.Actors.{of}
+use Rattle.ert_defs.specs.Settings.{IsChecked}
+use Rattle.ert_defs.specs.States.{state}
+use Rattle.ert_defs.specs.declared.entry.Actor.TheVariants.{Sched, Caller}
+use Rattle.ert_defs.specs.declared.entry.Entry.{Entry}
+use Rattle.ert_defs.specs.declared.entry.Event.{Event}
+use Rattle.ert_defs.specs.declared.entry.Event.TheVariants.{Expire, Advanced}
+use Rattle.ert_defs.specs.declared.settings.Settings.{Settings}
+use Rattle.ert_defs.specs.declared.timer.TimerRef.{TimerRef}
+use Rattle.ert_laws.specs.ClockLaws.{IsDueBy}
+use Rattle.ert_laws.specs.Lives.{life, life_to}
+use Rattle.ert_laws.specs.MailOrder.{sent_to, taken_from}
+use Rattle.ert_laws.specs.Permitted.{Permitted}
+use Rattle.ert_ops.specs.Races.{Race}
+use Rattle.ert_ops.specs.declared.op.Op.{Op}
+use Rattle.ert_race.specs.Made.{MakesTurns, MakesRound}
+use Rattle.ert_race.specs.Outcomes.{DoesList, IsOutcome}
+use Rattle.ert_race.specs.Reports.{Did}
+use Rattle.ert_transcript.specs.Labels.{Labels}
+
+-- what is so of a history of several threads
+pub record KeepsLaws (g : Settings) (h : List Entry) : Type 0 where
+  -- monotonic time never falls
+  pub time : (f m : List Entry) → h ≡ f ++ m → (state g f).clock.now ≤ℤ (state g h).clock.now
+  -- the clock moves only as it may, and the offset only as the mode permits
+  pub clock : Permitted g h
+  -- no timer expires before its deadline
+  pub expiry : (f m : List Entry) (e : Entry) (timer : TimerRef) → h ≡ (f ++ e ∷ []) ++ m → e.event ≡ Expire timer
+      → IsDueBy g ((state g f).rows timer.wheel) timer (state g f).clock.now
+  -- each timer settles once at most: its life is one of six
+  pub lives : (r : TimerRef) → life r h ≡ life_to ((state g h).status r)
+  -- what was put into a mailbox is, in order, what was taken from it and then what stands in it
+  pub mail : (p : ℕ) → map (λ x. x.mail) (sent_to g p h) ≡ taken_from p h ++ ((state g h).mails p).queue
+
+-- the history of each outcome keeps these laws
+abbrev pub LawOfOutcomes : Type 0
+LawOfOutcomes = (g : Settings) (ops : List Op) (race : Race) (h : List Entry) (text : List ℕ) → IsChecked g → IsOutcome g ops race h text → KeepsLaws g h
+
+-- of a stretch in which a caller does a list, all entries of the caller are in the pieces of the list's calls
+abbrev pub LawOfPieces : Type 0
+LawOfPieces = (g : Settings) (labels : Labels) (k : ℕ) (ops : List Op) (d : Did) (h stretch : List Entry)
+    → (does : DoesList g labels k ops d h stretch) → of stretch (Caller k) ≡ of does.pieces (Caller k)
+
+-- and those of a scheduler in the pieces of its turns
+abbrev pub LawOfTurns : Type 0
+LawOfTurns = (g : Settings) (w count : ℕ) (h stretch : List Entry) → (turns : MakesTurns g w count h stretch)
+    → of stretch (Sched w) ≡ of turns.makes.pieces (Sched w)
+
+-- each op of a list has one reply, and so one line
+abbrev pub LawOfReplies : Type 0
+LawOfReplies = (g : Settings) (labels : Labels) (k : ℕ) (ops : List Op) (d : Did) (h stretch : List Entry)
+    → DoesList g labels k ops d h stretch → length d.replies ≡ length ops
+
+-- whether an event records that a wheel was advanced
+abbrev pub is_advance : Event → Bool
+is_advance (Advanced wheel to) = true
+is_advance _ = false
+
+-- how often these entries record that a wheel was advanced
+abbrev pub advances : List Entry → ℕ
+advances es = length (filter (λ (e : Entry). is_advance e.event) es)
+
+-- a scheduler advances its wheel once in each of its turns
+abbrev pub LawOfAdvances : Type 0
+LawOfAdvances = (g : Settings) (w count : ℕ) (h stretch : List Entry) → MakesTurns g w count h stretch → advances (of stretch (Sched w)) ≡ count
+
+-- and each scheduler does once in the round of last turns
+abbrev pub LawOfRounds : Type 0
+LawOfRounds = (g : Settings) (count : ℕ) (h m : List Entry) → MakesRound g count h m → advances m ≡ count

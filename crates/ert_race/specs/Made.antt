@@ -1,0 +1,36 @@
+-- What an actor makes in a stretch of a history, beside others, and what each scheduler makes alone.
+
+use Rattle.std.specs.Prelude.{◌≡◌, ℕ, suc, List, [], ◌∷◌, ◌++◌, length, Ok}
+use Rattle.ert_effects.specs.Chains.{Turns, LastTurns}
+use Rattle.ert_effects.specs.Ways.{Growth, Then, Many, alone, beside}
+use Rattle.ert_effects.specs.declared.answers.Turned.{Turned}
+use Rattle.ert_defs.specs.Actors.{IsFree}
+use Rattle.ert_defs.specs.declared.entry.Actor.{Actor}
+use Rattle.ert_defs.specs.declared.entry.Actor.TheVariants.{Sched}
+use Rattle.ert_defs.specs.declared.entry.Entry.{Entry}
+use Rattle.ert_defs.specs.declared.settings.Settings.{Settings}
+
+-- an actor makes a call in a stretch that comes after a history, and has no entry in the stretch after it
+pub record Makes (a : Actor) (call : Growth) (h stretch : List Entry) : Type 0 where
+  pub pieces : List Entry
+  pub after : List Entry
+  pub parted : stretch ≡ pieces ++ after
+  pub made : call h pieces
+  pub away : IsFree after a
+
+-- a scheduler makes so many turns beside others
+pub record MakesTurns (g : Settings) (w count : ℕ) (h stretch : List Entry) : Type 0 where
+  pub turns : List Turned
+  pub counted : length turns ≡ count
+  pub makes : Makes (Sched w) (Many (λ t. Turns g (beside g (Sched w)) w (Ok t)) turns) h stretch
+
+-- a last turn of each scheduler from one on, alone, in order of number
+abbrev pub Round : Settings → ℕ → List Turned → Growth
+Round g w [] h m = m ≡ []
+Round g w (t ∷ turns) h m = Then (LastTurns g (alone g) w (Ok t)) (Round g (suc w) turns) h m
+
+-- each of the first so many schedulers makes a last turn, alone
+pub record MakesRound (g : Settings) (count : ℕ) (h m : List Entry) : Type 0 where
+  pub turns : List Turned
+  pub counted : length turns ≡ count
+  pub made : Round g 0 turns h m

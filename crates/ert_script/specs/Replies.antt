@@ -1,0 +1,56 @@
+-- The replies to ops, by the answers of their calls.
+
+use Rattle.std.specs.Prelude.{ℤ, Result, Ok, Err, pos}
+use Rattle.ert_clock.specs.declared.clock.ClockErr.{ClockErr}
+use Rattle.ert_clock.specs.declared.clock.ClockErr.TheVariants.{OffsetWide}
+use Rattle.ert_clock.specs.declared.clock.Moved.{Moved}
+use Rattle.ert_defs.specs.Lines.{end_time}
+use Rattle.ert_defs.specs.declared.settings.OffsetState.{OffsetState}
+use Rattle.ert_defs.specs.declared.settings.Settings.{Settings}
+use Rattle.ert_defs.specs.declared.timer.Kind.{Kind}
+use Rattle.ert_defs.specs.declared.timer.Kind.TheVariants.{Wrapped, Bare}
+use Rattle.ert_defs.specs.declared.timer.TimerRef.{TimerRef}
+use Rattle.ert_effects.specs.declared.answers.StartErr.{StartErr}
+use Rattle.ert_effects.specs.declared.answers.StartErr.TheVariants.{BadArg}
+use Rattle.ert_effects.specs.declared.answers.Taken.{Taken}
+use Rattle.ert_effects.specs.declared.answers.Taken.TheVariants.{Mail as Taking, Empty, Exited}
+use Rattle.ert_transcript.specs.declared.reply.Reply.{Reply}
+use Rattle.ert_transcript.specs.declared.reply.Reply.TheVariants.{Tick, TickWide, Check, CheckWide, Finalize, FinalizeWide, Info, StartOk, StartBadArg, StartFull, SendAfterOk, SendAfterBadArg, SendAfterFull, Received, ReceivedEmpty, ReceivedExited}
+
+-- of a tick of a valid reading
+abbrev pub ticked : Result Moved ClockErr → Reply
+ticked (Ok m) = Tick m.now m.shift
+ticked (Err (OffsetWide value)) = TickWide value
+ticked (Err _) = TickWide (pos 0)
+
+-- of a forced one
+abbrev pub checked : Result Moved ClockErr → Reply
+checked (Ok m) = Check m.now m.shift
+checked (Err (OffsetWide value)) = CheckWide value
+checked (Err _) = CheckWide (pos 0)
+
+-- of a finalization with a valid reading
+abbrev pub finalized : Result (OffsetState × Moved) ClockErr → Reply
+finalized (Ok p) = Finalize p.0 p.1.now p.1.shift
+finalized (Err (OffsetWide value)) = FinalizeWide value
+finalized (Err _) = FinalizeWide (pos 0)
+
+-- the settings, with the offset as it was read
+abbrev pub settings_told : Settings → ℤ → OffsetState → Reply
+settings_told g offset state = Info g.start (end_time g) g.mode g.correction offset state
+
+-- of a start of either kind, for which there was memory: a timer was started, or it had no deadline, or there was no
+-- slot
+abbrev pub start_told : Kind → Result TimerRef StartErr → Reply
+start_told Wrapped (Ok timer) = StartOk timer
+start_told Wrapped (Err BadArg) = StartBadArg
+start_told Wrapped (Err _) = StartFull
+start_told Bare (Ok timer) = SendAfterOk timer
+start_told Bare (Err BadArg) = SendAfterBadArg
+start_told Bare (Err _) = SendAfterFull
+
+-- of a take
+abbrev pub taken : Taken → Reply
+taken (Taking mail) = Received mail
+taken Empty = ReceivedEmpty
+taken Exited = ReceivedExited

@@ -1,5 +1,0 @@
-use Rattle.ert_units.proofs.Floors.{rounded_down}
-use Rattle.ert_units.proofs.laws.conversions_round_down.Goals as goal
-
-pub returns : goal.returns
-returns c = rounded_down
