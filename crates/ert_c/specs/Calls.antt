@@ -1,19 +1,19 @@
 -- What a service does by the calls on timers, mailboxes and turns.
 
 use Rattle.std.specs.Prelude.{◌≡◌, ◌≢◌, ℕ, ℤ, Bool, Option, Result, Err, MatchOption, ⊤}
-use Rattle.ert_answers.specs.Chains.{Exits, Serves, AdvancesWheel, Delivers, Turns}
-use Rattle.ert_answers.specs.MailCalls.{Takes, Monitors, Demonitors, Tells}
-use Rattle.ert_answers.specs.RequestCalls.{Asks, inbox_for}
-use Rattle.ert_answers.specs.RoomCalls.{TellsRoom}
-use Rattle.ert_answers.specs.TimerCalls.{Reads, Cancels, Starts}
-use Rattle.ert_answers.specs.Ways.{Growth, Way}
-use Rattle.ert_answers.specs.WheelCalls.{TellsAlive}
-use Rattle.ert_answers.specs.declared.answers.MonitorErr.{MonitorErr}
-use Rattle.ert_answers.specs.declared.answers.Room.{Room}
-use Rattle.ert_answers.specs.declared.answers.StartErr.{StartErr}
-use Rattle.ert_answers.specs.declared.answers.StartErr.TheVariants.{NoMemory}
-use Rattle.ert_answers.specs.declared.answers.Taken.{Taken}
-use Rattle.ert_answers.specs.declared.answers.Turned.{Turned}
+use Rattle.ert_effects.specs.Chains.{Exits, Serves, AdvancesWheel, Delivers, Turns}
+use Rattle.ert_effects.specs.MailCalls.{Takes, Monitors, Demonitors, Tells}
+use Rattle.ert_effects.specs.RequestCalls.{Asks, inbox_for}
+use Rattle.ert_effects.specs.RoomCalls.{TellsRoom}
+use Rattle.ert_effects.specs.TimerCalls.{Reads, Cancels, Starts}
+use Rattle.ert_effects.specs.Ways.{Growth, Way}
+use Rattle.ert_effects.specs.WheelCalls.{TellsAlive}
+use Rattle.ert_effects.specs.declared.answers.MonitorErr.{MonitorErr}
+use Rattle.ert_effects.specs.declared.answers.Room.{Room}
+use Rattle.ert_effects.specs.declared.answers.StartErr.{StartErr}
+use Rattle.ert_effects.specs.declared.answers.StartErr.TheVariants.{NoMemory}
+use Rattle.ert_effects.specs.declared.answers.Taken.{Taken}
+use Rattle.ert_effects.specs.declared.answers.Turned.{Turned}
 use Rattle.ert_defs.specs.States.{state}
 use Rattle.ert_defs.specs.declared.entry.Actor.TheVariants.{Caller}
 use Rattle.ert_defs.specs.declared.mail.Request.{Request}

@@ -1,7 +1,7 @@
 -- What C is told of the clock.
 
 use Rattle.std.specs.Prelude.{◌≡◌, ℕ, ℤ, ◌+ℤ◌, pos, Bool, not, nat_eq, Option, Some, None, Result, Ok, Err}
-use Rattle.ert_answers.specs.ClockCalls.{Ticks, Finalizes, TellsTime, TellsOffset, TellsSystemTime}
+use Rattle.ert_effects.specs.ClockCalls.{Ticks, Finalizes, TellsTime, TellsOffset, TellsSystemTime}
 use Rattle.ert_clock.specs.Ticks.{act_of, Gives, FinalizesFrom}
 use Rattle.ert_clock.specs.declared.clock.ClockErr.{ClockErr}
 use Rattle.ert_clock.specs.declared.clock.ClockErr.TheVariants.{BadReading, OffsetWide}

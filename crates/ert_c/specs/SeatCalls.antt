@@ -1,9 +1,9 @@
 -- What C is told of seats.
 
 use Rattle.std.specs.Prelude.{◌≡◌, ◌⊎◌, ℕ, ◌<◌, ◌≤◌, ℤ, Bool, Option, Some, None}
-use Rattle.ert_answers.specs.ClockCalls.{TellsTime, TellsOffset, TellsSystemTime}
-use Rattle.ert_answers.specs.TimerCalls.{Reads, Cancels}
-use Rattle.ert_answers.specs.WheelCalls.{TellsAlive}
+use Rattle.ert_effects.specs.ClockCalls.{TellsTime, TellsOffset, TellsSystemTime}
+use Rattle.ert_effects.specs.TimerCalls.{Reads, Cancels}
+use Rattle.ert_effects.specs.WheelCalls.{TellsAlive}
 use Rattle.ert_c.specs.ClockCalls.{state_as}
 use Rattle.ert_c.specs.Through.{Answers, IfBelow, IsOutOfRange}
 use Rattle.ert_c.specs.Told.{IsFlag}

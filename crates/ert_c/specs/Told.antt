@@ -2,14 +2,14 @@
 -- be written is as it was.
 
 use Rattle.std.specs.Prelude.{◌≡◌, ℕ, ℤ, pos, Bool, true, false, cond, nat_eq, Option, Some, None, Result, Ok, Err}
-use Rattle.ert_answers.specs.declared.answers.MonitorErr.{MonitorErr}
-use Rattle.ert_answers.specs.declared.answers.MonitorErr.TheVariants.{Full as NoPlace, NoMemory as MonitorNoMemory}
-use Rattle.ert_answers.specs.declared.answers.Room.{Room}
-use Rattle.ert_answers.specs.declared.answers.StartErr.{StartErr}
-use Rattle.ert_answers.specs.declared.answers.StartErr.TheVariants.{BadArg, Full, NoMemory}
-use Rattle.ert_answers.specs.declared.answers.Taken.{Taken}
-use Rattle.ert_answers.specs.declared.answers.Taken.TheVariants.{Mail as Took, Empty, Exited}
-use Rattle.ert_answers.specs.declared.answers.Turned.{Turned}
+use Rattle.ert_effects.specs.declared.answers.MonitorErr.{MonitorErr}
+use Rattle.ert_effects.specs.declared.answers.MonitorErr.TheVariants.{Full as NoPlace, NoMemory as MonitorNoMemory}
+use Rattle.ert_effects.specs.declared.answers.Room.{Room}
+use Rattle.ert_effects.specs.declared.answers.StartErr.{StartErr}
+use Rattle.ert_effects.specs.declared.answers.StartErr.TheVariants.{BadArg, Full, NoMemory}
+use Rattle.ert_effects.specs.declared.answers.Taken.{Taken}
+use Rattle.ert_effects.specs.declared.answers.Taken.TheVariants.{Mail as Took, Empty, Exited}
+use Rattle.ert_effects.specs.declared.answers.Turned.{Turned}
 use Rattle.ert_defs.specs.declared.mail.Mail.{Mail}
 use Rattle.ert_defs.specs.declared.mail.Mail.TheVariants.{Timeout, Bare as BareMail, CancelDone, ReadDone, Change}
 use Rattle.ert_defs.specs.declared.mail.Request.{Request}
@@ -82,25 +82,26 @@ IsLeft None old status new = (status ≡ NO_TIMER) × (new ≡ old)
 abbrev pub IsFlag : Bool → ℤ → ℕ → Type 0
 IsFlag answer status new = (status ≡ OK) × (new ≡ flag answer)
 
+-- what a call gave, as C finds it in a place of its own; for want of memory that place is as it was
+abbrev pub IsGiven : {A P : Type 0} → (A → P) → Result A WantOfMemory → P → ℤ → P → Type 0
+IsGiven shown (Ok given) old status new = (status ≡ OK) × (new ≡ shown given)
+IsGiven shown (Err e) old status new = (status ≡ NO_MEMORY) × (new ≡ old)
+
 -- a number, or want of memory
 abbrev pub IsNumber : Result ℕ WantOfMemory → ℕ → ℤ → ℕ → Type 0
-IsNumber (Ok n) old status new = (status ≡ OK) × (new ≡ n)
-IsNumber (Err e) old status new = (status ≡ NO_MEMORY) × (new ≡ old)
+IsNumber = IsGiven (λ n. n)
 
 -- whether a request was served, or want of memory
 abbrev pub IsServed : Result Bool WantOfMemory → ℕ → ℤ → ℕ → Type 0
-IsServed (Ok served) old status new = (status ≡ OK) × (new ≡ flag served)
-IsServed (Err e) old status new = (status ≡ NO_MEMORY) × (new ≡ old)
+IsServed = IsGiven flag
 
 -- to which millisecond a wheel was advanced and how many timers expired, or want of memory
 abbrev pub IsAdvanced : Result (ℕ × ℕ) WantOfMemory → ErtAdvanced → ℤ → ErtAdvanced → Type 0
-IsAdvanced (Ok p) old status new = (status ≡ OK) × (new ≡ record { to = p.0; fired = p.1 })
-IsAdvanced (Err e) old status new = (status ≡ NO_MEMORY) × (new ≡ old)
+IsAdvanced = IsGiven (λ p. record { to = p.0; fired = p.1 })
 
 -- how many messages were put and dropped, or want of memory
 abbrev pub IsDelivered : Result (ℕ × ℕ) WantOfMemory → ErtDelivered → ℤ → ErtDelivered → Type 0
-IsDelivered (Ok p) old status new = (status ≡ OK) × (new ≡ record { put = p.0; dropped = p.1 })
-IsDelivered (Err e) old status new = (status ≡ NO_MEMORY) × (new ≡ old)
+IsDelivered = IsGiven (λ p. record { put = p.0; dropped = p.1 })
 
 -- what a turn did, for C
 abbrev pub turned_as : Turned → ErtTurned
@@ -108,8 +109,7 @@ turned_as t = record { to = t.to; served = t.served; fired = t.fired; put = t.pu
 
 -- what a turn did, or want of memory
 abbrev pub IsTurned : Result Turned WantOfMemory → ErtTurned → ℤ → ErtTurned → Type 0
-IsTurned (Ok t) old status new = (status ≡ OK) × (new ≡ turned_as t)
-IsTurned (Err e) old status new = (status ≡ NO_MEMORY) × (new ≡ old)
+IsTurned = IsGiven turned_as
 
 -- the reference in a message that names no timer
 abbrev pub no_timer : ErtTimer

@@ -5,7 +5,7 @@ ghost use Rattle.ert_c.specs.Opened.{reading_as, Opens, Closes};
 ghost use Rattle.ert_c.specs.Through.{Through, Answers, AnswersThrough};
 
 use crate::clock_calls::{ErtMoved, ErtOffset, state_as, tell_finalized, tell_moved};
-use crate::handle::ErtWorld;
+use crate::handle::{ErtWorld, opened};
 use crate::opening::{ErtReading, ErtSettings};
 use crate::status::{CLOSED, NO_MEMORY, OK, OPEN};
 use ert_world::World;
@@ -57,11 +57,7 @@ pub extern "C" fn ert_world_tick(
 ) -> i32
     ensures { AnswersThrough (TicksBy (reading_as reading.now) (is_on force)) IsMoved moved.old moved.new world.old.place.value result world.new.place.value }
 {
-    if !world.live {
-        return CLOSED;
-    }
-    let service = world.place.as_place().lend();
-    let answer = service.tick(reading.read(), force != 0);
+    let answer = opened!(world).tick(reading.read(), force != 0);
     tell_moved(answer, moved)
 }
 
@@ -77,10 +73,7 @@ pub extern "C" fn ert_world_finalize(
         (Answers (FinalizesBy (reading_as reading.now)) (λ answer. IsFinalized answer before.old moved.old result before.new moved.new))
         world.old.place.value result world.new.place.value }
 {
-    if !world.live {
-        return CLOSED;
-    }
-    let answer = world.place.as_place().lend().finalize(reading.read());
+    let answer = opened!(world).finalize(reading.read());
     tell_finalized(answer, before, moved)
 }
 
@@ -89,10 +82,7 @@ pub extern "C" fn ert_world_finalize(
 pub extern "C" fn ert_world_monotonic_time(world: &mut ErtWorld, time: &mut i64) -> i32
     ensures { Through (time.new ≡ time.old) (ReadsTime result time.new) world.old.place.value result world.new.place.value }
 {
-    if !world.live {
-        return CLOSED;
-    }
-    *time = world.place.as_place().lend().monotonic_time();
+    *time = opened!(world).monotonic_time();
     OK
 }
 
@@ -101,10 +91,7 @@ pub extern "C" fn ert_world_monotonic_time(world: &mut ErtWorld, time: &mut i64)
 pub extern "C" fn ert_world_system_time(world: &mut ErtWorld, time: &mut i64) -> i32
     ensures { Through (time.new ≡ time.old) (ReadsSystemTime result time.new) world.old.place.value result world.new.place.value }
 {
-    if !world.live {
-        return CLOSED;
-    }
-    *time = world.place.as_place().lend().system_time();
+    *time = opened!(world).system_time();
     OK
 }
 
@@ -113,10 +100,7 @@ pub extern "C" fn ert_world_system_time(world: &mut ErtWorld, time: &mut i64) ->
 pub extern "C" fn ert_world_time_offset(world: &mut ErtWorld, offset: &mut ErtOffset) -> i32
     ensures { Through (offset.new ≡ offset.old) (ReadsOffset result offset.new) world.old.place.value result world.new.place.value }
 {
-    if !world.live {
-        return CLOSED;
-    }
-    let (value, state) = world.place.as_place().lend().time_offset();
+    let (value, state) = opened!(world).time_offset();
     *offset = ErtOffset {
         offset: value,
         state: state_as(state),

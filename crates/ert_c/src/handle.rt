@@ -87,3 +87,39 @@ pub struct ErtSeat {
     pub(crate) live: bool,
     ghost told: { is_there place.value ≡ live },
 }
+
+/// What stands behind a handle. Where it is closed, the call that asks ends.
+macro_rules! opened {
+    ($handle:ident) => {{
+        if !$handle.live {
+            return CLOSED;
+        }
+        $handle.place.as_place().lend()
+    }};
+}
+
+/// The service of a handle, for a call at a scheduler. Where there is no such one, the call ends.
+macro_rules! at_sched {
+    ($world:ident, $sched:ident) => {{
+        let service = opened!($world);
+        if $sched >= service.settings().schedulers {
+            return RANGE;
+        }
+        service
+    }};
+}
+
+/// The service of a handle, for a call for a process. Where there is no such one, the call ends.
+macro_rules! at_process {
+    ($world:ident, $process:ident) => {{
+        let service = opened!($world);
+        if $process >= service.settings().processes {
+            return RANGE;
+        }
+        service
+    }};
+}
+
+pub(crate) use at_process;
+pub(crate) use at_sched;
+pub(crate) use opened;

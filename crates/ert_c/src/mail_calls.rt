@@ -4,8 +4,8 @@ ghost use Rattle.ert_c.specs.Told.{no_timer, mail_of, mail_as, request_of, reque
 
 use crate::status::{EMPTY, EXITED, FULL, NO_MEMORY, NO_MONITOR, OK};
 use crate::timer_calls::ErtTimer;
-use ert_answers::{MonitorErr, Taken};
 use ert_defs::{Mail, NoMemory, Request, RequestKind};
+use ert_effects::{MonitorErr, Taken};
 
 /// A message. Fields that its kind has not are 0.
 #[repr(C)]

@@ -4,24 +4,22 @@ ghost use Rattle.ert_c.specs.Calls.{AtProcess, AnswersAtProcess, PutsRequest, Ta
 ghost use Rattle.ert_c.specs.Told.{IsTaken, IsMonitored, IsDemonitored, IsNumber};
 ghost use Rattle.ert_c.specs.Through.{Through};
 
-use crate::handle::ErtWorld;
+use crate::handle::{ErtWorld, at_process, opened};
 use crate::mail_calls::{
     ErtMail, ErtRequest, request_kind_at, tell_asked, tell_demonitored, tell_monitored, tell_taken,
 };
 use crate::status::{BAD_KIND, CLOSED, RANGE};
-use crate::turn_calls::tell_number;
+use crate::turn_calls::tell;
+
 /// Asks the scheduler of a timer to cancel or to read it.
 #[unsafe(no_mangle)]
 pub extern "C" fn ert_world_ask(world: &mut ErtWorld, request: &ErtRequest) -> i32
     ensures { PutsRequest request.now world.old.place.value result world.new.place.value }
 {
-    if !world.live {
-        return CLOSED;
-    }
+    let service = opened!(world);
     let Some(kind) = request_kind_at(request.kind) else {
         return BAD_KIND;
     };
-    let service = world.place.as_place().lend();
     if request.reply_to >= service.settings().processes {
         return RANGE;
     }
@@ -34,13 +32,7 @@ pub extern "C" fn ert_world_ask(world: &mut ErtWorld, request: &ErtRequest) -> i
 pub extern "C" fn ert_world_take(world: &mut ErtWorld, process: u32, mail: &mut ErtMail) -> i32
     ensures { AnswersAtProcess process (TakesBy process) IsTaken mail.old mail.new world.old.place.value result world.new.place.value }
 {
-    if !world.live {
-        return CLOSED;
-    }
-    let service = world.place.as_place().lend();
-    if process >= service.settings().processes {
-        return RANGE;
-    }
+    let service = at_process!(world, process);
     let answer = service.take(process);
     tell_taken(answer, mail)
 }
@@ -50,13 +42,7 @@ pub extern "C" fn ert_world_take(world: &mut ErtWorld, process: u32, mail: &mut 
 pub extern "C" fn ert_world_monitor(world: &mut ErtWorld, process: u32, monitor: &mut u32) -> i32
     ensures { AnswersAtProcess process (MonitorsBy process) IsMonitored monitor.old monitor.new world.old.place.value result world.new.place.value }
 {
-    if !world.live {
-        return CLOSED;
-    }
-    let service = world.place.as_place().lend();
-    if process >= service.settings().processes {
-        return RANGE;
-    }
+    let service = at_process!(world, process);
     let answer = service.monitor(process);
     tell_monitored(answer, monitor)
 }
@@ -66,15 +52,9 @@ pub extern "C" fn ert_world_monitor(world: &mut ErtWorld, process: u32, monitor:
 pub extern "C" fn ert_world_tell(world: &mut ErtWorld, process: u32, told: &mut u32) -> i32
     ensures { AnswersAtProcess process (TellsBy process) IsNumber told.old told.new world.old.place.value result world.new.place.value }
 {
-    if !world.live {
-        return CLOSED;
-    }
-    let service = world.place.as_place().lend();
-    if process >= service.settings().processes {
-        return RANGE;
-    }
+    let service = at_process!(world, process);
     let answer = service.tell(process);
-    tell_number(answer, told)
+    tell(answer, told)
 }
 
 /// Removes a monitor.
@@ -83,13 +63,7 @@ pub extern "C" fn ert_world_demonitor(world: &mut ErtWorld, process: u32, monito
     ensures { Through ⊤ (AtProcess process (DemonitorsBy process monitor) (λ answer. IsDemonitored answer result) result ⊤)
         world.old.place.value result world.new.place.value }
 {
-    if !world.live {
-        return CLOSED;
-    }
-    let service = world.place.as_place().lend();
-    if process >= service.settings().processes {
-        return RANGE;
-    }
+    let service = at_process!(world, process);
     let answer = service.demonitor(process, monitor);
     tell_demonitored(answer)
 }

@@ -6,7 +6,7 @@ ghost use Rattle.ert_c.specs.Through.{Through, AnswersThrough};
 ghost use Rattle.ert_c.specs.Told.{timer_of, IsLeft};
 
 use crate::clock_calls::{ErtOffset, state_as};
-use crate::handle::{ErtSeat, ErtWorld};
+use crate::handle::{ErtSeat, ErtWorld, opened};
 use crate::status::{CLOSED, NO_MEMORY, NO_SEAT, OK, OPEN, RANGE};
 use crate::timer_calls::{ErtTimer, tell_flag, tell_left};
 use ert_world::SeatErr;
@@ -20,10 +20,7 @@ pub extern "C" fn ert_seat_open(alloc: Global, seat: &mut ErtSeat, world: &mut E
     if seat.live {
         return OPEN;
     }
-    if !world.live {
-        return CLOSED;
-    }
-    match world.place.as_place().lend().seat(alloc) {
+    match opened!(world).seat(alloc) {
         Ok(given) => {
             seat.place.as_place().fill(given);
             seat.live = true;
@@ -52,10 +49,7 @@ pub extern "C" fn ert_seat_close(alloc: Global, seat: &mut ErtSeat) -> i32
 pub extern "C" fn ert_seat_monotonic_time(seat: &mut ErtSeat, time: &mut i64) -> i32
     ensures { Through (time.new ≡ time.old) (SeatReadsTime result time.new) seat.old.place.value result seat.new.place.value }
 {
-    if !seat.live {
-        return CLOSED;
-    }
-    *time = seat.place.as_place().lend().monotonic_time();
+    *time = opened!(seat).monotonic_time();
     OK
 }
 
@@ -64,10 +58,7 @@ pub extern "C" fn ert_seat_monotonic_time(seat: &mut ErtSeat, time: &mut i64) ->
 pub extern "C" fn ert_seat_system_time(seat: &mut ErtSeat, time: &mut i64) -> i32
     ensures { Through (time.new ≡ time.old) (SeatReadsSystemTime result time.new) seat.old.place.value result seat.new.place.value }
 {
-    if !seat.live {
-        return CLOSED;
-    }
-    *time = seat.place.as_place().lend().system_time();
+    *time = opened!(seat).system_time();
     OK
 }
 
@@ -76,10 +67,7 @@ pub extern "C" fn ert_seat_system_time(seat: &mut ErtSeat, time: &mut i64) -> i3
 pub extern "C" fn ert_seat_time_offset(seat: &mut ErtSeat, offset: &mut ErtOffset) -> i32
     ensures { Through (offset.new ≡ offset.old) (SeatReadsOffset result offset.new) seat.old.place.value result seat.new.place.value }
 {
-    if !seat.live {
-        return CLOSED;
-    }
-    let (value, state) = seat.place.as_place().lend().time_offset();
+    let (value, state) = opened!(seat).time_offset();
     *offset = ErtOffset {
         offset: value,
         state: state_as(state),
@@ -92,10 +80,7 @@ pub extern "C" fn ert_seat_time_offset(seat: &mut ErtSeat, offset: &mut ErtOffse
 pub extern "C" fn ert_seat_cancel(seat: &mut ErtSeat, timer: &ErtTimer, left: &mut u64) -> i32
     ensures { AnswersThrough (SeatCancelsBy (timer_of timer.now)) IsLeft left.old left.new seat.old.place.value result seat.new.place.value }
 {
-    if !seat.live {
-        return CLOSED;
-    }
-    let answer = seat.place.as_place().lend().cancel_timer(timer.read());
+    let answer = opened!(seat).cancel_timer(timer.read());
     tell_left(answer, left)
 }
 
@@ -104,10 +89,7 @@ pub extern "C" fn ert_seat_cancel(seat: &mut ErtSeat, timer: &ErtTimer, left: &m
 pub extern "C" fn ert_seat_read(seat: &mut ErtSeat, timer: &ErtTimer, left: &mut u64) -> i32
     ensures { AnswersThrough (SeatReadsBy (timer_of timer.now)) IsLeft left.old left.new seat.old.place.value result seat.new.place.value }
 {
-    if !seat.live {
-        return CLOSED;
-    }
-    let answer = seat.place.as_place().lend().read_timer(timer.read());
+    let answer = opened!(seat).read_timer(timer.read());
     tell_left(answer, left)
 }
 
@@ -116,10 +98,7 @@ pub extern "C" fn ert_seat_read(seat: &mut ErtSeat, timer: &ErtTimer, left: &mut
 pub extern "C" fn ert_seat_is_alive(seat: &mut ErtSeat, process: u32, alive: &mut u32) -> i32
     ensures { Through (alive.new ≡ alive.old) (SeatTellsAlive process alive.old result alive.new) seat.old.place.value result seat.new.place.value }
 {
-    if !seat.live {
-        return CLOSED;
-    }
-    let taken = seat.place.as_place().lend();
+    let taken = opened!(seat);
     if process >= taken.processes() {
         return RANGE;
     }

@@ -3,8 +3,8 @@ ghost use Rattle.std.specs.Prelude.{◌≡◌};
 ghost use Rattle.ert_c.specs.Told.{timer_as, timer_of, start_of, flag, IsStarted, IsRoomTold, IsLeft, IsFlag};
 
 use crate::status::{BAD_TIME, FULL, NO_MEMORY, NO_TIMER, OK};
-use ert_answers::Room;
 use ert_defs::{Kind, Start, TimerRef, When};
+use ert_effects::Room;
 use ert_timers::StartErr;
 
 /// Names a timer.

@@ -4,9 +4,10 @@ ghost use Rattle.ert_c.specs.Calls.{AnswersAtProcess, StartsTimer, AsksRoom, Can
 ghost use Rattle.ert_c.specs.Told.{timer_of, IsLeft, IsFlag};
 ghost use Rattle.ert_c.specs.Through.{AnswersThrough};
 
-use crate::handle::ErtWorld;
+use crate::handle::{ErtWorld, at_process, at_sched, opened};
 use crate::status::{CLOSED, RANGE};
 use crate::timer_calls::{ErtStart, ErtTimer, tell_flag, tell_left, tell_room, tell_started};
+
 /// Starts a timer on the wheel of a scheduler.
 #[unsafe(no_mangle)]
 pub extern "C" fn ert_world_start(
@@ -17,13 +18,7 @@ pub extern "C" fn ert_world_start(
 ) -> i32
     ensures { StartsTimer sched start.now timer.old timer.new world.old.place.value result world.new.place.value }
 {
-    if !world.live {
-        return CLOSED;
-    }
-    let service = world.place.as_place().lend();
-    if sched >= service.settings().schedulers {
-        return RANGE;
-    }
+    let service = at_sched!(world, sched);
     if start.dest >= service.settings().processes {
         return RANGE;
     }
@@ -41,13 +36,7 @@ pub extern "C" fn ert_world_ready(
 ) -> i32
     ensures { AsksRoom sched ((room.new ≡ room.old) × (ready.new ≡ ready.old)) room.new ready.new world.old.place.value result world.new.place.value }
 {
-    if !world.live {
-        return CLOSED;
-    }
-    let service = world.place.as_place().lend();
-    if sched >= service.settings().schedulers {
-        return RANGE;
-    }
+    let service = at_sched!(world, sched);
     let answer = service.room(sched);
     tell_room(answer, room, ready)
 }
@@ -57,10 +46,7 @@ pub extern "C" fn ert_world_ready(
 pub extern "C" fn ert_world_cancel(world: &mut ErtWorld, timer: &ErtTimer, left: &mut u64) -> i32
     ensures { AnswersThrough (CancelsBy (timer_of timer.now)) IsLeft left.old left.new world.old.place.value result world.new.place.value }
 {
-    if !world.live {
-        return CLOSED;
-    }
-    let answer = world.place.as_place().lend().cancel_timer(timer.read());
+    let answer = opened!(world).cancel_timer(timer.read());
     tell_left(answer, left)
 }
 
@@ -69,10 +55,7 @@ pub extern "C" fn ert_world_cancel(world: &mut ErtWorld, timer: &ErtTimer, left:
 pub extern "C" fn ert_world_read(world: &mut ErtWorld, timer: &ErtTimer, left: &mut u64) -> i32
     ensures { AnswersThrough (ReadsBy (timer_of timer.now)) IsLeft left.old left.new world.old.place.value result world.new.place.value }
 {
-    if !world.live {
-        return CLOSED;
-    }
-    let answer = world.place.as_place().lend().read_timer(timer.read());
+    let answer = opened!(world).read_timer(timer.read());
     tell_left(answer, left)
 }
 
@@ -82,13 +65,7 @@ pub extern "C" fn ert_world_is_alive(world: &mut ErtWorld, process: u32, alive: 
     ensures { AnswersAtProcess process (TellsAliveBy process) (λ answer _. IsFlag answer) alive.old alive.new
         world.old.place.value result world.new.place.value }
 {
-    if !world.live {
-        return CLOSED;
-    }
-    let service = world.place.as_place().lend();
-    if process >= service.settings().processes {
-        return RANGE;
-    }
+    let service = at_process!(world, process);
     let answer = service.is_alive(process);
     tell_flag(answer, alive)
 }
@@ -99,13 +76,7 @@ pub extern "C" fn ert_world_exit(world: &mut ErtWorld, process: u32, first: &mut
     ensures { AnswersAtProcess process (ExitsBy process) (λ answer _. IsFlag answer) first.old first.new
         world.old.place.value result world.new.place.value }
 {
-    if !world.live {
-        return CLOSED;
-    }
-    let service = world.place.as_place().lend();
-    if process >= service.settings().processes {
-        return RANGE;
-    }
+    let service = at_process!(world, process);
     let answer = service.exit(process);
     tell_flag(answer, first)
 }

@@ -1,10 +1,10 @@
 //! What schedulers did, as C is told it.
 ghost use Rattle.std.specs.Prelude.{◌≡◌};
-ghost use Rattle.ert_c.specs.Told.{IsServed, IsAdvanced, IsDelivered, IsTurned, IsNumber, IsDueTold};
+ghost use Rattle.ert_c.specs.Told.{turned_as, IsGiven, IsServed, IsAdvanced, IsDelivered, IsTurned, IsDueTold};
 
 use crate::status::{EMPTY, NO_MEMORY, OK};
-use ert_answers::Turned;
 use ert_defs::NoMemory;
+use ert_effects::Turned;
 
 /// How far a wheel was advanced.
 #[repr(C)]
@@ -38,30 +38,34 @@ pub struct ErtTurned {
     pub dropped: u32,
 }
 
-/// Tells C whether a request was served.
-pub(crate) fn tell_served(answer: Result<bool, NoMemory>, served: &mut u32) -> i32
-    ensures { IsServed answer served.old result served.new }
+/// Tells C what a call gave, or that there was no memory for it.
+pub(crate) fn tell<T: Copy>(answer: Result<T, NoMemory>, place: &mut T) -> i32
+    ensures { IsGiven (λ given. given) answer place.old result place.new }
 {
     match answer {
-        Ok(one) => {
-            *served = u32::from(one);
+        Ok(given) => {
+            *place = given;
             OK
         }
         Err(_) => NO_MEMORY,
     }
 }
 
+/// Tells C whether a request was served.
+pub(crate) fn tell_served(answer: Result<bool, NoMemory>, served: &mut u32) -> i32
+    ensures { IsServed answer served.old result served.new }
+{
+    tell(answer.map(|one| u32::from(one)), served)
+}
+
 /// Tells C how far a wheel was advanced.
 pub(crate) fn tell_advanced(answer: Result<(u64, u32), NoMemory>, advanced: &mut ErtAdvanced) -> i32
     ensures { IsAdvanced answer advanced.old result advanced.new }
 {
-    match answer {
-        Ok((to, fired)) => {
-            *advanced = ErtAdvanced { to, fired };
-            OK
-        }
-        Err(_) => NO_MEMORY,
-    }
+    tell(
+        answer.map(|(to, fired)| ErtAdvanced { to, fired }),
+        advanced,
+    )
 }
 
 /// Tells C what was handed over.
@@ -71,44 +75,28 @@ pub(crate) fn tell_delivered(
 ) -> i32
     ensures { IsDelivered answer delivered.old result delivered.new }
 {
-    match answer {
-        Ok((put, dropped)) => {
-            *delivered = ErtDelivered { put, dropped };
-            OK
-        }
-        Err(_) => NO_MEMORY,
-    }
+    tell(
+        answer.map(|(put, dropped)| ErtDelivered { put, dropped }),
+        delivered,
+    )
 }
 
 /// Tells C what a turn did.
 pub(crate) fn tell_turned(answer: Result<Turned, NoMemory>, turned: &mut ErtTurned) -> i32
     ensures { IsTurned answer turned.old result turned.new }
 {
-    match answer {
-        Ok(done) => {
-            *turned = ErtTurned {
-                to: done.to,
-                served: done.served,
-                fired: done.fired,
-                put: done.put,
-                dropped: done.dropped,
-            };
-            OK
-        }
-        Err(_) => NO_MEMORY,
-    }
+    tell(answer.map(turned_as), turned)
 }
 
-/// Tells C a number.
-pub(crate) fn tell_number(answer: Result<u32, NoMemory>, number: &mut u32) -> i32
-    ensures { IsNumber answer number.old result number.new }
+fn turned_as(done: Turned) -> ErtTurned
+    ensures { result ≡ turned_as done }
 {
-    match answer {
-        Ok(told) => {
-            *number = told;
-            OK
-        }
-        Err(_) => NO_MEMORY,
+    ErtTurned {
+        to: done.to,
+        served: done.served,
+        fired: done.fired,
+        put: done.put,
+        dropped: done.dropped,
     }
 }
 

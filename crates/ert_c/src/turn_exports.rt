@@ -2,24 +2,19 @@
 ghost use Rattle.ert_c.specs.Calls.{AnswersAtSched, ServesBy, AdvancesBy, DeliversBy, TurnsBy, LooksAhead};
 ghost use Rattle.ert_c.specs.Told.{IsServed, IsAdvanced, IsDelivered, IsTurned, IsDueTold};
 
-use crate::handle::ErtWorld;
+use crate::handle::{ErtWorld, at_sched, opened};
 use crate::status::{CLOSED, RANGE};
 use crate::turn_calls::{
     ErtAdvanced, ErtDelivered, ErtTurned, tell_advanced, tell_delivered, tell_due, tell_served,
     tell_turned,
 };
+
 /// Serves one request of a scheduler.
 #[unsafe(no_mangle)]
 pub extern "C" fn ert_world_serve(world: &mut ErtWorld, sched: u32, served: &mut u32) -> i32
     ensures { AnswersAtSched sched (ServesBy sched) IsServed served.old served.new world.old.place.value result world.new.place.value }
 {
-    if !world.live {
-        return CLOSED;
-    }
-    let service = world.place.as_place().lend();
-    if sched >= service.settings().schedulers {
-        return RANGE;
-    }
+    let service = at_sched!(world, sched);
     let answer = service.serve(sched);
     tell_served(answer, served)
 }
@@ -33,13 +28,7 @@ pub extern "C" fn ert_world_advance(
 ) -> i32
     ensures { AnswersAtSched sched (AdvancesBy sched) IsAdvanced advanced.old advanced.new world.old.place.value result world.new.place.value }
 {
-    if !world.live {
-        return CLOSED;
-    }
-    let service = world.place.as_place().lend();
-    if sched >= service.settings().schedulers {
-        return RANGE;
-    }
+    let service = at_sched!(world, sched);
     let answer = service.advance(sched);
     tell_advanced(answer, advanced)
 }
@@ -53,13 +42,7 @@ pub extern "C" fn ert_world_deliver(
 ) -> i32
     ensures { AnswersAtSched sched (DeliversBy sched) IsDelivered delivered.old delivered.new world.old.place.value result world.new.place.value }
 {
-    if !world.live {
-        return CLOSED;
-    }
-    let service = world.place.as_place().lend();
-    if sched >= service.settings().schedulers {
-        return RANGE;
-    }
+    let service = at_sched!(world, sched);
     let answer = service.deliver(sched);
     tell_delivered(answer, delivered)
 }
@@ -69,13 +52,7 @@ pub extern "C" fn ert_world_deliver(
 pub extern "C" fn ert_world_turn(world: &mut ErtWorld, sched: u32, turned: &mut ErtTurned) -> i32
     ensures { AnswersAtSched sched (TurnsBy sched) IsTurned turned.old turned.new world.old.place.value result world.new.place.value }
 {
-    if !world.live {
-        return CLOSED;
-    }
-    let service = world.place.as_place().lend();
-    if sched >= service.settings().schedulers {
-        return RANGE;
-    }
+    let service = at_sched!(world, sched);
     let answer = service.turn(sched);
     tell_turned(answer, turned)
 }
@@ -85,13 +62,7 @@ pub extern "C" fn ert_world_turn(world: &mut ErtWorld, sched: u32, turned: &mut 
 pub extern "C" fn ert_world_next_due(world: &mut ErtWorld, sched: u32, due: &mut u64) -> i32
     ensures { AnswersAtSched sched (LooksAhead sched) IsDueTold due.old due.new world.old.place.value result world.new.place.value }
 {
-    if !world.live {
-        return CLOSED;
-    }
-    let service = world.place.as_place().lend();
-    if sched >= service.settings().schedulers {
-        return RANGE;
-    }
+    let service = at_sched!(world, sched);
     let answer = service.next_due(sched);
     tell_due(answer, due)
 }

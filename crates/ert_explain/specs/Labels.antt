@@ -10,14 +10,14 @@ use Rattle.ert_explain.specs.declared.op_name.OpName.{OpName}
 use Rattle.ert_explain.specs.declared.op_name.OpName.TheVariants.{Start, SendAfter}
 
 -- the integer that a value is, where the op is a start
-abbrev pub label_of : Data → OpName → Option ℤ
-label_of label Start = option_and_then as_i64 (as_number label)
-label_of label SendAfter = option_and_then as_i64 (as_number label)
-label_of label _ = None
+abbrev pub integer_label : Data → OpName → Option ℤ
+integer_label label Start = option_and_then as_i64 (as_number label)
+integer_label label SendAfter = option_and_then as_i64 (as_number label)
+integer_label label _ = None
 
 -- the label of an op of this name, where it is a start
 unfoldable pub start_label : Data → Data → Option ℤ
-start_label name label = option_and_then (label_of label) (option_and_then op_called (as_str name))
+start_label name label = option_and_then (integer_label label) (option_and_then op_called (as_str name))
 
 -- the label of an op with these items
 abbrev pub items_label : List Data → Option ℤ

@@ -1,6 +1,6 @@
 -- The message that tells an explanation.
 
-use Rattle.std.specs.Prelude.{ℕ, ℤ, ◌==◌, ◌++◌, List, [], codes, Bool, true, false, length, take, drop, min, Option, Some, None, if◌then◌else◌}
+use Rattle.std.specs.Prelude.{ℕ, ◌==◌, ◌++◌, List, [], codes, Bool, true, false, length, take, drop, min, Option, Some, None, if◌then◌else◌, ℤ}
 use Rattle.std.specs.Fmt.{decimal, signed_decimal}
 use Rattle.ert_scenario.specs.declared.scenario.ScenarioErr.{ScenarioErr}
 use Rattle.ert_scenario.specs.declared.scenario.ScenarioErr.TheVariants as refusals
@@ -176,21 +176,13 @@ between_text least greatest = from_text least ++ to_text greatest
 abbrev pub limits_text : Limits → List ℕ
 limits_text limits = between_text limits.least limits.greatest
 
--- what stands before the kind that a value has to be of
-unfoldable pub has_to_front : List ℕ
-has_to_front = codes "; it has to be "
-
 -- what a value has to be
 abbrev pub has_to_text : List ℕ → List ℕ
-has_to_text kind = has_to_front ++ kind
-
--- what stands before a name that may be meant
-unfoldable pub hint_front : List ℕ
-hint_front = codes "; did you mean \""
+has_to_text kind = codes "; it has to be " ⋅ kind
 
 -- a hint at a name
 abbrev pub hint_text : List ℕ → List ℕ
-hint_text name = (hint_front ++ name) ++ codes "\"?"
+hint_text name = codes "; did you mean \"" ⋅ name ⋅ codes "\"?"
 
 -- a hint at a known name that is near
 abbrev pub near_text : Option Near → List ℕ

@@ -8,6 +8,7 @@ use crate::field::Field;
 use crate::op_range::{Counts, Limits, is_out};
 use crate::param::Param;
 use crate::place::items_of;
+use ert_defs::milliseconds::NANOSECONDS_PER_MILLISECOND;
 use serde_json::Value;
 
 /// Which field of a scenario is out of its range: the first of these that is.
@@ -107,7 +108,7 @@ fn start_range(value: &Value) -> Option<FieldRange>
 fn is_part(start: i64) -> Option<FieldRange>
     ensures { result ≡ is_part start }
 {
-    if start.rem_euclid(1_000_000) == 0 {
+    if start.rem_euclid(NANOSECONDS_PER_MILLISECOND) == 0 {
         None
     } else {
         Some(FieldRange::PartOfMillisecond)

@@ -1,15 +1,13 @@
 //! What is wrong with the shape of the fields of a scenario.
-ghost use Rattle.std.specs.Prelude.{◌≡◌, true, map, string_bytes};
-ghost use Rattle.std.specs.BTreeMap.{keys};
-ghost use Rattle.std.specs.List.{list_all};
+ghost use Rattle.std.specs.Prelude.{◌≡◌, map};
 ghost use Rattle.serde_json.specs.View.{view};
-ghost use Rattle.ert_scenario.specs.Fields.{is_field, is_among, race_fields, clock_fields, other_fields};
 ghost use Rattle.ert_explain.specs.FieldShapes.{field_shape, names_shape, plain_shape, given_shape, fields_shape};
 ghost use Rattle.ert_explain.specs.FieldShapes.{race_names_shape, race_shape, in_race_shape, caller_from};
 
 use crate::field::Field;
 use crate::place::items_of;
-use serde_json::{Map, Value};
+use ert_scenario::{are_fields, are_race_fields};
+use serde_json::Value;
 
 /// What is wrong with the shape of the fields: the first of these that is, and of the fields the first in the order
 /// of `Field`.
@@ -47,39 +45,10 @@ fn names_shape(value: &Value) -> Option<FieldShape>
     ensures { result ≡ names_shape (view value.now) }
 {
     match value.as_object() {
-        Some(members) if are_fields(members) => None,
+        Some(members) if are_fields(members, true) => None,
         Some(_) => Some(FieldShape::OtherField),
         None => Some(FieldShape::NoObject),
     }
-}
-
-/// Whether each member is a field.
-fn are_fields(members: &Map<String, Value>) -> bool
-    ensures { result ≡ list_all (λ name. is_field true (string_bytes name)) (keys members.now) }
-{
-    members.keys().all(|name| is_field(name.as_str()))
-}
-
-/// Whether it is the name of a field, of a scenario with a race.
-fn is_field(name: &str) -> bool
-    ensures { result ≡ is_field true name.now }
-{
-    is_clock_field(name) || is_other_field(name) || name == "race"
-}
-
-fn is_clock_field(name: &str) -> bool
-    ensures { result ≡ is_among clock_fields name.now }
-{
-    matches!(name, "mode" | "correction" | "start" | "first")
-}
-
-fn is_other_field(name: &str) -> bool
-    ensures { result ≡ is_among other_fields name.now }
-{
-    matches!(
-        name,
-        "schedulers" | "processes" | "slots" | "format" | "ops"
-    )
 }
 
 /// A race stands there only where one is wanted.
@@ -156,19 +125,6 @@ fn race_names_shape(race: &Value) -> Option<FieldShape>
         Some(members) if !are_race_fields(members) => Some(FieldShape::OtherRaceField),
         _ => None,
     }
-}
-
-/// Whether each member is a field of a race.
-fn are_race_fields(members: &Map<String, Value>) -> bool
-    ensures { result ≡ list_all (λ name. is_among race_fields (string_bytes name)) (keys members.now) }
-{
-    members.keys().all(|name| is_race_field(name.as_str()))
-}
-
-fn is_race_field(name: &str) -> bool
-    ensures { result ≡ is_among race_fields name.now }
-{
-    matches!(name, "turns" | "keeper" | "callers")
 }
 
 /// The lists of callers are arrays.

@@ -9,15 +9,15 @@ use Rattle.ert_ops.specs.declared.op.Op.{Op}
 use Rattle.ert_ops.specs.declared.op.Op.TheVariants.{Tick, Check, Finalize, Notify, Time, System, Offset, Info, Convert, Start, SendAfter, Cancel, CancelQuiet, Read, CancelAsync, ReadAsync, Serve, Advance, Deliver, Turn, Receive, Exit, Alive, Monitor, Demonitor}
 use Rattle.ert_scenario.specs.Fields.{top_of, format_of}
 use Rattle.ert_scenario.specs.Kinds.{Found, ◌>>=◌, in_range}
-use Rattle.ert_scenario.specs.Labels.{label_of, has, is_new, with_label, tested}
+use Rattle.ert_scenario.specs.Labels.{started_label, has, is_new, with_label, tested}
 use Rattle.ert_scenario.specs.Places.{fault_of, fault_in, op_founds, founds_in, HasRangeFault, raw_at, settings_in, IsRead, IsStartAt}
 use Rattle.ert_scenario.specs.Ranges.{is_label, is_process, is_started, is_op}
-use Rattle.ert_scenario.specs.Lists.{OpValues, lists_of}
+use Rattle.ert_scenario.specs.Lists.{OpValues, lists_found}
 use Rattle.ert_scenario.specs.Walks.{all_raws, founds_of}
 use Rattle.ert_scenario.specs.declared.fault.Fault.TheVariants as faults
 use Rattle.ert_scenario.specs.declared.fields.Top.{Top}
 use Rattle.ert_scenario.proofs.Checked.{Decides-reading}
-use Rattle.ert_scenario.proofs.Valid.{in_range_tested}
+use Rattle.ert_scenario.proofs.InRange.{in_range_tested}
 
 -- ---- an op in range passes the test
 
@@ -75,16 +75,16 @@ passes_test g (Demonitor process monitor) h = both_true _ _ (below_test process 
 abbrev labels_before : List ℕ → List (Found Op) → ℕ → List ℕ
 labels_before labels [] i = labels
 labels_before labels (raw ∷ raws) zero = labels
-labels_before labels (Ok op ∷ raws) (suc i) = labels_before (with_label labels (label_of op)) raws i
+labels_before labels (Ok op ∷ raws) (suc i) = labels_before (with_label labels (started_label op)) raws i
 labels_before labels (Err fault ∷ raws) (suc i) = labels_before labels raws i
 
 -- the fault at an index, where the op was read
 at_tested : (g : Settings) (labels : List ℕ) (raws : List (Found Op)) (i : ℕ) (op : Op) → raw_at raws i ≡ Some (Ok op)
-    → fault_in (tested g labels raws) i ≡ fault_of (in_range (is_op g op && is_new (labels_before labels raws i) (label_of op)) op)
+    → fault_in (tested g labels raws) i ≡ fault_of (in_range (is_op g op && is_new (labels_before labels raws i) (started_label op)) op)
 at_tested g labels [] i op h = absurd (cc)
-at_tested g labels (Ok first ∷ raws) zero op h = let same : first ≡ op = cc in ap (λ o. fault_of (in_range (is_op g o && is_new labels (label_of o)) o)) same
+at_tested g labels (Ok first ∷ raws) zero op h = let same : first ≡ op = cc in ap (λ o. fault_of (in_range (is_op g o && is_new labels (started_label o)) o)) same
 at_tested g labels (Err fault ∷ raws) zero op h = absurd (cc)
-at_tested g labels (Ok first ∷ raws) (suc i) op h = at_tested g (with_label labels (label_of first)) raws i op h
+at_tested g labels (Ok first ∷ raws) (suc i) op h = at_tested g (with_label labels (started_label first)) raws i op h
 at_tested g labels (Err fault ∷ raws) (suc i) op h = at_tested g labels raws i op h
 
 has_first : (labels : List ℕ) (label : ℕ) → has (label ∷ labels) label ≡ true
@@ -105,20 +105,20 @@ has_with labels (Some one) label h = has_other labels one label h
 has_given : (labels : List ℕ) (raws : List (Found Op)) (i label : ℕ) → has labels label ≡ true → has (labels_before labels raws i) label ≡ true
 has_given labels [] i label h = h
 has_given labels (raw ∷ raws) zero label h = h
-has_given labels (Ok op ∷ raws) (suc i) label h = has_given (with_label labels (label_of op)) raws i label (has_with labels (label_of op) label h)
+has_given labels (Ok op ∷ raws) (suc i) label h = has_given (with_label labels (started_label op)) raws i label (has_with labels (started_label op) label h)
 has_given labels (Err fault ∷ raws) (suc i) label h = has_given labels raws i label h
 
 -- and that of an earlier start is there
-has_earlier : (labels : List ℕ) (raws : List (Found Op)) (i j label : ℕ) (op : Op) → j < i → raw_at raws j ≡ Some (Ok op) → label_of op ≡ Some label
+has_earlier : (labels : List ℕ) (raws : List (Found Op)) (i j label : ℕ) (op : Op) → j < i → raw_at raws j ≡ Some (Ok op) → started_label op ≡ Some label
     → has (labels_before labels raws i) label ≡ true
 has_earlier labels [] i j label op low here is = absurd (cc)
 has_earlier labels (raw ∷ raws) zero j label op low here is = absurd (omega arith)
 has_earlier labels (Ok first ∷ raws) (suc i) zero label op low here is =
     let same : first ≡ op = cc in
-    let named : label_of first ≡ Some label = ap label_of same ∙ is in
-    has_given (with_label labels (label_of first)) raws i label (subst (λ (o : Option ℕ). has (with_label labels o) label ≡ true) (sym named) (has_first labels label))
+    let named : started_label first ≡ Some label = ap started_label same ∙ is in
+    has_given (with_label labels (started_label first)) raws i label (subst (λ (o : Option ℕ). has (with_label labels o) label ≡ true) (sym named) (has_first labels label))
 has_earlier labels (Err fault ∷ raws) (suc i) zero label op low here is = absurd (cc)
-has_earlier labels (Ok first ∷ raws) (suc i) (suc j) label op low here is = has_earlier (with_label labels (label_of first)) raws i j label op (omega arith) here is
+has_earlier labels (Ok first ∷ raws) (suc i) (suc j) label op low here is = has_earlier (with_label labels (started_label first)) raws i j label op (omega arith) here is
 has_earlier labels (Err fault ∷ raws) (suc i) (suc j) label op low here is = has_earlier labels raws i j label op (omega arith) here is
 
 same_label : (a b : ℕ) → eqb a b ≡ true → b ≡ a
@@ -136,7 +136,7 @@ with_has labels (Some one) label h =
 later_start : (raw : Found Op) (raws : List (Found Op)) (j label : ℕ) → IsStartAt raws j label → IsStartAt (raw ∷ raws) (suc j) label
 later_start raw raws j label s = record { op = s.op; here = s.here; has = s.has }
 
-first_start : (op : Op) (raws : List (Found Op)) (label : ℕ) → label_of op ≡ Some label → IsStartAt (Ok op ∷ raws) 0 label
+first_start : (op : Op) (raws : List (Found Op)) (label : ℕ) → started_label op ≡ Some label → IsStartAt (Ok op ∷ raws) 0 label
 first_start op raws label h = record { op = op; here = refl; has = h }
 
 -- a label before an index is given, or that of an earlier start
@@ -145,8 +145,8 @@ has_from : (labels : List ℕ) (raws : List (Found Op)) (i label : ℕ) → has 
 has_from labels [] i label h given none = given h
 has_from labels (raw ∷ raws) zero label h given none = given h
 has_from labels (Ok op ∷ raws) (suc i) label h given none =
-    has_from (with_label labels (label_of op)) raws i label h
-    (λ w. elim (with_has labels (label_of op) label w) [ inl e ↦ none 0 (omega arith) (first_start op raws label e) | inr old ↦ given old ])
+    has_from (with_label labels (started_label op)) raws i label h
+    (λ w. elim (with_has labels (started_label op) label w) [ inl e ↦ none 0 (omega arith) (first_start op raws label e) | inr old ↦ given old ])
     (λ j low s. none (suc j) (omega arith) (later_start (Ok op) raws j label s))
 has_from labels (Err fault ∷ raws) (suc i) label h given none =
     has_from labels raws i label h given (λ j low s. none (suc j) (omega arith) (later_start (Err fault) raws j label s))
@@ -164,9 +164,9 @@ founds_read (Err fault) found g make raws opens h = absurd (cc)
 
 -- the fault at a place, where the op was read
 fault_at : (race : Bool) (d : Data) (g : Settings) (raws : List (Found Op)) (i : ℕ) (op : Op) → IsRead race d g raws → raw_at raws i ≡ Some (Ok op)
-    → fault_in (founds_in (op_founds race d)) i ≡ fault_of (in_range (is_op g op && is_new (labels_before [] raws i) (label_of op)) op)
+    → fault_in (founds_in (op_founds race d)) i ≡ fault_of (in_range (is_op g op && is_new (labels_before [] raws i) (started_label op)) op)
 fault_at race d g raws i op read here =
-    ap (λ (xs : List (Found Op)). fault_in xs i) (founds_read (lists_of race d) (top_of race d) g (all_raws (format_of d)) raws read.opens read.ops)
+    ap (λ (xs : List (Found Op)). fault_in xs i) (founds_read (lists_found race d) (top_of race d) g (all_raws (format_of d)) raws read.opens read.ops)
     ∙ at_tested g [] raws i op here
 
 fails_left : (a b : Bool) (op : Op) → (a ≡ true → ⊥) → fault_of (in_range (a && b) op) ≡ Some faults.Range
@@ -189,14 +189,14 @@ no_fault false b op e f h = true≢false (sym e)
 pub out_of_range : (race : Bool) (d : Data) (g : Settings) (raws : List (Found Op)) (i : ℕ) (op : Op) → IsRead race d g raws → raw_at raws i ≡ Some (Ok op) → (IsOpInRange g op → ⊥)
     → HasRangeFault race d (suc i)
 out_of_range race d g raws i op read here not =
-    fault_at race d g raws i op read here ∙ fails_left (is_op g op) (is_new (labels_before [] raws i) (label_of op)) op (λ h. not (in_range_tested g op h))
+    fault_at race d g raws i op read here ∙ fails_left (is_op g op) (is_new (labels_before [] raws i) (started_label op)) op (λ h. not (in_range_tested g op h))
 
 pub label_again : (race : Bool) (d : Data) (g : Settings) (raws : List (Found Op)) (i j label : ℕ) → IsRead race d g raws → j < i → IsStartAt raws j label → IsStartAt raws i label
     → HasRangeFault race d (suc i)
 label_again race d g raws i j label read low earlier later =
     let taken : has (labels_before [] raws i) label ≡ true = has_earlier [] raws i j label earlier.op low earlier.here earlier.has in
-    let old : is_new (labels_before [] raws i) (label_of later.op) ≡ false = ap (is_new (labels_before [] raws i)) later.has ∙ ap not taken in
-    fault_at race d g raws i later.op read later.here ∙ fails_right (is_op g later.op) (is_new (labels_before [] raws i) (label_of later.op)) later.op old
+    let old : is_new (labels_before [] raws i) (started_label later.op) ≡ false = ap (is_new (labels_before [] raws i)) later.has ∙ ap not taken in
+    fault_at race d g raws i later.op read later.here ∙ fails_right (is_op g later.op) (is_new (labels_before [] raws i) (started_label later.op)) later.op old
 
 new_unless : (labels : List ℕ) (o : Option ℕ) → ((label : ℕ) → o ≡ Some label → has labels label ≡ true → ⊥) → is_new labels o ≡ true
 new_unless labels None h = refl
@@ -209,7 +209,7 @@ new_unless labels (Some label) h = unless (has labels label) (h label refl)
 pub no_other : (race : Bool) (d : Data) (g : Settings) (raws : List (Found Op)) (i : ℕ) (op : Op) → IsRead race d g raws → raw_at raws i ≡ Some (Ok op) → IsOpInRange g op
     → ((j label : ℕ) → j < i → IsStartAt raws j label → IsStartAt raws i label → ⊥) → HasRangeFault race d (suc i) → ⊥
 no_other race d g raws i op read here fits none h =
-    let new : is_new (labels_before [] raws i) (label_of op) ≡ true =
-    new_unless (labels_before [] raws i) (label_of op)
+    let new : is_new (labels_before [] raws i) (started_label op) ≡ true =
+    new_unless (labels_before [] raws i) (started_label op)
     (λ label e taken. has_from [] raws i label taken (λ f. true≢false (sym f)) (λ j low s. none j label low s (record { op = op; here = here; has = e }))) in
-    no_fault (is_op g op) (is_new (labels_before [] raws i) (label_of op)) op (passes_test g op fits) new (sym (fault_at race d g raws i op read here) ∙ h)
+    no_fault (is_op g op) (is_new (labels_before [] raws i) (started_label op)) op (passes_test g op fits) new (sym (fault_at race d g raws i op read here) ∙ h)

@@ -1,20 +1,15 @@
 -- A value and its migrated value are the same scenario.
 
-use Rattle.std.proofs.Common.{◌≡◌, ◌+◌, ℕ, List, [], ◌∷◌, map, Bool, true, false, ◌&&◌, Option, Some, None, option_map, Ok, Err, Ordering, Less, Equal, Greater, nat_cmp, codes, bytes_eq, cond, sym, subst, ap, ◌∙◌, refl, true≢false}
+use Rattle.std.proofs.Common.{◌≡◌, ◌+◌, ℕ, List, [], map, Bool, true, false, Option, Some, None, option_map, Ok, Err, codes, bytes_eq, sym, subst, ap, ◌∙◌, refl}
 use Rattle.std.proofs.lemmas.List.{length-map}
-use Rattle.std.proofs.lemmas.Map.Text.{is_eq-slice_cmp}
-use Rattle.std.proofs.lemmas.Slice.Eq.{bytes_eq-Decides}
-use Rattle.std.specs.Cmp.Lexicographic.{slice_cmp}
-use Rattle.std.specs.List.{list_all}
-use Rattle.std.specs.Ordering.{match_ordering, is_eq}
-use Rattle.serde_json.specs.Data.{Data, null, boolean, number, string, array, object, unsigned, Members, no_members, member, put}
+use Rattle.serde_json.specs.Data.{Data, number, object, unsigned, Members, put}
 use Rattle.serde_json.specs.Find.{get, get_member}
 use Rattle.serde_json.proofs.Views.{get_member-put, get_member-put_other}
 use Rattle.ert_ops.specs.Races.{Race}
 use Rattle.ert_ops.specs.declared.op.Op.{Op}
 use Rattle.ert_scenario.specs.Fields.{is_among, race_fields, is_field, are_named, only_named, field, times, modes, clock_of, sizes_of, one_or_two, settings_of, race_turns, top_of, format_of}
-use Rattle.ert_scenario.specs.Kinds.{Found, found_map, ◌>>=◌, both, of_kind, in_range, integer, listed, list_of, is_array, arrays}
-use Rattle.ert_scenario.specs.Lists.{RaceValues, OpValues, race_lists, lists_in, lists_of, list_count}
+use Rattle.ert_scenario.specs.Kinds.{Found, found_map, ◌>>=◌, both, of_kind, in_range, integer, listed, arrays}
+use Rattle.ert_scenario.specs.Lists.{RaceValues, OpValues, race_lists, lists_in, lists_found, list_count}
 use Rattle.ert_scenario.specs.Migration.{IsOfFormat, migrated_op, each, migrated_list, with_field, changed_to, changed, migrated_race, migrated}
 use Rattle.ert_scenario.specs.Scenarios.{Plan, IsValue, IsScenario, with_callers, planned_race, planned, judged, judged_all, verdict_of}
 use Rattle.ert_scenario.specs.Labels.{tested}
@@ -27,143 +22,9 @@ use Rattle.ert_scenario.specs.declared.format.Format.{Format}
 use Rattle.ert_scenario.specs.declared.format.Format.TheVariants.{One, Two}
 use Rattle.ert_scenario.proofs.Founds.{both_seen}
 use Rattle.ert_scenario.proofs.Least.{verdict_at}
-use Rattle.ert_scenario.proofs.Listed.{list_of_items}
 use Rattle.ert_scenario.proofs.Migrated.{moved_race, moved_lists, all_kept}
 use Rattle.ert_scenario.proofs.Valid.{whole, tested_plan}
-
--- ---- the members of an object
-
-pub apart : (a b : List ℕ) → bytes_eq a b ≡ false → a ≡ b → ⊥
-apart a b h e = true≢false (sym ((bytes_eq-Decides a b).1 e) ∙ h)
-
-named_twice : (a b : Bool) → (a && (a && b)) ≡ (a && b)
-named_twice true b = refl
-named_twice false b = refl
-
-named_other : (a b c : Bool) → (a && c) ≡ c → (a && (b && c)) ≡ (b && c)
-named_other true b c h = refl
-named_other false true c h = h
-named_other false false c h = refl
-
-has_named_at : (o : Ordering) (is : List ℕ → Bool) (k l : List ℕ) (e v : Data) (ms : Members) → slice_cmp nat_cmp k l ≡ o
-    → (get_member k ms ≡ Some v → (is k && are_named is ms) ≡ are_named is ms) → match_ordering o (get_member k ms) (Some e) (get_member k ms) ≡ Some v
-    → (is k && (is l && are_named is ms)) ≡ (is l && are_named is ms)
-has_named_at Less is k l e v ms h later found = named_other (is k) (is l) (are_named is ms) (later found)
-has_named_at Equal is k l e v ms h later found =
-    let same : k ≡ l = (bytes_eq-Decides k l).0 (sym (is_eq-slice_cmp k l) ∙ ap is_eq h) in
-    ap (λ (n : List ℕ). is n && (is l && are_named is ms)) same ∙ named_twice (is l) (are_named is ms)
-has_named_at Greater is k l e v ms h later found = named_other (is k) (is l) (are_named is ms) (later found)
-
--- the name of a member is one of those of all
-has_named : (is : List ℕ → Bool) (k : List ℕ) (v : Data) (ms : Members) → get_member k ms ≡ Some v → (is k && are_named is ms) ≡ are_named is ms
-unfolding are_named
-has_named is k v no_members found = absurd (cc)
-has_named is k v (member l e ms) found = has_named_at (slice_cmp nat_cmp k l) is k l e v ms refl (has_named is k v ms) found
-
-put_named_at : (o : Ordering) (is : List ℕ → Bool) (k l : List ℕ) (d e : Data) (ms : Members) → slice_cmp nat_cmp k l ≡ o
-    → (are_named is (put k d ms) ≡ (is k && are_named is ms)) → are_named is (match_ordering o (member k d (member l e ms)) (member l d ms) (member l e (put k d ms)))
-    ≡ (is k && are_named is (member l e ms))
-unfolding are_named
-put_named_at Less is k l d e ms h later = refl
-put_named_at Equal is k l d e ms h later =
-    let same : k ≡ l = (bytes_eq-Decides k l).0 (sym (is_eq-slice_cmp k l) ∙ ap is_eq h) in
-    sym (ap (λ (n : List ℕ). is n && (is l && are_named is ms)) same ∙ named_twice (is l) (are_named is ms))
-put_named_at Greater is k l d e ms h later = ap (λ rest. is l && rest) later ∙ swapped (is l) (is k) (are_named is ms)
-  where
-    swapped : (a b c : Bool) → (a && (b && c)) ≡ (b && (a && c))
-    swapped true b c = refl
-    swapped false true c = refl
-    swapped false false c = refl
-
--- the names of the members with one put
-pub put_named : (is : List ℕ → Bool) (k : List ℕ) (d : Data) (ms : Members) → are_named is (put k d ms) ≡ (is k && are_named is ms)
-unfolding are_named
-put_named is k d no_members = refl
-put_named is k d (member l e ms) = put_named_at (slice_cmp nat_cmp k l) is k l d e ms refl (put_named is k d ms)
-
--- ---- a value with a field changed
-
-other_at : (k name : List ℕ) (change : Data → Data) (o : Option Data) (d : Data) → bytes_eq k name ≡ false → get k (changed_to name change o d) ≡ get k d
-unfolding with_field
-other_at k name change None d h = refl
-other_at k name change (Some v) null h = refl
-other_at k name change (Some v) (boolean b) h = refl
-other_at k name change (Some v) (number n) h = refl
-other_at k name change (Some v) (string s) h = refl
-other_at k name change (Some v) (array ds) h = refl
-other_at k name change (Some v) (object ms) h = get_member-put_other k name (change v) ms (apart k name h)
-
-other_field : (k name : List ℕ) (change : Data → Data) (d : Data) → bytes_eq k name ≡ false → get k (changed name change d) ≡ get k d
-unfolding changed
-other_field k name change d h = other_at k name change (get name d) d h
-
-same_at : (name : List ℕ) (change : Data → Data) (o : Option Data) (d : Data) → get name d ≡ o → get name (changed_to name change o d) ≡ option_map change o
-unfolding with_field
-same_at name change None d h = h
-same_at name change (Some v) null h = absurd (cc)
-same_at name change (Some v) (boolean b) h = absurd (cc)
-same_at name change (Some v) (number n) h = absurd (cc)
-same_at name change (Some v) (string s) h = absurd (cc)
-same_at name change (Some v) (array ds) h = absurd (cc)
-same_at name change (Some v) (object ms) h = get_member-put name (change v) ms
-
-this_field : (name : List ℕ) (change : Data → Data) (d : Data) → get name (changed name change d) ≡ option_map change (get name d)
-unfolding changed
-this_field name change d = same_at name change (get name d) d refl
-
-named_at : (is : List ℕ → Bool) (name : List ℕ) (change : Data → Data) (o : Option Data) (d : Data) → get name d ≡ o
-    → only_named is (changed_to name change o d) ≡ only_named is d
-unfolding with_field only_named of_kind
-named_at is name change None d h = refl
-named_at is name change (Some v) null h = refl
-named_at is name change (Some v) (boolean b) h = refl
-named_at is name change (Some v) (number n) h = refl
-named_at is name change (Some v) (string s) h = refl
-named_at is name change (Some v) (array ds) h = refl
-named_at is name change (Some v) (object ms) h = let same : are_named is (put name (change v) ms) ≡ are_named is ms = put_named is name (change v) ms ∙ has_named is name v ms h in rw same refl
-
-same_names : (is : List ℕ → Bool) (name : List ℕ) (change : Data → Data) (d : Data) → only_named is (changed name change d) ≡ only_named is d
-unfolding changed
-same_names is name change d = named_at is name change (get name d) d refl
-
--- ---- a list changed
-
-each_listed : (change : Data → Data) (o : Option Data) → listed (option_map (each change) o) ≡ found_map (map change) (listed o)
-unfolding listed of_kind each
-each_listed change None = refl
-each_listed change (Some null) = refl
-each_listed change (Some (boolean b)) = refl
-each_listed change (Some (number n)) = refl
-each_listed change (Some (string s)) = refl
-each_listed change (Some (object ms)) = refl
-each_listed change (Some (array ds)) = ap Ok (list_of_items (map change (list_of ds)))
-
-array_each : (change : Data → Data) (d : Data) → is_array (each change d) ≡ is_array d
-unfolding each
-array_each change null = refl
-array_each change (boolean b) = refl
-array_each change (number n) = refl
-array_each change (string s) = refl
-array_each change (array ds) = refl
-array_each change (object ms) = refl
-
-all_arrays_each : (ds : List Data) → list_all is_array (map migrated_list ds) ≡ list_all is_array ds
-all_arrays_each [] = refl
-all_arrays_each (d ∷ ds) = ap (λ b. b && list_all is_array (map migrated_list ds)) (array_each migrated_op d) ∙ ap (λ rest. is_array d && rest) (all_arrays_each ds)
-
-arrays_from : (found : Found (List Data)) → (found_map (map migrated_list) found >>= (λ lists. cond (list_all is_array lists) (Ok lists) (Err Shape)))
-    ≡ found_map (map migrated_list) (found >>= (λ lists. cond (list_all is_array lists) (Ok lists) (Err Shape)))
-arrays_from (Ok ds) = ap (λ b. cond b (Ok (map migrated_list ds)) (Err Shape)) (all_arrays_each ds) ∙ moved_if (list_all is_array ds) ds
-  where
-    moved_if : (is : Bool) (ds : List Data) → cond is (Ok (map migrated_list ds)) (Err Shape) ≡ found_map (map migrated_list) (cond is (Ok ds) (Err Shape))
-    moved_if true ds = refl
-    moved_if false ds = refl
-arrays_from (Err fault) = refl
-
-each_arrays : (o : Option Data) → arrays (option_map (each migrated_list) o) ≡ found_map (map migrated_list) (arrays o)
-unfolding arrays
-each_arrays o =
-    ap (λ (found : Found (List Data)). found >>= (λ lists. cond (list_all is_array lists) (Ok lists) (Err Shape))) (each_listed migrated_list o) ∙ arrays_from (listed o)
+use Rattle.ert_scenario.proofs.Changed.{other_field, this_field, same_names, each_listed, each_arrays, put_named, apart}
 
 -- ---- a race
 
@@ -266,32 +127,19 @@ moved_object ms =
 
 has_format : (d : Data) → IsOfFormat 1 d → IsMoved d
 unfolding integer of_kind
-has_format null h = absurd (cc)
-has_format (boolean b) h = absurd (cc)
-has_format (number n) h = absurd (cc)
-has_format (string s) h = absurd (cc)
-has_format (array ds) h = absurd (cc)
 has_format (object ms) h = moved_object ms
+has_format _ h = absurd (cc)
 
 no_ops : {X : Type 0} (rest : Found RaceValues) (make : List Data × RaceValues → Found X) (x : X) → (both (Err Shape) rest >>= make) ≡ Ok x → ⊥
 unfolding both
 no_ops rest make x h = cc
 
 -- a value that has lists is an object
-has_lists : (race : Bool) (d : Data) (lists : OpValues) → lists_of race d ≡ Ok lists → IsMoved d
-unfolding lists_of listed of_kind
-has_lists false null lists h = absurd (cc)
-has_lists false (boolean b) lists h = absurd (cc)
-has_lists false (number n) lists h = absurd (cc)
-has_lists false (string s) lists h = absurd (cc)
-has_lists false (array ds) lists h = absurd (cc)
-has_lists false (object ms) lists h = moved_object ms
-has_lists true null lists h = absurd (no_ops _ _ lists h)
-has_lists true (boolean b) lists h = absurd (no_ops _ _ lists h)
-has_lists true (number n) lists h = absurd (no_ops _ _ lists h)
-has_lists true (string s) lists h = absurd (no_ops _ _ lists h)
-has_lists true (array ds) lists h = absurd (no_ops _ _ lists h)
-has_lists true (object ms) lists h = moved_object ms
+has_lists : (race : Bool) (d : Data) (lists : OpValues) → lists_found race d ≡ Ok lists → IsMoved d
+unfolding lists_found listed of_kind
+has_lists race (object ms) lists h = moved_object ms
+has_lists false _ lists h = absurd (cc)
+has_lists true _ lists h = absurd (no_ops _ _ lists h)
 
 kept_field : (d : Data) (k : List ℕ) → IsMoved d → bytes_eq k FORMAT ≡ false → get k (migrated d) ≡ get k (with_lists d)
 kept_field d k m h =
@@ -378,8 +226,8 @@ then_together : (found : Found (List Data × RaceValues))
 then_together (Ok p) = refl
 then_together (Err fault) = refl
 
-lists_moved : (race : Bool) (d : Data) → IsMoved d → lists_of race (migrated d) ≡ found_map moved_lists (lists_of race d)
-unfolding lists_of
+lists_moved : (race : Bool) (d : Data) → IsMoved d → lists_found race (migrated d) ≡ found_map moved_lists (lists_found race d)
+unfolding lists_found
 lists_moved false d m =
     ap (λ (found : Found (List Data)). found >>= (λ ops. Ok (alone ops))) (ap listed (ops_moved d m) ∙ each_listed migrated_op (get OPS d)) ∙ then_alone (listed (get OPS d))
 lists_moved true d m =
@@ -420,10 +268,10 @@ migrated_same race d plan one h =
     let m = has_format d one in
     let reads : format_of d ≡ One = reads_one d one in
     let two : format_of (migrated d) ≡ Two = reads_two (migrated d) (is_two d m) in
-    let ours : lists_of race (migrated d) ≡ Ok (moved_lists t.lists) = lists_moved race d m ∙ ap (found_map moved_lists) t.listed in
+    let ours : lists_found race (migrated d) ≡ Ok (moved_lists t.lists) = lists_moved race d m ∙ ap (found_map moved_lists) t.listed in
     let top : top_of race (migrated d) ≡ Ok t.top = top_moved race d one m ∙ t.opens in
     let clean : all_raws One t.lists ≡ without_fault _ = ap (λ f. all_raws f t.lists) (sym reads) ∙ whole t.top.settings [] (all_raws (format_of d) t.lists) 1 t.range in
-    let before : judged_all One (Ok t.lists) (Ok t.top) ≡ Ok plan = verdict_parts (format_of d) (lists_of race d) (top_of race d) t.lists t.top plan reads t.listed t.opens h in
+    let before : judged_all One (Ok t.lists) (Ok t.top) ≡ Ok plan = verdict_parts (format_of d) (lists_found race d) (top_of race d) t.lists t.top plan reads t.listed t.opens h in
     rw (two, ours, top) (same_judged t.lists t.top _ clean ∙ before)
   where
     verdict_parts : (format : Format) (found : Found OpValues) (opened : Found Top) (lists : OpValues) (top : Top) (plan : Plan) → format ≡ One → found ≡ Ok lists → opened ≡ Ok top

@@ -1,12 +1,12 @@
 -- The places of a verdict are the least ones.
 
-use Rattle.std.proofs.Common.{◌≡◌, ◌+◌, ◌<◌, ◌≤◌, ◌⊎◌, inl, inr, ℕ, zero, suc, List, [], ◌∷◌, length, Bool, true, false, ◌||◌, Option, Some, None, Ok, Err, cond, ltb, sym, subst, ap, ◌∙◌, arith, refl}
+use Rattle.std.proofs.Common.{◌≡◌, ◌+◌, ◌<◌, ◌≤◌, ◌⊎◌, inl, inr, ℕ, zero, suc, List, length, Bool, true, false, ◌||◌, Option, Some, None, Ok, Err, cond, ltb, sym, subst, ap, ◌∙◌, arith, refl}
 use Rattle.std.proofs.lemmas.Bool.Decides.{nat_tests}
 use Rattle.serde_json.specs.Data.{Data}
 use Rattle.ert_scenario.specs.Fields.{top_of, format_of}
 use Rattle.ert_scenario.specs.Kinds.{Found, ◌>>=◌, both, of_kind, listed, arrays}
-use Rattle.ert_scenario.specs.Lists.{OpValues, lists_in, race_lists, lists_of, list_count}
-use Rattle.ert_scenario.specs.Places.{fault_of, fault_in, founds_in, op_founds, fault_by, HasShapeFault, count_in, turns_in, IsLeast, IsNowhere}
+use Rattle.ert_scenario.specs.Lists.{OpValues, lists_in, race_lists, lists_found, list_count}
+use Rattle.ert_scenario.specs.Places.{fault_in, founds_in, op_founds, fault_by, HasShapeFault, count_in, turns_in, IsLeast, IsNowhere}
 use Rattle.ert_scenario.specs.Scenarios.{Plan, Verdict, IsValue, Judges, IsScenario, HasRefusal, refused, is_over, over, planned, judged, judged_all, verdict_of}
 use Rattle.ert_scenario.specs.Walks.{first_shape, first_range, all_raws, founds_of}
 use Rattle.ert_scenario.specs.declared.fault.Fault.{Fault}
@@ -18,68 +18,7 @@ use Rattle.ert_scenario.specs.declared.scenario.ScenarioErr.{ScenarioErr}
 use Rattle.ert_scenario.specs.declared.scenario.ScenarioErr.TheVariants.{Shape, Range, Limit}
 use Rattle.ert_scenario.proofs.Accepted.{AreFew, accepts}
 use Rattle.ert_scenario.proofs.Founds.{both_err}
-
--- ---- a list that begins at place k
-
--- the first index with the fault, at this place
-record LeastFrom (k place : ℕ) (fault : Fault) (founds : List (Found Op)) : Type 0 where
-  pub index : ℕ
-  pub at : place ≡ k + index
-  pub here : fault_in founds index ≡ Some fault
-  pub least : (i : ℕ) → i < index → fault_in founds i ≡ Some fault → ⊥
-
-abbrev Lacks : Fault → List (Found Op) → Type 0
-Lacks fault founds = (i : ℕ) → fault_in founds i ≡ Some fault → ⊥
-
-lacks_one : (fault : Fault) (found : Found Op) (rest : List (Found Op)) → (fault_of found ≡ Some fault → ⊥) → Lacks fault rest → Lacks fault (found ∷ rest)
-lacks_one fault found rest not others zero h = not h
-lacks_one fault found rest not others (suc i) h = others i h
-
-below_one : (fault : Fault) (found : Found Op) (rest : List (Found Op)) (index : ℕ) → (fault_of found ≡ Some fault → ⊥)
-    → ((i : ℕ) → i < index → fault_in rest i ≡ Some fault → ⊥) → (i : ℕ) → i < suc index → fault_in (found ∷ rest) i ≡ Some fault → ⊥
-below_one fault found rest index not others zero low h = not h
-below_one fault found rest index not others (suc i) low h = others i (omega arith) h
-
-later : (k place : ℕ) (fault : Fault) (found : Found Op) (rest : List (Found Op)) → (fault_of found ≡ Some fault → ⊥)
-    → LeastFrom (k + 1) place fault rest → LeastFrom k place fault (found ∷ rest)
-later k place fault found rest not h = record {
-  index = suc h.index;
-  at = let e : place ≡ (k + 1) + h.index = h.at in omega arith;
-  here = h.here;
-  least = below_one fault found rest h.index not h.least;
-}
-
-first : (k place : ℕ) (fault : Fault) (rest : List (Found Op)) → k ≡ place → LeastFrom k place fault (Err fault ∷ rest)
-first k place fault rest e = record {
-  index = 0;
-  at = omega arith;
-  here = refl;
-  least = λ i low h. absurd (omega arith);
-}
-
-shape_from : (k place : ℕ) (founds : List (Found Op)) → first_shape k founds ≡ Some place → LeastFrom k place faults.Shape founds
-shape_from k place [] h = absurd (cc)
-shape_from k place (Ok op ∷ rest) h = later k place faults.Shape (Ok op) rest (λ no. cc) (shape_from (k + 1) place rest h)
-shape_from k place (Err faults.Shape ∷ rest) h = first k place faults.Shape rest (cc)
-shape_from k place (Err faults.Range ∷ rest) h = later k place faults.Shape (Err faults.Range) rest (λ no. cc) (shape_from (k + 1) place rest h)
-
-lacks_shape : (k : ℕ) (founds : List (Found Op)) → first_shape k founds ≡ None → Lacks faults.Shape founds
-lacks_shape k [] h = λ i no. cc
-lacks_shape k (Ok op ∷ rest) h = lacks_one faults.Shape (Ok op) rest (λ no. cc) (lacks_shape (k + 1) rest h)
-lacks_shape k (Err faults.Shape ∷ rest) h = absurd (cc)
-lacks_shape k (Err faults.Range ∷ rest) h = lacks_one faults.Shape (Err faults.Range) rest (λ no. cc) (lacks_shape (k + 1) rest h)
-
-range_from : (k place : ℕ) (founds : List (Found Op)) → Lacks faults.Shape founds → first_range k founds ≡ Some place → LeastFrom k place faults.Range founds
-range_from k place [] lacks h = absurd (cc)
-range_from k place (Ok op ∷ rest) lacks h =
-    later k place faults.Range (Ok op) rest (λ no. cc) (range_from (k + 1) place rest (λ i. lacks (suc i)) h)
-range_from k place (Err faults.Shape ∷ rest) lacks h = absurd (lacks 0 refl)
-range_from k place (Err faults.Range ∷ rest) lacks h = first k place faults.Range rest (cc)
-
-lacks_range : (k : ℕ) (founds : List (Found Op)) → first_range k founds ≡ None → Lacks faults.Range founds
-lacks_range k [] h = λ i no. cc
-lacks_range k (Ok op ∷ rest) h = lacks_one faults.Range (Ok op) rest (λ no. cc) (lacks_range (k + 1) rest h)
-lacks_range k (Err fault ∷ rest) h = absurd (cc)
+use Rattle.ert_scenario.proofs.LeastFrom.{LeastFrom, Lacks, shape_from, lacks_shape, range_from, lacks_range}
 
 -- ---- the places of a value
 
@@ -339,8 +278,8 @@ race_not_range value h =
     next_not_range (of_kind value) lists_in (kind_not_range value)
     (λ race. next_not_range (both _ _) _ (both_err _ _ (listed_not_range _) (arrays_not_range _)) (λ p e. cc)) h
 
-lists_not_range : (race : Bool) (d : Data) → lists_of race d ≡ Err faults.Range → ⊥
-unfolding lists_of
+lists_not_range : (race : Bool) (d : Data) → lists_found race d ≡ Err faults.Range → ⊥
+unfolding lists_found
 lists_not_range false d h = next_not_range (listed _) _ (listed_not_range _) (λ ops e. cc) h
 lists_not_range true d h = next_not_range (both _ _) _ (both_err _ _ (listed_not_range _) (race_not_range _)) (λ p e. cc) h
 
@@ -354,19 +293,19 @@ verdict_at race bytes d verdict v judges = ap (verdict_of race) (same_value byte
 
 pub least_shape : (race : Bool) (bytes : List ℕ) (d : Data) (place : ℕ) → IsValue bytes d → HasRefusal race bytes (Shape place) → IsLeast (HasShapeFault race d) place
 unfolding verdict_of
-least_shape race bytes d place v h = shape_all (format_of d) (lists_of race d) (top_of race d) place (lists_not_range race d) (verdict_at race bytes d _ v h)
+least_shape race bytes d place v h = shape_all (format_of d) (lists_found race d) (top_of race d) place (lists_not_range race d) (verdict_at race bytes d _ v h)
 
 pub least_range : (race : Bool) (bytes : List ℕ) (d : Data) (place : ℕ) → IsValue bytes d → HasRefusal race bytes (Range place)
     → RangeAt (top_of race d) (op_founds race d) place
 unfolding verdict_of
-least_range race bytes d place v h = range_all (format_of d) (lists_of race d) (top_of race d) place (verdict_at race bytes d _ v h)
+least_range race bytes d place v h = range_all (format_of d) (lists_found race d) (top_of race d) place (verdict_at race bytes d _ v h)
 
 pub no_place_limit : (race : Bool) (bytes : List ℕ) (d : Data) (place : ℕ) → IsValue bytes d → HasRefusal race bytes (Limit place)
-    → TooMany (top_of race d) (op_founds race d) (count_in (lists_of race d)) place
+    → TooMany (top_of race d) (op_founds race d) (count_in (lists_found race d)) place
 unfolding verdict_of
-no_place_limit race bytes d place v h = limit_all (format_of d) (lists_of race d) (top_of race d) place (verdict_at race bytes d _ v h)
+no_place_limit race bytes d place v h = limit_all (format_of d) (lists_found race d) (top_of race d) place (verdict_at race bytes d _ v h)
 
 pub no_place_scenario : (race : Bool) (bytes : List ℕ) (d : Data) (plan : Plan) → IsValue bytes d → IsScenario race bytes plan
-    → IsClean (top_of race d) (op_founds race d) (count_in (lists_of race d))
+    → IsClean (top_of race d) (op_founds race d) (count_in (lists_found race d))
 unfolding verdict_of
-no_place_scenario race bytes d plan v h = accepted_all (format_of d) (lists_of race d) (top_of race d) plan (verdict_at race bytes d _ v h)
+no_place_scenario race bytes d plan v h = accepted_all (format_of d) (lists_found race d) (top_of race d) plan (verdict_at race bytes d _ v h)

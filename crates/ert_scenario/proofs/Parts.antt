@@ -5,7 +5,7 @@ use Rattle.std.proofs.lemmas.Bool.{false≢true}
 use Rattle.std.specs.Bool.{Decides}
 use Rattle.std.specs.Option.{ok_or}
 use Rattle.std.proofs.lemmas.Bool.Decides.{Decides-and, Decides-like, Decides-ltb, same_from_decides}
-use Rattle.ert_units.specs.Units.{IsParts}
+use Rattle.ert_ops.specs.Units.{IsParts}
 use Rattle.ert_scenario.specs.Kinds.{in_range}
 use Rattle.ert_scenario.specs.Units.{is_parts, unit_of}
 use Rattle.ert_scenario.specs.declared.fault.Fault.TheVariants.{Range}

@@ -1,6 +1,6 @@
 -- What is read of tokens, by the grammar and under the conversion to data.
 
-use Rattle.std.proofs.Common.{◌≡◌, ◌<◌, ◌≤◌, ◌-◌, ℕ, suc, List, [], ◌∷◌, ◌++◌, map, length, Option, Some, None, option_map, Ok, sym, ap, ap₂, ◌∙◌, refl, arith}
+use Rattle.std.proofs.Common.{◌≡◌, ◌<◌, ◌≤◌, ◌-◌, ℕ, suc, List, [], ◌∷◌, ◌++◌, map, length, Option, Some, None, option_map, Ok, sym, ap, ap₂, subst, ◌∙◌, refl, arith}
 use Rattle.std.proofs.lemmas.List.{map-append}
 use Rattle.json.specs.Json as json
 use Rattle.json.specs.Json.{value, items, after_end_array, parse_map}
@@ -11,7 +11,7 @@ use Rattle.serde_json.specs.Data.{Data, array, Items, no_items, item}
 use Rattle.serde_json.specs.Read.{of_json, of_items, converted}
 use Rattle.serde_json.specs.View.{view, items_of, items_view}
 use Rattle.serde_json.specs.declared.value.Value.{Value}
-use Rattle.ert_scenario.proofs.Reading.{converted-array, item_read, items_over, items_before, items_before-no_items, one_more_item, none_before}
+use Rattle.ert_scenario.proofs.Reading.{converted-array, item_read, items_over}
 use Rattle.ert_ops.specs.declared.op.Op.{Op}
 use Rattle.ert_scenario.specs.Kinds.{of_kind, listed}
 use Rattle.ert_scenario.specs.Quick.{scalar_of, ReadsOp, ReadsOps}
@@ -57,37 +57,7 @@ op_read format ts new vs op reads is = record {
   is = ap (op_from format Everyone) (list_of_items (map view vs)) ∙ is;
 }
 
--- ---- scalars of an array
-
--- of the tokens after the bracket, those before `reader` are these values
-pub record ItemsSoFar (initial reader : List Token) (vs : List Value) : Type 0 where
-  pub n : ℕ
-  pub enough : length reader ≤ n
-  pub within : length reader ≤ length initial
-  pub reads : (depth : ℕ)
-      → converted of_items (items (value depth) (length initial) initial) ≡ parse_map (items_before vs) (converted of_items (items (value depth) n reader))
-
-pub items_more : (initial ts rest : List Token) (t : Token) (vs : List Value) (v : Value) → ItemsSoFar initial ts vs → after_end_array ts ≡ None → ts ≡ t ∷ rest
-    → scalar_of t ≡ Some (view v) → ItemsSoFar initial rest (vs ++ v ∷ [])
-items_more initial ts rest t vs v s going first is =
-    let size : length ts ≡ length (t ∷ rest) = ap length first in
-    let enough = s.enough in
-    let within = s.within in
-    record {
-      n = s.n - 1;
-      enough = omega arith;
-      within = omega arith;
-      reads = λ depth.
-          let one : converted of_json (value depth ts) ≡ Some (view v, rest) = ap (λ us. converted of_json (value depth us)) first ∙ scalar_read depth t (view v) rest is in
-          s.reads depth ∙ ap (parse_map (items_before vs)) (item_read (value depth) s.n ts rest (view v) (omega arith) going one) ∙ one_more_item vs v _;
-    }
-
-pub items_done : (initial ts r : List Token) (vs : List Value) → ItemsSoFar initial ts vs → after_end_array ts ≡ Some r
-    → (depth : ℕ) → converted of_items (items (value depth) (length initial) initial) ≡ Some (items_view vs, r)
-items_done initial ts r vs s over depth =
-    s.reads depth ∙ ap (parse_map (items_before vs)) (items_over (value depth) s.n ts r s.enough over) ∙ ap (λ ds. Some (ds, r)) (items_before-no_items vs)
-
--- ---- ops of a list
+-- ---- items one after another
 
 abbrev pub data_before : List Data → Items → Items
 data_before [] rest = rest
@@ -105,6 +75,58 @@ one_more : (ds : List Data) (d : Data) (r : Option (Items × List Token)) → pa
 one_more ds d None = refl
 one_more ds d (Some p) = ap (λ xs. Some (xs, p.1)) (data_push ds d p.0)
 
+none_before : (r : Option (Items × List Token)) → r ≡ parse_map (λ a. a) r
+none_before None = refl
+none_before (Some p) = refl
+
+-- of the tokens after the bracket, those before `reader` are these data, whatever number of levels stands there
+pub record DataSoFar (levels : ℕ → ℕ) (initial reader : List Token) (ds : List Data) : Type 0 where
+  pub n : ℕ
+  pub enough : length reader ≤ n
+  pub within : length reader ≤ length initial
+  pub reads : (depth : ℕ)
+      → converted of_items (items (value (levels depth)) (length initial) initial) ≡ parse_map (data_before ds) (converted of_items (items (value (levels depth)) n reader))
+
+data_start : (levels : ℕ → ℕ) (ts : List Token) → DataSoFar levels ts ts []
+data_start levels ts = record { n = length ts; enough = omega arith; within = omega arith; reads = λ depth. none_before _ }
+
+data_more : (levels : ℕ → ℕ) (initial ts rest : List Token) (ds : List Data) (d : Data) → DataSoFar levels initial ts ds → after_end_array ts ≡ None
+    → length rest < length ts → ((depth : ℕ) → converted of_json (value (levels depth) ts) ≡ Some (d, rest)) → DataSoFar levels initial rest (ds ++ d ∷ [])
+data_more levels initial ts rest ds d s going less one =
+    let enough = s.enough in
+    let within = s.within in
+    record {
+      n = s.n - 1;
+      enough = omega arith;
+      within = omega arith;
+      reads = λ depth.
+          s.reads depth ∙ ap (parse_map (data_before ds)) (item_read (value (levels depth)) s.n ts rest d (omega arith) going (one depth)) ∙ one_more ds d _;
+    }
+
+data_done : (levels : ℕ → ℕ) (initial ts r : List Token) (ds : List Data) → DataSoFar levels initial ts ds → after_end_array ts ≡ Some r
+    → (depth : ℕ) → converted of_items (items (value (levels depth)) (length initial) initial) ≡ Some (items_of ds, r)
+data_done levels initial ts r ds s over depth =
+    s.reads depth ∙ ap (parse_map (data_before ds)) (items_over (value (levels depth)) s.n ts r s.enough over) ∙ ap (λ xs. Some (xs, r)) (data_before-no_items ds)
+
+-- ---- scalars of an array
+
+abbrev pub ItemsSoFar : List Token → List Token → List Value → Type 0
+ItemsSoFar initial reader vs = DataSoFar (λ depth. depth) initial reader (map view vs)
+
+pub items_more : (initial ts rest : List Token) (t : Token) (vs : List Value) (v : Value) → ItemsSoFar initial ts vs → after_end_array ts ≡ None → ts ≡ t ∷ rest
+    → scalar_of t ≡ Some (view v) → ItemsSoFar initial rest (vs ++ v ∷ [])
+items_more initial ts rest t vs v s going first is =
+    let size : length ts ≡ length (t ∷ rest) = ap length first in
+    subst (DataSoFar (λ depth. depth) initial rest) (sym (map-append view vs (v ∷ [])))
+    (data_more (λ depth. depth) initial ts rest (map view vs) (view v) s going (omega arith)
+    (λ depth. ap (λ us. converted of_json (value depth us)) first ∙ scalar_read depth t (view v) rest is))
+
+pub items_done : (initial ts r : List Token) (vs : List Value) → ItemsSoFar initial ts vs → after_end_array ts ≡ Some r
+    → (depth : ℕ) → converted of_items (items (value depth) (length initial) initial) ≡ Some (items_view vs, r)
+items_done initial ts r vs s over = data_done (λ depth. depth) initial ts r (map view vs) s over
+
+-- ---- ops of a list
+
 raws_push : (format : Format) (ds : List Data) (d : Data) (ops : List Op) (op : Op) → raws_of format Everyone ds ≡ without_fault ops → op_of format Everyone d ≡ Ok op
     → raws_of format Everyone (ds ++ d ∷ []) ≡ without_fault (ops ++ op ∷ [])
 raws_push format ds d ops op h e =
@@ -112,36 +134,25 @@ raws_push format ds d ops op h e =
 
 -- of the tokens after the bracket, those before `reader` are these ops
 pub record OpsSoFar (format : Format) (initial reader : List Token) (ops : List Op) : Type 0 where
-  pub n : ℕ
-  pub enough : length reader ≤ n
-  pub within : length reader ≤ length initial
   pub values : List Data
-  pub reads : (depth : ℕ)
-      → converted of_items (items (value (suc depth)) (length initial) initial) ≡ parse_map (data_before values) (converted of_items (items (value (suc depth)) n reader))
+  pub reads : DataSoFar suc initial reader values
   pub are : raws_of format Everyone values ≡ without_fault ops
+
+pub ops_start : (format : Format) (ts : List Token) (ops : List Op) → ops ≡ [] → OpsSoFar format ts ts ops
+ops_start format ts ops none = subst (OpsSoFar format ts ts) (sym none) (record { values = []; reads = data_start suc ts; are = refl })
 
 pub ops_more : (format : Format) (initial ts rest : List Token) (ops : List Op) (op : Op) → OpsSoFar format initial ts ops → after_end_array ts ≡ None
     → ReadsOp format ts rest op → length rest < length ts → OpsSoFar format initial rest (ops ++ op ∷ [])
-ops_more format initial ts rest ops op s going one less =
-    let enough = s.enough in
-    let within = s.within in
-    record {
-      n = s.n - 1;
-      enough = omega arith;
-      within = omega arith;
-      values = s.values ++ one.value_is ∷ [];
-      reads = λ depth.
-          s.reads depth ∙ ap (parse_map (data_before s.values)) (item_read (value (suc depth)) s.n ts rest one.value_is (omega arith) going (one.reads depth))
-          ∙ one_more s.values one.value_is _;
-      are = raws_push format s.values one.value_is ops op s.are one.is;
-    }
+ops_more format initial ts rest ops op s going one less = record {
+  values = s.values ++ one.value_is ∷ [];
+  reads = data_more suc initial ts rest s.values one.value_is s.reads going less one.reads;
+  are = raws_push format s.values one.value_is ops op s.are one.is;
+}
 
 pub ops_done : (format : Format) (initial ts r : List Token) (ops : List Op) → OpsSoFar format initial ts ops → after_end_array ts ≡ Some r
     → ReadsOps format (tokens.begin_array ∷ initial) r ops
 ops_done format initial ts r ops s over = record {
   values = s.values;
-  reads = λ depth.
-      array_read (suc depth) initial r (items_of s.values)
-      (s.reads depth ∙ ap (parse_map (data_before s.values)) (items_over (value (suc depth)) s.n ts r s.enough over) ∙ ap (λ ds. Some (ds, r)) (data_before-no_items s.values));
+  reads = λ depth. array_read (suc depth) initial r (items_of s.values) (data_done suc initial ts r s.values s.reads over depth);
   are = s.are;
 }

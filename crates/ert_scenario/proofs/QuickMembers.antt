@@ -17,9 +17,9 @@ use Rattle.ert_ops.specs.declared.op.Op.{Op}
 use Rattle.ert_scenario.specs.Fields.{is_field, are_named, only_named, times, modes, clock_of, sizes_of, settings_of, top_of, format_of}
 use Rattle.ert_scenario.specs.Kinds.{Found, of_kind, listed}
 use Rattle.ert_scenario.specs.Labels.{tested}
-use Rattle.ert_scenario.specs.Lists.{lists_of}
+use Rattle.ert_scenario.specs.Lists.{lists_found}
 use Rattle.ert_scenario.specs.Quick.{ReadsOps}
-use Rattle.ert_scenario.specs.QuickMembers.{alone, AreOps, IsSeen, IsSeenAs, ReadsMember, IsPlanWith, plain}
+use Rattle.ert_scenario.specs.QuickMembers.{alone, IsOpsField, IsSeen, IsSeenAs, ReadsMember, IsPlanWith, plain}
 use Rattle.ert_scenario.specs.Scenarios.{Plan, is_over, with_callers, judged, verdict_of}
 use Rattle.ert_scenario.specs.Walked.{without_fault, IsOver}
 use Rattle.ert_scenario.specs.Walks.{raws_of, all_raws, first_shape, first_range, ops_of}
@@ -29,7 +29,7 @@ use Rattle.ert_scenario.specs.declared.format.Format.{Format}
 use Rattle.ert_scenario.specs.declared.quick.members.Seen.{Seen}
 use Rattle.ert_scenario.proofs.Cut.{ops_of-without}
 use Rattle.ert_scenario.proofs.Judged.{judged_ok}
-use Rattle.ert_scenario.proofs.Kept.{apart, put_named}
+use Rattle.ert_scenario.proofs.Changed.{apart, put_named}
 use Rattle.ert_scenario.proofs.Listed.{list_of_items}
 
 OPS : List ℕ
@@ -54,7 +54,7 @@ pub sees_field : (format : Option Format) (ops : List Op) (name : List ℕ) (d :
 sees_field format ops name d seen all other s = record {
   others = λ k h. same_put_at (bytes_eq k name) k name d seen all refl (s.others k h);
   named = put_named (is_field false) name d all ∙ ap (λ rest. is_field false name && rest) s.named ∙ sym (put_named (is_field false) name d seen);
-  listed = subst (AreOps format ops) (sym (get_member-put_other (codes "ops") name d all (swapped name (codes "ops") other))) s.listed;
+  listed = subst (IsOpsField format ops) (sym (get_member-put_other (codes "ops") name d all (swapped name (codes "ops") other))) s.listed;
 }
 
 -- the ops
@@ -63,7 +63,7 @@ pub sees_ops : (was format : Option Format) (read : Format) (before ops : List O
 sees_ops was format read before ops values seen all is are s = record {
   others = λ k h. get_member-put_other k (codes "ops") (array (items_of values)) all (apart k (codes "ops") h) ∙ s.others k h;
   named = put_named (is_field false) (codes "ops") (array (items_of values)) all ∙ s.named;
-  listed = subst (λ f. AreOps f ops (get_member (codes "ops") (put (codes "ops") (array (items_of values)) all))) (sym is)
+  listed = subst (λ f. IsOpsField f ops (get_member (codes "ops") (put (codes "ops") (array (items_of values)) all))) (sym is)
       (values, get_member-put (codes "ops") (array (items_of values)) all, are);
 }
 
@@ -102,7 +102,7 @@ pub record MembersSoFar (initial reader : List Token) (seen : Seen) : Type 0 whe
       ≡ converted (λ ms. of_members ms all) (members (value (suc (suc depth))) n reader)
   pub sees : IsSeenAs seen all
 
-no_ops : (format : Option Format) (ops : List Op) (found : Option Data) → format ≡ None → AreOps format ops found
+no_ops : (format : Option Format) (ops : List Op) (found : Option Data) → format ≡ None → IsOpsField format ops found
 no_ops None ops found h = tt
 no_ops (Some f) ops found h = absurd (cc)
 
@@ -175,8 +175,8 @@ module _ (format : Option Format) (ops : List Op) (seen all : Members) (s : IsSe
   unfolding format_of
   same_format = rw (s.others (codes "format") refl) refl
 
-  same_lists : (values : List Data) → get_member (codes "ops") all ≡ Some (array (items_of values)) → lists_of false (object all) ≡ Ok (alone values)
-  unfolding lists_of listed of_kind
+  same_lists : (values : List Data) → get_member (codes "ops") all ≡ Some (array (items_of values)) → lists_found false (object all) ≡ Ok (alone values)
+  unfolding lists_found listed of_kind
   same_lists values h = rw (h, list_of_items values) refl
 
 -- the verdict on an object whose members were seen so
@@ -187,7 +187,7 @@ verdict_seen read format ops top plan seen all d at by is opens judges sees =
     let s : IsSeen (Some format) ops seen all = subst (λ o. IsSeen o ops seen all) by sees in
     let values = s.listed.0 in
     let reads : format_of (object all) ≡ format = same_format (Some format) ops seen all s ∙ ap format_of (sym at) ∙ is in
-    let lists : lists_of false (object all) ≡ Ok (alone values) = same_lists (Some format) ops seen all s values s.listed.1 in
+    let lists : lists_found false (object all) ≡ Ok (alone values) = same_lists (Some format) ops seen all s values s.listed.1 in
     let tops : top_of false (object all) ≡ Ok top = same_top (Some format) ops seen all s ∙ ap (top_of false) (sym at) ∙ opens in
     rw (reads, lists, tops) (judges format values (append-nil (raws_of format Everyone values) ∙ s.listed.2))
 

@@ -7,7 +7,7 @@ use Rattle.serde_json.specs.Data.{Data}
 use Rattle.serde_json.specs.Read.{read}
 use Rattle.ert_scenario.specs.Fields.{top_of, format_of}
 use Rattle.ert_scenario.specs.Kinds.{Found}
-use Rattle.ert_scenario.specs.Lists.{OpValues, lists_of}
+use Rattle.ert_scenario.specs.Lists.{OpValues, lists_found}
 use Rattle.ert_scenario.specs.Scenarios.{Plan, Verdict, IsValue, IsScenario, HasRefusal, refused, over, judged, judged_all, verdict_of}
 use Rattle.ert_scenario.specs.Walks.{all_raws, founds_of, first_shape, first_range}
 use Rattle.ert_scenario.specs.declared.fields.Top.{Top}
@@ -49,7 +49,7 @@ NamesPlace-judged_all format (Err fault) found = tt
 
 names_place : (race : Bool) (d : Data) (e : ScenarioErr) → verdict_of race d ≡ Err e → HasPlace e
 unfolding verdict_of
-names_place race d e is = let P : Verdict → Type 0 = NamesPlace in subst P is (NamesPlace-judged_all (format_of d) (lists_of race d) (top_of race d))
+names_place race d e is = let P : Verdict → Type 0 = NamesPlace in subst P is (NamesPlace-judged_all (format_of d) (lists_found race d) (top_of race d))
 
 HasRefusal-value : (race : Bool) (bytes : List ℕ) (d : Data) (e : ScenarioErr) → IsValue bytes d → HasPlace e → verdict_of race d ≡ Err e → HasRefusal race bytes e
 HasRefusal-value race bytes d Json value named is = absurd named

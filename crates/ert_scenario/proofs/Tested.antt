@@ -9,7 +9,7 @@ use Rattle.ert_defs.specs.declared.settings.Settings.{Settings}
 use Rattle.ert_ops.specs.declared.op.Op.{Op}
 use Rattle.ert_ops.specs.declared.op.Op.TheVariants.{Start, SendAfter}
 use Rattle.ert_scenario.specs.Kinds.{Found, in_range}
-use Rattle.ert_scenario.specs.Labels.{label_of, has, is_new, with_label, tested, AreFree, is_free, with_flag, first_out}
+use Rattle.ert_scenario.specs.Labels.{started_label, has, is_new, with_label, tested, AreFree, is_free, with_flag, first_out}
 use Rattle.ert_scenario.specs.Ranges.{is_op, is_label}
 use Rattle.ert_scenario.specs.Walks.{first_shape, first_range, ops_of}
 use Rattle.ert_scenario.specs.Walked.{without_fault, IsOver}
@@ -36,8 +36,8 @@ IsFlagged o = (label : ℕ) → o ≡ Some label → label < 1000000
 label_low : (label : ℕ) (others : Bool) → (is_label label && others) ≡ true → label < 1000000
 label_low label others h = let low : leb label 999999 ≡ true = (and_parts (is_label label) others h).0 in grind (arith, nat_tests)
 
-flagged : (g : Settings) (op : Op) → is_op g op ≡ true → IsFlagged (label_of op)
-unfolding is_op label_of
+flagged : (g : Settings) (op : Op) → is_op g op ≡ true → IsFlagged (started_label op)
+unfolding is_op started_label
 flagged g (Start l wheel when dest msg) h label e = let same : l ≡ label = cc in subst (λ n. n < 1000000) same (label_low l _ h)
 flagged g (SendAfter l wheel when dest msg) h label e = let same : l ≡ label = cc in subst (λ n. n < 1000000) same (label_low l _ h)
 flagged g _ h label e = absurd (cc)
@@ -90,15 +90,15 @@ first_tail : (g : Settings) (ops : List Op) (taken : List Bool) (labels : List �
     → first_range k (tested g labels (without_fault ops ++ tail)) ≡ option_or (first_out g taken k ops) (last (k + length ops))
 first_tail g [] taken labels k tail last stands ends = let e : k ≡ k + 0 = omega arith in ends labels k ∙ ap last e
 first_tail g (op ∷ ops) taken labels k tail last stands ends =
-    let low : is_op g op ≡ true → IsFlagged (label_of op) = flagged g op in
+    let low : is_op g op ≡ true → IsFlagged (started_label op) = flagged g op in
     let e : (k + 1) + length ops ≡ k + length (op ∷ ops) = omega arith in
-    first_step (is_op g op) (is_free taken (label_of op)) (is_new labels (label_of op)) (λ fits. same_test taken labels (label_of op) stands (low fits))
-    op (tested g (with_label labels (label_of op)) (without_fault ops ++ tail)) k
-    (first_out g (with_flag taken (label_of op)) (k + 1) ops) (last (k + length (op ∷ ops)))
+    first_step (is_op g op) (is_free taken (started_label op)) (is_new labels (started_label op)) (λ fits. same_test taken labels (started_label op) stands (low fits))
+    op (tested g (with_label labels (started_label op)) (without_fault ops ++ tail)) k
+    (first_out g (with_flag taken (started_label op)) (k + 1) ops) (last (k + length (op ∷ ops)))
     (λ fits.
-    first_tail g ops (with_flag taken (label_of op)) (with_label labels (label_of op)) (k + 1) tail last
-    (still_stand taken labels (label_of op) stands (low fits)) ends
-    ∙ ap (λ n. option_or (first_out g (with_flag taken (label_of op)) (k + 1) ops) (last n)) e)
+    first_tail g ops (with_flag taken (started_label op)) (with_label labels (started_label op)) (k + 1) tail last
+    (still_stand taken labels (started_label op) stands (low fits)) ends
+    ∙ ap (λ n. option_or (first_out g (with_flag taken (started_label op)) (k + 1) ops) (last n)) e)
 
 -- what the walk and the test of its ops find is the first range fault of all
 pub first_of_all : (g : Settings) (taken : List Bool) (ops : List Op) (range : Option ℕ) (all : List (Found Op)) → AreFree 1000000 taken → IsOver ops range all
@@ -125,13 +125,13 @@ shape_step false op rest k = refl
 pub first_shape-tested : (g : Settings) (labels : List ℕ) (raws : List (Found Op)) (k : ℕ) → first_shape k (tested g labels raws) ≡ first_shape k raws
 first_shape-tested g labels [] k = refl
 first_shape-tested g labels (Ok op ∷ raws) k =
-    shape_step (is_op g op && is_new labels (label_of op)) op (tested g (with_label labels (label_of op)) raws) k ∙ first_shape-tested g (with_label labels (label_of op)) raws (k + 1)
+    shape_step (is_op g op && is_new labels (started_label op)) op (tested g (with_label labels (started_label op)) raws) k ∙ first_shape-tested g (with_label labels (started_label op)) raws (k + 1)
 first_shape-tested g labels (Err faults.Shape ∷ raws) k = refl
 first_shape-tested g labels (Err faults.Range ∷ raws) k = first_shape-tested g labels raws (k + 1)
 
 pub length-tested : (g : Settings) (labels : List ℕ) (raws : List (Found Op)) → length (tested g labels raws) ≡ length raws
 length-tested g labels [] = refl
-length-tested g labels (Ok op ∷ raws) = ap suc (length-tested g (with_label labels (label_of op)) raws)
+length-tested g labels (Ok op ∷ raws) = ap suc (length-tested g (with_label labels (started_label op)) raws)
 length-tested g labels (Err fault ∷ raws) = ap suc (length-tested g labels raws)
 
 ops_step : (fits : Bool) (op : Op) (rest : List (Found Op)) (ops : List Op) (k : ℕ) → first_range k (in_range fits op ∷ rest) ≡ None
@@ -143,8 +143,8 @@ ops_step false op rest ops k h later = absurd (cc)
 ops_kept : (g : Settings) (labels : List ℕ) (ops : List Op) (k : ℕ) → first_range k (tested g labels (without_fault ops)) ≡ None → ops_of (tested g labels (without_fault ops)) ≡ ops
 ops_kept g labels [] k h = refl
 ops_kept g labels (op ∷ ops) k h =
-    ops_step (is_op g op && is_new labels (label_of op)) op (tested g (with_label labels (label_of op)) (without_fault ops)) ops k h
-    (ops_kept g (with_label labels (label_of op)) ops (k + 1))
+    ops_step (is_op g op && is_new labels (started_label op)) op (tested g (with_label labels (started_label op)) (without_fault ops)) ops k h
+    (ops_kept g (with_label labels (started_label op)) ops (k + 1))
 
 cut_step : (fits : Bool) (op : Op) (rest : List (Found Op)) (k : ℕ) → (first_range (k + 1) rest ≡ None → ⊥) → first_range k (in_range fits op ∷ rest) ≡ None → ⊥
 unfolding in_range
@@ -155,8 +155,8 @@ cut_has_fault : (g : Settings) (labels : List ℕ) (ops : List Op) (later : List
     → first_range k (tested g labels (without_fault ops ++ Err faults.Range ∷ later)) ≡ None → ⊥
 cut_has_fault g labels [] later k h = cc
 cut_has_fault g labels (op ∷ ops) later k h =
-    cut_step (is_op g op && is_new labels (label_of op)) op (tested g (with_label labels (label_of op)) (without_fault ops ++ Err faults.Range ∷ later)) k
-    (cut_has_fault g (with_label labels (label_of op)) ops later (k + 1)) h
+    cut_step (is_op g op && is_new labels (started_label op)) op (tested g (with_label labels (started_label op)) (without_fault ops ++ Err faults.Range ∷ later)) k
+    (cut_has_fault g (with_label labels (started_label op)) ops later (k + 1)) h
 
 -- where there is no range fault, the walk has met none
 pub whole_walk : (g : Settings) (ops : List Op) (range : Option ℕ) (all : List (Found Op)) → IsOver ops range all → first_range 1 (tested g [] all) ≡ None → all ≡ without_fault ops

@@ -8,10 +8,10 @@ use Rattle.ert_scenario.specs.Kinds.{Found, in_range}
 use Rattle.ert_scenario.specs.Ranges.{is_op}
 
 -- the label of an op that starts a timer
-unfoldable pub label_of : Op → Option ℕ
-label_of (Start label wheel when dest msg) = Some label
-label_of (SendAfter label wheel when dest msg) = Some label
-label_of _ = None
+unfoldable pub started_label : Op → Option ℕ
+started_label (Start label wheel when dest msg) = Some label
+started_label (SendAfter label wheel when dest msg) = Some label
+started_label _ = None
 
 -- whether it is one of the labels
 abbrev pub has : List ℕ → ℕ → Bool
@@ -32,7 +32,7 @@ with_label labels (Some label) = label ∷ labels
 -- out of range, or a start whose label is not new, is a range fault
 abbrev pub tested : Settings → List ℕ → List (Found Op) → List (Found Op)
 tested g labels [] = []
-tested g labels (Ok op ∷ rest) = in_range (is_op g op && is_new labels (label_of op)) op ∷ tested g (with_label labels (label_of op)) rest
+tested g labels (Ok op ∷ rest) = in_range (is_op g op && is_new labels (started_label op)) op ∷ tested g (with_label labels (started_label op)) rest
 tested g labels (Err fault ∷ rest) = Err fault ∷ tested g labels rest
 
 -- ---- labels by a flag for each
@@ -56,4 +56,4 @@ with_flag taken (Some label) = slice_set taken label true
 abbrev pub first_out : Settings → List Bool → ℕ → List Op → Option ℕ
 first_out g taken k [] = None
 first_out g taken k (op ∷ ops) =
-    if is_op g op && is_free taken (label_of op) then first_out g (with_flag taken (label_of op)) (k + 1) ops else Some k
+    if is_op g op && is_free taken (started_label op) then first_out g (with_flag taken (started_label op)) (k + 1) ops else Some k

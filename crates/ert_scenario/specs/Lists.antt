@@ -35,9 +35,9 @@ abbrev pub lists_with_race : Data → Found OpValues
 lists_with_race d = both (field (codes "ops") listed d) (field (codes "race") race_lists d) >>= (λ p. Ok (record { ops = p.0; race = Some p.1 }))
 
 -- the lists of a value, with those of a race where one is wanted
-unfoldable pub lists_of : Bool → Data → Found OpValues
-lists_of false d = lists_alone d
-lists_of true d = lists_with_race d
+unfoldable pub lists_found : Bool → Data → Found OpValues
+lists_found false d = lists_alone d
+lists_found true d = lists_with_race d
 
 -- how many callers' lists there are
 abbrev pub list_count : Option RaceValues → ℕ

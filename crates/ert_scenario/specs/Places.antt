@@ -6,8 +6,8 @@ use Rattle.ert_defs.specs.declared.settings.Settings.{Settings}
 use Rattle.ert_ops.specs.declared.op.Op.{Op}
 use Rattle.ert_scenario.specs.Fields.{top_of, format_of}
 use Rattle.ert_scenario.specs.Kinds.{Found, found_map, ◌>>=◌, both}
-use Rattle.ert_scenario.specs.Labels.{label_of}
-use Rattle.ert_scenario.specs.Lists.{OpValues, lists_of, list_count}
+use Rattle.ert_scenario.specs.Labels.{started_label}
+use Rattle.ert_scenario.specs.Lists.{OpValues, lists_found, list_count}
 use Rattle.ert_scenario.specs.Walks.{all_raws, founds_of}
 use Rattle.ert_scenario.specs.declared.fault.Fault.{Fault}
 use Rattle.ert_scenario.specs.declared.fault.Fault.TheVariants.{Shape, Range}
@@ -26,7 +26,7 @@ fault_in (found ∷ rest) (suc i) = fault_in rest i
 
 -- what the ops of all lists are, one list after the other
 abbrev pub op_founds : Bool → Data → Found (List (Found Op))
-op_founds race d = lists_of race d >>= (λ lists. Ok (founds_of (top_of race d) (all_raws (format_of d) lists)))
+op_founds race d = lists_found race d >>= (λ lists. Ok (founds_of (top_of race d) (all_raws (format_of d) lists)))
 
 -- what the ops are; no ops where the lists aren't arrays
 abbrev pub founds_in : Found (List (Found Op)) → List (Found Op)
@@ -59,7 +59,7 @@ turns_in (Err fault) = 0
 -- a value has more than 100,000 ops in all lists together, more than 16 callers' lists, or more than 10,000
 -- turns
 abbrev pub IsTooMuch : Bool → Data → Type 0
-IsTooMuch race d = (100000 < length (founds_in (op_founds race d))) ⊎ ((16 < count_in (lists_of race d)) ⊎ (10000 < turns_in (top_of race d)))
+IsTooMuch race d = (100000 < length (founds_in (op_founds race d))) ⊎ ((16 < count_in (lists_found race d)) ⊎ (10000 < turns_in (top_of race d)))
 
 -- the place has it, and no lesser place has
 pub record IsLeast (Has : ℕ → Type 0) (place : ℕ) : Type 0 where
@@ -83,10 +83,10 @@ settings_in top = found_map (λ t. t.settings) top
 -- a value gives these settings, and the ops of all its lists are these before they are tested
 pub record IsRead (race : Bool) (d : Data) (g : Settings) (raws : List (Found Op)) : Type 0 where
   pub opens : settings_in (top_of race d) ≡ Ok g
-  pub ops : (lists_of race d >>= (λ lists. Ok (all_raws (format_of d) lists))) ≡ Ok raws
+  pub ops : (lists_found race d >>= (λ lists. Ok (all_raws (format_of d) lists))) ≡ Ok raws
 
 -- the op at this index is a start with this label
 pub record IsStartAt (raws : List (Found Op)) (i label : ℕ) : Type 0 where
   pub op : Op
   pub here : raw_at raws i ≡ Some (Ok op)
-  pub has : label_of op ≡ Some label
+  pub has : started_label op ≡ Some label

@@ -26,15 +26,15 @@ abbrev pub alone : List Data → OpValues
 alone values = record { ops = values; race = None }
 
 -- once the ops were read, the value of the field is an array of them
-abbrev pub AreOps : Option Format → List Op → Option Data → Type 0
-AreOps None ops found = Unit {0}
-AreOps (Some format) ops found = (values : List Data) × (found ≡ Some (array (items_of values))) × (raws_of format Everyone values ≡ without_fault ops)
+abbrev pub IsOpsField : Option Format → List Op → Option Data → Type 0
+IsOpsField None ops found = Unit {0}
+IsOpsField (Some format) ops found = (values : List Data) × (found ≡ Some (array (items_of values))) × (raws_of format Everyone values ≡ without_fault ops)
 
 -- of all members, these were seen as they are, and the field `ops` as these ops
 pub record IsSeen (format : Option Format) (ops : List Op) (seen all : Members) : Type 0 where
   pub others : (k : List ℕ) → bytes_eq k (codes "ops") ≡ false → get_member k all ≡ get_member k seen
   pub named : are_named (is_field false) all ≡ are_named (is_field false) seen
-  pub listed : AreOps format ops (get_member (codes "ops") all)
+  pub listed : IsOpsField format ops (get_member (codes "ops") all)
 
 -- of all members these were seen, by what a pass keeps of them
 abbrev pub IsSeenAs : Seen → Members → Type 0

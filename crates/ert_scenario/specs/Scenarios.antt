@@ -9,7 +9,7 @@ use Rattle.ert_ops.specs.Races.{Race, race_of}
 use Rattle.ert_ops.specs.declared.op.Op.{Op}
 use Rattle.ert_scenario.specs.Fields.{top_of, format_of}
 use Rattle.ert_scenario.specs.Kinds.{Found, items_in}
-use Rattle.ert_scenario.specs.Lists.{RaceValues, OpValues, lists_of, list_count}
+use Rattle.ert_scenario.specs.Lists.{RaceValues, OpValues, lists_found, list_count}
 use Rattle.ert_scenario.specs.Walks.{raws_of, all_raws, founds_of, first_shape, first_range, ops_of}
 use Rattle.ert_scenario.specs.declared.doer.Doer.TheVariants.{Everyone, Keeper, Caller}
 use Rattle.ert_scenario.specs.declared.fault.Fault.TheVariants as faults
@@ -83,7 +83,7 @@ judged_all format (Err fault) top = Err (Shape 0)
 
 -- the verdict on a value, where a race is wanted or not
 unfoldable pub verdict_of : Bool → Data → Verdict
-verdict_of race d = judged_all (format_of d) (lists_of race d) (top_of race d)
+verdict_of race d = judged_all (format_of d) (lists_found race d) (top_of race d)
 
 -- the bytes are one JSON value, and this one
 pub record IsValue (bytes : List ℕ) (d : Data) : Type 0 where

@@ -227,15 +227,15 @@ fn only_race_fields(value: &Value) -> Result<(), Fault>
     }
 }
 
-/// Whether each member is a field.
-fn are_fields(members: &Map<String, Value>, race: bool) -> bool
+/// Whether each member of an object is a field of a scenario, and `race` one of them only where this says so.
+pub fn are_fields(members: &Map<String, Value>, race: bool) -> bool
     ensures { result ≡ list_all (λ name. is_field race (string_bytes name)) (keys members.now) }
 {
     members.keys().all(|name| is_field(name.as_str(), race))
 }
 
-/// Whether each member is a field of a race.
-fn are_race_fields(members: &Map<String, Value>) -> bool
+/// Whether each member of an object is a field of a race.
+pub fn are_race_fields(members: &Map<String, Value>) -> bool
     ensures { result ≡ list_all (λ name. is_among race_fields (string_bytes name)) (keys members.now) }
 {
     members.keys().all(|name| is_race_field(name.as_str()))

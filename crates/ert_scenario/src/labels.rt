@@ -1,7 +1,7 @@
 //! The labels of starts.
 
 ghost use Rattle.std.specs.Prelude.{◌≡◌, IsTrue, IfOk, IfErr};
-ghost use Rattle.ert_scenario.specs.Labels.{label_of, AreFree, is_free, with_flag, first_out};
+ghost use Rattle.ert_scenario.specs.Labels.{started_label, AreFree, is_free, with_flag, first_out};
 
 use crate::ranges::is_op;
 use crate::scenario::ScenarioErr;
@@ -66,7 +66,7 @@ pub(crate) fn first_out(
     ensures err { IfErr result (λ e. e ≡ ScenarioErr.NoMemory) }
 {
     for (i, op) in ops.iter().enumerate() {
-        if !is_op(settings, *op) || !labels.take(label_of(*op)) {
+        if !is_op(settings, *op) || !labels.take(started_label(*op)) {
             // No input within the limit of its length has so many ops.
             return u32::try_from(i + 1)
                 .map(Some)
@@ -77,9 +77,9 @@ pub(crate) fn first_out(
 }
 
 /// The label of an op that starts a timer.
-#[tactic(auto, unfolding(crate::specs::Labels::label_of))]
-fn label_of(op: Op) -> Option<u32>
-    ensures { result ≡ label_of op }
+#[tactic(auto, unfolding(crate::specs::Labels::started_label))]
+fn started_label(op: Op) -> Option<u32>
+    ensures { result ≡ started_label op }
 {
     match op {
         Op::Start { label, .. } | Op::SendAfter { label, .. } => Some(label),

@@ -3,7 +3,7 @@
 //! threads do after that.
 //!
 //! It stands on `serde_json`, which reads the bytes, on `ert_defs`, which has the settings and the test of
-//! a reading, on `ert_units`, which has the units of time, and on `ert_ops`, which has the ops.
+//! a reading, and on `ert_ops`, which has the ops and the units of time.
 //! `specs/Scenarios` says which bytes are a scenario and which refusal other bytes have, as a function of
 //! the JSON value: of the fields (`specs/Fields`), of a row for each op (`specs/Rows`), of the kinds of
 //! their values (`specs/Kinds`, `specs/Units`), of the lists of ops (`specs/Lists`), and of the ranges of their
@@ -44,6 +44,7 @@ mod units;
 mod walk;
 
 pub use ert_ops::Op;
+pub use fields::{are_fields, are_race_fields};
 pub use laws::{
     least_places, migrated_is_the_same, one_verdict, range_faults_of_ops, scenarios_are_valid,
     some_verdict,

@@ -3,7 +3,7 @@
 ghost use Rattle.std.specs.Prelude.{◌≡◌, option_map};
 ghost use Rattle.serde_json.specs.View.{view};
 ghost use Rattle.ert_scenario.specs.Kinds.{found_map};
-ghost use Rattle.ert_scenario.specs.Lists.{lists_seen, race_seen, lists_in, race_lists, lists_alone, lists_with_race, lists_of, list_count};
+ghost use Rattle.ert_scenario.specs.Lists.{lists_seen, race_seen, lists_in, race_lists, lists_alone, lists_with_race, lists_found, list_count};
 
 use crate::fault::Fault;
 use crate::kinds::{arrays, both, listed, present};
@@ -28,9 +28,9 @@ pub(crate) struct RaceItems<'a> {
 }
 
 /// The lists of a value, with those of a race where one is wanted.
-#[tactic(auto, unfolding(crate::specs::Lists::lists_of))]
-pub(crate) fn lists_of(value: &Value, race: bool) -> Result<Lists<'_>, Fault>
-    ensures { found_map lists_seen result ≡ lists_of race (view value.now) }
+#[tactic(auto, unfolding(crate::specs::Lists::lists_found))]
+pub(crate) fn lists_found(value: &Value, race: bool) -> Result<Lists<'_>, Fault>
+    ensures { found_map lists_seen result ≡ lists_found race (view value.now) }
 {
     if race {
         lists_with_race(value)

@@ -13,7 +13,7 @@ use crate::fault::Fault;
 use crate::fields::{Top, top_of};
 use crate::format::{Format, format_of};
 use crate::labels::{Labels, first_out};
-use crate::lists::{Lists, lists_of};
+use crate::lists::{Lists, lists_found};
 use crate::quick::read_quickly;
 use crate::scanning::scan;
 use crate::walk::Walk;
@@ -129,7 +129,7 @@ fn scenario_of(alloc: Global, value: &Value, race: bool) -> Result<Scenario, Sce
     ensures ok { IfOk result (λ s. verdict_of race (view value.now) ≡ Ok (plan_of s)) }
     ensures err { IfErr result (λ e. e ≢ ScenarioErr.NoMemory → verdict_of race (view value.now) ≡ Err e) }
 {
-    match lists_of(value, race) {
+    match lists_found(value, race) {
         Ok(lists) => judge(alloc, top_of(value, race), format_of(value), &lists),
         Err(_) => Err(ScenarioErr::Shape(0)),
     }

@@ -7,7 +7,7 @@ ghost use Rattle.ert_scenario.specs.Units.{unit_names, unit_of, time_unit};
 
 use crate::fault::Fault;
 use crate::kinds::{natural, text};
-use ert_units::Unit;
+use ert_ops::Unit;
 use serde_json::Value;
 
 /// A unit: a string that is its name, or a natural that is its parts per second.

@@ -4,7 +4,7 @@ ghost use Rattle.std.specs.Prelude.{◌≡◌, map, Some, None};
 ghost use Rattle.serde_json.specs.View.{view};
 ghost use Rattle.ert_scenario.specs.Rows.{rows_of_one, rows_of_two, rows_of, row_in, send_after_row, asked};
 
-use super::timers::{StartArgs, start_args};
+use super::timers::start_args;
 use crate::fault::Fault;
 use crate::format::Format;
 use crate::kinds::{boolean, both, end, next, one_word, two_words, word};
@@ -68,19 +68,12 @@ fn op_of_two(name: &str, args: &[Value]) -> Option<Result<Op, Fault>>
 fn send_after(args: &[Value]) -> Result<Op, Fault>
     ensures { result ≡ send_after_row (map view args.now) }
 {
-    let StartArgs {
-        label,
-        wheel,
-        when,
-        dest,
-        msg,
-    } = start_args(args)?;
-    Ok(Op::SendAfter {
-        label,
-        wheel,
-        when,
-        dest,
-        msg,
+    start_args(args).map(|start| Op::SendAfter {
+        label: start.label,
+        wheel: start.wheel,
+        when: start.when,
+        dest: start.dest,
+        msg: start.msg,
     })
 }
 

@@ -47,19 +47,12 @@ pub(super) fn op(name: &str, args: &[Value]) -> Option<Result<Op, Fault>>
 fn start(args: &[Value]) -> Result<Op, Fault>
     ensures { result ≡ start_row (map view args.now) }
 {
-    let StartArgs {
-        label,
-        wheel,
-        when,
-        dest,
-        msg,
-    } = start_args(args)?;
-    Ok(Op::Start {
-        label,
-        wheel,
-        when,
-        dest,
-        msg,
+    start_args(args).map(|start| Op::Start {
+        label: start.label,
+        wheel: start.wheel,
+        when: start.when,
+        dest: start.dest,
+        msg: start.msg,
     })
 }
 

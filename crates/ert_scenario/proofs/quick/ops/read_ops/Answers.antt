@@ -2,8 +2,11 @@ use Rattle.std.proofs.Common.{◌≡◌, ◌<◌, ◌∷◌, length, None, true,
 use Rattle.json.specs.Json.{after_end_array}
 use Rattle.json.specs.Token.{begin_array}
 use Rattle.ert_scenario.specs.Quick.{ReadsOp, ReadsOps}
-use Rattle.ert_scenario.proofs.QuickLemmas.{OpsSoFar, ops_more, ops_done}
+use Rattle.ert_scenario.proofs.QuickLemmas.{OpsSoFar, ops_start, ops_more, ops_done}
 use Rattle.ert_scenario.proofs.quick.ops.read_ops.Goals as goal
+
+pub ops-init : goal.ops-init
+ops-init c = ops_start c.args.format c.takes_begin_array.new.reader c.clear.new.self.items c.clear.ensures.items
 
 pub ops-preserved : goal.ops-preserved
 ops-preserved c =
