@@ -9,7 +9,7 @@ use crate::rig::SLOTS;
 use crate::service_rows::Job;
 use crate::stopwatch::Stopwatch;
 use crate::table::Row;
-use crate::timer_rows::Cancelling;
+use crate::timer_rows::TimerCall;
 use crate::waits::Dests;
 use crate::worst_rows::Call;
 use crate::{
@@ -91,13 +91,13 @@ fn beside_others<C: OsClock>(
     watch: &mut Stopwatch<C>,
 ) -> Result<Passes, BenchErr> {
     match operation {
-        Operation::StartAgain => timer_rows::start_again(alloc, watch, OTHERS),
+        Operation::StartAgain => timer_rows::call_each(alloc, watch, OTHERS, TimerCall::StartAgain),
         Operation::CancelStart => { replacing_rows::cancel_start(alloc, watch, OTHERS, Dests::One) }
         Operation::CancelStartAny => {
             replacing_rows::cancel_start(alloc, watch, OTHERS, Dests::Any)
         }
         Operation::CancelAsync => {
-            timer_rows::cancel(alloc, watch, OTHERS, Cancelling::ByRequests)
+            timer_rows::call_each(alloc, watch, OTHERS, TimerCall::CancelAsync)
         }
         _ => timer_rows::exit(alloc, watch, OTHERS),
     }
@@ -148,9 +148,9 @@ fn of_size<C: OsClock>(
     requires { 0 < size }
 {
     match operation {
-        Operation::Start => timer_rows::start(alloc, watch, size),
-        Operation::Read => timer_rows::read(alloc, watch, size),
-        Operation::Cancel => timer_rows::cancel(alloc, watch, size, Cancelling::ByCalls),
+        Operation::Start => timer_rows::call_each(alloc, watch, size, TimerCall::Start),
+        Operation::Read => timer_rows::call_each(alloc, watch, size, TimerCall::Read),
+        Operation::Cancel => timer_rows::call_each(alloc, watch, size, TimerCall::Cancel),
         Operation::ExpireAtOnce => expiry_rows::expire_at_once(alloc, watch, size),
         _ => expiry_rows::expire_spread(alloc, watch, size),
     }

@@ -1,6 +1,7 @@
 ghost use Rattle.std.specs.Prelude.{◌≡◌, ◌<◌};
 
 use crate::bench_err::{BenchErr, expect};
+use ert_defs::milliseconds::NANOSECONDS_PER_MILLISECOND;
 use ert_defs::{Kind, Mail, Mode, Reading, Request, RequestKind, Settings, Start, TimerRef, When};
 use ert_mail::Taken;
 use ert_world::World;
@@ -11,8 +12,6 @@ pub(crate) const PROCESSES: u32 = 1_024;
 
 /// How many slots a wheel has.
 pub(crate) const SLOTS: u32 = 65_536;
-
-const NANOSECONDS_PER_MILLISECOND: i64 = 1_000_000;
 
 /// A timer that is outstanding, and what it was started with.
 #[derive(Clone, Copy, Debug)]

@@ -135,18 +135,17 @@ fn measure_on<L: DeskName + Send + Sync, R: AllocGlobal + Threads + Wait + Sync,
 fn do_job<L: DeskName, R: Wait>(
     rt: &R,
     service: &Service<L>,
-    seat: CallerSeat<L>,
+    mut seat: CallerSeat<L>,
     job: Job,
     pass: u32,
 ) -> (CallerSeat<L>, bool) {
-    match job {
-        Job::OwnWheels => {
-            let wheel = seat.number;
-            start_and_cancel(rt, service, seat, wheel)
-        }
-        Job::OneWheel => start_and_cancel(rt, service, seat, 0),
-        Job::TimeBesideTicks => read_or_tick(rt, service, seat, pass),
-    }
+    let wheel = seat.number;
+    let all = match job {
+        Job::OwnWheels => start_and_cancel(rt, service, &mut seat, wheel),
+        Job::OneWheel => start_and_cancel(rt, service, &mut seat, 0),
+        Job::TimeBesideTicks => read_or_tick(rt, service, &mut seat, pass),
+    };
+    (seat, all)
 }
 
 /// The seats of the threads, where each of these did all its calls.
@@ -166,13 +165,13 @@ fn seats_of<L: DeskName>(
 fn start_and_cancel<L: DeskName, R: Wait>(
     rt: &R,
     service: &Service<L>,
-    seat: CallerSeat<L>,
+    seat: &mut CallerSeat<L>,
     wheel: u32,
-) -> (CallerSeat<L>, bool) {
+) -> bool {
     let dest = seat.number.saturating_mul(APART);
     let settings = service.desk().settings();
     if wheel >= settings.schedulers || dest >= settings.processes {
-        return (seat, false);
+        return false;
     }
     let start = Start {
         when: When::After(5_000),
@@ -180,47 +179,38 @@ fn start_and_cancel<L: DeskName, R: Wait>(
         msg: 7,
         kind: Kind::Wrapped,
     };
-    let mut next = seat;
     for _ in 0..CALLS {
-        let (seat, cancelled) = start_and_cancel_one(rt, service, next, wheel, &start);
-        next = seat;
-        if !cancelled {
-            return (next, false);
+        if !start_and_cancel_one(rt, service, seat, wheel, &start) {
+            return false;
         }
     }
-    (next, true)
+    true
 }
 
 fn start_and_cancel_one<L: DeskName, R: Wait>(
     rt: &R,
     service: &Service<L>,
-    seat: CallerSeat<L>,
+    seat: &mut CallerSeat<L>,
     wheel: u32,
     start: &Start,
-) -> (CallerSeat<L>, bool)
+) -> bool
     requires wheel { wheel < L.settings.schedulers }
     requires dest { start.now.dest < L.settings.processes }
 {
-    let (seat, started) = service.start(rt, seat, wheel, start);
-    let Ok(timer) = started else {
-        return (seat, false);
+    let Ok(timer) = service.start(rt, seat, wheel, start) else {
+        return false;
     };
-    let CallerSeat {
-        number,
-        mut pass,
-        ..
-    } = seat;
-    let left = cancel_timer(service.desk(), &mut pass, Actor::Caller(number), timer);
-    (CallerSeat::new(number, pass), left.is_some())
+    let by = Actor::Caller(seat.number);
+    cancel_timer(service.desk(), &mut seat.pass, by, timer).is_some()
 }
 
 /// The first of the threads takes readings, a microsecond apart, and the others read the time.
 fn read_or_tick<L: DeskName, R: Wait>(
     rt: &R,
     service: &Service<L>,
-    seat: CallerSeat<L>,
+    seat: &mut CallerSeat<L>,
     pass: u32,
-) -> (CallerSeat<L>, bool) {
+) -> bool {
     if seat.number == 0 {
         let from = (pass as i64).saturating_mul(TICKS as i64);
         take_readings(rt, service, seat, from)
@@ -232,49 +222,35 @@ fn read_or_tick<L: DeskName, R: Wait>(
 fn take_readings<L: DeskName, R: Wait>(
     rt: &R,
     service: &Service<L>,
-    seat: CallerSeat<L>,
+    seat: &mut CallerSeat<L>,
     from: i64,
-) -> (CallerSeat<L>, bool) {
-    let mut next = seat;
+) -> bool {
     for tick in 0..TICKS {
         let now = from.saturating_add(tick as i64).saturating_mul(1_000);
-        let (seat, moved) = service.tick(
-            rt,
-            next,
-            Reading {
-                mono: now,
-                sys: now,
-            },
-            false,
-        );
-        next = seat;
-        if moved.is_err() {
-            return (next, false);
+        let reading = Reading {
+            mono: now,
+            sys: now,
+        };
+        if service.tick(rt, seat, reading, false).is_err() {
+            return false;
         }
     }
-    (next, true)
+    true
 }
 
-fn read_times<L: DeskName>(service: &Service<L>, seat: CallerSeat<L>) -> (CallerSeat<L>, bool) {
-    let mut next = seat;
+fn read_times<L: DeskName>(service: &Service<L>, seat: &mut CallerSeat<L>) -> bool {
     let mut last = 0i64;
     for _ in 0..READS {
-        let (seat, now) = read_time(service, next);
-        next = seat;
+        let now = read_time(service, seat);
         if now < last {
-            return (next, false);
+            return false;
         }
         last = now;
     }
-    (next, true)
+    true
 }
 
-fn read_time<L: DeskName>(service: &Service<L>, seat: CallerSeat<L>) -> (CallerSeat<L>, i64) {
-    let CallerSeat {
-        number,
-        mut pass,
-        ..
-    } = seat;
-    let now = monotonic_time(service.desk(), &mut pass, Actor::Caller(number));
-    (CallerSeat::new(number, pass), now)
+fn read_time<L: DeskName>(service: &Service<L>, seat: &mut CallerSeat<L>) -> i64 {
+    let by = Actor::Caller(seat.number);
+    monotonic_time(service.desk(), &mut seat.pass, by)
 }

@@ -91,137 +91,67 @@ impl Timers {
         mix(&mut self.timers);
         Ok(rig)
     }
-}
 
-/// Starts timers in a new world, until all are outstanding.
-#[derive(Drop)]
-struct Starts {
-    timers: Timers,
-}
-
-impl Work for Starts {
-    type World = Rig;
-
-    fn prepare(&mut self) -> Result<Rig, BenchErr> {
-        self.timers.open()
-    }
-
-    fn run(&mut self, rig: &mut Rig) -> Result<(), BenchErr> {
-        self.timers.start_all(rig)
-    }
-}
-
-pub(crate) fn start<C: OsClock>(
-    alloc: Global,
-    watch: &mut Stopwatch<C>,
-    count: u32,
-) -> Result<Passes, BenchErr>
-    requires { 0 < count }
-{
-    let timers = Timers::new(alloc, count)?;
-    time(alloc, watch, count, Starts { timers })
-}
-
-/// Starts as many again, after all were cancelled in random order.
-#[derive(Drop)]
-struct StartsAgain {
-    timers: Timers,
-}
-
-impl Work for StartsAgain {
-    type World = Rig;
-
-    fn prepare(&mut self) -> Result<Rig, BenchErr> {
-        let mut rig = self.timers.mixed()?;
-        rig.cancel_all(&self.timers.timers)?;
-        self.timers.timers.clear();
+    /// A world in which all were cancelled, in random order.
+    fn cancelled(&mut self) -> Result<Rig, BenchErr> {
+        let mut rig = self.mixed()?;
+        rig.cancel_all(&self.timers)?;
+        self.timers.clear();
         Ok(rig)
     }
-
-    fn run(&mut self, rig: &mut Rig) -> Result<(), BenchErr> {
-        self.timers.start_all(rig)
-    }
 }
 
-pub(crate) fn start_again<C: OsClock>(
-    alloc: Global,
-    watch: &mut Stopwatch<C>,
-    count: u32,
-) -> Result<Passes, BenchErr>
-    requires { 0 < count }
-{
-    let timers = Timers::new(alloc, count)?;
-    time(alloc, watch, count, StartsAgain { timers })
-}
-
-/// Reads timers in random order.
-#[derive(Drop)]
-struct Reads {
-    timers: Timers,
-}
-
-impl Work for Reads {
-    type World = Rig;
-
-    fn prepare(&mut self) -> Result<Rig, BenchErr> {
-        self.timers.mixed()
-    }
-
-    fn run(&mut self, rig: &mut Rig) -> Result<(), BenchErr> {
-        rig.read_all(&self.timers.timers)
-    }
-}
-
-pub(crate) fn read<C: OsClock>(
-    alloc: Global,
-    watch: &mut Stopwatch<C>,
-    count: u32,
-) -> Result<Passes, BenchErr>
-    requires { 0 < count }
-{
-    let timers = Timers::new(alloc, count)?;
-    time(alloc, watch, count, Reads { timers })
-}
-
-/// How timers are cancelled: by calls, or by requests that their schedulers answer.
+/// What is done with each timer of a world; all but the starts go in random order.
 #[derive(Clone, Copy)]
-pub(crate) enum Cancelling {
-    ByCalls,
-    ByRequests,
+pub(crate) enum TimerCall {
+    /// In a new world.
+    Start,
+    /// In a world where as many were started and cancelled.
+    StartAgain,
+    Read,
+    Cancel,
+    /// By a request, which its scheduler answers.
+    CancelAsync,
 }
 
-/// Cancels timers in random order.
+/// Makes a call for each of the timers.
 #[derive(Drop)]
-struct Cancels {
+struct Calls {
     timers: Timers,
-    how: Cancelling,
+    call: TimerCall,
 }
 
-impl Work for Cancels {
+impl Work for Calls {
     type World = Rig;
 
     fn prepare(&mut self) -> Result<Rig, BenchErr> {
-        self.timers.mixed()
+        match self.call {
+            TimerCall::Start => self.timers.open(),
+            TimerCall::StartAgain => self.timers.cancelled(),
+            _ => self.timers.mixed(),
+        }
     }
 
     fn run(&mut self, rig: &mut Rig) -> Result<(), BenchErr> {
-        match self.how {
-            Cancelling::ByCalls => rig.cancel_all(&self.timers.timers),
-            Cancelling::ByRequests => rig.cancel_all_async(&self.timers.timers),
+        match self.call {
+            TimerCall::Start | TimerCall::StartAgain => self.timers.start_all(rig),
+            TimerCall::Read => rig.read_all(&self.timers.timers),
+            TimerCall::Cancel => rig.cancel_all(&self.timers.timers),
+            TimerCall::CancelAsync => rig.cancel_all_async(&self.timers.timers),
         }
     }
 }
 
-pub(crate) fn cancel<C: OsClock>(
+pub(crate) fn call_each<C: OsClock>(
     alloc: Global,
     watch: &mut Stopwatch<C>,
     count: u32,
-    how: Cancelling,
+    call: TimerCall,
 ) -> Result<Passes, BenchErr>
     requires { 0 < count }
 {
     let timers = Timers::new(alloc, count)?;
-    time(alloc, watch, count, Cancels { timers, how })
+    time(alloc, watch, count, Calls { timers, call })
 }
 
 /// Lets processes with one timer each exit, while other timers are outstanding.

@@ -4,9 +4,9 @@ use crate::steps::Step::{
 };
 use crate::steps::{SETTINGS, make, timer};
 use crate::worlds::{close, make_all, open, run};
-use ert_answers::{MonitorErr, Taken};
 use ert_defs::When::After;
 use ert_defs::{Mail, NoMemory};
+use ert_effects::{MonitorErr, Taken};
 
 /// A thousand requests, and one more with no wish for an answer.
 #[test]

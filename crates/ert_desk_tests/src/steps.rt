@@ -1,12 +1,12 @@
 //! Steps of a test: calls of a world of one scheduler, each with the answer that is wanted.
 ghost use Rattle.std.specs.Prelude.{◌≡◌, ◌<◌};
 
-use ert_answers::{MonitorErr, StartErr, Taken, Turned};
 use ert_clock::{ClockErr, Moved};
 use ert_defs::{
     Kind, Mode, NoMemory, OffsetState, Reading, Request, RequestKind, Settings, Start, TimerRef,
     When,
 };
+use ert_effects::{MonitorErr, StartErr, Taken, Turned};
 use ert_world::World;
 use std::fmt::Debug;
 use std::process::Abort;

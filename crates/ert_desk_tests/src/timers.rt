@@ -5,11 +5,11 @@ use crate::steps::Step::{
 };
 use crate::steps::{EIGHT_SLOTS, SETTINGS, timer, until};
 use crate::worlds::{Left, make_all, make_all_to_end};
-use ert_answers::{StartErr, Taken};
 use ert_clock::Moved;
 use ert_defs::OffsetState::{Final, Preliminary};
 use ert_defs::When::{After, At};
 use ert_defs::{Mail, NoMemory, Reading, TimerRef};
+use ert_effects::{StartErr, Taken};
 
 /// The word of a slot has the status, the deadline and the generation of its last timer.
 #[test]
@@ -119,6 +119,20 @@ fn long_waits_keep_their_slots(rt: HostRuntime) -> Result<(), NoMemory> {
         Cancel(timer(0, 1), Some(7_200_000)),
         Start(After(1), 1, 2, Ok(timer(7, 1))),
         Start(After(7_200_000), 1, 3, Ok(timer(0, 2))),
+    ];
+    make_all(&rt, rt.alloc(), &EIGHT_SLOTS, &steps)
+}
+
+/// The slot of an expired timer is taken until its message is delivered, and then by the next start.
+#[test]
+fn a_delivered_message_gives_its_slot_back(rt: HostRuntime) -> Result<(), NoMemory> {
+    let steps = [
+        Start(After(1), 1, 1, Ok(timer(7, 1))),
+        until(1_000_000),
+        Advance(1, 1),
+        Start(After(1), 1, 2, Ok(timer(6, 1))),
+        Deliver(1, 0),
+        Start(After(1), 1, 3, Ok(timer(7, 2))),
     ];
     make_all(&rt, rt.alloc(), &EIGHT_SLOTS, &steps)
 }

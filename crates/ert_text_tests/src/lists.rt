@@ -1,28 +1,18 @@
 //! A list of ops that goes on where another has ended, on one world.
-use ert_defs::{Mode, NoMemory, Reading, Settings, TimerRef, When};
-use ert_lines::Names;
+use crate::scenario::PLAIN;
+use ert_defs::{NoMemory, Settings, TimerRef, When};
 use ert_ops::Op;
-use ert_script::do_ops;
+use ert_script::{LabelMap, do_ops};
 use ert_world::World;
 
-/// One of each.
-const SETTINGS: Settings = Settings {
-    mode: Mode::No,
-    correction: false,
-    start: 0,
-    schedulers: 1,
-    processes: 1,
-    slots: 1,
-    callers: 1,
-    first: Reading { mono: 0, sys: 0 },
-};
+const SETTINGS: Settings = Settings { slots: 1, ..PLAIN };
 
 /// A timer is cancelled by the label that an earlier list has bound.
 #[test]
 fn a_list_goes_on(rt: HostRuntime) -> Result<(), NoMemory> {
     assert!(rt; SETTINGS.check().is_ok());
     let mut world = World::open(rt.alloc(), &SETTINGS)?;
-    let mut names = Names::new(rt.alloc());
+    let mut names = LabelMap::new(rt.alloc());
     assert!(rt; world.settings().schedulers == 1 && world.settings().processes == 1);
     let start = Op::Start {
         label: 1,

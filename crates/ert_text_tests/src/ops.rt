@@ -105,49 +105,50 @@ const OPS_OF_SEVERAL: Frame = (
     false,
 );
 
+const OPS_OF_TIMERS: [(&str, Op); 6] = [
+    (
+        r#"["start",999999,1,"abs",-9223372036854775808,2,18446744073709551615]"#,
+        Op::Start {
+            label: 999_999,
+            wheel: 1,
+            when: When::At(i64::MIN),
+            dest: 2,
+            msg: u64::MAX,
+        },
+    ),
+    (
+        r#"["start",0,0,"rel",9223372036854775807,0,0]"#,
+        Op::Start {
+            label: 0,
+            wheel: 0,
+            when: When::After(i64::MAX),
+            dest: 0,
+            msg: 0,
+        },
+    ),
+    (r#"["cancel",1]"#, Op::Cancel { label: 1 }),
+    (r#"["read",2]"#, Op::Read { label: 2 }),
+    (
+        r#"["cancel_async",3,1]"#,
+        Op::CancelAsync {
+            label: 3,
+            process: 1,
+            info: true,
+        },
+    ),
+    (
+        r#"["read_async",4,2]"#,
+        Op::ReadAsync {
+            label: 4,
+            process: 2,
+            info: true,
+        },
+    ),
+];
+
 #[test]
 fn accepts_ops_of_timers(rt: HostRuntime) {
-    let rows = [
-        (
-            r#"["start",999999,1,"abs",-9223372036854775808,2,18446744073709551615]"#,
-            Op::Start {
-                label: 999_999,
-                wheel: 1,
-                when: When::At(i64::MIN),
-                dest: 2,
-                msg: u64::MAX,
-            },
-        ),
-        (
-            r#"["start",0,0,"rel",9223372036854775807,0,0]"#,
-            Op::Start {
-                label: 0,
-                wheel: 0,
-                when: When::After(i64::MAX),
-                dest: 0,
-                msg: 0,
-            },
-        ),
-        (r#"["cancel",1]"#, Op::Cancel { label: 1 }),
-        (r#"["read",2]"#, Op::Read { label: 2 }),
-        (
-            r#"["cancel_async",3,1]"#,
-            Op::CancelAsync {
-                label: 3,
-                process: 1,
-                info: true,
-            },
-        ),
-        (
-            r#"["read_async",4,2]"#,
-            Op::ReadAsync {
-                label: 4,
-                process: 2,
-                info: true,
-            },
-        ),
-    ];
-    gives(&rt, rt.alloc(), OPS_OF_SEVERAL, &rows);
+    gives(&rt, rt.alloc(), OPS_OF_SEVERAL, &OPS_OF_TIMERS);
 }
 
 #[test]

@@ -10,9 +10,9 @@ mod refused_rows;
 mod timer_rows;
 
 use ert_defs::Reading;
-use ert_io::{Failed, MemClock, MemSink, MemSource, Source};
+use ert_io::{MemClock, MemSink, MemSource};
 use ert_program::{EndStatus, Ended, ertime};
-use ert_service::FreeGate;
+use ert_race::{FreeGate, Gate};
 use std::alloc::{AllocError, Global};
 use std::sync::Wait;
 use std::test::Fail;
@@ -30,7 +30,7 @@ const USAGE: &str = "usage: ertime run | race | live N | stress SEED N\n";
 /// What a run is given: its words, its input, the readings of its clock, the call of each of the three that fails,
 /// from 1, or 0 for none, and the most bytes that one write takes.
 #[derive(Clone, Copy)]
-struct Given<'a> {
+pub(crate) struct Given<'a> {
     words: &'a [&'a str],
     text: &'a [u8],
     readings: &'a [(i64, i64)],
@@ -41,7 +41,7 @@ struct Given<'a> {
 }
 
 /// A run of these words in which nothing fails.
-fn sound<'a>(words: &'a [&'a str], text: &'a [u8]) -> Given<'a>
+pub(crate) fn sound<'a>(words: &'a [&'a str], text: &'a [u8]) -> Given<'a>
     ensures { 1 ≤ result.piece }
 {
     Given {
@@ -74,14 +74,15 @@ fn clock_of(alloc: Global, readings: &[(i64, i64)], fails: u32) -> Result<MemClo
     Ok(MemClock::new(all, vec![in alloc; fails]?))
 }
 
-/// The program over these words, a source and a sink, with a clock.
-fn run<R: AllocGlobal + Threads + Wait + Sync, I: Source>(
+/// The program over these words, a source and a sink, with a clock and a gate.
+fn run<R: AllocGlobal + Threads + Wait + Sync, G: Gate + Sync>(
     rt: &R,
     words: &[&str],
-    input: &mut I,
+    input: &mut MemSource,
     output: &mut MemSink,
     errors: &mut MemSink,
     mut clock: MemClock,
+    gate: &G,
 ) -> Result<Ended, AllocError> {
     let words = strings(rt.alloc(), words)?;
     Ok(ertime(
@@ -91,14 +92,15 @@ fn run<R: AllocGlobal + Threads + Wait + Sync, I: Source>(
         output,
         errors,
         &mut clock,
-        &FreeGate,
+        gate,
     ))
 }
 
-/// The status and the output of a run.
-fn end_of<R: AllocGlobal + Threads + Wait + Sync>(
+/// The status and the output of a run over a gate.
+pub(crate) fn end_of<R: AllocGlobal + Threads + Wait + Sync, G: Gate + Sync>(
     rt: &R,
     given: Given,
+    gate: &G,
 ) -> Result<(EndStatus, String), AllocError>
     requires { 1 ≤ given.piece }
 {
@@ -107,7 +109,15 @@ fn end_of<R: AllocGlobal + Threads + Wait + Sync>(
     let mut output = MemSink::new(alloc, given.piece, vec![in alloc; given.write]?);
     let mut errors = MemSink::new(alloc, 64, Vec::new(alloc));
     let clock = clock_of(alloc, given.readings, given.reading)?;
-    let ended = run(rt, given.words, &mut input, &mut output, &mut errors, clock)?;
+    let ended = run(
+        rt,
+        given.words,
+        &mut input,
+        &mut output,
+        &mut errors,
+        clock,
+        gate,
+    )?;
     Ok((
         ended.status,
         String::from_utf8_lossy(alloc, output.bytes())?,
@@ -123,7 +133,7 @@ fn ends<R: AllocGlobal + Threads + Wait + Sync>(
 ) -> Result<bool, AllocError>
     requires { 1 ≤ given.piece }
 {
-    let (ended, written) = end_of(rt, given)?;
+    let (ended, written) = end_of(rt, given, &FreeGate)?;
     Ok(ended == status && written.as_str() == lines)
 }
 
@@ -137,7 +147,7 @@ fn ends_within<R: AllocGlobal + Threads + Wait + Sync>(
 ) -> Result<bool, AllocError>
     requires { 1 ≤ given.piece }
 {
-    let (ended, written) = end_of(rt, given)?;
+    let (ended, written) = end_of(rt, given, &FreeGate)?;
     let text = written.as_str();
     Ok(ended == status && text.len() == length && lines.iter().any(|all| all.starts_with(text)))
 }
@@ -207,7 +217,7 @@ fn takes_64_monitors_and_100_000_ops(rt: HostRuntime) -> Result<(), Fail> {
     ] {
         let ops = repeated(rt.alloc(), op, count)?;
         let text = scenario(rt.alloc(), 1, r#""first":[0,0]"#, ops.as_str())?;
-        let (ended, written) = end_of(&rt, sound(&["run"], text.as_bytes()))?;
+        let (ended, written) = end_of(&rt, sound(&["run"], text.as_bytes()), &FreeGate)?;
         let is_right = ended == status && written.as_str().ends_with(tail);
         assert!(rt; is_right, "at {op}: {written}");
     }
@@ -267,38 +277,15 @@ fn stops_at_a_failed_read(rt: HostRuntime) -> Result<(), Fail> {
     Ok(())
 }
 
-/// So many spaces.
-#[derive(Drop)]
-struct Spaces {
-    left: usize,
-}
-
-impl Source for Spaces {
-    ghost faults = { λ _. 0 };
-
-    fn read(&mut self, buf: &mut [u8]) -> Result<usize, Failed> {
-        let count = self.left.min(buf.len());
-        for byte in buf.iter_mut() {
-            *byte = b' ';
-        }
-        self.left -= count;
-        Ok(count)
-    }
-}
-
 #[test]
 fn refuses_a_long_input(rt: HostRuntime) -> Result<(), Fail> {
     for (count, status, line) in [
         (16_777_216, EndStatus::Refused, "refused json\n"),
         (16_777_217, EndStatus::TooLong, ""),
     ] {
-        let mut input = Spaces { left: count };
-        let mut output = MemSink::new(rt.alloc(), 100, Vec::new(rt.alloc()));
-        let mut errors = MemSink::new(rt.alloc(), 100, Vec::new(rt.alloc()));
-        let clock = clock_of(rt.alloc(), &[], 0)?;
-        let ended = run(&rt, &["run"], &mut input, &mut output, &mut errors, clock)?;
-        let is_right = ended.status == status && output.bytes() == line.as_bytes();
-        assert!(rt; is_right, "at {count}");
+        let spaces = vec![in rt.alloc(); b' '; count]?;
+        let given = sound(&["run"], spaces.as_slice());
+        assert!(rt; ends(&rt, given, status, line)?, "at {count}");
     }
     Ok(())
 }

@@ -3,8 +3,10 @@
 //!
 //! In all of them there is one scheduler. So worker 0 does the keeper list, worker 1 makes the turns, and worker
 //! 2 and the workers after it do the lists of the callers from 1 on.
-use crate::racing::reports_one_of;
-use ert_service::LedgerGate;
+use crate::program::{end_of, sound};
+use ert_program::EndStatus;
+use ert_race::LedgerGate;
+use std::test::Fail;
 
 /// How often a gate tries before it lets go.
 const TRIES: u64 = 20_000_000;
@@ -64,7 +66,7 @@ const AT_12: &str =
 // run at once: the first two rows hold either of two workers until the other has begun, and were these run one
 // after the other, in whatever order, one of the two gates would let go.
 #[test]
-fn over_gates_that_hold_a_step(rt: HostRuntime) {
+fn over_gates_that_hold_a_step(rt: HostRuntime) -> Result<(), Fail> {
     let rows: [(&str, u32, (u32, u64), &[&str]); 6] = [
         (TWO_CANCELS, 2, (3, 1), &EITHER_CANCELS),
         (TWO_CANCELS, 3, (2, 1), &EITHER_CANCELS),
@@ -79,11 +81,12 @@ fn over_gates_that_hold_a_step(rt: HostRuntime) {
     ];
     for (race, held, awaited, reports) in rows {
         let gate = LedgerGate::new((held, 1), awaited, TRIES);
-        assert!(rt;
-            reports_one_of(&rt, rt.alloc(), race, &gate, reports),
-            "of {race}"
-        );
+        let given = sound(&["race"], race.as_bytes());
+        let (status, report) = end_of(&rt, given, &gate)?;
+        let is_one = reports.iter().any(|one| *one == report.as_str());
+        assert!(rt; status == EndStatus::Done && is_one, "{report} of {race}");
         assert!(rt; gate.has_held(), "no turn came to the gate in {race}");
         assert!(rt; !gate.has_let_go(), "the gate let go in {race}");
     }
+    Ok(())
 }

@@ -1,8 +1,8 @@
 use crate::frames::{FIELDS, OPS_1, WHOLE, answer, framed, gives};
 use ert_defs::{Mode, Reading, Settings};
+use ert_ops::Unit;
 use ert_scenario::ScenarioErr::{Json, Limit, Range, Shape};
 use ert_scenario::{Op, read_scenario};
-use ert_units::Unit;
 use std::alloc::{AllocError, Global};
 use std::process::Abort;
 use std::test::Fail;
@@ -31,134 +31,144 @@ fn refuses_texts(rt: HostRuntime) {
     assert!(rt; read_scenario(rt.alloc(), &[255], false).err() == Some(Json));
 }
 
+const FIELDS_OF_OTHER_SHAPE: [&str; 28] = [
+    r#""extra":1"#,
+    r#""race":{"turns":0,"keeper":[],"callers":[]}"#,
+    r#""callers":1"#,
+    r#""Start":0"#,
+    r#""format":1.0"#,
+    r#""format":1e0"#,
+    r#""format":"1""#,
+    r#""schedulers":"1""#,
+    r#""schedulers":9223372036854775808"#,
+    r#""processes":null"#,
+    r#""slots":1.0"#,
+    r#""start":null"#,
+    r#""start":-0"#,
+    r#""start":9223372036854775808"#,
+    r#""start":-9223372036854775809"#,
+    r#""mode":"Multi""#,
+    r#""mode":"no_time_warp""#,
+    r#""mode":1"#,
+    r#""mode":null"#,
+    r#""correction":"true""#,
+    r#""correction":1"#,
+    r#""correction":null"#,
+    r#""first":7"#,
+    r#""first":[0]"#,
+    r#""first":[0,0,0]"#,
+    r#""first":[0.5,0]"#,
+    r#""ops":{}"#,
+    r#""format":3,"correction":0,"ops":[[]]"#,
+];
+
+const FIELDS_OUT_OF_RANGE: [&str; 18] = [
+    r#""format":3"#,
+    r#""format":0"#,
+    r#""schedulers":0"#,
+    r#""schedulers":65"#,
+    r#""schedulers":4294967297"#,
+    r#""processes":-1"#,
+    r#""processes":1025"#,
+    r#""slots":65537"#,
+    r#""slots":65536,"schedulers":5"#,
+    r#""start":9223372036854775807"#,
+    r#""start":1"#,
+    r#""start":-1"#,
+    r#""start":288230376152000000"#,
+    r#""first":[-1,0]"#,
+    r#""first":[4611686018427387904,0]"#,
+    r#""first":[0,2305843009213693952]"#,
+    r#""first":[0,-2305843009213693952]"#,
+    r#""start":1,"ops":[["tick",-1,0]]"#,
+];
+
 #[test]
 fn refuses_fields(rt: HostRuntime) {
-    let shape_0 = [
-        r#""extra":1"#,
-        r#""race":{"turns":0,"keeper":[],"callers":[]}"#,
-        r#""callers":1"#,
-        r#""Start":0"#,
-        r#""format":1.0"#,
-        r#""format":1e0"#,
-        r#""format":"1""#,
-        r#""schedulers":"1""#,
-        r#""schedulers":9223372036854775808"#,
-        r#""processes":null"#,
-        r#""slots":1.0"#,
-        r#""start":null"#,
-        r#""start":-0"#,
-        r#""start":9223372036854775808"#,
-        r#""start":-9223372036854775809"#,
-        r#""mode":"Multi""#,
-        r#""mode":"no_time_warp""#,
-        r#""mode":1"#,
-        r#""mode":null"#,
-        r#""correction":"true""#,
-        r#""correction":1"#,
-        r#""correction":null"#,
-        r#""first":7"#,
-        r#""first":[0]"#,
-        r#""first":[0,0,0]"#,
-        r#""first":[0.5,0]"#,
-        r#""ops":{}"#,
-        r#""format":3,"correction":0,"ops":[[]]"#,
-    ];
-    let range_0 = [
-        r#""format":3"#,
-        r#""format":0"#,
-        r#""schedulers":0"#,
-        r#""schedulers":65"#,
-        r#""schedulers":4294967297"#,
-        r#""processes":-1"#,
-        r#""processes":1025"#,
-        r#""slots":65537"#,
-        r#""slots":65536,"schedulers":5"#,
-        r#""start":9223372036854775807"#,
-        r#""start":1"#,
-        r#""start":-1"#,
-        r#""start":288230376152000000"#,
-        r#""first":[-1,0]"#,
-        r#""first":[4611686018427387904,0]"#,
-        r#""first":[0,2305843009213693952]"#,
-        r#""first":[0,-2305843009213693952]"#,
-        r#""start":1,"ops":[["tick",-1,0]]"#,
-    ];
     let shape_1 = [
         r#""ops":[["time"]],"ops":[["wait"]]"#,
         r#""format":3,"ops":[["cancel_async",1,0]]"#,
     ];
     let shape_2 = [r#""start":1,"ops":[["time"],[]]"#];
-    answer(&rt, rt.alloc(), FIELDS, Err(Shape(0)), &shape_0);
-    answer(&rt, rt.alloc(), FIELDS, Err(Range(0)), &range_0);
+    answer(
+        &rt,
+        rt.alloc(),
+        FIELDS,
+        Err(Shape(0)),
+        &FIELDS_OF_OTHER_SHAPE,
+    );
+    answer(&rt, rt.alloc(), FIELDS, Err(Range(0)), &FIELDS_OUT_OF_RANGE);
     answer(&rt, rt.alloc(), FIELDS, Err(Shape(1)), &shape_1);
     answer(&rt, rt.alloc(), FIELDS, Err(Shape(2)), &shape_2);
 }
 
+const OPS_OF_OTHER_SHAPE: [&str; 38] = [
+    r#"["wait"]"#,
+    r#"["Time"]"#,
+    r#""time""#,
+    r#"{}"#,
+    r#"[]"#,
+    r#"[1]"#,
+    r#"["time",0]"#,
+    r#"["system",0]"#,
+    r#"["offset",[]]"#,
+    r#"["info",null]"#,
+    r#"["check",0]"#,
+    r#"["check",0,0,0]"#,
+    r#"["finalize"]"#,
+    r#"["finalize",0,0,"now"]"#,
+    r#"["finalize",0,"0"]"#,
+    r#"["tick"]"#,
+    r#"["tick",0]"#,
+    r#"["tick",0,0,0]"#,
+    r#"["tick",-1,0,0]"#,
+    r#"["tick","0",0]"#,
+    r#"["tick",0,1.0]"#,
+    r#"["tick",1e0,0]"#,
+    r#"["tick",-0,0]"#,
+    r#"["tick",9223372036854775808,0]"#,
+    r#"["tick",0,-9223372036854775809]"#,
+    r#"["convert",0,1]"#,
+    r#"["convert",0,1,1,1]"#,
+    r#"["convert",0.5,1,1]"#,
+    r#"["convert",0,"Second",1]"#,
+    r#"["convert",0,"seconds",1]"#,
+    r#"["convert",0,1,""]"#,
+    r#"["convert",0,1,"1000"]"#,
+    r#"["convert",0,-1,1]"#,
+    r#"["convert",0,1.0,1]"#,
+    r#"["convert",0,1,null]"#,
+    r#"["convert",0,["second"],1]"#,
+    r#"["convert",0,18446744073709551616,1]"#,
+    r#"["convert",0,0,true]"#,
+];
+
+const OPS_OUT_OF_RANGE: [&str; 9] = [
+    r#"["check",0,2305843009213693952]"#,
+    r#"["finalize",-1,0]"#,
+    r#"["convert",0,0,1]"#,
+    r#"["convert",0,1,9223372036854775808]"#,
+    r#"["convert",0,18446744073709551615,1]"#,
+    r#"["tick",9223372036854775807,0]"#,
+    r#"["tick",0,-9223372036854775808]"#,
+    r#"["tick",4611686018427387904,0]"#,
+    r#"["tick",0,2305843009213693952]"#,
+];
+
 #[test]
 fn refuses_ops(rt: HostRuntime) {
-    let shape_1 = [
-        r#"["wait"]"#,
-        r#"["Time"]"#,
-        r#""time""#,
-        r#"{}"#,
-        r#"[]"#,
-        r#"[1]"#,
-        r#"["time",0]"#,
-        r#"["system",0]"#,
-        r#"["offset",[]]"#,
-        r#"["info",null]"#,
-        r#"["check",0]"#,
-        r#"["check",0,0,0]"#,
-        r#"["finalize"]"#,
-        r#"["finalize",0,0,"now"]"#,
-        r#"["finalize",0,"0"]"#,
-        r#"["tick"]"#,
-        r#"["tick",0]"#,
-        r#"["tick",0,0,0]"#,
-        r#"["tick",-1,0,0]"#,
-        r#"["tick","0",0]"#,
-        r#"["tick",0,1.0]"#,
-        r#"["tick",1e0,0]"#,
-        r#"["tick",-0,0]"#,
-        r#"["tick",9223372036854775808,0]"#,
-        r#"["tick",0,-9223372036854775809]"#,
-        r#"["convert",0,1]"#,
-        r#"["convert",0,1,1,1]"#,
-        r#"["convert",0.5,1,1]"#,
-        r#"["convert",0,"Second",1]"#,
-        r#"["convert",0,"seconds",1]"#,
-        r#"["convert",0,1,""]"#,
-        r#"["convert",0,1,"1000"]"#,
-        r#"["convert",0,-1,1]"#,
-        r#"["convert",0,1.0,1]"#,
-        r#"["convert",0,1,null]"#,
-        r#"["convert",0,["second"],1]"#,
-        r#"["convert",0,18446744073709551616,1]"#,
-        r#"["convert",0,0,true]"#,
-    ];
-    let range_1 = [
-        r#"["check",0,2305843009213693952]"#,
-        r#"["finalize",-1,0]"#,
-        r#"["convert",0,0,1]"#,
-        r#"["convert",0,1,9223372036854775808]"#,
-        r#"["convert",0,18446744073709551615,1]"#,
-        r#"["tick",9223372036854775807,0]"#,
-        r#"["tick",0,-9223372036854775808]"#,
-        r#"["tick",4611686018427387904,0]"#,
-        r#"["tick",0,2305843009213693952]"#,
-    ];
     let shape_4 = [r#"["time"],["system"],["info"],["jump"]"#];
     let range_2 = [r#"["time"],["tick",0,-2305843009213693952],["tick",-1,0]"#];
     let shape_3 = [r#"["tick",-1,0],["time"],["time",1],["wait"]"#];
-    answer(&rt, rt.alloc(), OPS_1, Err(Shape(1)), &shape_1);
-    answer(&rt, rt.alloc(), OPS_1, Err(Range(1)), &range_1);
+    answer(&rt, rt.alloc(), OPS_1, Err(Shape(1)), &OPS_OF_OTHER_SHAPE);
+    answer(&rt, rt.alloc(), OPS_1, Err(Range(1)), &OPS_OUT_OF_RANGE);
     answer(&rt, rt.alloc(), OPS_1, Err(Shape(4)), &shape_4);
     answer(&rt, rt.alloc(), OPS_1, Err(Range(2)), &range_2);
     answer(&rt, rt.alloc(), OPS_1, Err(Shape(3)), &shape_3);
 }
 
 /// What a scenario without these fields opens with.
-const PLAIN: Settings = Settings {
+pub(crate) const PLAIN: Settings = Settings {
     mode: Mode::No,
     correction: true,
     start: 0,
@@ -240,10 +250,7 @@ fn accepts_fields(rt: HostRuntime) {
 }
 
 #[test]
-fn accepts_ops_of_the_clock(rt: HostRuntime) -> Result<(), Fail> {
-    let one = Unit::parts(1).ok_or("no unit")?;
-    let three = Unit::parts(3).ok_or("no unit")?;
-    let most = Unit::parts(i64::MAX as u64).ok_or("no unit")?;
+fn accepts_ops_of_the_clock(rt: HostRuntime) {
     let rows = [
         (
             r#"["tick",4611686018427387903,-2305843009213693951]"#,
@@ -264,6 +271,16 @@ fn accepts_ops_of_the_clock(rt: HostRuntime) -> Result<(), Fail> {
         (r#"["system"]"#, Op::System),
         (r#"["offset"]"#, Op::Offset),
         (r#"["info"]"#, Op::Info),
+    ];
+    gives(&rt, rt.alloc(), OPS_1, &rows);
+}
+
+#[test]
+fn accepts_conversions(rt: HostRuntime) -> Result<(), Fail> {
+    let one = Unit::parts(1).ok_or("no unit")?;
+    let three = Unit::parts(3).ok_or("no unit")?;
+    let most = Unit::parts(i64::MAX as u64).ok_or("no unit")?;
+    let rows = [
         (
             r#"["convert",-9223372036854775808,"second",9223372036854775807]"#,
             Op::Convert {

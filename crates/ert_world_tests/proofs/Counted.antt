@@ -2,7 +2,7 @@
 
 use Rattle.std.proofs.Common.{◌≡◌, ◌≢◌, ℕ, ◌+◌, ◌<◌, Bool, true, false, List, slice_index_or, refl, sym, subst, ◌∙◌, arith, eqb-true, eq-eqb}
 use Rattle.std.specs.Prelude.{nat_eq}
-use Rattle.ert_answers.specs.Ways.{Growth, Way}
+use Rattle.ert_effects.specs.Ways.{Growth, Way}
 use Rattle.ert_world.specs.Worlds.{Seen, Goes, IsTidyAt}
 
 -- the first so many of these have the numbers from 0 on

@@ -1,7 +1,7 @@
 -- A call leaves a world orderly.
 
 use Rattle.std.proofs.Common.{◌<◌, subst, ◌∙◌}
-use Rattle.ert_answers.specs.Ways.{Growth, Way}
+use Rattle.ert_effects.specs.Ways.{Growth, Way}
 use Rattle.ert_world.specs.Worlds.{Seen, Goes}
 use Rattle.ert_world_tests.specs.Orderly.{IsOrderly}
 

@@ -1,23 +1,19 @@
 //! The examples of the documentation: `.ci/check_examples` looks that each stands here word for word.
 ghost use Rattle.std.specs.Prelude.{◌<◌};
-ghost use Rattle.std.specs.Arc.{arc_value};
-ghost use Rattle.ert_locks.specs.Names.{IsDesk};
-ghost use Rattle.ert_world.specs.Parts.{parts_of};
-ghost use Rattle.ert_world.specs.Worlds.{AreFit};
 
-use crate::service_calls::is_process;
-use ert_answers::Taken;
+use crate::tests::service_calls::is_process;
+use crate::tests::trials::{Seats, Told, Trial, try_out};
 use ert_calls::cancel_timer;
 use ert_defs::{Actor, Kind, Mail, Mode, NoMemory, Reading, Settings, Start, When};
+use ert_effects::{StartErr, Taken};
 use ert_locks::{CallerSeat, DeskName};
-use ert_service::{Opened, Service};
-use ert_world::{Parts, World};
+use ert_service::Service;
+use ert_world::World;
 use std::alloc::Global;
-use std::marker::Brand;
 use std::process::Abort;
 use std::sync::Wait;
 
-const SETTINGS: Settings = Settings {
+pub(crate) const SETTINGS: Settings = Settings {
     mode: Mode::No,
     correction: false,
     start: 0,
@@ -60,57 +56,42 @@ fn a_timer_sends_its_message(rt: HostRuntime) -> Result<(), NoMemory> {
 fn start_and_cancel<L: DeskName, R: Wait>(
     rt: &R,
     service: &Service<L>,
-    seat: CallerSeat<L>,
+    seat: &mut CallerSeat<L>,
     start: &Start,
-) -> (CallerSeat<L>, Option<u64>)
+) -> Result<Option<u64>, StartErr>
     requires wheel { 0 < L.settings.schedulers }
     requires dest { start.now.dest < L.settings.processes }
 {
-    let (seat, started) = service.start(rt, seat, 0, start);
-    let Ok(timer) = started else {
-        return (seat, None);
-    };
-    let CallerSeat {
-        number,
-        mut pass,
-        ..
-    } = seat;
-    let left = cancel_timer(service.desk(), &mut pass, Actor::Caller(number), timer);
-    (CallerSeat::new(number, pass), left)
+    let timer = service.start(rt, seat, 0, start)?;
+    let by = Actor::Caller(seat.number);
+    let left = cancel_timer(service.desk(), &mut seat.pass, by, timer);
+    Ok(left)
 }
 
-/// Opens a service on the parts of a world, and starts and cancels a timer.
-fn serve<L: DeskName, R: Wait + Abort>(
+/// The first caller starts a timer of scheduler 0 for process 0, and cancels it.
+pub(crate) fn first_timer<L: DeskName, R: Wait + Abort>(
     rt: &R,
-    alloc: Global,
-    parts: Parts,
-) -> Result<Option<u64>, NoMemory>
-    requires desk { IsDesk L.table L.settings (arc_value parts.desk) }
-    requires fit { AreFit (arc_value parts.desk) parts.pass 1 (parts_of parts.keeper parts.wheels.items parts.inboxes.items parts.mails.items parts.scheds.items) }
-{
-    let Opened {
-        service,
-        mut callers,
-        ..
-    } = Service::<L>::open(alloc, parts)?;
-    let seat = callers.pop().expect(rt, "a caller");
+    service: &Service<L>,
+    (scheds, mut callers): Seats<L>,
+) -> Result<(Seats<L>, Told), NoMemory> {
+    let mut seat = callers.pop().expect(rt, "a caller");
     let start = Start {
         when: When::After(50),
         dest: 0,
         msg: 7,
         kind: Kind::Bare,
     };
-    is_process(rt, &service, 0);
+    is_process(rt, service, 0);
     assert!(rt; service.desk().settings().schedulers > 0);
-    let (_, left) = start_and_cancel(rt, &service, seat, &start);
-    Ok(left)
+    let left = start_and_cancel(rt, service, &mut seat, &start).unwrap_or(None);
+    callers.reserve(1)?;
+    callers.push_reserved(seat);
+    Ok(((scheds, callers), Told::Left(left)))
 }
 
 #[test]
 fn a_seat_starts_and_cancels(rt: HostRuntime) -> Result<(), NoMemory> {
-    assert!(rt; SETTINGS.check().is_ok());
-    let parts = World::open(rt.alloc(), &SETTINGS)?.into_parts();
-    let left = serve::<Brand, HostRuntime>(&rt, rt.alloc(), parts)?;
-    assert!(rt; left == Some(50));
+    let (_, told) = try_out(&rt, rt.alloc(), &SETTINGS, Trial::FirstTimer)?;
+    assert!(rt; matches!(told, Told::Left(Some(50))));
     Ok(())
 }

@@ -7,26 +7,6 @@
 #![tactic(auto)]
 
 #[cfg(test)]
-mod compare;
-#[cfg(test)]
-mod crossing;
-#[cfg(test)]
 mod examples;
 #[cfg(test)]
-mod intervals;
-#[cfg(test)]
-mod names;
-#[cfg(test)]
-mod rounds;
-#[cfg(test)]
-mod service;
-#[cfg(test)]
-mod service_calls;
-#[cfg(test)]
-mod workers;
-#[cfg(test)]
-mod world;
-#[cfg(test)]
-mod world_calls;
-#[cfg(test)]
-mod world_steps;
+mod tests;

@@ -2,6 +2,7 @@
 use super::{clock_of, run};
 use ert_io::{MemSink, MemSource};
 use ert_program::EndStatus;
+use ert_race::FreeGate;
 use std::alloc::{AllocError, Global};
 use std::sync::Wait;
 use std::test::Fail;
@@ -84,7 +85,15 @@ fn told<R: AllocGlobal + Threads + Wait + Sync>(
     let mut output = MemSink::new(alloc, 64, Vec::new(alloc));
     let mut errors = MemSink::new(alloc, 7, vec![in alloc; fails]?);
     let clock = clock_of(alloc, &[], 0)?;
-    let ended = run(rt, &[command], &mut input, &mut output, &mut errors, clock)?;
+    let ended = run(
+        rt,
+        &[command],
+        &mut input,
+        &mut output,
+        &mut errors,
+        clock,
+        &FreeGate,
+    )?;
     if ended.status != EndStatus::Refused {
         return Ok(None);
     }

@@ -1,0 +1,13 @@
+mod compare;
+mod crossing;
+mod intervals;
+mod names;
+mod rounds;
+mod service;
+pub(crate) mod service_calls;
+mod settings;
+pub(crate) mod trials;
+mod workers;
+mod world;
+mod world_calls;
+mod world_steps;

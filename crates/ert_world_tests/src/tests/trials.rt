@@ -1,0 +1,97 @@
+//! A service from its opening to its closing, and what a test does on it meanwhile.
+ghost use Rattle.std.specs.Arc.{arc_value};
+ghost use Rattle.ert_locks.specs.Names.{IsDesk};
+ghost use Rattle.ert_world.specs.Parts.{parts_of};
+ghost use Rattle.ert_world.specs.Worlds.{AreFit};
+
+use crate::examples::first_timer;
+use crate::tests::crossing::cross;
+use crate::tests::rounds::use_service;
+use crate::tests::service::each_call;
+use crate::tests::service_calls::{are_callers, are_scheds};
+use crate::tests::workers::{Answers, Totals};
+use ert_defs::{NoMemory, Settings};
+use ert_locks::{CallerSeat, DeskName, SchedSeat};
+use ert_service::{Opened, Service};
+use ert_world::{Parts, World};
+use std::alloc::Global;
+use std::marker::Brand;
+use std::process::Abort;
+use std::sync::Wait;
+use std::thread::Threads;
+
+/// What a test does on a service.
+#[derive(Clone, Copy)]
+pub(crate) enum Trial {
+    /// Starts a timer and cancels it.
+    FirstTimer,
+    /// Makes each call once, on one thread.
+    EachCall,
+    /// Uses each slot more often than a round has uses.
+    Rounds,
+    /// Lets all callers and schedulers work at once.
+    Crossing,
+}
+
+/// What it was told by the way.
+#[derive(Drop)]
+pub(crate) enum Told {
+    Nothing,
+    /// What was left of the timer.
+    Left(Option<u64>),
+    /// How many timers were started.
+    Started(u64),
+    /// What each caller was answered, and what the turns of each scheduler did.
+    Crossed(Vec<Answers>, Vec<Totals>),
+}
+
+/// The seats of the schedulers and of the callers.
+pub(crate) type Seats<L> = (Vec<SchedSeat<L>>, Vec<CallerSeat<L>>);
+
+/// Opens a service with these settings, does that, and closes it.
+pub(crate) fn try_out<R: Threads + Wait + Abort + Sync>(
+    rt: &R,
+    alloc: Global,
+    settings: &Settings,
+    trial: Trial,
+) -> Result<(World, Told), NoMemory> {
+    assert!(rt; settings.check().is_ok());
+    let parts = World::open(alloc, settings)?.into_parts();
+    try_on::<Brand, R>(rt, alloc, parts, trial)
+}
+
+fn try_on<L: DeskName + Send + Sync, R: Threads + Wait + Abort + Sync>(
+    rt: &R,
+    alloc: Global,
+    parts: Parts,
+    trial: Trial,
+) -> Result<(World, Told), NoMemory>
+    requires desk { IsDesk L.table L.settings (arc_value parts.desk) }
+    requires fit { AreFit (arc_value parts.desk) parts.pass 1 (parts_of parts.keeper parts.wheels.items parts.inboxes.items parts.mails.items parts.scheds.items) }
+{
+    let Opened {
+        rest,
+        service,
+        scheds,
+        callers,
+    } = Service::<L>::open(alloc, parts)?;
+    let ((scheds, callers), told) = do_trial(rt, alloc, &service, (scheds, callers), trial)?;
+    are_scheds(rt, &service, &scheds);
+    are_callers(rt, &service, &callers);
+    Ok((service.close(rest, scheds, callers), told))
+}
+
+fn do_trial<L: DeskName + Send + Sync, R: Threads + Wait + Abort + Sync>(
+    rt: &R,
+    alloc: Global,
+    service: &Service<L>,
+    seats: Seats<L>,
+    trial: Trial,
+) -> Result<(Seats<L>, Told), NoMemory> {
+    match trial {
+        Trial::FirstTimer => first_timer(rt, service, seats),
+        Trial::EachCall => Ok((each_call(rt, service, seats)?, Told::Nothing)),
+        Trial::Rounds => use_service(rt, service, seats),
+        Trial::Crossing => cross(rt, alloc, service, seats),
+    }
+}
