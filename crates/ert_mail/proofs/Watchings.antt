@@ -1,6 +1,6 @@
 -- The steps of the calls on monitors.
 
-use Rattle.std.proofs.Common.{◌≡◌, ℕ, ◌+◌, ◌≤◌, ℤ, Bool, true, List, [], ◌∷◌, ◌++◌, length, Ok, Err, inl, inr, refl, sym, ap, subst, ◌∙◌, eq-eqb}
+use Rattle.std.proofs.Common.{◌≡◌, ℕ, ◌+◌, ◌≤◌, ℤ, Bool, true, [], ◌∷◌, ◌++◌, length, Ok, Err, inl, inr, refl, ap, subst, ◌∙◌, eq-eqb}
 use Rattle.std.proofs.lemmas.Bool.{cases_lt}
 use Rattle.ert_defs.specs.Entries.{off_entry, watch_entry, unwatch_entry, tell_entry}
 use Rattle.ert_defs.specs.Mails.{MailState, changes_of, told_of, without}

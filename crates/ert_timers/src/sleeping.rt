@@ -18,7 +18,7 @@ impl WheelPart {
     /// where no timer is held.
     ///
     /// No armed timer is due before it. It is the deadline of a timer that is held, or the end of a look ahead
-    /// from `time`, of `ert_wheel::LOOK_AHEAD` milliseconds, if all are due later. A timer that another
+    /// from `time`, of `ert_wheel::HORIZON` milliseconds, if all are due later. A timer that another
     /// thread cancelled is held until it is due, so the answer may be too early for its sake, and never too
     /// late. No entry is made.
     pub fn next_due(&self, settings: &Settings, time: i64) -> Option<u64>

@@ -7,7 +7,7 @@ use Rattle.std.proofs.lemmas.List.FromFn.{get_or-map-range_with_len, length-map-
 use Rattle.std.specs.List.{range_with_len}
 use Rattle.ert_wheel.proofs.Parts.{IsSlot, IsHead, slot_is, head_is, node_is, put_chains, take_chains}
 use Rattle.ert_wheel.specs.Chained.{Shape, Spliced, Unspliced}
-use Rattle.ert_wheel.specs.Links.{link_of, links_of, link_at, next_at, prev_at, alone, no_link}
+use Rattle.ert_wheel.specs.Links.{link_of, links_of, next_at, prev_at, alone, no_link}
 use Rattle.ert_wheel.specs.Nodes.{Nodes, rings, HasNodes}
 use Rattle.ert_wheel.specs.Rings.{Rings, Place, order_of, shape, AreChains, MayTake, Puts, PutsInHome, Takes, slot_at, Finds, FindsOldest}
 use Rattle.ert_wheel.specs.declared.links.Link.{Link}
@@ -138,34 +138,34 @@ older_at r slot low places place are has =
     let s : IsSlot r.slots r.homes places slot place = slot_is r.slots r.homes places slot place low has in
     finds r places slot place.home place.order are s.on s.at_home s.top
 
-pub finds_newest : (n : Nodes) (slots : ℕ) (nodes lent : List Node) (side : Side) (home : ℕ) (link : Link) (found : Option ℕ)
+pub finds_newest : (n : Nodes) (slots : ℕ) (nodes lent : List Node) (side : Side) (home node : ℕ) (found : Option ℕ)
     → record { slots = slots; nodes = nodes } ≡ n → lent ≡ nodes → home < BUCKETS
-    → link ≡ link_at (links_of side lent) (slots + home) → found ≡ slot_at n.slots link.next → (places : ℕ → Option Place)
+    → node ≡ next_at (links_of side lent) (slots + home) → found ≡ slot_at n.slots node → (places : ℕ → Option Place)
     → AreChains (rings side n) places → Finds (rings side n) places home (2 ^ 64) found
-finds_newest n slots nodes lent side home link found is same low read e places are =
-    let P : Nodes → Type 0 = λ n. found ≡ slot_at n.slots link.next → AreChains (rings side n) places
+finds_newest n slots nodes lent side home node found is same low read e places are =
+    let P : Nodes → Type 0 = λ n. found ≡ slot_at n.slots node → AreChains (rings side n) places
     → Finds (rings side n) places home (2 ^ 64) found in
     let r : Rings = rings side (record { slots = slots; nodes = nodes }) in
     subst P is
     (λ e are.
     let is_found : found ≡ slot_at slots (next_at r.links (slots + home)) =
-    e ∙ ap (λ (l : Link). slot_at slots l.next) (read ∙ ap (λ (l : List Node). link_at (links_of side l) (slots + home)) same) in
+    e ∙ ap (slot_at slots) (read ∙ ap (λ (l : List Node). next_at (links_of side l) (slots + home)) same) in
     subst (λ (f : Option ℕ). Finds r places home (2 ^ 64) f) (sym is_found) (newest_at r home low places are))
     e are
 
-pub finds_older : (n : Nodes) (slots : ℕ) (nodes lent : List Node) (side : Side) (slot : ℕ) (link : Link) (found : Option ℕ)
+pub finds_older : (n : Nodes) (slots : ℕ) (nodes lent : List Node) (side : Side) (slot node : ℕ) (found : Option ℕ)
     → record { slots = slots; nodes = nodes } ≡ n → lent ≡ nodes → slot < n.slots
-    → link ≡ link_at (links_of side lent) slot → found ≡ slot_at n.slots link.next → (places : ℕ → Option Place)
+    → node ≡ next_at (links_of side lent) slot → found ≡ slot_at n.slots node → (places : ℕ → Option Place)
     (place : Place) → AreChains (rings side n) places → places slot ≡ Some place
     → Finds (rings side n) places place.home place.order found
-finds_older n slots nodes lent side slot link found is same low read e places place are in_place =
-    let P : Nodes → Type 0 = λ n. slot < n.slots → found ≡ slot_at n.slots link.next → AreChains (rings side n) places
+finds_older n slots nodes lent side slot node found is same low read e places place are in_place =
+    let P : Nodes → Type 0 = λ n. slot < n.slots → found ≡ slot_at n.slots node → AreChains (rings side n) places
     → Finds (rings side n) places place.home place.order found in
     let r : Rings = rings side (record { slots = slots; nodes = nodes }) in
     subst P is
     (λ low e are.
     let is_found : found ≡ slot_at slots (next_at r.links slot) =
-    e ∙ ap (λ (l : Link). slot_at slots l.next) (read ∙ ap (λ (l : List Node). link_at (links_of side l) slot) same) in
+    e ∙ ap (slot_at slots) (read ∙ ap (λ (l : List Node). next_at (links_of side l) slot) same) in
     subst (λ (f : Option ℕ). Finds r places place.home place.order f) (sym is_found)
     (older_at r slot low places place are in_place))
     low e are
@@ -208,18 +208,18 @@ oldest_at r home low places are =
           })
     ]
 
-pub finds_oldest : (n : Nodes) (slots : ℕ) (nodes lent : List Node) (side : Side) (home : ℕ) (link : Link) (found : Option ℕ)
+pub finds_oldest : (n : Nodes) (slots : ℕ) (nodes lent : List Node) (side : Side) (home node : ℕ) (found : Option ℕ)
     → record { slots = slots; nodes = nodes } ≡ n → lent ≡ nodes → home < BUCKETS
-    → link ≡ link_at (links_of side lent) (slots + home) → found ≡ slot_at n.slots link.prev → (places : ℕ → Option Place)
+    → node ≡ prev_at (links_of side lent) (slots + home) → found ≡ slot_at n.slots node → (places : ℕ → Option Place)
     → AreChains (rings side n) places → FindsOldest (rings side n) places home found
-finds_oldest n slots nodes lent side home link found is same low read e places are =
-    let P : Nodes → Type 0 = λ n. found ≡ slot_at n.slots link.prev → AreChains (rings side n) places
+finds_oldest n slots nodes lent side home node found is same low read e places are =
+    let P : Nodes → Type 0 = λ n. found ≡ slot_at n.slots node → AreChains (rings side n) places
     → FindsOldest (rings side n) places home found in
     let r : Rings = rings side (record { slots = slots; nodes = nodes }) in
     subst P is
     (λ e are.
     let is_found : found ≡ slot_at slots (prev_at r.links (slots + home)) =
-    e ∙ ap (λ (l : Link). slot_at slots l.prev) (read ∙ ap (λ (l : List Node). link_at (links_of side l) (slots + home)) same) in
+    e ∙ ap (slot_at slots) (read ∙ ap (λ (l : List Node). prev_at (links_of side l) (slots + home)) same) in
     subst (λ (f : Option ℕ). FindsOldest r places home f) (sym is_found) (oldest_at r home low places are))
     e are
 

@@ -5,7 +5,7 @@ use Rattle.ert_wheel.specs.Rings.{Rings, AreChains}
 use Rattle.ert_wheel.specs.Rows.{key_in}
 use Rattle.ert_wheel.specs.Wheels.{places}
 use Rattle.ert_wheel.specs.declared.row.Key.{Key}
-use Rattle.ert_wheel.specs.declared.wheel.TheConstants.{LOOK_AHEAD}
+use Rattle.ert_wheel.specs.declared.wheel.TheConstants.{HORIZON}
 
 -- there is no row
 abbrev pub NoRow : List (Option Key) → Type 0
@@ -30,7 +30,7 @@ pub record IsDueAt (keys : List (Option Key)) (time : ℕ) : Type 0 where
 
 -- where a look ahead from a time ends
 abbrev pub horizon : ℕ → ℕ
-horizon now = min (now + LOOK_AHEAD) (2 ^ 64 - 1)
+horizon now = min (now + HORIZON) (2 ^ 64 - 1)
 
 -- there are rows, none is due before a time, that is no later than the end of the look ahead, and either one
 -- is due at it or it is that end

@@ -1,6 +1,6 @@
 ghost use Rattle.std.specs.Prelude.{◌≡◌, IfOk};
 
-use crate::links::{Node, Side, alone, link_in, link_of, unlink};
+use crate::links::{Node, Side, alone, link_in, next_of, prev_of, unlink};
 use crate::row::BUCKETS;
 use ert_defs::NoMemory;
 use std::alloc::Global;
@@ -75,7 +75,7 @@ impl Chains {
         requires { slot < self.now.slots }
         ensures { IsTrue result ↔ (next_at (rings side self.now).links slot ≡ slot) }
     {
-        link_of(&self.nodes, side, slot).next == slot
+        next_of(&self.nodes, side, slot) == slot
     }
 
     /// The newest slot of a home; None where it has none.
@@ -86,7 +86,7 @@ impl Chains {
             → Finds (rings side self.now) places home (2 ^ 64) result }
     {
         let head = self.slots + home;
-        self.slot_at(link_of(&self.nodes, side, head).next)
+        self.slot_at(next_of(&self.nodes, side, head))
     }
 
     /// The oldest slot of a home; None where it has none.
@@ -97,7 +97,7 @@ impl Chains {
             → FindsOldest (rings side self.now) places home result }
     {
         let head = self.slots + home;
-        self.slot_at(link_of(&self.nodes, side, head).prev)
+        self.slot_at(prev_of(&self.nodes, side, head))
     }
 
     /// The slot that is next older than this one in its chain; None where there is none.
@@ -107,7 +107,7 @@ impl Chains {
         ensures { (places : ℕ → Option Place) (place : Place) → AreChains (rings side self.now) places
             → places slot ≡ Some place → Finds (rings side self.now) places place.home place.order result }
     {
-        self.slot_at(link_of(&self.nodes, side, slot).next)
+        self.slot_at(next_of(&self.nodes, side, slot))
     }
 
     // The slot of a node, and none of a head.

@@ -64,4 +64,4 @@ mod walk;
 mod wheel;
 
 pub use row::{BUCKETS, Key, Row};
-pub use wheel::{LOOK_AHEAD, Wheel};
+pub use wheel::{HORIZON, Wheel};

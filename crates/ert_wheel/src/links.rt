@@ -59,7 +59,7 @@ pub fn link_in(nodes: &mut [Node], side: Side, head: u32, slot: u32)
         (next_at (links_of side nodes.new)) (prev_at (links_of side nodes.new)) head slot }
     ensures other { links_of (other side) nodes.new ≡ links_of (other side) nodes.old }
 {
-    let next = link_of(nodes, side, head).next;
+    let next = next_of(nodes, side, head);
     set_next(nodes, side, slot, next);
     set_prev(nodes, side, slot, head);
     set_prev(nodes, side, next, slot);
@@ -77,22 +77,36 @@ pub fn unlink(nodes: &mut [Node], side: Side, slot: u32)
         (next_at (links_of side nodes.new)) (prev_at (links_of side nodes.new)) slot }
     ensures other { links_of (other side) nodes.new ≡ links_of (other side) nodes.old }
 {
-    let Link { next, prev } = link_of(nodes, side, slot);
+    let next = next_of(nodes, side, slot);
+    let prev = prev_of(nodes, side, slot);
     set_next(nodes, side, prev, next);
     set_prev(nodes, side, next, prev);
     set_next(nodes, side, slot, slot);
     set_prev(nodes, side, slot, slot);
 }
 
-/// The link of a node on a side.
+/// The node after a node in its ring. No call reads a link whole: where one half of it was just written alone, the
+/// load would wait until that is in the cache.
 #[inline]
-pub fn link_of(nodes: &[Node], side: Side, node: u32) -> Link
+pub fn next_of(nodes: &[Node], side: Side, node: u32) -> u32
     requires { node < length nodes.now }
-    ensures { result ≡ link_at (links_of side nodes.now) node }
+    ensures { result ≡ next_at (links_of side nodes.now) node }
 {
     match side {
-        Side::Bucket => nodes[node as usize].bucket,
-        Side::Owner => nodes[node as usize].owner,
+        Side::Bucket => nodes[node as usize].bucket.next,
+        Side::Owner => nodes[node as usize].owner.next,
+    }
+}
+
+/// The node before a node in its ring.
+#[inline]
+pub fn prev_of(nodes: &[Node], side: Side, node: u32) -> u32
+    requires { node < length nodes.now }
+    ensures { result ≡ prev_at (links_of side nodes.now) node }
+{
+    match side {
+        Side::Bucket => nodes[node as usize].bucket.prev,
+        Side::Owner => nodes[node as usize].owner.prev,
     }
 }
 
@@ -103,7 +117,7 @@ fn set_next(nodes: &mut [Node], side: Side, node: u32, next: u32)
     ensures prev { (x : ℕ) → prev_at (links_of side nodes.new) x ≡ prev_at (links_of side nodes.old) x }
     ensures other { links_of (other side) nodes.new ≡ links_of (other side) nodes.old }
 {
-    let Link { prev, .. } = link_of(nodes, side, node);
+    let prev = prev_of(nodes, side, node);
     set_link(nodes, side, node, Link { next, prev });
 }
 
@@ -114,7 +128,7 @@ fn set_prev(nodes: &mut [Node], side: Side, node: u32, prev: u32)
     ensures next { (x : ℕ) → next_at (links_of side nodes.new) x ≡ next_at (links_of side nodes.old) x }
     ensures other { links_of (other side) nodes.new ≡ links_of (other side) nodes.old }
 {
-    let Link { next, .. } = link_of(nodes, side, node);
+    let next = next_of(nodes, side, node);
     set_link(nodes, side, node, Link { next, prev });
 }
 

@@ -10,7 +10,7 @@ use std::alloc::Global;
 use std::marker::Model;
 
 /// How far `Wheel::next_due` looks ahead, in milliseconds: over three windows of the lowest level at most.
-pub const LOOK_AHEAD: u64 = 1_024;
+pub const HORIZON: u64 = 1_024;
 
 /// A timing wheel of levels: rows by their slots, and the due ones in order of deadline. Beside these it has a chain
 /// of slots for each owner.
@@ -195,7 +195,7 @@ impl Wheel {
 
     /// How early the next row may be due, in milliseconds; None exactly where there is no row.
     ///
-    /// No row has an earlier deadline. The answer is the least deadline where that is at most `LOOK_AHEAD`
+    /// No row has an earlier deadline. The answer is the least deadline where that is at most `HORIZON`
     /// milliseconds after `now`, and else this end of the look ahead, so that whoever sleeps until then looks
     /// again. It visits the buckets of the times that weren't passed, as `due` does, and stops at the first
     /// that has a row before this end; there it looks at all rows.
@@ -205,7 +205,7 @@ impl Wheel {
         if self.is_empty() {
             return None;
         }
-        Some(self.least_deadline(now.saturating_add(LOOK_AHEAD)))
+        Some(self.least_deadline(now.saturating_add(HORIZON)))
     }
 
     /// The least deadline, where it is below a bound, and else the bound.

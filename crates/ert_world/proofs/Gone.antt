@@ -1,7 +1,7 @@
 -- What an entry of a call brought about holds after it, whatever others did since: a process has exited, a timer
 -- isn't armed.
 
-use Rattle.std.proofs.Common.{◌≡◌, ◌≢◌, ℕ, ◌<◌, Bool, true, false, not, ◌&&◌, ◌||◌, List, [], ◌∷◌, ◌++◌, filter, slice_index_or, Option, Some, None, Ok, inl, inr, refl, sym, ap, subst, ◌∙◌, eq-eqb}
+use Rattle.std.proofs.Common.{◌≡◌, ◌≢◌, ℕ, ◌<◌, Bool, true, false, not, ◌&&◌, ◌||◌, List, [], ◌∷◌, filter, slice_index_or, Option, Some, None, Ok, inl, inr, refl, sym, ap, subst, ◌∙◌, eq-eqb}
 use Rattle.std.specs.Option.{is_some}
 use Rattle.std.specs.Prelude.{nat_eq, nat_lt}
 use Rattle.std.proofs.lemmas.Bool.{ltb-true}
@@ -11,7 +11,7 @@ use Rattle.ert_effects.specs.WheelCalls.{MarksExit}
 use Rattle.ert_defs.proofs.FiredTimers.{same_timer_self}
 use Rattle.ert_defs.proofs.Runs.{state-append, exit_stays, free_rest}
 use Rattle.ert_defs.specs.Actors.{IsFree}
-use Rattle.ert_defs.specs.Entries.{is_ours, look_entry, cancel_entry, mark_entry, answer_entry}
+use Rattle.ert_defs.specs.Entries.{is_ours, look_entry, mark_entry, answer_entry}
 use Rattle.ert_defs.specs.Legal.{is_generation, names_timer}
 use Rattle.ert_defs.specs.States.{State, next, run, state}
 use Rattle.ert_defs.specs.Timers.{settled_as}

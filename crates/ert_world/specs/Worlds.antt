@@ -7,7 +7,7 @@ use Rattle.ert_clock.specs.Shown.{Shown, Stands as ClockStands}
 use Rattle.ert_defs.specs.Mails.{SchedState}
 use Rattle.ert_defs.specs.Milliseconds.{down, natural}
 use Rattle.ert_defs.specs.Settings.{IsChecked}
-use Rattle.ert_defs.specs.States.{State, state}
+use Rattle.ert_defs.specs.States.{State, state, HasExited as HasExitedIn, sched_of as sched_after}
 use Rattle.ert_defs.specs.Timers.{is_taken}
 use Rattle.ert_defs.specs.declared.entry.Actor.{Actor}
 use Rattle.ert_defs.specs.declared.entry.Actor.TheVariants.{Caller}
@@ -166,11 +166,11 @@ pub record StandsFor (g : Settings) (h : List Entry) (w : Seen) : Type 0 where
 
 -- a process has exited in the history of a world
 abbrev pub HasExited : Seen → ℕ → Type 0
-HasExited w process = (state w.settings w.history).exited process ≡ true
+HasExited w process = HasExitedIn w.settings w.history process
 
 -- what a scheduler has in the history of a world
 abbrev pub sched_of : Seen → ℕ → SchedState
-sched_of w n = (state w.settings w.history).scheds n
+sched_of w n = sched_after w.settings w.history n
 
 -- what was left of a timer that was cancelled for a request; None where the request was to read it
 abbrev pub left_by : RequestKind → Option ℕ → Option ℕ

@@ -27,7 +27,7 @@
 //! | `serve` | a scheduler | answers the request in its hand, or else the first of its inbox | constant |
 //! | `advance` | a scheduler | lets the timers of its wheel expire that are due | those timers and the buckets that are visited |
 //! | `next_due` | | no entry: how early a timer of a wheel may be due | the buckets of a look ahead |
-//! | `deliver` | a scheduler | hands over its expired timers, until none is left | those timers |
+//! | `deliver` | a scheduler | hands over its expired timers, until none is left; the slot of each can then take a timer again | those timers |
 //! | `turn` | a scheduler | serves requests, 64 at most, advances, and delivers | as these three |
 //! | `last_turn` | a scheduler | does the same, and looks at every timer that its wheel holds | every slot of the wheel |
 //! | `seats`, `settings`, `published` | | no entry: how many seats were given out, settings and the last published time | constant |
@@ -55,6 +55,11 @@
 //! given out every call leaves a tidy wheel tidy: `cancel_timer`, and `serve` for a request to cancel, drop the row
 //! of what they cancelled. In a world that was put together of parts which others used, `last_turn` makes a wheel
 //! tidy. `counts` asks that all are, for then it need not look at any timer.
+//!
+//! **Chains.** `serve`, `deliver`, `turn` and `exit` are made of single steps (`steps.rt`), over two traits: what a
+//! scheduler does (`SchedSteps`: answer a request, advance, hand over) and what a caller does (`CallerSteps`: mark,
+//! sweep). They are written and proved once (`chains.rt`), for all that has the steps: a world, and each service
+//! of parts with locks of their own (`ert_service`).
 //!
 //! **Memory.** `start`, `room`, `cancel_timer`, `read_timer`, `take`, `exit`, `meet`, the calls on the clock and all
 //! calls of a seat take none. Where there is none, `seat`, `ask`, `monitor` and `tell` change nothing, `advance` lets

@@ -87,7 +87,7 @@ impl World {
     ///
     /// It tells an event loop how long it may sleep (as `uv_backend_timeout` of libuv): no armed timer is due
     /// before it. It is the deadline of a timer, or the end of a look ahead from the published time, of
-    /// `ert_wheel::LOOK_AHEAD` milliseconds, where all are due later.
+    /// `ert_wheel::HORIZON` milliseconds, where all are due later.
     pub fn next_due(&self, sched: u32) -> Option<u64>
         requires { sched < self.now.settings.schedulers }
         ensures held { IsNextHeldAt self.now sched result }

@@ -1,4 +1,4 @@
-use Rattle.std.proofs.Common.{◌≡◌, ◌+◌, [], ◌∷◌, ◌++◌, Ok, inr, sym, ap, subst, ◌∙◌, add-zero}
+use Rattle.std.proofs.Common.{◌+◌, [], ◌∷◌, ◌++◌, Ok, inr, sym, ap, subst, ◌∙◌, add-zero}
 use Rattle.ert_effects.specs.Chains.{Hands, puts, drops}
 use Rattle.ert_effects.specs.declared.answers.Handed.TheVariants.{Put, Dropped}
 use Rattle.ert_world.proofs.Chained.{Made, puts_more, drops_more, one_less, few_put, few_dropped, handed_more}

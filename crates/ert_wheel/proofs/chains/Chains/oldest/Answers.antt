@@ -4,4 +4,4 @@ use Rattle.ert_wheel.proofs.chains.Chains.oldest.Goals as goal
 pub returns : goal.returns
 returns c =
     let n = c.self.inside in
-    finds_oldest c.args.self.now n.slots n.nodes.items c.deref.result.now c.args.side c.args.home c.link_of.result c.slot_at.result c.self.view_is c.deref.ensures.value c.requires c.link_of.ensures c.slot_at.ensures
+    finds_oldest c.args.self.now n.slots n.nodes.items c.deref.result.now c.args.side c.args.home c.prev_of.result c.slot_at.result c.self.view_is c.deref.ensures.value c.requires c.prev_of.ensures c.slot_at.ensures
