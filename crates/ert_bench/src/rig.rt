@@ -21,7 +21,8 @@ pub(crate) struct Outstanding {
     dest: u32,
 }
 
-/// A world under measure. Its wheels take timers in turn.
+/// A world under measure. Its wheels take timers in turn. Its starts and cancels are inlined, as the world's are where
+/// an embedder calls them.
 #[derive(Drop)]
 pub(crate) struct Rig {
     world: World,
@@ -72,6 +73,7 @@ impl Rig {
     }
 
     /// Starts a timer that is due after so many milliseconds, for one of the processes.
+    #[inline(always)]
     pub(crate) fn start(&mut self, wait: u32, dest: u32) -> Result<TimerRef, BenchErr> {
         expect(dest < PROCESSES)?;
         let wheel = self.next_wheel();
@@ -125,6 +127,7 @@ impl Rig {
     }
 
     /// Cancels a timer, which is armed.
+    #[inline(always)]
     pub(crate) fn cancel(&mut self, timer: TimerRef) -> Result<(), BenchErr> {
         expect(self.world.cancel_timer(timer).is_some())
     }

@@ -1,4 +1,7 @@
 //! Calls that read and cancel timers.
+//!
+//! They are always inlined. A reference that is passed by memory was written in parts just before, and is read as a
+//! whole: so it waits until all writes before it are done, among them those that miss the caches.
 ghost use Rattle.std.specs.Prelude.{◌≡◌, ◌≤ℤ◌, ◌<ℤ◌, true};
 ghost use Rattle.ert_defs.specs.Actors.{IsUser};
 ghost use Rattle.ert_defs.specs.Legal.{names_timer};
@@ -18,6 +21,7 @@ use ert_table::{Desk, Pass, Settle, TimerCarry};
 /// The whole milliseconds left of a timer (`erlang` module reference, `read_timer`).
 ///
 /// None comes exactly where the reference is out of range or its timer isn't armed.
+#[inline(always)]
 pub fn read_timer(desk: &Desk, pass: &mut Pass, by: Actor, timer: TimerRef) -> Option<u64>
     requires belongs { Belongs desk.now pass.old }
     requires held { is_held (actors_of pass.old) by ≡ true }
@@ -38,6 +42,7 @@ pub fn read_timer(desk: &Desk, pass: &mut Pass, by: Actor, timer: TimerRef) -> O
 ///
 /// None comes exactly where the reference is out of range or its timer isn't armed at the last step of the
 /// call.
+#[inline(always)]
 pub fn cancel_timer(desk: &Desk, pass: &mut Pass, by: Actor, timer: TimerRef) -> Option<u64>
     requires belongs { Belongs desk.now pass.old }
     requires held { is_held (actors_of pass.old) by ≡ true }

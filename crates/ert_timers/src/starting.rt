@@ -32,7 +32,7 @@ impl WheelPart {
     /// Where no slot is known to be free, every slot is looked at, and it is `Full` only where each is taken or
     /// rests, or where the wheel has had 2^53 timers. A timer for a process that has exited is started, and
     /// cancelled at once. No memory is taken.
-    #[inline]
+    #[inline(always)]
     pub fn start(
         &mut self,
         desk: &Desk,
@@ -67,6 +67,7 @@ impl WheelPart {
     }
 
     /// A slot that can take a timer. Where none is known to be free, every slot is looked at.
+    #[inline(always)]
     fn take_slot(&mut self, desk: &Desk, pass: &mut Pass, by: u32, ahead: Ahead) -> Option<u32>
         requires belongs { Belongs desk.now pass.old }
         requires holds { HoldsCaller (settings_of desk.now) (view_of pass.old) by self.old.number }
@@ -84,6 +85,8 @@ impl WheelPart {
 
     /// Looks at every slot, where none is held free, and holds those free that can take a timer at a time in
     /// milliseconds.
+    #[cold]
+    #[inline(never)]
     fn look_at_all(&mut self, desk: &Desk, pass: &mut Pass, by: u32, now: u64)
         requires belongs { Belongs desk.now pass.old }
         requires holds { HoldsCaller (settings_of desk.now) (view_of pass.old) by self.old.number }
@@ -150,6 +153,7 @@ impl WheelPart {
     }
 
     /// Cancels a timer that has just been armed, where its destination is seen to have exited.
+    #[inline(always)]
     fn end(
         &mut self,
         desk: &Desk,

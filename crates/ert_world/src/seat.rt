@@ -74,6 +74,7 @@ impl Seat {
 
     /// Cancels a timer, and answers how many milliseconds were left (`cancel_timer`); None where the reference
     /// names no timer that is armed. Its wheel holds the row until the timer would be due.
+    #[inline]
     pub fn cancel_timer(&mut self, timer: TimerRef) -> Option<u64>
         ensures { Steps self.old (BySeat self.old (λ g. Cancels g (Caller self.old.number) timer result)) self.new }
     {
@@ -87,6 +88,7 @@ impl Seat {
 
     /// How many milliseconds are left of a timer (`read_timer`); None where the reference names no timer that is
     /// armed.
+    #[inline]
     pub fn read_timer(&mut self, timer: TimerRef) -> Option<u64>
         ensures { Steps self.old (BySeat self.old (λ g. Reads g (Caller self.old.number) timer result)) self.new }
     {

@@ -1,4 +1,5 @@
-//! The calls of callers on timers and on the exits of processes.
+//! The calls of callers on timers and on the exits of processes. Those that take or give a reference are always
+//! inlined, as in `ert_calls`.
 use crate::chains::exit;
 use crate::world::{CALLER, World};
 use ert_calls::{cancel_timer, is_alive, mark_exit, read_timer};
@@ -24,7 +25,7 @@ impl World {
     /// BadArg comes where the start has no deadline at the time of the call, and Full where each slot of the
     /// wheel is taken or rests, or the wheel has had 2^53 timers. A timer for a process that has exited is started
     /// and cancelled at once. No memory is taken.
-    #[inline]
+    #[inline(always)]
     pub fn start(&mut self, wheel: u32, start: &Start) -> Result<TimerRef, StartErr>
         requires wheel { wheel < self.old.settings.schedulers }
         requires dest { start.now.dest < self.old.settings.processes }
@@ -37,7 +38,7 @@ impl World {
 
     /// Cancels a timer, and answers how many milliseconds were left (`cancel_timer`); None where the
     /// reference names no timer that is armed.
-    #[inline]
+    #[inline(always)]
     pub fn cancel_timer(&mut self, timer: TimerRef) -> Option<u64>
         ensures call { Goes self.old (By self.old (λ g. Cancels g (Caller 0) timer result)) self.new }
         ensures clock { self.new.clock ≡ self.old.clock }
@@ -48,6 +49,7 @@ impl World {
     }
 
     /// Cancels a timer, whose row then still stands in its wheel.
+    #[inline(always)]
     fn settle(&mut self, timer: TimerRef) -> Option<u64>
         ensures call { GoesBut timer result self.old (By self.old (λ g. Cancels g (Caller 0) timer result)) self.new }
         ensures clock { self.new.clock ≡ self.old.clock }
@@ -78,7 +80,7 @@ impl World {
 
     /// How many milliseconds are left of a timer (`read_timer`); None where the reference names no timer
     /// that is armed.
-    #[inline]
+    #[inline(always)]
     pub fn read_timer(&mut self, timer: TimerRef) -> Option<u64>
         ensures call { Goes self.old (By self.old (λ g. Reads g (Caller 0) timer result)) self.new }
         ensures clock { self.new.clock ≡ self.old.clock }

@@ -68,6 +68,7 @@ impl WheelPart {
     ///
     /// That is the last one, where it has had a long wait that isn't over and the timer's is long too, or neither is
     /// so. Else a long wait takes the first one, and for a short one the last comes first and the next is taken.
+    #[inline(always)]
     pub(crate) fn pick(&mut self, now: u64, deadline: u64) -> Option<u32>
         ensures none { IfNone result ((slot : ℕ) → set.contains self.old.free slot ≡ false) }
         ensures unchanged { IfNone result (self.new ≡ self.old) }
@@ -209,6 +210,7 @@ fn has_uses(generation: u64) -> bool
 
 /// Adds a slot that was taken out again, at the other end than that of the one that is taken instead: the first
 /// for a long wait, and the last for a short one.
+#[inline(never)]
 fn exchange(free: &mut FreeSlots, slot: u32, long: bool) -> Option<u32>
     requires in_range { slot < free.old.slots }
     requires away { set.contains free.old.held slot ≡ false }
