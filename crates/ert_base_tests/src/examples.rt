@@ -26,13 +26,16 @@ fn a_pass_draws(rt: HostRuntime) -> Result<(), NoMemory> {
 
 /// The rows that are due at 20 milliseconds.
 fn due_rows(alloc: Global) -> Result<Vec<Row>, Fail> {
-    let mut wheel = Wheel::new(alloc, 64)?;
+    let mut wheel = Wheel::new(alloc, 64, 0u64)?;
     let mut due = Vec::with_capacity(alloc, 64)?;
-    wheel.insert(Row {
-        deadline: 20,
-        order: 0,
-        slot: 3,
-    });
+    wheel.insert(
+        Row {
+            deadline: 20,
+            order: 0,
+            slot: 3,
+        },
+        7,
+    );
     wheel.advance(20, &mut due);
     Ok(due)
 }

@@ -3,6 +3,7 @@ pub mod Cascade
 pub mod Cascading
 pub mod Collect
 mod Due
+mod KeptSlots
 pub mod LevelBits
 pub mod Levels
 pub mod Lists

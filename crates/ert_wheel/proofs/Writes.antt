@@ -22,13 +22,29 @@ pub record Sees (next count : ℕ) (stored : List Key) (seen : List (Option Key)
   pub wheel : IsWheel next count seen chains
   pub are_stored : AreStored stored seen
 
-pub sees : {next count : ℕ} {stored : List Key} {chains owners : Rings} {held : Held}
+pub sees : {T : Type 0} {next count : ℕ} {stored : List Key} {chains owners : Rings} {values : List T} {held : Held T}
     → IsWheel next count (held_keys chains stored) chains
-    → ◌≡◌ {A = Held} (record { keys = held_keys chains stored; owners = owners }) held
+    → ◌≡◌ {A = Held T} (record { keys = held_keys chains stored; owners = owners; values = values }) held
     → Sees next count stored held.keys chains
-sees {next = next} {count = count} {stored = stored} {chains = chains} w is =
-    subst (λ (h : Held). Sees next count stored h.keys chains) is
+sees {T} {next = next} {count = count} {stored = stored} {chains = chains} w is =
+    subst (λ (h : Held T). Sees next count stored h.keys chains) is
     (record { wheel = w; are_stored = stored_held chains stored })
+
+-- the parts of what is held
+abbrev pub keys_of : {T : Type 0} → Held T → List (Option Key)
+keys_of h = h.keys
+
+abbrev pub owners_of : {T : Type 0} → Held T → Rings
+owners_of h = h.owners
+
+abbrev pub values_of : {T : Type 0} → Held T → List T
+values_of h = h.values
+
+-- what is stored, where it is told otherwise
+pub stored_as : {next count : ℕ} {stored other : List Key} {seen : List (Option Key)} {chains : Rings}
+    → other ≡ stored → Sees next count stored seen chains → Sees next count other seen chains
+stored_as {next = next} {count = count} {seen = seen} {chains = chains} same s =
+    subst (λ (keys : List Key). Sees next count keys seen chains) (sym same) s
 
 -- this is held
 pub is_held : {next count : ℕ} {stored : List Key} {seen : List (Option Key)} {chains : Rings}
@@ -201,16 +217,19 @@ moved s fits slots homes are = record {
 }
 
 -- what is seen, by both its parts
-pub seen_same : {keys keys' : List (Option Key)} {owners owners' : Rings} → keys ≡ keys' → owners ≡ owners'
-    → ◌≡◌ {A = Held} (record { keys = keys; owners = owners }) (record { keys = keys'; owners = owners' })
-seen_same same other i = record { keys = same i; owners = other i }
+pub seen_same : {T : Type 0} {keys keys' : List (Option Key)} {owners owners' : Rings} {values values' : List T}
+    → keys ≡ keys' → owners ≡ owners' → values ≡ values'
+    → ◌≡◌ {A = Held T} (record { keys = keys; owners = owners; values = values })
+    (record { keys = keys'; owners = owners'; values = values' })
+seen_same same other beside i = record { keys = same i; owners = other i; values = beside i }
 
 -- a wheel whose due rows were taken out has left what isn't due
-pub record TakesOut (old now : Held) (rows : List Row) : Type 0 where
+pub record TakesOut {T : Type 0} (old now : Held T) (rows : List Row) : Type 0 where
   pub len : length now.keys ≡ length old.keys
   pub stays : (j : ℕ) → times j rows ≡ 0 → key_in now.keys j ≡ key_in old.keys j
   pub gone : (j : ℕ) → 0 < times j rows → key_in now.keys j ≡ None
   pub owners : now.owners ≡ old.owners
+  pub values : now.values ≡ old.values
 
 left_of : (to : ℕ) (was : Option Key) (count : ℕ) (now : Option Key) → count ≡ due_at to was
     → (count ≡ 0 → now ≡ was) → (0 < count → now ≡ None) → now ≡ left_at to was
@@ -225,7 +244,7 @@ left_of to (Some key) count now e stays gone =
           stays (e ∙ none) ∙ sym (ap (λ b. cond b None (Some key)) f)
     ]
 
-pub taken_out : (to : ℕ) (old now : Held) (rows : List Row) → TakesOut old now rows
+pub taken_out : {T : Type 0} (to : ℕ) (old now : Held T) (rows : List Row) → TakesOut old now rows
     → ((j : ℕ) → times j rows ≡ due_at to (key_in old.keys j)) → now.keys ≡ map (left_at to) old.keys
 taken_out to old now rows t each =
     ext_get_or None now.keys (map (left_at to) old.keys) (t.len ∙ sym (length-map old.keys (left_at to))) (λ j low.

@@ -45,6 +45,14 @@ impl Chains {
         Ok(Chains { slots, nodes })
     }
 
+    /// How many slots there are.
+    #[inline]
+    pub fn slots(&self) -> u32
+        ensures { result ≡ self.now.slots }
+    {
+        self.slots
+    }
+
     /// Puts a slot that is in no chain into that of a home, as its newest.
     #[inline]
     pub fn put(&mut self, side: Side, slot: u32, home: u32)

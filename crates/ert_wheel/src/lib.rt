@@ -19,6 +19,10 @@
 //! belongs to a home is the wheel's or its user's to know, and a contract speaks of every assignment of places that
 //! fits.
 //!
+//! **Records** (`Kept`). A row's deadline stands beside the value that the wheel's user keeps of its slot, in one
+//! record. So where a row moves to a lower level, what its expiry will read comes into the caches. The orders lie in
+//! a vector of their own, since a move doesn't read them.
+//!
 //! **Levels** (`Wheel`). A wheel has 4,096 buckets, 512 on each of eight levels. A bucket of
 //! the lowest level is a millisecond; one of the next is a window of 512 milliseconds, and so on: a bucket is as
 //! wide as all of the level below. A row's home is told by its deadline and by the next time, the first that
@@ -48,16 +52,17 @@
 //! **Owners.** `own` puts a slot into the chain of an owner as its newest, `disown` takes it out, and `newest_owned`
 //! tells the newest. This hangs on no row: a slot may have an owner without a row, and a row without an owner.
 //!
-//! **At rest** a slot takes 32 bytes: 16 of key and 16 of node; and a wheel 64 KiB for its heads. All is taken
-//! when the wheel is made, and no call takes memory after that.
+//! **At rest** a slot takes 32 bytes and its value: 16 of key and 16 of node; and a wheel 64 KiB for its heads. All is
+//! taken when the wheel is made, and no call takes memory after that.
 //!
 //! `due` gives the due rows and leaves them, so that the part above can settle and `remove` them one by
 //! one, and then tell by `pass` that nothing is left; `advance` does all three. What they answer is said
-//! of the list of the slots' keys, which leaves the owners as they are; no clause of a wheel shows a bucket. That
+//! of the list of the slots' keys, which leaves values and owners as they are; no clause of a wheel shows a bucket. That
 //! `pass` was called no clause can show: without it a wheel answers the same, and slower.
 #![tactic(auto)]
 
 mod chains;
+mod kept;
 mod links;
 mod row;
 mod walk;

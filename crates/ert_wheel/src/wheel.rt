@@ -1,7 +1,5 @@
-ghost use Rattle.std.specs.Prelude.{◌≡◌, IfOk, replicate};
-ghost use Rattle.ert_wheel.specs.Wheels.{no_key};
-
 use crate::chains::Chains;
+use crate::kept::Kept;
 use crate::links::Side;
 use crate::row::{Key, LAST, Row};
 use crate::walk::{bucket, collect, least_in, move_on, visit_end};
@@ -12,41 +10,47 @@ use std::marker::Model;
 /// How far `Wheel::next_due` looks ahead, in milliseconds: over three windows of the lowest level at most.
 pub const HORIZON: u64 = 1_024;
 
-/// A timing wheel of levels: rows by their slots, and the due ones in order of deadline. Beside these it has a chain
-/// of slots for each owner.
+/// A timing wheel of levels: rows by their slots, and the due ones in order of deadline. Beside these it has a value
+/// of each slot, and a chain of slots for each owner.
 ///
 /// It has room for one row of each slot below a number that is fixed when it is made, and takes no
 /// memory after that. A contract sees it as the list of the slots' keys, with None for a slot without a
-/// row, and as the chains of the owners. A slot may be in an owner's chain with a row or without.
+/// row, as the list of their values, and as the chains of the owners. A slot has a value with a row or without, and
+/// may so be in an owner's chain.
 ///
-///     let mut wheel = Wheel::new(alloc, 64)?;
+///     let mut wheel = Wheel::new(alloc, 64, 0u64)?;
 ///     let mut due = Vec::with_capacity(alloc, 64)?;
-///     wheel.insert(Row { deadline: 20, order: 0, slot: 3 });
+///     wheel.insert(Row { deadline: 20, order: 0, slot: 3 }, 7);
 ///     wheel.advance(20, &mut due);        // gives that row, and takes it out
 #[derive(Drop)]
-pub struct Wheel {
+pub struct Wheel<T> {
     // The next time: the first that wasn't passed.
     next_time: u64,
     len: u32,
-    keys: Vec<Key>,
+    kept: Kept<T>,
     chains: Chains,
 }
 
-impl Model for Wheel {
+impl<T> Model for Wheel<T> {
     ghost use Rattle.ert_wheel.specs.Nodes.{buckets, owners};
     ghost use Rattle.ert_wheel.specs.Rows.{Held};
     ghost use Rattle.ert_wheel.specs.Wheels.{held_keys, IsWheel};
 
-    ghost Value = { Held };
+    ghost Value = { Held T };
 
-    ghost view = { λ w. record { keys = held_keys (buckets w.chains) w.keys.items; owners = owners w.chains } };
+    ghost view = { λ w. record {
+      keys = held_keys (buckets w.chains) w.kept.keys;
+      owners = owners w.chains;
+      values = w.kept.values;
+    } };
 
-    ghost invariant = { λ w. IsWheel w.next_time w.len (held_keys (buckets w.chains) w.keys.items) (buckets w.chains) };
+    ghost invariant = { λ w. IsWheel w.next_time w.len (held_keys (buckets w.chains) w.kept.keys) (buckets w.chains) };
 }
 
-impl Wheel {
+impl<T: Copy> Wheel<T> {
     ghost use Rattle.std.specs.Prelude.{◌≡◌, ◌↔◌, ◌⊎◌, ◌<◌, ◌≤◌, ◌^◌, ℕ, Option, Some, None, IsTrue, IsSome, IfSome, IfOk, MatchOption, All};
     ghost use Rattle.std.specs.Prelude.{count_by, length, map, option_map, replicate, slice_set, vec_capacity};
+    ghost use Rattle.std.specs.List.{slice_get};
     ghost use Rattle.std.specs.List.Sorted.{IsSortedBy};
     ghost use Rattle.std.specs.Option.{is_some};
     ghost use Rattle.ert_wheel.specs.NextDue.{NoRow, NoneBefore, IsDueAt, IsNextDue};
@@ -54,20 +58,22 @@ impl Wheel {
     ghost use Rattle.ert_wheel.specs.Rows.{key_in, key_of, row_at, times, due_at, left_at, comes_before};
     ghost use Rattle.ert_wheel.specs.declared.row.TheConstants.{BUCKETS};
 
-    /// A wheel without rows, with room for one of each slot below `slots`. No owner has a slot.
-    pub fn new(alloc: Global, slots: u32) -> Result<Wheel, NoMemory>
+    /// A wheel without rows, with room for one of each slot below `slots`, and with this value of each. No owner has
+    /// a slot.
+    pub fn new(alloc: Global, slots: u32, value: T) -> Result<Wheel<T>, NoMemory>
         requires { slots ≤ 2 ^ 30 }
         ensures keys { IfOk result (λ wheel. wheel.keys ≡ replicate slots None) }
         ensures slots { IfOk result (λ wheel. wheel.owners.slots ≡ slots) }
         ensures homes { IfOk result (λ wheel. wheel.owners.homes ≡ BUCKETS) }
         ensures unowned { IfOk result (λ wheel. AreChains wheel.owners (λ _. None)) }
+        ensures values { IfOk result (λ wheel. wheel.values ≡ replicate slots value) }
     {
-        let keys = no_keys(alloc, slots)?;
+        let kept = Kept::new(alloc, slots, value)?;
         let chains = Chains::new(alloc, slots)?;
         Ok(Wheel {
             next_time: 0,
             len: 0,
-            keys,
+            kept,
             chains,
         })
     }
@@ -94,7 +100,7 @@ impl Wheel {
         if self.chains.is_alone(Side::Bucket, slot) {
             return None;
         }
-        let Key { deadline, order } = self.keys[slot as usize];
+        let Key { deadline, order } = self.kept.key(slot);
         Some(Row {
             deadline,
             order,
@@ -102,17 +108,35 @@ impl Wheel {
         })
     }
 
-    /// Puts a row in. Its slot has none, and its order is above that of every row that is held.
+    /// How many slots there are.
+    pub fn slots(&self) -> u32
+        ensures { result ≡ length self.now.keys }
+    {
+        self.chains.slots()
+    }
+
+    /// The value of a slot: that of the last row that was put in, or the one with which the wheel was made.
+    #[inline]
+    pub fn value(&self, slot: u32) -> T
+        requires { slot < length self.now.values }
+        ensures { slice_get self.now.values slot ≡ Some result }
+    {
+        self.kept.value(slot)
+    }
+
+    /// Puts a row in, with a value of its slot. The slot has no row, and the order is above that of every row that is
+    /// held.
     ///
     /// A row whose deadline was passed already is given by the next advance.
     #[inline]
-    pub fn insert(&mut self, row: Row)
+    pub fn insert(&mut self, row: Row, value: T)
         requires slot { row.slot < length self.old.keys }
         requires vacant { key_in self.old.keys row.slot ≡ None }
         requires deadline { row.deadline < u64.MAX }
         requires newest { (slot : ℕ) → IfSome (key_in self.old.keys slot) (λ key. key.order < row.order) }
         ensures keys { self.new.keys ≡ slice_set self.old.keys row.slot (Some (key_of row)) }
         ensures owners { self.new.owners ≡ self.old.owners }
+        ensures values { self.new.values ≡ slice_set self.old.values row.slot value }
     {
         let Row {
             deadline,
@@ -121,7 +145,7 @@ impl Wheel {
         } = row;
         let home = bucket(self.next_time, deadline.max(self.next_time));
         self.chains.put(Side::Bucket, slot, home);
-        self.keys[slot as usize] = Key { deadline, order };
+        self.kept.set(slot, Key { deadline, order }, value);
         self.len += 1;
     }
 
@@ -132,6 +156,7 @@ impl Wheel {
         ensures found { IsTrue result ↔ IsSome (key_in self.old.keys slot) }
         ensures left { self.new.keys ≡ slice_set self.old.keys slot None }
         ensures owners { self.new.owners ≡ self.old.owners }
+        ensures values { self.new.values ≡ self.old.values }
     {
         if self.chains.is_alone(Side::Bucket, slot) {
             return false;
@@ -146,6 +171,7 @@ impl Wheel {
     pub fn own(&mut self, slot: u32, owner: u32)
         requires { MayPut self.old.owners slot owner }
         ensures keys { self.new.keys ≡ self.old.keys }
+        ensures values { self.new.values ≡ self.old.values }
         ensures slots { self.new.owners.slots ≡ self.old.owners.slots }
         ensures homes { self.new.owners.homes ≡ self.old.owners.homes }
         ensures owned { Puts self.old.owners self.new.owners slot owner }
@@ -159,6 +185,7 @@ impl Wheel {
     pub fn disown(&mut self, slot: u32)
         requires { MayTake self.old.owners slot }
         ensures keys { self.new.keys ≡ self.old.keys }
+        ensures values { self.new.values ≡ self.old.values }
         ensures slots { self.new.owners.slots ≡ self.old.owners.slots }
         ensures homes { self.new.owners.homes ≡ self.old.owners.homes }
         ensures disowned { Takes self.old.owners self.new.owners slot }
@@ -188,7 +215,7 @@ impl Wheel {
         out.clear();
         let first = bucket(self.next_time, self.next_time);
         for home in first..visit_end(self.next_time, to) {
-            collect(&self.chains, &self.keys, home, to, out);
+            collect(&self.chains, &self.kept, home, to, out);
         }
         out.sort_unstable();
     }
@@ -217,7 +244,7 @@ impl Wheel {
         let mut least = bound;
         let first = bucket(self.next_time, self.next_time);
         for home in first..visit_end(self.next_time, bound) {
-            least = least_in(&self.chains, &self.keys, home, least);
+            least = least_in(&self.chains, &self.kept, home, least);
             if least < bound {
                 return least;
             }
@@ -234,7 +261,7 @@ impl Wheel {
         ensures { self.new ≡ self.old }
     {
         let next_time = self.next_time.max(to.min(LAST - 1) + 1);
-        move_on(&mut self.chains, &self.keys, self.next_time, next_time);
+        move_on(&mut self.chains, &self.kept, self.next_time, next_time);
         self.next_time = next_time;
     }
 
@@ -247,6 +274,7 @@ impl Wheel {
         ensures capacity { vec_capacity out.new ≡ vec_capacity out.old }
         ensures left { self.new.keys ≡ map (left_at to) self.old.keys }
         ensures owners { self.new.owners ≡ self.old.owners }
+        ensures values { self.new.values ≡ self.old.values }
     {
         self.due(to, out);
         for row in out.iter() {
@@ -254,14 +282,4 @@ impl Wheel {
         }
         self.pass(to);
     }
-}
-
-fn no_keys(alloc: Global, slots: u32) -> Result<Vec<Key>, NoMemory>
-    ensures { IfOk result (λ keys. keys.items ≡ replicate slots no_key) }
-{
-    let none = Key {
-        deadline: 0,
-        order: 0,
-    };
-    Ok(vec![in alloc; none; slots as usize]?)
 }

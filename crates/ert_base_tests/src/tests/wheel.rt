@@ -20,30 +20,34 @@ enum Call<'a> {
     Due(u64, &'a [Words]),
     Remove(u32, bool),
     Row(u32, Option<Words>),
+    /// A slot, and the deadline of the row that it had last.
+    Value(u32, u64),
     Len(usize),
 }
 
 // A wheel of three slots, and room for the rows that it gives.
-fn open(alloc: Global) -> Result<(Wheel, Vec<Row>), Fail>
+fn open(alloc: Global) -> Result<(Wheel<u64>, Vec<Row>), Fail>
     ensures slots { IfOk result (λ opened. length opened.0.keys ≡ 3) }
+    ensures values { IfOk result (λ opened. length opened.0.values ≡ 3) }
     ensures room { IfOk result (λ opened. vec_capacity opened.1 ≡ 3) }
     ensures empty { IfOk result (λ opened. AreBelow 0 opened.0.keys) }
 {
-    let wheel = Wheel::new(alloc, 3)?;
+    let wheel = Wheel::new(alloc, 3, 0)?;
     let out = Vec::with_capacity(alloc, 3)?;
     Ok((wheel, out))
 }
 
 // Puts a row into a slot that has none, or in place of the one that it has.
-fn put(wheel: &mut Wheel, row: Row)
+fn put(wheel: &mut Wheel<u64>, row: Row)
     requires slot { row.slot < length wheel.old.keys }
     requires deadline { row.deadline < u64.MAX }
     requires newest { AreBelow row.order wheel.old.keys }
     ensures len { length wheel.new.keys ≡ length wheel.old.keys }
+    ensures values { length wheel.new.values ≡ length wheel.old.values }
     ensures newest { AreBelow (row.order + 1) wheel.new.keys }
 {
     wheel.remove(row.slot);
-    wheel.insert(row);
+    wheel.insert(row, row.deadline);
 }
 
 /// Whether these are just the rows of these words.
@@ -57,9 +61,10 @@ fn are(rows: &[Row], want: &[Words]) -> bool {
 }
 
 // Whether an advance gives just these rows.
-fn gives(wheel: &mut Wheel, to: u64, out: &mut Vec<Row>, want: &[Words]) -> bool
+fn gives(wheel: &mut Wheel<u64>, to: u64, out: &mut Vec<Row>, want: &[Words]) -> bool
     requires { length wheel.old.keys ≤ vec_capacity out.old }
     ensures len { length wheel.new.keys ≡ length wheel.old.keys }
+    ensures values { length wheel.new.values ≡ length wheel.old.values }
     ensures room { vec_capacity out.new ≡ vec_capacity out.old }
     ensures orders { (order : ℕ) → AreBelow order wheel.old.keys → AreBelow order wheel.new.keys }
 {
@@ -68,9 +73,10 @@ fn gives(wheel: &mut Wheel, to: u64, out: &mut Vec<Row>, want: &[Words]) -> bool
 }
 
 // Takes a row out; whether there was one.
-fn removes(wheel: &mut Wheel, slot: u32) -> bool
+fn removes(wheel: &mut Wheel<u64>, slot: u32) -> bool
     requires { slot < length wheel.old.keys }
     ensures len { length wheel.new.keys ≡ length wheel.old.keys }
+    ensures values { length wheel.new.values ≡ length wheel.old.values }
     ensures orders { (order : ℕ) → AreBelow order wheel.old.keys → AreBelow order wheel.new.keys }
 {
     wheel.remove(slot)
@@ -110,6 +116,10 @@ fn run(rt: &impl Abort, alloc: Global, calls: &[Call]) -> Result<(), Fail> {
                     .row(slot)
                     .map(|row| (row.deadline, row.order, row.slot))
                     == want
+            }
+            Call::Value(slot, want) => {
+                assert!(rt; slot < 3);
+                wheel.value(slot) == want
             }
             Call::Len(want) => wheel.len() == want && wheel.is_empty() == (want == 0),
         };
@@ -155,13 +165,15 @@ fn rows_are_taken_out(rt: HostRuntime) -> Result<(), Fail> {
         Call::Remove(1, true),
         Call::Remove(1, false),
         Call::Row(1, None),
+        Call::Value(0, 0),
+        Call::Value(1, 7),
     ];
     run(&rt, rt.alloc(), &calls)
 }
 
 #[test]
 fn a_slot_has_an_owner(rt: HostRuntime) -> Result<(), Fail> {
-    let mut wheel = Wheel::new(rt.alloc(), 3)?;
+    let mut wheel = Wheel::new(rt.alloc(), 3, 0u64)?;
     wheel.own(2, 1);
     let owned = (wheel.newest_owned(0), wheel.newest_owned(1));
     assert!(rt; owned == (None, Some(2)), "{owned:?}");

@@ -1,52 +1,52 @@
-use Rattle.std.proofs.Common.{refl, ◌∙◌, arith, rules}
+use Rattle.std.proofs.Common.{ap, refl, ◌∙◌, arith, rules}
 use Rattle.ert_wheel.proofs.LevelBits.{bucket_low}
 use Rattle.ert_wheel.proofs.Cascading.{turn, turn_puts, turn_on, turn_falls, starts, ends}
 use Rattle.ert_wheel.proofs.Views.{held_len}
 use Rattle.ert_wheel.proofs.walk.cascade.Goals as goal
 use Rattle.ert_wheel.specs.Nodes.{buckets}
-use Rattle.ert_wheel.specs.Wheels.{held_keys}
+use Rattle.ert_wheel.specs.Wheels.{held_keys, bucket_of}
 
 pub loop-oldest-init : goal.loop-oldest-init
-loop-oldest-init c = record {
+loop-oldest-init g c = record {
   slots_stay = refl;
   owners_stay = refl;
-  cascades = λ was may. starts (buckets c.args.chains.now) (held_keys (buckets c.args.chains.now) c.args.keys.now) was c.args.next_time c.args.from c.oldest-oldest.result may c.oldest-oldest.ensures;
+  cascades = λ was may. starts (buckets c.args.chains.now) (held_keys (buckets c.args.chains.now) c.args.kept.now.keys) was c.args.next_time c.args.from c.oldest-oldest.result may c.oldest-oldest.ensures;
 }
 
 pub oldest-oldest-requires : goal.oldest-oldest-requires
-oldest-oldest-requires c =
+oldest-oldest-requires g c =
     omega (arith, c.requires.may.is, bucket_low c.requires.was c.args.next_time c.ranges.next_time.fits)
 
 pub put-requires : goal.put-requires
-put-requires c =
-    turn_puts (buckets c.loop-oldest.chains) (buckets c.take.new.self) (held_keys (buckets c.args.chains.now) c.args.keys.now) c.requires.was c.args.next_time c.args.from c.in-Some.slot c.bucket-home.result _
-    (turn (buckets c.args.chains.now) (buckets c.loop-oldest.chains) c.args.keys.now c.requires.was c.args.next_time c.args.from c.in-Some.slot c.loop-oldest.oldest (record { deadline = 0; order = 0 }) c.requires.may c.loop-oldest.invariant.slots_stay (c.loop-oldest.invariant.cascades c.requires.was c.requires.may) c.in-Some.is)
+put-requires g c =
+    turn_puts (buckets c.loop-oldest.chains) (buckets c.take.new.self) (held_keys (buckets c.args.chains.now) c.args.kept.now.keys) c.requires.was c.args.next_time c.args.from c.in-Some.slot c.bucket-home.result _
+    (turn (buckets c.args.chains.now) (buckets c.loop-oldest.chains) c.args.kept.now.keys c.requires.was c.args.next_time c.args.from c.in-Some.slot c.loop-oldest.oldest (record { deadline = 0; order = 0 }) c.requires.may c.loop-oldest.invariant.slots_stay (c.loop-oldest.invariant.cascades c.requires.was c.requires.may) c.in-Some.is)
     c.take.ensures.chains c.take.ensures.slots refl c.bucket-home.ensures.low
 
 pub oldest-oldest-requires-in-Some : goal.oldest-oldest-requires-in-Some
-oldest-oldest-requires-in-Some c =
+oldest-oldest-requires-in-Some g c =
     omega (arith, c.requires.may.is, bucket_low c.requires.was c.args.next_time c.ranges.next_time.fits)
 
 pub loop-oldest-smaller : goal.loop-oldest-smaller
-loop-oldest-smaller c =
-    turn_falls (buckets c.loop-oldest.chains) (buckets c.take.new.self) (buckets c.put.new.self) (held_keys (buckets c.args.chains.now) c.args.keys.now) c.requires.was c.args.next_time c.args.from c.in-Some.slot c.bucket-home.result _ c.loop-oldest.oldest c.oldest-oldest-in-Some.result
-    (turn (buckets c.args.chains.now) (buckets c.loop-oldest.chains) c.args.keys.now c.requires.was c.args.next_time c.args.from c.in-Some.slot c.loop-oldest.oldest (record { deadline = 0; order = 0 }) c.requires.may c.loop-oldest.invariant.slots_stay (c.loop-oldest.invariant.cascades c.requires.was c.requires.may) c.in-Some.is)
-    c.bucket-home.ensures.is c.take.ensures.chains c.put.ensures.in_home c.oldest-oldest-in-Some.ensures c.in-Some.is
+loop-oldest-smaller g c =
+    turn_falls (buckets c.loop-oldest.chains) (buckets c.take.new.self) (buckets c.put.new.self) (held_keys (buckets c.args.chains.now) c.args.kept.now.keys) c.requires.was c.args.next_time c.args.from c.in-Some.slot c.bucket-home.result _ c.loop-oldest.oldest c.oldest-oldest-in-Some.result
+    (turn (buckets c.args.chains.now) (buckets c.loop-oldest.chains) c.args.kept.now.keys c.requires.was c.args.next_time c.args.from c.in-Some.slot c.loop-oldest.oldest (record { deadline = 0; order = 0 }) c.requires.may c.loop-oldest.invariant.slots_stay (c.loop-oldest.invariant.cascades c.requires.was c.requires.may) c.in-Some.is)
+    (c.bucket-home.ensures.is ∙ ap (bucket_of c.args.next_time) c.deadline.ensures) c.take.ensures.chains c.put.ensures.in_home c.oldest-oldest-in-Some.ensures c.in-Some.is
 
 pub loop-oldest-preserved : goal.loop-oldest-preserved
-loop-oldest-preserved c = record {
+loop-oldest-preserved g c = record {
   slots_stay = c.put.ensures.slots ∙ c.take.ensures.slots ∙ c.loop-oldest.invariant.slots_stay;
   owners_stay = c.put.ensures.other ∙ c.take.ensures.other ∙ c.loop-oldest.invariant.owners_stay;
   cascades = λ was may.
-      turn_on (buckets c.loop-oldest.chains) (buckets c.take.new.self) (buckets c.put.new.self) (held_keys (buckets c.args.chains.now) c.args.keys.now) was c.args.next_time c.args.from c.in-Some.slot c.bucket-home.result _ c.oldest-oldest-in-Some.result
-      (turn (buckets c.args.chains.now) (buckets c.loop-oldest.chains) c.args.keys.now was c.args.next_time c.args.from c.in-Some.slot c.loop-oldest.oldest (record { deadline = 0; order = 0 }) may c.loop-oldest.invariant.slots_stay (c.loop-oldest.invariant.cascades was may) c.in-Some.is)
-      c.bucket-home.ensures.is c.take.ensures.chains c.put.ensures.in_home c.oldest-oldest-in-Some.ensures;
+      turn_on (buckets c.loop-oldest.chains) (buckets c.take.new.self) (buckets c.put.new.self) (held_keys (buckets c.args.chains.now) c.args.kept.now.keys) was c.args.next_time c.args.from c.in-Some.slot c.bucket-home.result _ c.oldest-oldest-in-Some.result
+      (turn (buckets c.args.chains.now) (buckets c.loop-oldest.chains) c.args.kept.now.keys was c.args.next_time c.args.from c.in-Some.slot c.loop-oldest.oldest (record { deadline = 0; order = 0 }) may c.loop-oldest.invariant.slots_stay (c.loop-oldest.invariant.cascades was may) c.in-Some.is)
+      (c.bucket-home.ensures.is ∙ ap (bucket_of c.args.next_time) c.deadline.ensures) c.take.ensures.chains c.put.ensures.in_home c.oldest-oldest-in-Some.ensures;
 }
 
 pub returns-clause-moved : goal.returns-clause-moved
-returns-clause-moved c =
-    ends (buckets c.args.chains.now) (buckets c.loop-oldest.chains) (held_keys (buckets c.args.chains.now) c.args.keys.now) c.requires.was c.args.next_time c.args.from c.loop-oldest.oldest
+returns-clause-moved g c =
+    ends (buckets c.args.chains.now) (buckets c.loop-oldest.chains) (held_keys (buckets c.args.chains.now) c.args.kept.now.keys) c.requires.was c.args.next_time c.args.from c.loop-oldest.oldest
     c.requires.may c.loop-oldest.invariant.slots_stay (c.loop-oldest.invariant.cascades c.requires.was c.requires.may) c.in_default.is
 
-pub bounds-keys-slot : goal.bounds-keys-slot
-bounds-keys-slot c = search (rules, held_len (buckets c.args.chains.now) c.args.keys.now)
+pub deadline-requires : goal.deadline-requires
+deadline-requires g c = search (rules, held_len (buckets c.args.chains.now) c.args.kept.now.keys)

@@ -13,10 +13,10 @@ pub record Keeps (slots slots' : ℕ) (owners owners' : Rings) (cascading : Type
   pub cascades : cascading
 
 abbrev pub invariant-loop-oldest : goal.invariant-loop-oldest
-invariant-loop-oldest l =
+invariant-loop-oldest g l =
     Keeps l.chains.slots l.fn.chains.slots (owners l.chains) (owners l.fn.chains)
-    ((was : ℕ) → MayCascade (buckets l.fn.chains) (held_keys (buckets l.fn.chains) l.keys) was l.next_time l.from
-    → IsCascading (buckets l.chains) (held_keys (buckets l.fn.chains) l.keys) was l.next_time l.from l.oldest)
+    ((was : ℕ) → MayCascade (buckets l.fn.chains) (held_keys (buckets l.fn.chains) l.kept.keys) was l.next_time l.from
+    → IsCascading (buckets l.chains) (held_keys (buckets l.fn.chains) l.kept.keys) was l.next_time l.from l.oldest)
 
 abbrev pub decreases-loop-oldest : goal.decreases-loop-oldest
-decreases-loop-oldest l = orders_left (held_keys (buckets l.fn.chains) l.keys) l.oldest
+decreases-loop-oldest g l = orders_left (held_keys (buckets l.fn.chains) l.kept.keys) l.oldest

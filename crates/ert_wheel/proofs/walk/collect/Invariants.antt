@@ -12,10 +12,10 @@ pub record Walks (capacity start : ℕ) (walked : Type 0) : Type 0 where
   pub walks : walked
 
 abbrev pub invariant-loop-next : goal.invariant-loop-next
-invariant-loop-next l =
+invariant-loop-next g l =
     Walks (vec_capacity l.rows) (vec_capacity l.fn.rows)
-    ((home : Key → ℕ) → MayCollect (buckets l.chains) (held_keys (buckets l.chains) l.keys) home l.bucket l.to l.fn.rows.items
-    → IsWalked (held_keys (buckets l.chains) l.keys) home l.bucket l.to l.next l.fn.rows.items l.rows.items)
+    ((home : Key → ℕ) → MayCollect (buckets l.chains) (held_keys (buckets l.chains) l.kept.keys) home l.bucket l.to l.fn.rows.items
+    → IsWalked (held_keys (buckets l.chains) l.kept.keys) home l.bucket l.to l.next l.fn.rows.items l.rows.items)
 
 abbrev pub decreases-loop-next : goal.decreases-loop-next
-decreases-loop-next l = bound_of (places (λ _. 0) (held_keys (buckets l.chains) l.keys)) l.next
+decreases-loop-next g l = bound_of (places (λ _. 0) (held_keys (buckets l.chains) l.kept.keys)) l.next

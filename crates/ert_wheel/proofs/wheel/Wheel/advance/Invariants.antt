@@ -3,4 +3,4 @@ use Rattle.ert_wheel.proofs.Writes.{TakesOut}
 use Rattle.ert_wheel.proofs.wheel.Wheel.advance.Given as goal
 
 abbrev pub invariant-loop-row : goal.invariant-loop-row
-invariant-loop-row l = TakesOut l.fn.self l.self (take l.row-index l.row-items)
+invariant-loop-row g l = TakesOut l.fn.self l.self (take l.row-index l.row-items)

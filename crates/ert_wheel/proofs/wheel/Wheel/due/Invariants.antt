@@ -8,6 +8,6 @@ pub record Sees (room capacity : ℕ) (seen : Type 0) : Type 0 where
   pub sees : seen
 
 abbrev pub invariant-loop-home : goal.invariant-loop-home
-invariant-loop-home l =
+invariant-loop-home g l =
     Sees (vec_capacity l.out) (vec_capacity l.fn.out)
     (IsSeen l.self-inside.next_time l.home l.to l.self.keys l.out.items)

@@ -1,25 +1,25 @@
 use Rattle.std.proofs.Common.{ap, ◌∙◌, refl, rules, arith}
-use Rattle.ert_wheel.proofs.Writes.{sees, is_held, is_wheel, may_put, count_fits, inserted}
+use Rattle.ert_wheel.proofs.Writes.{sees, is_held, is_wheel, may_put, count_fits, stored_as, inserted}
 use Rattle.ert_wheel.proofs.wheel.Wheel.insert.Goals as goal
 use Rattle.ert_wheel.specs.Rows.{key_of}
 use Rattle.ert_wheel.specs.Wheels.{bucket_of}
 
 pub put-requires : goal.put-requires
-put-requires c =
+put-requires g c =
     may_put (sees c.self.invariant c.self.view_is) c.requires.slot c.requires.vacant c.bucket-home.ensures.low
 
-pub index_mut-requires : goal.index_mut-requires
-index_mut-requires c =
-    omega (arith, c.self.inside.keys.ok.0, (sees c.self.invariant c.self.view_is).are_stored.len, c.requires.slot)
+pub set-requires : goal.set-requires
+set-requires g c =
+    omega (arith, (sees c.self.invariant c.self.view_is).are_stored.len, c.requires.slot)
 
 pub overflow_add-self : goal.overflow_add-self
-overflow_add-self c =
+overflow_add-self g c =
     let fits = count_fits c.args.row.slot (key_of c.args.row) (sees c.self.invariant c.self.view_is) c.requires.slot c.requires.vacant in
     search (rules, fits)
 
 pub invariant_of-self : goal.invariant_of-self
-invariant_of-self c =
-    is_wheel (inserted (sees c.self.invariant c.self.view_is)
+invariant_of-self g c =
+    is_wheel (stored_as c.set.ensures.keys (inserted (sees c.self.invariant c.self.view_is)
     (record {
       low = c.requires.slot;
       vacant = c.requires.vacant;
@@ -27,11 +27,11 @@ invariant_of-self c =
       order = omega arith;
       newest = c.requires.newest;
     })
-    (c.bucket-home.ensures.is ∙ ap (bucket_of c.self.inside.next_time) c.max.ensures) c.put.ensures.slots refl c.put.ensures.chains)
+    (c.bucket-home.ensures.is ∙ ap (bucket_of c.self.inside.next_time) c.max.ensures) c.put.ensures.slots refl c.put.ensures.chains))
 
 pub returns-clause-keys : goal.returns-clause-keys
-returns-clause-keys c =
-    is_held (inserted (sees c.self.invariant c.self.view_is)
+returns-clause-keys g c =
+    is_held (stored_as c.set.ensures.keys (inserted (sees c.self.invariant c.self.view_is)
     (record {
       low = c.requires.slot;
       vacant = c.requires.vacant;
@@ -39,4 +39,4 @@ returns-clause-keys c =
       order = omega arith;
       newest = c.requires.newest;
     })
-    (c.bucket-home.ensures.is ∙ ap (bucket_of c.self.inside.next_time) c.max.ensures) c.put.ensures.slots refl c.put.ensures.chains)
+    (c.bucket-home.ensures.is ∙ ap (bucket_of c.self.inside.next_time) c.max.ensures) c.put.ensures.slots refl c.put.ensures.chains))

@@ -6,16 +6,16 @@ use Rattle.ert_wheel.specs.Nodes.{buckets}
 use Rattle.ert_wheel.specs.declared.links.Side.TheVariants.{Bucket, Owner}
 
 pub invariant_of-result : goal.invariant_of-result
-invariant_of-result c =
-    let keys = c.in_ok-keys.keys.items in
+invariant_of-result g c =
+    let keys = c.in_ok-kept.kept.keys in
     let chains = c.in_ok-chains in
-    is_wheel (opened c.args.slots keys (buckets chains.chains) c.in_ok-keys.ensures chains.ensures.slots refl (chains.ensures.empty Bucket) (omega (arith, c.requires)))
+    is_wheel (opened c.args.slots keys (buckets chains.chains) c.in_ok-kept.ensures.keys chains.ensures.slots refl (chains.ensures.empty Bucket) (omega (arith, c.requires)))
 
 pub returns-clause-keys : goal.returns-clause-keys
-returns-clause-keys c =
-    let keys = c.in_ok-keys.keys.items in
+returns-clause-keys g c =
+    let keys = c.in_ok-kept.kept.keys in
     let chains = c.in_ok-chains in
-    is_held (opened c.args.slots keys (buckets chains.chains) c.in_ok-keys.ensures chains.ensures.slots refl (chains.ensures.empty Bucket) (omega (arith, c.requires)))
+    is_held (opened c.args.slots keys (buckets chains.chains) c.in_ok-kept.ensures.keys chains.ensures.slots refl (chains.ensures.empty Bucket) (omega (arith, c.requires)))
 
 pub returns-clause-unowned : goal.returns-clause-unowned
-returns-clause-unowned c = c.in_ok-chains.ensures.empty Owner
+returns-clause-unowned g c = c.in_ok-chains.ensures.empty Owner

@@ -4,10 +4,10 @@ use Rattle.ert_wheel.proofs.NextDue.{no_row, has_row}
 use Rattle.ert_wheel.proofs.wheel.Wheel.next_due.Goals as goal
 
 pub returns-then-is_empty : goal.returns-then-is_empty
-returns-then-is_empty c = no_row c.args.self.now.keys (search rules)
+returns-then-is_empty g c = no_row c.args.self.now.keys (search rules)
 
 pub returns : goal.returns
-returns c =
+returns g c =
     let some : count_by is_some c.args.self.now.keys ≢ 0 = λ none. (search (rules, none)) in
     record {
       some = has_row c.args.self.now.keys some;

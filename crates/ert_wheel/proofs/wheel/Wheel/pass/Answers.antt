@@ -1,32 +1,32 @@
 use Rattle.std.proofs.Common.{ap, subst, sym, ◌∙◌, refl, List, Option, arith}
 use Rattle.ert_wheel.proofs.Writes.{sees, is_held, is_wheel, may_move, moved, seen_same}
+use Rattle.ert_wheel.proofs.Writes.{keys_of, owners_of, values_of}
 use Rattle.ert_wheel.proofs.wheel.Wheel.pass.Goals as goal
 use Rattle.ert_wheel.specs.Nodes.{buckets}
 use Rattle.ert_wheel.specs.Rings.{AreChains}
-use Rattle.ert_wheel.specs.Rows.{Held}
 use Rattle.ert_wheel.specs.Walks.{MayMove}
-use Rattle.ert_wheel.specs.Wheels.{held_keys, places, home_by}
+use Rattle.ert_wheel.specs.Wheels.{places, home_by}
 use Rattle.ert_wheel.specs.declared.row.Key.{Key}
 
 pub move_on-requires : goal.move_on-requires
-move_on-requires c =
+move_on-requires g c =
     let chains = buckets c.self.inside.chains in
     subst (λ (keys : List (Option Key)). MayMove chains keys c.self.inside.next_time c.max-next_time.result)
-    (sym (ap (held_keys chains) c.deref.ensures.value ∙ ap (λ (h : Held). h.keys) c.self.view_is))
+    (sym (ap keys_of c.self.view_is))
     (may_move c.args.to (sees c.self.invariant c.self.view_is).wheel c.requires
     (omega (arith, c.max-next_time.ensures)) (omega (arith, c.max-next_time.ensures, c.min.ensures)))
 
 pub invariant_of-self : goal.invariant_of-self
-invariant_of-self c =
+invariant_of-self g c =
     is_wheel (moved (sees c.self.invariant c.self.view_is)
     (omega (arith, c.max-next_time.ensures, c.min.ensures, c.self.invariant.time)) c.move_on.ensures.slots refl
     (subst (λ (keys : List (Option Key)). AreChains (buckets c.move_on.new.chains) (places (home_by c.max-next_time.result) keys))
-    (ap (held_keys (buckets c.self.inside.chains)) c.deref.ensures.value ∙ ap (λ (h : Held). h.keys) c.self.view_is) c.move_on.ensures.moved))
+    (ap keys_of c.self.view_is) c.move_on.ensures.moved))
 
 pub returns : goal.returns
-returns c =
+returns g c =
     seen_same (is_held (moved (sees c.self.invariant c.self.view_is)
     (omega (arith, c.max-next_time.ensures, c.min.ensures, c.self.invariant.time)) c.move_on.ensures.slots refl
     (subst (λ (keys : List (Option Key)). AreChains (buckets c.move_on.new.chains) (places (home_by c.max-next_time.result) keys))
-    (ap (held_keys (buckets c.self.inside.chains)) c.deref.ensures.value ∙ ap (λ (h : Held). h.keys) c.self.view_is) c.move_on.ensures.moved)))
-    (c.move_on.ensures.owners ∙ ap (λ (h : Held). h.owners) c.self.view_is)
+    (ap keys_of c.self.view_is) c.move_on.ensures.moved)))
+    (c.move_on.ensures.owners ∙ ap owners_of c.self.view_is) (ap values_of c.self.view_is)

@@ -1,27 +1,24 @@
 use Rattle.std.proofs.Common.{ap, option_map, Some, sym, ◌∙◌, arith}
 use Rattle.std.proofs.lemmas.Bool.{true≢false}
-use Rattle.std.proofs.lemmas.List.{get_or_read}
 use Rattle.ert_wheel.proofs.Writes.{sees, looks_alone, looks_apart, may_take}
 use Rattle.ert_wheel.proofs.wheel.Wheel.row.Goals as goal
 use Rattle.ert_wheel.specs.Rows.{row_at}
-use Rattle.ert_wheel.specs.Wheels.{no_key}
 use Rattle.ert_wheel.specs.declared.row.Key.{Key}
 
 pub is_alone-requires : goal.is_alone-requires
-is_alone-requires c = (may_take (sees c.self.invariant c.self.view_is) c.requires).low
+is_alone-requires g c = (may_take (sees c.self.invariant c.self.view_is) c.requires).low
 
 pub returns-then-is_alone : goal.returns-then-is_alone
-returns-then-is_alone c =
+returns-then-is_alone g c =
     sym (ap (option_map (row_at c.args.slot))
     (looks_alone (sees c.self.invariant c.self.view_is) c.requires (c.is_alone.ensures.0 c.if-is_alone.true)))
 
-pub index-requires : goal.index-requires
-index-requires c =
-    omega (arith, c.self.inside.keys.ok.0, (sees c.self.invariant c.self.view_is).are_stored.len, c.requires)
+pub key-deadline-requires : goal.key-deadline-requires
+key-deadline-requires g c =
+    omega (arith, (sees c.self.invariant c.self.view_is).are_stored.len, c.requires)
 
 pub returns : goal.returns
-returns c =
-    let low = (sees c.self.invariant c.self.view_is).are_stored.len in
+returns g c =
     sym (ap (option_map (row_at c.args.slot))
     ((looks_apart (sees c.self.invariant c.self.view_is) c.requires (λ e. true≢false (sym (c.is_alone.ensures.1 e) ∙ c.if-is_alone.false)))
-    ∙ ap (λ (key : Key). Some key) (sym (get_or_read c.self.inside.keys.items c.args.slot c.index.result.now (omega (arith, low, c.requires)) c.index.ensures no_key))))
+    ∙ ap (λ (key : Key). Some key) (sym c.key-deadline.ensures)))
