@@ -170,58 +170,97 @@ finds_older n slots nodes lent side slot node found is same low read e places pl
     (older_at r slot low places place are in_place))
     low e are
 
--- a look back from a home's head finds the oldest
-oldest_at : (r : Rings) (home : ℕ) → home < r.homes → (places : ℕ → Option Place) → AreChains r places
-    → FindsOldest r places home (slot_at r.slots (prev_at r.links (r.slots + home)))
-oldest_at r home low places are =
+-- a look back from a node finds the oldest slot of its home that is newer
+finds_back : (r : Rings) (x : ℕ) (places : ℕ → Option Place) (home bound : ℕ) → AreChains r places
+    → (shape r.slots r.homes places).on x ≡ true → (shape r.slots r.homes places).home x ≡ home
+    → (shape r.slots r.homes places).low x ≡ bound
+    → FindsOldest r places home bound (slot_at r.slots (prev_at r.links x))
+finds_back r x places home bound are x_on x_home x_low =
     let a : Shape = shape r.slots r.homes places in
-    let h : IsHead r.slots r.homes places (r.slots + home) =
-    head_is r.slots r.homes places (r.slots + home) (omega arith) (omega arith) in
-    let n : ℕ = prev_at r.links (r.slots + home) in
-    let on : a.on n ≡ true = are.chained.before_on (r.slots + home) h.on in
-    let back : next_at r.links n ≡ r.slots + home = are.chained.after_before (r.slots + home) h.on in
-    let same : a.home n ≡ home = sym (are.chained.home n on) ∙ ap a.home back ∙ h.at_home ∙ omega arith in
-    let last : a.low (next_at r.links n) ≡ 0 = ap a.low back ∙ h.bound in
-    let least : (j : ℕ) (p : Place) → j < r.slots → places j ≡ Some p → p.home ≡ home → a.top n ≤ p.order =
-    λ j p below has at. (let s : IsSlot r.slots r.homes places j p = slot_is r.slots r.homes places j p below has in
+    let n : ℕ = prev_at r.links x in
+    let on : a.on n ≡ true = are.chained.before_on x x_on in
+    let back : next_at r.links n ≡ x = are.chained.after_before x x_on in
+    let same : a.home n ≡ home = sym (are.chained.home n on) ∙ ap a.home back ∙ x_home in
+    let last : a.low (next_at r.links n) ≡ bound = ap a.low back ∙ x_low in
+    let least : (j : ℕ) (p : Place) → j < r.slots → places j ≡ Some p → p.home ≡ home → bound ≤ p.order → a.top n ≤ p.order =
+    λ j p below has at high. (let s : IsSlot r.slots r.homes places j p = slot_is r.slots r.homes places j p below has in
     elim (cases_lt (a.top j) (a.top n)) [
-      | inl less ↦ absurd (omega (arith, last, are.chained.least n j on below s.on (s.at_home ∙ at ∙ sym same) less))
+      | inl less ↦ absurd (omega (arith, last, high, s.top, are.chained.least n j on below s.on (s.at_home ∙ at ∙ sym same) less))
       | inr more ↦ omega (arith, s.top)
     ]) in
     elim (node_is r.slots r.homes places n on) [
       | inl (p, s) ↦
           let some : Some n ≡ slot_at r.slots n = sym (ap (λ b. cond b (Some n) None) (lt-ltb n r.slots s.low)) in
           let e : order_of (places n) ≡ p.order = ap order_of s.has in
-          subst (λ (f : Option ℕ). FindsOldest r places home f) some
+          subst (λ (f : Option ℕ). FindsOldest r places home bound f) some
           (record {
             stands = (s.low, record { place = p; has = s.has; at_home = sym s.at_home ∙ same });
-            least = λ j q below has at. omega (arith, s.top, least j q below has at);
+            up = omega (arith, e, s.top, last, are.chained.down n on);
+            least = λ j q below has at high. omega (arith, s.top, least j q below has at high);
             none = λ no. (let bad : Some n ≡ None = no in cc);
           })
       | inr t ↦
           let none : None ≡ slot_at r.slots n = sym (ap (λ b. cond b (Some n) None) (le-ltb n r.slots t.high)) in
-          subst (λ (f : Option ℕ). FindsOldest r places home f) none
+          subst (λ (f : Option ℕ). FindsOldest r places home bound f) none
           (record {
             stands = tt;
+            up = tt;
             least = tt;
-            none = λ _ j q below has at. absurd (omega (arith, t.top, least j q below has at, are.orders j q has));
+            none = λ _ j q below has at.
+                elim (cases_lt q.order bound) [
+                  | inl low ↦ low
+                  | inr high ↦ absurd (omega (arith, t.top, least j q below has at high, are.orders j q has))
+                ];
           })
     ]
+
+-- from a home's head that is its oldest
+oldest_at : (r : Rings) (home : ℕ) → home < r.homes → (places : ℕ → Option Place) → AreChains r places
+    → FindsOldest r places home 0 (slot_at r.slots (prev_at r.links (r.slots + home)))
+oldest_at r home low places are =
+    let h : IsHead r.slots r.homes places (r.slots + home) =
+    head_is r.slots r.homes places (r.slots + home) (omega arith) (omega arith) in
+    finds_back r (r.slots + home) places home 0 are h.on (h.at_home ∙ omega arith) h.bound
+
+-- and from a slot the next newer one
+newer_at : (r : Rings) (slot : ℕ) → slot < r.slots → (places : ℕ → Option Place) (place : Place)
+    → AreChains r places → places slot ≡ Some place
+    → FindsOldest r places place.home (place.order + 1) (slot_at r.slots (prev_at r.links slot))
+newer_at r slot low places place are has =
+    let s : IsSlot r.slots r.homes places slot place = slot_is r.slots r.homes places slot place low has in
+    finds_back r slot places place.home (place.order + 1) are s.on s.at_home s.bound
 
 pub finds_oldest : (n : Nodes) (slots : ℕ) (nodes lent : List Node) (side : Side) (home node : ℕ) (found : Option ℕ)
     → record { slots = slots; nodes = nodes } ≡ n → lent ≡ nodes → home < BUCKETS
     → node ≡ prev_at (links_of side lent) (slots + home) → found ≡ slot_at n.slots node → (places : ℕ → Option Place)
-    → AreChains (rings side n) places → FindsOldest (rings side n) places home found
+    → AreChains (rings side n) places → FindsOldest (rings side n) places home 0 found
 finds_oldest n slots nodes lent side home node found is same low read e places are =
     let P : Nodes → Type 0 = λ n. found ≡ slot_at n.slots node → AreChains (rings side n) places
-    → FindsOldest (rings side n) places home found in
+    → FindsOldest (rings side n) places home 0 found in
     let r : Rings = rings side (record { slots = slots; nodes = nodes }) in
     subst P is
     (λ e are.
     let is_found : found ≡ slot_at slots (prev_at r.links (slots + home)) =
     e ∙ ap (slot_at slots) (read ∙ ap (λ (l : List Node). prev_at (links_of side l) (slots + home)) same) in
-    subst (λ (f : Option ℕ). FindsOldest r places home f) (sym is_found) (oldest_at r home low places are))
+    subst (λ (f : Option ℕ). FindsOldest r places home 0 f) (sym is_found) (oldest_at r home low places are))
     e are
+
+pub finds_newer : (n : Nodes) (slots : ℕ) (nodes lent : List Node) (side : Side) (slot node : ℕ) (found : Option ℕ)
+    → record { slots = slots; nodes = nodes } ≡ n → lent ≡ nodes → slot < n.slots
+    → node ≡ prev_at (links_of side lent) slot → found ≡ slot_at n.slots node → (places : ℕ → Option Place)
+    (place : Place) → AreChains (rings side n) places → places slot ≡ Some place
+    → FindsOldest (rings side n) places place.home (place.order + 1) found
+finds_newer n slots nodes lent side slot node found is same low read e places place are in_place =
+    let P : Nodes → Type 0 = λ n. slot < n.slots → found ≡ slot_at n.slots node → AreChains (rings side n) places
+    → FindsOldest (rings side n) places place.home (place.order + 1) found in
+    let r : Rings = rings side (record { slots = slots; nodes = nodes }) in
+    subst P is
+    (λ low e are.
+    let is_found : found ≡ slot_at slots (prev_at r.links slot) =
+    e ∙ ap (slot_at slots) (read ∙ ap (λ (l : List Node). prev_at (links_of side l) slot) same) in
+    subst (λ (f : Option ℕ). FindsOldest r places place.home (place.order + 1) f) (sym is_found)
+    (newer_at r slot low places place are in_place))
+    low e are
 
 -- nodes that are alone
 link_alone : (side : Side) (x : ℕ) → link_of side (alone x) ≡ record { next = x; prev = x }

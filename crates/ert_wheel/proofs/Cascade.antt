@@ -29,9 +29,9 @@ record Moved (was next bucket bound : ℕ) (key : Key) : Type 0 where
   low : key.order < bound
   home : partly was next bucket bound key ≡ home_by next key
 
-record Stays (was next bucket bound : ℕ) (key : Key) : Type 0 where
-  high : home_by was key ≡ bucket → bound ≤ key.order
-  home : partly was next bucket bound key ≡ home_by was key
+pub record Stays (was next bucket bound : ℕ) (key : Key) : Type 0 where
+  pub high : home_by was key ≡ bucket → bound ≤ key.order
+  pub home : partly was next bucket bound key ≡ home_by was key
 
 moved : (was next bucket bound : ℕ) (key : Key) → home_by was key ≡ bucket → key.order < bound
     → Moved was next bucket bound key
@@ -42,7 +42,7 @@ moved was next bucket bound key e low = record {
       ∙ ap (λ b. cond b (home_by next key) (home_by was key)) (lt-ltb key.order bound low);
 }
 
-stays : (was next bucket bound : ℕ) (key : Key) → (home_by was key ≡ bucket → bound ≤ key.order)
+pub stays : (was next bucket bound : ℕ) (key : Key) → (home_by was key ≡ bucket → bound ≤ key.order)
     → Stays was next bucket bound key
 stays was next bucket bound key high = record {
   high = high;
@@ -219,13 +219,16 @@ all_moved keys was next bucket bound j (Some key) m held none =
 
 pub cascade_all : (chains : Rings) (keys : List (Option Key)) (was next bucket bound : ℕ) → Moves keys was next bucket
     → length keys ≡ chains.slots → AreChains chains (places (partly was next bucket bound) keys)
-    → FindsOldest chains (places (partly was next bucket bound) keys) bucket None
+    → FindsOldest chains (places (partly was next bucket bound) keys) bucket 0 None
     → AreChains chains (places (home_by next) keys)
 cascade_all chains keys was next bucket bound m slots are f =
     subst (λ (p : ℕ → Option Place). AreChains chains p)
     (λ i j. all_moved keys was next bucket bound j (key_in keys j) m refl
-    (λ key has at. f.none refl j (record { home = partly was next bucket bound key; order = key.order })
-    (omega (arith, slots, key_low keys j key has)) (ap (place_of (partly was next bucket bound)) has) at) i) are
+    (λ key has at. omega (
+      arith,
+      f.none refl j (record { home = partly was next bucket bound key; order = key.order })
+          (omega (arith, slots, key_low keys j key has)) (ap (place_of (partly was next bucket bound)) has) at,
+    )) i) are
 
 -- at first none was moved
 none_moved : (was next bucket : ℕ) (o : Option Key)

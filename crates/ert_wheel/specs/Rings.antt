@@ -110,9 +110,11 @@ pub record Finds (r : Rings) (places : ℕ → Option Place) (home bound : ℕ) 
   pub greatest : (j : ℕ) (p : Place) → j < r.slots → places j ≡ Some p → p.home ≡ home → p.order < bound
       → p.order < bound_of places found
 
--- the slot of a home with the least order, or none
-pub record FindsOldest (r : Rings) (places : ℕ → Option Place) (home : ℕ) (found : Option ℕ) : Type 0 where
+-- the slot of a home with the least order from a bound on, or none
+pub record FindsOldest (r : Rings) (places : ℕ → Option Place) (home bound : ℕ) (found : Option ℕ) : Type 0 where
   pub stands : IfSome found (λ slot. (slot < r.slots) × StandsIn places home slot)
+  pub up : IfSome found (λ slot. bound ≤ order_of (places slot))
   pub least : IfSome found (λ slot. (j : ℕ) (p : Place) → j < r.slots → places j ≡ Some p → p.home ≡ home
-      → order_of (places slot) ≤ p.order)
-  pub none : found ≡ None → (j : ℕ) (p : Place) → j < r.slots → places j ≡ Some p → p.home ≢ home
+      → bound ≤ p.order → order_of (places slot) ≤ p.order)
+  pub none : found ≡ None → (j : ℕ) (p : Place) → j < r.slots → places j ≡ Some p → p.home ≡ home
+      → p.order < bound

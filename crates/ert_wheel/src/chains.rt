@@ -28,7 +28,7 @@ impl Model for Chains {
 }
 
 impl Chains {
-    ghost use Rattle.std.specs.Prelude.{◌≡◌, ◌↔◌, ◌<◌, ◌≤◌, ◌^◌, ℕ, Option, Some, None, IfOk, IsTrue};
+    ghost use Rattle.std.specs.Prelude.{◌≡◌, ◌↔◌, ◌+◌, ◌<◌, ◌≤◌, ◌^◌, ℕ, Option, Some, None, IfOk, IsTrue};
     ghost use Rattle.ert_wheel.specs.Links.{other, next_at};
     ghost use Rattle.ert_wheel.specs.Nodes.{rings};
     ghost use Rattle.ert_wheel.specs.Rings.{Place, AreChains, MayPut, Puts, PutsInHome, MayTake, Takes, Finds, FindsOldest, slot_at};
@@ -102,7 +102,7 @@ impl Chains {
     pub fn oldest(&self, side: Side, home: u32) -> Option<u32>
         requires { home < BUCKETS }
         ensures { (places : ℕ → Option Place) → AreChains (rings side self.now) places
-            → FindsOldest (rings side self.now) places home result }
+            → FindsOldest (rings side self.now) places home 0 result }
     {
         let head = self.slots + home;
         self.slot_at(prev_of(&self.nodes, side, head))
@@ -116,6 +116,16 @@ impl Chains {
             → places slot ≡ Some place → Finds (rings side self.now) places place.home place.order result }
     {
         self.slot_at(next_of(&self.nodes, side, slot))
+    }
+
+    /// The slot that is next newer than this one in its chain; None where there is none.
+    #[inline]
+    pub fn newer(&self, side: Side, slot: u32) -> Option<u32>
+        requires { slot < self.now.slots }
+        ensures { (places : ℕ → Option Place) (place : Place) → AreChains (rings side self.now) places
+            → places slot ≡ Some place → FindsOldest (rings side self.now) places place.home (place.order + 1) result }
+    {
+        self.slot_at(prev_of(&self.nodes, side, slot))
     }
 
     // The slot of a node, and none of a head.

@@ -1,6 +1,6 @@
 use Rattle.std.proofs.Common.{ap, refl, ◌∙◌, arith, rules}
 use Rattle.ert_wheel.proofs.LevelBits.{bucket_low}
-use Rattle.ert_wheel.proofs.Cascading.{turn, turn_puts, turn_on, turn_falls, starts, ends}
+use Rattle.ert_wheel.proofs.Cascading.{turn, turn_puts, turn_at, turn_on, turn_falls, starts, ends}
 use Rattle.ert_wheel.proofs.Views.{held_len}
 use Rattle.ert_wheel.proofs.walk.cascade.Goals as goal
 use Rattle.ert_wheel.specs.Nodes.{buckets}
@@ -23,24 +23,28 @@ put-requires g c =
     (turn (buckets c.args.chains.now) (buckets c.loop-oldest.chains) c.args.kept.now.keys c.requires.was c.args.next_time c.args.from c.in-Some.slot c.loop-oldest.oldest (record { deadline = 0; order = 0 }) c.requires.may c.loop-oldest.invariant.slots_stay (c.loop-oldest.invariant.cascades c.requires.was c.requires.may) c.in-Some.is)
     c.take.ensures.chains c.take.ensures.slots refl c.bucket-home.ensures.low
 
-pub oldest-oldest-requires-in-Some : goal.oldest-oldest-requires-in-Some
-oldest-oldest-requires-in-Some g c =
-    omega (arith, c.requires.may.is, bucket_low c.requires.was c.args.next_time c.ranges.next_time.fits)
+pub newer-oldest-requires : goal.newer-oldest-requires
+newer-oldest-requires g c =
+    (turn (buckets c.args.chains.now) (buckets c.loop-oldest.chains) c.args.kept.now.keys c.requires.was c.args.next_time c.args.from c.in-Some.slot c.loop-oldest.oldest (record { deadline = 0; order = 0 }) c.requires.may c.loop-oldest.invariant.slots_stay (c.loop-oldest.invariant.cascades c.requires.was c.requires.may) c.in-Some.is).low
 
 pub loop-oldest-smaller : goal.loop-oldest-smaller
 loop-oldest-smaller g c =
-    turn_falls (buckets c.loop-oldest.chains) (buckets c.take.new.self) (buckets c.put.new.self) (held_keys (buckets c.args.chains.now) c.args.kept.now.keys) c.requires.was c.args.next_time c.args.from c.in-Some.slot c.bucket-home.result _ c.loop-oldest.oldest c.oldest-oldest-in-Some.result
+    turn_falls (buckets c.loop-oldest.chains) (buckets c.take.new.self) (buckets c.put.new.self) (held_keys (buckets c.args.chains.now) c.args.kept.now.keys) c.requires.was c.args.next_time c.args.from c.in-Some.slot c.bucket-home.result _ c.loop-oldest.oldest c.newer-oldest.result
     (turn (buckets c.args.chains.now) (buckets c.loop-oldest.chains) c.args.kept.now.keys c.requires.was c.args.next_time c.args.from c.in-Some.slot c.loop-oldest.oldest (record { deadline = 0; order = 0 }) c.requires.may c.loop-oldest.invariant.slots_stay (c.loop-oldest.invariant.cascades c.requires.was c.requires.may) c.in-Some.is)
-    (c.bucket-home.ensures.is ∙ ap (bucket_of c.args.next_time) c.deadline.ensures) c.take.ensures.chains c.put.ensures.in_home c.oldest-oldest-in-Some.ensures c.in-Some.is
+    (c.bucket-home.ensures.is ∙ ap (bucket_of c.args.next_time) c.deadline.ensures) c.take.ensures.chains c.put.ensures.in_home (c.put.ensures.slots ∙ c.take.ensures.slots)
+    (turn_at (buckets c.loop-oldest.chains) (held_keys (buckets c.args.chains.now) c.args.kept.now.keys) c.requires.was c.args.next_time c.args.from c.in-Some.slot _ c.newer-oldest.result
+    (turn (buckets c.args.chains.now) (buckets c.loop-oldest.chains) c.args.kept.now.keys c.requires.was c.args.next_time c.args.from c.in-Some.slot c.loop-oldest.oldest (record { deadline = 0; order = 0 }) c.requires.may c.loop-oldest.invariant.slots_stay (c.loop-oldest.invariant.cascades c.requires.was c.requires.may) c.in-Some.is) c.newer-oldest.ensures) c.in-Some.is
 
 pub loop-oldest-preserved : goal.loop-oldest-preserved
 loop-oldest-preserved g c = record {
   slots_stay = c.put.ensures.slots ∙ c.take.ensures.slots ∙ c.loop-oldest.invariant.slots_stay;
   owners_stay = c.put.ensures.other ∙ c.take.ensures.other ∙ c.loop-oldest.invariant.owners_stay;
   cascades = λ was may.
-      turn_on (buckets c.loop-oldest.chains) (buckets c.take.new.self) (buckets c.put.new.self) (held_keys (buckets c.args.chains.now) c.args.kept.now.keys) was c.args.next_time c.args.from c.in-Some.slot c.bucket-home.result _ c.oldest-oldest-in-Some.result
+      turn_on (buckets c.loop-oldest.chains) (buckets c.take.new.self) (buckets c.put.new.self) (held_keys (buckets c.args.chains.now) c.args.kept.now.keys) was c.args.next_time c.args.from c.in-Some.slot c.bucket-home.result _ c.newer-oldest.result
       (turn (buckets c.args.chains.now) (buckets c.loop-oldest.chains) c.args.kept.now.keys was c.args.next_time c.args.from c.in-Some.slot c.loop-oldest.oldest (record { deadline = 0; order = 0 }) may c.loop-oldest.invariant.slots_stay (c.loop-oldest.invariant.cascades was may) c.in-Some.is)
-      (c.bucket-home.ensures.is ∙ ap (bucket_of c.args.next_time) c.deadline.ensures) c.take.ensures.chains c.put.ensures.in_home c.oldest-oldest-in-Some.ensures;
+      (c.bucket-home.ensures.is ∙ ap (bucket_of c.args.next_time) c.deadline.ensures) c.take.ensures.chains c.put.ensures.in_home (c.put.ensures.slots ∙ c.take.ensures.slots)
+      (turn_at (buckets c.loop-oldest.chains) (held_keys (buckets c.args.chains.now) c.args.kept.now.keys) was c.args.next_time c.args.from c.in-Some.slot _ c.newer-oldest.result
+      (turn (buckets c.args.chains.now) (buckets c.loop-oldest.chains) c.args.kept.now.keys was c.args.next_time c.args.from c.in-Some.slot c.loop-oldest.oldest (record { deadline = 0; order = 0 }) may c.loop-oldest.invariant.slots_stay (c.loop-oldest.invariant.cascades was may) c.in-Some.is) c.newer-oldest.ensures);
 }
 
 pub returns-clause-moved : goal.returns-clause-moved

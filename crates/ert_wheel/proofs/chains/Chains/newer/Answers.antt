@@ -1,0 +1,7 @@
+use Rattle.ert_wheel.proofs.Calls.{finds_newer}
+use Rattle.ert_wheel.proofs.chains.Chains.newer.Goals as goal
+
+pub returns : goal.returns
+returns c =
+    let n = c.self.inside in
+    finds_newer c.args.self.now n.slots n.nodes.items c.deref.result.now c.args.side c.args.slot c.prev_of.result c.slot_at.result c.self.view_is c.deref.ensures.value c.requires c.prev_of.ensures c.slot_at.ensures
