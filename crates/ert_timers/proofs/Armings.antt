@@ -27,7 +27,7 @@ use Rattle.ert_laws.specs.Counts.{is_arm, is_expire, is_orphan}
 use Rattle.ert_timers.specs.Parts.{HoldsCaller, Part, HoldsRows, Stands, slot_at, last_timer, held_row, unused}
 use Rattle.ert_timers.specs.Starting.{Arms, HoldsTimer, IsUseFor}
 use Rattle.ert_timers.specs.Tidy.{KeepsTidy}
-use Rattle.ert_timers.specs.declared.part.Slot.{Slot}
+use Rattle.ert_timers.specs.Slots.{Slot}
 use Rattle.ert_timers.specs.declared.part.Use.{Use}
 use Rattle.ert_timers.proofs.Keeping.{key_kept, key_new}
 use Rattle.ert_timers.proofs.Later.{IsLater, later_before, unexpired_before}

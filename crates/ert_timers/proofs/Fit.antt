@@ -9,7 +9,7 @@ use Rattle.std.specs.Option.{is_some}
 use Rattle.std.specs.Ordering.{nat_cmp}
 use Rattle.ert_timers.specs.Changes.{LostRow, dropped}
 use Rattle.ert_timers.specs.Parts.{AreFit, AreOwned, Part}
-use Rattle.ert_timers.specs.declared.part.Slot.{Slot}
+use Rattle.ert_timers.specs.Slots.{Slot}
 use Rattle.ert_timers.proofs.Rows.{key_left}
 use Rattle.ert_wheel.specs.Rings.{Rings, MayTake}
 use Rattle.ert_wheel.specs.Rows.{key_in}

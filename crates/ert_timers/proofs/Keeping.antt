@@ -11,7 +11,7 @@ use Rattle.ert_defs.specs.declared.timer.Start.{Start}
 use Rattle.ert_timers.specs.Changes.{IsFree, LostRow, NextOf, picked, slot_for, kept}
 use Rattle.ert_timers.specs.Owners.{Thinned, FindsRow}
 use Rattle.ert_timers.specs.Parts.{AreFit, AreOwned, Part, slot_at, unused}
-use Rattle.ert_timers.specs.declared.part.Slot.{Slot}
+use Rattle.ert_timers.specs.Slots.{Slot}
 use Rattle.ert_timers.specs.declared.part.Use.{Use}
 use mir.Val.{bool_byte}
 use Rattle.ert_timers.proofs.Fit.{fit_picked, taken_out}

@@ -19,7 +19,7 @@ use Rattle.ert_defs.specs.declared.timer.TimerRef.{TimerRef}
 use Rattle.ert_timers.specs.Changes.{kept, slot_for}
 use Rattle.ert_timers.specs.Parts.{Part, slot_at, last_timer, unused}
 use Rattle.ert_timers.specs.Starting.{IsUseFor}
-use Rattle.ert_timers.specs.declared.part.Slot.{Slot}
+use Rattle.ert_timers.specs.Slots.{Slot}
 use Rattle.ert_timers.specs.declared.part.Use.{Use}
 
 -- what the model takes of the next use of a slot

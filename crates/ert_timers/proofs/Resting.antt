@@ -6,7 +6,7 @@ use Rattle.ert_defs.specs.States.{State, uses_at}
 use Rattle.ert_defs.specs.Timers.{Uses, IsNextUse, deadline_in, generation_in, turned, use_of}
 use Rattle.ert_defs.proofs.Uses.{IsSound, turn_cases, use_low}
 use Rattle.ert_timers.specs.Changes.{is_resting, has_uses, next_use}
-use Rattle.ert_timers.specs.declared.part.Slot.{Slot}
+use Rattle.ert_timers.specs.Slots.{Slot}
 use Rattle.ert_timers.specs.declared.part.Use.{Use}
 
 -- whether uses rest at a time

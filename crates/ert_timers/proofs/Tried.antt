@@ -31,7 +31,7 @@ use Rattle.ert_timers.specs.Expiring.{Expires, fired_in, timer_of}
 use Rattle.ert_timers.specs.FiredLists.{Queue}
 use Rattle.ert_laws.specs.Counts.{entries_of, is_arm, is_expire, is_orphan}
 use Rattle.ert_timers.specs.Parts.{HoldsSched, Part, Stands, last_timer, held_row}
-use Rattle.ert_timers.specs.declared.part.Slot.{Slot}
+use Rattle.ert_timers.specs.Slots.{Slot}
 use Rattle.ert_timers.proofs.Later.{later_before, later_step, expires, unexpired_step, count_step}
 use Rattle.ert_timers.proofs.Rows.{key_left, rows_dropped}
 use Rattle.ert_timers.proofs.Standing.{clock_stepped, holds_with, count_same}

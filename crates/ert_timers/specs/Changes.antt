@@ -6,7 +6,7 @@ use Rattle.std.specs.Option.{is_some}
 use Rattle.ert_defs.specs.Timers.{use_of}
 use Rattle.ert_defs.specs.declared.timer.Start.{Start}
 use Rattle.ert_timers.specs.Parts.{Part, slot_at}
-use Rattle.ert_timers.specs.declared.part.Slot.{Slot}
+use Rattle.ert_timers.specs.Slots.{Slot}
 use Rattle.ert_timers.specs.declared.part.Use.{Use}
 use Rattle.ert_wheel.specs.Rows.{key_in, key_of}
 use Rattle.ert_wheel.specs.declared.row.Key.{Key}

@@ -1,25 +1,14 @@
 -- How what callers see of a part is stored: as tuples of its fields.
 
-use Rattle.std.specs.Prelude.{◌≡◌, ℕ, Bool, true, false, refl}
+use Rattle.std.specs.Prelude.{◌≡◌, ℕ, Bool, refl}
 use Rattle.std.specs.Coded.{Coded, code_by, coded×, coded_ℕ, coded_bool}
 use Rattle.ert_defs.specs.declared.timer.Kind.{Kind}
 use Rattle.ert_defs.specs.declared.timer.Kind.TheVariants.{Wrapped, Bare}
-use Rattle.ert_timers.specs.declared.part.Slot.{Slot}
+use Rattle.ert_timers.specs.Slots.{Slot, is_bare, kind_by}
 use Rattle.ert_wheel.specs.declared.row.Key.{Key}
-
--- whether the message goes alone, without the timer's reference
-pub is_bare : Kind → Bool
-is_bare Wrapped = false
-is_bare Bare = true
-
--- the kind of a message that goes alone, or doesn't
-pub kind_by : Bool → Kind
-kind_by false = Wrapped
-kind_by true = Bare
 
 -- each kind comes back from that
 pub kind_back : (kind : Kind) → kind_by (is_bare kind) ≡ kind
-unfolding is_bare kind_by
 kind_back Wrapped = refl
 kind_back Bare = refl
 

@@ -10,6 +10,7 @@ pub mod NextDue
 pub mod Owners
 pub mod Parts
 pub mod Rooms
+pub mod Slots
 pub mod Starting
 pub mod Sweeping
 pub mod Tidy

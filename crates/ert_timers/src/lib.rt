@@ -74,6 +74,7 @@ mod looking;
 mod part;
 mod room;
 mod sleeping;
+mod slot;
 mod starting;
 mod sweeping;
 

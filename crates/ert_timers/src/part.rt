@@ -4,6 +4,7 @@ ghost use Rattle.ert_timers.specs.Parts.{unused};
 ghost use Rattle.ert_wheel.specs.Rings.{Place, AreChains};
 
 use crate::fired_list::FiredList;
+use crate::slot::Slot;
 use ert_defs::{Fired, Kind, NoMemory, Settings, TimerRef};
 use ert_wheel::{Row, Wheel};
 use ert_words::FreeSlots;
@@ -12,19 +13,6 @@ use std::marker::Model;
 use std::mem;
 
 mod changes;
-
-/// What is kept of a slot: its last timer, and one above the greatest deadline of all its timers.
-#[derive(Clone, Copy)]
-pub struct Slot {
-    /// The generation of the last timer; 0 where the slot was never used.
-    pub(crate) generation: u64,
-    /// In milliseconds after the start time, at most 2^43; 0 where the slot was never used.
-    pub(crate) above: u64,
-    pub(crate) msg: u64,
-    // The two small fields come last, side by side: so a slot has 32 bytes, and two have a line of the caches.
-    pub(crate) dest: u32,
-    pub(crate) kind: Kind,
-}
 
 /// From how many milliseconds on a wait is long, some 70 minutes.
 const LONG_WAIT: u64 = 1 << 22;
@@ -187,12 +175,12 @@ impl WheelPart {
             timer: TimerRef {
                 wheel: self.number,
                 slot: row.slot,
-                generation: last.generation,
+                generation: last.generation(),
             },
             deadline: row.deadline,
-            dest: last.dest,
-            msg: last.msg,
-            kind: last.kind,
+            dest: last.dest(),
+            msg: last.msg(),
+            kind: last.kind(),
         }
     }
 
@@ -273,12 +261,6 @@ fn find_row(wheel: &mut Wheel, process: u32) -> Option<Row>
 fn no_slots(alloc: Global, slots: u32) -> Result<Vec<Slot>, NoMemory>
     ensures { IfOk result (λ made. made.items ≡ replicate slots unused) }
 {
-    let unused = Slot {
-        generation: 0,
-        above: 0,
-        dest: 0,
-        msg: 0,
-        kind: Kind::Wrapped,
-    };
+    let unused = Slot::new(0, 0, 0, 0, Kind::Wrapped);
     Ok(vec![in alloc; unused; slots as usize]?)
 }

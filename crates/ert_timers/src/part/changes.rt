@@ -4,7 +4,8 @@ ghost use Rattle.std.specs.Prelude.{◌≡◌, ◌≤◌, ◌<◌, IfSome, IsSom
 ghost use Rattle.ert_defs.specs.Timers as timers;
 ghost use Rattle.ert_timers.specs.Changes as changes;
 
-use super::{Slot, Use, WheelPart, is_long};
+use super::{Use, WheelPart, is_long};
+use crate::slot::Slot;
 use ert_defs::{FIRST_LATER_GENERATION, Start, TimerRef, USES_OF_ROUND, use_of};
 use ert_wheel::Row;
 use ert_words::FreeSlots;
@@ -14,7 +15,7 @@ impl Slot {
     fn has_uses(self) -> bool
         ensures { result ≡ changes.has_uses self }
     {
-        has_uses(self.generation)
+        has_uses(self.generation())
     }
 
     /// Whether it rests at a time in milliseconds after the start time: its round has no use left, and the
@@ -22,7 +23,7 @@ impl Slot {
     fn is_resting(self, now: u64) -> bool
         ensures { result ≡ changes.is_resting self now }
     {
-        !self.has_uses() && now < self.above
+        !self.has_uses() && now < self.above()
     }
 
     /// The use that comes next, where it doesn't rest, for a timer that is started at a time with a deadline,
@@ -35,18 +36,15 @@ impl Slot {
         requires deadline { deadline ≤ 8796093022207 }
         ensures { result ≡ changes.next_use self.generation now deadline }
     {
-        if self.generation < USES_OF_ROUND {
+        let last = self.generation();
+        if last < USES_OF_ROUND {
             return Use {
-                generation: self.generation + 1,
+                generation: last + 1,
                 deadline,
             };
         }
         let deadline = now.max(deadline);
-        let used = if self.has_uses() {
-            use_of(self.generation)
-        } else {
-            0
-        };
+        let used = if self.has_uses() { use_of(last) } else { 0 };
         Use {
             generation: FIRST_LATER_GENERATION * (used + 1) + deadline,
             deadline,
@@ -78,7 +76,7 @@ impl WheelPart {
     {
         let long = is_long(now, deadline);
         let slot = self.free.pick()?;
-        if is_long(now, self.slots[slot as usize].above) == long {
+        if is_long(now, self.slots[slot as usize].above()) == long {
             return Some(slot);
         }
         exchange(&mut self.free, slot, long)
@@ -98,7 +96,7 @@ impl WheelPart {
         requires { slot < length self.now.slots }
         ensures { result ≡ (slot_at self.now.slots slot).above }
     {
-        self.slots[slot as usize].above
+        self.slots[slot as usize].above()
     }
 
     /// The next use of a slot that doesn't rest, for a timer that is started at a time with a deadline, both
@@ -120,7 +118,7 @@ impl WheelPart {
         requires vacant { key_in self.old.keys slot ≡ None }
         ensures { self.new ≡ freed self.old slot }
     {
-        let long = is_long(now, self.slots[slot as usize].above);
+        let long = is_long(now, self.slots[slot as usize].above());
         put(&mut self.free, slot, long);
     }
 
@@ -177,14 +175,14 @@ impl WheelPart {
         ensures timer { result ≡ last_timer self.new.number self.new.slots slot }
     {
         let order = self.arms;
-        let above = self.slots[slot as usize].above.max(next.deadline + 1);
-        self.slots[slot as usize] = Slot {
-            generation: next.generation,
+        let above = self.slots[slot as usize].above().max(next.deadline + 1);
+        self.slots[slot as usize] = Slot::new(
+            next.generation,
             above,
-            dest: start.dest,
-            msg: start.msg,
-            kind: start.kind,
-        };
+            start.dest,
+            start.msg,
+            start.kind,
+        );
         self.arms += 1;
         self.wheel.insert(Row {
             deadline: next.deadline,

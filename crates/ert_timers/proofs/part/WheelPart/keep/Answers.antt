@@ -1,8 +1,8 @@
-use Rattle.std.proofs.Common.{◌≡◌, ℕ, ◌+◌, ◌<◌, List, length, Option, refl, sym, ap, subst, ◌∙◌, set, arith}
+use Rattle.std.proofs.Common.{◌≡◌, ℕ, ◌+◌, ◌<◌, max, List, length, Option, refl, sym, ap, subst, ◌∙◌, set, arith}
 use Rattle.ert_timers.specs.Changes.{IsFree, slot_for}
 use Rattle.ert_timers.specs.Parts.{Part, AreFit, slot_at}
 use Rattle.ert_timers.specs.contracts.part.WheelPart.{the_view}
-use Rattle.ert_timers.specs.declared.part.Slot.{Slot}
+use Rattle.ert_timers.specs.Slots.{Slot}
 use Rattle.ert_timers.proofs.Fit.{may_leave}
 use Rattle.ert_timers.proofs.Keeping.{orders_if, slot_read, fit_kept, may_keep}
 use Rattle.ert_timers.proofs.part.WheelPart.keep.Goals as goal
@@ -49,17 +49,18 @@ invariant_of-self c =
       msg = start.msg;
       kind = start.kind;
     } in
+    let is : c.new.result ≡ slot_for c.args.next (slot_at p.slots.items k).above start =
+    c.new.ensures
+    ∙ ap kept
+    (c.max-above.ensures ∙ ap (λ n. max n (c.args.next.deadline + 1)) (c.above.ensures.above ∙ ap (λ (slot : Slot). slot.above) (sym read))) in
     let same = c.insert.ensures.owners in
     let taken = c.disown.new.self.owners in
     let new = c.own.new.self in
-    subst (λ above. AreFit p.processes (set p.slots.items k (kept above)) new.keys p.free new.owners (p.arms + 1) p.expires p.orphans)
-    (sym c.max-above.ensures)
-    (subst (λ (slot : Slot). AreFit p.processes (set p.slots.items k (slot_for c.args.next slot.above start)) new.keys p.free new.owners
-    (p.arms + 1) p.expires p.orphans) read
+    subst (λ (slot : Slot). AreFit p.processes (set p.slots.items k slot) new.keys p.free new.owners (p.arms + 1) p.expires p.orphans) (sym is)
     (subst (λ (keys : List (Option Key)). AreFit p.processes (set p.slots.items k (slot_for c.args.next (slot_at p.slots.items k).above start)) keys
     p.free new.owners (p.arms + 1) p.expires p.orphans) (sym (c.own.ensures.keys ∙ (c.disown.ensures.keys ∙ c.insert.ensures.keys)))
     (fit_kept seen p.free p.wheel.owners taken new.owners k start c.args.next c.self.invariant refl free
     (subst (λ (q : Part). q.arms < 9007199254740992) (sym c.self.view_is) c.requires.few) dest
     (c.own.ensures.slots ∙ (c.disown.ensures.slots ∙ ap (λ (r : Rings). r.slots) same))
     (c.own.ensures.homes ∙ (c.disown.ensures.homes ∙ ap (λ (r : Rings). r.homes) same))
-    (subst (λ (r : Rings). Takes r taken k) same c.disown.ensures.disowned) c.own.ensures.owned)))
+    (subst (λ (r : Rings). Takes r taken k) same c.disown.ensures.disowned) c.own.ensures.owned))
