@@ -33,10 +33,9 @@ pub struct WheelPart {
     number: u32,
     /// How many processes the desk has.
     processes: u32,
-    slots: Vec<Slot>,
     /// The timers that are held as armed, and for each process the chain of the slots whose timers go to it. A slot
     /// without such a timer stays in its chain until it is used again, or until the chain is swept.
-    wheel: Wheel,
+    wheel: Wheel<Slot>,
     /// The slots that are known to be free: first those that have had a long wait.
     free: FreeSlots,
     /// How many timers were armed. That is also the order of the next one.
@@ -72,7 +71,7 @@ impl Model for WheelPart {
     ghost view = { λ p. record {
       number = p.number;
       processes = p.processes;
-      slots = p.slots.items;
+      slots = p.wheel.values;
       keys = p.wheel.keys;
       free = p.free.held;
       arms = p.arms;
@@ -80,7 +79,7 @@ impl Model for WheelPart {
       orphans = p.orphans;
     } };
 
-    ghost invariant = { λ p. AreFit p.processes p.slots.items p.wheel.keys p.free p.wheel.owners p.arms p.expires p.orphans };
+    ghost invariant = { λ p. AreFit p.processes p.wheel.values p.wheel.keys p.free p.wheel.owners p.arms p.expires p.orphans };
 }
 
 impl WheelPart {
@@ -103,14 +102,13 @@ impl WheelPart {
         ensures stands { IfOk result (Stands settings.now []) }
         ensures tidy { IfOk result (IsTidy (state settings.now [])) }
     {
-        let slots = no_slots(alloc, settings.slots)?;
-        let timers = Wheel::new(alloc, settings.slots)?;
+        let unused = Slot::new(0, 0, 0, 0, Kind::Wrapped);
+        let timers = Wheel::new(alloc, settings.slots, unused)?;
         let free = FreeSlots::new(alloc, settings.slots)?;
         let due = Vec::with_capacity(alloc, settings.slots as usize)?;
         Ok(WheelPart {
             number: wheel,
             processes: settings.processes,
-            slots,
             wheel: timers,
             free,
             arms: 0,
@@ -154,7 +152,7 @@ impl WheelPart {
     pub(crate) fn slot_count(&self) -> u32
         ensures { result ≡ length self.now.slots }
     {
-        self.slots.len() as u32
+        self.wheel.slots()
     }
 
     /// The row of a slot; None where the slot has none.
@@ -170,7 +168,7 @@ impl WheelPart {
         requires { row.slot < length self.now.slots }
         ensures { result ≡ held_row self.now.number self.now.slots row.slot (key_of row) }
     {
-        let last = self.slots[row.slot as usize];
+        let last = self.wheel.value(row.slot);
         Fired {
             timer: TimerRef {
                 wheel: self.number,
@@ -204,7 +202,7 @@ impl WheelPart {
     {
         let mut due = mem::replace(&mut self.due, Vec::new(self.alloc));
         due.clear();
-        due.reserve(self.slots.len())?;
+        due.reserve(self.wheel.slots() as usize)?;
         self.wheel.due(to, &mut due);
         fired.reserve(due.len())?;
         Ok(due)
@@ -240,10 +238,11 @@ pub(crate) fn is_long(now: u64, deadline: u64) -> bool {
 }
 
 /// A row of the chain of a process; None where it has none. Slots without a row that are met leave the chain.
-fn find_row(wheel: &mut Wheel, process: u32) -> Option<Row>
+fn find_row(wheel: &mut Wheel<Slot>, process: u32) -> Option<Row>
     requires process { process < wheel.old.owners.homes }
     requires may { MayThin wheel.old.owners wheel.old.keys }
     ensures keys { wheel.new.keys ≡ wheel.old.keys }
+    ensures values { wheel.new.values ≡ wheel.old.values }
     ensures slots { wheel.new.owners.slots ≡ wheel.old.owners.slots }
     ensures homes { wheel.new.owners.homes ≡ wheel.old.owners.homes }
     ensures finds { (places : ℕ → Option Place) → AreChains wheel.old.owners places
@@ -256,11 +255,4 @@ fn find_row(wheel: &mut Wheel, process: u32) -> Option<Row>
         wheel.disown(slot);
     }
     None
-}
-
-fn no_slots(alloc: Global, slots: u32) -> Result<Vec<Slot>, NoMemory>
-    ensures { IfOk result (λ made. made.items ≡ replicate slots unused) }
-{
-    let unused = Slot::new(0, 0, 0, 0, Kind::Wrapped);
-    Ok(vec![in alloc; unused; slots as usize]?)
 }

@@ -5,20 +5,21 @@ ghost use Rattle.ert_timers.specs.Slots.{is_bare};
 use ert_defs::Kind;
 use std::marker::Model;
 
-/// The place of the kind in the last word: the deadline is below it.
+/// The place of the kind in `rest`: one above the greatest deadline is below it.
 const KIND: u64 = 1 << 44;
 
-/// The place of the destination in the last word: deadline and kind are below it.
+/// The place of the destination in `rest`: the deadline and the kind are below it.
 const DEST: u64 = 1 << 45;
 
 /// What is kept of a slot: its last timer, and one above the greatest deadline of all its timers.
 ///
-/// It has 24 bytes. With a slot's deadline beside it that makes 32, so two have a line of the caches.
+/// Three small fields are packed into one, so it has 24 bytes. With a slot's deadline beside it that makes 32, and
+/// two have a line of the caches.
 #[derive(Clone, Copy)]
 pub struct Slot {
     generation: u64,
     msg: u64,
-    /// What is left: one above the greatest deadline, the kind and the destination.
+    /// One above the greatest deadline, which is below 2^44, the kind and the destination, which is below 2^19.
     rest: u64,
 }
 

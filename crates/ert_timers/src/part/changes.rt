@@ -76,7 +76,7 @@ impl WheelPart {
     {
         let long = is_long(now, deadline);
         let slot = self.free.pick()?;
-        if is_long(now, self.slots[slot as usize].above()) == long {
+        if is_long(now, self.wheel.value(slot).above()) == long {
             return Some(slot);
         }
         exchange(&mut self.free, slot, long)
@@ -87,7 +87,7 @@ impl WheelPart {
         requires { slot < length self.now.slots }
         ensures { result ≡ changes.is_resting (slot_at self.now.slots slot) now }
     {
-        self.slots[slot as usize].is_resting(now)
+        self.wheel.value(slot).is_resting(now)
     }
 
     /// One above the greatest deadline of a slot's timers, in milliseconds after the start time; 0 where there
@@ -96,7 +96,7 @@ impl WheelPart {
         requires { slot < length self.now.slots }
         ensures { result ≡ (slot_at self.now.slots slot).above }
     {
-        self.slots[slot as usize].above()
+        self.wheel.value(slot).above()
     }
 
     /// The next use of a slot that doesn't rest, for a timer that is started at a time with a deadline, both
@@ -107,7 +107,7 @@ impl WheelPart {
         requires deadline { deadline ≤ 8796093022207 }
         ensures { result ≡ changes.next_use (slot_at self.now.slots slot).generation now deadline }
     {
-        self.slots[slot as usize].next_use(now, deadline)
+        self.wheel.value(slot).next_use(now, deadline)
     }
 
     /// Holds a slot free from now on: as the first one where it has had a wait that is long at a time in milliseconds
@@ -118,7 +118,7 @@ impl WheelPart {
         requires vacant { key_in self.old.keys slot ≡ None }
         ensures { self.new ≡ freed self.old slot }
     {
-        let long = is_long(now, self.slots[slot as usize].above());
+        let long = is_long(now, self.wheel.value(slot).above());
         put(&mut self.free, slot, long);
     }
 
@@ -174,21 +174,15 @@ impl WheelPart {
         ensures kept { self.new ≡ kept self.old slot start.now next }
         ensures timer { result ≡ last_timer self.new.number self.new.slots slot }
     {
-        let order = self.arms;
-        let above = self.slots[slot as usize].above().max(next.deadline + 1);
-        self.slots[slot as usize] = Slot::new(
-            next.generation,
-            above,
-            start.dest,
-            start.msg,
-            start.kind,
-        );
-        self.arms += 1;
-        self.wheel.insert(Row {
+        let above = self.wheel.value(slot).above().max(next.deadline + 1);
+        let kept = Slot::new(next.generation, above, start.dest, start.msg, start.kind);
+        let row = Row {
             deadline: next.deadline,
-            order,
+            order: self.arms,
             slot,
-        });
+        };
+        self.arms += 1;
+        self.wheel.insert(row, kept);
         self.wheel.disown(slot);
         self.wheel.own(slot, start.dest);
         TimerRef {

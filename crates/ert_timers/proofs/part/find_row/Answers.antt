@@ -8,6 +8,7 @@ use Rattle.ert_wheel.specs.declared.row.Key.{Key}
 pub loop-slot-init : goal.loop-slot-init
 loop-slot-init c = record {
   keys_stay = refl;
+  values_stay = refl;
   slots_stay = refl;
   homes_stay = refl;
   thins = λ places are. (places, thinned_none c.args.wheel.now.owners c.args.wheel.now.keys places are);
@@ -35,6 +36,7 @@ disown-requires c =
 pub loop-slot-preserved : goal.loop-slot-preserved
 loop-slot-preserved c = record {
   keys_stay = c.disown.ensures.keys ∙ c.loop-slot.invariant.keys_stay;
+  values_stay = c.disown.ensures.values ∙ c.loop-slot.invariant.values_stay;
   slots_stay = c.disown.ensures.slots ∙ c.loop-slot.invariant.slots_stay;
   homes_stay = c.disown.ensures.homes ∙ c.loop-slot.invariant.homes_stay;
   thins = λ places are.

@@ -6,8 +6,9 @@ use Rattle.ert_wheel.specs.Rings.{Place, AreChains}
 use Rattle.ert_wheel.specs.Rows.{Held}
 
 -- what stays, and which slots have left
-pub record Keeps (old new : Held) : Type 0 where
+pub record Keeps {T : Type 0} (old new : Held T) : Type 0 where
   pub keys_stay : new.keys ≡ old.keys
+  pub values_stay : new.values ≡ old.values
   pub slots_stay : new.owners.slots ≡ old.owners.slots
   pub homes_stay : new.owners.homes ≡ old.owners.homes
   pub thins : (places : ℕ → Option Place) → AreChains old.owners places

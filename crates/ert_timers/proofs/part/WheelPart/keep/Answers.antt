@@ -1,10 +1,11 @@
 use Rattle.std.proofs.Common.{◌≡◌, ℕ, ◌+◌, ◌<◌, max, List, length, Option, refl, sym, ap, subst, ◌∙◌, set, arith}
 use Rattle.ert_timers.specs.Changes.{IsFree, slot_for}
-use Rattle.ert_timers.specs.Parts.{Part, AreFit, slot_at}
+use Rattle.ert_timers.specs.Parts.{Part, AreFit, slot_at, unused}
 use Rattle.ert_timers.specs.contracts.part.WheelPart.{the_view}
 use Rattle.ert_timers.specs.Slots.{Slot}
+use Rattle.std.proofs.lemmas.Option.{get_or_from_slice_get}
 use Rattle.ert_timers.proofs.Fit.{may_leave}
-use Rattle.ert_timers.proofs.Keeping.{orders_if, slot_read, fit_kept, may_keep}
+use Rattle.ert_timers.proofs.Keeping.{orders_if, fit_kept, may_keep}
 use Rattle.ert_timers.proofs.part.WheelPart.keep.Goals as goal
 use Rattle.ert_wheel.specs.Rings.{Rings, MayTake, Takes}
 use Rattle.ert_wheel.specs.declared.row.Key.{Key}
@@ -19,7 +20,7 @@ pub disown-requires : goal.disown-requires
 disown-requires c =
     let p = c.self.inside in
     subst (λ (r : Rings). MayTake r c.args.slot) (sym c.insert.ensures.owners)
-    (may_leave p.processes p.slots.items p.wheel.keys p.free p.wheel.owners p.arms p.expires p.orphans c.args.slot c.self.invariant
+    (may_leave p.processes p.wheel.values p.wheel.keys p.free p.wheel.owners p.arms p.expires p.orphans c.args.slot c.self.invariant
     (subst (λ (q : Part). c.args.slot < length q.slots) (sym c.self.view_is) c.requires.free.low))
 
 pub own-requires : goal.own-requires
@@ -27,7 +28,7 @@ own-requires c =
     let p = c.self.inside in
     let same = c.insert.ensures.owners in
     let taken = c.disown.new.self.owners in
-    may_keep p.processes p.slots.items p.wheel.keys p.free p.wheel.owners taken p.arms p.expires p.orphans c.args.slot c.args.start.now.dest
+    may_keep p.processes p.wheel.values p.wheel.keys p.free p.wheel.owners taken p.arms p.expires p.orphans c.args.slot c.args.start.now.dest
     c.self.invariant (subst (λ (q : Part). c.args.slot < length q.slots) (sym c.self.view_is) c.requires.free.low)
     (subst (λ (q : Part). c.args.start.now.dest < q.processes) (sym c.self.view_is) c.requires.dest)
     (c.disown.ensures.slots ∙ ap (λ (r : Rings). r.slots) same) (c.disown.ensures.homes ∙ ap (λ (r : Rings). r.homes) same)
@@ -40,7 +41,7 @@ invariant_of-self c =
     let k = c.args.slot in
     let free = subst (λ (q : Part). IsFree q k) (sym c.self.view_is) c.requires.free in
     let dest = subst (λ (q : Part). c.args.start.now.dest < q.processes) (sym c.self.view_is) c.requires.dest in
-    let read : slot_at p.slots.items k ≡ c.index.result.now = slot_read p.slots.items k c.index.result.now free.low c.index.ensures in
+    let read : slot_at p.wheel.values k ≡ c.value.result = get_or_from_slice_get p.wheel.values k c.value.result unused c.value.ensures in
     let start = c.args.start.now in
     let kept : ℕ → Slot = λ above. record {
       generation = c.args.next.generation;
@@ -49,15 +50,16 @@ invariant_of-self c =
       msg = start.msg;
       kind = start.kind;
     } in
-    let is : c.new.result ≡ slot_for c.args.next (slot_at p.slots.items k).above start =
-    c.new.ensures
+    let is : c.new-kept.result ≡ slot_for c.args.next (slot_at p.wheel.values k).above start =
+    c.new-kept.ensures
     ∙ ap kept
     (c.max-above.ensures ∙ ap (λ n. max n (c.args.next.deadline + 1)) (c.above.ensures.above ∙ ap (λ (slot : Slot). slot.above) (sym read))) in
     let same = c.insert.ensures.owners in
     let taken = c.disown.new.self.owners in
     let new = c.own.new.self in
-    subst (λ (slot : Slot). AreFit p.processes (set p.slots.items k slot) new.keys p.free new.owners (p.arms + 1) p.expires p.orphans) (sym is)
-    (subst (λ (keys : List (Option Key)). AreFit p.processes (set p.slots.items k (slot_for c.args.next (slot_at p.slots.items k).above start)) keys
+    subst (λ (slots : List Slot). AreFit p.processes slots new.keys p.free new.owners (p.arms + 1) p.expires p.orphans)
+    (sym (c.own.ensures.values ∙ (c.disown.ensures.values ∙ (c.insert.ensures.values ∙ ap (set p.wheel.values k) is))))
+    (subst (λ (keys : List (Option Key)). AreFit p.processes (set p.wheel.values k (slot_for c.args.next (slot_at p.wheel.values k).above start)) keys
     p.free new.owners (p.arms + 1) p.expires p.orphans) (sym (c.own.ensures.keys ∙ (c.disown.ensures.keys ∙ c.insert.ensures.keys)))
     (fit_kept seen p.free p.wheel.owners taken new.owners k start c.args.next c.self.invariant refl free
     (subst (λ (q : Part). q.arms < 9007199254740992) (sym c.self.view_is) c.requires.few) dest

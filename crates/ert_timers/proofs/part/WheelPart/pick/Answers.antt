@@ -17,7 +17,7 @@ returns-in_err-slot-clause-none c =
 pub invariant_of-self-then-is_long-long : goal.invariant_of-self-then-is_long-long
 invariant_of-self-then-is_long-long c =
     let p = c.self.inside in
-    fit_picked p.processes p.slots.items p.wheel.keys p.free c.pick.new.self p.wheel.owners p.arms p.expires p.orphans c.in_ok-slot.slot
+    fit_picked p.processes p.wheel.values p.wheel.keys p.free c.pick.new.self p.wheel.owners p.arms p.expires p.orphans c.in_ok-slot.slot
     c.self.invariant c.in_ok-slot.ensures.taken
 
 pub returns-then-is_long-long-clause-usable : goal.returns-then-is_long-long-clause-usable
