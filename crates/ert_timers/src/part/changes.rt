@@ -143,13 +143,24 @@ impl WheelPart {
         self.expires += u64::from(expired);
     }
 
+    /// Takes a slot without a row out of the chain of its process.
+    fn leave(&mut self, slot: u32)
+        requires low { slot < length self.old.slots }
+        requires vacant { key_in self.old.keys slot ≡ None }
+        ensures { self.new ≡ self.old }
+    {
+        self.wheel.disown(slot);
+    }
+
     /// Drops the row of a timer that has been settled but hasn't expired, counts whether it was cancelled
-    /// for an exit, and holds its slot free where the slot's round has uses left.
+    /// for an exit, and holds its slot free where the slot's round has uses left. The slot leaves the chain of its
+    /// process, so that a sweep doesn't meet it again.
     pub(crate) fn give_back(&mut self, timer: TimerRef, orphaned: bool)
         requires { IsHeld self.old timer }
         ensures { self.new ≡ given_back self.old timer.slot orphaned }
     {
         self.drop_row(timer.slot);
+        self.leave(timer.slot);
         self.orphans += u64::from(orphaned);
         self.free_after(timer);
     }
