@@ -1,9 +1,8 @@
 -- A timer is put in; the newest row of a process; a part of a new desk.
 
-use Rattle.std.proofs.Common.{◌≡◌, ◌≢◌, ℕ, ◌+◌, ◌^◌, ◌<◌, ◌≤◌, Bool, true, false, List, length, Option, Some, None, IsNone, IsSome, IfNone, IfSome, refl, sym, ap, subst, ◌∙◌, arith, inl, inr, get_or, set, get_or-set_same, get_or-set_other}
+use Rattle.std.proofs.Common.{◌≡◌, ◌≢◌, ℕ, ◌+◌, ◌^◌, ◌<◌, ◌≤◌, Bool, true, false, List, length, Option, Some, None, IsNone, IsSome, IfNone, IfSome, refl, sym, ap, subst, ◌∙◌, arith, inl, inr, set, get_or-set_same, get_or-set_other}
 use Rattle.std.proofs.lemmas.Bool.{cases_eq}
 use Rattle.std.proofs.lemmas.List.{length-set}
-use Rattle.std.proofs.lemmas.Option.{get_or_from_slice_get, slice_get_read}
 use Rattle.std.specs.Bool.{OnTrue}
 use Rattle.std.specs.FinSet as sets
 use Rattle.std.specs.Ordering.{nat_cmp}
@@ -228,10 +227,6 @@ pick_usable p free new owners None fit same held taken = tt
 pick_usable p free new owners (Some k) fit same held taken =
     let e : sets.remove p.free k ≡ new.held = ap (λ s. sets.remove s k) (sym same) ∙ ap (λ (f : Free). f.held) (sym taken) in
     subst (λ (s : sets.FinSet nat_cmp). IsFree (record p { free = s }) k) e (picked_free p free owners k fit same held)
-
--- what is read of a slot is what is kept of it
-pub slot_read : (slots : List Slot) (k : ℕ) (slot : Slot) → k < length slots → slot ≡ get_or slots k slot → slot_at slots k ≡ slot
-slot_read slots k slot low read = get_or_from_slice_get slots k slot unused (slice_get_read slots (length slots) k slot refl low read)
 
 pub byte_low : (b : Bool) (n : ℕ) → n ≡ bool_byte b → n ≤ 1
 byte_low true n is = omega (arith, is)

@@ -7,7 +7,8 @@
 //! slot's timers. A timer that is held as armed also has a row in a timing wheel (`ert_wheel`), which tells what is
 //! due, and its slot stands in the chain of its process there, so that an exit costs in proportion to the timers of
 //! that process. Its order in both is how many timers of the wheel were armed before it. A timer that is settled
-//! leaves the wheel, and its slot leaves the chain later: when it is used again, or when the process is swept.
+//! leaves the wheel, and its slot leaves the chain later: when it is used again, or when the process is swept. The
+//! wheel holds what is kept of a slot, as the slot's value.
 //!
 //! **What others do.** Any thread may cancel a timer by one exchange on its word, and tells the part nothing.
 //! So a held timer may be settled already. An advance finds that out when its own exchange misses; a start
