@@ -25,18 +25,18 @@ abbrev pub kind_by : Bool → Kind
 kind_by false = Wrapped
 kind_by true = Bare
 
--- a deadline below 2^44, a destination and a kind as one number
+-- a kind, a destination below 2^19 and a deadline as one number
 abbrev pub packed : ℕ → ℕ → Kind → ℕ
-packed above dest kind = above + 17592186044416 * (cond (is_bare kind) 1 0 + 2 * dest)
+packed above dest kind = (cond (is_bare kind) 1 0 + 2 * dest) + 1048576 * above
 
 -- the slot of a generation, a message and such a number
 abbrev pub unpacked : ℕ → ℕ → ℕ → Slot
 unpacked generation msg rest = record {
   generation = generation;
-  above = rest % 17592186044416;
-  dest = rest / 17592186044416 / 2;
+  above = rest / 1048576;
+  dest = rest % 1048576 / 2;
   msg = msg;
-  kind = kind_by (nat_eq (rest / 17592186044416 % 2) 1);
+  kind = kind_by (nat_eq (rest % 1048576 % 2) 1);
 }
 
 -- a number below two is whether it is one
@@ -47,9 +47,9 @@ flag_back (suc (suc n)) low = absurd (not-suc-le-zero (le_of_suc-le-suc (le_of_s
 
 -- what is unpacked is packed as it was
 pub packed_back : (rest : ℕ)
-    → packed (rest % 17592186044416) (rest / 17592186044416 / 2) (kind_by (nat_eq (rest / 17592186044416 % 2) 1)) ≡ rest
+    → packed (rest / 1048576) (rest % 1048576 / 2) (kind_by (nat_eq (rest % 1048576 % 2) 1)) ≡ rest
 packed_back rest =
-    let n = rest / 17592186044416 in
-    ap (λ m. rest % 17592186044416 + 17592186044416 * m)
+    let n = rest % 1048576 in
+    ap (λ m. m + 1048576 * (rest / 1048576))
     (ap (λ flag. flag + 2 * (n / 2)) (flag_back (n % 2) (mod-lt n (zero-lt-suc 1))) ∙ mod-add-div n 2)
-    ∙ mod-add-div rest 17592186044416
+    ∙ mod-add-div rest 1048576

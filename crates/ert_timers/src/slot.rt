@@ -5,11 +5,11 @@ ghost use Rattle.ert_timers.specs.Slots.{is_bare};
 use ert_defs::Kind;
 use std::marker::Model;
 
-/// The place of the kind in `rest`: one above the greatest deadline is below it.
-const KIND: u64 = 1 << 44;
+/// The place of the destination in `rest`: the kind is below it.
+const DEST: u64 = 1 << 1;
 
-/// The place of the destination in `rest`: the deadline and the kind are below it.
-const DEST: u64 = 1 << 45;
+/// The place of one above the greatest deadline in `rest`: the kind and the destination are below it.
+const ABOVE: u64 = 1 << 20;
 
 /// What is kept of a slot: its last timer, and one above the greatest deadline of all its timers.
 ///
@@ -19,7 +19,7 @@ const DEST: u64 = 1 << 45;
 pub struct Slot {
     generation: u64,
     msg: u64,
-    /// One above the greatest deadline, which is below 2^44, the kind and the destination, which is below 2^19.
+    /// The kind, the destination, which is below 2^19, and one above the greatest deadline, which is below 2^44.
     rest: u64,
 }
 
@@ -50,7 +50,7 @@ impl Slot {
         Slot {
             generation,
             msg,
-            rest: above + KIND * number_of(kind) + DEST * u64::from(dest),
+            rest: number_of(kind) + DEST * u64::from(dest) + ABOVE * above,
         }
     }
 
@@ -69,7 +69,7 @@ impl Slot {
         ensures above { result ≡ self.above }
         ensures in_range { result < 17592186044416 }
     {
-        self.rest % KIND
+        self.rest / ABOVE
     }
 
     /// The destination of its last timer.
@@ -77,7 +77,7 @@ impl Slot {
     pub(crate) fn dest(self) -> u32
         ensures { result ≡ self.dest }
     {
-        (self.rest / DEST) as u32
+        (self.rest % ABOVE / DEST) as u32
     }
 
     /// The message of its last timer.
@@ -93,7 +93,7 @@ impl Slot {
     pub(crate) fn kind(self) -> Kind
         ensures { result ≡ self.kind }
     {
-        if self.rest / KIND % 2 == 1 {
+        if self.rest % DEST == 1 {
             Kind::Bare
         } else {
             Kind::Wrapped
