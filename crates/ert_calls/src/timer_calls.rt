@@ -1,7 +1,8 @@
 //! Calls that read and cancel timers.
 //!
-//! They are always inlined. A reference that is passed by memory was written in parts just before, and is read as a
-//! whole: so it waits until all writes before it are done, among them those that miss the caches.
+//! A cancel is always inlined. A reference that is passed by memory was written in parts just before, and is read as
+//! a whole: so it waits until all writes before it are done, among them those that miss the caches. In a run of
+//! cancels these are those of the one before.
 ghost use Rattle.std.specs.Prelude.{◌≡◌, ◌≤ℤ◌, ◌<ℤ◌, true};
 ghost use Rattle.ert_defs.specs.Actors.{IsUser};
 ghost use Rattle.ert_defs.specs.Legal.{names_timer};
@@ -21,7 +22,6 @@ use ert_table::{Desk, Pass, Settle, TimerCarry};
 /// The whole milliseconds left of a timer (`erlang` module reference, `read_timer`).
 ///
 /// None comes exactly where the reference is out of range or its timer isn't armed.
-#[inline(always)]
 pub fn read_timer(desk: &Desk, pass: &mut Pass, by: Actor, timer: TimerRef) -> Option<u64>
     requires belongs { Belongs desk.now pass.old }
     requires held { is_held (actors_of pass.old) by ≡ true }

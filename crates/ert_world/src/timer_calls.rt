@@ -1,5 +1,5 @@
-//! The calls of callers on timers and on the exits of processes. Those that take or give a reference are always
-//! inlined, as in `ert_calls`.
+//! The calls of callers on timers and on the exits of processes. A start and a cancel are always inlined, as a cancel
+//! is in `ert_calls`.
 use crate::chains::exit;
 use crate::world::{CALLER, World};
 use ert_calls::{cancel_timer, is_alive, mark_exit, read_timer};
@@ -80,7 +80,6 @@ impl World {
 
     /// How many milliseconds are left of a timer (`read_timer`); None where the reference names no timer
     /// that is armed.
-    #[inline(always)]
     pub fn read_timer(&mut self, timer: TimerRef) -> Option<u64>
         ensures call { Goes self.old (By self.old (λ g. Reads g (Caller 0) timer result)) self.new }
         ensures clock { self.new.clock ≡ self.old.clock }
