@@ -1,7 +1,7 @@
 -- Messages that are written piece by piece, and what they say of a text.
 
-use Rattle.std.proofs.Common.{◌≡◌, ℕ, ◌+◌, ◌/◌, ◌%◌, true, false, add-one, List, [], ◌∷◌, ◌++◌, take, refl, ap, ◌∙◌, append_assoc, Some}
-use Rattle.std.specs.Prelude.{Result, Ok, Err, OnOk, slice_get}
+use Rattle.std.proofs.Common.{◌≡◌, ℕ, ◌+◌, ◌/◌, ◌%◌, true, false, add-one, List, [], ◌∷◌, ◌++◌, take, refl, ap, ◌∙◌, append_assoc, Option, Some, None}
+use Rattle.std.specs.Prelude.{Result, Ok, Err, OnOk, slice_get, is_some}
 use Rattle.ert_defs.specs.Settings.{IsChecked}
 use Rattle.ert_defs.specs.States.{state}
 use Rattle.ert_defs.specs.declared.entry.Entry.{Entry}
@@ -57,3 +57,7 @@ illegal_text text message g h place e r is first stands holds same = record {
   holds = holds;
   is = same;
 }
+
+-- what is there isn't missing
+pub some_end : (end : Option ℕ) → true ≡ is_some end → end ≡ None → ⊥
+some_end end some none = let e : true ≡ false = some ∙ ap is_some none in absurd cc

@@ -33,22 +33,22 @@ IsVerdict Refused = Unit {0}
 IsVerdict _ = ⊥
 
 -- all bytes were read, they are no more than an input may have, and they have this verdict
-pub record HasAll (left left_new : Option (List ℕ)) (verdict : Verdict) : Type 0 where
-  pub text : List ℕ
+pub record HasAll (text : List ℕ) (left left_new : Option (List ℕ)) (verdict : Verdict) : Type 0 where
   pub taken : left ≡ before text left_new
   pub short : length text ≤ 16777216
   pub end : IsAtEnd left_new
   pub is : HasVerdict text verdict
 
 -- all bytes were read, and the line of their verdict was written, which is that of the status
-pub record Judges (status : AuditStatus) (left left_new taken taken_new : Option (List ℕ)) : Type 0 where
+pub record Judges (status : AuditStatus) (text : List ℕ) (left left_new taken taken_new : Option (List ℕ)) : Type 0 where
   pub verdict : Verdict
-  pub has : HasAll left left_new verdict
+  pub has : HasAll text left left_new verdict
   pub tells : status ≡ status_of verdict
   pub writes : taken_new ≡ then taken (verdict_line verdict)
 
 -- all bytes were read, and the first part of the line of their verdict was written
 pub record Stops (left left_new taken taken_new : Option (List ℕ)) : Type 0 where
+  pub text : List ℕ
   pub verdict : Verdict
-  pub has : HasAll left left_new verdict
+  pub has : HasAll text left left_new verdict
   pub writes : WritesFront taken taken_new (verdict_line verdict)

@@ -1,11 +1,11 @@
 -- What the error output is told of a text that spells no history.
 
-use Rattle.std.specs.Prelude.{◌≡◌, ℕ, ◌+◌, ◌-◌, ◌≤◌, List, length, drop, codes, None}
+use Rattle.std.specs.Prelude.{◌≡◌, ◌≢◌, ◌==◌, ℕ, ◌+◌, ◌-◌, ◌≤◌, List, length, drop, codes, Some, None}
 use Rattle.std.specs.Fmt.{decimal}
 use Rattle.ert_defs.specs.declared.settings.SettingsFault.{SettingsFault}
 use Rattle.ert_defs.specs.declared.settings.SettingsFault.TheVariants.{Start, First, Count}
 use Rattle.ert_judge.specs.Texts.{◌⋅◌}
-use Rattle.ert_spelling.specs.Faults.{word_in, IsFaultIn, IsUnfit}
+use Rattle.ert_spelling.specs.Faults.{word_in, fault_of, IsUnfit}
 use Rattle.ert_spelling.specs.Spelling.{MisspelledAt}
 use Rattle.ert_spelling.specs.declared.wanted.Wanted.{Wanted}
 use Rattle.ert_spelling.specs.declared.wanted.Wanted.TheVariants.{SettingsWord, Mode, Truth, Integer, Small, Natural, Act, State, Found, Kind, When, Actor, Partner, Event, RequestKind, Picked, Taken, Left, End}
@@ -13,13 +13,18 @@ use Rattle.ert_audit.specs.Messages.{line_after, line_end, lines_on, shown, head
 use Rattle.ert_audit.specs.declared.refusing.Refusal.{Refusal}
 use Rattle.ert_audit.specs.declared.refusing.Refusal.TheVariants.{At, Unfit, NoNewline, Misspelled}
 
--- why a line is misspelled: a word of it isn't one that could stand there, no service can be opened with its
--- settings, or no newline ends it
+-- why a line is misspelled, the first of these that holds: it stops being spelled at a word; no newline ends it; no
+-- service can be opened with its settings
 abbrev pub IsRefusal : List ℕ → ℕ → Refusal → Type 0
-IsRefusal text line (At fault) = IsFaultIn (line_after text (line - 1)) fault
-IsRefusal text line (Unfit fault) = IsUnfit (line_after text (line - 1)) fault
-IsRefusal text line NoNewline = line_end (lines_on (line - 1) text) ≡ None
-IsRefusal text line Misspelled = Unit {0}
+IsRefusal text line (At fault) = fault_of (line == 1) (line_after text (line - 1)) ≡ Some fault
+IsRefusal text line NoNewline =
+    (fault_of (line == 1) (line_after text (line - 1)) ≡ None) × (line_end (lines_on (line - 1) text) ≡ None)
+IsRefusal text line (Unfit fault) =
+    (fault_of (line == 1) (line_after text (line - 1)) ≡ None) × (line_end (lines_on (line - 1) text) ≢ None)
+    × IsUnfit (line_after text (line - 1)) fault
+IsRefusal text line Misspelled =
+    (fault_of (line == 1) (line_after text (line - 1)) ≡ None) × (line_end (lines_on (line - 1) text) ≢ None)
+    × ((fault : SettingsFault) → IsUnfit (line_after text (line - 1)) fault → ⊥)
 
 -- a fault lies in the bytes
 abbrev pub LiesIn : List ℕ → Refusal → Type 0

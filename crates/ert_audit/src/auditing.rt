@@ -3,90 +3,71 @@ ghost use Rattle.ert_io.specs.Faults.{Rose};
 ghost use Rattle.ert_io.specs.Known.{then, before, TakesUpTo};
 ghost use Rattle.ert_io.specs.Writing.{WritesFront};
 ghost use Rattle.ert_audit.specs.Audits.{IsVerdict, Judges, Stops, status_of};
-ghost use Rattle.ert_audit.specs.Explained.{Explains, Tells};
 ghost use Rattle.ert_audit.specs.Verdicts.{HasVerdict, verdict_line};
 ghost use Rattle.ert_audit.specs.declared.verdict.Verdict as verdicts;
 
-use crate::explaining::explain;
 use crate::status::AuditStatus;
 use crate::verdict::{Verdict, one_verdict, verdict_on, write_verdict};
 use ert_io::{MAX_INPUT, ReadErr, Sink, Source, read_all, write_all};
 use std::alloc::Global;
 
-/// The program: it reads a history from the input, and writes one line to the output, which tells whether
-/// the history is legal. Where it isn't, it then tells the errors why, for a person, as far as they can be
-/// written and there is memory for it.
+/// How an audit ended, and of which text.
+#[derive(Drop)]
+pub struct Audited {
+    pub status: AuditStatus,
+    /// The text that was judged, where the status tells its verdict.
+    pub text: Vec<u8>,
+}
+
+/// The audit: it reads a history from the input, and writes one line to the output, which tells whether the
+/// history is legal. Why it isn't, `explain` tells.
 ///
-/// Neither sink tells its room.
-pub fn audit<R: AllocGlobal, I: Source, O: Sink, E: Sink>(
-    rt: &R,
-    input: &mut I,
-    output: &mut O,
-    errors: &mut E,
-) -> AuditStatus
-    requires room { O.room output.old ≡ None }
-    requires room_errors { E.room errors.old ≡ None }
+/// The output doesn't tell its room.
+pub fn audit<R: AllocGlobal, I: Source, O: Sink>(rt: &R, input: &mut I, output: &mut O) -> Audited
+    requires { O.room output.old ≡ None }
 
     // The input was read to its end, its text has this verdict, and the line of that was written.
-    ensures judged { IsVerdict result → Judges result (I.left input.old) (I.left input.new) (O.taken output.old) (O.taken output.new) }
-    ensures read_fault { result ≡ AuditStatus.ReadFault → Rose (I.faults input.old) (I.faults input.new) × (output.new ≡ output.old) }
-    ensures read_in_part { result ≡ AuditStatus.ReadFault → TakesUpTo 16777216 (I.left input.old) (I.left input.new) }
-    ensures too_long { result ≡ AuditStatus.TooLong → (output.new ≡ output.old)
+    ensures judged { IsVerdict result.status → Judges result.status result.text.items (I.left input.old) (I.left input.new) (O.taken output.old) (O.taken output.new) }
+    ensures read_fault { result.status ≡ AuditStatus.ReadFault → Rose (I.faults input.old) (I.faults input.new) × (output.new ≡ output.old) }
+    ensures read_in_part { result.status ≡ AuditStatus.ReadFault → TakesUpTo 16777216 (I.left input.old) (I.left input.new) }
+    ensures too_long { result.status ≡ AuditStatus.TooLong → (output.new ≡ output.old)
         × ((taken : List ℕ) × (length taken ≡ 16777217) × (I.left input.old ≡ before taken (I.left input.new))) }
-    ensures write_fault { result ≡ AuditStatus.WriteFault → Rose (O.faults output.old) (O.faults output.new) }
+    ensures write_fault { result.status ≡ AuditStatus.WriteFault → Rose (O.faults output.old) (O.faults output.new) }
 
     // After a failed write, or without memory, the first part of the line stands.
-    ensures stops { (result ≡ AuditStatus.WriteFault) ⊎ (result ≡ AuditStatus.NoMemory)
+    ensures stops { (result.status ≡ AuditStatus.WriteFault) ⊎ (result.status ≡ AuditStatus.NoMemory)
         → (output.new ≡ output.old) ⊎ Stops (I.left input.old) (I.left input.new) (O.taken output.old) (O.taken output.new) }
 
     // Where nothing fails, only want of memory keeps a text from its verdict.
     ensures complete { (Rose (I.faults input.old) (I.faults input.new) → ⊥) → (Rose (O.faults output.old) (O.faults output.new) → ⊥)
         → (text : List ℕ) (verdict : verdicts.Verdict) → I.left input.old ≡ Some text → length text ≤ 16777216 → HasVerdict text verdict
-        → (result ≡ status_of verdict) ⊎ (result ≡ AuditStatus.NoMemory) }
+        → (result.status ≡ status_of verdict) ⊎ (result.status ≡ AuditStatus.NoMemory) }
     ensures later { I.faults input.old ≤ I.faults input.new }
     ensures later_out { O.faults output.old ≤ O.faults output.new }
-
-    // Of the message only a first part may stand there. Without memory for it there is none.
-    ensures explained { (errors.new ≡ errors.old)
-        ⊎ Explains result (I.left input.old) (I.left input.new) (E.taken errors.old) (E.taken errors.new) }
-    ensures later_errors { E.faults errors.old ≤ E.faults errors.new }
 {
     one_verdict();
     match read_all(rt.alloc(), input, MAX_INPUT) {
         Ok(text) => match verdict_on(rt.alloc(), &text) {
-            Ok(verdict) => report(rt.alloc(), &text, verdict, output, errors),
-            Err(_) => AuditStatus::NoMemory,
+            Ok(verdict) => Audited {
+                status: tell(rt.alloc(), verdict, output),
+                text,
+            },
+            Err(_) => without_text(rt.alloc(), AuditStatus::NoMemory),
         },
-        Err(ReadErr::ReadFault) => AuditStatus::ReadFault,
-        Err(ReadErr::TooLong) => AuditStatus::TooLong,
-        Err(ReadErr::NoMemory) => AuditStatus::NoMemory,
+        Err(ReadErr::ReadFault) => without_text(rt.alloc(), AuditStatus::ReadFault),
+        Err(ReadErr::TooLong) => without_text(rt.alloc(), AuditStatus::TooLong),
+        Err(ReadErr::NoMemory) => without_text(rt.alloc(), AuditStatus::NoMemory),
     }
 }
 
-/// Writes the line of the verdict on a text, and then why it has that.
-fn report<O: Sink, E: Sink>(
-    alloc: Global,
-    text: &[u8],
-    verdict: Verdict,
-    output: &mut O,
-    errors: &mut E,
-) -> AuditStatus
-    requires room { O.room output.old ≡ None }
-    requires room_errors { E.room errors.old ≡ None }
-    requires has { HasVerdict text.now verdict }
-    ensures which { (result ≡ status_of verdict) ⊎ (result ≡ AuditStatus.WriteFault) ⊎ (result ≡ AuditStatus.NoMemory) }
-    ensures told { result ≡ status_of verdict → O.taken output.new ≡ then (O.taken output.old) (verdict_line verdict) }
-    ensures front { WritesFront (O.taken output.old) (O.taken output.new) (verdict_line verdict) }
-    ensures later { O.faults output.old ≤ O.faults output.new }
-    ensures cause { result ≡ AuditStatus.WriteFault → Rose (O.faults output.old) (O.faults output.new) }
-    ensures explained { (errors.new ≡ errors.old) ⊎ Tells result text.now (E.taken errors.old) (E.taken errors.new) }
-    ensures later_errors { E.faults errors.old ≤ E.faults errors.new }
+/// The end of an audit in which no text was judged.
+fn without_text(alloc: Global, status: AuditStatus) -> Audited
+    ensures { result.status ≡ status }
 {
-    let status = tell(alloc, verdict, output);
-    if status == status_of(verdict) {
-        explain(alloc, text, verdict, errors);
+    Audited {
+        status,
+        text: Vec::new(alloc),
     }
-    status
 }
 
 /// Writes the line of a verdict.

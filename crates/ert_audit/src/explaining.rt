@@ -1,53 +1,57 @@
-//! Why a text has its verdict, for a person.
+//! Why a text has its verdict, for a person. No contract of the audit speaks of it.
 
 ghost use Rattle.std.specs.Prelude.{◌≡◌, ◌⊎◌, ◌≤◌, ◌++◌, codes, IfSome, OnOk, None, string_bytes};
-ghost use Rattle.ert_audit.specs.Audits.{status_of};
 ghost use Rattle.ert_audit.specs.Explained.{IsMessage, Tells};
 ghost use Rattle.ert_audit.specs.Messages.{head_text, shown, illegal_message, IsIllegalMessage};
 ghost use Rattle.ert_audit.specs.Refusals.{IsRefusalMessage};
-ghost use Rattle.ert_audit.specs.Verdicts.{HasVerdict};
 ghost use Rattle.ert_io.specs.Writing.{WritesFront};
 ghost use Rattle.ert_judge.specs.Texts.{◌⋅◌, reason_text};
-ghost use Rattle.ert_spelling.specs.Spelling.{MisspelledAt};
 
+use crate::auditing::Audited;
 use crate::lines::{line_after, write_shown};
 use crate::refusing::{refusal_of, write_refusal};
-use crate::verdict::Verdict;
+use crate::status::AuditStatus;
 use ert_io::{Sink, write_all};
 use ert_judge::{Reason, first_stop, reason, write_reason};
-use ert_spelling::read_history;
+use ert_spelling::{SpellingErr, read_history};
 use std::alloc::{AllocError, Global};
 use std::fmt::Write;
 
-/// Writes why a text has a verdict, where there is memory for it.
-pub fn explain<E: Sink>(alloc: Global, text: &[u8], verdict: Verdict, errors: &mut E)
-    requires room { E.room errors.old ≡ None }
-    requires has { HasVerdict text.now verdict }
-    ensures explained { (errors.new ≡ errors.old) ⊎ Tells (status_of verdict) text.now (E.taken errors.old) (E.taken errors.new) }
+/// Writes why a history isn't legal, or a text spells none, for a person, as far as it can be written and
+/// there is memory for it; after an audit that ended otherwise, nothing.
+///
+/// The sink doesn't tell its room.
+pub fn explain<E: Sink>(alloc: Global, audited: &Audited, errors: &mut E)
+    requires { E.room errors.old ≡ None }
+
+    // Of the message only a first part may stand there. Without memory for it there is none.
+    ensures explained { (errors.new ≡ errors.old)
+        ⊎ Tells audited.now.status audited.now.text.items (E.taken errors.old) (E.taken errors.new) }
     ensures later { E.faults errors.old ≤ E.faults errors.new }
 {
-    if let Some(message) = message_on(alloc, text, verdict) {
+    if let Some(message) = message_on(alloc, audited.status, &audited.text) {
         write_message(errors, message.as_bytes());
     }
 }
 
-/// The message on a text that has a verdict.
-fn message_on(alloc: Global, text: &[u8], verdict: Verdict) -> Option<String>
-    requires { HasVerdict text.now verdict }
-    ensures { IfSome result (λ message. IsMessage (status_of verdict) text.now (string_bytes message)) }
+/// The message on a text, where an audit of it ended so.
+fn message_on(alloc: Global, status: AuditStatus, text: &[u8]) -> Option<String>
+    ensures { IfSome result (λ message. IsMessage status text.now (string_bytes message)) }
 {
-    match verdict {
-        Verdict::Legal { .. } => None,
-        Verdict::Illegal { .. } => illegal_on(alloc, text),
-        Verdict::Refused { line } => refused_on(alloc, text, line),
+    match status {
+        AuditStatus::Illegal => illegal_on(alloc, text),
+        AuditStatus::Refused => refused_on(alloc, text),
+        _ => None,
     }
 }
 
-/// The message on a text that is misspelled at a line.
-fn refused_on(alloc: Global, text: &[u8], line: usize) -> Option<String>
-    requires { MisspelledAt text.now line }
+/// The message on a text that is misspelled.
+fn refused_on(alloc: Global, text: &[u8]) -> Option<String>
     ensures { IfSome result (λ message. IsRefusalMessage text.now (string_bytes message)) }
 {
+    let Err(SpellingErr::Misspelled { line }) = read_history(alloc, text) else {
+        return None;
+    };
     let refusal = refusal_of(text, line);
     let bytes = line_after(text, line.saturating_sub(1));
     let mut page = String::new(alloc);

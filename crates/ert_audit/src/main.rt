@@ -1,11 +1,12 @@
 //! The program `ertaudit`: it reads a history of the clock and timer service that was written down, and
 //! tells whether it is legal.
 //!
-//! `audit` is the whole program over any source and sink of bytes; its contract says what each status
-//! means, by the spelling of histories (`ert_spelling`) and the model of the service (`ert_defs`). `main`
-//! only hands it the standard streams. It stands on `ert_spelling`, which reads, `ert_judge`, which finds
-//! the first entry that isn't legal, `ert_judge`, which tells why it isn't, and `ert_io`; no code of the
-//! service itself is in it.
+//! `audit` is the whole of that over any source and sink of bytes; its contract says what each status means, by
+//! the spelling of histories (`ert_spelling`) and the model of the service (`ert_defs`). `explain` tells why a
+//! history isn't legal, or why a text spells none; its contract says that what is told is so. `main` hands them
+//! the standard streams. The program stands on `ert_spelling`, which reads, on `ert_judge`, which finds the first
+//! entry that isn't legal and the condition that it breaks, and on `ert_io`; of the service itself it has only the
+//! clock's rules on plain numbers.
 #![tactic(auto)]
 
 mod auditing;
@@ -17,8 +18,9 @@ mod status;
 mod tests;
 mod verdict;
 
-pub use auditing::audit;
+pub use auditing::{Audited, audit};
 use ert_io::{StdSink, StdSource};
+pub use explaining::explain;
 pub use status::AuditStatus;
 use std::io;
 use std::process::ExitCode;
@@ -27,6 +29,8 @@ pub use verdict::{Verdict, one_verdict};
 fn main(rt: HostRuntime) -> ExitCode {
     let mut input = StdSource::new(rt.reader());
     let mut output = StdSink::new(io::writer(&rt));
+    let audited = audit(&rt, &mut input, &mut output);
     let mut errors = StdSink::new(rt.stderr());
-    ExitCode::from(audit(&rt, &mut input, &mut output, &mut errors).code())
+    explain(rt.alloc(), &audited, &mut errors);
+    ExitCode::from(audited.status.code())
 }

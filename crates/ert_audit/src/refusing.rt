@@ -27,7 +27,8 @@ pub enum Refusal {
 
 /// Why a line, by its number from 1, is misspelled.
 pub fn refusal_of(text: &[u8], number: usize) -> Refusal
-    ensures { IsRefusal text.now number result }
+    ensures why { IsRefusal text.now number result }
+    ensures lies { LiesIn (line_after text.now (number - 1)) result }
 {
     let lines = number.saturating_sub(1);
     let line = line_after(text, lines);

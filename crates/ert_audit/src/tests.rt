@@ -2,7 +2,7 @@ ghost use Rattle.std.specs.Prelude.{◌≤◌};
 
 mod histories;
 
-use crate::{AuditStatus, audit};
+use crate::{AuditStatus, audit, explain};
 use ert_io::{Failed, MemSink, MemSource, Source};
 use histories::{CANCELS, EXPIRIES, LOOKS, MESSAGES, MONITORS, REQUESTS, STARTS, TICKS};
 use std::alloc::AllocError;
@@ -28,10 +28,11 @@ fn run(
     let writes = vec![in rt.alloc(); fails.1]?;
     let mut output = MemSink::new(rt.alloc(), piece, writes);
     let mut errors = MemSink::new(rt.alloc(), piece, Vec::new(rt.alloc()));
-    let status = audit(rt, &mut input, &mut output, &mut errors);
+    let audited = audit(rt, &mut input, &mut output);
+    explain(rt.alloc(), &audited, &mut errors);
     let written = String::from_utf8_lossy(rt.alloc(), output.bytes())?;
     let message = String::from_utf8_lossy(rt.alloc(), errors.bytes())?;
-    Ok((status, written, message))
+    Ok((audited.status, written, message))
 }
 
 #[test]
@@ -212,8 +213,8 @@ fn refuses_a_long_input(rt: HostRuntime) -> Result<(), Fail> {
     ] {
         let mut input = Spaces { left: count };
         let mut output = MemSink::new(rt.alloc(), 100, Vec::new(rt.alloc()));
-        let mut errors = MemSink::new(rt.alloc(), 100, Vec::new(rt.alloc()));
-        assert_eq!(rt; audit(&rt, &mut input, &mut output, &mut errors), status);
+        let audited = audit(&rt, &mut input, &mut output);
+        assert_eq!(rt; audited.status, status);
         assert_eq!(rt; output.bytes(), line.as_bytes());
     }
     Ok(())

@@ -1,6 +1,6 @@
 -- What a service does by the calls on timers, mailboxes and turns.
 
-use Rattle.std.specs.Prelude.{◌≡◌, ◌≢◌, ℕ, ℤ, Bool, Option, Result, Err, MatchOption, ⊤}
+use Rattle.std.specs.Prelude.{◌≡◌, ◌≢◌, ℕ, ℤ, Bool, Option, Result, Err, IfOk, MatchOption, OnSome, ⊤}
 use Rattle.ert_effects.specs.Chains.{Exits, Serves, AdvancesWheel, Delivers, Turns}
 use Rattle.ert_effects.specs.MailCalls.{Takes, Monitors, Demonitors, Tells}
 use Rattle.ert_effects.specs.RequestCalls.{Asks, inbox_for}
@@ -20,7 +20,8 @@ use Rattle.ert_defs.specs.declared.mail.Request.{Request}
 use Rattle.ert_defs.specs.declared.memory.NoMemory.{NoMemory as WantOfMemory}
 use Rattle.ert_defs.specs.declared.timer.Start.{Start}
 use Rattle.ert_defs.specs.declared.timer.TimerRef.{TimerRef}
-use Rattle.ert_world.specs.Worlds.{Seen, Goes, By, IsNextHeldAt, IsNearestAt}
+use Rattle.ert_world.specs.Stepping.{Stays}
+use Rattle.ert_world.specs.Worlds.{Seen, Goes, By, HasForgotten, HasPassedAt, IsNextHeldAt, IsNearestAt}
 use Rattle.ert_timers.specs.NextDue.{NoneArmedBefore}
 use Rattle.ert_c.specs.Through.{Through, Answers, IfBelow, IsOutOfRange, IsRefusedAs}
 use Rattle.ert_c.specs.Told.{start_of, request_kind_at, request_of, IsStarted, IsRoomTold, IsAsked}
@@ -30,9 +31,8 @@ use Rattle.ert_c.specs.declared.timer_calls.ErtStart.{ErtStart}
 use Rattle.ert_c.specs.declared.timer_calls.ErtTimer.{ErtTimer}
 
 -- a service makes a call that isn't one on the clock
-pub record Makes (call : Seen → Way → Growth) (old new : Seen) : Type 0 where
-  pub goes : Goes old (call old) new
-  pub clock : new.clock ≡ old.clock
+abbrev pub Makes : (Seen → Way → Growth) → Seen → Seen → Type 0
+Makes call old new = Goes old (call old) new
 
 -- a call at a scheduler, which is refused where there is no such one
 abbrev pub AtSched : {A : Type 0} → ℕ → (A → Seen → Seen → Type 0) → (A → Type 0) → ℤ → Type 0 → Seen → Seen → Type 0
@@ -76,9 +76,10 @@ abbrev pub AsksRoom : ℕ → Type 0 → ℕ → ℕ → Option Seen → ℤ →
 AsksRoom sched kept room ready old status new =
     Through kept (AtSched sched (TellsRoomBy sched) (λ answer. IsRoomTold answer status room ready) status kept) old status new
 
--- caller 0 cancels a timer: what was left of it, where it was armed
-abbrev pub CancelsBy : TimerRef → Option ℕ → Seen → Seen → Type 0
-CancelsBy timer answer = Makes (λ w. By w (λ g. Cancels g (Caller 0) timer answer))
+-- caller 0 cancels a timer: what was left of it, where it was armed, and then its wheel holds no row of it
+pub record CancelsBy (timer : TimerRef) (answer : Option ℕ) (old new : Seen) : Type 0 where
+  pub makes : Makes (λ w. By w (λ g. Cancels g (Caller 0) timer answer)) old new
+  pub forgotten : OnSome answer (HasForgotten new timer)
 
 -- caller 0 reads a timer: what is left of it, where it is armed
 abbrev pub ReadsBy : TimerRef → Option ℕ → Seen → Seen → Type 0
@@ -117,23 +118,30 @@ DemonitorsBy process monitor answer = Makes (λ w. By w (λ g. Demonitors g 0 pr
 abbrev pub TellsBy : ℕ → Result ℕ WantOfMemory → Seen → Seen → Type 0
 TellsBy process answer = Makes (λ w. By w (λ g. Tells g 0 process answer))
 
--- a scheduler answers a request: whether there was one, or want of memory
-abbrev pub ServesBy : ℕ → Result Bool WantOfMemory → Seen → Seen → Type 0
-ServesBy sched answer = Makes (λ w way. Serves w.settings way sched answer)
+-- a scheduler answers a request: whether there was one, or want of memory. Its wheels forget what it cancelled
+pub record ServesBy (sched : ℕ) (answer : Result Bool WantOfMemory) (old new : Seen) : Type 0 where
+  pub makes : Makes (λ w way. Serves w.settings way sched answer) old new
+  pub stays : Stays old new
 
--- a scheduler advances its wheel: to which millisecond and how many timers expired, or want of memory
-abbrev pub AdvancesBy : ℕ → Result (ℕ × ℕ) WantOfMemory → Seen → Seen → Type 0
-AdvancesBy sched answer = Makes (λ w way. AdvancesWheel w.settings way sched answer)
+-- a scheduler advances its wheel: to which millisecond and how many timers expired, or want of memory. Then each row
+-- of the wheel is due later
+pub record AdvancesBy (sched : ℕ) (answer : Result (ℕ × ℕ) WantOfMemory) (old new : Seen) : Type 0 where
+  pub makes : Makes (λ w way. AdvancesWheel w.settings way sched answer) old new
+  pub passed : IfOk answer (λ advanced. HasPassedAt new sched advanced.0)
 
 -- a scheduler hands its expired timers over: how many were put and dropped, or want of memory
 abbrev pub DeliversBy : ℕ → Result (ℕ × ℕ) WantOfMemory → Seen → Seen → Type 0
 DeliversBy sched answer = Makes (λ w way. Delivers w.settings way sched answer)
 
--- a scheduler makes a turn: what it did, or want of memory
-abbrev pub TurnsBy : ℕ → Result Turned WantOfMemory → Seen → Seen → Type 0
-TurnsBy sched answer = Makes (λ w way. Turns w.settings way sched answer)
+-- a scheduler makes a turn: what it did, or want of memory. The wheels forget what it cancelled, and each row of its
+-- own is due later than the time of the advance
+pub record TurnsBy (sched : ℕ) (answer : Result Turned WantOfMemory) (old new : Seen) : Type 0 where
+  pub makes : Makes (λ w way. Turns w.settings way sched answer) old new
+  pub stays : Stays old new
+  pub passed : IfOk answer (λ turned. HasPassedAt new sched turned.to)
 
--- what is told is how early a row of the wheel is due, no armed timer is due before it, and nothing has changed
+-- what is told is how early a row of the wheel is due, or where the window begins in which it is; no armed timer is due
+-- before it, and nothing has changed
 pub record LooksAhead (sched : ℕ) (answer : Option ℕ) (old new : Seen) : Type 0 where
   pub held : IsNextHeldAt old sched answer
   pub armed : NoneArmedBefore (state old.settings old.history) sched answer

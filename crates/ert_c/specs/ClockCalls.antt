@@ -10,7 +10,7 @@ use Rattle.ert_defs.specs.declared.entry.Actor.TheVariants.{Caller}
 use Rattle.ert_defs.specs.declared.settings.OffsetState.{OffsetState}
 use Rattle.ert_defs.specs.declared.settings.OffsetState.TheVariants.{Preliminary, Final, Volatile}
 use Rattle.ert_defs.specs.declared.settings.Reading.{Reading}
-use Rattle.ert_world.specs.Worlds.{Seen, Goes, By}
+use Rattle.ert_world.specs.Worlds.{Seen, Goes, GoesOnClock, By}
 use Rattle.ert_c.specs.declared.clock_calls.ErtMoved.{ErtMoved}
 use Rattle.ert_c.specs.declared.clock_calls.ErtOffset.{ErtOffset}
 use Rattle.ert_c.specs.declared.status.TheConstants.{OK, BAD_READING, OFFSET_WIDE}
@@ -49,26 +49,24 @@ IsFinalized (Err (OffsetWide value)) b old status before new = (status ≡ OFFSE
 -- a service makes a tick
 pub record TicksBy (r : Reading) (force : Bool) (answer : Result Moved ClockErr) (old new : Seen) : Type 0 where
   pub gives : Gives old.clock r (act_of force) answer new.clock
-  pub goes : Goes old (By old (λ g. Ticks g 0 r force answer)) new
+  pub goes : GoesOnClock old (By old (λ g. Ticks g 0 r force answer)) new
 
 -- a service makes a finalization
 pub record FinalizesBy (r : Reading) (answer : Result (OffsetState × Moved) ClockErr) (old new : Seen) : Type 0 where
   pub gives : FinalizesFrom old.clock.face.state old.clock r answer new.clock
-  pub goes : Goes old (By old (λ g. Finalizes g 0 r answer)) new
+  pub goes : GoesOnClock old (By old (λ g. Finalizes g 0 r answer)) new
 
 -- C is told monotonic time, as the clock of a service shows it
 pub record ReadsTime (status time : ℤ) (old new : Seen) : Type 0 where
   pub told : status ≡ OK
   pub value : time ≡ old.clock.face.time
   pub goes : Goes old (By old (λ g. TellsTime g (Caller 0) time)) new
-  pub clock : new.clock ≡ old.clock
 
 -- C is told system time: the sum of the time and the offset that the clock shows
 pub record ReadsSystemTime (status time : ℤ) (old new : Seen) : Type 0 where
   pub told : status ≡ OK
   pub value : time ≡ (old.clock.face.time +ℤ old.clock.face.offset)
   pub goes : Goes old (By old (λ g. TellsSystemTime g (Caller 0) time)) new
-  pub clock : new.clock ≡ old.clock
 
 -- C is told the time offset and its state, as the clock shows them
 pub record ReadsOffset (status : ℤ) (offset : ErtOffset) (old new : Seen) : Type 0 where
@@ -76,4 +74,3 @@ pub record ReadsOffset (status : ℤ) (offset : ErtOffset) (old new : Seen) : Ty
   pub value : offset.offset ≡ old.clock.face.offset
   pub state : offset.state ≡ state_as old.clock.face.state
   pub goes : Goes old (By old (λ g. TellsOffset g (Caller 0) (offset.offset, old.clock.face.state))) new
-  pub clock : new.clock ≡ old.clock

@@ -1,5 +1,6 @@
 pub mod Calls
 pub mod ClockCalls
+pub mod Constants
 pub mod Opened
 pub mod Places
 pub mod SeatCalls

@@ -21,7 +21,7 @@
 //! | file | what it has |
 //! |---|---|
 //! | `place`, `handle` | where a box lies, and the handles of a world and of a seat |
-//! | `status` | the statuses |
+//! | `status`, `laws` | the statuses; that each has a number of its own |
 //! | `opening`, `clock_calls`, `timer_calls`, `mail_calls`, `turn_calls` | the structs that cross, what they mean, and how answers are told |
 //! | `clock_exports`, `timer_exports`, `mail_exports`, `turn_exports`, `seat_exports` | the exported functions |
 //!
@@ -32,6 +32,7 @@
 mod clock_calls;
 mod clock_exports;
 mod handle;
+mod laws;
 mod mail_calls;
 mod mail_exports;
 mod opening;
@@ -45,6 +46,7 @@ mod turn_exports;
 
 pub use clock_calls::{ErtMoved, ErtOffset};
 pub use handle::{ErtSeat, ErtWorld};
+pub use laws::constants_are_fixed;
 pub use mail_calls::{ErtMail, ErtRequest};
 pub use opening::{ErtReading, ErtSettings};
 pub use timer_calls::{ErtStart, ErtTimer};

@@ -1,9 +1,11 @@
 //! The program `ertime`: it reads a scenario of the clock and timer service, and writes one line for each reply.
 //!
 //! `main` only hands the command line, the standard streams and the machine's clock to `ertime` of `ert_program`,
-//! whose contract says what each status means.
+//! whose contract says what each status means. Where that has refused its input, `explain` of `ert_explain` writes the
+//! message that tells why to standard error.
 #![tactic(auto)]
 
+use ert_explain::explain;
 use ert_io::{HostClock, StdSink, StdSource};
 use ert_program::{EndStatus, ertime};
 use ert_race::FreeGate;
@@ -23,17 +25,24 @@ fn main(rt: HostRuntime) -> ExitCode {
     };
     let mut input = StdSource::new(rt.reader());
     let mut output = StdSink::new(io::writer(&rt));
-    let mut errors = StdSink::new(rt.stderr());
     let mut clock = HostClock::new(&rt);
     let ended = ertime(
         &rt,
         words.as_slice(),
         &mut input,
         &mut output,
-        &mut errors,
         &mut clock,
         &FreeGate,
     );
+    if let Some(refusal) = &ended.refusal {
+        explain(
+            rt.alloc(),
+            refusal.bytes.as_slice(),
+            refusal.race,
+            &refusal.why,
+            &mut StdSink::new(rt.stderr()),
+        );
+    }
     ExitCode::from(ended.status.code())
 }
 

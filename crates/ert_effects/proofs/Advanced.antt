@@ -4,6 +4,7 @@ use Rattle.std.proofs.Common.{◌≡◌, ℕ, suc, ◌+◌, ◌≤◌, ℤ, List
 use Rattle.std.proofs.lemmas.List.{map-append}
 use Rattle.ert_effects.specs.WheelCalls.{Try, expires_by, expiry_entries, hits, AreLooks, HasAdvanced, HasAdvancedAll}
 use Rattle.ert_defs.specs.Entries.{look_entry, probe_entry, advanced_entry}
+use Rattle.ert_defs.specs.States.{State}
 use Rattle.ert_defs.specs.declared.entry.Actor.{Actor}
 use Rattle.ert_defs.specs.declared.entry.Actor.TheVariants.{Sched}
 use Rattle.ert_defs.specs.declared.entry.Entry.{Entry}
@@ -15,8 +16,8 @@ pub record IsAdvance (w : ℕ) (answer : ℕ × ℕ) (es : List Entry) : Type 0 
   pub fired : answer.1 ≡ hits tries
   pub entries : es ≡ look_entry (Sched w) now ∷ (expiry_entries w tries ++ advanced_entry w answer.0 ∷ [])
 
-pub advance_is : (w : ℕ) (answer : ℕ × ℕ) (es : List Entry) → HasAdvanced w answer es → IsAdvance w answer es
-advance_is w answer es made = record { now = made.now; tries = made.tries; fired = made.fired; entries = made.entries }
+pub advance_is : {s : State} (w : ℕ) (answer : ℕ × ℕ) (es : List Entry) → HasAdvanced w answer s es → IsAdvance w answer es
+advance_is {s} w answer es made = record { now = made.now; tries = made.tries; fired = made.fired; entries = made.entries }
 
 pub hits-append : (tries more : List Try) → hits (tries ++ more) ≡ hits tries + hits more
 hits-append [] more = omega arith
@@ -42,8 +43,8 @@ looks_miss w from to (e ∷ looks) are =
     }
 
 -- the advance of a last turn is one
-pub advance_all_is : (slots w : ℕ) (answer : ℕ × ℕ) (es : List Entry) → HasAdvancedAll slots w answer es → IsAdvance w answer es
-advance_all_is slots w answer es made =
+pub advance_all_is : {s : State} (slots w : ℕ) (answer : ℕ × ℕ) (es : List Entry) → HasAdvancedAll slots w answer s es → IsAdvance w answer es
+advance_all_is {s} slots w answer es made =
     let misses : AreMisses w made.looks = looks_miss w 0 slots made.looks made.are_looks in
     let last : List Entry = advanced_entry w answer.0 ∷ [] in
     record {

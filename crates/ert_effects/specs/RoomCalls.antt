@@ -1,6 +1,6 @@
 -- What the call that looks how much room a wheel has records and answers.
 
-use Rattle.std.specs.Prelude.{◌≡◌, ℕ, zero, suc, ◌+◌, ℤ, Bool, true, false, min, nat_lt, List, [], ◌∷◌, Option, Some, None}
+use Rattle.std.specs.Prelude.{◌≡◌, ℕ, zero, suc, ◌+◌, ℤ, Bool, true, false, min, nat_lt, if◌then◌else◌, List, [], ◌∷◌, length, Option, Some, None}
 use Rattle.ert_defs.specs.Entries.{look_entry, probe_entry}
 use Rattle.ert_defs.specs.Milliseconds.{natural, down}
 use Rattle.ert_defs.specs.States.{State, uses_at}
@@ -38,9 +38,15 @@ ShowsRoom by wheel now s slot (suc n) before room es =
     (found : Option Status) × (later : List Entry) × (es ≡ probe_entry (Caller by) wheel slot found ∷ later)
     × ShowsRoom by wheel now s (suc slot) n (with_found s now wheel slot found before) room later
 
+-- the room of a wheel whose slots were found so: none where it has had 2^53 timers
+abbrev pub room_with : ℕ → Room → Room
+room_with timers seen = if nat_lt timers 9007199254740992 then seen else no_room
+
 -- a look, and then each slot was looked at
 pub record TellsRoom (g : Settings) (by wheel : ℕ) (room : Room) (s : State) (es : List Entry) : Type 0 where
   pub now : ℤ
   pub probes : List Entry
-  pub shows : ShowsRoom by wheel (natural (down g now)) s 0 g.slots no_room room probes
+  pub seen : Room
+  pub shows : ShowsRoom by wheel (natural (down g now)) s 0 g.slots no_room seen probes
+  pub told : room ≡ room_with (length (s.rows wheel)) seen
   pub entries : es ≡ look_entry (Caller by) now ∷ probes

@@ -47,18 +47,42 @@ abbrev pub AllSettled : List Try → Type 0
 AllSettled [] = Unit {0}
 AllSettled (t ∷ tries) = IsSettled t.missed × AllSettled tries
 
+-- among these rows the timer has one that is due at a time
+pub record IsDueBy (rows : List Row) (to : ℕ) (timer : TimerRef) : Type 0 where
+  pub row : Row
+  pub stands : row_of rows timer ≡ Some row
+  pub due : row.deadline ≤ to
+
+-- each of these tries is of such a timer
+abbrev pub AllDue : List Row → ℕ → List Try → Type 0
+AllDue rows to [] = Unit {0}
+AllDue rows to (t ∷ tries) = IsDueBy rows to t.timer × AllDue rows to tries
+
+-- none of these tries is of the timer
+abbrev pub IsUntried : TimerRef → List Try → Type 0
+IsUntried timer [] = Unit {0}
+IsUntried timer (t ∷ tries) = (t.timer ≢ timer) × IsUntried timer tries
+
+-- no timer is tried twice
+abbrev pub AreOnce : List Try → Type 0
+AreOnce [] = Unit {0}
+AreOnce (t ∷ tries) = IsUntried t.timer tries × AreOnce tries
+
 -- a scheduler advances its wheel: a look, a try for each row that it takes up, and the record; it answers
--- the milliseconds and the number of timers that expired. A timer that didn't expire was settled by another
-pub record HasAdvanced (w : ℕ) (answer : ℕ × ℕ) (es : List Entry) : Type 0 where
+-- the milliseconds and the number of timers that expired. Each try is of a timer that is due by then, and none is
+-- tried twice. A timer that didn't expire was settled by another
+pub record HasAdvanced (w : ℕ) (answer : ℕ × ℕ) (s : State) (es : List Entry) : Type 0 where
   pub now : ℤ
   pub tries : List Try
   pub fired : answer.1 ≡ hits tries
   pub settled : AllSettled tries
+  pub due : AllDue (s.rows w) answer.0 tries
+  pub once : AreOnce tries
   pub entries : es ≡ look_entry (Sched w) now ∷ (expiry_entries w tries ++ advanced_entry w answer.0 ∷ [])
 
 -- `advance`, of a scheduler's wheel
 abbrev pub Advances : Settings → ℕ → Result (ℕ × ℕ) NoMemory → State → List Entry → Type 0
-Advances g w (Ok answer) s es = HasAdvanced w answer es
+Advances g w (Ok answer) s es = HasAdvanced w answer s es
 Advances g w (Err e) s es = (es ≡ []) ⊎ ((now : ℤ) × (es ≡ look_entry (Sched w) now ∷ []))
 
 -- entries that look at slots of a wheel, in order of number and each once at most: from one slot on, and
@@ -71,18 +95,20 @@ AreLooks by wheel from to (e ∷ es) =
 
 -- the same, and before the record the scheduler looks at slots of its wheel, so many at most, for rows that
 -- others have settled: a look may find a timer armed
-pub record HasAdvancedAll (slots w : ℕ) (answer : ℕ × ℕ) (es : List Entry) : Type 0 where
+pub record HasAdvancedAll (slots w : ℕ) (answer : ℕ × ℕ) (s : State) (es : List Entry) : Type 0 where
   pub now : ℤ
   pub tries : List Try
   pub looks : List Entry
   pub fired : answer.1 ≡ hits tries
   pub settled : AllSettled tries
+  pub due : AllDue (s.rows w) answer.0 tries
+  pub once : AreOnce tries
   pub are_looks : AreLooks (Sched w) w 0 slots looks
   pub entries : es ≡ look_entry (Sched w) now ∷ (expiry_entries w tries ++ (looks ++ advanced_entry w answer.0 ∷ []))
 
 -- the advance of a scheduler's last turn
 abbrev pub AdvancesAll : Settings → ℕ → Result (ℕ × ℕ) NoMemory → State → List Entry → Type 0
-AdvancesAll g w (Ok answer) s es = HasAdvancedAll g.slots w answer es
+AdvancesAll g w (Ok answer) s es = HasAdvancedAll g.slots w answer s es
 AdvancesAll g w (Err e) s es = Advances g w (Err e) s es
 
 -- the entry of a try to cancel a timer of a wheel for the exit of its destination
@@ -100,20 +126,20 @@ pub record IsFor (rows : List Row) (process : ℕ) (timer : TimerRef) : Type 0 w
   pub stands : row_of rows timer ≡ Some row
   pub dest : row.dest ≡ process
 
--- what a try of a sweep may be: only a timer for the process is cancelled, and a miss found it settled
+-- what a try of a sweep may be: of a timer for the process, and a miss found it settled
 abbrev pub MaySweep : List Row → ℕ → TimerRef → Option (Option Status) → Type 0
-MaySweep rows process timer None = IsFor rows process timer
-MaySweep rows process timer (Some found) = found ≢ Some Armed
+MaySweep rows process timer missed = IsFor rows process timer × IsSettled missed
 
 -- each of these tries may be one of a sweep
 abbrev pub AllMaySweep : List Row → ℕ → List Try → Type 0
 AllMaySweep rows process [] = Unit {0}
 AllMaySweep rows process (t ∷ tries) = MaySweep rows process t.timer t.missed × AllMaySweep rows process tries
 
--- the steps of `sweep`, by a caller over a wheel
+-- the steps of `sweep`, by a caller over a wheel: none of its timers for the process is tried twice
 pub record Sweeps (g : Settings) (by w process : ℕ) (s : State) (es : List Entry) : Type 0 where
   pub tries : List Try
   pub may : AllMaySweep (s.rows w) process tries
+  pub once : AreOnce tries
   pub entries : es ≡ orphan_entries by w tries
 
 -- none of these rows for the process is armed

@@ -52,12 +52,13 @@ pub fn cancels_are_judged()
     ensures nothing_read { Reads one (Caller 0) unbound (Some 5) armed (look ∷ []) → ⊥ }
 {}
 
-/// An exit cancels the timers of its process on every wheel, and no others.
+/// An exit cancels the timers of its process on every wheel, and no others. It looks at no other slot.
 pub fn exits_are_judged()
     ensures all { Exits two (alone two) 0 0 true (both_armed 0) (exiting (orphan_entry 0 0 (timer_of 0) ∷ (orphan_entry 0 1 (timer_of 1) ∷ []))) }
     ensures one_wheel { Exits two (alone two) 0 0 true (both_armed 0) (exiting (orphan_entry 0 0 (timer_of 0) ∷ [])) → ⊥ }
     ensures own { Exits two (alone two) 0 0 true (both_armed 1) (exiting (orphan_entry 0 0 (timer_of 0) ∷ [])) }
     ensures other_process { Sweeps two 0 1 0 (state two (both_armed 1)) (orphan_entry 0 1 (timer_of 1) ∷ []) → ⊥ }
+    ensures stray { Sweeps one 0 0 0 idle (probed (Some Cancelled)) → ⊥ }
 {}
 
 /// A turn serves, advances and delivers, until nothing is left to deliver.
@@ -66,13 +67,17 @@ pub fn turns_are_judged()
     ensures undelivered { Turns one (alone one) 0 (Ok (turned 1 0)) asked turning → ⊥ }
 {}
 
-/// An advance answers how many timers expired, and not how many it tried. A try that missed found its timer
-/// settled; the advance of a last turn looks at slots after its tries, once at each, and may find timers armed.
+/// An advance answers how many timers expired, and not how many it tried. It tries timers that are due, each once. A
+/// try that missed found its timer settled; the advance of a last turn looks at slots after its tries, once at each,
+/// and may find timers armed.
 pub fn advances_are_judged()
     ensures expired { Advances one 0 (Ok (1, 1)) (state one asked) advancing }
     ensures missed { Advances one 0 (Ok (1, 0)) (state one asked) (missing Cancelled) }
     ensures miscounted { Advances one 0 (Ok (1, 1)) (state one asked) (missing Cancelled) → ⊥ }
     ensures unsettled { Advances one 0 (Ok (1, 0)) (state one asked) (missing Armed) → ⊥ }
+    ensures stray { Advances one 0 (Ok (1, 0)) idle (missing Cancelled) → ⊥ }
+    ensures early { Advances one 0 (Ok (1, 0)) armed (missing Cancelled) → ⊥ }
+    ensures tried_twice { Advances one 0 (Ok (1, 0)) (state one asked) (missing_twice Cancelled) → ⊥ }
     ensures looked { AdvancesAll one 0 (Ok (1, 0)) (state one asked) (missing Armed) }
     ensures looked_twice { AdvancesAll one 0 (Ok (1, 0)) (state one asked) (missing_twice Armed) → ⊥ }
 {}

@@ -13,4 +13,5 @@ pub mod Params
 pub mod Places
 pub mod Positions
 pub mod Shown
+pub mod Telling
 pub mod Words

@@ -41,8 +41,9 @@ pub struct Explanation {
     pub near: Option<Near>,
 }
 
-/// Explains a refusal of bytes, of a scenario with a race where one is wanted. It fails only for want of memory.
-pub fn explain(
+/// The explanation of a refusal of bytes, of a scenario with a race where one is wanted. It fails only for want of
+/// memory.
+pub fn explanation_of(
     alloc: Global,
     bytes: &[u8],
     race: bool,

@@ -1,7 +1,7 @@
 //! Why bytes are no scenario, for a person: at which line and column, at which op, and what is wrong.
 //!
-//! It stands on `ert_scenario`, which says which refusal bytes have, on `serde_json`, which reads them, and on `strsim`,
-//! which finds the nearest known name. `specs/Explained` says when an explanation is true of bytes: it is of the very
+//! `explain` writes the message that explains a refusal to a sink. It stands on `ert_scenario`, which says which refusal
+//! bytes have, on `serde_json`, which reads them, on `strsim`, which finds the nearest known name, and on `ert_io`. `specs/Explained` says when an explanation is true of bytes: it is of the very
 //! refusal, its cause is what is wrong with the value at that place (`specs/FieldShapes`, `specs/FieldRanges`,
 //! `specs/OpShapes`, `specs/OpRanges`, `specs/Labels`, `specs/Excesses`), and its position lies in the bytes
 //! (`specs/Positions`). `specs/Messages` says which line tells an explanation.
@@ -32,17 +32,17 @@ mod place;
 mod position;
 mod scanner;
 mod shown;
+mod telling;
 mod value_kind;
 mod words;
 
 pub use cause::Cause;
 pub use excess::Excess;
 pub use expected::Expected;
-pub use explanation::{Explanation, explain};
+pub use explanation::Explanation;
 pub use field::Field;
 pub use field_range::FieldRange;
 pub use field_shape::FieldShape;
-pub use message::write_message;
 pub use near::Near;
 pub use op_name::OpName;
 pub use op_range::{Limits, OutOfRange};
@@ -50,3 +50,4 @@ pub use op_shape::OpShape;
 pub use param::{Param, Signature};
 pub use place::ListName;
 pub use position::Position;
+pub use telling::explain;

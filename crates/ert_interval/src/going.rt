@@ -55,7 +55,6 @@ fn is_armed(world: &mut World, interval: &Interval) -> bool
     ensures value { IsTrue result ↔ ((state world.new.settings world.new.history).status interval.now.last ≡ Some Armed) }
 {
     let left = world.read_timer(interval.last);
-    let _settings = world.settings();
     left.is_some()
 }
 
@@ -69,9 +68,7 @@ fn lives(world: &mut World, process: u32) -> bool
     ensures call { Goes world.old (By world.old (λ g. TellsAlive g (Caller 0) process result)) world.new }
     ensures value { (state world.new.settings world.new.history).exited process ≡ not result }
 {
-    let lives = world.is_alive(process);
-    let _settings = world.settings();
-    lives
+    world.is_alive(process)
 }
 
 /// Starts the next timer of an interval whose last isn't armed. Where no slot of the wheel is free the
@@ -95,7 +92,6 @@ fn start_next(world: &mut World, interval: &mut Interval, deadline: u64) -> Resu
     interval.firings.reserve(1)?;
     let start = start_for(deadline, world.settings(), interval.dest, interval.msg);
     let started = world.start(interval.wheel, &start);
-    let _settings = world.settings();
     let Ok(timer) = started else {
         interval.state = IntervalState::Waiting;
         return Ok(false);
@@ -123,7 +119,6 @@ pub(crate) fn stop(world: &mut World, interval: &mut Interval) -> Option<u64>
         return None;
     }
     let left = world.cancel_timer(interval.last);
-    let _settings = world.settings();
     interval.state = IntervalState::Stopped;
     left
 }

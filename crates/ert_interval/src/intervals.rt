@@ -36,7 +36,7 @@ impl IntervalWorld {
     ghost use Rattle.ert_interval.specs.Intervals.{AreKept};
     ghost use Rattle.ert_interval.specs.Calls.{FiringsAre, Every, Stops, StateIs};
     ghost use Rattle.ert_world.specs.Openings.{IsOpened};
-    ghost use Rattle.ert_world.specs.Worlds.{Goes, By};
+    ghost use Rattle.ert_world.specs.Worlds.{Goes, GoesOnClock, By};
 
     /// Opens a service, with no interval.
     pub fn open(alloc: Global, settings: &Settings) -> Result<IntervalWorld, NoMemory>
@@ -46,7 +46,6 @@ impl IntervalWorld {
         ensures kept { IfOk result (λ w. AreKept w.world w.intervals.items) }
     {
         let world = World::open(alloc, settings)?;
-        let _settings = world.settings();
         Ok(IntervalWorld {
             alloc,
             world,
@@ -90,7 +89,6 @@ impl IntervalWorld {
         }
         let start = start_at(first, dest, msg);
         let started = self.world.start(wheel, &start);
-        let _settings = self.world.settings();
         let Ok(last) = started else {
             return Err(IntervalErr::Full);
         };
@@ -142,13 +140,11 @@ impl IntervalWorld {
     /// Takes one reading of the OS clocks (`World::tick`).
     pub fn tick(&mut self, reading: Reading, force: bool) -> Result<Moved, ClockErr>
         requires kept { AreKept self.old.world self.old.intervals.items }
-        ensures call { Goes self.old.world (By self.old.world (λ g. Ticks g 0 reading force result)) self.new.world }
+        ensures call { GoesOnClock self.old.world (By self.old.world (λ g. Ticks g 0 reading force result)) self.new.world }
         ensures kept { AreKept self.new.world self.new.intervals.items }
         ensures same { self.new.intervals.items ≡ self.old.intervals.items }
     {
-        let moved = self.world.tick(reading, force);
-        let _settings = self.world.settings();
-        moved
+        self.world.tick(reading, force)
     }
 
     /// Lets a process exit (`World::exit`). The next turn ends the intervals that go to it.
@@ -159,9 +155,7 @@ impl IntervalWorld {
         ensures kept { AreKept self.new.world self.new.intervals.items }
         ensures same { self.new.intervals.items ≡ self.old.intervals.items }
     {
-        let exited = self.world.exit(process);
-        let _settings = self.world.settings();
-        exited
+        self.world.exit(process)
     }
 
     /// Takes the first message of a process (`World::take`).
@@ -172,8 +166,6 @@ impl IntervalWorld {
         ensures kept { AreKept self.new.world self.new.intervals.items }
         ensures same { self.new.intervals.items ≡ self.old.intervals.items }
     {
-        let taken = self.world.take(process);
-        let _settings = self.world.settings();
-        taken
+        self.world.take(process)
     }
 }

@@ -47,9 +47,7 @@ impl IntervalWorld {
         ensures kept { AreKept self.new.world self.new.intervals.items }
         ensures same { self.new.intervals.items ≡ self.old.intervals.items }
     {
-        let turned = self.world.turn(sched);
-        let _settings = self.world.settings();
-        turned
+        self.world.turn(sched)
     }
 
     /// Goes on with the intervals of a wheel, and answers how many started their next timer.

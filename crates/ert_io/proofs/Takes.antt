@@ -1,10 +1,13 @@
 -- What a sink tells after two texts, and whether a text fits.
 
-use Rattle.std.proofs.Common.{◌≡◌, ℕ, ◌+◌, ◌-◌, ◌<◌, ◌≤◌, List, [], ◌++◌, take, drop, length, length-append, Option, None, Some, refl, ap, sym, ◌∙◌, append-nil, append_assoc, arith}
+use Rattle.std.proofs.Common.{◌≡◌, ℕ, ◌+◌, ◌-◌, ◌<◌, List, [], ◌++◌, take, drop, length, length-append, Option, None, Some, refl, ap, sym, ◌∙◌, append-nil, append_assoc, arith}
 use Rattle.std.proofs.lemmas.List.{take-append-drop, length-take-le}
+use Rattle.std.specs.Prelude.{Result, Ok, Err, IfErr, OnOk}
 use Rattle.ert_io.proofs.Parts.{then-then}
 use Rattle.ert_io.specs.Known.{then, more_by, HasRoom}
 use Rattle.ert_io.specs.Told.{Told, told, took, room_after, TakesFront}
+use Rattle.ert_io.specs.Writing.{written_of}
+use Rattle.ert_io.specs.declared.writing.WriteErr.{WriteErr}
 
 -- a write appended a text, and its length came off the room
 pub took_is : (taken taken_new : Option (List ℕ)) (room room_new : Option ℕ) (text : List ℕ)
@@ -64,11 +67,6 @@ fits_after (Some r) a b fits =
     let long : length (a ++ b) ≡ length a + length b = length-append a b in
     omega arith
 
--- what fits, fits in less
-pub fits_in : (room : Option ℕ) (n m : ℕ) → m ≤ n → HasRoom room n → HasRoom room m
-fits_in None n m less fits = tt
-fits_in (Some r) n m less fits = omega arith
-
 -- what a sink took of a text and of what follows, after a text
 pub front_after : (old mid new : Told) (a b : List ℕ) → mid ≡ took old a → TakesFront mid new b → TakesFront old new (a ++ b)
 front_after old mid new a b e part = record {
@@ -86,3 +84,16 @@ front_of old new text rest whole is w = record {
   took = w.took;
   whole = sym (append_assoc w.front w.others rest) ∙ ap (λ (t : List ℕ). t ++ rest) w.whole ∙ is;
 }
+
+-- whatever `write_all` answers, a first part of the bytes was taken
+pub write_front : (r : Result (Unit {0}) WriteErr) (taken taken_new : Option (List ℕ)) (room room_new : Option ℕ) (text : List ℕ)
+    → OnOk r (taken_new ≡ then taken text) → OnOk r (room ≡ more_by (length text) room_new)
+    → IfErr r (λ e. taken_new ≡ then taken (take (written_of e) text)) → IfErr r (λ e. written_of e < length text)
+    → IfErr r (λ e. room ≡ more_by (written_of e) room_new) → TakesFront (told taken room) (told taken_new room_new) text
+write_front (Ok u) taken taken_new room room_new text all fits part less left = record {
+  front = text;
+  others = [];
+  took = took_is taken taken_new room room_new text all fits;
+  whole = append-nil text;
+}
+write_front (Err e) taken taken_new room room_new text all fits part less left = took_front taken taken_new room room_new text (written_of e) less part left

@@ -38,7 +38,7 @@ const PIECE: usize = 65_536;
 /// Reads all bytes that a source has left, if they are `limit` at most.
 ///
 /// Where they are more, it takes `limit + 1` of them and answers `TooLong`. Where a read fails it has taken
-/// `limit` at most. Where no memory is left it doesn't say how many it took.
+/// `limit` at most, and where no memory is left `limit + 1` at most.
 pub fn read_all<S: Source>(alloc: Global, source: &mut S, limit: usize) -> Result<Vec<u8>, ReadErr>
     ensures bytes { IfOk result (λ v. S.left source.old ≡ before v.items (S.left source.new)) }
     ensures end { OnOk result (IsAtEnd (S.left source.new)) }
@@ -46,6 +46,7 @@ pub fn read_all<S: Source>(alloc: Global, source: &mut S, limit: usize) -> Resul
     ensures too_long { IsErrOf result ReadErr.TooLong
         → (taken : List ℕ) × (length taken ≡ limit + 1) × (S.left source.old ≡ before taken (S.left source.new)) }
     ensures fault { IsErrOf result ReadErr.ReadFault → TakesUpTo limit (S.left source.old) (S.left source.new) }
+    ensures memory { IsErrOf result ReadErr.NoMemory → TakesUpTo (limit + 1) (S.left source.old) (S.left source.new) }
     ensures later { S.faults source.old ≤ S.faults source.new }
     ensures cause { IsErrOf result ReadErr.ReadFault → Rose (S.faults source.old) (S.faults source.new) }
 {
@@ -73,6 +74,7 @@ fn append_piece<S: Source>(
     ensures taken { OnOk result (before bytes.old.items (S.left source.old) ≡ before bytes.new.items (S.left source.new)) }
     ensures end { IfOk result (λ n. n ≡ 0 → IsAtEnd (S.left source.new)) }
     ensures not_long { OnErr result (result ≢ Err ReadErr.TooLong) }
+    ensures lost { IsErrOf result ReadErr.NoMemory → TakesUpTo (length space.old) (S.left source.old) (S.left source.new) }
     ensures fault { IsErrOf result ReadErr.ReadFault → bytes.new ≡ bytes.old }
     ensures kept { IsErrOf result ReadErr.ReadFault → S.left source.new ≡ S.left source.old }
     ensures later { S.faults source.old ≤ S.faults source.new }

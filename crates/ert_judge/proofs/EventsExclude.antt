@@ -5,7 +5,7 @@ use Rattle.std.proofs.lemmas.Bool.{cases_Bool, le-leb}
 use Rattle.ert_defs.proofs.Slots.{same_timer-true}
 use Rattle.ert_defs.specs.Clocks.{face}
 use Rattle.ert_defs.specs.Legal.{Known, Found, Can, CanTick, CanArm, CanAnswer, IsNext, IsFirst, HasExited, IsResult, AllSettled, names_timer, left_of, stands_in}
-use Rattle.ert_defs.specs.Lines.{Face, Due, MayAct, IsInRange}
+use Rattle.ert_defs.specs.Lines.{Face, Due, IsInRange}
 use Rattle.ert_defs.specs.Mails.{MailState, SchedState, first_of}
 use Rattle.ert_defs.specs.Milliseconds.{down, deadline_of}
 use Rattle.ert_defs.specs.States.{State}
@@ -25,7 +25,7 @@ use Rattle.ert_defs.specs.declared.timer.Start.{Start}
 use Rattle.ert_defs.specs.declared.timer.Status.{Status}
 use Rattle.ert_defs.specs.declared.timer.Status.TheVariants.{Armed}
 use Rattle.ert_defs.specs.declared.timer.TimerRef.{TimerRef}
-use Rattle.ert_judge.specs.Breaks.{Differs, IsBehind, IsInHand, last_status_of, UseBreaks, TickBreaks, ShiftBreaks, LookBreaks, OffBreaks, ArmBreaks, ProbeBreaks, LeftBreaks, ExpireBreaks, OrphanBreaks, DeliverBreaks, DropBreaks, MarkBreaks, AdvancedBreaks, PickBreaks, AnswerBreaks, TakeBreaks, UnwatchBreaks, WatchBreaks, TellBreaks, Breaks}
+use Rattle.ert_judge.specs.Breaks.{Differs, IsBehind, IsAnswered, last_status_of, UseBreaks, TickBreaks, ShiftBreaks, LookBreaks, OffBreaks, ArmBreaks, ProbeBreaks, LeftBreaks, ExpireBreaks, OrphanBreaks, DeliverBreaks, DropBreaks, MarkBreaks, AdvancedBreaks, PickBreaks, AnswerBreaks, TakeBreaks, UnwatchBreaks, WatchBreaks, TellBreaks, Breaks}
 use Rattle.ert_judge.specs.Reasons.{Holds}
 use Rattle.ert_judge.specs.Reasons.Holds.{out_of_range, breaks, other}
 use Rattle.ert_judge.specs.declared.reasons.Reason.{Reason}
@@ -55,11 +55,10 @@ too_many count n is high low = omega arith
 tick_excludes : (g : Settings) (f : Face) (due : Option Due) (r : Reading) (act : Act) (now : ℤ) (reason : Reason)
     → TickBreaks g f due r act now reason → due ≡ None → CanTick g f r act now → ⊥
 tick_excludes g f due r act now (ShiftFirst offset state) h none can = none_is_some (offset, state) due none h
-tick_excludes g f due r act now BadReading h none can = h can.valid
-tick_excludes g f due r act now (NotPreliminary state) h none can =
-    h.2 (h.1 ∙ subst (λ (a : Act). MayAct a f.state) h.0 can.may)
-tick_excludes g f due r act now (OtherTick time) h none can = differs_not now time _ h can.told
-tick_excludes g f due r act now (OffsetPast offset state) h none can = h.1 (subst IsInRange h.0 can.in_range)
+tick_excludes g f due r act now BadReading h none can = h.1 can.valid
+tick_excludes g f due r act now (NotPreliminary state) h none can = h.3 can.may
+tick_excludes g f due r act now (OtherTick time) h none can = differs_not now time _ h.3 can.told
+tick_excludes g f due r act now (OffsetPast offset state) h none can = h.5 (subst IsInRange h.4 can.in_range)
 tick_excludes g f due r act now _ h none can = absurd h
 
 shift_excludes : (due : Option Due) (offset : ℤ) (state : OffsetState) (reason : Reason)
@@ -74,7 +73,7 @@ look_excludes now told _ h found = absurd h
 off_excludes : (offset : ℤ) (state : OffsetState) (told : ℤ) (told_state : OffsetState) (reason : Reason)
     → OffBreaks offset state told told_state reason → told ≡ offset → told_state ≡ state → ⊥
 off_excludes offset state told told_state (OtherOffset is) h same same_state = differs_not told is offset h same
-off_excludes offset state told told_state (OtherState is) h same same_state = differs_not told_state is state h same_state
+off_excludes offset state told told_state (OtherState is) h same same_state = differs_not told_state is state h.1 same_state
 off_excludes offset state told told_state _ h same same_state = absurd h
 
 -- in the first round each start has one next generation, and in a later one those for one deadline have
@@ -92,9 +91,9 @@ use_excludes u now deadline told (Rests until) h wanted due next =
 use_excludes u now deadline told (OtherGeneration another) h wanted due next =
     h.differs (next.counts ∙ sym (h.value ∙ next_same u now h.wanted wanted (elim h.due [
       | inl first ↦ inl first
-      | inr has ↦ inr (some_same deadline h.wanted wanted has due)
+      | inr has ↦ inr (some_same deadline h.wanted wanted has.0 due)
     ])))
-use_excludes u now deadline told NoDeadline h wanted due next = too_far _ 8796093022207 (h wanted due) next.within
+use_excludes u now deadline told NoDeadline h wanted due next = too_far _ 8796093022207 (h.past wanted due) next.within
 use_excludes u now deadline told _ h wanted due next = absurd h
 
 arm_excludes : (g : Settings) (s : State) (by : Actor) (timer : TimerRef) (start : Start) (reason : Reason)
@@ -102,12 +101,12 @@ arm_excludes : (g : Settings) (s : State) (by : Actor) (timer : TimerRef) (start
 arm_excludes g s by timer start (SlotTaken status) h can =
     true_is_false (is_taken (last_status_of s timer.wheel timer.slot)) (ap is_taken h.0 ∙ h.1) can.free
 arm_excludes g s by timer start WheelUsed h can =
-    too_far (length (s.rows timer.wheel)) (length (s.rows timer.wheel)) (omega (arith, h, can.few)) (omega arith)
-arm_excludes g s by timer start (Rests until) h can = use_excludes _ _ _ _ (Rests until) h can.wanted can.due can.next_use
+    too_far (length (s.rows timer.wheel)) (length (s.rows timer.wheel)) (omega (arith, h.2, can.few)) (omega arith)
+arm_excludes g s by timer start (Rests until) h can = use_excludes _ _ _ _ (Rests until) h.1 can.wanted can.due can.next_use
 arm_excludes g s by timer start (OtherGeneration next) h can =
-    use_excludes _ _ _ _ (OtherGeneration next) h can.wanted can.due can.next_use
-arm_excludes g s by timer start NoDeadline h can = use_excludes _ _ _ _ NoDeadline h can.wanted can.due can.next_use
-arm_excludes g s by timer start _ h can = absurd h
+    use_excludes _ _ _ _ (OtherGeneration next) h.1 can.wanted can.due can.next_use
+arm_excludes g s by timer start NoDeadline h can = use_excludes _ _ _ _ NoDeadline h.1 can.wanted can.due can.next_use
+arm_excludes g s by timer start _ h can = absurd h.1
 
 probe_excludes : (s : State) (wheel slot : ℕ) (found : Option Status) (reason : Reason)
     → ProbeBreaks s wheel slot found reason → found ≡ last_status_of s wheel slot → ⊥
@@ -123,8 +122,8 @@ expire_excludes : (g : Settings) (s : State) (by : Actor) (timer : TimerRef) (re
     → ExpireBreaks g s by timer reason → IsNext g s by timer → s.status timer ≡ Some Armed → ⊥
 expire_excludes g s by timer (NotArmed status) h is found = h.1 (h.0 ∙ found)
 expire_excludes g s by timer (NotDue scheduler deadline looked) h is found = h.never is
-expire_excludes g s by timer (Later first deadline) h is found = h.never is
-expire_excludes g s by timer NotNext h is found = h is
+expire_excludes g s by timer (Later first deadline) h is found = h.kept.never is
+expire_excludes g s by timer NotNext h is found = h.kept.never is
 expire_excludes g s by timer _ h is found = absurd h
 
 -- the destinations of one row are one
@@ -137,8 +136,8 @@ orphan_excludes : (s : State) (timer : TimerRef) (reason : Reason) → OrphanBre
     → s.status timer ≡ Some Armed → ⊥
 orphan_excludes s timer (NotArmed status) h is found = h.1 (h.0 ∙ found)
 orphan_excludes s timer (NotExited dest) h is found =
-    stays_alive s.exited h.0.row is.row dest
-    (some_same (row_of (s.rows timer.wheel) timer) h.0.row is.row h.0.stands is.stands) h.0.to h.1 is.exited
+    stays_alive s.exited h.1.row is.row dest
+    (some_same (row_of (s.rows timer.wheel) timer) h.1.row is.row h.1.stands is.stands) h.1.to h.2 is.exited
 orphan_excludes s timer _ h is found = absurd h
 
 none_waits : (fired : List Row) (timer : TimerRef) → first_of fired ≡ None → IsFirst fired timer → ⊥
@@ -170,7 +169,7 @@ mark_excludes exited was (OtherExit is) h same = differs_not was is exited h sam
 mark_excludes exited was _ h same = absurd h
 
 -- where all are settled, so is the timer of a row
-settled_row : (status : TimerRef → Option Status) (test : ℕ → Bool) (rows : List Row) (timer : TimerRef) (row : Row)
+pub settled_row : (status : TimerRef → Option Status) (test : ℕ → Bool) (rows : List Row) (timer : TimerRef) (row : Row)
     → AllSettled status test rows → row_of rows timer ≡ Some row → test row.deadline ≡ true → status timer ≢ Some Armed
 settled_row status test [] timer row all is passes = absurd cc
 settled_row status test (r ∷ rows) timer row all is passes = elim (cases_Bool (same_timer r.timer timer)) [
@@ -188,20 +187,21 @@ advanced_excludes : (g : Settings) (s : State) (by : Actor) (wheel to : ℕ) (re
     → AllSettled s.status (λ d. nat_le d to) (s.rows wheel) → ⊥
 advanced_excludes g s by wheel to (OtherMilliseconds looked) h same all = differs_not (pos to) looked _ h same
 advanced_excludes g s by wheel to (StillArmed timer deadline) h same all =
-    settled_row s.status (λ d. nat_le d to) (s.rows wheel) timer h.0.row all h.0.stands
-    (le-leb h.0.row.deadline to (subst (λ n. n ≤ to) h.0.till h.1)) h.0.armed
+    let armed = h.1.till in
+    settled_row s.status (λ d. nat_le d to) (s.rows wheel) timer armed.row all armed.stands
+    (le-leb armed.row.deadline to (subst (λ n. n ≤ to) armed.till h.2)) armed.armed
 advanced_excludes g s by wheel to _ h same all = absurd h
 
 pick_excludes : (sched : SchedState) (inbox : List Request) (got : Option Request) (reason : Reason)
     → PickBreaks sched inbox got reason → sched.hand ≡ None → got ≡ first_of inbox → ⊥
 pick_excludes sched inbox got (HandFull request) h empty same = none_is_some request sched.hand empty h
-pick_excludes sched inbox got (OtherRequest first) h empty same = differs_not got first _ h same
+pick_excludes sched inbox got (OtherRequest first) h empty same = differs_not got first _ h.1 same
 pick_excludes sched inbox got _ h empty same = absurd h
 
 -- what an answer says of the request in the hand
-result_in_hand : (g : Settings) (sched : SchedState) (names : Bool) (request : Request) (left : Option ℕ) → IsInHand g sched names
+result_in_hand : (g : Settings) (sched : SchedState) (with : Option Actor) (names : Bool) (request : Request) (left : Option ℕ) → IsAnswered g sched with names
     → sched.hand ≡ Some request → IsResult (names_timer g request.timer) sched.result left → IsResult names sched.result left
-result_in_hand g sched names request left is hand result =
+result_in_hand g sched with names request left is hand result =
     let same : request ≡ is.request = some_same sched.hand request is.request hand is.hand in
     subst (λ (b : Bool). IsResult b sched.result left)
     (ap (λ (q : Request). names_timer g q.timer) same ∙ is.test) result
@@ -213,9 +213,9 @@ answer_excludes g s with wheel left (OtherAsker process) h can =
     h.1 (can.asker ∙ ap (λ (n : ℕ). Some (MailOf n)) (sym (h.0.asker
     ∙ ap (λ (q : Request). q.reply_to) (some_same (s.scheds wheel).hand h.0.request can.request h.0.hand can.hand))))
 answer_excludes g s with wheel left (OtherOutcome outcome) h can =
-    h.2 (h.1 ∙ result_in_hand g (s.scheds wheel) true can.request left h.0 can.hand can.result)
+    h.2 (h.1 ∙ result_in_hand g (s.scheds wheel) with true can.request left h.0 can.hand can.result)
 answer_excludes g s with wheel left NothingLeft h can =
-    h.1 (result_in_hand g (s.scheds wheel) false can.request left h.0 can.hand can.result)
+    h.1 (result_in_hand g (s.scheds wheel) with false can.request left h.0 can.hand can.result)
 answer_excludes g s with wheel left _ h can = absurd h
 
 take_excludes : (queue : List Mail) (got : Option Mail) (reason : Reason) → TakeBreaks queue got reason → got ≡ first_of queue → ⊥
@@ -230,8 +230,8 @@ unwatch_excludes mail monitor was _ h same = absurd h
 watch_excludes : (offset : ℤ) (mail : MailState) (monitor : ℕ) (told : ℤ) (reason : Reason)
     → WatchBreaks offset mail monitor told reason → monitor ≡ mail.next → length mail.monitors < 64 → told ≡ offset → ⊥
 watch_excludes offset mail monitor told (OtherNumber next) h number few same = differs_not monitor next _ h number
-watch_excludes offset mail monitor told (TooMany count) h number few same = too_many count (length mail.monitors) h.0 h.1 few
-watch_excludes offset mail monitor told (OtherOffset is) h number few same = differs_not told is _ h same
+watch_excludes offset mail monitor told (TooMany count) h number few same = too_many count (length mail.monitors) h.1 h.2 few
+watch_excludes offset mail monitor told (OtherOffset is) h number few same = differs_not told is _ h.2 same
 watch_excludes offset mail monitor told _ h number few same = absurd h
 
 tell_excludes : (offset told : ℤ) (reason : Reason) → TellBreaks offset told reason → told ≡ offset → ⊥
@@ -273,5 +273,5 @@ event_excludes g s by with (Tell process offset) r h known found = tell_excludes
 -- a reason that holds excludes the entry
 pub excludes : (g : Settings) (s : State) (e : Entry) (r : Reason) → Holds g s e r → Can g s e → ⊥
 excludes g s e r (out_of_range h) can = range_excludes g e r h can.keeps
-excludes g s e r (breaks h) can = event_excludes g s e.by e.with e.event r h can.known can.found
-excludes g s e r (other is never) can = never can
+excludes g s e r (breaks in_range h) can = event_excludes g s e.by e.with e.event r h can.known can.found
+excludes g s e r (other is in_range known found never) can = never can

@@ -15,7 +15,7 @@ use Rattle.ert_state.proofs.WheelLaws.{own_shown}
 use Rattle.ert_judge.proofs.WheelTests.{settled_all, first_is_next}
 
 -- each timer of a wheel has its own status in the state
-shown_all : (j : Judge) (w : ℕ) → OwnTimers j → AreShown (status_at j.timers) (timers_at j.timers w)
+pub shown_all : (j : Judge) (w : ℕ) → OwnTimers j → AreShown (status_at j.timers) (timers_at j.timers w)
 shown_all j w own =
     own_shown w (timers_at j.timers w) (status_at j.timers) (λ r same. status_where j r w same) (own w)
   where

@@ -1,7 +1,9 @@
 mod CellLaws
 mod EventsExclude
 mod Finds
+mod FirstArmed
 mod Goes
+mod Highs
 mod Knows
 mod Makers
 mod NewTimers

@@ -1,6 +1,6 @@
 -- What a judge knows of a timer that a legal entry arms: its slot is free for it, and it is a new use of that.
 
-use Rattle.std.proofs.Common.{◌≡◌, ◌↔◌, ◌∙◌, refl, sym, ap, subst, ℕ, ◌<◌, Bool, true, List, length, Option, Some, None, eq-eqb}
+use Rattle.std.proofs.Common.{◌≡◌, ◌↔◌, ◌∙◌, refl, sym, ap, subst, ℕ, ◌<◌, Bool, true, false, List, length, Option, Some, None, eq-eqb}
 use Rattle.std.proofs.lemmas.List.{length-map}
 use Rattle.std.proofs.lemmas.List.Elements.{All-get_or}
 use Rattle.std.proofs.lemmas.Option.{slice_get_within, get_or_from_slice_get}
@@ -12,7 +12,7 @@ use Rattle.ert_defs.specs.Clocks.{Clock}
 use Rattle.ert_defs.specs.Legal.{Can, CanArm, Known}
 use Rattle.ert_defs.specs.Milliseconds.{natural, down, deadline_of}
 use Rattle.ert_defs.specs.States.{State, state}
-use Rattle.ert_defs.specs.Timers.{same_timer}
+use Rattle.ert_defs.specs.Timers.{Uses, IsNextUse, is_taken, same_timer}
 use Rattle.ert_defs.specs.declared.entry.Actor.{Actor}
 use Rattle.ert_defs.specs.declared.entry.Entry.{Entry}
 use Rattle.ert_defs.specs.declared.entry.Event.{Event}
@@ -20,10 +20,11 @@ use Rattle.ert_defs.specs.declared.entry.Event.TheVariants.{Arm}
 use Rattle.ert_defs.specs.declared.settings.Settings.{Settings}
 use Rattle.ert_defs.specs.declared.timer.TimerRef.{TimerRef}
 use Rattle.ert_state.specs.Parts.{looks_in, look_of}
-use Rattle.ert_state.specs.Uses.{IsNewUse}
+use Rattle.ert_state.specs.Uses.{uses_in, IsNewUse}
 use Rattle.ert_state.specs.Wheels.{timers_at, rows_of, status_in, IsOwnOf, IsOwn}
 use Rattle.ert_state.specs.declared.wheels.Timer.{Timer}
-use Rattle.ert_judge.specs.Shown.{shown, IsFreeFor, StandsFor}
+use Rattle.ert_judge.specs.Breaks.{IsUse}
+use Rattle.ert_judge.specs.Shown.{shown, last_status, IsFreeFor, StandsFor}
 use Rattle.ert_judge.specs.declared.judge.Judge.{Judge}
 use Rattle.ert_judge.proofs.TimerLaws.{ArmsNext}
 
@@ -52,6 +53,24 @@ free_known c j by timer deadline wanted b due is =
   where
     some_same : (m n : ℕ) → Some m ≡ Some n → m ≡ n
     some_same m n e = cc
+
+-- a timer of which the use is the next of a free slot can be armed
+pub use_known : (c : Clock) (j : Judge) (by : Actor) (timer : TimerRef) (deadline : Option ℕ) (u : Uses) (now count : ℕ)
+    → is_taken (last_status j timer.wheel timer.slot) ≡ false → u ≡ uses_in (timers_at j.timers timer.wheel) timer.slot
+    → now ≡ natural (down j.settings (look_of (looks_in j.looks) by)) → IsUse u now deadline timer.generation
+    → count ≡ length (timers_at j.timers timer.wheel) → count < 9007199254740992
+    → CanArm j.settings (shown c j) by timer deadline
+use_known c j by timer deadline u now count free uses look is counts few =
+    let ts : List Timer = timers_at j.timers timer.wheel in
+    let all : length (rows_of ts) ≡ length ts = length-map ts (λ (t : Timer). t.row) in
+    record {
+      free = free;
+      wanted = is.wanted;
+      due = is.due;
+      next_use = subst (λ (v : Uses). IsNextUse v (natural (down j.settings (look_of (looks_in j.looks) by))) is.wanted timer.generation)
+          uses (subst (λ n. IsNextUse u n is.wanted timer.generation) look is.next_use);
+      few = subst (λ n. n < 9007199254740992) (counts ∙ sym all) few;
+    }
 
 -- a reference without a status in its wheel is a new use of its slot
 own_new : (w : ℕ) (ts : List Timer) (r : TimerRef) → IsOwn w ts → r.wheel ≡ w → status_in ts r ≡ None

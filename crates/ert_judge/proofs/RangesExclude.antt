@@ -9,8 +9,9 @@ use Rattle.ert_defs.specs.declared.entry.Entry.{Entry}
 use Rattle.ert_defs.specs.declared.entry.Event.{Event}
 use Rattle.ert_defs.specs.declared.entry.Event.TheVariants.{Tick, Shift, Look, Off, Arm, Probe, Peek, Cancel, Expire, Orphan, Deliver, Drop, Mark, Advanced, Ask, Pick, Answer, Take, Unwatch, Watch, Tell}
 use Rattle.ert_defs.specs.declared.settings.Settings.{Settings}
+use Rattle.ert_judge.proofs.Highs.{Names, first_named}
 use Rattle.ert_judge.proofs.Makers.{IsPartner, made}
-use Rattle.ert_judge.specs.Ranges.{maker_of, partner_of, reads_with, wheel_of, slot_of, process_of, count_of, IsMadeBy, IsMadeWith, Names}
+use Rattle.ert_judge.specs.Ranges.{maker_of, partner_of, reads_with, wheel_of, slot_of, process_of, count_of, IsMadeBy, IsMadeWith}
 use Rattle.ert_judge.specs.Reasons.{IsOutOfRange}
 use Rattle.ert_judge.specs.declared.reasons.Counted.{Counted}
 use Rattle.ert_judge.specs.declared.reasons.Counted.TheVariants.{Callers, Schedulers, Processes, Slots}
@@ -198,7 +199,8 @@ pub range_excludes : (g : Settings) (e : Entry) (r : Reason) → IsOutOfRange g 
 range_excludes g e (NotBy maker) h k =
     h.1 (subst (λ (m : Maker). IsMadeBy m e.by) (sym h.0) (keeps_maker g e.by e.with e.event k))
 range_excludes g e (NotWith partner) h k =
-    h.1 (subst (λ (p : Partner). IsMadeWith p e.with) (sym h.0) (keeps_partner g e.by e.with e.event k))
+    h.2 (subst (λ (p : Partner). IsMadeWith p e.with) (sym h.1) (keeps_partner g e.by e.with e.event k))
 range_excludes g e (TooHigh thing n count) h k =
-    too_high n count (count_of g thing) h.counted h.high (names_below g e thing n k h.names)
+    let first = first_named g e thing n count h.2 in
+    too_high n count (count_of g thing) first.counted first.high (names_below g e thing n k first.names)
 range_excludes g e _ h k = absurd h

@@ -1,10 +1,10 @@
 -- What a judge sees of its own parts is what the model's state says.
 
-use Rattle.std.proofs.Common.{◌≡◌, ℕ, ℤ, refl, sym, ap, ◌∙◌, subst, Bool, false, true, List, Option}
-use Rattle.std.specs.Prelude.{◌↔◌, IsTrue, IfSome}
+use Rattle.std.proofs.Common.{◌≡◌, ℕ, ℤ, refl, sym, ap, ◌∙◌, subst, Bool, false, true, List, Option, Some, None}
+use Rattle.std.specs.Prelude.{◌↔◌, IsTrue, IfSome, IfNone}
 use Rattle.ert_clock.specs.Faces.{face_of}
 use Rattle.ert_defs.specs.Clocks.{Clock, face}
-use Rattle.ert_defs.specs.Legal.{Can, IsNext}
+use Rattle.ert_defs.specs.Legal.{Can, CanTick, Known, Found, IsNext}
 use Rattle.ert_defs.specs.Lines.{Face, Due}
 use Rattle.ert_defs.specs.Mails.{MailState}
 use Rattle.ert_defs.specs.Milliseconds.{down}
@@ -20,6 +20,7 @@ use Rattle.ert_judge.proofs.Knows.{next_known}
 use Rattle.ert_judge.specs.Shown.{ClockIs, OwnTimers, StandsFor, shown}
 use Rattle.ert_judge.specs.declared.judge.Judge.{Judge}
 use Rattle.ert_judge.specs.Breaks.{Breaks, TickBreaks, ShiftBreaks, LookBreaks, OffBreaks, WatchBreaks, TellBreaks}
+use Rattle.ert_judge.specs.Ranges.{MayBeInRange}
 use Rattle.ert_judge.specs.Reasons.{Holds, IsOutOfRange}
 use Rattle.ert_judge.specs.Reasons.Holds.{out_of_range, breaks, other}
 use Rattle.ert_judge.specs.declared.reasons.Reason.{Reason}
@@ -74,14 +75,15 @@ tell_seen g c k told o is h =
     subst (λ (z : ℤ). IfSome o (TellBreaks z told)) (sym (ap (λ (f : Face). f.offset) is.face)) h
 
 -- what a judge sees broken is broken in the state that it stands for
-pub broken_in : (g : Settings) (h : List Entry) (j : Judge) (e : Entry) (r : Reason)
+pub broken_in : (g : Settings) (h : List Entry) (j : Judge) (e : Entry) (r : Reason) → MayBeInRange j.settings e
     → ((c : Clock) → ClockIs j.settings c j.clock → OwnTimers j → Breaks j.settings (shown c j) e.by e.with e.event r)
     → StandsFor g h j → Holds g (state g h) e r
-broken_in g h j e r is stands =
+broken_in g h j e r in_range is stands =
     let clock : ClockIs j.settings (state g h).clock j.clock =
     subst (λ (x : Settings). ClockIs x (state g h).clock j.clock) (sym stands.settings) stands.clock in
     let here : Breaks j.settings (shown (state g h).clock j) e.by e.with e.event r = is (state g h).clock clock stands.own in
-    breaks (subst (λ (s : State). Breaks g s e.by e.with e.event r) (sym stands.kept)
+    breaks (subst (λ (x : Settings). MayBeInRange x e) stands.settings in_range)
+    (subst (λ (s : State). Breaks g s e.by e.with e.event r) (sym stands.kept)
     (subst (λ (x : Settings). Breaks x (shown (state g h).clock j) e.by e.with e.event r) stands.settings here))
 
 -- an entry that isn't in range isn't in that state either
@@ -89,9 +91,35 @@ pub outside : (g : Settings) (h : List Entry) (j : Judge) (e : Entry) (r : Reaso
     → StandsFor g h j → Holds g (state g h) e r
 outside g h j e r is stands = out_of_range (subst (λ (x : Settings). IsOutOfRange x e r) stands.settings is)
 
+-- what a judge sees met is met in that state
+met_in : (g : Settings) (h : List Entry) (j : Judge) (e : Entry)
+    → ((c : Clock) → ClockIs j.settings c j.clock → OwnTimers j
+    → Known j.settings (shown c j) e.by e.with e.event × Found j.settings (shown c j) e.by e.event)
+    → StandsFor g h j → Known g (state g h) e.by e.with e.event × Found g (state g h) e.by e.event
+met_in g h j e met stands =
+    let clock : ClockIs j.settings (state g h).clock j.clock =
+    subst (λ (x : Settings). ClockIs x (state g h).clock j.clock) (sym stands.settings) stands.clock in
+    subst (λ (s : State). Known g s e.by e.with e.event × Found g s e.by e.event) (sym stands.kept)
+    (subst (λ (x : Settings). Known x (shown (state g h).clock j) e.by e.with e.event × Found x (shown (state g h).clock j) e.by e.event)
+    stands.settings (met (state g h).clock clock stands.own))
+
 -- an entry that can't follow, where no more is said
-pub refused : (g : Settings) (h : List Entry) (e : Entry) → (Can g (state g h) e → ⊥) → Holds g (state g h) e Other
-refused g h e never = other refl never
+pub refused : (g : Settings) (h : List Entry) (j : Judge) (e : Entry) → MayBeInRange j.settings e
+    → ((c : Clock) → ClockIs j.settings c j.clock → OwnTimers j
+    → Known j.settings (shown c j) e.by e.with e.event × Found j.settings (shown c j) e.by e.event)
+    → StandsFor g h j → (Can g (state g h) e → ⊥) → Holds g (state g h) e Other
+refused g h j e in_range met stands never =
+    let all = met_in g h j e met stands in
+    other refl (subst (λ (x : Settings). MayBeInRange x e) stands.settings in_range) all.0 all.1 never
+
+-- where no reason is told, what follows from that
+pub none_map : {P Q : Type 0} (o : Option Reason) → (P → Q) → IfNone o P → IfNone o Q
+none_map None f p = f p
+none_map (Some r) f p = tt
+
+pub tick_met : (g : Settings) (c : Clock) (k : KeptClock) (r : Reading) (act : Act) (now : ℤ) → ClockIs g c k
+    → (k.due ≡ None) × CanTick g (face_of k.face) r act now → (c.due ≡ None) × CanTick g (face g c) r act now
+tick_met g c k r act now is h = (is.due ∙ h.0, subst (λ (f : Face). CanTick g f r act now) (sym is.face) h.1)
 
 -- a judge that refuses an entry tells that it can't follow
 pub not_can : (j : Judge) (e : Entry) (b : Bool)

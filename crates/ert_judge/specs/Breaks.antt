@@ -1,17 +1,17 @@
--- Which condition of its event an entry breaks: for each event the reasons that there can be, and what each
--- says of the state before the entry. A reason of another event says what never holds.
+-- Which condition of its event an entry breaks: for each event the reasons that there can be, in the order in which
+-- they are looked for, and what each says of the state before the entry. Each says also that none before it holds.
+-- A reason of another event says what never holds.
 
-use Rattle.std.specs.Prelude.{◌≡◌, ◌≢◌, ◌⊎◌, ℕ, ℤ, pos, ◌+◌, ◌<◌, ◌≤◌, ◌<ℤ◌, Bool, true, false, List, length, Option, Some, None}
+use Rattle.std.specs.Prelude.{◌≡◌, ◌≢◌, ◌⊎◌, ℕ, ℤ, pos, ◌+◌, ◌<◌, ◌≤◌, ◌<ℤ◌, ◌≤ℤ◌, nat_lt, Bool, true, false, List, length, Option, Some, None}
 use Rattle.ert_defs.specs.Clocks.{face}
-use Rattle.ert_defs.specs.Legal.{IsNext, stands_in, names_timer, left_of}
-use Rattle.ert_defs.specs.Lines.{Face, Due, IsOffset, time_after, due_after}
+use Rattle.ert_defs.specs.Legal.{IsNext, AllSettled, stands_in, names_timer, left_of}
+use Rattle.ert_defs.specs.Lines.{Face, Due, IsOffset, MayAct, time_after, due_after}
 use Rattle.ert_defs.specs.Mails.{MailState, SchedState, first_of}
 use Rattle.ert_defs.specs.Milliseconds.{natural, down, deadline_of}
 use Rattle.ert_defs.specs.Readings.{IsValid}
 use Rattle.ert_defs.specs.States.{State, uses_at}
-use Rattle.ert_defs.specs.Timers.{Row, Uses, use_of, turned, deadline_in, generation_in, row_of, is_taken, timer_at}
+use Rattle.ert_defs.specs.Timers.{Row, Uses, IsNextUse, use_of, turned, deadline_in, generation_in, row_of, is_taken, timer_at}
 use Rattle.ert_defs.specs.declared.entry.Act.{Act}
-use Rattle.ert_defs.specs.declared.entry.Act.TheVariants.{Finalize}
 use Rattle.ert_defs.specs.declared.entry.Actor.{Actor}
 use Rattle.ert_defs.specs.declared.entry.Actor.TheVariants.{MailOf}
 use Rattle.ert_defs.specs.declared.entry.Event.{Event}
@@ -19,7 +19,6 @@ use Rattle.ert_defs.specs.declared.entry.Event.TheVariants.{Tick, Shift, Look, O
 use Rattle.ert_defs.specs.declared.mail.Mail.{Mail}
 use Rattle.ert_defs.specs.declared.mail.Request.{Request}
 use Rattle.ert_defs.specs.declared.settings.OffsetState.{OffsetState}
-use Rattle.ert_defs.specs.declared.settings.OffsetState.TheVariants.{Preliminary}
 use Rattle.ert_defs.specs.declared.settings.Reading.{Reading}
 use Rattle.ert_defs.specs.declared.settings.Settings.{Settings}
 use Rattle.ert_defs.specs.declared.timer.Start.{Start}
@@ -41,7 +40,12 @@ pub record IsArmedTill (s : State) (wheel : ℕ) (timer : TimerRef) (deadline : 
   pub armed : s.status timer ≡ Some Armed
   pub till : deadline ≡ row.deadline
 
--- a timer isn't the next of its wheel: its deadline is later than the last look of its scheduler
+-- it is the first of the armed ones of its wheel: none is armed with an earlier deadline
+pub record IsFirstArmed (s : State) (wheel : ℕ) (timer : TimerRef) (deadline : ℕ) : Type 0 where
+  pub till : IsArmedTill s wheel timer deadline
+  pub least : AllSettled s.status (λ d. nat_lt d deadline) (s.rows wheel)
+
+-- a timer is armed, and its deadline is later than the last look of its scheduler
 pub record IsEarly (g : Settings) (s : State) (by : Actor) (timer : TimerRef) (scheduler deadline : ℕ) (looked : ℤ) : Type 0 where
   pub its : scheduler ≡ timer.wheel
   pub armed : IsArmedTill s timer.wheel timer deadline
@@ -49,13 +53,26 @@ pub record IsEarly (g : Settings) (s : State) (by : Actor) (timer : TimerRef) (s
   pub early : looked <ℤ pos deadline
   pub never : IsNext g s by timer → ⊥
 
--- another timer of the wheel is armed with an earlier deadline
-pub record IsLater (g : Settings) (s : State) (by : Actor) (timer first : TimerRef) (deadline : ℕ) : Type 0 where
-  pub row : Row
-  pub stands : row_of (s.rows timer.wheel) timer ≡ Some row
-  pub before : IsArmedTill s timer.wheel first deadline
-  pub sooner : deadline < row.deadline
+-- a timer is armed and due by the last look of its scheduler, and isn't the next of its wheel
+pub record IsKeptBack (g : Settings) (s : State) (by : Actor) (timer : TimerRef) (deadline : ℕ) : Type 0 where
+  pub armed : IsArmedTill s timer.wheel timer deadline
+  pub due : pos deadline ≤ℤ down g (s.looked by)
   pub never : IsNext g s by timer → ⊥
+
+-- so is one where the first that is armed has an earlier deadline
+pub record IsLater (g : Settings) (s : State) (by : Actor) (timer first : TimerRef) (deadline : ℕ) : Type 0 where
+  pub own : ℕ
+  pub kept : IsKeptBack g s by timer own
+  pub before : IsFirstArmed s timer.wheel first deadline
+  pub sooner : deadline < own
+
+-- and one where that is another with the same deadline
+pub record IsSecond (g : Settings) (s : State) (by : Actor) (timer : TimerRef) : Type 0 where
+  pub own : ℕ
+  pub kept : IsKeptBack g s by timer own
+  pub first : TimerRef
+  pub before : IsFirstArmed s timer.wheel first own
+  pub other : first ≢ timer
 
 -- the row of a timer stands, and goes to a process
 pub record GoesTo (s : State) (timer : TimerRef) (dest : ℕ) : Type 0 where
@@ -70,10 +87,11 @@ pub record IsBehind (fired : List Row) (first timer : TimerRef) : Type 0 where
   pub named : first ≡ row.timer
   pub other : first ≢ timer
 
--- the first of them goes to a process
-pub record FirstGoesTo (fired : List Row) (dest : ℕ) : Type 0 where
+-- a timer is the first of them, and goes to a process
+pub record FirstGoesTo (fired : List Row) (timer : TimerRef) (dest : ℕ) : Type 0 where
   pub row : Row
   pub waits : first_of fired ≡ Some row
+  pub named : row.timer ≡ timer
   pub to : dest ≡ row.dest
 
 -- the request in the hand is asked for a process
@@ -82,19 +100,25 @@ pub record IsAskedFor (sched : SchedState) (process : ℕ) : Type 0 where
   pub hand : sched.hand ≡ Some request
   pub asker : process ≡ request.reply_to
 
--- the request in the hand names a timer or not, by its numbers
-pub record IsInHand (g : Settings) (sched : SchedState) (names : Bool) : Type 0 where
+-- an answer is made with the mailbox for which the request in the hand is asked, which names a timer or not, by its
+-- numbers
+pub record IsAnswered (g : Settings) (sched : SchedState) (with : Option Actor) (names : Bool) : Type 0 where
   pub request : Request
   pub hand : sched.hand ≡ Some request
+  pub asker : with ≡ Some (MailOf request.reply_to)
   pub test : names_timer g request.timer ≡ names
 
 -- of a tick
 abbrev pub TickBreaks : Settings → Face → Option Due → Reading → Act → ℤ → Reason → Type 0
 TickBreaks g f due r act now (ShiftFirst offset state) = due ≡ Some (offset, state)
-TickBreaks g f due r act now BadReading = IsValid r → ⊥
-TickBreaks g f due r act now (NotPreliminary state) = (act ≡ Finalize) × (state ≡ f.state) × (state ≢ Preliminary)
-TickBreaks g f due r act now (OtherTick time) = Differs now time (time_after g f r)
-TickBreaks g f due r act now (OffsetPast offset state) = (due_after g f r act now ≡ Some (offset, state)) × (IsOffset offset → ⊥)
+TickBreaks g f due r act now BadReading = (due ≡ None) × (IsValid r → ⊥)
+TickBreaks g f due r act now (NotPreliminary state) =
+    (due ≡ None) × IsValid r × (state ≡ f.state) × (MayAct act f.state → ⊥)
+TickBreaks g f due r act now (OtherTick time) =
+    (due ≡ None) × IsValid r × MayAct act f.state × Differs now time (time_after g f r)
+TickBreaks g f due r act now (OffsetPast offset state) =
+    (due ≡ None) × IsValid r × MayAct act f.state × (now ≡ time_after g f r)
+    × (due_after g f r act now ≡ Some (offset, state)) × (IsOffset offset → ⊥)
 TickBreaks g f due r act now _ = ⊥
 
 -- of a shift
@@ -110,7 +134,7 @@ LookBreaks now told _ = ⊥
 -- of a reading of the offset
 abbrev pub OffBreaks : ℤ → OffsetState → ℤ → OffsetState → Reason → Type 0
 OffBreaks offset state told told_state (OtherOffset is) = Differs told is offset
-OffBreaks offset state told told_state (OtherState is) = Differs told_state is state
+OffBreaks offset state told told_state (OtherState is) = (told ≡ offset) × Differs told_state is state
 OffBreaks offset state told told_state _ = ⊥
 
 -- the status of the last timer of a slot
@@ -118,10 +142,11 @@ abbrev pub last_status_of : State → ℕ → ℕ → Option Status
 last_status_of s wheel slot = s.status (timer_at wheel slot (s.last wheel slot))
 
 -- the next generation of a slot with these uses is another, for a start at a look of so many milliseconds that
--- has this deadline; in the first round it is the same for each deadline, and for none
+-- has this deadline within the limit; in the first round it is the same for each deadline, and for none
 pub record IsNotNext (u : Uses) (now : ℕ) (deadline : Option ℕ) (told next : ℕ) : Type 0 where
   pub wanted : ℕ
-  pub due : ((turned u).since ≡ 0) ⊎ (deadline ≡ Some wanted)
+  pub rested : (turned u).since ≤ now
+  pub due : ((turned u).since ≡ 0) ⊎ ((deadline ≡ Some wanted) × (deadline_in (turned u).since now wanted ≤ 8796093022207))
   pub value : next ≡ generation_in (turned u).since (use_of (turned u).last + 1) (deadline_in (turned u).since now wanted)
   pub differs : told ≢ next
 
@@ -134,23 +159,37 @@ pub record IsResting (u : Uses) (now until : ℕ) : Type 0 where
 abbrev pub looked_at : Settings → State → Actor → ℕ
 looked_at g s by = natural (down g (s.looked by))
 
--- where a start has a deadline, it is past the limit in the round of its slot
-abbrev pub IsRefused : Uses → ℕ → Option ℕ → Type 0
-IsRefused u now deadline = (wanted : ℕ) → deadline ≡ Some wanted → 8796093022207 < deadline_in (turned u).since now wanted
+-- where a start has a deadline, it is past the limit in the round of its slot, which doesn't rest, and of which the
+-- generation is the next where it is the first round
+pub record IsRefused (u : Uses) (now : ℕ) (deadline : Option ℕ) (told : ℕ) : Type 0 where
+  pub rested : (turned u).since ≤ now
+  pub next : (turned u).since ≡ 0 → told ≡ use_of (turned u).last + 1
+  pub past : (wanted : ℕ) → deadline ≡ Some wanted → 8796093022207 < deadline_in (turned u).since now wanted
+
+-- a generation is the next of a slot with these uses, for a start that has this deadline
+pub record IsUse (u : Uses) (now : ℕ) (deadline : Option ℕ) (told : ℕ) : Type 0 where
+  pub wanted : ℕ
+  pub due : deadline ≡ Some wanted
+  pub next_use : IsNextUse u now wanted told
 
 -- of the next use of a slot with these uses
 abbrev pub UseBreaks : Uses → ℕ → Option ℕ → ℕ → Reason → Type 0
 UseBreaks u now deadline told (Rests until) = IsResting u now until
 UseBreaks u now deadline told (OtherGeneration next) = IsNotNext u now deadline told next
-UseBreaks u now deadline told NoDeadline = IsRefused u now deadline
+UseBreaks u now deadline told NoDeadline = IsRefused u now deadline told
 UseBreaks u now deadline told _ = ⊥
 
 -- of the start of a timer
 abbrev pub ArmBreaks : Settings → State → Actor → TimerRef → Start → Reason → Type 0
-ArmBreaks g s by timer start (SlotTaken status) = (last_status_of s timer.wheel timer.slot ≡ Some status) × (is_taken (Some status) ≡ true)
-ArmBreaks g s by timer start WheelUsed = 9007199254740992 ≤ length (s.rows timer.wheel)
+ArmBreaks g s by timer start (SlotTaken status) =
+    (last_status_of s timer.wheel timer.slot ≡ Some status) × (is_taken (Some status) ≡ true)
+ArmBreaks g s by timer start WheelUsed =
+    (is_taken (last_status_of s timer.wheel timer.slot) ≡ false)
+    × IsUse (uses_at s timer.wheel timer.slot) (looked_at g s by) (deadline_of g start (s.looked by)) timer.generation
+    × (9007199254740992 ≤ length (s.rows timer.wheel))
 ArmBreaks g s by timer start reason =
-    UseBreaks (uses_at s timer.wheel timer.slot) (looked_at g s by) (deadline_of g start (s.looked by)) timer.generation reason
+    (is_taken (last_status_of s timer.wheel timer.slot) ≡ false)
+    × UseBreaks (uses_at s timer.wheel timer.slot) (looked_at g s by) (deadline_of g start (s.looked by)) timer.generation reason
 
 -- of a look at the last timer of a slot
 abbrev pub ProbeBreaks : State → ℕ → ℕ → Option Status → Reason → Type 0
@@ -167,13 +206,13 @@ abbrev pub ExpireBreaks : Settings → State → Actor → TimerRef → Reason �
 ExpireBreaks g s by timer (NotArmed status) = (status ≡ s.status timer) × (status ≢ Some Armed)
 ExpireBreaks g s by timer (NotDue scheduler deadline looked) = IsEarly g s by timer scheduler deadline looked
 ExpireBreaks g s by timer (Later first deadline) = IsLater g s by timer first deadline
-ExpireBreaks g s by timer NotNext = IsNext g s by timer → ⊥
+ExpireBreaks g s by timer NotNext = IsSecond g s by timer
 ExpireBreaks g s by timer _ = ⊥
 
 -- of the end of a timer whose destination has exited
 abbrev pub OrphanBreaks : State → TimerRef → Reason → Type 0
 OrphanBreaks s timer (NotArmed status) = (status ≡ s.status timer) × (status ≢ Some Armed)
-OrphanBreaks s timer (NotExited dest) = GoesTo s timer dest × (s.exited dest ≡ false)
+OrphanBreaks s timer (NotExited dest) = (s.status timer ≡ Some Armed) × GoesTo s timer dest × (s.exited dest ≡ false)
 OrphanBreaks s timer _ = ⊥
 
 -- of the end of an expired timer, which is to be the first that waits
@@ -184,12 +223,12 @@ WaitBreaks fired timer _ = ⊥
 
 -- and goes into the mailbox of its destination
 abbrev pub DeliverBreaks : List Row → Option Actor → TimerRef → Reason → Type 0
-DeliverBreaks fired with timer (OtherDest dest) = FirstGoesTo fired dest × (with ≢ Some (MailOf dest))
+DeliverBreaks fired with timer (OtherDest dest) = FirstGoesTo fired timer dest × (with ≢ Some (MailOf dest))
 DeliverBreaks fired with timer reason = WaitBreaks fired timer reason
 
 -- or is thrown away, where its destination has exited
 abbrev pub DropBreaks : List Row → (ℕ → Bool) → TimerRef → Reason → Type 0
-DropBreaks fired exited timer (NotExited dest) = FirstGoesTo fired dest × (exited dest ≡ false)
+DropBreaks fired exited timer (NotExited dest) = FirstGoesTo fired timer dest × (exited dest ≡ false)
 DropBreaks fired exited timer reason = WaitBreaks fired timer reason
 
 -- of a look at a process
@@ -200,21 +239,22 @@ MarkBreaks exited was _ = ⊥
 -- of an advance
 abbrev pub AdvancedBreaks : Settings → State → Actor → ℕ → ℕ → Reason → Type 0
 AdvancedBreaks g s by wheel to (OtherMilliseconds looked) = Differs (pos to) looked (down g (s.looked by))
-AdvancedBreaks g s by wheel to (StillArmed timer deadline) = IsArmedTill s wheel timer deadline × (deadline ≤ to)
+AdvancedBreaks g s by wheel to (StillArmed timer deadline) =
+    (pos to ≡ down g (s.looked by)) × IsFirstArmed s wheel timer deadline × (deadline ≤ to)
 AdvancedBreaks g s by wheel to _ = ⊥
 
 -- of a pick
 abbrev pub PickBreaks : SchedState → List Request → Option Request → Reason → Type 0
 PickBreaks sched inbox got (HandFull request) = sched.hand ≡ Some request
-PickBreaks sched inbox got (OtherRequest first) = Differs got first (first_of inbox)
+PickBreaks sched inbox got (OtherRequest first) = (sched.hand ≡ None) × Differs got first (first_of inbox)
 PickBreaks sched inbox got _ = ⊥
 
 -- of an answer
 abbrev pub AnswerBreaks : Settings → SchedState → Option Actor → Option ℕ → Reason → Type 0
 AnswerBreaks g sched with left HandEmpty = sched.hand ≡ None
 AnswerBreaks g sched with left (OtherAsker process) = IsAskedFor sched process × (with ≢ Some (MailOf process))
-AnswerBreaks g sched with left (OtherOutcome outcome) = IsInHand g sched true × (outcome ≡ sched.result) × (outcome ≢ Some left)
-AnswerBreaks g sched with left NothingLeft = IsInHand g sched false × (left ≢ None)
+AnswerBreaks g sched with left (OtherOutcome outcome) = IsAnswered g sched with true × (outcome ≡ sched.result) × (outcome ≢ Some left)
+AnswerBreaks g sched with left NothingLeft = IsAnswered g sched with false × (left ≢ None)
 AnswerBreaks g sched with left _ = ⊥
 
 -- of a take
@@ -230,8 +270,10 @@ UnwatchBreaks mail monitor was _ = ⊥
 -- of a new monitor
 abbrev pub WatchBreaks : ℤ → MailState → ℕ → ℤ → Reason → Type 0
 WatchBreaks offset mail monitor told (OtherNumber next) = Differs monitor next mail.next
-WatchBreaks offset mail monitor told (TooMany count) = (count ≡ length mail.monitors) × (64 ≤ count)
-WatchBreaks offset mail monitor told (OtherOffset is) = Differs told is offset
+WatchBreaks offset mail monitor told (TooMany count) =
+    (monitor ≡ mail.next) × (count ≡ length mail.monitors) × (64 ≤ count)
+WatchBreaks offset mail monitor told (OtherOffset is) =
+    (monitor ≡ mail.next) × (length mail.monitors < 64) × Differs told is offset
 WatchBreaks offset mail monitor told _ = ⊥
 
 -- of a change that is told

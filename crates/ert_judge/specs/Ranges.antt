@@ -1,6 +1,7 @@
 -- Who may make an event and with whom, and what an entry names by numbers.
 
-use Rattle.std.specs.Prelude.{◌≡◌, ℕ, ◌≤◌, ◌⊎◌, Option, Some, None}
+use Rattle.std.specs.Prelude.{◌≡◌, ℕ, nat_le, Option, Some, None, if◌then◌else◌}
+use Rattle.std.specs.Option.{option_or}
 use Rattle.ert_defs.specs.declared.entry.Actor.{Actor}
 use Rattle.ert_defs.specs.declared.entry.Actor.TheVariants.{Keeper, Wheel, Inbox, Sched, MailOf, Caller}
 use Rattle.ert_defs.specs.declared.entry.Entry.{Entry}
@@ -13,6 +14,8 @@ use Rattle.ert_judge.specs.declared.reasons.Maker.{Maker}
 use Rattle.ert_judge.specs.declared.reasons.Maker.TheVariants.{Clock, Scheduler, AnyCaller, User, CallerOr, Reader}
 use Rattle.ert_judge.specs.declared.reasons.Partner.{Partner}
 use Rattle.ert_judge.specs.declared.reasons.Partner.TheVariants.{Nobody, Exactly, SomeCaller, SomeMailbox}
+use Rattle.ert_judge.specs.declared.reasons.Reason.{Reason}
+use Rattle.ert_judge.specs.declared.reasons.Reason.TheVariants.{TooHigh}
 
 -- who makes an event
 abbrev pub maker_of : Event → Maker
@@ -144,15 +147,32 @@ count_of g Schedulers = g.schedulers
 count_of g Processes = g.processes
 count_of g Slots = g.slots
 
--- an entry names one of a kind by its number: as an actor, or in its event
-abbrev pub Names : Entry → Counted → ℕ → Type 0
-Names e Callers n = (e.by ≡ Caller n) ⊎ (e.with ≡ Some (Caller n))
-Names e Schedulers n = (e.by ≡ Sched n) ⊎ (wheel_of e.event ≡ Some n)
-Names e Processes n = (e.with ≡ Some (MailOf n)) ⊎ (process_of e.event ≡ Some n)
-Names e Slots n = slot_of e.event ≡ Some n
+-- a number, where there is one and it isn't below the count of its kind
+abbrev pub high : Settings → Counted → Option ℕ → Option Reason
+high g thing None = None
+high g thing (Some n) = if nat_le (count_of g thing) n then Some (TooHigh thing n (count_of g thing)) else None
 
--- it names one whose number isn't below their count
-pub record NamesTooHigh (g : Settings) (e : Entry) (thing : Counted) (number count : ℕ) : Type 0 where
-  pub names : Names e thing number
-  pub counted : count ≡ count_of g thing
-  pub high : count ≤ number
+-- the number of who made an entry
+abbrev pub high_by : Settings → Actor → Option Reason
+high_by g (Caller n) = high g Callers (Some n)
+high_by g (Sched n) = high g Schedulers (Some n)
+high_by g _ = None
+
+-- and that of with whom
+abbrev pub high_with : Settings → Option Actor → Option Reason
+high_with g (Some (Caller n)) = high g Callers (Some n)
+high_with g (Some (MailOf n)) = high g Processes (Some n)
+high_with g _ = None
+
+-- the first number of an entry that isn't below its count: that of who made it, that of with whom, and those of the
+-- scheduler, the slot and the process of its event
+abbrev pub too_high : Settings → Entry → Option Reason
+too_high g e =
+    option_or (option_or (option_or (option_or (high_by g e.by) (high_with g e.with))
+    (high g Schedulers (wheel_of e.event))) (high g Slots (slot_of e.event))) (high g Processes (process_of e.event))
+
+-- an entry is made by and with the actors of its event, and no number of it is too high
+pub record MayBeInRange (g : Settings) (e : Entry) : Type 0 where
+  pub by : IsMadeBy (maker_of e.event) e.by
+  pub with : IsMadeWith (partner_of e.by e.event) e.with
+  pub low : too_high g e ≡ None

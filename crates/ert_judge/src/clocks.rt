@@ -1,13 +1,14 @@
 //! Why an event of the clock can't follow.
 
-ghost use Rattle.std.specs.Prelude.{◌≡◌, ◌↔◌, IsTrue, IfSome};
+ghost use Rattle.std.specs.Prelude.{◌≡◌, ◌↔◌, IsTrue, IfSome, IfNone, Some, None};
 ghost use Rattle.ert_clock.specs.Faces.{face_of};
+ghost use Rattle.ert_defs.specs.Legal.{CanTick};
 ghost use Rattle.ert_judge.specs.Breaks.{TickBreaks, ShiftBreaks, LookBreaks, OffBreaks, TellBreaks};
 
 use crate::reasons::Reason;
 use ert_clock::is_offset;
 use ert_defs::{Act, OffsetState, Reading, Settings};
-use ert_state::Clock;
+use ert_state::{Clock, may_act};
 
 /// Why a tick can't be made.
 pub fn of_tick(
@@ -17,7 +18,8 @@ pub fn of_tick(
     act: Act,
     now: i64,
 ) -> Option<Reason>
-    ensures { IfSome result (TickBreaks settings.now (face_of clock.now.face) clock.now.due reading act now) }
+    ensures some { IfSome result (TickBreaks settings.now (face_of clock.now.face) clock.now.due reading act now) }
+    ensures none { IfNone result ((clock.now.due ≡ None) × CanTick settings.now (face_of clock.now.face) reading act now) }
 {
     if let Some((offset, state)) = clock.due {
         return Some(Reason::ShiftFirst { offset, state });
@@ -25,7 +27,7 @@ pub fn of_tick(
     if !reading.is_valid() {
         return Some(Reason::BadReading);
     }
-    if act == Act::Finalize && clock.face.state != OffsetState::Preliminary {
+    if !may_act(act, clock.face.state) {
         return Some(Reason::NotPreliminary {
             state: clock.face.state,
         });
@@ -50,7 +52,8 @@ fn is_time(told: i64, time: i128) -> bool
 
 /// Why a shift can't be made.
 pub fn of_shift(clock: &Clock, offset: i64, state: OffsetState) -> Option<Reason>
-    ensures { IfSome result (ShiftBreaks clock.now.due offset state) }
+    ensures some { IfSome result (ShiftBreaks clock.now.due offset state) }
+    ensures none { IfNone result (clock.now.due ≡ Some (offset, state)) }
 {
     if clock.due == Some((offset, state)) {
         None
@@ -61,7 +64,8 @@ pub fn of_shift(clock: &Clock, offset: i64, state: OffsetState) -> Option<Reason
 
 /// Why a look can't tell this time.
 pub fn of_look(clock: &Clock, told: i64) -> Option<Reason>
-    ensures { IfSome result (LookBreaks clock.now.face.time told) }
+    ensures some { IfSome result (LookBreaks clock.now.face.time told) }
+    ensures none { IfNone result (told ≡ clock.now.face.time) }
 {
     let now = clock.face.time;
     if told == now {
@@ -73,7 +77,8 @@ pub fn of_look(clock: &Clock, told: i64) -> Option<Reason>
 
 /// Why a reading of the offset can't tell these.
 pub fn of_off(clock: &Clock, told: i64, told_state: OffsetState) -> Option<Reason>
-    ensures { IfSome result (OffBreaks clock.now.face.offset clock.now.face.state told told_state) }
+    ensures some { IfSome result (OffBreaks clock.now.face.offset clock.now.face.state told told_state) }
+    ensures none { IfNone result ((told ≡ clock.now.face.offset) × (told_state ≡ clock.now.face.state)) }
 {
     let offset = clock.face.offset;
     let state = clock.face.state;
@@ -88,7 +93,8 @@ pub fn of_off(clock: &Clock, told: i64, told_state: OffsetState) -> Option<Reaso
 
 /// Why a process can't be told this offset.
 pub fn of_tell(clock: &Clock, told: i64) -> Option<Reason>
-    ensures { IfSome result (TellBreaks clock.now.face.offset told) }
+    ensures some { IfSome result (TellBreaks clock.now.face.offset told) }
+    ensures none { IfNone result (told ≡ clock.now.face.offset) }
 {
     let offset = clock.face.offset;
     if told == offset {

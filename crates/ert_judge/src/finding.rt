@@ -1,6 +1,6 @@
 ghost use Rattle.std.specs.Prelude.{◌≡◌, IfSome, IfNone, List};
 ghost use Rattle.ert_defs.specs.Clocks as of_clocks;
-ghost use Rattle.ert_defs.specs.Legal.{Can};
+ghost use Rattle.ert_defs.specs.Legal.{Can, Known, Found};
 ghost use Rattle.ert_defs.specs.States.{state};
 ghost use Rattle.ert_defs.specs.declared.entry.Entry as entries;
 ghost use Rattle.ert_defs.specs.declared.settings.Settings as settings;
@@ -47,8 +47,11 @@ fn cause(judge: &Judge, entry: &Entry) -> Reason
 
 /// The condition of its event that an entry in range breaks.
 fn broken(judge: &Judge, entry: &Entry) -> Option<Reason>
-    ensures { (c : of_clocks.Clock) → ClockIs judge.now.settings c judge.now.clock → OwnTimers judge.now
+    ensures some { (c : of_clocks.Clock) → ClockIs judge.now.settings c judge.now.clock → OwnTimers judge.now
         → IfSome result (Breaks judge.now.settings (shown c judge.now) entry.now.by entry.now.with entry.now.event) }
+    ensures none { (c : of_clocks.Clock) → ClockIs judge.now.settings c judge.now.clock → OwnTimers judge.now
+        → IfNone result (Known judge.now.settings (shown c judge.now) entry.now.by entry.now.with entry.now.event
+        × Found judge.now.settings (shown c judge.now) entry.now.by entry.now.event) }
 {
     let clock = &judge.clock;
     match entry.event {

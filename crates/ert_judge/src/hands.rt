@@ -1,7 +1,11 @@
 //! Why a scheduler can't hand over an expired timer, or take or answer a request.
 
-ghost use Rattle.std.specs.Prelude.{IfSome};
+ghost use Rattle.std.specs.Prelude.{◌≡◌, IfSome, IfNone, Some, None, true};
+ghost use Rattle.ert_defs.specs.Clocks.{Clock};
+ghost use Rattle.ert_defs.specs.Legal.{IsFirst, CanAnswer};
+ghost use Rattle.ert_defs.specs.Mails.{first_of};
 ghost use Rattle.ert_judge.specs.Breaks.{DeliverBreaks, DropBreaks, PickBreaks, AnswerBreaks};
+ghost use Rattle.ert_judge.specs.Shown.{shown};
 ghost use Rattle.ert_state.specs.Parts.{sched_at, exited_at, inbox_at};
 
 use crate::judge::Judge;
@@ -10,12 +14,14 @@ use ert_defs::{Actor, Request, TimerRef};
 
 /// Why an expired timer can't be put into a mailbox.
 pub fn of_deliver(judge: &Judge, with: Option<Actor>, timer: TimerRef) -> Option<Reason>
-    ensures { IfSome result (DeliverBreaks (sched_at judge.now.schedulers timer.wheel).fired with timer) }
+    ensures some { IfSome result (DeliverBreaks (sched_at judge.now.schedulers timer.wheel).fired with timer) }
+    ensures none { IfNone result ((first : IsFirst (sched_at judge.now.schedulers timer.wheel).fired timer)
+        × (with ≡ Some (Actor.MailOf first.row.dest))) }
 {
     let Some(row) = judge.schedulers.first_fired(timer.wheel) else {
         return Some(Reason::NoneWaits);
     };
-    if row.timer != timer {
+    if timer != row.timer {
         return Some(Reason::OtherWaits { first: row.timer });
     }
     if with == Some(Actor::MailOf(row.dest)) {
@@ -27,7 +33,9 @@ pub fn of_deliver(judge: &Judge, with: Option<Actor>, timer: TimerRef) -> Option
 
 /// Why an expired timer can't be thrown away.
 pub fn of_drop(judge: &Judge, timer: TimerRef) -> Option<Reason>
-    ensures { IfSome result (DropBreaks (sched_at judge.now.schedulers timer.wheel).fired (exited_at judge.now.exits) timer) }
+    ensures some { IfSome result (DropBreaks (sched_at judge.now.schedulers timer.wheel).fired (exited_at judge.now.exits) timer) }
+    ensures none { IfNone result ((first : IsFirst (sched_at judge.now.schedulers timer.wheel).fired timer)
+        × (exited_at judge.now.exits first.row.dest ≡ true)) }
 {
     let Some(row) = judge.schedulers.first_fired(timer.wheel) else {
         return Some(Reason::NoneWaits);
@@ -44,7 +52,8 @@ pub fn of_drop(judge: &Judge, timer: TimerRef) -> Option<Reason>
 
 /// Why a scheduler can't take this from its inbox.
 pub fn of_pick(judge: &Judge, wheel: u32, got: Option<Request>) -> Option<Reason>
-    ensures { IfSome result (PickBreaks (sched_at judge.now.schedulers wheel) (inbox_at judge.now.inboxes wheel) got) }
+    ensures some { IfSome result (PickBreaks (sched_at judge.now.schedulers wheel) (inbox_at judge.now.inboxes wheel) got) }
+    ensures none { IfNone result (((sched_at judge.now.schedulers wheel).hand ≡ None) × (got ≡ first_of (inbox_at judge.now.inboxes wheel))) }
 {
     if let Some(request) = judge.schedulers.hand(wheel) {
         return Some(Reason::HandFull { request });
@@ -64,7 +73,8 @@ pub fn of_answer(
     wheel: u32,
     left: Option<u64>,
 ) -> Option<Reason>
-    ensures { IfSome result (AnswerBreaks judge.now.settings (sched_at judge.now.schedulers wheel) with left) }
+    ensures some { IfSome result (AnswerBreaks judge.now.settings (sched_at judge.now.schedulers wheel) with left) }
+    ensures none { (c : Clock) → IfNone result (CanAnswer judge.now.settings (shown c judge.now) with wheel left) }
 {
     let Some(request) = judge.schedulers.hand(wheel) else {
         return Some(Reason::HandEmpty);

@@ -1,9 +1,9 @@
 //! Why an entry isn't in range: another actor makes it or it is made with another, or it names one whose
 //! number isn't below their count.
 
-ghost use Rattle.std.specs.Prelude.{◌≡◌, ◌↔◌, ◌≤◌, IsTrue, IfSome, Some, None};
-ghost use Rattle.ert_judge.specs.Ranges.{maker_of, partner_of, reads_with, wheel_of, slot_of, process_of, count_of};
-ghost use Rattle.ert_judge.specs.Ranges.{IsMadeBy, IsMadeWith, Names, NamesTooHigh};
+ghost use Rattle.std.specs.Prelude.{◌≡◌, ◌↔◌, IsTrue, IfSome, IfNone};
+ghost use Rattle.ert_judge.specs.Ranges.{maker_of, partner_of, reads_with, wheel_of, slot_of, process_of, count_of, high, high_by, high_with, too_high};
+ghost use Rattle.ert_judge.specs.Ranges.{IsMadeBy, IsMadeWith, MayBeInRange};
 ghost use Rattle.ert_judge.specs.Reasons.{IsOutOfRange};
 
 use crate::reasons::{Counted, Maker, Partner, Reason};
@@ -11,7 +11,8 @@ use ert_defs::{Actor, Entry, Event, Settings};
 
 /// Why an entry isn't in range, where it isn't.
 pub fn out_of_range(settings: &Settings, entry: &Entry) -> Option<Reason>
-    ensures { IfSome result (IsOutOfRange settings.now entry.now) }
+    ensures some { IfSome result (IsOutOfRange settings.now entry.now) }
+    ensures none { IfNone result (MayBeInRange settings.now entry.now) }
 {
     let maker = maker_of(&entry.event);
     if !is_made_by(maker, entry.by) {
@@ -126,85 +127,67 @@ fn is_made_with(partner: Partner, with: Option<Actor>) -> bool
     }
 }
 
-/// The first that an entry names whose number isn't below their count.
+/// The first that an entry names whose number isn't below their count: as who made it, as with whom, and as
+/// the scheduler, the slot and the process of its event.
 fn too_high(settings: &Settings, entry: &Entry) -> Option<Reason>
-    ensures { IfSome result (IsOutOfRange settings.now entry.now) }
-{
-    match entry.by {
-        Actor::Caller(number) if number >= settings.callers => {
-            return Some(Reason::TooHigh {
-                thing: Counted::Callers,
-                number,
-                count: settings.callers,
-            });
-        }
-        Actor::Sched(number) if number >= settings.schedulers => {
-            return Some(Reason::TooHigh {
-                thing: Counted::Schedulers,
-                number,
-                count: settings.schedulers,
-            });
-        }
-        _ => {}
-    }
-    with_too_high(settings, entry)
-}
-
-/// The same of the second actor, and of the numbers of the event.
-fn with_too_high(settings: &Settings, entry: &Entry) -> Option<Reason>
-    ensures { IfSome result (IsOutOfRange settings.now entry.now) }
-{
-    match entry.with {
-        Some(Actor::Caller(number)) if number >= settings.callers => Some(Reason::TooHigh {
-            thing: Counted::Callers,
-            number,
-            count: settings.callers,
-        }),
-        Some(Actor::MailOf(number)) if number >= settings.processes => Some(Reason::TooHigh {
-            thing: Counted::Processes,
-            number,
-            count: settings.processes,
-        }),
-        _ => event_too_high(settings, entry),
-    }
-}
-
-/// The same of the scheduler and the slot that the event is about, and of its process.
-fn event_too_high(settings: &Settings, entry: &Entry) -> Option<Reason>
-    ensures { IfSome result (IsOutOfRange settings.now entry.now) }
+    ensures { result ≡ too_high settings.now entry.now }
 {
     let (wheel, slot) = place_of(&entry.event);
-    match wheel {
-        Some(number) if number >= settings.schedulers => {
-            return Some(Reason::TooHigh {
-                thing: Counted::Schedulers,
-                number,
-                count: settings.schedulers,
-            });
-        }
-        _ => {}
-    }
-    match slot {
-        Some(number) if number >= settings.slots => Some(Reason::TooHigh {
-            thing: Counted::Slots,
-            number,
-            count: settings.slots,
-        }),
-        _ => process_too_high(settings, entry),
+    high_by(settings, entry.by)
+        .or(high_with(settings, entry.with))
+        .or(high(settings, Counted::Schedulers, wheel))
+        .or(high(settings, Counted::Slots, slot))
+        .or(high(settings, Counted::Processes, process_of(&entry.event)))
+}
+
+/// The number of who made an entry, where it isn't below their count.
+fn high_by(settings: &Settings, by: Actor) -> Option<Reason>
+    ensures { result ≡ high_by settings.now by }
+{
+    match by {
+        Actor::Caller(number) => high(settings, Counted::Callers, Some(number)),
+        Actor::Sched(number) => high(settings, Counted::Schedulers, Some(number)),
+        _ => None,
     }
 }
 
-/// The same of the process that the event names.
-fn process_too_high(settings: &Settings, entry: &Entry) -> Option<Reason>
-    ensures { IfSome result (IsOutOfRange settings.now entry.now) }
+/// And that of with whom.
+fn high_with(settings: &Settings, with: Option<Actor>) -> Option<Reason>
+    ensures { result ≡ high_with settings.now with }
 {
-    match process_of(&entry.event) {
-        Some(number) if number >= settings.processes => Some(Reason::TooHigh {
-            thing: Counted::Processes,
-            number,
-            count: settings.processes,
-        }),
+    match with {
+        Some(Actor::Caller(number)) => high(settings, Counted::Callers, Some(number)),
+        Some(Actor::MailOf(number)) => high(settings, Counted::Processes, Some(number)),
         _ => None,
+    }
+}
+
+/// A number, where there is one and it isn't below the count of its kind.
+fn high(settings: &Settings, thing: Counted, number: Option<u32>) -> Option<Reason>
+    ensures { result ≡ high settings.now thing number }
+{
+    let number = number?;
+    let count = count_of(settings, thing);
+    if count <= number {
+        Some(Reason::TooHigh {
+            thing,
+            number,
+            count,
+        })
+    } else {
+        None
+    }
+}
+
+/// How many there are of a kind.
+fn count_of(settings: &Settings, thing: Counted) -> u32
+    ensures { result ≡ count_of settings.now thing }
+{
+    match thing {
+        Counted::Callers => settings.callers,
+        Counted::Schedulers => settings.schedulers,
+        Counted::Processes => settings.processes,
+        Counted::Slots => settings.slots,
     }
 }
 

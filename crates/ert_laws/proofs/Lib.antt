@@ -7,6 +7,7 @@ pub mod Few
 pub mod FiredCounts
 pub mod Handing
 pub mod Histories
+pub mod Kept
 pub mod LookBack
 pub mod Looks
 pub mod Mailboxes

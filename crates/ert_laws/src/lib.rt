@@ -7,6 +7,7 @@
 //! but the law and what cites it; what the proofs of the service rest on stands in `ert_defs`.
 #![tactic(auto)]
 
+mod all_laws;
 mod changes;
 mod clock_laws;
 mod counts;
@@ -15,6 +16,7 @@ mod mail_order;
 mod ranges;
 mod worked;
 
+pub use all_laws::legal_histories_keep_the_laws;
 pub use changes::changes_tell_another_offset;
 pub use clock_laws::{
     clock_is_permitted, clock_looks_back, no_timer_expires_early, rounds_have_begun,

@@ -11,6 +11,7 @@ use Rattle.ert_effects.specs.Ways.{Growth, Way, Then}
 use Rattle.ert_effects.specs.declared.answers.StartErr.{StartErr}
 use Rattle.ert_effects.specs.declared.answers.StartErr.TheVariants as starts
 use Rattle.ert_effects.specs.declared.answers.Turned.{Turned}
+use Rattle.ert_defs.specs.Legal.{Legal}
 use Rattle.ert_defs.specs.declared.memory.NoMemory.{NoMemory}
 use Rattle.ert_defs.specs.declared.settings.Settings.{Settings}
 use Rattle.ert_defs.specs.declared.timer.When.{When}
@@ -71,9 +72,9 @@ hands_more a b c messages m some one = record {
       ∙ ap (λ l. a.mail ++ l) (sym (filter_map-append (posted a.names a.rows) messages (m ∷ [])))))));
 }
 
-pub hands_none : (a : Registered) → a.world.next ≡ 1 → HandsOver a [] (TakesMany a.world.settings []) a
-hands_none a lone = record {
-  goes = record { goes = goes_nothing a.world (TakesMany a.world.settings []) refl; lone = lone };
+pub hands_none : (a : Registered) → a.world.next ≡ 1 → Legal a.world.settings a.world.history → HandsOver a [] (TakesMany a.world.settings []) a
+hands_none a lone legal = record {
+  goes = record { goes = goes_nothing a.world (TakesMany a.world.settings []) legal refl; lone = lone };
   names = refl;
   rows = refl;
   mail = sym (append-nil a.mail);

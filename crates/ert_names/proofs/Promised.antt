@@ -8,10 +8,7 @@ use Rattle.ert_defs.specs.declared.entry.Entry.{Entry}
 use Rattle.ert_defs.specs.declared.entry.Event.{Event}
 use Rattle.ert_defs.specs.declared.entry.Event.TheVariants.{Orphan, Drop}
 use Rattle.ert_defs.specs.declared.settings.Settings.{Settings}
-use Rattle.ert_laws.proofs.Expiries.{in_order}
-use Rattle.ert_laws.proofs.Mailboxes.{mailboxes}
-use Rattle.ert_laws.proofs.OwnTells.{messages_are_told}
-use Rattle.ert_laws.proofs.TimerLives.{lives}
+use Rattle.ert_laws.proofs.Kept.{keeps_laws}
 use Rattle.ert_names.proofs.Messages.{kept_world}
 use Rattle.ert_names.proofs.Registrars.{IsKept, kept_run, kept_opening}
 use Rattle.ert_names.specs.Fits.{AllFit, FitsRows}
@@ -42,13 +39,7 @@ promised n w stands fits =
     let legal : Legal g h = stands.clock.legal in
     let kept = kept_world n w legal fits in
     record {
-      lived = record {
-        legal = legal;
-        lives = λ r. lives g h r legal;
-        mailboxes = λ p. mailboxes g h p legal;
-        order = λ w p. in_order g h w p legal;
-        told = λ p. messages_are_told g h p legal;
-      };
+      laws = keeps_laws g h stands.checked legal;
       lone = fits.lone;
       registrar_lives = kept.lives;
       rows = kept.rows;

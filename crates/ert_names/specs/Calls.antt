@@ -43,6 +43,11 @@ pub record GoesAlone (old : Registered) (call : Way → Growth) (new : Registere
   pub rows : new.rows ≡ old.rows
   pub mail : new.mail ≡ old.mail
 
+-- the same of a call that may move the clock
+abbrev pub GoesOnClock : Registered → (Way → Growth) → Registered → Type 0
+GoesOnClock old call new =
+    let world : Seen = record old.world { clock = new.world.clock } in GoesAlone (record old { world = world }) call new
+
 -- it is seen whether a process has exited: `alive` where it hasn't
 abbrev pub LooksAt : Registered → ℕ → Bool → Registered → Type 0
 LooksAt old process alive new = GoesAlone old (By old.world (λ g. TellsAlive g (Caller 0) process alive)) new

@@ -12,7 +12,7 @@ use Rattle.ert_defs.specs.declared.mail.Mail.{Mail}
 use Rattle.ert_defs.specs.declared.mail.Mail.TheVariants.{Timeout}
 use Rattle.ert_defs.specs.declared.settings.Settings.{Settings}
 use Rattle.ert_defs.specs.declared.timer.Kind.TheVariants.{Wrapped}
-use Rattle.ert_world.specs.Lived.{IsLived}
+use Rattle.ert_laws.specs.KeptLaws.{KeepsLaws}
 use Rattle.ert_world.specs.Worlds.{Seen}
 
 -- a row for the registrar is that of a wrapped timer, whose message is the place of one of so many rows
@@ -33,9 +33,9 @@ SparesNamed g f _ = Unit {0}
 
 -- a world that gave out no seat, in which so many timers were started for a name
 pub record IsPromised (n : ℕ) (w : Seen) : Type 0 where
-  -- legal, each timer with one of six lives: so its message is put once at most; and what was put into a mailbox
-  -- is, in order, what was taken from it and then what stands in it
-  pub lived : IsLived w.settings w.history
+  -- legal, and it keeps the laws: so each timer's message is put once at most, and what was put into a mailbox is, in
+  -- order, what was taken from it and then what stands in it
+  pub laws : KeepsLaws w.settings w.history
   pub lone : w.next ≡ 1
   pub registrar_lives : (state w.settings w.history).exited 0 ≡ false
   pub rows : (i : ℕ) → All (IsForName n) ((state w.settings w.history).rows i)

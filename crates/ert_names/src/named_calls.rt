@@ -22,7 +22,6 @@ impl NameWorld {
     ) -> Result<TimerRef, StartErr>
         requires { wheel < self.old.world.settings.schedulers }
         ensures call { StartsNamed self.old wheel when (record { name = name.now; msg = msg; kind = kind }) result self.new }
-        ensures clock { self.new.world.clock ≡ self.old.world.clock }
     {
         let Ok(name) = name.to_string(self.alloc) else {
             return Err(StartErr::NoMemory);
@@ -46,7 +45,6 @@ impl NameWorld {
     pub fn take_named(&mut self, process: u32) -> NamedTaken
         requires { process < self.old.world.settings.processes }
         ensures call { TakesNamed self.old process result self.new }
-        ensures clock { self.new.world.clock ≡ self.old.world.clock }
     {
         if !self.world.is_alive(process) {
             return NamedTaken::Exited;

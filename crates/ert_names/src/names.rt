@@ -23,7 +23,6 @@ impl NameWorld {
     pub fn register(&mut self, name: &str, process: u32) -> Result<(), NameErr>
         requires { process < self.old.world.settings.processes }
         ensures call { Registers self.old name.now process result self.new }
-        ensures clock { self.new.world.clock ≡ self.old.world.clock }
     {
         if !self.are_free(name, process) {
             return Err(NameErr::BadArg);
@@ -31,7 +30,6 @@ impl NameWorld {
         if !self.world.is_alive(process) {
             return Err(NameErr::BadArg);
         }
-        let _settings = self.world.settings();
         match self.registry.insert(self.alloc, name, process) {
             Ok(()) => Ok(()),
             Err(NoMemory) => Err(NameErr::NoMemory),

@@ -22,7 +22,6 @@ impl NameWorld {
     pub fn turn(&mut self, sched: u32) -> Result<NamedTurn, NoMemory>
         requires { sched < self.old.world.settings.schedulers }
         ensures call { TurnsNamed self.old sched result self.new }
-        ensures clock { self.new.world.clock ≡ self.old.world.clock }
     {
         let turned = self.world.turn(sched)?;
         let (handed, lost) = self.hand_all()?;
@@ -37,8 +36,8 @@ impl NameWorld {
     /// were lost.
     fn hand_all(&mut self) -> Result<(u64, u64), NoMemory>
         ensures call { HandsAll self.old result self.new }
-        ensures clock { self.new.world.clock ≡ self.old.world.clock }
     {
+        // That few messages wait is known of the world that is borrowed here.
         let _settings = self.world.settings();
         let mut handed = 0;
         let mut lost = 0;
@@ -58,7 +57,6 @@ impl NameWorld {
     /// After want of memory nothing has changed.
     fn hand_next(&mut self) -> Result<Option<bool>, NoMemory>
         ensures call { HandsNext self.old result self.new }
-        ensures clock { self.new.world.clock ≡ self.old.world.clock }
     {
         self.mail.reserve(1)?;
         let Some((timer, place)) = take_message(&mut self.world) else {
@@ -84,10 +82,8 @@ impl NameWorld {
 fn take_message(world: &mut World) -> Option<(TimerRef, u64)>
     requires { (n : ℕ) × FitsRows n world.old }
     ensures call { (n : ℕ) → FitsRows n world.old → TakesNext n world.old result world.new }
-    ensures clock { world.new.clock ≡ world.old.clock }
 {
     let taken = world.take(REGISTRAR);
-    let _settings = world.settings();
     timeout_of(taken)
 }
 

@@ -70,6 +70,7 @@ impl NameWorld {
         ensures promised { IsPromised (length self.now.rows) self.now.world }
         ensures living { AreLiving self.now.names self.now.world }
     {
+        // What a world promises is known of one that is borrowed, and so of the one that is lent.
         let _settings = self.world.settings();
         &self.world
     }

@@ -14,14 +14,14 @@ impl NameWorld {
     ghost use Rattle.ert_effects.specs.declared.answers.StartErr.TheVariants.{NoMemory};
     ghost use Rattle.ert_clock.specs.Ticks.{act_of, Gives};
     ghost use Rattle.ert_defs.specs.declared.entry.Actor.TheVariants.{Caller};
-    ghost use Rattle.ert_names.specs.Calls.{GoesAlone, HasExited};
+    ghost use Rattle.ert_names.specs.Calls.{GoesAlone, GoesOnClock, HasExited};
     ghost use Rattle.ert_names.specs.Names.{Unnamed};
     ghost use Rattle.ert_world.specs.Worlds.{By};
 
     /// Takes one reading of the OS clocks, as `World::tick`.
     pub fn tick(&mut self, reading: Reading, force: bool) -> Result<Moved, ClockErr>
         ensures gives { Gives self.old.world.clock reading (act_of force) result self.new.world.clock }
-        ensures call { GoesAlone self.old (By self.old.world (λ g. Ticks g 0 reading force result)) self.new }
+        ensures call { GoesOnClock self.old (By self.old.world (λ g. Ticks g 0 reading force result)) self.new }
     {
         self.world.tick(reading, force)
     }
@@ -33,7 +33,6 @@ impl NameWorld {
         requires not_registrar { start.now.dest ≢ 0 }
         ensures call { GoesAlone self.old (By self.old.world (λ g. Starts g 0 wheel start.now result)) self.new }
         ensures memory { result ≢ Err NoMemory }
-        ensures clock { self.new.world.clock ≡ self.old.world.clock }
     {
         self.world.start(wheel, start)
     }
@@ -42,7 +41,6 @@ impl NameWorld {
     /// `World::cancel_timer`.
     pub fn cancel_timer(&mut self, timer: TimerRef) -> Option<u64>
         ensures call { GoesAlone self.old (By self.old.world (λ g. Cancels g (Caller 0) timer result)) self.new }
-        ensures clock { self.new.world.clock ≡ self.old.world.clock }
     {
         self.world.cancel_timer(timer)
     }
@@ -50,7 +48,6 @@ impl NameWorld {
     /// How many milliseconds are left of a timer, for a name or not, as `World::read_timer`.
     pub fn read_timer(&mut self, timer: TimerRef) -> Option<u64>
         ensures call { GoesAlone self.old (By self.old.world (λ g. Reads g (Caller 0) timer result)) self.new }
-        ensures clock { self.new.world.clock ≡ self.old.world.clock }
     {
         self.world.read_timer(timer)
     }
@@ -60,7 +57,6 @@ impl NameWorld {
         requires in_range { process < self.old.world.settings.processes }
         requires not_registrar { process ≢ 0 }
         ensures call { GoesAlone self.old (By self.old.world (λ g. Takes g 0 process result)) self.new }
-        ensures clock { self.new.world.clock ≡ self.old.world.clock }
     {
         self.world.take(process)
     }
@@ -72,10 +68,8 @@ impl NameWorld {
         requires not_registrar { process ≢ 0 }
         ensures call { HasExited self.old process result (λ way. Exits self.old.world.settings way 0 process result) self.new }
         ensures unnamed { Unnamed self.new.names process }
-        ensures clock { self.new.world.clock ≡ self.old.world.clock }
     {
         if !self.world.exit(process) {
-            let _settings = self.world.settings();
             return false;
         }
         self.registry.remove_process(process);

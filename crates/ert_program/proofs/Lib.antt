@@ -1,9 +1,11 @@
 pub mod Chosen
 pub mod Draws
+pub mod Ends
 pub mod InMemory
 pub mod LiveEndings
 pub mod LivedThrough
 pub mod Made
+pub mod Raced
 pub mod Ranges
 pub mod Transcripts
 pub mod Valid

@@ -1,7 +1,7 @@
 -- Readings that a world lived through.
 
 use Rattle.std.specs.Arc.{arc_value}
-use Rattle.std.proofs.Common.{◌≡◌, ◌<◌, ◌+◌, ℕ, ℤ, List, [], ◌∷◌, ◌++◌, length, length-append, Option, None, Some, refl, inl, inr, sym, ap, subst, ◌∙◌, append_assoc, append-nil, arith}
+use Rattle.std.proofs.Common.{◌≡◌, ◌<◌, ◌≤◌, ◌+◌, ℕ, ℤ, List, [], ◌∷◌, ◌++◌, length, length-append, Option, None, Some, refl, inl, inr, sym, ap, subst, ◌∙◌, append_assoc, append-nil, arith}
 use Rattle.ert_effects.specs.Ways.{Way, alone}
 use Rattle.ert_defs.specs.Lines.{Face}
 use Rattle.ert_defs.specs.Readings.{IsValid}
@@ -13,7 +13,8 @@ use Rattle.ert_io.specs.Readings.{reading_before}
 use Rattle.ert_ops.specs.declared.op.Op.{Op}
 use Rattle.ert_ops.specs.declared.op.Op.TheVariants as ops
 use Rattle.ert_race.specs.Written.{Returned}
-use Rattle.ert_world.specs.Lived.{IsLived}
+use Rattle.ert_laws.specs.KeptLaws.{KeepsLaws}
+use Rattle.ert_race.proofs.Written.{has_history}
 use Rattle.ert_world.specs.Openings.{IsOpened}
 use Rattle.ert_world.specs.Worlds.{Seen}
 use Rattle.ert_script.proofs.Runs.{runs_none, runs_more}
@@ -27,7 +28,7 @@ use Rattle.ert_transcript.specs.declared.reply.Reply.TheVariants as replies
 use Rattle.ert_program.proofs.Transcripts.{stands_for}
 use Rattle.ert_race.proofs.Written.{script_of}
 use Rattle.ert_program.specs.Endings.{without_desk}
-use Rattle.ert_program.specs.Lives.{AreValid, live_settings, live_ops, live_part, live_lines, refused_reading, IsLive, readings_before, LiveDone, LiveRefused, LiveStopped, Watched, Lived, Tells}
+use Rattle.ert_program.specs.Lives.{AreValid, live_settings, live_ops, live_part, live_lines, refused_reading, IsLive, readings_before, TakesReadings, LiveDone, LiveRefused, LiveStopped, Watched, Lived, Tells}
 use Rattle.ert_program.specs.Streams.{Clock}
 use Rattle.ert_program.specs.declared.ending.EndStatus.TheVariants.{Done, Refused, ClockFault}
 
@@ -209,9 +210,9 @@ refused_later n c d count now w lines text bad below far given not whole =
 
 pub watched_all : (n : ℕ) (c d : Clock) (count : ℕ) (w : Seen) (lines text : List ℕ) (r : Returned) → count ≡ n
     → IsWatched count c.left d.left w lines → text ≡ lines ++ end_line w.clock.face.time
-    → settings_of (arc_value r.0) ≡ w.settings → KnowsAll (arc_value r.0) r.1 w.history → IsLived w.settings w.history
-    → Watched n c d (record { status = Done; desk = Some r }) text
-watched_all n c d count w lines text r all far whole named knows lived =
+    → settings_of (arc_value r.0) ≡ w.settings → KnowsAll (arc_value r.0) r.1 w.history → KeepsLaws w.settings w.history
+    → Watched n c d (record { status = Done; desk = Some r; refusal = None }) text
+watched_all n c d count w lines text r all far whole named knows laws =
     let first : Reading = far.first in
     let has : Lived first far.others w lines = far.lived in
     let there = stands_for (live_settings first) has.start w (ops.Time ∷ ops.System ∷ live_ops far.others) has.replies [] has.opened has.runs has.stands in
@@ -224,9 +225,7 @@ watched_all n c d count w lines text r all far whole named knows lived =
       valid = far.valid;
       is = is_live first far.others w lines has;
       whole = whole ∙ ap (λ (f : Face). lines ++ end_line f.time) there.clock.face;
-      settings = named ∙ there.settings;
-      history = subst (λ (h : List Entry). KnowsAll (arc_value r.0) r.1 h) there.history knows;
-      lived = subst (λ (g : Settings). IsLived g has.runs.grows.piece) there.settings (subst (λ (h : List Entry). IsLived w.settings h) there.history lived);
+      desk = has_history (live_settings first) has.runs.grows.piece w r there.settings there.history named knows laws;
     } in
     record {
       done = λ e. made;
@@ -234,4 +233,22 @@ watched_all n c d count w lines text r all far whole named knows lived =
       clock_fault = λ e. cc;
       only = inl refl;
       no_desk = λ e. absurd (e refl);
+    }
+
+-- one reading was taken
+pub takes_one : (n : ℕ) (r : Reading) (left left_new : Option (List Reading)) → 1 ≤ n → left ≡ reading_before r left_new → TakesReadings n left left_new
+takes_one n r left None some given = record { readings = r ∷ []; few = some; given = given }
+takes_one n r left (Some later) some given = record { readings = r ∷ []; few = some; given = given }
+
+-- so many were taken, and one more
+pub takes_next : (n count : ℕ) (left mid left_new : Option (List Reading)) (w : Seen) (lines : List ℕ) (r : Reading) → count < n
+    → IsWatched count left mid w lines → mid ≡ reading_before r left_new → TakesReadings n left left_new
+takes_next n count left mid left_new w lines r below far given =
+    let before = far.counted in
+    let more : length ((far.first ∷ far.others) ++ r ∷ []) ≡ length (far.first ∷ far.others) + 1 = length-append (far.first ∷ far.others) (r ∷ []) in
+    record {
+      readings = (far.first ∷ far.others) ++ r ∷ [];
+      few = omega arith;
+      given = far.given ∙ ap (λ (k : Option (List Reading)). readings_before (far.first ∷ far.others) k) given
+          ∙ before_more (far.first ∷ far.others) r left_new;
     }

@@ -1,6 +1,5 @@
 pub mod Draws
 pub mod Endings
-pub mod Explained
 pub mod Generated
 pub mod Inputs
 pub mod Lives
@@ -10,3 +9,4 @@ pub mod Runs
 pub mod Steps
 pub mod Streams
 pub mod Stresses
+pub mod Unread

@@ -1,7 +1,6 @@
 -- What `live` leaves.
 
-use Rattle.std.specs.Arc.{arc_value}
-use Rattle.std.specs.Prelude.{◌≡◌, ◌≢◌, ◌<◌, ◌+◌, ◌⊎◌, ℕ, ℤ, pos, true, List, [], ◌∷◌, ◌++◌, length, codes, decimal, Option, Some, None, option_map, IsSomeAnd}
+use Rattle.std.specs.Prelude.{◌≡◌, ◌≢◌, ◌<◌, ◌≤◌, ◌+◌, ◌⊎◌, ℕ, ℤ, pos, true, List, [], ◌∷◌, ◌++◌, length, codes, decimal, Option, Some, None, option_map, IsSomeAnd}
 use Rattle.std.specs.Fmt.{signed_decimal}
 use Rattle.ert_effects.specs.Ways.{alone}
 use Rattle.ert_defs.specs.Legal.{Legal}
@@ -15,12 +14,10 @@ use Rattle.ert_io.specs.Faults.{Rose}
 use Rattle.ert_io.specs.Told.{took, TakesFront}
 use Rattle.ert_ops.specs.declared.op.Op.{Op}
 use Rattle.ert_ops.specs.declared.op.Op.TheVariants as ops
-use Rattle.ert_race.specs.Written.{Returned}
-use Rattle.ert_world.specs.Lived.{IsLived}
+use Rattle.ert_race.specs.Written.{Returned, HasHistory}
 use Rattle.ert_world.specs.Openings.{IsOpened}
 use Rattle.ert_world.specs.Worlds.{Seen, StandsFor}
 use Rattle.ert_script.specs.Scripts.{Does, Runs}
-use Rattle.ert_table.specs.Desks.{settings_of, KnowsAll}
 use Rattle.ert_transcript.specs.Labels.{Labels}
 use Rattle.ert_transcript.specs.Scripts.{Script}
 use Rattle.ert_transcript.specs.Texts.{◌⋅◌, end_line}
@@ -78,8 +75,14 @@ AreLive (first ∷ others) text = IsLive first others text
 abbrev pub readings_before : List Reading → Option (List Reading) → Option (List Reading)
 readings_before taken known = option_map (λ later. taken ++ later) known
 
--- n valid readings were taken; the text is their lines and the end line, and the pass has every actor and
--- for its history just the entries of their script run
+-- at most n readings were taken
+pub record TakesReadings (n : ℕ) (left left_new : Option (List Reading)) : Type 0 where
+  pub readings : List Reading
+  pub few : length readings ≤ n
+  pub given : left ≡ readings_before readings left_new
+
+-- n valid readings were taken; the text is their lines and the end line, and the desk that is returned has for its
+-- history just the entries of their script run
 pub record LiveDone (n : ℕ) (left left_new : Option (List Reading)) (text : List ℕ) (r : Returned) : Type 0 where
   pub first : Reading
   pub others : List Reading
@@ -89,9 +92,7 @@ pub record LiveDone (n : ℕ) (left left_new : Option (List Reading)) (text : Li
   pub valid : AreValid (first ∷ others)
   pub is : IsLive first others lines
   pub whole : text ≡ lines ⋅ end_line (state (live_settings first) is.entries).clock.now
-  pub settings : settings_of (arc_value r.0) ≡ live_settings first
-  pub history : KnowsAll (arc_value r.0) r.1 is.entries
-  pub lived : IsLived (live_settings first) is.entries
+  pub desk : HasHistory (live_settings first) is.entries r
 
 -- fewer than n valid readings were taken, and then one that isn't valid; the text is the lines of the valid
 -- ones, and the line of the other
@@ -140,7 +141,7 @@ pub record LiveEnds (n : ℕ) (c d : Clock) (o p : Output) (e : Ended) : Type 0 
   pub refused : e.status ≡ Refused → Writes o p (LiveRefused n c.left d.left)
   pub clock_fault : e.status ≡ ClockFault → Rose c.faults d.faults × Writes o p (LiveStopped n c.left d.left)
   pub write_fault : e.status ≡ WriteFault → Rose o.faults p.faults × BreaksOff n c d o p
-  pub no_memory : e.status ≡ NoMemory → p ≡ o
+  pub no_memory : e.status ≡ NoMemory → TakesReadings n c.left d.left × (p ≡ o)
   pub only : (e.status ≡ Done) ⊎ (e.status ≡ Refused) ⊎ (e.status ≡ ClockFault) ⊎ (e.status ≡ WriteFault) ⊎ (e.status ≡ NoMemory)
   -- where nothing fails and the readings are valid, only want of memory keeps it from being done
   pub complete : (Rose c.faults d.faults → ⊥) → (Rose o.faults p.faults → ⊥)

@@ -1,6 +1,7 @@
 ghost use Rattle.std.specs.Prelude.{◌≡◌};
 ghost use Rattle.ert_program.specs.Endings.{code_of, without_desk, end_of};
 
+use ert_scenario::ScenarioErr;
 use ert_script::RunErr;
 use ert_table::{Desk, Pass};
 use std::sync::Arc;
@@ -45,10 +46,23 @@ impl EndStatus {
     }
 }
 
+/// Why `run` or `race` refused its input.
+#[derive(Drop)]
+pub struct Refusal {
+    /// Whether a scenario with a race was wanted.
+    pub race: bool,
+    /// The whole input.
+    pub bytes: Vec<u8>,
+    /// The refusal that these bytes have.
+    pub why: ScenarioErr,
+}
+
 /// What a run of the program leaves.
 #[derive(Drop)]
 pub struct Ended {
     pub status: EndStatus,
+    /// Why the input was refused: it is there where `run` or `race` ends as Refused, and only there.
+    pub refusal: Option<Refusal>,
     /// A share of the desk that the calls were made on, with the pass that holds every actor of it. It is there at
     /// Done, and only there. `Desk::close` reads its words.
     pub desk: Option<(Arc<Desk>, Pass)>,
@@ -63,16 +77,21 @@ impl Ended {
             Ok(desk) => Ended {
                 status: EndStatus::Done,
                 desk: Some(desk),
+                refusal: None,
             },
             Err(RunErr::WriteFault) => Ended::without_desk(EndStatus::WriteFault),
             Err(RunErr::NoMemory) => Ended::without_desk(EndStatus::NoMemory),
         }
     }
 
-    /// An end at which no run is done.
+    /// An end at which no run is done and no input is refused.
     pub(crate) fn without_desk(status: EndStatus) -> Ended
         ensures { result ≡ without_desk status }
     {
-        Ended { status, desk: None }
+        Ended {
+            status,
+            desk: None,
+            refusal: None,
+        }
     }
 }

@@ -1,10 +1,11 @@
 //! What the program `ertime` does, over any source and sink of bytes, any clock and any gate: it reads a scenario
 //! of the clock and timer service, and writes one line for each reply.
 //!
-//! `ertime` is the whole program; its contract says what each status means. Its commands stand in `running`,
-//! `racing`, `living` and `stressing`. It stands on `ert_scenario`, which reads, `ert_script`, which runs the ops
-//! on a world, `ert_race`, which lets threads run lists of them, `ert_explain`, which explains a refusal, `ert_io`, and
-//! `ert_table`, whose desk it returns.
+//! `ertime` is the whole program; its contract says what each status means. Its commands stand in `running` and
+//! `racing`, which `reading` gives a scenario, and in `living` and `stressing`. It stands on `ert_scenario`, which reads,
+//! `ert_script`, which runs the ops on a world, `ert_race`, which lets threads run lists of them, `ert_io`, and
+//! `ert_table`, whose desk it returns. Where it refuses its input it returns the bytes and their refusal, which
+//! `ert_explain` explains.
 //!
 //! `stress` runs a scenario that `generate` makes from a number, the same each time. `specs/Generated` defines the
 //! scenario of each seed as a function that computes: the draws of a linear congruential generator (`specs/Draws`),
@@ -20,14 +21,14 @@ mod generator;
 mod in_memory;
 mod laws;
 mod living;
-mod nowhere;
 mod program;
 mod racing;
+mod reading;
 mod refusal;
 mod running;
 mod stressing;
 
-pub use ending::{EndStatus, Ended};
+pub use ending::{EndStatus, Ended, Refusal};
 pub use generation::generate;
 pub use in_memory::run_in_memory;
 pub use laws::{first_draws, generated_scenarios_are_valid};

@@ -1,11 +1,11 @@
 //! The command `live`.
-ghost use Rattle.std.specs.Prelude.{◌≡◌, ◌≤◌, ◌++◌, [], ◌∷◌, List, None, IfOk, OnOk, string_bytes};
+ghost use Rattle.std.specs.Prelude.{◌≡◌, ◌≤◌, ◌++◌, [], ◌∷◌, List, None, IfOk, OnOk, OnErr, string_bytes};
 ghost use Rattle.ert_defs.specs.Readings.{IsValid};
 ghost use Rattle.ert_defs.specs.declared.settings.Reading.{Reading as OneReading};
 ghost use Rattle.ert_ops.specs.declared.op.Op.TheVariants as ops;
 ghost use Rattle.ert_script.specs.Scripts.{Does};
 ghost use Rattle.ert_transcript.specs.declared.reply.Reply.TheVariants as replies;
-ghost use Rattle.ert_program.specs.Lives.{live_settings, live_part, refused_reading, Watched, LiveEnds, Lived, Tells};
+ghost use Rattle.ert_program.specs.Lives.{live_settings, TakesReadings, live_part, refused_reading, Watched, LiveEnds, Lived, Tells};
 ghost use Rattle.ert_program.specs.Streams.{clock_of, output_of};
 
 use crate::ending::{EndStatus, Ended};
@@ -24,6 +24,7 @@ pub fn live<O: Sink, C: OsClock>(alloc: Global, n: u64, clock: &mut C, output: &
     requires room { O.room output.old ≡ None }
     ensures ends { LiveEnds n (clock_of C.left C.faults clock.old) (clock_of C.left C.faults clock.new)
         (output_of O.taken O.room O.faults output.old) (output_of O.taken O.room O.faults output.new) result }
+    ensures no_refusal { result.refusal ≡ None }
     ensures later { O.faults output.old ≤ O.faults output.new }
     ensures later_clock { C.faults clock.old ≤ C.faults clock.new }
 {
@@ -47,6 +48,8 @@ fn watch<C: OsClock>(
     requires some { 1 ≤ n }
     requires empty { string_bytes page.old ≡ [] }
     ensures ok { IfOk result (λ made. Watched n (clock_of C.left C.faults clock.old) (clock_of C.left C.faults clock.new) made (string_bytes page.new)) }
+    ensures err { OnErr result (TakesReadings n (C.left clock.old) (C.left clock.new)) }
+    ensures no_refusal { IfOk result (λ made. made.refusal ≡ None) }
     ensures later { C.faults clock.old ≤ C.faults clock.new }
 {
     let Ok(first) = clock.read() else {
@@ -71,6 +74,7 @@ fn watch<C: OsClock>(
     Ok(Ended {
         status: EndStatus::Done,
         desk: Some(world.into_desk()),
+        refusal: None,
     })
 }
 

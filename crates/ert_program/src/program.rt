@@ -1,13 +1,12 @@
-ghost use Rattle.std.specs.Prelude.{◌≡◌, ◌≢◌, ◌≤◌, ◌⊎◌, ℕ, true, false, Some, None};
+ghost use Rattle.std.specs.Prelude.{◌≡◌, ◌≢◌, ◌≤◌, ◌⊎◌, ℕ, false, Some, None, IsSomeAnd};
 ghost use Rattle.ert_command.specs.declared.command.Command.TheVariants.{Run, Race, Live, Stress};
 ghost use Rattle.ert_io.specs.Faults.{Rose};
 ghost use Rattle.ert_io.specs.Told.{took, TakesFront};
-ghost use Rattle.ert_program.specs.Endings.{asked, UsageEnds};
-ghost use Rattle.ert_program.specs.Explained.{Explains};
+ghost use Rattle.ert_program.specs.Endings.{asked, reads_input, reads_clock, HasItsRefusal, UsageEnds};
 ghost use Rattle.ert_program.specs.Lives.{LiveEnds};
-ghost use Rattle.ert_program.specs.Races.{RaceEnds};
+ghost use Rattle.ert_program.specs.Races.{RaceEnds, RaceOn};
 ghost use Rattle.ert_program.specs.Refusals.{usage_line};
-ghost use Rattle.ert_program.specs.Runs.{AllFits, RunEnds};
+ghost use Rattle.ert_program.specs.Runs.{AllFits, RunEnds, RunOn};
 ghost use Rattle.ert_program.specs.Streams.{told_of, input_of, output_of, clock_of};
 ghost use Rattle.ert_program.specs.Stresses.{StressEnds};
 
@@ -28,29 +27,18 @@ const USAGE: &str = "usage: ertime run | race | live N | stress SEED N\n";
 /// writes its transcript to the output; `race` lets threads do the lists of a scenario, each of which passes the
 /// gate before each of its turns, and writes the report; `live` takes readings of the clock, and writes both times after each;
 /// `stress` makes a scenario from a seed, and writes how many of its timers have which status in the end. At
-/// Done it returns the desk that the calls were made on. Where `run` or `race` refuses its input, a message to `errors`
-/// tells why.
+/// Done it returns the desk that the calls were made on. Where `run` or `race` refuses its input, it returns the bytes
+/// with their refusal.
 ///
-/// An output that tells its room has room for all that may be written, and then the command is `run`. `errors` tells no
-/// room, and what becomes of the message changes nothing else.
+/// An output that tells its room has room for all that may be written, and then the command is `run`.
 pub fn ertime<
     R: AllocGlobal + Threads + Wait + Sync,
     I: Source,
     O: Sink,
-    E: Sink,
     C: OsClock,
     G: Gate + Sync,
->(
-    rt: &R,
-    words: &[String],
-    input: &mut I,
-    output: &mut O,
-    errors: &mut E,
-    clock: &mut C,
-    gate: &G,
-) -> Ended
+>(rt: &R, words: &[String], input: &mut I, output: &mut O, clock: &mut C, gate: &G) -> Ended
     requires fits { AllFits (asked words.now) (I.left input.old) (O.room output.old) }
-    requires errors_room { E.room errors.old ≡ None }
     ensures run { asked words.now ≡ Some Run
         → RunEnds (input_of I.left I.faults input.old) (input_of I.left I.faults input.new)
         (output_of O.taken O.room O.faults output.old) (output_of O.taken O.room O.faults output.new) result }
@@ -65,26 +53,28 @@ pub fn ertime<
     ensures usage { asked words.now ≡ None
         → UsageEnds (output_of O.taken O.room O.faults output.old) (output_of O.taken O.room O.faults output.new) result }
 
+    // The desk that `run` and `race` return has the very history of what was written; `live` and `stress` say it themselves.
+    ensures run_desk { asked words.now ≡ Some Run → result.status ≡ EndStatus.Done
+        → IsSomeAnd result.desk (RunOn (I.left input.old) (I.left input.new) (told_of O.taken O.room output.old) (told_of O.taken O.room output.new)) }
+    ensures race_desk { asked words.now ≡ Some Race → result.status ≡ EndStatus.Done
+        → IsSomeAnd result.desk (RaceOn (I.left input.old) (I.left input.new) (told_of O.taken O.room output.old) (told_of O.taken O.room output.new)) }
+    ensures no_desk { result.status ≢ EndStatus.Done → result.desk ≡ None }
+    ensures refusal { HasItsRefusal result }
+    ensures no_refusal { result.status ≢ EndStatus.Refused → result.refusal ≡ None }
+
     // Only `run` and `race` read the input, and only `live` the clock.
-    ensures unread { (asked words.now ≡ Some Run → ⊥) → (asked words.now ≡ Some Race → ⊥) → input.new ≡ input.old }
-    ensures untaken { ((n : ℕ) → asked words.now ≡ Some (Live n) → ⊥) → clock.new ≡ clock.old }
+    ensures unread { reads_input (asked words.now) ≡ false → input.new ≡ input.old }
+    ensures untaken { reads_clock (asked words.now) ≡ false → clock.new ≡ clock.old }
     ensures later { I.faults input.old ≤ I.faults input.new }
     ensures later_out { O.faults output.old ≤ O.faults output.new }
     ensures later_clock { C.faults clock.old ≤ C.faults clock.new }
-    ensures explained_run { asked words.now ≡ Some Run → result.status ≡ EndStatus.Refused
-        → Explains false (I.left input.old) (I.left input.new) (told_of E.taken E.room errors.old) (told_of E.taken E.room errors.new) }
-    ensures explained_race { asked words.now ≡ Some Race → result.status ≡ EndStatus.Refused
-        → Explains true (I.left input.old) (I.left input.new) (told_of E.taken E.room errors.old) (told_of E.taken E.room errors.new) }
-    ensures quiet { result.status ≢ EndStatus.Refused → errors.new ≡ errors.old }
-    ensures quiet_others { (asked words.now ≡ Some Run → ⊥) → (asked words.now ≡ Some Race → ⊥) → errors.new ≡ errors.old }
-    ensures later_errors { E.faults errors.old ≤ E.faults errors.new }
 {
     let Ok(command) = command_of(rt.alloc(), words) else {
         return Ended::without_desk(EndStatus::NoMemory);
     };
     match command {
-        Some(Command::Run) => run(rt.alloc(), input, output, errors),
-        Some(Command::Race) => race(rt, rt.alloc(), input, output, errors, gate),
+        Some(Command::Run) => run(rt.alloc(), input, output),
+        Some(Command::Race) => race(rt, rt.alloc(), input, output, gate),
         Some(Command::Live(n)) => live(rt.alloc(), n, clock, output),
         Some(Command::Stress { seed, n }) => Ended::of_run(stress(rt.alloc(), seed, n, output)),
         None => Ended::without_desk(usage(output)),

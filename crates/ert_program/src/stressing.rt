@@ -2,12 +2,12 @@
 ghost use Rattle.std.specs.Prelude.{◌≡◌, ◌≤◌, ◌++◌, None, IfOk, OnOk, IsErrOf, string_bytes};
 ghost use Rattle.ert_defs.specs.States.{state};
 ghost use Rattle.ert_program.specs.Generated.{generated};
+ghost use Rattle.ert_program.specs.Inputs.{RanOn};
 ghost use Rattle.ert_io.specs.Faults.{Rose};
-ghost use Rattle.ert_io.specs.Told.{TakesFront};
 ghost use Rattle.ert_laws.specs.Counts.{counts_of};
 ghost use Rattle.ert_world.specs.Counted.{AreTidy};
 ghost use Rattle.ert_program.specs.Streams.{told_of};
-ghost use Rattle.ert_program.specs.Stresses.{summary, summary_of, CountsOn, HasRun};
+ghost use Rattle.ert_program.specs.Stresses.{SummaryOf, StopsSummary, summary_of, HasRun};
 
 use crate::generation::generate;
 use crate::laws::generated_scenarios_are_valid;
@@ -29,9 +29,9 @@ pub fn stress<O: Sink>(
 ) -> Result<(Arc<Desk>, Pass), RunErr>
     requires room { O.room output.old ≡ None }
     requires count { n ≤ 100000 }
-    ensures ok { IfOk result (λ r. CountsOn (generated seed n) (told_of O.taken O.room output.old) (told_of O.taken O.room output.new) r) }
+    ensures ok { IfOk result (λ r. RanOn SummaryOf (generated seed n) (told_of O.taken O.room output.old) (told_of O.taken O.room output.new) r) }
     ensures write_fault { IsErrOf result RunErr.WriteFault
-        → TakesFront (told_of O.taken O.room output.old) (told_of O.taken O.room output.new) (summary (generated seed n)) }
+        → StopsSummary (generated seed n) (told_of O.taken O.room output.old) (told_of O.taken O.room output.new) }
     ensures no_memory { IsErrOf result RunErr.NoMemory → output.new ≡ output.old }
     ensures later { O.faults output.old ≤ O.faults output.new }
     ensures cause { IsErrOf result RunErr.WriteFault → Rose (O.faults output.old) (O.faults output.new) }

@@ -1,38 +1,19 @@
--- The laws of outcomes.
+-- The laws of what is done in a race.
 
-use Rattle.std.proofs.Common.{◌≡◌, ℕ, suc, List, [], ◌∷◌, ◌++◌, length, ◌≤ℤ◌, sym, ap, subst, ◌∙◌, append-nil}
+use Rattle.std.proofs.Common.{◌≡◌, ℕ, suc, List, [], ◌∷◌, ◌++◌, length, ap, ◌∙◌, append-nil}
 use Rattle.std.proofs.lemmas.List.Elements.{filter-append}
 use Rattle.ert_effects.specs.Ways.{Growth, Way, beside}
-use Rattle.ert_defs.proofs.Runs.{legal_first}
-use Rattle.ert_defs.proofs.Times.{time_rises}
 use Rattle.ert_defs.specs.Actors.{of, has_actor}
-use Rattle.ert_defs.specs.Legal.{Legal}
-use Rattle.ert_defs.specs.States.{opening, state}
 use Rattle.ert_defs.specs.declared.entry.Actor.{Actor}
 use Rattle.ert_defs.specs.declared.entry.Actor.TheVariants.{Sched, Caller}
 use Rattle.ert_defs.specs.declared.entry.Entry.{Entry}
 use Rattle.ert_defs.specs.declared.settings.Settings.{Settings}
-use Rattle.ert_laws.proofs.Looks.{due_by_now}
-use Rattle.ert_laws.proofs.Mailboxes.{mailboxes}
-use Rattle.ert_laws.proofs.Permissions.{permitted}
-use Rattle.ert_laws.proofs.TimerLives.{lives}
 use Rattle.ert_ops.specs.declared.op.Op.{Op}
-use Rattle.ert_race.specs.Laws.{LawOfOutcomes, LawOfPieces, LawOfTurns, LawOfReplies}
+use Rattle.ert_race.specs.Laws.{LawOfPieces, LawOfTurns, LawOfReplies}
 use Rattle.ert_race.specs.Made.{Makes}
 use Rattle.ert_transcript.specs.Labels.{Labels}
 use Rattle.ert_transcript.specs.Scripts.{Script, labels_after}
 use Rattle.ert_transcript.specs.declared.reply.Reply.{Reply}
-
-pub outcomes_keep : LawOfOutcomes
-outcomes_keep g ops race h text checked is = record {
-  time = λ f m parted.
-      subst (λ (l : List Entry). (state g f).clock.now ≤ℤ (state g l).clock.now) (sym parted) (time_rises g f m checked (subst (Legal g) parted is.legal));
-  clock = permitted g h checked is.legal;
-  expiry = λ f m e timer parted event.
-      due_by_now g f e timer checked (legal_first g (opening g) (f ++ e ∷ []) m (subst (Legal g) parted is.legal)) event;
-  lives = λ r. lives g h r is.legal;
-  mail = λ p. mailboxes g h p is.legal;
-}
 
 pub in_pieces : (a : Actor) (call : Growth) (h stretch : List Entry) (makes : Makes a call h stretch) → of stretch a ≡ of makes.pieces a
 in_pieces a call h stretch makes =

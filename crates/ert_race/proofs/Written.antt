@@ -13,20 +13,20 @@ use Rattle.ert_io.proofs.Takes.{took-took, front_after}
 use Rattle.ert_io.specs.Known.{HasRoom}
 use Rattle.ert_io.specs.Told.{Told, took, room_after, TakesFront}
 use Rattle.ert_laws.specs.Counts.{counts_of}
+use Rattle.ert_laws.specs.KeptLaws.{KeepsLaws}
 use Rattle.ert_ops.specs.Races.{Race}
 use Rattle.ert_ops.specs.declared.op.Op.{Op}
 use Rattle.ert_race.specs.Outcomes.{Races, IsOutcome}
 use Rattle.ert_race.specs.Reports.{Did, behind}
 use Rattle.ert_race.specs.Ends.{RacesTo}
-use Rattle.ert_race.specs.Written.{Returned, MayWrite, RacesOn, StopsRace}
-use Rattle.ert_world.specs.Lived.{IsLived}
+use Rattle.ert_race.specs.Written.{Returned, HasHistory, MayWrite, RacesOn, StopsRace}
 use Rattle.ert_world.specs.Openings.{IsOpened}
 use Rattle.ert_world.specs.Worlds.{Seen, StandsFor}
 use Rattle.ert_script.specs.Scripts.{Runs}
 use Rattle.ert_script.specs.Written.{WritesRun, LinesFit}
 use Rattle.ert_table.specs.Desks.{settings_of, KnowsAll}
 use Rattle.ert_transcript.specs.Labels.{Labels}
-use Rattle.ert_transcript.specs.Scripts.{Script, lines_of}
+use Rattle.ert_transcript.specs.Scripts.{Script, IsBeginning, lines_of}
 use Rattle.ert_transcript.specs.declared.reply.Reply.{Reply}
 
 -- a run from an opened world on, where no label is bound, is a script run from the empty history on
@@ -42,10 +42,10 @@ whole_piece : (g : Settings) (start v : Seen) (list : List Op) (rs : List Reply)
     → v.history ≡ ran.grows.piece
 whole_piece g start v list rs after opened ran = ran.grows.grown ∙ ap (λ (x : List Entry). x ++ ran.grows.piece) opened.stands.history
 
--- the lines of some first ops are what a race may write
-pub beginning : (g : Settings) (list : List Op) (race : Race) (start v : Seen) (n : ℕ) (rs : List Reply) (after : Labels) → IsOpened g start
-    → Runs start [] (take n list) rs v after → StandsFor v.settings v.history v → MayWrite g list race (lines_of [] (take n list) rs)
-beginning g list race start v n rs after opened ran stands = inl (record {
+-- the lines of some first ops
+pub beginning_of : (g : Settings) (list : List Op) (start v : Seen) (n : ℕ) (rs : List Reply) (after : Labels) → IsOpened g start
+    → Runs start [] (take n list) rs v after → StandsFor v.settings v.history v → IsBeginning g list (lines_of [] (take n list) rs)
+beginning_of g list start v n rs after opened ran stands = record {
   done = n;
   entries = ran.grows.piece;
   replies = rs;
@@ -54,7 +54,12 @@ beginning g list race start v n rs after opened ran stands = inl (record {
       (subst (λ (x : List Entry). Legal v.settings x) (whole_piece g start v (take n list) rs after opened ran) stands.clock.legal);
   runs = script_of g start v (take n list) rs after opened ran;
   reads = refl;
-})
+}
+
+-- are what a race may write
+pub beginning : (g : Settings) (list : List Op) (race : Race) (start v : Seen) (n : ℕ) (rs : List Reply) (after : Labels) → IsOpened g start
+    → Runs start [] (take n list) rs v after → StandsFor v.settings v.history v → MayWrite g list race (lines_of [] (take n list) rs)
+beginning g list race start v n rs after opened ran stands = inl (beginning_of g list start v n rs after opened ran stands)
 
 -- the ops and then the race are an outcome
 pub outcome_of : (g : Settings) (list : List Op) (race : Race) (start v w : Seen) (rs : List Reply) (after : Labels) (dids : List Did) → IsOpened g start
@@ -95,20 +100,27 @@ stops_behind g list race start v after old new opened ran =
       };
     }
 
+-- the desk that a world gives out has its history, and so that history by another name
+pub has_history : (g : Settings) (h : List Entry) (w : Seen) (r : Returned) → w.settings ≡ g → w.history ≡ h
+    → settings_of (arc_value r.0) ≡ w.settings → KnowsAll (arc_value r.0) r.1 w.history → KeepsLaws w.settings w.history → HasHistory g h r
+has_history g h w r of_settings of_history named all laws = record {
+  settings = named ∙ of_settings;
+  knows = subst (λ (x : List Entry). KnowsAll (arc_value r.0) r.1 x) of_history all;
+  laws = subst (λ (x : Settings). KeepsLaws x h) of_settings (subst (λ (x : List Entry). KeepsLaws w.settings x) of_history laws);
+}
+
 -- all was written: it is an outcome, and the desk is given out
 pub ends : (g : Settings) (list : List Op) (race : Race) (start v w : Seen) (after : Labels) (dids : List Did) (page : List ℕ) (old mid new : Told) (r : Returned)
     → IsOpened g start → WritesRun start [] list v after old mid → RacesTo v after race dids w → StandsFor w.settings w.history w
     → page ≡ behind after dids (counts_of w.settings (state w.settings w.history)) w.clock.face.time → new ≡ took mid page
-    → settings_of (arc_value r.0) ≡ w.settings → KnowsAll (arc_value r.0) r.1 w.history → IsLived w.settings w.history → RacesOn g list race old new r
-ends g list race start v w after dids page old mid new r opened ran raced stands told_all written named all lived = record {
+    → settings_of (arc_value r.0) ≡ w.settings → KnowsAll (arc_value r.0) r.1 w.history → KeepsLaws w.settings w.history → RacesOn g list race old new r
+ends g list race start v w after dids page old mid new r opened ran raced stands told_all written named all laws = record {
   history = w.history;
   text = lines_of [] list ran.replies ++ page;
   is = subst (λ (t : List ℕ). IsOutcome g list race w.history (lines_of [] list ran.replies ++ t)) (sym told_all)
       (outcome_of g list race start v w ran.replies after dids opened ran.runs raced stands);
   writes = written ∙ (ap (λ (t : Told). took t page) ran.writes ∙ took-took old (lines_of [] list ran.replies) page);
-  settings = named ∙ settings_are;
-  knows = all;
-  lived = subst (λ (x : Settings). IsLived x w.history) settings_are lived;
+  desk = has_history g w.history w r settings_are refl named all laws;
 }
   where
     settings_are : w.settings ≡ g

@@ -1,43 +1,17 @@
--- Laws of outcomes. The functions of src/laws.rt carry them as contracts, so that they are proved.
+-- Laws of what is done in a race. The functions of src/laws.rt carry them as contracts, so that they are proved.
 
-use Rattle.std.specs.Prelude.{◌≡◌, ℕ, ◌≤ℤ◌, Bool, true, false, List, [], ◌∷◌, ◌++◌, map, filter, length}
+use Rattle.std.specs.Prelude.{◌≡◌, ℕ, Bool, true, false, List, filter, length}
 use Rattle.ert_defs.specs.Actors.{of}
-use Rattle.ert_defs.specs.Settings.{IsChecked}
-use Rattle.ert_defs.specs.States.{state}
 use Rattle.ert_defs.specs.declared.entry.Actor.TheVariants.{Sched, Caller}
 use Rattle.ert_defs.specs.declared.entry.Entry.{Entry}
 use Rattle.ert_defs.specs.declared.entry.Event.{Event}
-use Rattle.ert_defs.specs.declared.entry.Event.TheVariants.{Expire, Advanced}
+use Rattle.ert_defs.specs.declared.entry.Event.TheVariants.{Advanced}
 use Rattle.ert_defs.specs.declared.settings.Settings.{Settings}
-use Rattle.ert_defs.specs.declared.timer.TimerRef.{TimerRef}
-use Rattle.ert_laws.specs.ClockLaws.{IsDueBy}
-use Rattle.ert_laws.specs.Lives.{life, life_to}
-use Rattle.ert_laws.specs.MailOrder.{sent_to, taken_from}
-use Rattle.ert_laws.specs.Permitted.{Permitted}
-use Rattle.ert_ops.specs.Races.{Race}
 use Rattle.ert_ops.specs.declared.op.Op.{Op}
 use Rattle.ert_race.specs.Made.{MakesTurns, MakesRound}
-use Rattle.ert_race.specs.Outcomes.{DoesList, IsOutcome}
+use Rattle.ert_race.specs.Outcomes.{DoesList}
 use Rattle.ert_race.specs.Reports.{Did}
 use Rattle.ert_transcript.specs.Labels.{Labels}
-
--- what is so of a history of several threads
-pub record KeepsLaws (g : Settings) (h : List Entry) : Type 0 where
-  -- monotonic time never falls
-  pub time : (f m : List Entry) → h ≡ f ++ m → (state g f).clock.now ≤ℤ (state g h).clock.now
-  -- the clock moves only as it may, and the offset only as the mode permits
-  pub clock : Permitted g h
-  -- no timer expires before its deadline
-  pub expiry : (f m : List Entry) (e : Entry) (timer : TimerRef) → h ≡ (f ++ e ∷ []) ++ m → e.event ≡ Expire timer
-      → IsDueBy g ((state g f).rows timer.wheel) timer (state g f).clock.now
-  -- each timer settles once at most: its life is one of six
-  pub lives : (r : TimerRef) → life r h ≡ life_to ((state g h).status r)
-  -- what was put into a mailbox is, in order, what was taken from it and then what stands in it
-  pub mail : (p : ℕ) → map (λ x. x.mail) (sent_to g p h) ≡ taken_from p h ++ ((state g h).mails p).queue
-
--- the history of each outcome keeps these laws
-abbrev pub LawOfOutcomes : Type 0
-LawOfOutcomes = (g : Settings) (ops : List Op) (race : Race) (h : List Entry) (text : List ℕ) → IsChecked g → IsOutcome g ops race h text → KeepsLaws g h
 
 -- of a stretch in which a caller does a list, all entries of the caller are in the pieces of the list's calls
 abbrev pub LawOfPieces : Type 0

@@ -35,7 +35,7 @@ mod turns;
 mod workers;
 
 pub use gates::{FreeGate, Gate, LedgerGate};
-pub use laws::{lists_are_done_whole, outcomes_keep_the_laws};
+pub use laws::lists_are_done_whole;
 pub use list::ListDone;
 pub use race::{RaceEnd, race_on};
 pub use run::run_race;

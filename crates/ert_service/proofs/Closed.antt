@@ -6,18 +6,12 @@ use Rattle.atomic_table.specs.Seated.{TableId}
 use Rattle.ert_defs.specs.Legal.{Legal}
 use Rattle.ert_defs.specs.declared.entry.Actor.{Actor}
 use Rattle.ert_defs.specs.declared.entry.Actor.TheVariants.{Keeper, Wheel, Inbox, Sched, MailOf, Caller}
-use Rattle.ert_defs.specs.declared.entry.Entry.{Entry}
 use Rattle.ert_defs.specs.declared.settings.Settings.{Settings}
-use Rattle.ert_laws.proofs.Expiries.{in_order}
-use Rattle.ert_laws.proofs.Mailboxes.{mailboxes}
-use Rattle.ert_laws.proofs.OwnTells.{messages_are_told}
-use Rattle.ert_laws.proofs.TimerLives.{lives}
 use Rattle.ert_locks.proofs.Lent.{holds_self}
 use Rattle.ert_locks.specs.KindLaws.{keepers_are}
 use Rattle.ert_locks.specs.Kinds.{Fits, keepers, wheels, inboxes, scheds, mails}
 use Rattle.ert_locks.specs.Names.{IsDesk}
 use Rattle.ert_world.proofs.Alone.{holds_all}
-use Rattle.ert_world.specs.Lived.{IsLived}
 use Rattle.ert_world.specs.Parts.{AllParts, Stand}
 use Rattle.ert_world.specs.Worlds.{AreFit}
 use Rattle.ert_service.specs.Gathering.{IsSeen, AreIn, AreEmpty, filled}
@@ -88,13 +82,3 @@ fit_of {table} {g} {d} {own} {p} {parts} desk belongs joined = record {
 -- what is seen of one actor has its own entries
 pub own_of : {v w : View} (a : Actor) → v.actors ≡ a ∷ [] → IsSeen v w → HasOwn a v.front w.front
 own_of a only seen = record { begins = seen.begins; own = seen.own a (rw only (holds_self a)) }
-
--- a legal history has lives and mail as every one has
-pub lived_of : (g : Settings) (h : List Entry) → Legal g h → IsLived g h
-lived_of g h legal = record {
-  legal = legal;
-  lives = λ r. lives g h r legal;
-  mailboxes = λ p. mailboxes g h p legal;
-  order = λ w p. in_order g h w p legal;
-  told = λ p. messages_are_told g h p legal;
-}

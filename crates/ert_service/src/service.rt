@@ -50,7 +50,7 @@ impl<L: DeskName> Service<L> {
     ghost use Rattle.std.specs.Prelude.{◌≡◌, IfOk, All};
     ghost use Rattle.std.specs.Arc.{arc_value};
     ghost use Rattle.ert_defs.specs.declared.entry.Actor.TheVariants.{Caller, Sched};
-    ghost use Rattle.ert_world.specs.Lived.{IsLived};
+    ghost use Rattle.ert_laws.specs.KeptLaws.{KeepsLaws};
     ghost use Rattle.ert_world.specs.Parts.{parts_of};
     ghost use Rattle.ert_world.specs.Worlds.{AreFit};
     ghost use Rattle.ert_service.specs.Dividing.{AreSeated, IsPassOf};
@@ -109,15 +109,15 @@ impl<L: DeskName> Service<L> {
     /// together of them. No entry is made, and no memory is taken.
     ///
     /// It takes the pass that `open` gave and all seats, in order of number. The world's history begins with
-    /// what each of them knew, and has no other entries of a seat's actor. It is legal, each of its timers has
-    /// one of six lives, and its mail is in order.
+    /// what each of them knew, and has no other entries of a seat's actor. It is legal, and keeps the laws of time, of
+    /// timers and of mail.
     pub fn close(self, rest: Pass, scheds: Vec<SchedSeat<L>>, callers: Vec<CallerSeat<L>>) -> World
         requires rest { IsPassOf L.table L.settings rest }
         requires scheds { AreNumbered (λ s. s.part.wheel) L.settings.schedulers scheds.items }
         requires callers { AreNumbered (λ s. s.number) L.settings.callers callers.items }
         ensures settings { result.settings ≡ L.settings }
         ensures next { result.next ≡ 1 }
-        ensures lived { IsLived result.settings result.history }
+        ensures laws { KeepsLaws result.settings result.history }
         ensures rest { Begins (front_of rest) result.history }
         ensures scheds { All (λ s. HasOwn (Sched s.part.wheel) (front_of s.pass) result.history) scheds.items }
         ensures callers { All (λ s. HasOwn (Caller s.number) (front_of s.pass) result.history) callers.items }

@@ -33,11 +33,14 @@ impl<'a, L: DeskName, R: Wait> SchedSteps for Sitting<'a, L, R> {
     ghost use Rattle.std.proofs.Common.{refl, ◌∙◌};
     ghost use Rattle.ert_effects.specs.Ways.{beside};
     ghost use Rattle.ert_defs.specs.declared.entry.Actor.TheVariants.{Sched};
+    ghost use Rattle.ert_service.specs.Fronts.{IsLegal};
     ghost use Rattle.ert_table.specs.Desks.{front_of};
 
     ghost settings = { λ s. L.settings };
 
     ghost history = { λ s. front_of s.seat.now.pass };
+
+    ghost is_legal = { λ s. IsLegal L.settings (front_of s.seat.now.pass) };
 
     ghost mark = { λ s. 0 };
 
@@ -46,6 +49,9 @@ impl<'a, L: DeskName, R: Wait> SchedSteps for Sitting<'a, L, R> {
     ghost acts = { λ s sched. s.seat.now.part.wheel ≡ sched };
 
     ghost stays = { λ s t. (t.seat.now.part.wheel ≡ s.seat.now.part.wheel) × (t.seat.ghost_name ≡ s.seat.ghost_name) };
+
+    /// Others may start timers of the wheel between two steps.
+    ghost passed = { λ s sched to. Unit {0} };
 
     fn hold(&mut self, _sched: u32) -> Option<Request> {
         self.service.hold(self.rt, self.seat)
@@ -73,6 +79,8 @@ impl<'a, L: DeskName, R: Wait> SchedSteps for Sitting<'a, L, R> {
 
     ghost acts_on = { λ s t sched stay acts. stay.0 ∙ acts };
 
+    ghost still_passed = { λ s t sched to stay passed. passed };
+
     ghost stay = { λ s t u one other. (other.0 ∙ one.0, other.1 ∙ one.1) };
 
     ghost same = { λ s. (refl, refl) };
@@ -91,11 +99,14 @@ impl<'a, L: DeskName, R: Wait> CallerSteps for Calling<'a, L, R> {
     ghost use Rattle.std.proofs.Common.{refl, ◌∙◌};
     ghost use Rattle.ert_effects.specs.Ways.{beside};
     ghost use Rattle.ert_defs.specs.declared.entry.Actor.TheVariants.{Caller};
+    ghost use Rattle.ert_service.specs.Fronts.{IsLegal};
     ghost use Rattle.ert_table.specs.Desks.{front_of};
 
     ghost settings = { λ s. L.settings };
 
     ghost history = { λ s. front_of s.seat.now.pass };
+
+    ghost is_legal = { λ s. IsLegal L.settings (front_of s.seat.now.pass) };
 
     ghost mark = { λ s. 0 };
 

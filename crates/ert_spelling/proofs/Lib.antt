@@ -5,9 +5,11 @@ pub mod Unseen
 pub mod FirstLines
 pub mod Formats
 pub mod Integers
+pub mod Left
 pub mod Lines
 pub mod OneSpelling
 pub mod PartFormats
 pub mod Splits
+pub mod Stops
 pub mod WordFormats
 pub mod Tables

@@ -1,6 +1,6 @@
--- What stands in a line in place of what could.
+-- Where a line stops being spelled: whose turn it is to read each of its words, and the first that isn't read.
 
-use Rattle.std.specs.Prelude.{◌≡◌, ◌==◌, ℕ, false, List, ◌≤◌, length, take, drop, position, codes, Option, Some, None}
+use Rattle.std.specs.Prelude.{◌≡◌, ℕ, ◌+◌, ◌-◌, Bool, true, false, ◌||◌, List, [], ◌∷◌, length, drop, nat_le, get_or, cond, codes, Option, Some, None, is_some, option_map, unwrap_or, if◌then◌else◌}
 use Rattle.std.specs.Str.{bytes_eq}
 use Rattle.ert_defs.specs.Settings.{Checks}
 use Rattle.ert_defs.specs.declared.settings.Settings.{Settings}
@@ -9,47 +9,129 @@ use Rattle.std.specs.Prelude.{Err}
 use Rattle.ert_spelling.specs.Cuts.{words_in}
 use Rattle.ert_spelling.specs.Events.{event_rows, settings_at}
 use Rattle.ert_spelling.specs.Parts.{Word}
-use Rattle.ert_spelling.specs.Readers.{optional, called, none_at, whole}
+use Rattle.ert_spelling.specs.Readers.{optional, called, keyword, whole}
 use Rattle.ert_spelling.specs.Reading.{small_at, natural_at, integer_at, bool_at, mode_at, state_at, act_at, status_at, kind_at, request_kind_at, actor_at, with_at, left_at, when_rows, mail_rows}
 use Rattle.ert_spelling.specs.declared.wanted.Fault.{Fault}
 use Rattle.ert_spelling.specs.declared.wanted.Wanted.{Wanted}
 use Rattle.ert_spelling.specs.declared.wanted.Wanted.TheVariants.{SettingsWord, Mode, Truth, Integer, Small, Natural, Act, State, Found, Kind, When, Actor, Partner, Event, RequestKind, Picked, Taken, Left, End}
 
--- the bytes up to the first blank, where that stands at a place
-abbrev pub word_to : List ℕ → Option ℕ → Word
-word_to bytes None = bytes
-word_to bytes (Some place) = take place bytes
-
 -- the first word of bytes
 abbrev pub word_in : List ℕ → Word
-word_in bytes = word_to bytes (position (λ b. b == 32) bytes)
+word_in bytes = get_or (words_in bytes) 0 []
 
--- a word isn't one that could stand there: the reader of that reads nothing of it
-abbrev pub IsUnread : Wanted → Word → Type 0
-IsUnread SettingsWord word = bytes_eq word (codes "settings") ≡ false
-IsUnread Mode word = mode_at (words_in word) ≡ None
-IsUnread Truth word = bool_at (words_in word) ≡ None
-IsUnread Integer word = integer_at (words_in word) ≡ None
-IsUnread Small word = small_at (words_in word) ≡ None
-IsUnread Natural word = natural_at (words_in word) ≡ None
-IsUnread Act word = act_at (words_in word) ≡ None
-IsUnread State word = state_at (words_in word) ≡ None
-IsUnread Found word = optional status_at (words_in word) ≡ None
-IsUnread Kind word = kind_at (words_in word) ≡ None
-IsUnread When word = called word when_rows ≡ None
-IsUnread Actor word = actor_at (words_in word) ≡ None
-IsUnread Partner word = with_at (words_in word) ≡ None
-IsUnread Event word = called word event_rows ≡ None
-IsUnread RequestKind word = request_kind_at (words_in word) ≡ None
-IsUnread Picked word = (none_at (words_in word) ≡ None) × (request_kind_at (words_in word) ≡ None)
-IsUnread Taken word = (none_at (words_in word) ≡ None) × (called word mail_rows ≡ None)
-IsUnread Left word = left_at (words_in word) ≡ None
-IsUnread End word = Unit {0}
+-- the words of a line from a place on: behind its end there is none
+abbrev pub words_from : List ℕ → ℕ → List Word
+words_from line at = cond (nat_le at (length line)) (words_in (drop at line)) []
 
--- a fault lies in a line, and the word there isn't one that could stand there
-pub record IsFaultIn (line : List ℕ) (fault : Fault) : Type 0 where
-  pub within : fault.before ≤ length line
-  pub unread : IsUnread fault.wanted (word_in (drop fault.before line))
+-- what a word means that is a name in a table
+abbrev pub meaning : {A : Type 0} → List (Word × A) → Word → Option A
+meaning rows word = option_map (λ x. x.0) (keyword rows (words_in word))
+
+-- whether a word is read by the reader of what could stand there
+unfoldable pub is_read : Wanted → Word → Bool
+is_read SettingsWord word = bytes_eq word (codes "settings")
+is_read Mode word = is_some (mode_at (words_in word))
+is_read Truth word = is_some (bool_at (words_in word))
+is_read Integer word = is_some (integer_at (words_in word))
+is_read Small word = is_some (small_at (words_in word))
+is_read Natural word = is_some (natural_at (words_in word))
+is_read Act word = is_some (act_at (words_in word))
+is_read State word = is_some (state_at (words_in word))
+is_read Found word = is_some (optional status_at (words_in word))
+is_read Kind word = is_some (kind_at (words_in word))
+is_read When word = is_some (called word when_rows)
+is_read Actor word = is_some (actor_at (words_in word))
+is_read Partner word = is_some (with_at (words_in word))
+is_read Event word = is_some (meaning event_rows word)
+is_read RequestKind word = is_some (request_kind_at (words_in word))
+is_read Picked word = bytes_eq word (codes "none") || is_some (request_kind_at (words_in word))
+is_read Taken word = bytes_eq word (codes "none") || is_some (meaning mail_rows word)
+is_read Left word = is_some (left_at (words_in word))
+is_read End word = false
+
+-- whose turn it is to read the words of a line, one after the other: of that of settings
+abbrev pub settings_turns : List Wanted
+settings_turns =
+    SettingsWord ∷ Mode ∷ Truth ∷ Integer ∷ Small ∷ Small ∷ Small ∷ Small ∷ Integer ∷ Integer ∷ []
+
+-- and of that of an entry, up to the name of the event
+abbrev pub entry_turns : List Wanted
+entry_turns = Actor ∷ Partner ∷ Event ∷ []
+
+-- of the fields of each event, up to the first word of what was taken
+abbrev pub turn_rows : List (Word × List Wanted)
+turn_rows =
+    (codes "tick", Integer ∷ Integer ∷ Act ∷ Integer ∷ [])
+    ∷ (codes "shift", Integer ∷ State ∷ [])
+    ∷ (codes "look", Integer ∷ [])
+    ∷ (codes "off", Integer ∷ State ∷ [])
+    ∷ (codes "arm", Small ∷ Small ∷ Natural ∷ When ∷ Integer ∷ Small ∷ Natural ∷ Kind ∷ [])
+    ∷ (codes "probe", Small ∷ Small ∷ Found ∷ [])
+    ∷ (codes "peek", Small ∷ Small ∷ Natural ∷ Left ∷ [])
+    ∷ (codes "cancel", Small ∷ Small ∷ Natural ∷ Left ∷ [])
+    ∷ (codes "expire", Small ∷ Small ∷ Natural ∷ [])
+    ∷ (codes "orphan", Small ∷ Small ∷ Natural ∷ [])
+    ∷ (codes "deliver", Small ∷ Small ∷ Natural ∷ [])
+    ∷ (codes "drop", Small ∷ Small ∷ Natural ∷ [])
+    ∷ (codes "mark", Small ∷ Truth ∷ Truth ∷ [])
+    ∷ (codes "advanced", Small ∷ Natural ∷ [])
+    ∷ (codes "ask", Small ∷ RequestKind ∷ Small ∷ Small ∷ Natural ∷ Small ∷ Truth ∷ [])
+    ∷ (codes "pick", Small ∷ Picked ∷ [])
+    ∷ (codes "answer", Small ∷ Left ∷ [])
+    ∷ (codes "take", Small ∷ Taken ∷ [])
+    ∷ (codes "unwatch", Small ∷ Small ∷ Truth ∷ [])
+    ∷ (codes "watch", Small ∷ Small ∷ Integer ∷ [])
+    ∷ (codes "tell", Small ∷ Integer ∷ [])
+    ∷ []
+
+-- of the fields of an event of this name
+abbrev pub event_turns : Word → List Wanted
+event_turns name = unwrap_or (meaning turn_rows name) []
+
+-- of the rest of a request
+unfoldable pub request_turns : Word → List Wanted
+request_turns word = if bytes_eq word (codes "none") then [] else Small ∷ Small ∷ Natural ∷ Small ∷ Truth ∷ []
+
+-- of the fields of each message
+abbrev pub mail_turn_rows : List (Word × List Wanted)
+mail_turn_rows =
+    (codes "timeout", Small ∷ Small ∷ Natural ∷ Natural ∷ [])
+    ∷ (codes "bare", Natural ∷ [])
+    ∷ (codes "cancel_done", Small ∷ Small ∷ Natural ∷ Left ∷ [])
+    ∷ (codes "read_done", Small ∷ Small ∷ Natural ∷ Left ∷ [])
+    ∷ (codes "change", Small ∷ Integer ∷ [])
+    ∷ []
+
+-- of the fields of a message of this name
+abbrev pub mail_turns : Word → List Wanted
+mail_turns name = unwrap_or (meaning mail_turn_rows name) []
+
+-- and after a word: those of what it names, or those that were to follow
+abbrev pub turns_after : Wanted → Word → List Wanted → List Wanted
+turns_after Event name more = event_turns name
+turns_after Picked word more = request_turns word
+turns_after Taken word more = mail_turns word
+turns_after _ word more = more
+
+-- where words stop being spelled, of which the first begins after so many bytes: at the first that isn't read by
+-- whose turn it is; right behind the last where one more was to follow; and where some are left over, right behind
+-- the last that was to stand there
+unfoldable pub fault_from : List Wanted → List Word → ℕ → Option Fault
+fault_from [] [] at = None
+fault_from [] (word ∷ words) at = Some (record { before = at - 1; wanted = End })
+fault_from (wanted ∷ more) [] at = Some (record { before = at - 1; wanted = wanted })
+fault_from (wanted ∷ more) (word ∷ words) at =
+    if is_read wanted word then fault_from (turns_after wanted word more) words (at + length word + 1)
+    else Some (record { before = at; wanted = wanted })
+
+-- whose turn it is in the first line of a history, and in the others
+abbrev pub first_turns : Bool → List Wanted
+first_turns true = settings_turns
+first_turns false = entry_turns
+
+-- where the first line of a history or another stops being spelled
+abbrev pub fault_of : Bool → List ℕ → Option Fault
+fault_of is_first line = fault_from (first_turns is_first) (words_in line) 0
 
 -- a line has settings that no service can be opened with
 pub record IsUnfit (line : List ℕ) (fault : SettingsFault) : Type 0 where

@@ -17,6 +17,7 @@ mod mails;
 mod numbers;
 mod settings;
 mod timers;
+mod turns;
 mod wanted;
 mod words;
 

@@ -82,7 +82,7 @@ pub record IsLeast (armed : BTreeSet (ℕ × ℕ)) (d p : ℕ) : Type 0 where
   pub least : (q : ℕ × ℕ) → IsTrue (contains pair_cmp armed q) → is_gt (pair_cmp (d, p) q) ≡ false
 
 -- so it is up to each armed timer
-up_to_each : (ts : List Timer) (armed : BTreeSet (ℕ × ℕ)) (e o : ℕ) → Waits ts armed → IsLeast armed e o
+pub up_to_each : (ts : List Timer) (armed : BTreeSet (ℕ × ℕ)) (e o : ℕ) → Waits ts armed → IsLeast armed e o
     → (q : ℕ) (t : Timer) → slice_get ts q ≡ Some t → t.status ≡ Armed
     → (e < t.row.deadline) ⊎ ((e ≡ t.row.deadline) × (o ≤ q))
 up_to_each ts armed e o waits first q t stands is =
@@ -91,7 +91,7 @@ up_to_each ts armed e o waits first q t stands is =
     pair_up_to e o t.row.deadline q (first.least (t.row.deadline, q) member)
 
 -- and it is an armed timer itself
-least_armed : (ts : List Timer) (armed : BTreeSet (ℕ × ℕ)) (e o : ℕ) → Waits ts armed → IsLeast armed e o
+pub least_armed : (ts : List Timer) (armed : BTreeSet (ℕ × ℕ)) (e o : ℕ) → Waits ts armed → IsLeast armed e o
     → ArmedFor (slice_get ts o) e
 least_armed ts armed e o waits first = armed_for (slice_get ts o) e (sym (waits e o) ∙ first.member)
 

@@ -1,5 +1,6 @@
-mod ArmedLaws
+pub mod ArmedLaws
 mod FindLaws
+mod FirstLaws
 mod IndexLaws
 mod MoveLaws
 mod PairLaws

@@ -7,9 +7,10 @@ use Rattle.std.specs.BTreeSet.{BTreeSet, contains}
 use Rattle.std.specs.Ordering.{nat_cmp, ordering_then}
 use Rattle.std.specs.declared.cmp.Ordering.{Ordering}
 use Rattle.ert_defs.specs.Laws.{is_armed}
+use Rattle.ert_defs.specs.declared.timer.Status.TheVariants.{Armed}
 use Rattle.ert_defs.specs.declared.timer.TimerRef.{TimerRef}
 use Rattle.ert_state.specs.Uses.{uses_of, none_kept, uses_in}
-use Rattle.ert_state.specs.Wheels.{is_settled}
+use Rattle.ert_state.specs.Wheels.{timer_in, is_settled}
 use Rattle.ert_state.specs.declared.uses.Uses.{Uses as KeptUses}
 use Rattle.ert_state.specs.declared.wheels.Timer.{Timer}
 
@@ -52,3 +53,12 @@ pub record StandsAt (ts : List Timer) (r : TimerRef) (p : ℕ) (t : Timer) : Typ
 pub record HasNoneBefore (ts : List Timer) (p d : ℕ) : Type 0 where
   pub before : is_settled (λ e. nat_le e d) (take p ts) ≡ true
   pub behind : is_settled (λ e. nat_lt e d) (drop (p + 1) ts) ≡ true
+
+-- a timer is the first of the armed ones of a wheel, by deadline and then by arming, and the one of its reference
+pub record IsFirstArmed (ts : List Timer) (t : Timer) : Type 0 where
+  pub place : ℕ
+  pub stands : slice_get ts place ≡ Some t
+  pub named : timer_in ts t.row.timer ≡ Some t
+  pub armed : t.status ≡ Armed
+  pub first : HasNoneBefore ts place t.row.deadline
+  pub least : is_settled (λ d. nat_lt d t.row.deadline) ts ≡ true

@@ -29,7 +29,7 @@ fn is_in_range(due: Option<(i128, OffsetState)>) -> bool
 }
 
 /// Only a preliminary offset can be finalized.
-fn may_act(act: Act, state: OffsetState) -> bool
+pub fn may_act(act: Act, state: OffsetState) -> bool
     ensures { IsTrue result ↔ MayAct act state }
 {
     match act {

@@ -22,7 +22,7 @@ mod timers;
 mod uses;
 mod wheels;
 
-pub use clock::Clock;
+pub use clock::{Clock, may_act};
 pub use ert_defs::milliseconds::{deadline_of, down, left, passed};
 pub use exits::Exits;
 pub use inboxes::Inboxes;

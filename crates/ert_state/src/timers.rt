@@ -20,9 +20,10 @@ impl Model for Timers {
 }
 
 impl Timers {
-    ghost use Rattle.std.specs.Prelude.{◌≡◌, ◌≢◌, ◌≤◌, ◌↔◌, IfOk, IfSome, OnOk, IsTrue, replicate, [], true, nat_le, length};
+    ghost use Rattle.std.specs.Prelude.{◌≡◌, ◌≢◌, ◌≤◌, ◌↔◌, IfOk, IfSome, MatchOption, OnOk, IsTrue, replicate, [], true, nat_le, length};
     ghost use Rattle.ert_defs.specs.Timers.{row_of};
     ghost use Rattle.ert_state.specs.Wheels.{timers_at, timer_in, is_settled, IsFirstDue};
+    ghost use Rattle.ert_state.specs.Indexes.{IsFirstArmed};
     ghost use Rattle.ert_state.specs.Uses.{uses_of, uses_in, IsNewUse};
     ghost use Rattle.ert_state.specs.Parts.{status_at, rows_in, timers_after, with_moved, with_armed, ArmsNew};
 
@@ -78,6 +79,13 @@ impl Timers {
             Some(timers) => timers.uses(slot),
             None => Uses::none(),
         }
+    }
+
+    /// The first of the armed timers of a wheel, by deadline and then by arming.
+    pub fn first_armed(&self, wheel: u32) -> Option<Timer>
+        ensures { MatchOption result (is_settled (λ d. true) (timers_at self.now wheel) ≡ true) (IsFirstArmed (timers_at self.now wheel)) }
+    {
+        self.wheels.get(wheel as usize)?.first_armed()
     }
 
     /// Whether none of the timers of a wheel with a deadline up to this one is armed.

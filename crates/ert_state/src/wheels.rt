@@ -42,10 +42,10 @@ impl Model for Wheel {
 }
 
 impl Wheel {
-    ghost use Rattle.std.specs.Prelude.{◌≡◌, ◌≢◌, ◌≤◌, ◌++◌, ◌∷◌, [], OnOk, OnErr, MatchOption, slice_get, length, ◌↔◌, IsTrue, nat_le};
+    ghost use Rattle.std.specs.Prelude.{◌≡◌, ◌≢◌, ◌≤◌, ◌++◌, ◌∷◌, [], OnOk, OnErr, MatchOption, slice_get, length, ◌↔◌, IsTrue, nat_le, true};
     ghost use Rattle.ert_state.specs.Wheels.{timer_in, is_settled, moved, IsFirstDue};
     ghost use Rattle.ert_state.specs.Uses.{uses_of, uses_in, IsNewUse};
-    ghost use Rattle.ert_state.specs.Indexes.{IsUnknown, StandsAt, HasNoneBefore};
+    ghost use Rattle.ert_state.specs.Indexes.{IsUnknown, StandsAt, HasNoneBefore, IsFirstArmed};
 
     /// A wheel with no timers.
     pub fn new(alloc: Global) -> Wheel
@@ -95,6 +95,14 @@ impl Wheel {
             Some(uses) => *uses,
             None => Uses::none(),
         }
+    }
+
+    /// The first of the armed timers, by deadline and then by arming.
+    pub fn first_armed(&self) -> Option<Timer>
+        ensures { MatchOption result (is_settled (λ d. true) self.now ≡ true) (IsFirstArmed self.now) }
+    {
+        let first = self.armed.first()?;
+        Some(self.timers[first.1])
     }
 
     /// Whether none of the timers with a deadline up to this one is armed: the first that is armed tells.

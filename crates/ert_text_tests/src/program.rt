@@ -1,5 +1,6 @@
 //! The program `ertime` over streams in memory and a clock of given readings: how it ends, and what was written.
-ghost use Rattle.std.specs.Prelude.{◌≤◌};
+ghost use Rattle.std.specs.Prelude.{◌≤◌, IfOk};
+ghost use Rattle.ert_program.specs.Endings.{HasItsRefusal};
 
 mod clock_rows;
 mod explained;
@@ -80,20 +81,13 @@ fn run<R: AllocGlobal + Threads + Wait + Sync, G: Gate + Sync>(
     words: &[&str],
     input: &mut MemSource,
     output: &mut MemSink,
-    errors: &mut MemSink,
     mut clock: MemClock,
     gate: &G,
-) -> Result<Ended, AllocError> {
+) -> Result<Ended, AllocError>
+    ensures { IfOk result HasItsRefusal }
+{
     let words = strings(rt.alloc(), words)?;
-    Ok(ertime(
-        rt,
-        words.as_slice(),
-        input,
-        output,
-        errors,
-        &mut clock,
-        gate,
-    ))
+    Ok(ertime(rt, words.as_slice(), input, output, &mut clock, gate))
 }
 
 /// The status and the output of a run over a gate.
@@ -107,17 +101,8 @@ pub(crate) fn end_of<R: AllocGlobal + Threads + Wait + Sync, G: Gate + Sync>(
     let alloc = rt.alloc();
     let mut input = MemSource::new(given.text.to_vec(alloc)?, vec![in alloc; given.read]?);
     let mut output = MemSink::new(alloc, given.piece, vec![in alloc; given.write]?);
-    let mut errors = MemSink::new(alloc, 64, Vec::new(alloc));
     let clock = clock_of(alloc, given.readings, given.reading)?;
-    let ended = run(
-        rt,
-        given.words,
-        &mut input,
-        &mut output,
-        &mut errors,
-        clock,
-        gate,
-    )?;
+    let ended = run(rt, given.words, &mut input, &mut output, clock, gate)?;
     Ok((
         ended.status,
         String::from_utf8_lossy(alloc, output.bytes())?,

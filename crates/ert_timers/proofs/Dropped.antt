@@ -30,6 +30,7 @@ use Rattle.ert_timers.specs.Starting.{status_shown}
 use Rattle.ert_laws.specs.Counts.{is_expire, is_orphan}
 use Rattle.ert_timers.specs.Parts.{HoldsSched, Part, Stands, last_timer}
 use Rattle.ert_timers.specs.Tidy.{IsTidy}
+use Rattle.ert_timers.proofs.Passing.{loses_then}
 use Rattle.ert_timers.proofs.Later.{unexpired_step}
 use Rattle.ert_timers.proofs.Lookings.{found_is, status_is}
 use Rattle.ert_timers.proofs.Orphaned.{back}
@@ -87,6 +88,7 @@ looks_none g v p from to stands = record {
   slots = refl;
   stands = stands;
   left = λ k key is. is;
+  time = omega arith;
   waits = refl;
   look = refl;
 }
@@ -108,8 +110,8 @@ module _ (g : Settings) (v : View) (p : Part) (k : ℕ) (found : Option Status) 
 
   -- one look
   looks_one : (q : Part) → q.number ≡ p.number → q.slots ≡ p.slots → Stands g u.front q
-      → ((j : ℕ) (key : Key) → key_in q.keys j ≡ Some key → key_in p.keys j ≡ Some key) → LooksOver g v p q k (k + 1) u
-  looks_one q number slots after left = record {
+      → ((j : ℕ) (key : Key) → key_in q.keys j ≡ Some key → key_in p.keys j ≡ Some key) → p.passed ≤ q.passed → LooksOver g v p q k (k + 1) u
+  looks_one q number slots after left time = record {
     looks = looked ∷ [];
     are_looks = (k, found, omega arith, omega arith, refl, tt);
     call = step_takes_place g v looked u step;
@@ -117,6 +119,7 @@ module _ (g : Settings) (v : View) (p : Part) (k : ℕ) (found : Option Status) 
     slots = slots;
     stands = after;
     left = left;
+    time = time;
     waits = look_waits;
     look = look_stepped g v looked u step holds.sched;
   }
@@ -125,7 +128,7 @@ module _ (g : Settings) (v : View) (p : Part) (k : ℕ) (found : Option Status) 
   pub drops_none : is_armed found ≡ true → DropsRow g v p p k u
   drops_none armed = record {
     over = looks_one p refl refl
-        (stands_step g v looked u p stands step holds.wheel (record { arm = refl; expire = refl; orphan = refl })) (λ j key is. is);
+        (stands_step g v looked u p stands step holds.wheel (record { arm = refl; expire = refl; orphan = refl })) (λ j key is. is) (omega arith);
     armed = still;
     here = λ key is. sym is_found ∙ armed_is found armed;
   }
@@ -145,7 +148,7 @@ module _ (g : Settings) (v : View) (p : Part) (k : ℕ) (found : Option Status) 
       (counts.expires ∙ sym (count_same g v looked u p.number is_expire step holds.wheel refl))
       (same ∙ (counts.orphans ∙ sym (count_same g v looked u p.number is_orphan step holds.wheel refl)))) in
       subst (λ (x : Part). DropsRow g v p x k u) (sym part) (record {
-        over = looks_one (given_back p k false) refl refl after (λ j seen is. (key_left p.keys k j seen wide is).1);
+        over = looks_one (given_back p k false) refl refl after (λ j seen is. (key_left p.keys k j seen wide is).1) (omega arith);
         armed = still;
         here = λ seen is. absurd ((key_left p.keys k k seen wide is).0 refl);
       })
@@ -170,6 +173,7 @@ looks_more g v p q u r w n some more = record {
   slots = more.slots ∙ some.slots;
   stands = more.stands;
   left = λ k key is. some.left k key (more.left k key is);
+  time = omega (arith, some.time, more.time);
   waits = subst (λ n. fired_in g w.front n ≡ fired_in g u.front n) some.number more.waits ∙ some.waits;
   look = subst (λ n. (state g w.front).looked (Sched n) ≡ (state g u.front).looked (Sched n)) some.number more.look ∙ some.look;
 }
@@ -222,6 +226,9 @@ tried_then g v p q r to old new u w tried rest =
       looks = over.looks;
       gained = tried.gained;
       settled = tried.settled;
+      due = tried.due;
+      once = tried.once;
+      loses = loses_then p q r tried.loses (record { number = over.number; slots = over.slots; left = over.left; time = over.time });
       are_looks = subst (λ m. AreLooks (Sched m) m 0 g.slots over.looks) tried.number
           (subst (λ n. AreLooks (Sched q.number) q.number 0 n over.looks) tried.ready.stands.holds.many over.are_looks);
       call = takes_place_then g v u w (look_entry (Sched p.number) tried.now ∷ expiry_entries p.number tried.tries) over.looks tried.call over.call;

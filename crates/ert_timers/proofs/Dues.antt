@@ -119,7 +119,7 @@ module _ (g : Settings) (h : List Entry) (p : Part) (to : ℕ) (r : WheelRow) (r
   pub first_held : key_in p.keys r.slot ≡ Some (key_of r)
   first_held = All-head (λ row. key_in p.keys row.slot ≡ Some (key_of row)) r rest ready.due.held
 
-  first_due : r.deadline ≤ to
+  pub first_due : r.deadline ≤ to
   first_due =
       let one : ◌≡◌ {A = ℕ} (cond (nat_eq r.slot r.slot) 1 0) 1 = ap (λ b. cond b 1 0) (eq-eqb r.slot r.slot refl) in
       some_due to (key_in p.keys r.slot) (key_of r) first_held (omega (arith, ready.due.each r.slot, times-cons r rest r.slot, one))

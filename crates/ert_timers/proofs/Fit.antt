@@ -16,14 +16,14 @@ use Rattle.ert_wheel.specs.Rows.{key_in}
 use Rattle.ert_wheel.specs.declared.row.Key.{Key}
 use Rattle.ert_wheel.proofs.Collect.{key_low}
 use Rattle.ert_wheel.proofs.Views.{counts_less}
-use Rattle.ert_words.specs.Free.{Free}
+use Rattle.ert_words.specs.Free.{FreeSet}
 
 -- a slot without a row has none to drop
 pub set_none : (keys : List (Option Key)) (k : ℕ) → key_in keys k ≡ None → set keys k None ≡ keys
 set_none keys k vacant = subst (λ key. set keys k key ≡ keys) vacant (set-get_or keys k None)
 
 -- the row of a slot goes, and the slot stays in its chain
-pub fit_dropped : (processes : ℕ) (slots : List Slot) (keys : List (Option Key)) (free : Free) (owners : Rings) (a x o k : ℕ) (key : Key)
+pub fit_dropped : (processes : ℕ) (slots : List Slot) (keys : List (Option Key)) (free : FreeSet) (owners : Rings) (a x o k : ℕ) (key : Key)
     → AreFit processes slots keys free owners a x o → key_in keys k ≡ Some key
     → AreFit processes slots (set keys k None) free owners a x o
 fit_dropped processes slots keys free owners a x o k key fit held =
@@ -57,7 +57,7 @@ fit_dropped processes slots keys free owners a x o k key fit held =
         ]
 
 -- with other chains
-pub fit_owned : (processes : ℕ) (slots : List Slot) (keys : List (Option Key)) (free : Free) (owners new : Rings) (a x o : ℕ)
+pub fit_owned : (processes : ℕ) (slots : List Slot) (keys : List (Option Key)) (free : FreeSet) (owners new : Rings) (a x o : ℕ)
     → AreFit processes slots keys free owners a x o → new.slots ≡ owners.slots → new.homes ≡ owners.homes → AreOwned slots keys new a
     → AreFit processes slots keys free new a x o
 fit_owned processes slots keys free owners new a x o fit same homes are = record {
@@ -77,7 +77,7 @@ fit_owned processes slots keys free owners new a x o fit same homes are = record
 }
 
 -- the row of a slot goes, where it has one
-pub fit_removed : (processes : ℕ) (slots : List Slot) (keys left : List (Option Key)) (free : Free) (owners new : Rings) (a x o k : ℕ)
+pub fit_removed : (processes : ℕ) (slots : List Slot) (keys left : List (Option Key)) (free : FreeSet) (owners new : Rings) (a x o k : ℕ)
     → AreFit processes slots keys free owners a x o → left ≡ set keys k None → new ≡ owners → AreFit processes slots left free new a x o
 fit_removed processes slots keys left free owners new a x o k fit is same =
     subst (λ ks. AreFit processes slots ks free new a x o) (sym is)
@@ -88,13 +88,13 @@ fit_removed processes slots keys left free owners new a x o k fit is same =
     at (Some key) held = fit_dropped processes slots keys free owners a x o k key fit held
 
 -- the chains have each slot
-pub may_leave : (processes : ℕ) (slots : List Slot) (keys : List (Option Key)) (free : Free) (owners : Rings) (a x o k : ℕ)
+pub may_leave : (processes : ℕ) (slots : List Slot) (keys : List (Option Key)) (free : FreeSet) (owners : Rings) (a x o k : ℕ)
     → AreFit processes slots keys free owners a x o → k < length slots → MayTake owners k
 may_leave processes slots keys free owners a x o k fit low =
     record { places = fit.chained.places; are = fit.chained.are; low = omega (arith, fit.owned) }
 
 -- a slot with a row isn't held free, and less is counted once the row has gone
-pub fit_lost : (p : Part) (owners : Rings) (free : Free) (k : ℕ) (key : Key) → AreFit p.processes p.slots p.keys free owners p.arms p.expires p.orphans
+pub fit_lost : (p : Part) (owners : Rings) (free : FreeSet) (k : ℕ) (key : Key) → AreFit p.processes p.slots p.keys free owners p.arms p.expires p.orphans
     → free.held ≡ p.free → key_in p.keys k ≡ Some key → LostRow (dropped p k) k
 fit_lost p owners free k key fit same held =
     let low : k < length p.keys = key_low p.keys k key held in
@@ -124,7 +124,7 @@ none_key None not = refl
 none_key (Some key) not = absurd (not refl)
 
 -- with other counts, which are few enough
-pub fit_counted : (processes : ℕ) (slots : List Slot) (keys : List (Option Key)) (free : Free) (owners : Rings) (a x o y p : ℕ)
+pub fit_counted : (processes : ℕ) (slots : List Slot) (keys : List (Option Key)) (free : FreeSet) (owners : Rings) (a x o y p : ℕ)
     → AreFit processes slots keys free owners a x o → (y + p) + count_by is_some keys ≤ a
     → AreFit processes slots keys free owners a y p
 fit_counted processes slots keys free owners a x o y p fit few = record {
@@ -144,7 +144,7 @@ fit_counted processes slots keys free owners a x o y p fit few = record {
 }
 
 -- with other free slots, which were free before or can be
-pub fit_free : (processes : ℕ) (slots : List Slot) (keys : List (Option Key)) (free new : Free) (owners : Rings) (a x o : ℕ)
+pub fit_free : (processes : ℕ) (slots : List Slot) (keys : List (Option Key)) (free new : FreeSet) (owners : Rings) (a x o : ℕ)
     → AreFit processes slots keys free owners a x o → new.slots ≡ free.slots
     → ((j : ℕ) → sets.contains new.held j ≡ true → (key_in keys j ≡ None) × (j < length slots))
     → AreFit processes slots keys new owners a x o
@@ -172,19 +172,19 @@ or_cases : (b c : Bool) (P : Type 0) → (b ≡ true → P) → (c ≡ true → 
 or_cases true c P f h is = f refl
 or_cases false c P f h is = h is
 
-pub fit_put : (processes : ℕ) (slots : List Slot) (keys : List (Option Key)) (free new : Free) (owners : Rings) (a x o k : ℕ)
+pub fit_put : (processes : ℕ) (slots : List Slot) (keys : List (Option Key)) (free new : FreeSet) (owners : Rings) (a x o k : ℕ)
     → AreFit processes slots keys free owners a x o → new ≡ record free { held = sets.insert free.held k }
     → k < length slots → key_in keys k ≡ None
     → AreFit processes slots keys new owners a x o
 fit_put processes slots keys free new owners a x o k fit is low vacant =
-    fit_free processes slots keys free new owners a x o fit (ap (λ (f : Free). f.slots) is) (λ j held.
+    fit_free processes slots keys free new owners a x o fit (ap (λ (f : FreeSet). f.slots) is) (λ j held.
     or_cases (nat_eq j k) (sets.contains free.held j) ((key_in keys j ≡ None) × (j < length slots))
     (λ same. (let e : k ≡ j = sym (eqb-true j k same) in (
       subst (λ n. key_in keys n ≡ None) e vacant,
       subst (λ n. n < length slots) e low,
     )))
     (λ was. (fit.vacant j was, fit.below j was))
-    (put_or free.held k j (ap (λ (f : Free). sets.contains f.held j) (sym is) ∙ held)))
+    (put_or free.held k j (ap (λ (f : FreeSet). sets.contains f.held j) (sym is) ∙ held)))
 
 -- a set with one less
 taken_and : (s : sets.FinSet nat_cmp) (k j : ℕ) → sets.contains (sets.remove s k) j ≡ (not (nat_eq j k) && sets.contains s j)
@@ -211,19 +211,19 @@ put_again s k held =
         ap (λ b. b || sets.contains (sets.remove s k) q) is ∙ (taken_and s k q ∙ ap (λ b. not b && sets.contains s q) is)
 
 -- one slot is taken out, and then another in its place
-pub record IsExchanged (free new : Free) (o : Option ℕ) : Type 0 where
+pub record IsExchanged (free new : FreeSet) (o : Option ℕ) : Type 0 where
   pub held : IfSome o (λ k. sets.contains free.held k ≡ true)
   pub taken : IfSome o (λ k. new ≡ record free { held = sets.remove free.held k })
 
-pub exchanged : (free mid new : Free) (k : ℕ) (o : Option ℕ) → sets.contains free.held k ≡ true
+pub exchanged : (free mid new : FreeSet) (k : ℕ) (o : Option ℕ) → sets.contains free.held k ≡ true
     → mid ≡ record free { held = sets.remove free.held k } → IfSome o (λ j. sets.contains (sets.insert mid.held k) j ≡ true)
     → IfSome o (λ j. new ≡ record mid { held = sets.remove (sets.insert mid.held k) j }) → IsExchanged free new o
 exchanged free mid new k None held is other taken = record { held = tt; taken = tt }
 exchanged free mid new k (Some j) held is other taken =
     let back : sets.insert (sets.remove free.held k) k ≡ free.held = put_again free.held k held in record {
-      held = ap (λ s. sets.contains s j) (sym back) ∙ (ap (λ (m : Free). sets.contains (sets.insert m.held k) j) (sym is) ∙ other);
-      taken = taken ∙ (ap (λ (m : Free). let f : Free = record m { held = sets.remove (sets.insert m.held k) j } in f) is
-          ∙ ap (λ s. let f : Free = record free { held = sets.remove s j } in f) back);
+      held = ap (λ s. sets.contains s j) (sym back) ∙ (ap (λ (m : FreeSet). sets.contains (sets.insert m.held k) j) (sym is) ∙ other);
+      taken = taken ∙ (ap (λ (m : FreeSet). let f : FreeSet = record m { held = sets.remove (sets.insert m.held k) j } in f) is
+          ∙ ap (λ s. let f : FreeSet = record free { held = sets.remove s j } in f) back);
     }
 
 -- and some is left to be taken
@@ -235,11 +235,11 @@ some_left s k None empty =
     absurd cc
 some_left s k (Some x) empty = refl
 
-pub fit_picked : (processes : ℕ) (slots : List Slot) (keys : List (Option Key)) (free new : Free) (owners : Rings) (a x o k : ℕ)
+pub fit_picked : (processes : ℕ) (slots : List Slot) (keys : List (Option Key)) (free new : FreeSet) (owners : Rings) (a x o k : ℕ)
     → AreFit processes slots keys free owners a x o → new ≡ record free { held = sets.remove free.held k }
     → AreFit processes slots keys new owners a x o
 fit_picked processes slots keys free new owners a x o k fit is =
-    fit_free processes slots keys free new owners a x o fit (ap (λ (f : Free). f.slots) is) (λ j held.
+    fit_free processes slots keys free new owners a x o fit (ap (λ (f : FreeSet). f.slots) is) (λ j held.
     let was : sets.contains free.held j ≡ true =
-    taken_was free.held k j (ap (λ (f : Free). sets.contains f.held j) (sym is) ∙ held) in
+    taken_was free.held k j (ap (λ (f : FreeSet). sets.contains f.held j) (sym is) ∙ held) in
     (fit.vacant j was, fit.below j was))

@@ -21,7 +21,7 @@ use Rattle.ert_wheel.specs.declared.row.Row.{Row}
 use Rattle.ert_wheel.proofs.Collect.{key_low}
 use Rattle.ert_wheel.proofs.Parts.{with_place_here, with_place_there, kept_place}
 use Rattle.ert_wheel.proofs.Views.{counts_more}
-use Rattle.ert_words.specs.Free.{Free}
+use Rattle.ert_words.specs.Free.{FreeSet}
 
 pub on_true : (b : Bool) (P : Type 0) → b ≡ true → OnTrue b P → P
 on_true true P is h = h
@@ -95,7 +95,7 @@ owned_kept slots keys owners taken new a k slot key are low wide order fits take
     }
 
 -- it may come into it
-pub may_keep : (processes : ℕ) (slots : List Slot) (keys : List (Option Key)) (free : Free) (owners taken : Rings) (a x o k dest : ℕ)
+pub may_keep : (processes : ℕ) (slots : List Slot) (keys : List (Option Key)) (free : FreeSet) (owners taken : Rings) (a x o k dest : ℕ)
     → AreFit processes slots keys free owners a x o → k < length slots → dest < processes → taken.slots ≡ owners.slots
     → taken.homes ≡ owners.homes → Takes owners taken k → MayPut taken k dest
 may_keep processes slots keys free owners taken a x o k dest fit low in_range same homes takes = record {
@@ -107,7 +107,7 @@ may_keep processes slots keys free owners taken a x o k dest fit low in_range sa
 }
 
 -- a timer is put in
-pub fit_kept : (p : Part) (free : Free) (owners taken new : Rings) (k : ℕ) (start : Start) (next : Use)
+pub fit_kept : (p : Part) (free : FreeSet) (owners taken new : Rings) (k : ℕ) (start : Start) (next : Use)
     → AreFit p.processes p.slots p.keys free owners p.arms p.expires p.orphans → free.held ≡ p.free → IsFree p k
     → p.arms < 9007199254740992 → start.dest < p.processes → new.slots ≡ owners.slots → new.homes ≡ owners.homes → Takes owners taken k → Puts taken new k start.dest
     → let q = kept p k start next in AreFit q.processes q.slots q.keys free new q.arms q.expires q.orphans
@@ -163,7 +163,7 @@ owned_thinned slots keys owners new a left are t = record {
 }
 
 -- the newest row of a process is one that was found in its chain
-pub next_found : (p : Part) (free : Free) (owners new : Rings) (process : ℕ) (found : Option Row)
+pub next_found : (p : Part) (free : FreeSet) (owners new : Rings) (process : ℕ) (found : Option Row)
     (fit : AreFit p.processes p.slots p.keys free owners p.arms p.expires p.orphans)
     → FindsRow p.keys fit.chained.places process new found → NextOf p process found
 next_found p free owners new process None fit finds = λ k key is dest.
@@ -188,7 +188,7 @@ next_found p free owners new process (Some row) fit finds =
     )
 
 -- what a slot that was held free can be used for
-pub picked_free : (p : Part) (free : Free) (owners : Rings) (k : ℕ) → AreFit p.processes p.slots p.keys free owners p.arms p.expires p.orphans
+pub picked_free : (p : Part) (free : FreeSet) (owners : Rings) (k : ℕ) → AreFit p.processes p.slots p.keys free owners p.arms p.expires p.orphans
     → free.held ≡ p.free → sets.contains free.held k ≡ true → IsFree (picked p k) k
 picked_free p free owners k fit same held = record {
   low = fit.below k held;
@@ -196,7 +196,7 @@ picked_free p free owners k fit same held = record {
   away = taken_out p.free k;
 }
 
-pub pick_fit : (p : Part) (free new : Free) (owners : Rings) (o : Option ℕ) → AreFit p.processes p.slots p.keys free owners p.arms p.expires p.orphans
+pub pick_fit : (p : Part) (free new : FreeSet) (owners : Rings) (o : Option ℕ) → AreFit p.processes p.slots p.keys free owners p.arms p.expires p.orphans
     → IfNone o (new ≡ free) → IfSome o (λ k. new ≡ record free { held = sets.remove free.held k })
     → AreFit p.processes p.slots p.keys new owners p.arms p.expires p.orphans
 pick_fit p free new owners None fit same taken =
@@ -208,24 +208,24 @@ pub pick_none : (s : sets.FinSet nat_cmp) (o : Option ℕ) → (IsNone o → s �
 pick_none s None empty = λ slot. ap (λ t. sets.contains t slot) (empty refl) ∙ sets.contains-empty nat_cmp slot
 pick_none s (Some k) empty = tt
 
-pub pick_taken : (p : Part) (free new : Free) (o : Option ℕ) → free.held ≡ p.free
+pub pick_taken : (p : Part) (free new : FreeSet) (o : Option ℕ) → free.held ≡ p.free
     → IfSome o (λ k. new ≡ record free { held = sets.remove free.held k })
     → IfSome o (λ k. (let q : Part = record p { free = new.held } in q) ≡ picked p k)
 pick_taken p free new None same taken = tt
 pick_taken p free new (Some k) same taken =
-    ap (λ s. let q : Part = record p { free = s } in q) (ap (λ (f : Free). f.held) taken ∙ ap (λ s. sets.remove s k) same)
+    ap (λ s. let q : Part = record p { free = s } in q) (ap (λ (f : FreeSet). f.held) taken ∙ ap (λ s. sets.remove s k) same)
 
 -- where something is answered nothing is asked of no answer
 pub if_some : (o : Option ℕ) (P : Type 0) → IsSome o → IfNone o P
 if_some None P some = absurd cc
 if_some (Some k) P some = tt
 
-pub pick_usable : (p : Part) (free new : Free) (owners : Rings) (o : Option ℕ) → AreFit p.processes p.slots p.keys free owners p.arms p.expires p.orphans
+pub pick_usable : (p : Part) (free new : FreeSet) (owners : Rings) (o : Option ℕ) → AreFit p.processes p.slots p.keys free owners p.arms p.expires p.orphans
     → free.held ≡ p.free → IfSome o (λ k. sets.contains free.held k ≡ true)
     → IfSome o (λ k. new ≡ record free { held = sets.remove free.held k }) → IfSome o (IsFree (record p { free = new.held }))
 pick_usable p free new owners None fit same held taken = tt
 pick_usable p free new owners (Some k) fit same held taken =
-    let e : sets.remove p.free k ≡ new.held = ap (λ s. sets.remove s k) (sym same) ∙ ap (λ (f : Free). f.held) (sym taken) in
+    let e : sets.remove p.free k ≡ new.held = ap (λ s. sets.remove s k) (sym same) ∙ ap (λ (f : FreeSet). f.held) (sym taken) in
     subst (λ (s : sets.FinSet nat_cmp). IsFree (record p { free = s }) k) e (picked_free p free owners k fit same held)
 
 pub byte_low : (b : Bool) (n : ℕ) → n ≡ bool_byte b → n ≤ 1

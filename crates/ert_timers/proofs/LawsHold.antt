@@ -159,4 +159,4 @@ shown_only by w now s slot (suc n) before room es are =
 pub rooms_only : LawOfRooms
 rooms_only g by w room s es tells =
     same_only (Caller by) w es _ tells.entries
-    (alone (Caller by) w, shown_only by w (natural (down g tells.now)) s 0 g.slots no_room room tells.probes tells.shows)
+    (alone (Caller by) w, shown_only by w (natural (down g tells.now)) s 0 g.slots no_room tells.seen tells.probes tells.shows)

@@ -5,6 +5,7 @@ pub mod Resting
 mod Nearest
 pub mod Standing
 pub mod Owners
+pub mod Passing
 pub mod Fit
 pub mod Keeping
 pub mod Openings

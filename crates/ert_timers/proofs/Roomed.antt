@@ -12,7 +12,7 @@ use Rattle.ert_defs.specs.declared.entry.Actor.TheVariants.{Caller}
 use Rattle.ert_defs.specs.declared.entry.Entry.{Entry}
 use Rattle.ert_defs.specs.declared.settings.Settings.{Settings}
 use Rattle.ert_defs.specs.declared.timer.Status.{Status}
-use Rattle.ert_effects.specs.RoomCalls.{ShowsRoom, TellsRoom, no_room, with_slot, with_found}
+use Rattle.ert_effects.specs.RoomCalls.{ShowsRoom, TellsRoom, no_room, room_with, with_slot, with_found}
 use Rattle.ert_effects.specs.declared.answers.Room.{Room}
 use Rattle.ert_calls.proofs.Looks.{can_step}
 use Rattle.ert_laws.proofs.Since.{rounds_begun}
@@ -23,7 +23,7 @@ use Rattle.ert_table.proofs.Calls.{step_takes_place, takes_place_then}
 use Rattle.ert_timers.specs.Changes.{is_resting}
 use Rattle.ert_timers.specs.Looking.{LooksDown}
 use Rattle.ert_timers.specs.Parts.{HoldsCaller, Part, Stands, slot_at}
-use Rattle.ert_timers.specs.Rooms.{SeesSlot, SeesSome, room_after}
+use Rattle.ert_timers.specs.Rooms.{SeesSlot, SeesSome, SeesAll, room_after}
 use Rattle.ert_timers.specs.Starting.{probes_from}
 use Rattle.ert_timers.specs.Slots.{Slot}
 use Rattle.ert_timers.proofs.Lookings.{probes-push}
@@ -150,18 +150,40 @@ sees_more g v by now p n before room u w stands low some holds one few =
     }
 
 -- all slots
-pub sees_all : (g : Settings) (v : View) (by now : ℕ) (p : Part) (n : ℕ) (room : Room) (u : View) → n ≡ g.slots → SeesSome g v by now p n room u
-    → IsMade g v (TellsRoom g by p.number room) u
-sees_all g v by now p n room u all some = record {
-  entries = look_entry (Caller by) some.looked ∷ probes_from by p.number 0 some.founds;
+pub sees_all : (g : Settings) (v : View) (by now : ℕ) (p : Part) (n : ℕ) (seen : Room) (u : View) → n ≡ g.slots → SeesSome g v by now p n seen u
+    → SeesAll g v by p seen u
+sees_all g v by now p n seen u all some = record {
+  now = some.looked;
+  probes = probes_from by p.number 0 some.founds;
+  shows = subst (λ t. ShowsRoom by p.number t (state g v.front) 0 g.slots no_room seen (probes_from by p.number 0 some.founds))
+      (ap natural some.down_to)
+      (subst (λ r. ShowsRoom by p.number now (state g v.front) 0 g.slots no_room r (probes_from by p.number 0 some.founds)) (sym some.told)
+      (shows by p.number now (state g v.front) 0 g.slots some.founds no_room (some.count ∙ all)));
+  call = some.call;
+  stands = some.stands;
+  tidy = some.tidy;
+}
+
+-- what that tells
+pub tells_room : (g : Settings) (v : View) (by : ℕ) (p : Part) (seen room : Room) (u : View) → Stands g v.front p → SeesAll g v by p seen u
+    → room ≡ room_with p.arms seen → IsMade g v (TellsRoom g by p.number room) u
+tells_room g v by p seen room u stands all told = record {
+  entries = look_entry (Caller by) all.now ∷ all.probes;
   allowed = record {
-    now = some.looked;
-    probes = probes_from by p.number 0 some.founds;
-    shows = subst (λ t. ShowsRoom by p.number t (state g v.front) 0 g.slots no_room room (probes_from by p.number 0 some.founds))
-        (ap natural some.down_to)
-        (subst (λ r. ShowsRoom by p.number now (state g v.front) 0 g.slots no_room r (probes_from by p.number 0 some.founds)) (sym some.told)
-        (shows by p.number now (state g v.front) 0 g.slots some.founds no_room (some.count ∙ all)));
+    now = all.now;
+    probes = all.probes;
+    seen = seen;
+    shows = all.shows;
+    told = told ∙ ap (λ n. room_with n seen) stands.holds.arms;
     entries = refl;
   };
-  call = some.call;
+  call = all.call;
 }
+
+pub room_left : (arms : ℕ) (seen : Room) → arms < 9007199254740992 → seen ≡ room_with arms seen
+room_left arms seen low =
+    let is : nat_lt arms 9007199254740992 ≡ true = grind (arith, nat_tests) in rw is refl
+
+pub none_left : (arms : ℕ) (seen : Room) → 9007199254740992 ≤ arms → no_room ≡ room_with arms seen
+none_left arms seen high =
+    let is : nat_lt arms 9007199254740992 ≡ false = grind (arith, nat_tests) in rw is refl

@@ -1,6 +1,6 @@
 -- The loop over the timers of a process.
 
-use Rattle.std.proofs.Common.{◌≡◌, ◌≢◌, ℕ, suc, ◌+◌, ◌<◌, true, false, List, [], ◌∷◌, ◌++◌, count_by, Option, Some, None, refl, sym, ap, subst, ◌∙◌, arith, set, append-nil, append_assoc}
+use Rattle.std.proofs.Common.{◌≡◌, ◌≢◌, ℕ, suc, ◌+◌, ◌<◌, true, false, List, [], ◌∷◌, ◌++◌, count_by, Option, Some, None, refl, sym, ap, subst, ◌∙◌, arith, set, append-nil, append_assoc, length}
 use Rattle.std.proofs.lemmas.List.{map-append}
 use Rattle.std.specs.List.{slice_get}
 use Rattle.std.specs.Option.{is_some}
@@ -12,7 +12,7 @@ use Rattle.ert_defs.specs.declared.settings.Settings.{Settings}
 use Rattle.ert_defs.specs.declared.timer.Status.{Status}
 use Rattle.ert_defs.specs.declared.timer.Status.TheVariants.{Armed}
 use Rattle.ert_defs.specs.declared.timer.TimerRef.{TimerRef}
-use Rattle.ert_effects.specs.WheelCalls.{AllMaySweep, AreSwept, IsFor, IsSettled, IsSwept, MaySweep, Sweeps, Try, orphan_entries, orphans_by}
+use Rattle.ert_effects.specs.WheelCalls.{AllMaySweep, AreSwept, IsSwept, MaySweep, Sweeps, Try, orphan_entries, orphans_by}
 use Rattle.ert_defs.specs.declared.entry.Actor.TheVariants.{Wheel}
 use Rattle.ert_table.specs.Held.{is_held}
 use Rattle.ert_table.specs.Calls.{IsMade}
@@ -28,6 +28,7 @@ use Rattle.ert_timers.proofs.Later.{later_step}
 use Rattle.ert_timers.proofs.Orphaned.{tidy_orphaned}
 use Rattle.ert_timers.proofs.Rows.{armed_row}
 use Rattle.ert_timers.proofs.Tidied.{tidy_then}
+use Rattle.ert_timers.proofs.Passing.{loses_none, loses_row, loses_then, none_more, once_more}
 use Rattle.ert_timers.proofs.Tried.{held_found}
 use Rattle.ert_wheel.specs.Rows.{key_of}
 use Rattle.ert_wheel.specs.declared.row.Row.{Row as WheelRow}
@@ -40,6 +41,9 @@ pub sweeps_none : (g : Settings) (v : View) (by process : ℕ) (p : Part) → St
 sweeps_none g v by process p stands exited = record {
   tries = [];
   may = tt;
+  once = tt;
+  none = tt;
+  loses = loses_none p;
   call = record { actors = refl; legal = stands.legal; later = []; grown = sym (append-nil v.front); ours = refl };
   stands = stands;
   number = refl;
@@ -52,11 +56,6 @@ may-push : (rows : List Row) (process : ℕ) (tries : List Try) (t : Try) → Al
     → AllMaySweep rows process (tries ++ t ∷ [])
 may-push rows process [] t all one = (one, tt)
 may-push rows process (x ∷ tries) t all one = (all.0, may-push rows process tries t all.1 one)
-
-may_be : (rows : List Row) (process : ℕ) (timer : TimerRef) (missed : Option (Option Status)) → IsFor rows process timer → IsSettled missed
-    → MaySweep rows process timer missed
-may_be rows process timer None for settled = for
-may_be rows process timer (Some found) for settled = settled
 
 unarmed : (by w : ℕ) (timer : TimerRef) (missed : Option (Option Status)) → is_arm (orphans_by by w timer missed).event ≡ false
 unarmed by w timer None = refl
@@ -88,11 +87,21 @@ sweeps_more g v by process p q r row timer u w some holds next is one =
     let here : row_of rows timer.timer ≡ Some timer =
     subst (λ (x : Row). row_of rows x.timer ≡ Some x) (sym is)
     (ap (λ l. row_of l (last_timer q.number q.slots row.slot)) (sym some.rows ∙ ap (state g u.front).rows (sym some.number)) ∙ found) in
+    let named : timer.timer ≡ last_timer q.number q.slots row.slot = ap (λ (x : Row). x.timer) is in
+    let low : row.slot < length q.keys = key_low q.keys row.slot (key_of row) next.1 in
+    let number : r.number ≡ q.number = ap (λ (x : Part). x.number) one.part in
+    let slots : r.slots ≡ q.slots = ap (λ (x : Part). x.slots) one.part in
+    let time : r.passed ≡ q.passed = ap (λ (x : Part). x.passed) one.part in
+    let keys : r.keys ≡ set q.keys row.slot None =
+    ap (λ (x : Part). x.keys) one.part ∙ ap (λ (x : Row). set q.keys x.timer.slot None) is in
     let dest : timer.dest ≡ process = ap (λ (x : Row). x.dest) is ∙ next.2 in
     record {
       tries = some.tries ++ t ∷ [];
       may = may-push rows process some.tries t some.may
-          (may_be rows process timer.timer one.missed (record { row = timer; stands = here; dest = dest }) one.settled);
+          (record { row = timer; stands = here; dest = dest }, one.settled);
+      once = once_more q row.slot (key_of row) some.tries t next.1 named some.none some.once;
+      none = none_more q r row.slot some.tries t low named number slots keys time some.none;
+      loses = loses_then p q r some.loses (loses_row q r row.slot low number slots keys time);
       call = subst (λ es. TakesPlace g v es w) (sym (map-append (λ (x : Try). orphans_by by p.number x.timer x.missed) some.tries (t ∷ [])))
           (takes_place_then g v u w (orphan_entries by p.number some.tries) (e ∷ []) some.call (step_takes_place g u e w step));
       stands = one.stands;
@@ -130,7 +139,7 @@ pub sweeps_all : (g : Settings) (v : View) (by process : ℕ) (p q : Part) (u : 
     → IsMade g v (Sweeps g by p.number process) u
 sweeps_all g v by process p q u some = record {
   entries = orphan_entries by p.number some.tries;
-  allowed = record { tries = some.tries; may = some.may; entries = refl };
+  allowed = record { tries = some.tries; may = some.may; once = some.once; entries = refl };
   call = some.call;
 }
 

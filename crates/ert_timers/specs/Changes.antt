@@ -1,6 +1,6 @@
 -- How the calls of a part change what it keeps.
 
-use Rattle.std.specs.Prelude.{◌≡◌, ℕ, ◌+◌, ◌*◌, ◌<◌, ◌≤◌, Bool, false, cond, not, ◌&&◌, nat_lt, max, length, count_by, Option, Some, None, slice_set}
+use Rattle.std.specs.Prelude.{◌≡◌, ℕ, ◌+◌, ◌*◌, ◌<◌, ◌≤◌, Bool, false, cond, not, ◌&&◌, nat_lt, max, min, length, count_by, Option, Some, None, slice_set}
 use Rattle.std.specs.FinSet as set
 use Rattle.std.specs.Option.{is_some}
 use Rattle.ert_defs.specs.Timers.{use_of}
@@ -11,6 +11,7 @@ use Rattle.ert_timers.specs.declared.part.Use.{Use}
 use Rattle.ert_wheel.specs.Rows.{key_in, key_of}
 use Rattle.ert_wheel.specs.declared.row.Key.{Key}
 use Rattle.ert_wheel.specs.declared.row.Row.{Row}
+use Rattle.ert_wheel.specs.declared.row.TheConstants.{LAST}
 
 -- whether a slot was used less often than a round allows
 abbrev pub has_uses : Slot → Bool
@@ -92,6 +93,10 @@ kept p k start next = record p {
   keys = slice_set p.keys k (Some (record { deadline = next.deadline; order = p.arms }));
   arms = p.arms + 1;
 }
+
+-- the wheel has passed a time
+abbrev pub gone_on : Part → ℕ → Part
+gone_on p to = record p { passed = max p.passed (min (to + 1) LAST) }
 
 -- a row of a process, or that the process has none
 abbrev pub NextOf : Part → ℕ → Option Row → Type 0

@@ -1,6 +1,6 @@
 -- The slots that have a row are looked at, and the rows of settled timers go.
 
-use Rattle.std.specs.Prelude.{◌≡◌, ℕ, ◌+◌, ◌<◌, List, Some}
+use Rattle.std.specs.Prelude.{◌≡◌, ℕ, ◌+◌, ◌<◌, ◌≤◌, List, Some}
 use Rattle.ert_defs.specs.States.{state}
 use Rattle.ert_defs.specs.declared.entry.Actor.TheVariants.{Sched}
 use Rattle.ert_defs.specs.declared.entry.Entry.{Entry}
@@ -26,6 +26,7 @@ pub record LooksOver (g : Settings) (v : View) (p q : Part) (from to : ℕ) (u :
   pub slots : q.slots ≡ p.slots
   pub stands : Stands g u.front q
   pub left : (k : ℕ) (key : Key) → key_in q.keys k ≡ Some key → key_in p.keys k ≡ Some key
+  pub time : p.passed ≤ q.passed
   pub waits : fired_in g u.front p.number ≡ fired_in g v.front p.number
   pub look : (state g u.front).looked (Sched p.number) ≡ (state g v.front).looked (Sched p.number)
 

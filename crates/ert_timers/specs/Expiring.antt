@@ -12,13 +12,14 @@ use Rattle.ert_defs.specs.declared.memory.NoMemory.{NoMemory}
 use Rattle.ert_defs.specs.declared.settings.Settings.{Settings}
 use Rattle.ert_defs.specs.declared.timer.Status.{Status}
 use Rattle.ert_effects.specs.Ways.{Step}
-use Rattle.ert_effects.specs.WheelCalls.{Try, expires_by, expiry_entries, hits, IsSettled, AllSettled, Advances, AdvancesAll, AreLooks}
+use Rattle.ert_effects.specs.WheelCalls.{Try, expires_by, expiry_entries, hits, IsSettled, AllSettled, AllDue, AreOnce, Advances, AdvancesAll, AreLooks}
 use Rattle.ert_table.specs.Calls.{IsMade}
 use Rattle.ert_table.specs.Takes.{Appends, TakesPlace}
 use Rattle.ert_table.specs.declared.view.View.{View}
 use Rattle.ert_timers.specs.Changes.{let_go}
 use Rattle.ert_timers.specs.FiredLists.{Queue}
 use Rattle.ert_timers.specs.Parts.{Part, Stands, last_timer, held_row}
+use Rattle.ert_timers.specs.Passed.{HoldsNone, LosesRows}
 use Rattle.ert_timers.specs.Tidy.{KeepsTidy}
 use Rattle.ert_wheel.specs.Rows.{key_in, key_of, times, due_at, comes_before}
 use Rattle.ert_wheel.specs.declared.row.Row.{Row as WheelRow}
@@ -65,13 +66,18 @@ pub record IsReady (g : Settings) (h : List Entry) (p : Part) (to : ℕ) (rows :
   pub due : AreDue p to rows
 
 -- so many of the due rows have been tried
-pub record ExpiresSome (g : Settings) (v : View) (p q : Part) (to : ℕ) (due : List WheelRow) (n : ℕ) (old new : Queue) (u : View) : Type 0 where
+pub record ExpiresSome (g : Settings) (v : View) (p q : Part) (to : ℕ) (due_rows : List WheelRow) (n : ℕ) (old new : Queue) (u : View) : Type 0 where
   pub tries : List Try
   pub gained : List Row
   pub settled : AllSettled tries
+  pub due : AllDue ((state g v.front).rows p.number) to tries
+  pub once : AreOnce tries
+  pub none : HoldsNone q tries
+  pub loses : LosesRows p q
+  pub rows : (state g u.front).rows p.number ≡ (state g v.front).rows p.number
   pub call : TakesPlace g v (expiry_entries p.number tries) u
   pub number : q.number ≡ p.number
-  pub ready : IsReady g u.front q to (drop n due)
+  pub ready : IsReady g u.front q to (drop n due_rows)
   pub count : length gained ≡ hits tries
   pub fired : new.rows ≡ old.rows ++ gained
   pub waits : fired_in g u.front p.number ≡ fired_in g v.front p.number ++ gained
@@ -101,6 +107,9 @@ pub record HasTried (g : Settings) (v : View) (p q : Part) (to : ℕ) (old new :
   pub tries : List Try
   pub gained : List Row
   pub settled : AllSettled tries
+  pub due : AllDue ((state g v.front).rows p.number) to tries
+  pub once : AreOnce tries
+  pub loses : LosesRows p q
   pub call : TakesPlace g v (look_entry (Sched p.number) now ∷ expiry_entries p.number tries) u
   pub number : q.number ≡ p.number
   pub ready : IsReady g u.front q to []
@@ -116,6 +125,9 @@ pub record HasLooked (g : Settings) (v : View) (p q : Part) (to : ℕ) (old new 
   pub looks : List Entry
   pub gained : List Row
   pub settled : AllSettled tries
+  pub due : AllDue ((state g v.front).rows p.number) to tries
+  pub once : AreOnce tries
+  pub loses : LosesRows p q
   pub are_looks : AreLooks (Sched p.number) p.number 0 g.slots looks
   pub call : TakesPlace g v (look_entry (Sched p.number) now ∷ (expiry_entries p.number tries ++ looks)) u
   pub number : q.number ≡ p.number
@@ -128,6 +140,7 @@ pub record HasLooked (g : Settings) (v : View) (p q : Part) (to : ℕ) (old new 
 -- want of memory: nothing was tried
 pub record HasNotTried (g : Settings) (v : View) (p q : Part) (e : NoMemory) (old new : Queue) (u : View) : Type 0 where
   pub call : HasNotExpired g v p.number e old new u
+  pub loses : LosesRows p q
   pub number : q.number ≡ p.number
   pub stands : Stands g u.front q
   pub tidy : KeepsTidy g v p q u

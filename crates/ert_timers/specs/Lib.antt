@@ -9,6 +9,7 @@ pub mod Looking
 pub mod NextDue
 pub mod Owners
 pub mod Parts
+pub mod Passed
 pub mod Rooms
 pub mod Slots
 pub mod Starting

@@ -25,11 +25,11 @@ use Rattle.ert_timers.specs.Slots.{Slot}
 use Rattle.ert_wheel.specs.Rings.{Rings, Place, AreChains}
 use Rattle.ert_wheel.specs.Rows.{key_in}
 use Rattle.ert_wheel.specs.declared.row.Key.{Key}
-use Rattle.ert_words.specs.Free.{Free}
+use Rattle.ert_words.specs.Free.{FreeSet}
 
 -- the part of one scheduler's timers: its number, the number of processes, by slot what is kept of the last
--- timer, by slot the key of the row that is held as armed, the slots that are held free, and how many
--- timers were armed, expired and were cancelled for an exit
+-- timer, by slot the key of the row that is held as armed, the slots that are held free, how many timers were
+-- armed, expired and were cancelled for an exit, and the first time that its wheel hasn't passed, in milliseconds
 pub record Part : Type 0 where
   pub number : ℕ
   pub processes : ℕ
@@ -39,14 +39,15 @@ pub record Part : Type 0 where
   pub arms : ℕ
   pub expires : ℕ
   pub orphans : ℕ
+  pub passed : ℕ
 
 -- a part is stored as a tuple of its fields
 abbrev pub part_code : Coded Part
 part_code =
-    code_by (ℕ × (ℕ × (List Slot × (List (Option Key) × (set.FinSet nat_cmp × (ℕ × (ℕ × ℕ)))))))
+    code_by (ℕ × (ℕ × (List Slot × (List (Option Key) × (set.FinSet nat_cmp × (ℕ × (ℕ × (ℕ × ℕ))))))))
     (coded× coded_ℕ (coded× coded_ℕ (coded× (coded_list slot_code) (coded× (coded_list (coded_option key_code))
-    (coded× (set.code coded_ℕ) (coded× coded_ℕ (coded× coded_ℕ coded_ℕ)))))))
-    (λ p. (p.number, (p.processes, (p.slots, (p.keys, (p.free, (p.arms, (p.expires, p.orphans))))))))
+    (coded× (set.code coded_ℕ) (coded× coded_ℕ (coded× coded_ℕ (coded× coded_ℕ coded_ℕ))))))))
+    (λ p. (p.number, (p.processes, (p.slots, (p.keys, (p.free, (p.arms, (p.expires, (p.orphans, p.passed)))))))))
     (λ t. record {
       number = t.0;
       processes = t.1.0;
@@ -55,7 +56,8 @@ part_code =
       free = t.1.1.1.1.0;
       arms = t.1.1.1.1.1.0;
       expires = t.1.1.1.1.1.1.0;
-      orphans = t.1.1.1.1.1.1.1;
+      orphans = t.1.1.1.1.1.1.1.0;
+      passed = t.1.1.1.1.1.1.1.1;
     })
     (λ _. refl)
 
@@ -93,7 +95,7 @@ pub record AreOwned (slots : List Slot) (keys : List (Option Key)) (owners : Rin
   pub orders : (k : ℕ) (place : Place) → places k ≡ Some place → place.order < armed
 
 -- what the fields of a part keep, whatever the history
-pub record AreFit (processes : ℕ) (slots : List Slot) (keys : List (Option Key)) (free : Free) (owners : Rings) (armed expired orphaned : ℕ) : Type 0 where
+pub record AreFit (processes : ℕ) (slots : List Slot) (keys : List (Option Key)) (free : FreeSet) (owners : Rings) (armed expired orphaned : ℕ) : Type 0 where
   pub few : length slots ≤ 65536
   pub wide : length keys ≡ length slots
   pub all_slots : free.slots ≡ length slots

@@ -2,13 +2,14 @@
 
 use Rattle.std.specs.Prelude.{◌≡◌, ℕ, ◌+◌, ℤ, pos, ◌≤◌, List, [], ◌∷◌, length, Option}
 use Rattle.ert_defs.specs.Entries.{look_entry, probe_entry}
-use Rattle.ert_defs.specs.Milliseconds.{down}
+use Rattle.ert_defs.specs.Milliseconds.{down, natural}
 use Rattle.ert_defs.specs.States.{State, state}
 use Rattle.ert_defs.specs.Timers.{is_taken}
 use Rattle.ert_defs.specs.declared.entry.Actor.TheVariants.{Caller}
+use Rattle.ert_defs.specs.declared.entry.Entry.{Entry}
 use Rattle.ert_defs.specs.declared.settings.Settings.{Settings}
 use Rattle.ert_defs.specs.declared.timer.Status.{Status}
-use Rattle.ert_effects.specs.RoomCalls.{no_room, with_slot, with_found}
+use Rattle.ert_effects.specs.RoomCalls.{no_room, with_slot, with_found, ShowsRoom}
 use Rattle.ert_effects.specs.declared.answers.Room.{Room}
 use Rattle.ert_table.specs.Takes.{Appends, TakesPlace}
 use Rattle.ert_table.specs.declared.view.View.{View}
@@ -27,6 +28,15 @@ pub record SeesSlot (g : Settings) (v : View) (by now : ℕ) (p : Part) (k : ℕ
 abbrev pub room_after : State → ℕ → ℕ → ℕ → List (Option Status) → Room → Room
 room_after s now wheel slot [] room = room
 room_after s now wheel slot (found ∷ founds) room = room_after s now wheel (slot + 1) founds (with_found s now wheel slot found room)
+
+-- a look at the time, and then every slot was looked at
+pub record SeesAll (g : Settings) (v : View) (by : ℕ) (p : Part) (seen : Room) (u : View) : Type 0 where
+  pub now : ℤ
+  pub probes : List Entry
+  pub shows : ShowsRoom by p.number (natural (down g now)) (state g v.front) 0 g.slots no_room seen probes
+  pub call : TakesPlace g v (look_entry (Caller by) now ∷ probes) u
+  pub stands : Stands g u.front p
+  pub tidy : KeepsTidy g v p p u
 
 -- a look at the time, and then so many slots were looked at in order
 pub record SeesSome (g : Settings) (v : View) (by now : ℕ) (p : Part) (n : ℕ) (room : Room) (u : View) : Type 0 where

@@ -3,16 +3,20 @@
 use Rattle.std.specs.Prelude.{◌≡◌, ℕ, true, List}
 use Rattle.ert_defs.specs.States.{state}
 use Rattle.ert_defs.specs.declared.settings.Settings.{Settings}
-use Rattle.ert_effects.specs.WheelCalls.{Try, AllMaySweep, orphan_entries}
+use Rattle.ert_effects.specs.WheelCalls.{Try, AllMaySweep, AreOnce, orphan_entries}
 use Rattle.ert_table.specs.Takes.{TakesPlace}
 use Rattle.ert_table.specs.declared.view.View.{View}
 use Rattle.ert_timers.specs.Parts.{Part, Stands}
+use Rattle.ert_timers.specs.Passed.{HoldsNone, LosesRows}
 use Rattle.ert_timers.specs.Tidy.{KeepsTidy}
 
 -- some of them were tried
 pub record SweepsSome (g : Settings) (v : View) (by process : ℕ) (p q : Part) (u : View) : Type 0 where
   pub tries : List Try
   pub may : AllMaySweep ((state g v.front).rows p.number) process tries
+  pub once : AreOnce tries
+  pub none : HoldsNone q tries
+  pub loses : LosesRows p q
   pub call : TakesPlace g v (orphan_entries by p.number tries) u
   pub stands : Stands g u.front q
   pub number : q.number ≡ p.number

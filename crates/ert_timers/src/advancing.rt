@@ -9,13 +9,14 @@ use ert_table::{Desk, Pass, Settle, TimeCarry};
 use ert_wheel::Row;
 
 impl WheelPart {
-    ghost use Rattle.std.specs.Prelude.{◌≡◌, ◌<◌, ◌≤◌, Some, length};
+    ghost use Rattle.std.specs.Prelude.{◌≡◌, ◌<◌, ◌≤◌, IfOk, Some, length};
     ghost use Rattle.ert_defs.specs.Legal.{IsNext};
     ghost use Rattle.ert_defs.specs.States.{state};
     ghost use Rattle.ert_defs.specs.declared.entry.Actor.TheVariants.{Sched};
     ghost use Rattle.ert_table.specs.Desks.{settings_of, view_of, front_of, Belongs};
     ghost use Rattle.ert_timers.specs.Expiring.{Expires, ExpiresSome, IsReady, IsTried, IsAdvanced};
     ghost use Rattle.ert_timers.specs.Parts.{HoldsSched, Stands, last_timer};
+    ghost use Rattle.ert_timers.specs.Passed.{HasPassed, LosesRows};
     ghost use Rattle.ert_timers.specs.Tidy.{KeepsTidy};
     ghost use Rattle.ert_wheel.specs.Rows.{key_in, key_of};
 
@@ -23,7 +24,8 @@ impl WheelPart {
     /// timers are added to `fired`, in order of deadline and then of start. The answer is that time, in whole
     /// milliseconds since the start time, rounded down.
     ///
-    /// A due timer that doesn't expire was settled by another. All memory is taken before the first timer expires:
+    /// A due timer that doesn't expire was settled by another. The row of each due timer goes, and then no row is held
+    /// that is due by that time. All memory is taken before the first timer expires:
     /// after NoMemory none has.
     pub fn advance(
         &mut self,
@@ -38,6 +40,8 @@ impl WheelPart {
         ensures number { self.new.number ≡ self.old.number }
         ensures stands { Stands (settings_of desk.now) (front_of pass.new) self.new }
         ensures call { IsAdvanced (settings_of desk.now) (view_of pass.old) self.old.number result fired.old fired.new (view_of pass.new) }
+        ensures passed { IfOk result (λ to. HasPassed self.new to) }
+        ensures loses { LosesRows self.old self.new }
         ensures tidy { KeepsTidy (settings_of desk.now) (view_of pass.old) self.old self.new (view_of pass.new) }
     {
         let to = self.try_due(desk, pass, fired)?;
@@ -61,6 +65,7 @@ impl WheelPart {
         requires stands { Stands (settings_of desk.now) (front_of pass.old) self.old }
         ensures belongs { Belongs desk.now pass.new }
         ensures call { IsTried (settings_of desk.now) (view_of pass.old) self.old self.new result fired.old fired.new (view_of pass.new) }
+        ensures on { IfOk result (λ to. to < self.new.passed) }
     {
         let to = look_down(desk, pass, Actor::Sched(self.number()));
         let due = self.find_due(to, fired)?;
@@ -82,9 +87,11 @@ impl WheelPart {
         requires holds { HoldsSched (view_of pass.old) self.old.number }
         requires ready { IsReady (settings_of desk.now) (front_of pass.old) self.old to due.now }
         requires room { length due.now ≤ fired.old.room }
+        requires few { to ≤ 8796093022207 }
         ensures belongs { Belongs desk.now pass.new }
         ensures call { ExpiresSome (settings_of desk.now) (view_of pass.old) self.old self.new to due.now (length due.now)
             fired.old fired.new (view_of pass.new) }
+        ensures on { to < self.new.passed }
     {
         for row in due {
             self.expire(desk, pass, *row, fired);

@@ -16,6 +16,7 @@ impl WheelPart {
     ghost use Rattle.ert_timers.specs.Dropping.{DropsRow, DropsRows};
     ghost use Rattle.ert_timers.specs.Expiring.{IsAdvancedAll};
     ghost use Rattle.ert_timers.specs.Parts.{HoldsSched, Stands};
+    ghost use Rattle.ert_timers.specs.Passed.{HasPassed, LosesRows};
     ghost use Rattle.ert_timers.specs.Tidy.{IsTidy, KeepsTidy};
 
     /// Does what `advance` does, and besides looks at each timer that is held and not due, and drops those that
@@ -35,6 +36,8 @@ impl WheelPart {
         ensures belongs { Belongs desk.now pass.new }
         ensures stands { Stands (settings_of desk.now) (front_of pass.new) self.new }
         ensures call { IsAdvancedAll (settings_of desk.now) (view_of pass.old) self.old.number result fired.old fired.new (view_of pass.new) }
+        ensures passed { IfOk result (λ to. HasPassed self.new to) }
+        ensures loses { LosesRows self.old self.new }
         ensures keeps { KeepsTidy (settings_of desk.now) (view_of pass.old) self.old self.new (view_of pass.new) }
         ensures tidy { IfOk result (λ to. IsWhole (settings_of desk.now) (view_of pass.old).actors
             → IsTidy (state (settings_of desk.now) (front_of pass.new)) self.new) }

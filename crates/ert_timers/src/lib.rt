@@ -45,14 +45,13 @@
 //! | `forget` | drops the row of a timer that the pass has seen settled, and holds its slot free where its round has uses left | constant |
 //! | `reuse` | holds the slot of a timer free whose message was handed over, where its round has uses left | constant |
 //! | `room` | looks at the time and at every slot, and tells how many can take a timer and from when on one more can | every slot once |
-//! | `next_due` | tells how early a timer may be due | the buckets of a look ahead, and the timers of the first that has any |
+//! | `next_due` | tells how early a timer may be due | 64 timers at most, and where one was started late those that the next advance takes |
 //! | `tally` | counts | none |
 //!
 //! A start that looks at every slot knows from then on all that can be used again; so only where all rest or
 //! are taken does each start look at every slot. Where a window of 512 milliseconds begins, an advance also
 //! does work for each timer that is due in it. A sweep does work too for the timers of the process that were
-//! settled and whose slots were not used again. A look ahead has 1,024 buckets as a rule where the wheel was
-//! advanced, and never over 4,096.
+//! settled and whose slots were not used again.
 //!
 //! Each timer is tried once, by one exchange, and then its row goes. No call waits for anybody. Only `open`
 //! takes memory, and `advance` for its list of expired timers, before the first of them expires.

@@ -7,7 +7,7 @@ ghost use Rattle.ert_table.specs.Held.{is_held};
 ghost use Rattle.ert_timers.specs.Looking.{LooksDown, LooksAhead};
 
 use ert_calls::look;
-use ert_defs::milliseconds::{deadline_after, rounded, rounded_down};
+use ert_defs::milliseconds::{deadline_after, rounded};
 use ert_defs::{Actor, Start};
 use ert_table::{Desk, Pass};
 
@@ -27,9 +27,11 @@ pub(crate) fn look_down(desk: &Desk, pass: &mut Pass, by: Actor) -> u64
     requires user { IsUser (settings_of desk.now) by }
     ensures belongs { Belongs desk.now pass.new }
     ensures looks { LooksDown (settings_of desk.now) (view_of pass.old) by result (view_of pass.new) }
+    ensures few { result ≤ 8796093022207 }
 {
     let now = look(desk, pass, by);
-    rounded_down(desk.settings(), now)
+    let (down, _) = rounded(desk.settings(), now);
+    down
 }
 
 /// Looks at the time: that time and the deadline of a start by it; None where the start is refused.

@@ -1,4 +1,4 @@
-ghost use Rattle.std.specs.Prelude.{◌≡◌, ◌<◌, ℕ, IfOk, Option, replicate};
+ghost use Rattle.std.specs.Prelude.{◌≡◌, ◌↔◌, ◌<◌, ◌≤◌, ◌-◌, ℕ, IfOk, IsTrue, Option, replicate};
 ghost use Rattle.ert_timers.specs.Owners.{MayThin, FindsRow};
 ghost use Rattle.ert_timers.specs.Parts.{unused};
 ghost use Rattle.ert_wheel.specs.Rings.{Place, AreChains};
@@ -63,6 +63,7 @@ pub struct Tally {
 
 impl Model for WheelPart {
     ghost use Rattle.ert_timers.specs.Parts.{Part, part_code, AreFit};
+    ghost use Rattle.ert_words.specs.Free.{free_set};
 
     ghost Value = { Part };
 
@@ -73,25 +74,26 @@ impl Model for WheelPart {
       processes = p.processes;
       slots = p.wheel.values;
       keys = p.wheel.keys;
-      free = p.free.held;
+      free = (free_set p.free).held;
       arms = p.arms;
       expires = p.expires;
       orphans = p.orphans;
+      passed = p.wheel.passed;
     } };
 
-    ghost invariant = { λ p. AreFit p.processes p.wheel.values p.wheel.keys p.free p.wheel.owners p.arms p.expires p.orphans };
+    ghost invariant = { λ p. AreFit p.processes p.wheel.values p.wheel.keys (free_set p.free) p.wheel.owners p.arms p.expires p.orphans };
 }
 
 impl WheelPart {
     ghost use Rattle.std.specs.Option.{is_some};
-    ghost use Rattle.std.specs.Prelude.{◌≡◌, ◌<◌, ◌≤◌, IfOk, IfSome, MatchOption, ℕ, length, count_by, [], option_map};
+    ghost use Rattle.std.specs.Prelude.{◌≡◌, ◌<◌, ◌≤◌, IfOk, IfSome, ℕ, length, count_by, [], option_map};
     ghost use Rattle.ert_defs.specs.Settings.{IsChecked};
     ghost use Rattle.ert_defs.specs.States.{state};
     ghost use Rattle.ert_timers.specs.Parts.{Stands, held_row};
     ghost use Rattle.ert_timers.specs.Expiring.{AreDue};
-    ghost use Rattle.ert_timers.specs.Changes.{NextOf};
+    ghost use Rattle.ert_timers.specs.Changes.{NextOf, gone_on};
+    ghost use Rattle.ert_timers.specs.NextDue.{IsNextHeld};
     ghost use Rattle.ert_timers.specs.Tidy.{IsTidy};
-    ghost use Rattle.ert_wheel.specs.NextDue.{NoRow, IsNextDue};
     ghost use Rattle.ert_wheel.specs.Rows.{key_in, key_of, row_at};
 
     /// The part of a wheel of a desk that has just been opened. It has no timer.
@@ -101,6 +103,7 @@ impl WheelPart {
         ensures number { IfOk result (λ part. part.number ≡ wheel) }
         ensures stands { IfOk result (Stands settings.now []) }
         ensures tidy { IfOk result (IsTidy (state settings.now [])) }
+        ensures passed { IfOk result (λ part. part.passed ≡ 0) }
     {
         let unused = Slot::new(0, 0, 0, 0, Kind::Wrapped);
         let timers = Wheel::new(alloc, settings.slots, unused)?;
@@ -208,17 +211,17 @@ impl WheelPart {
         Ok(due)
     }
 
-    /// How early the first row may be due, by a look ahead from a time in milliseconds.
-    pub(crate) fn first_due(&self, now: u64) -> Option<u64>
-        ensures { MatchOption result (NoRow self.now.keys) (IsNextDue self.now.keys now) }
+    /// How early the first row may be due.
+    pub(crate) fn first_due(&self) -> Option<u64>
+        ensures { IsNextHeld self.now result }
     {
-        self.wheel.next_due(now)
+        self.wheel.next_due()
     }
 
     /// Tells the wheel that nothing is due up to `to`.
     pub(crate) fn go_on(&mut self, to: u64)
         requires { (slot : ℕ) → IfSome (key_in self.old.keys slot) (λ key. to < key.deadline) }
-        ensures { self.new ≡ self.old }
+        ensures { self.new ≡ gone_on self.old to }
     {
         self.wheel.pass(to);
     }
@@ -233,7 +236,9 @@ impl WheelPart {
 
 /// Whether a deadline is a long wait away from a time, both in milliseconds after the start time. Which free
 /// slot a start takes hangs on it, and nothing else does.
-pub(crate) fn is_long(now: u64, deadline: u64) -> bool {
+pub(crate) fn is_long(now: u64, deadline: u64) -> bool
+    ensures { IsTrue result ↔ (4194304 ≤ deadline - now) }
+{
     deadline.saturating_sub(now) >= LONG_WAIT
 }
 
@@ -245,6 +250,7 @@ fn find_row(wheel: &mut Wheel<Slot>, process: u32) -> Option<Row>
     ensures values { wheel.new.values ≡ wheel.old.values }
     ensures slots { wheel.new.owners.slots ≡ wheel.old.owners.slots }
     ensures homes { wheel.new.owners.homes ≡ wheel.old.owners.homes }
+    ensures passed { wheel.new.passed ≡ wheel.old.passed }
     ensures finds { (places : ℕ → Option Place) → AreChains wheel.old.owners places
         → FindsRow wheel.old.keys places process wheel.new.owners result }
 {

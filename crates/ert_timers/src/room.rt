@@ -4,10 +4,16 @@ ghost use Rattle.ert_effects.specs.RoomCalls.{sooner};
 
 use crate::looking::look_down;
 use crate::part::WheelPart;
-use crate::starting::is_taken;
+use crate::starting::{MOST_TIMERS, is_taken};
 use ert_defs::Actor;
 use ert_effects::Room;
 use ert_table::{Desk, Pass, TimerCarry};
+
+/// What is known before any slot was looked at, and where no slot can ever take a timer.
+const NO_ROOM: Room = Room {
+    free: 0,
+    ready: None,
+};
 
 impl WheelPart {
     ghost use Rattle.std.specs.Prelude.{◌≡◌, ◌<◌, ◌≤◌, ◌+◌, length};
@@ -15,11 +21,11 @@ impl WheelPart {
     ghost use Rattle.ert_table.specs.Calls.{IsMade};
     ghost use Rattle.ert_table.specs.Desks.{settings_of, view_of, front_of, Belongs};
     ghost use Rattle.ert_timers.specs.Parts.{HoldsCaller, Stands};
-    ghost use Rattle.ert_timers.specs.Rooms.{SeesSlot};
+    ghost use Rattle.ert_timers.specs.Rooms.{SeesSlot, SeesAll};
     ghost use Rattle.ert_timers.specs.Tidy.{KeepsTidy};
 
     /// Looks at the time and at every slot: how many slots can take a timer now, and from when on one more
-    /// can that rests and isn't taken.
+    /// can that rests and isn't taken. A wheel that has had 2^53 timers takes no more.
     ///
     /// Each slot is looked at once, in order. It changes nothing of the part, and takes no memory.
     pub fn room(&self, desk: &Desk, pass: &mut Pass, by: u32) -> Room
@@ -31,11 +37,24 @@ impl WheelPart {
         ensures call { IsMade (settings_of desk.now) (view_of pass.old) (TellsRoom (settings_of desk.now) by self.now.number result) (view_of pass.new) }
         ensures tidy { KeepsTidy (settings_of desk.now) (view_of pass.old) self.now self.now (view_of pass.new) }
     {
+        let room = self.see_slots(desk, pass, by);
+        if self.arms() < MOST_TIMERS {
+            room
+        } else {
+            NO_ROOM
+        }
+    }
+
+    /// Looks at the time and at every slot, and tells what is known by that.
+    fn see_slots(&self, desk: &Desk, pass: &mut Pass, by: u32) -> Room
+        requires belongs { Belongs desk.now pass.old }
+        requires holds { HoldsCaller (settings_of desk.now) (view_of pass.old) by self.now.number }
+        requires stands { Stands (settings_of desk.now) (front_of pass.old) self.now }
+        ensures belongs { Belongs desk.now pass.new }
+        ensures call { SeesAll (settings_of desk.now) (view_of pass.old) by self.now result (view_of pass.new) }
+    {
         let now = look_down(desk, pass, Actor::Caller(by));
-        let mut room = Room {
-            free: 0,
-            ready: None,
-        };
+        let mut room = NO_ROOM;
         for slot in 0..self.slot_count() {
             room = self.see_slot(desk, pass, by, slot, now, room);
         }

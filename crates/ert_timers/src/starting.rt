@@ -10,7 +10,7 @@ use ert_effects::StartErr;
 use ert_table::{Desk, Pass, Settle, TimerCarry};
 
 /// How many timers a wheel can have.
-const MOST_TIMERS: u64 = 1 << 53;
+pub(crate) const MOST_TIMERS: u64 = 1 << 53;
 
 impl WheelPart {
     ghost use Rattle.std.specs.FinSet as set;
@@ -127,6 +127,7 @@ impl WheelPart {
     }
 
     /// Arms the next timer of a slot that can take it, by the caller's last look.
+    #[inline(always)]
     fn arm(
         &mut self,
         desk: &Desk,

@@ -13,6 +13,7 @@ impl WheelPart {
     ghost use Rattle.ert_timers.specs.Changes.{given_back, reused};
     ghost use Rattle.ert_timers.specs.Freeing.{IsHeld, IsLast, IsLetGo};
     ghost use Rattle.ert_timers.specs.Parts.{HoldsCaller, Stands};
+    ghost use Rattle.ert_timers.specs.Passed.{LosesRows};
     ghost use Rattle.ert_timers.specs.Tidy.{IsTidy, IsTidyBut, KeepsTidy};
     ghost use Rattle.ert_defs.specs.declared.settings.Settings.{Settings};
     ghost use Rattle.ert_defs.specs.declared.timer.Status.TheVariants.{Armed};
@@ -32,6 +33,7 @@ impl WheelPart {
         ensures number { self.new.number ≡ self.old.number }
         ensures stands { Stands (settings_of desk.now) (front_of pass.new) self.new }
         ensures call { IsMade (settings_of desk.now) (view_of pass.old) (Sweeps (settings_of desk.now) by self.old.number process) (view_of pass.new) }
+        ensures loses { LosesRows self.old self.new }
         ensures swept { IsSwept (state (settings_of desk.now) (front_of pass.new)) self.old.number process }
         ensures tidy { KeepsTidy (settings_of desk.now) (view_of pass.old) self.old self.new (view_of pass.new) }
     {
@@ -54,6 +56,7 @@ impl WheelPart {
         ensures number { self.new.number ≡ self.old.number }
         ensures stands { (g : Settings) → (view_of pass.now).settings ≡ Some g → Stands g (front_of pass.now) self.new }
         ensures forgotten { IsHeld self.new timer → ⊥ }
+        ensures loses { LosesRows self.old self.new }
         ensures held { IsHeld self.old timer → self.new ≡ given_back self.old timer.slot false }
         ensures away { (IsHeld self.old timer → ⊥) → self.new ≡ self.old }
         ensures tidy { (g : Settings) → (view_of pass.now).settings ≡ Some g

@@ -1,17 +1,7 @@
 pub mod Calls
 pub mod Counts
 pub mod Labels
-pub mod Laws
 pub mod Lines
-pub mod Pieces
-pub mod Plain
-pub mod PlainClock
-pub mod PlainMail
-pub mod PlainTimers
-pub mod PlainTurns
 pub mod Scripts
 pub mod Texts
 pub mod Worked
-pub mod WorkedClocks
-pub mod WorkedTimers
-pub mod WorkedTurns

@@ -1,6 +1,6 @@
 -- Script runs of a list of ops, and its transcript.
 
-use Rattle.std.specs.Prelude.{◌≡◌, ℕ, List, [], ◌∷◌, ◌++◌}
+use Rattle.std.specs.Prelude.{◌≡◌, ℕ, List, [], ◌∷◌, ◌++◌, take}
 use Rattle.ert_effects.specs.Ways.{Way, alone}
 use Rattle.ert_defs.specs.Legal.{Legal}
 use Rattle.ert_defs.specs.States.{state}
@@ -43,3 +43,13 @@ pub record IsTranscript (g : Settings) (ops : List Op) (text : List ℕ) : Type 
   pub legal : Legal g entries
   pub runs : Script g (alone g) 0 [] ops replies labels [] entries
   pub reads : text ≡ lines_of [] ops replies ++ end_line (state g entries).clock.now
+
+-- a text is the lines of a script run of some first ops
+pub record IsBeginning (g : Settings) (ops : List Op) (text : List ℕ) : Type 0 where
+  pub done : ℕ
+  pub entries : List Entry
+  pub replies : List Reply
+  pub labels : Labels
+  pub legal : Legal g entries
+  pub runs : Script g (alone g) 0 [] (take done ops) replies labels [] entries
+  pub reads : text ≡ lines_of [] (take done ops) replies

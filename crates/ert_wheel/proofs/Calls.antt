@@ -57,7 +57,7 @@ stays old slots before lent after side is e same =
     ∙ ap (rings side) is
 
 -- what comes before a slot is a node
-before_in_range : (r : Rings) (places : ℕ → Option Place) (slot : ℕ) → AreChains r places → slot < r.slots
+pub before_in_range : (r : Rings) (places : ℕ → Option Place) (slot : ℕ) → AreChains r places → slot < r.slots
     → prev_at r.links slot < r.slots + r.homes
 before_in_range r places slot are low = at (places slot) refl
   where
@@ -123,7 +123,7 @@ finds r places x home bound are on at_home top =
     ]
 
 -- a look from a home's head, and from a slot
-newest_at : (r : Rings) (home : ℕ) → home < r.homes → (places : ℕ → Option Place) → AreChains r places
+pub newest_at : (r : Rings) (home : ℕ) → home < r.homes → (places : ℕ → Option Place) → AreChains r places
     → Finds r places home (2 ^ 64) (slot_at r.slots (next_at r.links (r.slots + home)))
 newest_at r home low places are =
     let h : IsHead r.slots r.homes places (r.slots + home) =
@@ -267,7 +267,7 @@ link_alone : (side : Side) (x : ℕ) → link_of side (alone x) ≡ record { nex
 link_alone Bucket x = refl
 link_alone Owner x = refl
 
-links_alone : (side : Side) (n x : ℕ) → x < n
+pub links_alone : (side : Side) (n x : ℕ) → x < n
     → get_or (links_of side (map alone (range_with_len 0 n))) x no_link ≡ record { next = x; prev = x }
 links_alone side n x low =
     let long : x < length (map alone (range_with_len 0 n)) = omega (arith, length-map-range_with_len alone 0 n) in

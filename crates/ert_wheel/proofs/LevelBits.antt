@@ -1,12 +1,12 @@
 -- The bucket of a time by its bits: the level is that of the highest bit in which it differs from the next time.
 
-use Rattle.std.proofs.Common.{◌≡◌, ◌≢◌, ℕ, zero, suc, ◌+◌, ◌-◌, ◌*◌, ◌/◌, ◌%◌, ◌^◌, ◌<◌, ◌≤◌, sym, ◌∙◌, ap, inl, inr, refl, arith, bit_and, bit_or, bit_xor}
-use Rattle.std.proofs.Math.Nat.{pow-succ', div-div-eq-div-mul}
+use Rattle.std.proofs.Common.{◌≡◌, ◌≢◌, ℕ, zero, suc, ◌+◌, ◌-◌, ◌*◌, ◌/◌, ◌%◌, ◌^◌, ◌<◌, ◌≤◌, sym, ◌∙◌, ap, inl, inr, refl, arith, bit_and, bit_xor}
+use Rattle.std.proofs.Math.Nat.{pow-succ', div-div-eq-div-mul, div-mul-le_self, mod-eq_of_lt}
 use Rattle.std.proofs.lemmas.Bool.{cases_eq, cases_lt}
-use Rattle.std.proofs.lemmas.Nat.{xor_shr, or_lt, le_or_l, le_or_r, xor_lt, leading_top, and_mask, pow-add, pow_below}
+use Rattle.std.proofs.lemmas.Nat.{xor_shr, xor_lt, leading_top, and_mask, pow-add, pow_below}
 use Rattle.std.specs.Int.Count.{count_leading_zeros}
 use Rattle.std.specs.Int.Bits.{xor_self, xor_zero_l, xor_zero_r, xor_assoc}
-use Rattle.ert_wheel.proofs.Levels.{home_top, home_near, home_far, home_low}
+use Rattle.ert_wheel.proofs.Levels.{home_top, home_near, home_far, home_low, home_next}
 use Rattle.ert_wheel.specs.Levels.{home_at}
 
 -- numbers that differ in no bit are one
@@ -26,7 +26,7 @@ other_window d n high e =
     let none : bit_xor (d / 512) (n / 512) ≡ 0 = ap (λ q. bit_xor q (n / 512)) e ∙ xor_self (n / 512) in
     absurd (omega (arith, windows d n))
 
-pos512 : (l : ℕ) → 1 ≤ 512 ^ l
+pub pos512 : (l : ℕ) → 1 ≤ 512 ^ l
 pos512 zero = omega arith
 pos512 (suc l) =
     let p : ◌≡◌ {A = ℕ} (512 ^ suc l) (512 * 512 ^ l) = pow-succ' 512 l in
@@ -52,7 +52,7 @@ by_level (suc f) (suc l) d n in_range low below above =
     omega (arith, home_far f d n (other_window d n (omega arith)), rest, ap (λ m. m % 512) digit)
 
 -- the sizes of windows as powers of 2
-size : (l : ℕ) → 2 ^ (l * 9) ≡ 512 ^ l
+pub size : (l : ℕ) → 2 ^ (l * 9) ≡ 512 ^ l
 size zero = refl
 size (suc l) =
     let e : suc l * 9 ≡ l * 9 + 9 = omega arith in
@@ -70,25 +70,20 @@ pub record IsByBits (d n leading : ℕ) : Type 0 where
   pub home : (63 - leading) / 9 * 512 + bit_and (d / 2 ^ ((63 - leading) / 9 * 9)) 511 ≡ home_at 7 d n
 
 pub by_bits : (d n leading : ℕ) → d < 2 ^ 64 → n < 2 ^ 64
-    → leading ≡ count_leading_zeros 64 (bit_or (bit_xor d n) 1) → IsByBits d n leading
-by_bits d n leading d_fits n_fits e =
+    → 512 ≤ bit_xor d n → leading ≡ count_leading_zeros 64 (bit_xor d n) → IsByBits d n leading
+by_bits d n leading d_fits n_fits high e =
     let x : ℕ = bit_xor d n in
-    let y : ℕ = bit_or x 1 in
-    let x_fits : x < 2 ^ 64 = xor_lt 64 d n d_fits n_fits in
-    let y_fits : y < 2 ^ 64 = or_lt 64 x 1 x_fits (omega arith) in
-    let some : 1 ≤ y = le_or_r x 1 in
-    let t = leading_top 64 y some y_fits in
+    let some : 1 ≤ x = omega arith in
+    let t = leading_top 64 x some (xor_lt 64 d n d_fits n_fits) in
     let j : ℕ = t.0 in
     let l : ℕ = j / 9 in
     let whole : leading + suc j ≡ 64 = ap (λ m. m + suc j) e ∙ t.1 in
     let top : 63 - leading ≡ j = omega arith in
     let below : x < 512 ^ suc l =
-    omega (arith, le_or_l x 1, t.3, powers_up (suc j) (suc l * 9) (omega arith), size (suc l)) in
+    omega (arith, t.3, powers_up (suc j) (suc l * 9) (omega arith), size (suc l)) in
     let above : 0 < l → 512 ^ l ≤ x =
     λ pos. elim (cases_lt x (2 ^ (l * 9))) [
-      | inl less ↦
-          let one : 1 < 2 ^ (l * 9) = pow_below 0 (l * 9) (omega arith) in
-          absurd (omega (arith, or_lt (l * 9) x 1 less one, t.2, powers_up (l * 9) j (omega arith)))
+      | inl less ↦ absurd (omega (arith, t.2, powers_up (l * 9) j (omega arith)))
       | inr more ↦ omega (arith, size l)
     ] in
     let found : home_at 7 d n ≡ 512 * l + d / 512 ^ l % 512 = by_level 7 l d n (omega arith) (omega arith) below above in
@@ -99,6 +94,20 @@ by_bits d n leading d_fits n_fits e =
       home = ap (λ m. m / 9 * 512 + bit_and (d / 2 ^ (m / 9 * 9)) 511) top ∙ omega (arith, found, digit);
     }
 
+-- and where both stand in one window of the lowest level
+pub by_place : (d n : ℕ) → bit_xor d n < 512 → bit_and d 511 ≡ home_at 7 d n
+by_place d n low = and_mask d 9 ∙ sym (home_near 6 d n (same_window d n low))
+
+pub next_place : (n : ℕ) → bit_and n 511 ≡ home_at 7 n n
+next_place n = and_mask n 9 ∙ sym (home_next 6 n)
+
 -- there are as many buckets as a number of 64 bits needs
 pub bucket_low : (n d : ℕ) → d < 2 ^ 64 → home_at 7 d n < 4096
 bucket_low n d fits = omega (arith, home_low 7 d n (omega arith))
+
+-- the low bits of a time are cleared
+pub begin_is : (time level : ℕ) → time < 2 ^ 64 → level ≤ 7
+    → time / 2 ^ (level * 9) * 2 ^ (level * 9) % 2 ^ 64 ≡ time / 512 ^ level * 512 ^ level
+begin_is time level fits low =
+    let m : ℕ = 2 ^ (level * 9) in
+    mod-eq_of_lt (omega (arith, div-mul-le_self time m)) ∙ ap (λ x. time / x * x) (size level)

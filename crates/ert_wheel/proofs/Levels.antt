@@ -1,7 +1,7 @@
 -- Levels of buckets: which rows move to another bucket when time moves on, and which buckets have what is due.
 
 use Rattle.std.proofs.Common.{◌≡◌, ◌≢◌, ℕ, zero, suc, ◌+◌, ◌*◌, ◌/◌, ◌%◌, ◌^◌, ◌<◌, ◌≤◌, cond, sym, ◌∙◌, ap, inl, inr, refl, arith}
-use Rattle.std.proofs.Math.Nat.{pow-succ'}
+use Rattle.std.proofs.Math.Nat.{pow-succ', div-div-eq-div-mul}
 use Rattle.std.proofs.lemmas.Bool.{cases_eq, eq-eqb, ne_eqb}
 use Rattle.ert_wheel.specs.Levels.{home_at}
 
@@ -126,3 +126,42 @@ home_falls f n m d e less low up same high =
           omega (arith, home_near f e m (ap (λ t. t / 512) at), home_far f d n nk)
       | inr ne ↦ falls_below (suc f) n m d e less low up ne same
     ]
+
+-- a later time that isn't on the lowest level stands in a later window of its level
+pub later_window : (f l d n : ℕ) → n ≤ d → 1 ≤ l → l ≤ f → 512 * l ≤ home_at f d n → n / 512 ^ l < d / 512 ^ l
+later_window zero l d n up above most high = absurd (omega arith)
+later_window (suc f) zero d n up above most high = absurd (omega arith)
+later_window (suc f) (suc l) d n up above most high =
+    let far : d / 512 ≢ n / 512 = λ e. absurd (omega (arith, home_near f d n e)) in
+    let p : ◌≡◌ {A = ℕ} (512 ^ suc l) (512 * 512 ^ l) = pow-succ' 512 l in
+    let digits : (x : ℕ) → x / 512 / 512 ^ l ≡ x / 512 ^ suc l =
+    λ x. div-div-eq-div-mul x 512 (512 ^ l) ∙ ap (λ m. x / m) (sym p) in
+    let up' : n / 512 ≤ d / 512 = omega arith in
+    elim (cases_eq l 0) [
+      | inl none ↦
+          let one : ◌≡◌ {A = ℕ} (512 ^ suc l) 512 = ap (λ m. 512 ^ suc m) none in
+          omega (arith, ap (λ m. n / m) one, ap (λ m. d / m) one)
+      | inr some ↦
+          let rest : n / 512 / 512 ^ l < d / 512 / 512 ^ l =
+          later_window f l (d / 512) (n / 512) up' (omega arith) (omega arith) (omega (arith, home_far f d n far)) in
+          omega (arith, digits n, digits d)
+    ]
+
+-- times of one bucket stand in one window of its level
+pub one_window : (f l d t n : ℕ) → home_at f d n ≡ home_at f t n → 512 * l ≤ home_at f d n → home_at f d n < 512 * l + 512
+    → d / 512 ^ l ≡ t / 512 ^ l
+one_window zero l d t n same low high = ap (λ x. x / 512 ^ l) (sym (home_top d n) ∙ same ∙ home_top t n)
+one_window (suc f) zero d t n same low high =
+    let k : d / 512 ≡ n / 512 = window_of f n d (omega arith) in
+    let m : t / 512 ≡ n / 512 = window_of f n t (omega arith) in
+    let e : d ≡ t = omega (arith, home_near f d n k, home_near f t n m) in
+    ap (λ x. x / 512 ^ zero) e
+one_window (suc f) (suc l) d t n same low high =
+    let nk : d / 512 ≢ n / 512 = λ e. absurd (omega (arith, home_near f d n e)) in
+    let nm : t / 512 ≢ n / 512 = λ e. absurd (omega (arith, home_near f t n e)) in
+    let p : ◌≡◌ {A = ℕ} (512 ^ suc l) (512 * 512 ^ l) = pow-succ' 512 l in
+    let digits : (x : ℕ) → x / 512 / 512 ^ l ≡ x / 512 ^ suc l =
+    λ x. div-div-eq-div-mul x 512 (512 ^ l) ∙ ap (λ m. x / m) (sym p) in
+    sym (digits d)
+    ∙ one_window f l (d / 512) (t / 512) (n / 512) (omega (arith, home_far f d n nk, home_far f t n nm)) (omega (arith, home_far f d n nk)) (omega (arith, home_far f d n nk))
+    ∙ digits t

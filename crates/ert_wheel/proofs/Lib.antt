@@ -1,12 +1,15 @@
-mod Calls
+pub mod Calls
 pub mod Cascade
 pub mod Cascading
+pub mod Closer
 pub mod Collect
 mod Due
 mod KeptSlots
 pub mod LevelBits
 pub mod Levels
 pub mod Lists
+pub mod MarkBits
+pub mod Marked
 pub mod NextDue
 mod Opening
 pub mod Parts

@@ -27,7 +27,7 @@ no_place home n j = ap (place_of home) (no_key_in n j)
 
 pub opened : (slots : ℕ) (stored : List Key) (chains : Rings) → stored ≡ replicate slots no_key
     → chains.slots ≡ slots → chains.homes ≡ BUCKETS → AreChains chains (λ _. None)
-    → slots < 2 ^ 32 → Sees 0 0 stored (replicate slots None) chains
+    → slots < 2 ^ 32 → Sees 0 0 0 stored (replicate slots None) chains
 opened slots stored chains is low homes are few =
     let none : length (replicate {A = Option Key} slots None) ≡ slots = length-replicate {A = Option Key} slots None in
     record {
@@ -35,6 +35,7 @@ opened slots stored chains is low homes are few =
         len = none ∙ sym (ap length is ∙ length-replicate slots no_key);
         has = λ j key has. (let no : None ≡ Some key = sym (no_key_in slots j) ∙ has in cc);
       };
+      above = λ j key has. omega arith;
       wheel = record {
         slots = none ∙ sym low;
         few = omega (arith, none);

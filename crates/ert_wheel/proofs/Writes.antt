@@ -1,6 +1,6 @@
 -- What each call that changes a wheel does, in the form in which the calls meet it.
 
-use Rattle.std.proofs.Common.{◌≡◌, ◌≢◌, ◌↔◌, ℕ, ◌+◌, ◌-◌, ◌<◌, ◌≤◌, ◌^◌, cond, true, false, nat_le, max, List, Option, Some, None, IfSome, map, length, get_or, set, sym, subst, ◌∙◌, ap, inl, inr, refl, arith}
+use Rattle.std.proofs.Common.{◌≡◌, ◌≢◌, ◌↔◌, ℕ, ◌+◌, ◌-◌, ◌<◌, ◌≤◌, ◌^◌, cond, true, false, nat_le, max, min, List, Option, Some, None, IfSome, map, length, get_or, set, sym, subst, ◌∙◌, ap, inl, inr, refl, arith}
 use Rattle.std.proofs.lemmas.Bool.{true≢false}
 use Rattle.std.proofs.lemmas.Bool.Decides.{leb_tells}
 use Rattle.std.proofs.lemmas.List.{ext_get_or, get_or-map, length-map, length-set, set-get_or}
@@ -12,23 +12,24 @@ use Rattle.ert_wheel.specs.Links.{next_at}
 use Rattle.ert_wheel.specs.Rings.{Rings, Place, AreChains, MayPut, Puts, MayTake, Takes}
 use Rattle.ert_wheel.specs.Rows.{Held, key_in, times, due_at, left_at}
 use Rattle.ert_wheel.specs.Walks.{MayMove}
-use Rattle.ert_wheel.specs.Wheels.{no_key, held_keys, home_by, place_of, places, IsWheel}
+use Rattle.ert_wheel.specs.Wheels.{no_key, held_keys, home_by, place_of, places, IsWheel, IsKept}
 use Rattle.ert_wheel.specs.declared.row.Key.{Key}
 use Rattle.ert_wheel.specs.declared.row.Row.{Row}
 use Rattle.ert_wheel.specs.declared.row.TheConstants.{BUCKETS}
 
 -- a wheel as it is seen, and what it stores
-pub record Sees (next count : ℕ) (stored : List Key) (seen : List (Option Key)) (chains : Rings) : Type 0 where
+pub record Sees (next count floor : ℕ) (stored : List Key) (seen : List (Option Key)) (chains : Rings) : Type 0 where
   pub wheel : IsWheel next count seen chains
+  pub above : (slot : ℕ) (key : Key) → key_in seen slot ≡ Some key → floor ≤ key.deadline
   pub are_stored : AreStored stored seen
 
-pub sees : {T : Type 0} {next count : ℕ} {stored : List Key} {chains owners : Rings} {values : List T} {held : Held T}
-    → IsWheel next count (held_keys chains stored) chains
-    → ◌≡◌ {A = Held T} (record { keys = held_keys chains stored; owners = owners; values = values }) held
-    → Sees next count stored held.keys chains
-sees {T} {next = next} {count = count} {stored = stored} {chains = chains} w is =
-    subst (λ (h : Held T). Sees next count stored h.keys chains) is
-    (record { wheel = w; are_stored = stored_held chains stored })
+pub sees : {T : Type 0} {next count floor : ℕ} {stored : List Key} {chains owners : Rings} {values : List T} {passed : ℕ} {held : Held T}
+    → IsKept next count floor (held_keys chains stored) chains
+    → ◌≡◌ {A = Held T} (record { keys = held_keys chains stored; owners = owners; values = values; passed = passed }) held
+    → Sees next count floor stored held.keys chains
+sees {T} {next = next} {count = count} {floor = floor} {stored = stored} {chains = chains} w is =
+    subst (λ (h : Held T). Sees next count floor stored h.keys chains) is
+    (record { wheel = w.wheel; above = w.above; are_stored = stored_held chains stored })
 
 -- the parts of what is held
 abbrev pub keys_of : {T : Type 0} → Held T → List (Option Key)
@@ -37,29 +38,29 @@ keys_of h = h.keys
 abbrev pub owners_of : {T : Type 0} → Held T → Rings
 owners_of h = h.owners
 
-abbrev pub values_of : {T : Type 0} → Held T → List T
-values_of h = h.values
+abbrev pub passed_of : {T : Type 0} → Held T → ℕ
+passed_of h = h.passed
 
 -- what is stored, where it is told otherwise
-pub stored_as : {next count : ℕ} {stored other : List Key} {seen : List (Option Key)} {chains : Rings}
-    → other ≡ stored → Sees next count stored seen chains → Sees next count other seen chains
-stored_as {next = next} {count = count} {seen = seen} {chains = chains} same s =
-    subst (λ (keys : List Key). Sees next count keys seen chains) (sym same) s
+pub stored_as : {next count floor : ℕ} {stored other : List Key} {seen : List (Option Key)} {chains : Rings}
+    → other ≡ stored → Sees next count floor stored seen chains → Sees next count floor other seen chains
+stored_as {next = next} {count = count} {floor = floor} {seen = seen} {chains = chains} same s =
+    subst (λ (keys : List Key). Sees next count floor keys seen chains) (sym same) s
 
 -- this is held
-pub is_held : {next count : ℕ} {stored : List Key} {seen : List (Option Key)} {chains : Rings}
-    → Sees next count stored seen chains → held_keys chains stored ≡ seen
+pub is_held : {next count floor : ℕ} {stored : List Key} {seen : List (Option Key)} {chains : Rings}
+    → Sees next count floor stored seen chains → held_keys chains stored ≡ seen
 is_held {next = next} {stored = stored} {seen = seen} {chains = chains} s =
     held_is chains (home_by next) stored seen s.wheel.slots s.are_stored s.wheel.are
 
-pub is_wheel : {next count : ℕ} {stored : List Key} {seen : List (Option Key)} {chains : Rings}
-    → Sees next count stored seen chains → IsWheel next count (held_keys chains stored) chains
-is_wheel {next = next} {count = count} {chains = chains} s =
-    subst (λ (ks : List (Option Key)). IsWheel next count ks chains) (sym (is_held s)) s.wheel
+pub is_kept : {next count floor : ℕ} {stored : List Key} {seen : List (Option Key)} {chains : Rings}
+    → Sees next count floor stored seen chains → IsKept next count floor (held_keys chains stored) chains
+is_kept {next = next} {count = count} {floor = floor} {chains = chains} s =
+    subst (λ (ks : List (Option Key)). IsKept next count floor ks chains) (sym (is_held s)) (record { wheel = s.wheel; above = s.above })
 
 -- a slot without a row can be put into a chain
-pub may_put : {next count : ℕ} {stored : List Key} {seen : List (Option Key)} {chains : Rings} {slot home : ℕ}
-    → Sees next count stored seen chains → slot < length seen → key_in seen slot ≡ None → home < BUCKETS
+pub may_put : {next count floor : ℕ} {stored : List Key} {seen : List (Option Key)} {chains : Rings} {slot home : ℕ}
+    → Sees next count floor stored seen chains → slot < length seen → key_in seen slot ≡ None → home < BUCKETS
     → MayPut chains slot home
 may_put {next = next} {seen = seen} s low vacant in_range = record {
   places = places (home_by next) seen;
@@ -81,8 +82,8 @@ orders_below home keys order newest j p h =
     omega (arith, ap (λ (q : Place). q.order) k.2)
 
 -- the count of rows leaves room for one more where a slot has none
-pub count_fits : {next count : ℕ} {stored : List Key} {seen : List (Option Key)} {chains : Rings} (slot : ℕ) (key : Key)
-    → Sees next count stored seen chains → slot < length seen → key_in seen slot ≡ None → count + 1 < 2 ^ 32
+pub count_fits : {next count floor : ℕ} {stored : List Key} {seen : List (Option Key)} {chains : Rings} (slot : ℕ) (key : Key)
+    → Sees next count floor stored seen chains → slot < length seen → key_in seen slot ≡ None → count + 1 < 2 ^ 32
 count_fits {seen = seen} slot key s low vacant = omega (
   arith,
   s.wheel.counts,
@@ -101,15 +102,19 @@ pub record CanInsert (seen : List (Option Key)) (slot : ℕ) (key : Key) : Type 
   pub newest : (j : ℕ) → IfSome (key_in seen j) (λ k. k.order < key.order)
 
 -- the wheel with a row put in
-pub inserted : {next count : ℕ} {stored : List Key} {seen : List (Option Key)} {chains new : Rings} {slot : ℕ} {key : Key} {home : ℕ}
-    → Sees next count stored seen chains → CanInsert seen slot key → home ≡ home_by next key
-    → new.slots ≡ chains.slots → new.homes ≡ chains.homes → Puts chains new slot home
-    → Sees next (count + 1) (set stored slot key) (set seen slot (Some key)) new
-inserted {next = next} {stored = stored} {seen = seen} {chains = chains} {new = new} {slot = slot} {key = key} s can e slots homes puts =
+pub inserted : {next count floor floor' : ℕ} {stored : List Key} {seen : List (Option Key)} {chains new : Rings} {slot : ℕ} {key : Key} {home : ℕ}
+    → Sees next count floor stored seen chains → CanInsert seen slot key → home ≡ home_by next key
+    → new.slots ≡ chains.slots → new.homes ≡ chains.homes → Puts chains new slot home → floor' ≡ min floor key.deadline
+    → Sees next (count + 1) floor' (set stored slot key) (set seen slot (Some key)) new
+inserted {next = next} {stored = stored} {seen = seen} {chains = chains} {new = new} {slot = slot} {key = key} s can e slots homes puts low' =
     let h : Key → ℕ = home_by next in
     let puts_key : Puts chains new slot (h key) = subst (λ (n : ℕ). Puts chains new slot n) e puts in
     record {
       are_stored = stored_set stored seen slot key s.are_stored can.low;
+      above = λ j k has. elim (key_set seen slot (Some key) j k can.low has) [
+        | inl (here, some) ↦ let same : key ≡ k = cc in omega (arith, ap (λ (x : Key). x.deadline) same)
+        | inr (ne, was) ↦ omega (arith, s.above j k was)
+      ];
       wheel = record {
         slots = length-set seen slot (Some key) ∙ s.wheel.slots ∙ sym slots;
         few = omega (arith, length-set seen slot (Some key), s.wheel.few);
@@ -126,21 +131,21 @@ inserted {next = next} {stored = stored} {seen = seen} {chains = chains} {new = 
     }
 
 -- where a slot is alone it has no row, and else the one that is stored
-pub looks_alone : {next count : ℕ} {stored : List Key} {seen : List (Option Key)} {chains : Rings} {slot : ℕ}
-    → Sees next count stored seen chains → slot < length seen → next_at chains.links slot ≡ slot → key_in seen slot ≡ None
+pub looks_alone : {next count floor : ℕ} {stored : List Key} {seen : List (Option Key)} {chains : Rings} {slot : ℕ}
+    → Sees next count floor stored seen chains → slot < length seen → next_at chains.links slot ≡ slot → key_in seen slot ≡ None
 looks_alone {stored = stored} {chains = chains} {slot = slot} s low e =
     ap (λ (ks : List (Option Key)). key_in ks slot) (sym (is_held s)) ∙ held_at chains stored slot (omega (arith, s.are_stored.len))
     ∙ key_alone chains.links stored slot e
 
-pub looks_apart : {next count : ℕ} {stored : List Key} {seen : List (Option Key)} {chains : Rings} {slot : ℕ}
-    → Sees next count stored seen chains → slot < length seen → next_at chains.links slot ≢ slot
+pub looks_apart : {next count floor : ℕ} {stored : List Key} {seen : List (Option Key)} {chains : Rings} {slot : ℕ}
+    → Sees next count floor stored seen chains → slot < length seen → next_at chains.links slot ≢ slot
     → key_in seen slot ≡ Some (get_or stored slot no_key)
 looks_apart {stored = stored} {chains = chains} {slot = slot} s low ne =
     ap (λ (ks : List (Option Key)). key_in ks slot) (sym (is_held s)) ∙ held_at chains stored slot (omega (arith, s.are_stored.len))
     ∙ key_apart chains.links stored slot ne
 
-pub may_take : {next count : ℕ} {stored : List Key} {seen : List (Option Key)} {chains : Rings} {slot : ℕ}
-    → Sees next count stored seen chains → slot < length seen → MayTake chains slot
+pub may_take : {next count floor : ℕ} {stored : List Key} {seen : List (Option Key)} {chains : Rings} {slot : ℕ}
+    → Sees next count floor stored seen chains → slot < length seen → MayTake chains slot
 may_take {next = next} {seen = seen} s low = record {
   places = places (home_by next) seen;
   are = s.wheel.are;
@@ -148,18 +153,20 @@ may_take {next = next} {seen = seen} s low = record {
 }
 
 -- one row at least is counted
-pub count_holds : {next count : ℕ} {stored : List Key} {seen : List (Option Key)} {chains : Rings} {slot : ℕ} {key : Key}
-    → Sees next count stored seen chains → slot < length seen → key_in seen slot ≡ Some key → 1 ≤ count
+pub count_holds : {next count floor : ℕ} {stored : List Key} {seen : List (Option Key)} {chains : Rings} {slot : ℕ} {key : Key}
+    → Sees next count floor stored seen chains → slot < length seen → key_in seen slot ≡ Some key → 1 ≤ count
 count_holds {seen = seen} {slot = slot} {key = key} s low held =
     omega (arith, s.wheel.counts, counts_less seen slot key low held)
 
 -- the wheel with a row taken out
-pub removed : {next count : ℕ} {stored : List Key} {seen : List (Option Key)} {chains new : Rings} {slot : ℕ} {key : Key}
-    → Sees next count stored seen chains → slot < length seen → key_in seen slot ≡ Some key
+pub removed : {next count floor : ℕ} {stored : List Key} {seen : List (Option Key)} {chains new : Rings} {slot : ℕ} {key : Key}
+    → Sees next count floor stored seen chains → slot < length seen → key_in seen slot ≡ Some key
     → new.slots ≡ chains.slots → new.homes ≡ chains.homes → Takes chains new slot
-    → Sees next (count - 1) stored (set seen slot None) new
+    → Sees next (count - 1) floor stored (set seen slot None) new
 removed {next = next} {stored = stored} {seen = seen} {new = new} {slot = slot} {key = key} s low held slots homes takes = record {
   are_stored = stored_less stored seen slot s.are_stored low;
+  above = λ j k has. elim (key_set seen slot None j k low has)
+      [ inl (e, none) ↦ let no : None ≡ Some k = none in cc | inr (ne, was) ↦ s.above j k was ];
   wheel = record {
     slots = length-set seen slot None ∙ s.wheel.slots ∙ sym slots;
     few = omega (arith, length-set seen slot None, s.wheel.few);
@@ -200,11 +207,16 @@ may_move to w none up low = record {
 }
 
 -- and the wheel after that
-pub moved : {next next' count : ℕ} {stored : List Key} {seen : List (Option Key)} {chains new : Rings}
-    → Sees next count stored seen chains → next' < 2 ^ 64 - 1 → new.slots ≡ chains.slots → new.homes ≡ chains.homes
-    → AreChains new (places (home_by next') seen) → Sees next' count stored seen new
-moved s fits slots homes are = record {
+pub moved : {next next' count floor floor' : ℕ} {stored : List Key} {seen : List (Option Key)} {chains new : Rings} (to after : ℕ)
+    → Sees next count floor stored seen chains → ((j : ℕ) → IfSome (key_in seen j) (λ key. to < key.deadline))
+    → after ≤ to + 1 → floor' ≡ max floor after
+    → next' < 2 ^ 64 - 1 → new.slots ≡ chains.slots → new.homes ≡ chains.homes
+    → AreChains new (places (home_by next') seen) → Sees next' count floor' stored seen new
+moved to after s none low up fits slots homes are = record {
   are_stored = s.are_stored;
+  above = λ j key has.
+      let later : to < key.deadline = subst (λ (o : Option Key). IfSome o (λ k. to < k.deadline)) has (none j) in
+      omega (arith, s.above j key has);
   wheel = record {
     slots = s.wheel.slots ∙ sym slots;
     few = s.wheel.few;
@@ -216,13 +228,6 @@ moved s fits slots homes are = record {
   };
 }
 
--- what is seen, by both its parts
-pub seen_same : {T : Type 0} {keys keys' : List (Option Key)} {owners owners' : Rings} {values values' : List T}
-    → keys ≡ keys' → owners ≡ owners' → values ≡ values'
-    → ◌≡◌ {A = Held T} (record { keys = keys; owners = owners; values = values })
-    (record { keys = keys'; owners = owners'; values = values' })
-seen_same same other beside i = record { keys = same i; owners = other i; values = beside i }
-
 -- a wheel whose due rows were taken out has left what isn't due
 pub record TakesOut {T : Type 0} (old now : Held T) (rows : List Row) : Type 0 where
   pub len : length now.keys ≡ length old.keys
@@ -230,6 +235,7 @@ pub record TakesOut {T : Type 0} (old now : Held T) (rows : List Row) : Type 0 w
   pub gone : (j : ℕ) → 0 < times j rows → key_in now.keys j ≡ None
   pub owners : now.owners ≡ old.owners
   pub values : now.values ≡ old.values
+  pub passed : now.passed ≡ old.passed
 
 left_of : (to : ℕ) (was : Option Key) (count : ℕ) (now : Option Key) → count ≡ due_at to was
     → (count ≡ 0 → now ≡ was) → (0 < count → now ≡ None) → now ≡ left_at to was

@@ -2,6 +2,7 @@ pub mod Chained
 pub mod Kept
 pub mod Levels
 pub mod Links
+pub mod Marks
 pub mod NextDue
 pub mod Nodes
 pub mod Rings

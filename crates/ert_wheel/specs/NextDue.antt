@@ -1,11 +1,10 @@
--- When the next row of a wheel is due, as far as a look ahead tells.
+-- When the next row of a wheel is due, or when the window begins in which it is.
 
-use Rattle.std.specs.Prelude.{◌≡◌, ℕ, ◌+◌, ◌≤◌, ◌^◌, ◌-◌, ◌⊎◌, List, Option, Some, None, min, length}
+use Rattle.std.specs.Prelude.{◌≡◌, ℕ, ◌+◌, ◌-◌, ◌*◌, ◌/◌, ◌<◌, ◌≤◌, ◌^◌, ◌⊎◌, List, Option, Some, None, length}
 use Rattle.ert_wheel.specs.Rings.{Rings, AreChains}
 use Rattle.ert_wheel.specs.Rows.{key_in}
 use Rattle.ert_wheel.specs.Wheels.{places}
 use Rattle.ert_wheel.specs.declared.row.Key.{Key}
-use Rattle.ert_wheel.specs.declared.wheel.TheConstants.{HORIZON}
 
 -- there is no row
 abbrev pub NoRow : List (Option Key) → Type 0
@@ -28,17 +27,49 @@ pub record IsDueAt (keys : List (Option Key)) (time : ℕ) : Type 0 where
   pub has : key_in keys slot ≡ Some key
   pub at : key.deadline ≡ time
 
--- where a look ahead from a time ends
-abbrev pub horizon : ℕ → ℕ
-horizon now = min (now + HORIZON) (2 ^ 64 - 1)
+-- A window of a level above the lowest begins at a time after the first that wasn't passed, and some row is due in it. A
+-- window of level l is 512 ^ l milliseconds wide, and begins at a multiple of that.
+pub record Begins (keys : List (Option Key)) (passed time : ℕ) : Type 0 where
+  pub later : passed < time
+  pub level : ℕ
+  pub above : 1 ≤ level
+  pub highest : level ≤ 7
+  pub window : ℕ
+  pub begin : time ≡ window * 512 ^ level
+  pub slot : ℕ
+  pub key : Key
+  pub has : key_in keys slot ≡ Some key
+  pub within : key.deadline < time + 512 ^ level
 
--- there are rows, none is due before a time, that is no later than the end of the look ahead, and either one
--- is due at it or it is that end
-pub record IsNextDue (keys : List (Option Key)) (now time : ℕ) : Type 0 where
+-- there are rows, none is due before a time, and either one is due at it, or a window begins there that has one
+pub record IsNextDue (keys : List (Option Key)) (passed time : ℕ) : Type 0 where
   pub some : HasRow keys
   pub none_before : NoneBefore keys time
-  pub within : time ≤ horizon now
-  pub near : IsDueAt keys time ⊎ (time ≡ horizon now)
+  pub near : IsDueAt keys time ⊎ Begins keys passed time
+
+-- the least deadline of the rows
+pub record IsLeastDeadline (keys : List (Option Key)) (least : ℕ) : Type 0 where
+  pub due : IsDueAt keys least
+  pub none_before : NoneBefore keys least
+
+-- An answer in the window of 512 milliseconds of the first time that wasn't passed, or before it, is exact: no window
+-- begins there after that time.
+abbrev pub LawOfNearAnswers : Type 0
+LawOfNearAnswers = (keys : List (Option Key)) (passed time least : ℕ) → IsNextDue keys passed time
+    → IsLeastDeadline keys least → least / 512 ≤ passed / 512 → time ≡ least
+
+-- Answers come closer: who is told the begin of a window, lets time pass up to it and asks again is told a deadline, or
+-- the begin of a window of a lower level, as long as the least deadline is the same. There are seven such levels, so an
+-- answer that isn't a deadline comes seven times at most for one least deadline, whatever rows come or go beside it.
+abbrev pub LawOfCloserAnswers : Type 0
+LawOfCloserAnswers = (was keys : List (Option Key)) (earlier passed first second least : ℕ) → NoneBefore was first
+    → NoneBefore keys second → IsLeastDeadline was least → IsLeastDeadline keys least → first ≤ passed
+    → (b : Begins was earlier first) → (c : Begins keys passed second) → c.level < b.level
+
+-- Answers go on: where a time was passed and no row is left that was due by it, the answer is later.
+abbrev pub LawOfLaterAnswers : Type 0
+LawOfLaterAnswers = (keys : List (Option Key)) (passed time to : ℕ) → IsNextDue keys passed time
+    → ((slot : ℕ) (key : Key) → key_in keys slot ≡ Some key → to < key.deadline) → to < passed → to < time
 
 -- the chains are those of the keys, by some homes
 pub record MayWalk (chains : Rings) (keys : List (Option Key)) : Type 0 where
@@ -59,3 +90,17 @@ pub record IsLeastIn (keys : List (Option Key)) (home : Key → ℕ) (bucket bou
   pub low : least ≤ bound
   pub below : (slot : ℕ) (key : Key) → key_in keys slot ≡ Some key → home key ≡ bucket → least ≤ key.deadline
   pub near : IsDueIn keys home bucket least ⊎ (least ≡ bound)
+
+-- a time is the begin of the window in which a row of a bucket is due, as wide as a bucket of its level is
+pub record BeginsIn (keys : List (Option Key)) (home : Key → ℕ) (bucket time : ℕ) : Type 0 where
+  pub slot : ℕ
+  pub key : Key
+  pub has : key_in keys slot ≡ Some key
+  pub at_home : home key ≡ bucket
+  pub begin : time ≡ key.deadline / 512 ^ (bucket / 512) * 512 ^ (bucket / 512)
+
+-- how early a row of a bucket may be due: the least deadline, or the begin of the bucket's window, and None where it has
+-- no row
+abbrev pub IsEarlyIn : List (Option Key) → (Key → ℕ) → ℕ → Option ℕ → Type 0
+IsEarlyIn keys home bucket None = (slot : ℕ) (key : Key) → key_in keys slot ≡ Some key → home key ≡ bucket → ⊥
+IsEarlyIn keys home bucket (Some time) = IsLeastIn keys home bucket (2 ^ 64 - 1) time ⊎ BeginsIn keys home bucket time

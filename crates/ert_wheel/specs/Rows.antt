@@ -5,11 +5,13 @@ use Rattle.ert_wheel.specs.Rings.{Rings}
 use Rattle.ert_wheel.specs.declared.row.Key.{Key}
 use Rattle.ert_wheel.specs.declared.row.Row.{Row}
 
--- what a wheel holds: by slot the key of its row, for each owner a chain of slots, and by slot a value
+-- what a wheel holds: by slot the key of its row, for each owner a chain of slots, by slot a value, and the first time
+-- that wasn't passed
 pub record Held (T : Type 0) : Type 0 where
   pub keys : List (Option Key)
   pub owners : Rings
   pub values : List T
+  pub passed : ℕ
 
 -- the key of a slot; None where it has no row
 abbrev pub key_in : List (Option Key) → ℕ → Option Key

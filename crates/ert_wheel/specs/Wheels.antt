@@ -1,6 +1,6 @@
 -- What a wheel keeps: keys by slot, and a chain of the rows of each bucket.
 
-use Rattle.std.specs.Prelude.{◌≡◌, ℕ, ◌<◌, ◌^◌, List, Option, Some, None, cond, nat_eq, map, max, length, count_by, option_map, slice_index_or}
+use Rattle.std.specs.Prelude.{◌≡◌, ℕ, ◌<◌, ◌≤◌, ◌^◌, List, Option, Some, None, cond, nat_eq, map, max, length, count_by, option_map, slice_index_or}
 use Rattle.std.specs.List.{range_with_len}
 use Rattle.std.specs.Option.{is_some}
 use Rattle.ert_wheel.specs.Levels.{home_at}
@@ -48,3 +48,8 @@ pub record IsWheel (next_time count : ℕ) (keys : List (Option Key)) (chains : 
   pub counts : count ≡ count_by is_some keys
   pub low : (slot : ℕ) (key : Key) → key_in keys slot ≡ Some key → key.deadline < NEVER
   pub are : AreChains chains (places (home_by next_time) keys)
+
+-- and no row is due before a floor
+pub record IsKept (next_time count floor : ℕ) (keys : List (Option Key)) (chains : Rings) : Type 0 where
+  pub wheel : IsWheel next_time count keys chains
+  pub above : (slot : ℕ) (key : Key) → key_in keys slot ≡ Some key → floor ≤ key.deadline

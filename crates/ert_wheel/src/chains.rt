@@ -1,6 +1,7 @@
-ghost use Rattle.std.specs.Prelude.{◌≡◌, IfOk};
+ghost use Rattle.std.specs.Prelude.{◌≡◌, ◌↔◌, ◌≤◌, IfOk, IsTrue};
 
 use crate::links::{Node, Side, alone, link_in, next_of, prev_of, unlink};
+use crate::marks::Marks;
 use crate::row::BUCKETS;
 use ert_defs::NoMemory;
 use std::alloc::Global;
@@ -15,24 +16,29 @@ pub struct Chains {
     slots: u32,
     // Those of the slots, and then the heads: one for the bucket and the owner of each number.
     nodes: Vec<Node>,
+    // The buckets that have slots.
+    marks: Marks,
 }
 
 impl Model for Chains {
-    ghost use Rattle.ert_wheel.specs.Nodes.{Nodes, HasNodes};
+    ghost use Rattle.ert_wheel.specs.Marks.{AreMarked};
+    ghost use Rattle.ert_wheel.specs.Nodes.{Nodes};
 
     ghost Value = { Nodes };
 
     ghost view = { λ c. record { slots = c.slots; nodes = c.nodes.items } };
 
-    ghost invariant = { λ c. HasNodes (record { slots = c.slots; nodes = c.nodes.items }) };
+    ghost invariant = { λ c. AreMarked (record { slots = c.slots; nodes = c.nodes.items }) c.marks };
 }
 
 impl Chains {
     ghost use Rattle.std.specs.Prelude.{◌≡◌, ◌↔◌, ◌+◌, ◌<◌, ◌≤◌, ◌^◌, ℕ, Option, Some, None, IfOk, IsTrue};
     ghost use Rattle.ert_wheel.specs.Links.{other, next_at};
+    ghost use Rattle.ert_wheel.specs.Marks.{FirstUsed};
     ghost use Rattle.ert_wheel.specs.Nodes.{rings};
     ghost use Rattle.ert_wheel.specs.Rings.{Place, AreChains, MayPut, Puts, PutsInHome, MayTake, Takes, Finds, FindsOldest, slot_at};
     ghost use Rattle.ert_wheel.specs.declared.links.Side.{Side};
+    ghost use Rattle.ert_wheel.specs.declared.links.Side.TheVariants.{Bucket};
     ghost use Rattle.ert_wheel.specs.declared.row.TheConstants.{BUCKETS};
 
     /// All chains empty. No call takes memory after this.
@@ -42,7 +48,11 @@ impl Chains {
         ensures empty { IfOk result (λ chains. (side : Side) → AreChains (rings side chains) (λ _. None)) }
     {
         let nodes = alone(alloc, slots + BUCKETS)?;
-        Ok(Chains { slots, nodes })
+        Ok(Chains {
+            slots,
+            nodes,
+            marks: Marks::new(),
+        })
     }
 
     /// How many slots there are.
@@ -64,6 +74,9 @@ impl Chains {
     {
         let head = self.slots + home;
         link_in(&mut self.nodes, side, head, slot);
+        if let Side::Bucket = side {
+            self.marks.set(home);
+        }
     }
 
     /// Takes a slot out of its chain, where it is in one.
@@ -74,7 +87,14 @@ impl Chains {
         ensures other { rings (other side) self.new ≡ rings (other side) self.old }
         ensures chains { Takes (rings side self.old) (rings side self.new) slot }
     {
+        let next = next_of(&self.nodes, side, slot);
+        let prev = prev_of(&self.nodes, side, slot);
         unlink(&mut self.nodes, side, slot);
+        if let Side::Bucket = side {
+            if are_head(self.slots, next, prev) {
+                self.marks.clear(next - self.slots);
+            }
+        }
     }
 
     /// Whether a slot is alone in its ring: it is in no chain.
@@ -84,6 +104,19 @@ impl Chains {
         ensures { IsTrue result ↔ (next_at (rings side self.now).links slot ≡ slot) }
     {
         next_of(&self.nodes, side, slot) == slot
+    }
+
+    /// The first bucket that has a slot, from one on and before an end; the end where there is none.
+    #[inline]
+    pub fn first_used(&self, from: u32, end: u32) -> u32
+        requires from { from ≤ end }
+        requires end { end ≤ BUCKETS }
+        ensures up { from ≤ result }
+        ensures low { result ≤ end }
+        ensures first { (places : ℕ → Option Place) → AreChains (rings Bucket self.now) places
+            → FirstUsed (rings Bucket self.now) places from end result }
+    {
+        self.marks.first(from, end)
     }
 
     /// The newest slot of a home; None where it has none.
@@ -135,4 +168,12 @@ impl Chains {
     {
         (node < self.slots).then_some(node)
     }
+}
+
+// Whether both neighbours of a slot are its head: then it is the only one of its chain.
+#[inline]
+fn are_head(slots: u32, next: u32, prev: u32) -> bool
+    ensures { IsTrue result ↔ ((next ≡ prev) × (slots ≤ next)) }
+{
+    next == prev && next >= slots
 }

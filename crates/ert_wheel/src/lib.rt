@@ -46,27 +46,39 @@
 //! as a start does in the wheel, with two misses of the caches where there are many rows. All rows of a bucket
 //! move in the one advance that comes into its window.
 //!
-//! **A step of time** visits one bucket for a millisecond. Where time leaps it visits those up to the bucket of the
-//! time that it leaps to, at most all 4,096.
+//! **Marks** (`Marks`). A bit for each bucket tells whether it has a slot: a put sets it, and a take that leaves
+//! the ring empty clears it. So no look comes to an empty bucket: it goes over 64 words of 64 bits at most.
+//!
+//! **A step of time** visits the buckets that have rows, up to the bucket of the time that it comes to.
+//!
+//! **The next due row** (`next_due`) is in the first bucket that has one. On the lowest level the bucket tells its
+//! deadline. Above it the rows of the bucket are looked at, 64 at most. Where there are more the begin of the bucket's
+//! window is told: when time comes to it, the bucket's rows go to lower levels, and the next answer is closer. Late rows
+//! have the bucket of the next time and deadlines of any age, so all rows of that bucket are looked at where a late one was
+//! put in since the next time moved on. A floor below all deadlines tells whether that was so. Those rows are due at once,
+//! or at the next millisecond, so that the next advance takes them.
 //!
 //! **Owners.** `own` puts a slot into the chain of an owner as its newest, `disown` takes it out, and `newest_owned`
 //! tells the newest. This hangs on no row: a slot may have an owner without a row, and a row without an owner.
 //!
-//! **At rest** a slot takes 32 bytes and its value: 16 of key and 16 of node; and a wheel 64 KiB for its heads. All is
-//! taken when the wheel is made, and no call takes memory after that.
+//! **At rest** a slot takes 32 bytes and its value: 16 of key and 16 of node; and a wheel 64 KiB for its heads, and 512
+//! bytes for the marks. All is taken when the wheel is made, and no call takes memory after that.
 //!
 //! `due` gives the due rows and leaves them, so that the part above can settle and `remove` them one by
 //! one, and then tell by `pass` that nothing is left; `advance` does all three. What they answer is said
-//! of the list of the slots' keys, which leaves values and owners as they are; no clause of a wheel shows a bucket. That
-//! `pass` was called no clause can show: without it a wheel answers the same, and slower.
+//! of the list of the slots' keys and of the first time that wasn't passed, which leaves values and owners as they are; no
+//! clause of a wheel shows a bucket.
 #![tactic(auto)]
 
 mod chains;
 mod kept;
+mod laws;
 mod links;
+mod marks;
 mod row;
 mod walk;
 mod wheel;
 
+pub use laws::answers_come_closer;
 pub use row::{BUCKETS, Key, Row};
-pub use wheel::{HORIZON, Wheel};
+pub use wheel::Wheel;

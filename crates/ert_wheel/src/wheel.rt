@@ -1,22 +1,19 @@
 use crate::chains::Chains;
 use crate::kept::Kept;
 use crate::links::Side;
-use crate::row::{Key, LAST, Row};
-use crate::walk::{bucket, collect, least_in, move_on, visit_end};
+use crate::row::{BUCKETS, Key, LAST, Row};
+use crate::walk::{bucket, collect, early_in, first_bucket, least_in, move_on, visit_end};
 use ert_defs::NoMemory;
 use std::alloc::Global;
 use std::marker::Model;
-
-/// How far `Wheel::next_due` looks ahead, in milliseconds: over three windows of the lowest level at most.
-pub const HORIZON: u64 = 1_024;
 
 /// A timing wheel of levels: rows by their slots, and the due ones in order of deadline. Beside these it has a value
 /// of each slot, and a chain of slots for each owner.
 ///
 /// It has room for one row of each slot below a number that is fixed when it is made, and takes no
 /// memory after that. A contract sees it as the list of the slots' keys, with None for a slot without a
-/// row, as the list of their values, and as the chains of the owners. A slot has a value with a row or without, and
-/// may so be in an owner's chain.
+/// row, as the list of their values, as the chains of the owners, and as the first time that wasn't passed. A slot has a
+/// value with a row or without, and may so be in an owner's chain.
 ///
 ///     let mut wheel = Wheel::new(alloc, 64, 0u64)?;
 ///     let mut due = Vec::with_capacity(alloc, 64)?;
@@ -26,6 +23,8 @@ pub const HORIZON: u64 = 1_024;
 pub struct Wheel<T> {
     // The next time: the first that wasn't passed.
     next_time: u64,
+    // No row has an earlier deadline. It is the next time unless a row was put in late since that moved on.
+    floor: u64,
     len: u32,
     kept: Kept<T>,
     chains: Chains,
@@ -34,7 +33,7 @@ pub struct Wheel<T> {
 impl<T> Model for Wheel<T> {
     ghost use Rattle.ert_wheel.specs.Nodes.{buckets, owners};
     ghost use Rattle.ert_wheel.specs.Rows.{Held};
-    ghost use Rattle.ert_wheel.specs.Wheels.{held_keys, IsWheel};
+    ghost use Rattle.ert_wheel.specs.Wheels.{held_keys, IsKept};
 
     ghost Value = { Held T };
 
@@ -42,21 +41,22 @@ impl<T> Model for Wheel<T> {
       keys = held_keys (buckets w.chains) w.kept.keys;
       owners = owners w.chains;
       values = w.kept.values;
+      passed = w.next_time;
     } };
 
-    ghost invariant = { λ w. IsWheel w.next_time w.len (held_keys (buckets w.chains) w.kept.keys) (buckets w.chains) };
+    ghost invariant = { λ w. IsKept w.next_time w.len w.floor (held_keys (buckets w.chains) w.kept.keys) (buckets w.chains) };
 }
 
 impl<T: Copy> Wheel<T> {
-    ghost use Rattle.std.specs.Prelude.{◌≡◌, ◌↔◌, ◌⊎◌, ◌<◌, ◌≤◌, ◌^◌, ℕ, Option, Some, None, IsTrue, IsSome, IfSome, IfOk, MatchOption, All};
-    ghost use Rattle.std.specs.Prelude.{count_by, length, map, option_map, replicate, slice_set, vec_capacity};
+    ghost use Rattle.std.specs.Prelude.{◌≡◌, ◌↔◌, ◌+◌, ◌<◌, ◌≤◌, ◌^◌, ℕ, Option, Some, None, IsTrue, IsSome, IfSome, IfOk, MatchOption, All};
+    ghost use Rattle.std.specs.Prelude.{count_by, length, map, max, min, option_map, replicate, slice_set, vec_capacity};
     ghost use Rattle.std.specs.List.{slice_get};
     ghost use Rattle.std.specs.List.Sorted.{IsSortedBy};
     ghost use Rattle.std.specs.Option.{is_some};
-    ghost use Rattle.ert_wheel.specs.NextDue.{NoRow, NoneBefore, IsDueAt, IsNextDue};
+    ghost use Rattle.ert_wheel.specs.NextDue.{NoRow, IsNextDue};
     ghost use Rattle.ert_wheel.specs.Rings.{Place, AreChains, MayPut, Puts, PutsInHome, MayTake, Takes, Finds};
     ghost use Rattle.ert_wheel.specs.Rows.{key_in, key_of, row_at, times, due_at, left_at, comes_before};
-    ghost use Rattle.ert_wheel.specs.declared.row.TheConstants.{BUCKETS};
+    ghost use Rattle.ert_wheel.specs.declared.row.TheConstants.{BUCKETS, LAST};
 
     /// A wheel without rows, with room for one of each slot below `slots`, and with this value of each. No owner has
     /// a slot.
@@ -67,11 +67,13 @@ impl<T: Copy> Wheel<T> {
         ensures homes { IfOk result (λ wheel. wheel.owners.homes ≡ BUCKETS) }
         ensures unowned { IfOk result (λ wheel. AreChains wheel.owners (λ _. None)) }
         ensures values { IfOk result (λ wheel. wheel.values ≡ replicate slots value) }
+        ensures passed { IfOk result (λ wheel. wheel.passed ≡ 0) }
     {
         let kept = Kept::new(alloc, slots, value)?;
         let chains = Chains::new(alloc, slots)?;
         Ok(Wheel {
             next_time: 0,
+            floor: 0,
             len: 0,
             kept,
             chains,
@@ -137,6 +139,7 @@ impl<T: Copy> Wheel<T> {
         ensures keys { self.new.keys ≡ slice_set self.old.keys row.slot (Some (key_of row)) }
         ensures owners { self.new.owners ≡ self.old.owners }
         ensures values { self.new.values ≡ slice_set self.old.values row.slot value }
+        ensures passed { self.new.passed ≡ self.old.passed }
     {
         let Row {
             deadline,
@@ -146,6 +149,7 @@ impl<T: Copy> Wheel<T> {
         let home = bucket(self.next_time, deadline.max(self.next_time));
         self.chains.put(Side::Bucket, slot, home);
         self.kept.set(slot, Key { deadline, order }, value);
+        self.floor = self.floor.min(deadline);
         self.len += 1;
     }
 
@@ -157,6 +161,7 @@ impl<T: Copy> Wheel<T> {
         ensures left { self.new.keys ≡ slice_set self.old.keys slot None }
         ensures owners { self.new.owners ≡ self.old.owners }
         ensures values { self.new.values ≡ self.old.values }
+        ensures passed { self.new.passed ≡ self.old.passed }
     {
         if self.chains.is_alone(Side::Bucket, slot) {
             return false;
@@ -172,6 +177,7 @@ impl<T: Copy> Wheel<T> {
         requires { MayPut self.old.owners slot owner }
         ensures keys { self.new.keys ≡ self.old.keys }
         ensures values { self.new.values ≡ self.old.values }
+        ensures passed { self.new.passed ≡ self.old.passed }
         ensures slots { self.new.owners.slots ≡ self.old.owners.slots }
         ensures homes { self.new.owners.homes ≡ self.old.owners.homes }
         ensures owned { Puts self.old.owners self.new.owners slot owner }
@@ -186,6 +192,7 @@ impl<T: Copy> Wheel<T> {
         requires { MayTake self.old.owners slot }
         ensures keys { self.new.keys ≡ self.old.keys }
         ensures values { self.new.values ≡ self.old.values }
+        ensures passed { self.new.passed ≡ self.old.passed }
         ensures slots { self.new.owners.slots ≡ self.old.owners.slots }
         ensures homes { self.new.owners.homes ≡ self.old.owners.homes }
         ensures disowned { Takes self.old.owners self.new.owners slot }
@@ -213,43 +220,39 @@ impl<T: Copy> Wheel<T> {
         ensures capacity { vec_capacity out.new ≡ vec_capacity out.old }
     {
         out.clear();
-        let first = bucket(self.next_time, self.next_time);
-        for home in first..visit_end(self.next_time, to) {
+        let end = visit_end(self.next_time, to);
+        let mut home = self.chains.first_used(first_bucket(self.next_time), end);
+        while home < end {
             collect(&self.chains, &self.kept, home, to, out);
+            home = self.chains.first_used(home + 1, end);
         }
         out.sort_unstable();
     }
 
     /// How early the next row may be due, in milliseconds; None exactly where there is no row.
     ///
-    /// No row has an earlier deadline. The answer is the least deadline where that is at most `HORIZON`
-    /// milliseconds after `now`, and else this end of the look ahead, so that whoever sleeps until then looks
-    /// again. It visits the buckets of the times that weren't passed, as `due` does, and stops at the first
-    /// that has a row before this end; there it looks at all rows.
-    pub fn next_due(&self, now: u64) -> Option<u64>
-        ensures { MatchOption result (NoRow self.now.keys) (IsNextDue self.now.keys now) }
+    /// No row has an earlier deadline. The answer is a row's deadline, or the begin of a window, after the first time
+    /// that wasn't passed, in which a row is due: of 512 milliseconds, of 262,144, and so on. So it is exact where the
+    /// least deadline stands in that time's window of 512 milliseconds. Whoever lets time pass up to it and asks again is
+    /// told a narrower window, and at last the deadline: after seven such answers at most, however far it is.
+    ///
+    /// It looks at the first bucket that has a row, and there at 64 rows at most; where these are all, the answer is exact.
+    /// Only where a row was put in late since the last pass does it look at each late row, and at those of the next time.
+    pub fn next_due(&self) -> Option<u64>
+        ensures { MatchOption result (NoRow self.now.keys) (IsNextDue self.now.keys self.now.passed) }
     {
         if self.is_empty() {
             return None;
         }
-        Some(self.least_deadline(now.saturating_add(HORIZON)))
-    }
-
-    /// The least deadline, where it is below a bound, and else the bound.
-    fn least_deadline(&self, bound: u64) -> u64
-        ensures low { result ≤ bound }
-        ensures none_before { NoneBefore self.now.keys result }
-        ensures near { IsDueAt self.now.keys result ⊎ (result ≡ bound) }
-    {
-        let mut least = bound;
-        let first = bucket(self.next_time, self.next_time);
-        for home in first..visit_end(self.next_time, bound) {
-            least = least_in(&self.chains, &self.kept, home, least);
-            if least < bound {
-                return least;
-            }
+        let first = first_bucket(self.next_time);
+        let home = self.chains.first_used(first, BUCKETS);
+        if home > first {
+            return early_in(&self.chains, &self.kept, home);
         }
-        least
+        if self.floor >= self.next_time {
+            return Some(self.next_time);
+        }
+        Some(least_in(&self.chains, &self.kept, home))
     }
 
     /// Tells that nothing is left up to `to`: no later call looks at a time up to it again. Where this comes into
@@ -258,11 +261,16 @@ impl<T: Copy> Wheel<T> {
     /// A wheel that isn't told so gives the same rows, but looks at more and more buckets.
     pub fn pass(&mut self, to: u64)
         requires { (slot : ℕ) → IfSome (key_in self.old.keys slot) (λ key. to < key.deadline) }
-        ensures { self.new ≡ self.old }
+        ensures keys { self.new.keys ≡ self.old.keys }
+        ensures owners { self.new.owners ≡ self.old.owners }
+        ensures values { self.new.values ≡ self.old.values }
+        ensures passed { self.new.passed ≡ max self.old.passed (min (to + 1) LAST) }
     {
-        let next_time = self.next_time.max(to.min(LAST - 1) + 1);
+        let after = to.min(LAST - 1) + 1;
+        let next_time = self.next_time.max(after);
         move_on(&mut self.chains, &self.kept, self.next_time, next_time);
         self.next_time = next_time;
+        self.floor = self.floor.max(after);
     }
 
     /// Takes the rows with a deadline at most `to` out, and writes them into `out` as `due` does.
@@ -275,6 +283,7 @@ impl<T: Copy> Wheel<T> {
         ensures left { self.new.keys ≡ map (left_at to) self.old.keys }
         ensures owners { self.new.owners ≡ self.old.owners }
         ensures values { self.new.values ≡ self.old.values }
+        ensures passed { self.new.passed ≡ max self.old.passed (min (to + 1) LAST) }
     {
         self.due(to, out);
         for row in out.iter() {

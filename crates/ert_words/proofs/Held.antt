@@ -1,6 +1,6 @@
 -- The slots that are held, as a list without repeats and as a set.
 
-use Rattle.std.proofs.Common.{◌↔◌, Option, Some, None, IsNone, IsSome, IfNone, IfSome, option_to_list, append-nil, subst, ◌≡◌, ◌≢◌, ℕ, ◌+◌, ◌<◌, ◌≤◌, true, false, Bool, ◌||◌, ◌&&◌, not, List, [], ◌∷◌, ◌++◌, length, nat_eq, nat_lt, nat_le, refl, sym, ap, ◌∙◌, arith, zero, suc, inl, inr, length-append}
+use Rattle.std.proofs.Common.{◌↔◌, Option, Some, None, IsNone, IsSome, IfNone, IfSome, option_to_list, append-nil, subst, ◌≡◌, ℕ, ◌+◌, ◌<◌, ◌≤◌, true, false, Bool, ◌||◌, ◌&&◌, not, List, [], ◌∷◌, ◌++◌, length, nat_eq, nat_lt, nat_le, refl, sym, ap, ◌∙◌, arith, zero, suc, inl, inr, length-append}
 use Rattle.std.proofs.lemmas.Bool.{eqb-true, ltb-true, true≢false}
 use Rattle.std.proofs.lemmas.Bool.Decides.{eqb_tells}
 use Rattle.std.proofs.lemmas.Map.Keys.{IsDistinct-push}
@@ -9,7 +9,7 @@ use Rattle.std.specs.Cmp.{nat_cmp_total, nat_eq_equiv, unsigned_tied}
 use Rattle.std.specs.FinSet as set
 use Rattle.std.specs.List.{IsDistinct, AllByRecursion, list_any, range_with_len}
 use Rattle.std.specs.Ordering.{nat_cmp}
-use Rattle.ert_words.specs.Free.{Free, HasRoom}
+use Rattle.ert_words.specs.Free.{Free, FreeSet, free_set, HasRoom}
 
 -- a slot is in the set exactly where it is in the list
 pub contains-from_list : (xs : List ℕ) (q : ℕ)
@@ -146,12 +146,6 @@ every slots capacity room = record {
   room = room;
 }
 
--- a set with one more isn't empty
-pub some_slot : (x : ℕ) (xs : List ℕ) → set.from_list {R = nat_cmp} (xs ++ x ∷ []) ≢ set.empty
-some_slot x xs e =
-    absurd (true≢false (sym (contains-from_list (xs ++ x ∷ []) x ∙ list_any-last x xs)
-    ∙ ap (λ s. set.contains s x) e ∙ set.contains-empty nat_cmp x))
-
 -- what a pop leaves
 pub room_after : (slots capacity : ℕ) (xs ys : List ℕ) (picked : Option ℕ) → xs ≡ ys ++ option_to_list picked
     → HasRoom slots xs capacity → HasRoom slots ys capacity
@@ -163,41 +157,30 @@ room_after slots capacity xs ys (Some x) e h =
     (popped slots capacity x ys (subst P e h)).room
 
 -- the free slots of a list
-abbrev pub free_of : ℕ → List ℕ → Free
+abbrev pub free_of : ℕ → List ℕ → FreeSet
 free_of slots xs = record { slots = slots; held = set.from_list xs }
 
 -- what a pop gives, by the free slots before it and after it
-pub record Picks (old new : Free) (picked : Option ℕ) : Type 0 where
-  pub none : IsNone picked ↔ (old.held ≡ set.empty)
-  pub unchanged : IfNone picked (new ≡ old)
+pub record Picks (old new : FreeSet) (picked : Option ℕ) : Type 0 where
   pub held : IfSome picked (λ slot. set.contains old.held slot ≡ true)
   pub taken : IfSome picked (λ slot. new ≡ record { slots = old.slots; held = set.remove old.held slot })
   pub in_range : IfSome picked (λ slot. slot < old.slots)
 
--- where a pop gives nothing there was nothing
-pub emptied : (n : ℕ) (xs : List ℕ) (picked : Option ℕ) → n ≡ length xs → (0 < n → IsSome picked)
-    → IfNone picked (xs ≡ [])
-emptied n [] None e h = refl
-emptied n (x ∷ xs) None e h = absurd (true≢false (sym (h (omega arith))))
-emptied n xs (Some x) e h = tt
+-- a pop gives nothing just where there was nothing
+pub nothing : (n : ℕ) (xs : List ℕ) (picked : Option ℕ) → n ≡ length xs → IsSome picked ↔ (0 < n) → IsNone picked ↔ (xs ≡ [])
+nothing n [] None e some = (λ _. refl, λ _. refl)
+nothing n (x ∷ xs) None e some = absurd (true≢false (sym (some.1 (omega arith))))
+nothing n [] (Some x) e some = absurd (let bad : 0 < n = some.0 refl in omega (arith, bad, e))
+nothing n (y ∷ xs) (Some x) e some = (λ is. absurd (true≢false is), λ is. absurd cc)
 
 -- what a pop gives, by what it leaves
 picks_at : (slots capacity : ℕ) (ys : List ℕ) (picked : Option ℕ)
     → HasRoom slots (ys ++ option_to_list picked) capacity
-    → IfNone picked (ys ++ option_to_list picked ≡ [])
     → Picks (free_of slots (ys ++ option_to_list picked)) (free_of slots ys) picked
-picks_at slots capacity ys None h none = record {
-  none = (λ _. ap (λ xs. set.from_list xs) none, λ _. refl);
-  unchanged = ap (free_of slots) (sym (append-nil ys));
-  held = tt;
-  taken = tt;
-  in_range = tt;
-}
-picks_at slots capacity ys (Some x) h none =
+picks_at slots capacity ys None h = record { held = tt; taken = tt; in_range = tt }
+picks_at slots capacity ys (Some x) h =
     let parts = popped slots capacity x ys h in
     record {
-      none = (λ is_none. absurd (true≢false is_none), λ e. absurd (some_slot x ys e));
-      unchanged = tt;
       held = contains-from_list (ys ++ x ∷ []) x ∙ list_any-last x ys;
       taken = ap (λ (s : set.FinSet nat_cmp). record { slots = slots; held = s })
           (from_list-pop ys x parts.away);
@@ -206,13 +189,26 @@ picks_at slots capacity ys (Some x) h none =
 
 -- and by the list before it
 pub picks : (slots capacity : ℕ) (xs ys : List ℕ) (picked : Option ℕ) → xs ≡ ys ++ option_to_list picked
-    → HasRoom slots xs capacity → IfNone picked (xs ≡ [])
-    → Picks (free_of slots xs) (free_of slots ys) picked
-picks slots capacity xs ys picked e h none =
+    → HasRoom slots xs capacity → Picks (free_of slots xs) (free_of slots ys) picked
+picks slots capacity xs ys picked e h =
     let P : List ℕ → Type 0 = λ zs. HasRoom slots zs capacity in
     let Q : List ℕ → Type 0 = λ zs. Picks (free_of slots zs) (free_of slots ys) picked in
-    let R : List ℕ → Type 0 = λ zs. IfNone picked (zs ≡ []) in
-    subst Q (sym e) (picks_at slots capacity ys picked (subst P e h) (subst R e none))
+    subst Q (sym e) (picks_at slots capacity ys picked (subst P e h))
+
+-- what a pop gives was the last
+pub last_is : (xs ys : List ℕ) (picked : Option ℕ) → xs ≡ ys ++ option_to_list picked → IfSome picked (λ slot. xs ≡ ys ++ slot ∷ [])
+last_is xs ys None e = tt
+last_is xs ys (Some x) e = e
+
+-- and where it gives nothing all is as it was
+pub same_rest : (xs ys : List ℕ) (picked : Option ℕ) → xs ≡ ys ++ option_to_list picked → IfNone picked (ys ≡ xs)
+same_rest xs ys None e = sym (e ∙ append-nil ys)
+same_rest xs ys (Some x) e = tt
+
+pub unchanged_by : (slots : ℕ) (xs ys : List ℕ) (picked : Option ℕ) → IfNone picked (ys ≡ xs)
+    → IfNone picked ((let f : Free = record { slots = slots; held = ys } in f) ≡ record { slots = slots; held = xs })
+unchanged_by slots xs ys None same = ap (λ zs. let f : Free = record { slots = slots; held = zs } in f) same
+unchanged_by slots xs ys (Some x) same = tt
 
 -- a slot that may be put back, by the list
 pub record CanPut (slots slot : ℕ) (xs : List ℕ) : Type 0 where
@@ -220,20 +216,18 @@ pub record CanPut (slots slot : ℕ) (xs : List ℕ) : Type 0 where
   pub away : list_any (nat_eq slot) xs ≡ false
 
 -- by the set
-pub can_put : (now : Free) (slots slot : ℕ) (xs : List ℕ) → free_of slots xs ≡ now → slot < now.slots
-    → set.contains now.held slot ≡ false → CanPut slots slot xs
+pub can_put : (now : Free) (slots slot : ℕ) (xs : List ℕ) → (let f : Free = record { slots = slots; held = xs } in f) ≡ now → slot < now.slots
+    → set.contains (free_set now).held slot ≡ false → CanPut slots slot xs
 can_put now slots slot xs e low away = record {
   in_range = subst (λ (f : Free). slot < f.slots) (sym e) low;
   away = sym (contains-from_list xs slot)
-      ∙ subst (λ (f : Free). set.contains f.held slot ≡ false) (sym e) away;
+      ∙ subst (λ (f : Free). set.contains (free_set f).held slot ≡ false) (sym e) away;
 }
 
 -- the free slots after a push
-pub free_of-push : (now : Free) (slots slot : ℕ) (xs ys : List ℕ) → free_of slots xs ≡ now
-    → ys ≡ xs ++ slot ∷ []
-    → free_of slots ys ≡ record { slots = now.slots; held = set.insert now.held slot }
-free_of-push now slots slot xs ys e pushed =
+pub free_of-push : (slots slot : ℕ) (xs ys : List ℕ) → ys ≡ xs ++ slot ∷ []
+    → free_of slots ys ≡ record { slots = slots; held = set.insert (set.from_list xs) slot }
+free_of-push slots slot xs ys pushed =
     ap (free_of slots) pushed
     ∙ ap (λ (s : set.FinSet nat_cmp). record { slots = slots; held = s })
     (set.from_list_push nat_cmp_total set.nat_cmp-IsAntisymmetric xs slot)
-    ∙ ap (λ (f : Free). record { slots = f.slots; held = set.insert f.held slot }) e

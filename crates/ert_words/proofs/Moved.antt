@@ -1,6 +1,6 @@
 -- The first of the slots that are held comes and goes as the last one does.
 
-use Rattle.std.proofs.Common.{Option, Some, None, IfNone, option_to_list, ◌≡◌, ℕ, ◌<◌, ◌≤◌, false, List, [], ◌∷◌, ◌++◌, length, nat_eq, refl, sym, ap, ◌∙◌, subst}
+use Rattle.std.proofs.Common.{Option, Some, None, IfNone, IfSome, option_to_list, ◌≡◌, ℕ, ◌<◌, ◌≤◌, false, List, [], ◌∷◌, ◌++◌, nat_eq, refl, sym, ap, ◌∙◌, subst}
 use Rattle.std.proofs.lemmas.List.Sorted.{IsPermutation-to_front, IsPermutation-sym, list_any-IsPermutation}
 use Rattle.std.proofs.lemmas.Map.Keys.{IsDistinct-IsPermutation}
 use Rattle.std.specs.Cmp.{nat_cmp_total, nat_eq_equiv}
@@ -8,7 +8,7 @@ use Rattle.std.specs.FinSet as set
 use Rattle.std.specs.List.Sorted.{IsPermutation}
 use Rattle.std.specs.List.{list_any}
 use Rattle.std.specs.Ordering.{nat_cmp}
-use Rattle.ert_words.specs.Free.{Free, HasRoom}
+use Rattle.ert_words.specs.Free.{FreeSet, HasRoom}
 use Rattle.ert_words.proofs.Held.{Picks, contains-from_list, free_of, free_of-push, picks, popped, pushed}
 
 -- where slots lie in another order, there is as much room
@@ -37,10 +37,10 @@ put_in_front slots capacity larger x xs h grown low away =
     moved slots larger (xs ++ x ∷ []) (x ∷ xs) (IsPermutation-to_front xs x) (pushed slots capacity larger x xs h grown low away)
 
 -- the free slots after it
-pub free_of-front : (now : Free) (slots slot : ℕ) (xs ys : List ℕ) → free_of slots xs ≡ now → ys ≡ slot ∷ xs
-    → free_of slots ys ≡ record { slots = now.slots; held = set.insert now.held slot }
-free_of-front now slots slot xs ys e put =
-    ap (free_of slots) put ∙ (same_free slots (slot ∷ xs) (xs ++ slot ∷ []) (behind slot xs) ∙ free_of-push now slots slot xs (xs ++ slot ∷ []) e refl)
+pub free_of-front : (slots slot : ℕ) (xs ys : List ℕ) → ys ≡ slot ∷ xs
+    → free_of slots ys ≡ record { slots = slots; held = set.insert (set.from_list xs) slot }
+free_of-front slots slot xs ys put =
+    ap (free_of slots) put ∙ (same_free slots (slot ∷ xs) (xs ++ slot ∷ []) (behind slot xs) ∙ free_of-push slots slot xs (xs ++ slot ∷ []) refl)
 
 -- what is left where the first was taken, if there was one
 pub room_behind : (slots capacity : ℕ) (xs ys : List ℕ) (picked : Option ℕ) → xs ≡ option_to_list picked ++ ys
@@ -51,15 +51,19 @@ room_behind slots capacity xs ys (Some x) e h =
 
 -- and what that gives
 pub picks_first : (slots capacity : ℕ) (xs ys : List ℕ) (picked : Option ℕ) → xs ≡ option_to_list picked ++ ys
-    → HasRoom slots xs capacity → IfNone picked (xs ≡ [])
-    → Picks (free_of slots xs) (free_of slots ys) picked
-picks_first slots capacity xs ys None e h none =
-    let left : ys ≡ [] = sym e ∙ none in
-    subst (λ zs. Picks (free_of slots xs) (free_of slots zs) None) (none ∙ sym left) (picks slots capacity xs xs None (nothing xs none) h none)
-  where
-    nothing : (zs : List ℕ) → zs ≡ [] → zs ≡ zs ++ []
-    nothing zs is = rw is refl
-picks_first slots capacity xs ys (Some x) e h none =
-    subst (λ (old : Free). Picks old (free_of slots ys) (Some x)) (sym (ap (free_of slots) e ∙ same_free slots (x ∷ ys) (ys ++ x ∷ []) (behind x ys)))
+    → HasRoom slots xs capacity → Picks (free_of slots xs) (free_of slots ys) picked
+picks_first slots capacity xs ys None e h = record { held = tt; taken = tt; in_range = tt }
+picks_first slots capacity xs ys (Some x) e h =
+    subst (λ (old : FreeSet). Picks old (free_of slots ys) (Some x)) (sym (ap (free_of slots) e ∙ same_free slots (x ∷ ys) (ys ++ x ∷ []) (behind x ys)))
     (picks slots capacity (ys ++ x ∷ []) ys (Some x) refl
-    (moved slots capacity (x ∷ ys) (ys ++ x ∷ []) (behind x ys) (subst (λ zs. HasRoom slots zs capacity) e h)) tt)
+    (moved slots capacity (x ∷ ys) (ys ++ x ∷ []) (behind x ys) (subst (λ zs. HasRoom slots zs capacity) e h)))
+
+-- it was the first
+pub first_is : (xs ys : List ℕ) (picked : Option ℕ) → xs ≡ option_to_list picked ++ ys → IfSome picked (λ slot. xs ≡ slot ∷ ys)
+first_is xs ys None e = tt
+first_is xs ys (Some x) e = e
+
+-- and where it gives nothing all is as it was
+pub same_behind : (xs ys : List ℕ) (picked : Option ℕ) → xs ≡ option_to_list picked ++ ys → IfNone picked (ys ≡ xs)
+same_behind xs ys None e = sym e
+same_behind xs ys (Some x) e = tt

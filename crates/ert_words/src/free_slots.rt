@@ -18,27 +18,28 @@ pub struct FreeSlots {
 
 impl Model for FreeSlots {
     ghost use Rattle.ert_words.specs.Free.{Free, free_code, HasRoom};
-    ghost use Rattle.std.specs.FinSet as set;
     ghost use Rattle.std.specs.VecDeque.{deque_capacity};
 
     ghost Value = { Free };
 
     ghost coded = { free_code };
 
-    ghost view = { λ f. record { slots = f.slots; held = set.from_list f.held.items } };
+    ghost view = { λ f. record { slots = f.slots; held = f.held.items } };
 
     ghost invariant = { λ f. HasRoom f.slots f.held.items (deque_capacity f.held) };
 }
 
 impl FreeSlots {
-    ghost use Rattle.std.specs.Prelude.{◌≡◌, ◌↔◌, ◌<◌, ℕ, true, false, IfOk, IfSome, IfNone, IsNone, nat_lt};
+    ghost use Rattle.std.specs.Prelude.{◌≡◌, ◌↔◌, ◌<◌, ◌++◌, ℕ, true, false, [], ◌∷◌, IfOk, IfSome, IfNone, IsNone, nat_lt};
     ghost use Rattle.std.specs.FinSet as set;
+    ghost use Rattle.ert_words.specs.Free.{free_set};
 
-    /// Holds every slot below `slots`.
+    /// Holds every slot below `slots`, in order.
     pub fn new(alloc: Global, slots: u32) -> Result<FreeSlots, NoMemory>
         ensures slots { IfOk result (λ free. free.slots ≡ slots) }
+        ensures order { IfOk result (λ free. free.held ≡ range_with_len 0 slots) }
         ensures every { IfOk result (λ free. (slot : ℕ)
-            → set.contains free.held slot ≡ nat_lt slot slots) }
+            → set.contains (free_set free).held slot ≡ nat_lt slot slots) }
     {
         match below(alloc, slots) {
             Ok(held) => Ok(FreeSlots {
@@ -51,11 +52,12 @@ impl FreeSlots {
 
     /// Takes the last slot out; None exactly where none is held.
     pub fn pick(&mut self) -> Option<u32>
-        ensures none { IsNone result ↔ (self.old.held ≡ set.empty) }
+        ensures none { IsNone result ↔ (self.old.held ≡ []) }
         ensures unchanged { IfNone result (self.new ≡ self.old) }
-        ensures held { IfSome result (λ slot. set.contains self.old.held slot ≡ true) }
+        ensures last { IfSome result (λ slot. self.old.held ≡ self.new.held ++ slot ∷ []) }
+        ensures held { IfSome result (λ slot. set.contains (free_set self.old).held slot ≡ true) }
         ensures taken { IfSome result (λ slot.
-            self.new ≡ record self.old { held = set.remove self.old.held slot }) }
+            free_set self.new ≡ record (free_set self.old) { held = set.remove (free_set self.old).held slot }) }
         ensures in_range { IfSome result (λ slot. slot < self.old.slots) }
     {
         self.held.pop_back()
@@ -63,11 +65,12 @@ impl FreeSlots {
 
     /// Takes the first slot out; None exactly where none is held.
     pub fn pick_first(&mut self) -> Option<u32>
-        ensures none { IsNone result ↔ (self.old.held ≡ set.empty) }
+        ensures none { IsNone result ↔ (self.old.held ≡ []) }
         ensures unchanged { IfNone result (self.new ≡ self.old) }
-        ensures held { IfSome result (λ slot. set.contains self.old.held slot ≡ true) }
+        ensures first { IfSome result (λ slot. self.old.held ≡ slot ∷ self.new.held) }
+        ensures held { IfSome result (λ slot. set.contains (free_set self.old).held slot ≡ true) }
         ensures taken { IfSome result (λ slot.
-            self.new ≡ record self.old { held = set.remove self.old.held slot }) }
+            free_set self.new ≡ record (free_set self.old) { held = set.remove (free_set self.old).held slot }) }
         ensures in_range { IfSome result (λ slot. slot < self.old.slots) }
     {
         self.held.pop_front()
@@ -76,8 +79,9 @@ impl FreeSlots {
     /// Adds a slot that isn't held, as the last one.
     pub fn put(&mut self, slot: u32)
         requires in_range { slot < self.old.slots }
-        requires away { set.contains self.old.held slot ≡ false }
-        ensures { self.new ≡ record self.old { held = set.insert self.old.held slot } }
+        requires away { set.contains (free_set self.old).held slot ≡ false }
+        ensures last { self.new ≡ record self.old { held = self.old.held ++ slot ∷ [] } }
+        ensures held { free_set self.new ≡ record (free_set self.old) { held = set.insert (free_set self.old).held slot } }
     {
         // There is room for each of the slots.
         self.held.push_back_reserved(slot);
@@ -86,8 +90,9 @@ impl FreeSlots {
     /// Adds a slot that isn't held, as the first one.
     pub fn put_first(&mut self, slot: u32)
         requires in_range { slot < self.old.slots }
-        requires away { set.contains self.old.held slot ≡ false }
-        ensures { self.new ≡ record self.old { held = set.insert self.old.held slot } }
+        requires away { set.contains (free_set self.old).held slot ≡ false }
+        ensures first { self.new ≡ record self.old { held = slot ∷ self.old.held } }
+        ensures held { free_set self.new ≡ record (free_set self.old) { held = set.insert (free_set self.old).held slot } }
     {
         // There is room for each of the slots.
         self.held.push_front_reserved(slot);

@@ -174,11 +174,12 @@ advanced advances plain before b d q i old new part x answer has belongs low len
     let back : AllParts = record (parts_in b) { scheds = slice_set b.scheds.items i x } in
     let only = plain.only g i answer s made.entries made.allowed in
     finish before b d q (record back { wheels = slice_set b.wheels.items i new }) made.entries (Sched i ∷ (Wheel i ∷ []))
-    (λ w way. way (Wheel i ∷ []) (advances w.settings i answer)) has belongs made.call only (refl, (refl, tt))
+    (λ w way. way (Wheel i ∷ []) (advances w.settings i answer)) has belongs made.call only
+    (plain.calm g i answer s made.entries made.allowed) (refl, (refl, tt))
     (λ stand. wheel_back g (front_of q) [] back i new below (named ∙ one) stands (sched_back g (front_of q) (Wheel i ∷ []) (parts_in b) i x below at now stand))
     (λ m grown own. subst (advances g i answer s) (sym own) made.allowed)
     (wheel_tidy b d q i old new made.entries (Sched i ∷ (Wheel i ∷ [])) has below lent made.call only (λ j apart. one_wheel (Sched i) i j refl apart)
-    (plain.calm g i answer s made.entries made.allowed) keeps)
+    (plain.calm g i answer s made.entries made.allowed) keeps) refl
 
 pub difference : (a b : ℕ) (xs ys : List Row) → a ≡ length (xs ++ ys) → b ≡ length xs → a - b ≡ length ys
 difference a b xs ys whole first =

@@ -1,18 +1,22 @@
 -- Where no seat was given out, a world holds every actor, and what is said in its way is said of one thread.
 
-use Rattle.std.proofs.Common.{◌≡◌, ℕ, zero, suc, ◌<◌, List, inl, inr, refl, ap, subst, ◌∙◌, arith}
+use Rattle.std.proofs.Common.{◌≡◌, ℕ, zero, suc, ◌<◌, List, slice_index_or, inl, inr, refl, sym, ap, subst, ◌∙◌, arith}
 use Rattle.std.proofs.Math.Path.{fun_ext}
 use Rattle.ert_effects.specs.Ways.{Step, Growth, Way, Grows, alone}
+use Rattle.ert_defs.specs.Legal.{Legal}
 use Rattle.ert_defs.specs.States.{state}
 use Rattle.ert_defs.specs.declared.entry.Actor.{Actor}
 use Rattle.ert_defs.specs.declared.entry.Actor.TheVariants.{Keeper, Wheel, Inbox, Sched, MailOf, Caller}
 use Rattle.ert_defs.specs.declared.entry.Entry.{Entry}
 use Rattle.ert_defs.specs.declared.settings.Settings.{Settings}
 use Rattle.ert_table.specs.Held.{IsWhole}
+use Rattle.ert_timers.proofs.Passing.{loses_none}
+use Rattle.ert_timers.specs.Parts.{Part}
+use Rattle.ert_timers.specs.Passed.{LosesRows}
 use Rattle.ert_world.proofs.Divided.{none_given}
 use Rattle.ert_world.specs.Stepping.{Stays}
 use Rattle.ert_world.specs.Ways.{beside_seats}
-use Rattle.ert_world.specs.Worlds.{Seen, IsUnseated, HoldsRest, StayTidy, Goes, way_of}
+use Rattle.ert_world.specs.Worlds.{Seen, IsUnseated, HoldsRest, StayTidy, ForgetsCancelled, LoseRows, Goes, way_of}
 
 every : (next : ℕ) (a : Actor) → next ≡ 1 → IsUnseated next a
 every next Keeper one = tt
@@ -46,21 +50,40 @@ pub lone : (old : Seen) (h : List Entry) (call : Way → Growth) → Grows (call
 lone old h call grows one =
     subst (λ (way : Way). Grows (call way) old.history h) (ap (λ (n : ℕ). beside_seats old.settings n) one ∙ no_seats old.settings) grows
 
-pub went : (old new : Seen) (call : Way → Growth) → Grows (call (way_of old)) old.history new.history → new.table ≡ old.table
-    → new.settings ≡ old.settings → new.next ≡ old.next → StayTidy old new → Goes old call new
-went old new call grows table settings next tidy = record {
+pub went : (old new : Seen) (call : Way → Growth) → Grows (call (way_of old)) old.history new.history → Legal new.settings new.history
+    → new.table ≡ old.table → new.settings ≡ old.settings → new.clock ≡ old.clock → new.next ≡ old.next → StayTidy old new → Goes old call new
+went old new call grows legal table settings clock next tidy = record {
   grows = grows;
   lone = lone old new.history call grows;
+  legal = legal;
   table = table;
   settings = settings;
+  clock = clock;
   next = next;
   tidy = tidy;
 }
 
 -- a chain that a world made is a call
-pub goes_on : (old new : Seen) (call : Way → Growth) → Grows (call (way_of old)) old.history new.history → Stays old new → Goes old call new
-goes_on old new call grows stays = went old new call grows stays.table stays.settings stays.next stays.tidy
+pub goes_on : (old new : Seen) (call : Way → Growth) → Grows (call (way_of old)) old.history new.history → Legal new.settings new.history → Stays old new
+    → Goes old call new
+goes_on old new call grows legal stays = went old new call grows legal stays.table stays.settings stays.clock stays.next stays.tidy
 
--- and each call leaves what every step leaves
-pub stays_by : {old new : Seen} {call : Way → Growth} → Goes old call new → new.clock ≡ old.clock → Stays old new
-stays_by goes clock = record { table = goes.table; settings = goes.settings; next = goes.next; clock = clock; tidy = goes.tidy }
+-- and each call that loses rows at most and forgets what it cancelled leaves what every step leaves
+pub stays_by : {old new : Seen} {call : Way → Growth} → Goes old call new → LoseRows old new → ForgetsCancelled old new → Stays old new
+stays_by goes rows forgotten = record {
+  table = goes.table;
+  settings = goes.settings;
+  next = goes.next;
+  clock = goes.clock;
+  rows = rows;
+  forgotten = forgotten;
+  tidy = goes.tidy;
+}
+
+pub rows_same : (old new : Seen) → new.wheels ≡ old.wheels → LoseRows old new
+rows_same old new same =
+    subst (λ (ws : List Part). (i : ℕ) (d : Part) → LosesRows (slice_index_or old.wheels i d) (slice_index_or ws i d)) (sym same)
+    (λ i d. loses_none (slice_index_or old.wheels i d))
+
+pub stays_same : {old new : Seen} {call : Way → Growth} → Goes old call new → new.wheels ≡ old.wheels → ForgetsCancelled old new → Stays old new
+stays_same {old} {new} goes same forgotten = stays_by goes (rows_same old new same) forgotten

@@ -36,14 +36,14 @@ use Rattle.ert_table.specs.declared.desk.Pass.{Pass}
 use Rattle.ert_table.specs.declared.view.View.{View}
 use Rattle.ert_timers.specs.Parts.{last_timer}
 use Rattle.ert_world.proofs.Alone.{whole_of, went}
-use Rattle.ert_world.proofs.Armed.{AreCalm, armed_stays}
+use Rattle.ert_world.proofs.Armed.{AreCalm, is_cancel, armed_stays}
 use Rattle.ert_world.proofs.Calm.{IsQuiet}
 use Rattle.ert_world.proofs.Returned.{mail_back, inbox_back, keeper_back, caller_back}
 use Rattle.ert_world.proofs.Standing.{others_stand}
 use Rattle.ert_world.proofs.Unseated.{AreUnseated, own_unseated}
 use Rattle.ert_world.specs.Parts.{AllParts, parts_of, Stand}
 use Rattle.ert_world.specs.Ways.{is_unseated}
-use Rattle.ert_world.specs.Worlds.{Seen, seen, HoldsRest, AreFit, StayTidy, Goes, By, way_of}
+use Rattle.ert_world.specs.Worlds.{Seen, seen, HoldsRest, AreFit, StayTidy, ForgetsCancelled, HasForgottenAll, Goes, GoesOnClock, By, way_of}
 use Rattle.ert_world.specs.declared.world.World.TheInside.{Inside}
 
 -- all parts that a world has
@@ -67,6 +67,17 @@ has_at {before} {b} {d} {e} same is fit = subst (λ x. Has before b x) (sym same
 pub record Does (before : Seen) (d : Desk) (q : Pass) (next : ℕ) (parts : AllParts) (call : Seen → Way → Growth) : Type 0 where
   pub fit : AreFit d q next parts
   pub goes : Goes before (call before) (seen d q next parts.keeper parts.wheels)
+  pub forgets : ForgetsCancelled before (seen d q next parts.keeper parts.wheels)
+
+-- the same of a call that may move the clock
+pub record DoesOnClock (before : Seen) (d : Desk) (q : Pass) (next : ℕ) (parts : AllParts) (call : Seen → Way → Growth) : Type 0 where
+  pub fit : AreFit d q next parts
+  pub goes : GoesOnClock before (call before) (seen d q next parts.keeper parts.wheels)
+  pub forgets : ForgetsCancelled before (seen d q next parts.keeper parts.wheels)
+
+does_on_clock_at : {before : Seen} {d e : Desk} {q : Pass} {next : ℕ} {parts : AllParts} {call : Seen → Way → Growth} → d ≡ e
+    → DoesOnClock before d q next parts call → DoesOnClock before e q next parts call
+does_on_clock_at {before} {d} {e} {q} {next} {parts} {call} same done = subst (λ x. DoesOnClock before x q next parts call) same done
 
 pub does_at : {before : Seen} {d e : Desk} {q : Pass} {next : ℕ} {parts : AllParts} {call : Seen → Way → Growth} → d ≡ e
     → Does before d q next parts call → Does before e q next parts call
@@ -133,30 +144,57 @@ fit_on d p q next parts new es lent fit belongs takes only back = record {
   stand = back (others_stand (settings_of d) (view_of p) es (view_of q) next lent parts takes only fit.holds fit.stand);
 }
 
--- a call of a world on the parts that these actors have
-pub finish : (before : Seen) (b : Inside) (d : Desk) (q : Pass) (new : AllParts) (es : List Entry) (lent : List Actor) (call : Seen → Way → Growth)
-    → Has before b d → Belongs d q → TakesPlace (settings_of d) (view_of b.pass) es (view_of q) → AreOnlyOf lent es → AreUnseated b.next lent
-    → ComeBack b d q lent new → Makes b d q es call → StayTidy (seen_at d b) (seen d q b.next new.keeper new.wheels) → Does before d q b.next new call
-finish before b d q new es lent call has belongs takes only unseated back allowed tidy =
+-- where nothing was cancelled nothing has to be forgotten
+calm_forgets : (w : Seen) (es : List Entry) → AreCalm es → HasForgottenAll w es
+calm_forgets w [] calm = tt
+calm_forgets w (e ∷ es) calm =
+    (λ timer left is. absurd (let clash : true ≡ false = sym (ap is_cancel is) ∙ calm.0 in cc), calm_forgets w es calm.1)
+
+-- a call of a world that cancels nothing, on the parts that these actors have
+finish_on_clock : (before : Seen) (b : Inside) (d : Desk) (q : Pass) (new : AllParts) (es : List Entry) (lent : List Actor) (call : Seen → Way → Growth)
+    → Has before b d → Belongs d q → TakesPlace (settings_of d) (view_of b.pass) es (view_of q) → AreOnlyOf lent es → AreCalm es → AreUnseated b.next lent
+    → ComeBack b d q lent new → Makes b d q es call → StayTidy (seen_at d b) (seen d q b.next new.keeper new.wheels) → DoesOnClock before d q b.next new call
+finish_on_clock before b d q new es lent call has belongs takes only calm unseated back allowed tidy =
     let g : Settings = settings_of d in
+    let after : Seen = seen d q b.next new.keeper new.wheels in
+    let own = own_unseated g (view_of b.pass) es (view_of q) b.next lent has.fit.holds takes only unseated in
     record {
       fit = fit_on d b.pass q b.next (parts_in b) new es lent has.fit belongs takes only back;
-      goes = subst (λ w. Goes w (call w) (seen d q b.next new.keeper new.wheels)) has.is
-          (went (seen_at d b) (seen d q b.next new.keeper new.wheels) (call (seen_at d b)) (record {
+      goes = subst (λ w. GoesOnClock w (call w) after) has.is
+          (went (record (seen_at d b) { clock = new.keeper }) after (call (seen_at d b)) (record {
             piece = takes.later;
             grown = takes.grown;
-            made = allowed takes.later takes.grown (own_unseated g (view_of b.pass) es (view_of q) b.next lent has.fit.holds takes only unseated);
-          }) refl refl refl tidy);
+            made = allowed takes.later takes.grown own;
+          }) takes.legal refl refl refl refl tidy);
+      forgets = subst (λ w. ForgetsCancelled w after) has.is (record {
+        piece = takes.later;
+        grown = takes.grown;
+        forgotten = subst (HasForgottenAll after) (sym own) (calm_forgets after es calm);
+      });
+    }
+
+-- one that leaves the clock
+pub finish : (before : Seen) (b : Inside) (d : Desk) (q : Pass) (new : AllParts) (es : List Entry) (lent : List Actor) (call : Seen → Way → Growth)
+    → Has before b d → Belongs d q → TakesPlace (settings_of d) (view_of b.pass) es (view_of q) → AreOnlyOf lent es → AreCalm es → AreUnseated b.next lent
+    → ComeBack b d q lent new → Makes b d q es call → StayTidy (seen_at d b) (seen d q b.next new.keeper new.wheels) → new.keeper ≡ b.keeper
+    → Does before d q b.next new call
+finish before b d q new es lent call has belongs takes only calm unseated back allowed tidy same =
+    let done = finish_on_clock before b d q new es lent call has belongs takes only calm unseated back allowed tidy in
+    record {
+      fit = done.fit;
+      goes = subst (λ k. Goes (record before { clock = k }) (call before) (seen d q b.next new.keeper new.wheels))
+          (same ∙ ap (λ (w : Seen). w.clock) has.is) done.goes;
+      forgets = done.forgets;
     }
 
 -- one that cancels nothing and lends no wheel
 pub calm_called : (before : Seen) (b : Inside) (d : Desk) (q : Pass) (new : AllParts) (es : List Entry) (lent : List Actor) (call : Seen → Way → Growth)
     → Has before b d → Belongs d q → TakesPlace (settings_of d) (view_of b.pass) es (view_of q) → AreOnlyOf lent es → AreCalm es
-    → ((i : ℕ) → is_held lent (Wheel i) ≡ false) → AreUnseated b.next lent → new.wheels ≡ b.wheels.items → ComeBack b d q lent new
-    → Makes b d q es call → Does before d q b.next new call
-calm_called before b d q new es lent call has belongs takes only calm none unseated wheels back allowed =
-    finish before b d q new es lent call has belongs takes only unseated back allowed
-    (subst (λ ws. StayTidy (seen_at d b) (seen d q b.next new.keeper ws)) (sym wheels) (calm_tidy b d q new.keeper es lent has takes only none calm))
+    → ((i : ℕ) → is_held lent (Wheel i) ≡ false) → AreUnseated b.next lent → new.wheels ≡ b.wheels.items → new.keeper ≡ b.keeper
+    → ComeBack b d q lent new → Makes b d q es call → Does before d q b.next new call
+calm_called before b d q new es lent call has belongs takes only calm none unseated wheels same back allowed =
+    finish before b d q new es lent call has belongs takes only calm unseated back allowed
+    (subst (λ ws. StayTidy (seen_at d b) (seen d q b.next new.keeper ws)) (sym wheels) (calm_tidy b d q new.keeper es lent has takes only none calm)) same
 
 -- what one step may record
 pub makes : (b : Inside) (d : Desk) (q : Pass) (es : List Entry) (allows : Settings → State → List Entry → Type 0)
@@ -165,10 +203,10 @@ makes b d q es allows allowed = λ m grown own. subst (allows (settings_of d) (s
 
 pub called_with : (before : Seen) (b : Inside) (d : Desk) (q : Pass) (new : AllParts) (lent : List Actor) (allows : Settings → State → List Entry → Type 0)
     → Has before b d → Belongs d q → (made : IsMade (settings_of d) (view_of b.pass) (allows (settings_of d)) (view_of q)) → AreOnlyOf lent made.entries
-    → AreCalm made.entries → ((i : ℕ) → is_held lent (Wheel i) ≡ false) → AreUnseated b.next lent → new.wheels ≡ b.wheels.items
+    → AreCalm made.entries → ((i : ℕ) → is_held lent (Wheel i) ≡ false) → AreUnseated b.next lent → new.wheels ≡ b.wheels.items → new.keeper ≡ b.keeper
     → ComeBack b d q lent new → Does before d q b.next new (λ w. By w allows)
-called_with before b d q new lent allows has belongs made only calm none unseated wheels back =
-    calm_called before b d q new made.entries lent (λ w. By w allows) has belongs made.call only calm none unseated wheels back
+called_with before b d q new lent allows has belongs made only calm none unseated wheels same back =
+    calm_called before b d q new made.entries lent (λ w. By w allows) has belongs made.call only calm none unseated wheels same back
     (makes b d q made.entries allows made.allowed)
 
 -- a call by caller 0 alone, that has no part of its own
@@ -177,7 +215,7 @@ pub alone_called : (before : Seen) (b : Inside) (d e : Desk) (q : Pass) (allows 
     → ((s : State) (es : List Entry) → allows (settings_of d) s es → IsQuiet (Caller 0 ∷ []) es) → Does before e q b.next (parts_in b) (λ w. By w allows)
 alone_called before b d e q allows same is fit belongs made quiet =
     let it = quiet (state (settings_of d) (front_of b.pass)) made.entries made.allowed in
-    does_at same (called_with before b d q (parts_in b) (Caller 0 ∷ []) allows (has_at same is fit) belongs made it.only it.calm (λ i. refl) (refl, tt) refl
+    does_at same (called_with before b d q (parts_in b) (Caller 0 ∷ []) allows (has_at same is fit) belongs made it.only it.calm (λ i. refl) (refl, tt) refl refl
     (caller_back (settings_of d) (front_of q) [] (parts_in b) 0))
 
 -- a call on the clock, by caller 0
@@ -185,13 +223,16 @@ pub keeper_called : (before : Seen) (b : Inside) (d e : Desk) (q : Pass) (x : Ke
     → seen_at e b ≡ before → AreFit e b.pass b.next (parts_in b) → Belongs d q → ClockStands (settings_of d) (front_of q) x
     → IsMade (settings_of d) (view_of b.pass) (allows (settings_of d)) (view_of q)
     → ((s : State) (es : List Entry) → allows (settings_of d) s es → IsQuiet (Keeper ∷ (Caller 0 ∷ [])) es)
-    → Does before e q b.next (record (parts_in b) { keeper = x }) (λ w. By w allows)
+    → DoesOnClock before e q b.next (record (parts_in b) { keeper = x }) (λ w. By w allows)
 keeper_called before b d e q x allows same is fit belongs stands made quiet =
     let g : Settings = settings_of d in
     let it = quiet (state g (front_of b.pass)) made.entries made.allowed in
-    does_at same (called_with before b d q (record (parts_in b) { keeper = x }) (Keeper ∷ (Caller 0 ∷ [])) allows (has_at same is fit) belongs made it.only it.calm
-    (λ i. refl) (refl, (refl, tt)) refl
-    (λ stand. caller_back g (front_of q) [] (record (parts_in b) { keeper = x }) 0 (keeper_back g (front_of q) (Caller 0 ∷ []) (parts_in b) x stands stand)))
+    let new : AllParts = record (parts_in b) { keeper = x } in
+    let has : Has before b d = has_at same is fit in
+    does_on_clock_at same (finish_on_clock before b d q new made.entries (Keeper ∷ (Caller 0 ∷ [])) (λ w. By w allows) has belongs made.call it.only it.calm
+    (refl, (refl, tt))
+    (λ stand. caller_back g (front_of q) [] new 0 (keeper_back g (front_of q) (Caller 0 ∷ []) (parts_in b) x stands stand))
+    (makes b d q made.entries allows made.allowed) (calm_tidy b d q new.keeper made.entries (Keeper ∷ (Caller 0 ∷ [])) has made.call it.only (λ i. refl) it.calm))
 
 -- a number in range of what callers see is in range of the desk
 pub processes_at : {before : Seen} {b : Inside} {d : Desk} → Has before b d → (i : ℕ) → i < before.settings.processes → i < (settings_of d).processes
@@ -227,7 +268,7 @@ mail_called before b d e q i old new allows same is fit belongs low lent named s
     let s : State = state g (front_of b.pass) in
     does_at same (subst (λ n. Does before d q b.next (record (parts_in b) { mails = slice_set b.mails.items n new }) (λ w. By w (allows n))) one
     (called_with before b d q (record (parts_in b) { mails = slice_set b.mails.items p new }) (Caller 0 ∷ (MailOf p ∷ [])) (allows p) has belongs made
-    (only s made.entries made.allowed) (calm s made.entries made.allowed) (λ j. refl) (refl, (refl, tt)) refl
+    (only s made.entries made.allowed) (calm s made.entries made.allowed) (λ j. refl) (refl, (refl, tt)) refl refl
     (λ stand. mail_back g (front_of q) [] (parts_in b) p new (rw one below) named stands (caller_back g (front_of q) (MailOf p ∷ []) (parts_in b) 0 stand))))
 
 -- a request was put into an inbox, by caller 0
@@ -248,7 +289,7 @@ inbox_called before b d e q i old new allows same is fit belongs low lent named 
     let s : State = state g (front_of b.pass) in
     does_at same (subst (λ n. Does before d q b.next (record (parts_in b) { inboxes = slice_set b.inboxes.items n new }) (λ w. By w (allows n))) one
     (called_with before b d q (record (parts_in b) { inboxes = slice_set b.inboxes.items n new }) (Caller 0 ∷ (Inbox n ∷ [])) (allows n) has belongs made
-    (only s made.entries made.allowed) (calm s made.entries made.allowed) (λ j. refl) (refl, (refl, tt)) refl
+    (only s made.entries made.allowed) (calm s made.entries made.allowed) (λ j. refl) (refl, (refl, tt)) refl refl
     (λ stand. inbox_back g (front_of q) [] (parts_in b) n new (rw one below) named stands (caller_back g (front_of q) (Inbox n ∷ []) (parts_in b) 0 stand))))
 
 -- a monitor was made or wasn't

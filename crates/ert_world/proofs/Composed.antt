@@ -3,6 +3,7 @@
 use Rattle.std.proofs.Common.{◌≡◌, ℕ, List, [], ◌∷◌, ◌++◌, None, refl, sym, subst, ◌∙◌, append-nil}
 use Rattle.ert_effects.proofs.Growing.{grows_then, grows_more}
 use Rattle.ert_effects.specs.Ways.{Growth, Way, Grows, Then, Many}
+use Rattle.ert_defs.specs.Legal.{Legal}
 use Rattle.ert_defs.specs.Mails.{first_of}
 use Rattle.ert_defs.specs.declared.settings.Settings.{Settings}
 use Rattle.ert_world.proofs.Alone.{went}
@@ -21,7 +22,7 @@ of_same a b c call settings next grows =
 
 joined : (a b c : Seen) (first second call : Way → Growth) → Goes a first b → Goes b second c → Grows (call (way_of a)) a.history c.history → Goes a call c
 joined a b c first second call one other grows =
-    went a c call grows (other.table ∙ one.table) (other.settings ∙ one.settings) (other.next ∙ one.next)
+    went a c call grows other.legal (other.table ∙ one.table) (other.settings ∙ one.settings) (other.clock ∙ one.clock) (other.next ∙ one.next)
     (λ alone i low tidy. other.tidy (one.next ∙ alone) i (rw one.settings low) (one.tidy alone i low tidy))
 
 -- calls that can be made in any way
@@ -32,9 +33,9 @@ goes_then a b c first second one other =
     (grows_then (first (way_of a)) (second a.settings (way_of a)) a.history b.history c.history one.grows
     (of_same a b c (λ g n. second g (beside_seats g n)) one.settings one.next other.grows))
 
-pub goes_nothing : (a : Seen) (call : Way → Growth) → call (way_of a) a.history [] → Goes a call a
-goes_nothing a call none =
-    went a a call (record { piece = []; grown = sym (append-nil a.history); made = none }) refl refl refl (λ alone i low tidy. tidy)
+pub goes_nothing : (a : Seen) (call : Way → Growth) → Legal a.settings a.history → call (way_of a) a.history [] → Goes a call a
+goes_nothing a call legal none =
+    went a a call (record { piece = []; grown = sym (append-nil a.history); made = none }) legal refl refl refl refl (λ alone i low tidy. tidy)
 
 pub goes_more : {A : Type 0} (a b c : Seen) (call : Settings → Way → A → Growth) (answers : List A) (answer : A)
     → Goes a (λ way. Many (call a.settings way) answers) b → Goes b (λ way. call b.settings way answer) c

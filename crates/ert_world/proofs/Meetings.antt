@@ -107,7 +107,7 @@ module _ (before : Seen) (b : Inside) (d : Desk) (s j q r : Pass) (n : ℕ) (has
     (met : IsMeeting d b.pass s j q r (Caller n)) where
   world_met : Does before d q b.next (parts_in b) (λ w. By w MakesNone)
   world_met =
-      calm_called before b d q (parts_in b) [] [] (λ w. By w MakesNone) has belongs (world_takes d b.pass s j q r (Caller n) met) tt tt (λ i. refl) tt refl
+      calm_called before b d q (parts_in b) [] [] (λ w. By w MakesNone) has belongs (world_takes d b.pass s j q r (Caller n) met) tt tt (λ i. refl) tt refl refl
       (λ stand. stand) (λ m grown own. own)
 
   pub met_fit : AreFit d q b.next (parts_in b)
@@ -133,6 +133,5 @@ module _ (before : Seen) (b : Inside) (d : Desk) (s j q r : Pass) (n : ℕ) (has
         });
         one = met.seat_front ∙ sym met.front;
         is_longer = met.front ∙ (long ∙ (ap (λ (w : Seen). longer w.history (front_of s)) has.is ∙ ap (λ (x : Seated). longer before.history x.history) is));
-        clock = ap (λ (w : Seen). w.clock) has.is;
         wheels = ap (λ (w : Seen). w.wheels) has.is;
       }

@@ -26,7 +26,7 @@ shows_calm by w now s slot (suc n) before room es shows =
     subst AreCalm (sym shows.2) (refl, shows_calm by w now s (suc slot) n (with_found s now w slot shows.0 before) room shows.1 shows.3)
 
 pub room_calm : (g : Settings) (by w : ℕ) (room : Room) (s : State) (es : List Entry) → TellsRoom g by w room s es → AreCalm es
-room_calm g by w room s es tells = subst AreCalm (sym tells.entries) (refl, shows_calm by w _ s 0 g.slots no_room room tells.probes tells.shows)
+room_calm g by w room s es tells = subst AreCalm (sym tells.entries) (refl, shows_calm by w _ s 0 g.slots no_room tells.seen tells.probes tells.shows)
 
 -- what stands at a place is put there
 pub same_set : {X : Type 0} (xs : List X) (i : ℕ) (x : X) → x ≡ slice_index_or xs i x → set xs i x ≡ xs

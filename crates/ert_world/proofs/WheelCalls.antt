@@ -1,6 +1,6 @@
 -- The calls that start timers, let them expire, or cancel them for an exit.
 
-use Rattle.std.proofs.Common.{◌≡◌, ◌≢◌, ℕ, zero, suc, ◌<◌, Bool, true, false, List, [], ◌∷◌, ◌++◌, slice_index_or, Option, Some, None, Result, Ok, Err, inl, inr, refl, sym, ap, subst, ◌∙◌, eqb-true}
+use Rattle.std.proofs.Common.{◌≡◌, ◌≢◌, ℕ, zero, suc, ◌<◌, Bool, true, false, List, [], ◌∷◌, ◌++◌, slice_index_or, Option, Some, None, Result, Ok, Err, inl, inr, refl, sym, ap, subst, ◌∙◌, eqb-true, length}
 use Rattle.std.specs.Prelude.{slice_set, nat_eq}
 use Rattle.ert_effects.proofs.Advanced.{IsAdvance, advance_is}
 use Rattle.ert_effects.specs.TimerCalls.{Starts, Closes, AreProbes, AreTaken}
@@ -10,6 +10,7 @@ use Rattle.ert_effects.specs.Ways.{Growth, Way}
 use Rattle.ert_effects.specs.declared.answers.StartErr.{StartErr}
 use Rattle.ert_effects.specs.declared.answers.StartErr.TheVariants.{BadArg, Full, NoMemory}
 use Rattle.ert_defs.specs.Actors.{same_actor}
+use Rattle.std.proofs.lemmas.List.{get_or_default}
 use Rattle.ert_defs.specs.States.{State, state}
 use Rattle.ert_defs.specs.declared.entry.Actor.{Actor}
 use Rattle.ert_defs.specs.declared.entry.Actor.TheVariants.{Wheel, Caller}
@@ -28,6 +29,8 @@ use Rattle.ert_table.specs.Takes.{TakesPlace}
 use Rattle.ert_table.specs.declared.desk.Desk.{Desk}
 use Rattle.ert_table.specs.declared.desk.Pass.{Pass}
 use Rattle.ert_timers.proofs.LawsHold.{sweeps_only}
+use Rattle.ert_timers.proofs.Passing.{loses_none}
+use Rattle.ert_timers.specs.Passed.{HasPassed, LosesRows}
 use Rattle.ert_timers.specs.Parts.{Part, last_timer, Stands as WheelStands}
 use Rattle.ert_timers.specs.Tidy.{IsTidy, KeepsTidy}
 use Rattle.ert_world.proofs.Alone.{whole_of}
@@ -154,9 +157,9 @@ wheel_called before b d q i old new es call has belongs low lent named stands ta
     let one : n ≡ i = wheel_named g (front_of b.pass) [] (parts_in b) i old has.fit.stand below lent in
     let mine : old ≡ slice_index_or b.wheels.items n old = subst (λ k. old ≡ slice_index_or b.wheels.items k old) (sym one) lent in
     subst (λ n. Does before d q b.next (record (parts_in b) { wheels = slice_set b.wheels.items n new }) (call n)) one
-    (finish before b d q (record (parts_in b) { wheels = slice_set b.wheels.items n new }) es (Caller 0 ∷ (Wheel n ∷ [])) (call n) has belongs takes only (refl, (refl, tt))
+    (finish before b d q (record (parts_in b) { wheels = slice_set b.wheels.items n new }) es (Caller 0 ∷ (Wheel n ∷ [])) (call n) has belongs takes only calm (refl, (refl, tt))
     (λ stand. wheel_back g (front_of q) [] (parts_in b) n new (rw one below) named stands (caller_back g (front_of q) (Wheel n ∷ []) (parts_in b) 0 stand)) allowed
-    (wheel_tidy b d q n old new es (Caller 0 ∷ (Wheel n ∷ [])) has (rw one below) mine takes only (λ j apart. one_wheel (Caller 0) n j refl apart) calm keeps))
+    (wheel_tidy b d q n old new es (Caller 0 ∷ (Wheel n ∷ [])) has (rw one below) mine takes only (λ j apart. one_wheel (Caller 0) n j refl apart) calm keeps) refl)
 
 -- one that makes a single step
 pub wheel_stepped : (before : Seen) (b : Inside) (d e : Desk) (q : Pass) (i : ℕ) (old new : Part) (allows : ℕ → Settings → State → List Entry → Type 0)
@@ -192,3 +195,22 @@ pub replaced_tidy : {before : Seen} (b : Inside) (d : Desk) (s : State) (i : ℕ
     → (x : Part) → IsTidy s (slice_index_or (slice_set b.wheels.items i new) i x)
 replaced_tidy b d s i new has low tidy x =
     at_place (λ (y : Part). IsTidy s y) b.wheels.items i i new x (rw has.fit.stand.wheels.counted (schedulers_at has i low)) (λ one. tidy) (λ other. absurd (other refl))
+
+-- where a wheel lost rows, no row has come
+pub lost_rows : (before : Seen) (b : Inside) (d : Desk) (i : ℕ) (old new : Part) → Has before b d → i < before.settings.schedulers
+    → old ≡ slice_index_or b.wheels.items i old → LosesRows old new
+    → (j : ℕ) (x : Part) → LosesRows (slice_index_or before.wheels j x) (slice_index_or (slice_set b.wheels.items i new) j x)
+lost_rows before b d i old new has low lent loses j x =
+    let ws : List Part = b.wheels.items in
+    let wide : i < length ws = rw has.fit.stand.wheels.counted (schedulers_at has i low) in
+    subst (λ (w : Seen). LosesRows (slice_index_or w.wheels j x) (slice_index_or (slice_set ws i new) j x)) has.is
+    (at_place (λ (y : Part). LosesRows (slice_index_or ws j x) y) ws i j new x wide
+    (λ one. subst (λ (y : Part). LosesRows y new)
+    (lent ∙ (get_or_default ws i old x wide ∙ ap (λ n. slice_index_or ws n x) (sym one))) loses)
+    (λ other. loses_none (slice_index_or ws j x)))
+
+-- a wheel that was replaced by one without due rows has none
+pub replaced_passed : {before : Seen} (b : Inside) (d : Desk) (i to : ℕ) (new : Part) → Has before b d → i < before.settings.schedulers → HasPassed new to
+    → (x : Part) → HasPassed (slice_index_or (slice_set b.wheels.items i new) i x) to
+replaced_passed b d i to new has low passed x =
+    at_place (λ (y : Part). HasPassed y to) b.wheels.items i i new x (rw has.fit.stand.wheels.counted (schedulers_at has i low)) (λ one. passed) (λ other. absurd (other refl))

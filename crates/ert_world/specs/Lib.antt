@@ -1,6 +1,5 @@
 pub mod Counted
 pub mod Laws
-pub mod Lived
 pub mod Openings
 pub mod Parts
 pub mod Seats

@@ -67,7 +67,6 @@ pub record Meets (old : Seen) (seat : Seated) (new : Seen) (met : Seated) : Type
   pub steps : Steps seat (BySeat seat MakesNone) met
   pub one : met.history ≡ new.history
   pub is_longer : new.history ≡ longer old.history seat.history
-  pub clock : new.clock ≡ old.clock
   pub wheels : new.wheels ≡ old.wheels
 
 -- a seat is refused: every caller but 0 has one, or there is no memory

@@ -1,16 +1,62 @@
 -- What every step of a world leaves as it is.
 
-use Rattle.std.specs.Prelude.{◌≡◌, ℕ, ◌<◌}
-use Rattle.std.proofs.Common.{refl, subst, sym, ◌∙◌}
-use Rattle.ert_world.specs.Worlds.{Seen, StayTidy}
+use Rattle.std.specs.Prelude.{◌≡◌, ℕ, ◌<◌, List, [], ◌∷◌, ◌++◌, filter, length, Option, Some, None, slice_index_or}
+use Rattle.std.proofs.Common.{refl, ap, append-nil, append_assoc, subst, sym, ◌∙◌}
+use Rattle.std.proofs.Math.Nat.{le_refl, le_trans, lt_of_lt_of_le}
+use Rattle.std.proofs.lemmas.List.Elements.{filter-append}
+use Rattle.ert_defs.specs.declared.entry.Entry.{Entry}
+use Rattle.ert_defs.specs.declared.timer.TimerRef.{TimerRef}
+use Rattle.ert_timers.specs.Freeing.{IsHeld}
+use Rattle.ert_timers.specs.Parts.{Part, last_timer}
+use Rattle.ert_timers.specs.Slots.{Slot}
+use Rattle.ert_timers.specs.Passed.{LosesRows}
+use Rattle.ert_wheel.specs.Rows.{key_in}
+use Rattle.ert_wheel.specs.declared.row.Key.{Key}
+use Rattle.ert_world.specs.Ways.{is_unseated}
+use Rattle.ert_world.specs.Worlds.{Seen, StayTidy, ForgetsCancelled, HasForgottenAll, HasPassedAt, LoseRows}
 
--- the desk, its settings, the clock and the seats stay, and where no seat was given out, tidy wheels stay tidy
+-- the desk, its settings, the clock and the seats stay, no row comes, the wheels forget what the world cancelled, and
+-- where no seat was given out, tidy wheels stay tidy
 pub record Stays (old new : Seen) : Type 0 where
   pub table : new.table ≡ old.table
   pub settings : new.settings ≡ old.settings
   pub next : new.next ≡ old.next
   pub clock : new.clock ≡ old.clock
+  pub rows : LoseRows old new
+  pub forgotten : ForgetsCancelled old new
   pub tidy : StayTidy old new
+
+-- a row that is held was held before
+held_before : (p q : Part) (timer : TimerRef) → LosesRows p q → IsHeld q timer → IsHeld p timer
+held_before p q timer loses held = record {
+  low = subst (λ (slots : List Slot). timer.slot < length slots) loses.slots held.low;
+  named = held.named ∙ (ap (λ n. last_timer n q.slots timer.slot) loses.number ∙ ap (λ slots. last_timer p.number slots timer.slot) loses.slots);
+  row = λ none. held.row (at (key_in q.keys timer.slot) refl none);
+}
+  where
+    at : (o : Option Key) → key_in q.keys timer.slot ≡ o → key_in p.keys timer.slot ≡ None → key_in q.keys timer.slot ≡ None
+    at None is none = is
+    at (Some key) is none = (let clash : None ≡ Some key = sym none ∙ loses.left timer.slot key is in absurd cc)
+
+-- what is forgotten stays so where rows go
+forgotten_on : (b c : Seen) (es : List Entry) → LoseRows b c → HasForgottenAll b es → HasForgottenAll c es
+forgotten_on b c [] rows gone = tt
+forgotten_on b c (e ∷ es) rows gone =
+    (λ timer left is d held. gone.0 timer left is d (held_before _ _ timer (rows timer.wheel d) held), forgotten_on b c es rows gone.1)
+
+forgotten_append : (w : Seen) (es fs : List Entry) → HasForgottenAll w es → HasForgottenAll w fs → HasForgottenAll w (es ++ fs)
+forgotten_append w [] fs one other = other
+forgotten_append w (e ∷ es) fs one other = (one.0, forgotten_append w es fs one.1 other)
+
+forgets_then : (a b c : Seen) → ForgetsCancelled a b → ForgetsCancelled b c → b.next ≡ a.next → LoseRows b c → ForgetsCancelled a c
+forgets_then a b c one other next rows = record {
+  piece = one.piece ++ other.piece;
+  grown = other.grown ∙ (ap (λ h. h ++ other.piece) one.grown ∙ append_assoc a.history one.piece other.piece);
+  forgotten = subst (HasForgottenAll c) (sym (filter-append (is_unseated a.next) one.piece other.piece))
+      (forgotten_append c (filter (is_unseated a.next) one.piece) (filter (is_unseated a.next) other.piece)
+      (forgotten_on b c (filter (is_unseated a.next) one.piece) rows one.forgotten)
+      (subst (λ n. HasForgottenAll c (filter (is_unseated n) other.piece)) next other.forgotten));
+}
 
 pub stay : (a b c : Seen) → Stays a b → Stays b c → Stays a c
 stay a b c one other = record {
@@ -18,12 +64,34 @@ stay a b c one other = record {
   settings = other.settings ∙ one.settings;
   next = other.next ∙ one.next;
   clock = other.clock ∙ one.clock;
+  rows = λ i d. (let first = one.rows i d in let second = other.rows i d in record {
+    number = second.number ∙ first.number;
+    slots = second.slots ∙ first.slots;
+    left = λ k key is. first.left k key (second.left k key is);
+    time = le_trans first.time second.time;
+  });
+  forgotten = forgets_then a b c one.forgotten other.forgotten one.next other.rows;
   tidy = λ alone i low tidy. other.tidy (one.next ∙ alone) i (rw one.settings low) (one.tidy alone i low tidy);
 }
 
 pub same : (a : Seen) → Stays a a
-same a = record { table = refl; settings = refl; next = refl; clock = refl; tidy = λ alone i low tidy. tidy }
+same a = record {
+  table = refl;
+  settings = refl;
+  next = refl;
+  clock = refl;
+  rows = λ i d. record { number = refl; slots = refl; left = λ k key is. is; time = le_refl (slice_index_or a.wheels i d).passed };
+  forgotten = record { piece = []; grown = sym (append-nil a.history); forgotten = tt };
+  tidy = λ alone i low tidy. tidy;
+}
 
 -- a scheduler in range stays so
 pub in_range : (a b : Seen) (sched : ℕ) → Stays a b → sched < a.settings.schedulers → sched < b.settings.schedulers
 in_range a b sched stays low = subst (λ g. sched < g.schedulers) (sym stays.settings) low
+
+-- a wheel all of whose rows are later than a time stays so
+pub still_passed : (a b : Seen) (sched to : ℕ) → Stays a b → HasPassedAt a sched to → HasPassedAt b sched to
+still_passed a b sched to stays passed d = record {
+  left = λ k key is. (passed d).left k key ((stays.rows sched d).left k key is);
+  on = lt_of_lt_of_le (passed d).on (stays.rows sched d).time;
+}

@@ -1,17 +1,18 @@
 -- What callers see of a world, the history that it knows, and how its calls make that longer.
 
-use Rattle.std.specs.Prelude.{◌≡◌, ◌≢◌, ℕ, ◌<◌, ◌≤◌, ◌⊎◌, true, false, List, [], slice_index_or, Option, Some, None, Result, Ok, Err}
+use Rattle.std.specs.Prelude.{◌≡◌, ◌≢◌, ℕ, ◌<◌, ◌≤◌, ◌⊎◌, ◌++◌, true, false, List, [], ◌∷◌, filter, slice_index_or, Option, Some, None, Result, Ok, Err}
 use Rattle.atomic_table.specs.Seated.{TableId}
 use Rattle.ert_effects.specs.Ways.{Growth, Way, Grows, alone}
 use Rattle.ert_clock.specs.Shown.{Shown, Stands as ClockStands}
+use Rattle.ert_defs.specs.Legal.{Legal}
 use Rattle.ert_defs.specs.Mails.{SchedState}
-use Rattle.ert_defs.specs.Milliseconds.{down, natural}
 use Rattle.ert_defs.specs.Settings.{IsChecked}
 use Rattle.ert_defs.specs.States.{State, state, HasExited as HasExitedIn, sched_of as sched_after}
 use Rattle.ert_defs.specs.Timers.{is_taken}
 use Rattle.ert_defs.specs.declared.entry.Actor.{Actor}
 use Rattle.ert_defs.specs.declared.entry.Actor.TheVariants.{Caller}
 use Rattle.ert_defs.specs.declared.entry.Entry.{Entry}
+use Rattle.ert_defs.specs.declared.entry.Event.TheVariants.{Cancel}
 use Rattle.ert_defs.specs.declared.mail.Request.{Request}
 use Rattle.ert_defs.specs.declared.mail.RequestKind.{RequestKind}
 use Rattle.ert_defs.specs.declared.mail.RequestKind.TheVariants.{Cancel as ToCancel, Read as ToRead}
@@ -23,12 +24,13 @@ use Rattle.ert_table.specs.Desks.{settings_of, front_of, actors_of, Belongs}
 use Rattle.ert_table.specs.Held.{is_held, IsActor}
 use Rattle.ert_table.specs.declared.desk.Desk.{Desk}
 use Rattle.ert_table.specs.declared.desk.Pass.{Pass}
-use Rattle.ert_timers.specs.Freeing.{IsLast, IsLetGo}
-use Rattle.ert_timers.specs.NextDue.{IsNearest, IsNextHeld, horizon_at}
+use Rattle.ert_timers.specs.Freeing.{IsHeld, IsLast, IsLetGo}
+use Rattle.ert_timers.specs.NextDue.{IsNearest, IsNextHeld}
 use Rattle.ert_timers.specs.Parts.{Part}
+use Rattle.ert_timers.specs.Passed.{HasPassed, LosesRows}
 use Rattle.ert_timers.specs.Tidy.{IsTidy, IsTidyBut}
 use Rattle.ert_world.specs.Parts.{AllParts, Stand}
-use Rattle.ert_world.specs.Ways.{beside_seats}
+use Rattle.ert_world.specs.Ways.{beside_seats, is_unseated}
 
 -- what callers see of a world: which desk it is of, with its settings, the history that it knows, what its clock
 -- shows, the next caller that is to get a seat, and its wheels
@@ -74,16 +76,16 @@ pub record AreFit (d : Desk) (p : Pass) (next : ℕ) (parts : AllParts) : Type 0
 abbrev pub IsTidyAt : Seen → ℕ → Type 0
 IsTidyAt w i = (d : Part) → IsTidy (state w.settings w.history) (slice_index_or w.wheels i d)
 
--- how early the next of the rows that a wheel of a world holds is due, as a look ahead from the published time
--- tells, and None where it holds none. It holds the row of each armed timer, and may hold the row of one that was
--- cancelled until that would have been due
+-- how early the next of the rows that a wheel of a world holds is due, and None where it holds none. It holds the row
+-- of each armed timer, and may hold the row of one that was cancelled until that would have been due
 abbrev pub IsNextHeldAt : Seen → ℕ → Option ℕ → Type 0
-IsNextHeldAt w i answer = (d : Part) → IsNextHeld (slice_index_or w.wheels i d) (natural (down w.settings w.clock.face.time)) answer
+IsNextHeldAt w i answer = (d : Part) → IsNextHeld (slice_index_or w.wheels i d) answer
 
--- where a wheel of a world is tidy, a time that is answered is that of an armed timer, or some timer is armed and
--- it is the end of a look ahead from the published time
+-- where a wheel of a world is tidy, a time that is answered is that of an armed timer, or the begin of a window, after
+-- the first time that the wheel hasn't passed, in which one is due
 abbrev pub IsNearestAt : Seen → ℕ → Option ℕ → Type 0
-IsNearestAt w i answer = IsTidyAt w i → IsNearest (state w.settings w.history) i (horizon_at w.settings w.clock.face.time) answer
+IsNearestAt w i answer = IsTidyAt w i
+    → (d : Part) → IsNearest (state w.settings w.history) i (slice_index_or w.wheels i d).passed answer
 
 -- where no seat was given out, each wheel that was tidy is so still
 abbrev pub StayTidy : Seen → Seen → Type 0
@@ -102,15 +104,45 @@ StayTidyBut timer (Some left) old new = old.next ≡ 1 → (i : ℕ) → i < old
 abbrev pub way_of : Seen → Way
 way_of w = beside_seats w.settings w.next
 
+-- a wheel of a world holds no row of a timer
+abbrev pub HasForgotten : Seen → TimerRef → Type 0
+HasForgotten w timer = (d : Part) → IsHeld (slice_index_or w.wheels timer.wheel d) timer → ⊥
+
+-- nor one of any timer that these entries cancelled
+abbrev pub HasForgottenAll : Seen → List Entry → Type 0
+HasForgottenAll w [] = Unit {0}
+HasForgottenAll w (e ∷ es) = ((timer : TimerRef) (left : ℕ) → e.event ≡ Cancel timer (Some left) → HasForgotten w timer) × HasForgottenAll w es
+
+-- the history of a world goes on by a piece, and its wheels hold no row of a timer that was cancelled by an entry of
+-- it which no seat made
+pub record ForgetsCancelled (old new : Seen) : Type 0 where
+  pub piece : List Entry
+  pub grown : new.history ≡ old.history ++ piece
+  pub forgotten : HasForgottenAll new (filter (is_unseated old.next) piece)
+
+-- wheels of a world may have lost rows, and no row has come
+abbrev pub LoseRows : Seen → Seen → Type 0
+LoseRows old new = (i : ℕ) (d : Part) → LosesRows (slice_index_or old.wheels i d) (slice_index_or new.wheels i d)
+
+-- each row that a wheel of a world holds is due later than a time
+abbrev pub HasPassedAt : Seen → ℕ → ℕ → Type 0
+HasPassedAt w i to = (d : Part) → HasPassed (slice_index_or w.wheels i d) to
+
 -- a world makes a call, which may be made in any way: its history grows by it, beside its seats, and as that of one
--- thread where it gave out none. Its desk, its settings and its seats stay
+-- thread where it gave out none. It is legal then. The world's desk, its settings, its clock and its seats stay
 pub record Goes (old : Seen) (call : Way → Growth) (new : Seen) : Type 0 where
   pub grows : Grows (call (way_of old)) old.history new.history
   pub lone : old.next ≡ 1 → Grows (call (alone old.settings)) old.history new.history
+  pub legal : Legal new.settings new.history
   pub table : new.table ≡ old.table
   pub settings : new.settings ≡ old.settings
+  pub clock : new.clock ≡ old.clock
   pub next : new.next ≡ old.next
   pub tidy : StayTidy old new
+
+-- the same of a call that may move the clock
+abbrev pub GoesOnClock : Seen → (Way → Growth) → Seen → Type 0
+GoesOnClock old call new = Goes (record old { clock = new.clock }) call new
 
 -- a timer isn't armed in the history of a world
 abbrev pub IsSettledIn : Seen → TimerRef → Type 0
@@ -126,14 +158,29 @@ abbrev pub IsGone : Seen → TimerRef → Option ℕ → Type 0
 IsGone w timer None = Unit {0}
 IsGone w timer (Some left) = (timer.wheel < w.settings.schedulers) × IsSettledIn w timer × IsLastIn w timer
 
+-- these entries cancel no timer but one, if this much was left of it
+abbrev pub CancelOnly : TimerRef → Option ℕ → List Entry → Type 0
+CancelOnly timer left [] = Unit {0}
+CancelOnly timer left (e ∷ es) = ((t : TimerRef) (n : ℕ) → e.event ≡ Cancel t (Some n) → (t ≡ timer) × (left ≡ Some n)) × CancelOnly timer left es
+
+-- the history of a world goes on by a piece, whose entries that no seat made do so
+pub record CancelsOnly (timer : TimerRef) (left : Option ℕ) (old new : Seen) : Type 0 where
+  pub piece : List Entry
+  pub grown : new.history ≡ old.history ++ piece
+  pub only : CancelOnly timer left (filter (is_unseated old.next) piece)
+
 -- but for one timer that was cancelled, if this much was left of it: its row still stands
 pub record GoesBut (timer : TimerRef) (left : Option ℕ) (old : Seen) (call : Way → Growth) (new : Seen) : Type 0 where
   pub grows : Grows (call (way_of old)) old.history new.history
   pub lone : old.next ≡ 1 → Grows (call (alone old.settings)) old.history new.history
+  pub legal : Legal new.settings new.history
   pub table : new.table ≡ old.table
   pub settings : new.settings ≡ old.settings
+  pub clock : new.clock ≡ old.clock
   pub next : new.next ≡ old.next
+  pub wheels : new.wheels ≡ old.wheels
   pub tidy : StayTidyBut timer left old new
+  pub cancels : CancelsOnly timer left old new
   pub gone : IsGone new timer left
 
 -- the row of a timer goes, and nothing else changes
@@ -143,6 +190,8 @@ pub record Forgets (timer : TimerRef) (old new : Seen) : Type 0 where
   pub settings : new.settings ≡ old.settings
   pub clock : new.clock ≡ old.clock
   pub next : new.next ≡ old.next
+  pub rows : LoseRows old new
+  pub forgotten : HasForgotten new timer
   pub tidy : (i : ℕ) → i < old.settings.schedulers → IsTidyButAt old i timer → IsTidyAt new i
 
 -- a timer was let go, of a wheel of a world

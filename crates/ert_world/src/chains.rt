@@ -1,5 +1,5 @@
 //! Chains of single steps, whatever makes these: a scheduler's turn and its parts, and the exit of a process.
-ghost use Rattle.std.specs.Prelude.{◌≡◌, ◌<◌, true};
+ghost use Rattle.std.specs.Prelude.{◌≡◌, ◌<◌, IfOk, true};
 ghost use Rattle.ert_effects.specs.Chains.{Serves, ServesAll, Delivers, Turns, SweepsWheels, Exits};
 ghost use Rattle.ert_effects.specs.Ways.{Grows};
 ghost use Rattle.ert_defs.specs.States.{state};
@@ -15,6 +15,7 @@ use ert_mail::Handed;
 pub fn serve<S: SchedSteps>(steps: &mut S, sched: u32) -> Result<bool, NoMemory>
     requires { S.acts steps.old sched }
     ensures call { Grows (Serves (S.settings steps.old) (S.way (S.settings steps.old) (S.mark steps.old) sched) sched result) (S.history steps.old) (S.history steps.new) }
+    ensures legal { S.is_legal steps.new }
     ensures stays { S.stays steps.old steps.new }
 {
     let Some(request) = steps.hold(sched) else {
@@ -28,6 +29,7 @@ pub fn serve<S: SchedSteps>(steps: &mut S, sched: u32) -> Result<bool, NoMemory>
 pub fn serve_all<S: SchedSteps>(steps: &mut S, sched: u32) -> Result<u32, NoMemory>
     requires { S.acts steps.old sched }
     ensures call { Grows (ServesAll (S.settings steps.old) (S.way (S.settings steps.old) (S.mark steps.old) sched) sched result) (S.history steps.old) (S.history steps.new) }
+    ensures legal { S.is_legal steps.new }
     ensures stays { S.stays steps.old steps.new }
 {
     for served in 0..SERVED_A_TURN {
@@ -45,6 +47,7 @@ pub fn serve_all<S: SchedSteps>(steps: &mut S, sched: u32) -> Result<u32, NoMemo
 pub fn deliver<S: SchedSteps>(steps: &mut S, sched: u32) -> Result<(u32, u32), NoMemory>
     requires { S.acts steps.old sched }
     ensures call { Grows (Delivers (S.settings steps.old) (S.way (S.settings steps.old) (S.mark steps.old) sched) sched result) (S.history steps.old) (S.history steps.new) }
+    ensures legal { S.is_legal steps.new }
     ensures stays { S.stays steps.old steps.new }
 {
     let mut put = 0;
@@ -65,6 +68,8 @@ pub fn deliver<S: SchedSteps>(steps: &mut S, sched: u32) -> Result<(u32, u32), N
 pub fn turn<S: SchedSteps>(steps: &mut S, sched: u32) -> Result<Turned, NoMemory>
     requires { S.acts steps.old sched }
     ensures call { Grows (Turns (S.settings steps.old) (S.way (S.settings steps.old) (S.mark steps.old) sched) sched result) (S.history steps.old) (S.history steps.new) }
+    ensures legal { S.is_legal steps.new }
+    ensures passed { IfOk result (λ t. S.passed steps.new sched t.to) }
     ensures stays { S.stays steps.old steps.new }
 {
     let served = serve_all(steps, sched)?;
@@ -85,6 +90,7 @@ pub fn exit<S: CallerSteps>(steps: &mut S, by: u32, process: u32) -> bool
     requires acts { S.acts steps.old by }
     requires in_range { process < (S.settings steps.old).processes }
     ensures call { Grows (Exits (S.settings steps.old) (S.way (S.settings steps.old) (S.mark steps.old) by) by process result) (S.history steps.old) (S.history steps.new) }
+    ensures legal { S.is_legal steps.new }
     ensures stays { S.stays steps.old steps.new }
 {
     if !steps.mark_exited(by, process) {
@@ -98,8 +104,10 @@ pub fn exit<S: CallerSteps>(steps: &mut S, by: u32, process: u32) -> bool
 fn sweep_all<S: CallerSteps>(steps: &mut S, by: u32, process: u32)
     requires acts { S.acts steps.old by }
     requires in_range { process < (S.settings steps.old).processes }
+    requires legal { S.is_legal steps.old }
     requires exited { (state (S.settings steps.old) (S.history steps.old)).exited process ≡ true }
     ensures call { Grows (SweepsWheels (S.settings steps.old) (S.way (S.settings steps.old) (S.mark steps.old) by) by process 0 (S.settings steps.old).schedulers) (S.history steps.old) (S.history steps.new) }
+    ensures legal { S.is_legal steps.new }
     ensures stays { S.stays steps.old steps.new }
 {
     for wheel in 0..steps.schedulers() {

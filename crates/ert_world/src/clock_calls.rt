@@ -9,14 +9,14 @@ impl World {
     ghost use Rattle.ert_effects.specs.ClockCalls.{Ticks, Finalizes, TellsTime, TellsOffset, TellsSystemTime};
     ghost use Rattle.ert_clock.specs.Ticks.{act_of, Gives, FinalizesFrom};
     ghost use Rattle.ert_defs.specs.declared.entry.Actor.TheVariants.{Caller};
-    ghost use Rattle.ert_world.specs.Worlds.{Goes, By};
+    ghost use Rattle.ert_world.specs.Worlds.{Goes, GoesOnClock, By};
 
     /// Takes one reading of the OS clocks. `force` asks for a check of the clock, as if one were due.
     ///
     /// It is refused where the clock refuses it (`ClockErr`), and then it makes no entry.
     pub fn tick(&mut self, reading: Reading, force: bool) -> Result<Moved, ClockErr>
         ensures gives { Gives self.old.clock reading (act_of force) result self.new.clock }
-        ensures call { Goes self.old (By self.old (λ g. Ticks g 0 reading force result)) self.new }
+        ensures call { GoesOnClock self.old (By self.old (λ g. Ticks g 0 reading force result)) self.new }
     {
         self.keeper
             .tick(&self.desk, &mut self.pass, CALLER, reading, force)
@@ -28,7 +28,7 @@ impl World {
     /// It is refused where the clock refuses it (`ClockErr`), and then it makes no entry.
     pub fn finalize(&mut self, reading: Reading) -> Result<(OffsetState, Moved), ClockErr>
         ensures gives { FinalizesFrom self.old.clock.face.state self.old.clock reading result self.new.clock }
-        ensures call { Goes self.old (By self.old (λ g. Finalizes g 0 reading result)) self.new }
+        ensures call { GoesOnClock self.old (By self.old (λ g. Finalizes g 0 reading result)) self.new }
     {
         self.keeper
             .finalize(&self.desk, &mut self.pass, CALLER, reading)
@@ -38,7 +38,6 @@ impl World {
     pub fn monotonic_time(&mut self) -> i64
         ensures value { result ≡ self.old.clock.face.time }
         ensures call { Goes self.old (By self.old (λ g. TellsTime g (Caller 0) result)) self.new }
-        ensures clock { self.new.clock ≡ self.old.clock }
     {
         monotonic_time(&self.desk, &mut self.pass, Actor::Caller(CALLER))
     }
@@ -48,7 +47,6 @@ impl World {
         ensures value { result.0 ≡ self.old.clock.face.offset }
         ensures state { result.1 ≡ self.old.clock.face.state }
         ensures call { Goes self.old (By self.old (λ g. TellsOffset g (Caller 0) result)) self.new }
-        ensures clock { self.new.clock ≡ self.old.clock }
     {
         time_offset(&self.desk, &mut self.pass, Actor::Caller(CALLER))
     }
@@ -57,7 +55,6 @@ impl World {
     pub fn system_time(&mut self) -> i64
         ensures value { result ≡ self.old.clock.face.time +ℤ self.old.clock.face.offset }
         ensures call { Goes self.old (By self.old (λ g. TellsSystemTime g (Caller 0) result)) self.new }
-        ensures clock { self.new.clock ≡ self.old.clock }
     {
         system_time(&self.desk, &mut self.pass, Actor::Caller(CALLER))
     }

@@ -5,9 +5,10 @@ use ert_defs::NoMemory;
 use ert_effects::Turned;
 
 impl World {
-    ghost use Rattle.std.specs.Prelude.{◌≡◌, ◌<◌, OnOk};
+    ghost use Rattle.std.specs.Prelude.{◌≡◌, ◌<◌, IfOk, OnOk};
     ghost use Rattle.ert_effects.specs.Chains.{AdvancesAllOfWheel, LastTurns};
-    ghost use Rattle.ert_world.specs.Worlds.{Goes, IsTidyAt};
+    ghost use Rattle.ert_world.specs.Worlds.{Goes, HasPassedAt, IsTidyAt};
+    ghost use Rattle.ert_world.specs.Stepping.{Stays};
 
     /// A turn that looks at every row that its wheel holds, so that the wheel is tidy then: the last turn of a
     /// service, whose callers may have cancelled timers without telling the wheel. No seat was given out.
@@ -17,8 +18,9 @@ impl World {
         requires sched { sched < self.old.settings.schedulers }
         requires lone { self.old.next ≡ 1 }
         ensures call { Goes self.old (λ way. LastTurns self.old.settings way sched result) self.new }
+        ensures passed { IfOk result (λ t. HasPassedAt self.new sched t.to) }
+        ensures stays { Stays self.old self.new }
         ensures tidy { OnOk result (IsTidyAt self.new sched) }
-        ensures clock { self.new.clock ≡ self.old.clock }
     {
         let served = serve_all(self, sched)?;
         let advanced = self.advance_all(sched)?;
@@ -37,8 +39,9 @@ impl World {
         requires sched { sched < self.old.settings.schedulers }
         requires lone { self.old.next ≡ 1 }
         ensures call { Goes self.old (λ way. AdvancesAllOfWheel self.old.settings way sched result) self.new }
+        ensures passed { IfOk result (λ answer. HasPassedAt self.new sched answer.0) }
+        ensures stays { Stays self.old self.new }
         ensures tidy { OnOk result (IsTidyAt self.new sched) }
-        ensures clock { self.new.clock ≡ self.old.clock }
     {
         let part = &mut self.scheds[sched as usize];
         let before = part.fired.len();

@@ -26,7 +26,7 @@
 //! | `monitor`, `demonitor`, `tell` | caller 0 | makes, removes and informs monitors of the time offset | the monitors of the process, 64 at most |
 //! | `serve` | a scheduler | answers the request in its hand, or else the first of its inbox | constant |
 //! | `advance` | a scheduler | lets the timers of its wheel expire that are due | those timers and the buckets that are visited |
-//! | `next_due` | | no entry: how early a timer of a wheel may be due | the buckets of a look ahead |
+//! | `next_due` | | no entry: how early a timer of a wheel may be due | 64 timers at most, and where one was started late those that the next advance takes |
 //! | `deliver` | a scheduler | hands over its expired timers, until none is left; the slot of each can then take a timer again | those timers |
 //! | `turn` | a scheduler | serves requests, 64 at most, advances, and delivers | as these three |
 //! | `last_turn` | a scheduler | does the same, and looks at every timer that its wheel holds | every slot of the wheel |
@@ -90,7 +90,7 @@ mod world;
 
 pub use counts::Counts;
 pub use ert_effects::{Room, Turned};
-pub use laws::entries_are_divided;
+pub use laws::{entries_are_divided, next_due_goes_on};
 pub use parts::Parts;
 pub use sched_part::SchedPart;
 pub use seat::Seat;

@@ -16,7 +16,6 @@ impl World {
     pub fn ask(&mut self, request: Request) -> Result<(), NoMemory>
         requires { request.reply_to < self.old.settings.processes }
         ensures call { Goes self.old (By self.old (λ g. Asks g 0 (inbox_for g request) request result)) self.new }
-        ensures clock { self.new.clock ≡ self.old.clock }
     {
         let wheel = self.inbox_for(&request);
         self.inboxes[wheel as usize].ask(&self.desk, &mut self.pass, CALLER, request)
@@ -35,7 +34,6 @@ impl World {
     pub fn take(&mut self, process: u32) -> Taken
         requires { process < self.old.settings.processes }
         ensures call { Goes self.old (By self.old (λ g. Takes g 0 process result)) self.new }
-        ensures clock { self.new.clock ≡ self.old.clock }
     {
         self.mails[process as usize].take(&self.desk, &mut self.pass, CALLER)
     }
@@ -48,7 +46,6 @@ impl World {
     pub fn monitor(&mut self, process: u32) -> Result<u32, MonitorErr>
         requires { process < self.old.settings.processes }
         ensures call { Goes self.old (By self.old (λ g. Monitors g 0 process result)) self.new }
-        ensures clock { self.new.clock ≡ self.old.clock }
     {
         self.mails[process as usize].monitor(&self.desk, &mut self.pass, CALLER)
     }
@@ -57,7 +54,6 @@ impl World {
     pub fn demonitor(&mut self, process: u32, monitor: u32) -> bool
         requires { process < self.old.settings.processes }
         ensures call { Goes self.old (By self.old (λ g. Demonitors g 0 process monitor result)) self.new }
-        ensures clock { self.new.clock ≡ self.old.clock }
     {
         self.mails[process as usize].demonitor(&self.desk, &mut self.pass, CALLER, monitor)
     }
@@ -69,7 +65,6 @@ impl World {
     pub fn tell(&mut self, process: u32) -> Result<u32, NoMemory>
         requires { process < self.old.settings.processes }
         ensures call { Goes self.old (By self.old (λ g. Tells g 0 process result)) self.new }
-        ensures clock { self.new.clock ≡ self.old.clock }
     {
         self.mails[process as usize].tell(&self.desk, &mut self.pass, CALLER)
     }

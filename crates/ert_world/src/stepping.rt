@@ -7,12 +7,16 @@ use ert_mail::Handed;
 
 impl SchedSteps for World {
     ghost use Rattle.std.specs.Prelude.{◌≡◌, ◌<◌};
-    ghost use Rattle.ert_world.specs.Stepping.{Stays, stay, same, in_range};
+    ghost use Rattle.ert_defs.specs.Legal.{Legal};
+    ghost use Rattle.ert_world.specs.Stepping.{Stays, stay, same, in_range, still_passed};
+    ghost use Rattle.ert_world.specs.Worlds.{HasPassedAt};
     ghost use Rattle.ert_world.specs.Ways.{beside_seats};
 
     ghost settings = { λ w. w.settings };
 
     ghost history = { λ w. w.history };
+
+    ghost is_legal = { λ w. Legal w.settings w.history };
 
     ghost mark = { λ w. w.next };
 
@@ -21,6 +25,8 @@ impl SchedSteps for World {
     ghost acts = { λ w sched. sched < w.settings.schedulers };
 
     ghost stays = { Stays };
+
+    ghost passed = { HasPassedAt };
 
     fn hold(&mut self, sched: u32) -> Option<Request> {
         match self.hand(sched) {
@@ -58,6 +64,8 @@ impl SchedSteps for World {
 
     ghost acts_on = { in_range };
 
+    ghost still_passed = { still_passed };
+
     ghost stay = { stay };
 
     ghost same = { same };
@@ -65,12 +73,15 @@ impl SchedSteps for World {
 
 impl CallerSteps for World {
     ghost use Rattle.std.specs.Prelude.{◌≡◌};
+    ghost use Rattle.ert_defs.specs.Legal.{Legal};
     ghost use Rattle.ert_world.specs.Stepping.{Stays, stay, same};
     ghost use Rattle.ert_world.specs.Ways.{beside_seats};
 
     ghost settings = { λ w. w.settings };
 
     ghost history = { λ w. w.history };
+
+    ghost is_legal = { λ w. Legal w.settings w.history };
 
     ghost mark = { λ w. w.next };
 

@@ -1,5 +1,5 @@
 //! The single steps of schedulers and of callers, of which the chains are made.
-ghost use Rattle.std.specs.Prelude.{◌≡◌, ◌<◌, ◌≤◌, ℕ, true, List, [], ◌∷◌, Some, length, OnOk};
+ghost use Rattle.std.specs.Prelude.{◌≡◌, ◌<◌, ◌≤◌, ℕ, true, List, [], ◌∷◌, Some, length, IfOk, OnOk};
 ghost use Rattle.ert_effects.specs.Chains.{Holds, AdvancesWheel, Hands, SweepsWheel};
 ghost use Rattle.ert_effects.specs.RequestCalls.{Answers};
 ghost use Rattle.ert_effects.specs.Ways.{Way, Grows};
@@ -21,6 +21,9 @@ pub trait SchedSteps {
     /// The history that it knows.
     ghost history: { Self → List Entry };
 
+    /// That this is legal.
+    ghost is_legal: { Self → Type 0 };
+
     /// What tells beside whom it steps, as how many seats were given out.
     ghost mark: { Self → ℕ };
 
@@ -33,10 +36,14 @@ pub trait SchedSteps {
     /// What every step leaves as it is.
     ghost stays: { Self → Self → Type 0 };
 
+    /// That the wheel of a scheduler holds no row that is due by a time.
+    ghost passed: { Self → ℕ → ℕ → Type 0 };
+
     /// The request in a scheduler's hand. Where the hand is empty, the first of the inbox is taken into it.
     fn hold(&mut self, sched: u32) -> Option<Request>
         requires { acts self.old sched }
         ensures call { Grows (Holds (settings self.old) (way (settings self.old) (mark self.old) sched) sched result) (history self.old) (history self.new) }
+        ensures legal { is_legal self.new }
         ensures hand { ((state (settings self.new) (history self.new)).scheds sched).hand ≡ result }
         ensures stays { stays self.old self.new };
 
@@ -45,18 +52,22 @@ pub trait SchedSteps {
         requires acts { acts self.old sched }
         requires hand { ((state (settings self.old) (history self.old)).scheds sched).hand ≡ Some request.now }
         ensures call { Grows (way (settings self.old) (mark self.old) sched (MailOf request.now.reply_to ∷ []) (Answers (settings self.old) sched request.now result)) (history self.old) (history self.new) }
+        ensures legal { is_legal self.new }
         ensures stays { stays self.old self.new };
 
     /// Lets every timer of the scheduler's wheel expire that is due.
     fn advance_wheel(&mut self, sched: u32) -> Result<(u64, u32), NoMemory>
         requires { acts self.old sched }
         ensures call { Grows (AdvancesWheel (settings self.old) (way (settings self.old) (mark self.old) sched) sched result) (history self.old) (history self.new) }
+        ensures passed { IfOk result (λ answer. passed self.new sched answer.0) }
+        ensures legal { is_legal self.new }
         ensures stays { stays self.old self.new };
 
     /// The scheduler's first expired timer.
     fn first_of_fired(&self, sched: u32) -> Option<Fired>
         requires { acts self.now sched }
         ensures first { result ≡ first_of ((state (settings self.now) (history self.now)).scheds sched).fired }
+        ensures legal { is_legal self.now }
         ensures few { length ((state (settings self.now) (history self.now)).scheds sched).fired ≤ 65536 };
 
     /// Hands over the scheduler's first expired timer.
@@ -64,6 +75,7 @@ pub trait SchedSteps {
         requires acts { acts self.old sched }
         requires first { first_of ((state (settings self.old) (history self.old)).scheds sched).fired ≡ Some fired.now }
         ensures call { Grows (Hands (settings self.old) (way (settings self.old) (mark self.old) sched) sched result) (history self.old) (history self.new) }
+        ensures legal { is_legal self.new }
         ensures fired { OnOk result (((state (settings self.new) (history self.new)).scheds sched).fired ≡ others_of ((state (settings self.old) (history self.old)).scheds sched).fired) }
         ensures stays { stays self.old self.new };
 
@@ -72,6 +84,8 @@ pub trait SchedSteps {
     ghost same_mark: { (a b : Self) → stays a b → mark b ≡ mark a };
 
     ghost acts_on: { (a b : Self) (sched : ℕ) → stays a b → acts a sched → acts b sched };
+
+    ghost still_passed: { (a b : Self) (sched to : ℕ) → stays a b → passed a sched to → passed b sched to };
 
     ghost stay: { (a b c : Self) → stays a b → stays b c → stays a c };
 
@@ -88,6 +102,9 @@ pub trait CallerSteps {
 
     /// The history that it knows.
     ghost history: { Self → List Entry };
+
+    /// That this is legal.
+    ghost is_legal: { Self → Type 0 };
 
     /// What tells beside whom it steps, as how many seats were given out.
     ghost mark: { Self → ℕ };
@@ -107,6 +124,7 @@ pub trait CallerSteps {
         requires acts { acts self.old by }
         requires in_range { process < (settings self.old).processes }
         ensures call { Grows (way (settings self.old) (mark self.old) by [] (MarksExit (settings self.old) (Caller by) process result)) (history self.old) (history self.new) }
+        ensures legal { is_legal self.new }
         ensures exited { (state (settings self.new) (history self.new)).exited process ≡ true }
         ensures stays { stays self.old self.new };
 
@@ -117,6 +135,7 @@ pub trait CallerSteps {
         requires in_range { process < (settings self.old).processes }
         requires exited { (state (settings self.old) (history self.old)).exited process ≡ true }
         ensures call { Grows (SweepsWheel (settings self.old) (way (settings self.old) (mark self.old) by) by process wheel) (history self.old) (history self.new) }
+        ensures legal { is_legal self.new }
         ensures exited { (state (settings self.new) (history self.new)).exited process ≡ true }
         ensures stays { stays self.old self.new };
 

@@ -8,7 +8,7 @@ use ert_effects::Room;
 use ert_timers::StartErr;
 
 impl World {
-    ghost use Rattle.std.specs.Prelude.{◌≡◌, ◌≢◌, ◌<◌, true, false, Err};
+    ghost use Rattle.std.specs.Prelude.{◌≡◌, ◌≢◌, ◌<◌, true, false, Err, OnSome};
     ghost use Rattle.ert_effects.specs.Chains.{Exits};
     ghost use Rattle.ert_effects.specs.RoomCalls.{TellsRoom};
     ghost use Rattle.ert_effects.specs.TimerCalls.{Reads, Cancels, Starts};
@@ -18,7 +18,7 @@ impl World {
     ghost use Rattle.ert_defs.specs.States.{state};
     ghost use Rattle.ert_defs.specs.Timers.{is_taken};
     ghost use Rattle.ert_world.specs.Stepping.{Stays};
-    ghost use Rattle.ert_world.specs.Worlds.{Goes, GoesBut, Forgets, By, HasExited, IsSettledIn, IsLastIn, IsLetGoIn};
+    ghost use Rattle.ert_world.specs.Worlds.{Goes, GoesBut, Forgets, HasForgotten, By, HasExited, IsSettledIn, IsLastIn, IsLetGoIn};
 
     /// Starts a timer on a wheel (`erlang` module reference, `start_timer` and `send_after`).
     ///
@@ -31,17 +31,16 @@ impl World {
         requires dest { start.now.dest < self.old.settings.processes }
         ensures call { Goes self.old (By self.old (λ g. Starts g 0 wheel start.now result)) self.new }
         ensures memory { result ≢ Err NoMemory }
-        ensures clock { self.new.clock ≡ self.old.clock }
     {
         self.wheels[wheel as usize].start(&self.desk, &mut self.pass, CALLER, start)
     }
 
     /// Cancels a timer, and answers how many milliseconds were left (`cancel_timer`); None where the
-    /// reference names no timer that is armed.
+    /// reference names no timer that is armed. Its wheel holds no row of a timer that was cancelled so.
     #[inline(always)]
     pub fn cancel_timer(&mut self, timer: TimerRef) -> Option<u64>
         ensures call { Goes self.old (By self.old (λ g. Cancels g (Caller 0) timer result)) self.new }
-        ensures clock { self.new.clock ≡ self.old.clock }
+        ensures forgotten { OnSome result (HasForgotten self.new timer) }
     {
         let left = self.settle(timer)?;
         self.forget(timer);
@@ -52,12 +51,11 @@ impl World {
     #[inline(always)]
     fn settle(&mut self, timer: TimerRef) -> Option<u64>
         ensures call { GoesBut timer result self.old (By self.old (λ g. Cancels g (Caller 0) timer result)) self.new }
-        ensures clock { self.new.clock ≡ self.old.clock }
     {
         cancel_timer(&self.desk, &mut self.pass, Actor::Caller(CALLER), timer)
     }
 
-    /// Drops the row of a timer that was cancelled, so that its wheel is tidy.
+    /// Drops the row of a timer that was cancelled.
     pub(crate) fn forget(&mut self, timer: TimerRef)
         requires wheel { timer.wheel < self.old.settings.schedulers }
         requires cancelled { IsSettledIn self.old timer }
@@ -82,7 +80,6 @@ impl World {
     /// that is armed.
     pub fn read_timer(&mut self, timer: TimerRef) -> Option<u64>
         ensures call { Goes self.old (By self.old (λ g. Reads g (Caller 0) timer result)) self.new }
-        ensures clock { self.new.clock ≡ self.old.clock }
     {
         read_timer(&self.desk, &mut self.pass, Actor::Caller(CALLER), timer)
     }
@@ -95,7 +92,6 @@ impl World {
     pub fn room(&mut self, wheel: u32) -> Room
         requires { wheel < self.old.settings.schedulers }
         ensures call { Goes self.old (By self.old (λ g. TellsRoom g 0 wheel result)) self.new }
-        ensures clock { self.new.clock ≡ self.old.clock }
     {
         self.wheels[wheel as usize].room(&self.desk, &mut self.pass, CALLER)
     }
@@ -104,7 +100,6 @@ impl World {
     pub fn is_alive(&mut self, process: u32) -> bool
         requires { process < self.old.settings.processes }
         ensures call { Goes self.old (By self.old (λ g. TellsAlive g (Caller 0) process result)) self.new }
-        ensures clock { self.new.clock ≡ self.old.clock }
     {
         is_alive(&self.desk, &mut self.pass, Actor::Caller(CALLER), process)
     }
@@ -114,8 +109,8 @@ impl World {
     pub fn mark_exit(&mut self, process: u32) -> bool
         requires { process < self.old.settings.processes }
         ensures call { Goes self.old (By self.old (λ g. MarksExit g (Caller 0) process result)) self.new }
+        ensures stays { Stays self.old self.new }
         ensures exited { HasExited self.new process }
-        ensures clock { self.new.clock ≡ self.old.clock }
     {
         mark_exit(&self.desk, &mut self.pass, Actor::Caller(CALLER), process)
     }
@@ -125,7 +120,7 @@ impl World {
     pub fn exit(&mut self, process: u32) -> bool
         requires { process < self.old.settings.processes }
         ensures call { Goes self.old (λ way. Exits self.old.settings way 0 process result) self.new }
-        ensures clock { self.new.clock ≡ self.old.clock }
+        ensures stays { Stays self.old self.new }
     {
         exit(self, CALLER, process)
     }

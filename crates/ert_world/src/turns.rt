@@ -9,22 +9,24 @@ use ert_effects::Turned;
 use ert_mail::Handed;
 
 impl World {
-    ghost use Rattle.std.specs.Prelude.{◌≡◌, ◌<◌, ◌≤◌, Some, None, length, OnOk};
+    ghost use Rattle.std.specs.Prelude.{◌≡◌, ◌<◌, ◌≤◌, Some, None, length, IfOk, OnOk};
     ghost use Rattle.ert_effects.specs.Chains.{Serves, AdvancesWheel, Hands, Delivers, Turns};
     ghost use Rattle.ert_effects.specs.RequestCalls.{Picks, Answers};
+    ghost use Rattle.ert_defs.specs.Legal.{Legal};
     ghost use Rattle.ert_defs.specs.Mails.{first_of, others_of};
     ghost use Rattle.ert_defs.specs.States.{state};
-    ghost use Rattle.ert_world.specs.Worlds.{Goes, GoesBut, By, IsNextHeldAt, IsNearestAt, IsHandedIn, sched_of, cancelled_by};
+    ghost use Rattle.ert_world.specs.Worlds.{Goes, GoesBut, HasPassedAt, By, IsNextHeldAt, IsNearestAt, IsHandedIn, sched_of, cancelled_by};
     ghost use Rattle.ert_timers.specs.NextDue.{NoneArmedBefore};
+    ghost use Rattle.ert_world.specs.Stepping.{Stays};
 
     /// Serves one request: that in the scheduler's hand, or the first of its inbox. False comes where there is
-    /// none.
+    /// none. Where it cancelled a timer, the wheel of that holds no row of it.
     ///
     /// After want of memory the request stays in the hand.
     pub fn serve(&mut self, sched: u32) -> Result<bool, NoMemory>
         requires { sched < self.old.settings.schedulers }
         ensures call { Goes self.old (λ way. Serves self.old.settings way sched result) self.new }
-        ensures clock { self.new.clock ≡ self.old.clock }
+        ensures stays { Stays self.old self.new }
     {
         chains::serve(self, sched)
     }
@@ -32,7 +34,8 @@ impl World {
     /// The request in a scheduler's hand.
     pub(crate) fn hand(&self, sched: u32) -> Option<Request>
         requires { sched < self.now.settings.schedulers }
-        ensures { result ≡ (sched_of self.now sched).hand }
+        ensures hand { result ≡ (sched_of self.now sched).hand }
+        ensures legal { Legal self.now.settings self.now.history }
     {
         self.scheds[sched as usize].hand
     }
@@ -41,9 +44,9 @@ impl World {
     pub(crate) fn pick(&mut self, sched: u32) -> Option<Request>
         requires sched { sched < self.old.settings.schedulers }
         requires empty { (sched_of self.old sched).hand ≡ None }
+        ensures stays { Stays self.old self.new }
         ensures call { Goes self.old (By self.old (λ g. Picks g sched result)) self.new }
         ensures hand { (sched_of self.new sched).hand ≡ result }
-        ensures clock { self.new.clock ≡ self.old.clock }
     {
         let got = self.inboxes[sched as usize].pick(&self.desk, &mut self.pass);
         self.scheds[sched as usize].hand = got;
@@ -55,7 +58,6 @@ impl World {
         requires sched { sched < self.old.settings.schedulers }
         requires hand { (sched_of self.old sched).hand ≡ Some request.now }
         ensures call { GoesBut request.now.timer (cancelled_by request.now result) self.old (By self.old (λ g. Answers g sched request.now result)) self.new }
-        ensures clock { self.new.clock ≡ self.old.clock }
     {
         let left = self.mails[request.reply_to as usize].answer(
             &self.desk,
@@ -70,11 +72,12 @@ impl World {
     /// Lets every timer of the scheduler's wheel expire that is due, and answers the time, in whole
     /// milliseconds since the start time, and how many expired.
     ///
-    /// After want of memory none has expired.
+    /// After want of memory none has expired. Else the wheel holds no row then that is due by that time.
     pub fn advance(&mut self, sched: u32) -> Result<(u64, u32), NoMemory>
         requires { sched < self.old.settings.schedulers }
         ensures call { Goes self.old (λ way. AdvancesWheel self.old.settings way sched result) self.new }
-        ensures clock { self.new.clock ≡ self.old.clock }
+        ensures passed { IfOk result (λ answer. HasPassedAt self.new sched answer.0) }
+        ensures stays { Stays self.old self.new }
     {
         let part = &mut self.scheds[sched as usize];
         let before = part.fired.len();
@@ -86,15 +89,15 @@ impl World {
     /// `advance` answers; None where no timer is held. No entry is made.
     ///
     /// It tells an event loop how long it may sleep (as `uv_backend_timeout` of libuv): no armed timer is due
-    /// before it. It is the deadline of a timer, or the end of a look ahead from the published time, of
-    /// `ert_wheel::HORIZON` milliseconds, where all are due later.
+    /// before it. It is the deadline of a timer, or the begin of a window, after the time of the last advance, in which
+    /// one is due (`ert_wheel`, `Wheel::next_due`).
     pub fn next_due(&self, sched: u32) -> Option<u64>
         requires { sched < self.now.settings.schedulers }
         ensures held { IsNextHeldAt self.now sched result }
         ensures armed { NoneArmedBefore (state self.now.settings self.now.history) sched result }
         ensures nearest { IsNearestAt self.now sched result }
     {
-        self.wheels[sched as usize].next_due(self.desk.settings(), self.keeper.clock().now())
+        self.wheels[sched as usize].next_due()
     }
 
     /// Hands over the scheduler's expired timers until there is none, and answers how many messages were put
@@ -104,7 +107,7 @@ impl World {
     pub fn deliver(&mut self, sched: u32) -> Result<(u32, u32), NoMemory>
         requires { sched < self.old.settings.schedulers }
         ensures call { Goes self.old (λ way. Delivers self.old.settings way sched result) self.new }
-        ensures clock { self.new.clock ≡ self.old.clock }
+        ensures stays { Stays self.old self.new }
     {
         chains::deliver(self, sched)
     }
@@ -114,9 +117,9 @@ impl World {
         requires sched { sched < self.old.settings.schedulers }
         requires first { first_of (sched_of self.old sched).fired ≡ Some fired.now }
         ensures call { Goes self.old (λ way. Hands self.old.settings way sched result) self.new }
+        ensures stays { Stays self.old self.new }
         ensures fired { OnOk result ((sched_of self.new sched).fired ≡ others_of (sched_of self.old sched).fired) }
         ensures handed { OnOk result (IsHandedIn self.new fired.now.timer) }
-        ensures clock { self.new.clock ≡ self.old.clock }
     {
         let handed = self.mails[fired.dest as usize].deliver(&self.desk, &mut self.pass, fired)?;
         self.scheds[sched as usize].fired.pop();
@@ -124,13 +127,14 @@ impl World {
     }
 
     /// A turn of a scheduler: it serves requests until there is none, 64 at most, lets due timers expire, and
-    /// hands over all expired timers.
+    /// hands over all expired timers. Then the wheel holds no row that is due by the time of the advance.
     ///
     /// After want of memory what was done stays done.
     pub fn turn(&mut self, sched: u32) -> Result<Turned, NoMemory>
         requires { sched < self.old.settings.schedulers }
         ensures call { Goes self.old (λ way. Turns self.old.settings way sched result) self.new }
-        ensures clock { self.new.clock ≡ self.old.clock }
+        ensures passed { IfOk result (λ t. HasPassedAt self.new sched t.to) }
+        ensures stays { Stays self.old self.new }
     {
         chains::turn(self, sched)
     }

@@ -62,8 +62,8 @@ impl Model for World {
 impl World {
     ghost use Rattle.std.specs.Arc.{arc_value};
     ghost use Rattle.std.specs.Prelude.{◌≡◌, ◌+◌, IfErr, OnErr};
+    ghost use Rattle.ert_laws.specs.KeptLaws.{KeepsLaws};
     ghost use Rattle.ert_table.specs.Desks.{settings_of, KnowsAll};
-    ghost use Rattle.ert_world.specs.Lived.{IsLived};
     ghost use Rattle.ert_world.specs.Openings.{IsOpened};
     ghost use Rattle.ert_world.specs.Seats.{GivesSeat, IsSeatRefused};
     ghost use Rattle.ert_world.specs.Worlds.{StandsFor};
@@ -145,12 +145,12 @@ impl World {
     }
 
     /// Ends the service, of which no seat was given out, and gives out its share of the desk and the pass with every
-    /// actor. Its history is legal, each of its timers has one of six lives, and its mail is in order.
+    /// actor. Its history is legal, and keeps the laws of time, of timers and of mail.
     pub fn into_desk(self) -> (Arc<Desk>, Pass)
         requires { self.next ≡ 1 }
         ensures settings { settings_of (arc_value result.0) ≡ self.settings }
         ensures history { KnowsAll (arc_value result.0) result.1 self.history }
-        ensures lived { IsLived self.settings self.history }
+        ensures laws { KeepsLaws self.settings self.history }
     {
         let World { desk, pass, .. } = self;
         (desk, pass)

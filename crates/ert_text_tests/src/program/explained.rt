@@ -1,5 +1,6 @@
-//! What `run` and `race` write to standard error.
+//! What is written to standard error where `run` or `race` refuses its input.
 use super::{clock_of, run};
+use ert_explain::explain;
 use ert_io::{MemSink, MemSource};
 use ert_program::EndStatus;
 use ert_race::FreeGate;
@@ -72,8 +73,8 @@ const ROWS: [(&str, &str, &str, &str); 10] = [
     ),
 ];
 
-/// What a command writes of an input to the output and to standard error, of which a write fails, from 1; 0 for none.
-/// None where the input isn't refused.
+/// What a command writes of an input to the output, and the message that explains its refusal, of which a write fails,
+/// from 1; 0 for none. None where the input isn't refused.
 fn told<R: AllocGlobal + Threads + Wait + Sync>(
     rt: &R,
     command: &str,
@@ -85,18 +86,20 @@ fn told<R: AllocGlobal + Threads + Wait + Sync>(
     let mut output = MemSink::new(alloc, 64, Vec::new(alloc));
     let mut errors = MemSink::new(alloc, 7, vec![in alloc; fails]?);
     let clock = clock_of(alloc, &[], 0)?;
-    let ended = run(
-        rt,
-        &[command],
-        &mut input,
-        &mut output,
-        &mut errors,
-        clock,
-        &FreeGate,
-    )?;
+    let ended = run(rt, &[command], &mut input, &mut output, clock, &FreeGate)?;
+    let Some(refusal) = &ended.refusal else {
+        return Ok(None);
+    };
     if ended.status != EndStatus::Refused {
         return Ok(None);
     }
+    explain(
+        alloc,
+        refusal.bytes.as_slice(),
+        refusal.race,
+        &refusal.why,
+        &mut errors,
+    );
     Ok(Some((
         String::from_utf8_lossy(alloc, output.bytes())?,
         String::from_utf8_lossy(alloc, errors.bytes())?,

@@ -1,8 +1,9 @@
 //! How the small calls change what a part keeps.
 ghost use Rattle.std.specs.FinSet as set;
-ghost use Rattle.std.specs.Prelude.{◌≡◌, ◌≤◌, ◌<◌, IfSome, IsSome, false, true, nat_lt};
+ghost use Rattle.std.specs.Prelude.{◌≡◌, ◌≤◌, ◌<◌, ◌++◌, [], ◌∷◌, IfSome, IsSome, MatchBool, false, true, nat_lt};
 ghost use Rattle.ert_defs.specs.Timers as timers;
 ghost use Rattle.ert_timers.specs.Changes as changes;
+ghost use Rattle.ert_words.specs.Free.{free_set};
 
 use super::{Use, WheelPart, is_long};
 use crate::slot::Slot;
@@ -216,11 +217,13 @@ fn has_uses(generation: u64) -> bool
 #[inline(never)]
 fn exchange(free: &mut FreeSlots, slot: u32, long: bool) -> Option<u32>
     requires in_range { slot < free.old.slots }
-    requires away { set.contains free.old.held slot ≡ false }
+    requires away { set.contains (free_set free.old).held slot ≡ false }
     ensures some { IsSome result }
-    ensures held { IfSome result (λ other. set.contains (set.insert free.old.held slot) other ≡ true) }
+    ensures held { IfSome result (λ other. set.contains (set.insert (free_set free.old).held slot) other ≡ true) }
     ensures taken { IfSome result (λ other.
-        free.new ≡ record free.old { held = set.remove (set.insert free.old.held slot) other }) }
+        free_set free.new ≡ record (free_set free.old) { held = set.remove (set.insert (free_set free.old).held slot) other }) }
+    ensures ends { IfSome result (λ other. MatchBool long
+        (free.old.held ++ slot ∷ [] ≡ other ∷ free.new.held) (slot ∷ free.old.held ≡ free.new.held ++ other ∷ [])) }
 {
     put(free, slot, !long);
     if long { free.pick_first() } else { free.pick() }
@@ -229,8 +232,9 @@ fn exchange(free: &mut FreeSlots, slot: u32, long: bool) -> Option<u32>
 /// Adds a slot that isn't held free, as the first one or the last.
 fn put(free: &mut FreeSlots, slot: u32, first: bool)
     requires in_range { slot < free.old.slots }
-    requires away { set.contains free.old.held slot ≡ false }
-    ensures { free.new ≡ record free.old { held = set.insert free.old.held slot } }
+    requires away { set.contains (free_set free.old).held slot ≡ false }
+    ensures held { free_set free.new ≡ record (free_set free.old) { held = set.insert (free_set free.old).held slot } }
+    ensures end { MatchBool first (free.new.held ≡ slot ∷ free.old.held) (free.new.held ≡ free.old.held ++ slot ∷ []) }
 {
     if first {
         free.put_first(slot);

@@ -1,9 +1,12 @@
-use Rattle.std.proofs.Common.{◌≡◌, ℕ, pos, cond, nat_eq, List, [], ◌∷◌, ◌++◌, Option, Some, None, refl, subst, arith}
+use Rattle.std.proofs.Common.{◌≡◌, ℕ, pos, cond, nat_eq, Bool, true, false, List, [], ◌∷◌, ◌++◌, Option, Some, None, refl, sym, ap, ◌∙◌, subst, arith, lit≤}
 use Rattle.ert_effects.proofs.Told.{advances_same, event_same}
-use Rattle.ert_effects.specs.WheelCalls.{Try, AllSettled, AreLooks, HasAdvanced, expires_by, expiry_entries, IsSettled}
+use Rattle.ert_effects.specs.WheelCalls.{Try, AllSettled, AreLooks, HasAdvanced, expires_by, expiry_entries, IsSettled, IsDueBy, AllDue, AreOnce}
 use Rattle.ert_effects.specs.Worked.{one, asked, missing}
 use Rattle.ert_defs.specs.Entries.{probe_entry, expire_entry, advanced_entry}
 use Rattle.ert_defs.specs.States.{state}
+use Rattle.ert_defs.specs.Timers.{Row, same_timer}
+use Rattle.ert_defs.proofs.FiredTimers.{row_named}
+use Rattle.ert_defs.specs.declared.timer.Kind.TheVariants.{Wrapped}
 use Rattle.ert_defs.specs.Worked.{timer}
 use Rattle.ert_defs.specs.declared.entry.Actor.TheVariants.{Sched}
 use Rattle.ert_defs.specs.declared.entry.Entry.{Entry}
@@ -13,17 +16,35 @@ use Rattle.ert_defs.specs.declared.timer.Status.TheVariants.{Armed, Cancelled}
 use Rattle.ert_defs.specs.declared.timer.TimerRef.{TimerRef}
 use Rattle.ert_effects.proofs.worked.advances_are_judged.Goals as goal
 
+-- the timer is due at the time of the advance
+row : Row
+row = record { timer = timer; deadline = 1; dest = 0; msg = 7; kind = Wrapped }
+
+due : IsDueBy ((state one asked).rows 0) 1 timer
+unfolding row
+due = record { row = row; stands = refl; due = lit≤ tt }
+
 pub returns-clause-expired : goal.returns-clause-expired
 returns-clause-expired c =
-    record { now = pos 1000000; tries = (record { timer = timer; missed = None }) ∷ []; fired = refl; settled = (tt, tt); entries = refl }
+    record {
+      now = pos 1000000;
+      tries = (record { timer = timer; missed = None }) ∷ [];
+      fired = refl;
+      settled = (tt, tt);
+      due = (due, tt);
+      once = (tt, tt);
+      entries = refl;
+    }
 
 -- a try that missed
-missed : HasAdvanced 0 (1, 0) (missing Cancelled)
+missed : HasAdvanced 0 (1, 0) (state one asked) (missing Cancelled)
 missed = record {
   now = pos 1000000;
   tries = (record { timer = timer; missed = Some (Some Cancelled) }) ∷ [];
   fired = refl;
   settled = (λ is. cc, tt);
+  due = (due, tt);
+  once = (tt, tt);
   entries = refl;
 }
 
@@ -71,6 +92,8 @@ returns-clause-looked c = record {
   looks = probed ∷ [];
   fired = refl;
   settled = tt;
+  due = tt;
+  once = tt;
   are_looks = (0, Some Armed, omega arith, omega arith, refl, tt);
   entries = refl;
 }
@@ -85,3 +108,54 @@ not_twice [] (e ∷ (f ∷ looks)) settled are same = omega (arith, are.2, are.5
 
 pub returns-clause-looked_twice : goal.returns-clause-looked_twice
 returns-clause-looked_twice c = λ is. not_twice is.tries is.looks is.settled is.are_looks (cc is.entries)
+
+-- a look at the slot, and the record, aren't the record alone
+abbrev looked_at : Entry
+looked_at = probe_entry (Sched 0) 0 0 (Some Cancelled)
+
+unrecorded : (to : ℕ) (rest : List Entry) → looked_at ∷ rest ≡ advanced_entry 0 to ∷ [] → ⊥
+unrecorded to rest same =
+    let heads : looked_at ≡ advanced_entry 0 to = cc in
+    let event : Probe 0 0 (Some Cancelled) ≡ Advanced 0 to = event_same looked_at (advanced_entry 0 to) heads in cc
+
+-- so something was tried, and that is due
+some_due : (rows : List Row) (to : ℕ) (tries : List Try) (rest : List Entry) → AllDue rows to tries
+    → looked_at ∷ rest ≡ expiry_entries 0 tries ++ advanced_entry 0 1 ∷ [] → (t : TimerRef) × IsDueBy rows to t
+some_due rows to [] rest due same = absurd (unrecorded 1 rest same)
+some_due rows to (t ∷ tries) rest due same = (t.timer, due.0)
+
+pub returns-clause-stray : goal.returns-clause-stray
+returns-clause-stray c = λ is.
+    let one = some_due [] 1 is.tries (advanced_entry 0 1 ∷ []) is.due (cc is.entries) in
+    let none : None ≡ Some one.1.row = one.1.stands in cc
+
+-- the only timer is due at the sixth millisecond
+late : Row
+late = record { timer = timer; deadline = 6; dest = 0; msg = 7; kind = Wrapped }
+
+of_one : (r : Row) (t : TimerRef) (row : Row) (b : Bool) → cond b (Some r) None ≡ Some row → r ≡ row
+of_one r t row true is = cc
+of_one r t row false is = absurd cc
+
+pub returns-clause-early : goal.returns-clause-early
+unfolding late
+returns-clause-early c = λ is.
+    let one = some_due (late ∷ []) 1 is.tries (advanced_entry 0 1 ∷ []) is.due (cc is.entries) in
+    let row : late ≡ one.1.row = of_one late one.0 one.1.row (same_timer timer one.0) one.1.stands in
+    let deadline : 6 ≡ one.1.row.deadline = ap (λ (r : Row). r.deadline) row in
+    omega (arith, deadline, one.1.due)
+
+-- two tries are of two timers
+twice : (tries : List Try) → AllDue (row ∷ []) 1 tries → AreOnce tries
+    → looked_at ∷ (looked_at ∷ (advanced_entry 0 1 ∷ [])) ≡ expiry_entries 0 tries ++ advanced_entry 0 1 ∷ [] → ⊥
+twice [] due once same = unrecorded 1 _ same
+twice (t ∷ []) due once same = unrecorded 1 (advanced_entry 0 1 ∷ []) cc
+twice (t ∷ (u ∷ tries)) due once same =
+    once.0.0 (sym (row_named (row ∷ []) due.1.0.row u.timer due.1.0.stands) ∙ (ap (λ (r : Row). r.timer)
+    (sym (of_one row u.timer due.1.0.row (same_timer row.timer u.timer) due.1.0.stands)
+    ∙ of_one row t.timer due.0.row (same_timer row.timer t.timer) due.0.stands)
+    ∙ row_named (row ∷ []) due.0.row t.timer due.0.stands))
+
+pub returns-clause-tried_twice : goal.returns-clause-tried_twice
+unfolding row
+returns-clause-tried_twice c = λ is. twice is.tries is.due is.once (cc is.entries)

@@ -1,12 +1,13 @@
 use Rattle.std.proofs.Common.{◌≡◌, ℕ, List, [], ◌∷◌, Option, Some, None, refl, ap, ◌∙◌}
 use Rattle.ert_effects.proofs.Told.{event_same}
 use Rattle.ert_effects.specs.WheelCalls.{Try, IsFor, MaySweep, AllMaySweep, orphans_by, orphan_entries}
-use Rattle.ert_effects.specs.Worked.{timer_of, exiting}
+use Rattle.ert_effects.specs.Worked.{timer_of, exiting, probed}
 use Rattle.ert_defs.specs.Entries.{orphan_entry}
 use Rattle.ert_defs.specs.Timers.{Row}
 use Rattle.ert_defs.specs.declared.entry.Event.TheVariants.{Probe, Orphan}
 use Rattle.ert_defs.specs.declared.timer.Kind.TheVariants.{Wrapped}
 use Rattle.ert_defs.specs.declared.timer.Status.{Status}
+use Rattle.ert_defs.specs.declared.timer.Status.TheVariants.{Cancelled}
 use Rattle.ert_defs.specs.declared.timer.TimerRef.{TimerRef}
 use Rattle.ert_effects.proofs.worked.exits_are_judged.Goals as goal
 
@@ -29,7 +30,7 @@ returns-clause-all c = record {
     after = orphan_entry 0 1 (timer_of 1) ∷ [];
     joined = refl;
     one = record {
-      steps = record { tries = cancels 0 ∷ []; may = (record { row = row_for 0 0; stands = refl; dest = refl }, tt); entries = refl };
+      steps = record { tries = cancels 0 ∷ []; may = ((record { row = row_for 0 0; stands = refl; dest = refl }, tt), tt); once = (tt, tt); entries = refl };
       swept = (λ dest is. cc, tt);
     };
     other = record {
@@ -37,7 +38,7 @@ returns-clause-all c = record {
       after = [];
       joined = refl;
       one = record {
-        steps = record { tries = cancels 1 ∷ []; may = (record { row = row_for 1 0; stands = refl; dest = refl }, tt); entries = refl };
+        steps = record { tries = cancels 1 ∷ []; may = ((record { row = row_for 1 0; stands = refl; dest = refl }, tt), tt); once = (tt, tt); entries = refl };
         swept = (λ dest is. cc, tt);
       };
       other = refl;
@@ -56,14 +57,14 @@ returns-clause-own c = record {
     after = [];
     joined = refl;
     one = record {
-      steps = record { tries = cancels 0 ∷ []; may = (record { row = row_for 0 0; stands = refl; dest = refl }, tt); entries = refl };
+      steps = record { tries = cancels 0 ∷ []; may = ((record { row = row_for 0 0; stands = refl; dest = refl }, tt), tt); once = (tt, tt); entries = refl };
       swept = (λ dest is. cc, tt);
     };
     other = record {
       before = [];
       after = [];
       joined = refl;
-      one = record { steps = record { tries = []; may = tt; entries = refl }; swept = (λ dest is. cc, tt) };
+      one = record { steps = record { tries = []; may = tt; once = tt; entries = refl }; swept = (λ dest is. cc, tt) };
       other = refl;
     };
   };
@@ -82,7 +83,7 @@ other_try : (t : TimerRef) (missed : Option (Option Status)) → orphan_entry 0 
 other_try t None same may =
     let event : Orphan (timer_of 1) ≡ Orphan t = event_same _ _ same in
     let timer : t ≡ timer_of 1 = cc in
-    other_dest (rw timer at may)
+    other_dest (rw timer at may.0)
 other_try t (Some found) same may =
     let event : Orphan (timer_of 1) ≡ Probe 1 t.slot found = event_same _ _ same in cc
 
@@ -93,3 +94,11 @@ others (t ∷ tries) may same =
 
 pub returns-clause-other_process : goal.returns-clause-other_process
 returns-clause-other_process c = λ is. others is.tries is.may is.entries
+
+-- where no timer was started nothing is tried
+strays : (tries : List Try) → AllMaySweep [] 0 tries → probed (Some Cancelled) ≡ orphan_entries 0 0 tries → ⊥
+strays [] may same = cc
+strays (t ∷ tries) may same = (let none : None ≡ Some may.0.0.row = may.0.0.stands in cc)
+
+pub returns-clause-stray : goal.returns-clause-stray
+returns-clause-stray c = λ is. strays is.tries is.may is.entries

@@ -1,4 +1,4 @@
-use Rattle.std.proofs.Common.{◌≡◌, ◌∙◌, pos, List, [], ◌∷◌, ◌++◌, Some, None, Ok, refl, rules, sym, ap, subst, append_assoc}
+use Rattle.std.proofs.Common.{◌≡◌, ◌∙◌, pos, List, [], ◌∷◌, ◌++◌, Some, None, Ok, refl, rules, sym, ap, subst, append_assoc, lit≤}
 use Rattle.ert_effects.specs.Chains.{HasServed, ServesAll, AdvancesWheel, HasDelivered}
 use Rattle.ert_effects.specs.Ways.{alone}
 use Rattle.ert_effects.specs.Worked.{one, request, asked, serving, idling, advancing, delivering, turning}
@@ -54,7 +54,15 @@ all_served = (
 
 -- the timer expires
 advanced : AdvancesWheel one (alone one) 0 (Ok (1, 1)) (asked ++ (serving ++ idling)) advancing
-advanced = record { now = pos 1000000; tries = (record { timer = timer; missed = None }) ∷ []; fired = refl; settled = (tt, tt); entries = refl }
+advanced = record {
+  now = pos 1000000;
+  tries = (record { timer = timer; missed = None }) ∷ [];
+  fired = refl;
+  settled = (tt, tt);
+  due = (record { row = row; stands = refl; due = lit≤ tt }, tt);
+  once = (tt, tt);
+  entries = refl;
+}
 
 -- and is delivered
 delivered : HasDelivered one (alone one) 0 (1, 0) ((asked ++ (serving ++ idling)) ++ advancing) delivering

@@ -5,7 +5,7 @@ pub returns-clause-value : goal.returns-clause-value
 returns-clause-value c =
     told_by _ c.read_timer-left.result c.is_some.result
     (read_tells c.args.world.now c.read_timer-left.new.self c.args.interval.now c.read_timer-left.result c.read_timer-left.ensures.call
-    c.requires.lone c.settings-settings.ensures.stands.clock.legal c.requires.legal c.requires.kept)
+    c.requires.lone c.read_timer-left.ensures.call.legal c.requires.legal c.requires.kept)
     c.is_some.ensures
 
 pub returns-clause-reads : goal.returns-clause-reads

@@ -32,7 +32,7 @@ returns-in_default c =
     let a = c.args.world.now in
     let b = c.start-started.new.self in
     let i = c.args.interval.now in
-    let legal = c.settings-settings.ensures.stands.clock.legal in
+    let legal = c.in_default.ensures.call.legal in
     let start : Start = start_at (time_of a.settings c.args.deadline) i.dest i.msg in
     let asked = is_asked a i _ c.args.deadline c.start_for-start.result c.start_for-start.ensures c.settings.ensures.value c.requires.next in
     let call : Goes a (By a (λ g. Starts g 0 i.wheel start (Err c.in_default.field-0))) b =
@@ -72,7 +72,7 @@ returns c =
     let asked = is_asked a i _ c.args.deadline c.start_for-start.result c.start_for-start.ensures c.settings.ensures.value c.requires.next in
     let call : Goes a (By a (λ g. Starts g 0 i.wheel start (Ok c.in-Ok.timer))) b =
     subst (λ x. Goes a (By a (λ g. Starts g 0 i.wheel x (Ok c.in-Ok.timer))) b) asked.time c.in-Ok.ensures.call in
-    let legal = c.settings-settings.ensures.stands.clock.legal in
+    let legal = call.legal in
     let begun = started a b i.wheel start c.in-Ok.timer c.args.deadline call c.requires.lone legal (due_at a.settings c.args.deadline i.dest i.msg c.requires.high) in
     let armed = begun.lives c.requires.lives in
     let firings : c.push_reserved.new.self.items ≡ i.firings.items ++ c.in-Ok.timer ∷ [] =

@@ -5,7 +5,7 @@ use Rattle.ert_interval.proofs.going.stop.Goals as goal
 pub returns-clause-kept : goal.returns-clause-kept
 returns-clause-kept c =
     stopped_kept c.args.world.now c.cancel_timer-left.new.self c.args.interval.now c.cancel_timer-left.result
-    c.settings-settings.ensures.stands.clock.legal c.requires.kept c.cancel_timer-left.ensures.call c.requires.lone
+    c.cancel_timer-left.ensures.call.legal c.requires.kept c.cancel_timer-left.ensures.call c.requires.lone
 
 pub returns-clause-stops : goal.returns-clause-stops
 returns-clause-stops c =
@@ -18,6 +18,6 @@ returns-clause-stops c =
             firings = refl;
             state = refl;
           });
-      none = (cancelled c.args.world.now c.cancel_timer-left.new.self i c.cancel_timer-left.result c.settings-settings.ensures.stands.clock.legal
+      none = (cancelled c.args.world.now c.cancel_timer-left.new.self i c.cancel_timer-left.result c.cancel_timer-left.ensures.call.legal
           c.requires.kept c.cancel_timer-left.ensures.call c.requires.lone).none;
     }

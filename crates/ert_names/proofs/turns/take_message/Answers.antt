@@ -3,7 +3,10 @@ use Rattle.ert_names.specs.Handing.{TakesNext}
 use Rattle.ert_names.proofs.Messages.{takes_next}
 use Rattle.ert_names.proofs.turns.take_message.Goals as goal
 
-pub returns-clause-call : goal.returns-clause-call
-returns-clause-call c = λ n fits.
-    subst (λ m. TakesNext n c.args.world.now m c.take-taken.new.self) (sym c.timeout_of.ensures)
-    (takes_next n c.args.world.now c.take-taken.new.self c.take-taken.result c.take-taken.ensures.call c.settings-settings.ensures.stands.clock.legal fits)
+pub returns : goal.returns
+returns c =
+    record {
+      call = λ n fits.
+          subst (λ m. TakesNext n c.args.world.now m c.take-taken.new.self) (sym c.timeout_of.ensures)
+          (takes_next n c.args.world.now c.take-taken.new.self c.take-taken.result c.take-taken.ensures.call c.take-taken.ensures.call.legal fits);
+    }

@@ -2,5 +2,4 @@ use Rattle.ert_program.proofs.InMemory.{ends_in_memory}
 use Rattle.ert_program.proofs.in_memory.run_in_memory.Goals as goal
 
 pub returns : goal.returns
-returns c = λ plan short is.
-    ends_in_memory _ _ _ _ _ _ c.run.result plan c.one_verdict.ensures.one_scenario c.run.ensures.done c.run.ensures.complete short is
+returns c = λ plan short is. ends_in_memory _ _ _ _ _ _ c.run.result plan c.one_verdict.ensures.one_scenario c.run.ensures.ends short is

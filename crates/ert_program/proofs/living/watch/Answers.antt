@@ -1,7 +1,8 @@
 use Rattle.std.proofs.Common.{rules, arith, ◌≡◌, ◌<◌, ◌∙◌, FitsSigned, w64, to_z-of_z, string_bytes}
+use Rattle.std.proofs.lemmas.Result.{err_from_is_err_and}
 use Rattle.ert_defs.specs.Readings.{IsValid}
 use Rattle.ert_io.specs.Faults.{Rose}
-use Rattle.ert_program.proofs.LivedThrough.{watched_first, watched_more, stopped_later, refused_first, refused_later, watched_all}
+use Rattle.ert_program.proofs.LivedThrough.{takes_one, takes_next, watched_first, watched_more, stopped_later, refused_first, refused_later, watched_all}
 use Rattle.ert_program.proofs.living.watch.Goals as goal
 
 pub returns-then-not-is_valid-clause-ok : goal.returns-then-not-is_valid-clause-ok
@@ -52,4 +53,26 @@ returns-clause-ok g c =
     let now : FitsSigned w64 c.published.result = search rules in
     let last = simp to_z-of_z at c.in_ok-write_end.ensures in
     watched_all c.args.n _ _ c.readings.taken c.readings.world (string_bytes c.readings.page) _ c.into_desk.result all c.readings.invariant.so_far
-    (rw c.published.ensures at last) c.into_desk.ensures.settings c.into_desk.ensures.history c.into_desk.ensures.lived
+    (rw c.published.ensures at last) c.into_desk.ensures.settings c.into_desk.ensures.history c.into_desk.ensures.laws
+
+pub returns-in_err-write_bad_reading-clause-err : goal.returns-in_err-write_bad_reading-clause-err
+returns-in_err-write_bad_reading-clause-err g c =
+    let p = err_from_is_err_and c.from_residual.result c.from_residual.ensures.1 in
+    rw p.1 (takes_one c.args.n c.in-Ok.first _ _ c.requires.some c.in-Ok.ensures.given)
+
+pub returns-in_err-world-clause-err : goal.returns-in_err-world-clause-err
+returns-in_err-world-clause-err g c =
+    let p = err_from_is_err_and c.from_residual-in_err-world.result c.from_residual-in_err-world.ensures.1 in
+    rw p.1 (takes_one c.args.n c.in-Ok.first _ _ c.requires.some c.in-Ok.ensures.given)
+
+pub returns-in_err-write_bad_reading-2-clause-err : goal.returns-in_err-write_bad_reading-2-clause-err
+returns-in_err-write_bad_reading-2-clause-err g c =
+    let below : c.readings.taken < c.args.n = omega arith in
+    let p = err_from_is_err_and c.from_residual-in_err-write_bad_reading-2.result c.from_residual-in_err-write_bad_reading-2.ensures.1 in
+    rw p.1 (takes_next c.args.n c.readings.taken _ _ _ c.readings.world _ c.in-Ok-read.reading below c.readings.invariant.so_far c.in-Ok-read.ensures.given)
+
+pub returns-in_err-go_on-clause-err : goal.returns-in_err-go_on-clause-err
+returns-in_err-go_on-clause-err g c =
+    let below : c.readings.taken < c.args.n = omega arith in
+    let p = err_from_is_err_and c.from_residual-in_err-go_on.result c.from_residual-in_err-go_on.ensures.1 in
+    rw p.1 (takes_next c.args.n c.readings.taken _ _ _ c.readings.world _ c.in-Ok-read.reading below c.readings.invariant.so_far c.in-Ok-read.ensures.given)

@@ -1,9 +1,12 @@
-use Rattle.std.proofs.Common.{rules, ◌≡◌, ℕ, Some, ap, subst, sym, ◌∙◌, map, string_bytes}
+use Rattle.std.proofs.Common.{rules, ◌≡◌, ℕ, true, false, Some, ap, subst, sym, ◌∙◌, map, string_bytes}
 use Rattle.ert_command.specs.declared.command.Command.TheVariants.{Live, Stress}
+use Rattle.ert_program.proofs.Ends.{memory_ends}
 use Rattle.ert_program.proofs.Made.{stress_ends}
 use Rattle.ert_program.proofs.Ranges.{of_command, found_is, same_live, same_stress}
 use Rattle.ert_program.specs.Endings.{asked}
 use Rattle.ert_program.specs.Lives.{LiveEnds}
+use Rattle.ert_program.specs.Races.{RaceOf}
+use Rattle.ert_program.specs.Runs.{RunOf}
 use Rattle.ert_program.specs.Stresses.{StressEnds}
 use Rattle.ert_program.specs.Streams.{Output, output_of, clock_of}
 use Rattle.ert_program.specs.declared.ending.Ended.{Ended}
@@ -49,3 +52,9 @@ returns-in-Some-Stress-clause-stress g c = λ seed n e.
     (stress_ends c.in-Some-Stress.seed c.in-Some-Stress.n o p c.stress.result c.stress.ensures.ok
     (λ how. (c.stress.ensures.cause how, c.stress.ensures.write_fault how))
     (λ how. ap (λ k. output_of g.O.Sink.taken g.O.Sink.room g.O.Sink.faults k) (c.stress.ensures.no_memory how)))))
+
+pub returns-in_default-clause-run : goal.returns-in_default-clause-run
+returns-in_default-clause-run g c = λ is. memory_ends false RunOf _ _ _ c.without_desk.ensures
+
+pub returns-in_default-clause-race : goal.returns-in_default-clause-race
+returns-in_default-clause-race g c = λ is. memory_ends true RaceOf _ _ _ c.without_desk.ensures

@@ -1,49 +1,40 @@
-use Rattle.std.proofs.Common.{rules, inl, inr, true}
+use Rattle.std.proofs.Common.{true, subst, sym}
 use Rattle.ert_race.proofs.Listed.{wanted_of}
 use Rattle.ert_scenario.specs.Scenarios.{plan_of}
-use Rattle.ert_program.specs.Inputs.{TakesAll}
-use Rattle.ert_program.proofs.Transcripts.{stopped}
+use Rattle.ert_program.specs.Inputs.{InputEnds}
+use Rattle.ert_program.specs.Races.{RaceOf}
+use Rattle.ert_program.specs.Streams.{Input, Output, input_of, output_of}
+use Rattle.ert_program.specs.declared.ending.Ended.{Ended}
+use Rattle.ert_program.proofs.Ends.{unread_ends, ran_ends}
 use Rattle.ert_program.proofs.racing.race.Goals as goal
 
 pub race_scenario-requires-clause-checked : goal.race_scenario-requires-clause-checked
 race_scenario-requires-clause-checked g c = λ κs bounds.
-    c.scenarios_are_valid.ensures.settings true _ (plan_of c.in-Ok-read_scenario.scenario) c.in-Ok-read_scenario.ensures.ok
+    c.scenarios_are_valid.ensures.settings true _ (plan_of c.in-Ok.scenario) c.in-Ok.ensures.ok.is
 
 pub race_scenario-requires-clause-ranges : goal.race_scenario-requires-clause-ranges
 race_scenario-requires-clause-ranges g c = λ κs bounds.
-    c.scenarios_are_valid.ensures.ops true _ (plan_of c.in-Ok-read_scenario.scenario) c.in-Ok-read_scenario.ensures.ok
+    c.scenarios_are_valid.ensures.ops true _ (plan_of c.in-Ok.scenario) c.in-Ok.ensures.ok.is
 
 pub race_scenario-requires-clause-wanted : goal.race_scenario-requires-clause-wanted
 race_scenario-requires-clause-wanted g c = λ κs bounds.
-    wanted_of c.in-Ok-read_scenario.scenario.race
-    (c.scenarios_are_valid.ensures.wanted true _ (plan_of c.in-Ok-read_scenario.scenario) c.in-Ok-read_scenario.ensures.ok)
+    wanted_of c.in-Ok.scenario.race (c.scenarios_are_valid.ensures.wanted true _ (plan_of c.in-Ok.scenario) c.in-Ok.ensures.ok.is)
 
 pub race_scenario-requires-clause-race : goal.race_scenario-requires-clause-race
 race_scenario-requires-clause-race g c = λ κs bounds.
-    c.scenarios_are_valid.ensures.race true _ (plan_of c.in-Ok-read_scenario.scenario) c.in-Ok-read_scenario.ensures.ok
+    c.scenarios_are_valid.ensures.race true _ (plan_of c.in-Ok.scenario) c.in-Ok.ensures.ok.is
 
-pub returns-in-Ok-read_scenario-clause-stops : goal.returns-in-Ok-read_scenario-clause-stops
-returns-in-Ok-read_scenario-clause-stops g c = λ how.
-    let takes : TakesAll (g.I.Source.left c.args.input.now) (g.I.Source.left c.read_all.new.source) c.deref.result.now = search rules in
-    record {
-      bytes = c.deref.result.now;
-      takes = takes;
-      part = inl (record {
-        plan = plan_of c.in-Ok-read_scenario.scenario;
-        is = c.in-Ok-read_scenario.ensures.ok;
-        writes = stopped c.race_scenario.result _ c.race_scenario.ensures.err (inl (rw c.of_run.ensures at how));
-      });
-    }
+pub returns-in-Ok-clause-ends : goal.returns-in-Ok-clause-ends
+returns-in-Ok-clause-ends g c =
+    let i : Input = input_of g.I.Source.left g.I.Source.faults c.args.input.now in
+    let j : Input = input_of g.I.Source.left g.I.Source.faults c.read_input.new.input in
+    let o : Output = output_of g.O.Sink.taken g.O.Sink.room g.O.Sink.faults c.args.output.now in
+    let p : Output = output_of g.O.Sink.taken g.O.Sink.room g.O.Sink.faults c.race_scenario.new.output in
+    subst (λ (e : Ended). InputEnds true RaceOf i j o p e) (sym c.of_run.ensures)
+    (ran_ends true RaceOf i j o p (plan_of c.in-Ok.scenario) c.race_scenario.result c.in-Ok.ensures.ok
+    (rw c.in-Ok.ensures.unwritten at c.race_scenario.ensures.ok)
+    (rw c.in-Ok.ensures.unwritten at c.race_scenario.ensures.err)
+    (rw c.in-Ok.ensures.unwritten at c.race_scenario.ensures.cause))
 
-pub returns-in-Ok-read_scenario-clause-no_memory : goal.returns-in-Ok-read_scenario-clause-no_memory
-returns-in-Ok-read_scenario-clause-no_memory g c = λ how.
-    let takes : TakesAll (g.I.Source.left c.args.input.now) (g.I.Source.left c.read_all.new.source) c.deref.result.now = search rules in
-    inr (record {
-      bytes = c.deref.result.now;
-      takes = takes;
-      part = inl (record {
-        plan = plan_of c.in-Ok-read_scenario.scenario;
-        is = c.in-Ok-read_scenario.ensures.ok;
-        writes = stopped c.race_scenario.result _ c.race_scenario.ensures.err (inr (rw c.of_run.ensures at how));
-      });
-    })
+pub returns-in-Err-clause-ends : goal.returns-in-Err-clause-ends
+returns-in-Err-clause-ends g c = unread_ends true RaceOf _ _ _ _ c.in-Err.ended c.in-Err.ensures.err

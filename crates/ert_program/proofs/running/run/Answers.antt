@@ -1,48 +1,29 @@
-use Rattle.std.proofs.Common.{rules, inl, inr, false}
+use Rattle.std.proofs.Common.{false, subst, sym}
 use Rattle.ert_scenario.specs.Scenarios.{plan_of}
-use Rattle.ert_program.specs.Inputs.{TakesAll}
-use Rattle.ert_program.proofs.Transcripts.{stopped}
+use Rattle.ert_program.specs.Inputs.{InputEnds}
+use Rattle.ert_program.specs.Runs.{RunOf}
+use Rattle.ert_program.specs.Streams.{Input, Output, input_of, output_of}
+use Rattle.ert_program.specs.declared.ending.Ended.{Ended}
+use Rattle.ert_program.proofs.Ends.{unread_ends, ran_ends}
 use Rattle.ert_program.proofs.running.run.Goals as goal
 
-pub run_scenario-requires-clause-fits : goal.run_scenario-requires-clause-fits
-run_scenario-requires-clause-fits g c =
-    let takes : TakesAll (g.I.Source.left c.args.input.now) (g.I.Source.left c.read_all.new.source) c.deref.result.now = search rules in
-    c.requires.fits.done _ _ (plan_of c.in-Ok-read_scenario.scenario) takes c.in-Ok-read_scenario.ensures.ok
-
 pub run_scenario-requires-clause-checked : goal.run_scenario-requires-clause-checked
-run_scenario-requires-clause-checked g c =
-    c.scenarios_are_valid.ensures.settings false _ (plan_of c.in-Ok-read_scenario.scenario) c.in-Ok-read_scenario.ensures.ok
+run_scenario-requires-clause-checked g c = c.scenarios_are_valid.ensures.settings false _ (plan_of c.in-Ok.scenario) c.in-Ok.ensures.ok.is
 
 pub run_scenario-requires-clause-ranges : goal.run_scenario-requires-clause-ranges
-run_scenario-requires-clause-ranges g c =
-    c.scenarios_are_valid.ensures.ops false _ (plan_of c.in-Ok-read_scenario.scenario) c.in-Ok-read_scenario.ensures.ok
+run_scenario-requires-clause-ranges g c = c.scenarios_are_valid.ensures.ops false _ (plan_of c.in-Ok.scenario) c.in-Ok.ensures.ok.is
 
-pub run_scenario-requires-clause-labels : goal.run_scenario-requires-clause-labels
-run_scenario-requires-clause-labels g c =
-    c.scenarios_are_valid.ensures.labels false _ (plan_of c.in-Ok-read_scenario.scenario) c.in-Ok-read_scenario.ensures.ok
+pub returns-in-Ok-clause-ends : goal.returns-in-Ok-clause-ends
+returns-in-Ok-clause-ends g c =
+    let i : Input = input_of g.I.Source.left g.I.Source.faults c.args.input.now in
+    let j : Input = input_of g.I.Source.left g.I.Source.faults c.read_input.new.input in
+    let o : Output = output_of g.O.Sink.taken g.O.Sink.room g.O.Sink.faults c.args.output.now in
+    let p : Output = output_of g.O.Sink.taken g.O.Sink.room g.O.Sink.faults c.run_scenario.new.output in
+    subst (λ (e : Ended). InputEnds false RunOf i j o p e) (sym c.of_run.ensures)
+    (ran_ends false RunOf i j o p (plan_of c.in-Ok.scenario) c.run_scenario.result c.in-Ok.ensures.ok
+    (rw c.in-Ok.ensures.unwritten at c.run_scenario.ensures.ok)
+    (rw c.in-Ok.ensures.unwritten at c.run_scenario.ensures.err)
+    (rw c.in-Ok.ensures.unwritten at c.run_scenario.ensures.cause))
 
-pub returns-in-Ok-read_scenario-clause-stops : goal.returns-in-Ok-read_scenario-clause-stops
-returns-in-Ok-read_scenario-clause-stops g c = λ how.
-    let takes : TakesAll (g.I.Source.left c.args.input.now) (g.I.Source.left c.read_all.new.source) c.deref.result.now = search rules in
-    record {
-      bytes = c.deref.result.now;
-      takes = takes;
-      part = inl (record {
-        plan = plan_of c.in-Ok-read_scenario.scenario;
-        is = c.in-Ok-read_scenario.ensures.ok;
-        writes = stopped c.run_scenario.result _ c.run_scenario.ensures.err (inl (rw c.of_run.ensures at how));
-      });
-    }
-
-pub returns-in-Ok-read_scenario-clause-no_memory : goal.returns-in-Ok-read_scenario-clause-no_memory
-returns-in-Ok-read_scenario-clause-no_memory g c = λ how.
-    let takes : TakesAll (g.I.Source.left c.args.input.now) (g.I.Source.left c.read_all.new.source) c.deref.result.now = search rules in
-    inr (record {
-      bytes = c.deref.result.now;
-      takes = takes;
-      part = inl (record {
-        plan = plan_of c.in-Ok-read_scenario.scenario;
-        is = c.in-Ok-read_scenario.ensures.ok;
-        writes = stopped c.run_scenario.result _ c.run_scenario.ensures.err (inr (rw c.of_run.ensures at how));
-      });
-    })
+pub returns-in-Err-clause-ends : goal.returns-in-Err-clause-ends
+returns-in-Err-clause-ends g c = unread_ends false RunOf _ _ _ _ c.in-Err.ended c.in-Err.ensures.err

@@ -1,6 +1,5 @@
-use Rattle.std.proofs.Common.{◌≡◌, List, [], sym, subst}
+use Rattle.std.proofs.Common.{◌≡◌, List, [], subst}
 use Rattle.ert_program.specs.Generated.{generated}
-use Rattle.ert_ops.specs.Labels.{AreOps}
 use Rattle.ert_ops.specs.declared.op.Op.{Op}
 use Rattle.ert_scenario.specs.Scenarios.{Plan, plan_of}
 use Rattle.ert_script.specs.Written.{RunsAll}
@@ -12,8 +11,7 @@ pub returns : goal.returns
 returns c =
     let plan : Plan = plan_of c.in_ok-scenario.scenario in
     let same : plan ≡ generated c.args.seed c.args.n = c.in_ok-scenario.ensures in
-    let are : AreOps plan.ops = subst (λ (p : Plan). AreOps p.ops) (sym same) (c.generated_scenarios_are_valid.ensures.labels c.args.seed c.args.n c.requires) in
     subst (λ (p : Plan). HasRun p c.do_ops.new.world) same
-    (has_run plan c.in_ok-world.world c.do_ops.new.world c.do_ops.new.labels are c.in_ok-world.ensures
+    (has_run plan c.in_ok-world.world c.do_ops.new.world c.do_ops.new.labels c.in_ok-world.ensures
     (subst (λ (ops : List Op). RunsAll c.in_ok-world.world [] ops c.do_ops.new.world c.do_ops.new.labels) c.deref.ensures.value
     (rw c.new.ensures at c.in_ok-do_ops.ensures.ok)))

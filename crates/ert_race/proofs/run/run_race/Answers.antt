@@ -41,4 +41,4 @@ returns-clause-ok g c =
     ends c.args.settings.now c.args.ops.now (race_of c.args.race.now) c.in-Ok.world c.run_ops.new.world c.in-Ok-race_on.end.world c.run_ops.new.labels
     (dids_of c.in-Ok-race_on.end.lists.items) _ _ _ _ _ c.in-Ok.ensures (rw c.new-labels.ensures at c.in_ok-run_ops.ensures.ok) c.in-Ok-race_on.ensures
     c.history_stands.ensures c.in-Ok-report_page.ensures c.in_ok-write_page.ensures.ok c.into_desk.ensures.settings c.into_desk.ensures.history
-    c.into_desk.ensures.lived
+    c.into_desk.ensures.laws

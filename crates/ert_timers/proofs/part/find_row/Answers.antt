@@ -11,6 +11,7 @@ loop-slot-init c = record {
   values_stay = refl;
   slots_stay = refl;
   homes_stay = refl;
+  passed_stays = refl;
   thins = λ places are. (places, thinned_none c.args.wheel.now.owners c.args.wheel.now.keys places are);
 }
 
@@ -39,6 +40,7 @@ loop-slot-preserved c = record {
   values_stay = c.disown.ensures.values ∙ c.loop-slot.invariant.values_stay;
   slots_stay = c.disown.ensures.slots ∙ c.loop-slot.invariant.slots_stay;
   homes_stay = c.disown.ensures.homes ∙ c.loop-slot.invariant.homes_stay;
+  passed_stays = c.disown.ensures.passed ∙ c.loop-slot.invariant.passed_stays;
   thins = λ places are.
       let t = c.loop-slot.invariant.thins places are in
       let keys = c.loop-slot.wheel.keys in

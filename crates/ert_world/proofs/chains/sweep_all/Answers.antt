@@ -12,5 +12,6 @@ loop-wheel-preserved g c =
       made = swept_more s.settings s.history s.mark s.way c.args.by a b d c.args.process c.loop-wheel.wheel
           (g.met.S.CallerSteps.same_settings a b kept, g.met.S.CallerSteps.same_mark a b kept) c.loop-wheel.invariant.made c.sweep_wheel.ensures.call;
       exited = c.sweep_wheel.ensures.exited;
+      legal = c.sweep_wheel.ensures.legal;
       stays = g.met.S.CallerSteps.stay a b d kept c.sweep_wheel.ensures.stays;
     }

@@ -10,5 +10,6 @@ invariant-loop-wheel g l =
     record {
       made : Made s.settings s.history s.mark s.way l.fn.by (λ g way. SweepsWheels g way l.fn.by l.fn.process 0 l.wheel) l.fn.steps l.steps;
       exited : (state (s.settings l.steps) (s.history l.steps)).exited l.fn.process ≡ true;
+      legal : s.is_legal l.steps;
       stays : s.stays l.fn.steps l.steps;
     }

@@ -40,3 +40,7 @@ returns-clause-call g c =
     (g.met.S.SchedSteps.same_settings a b c.serve_all.ensures.stays, g.met.S.SchedSteps.same_mark a b c.serve_all.ensures.stays)
     (g.met.S.SchedSteps.same_settings b d c.advance_wheel.ensures.stays, g.met.S.SchedSteps.same_mark b d c.advance_wheel.ensures.stays)
     c.in_ok-served.ensures.call c.in_ok-to.ensures.call c.in_ok-put.ensures.call
+
+pub returns-clause-passed : goal.returns-clause-passed
+returns-clause-passed g c =
+    g.met.S.SchedSteps.still_passed c.advance_wheel.new.self c.deliver.new.steps c.args.sched c.in_ok-to.to c.deliver.ensures.stays c.in_ok-to.ensures.passed

@@ -24,7 +24,7 @@ returns-in_default-started-clause-kept c =
     rw c.reserve-else-is_err.ensures.items
     (all_kept a b _ c.args.self.now.intervals.items goes c.requires.kept
     (starts_plain a.settings 0 c.args.wheel c.start_at-start.result (Err c.in_default-started.field-0) (state a.settings a.history) grows.piece grows.made)
-    c.settings-settings.ensures.stands.clock.legal)
+    goes.legal)
 
 -- the deadline that was found is that of the time that was asked for
 due_of : (g s : Settings) (first time : ℤ) (d : ℕ) → time ≡ first → s ≡ g → Some d ≡ deadline_at (time -ℤ base s) → deadline_at (first -ℤ base g) ≡ Some d
@@ -62,7 +62,7 @@ returns c =
     let call : Goes a (By a (λ g. Starts g 0 c.args.wheel (start_at c.args.first c.args.dest c.args.msg) (Ok c.in-Ok.last))) b =
     subst (λ x. Goes a (By a (λ g. Starts g 0 c.args.wheel x (Ok c.in-Ok.last))) b) start c.in-Ok.ensures.call in
     let grows = call.lone c.requires.kept.lone in
-    let legal = c.settings-settings.ensures.stands.clock.legal in
+    let legal = call.legal in
     let timers : c.push_reserved.new.self.items ≡ c.in-Ok.last ∷ [] =
     c.push_reserved.ensures.items ∙ ap (λ l. l ++ c.in-Ok.last ∷ []) (c.reserve.ensures.items ∙ c.new-firings.ensures.items) in
     let done = started a b c.args.wheel (start_at c.args.first c.args.dest c.args.msg) c.in-Ok.last c.in-Some.deadline call c.requires.kept.lone legal (λ look. due) in

@@ -14,7 +14,7 @@ invariant_of-self c =
     let w = c.self.inside.world in
     exited_old n c.self.inside.registry c.args.process w c.exit.new.self c.requires.not_registrar
     (subst (λ b. Goes w (λ way. Exits w.settings way 0 c.args.process b) c.exit.new.self) c.if-not-exit.true c.exit.ensures.call)
-    c.settings-settings.ensures.stands.clock.legal c.self.invariant
+    c.exit.ensures.call.legal c.self.invariant
 
 pub returns-then-not-exit-clause-call : goal.returns-then-not-exit-clause-call
 returns-then-not-exit-clause-call c =
@@ -38,7 +38,7 @@ returns-then-not-exit-clause-unnamed c =
     let w = c.self.inside.world in
     exited_unnamed n c.self.inside.registry c.args.process w c.exit.new.self
     (subst (λ b. Goes w (λ way. Exits w.settings way 0 c.args.process b) c.exit.new.self) c.if-not-exit.true c.exit.ensures.call)
-    c.settings-settings.ensures.stands.clock.legal c.self.invariant
+    c.exit.ensures.call.legal c.self.invariant
 
 pub invariant_of-self-2 : goal.invariant_of-self-2
 invariant_of-self-2 c =

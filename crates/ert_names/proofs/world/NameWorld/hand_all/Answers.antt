@@ -1,4 +1,5 @@
-use Rattle.std.proofs.Common.{◌≡◌, ◌≤◌, true, false, Some, None, Ok, Err, length, [], ◌∷◌, ◌++◌, rules, refl, subst, ◌∙◌, arith}
+use Rattle.std.proofs.Common.{◌≡◌, ◌≤◌, true, false, Some, None, Ok, Err, length, [], ◌∷◌, ◌++◌, rules, subst, arith}
+use Rattle.ert_defs.specs.Legal.{Legal}
 use Rattle.ert_defs.specs.declared.memory.NoMemory.{NoMemory}
 use Rattle.ert_names.specs.Handing.{waiting, HandsNext, HandsOne, HandsNone}
 use Rattle.ert_names.specs.Registered.{Registered}
@@ -13,20 +14,23 @@ loop-was_handed-init c =
     (few_waiting (length c.self.inside.rows.items) c.self.inside.world c.settings-settings.ensures.stands c.self.invariant.fits) in
     record {
       messages = [];
-      some = hands_none c.args.self.now (subst (λ (w : Registered). w.world.next ≡ 1) c.self.view_is c.self.invariant.fits.lone);
+      some = hands_none c.args.self.now (subst (λ (w : Registered). w.world.next ≡ 1) c.self.view_is c.self.invariant.fits.lone)
+          (subst (λ (w : Registered). Legal w.world.settings w.world.history) c.self.view_is c.settings-settings.ensures.stands.clock.legal);
       counted = counted_none c.args.self.now;
       few = omega (arith, few);
-      clock = refl;
     }
 
-pub returns-in_err-was_handed-clause-call : goal.returns-in_err-was_handed-clause-call
-returns-in_err-was_handed-clause-call c =
+pub returns-in_err-was_handed : goal.returns-in_err-was_handed
+returns-in_err-was_handed c =
     let e : NoMemory = c.in_err-was_handed.field-0.0 in
     let result : c.hand_next.result ≡ Err e = search rules in
     let answer : c.from_residual.result ≡ Err e = search rules in
     let same : c.hand_next.new.self ≡ c.loop-was_handed.self =
     subst (λ r. HandsNext c.loop-was_handed.self r c.hand_next.new.self) result c.hand_next.ensures.call in
-    rw (answer, same) (record { messages = c.loop-was_handed.invariant.messages; hands = c.loop-was_handed.invariant.some })
+    record {
+      call =
+          rw (answer, same) (record { messages = c.loop-was_handed.invariant.messages; hands = c.loop-was_handed.invariant.some });
+    }
 
 pub loop-was_handed-preserved-then-was_handed : goal.loop-was_handed-preserved-then-was_handed
 loop-was_handed-preserved-then-was_handed c =
@@ -40,7 +44,6 @@ loop-was_handed-preserved-then-was_handed c =
       counted = counted_true c.args.self.now c.loop-was_handed.self i.messages one.message c.loop-was_handed.handed c.loop-was_handed.lost i.counted
           i.some.names i.some.rows one.is_handed one.known;
       few = few_handed c.loop-was_handed.handed c.loop-was_handed.lost _ _ i.few one.fewer;
-      clock = c.hand_next.ensures.clock ∙ i.clock;
     }
 
 pub loop-was_handed-smaller-then-was_handed : goal.loop-was_handed-smaller-then-was_handed
@@ -63,7 +66,6 @@ loop-was_handed-preserved c =
       counted = counted_false c.args.self.now c.loop-was_handed.self i.messages one.message c.loop-was_handed.handed c.loop-was_handed.lost i.counted
           i.some.names i.some.rows one.is_handed one.known;
       few = few_lost c.loop-was_handed.handed c.loop-was_handed.lost _ _ i.few one.fewer;
-      clock = c.hand_next.ensures.clock ∙ i.clock;
     }
 
 pub loop-was_handed-smaller : goal.loop-was_handed-smaller
@@ -74,10 +76,13 @@ loop-was_handed-smaller c =
     let fewer = one.fewer in
     omega (arith, fewer)
 
-pub returns-clause-call : goal.returns-clause-call
-returns-clause-call c =
+pub returns : goal.returns
+returns c =
     let result : c.hand_next.result ≡ Ok None = search rules in
     let none : HandsNone c.loop-was_handed.self c.hand_next.new.self =
     subst (λ r. HandsNext c.loop-was_handed.self r c.hand_next.new.self) result c.hand_next.ensures.call in
     let i = c.loop-was_handed.invariant in
-    hands_all c.args.self.now c.loop-was_handed.self c.hand_next.new.self i.messages c.loop-was_handed.handed c.loop-was_handed.lost i.some i.counted none
+    record {
+      call =
+          hands_all c.args.self.now c.loop-was_handed.self c.hand_next.new.self i.messages c.loop-was_handed.handed c.loop-was_handed.lost i.some i.counted none;
+    }

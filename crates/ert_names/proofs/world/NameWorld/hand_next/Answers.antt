@@ -17,14 +17,17 @@ invariant_of-self-in_default c =
     names_next n c.self.inside.registry c.self.inside.world c.take_message.new.world c.take_message.result (c.take_message.ensures.call n c.self.invariant.fits)
     c.self.invariant
 
-pub returns-in_default-clause-call : goal.returns-in_default-clause-call
-returns-in_default-clause-call c =
+pub returns-in_default : goal.returns-in_default
+returns-in_default c =
     let n = length c.self.inside.rows.items in
     let result : c.take_message.result ≡ None = search rules in
     let none = (subst (λ m. TakesNext n c.self.inside.world m c.take_message.new.world) result (c.take_message.ensures.call n c.self.invariant.fits)).0 in
     let after = seen c.take_message.new.world c.self.inside.registry c.self.inside.rows.items c.reserve.new.self.items in
-    subst (λ (w : Registered). HandsNone w after) c.self.view_is
-    (record { alone = record { goes = none.goes; names = refl; rows = refl; mail = c.reserve.ensures.items }; empty = none.empty })
+    record {
+      call =
+          subst (λ (w : Registered). HandsNone w after) c.self.view_is
+          (record { alone = record { goes = none.goes; names = refl; rows = refl; mail = c.reserve.ensures.items }; empty = none.empty });
+    }
 
 pub index-row-requires : goal.index-row-requires
 index-row-requires c =
@@ -41,8 +44,8 @@ invariant_of-self-in_default-process c =
     names_next n c.self.inside.registry c.self.inside.world c.take_message.new.world c.take_message.result (c.take_message.ensures.call n c.self.invariant.fits)
     c.self.invariant
 
-pub returns-in_default-process-clause-call : goal.returns-in_default-process-clause-call
-returns-in_default-process-clause-call c =
+pub returns-in_default-process : goal.returns-in_default-process
+returns-in_default-process c =
     let n = length c.self.inside.rows.items in
     let result : c.take_message.result ≡ Some (c.in-Some.timer, c.in-Some.place) = search rules in
     let next = (subst (λ m. TakesNext n c.self.inside.world m c.take_message.new.world) result (c.take_message.ensures.call n c.self.invariant.fits)).0 in
@@ -51,9 +54,12 @@ returns-in_default-process-clause-call c =
     let after = seen c.take_message.new.world c.self.inside.registry c.self.inside.rows.items c.reserve.new.self.items in
     let goes_to = posted_row c.self.inside.registry c.self.inside.rows.items c.in-Some.timer c.in-Some.place c.index-row.result.now c.as_str.result.now None
     next.known c.index-row.ensures c.as_str.ensures.value (sym found ∙ c.process.ensures) in
-    subst (λ (w : Registered). HandsOne w false after) c.self.view_is
-    (hands_one before after n (c.in-Some.timer, c.in-Some.place) None (sym (length-map c.self.inside.rows.items row_of)) next refl refl goes_to
-    (c.reserve.ensures.items ∙ sym (append-nil c.self.inside.mail.items)))
+    record {
+      call =
+          subst (λ (w : Registered). HandsOne w false after) c.self.view_is
+          (hands_one before after n (c.in-Some.timer, c.in-Some.place) None (sym (length-map c.self.inside.rows.items row_of)) next refl refl goes_to
+          (c.reserve.ensures.items ∙ sym (append-nil c.self.inside.mail.items)));
+    }
 
 pub invariant_of-self-2 : goal.invariant_of-self-2
 invariant_of-self-2 c =
@@ -61,8 +67,8 @@ invariant_of-self-2 c =
     names_next n c.self.inside.registry c.self.inside.world c.take_message.new.world c.take_message.result (c.take_message.ensures.call n c.self.invariant.fits)
     c.self.invariant
 
-pub returns-clause-call : goal.returns-clause-call
-returns-clause-call c =
+pub returns : goal.returns
+returns c =
     let n = length c.self.inside.rows.items in
     let result : c.take_message.result ≡ Some (c.in-Some.timer, c.in-Some.place) = search rules in
     let next = (subst (λ m. TakesNext n c.self.inside.world m c.take_message.new.world) result (c.take_message.ensures.call n c.self.invariant.fits)).0 in
@@ -73,5 +79,8 @@ returns-clause-call c =
     let goes_to = posted_row c.self.inside.registry c.self.inside.rows.items c.in-Some.timer c.in-Some.place c.index-row.result.now c.as_str.result.now
     (Some c.in-Some-process.process) next.known c.index-row.ensures c.as_str.ensures.value (sym found ∙ c.process.ensures) in
     let put = c.push_reserved.ensures.items ∙ ap (λ l. l ++ mail ∷ []) c.reserve.ensures.items in
-    subst (λ (w : Registered). HandsOne w true after) c.self.view_is
-    (hands_one before after n (c.in-Some.timer, c.in-Some.place) (Some mail) (sym (length-map c.self.inside.rows.items row_of)) next refl refl goes_to put)
+    record {
+      call =
+          subst (λ (w : Registered). HandsOne w true after) c.self.view_is
+          (hands_one before after n (c.in-Some.timer, c.in-Some.place) (Some mail) (sym (length-map c.self.inside.rows.items row_of)) next refl refl goes_to put);
+    }

@@ -20,30 +20,33 @@ invariant_of-self-2 c =
     let alive : Goes w (By w (λ g. TellsAlive g (Caller 0) c.args.process true)) c.is_alive.new.self =
     subst (λ b. Goes w (By w (λ g. TellsAlive g (Caller 0) c.args.process b)) c.is_alive.new.self) c.if-not-is_alive.false c.is_alive.ensures.call in
     registered_if n names c.insert.new.self c.args.name.now c.args.process c.is_alive.new.self c.insert.result c.insert.ensures.ok c.insert.ensures.err
-    (seen_living c.args.process w c.is_alive.new.self alive c.self.invariant.fits.lone c.settings-settings.ensures.stands.clock.legal)
+    (seen_living c.args.process w c.is_alive.new.self alive c.self.invariant.fits.lone alive.legal)
     (names_looked n names w c.is_alive.new.self c.args.process true alive c.self.invariant)
 
-pub returns-then-not-is_alive-clause-call : goal.returns-then-not-is_alive-clause-call
-returns-then-not-is_alive-clause-call c =
+pub returns-then-not-is_alive : goal.returns-then-not-is_alive
+returns-then-not-is_alive c =
     let w = c.self.inside.world in
     let after = seen c.is_alive.new.self c.self.inside.registry c.self.inside.rows.items c.self.inside.mail.items in
     let free : AreFree c.self.inside.registry c.args.name.now c.args.process = search rules in
-    subst (λ (w : Registered). IsBadName w c.args.name.now c.args.process after) c.self.view_is
-    (inr (
-      free,
-      record {
-        goes = record {
-          goes = subst (λ b. Goes w (By w (λ g. TellsAlive g (Caller 0) c.args.process b)) c.is_alive.new.self) c.if-not-is_alive.true c.is_alive.ensures.call;
-          lone = c.self.invariant.fits.lone;
-        };
-        names = refl;
-        rows = refl;
-        mail = refl;
-      },
-    ))
+    record {
+      call =
+          subst (λ (w : Registered). IsBadName w c.args.name.now c.args.process after) c.self.view_is
+          (inr (
+            free,
+            record {
+              goes = record {
+                goes = subst (λ b. Goes w (By w (λ g. TellsAlive g (Caller 0) c.args.process b)) c.is_alive.new.self) c.if-not-is_alive.true c.is_alive.ensures.call;
+                lone = c.self.invariant.fits.lone;
+              };
+              names = refl;
+              rows = refl;
+              mail = refl;
+            },
+          ));
+    }
 
-pub returns-clause-call : goal.returns-clause-call
-returns-clause-call c =
+pub returns : goal.returns
+returns c =
     let w = c.self.inside.world in
     let free : AreFree c.self.inside.registry c.args.name.now c.args.process = search rules in
     let lives : GoesLone w (By w (λ g. TellsAlive g (Caller 0) c.args.process true)) c.is_alive.new.self = record {
@@ -51,11 +54,14 @@ returns-clause-call c =
       lone = c.self.invariant.fits.lone;
     } in
     let after = seen c.is_alive.new.self c.insert.new.self c.self.inside.rows.items c.self.inside.mail.items in
-    elim c.match-insert.branch [
-      | in-Ok m ↦ rw m.result-is
-          (subst (λ (w : Registered). HasRegistered w c.args.name.now c.args.process after) c.self.view_is
-          (record { free = free; lives = lives; names = m.in-Ok.ensures.ok; rows = refl; mail = refl }))
-      | in-Err m ↦ rw m.result-is
-          (subst (λ (w : Registered). AreFree w.names c.args.name.now c.args.process × LooksAt w c.args.process true after) c.self.view_is
-          (free, record { goes = lives; names = m.in-Err.ensures.err; rows = refl; mail = refl }))
-    ]
+    record {
+      call =
+          elim c.match-insert.branch [
+            | in-Ok m ↦ rw m.result-is
+                (subst (λ (w : Registered). HasRegistered w c.args.name.now c.args.process after) c.self.view_is
+                (record { free = free; lives = lives; names = m.in-Ok.ensures.ok; rows = refl; mail = refl }))
+            | in-Err m ↦ rw m.result-is
+                (subst (λ (w : Registered). AreFree w.names c.args.name.now c.args.process × LooksAt w c.args.process true after) c.self.view_is
+                (free, record { goes = lives; names = m.in-Err.ensures.err; rows = refl; mail = refl }))
+          ];
+    }

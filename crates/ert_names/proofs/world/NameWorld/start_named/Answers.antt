@@ -26,8 +26,8 @@ invariant_of-self-in_err-timer c =
     (names_by n c.self.inside.registry w c.start.new.self (λ g. Starts g 0 c.args.wheel start (Err e)) (λ q s es. refused_start_fits n q w.settings 0 c.args.wheel start e s es) goes
     c.self.invariant)
 
-pub returns-in_err-timer-clause-call : goal.returns-in_err-timer-clause-call
-returns-in_err-timer-clause-call c =
+pub returns-in_err-timer : goal.returns-in_err-timer
+returns-in_err-timer c =
     let w = c.self.inside.world in
     let start = start_at c.args.when c.len.result in
     let e : StartErr = c.in_err-timer.field-0.0 in
@@ -39,18 +39,21 @@ returns-in_err-timer-clause-call c =
     let place : c.len.result ≡ length before.rows = place_is c.len.result c.reserve.new.self.items c.self.inside.rows.items (c.len.ensures ∙ c.reserve.new.self.ok.0) c.reserve.ensures.items in
     let goes : Goes w (By w (λ g. Starts g 0 c.args.wheel start (Err e))) c.start.new.self =
     subst (λ r. Goes w (By w (λ g. Starts g 0 c.args.wheel start r)) c.start.new.self) result c.start.ensures.call in
-    rw answer
-    (subst (λ (w : Registered). StartsNamed w c.args.wheel c.args.when row (Err e) after) c.self.view_is
-    (refused_named before after c.args.wheel c.args.when row e (subst (λ (r : Result TimerRef StartErr). r ≢ Err NoMemory) result c.start.ensures.memory)
-    (record {
-      goes = record {
-        goes = subst (λ k. Goes w (By w (λ g. Starts g 0 c.args.wheel (start_at c.args.when k) (Err e))) c.start.new.self) place goes;
-        lone = c.self.invariant.fits.lone;
-      };
-      names = refl;
-      rows = ap (map row_of) c.reserve.ensures.items;
-      mail = refl;
-    })))
+    record {
+      call =
+          rw answer
+          (subst (λ (w : Registered). StartsNamed w c.args.wheel c.args.when row (Err e) after) c.self.view_is
+          (refused_named before after c.args.wheel c.args.when row e (subst (λ (r : Result TimerRef StartErr). r ≢ Err NoMemory) result c.start.ensures.memory)
+          (record {
+            goes = record {
+              goes = subst (λ k. Goes w (By w (λ g. Starts g 0 c.args.wheel (start_at c.args.when k) (Err e))) c.start.new.self) place goes;
+              lone = c.self.invariant.fits.lone;
+            };
+            names = refl;
+            rows = ap (map row_of) c.reserve.ensures.items;
+            mail = refl;
+          })));
+    }
 
 pub invariant_of-self-2 : goal.invariant_of-self-2
 invariant_of-self-2 c =
@@ -67,8 +70,8 @@ invariant_of-self-2 c =
     (λ q s es. starts_fit (n + 1) q w.settings 0 c.args.wheel start c.start.result s es (λ is. (refl, low))) c.start.ensures.call
     (names_more n (n + 1) c.self.inside.registry w (omega arith) c.self.invariant))
 
-pub returns-clause-call : goal.returns-clause-call
-returns-clause-call c =
+pub returns : goal.returns
+returns c =
     let w = c.self.inside.world in
     let start = start_at c.args.when c.len.result in
     let timer = c.in_ok-timer.timer in
@@ -80,15 +83,18 @@ returns-clause-call c =
     let goes : Goes w (By w (λ g. Starts g 0 c.args.wheel start (Ok timer))) c.start.new.self =
     subst (λ r. Goes w (By w (λ g. Starts g 0 c.args.wheel start r)) c.start.new.self) result c.start.ensures.call in
     let text : string_bytes c.in-Ok.name ≡ c.args.name.now = c.in-Ok.ensures.ok in
-    subst (λ (w : Registered). HasStarted w row (StartsAt w c.args.wheel c.args.when (Ok timer)) after) c.self.view_is
-    (record {
-      goes = record {
-        goes = subst (λ k. Goes w (By w (λ g. Starts g 0 c.args.wheel (start_at c.args.when k) (Ok timer))) c.start.new.self) place goes;
-        lone = c.self.invariant.fits.lone;
-      };
-      names = refl;
-      rows = ap (map row_of) (c.push_reserved.ensures.items ∙ ap (λ l. l ++ (record { name = c.in-Ok.name; msg = c.args.msg; kind = c.args.kind }) ∷ []) c.reserve.ensures.items)
-          ∙ (map_push row_of c.self.inside.rows.items (record { name = c.in-Ok.name; msg = c.args.msg; kind = c.args.kind })
-          ∙ ap (λ t. map row_of c.self.inside.rows.items ++ (record { name = t; msg = c.args.msg; kind = c.args.kind }) ∷ []) text);
-      mail = refl;
-    })
+    record {
+      call =
+          subst (λ (w : Registered). HasStarted w row (StartsAt w c.args.wheel c.args.when (Ok timer)) after) c.self.view_is
+          (record {
+            goes = record {
+              goes = subst (λ k. Goes w (By w (λ g. Starts g 0 c.args.wheel (start_at c.args.when k) (Ok timer))) c.start.new.self) place goes;
+              lone = c.self.invariant.fits.lone;
+            };
+            names = refl;
+            rows = ap (map row_of) (c.push_reserved.ensures.items ∙ ap (λ l. l ++ (record { name = c.in-Ok.name; msg = c.args.msg; kind = c.args.kind }) ∷ []) c.reserve.ensures.items)
+                ∙ (map_push row_of c.self.inside.rows.items (record { name = c.in-Ok.name; msg = c.args.msg; kind = c.args.kind })
+                ∙ ap (λ t. map row_of c.self.inside.rows.items ++ (record { name = t; msg = c.args.msg; kind = c.args.kind }) ∷ []) text);
+            mail = refl;
+          });
+    }

@@ -17,8 +17,8 @@ pub invariant_of-self-2 : goal.invariant_of-self-2
 invariant_of-self-2 c =
     names_looked (length c.self.inside.rows.items) c.self.inside.registry c.self.inside.world c.is_alive.new.self c.args.process c.is_alive.result c.is_alive.ensures.call c.self.invariant
 
-pub returns-in-None-clause-call : goal.returns-in-None-clause-call
-returns-in-None-clause-call c =
+pub returns-in-None : goal.returns-in-None
+returns-in-None c =
     let w = c.self.inside.world in
     let ms = c.self.inside.mail.items in
     let result : c.first_mail.result ≡ None = search rules in
@@ -27,7 +27,10 @@ returns-in-None-clause-call c =
     subst (λ b. Goes w (By w (λ g. TellsAlive g (Caller 0) c.args.process b)) c.is_alive.new.self) c.if-not-is_alive.false c.is_alive.ensures.call in
     let between = seen c.is_alive.new.self c.self.inside.registry c.self.inside.rows.items ms in
     let after = none_goes c.args.process ms none in
-    rw c.first_mail.ensures.mail
-    (subst (λ (w : Registered). (first_for c.args.process w.mail ≡ None) × LooksAt w c.args.process true (record between { mail = others_for c.args.process ms }))
-    c.self.view_is
-    (none, record { goes = record { goes = lives; lone = c.self.invariant.fits.lone }; names = refl; rows = refl; mail = after }))
+    record {
+      call =
+          rw c.first_mail.ensures.mail
+          (subst (λ (w : Registered). (first_for c.args.process w.mail ≡ None) × LooksAt w c.args.process true (record between { mail = others_for c.args.process ms }))
+          c.self.view_is
+          (none, record { goes = record { goes = lives; lone = c.self.invariant.fits.lone }; names = refl; rows = refl; mail = after }));
+    }

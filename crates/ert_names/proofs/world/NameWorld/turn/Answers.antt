@@ -18,8 +18,8 @@ invariant_of-self c =
     (λ q. turns_fit n q g c.args.sched c.turn.result) c.turn.ensures.call
     c.self.invariant
 
-pub returns-in_err-turned-clause-call : goal.returns-in_err-turned-clause-call
-returns-in_err-turned-clause-call c =
+pub returns-in_err-turned : goal.returns-in_err-turned
+returns-in_err-turned c =
     let e : NoMemory = c.in_err-turned.field-0.0 in
     let w = c.self.inside.world in
     let result : c.turn.result ≡ Err e = search rules in
@@ -27,9 +27,12 @@ returns-in_err-turned-clause-call c =
     let after = seen c.turn.new.self c.self.inside.registry c.self.inside.rows.items c.self.inside.mail.items in
     let goes : Goes w (λ way. Turns w.settings way c.args.sched (Err e)) c.turn.new.self =
     subst (λ r. Goes w (λ way. Turns w.settings way c.args.sched r) c.turn.new.self) result c.turn.ensures.call in
-    rw answer
-    (subst (λ (w : Registered). TurnsNamed w c.args.sched (Err e) after) c.self.view_is
-    (inl (record { goes = record { goes = goes; lone = c.self.invariant.fits.lone }; names = refl; rows = refl; mail = refl })))
+    record {
+      call =
+          rw answer
+          (subst (λ (w : Registered). TurnsNamed w c.args.sched (Err e) after) c.self.view_is
+          (inl (record { goes = record { goes = goes; lone = c.self.invariant.fits.lone }; names = refl; rows = refl; mail = refl })));
+    }
 
 pub invariant_of-self-2 : goal.invariant_of-self-2
 invariant_of-self-2 c =
@@ -39,8 +42,8 @@ invariant_of-self-2 c =
     (λ q. turns_fit n q g c.args.sched c.turn.result) c.turn.ensures.call
     c.self.invariant
 
-pub returns-in_err-handed-clause-call : goal.returns-in_err-handed-clause-call
-returns-in_err-handed-clause-call c =
+pub returns-in_err-handed : goal.returns-in_err-handed
+returns-in_err-handed c =
     let e : NoMemory = c.in_err-handed.field-0.0 in
     let w = c.self.inside.world in
     let t = c.in_ok-turned.turned in
@@ -50,12 +53,15 @@ returns-in_err-handed-clause-call c =
     let before = seen w c.self.inside.registry c.self.inside.rows.items c.self.inside.mail.items in
     let between = seen c.turn.new.self c.self.inside.registry c.self.inside.rows.items c.self.inside.mail.items in
     let hands : HandsSome between c.hand_all.new.self = subst (λ r. HandsAll between r c.hand_all.new.self) handed c.hand_all.ensures.call in
-    rw answer
-    (subst (λ (w : Registered). TurnsNamed w c.args.sched (Err e) c.hand_all.new.self) c.self.view_is
-    (inr (stopped before between c.hand_all.new.self c.args.sched t c.turn.result result c.turn.ensures.call c.self.invariant.fits.lone refl refl refl hands)))
+    record {
+      call =
+          rw answer
+          (subst (λ (w : Registered). TurnsNamed w c.args.sched (Err e) c.hand_all.new.self) c.self.view_is
+          (inr (stopped before between c.hand_all.new.self c.args.sched t c.turn.result result c.turn.ensures.call c.self.invariant.fits.lone refl refl refl hands)));
+    }
 
-pub returns-clause-call : goal.returns-clause-call
-returns-clause-call c =
+pub returns : goal.returns
+returns c =
     let w = c.self.inside.world in
     let t = c.in_ok-turned.turned in
     let result : c.turn.result ≡ Ok t = search rules in
@@ -64,7 +70,10 @@ returns-clause-call c =
     let between = seen c.turn.new.self c.self.inside.registry c.self.inside.rows.items c.self.inside.mail.items in
     let hands : HandsThem between (c.in_ok-handed.handed, c.in_ok-handed.lost) c.hand_all.new.self =
     subst (λ r. HandsAll between r c.hand_all.new.self) handed c.hand_all.ensures.call in
-    subst (λ (w : Registered). HasTurned w c.args.sched (record { turned = t; handed = c.in_ok-handed.handed; lost = c.in_ok-handed.lost }) c.hand_all.new.self)
-    c.self.view_is
-    (turned before between c.hand_all.new.self c.args.sched t c.turn.result (c.in_ok-handed.handed, c.in_ok-handed.lost) result c.turn.ensures.call c.self.invariant.fits.lone
-    refl refl refl hands)
+    record {
+      call =
+          subst (λ (w : Registered). HasTurned w c.args.sched (record { turned = t; handed = c.in_ok-handed.handed; lost = c.in_ok-handed.lost }) c.hand_all.new.self)
+          c.self.view_is
+          (turned before between c.hand_all.new.self c.args.sched t c.turn.result (c.in_ok-handed.handed, c.in_ok-handed.lost) result c.turn.ensures.call c.self.invariant.fits.lone
+          refl refl refl hands);
+    }

@@ -2,10 +2,11 @@ use Rattle.std.proofs.Common.{sym, ap, subst}
 use Rattle.std.specs.Arc.{arc_value}
 use Rattle.ert_defs.specs.Legal.{Legal}
 use Rattle.ert_defs.specs.declared.entry.Actor.TheVariants.{Caller, Sched}
+use Rattle.ert_laws.proofs.Kept.{keeps_laws}
+use Rattle.ert_laws.specs.KeptLaws.{KeepsLaws}
 use Rattle.ert_locks.specs.KindLaws.{wheels_are, inboxes_are, mails_are, scheds_are}
-use Rattle.ert_world.specs.Lived.{IsLived}
 use Rattle.ert_world.specs.Worlds.{Seen as Shows}
-use Rattle.ert_service.proofs.Closed.{fit_of, own_of, lived_of}
+use Rattle.ert_service.proofs.Closed.{fit_of, own_of}
 use Rattle.ert_service.proofs.Gathered.{seen_then, seen_right, in_later}
 use Rattle.ert_service.proofs.Joined.{all_as}
 use Rattle.ert_service.specs.Gathering.{IsSeen}
@@ -48,8 +49,9 @@ returns-clause-callers g c =
     (own_of (Caller x.number) x.sits.actors seen))
     c.join_callers.ensures.seats
 
-pub returns-clause-lived : goal.returns-clause-lived
-returns-clause-lived g c =
-    let s = settings_of (arc_value c.args.self.desk) in
+pub returns-clause-laws : goal.returns-clause-laws
+returns-clause-laws g c =
+    let d = arc_value c.args.self.desk in
+    let s = settings_of d in
     let legal = subst (λ t. Legal t (front_of c.join_callers.new.pass)) (sym c.args.self.named.settings_is) c.join_callers.ensures.legal in
-    subst (λ (w : Shows). IsLived w.settings w.history) (sym c.from_parts.ensures) (lived_of s (front_of c.join_callers.new.pass) legal)
+    subst (λ (w : Shows). KeepsLaws w.settings w.history) (sym c.from_parts.ensures) (keeps_laws s (front_of c.join_callers.new.pass) d.checked legal)

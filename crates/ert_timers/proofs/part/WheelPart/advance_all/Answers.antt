@@ -4,6 +4,8 @@ use Rattle.ert_table.specs.Held.{IsWhole}
 use Rattle.ert_timers.specs.Parts.{HoldsSched}
 use Rattle.ert_timers.proofs.Dropped.{tried_then, left_tidy}
 use Rattle.ert_timers.proofs.Trials.{still_held, stands_ended, may_end, has_expired_all, tidy_after, tidy_ended}
+use Rattle.ert_timers.proofs.Dues.{none_left}
+use Rattle.ert_timers.proofs.Passing.{passed, loses_then}
 use Rattle.ert_timers.proofs.part.WheelPart.advance_all.Goals as goal
 
 pub drop_settled_rows-requires-clause-holds : goal.drop_settled_rows-requires-clause-holds
@@ -71,3 +73,16 @@ returns-clause-keeps c =
     (view_of c.try_due.new.pass) w c.in_ok-to.ensures.call c.drop_settled_rows.ensures.call in
     tidy_after g v c.args.self.now c.drop_settled_rows.new.self c.number.result c.in_ok-to.to w (view_of c.load_time.new.self) all.call.actors all.tidy
     c.load_time.ensures.step
+
+pub returns-clause-passed : goal.returns-clause-passed
+returns-clause-passed c =
+    let over = c.drop_settled_rows.ensures.call.over in
+    let tried =
+    passed c.try_due.new.self c.in_ok-to.to (none_left c.try_due.new.self c.in_ok-to.to c.in_ok-to.ensures.call.ready.due) c.in_ok-to.ensures.on in
+    record { left = λ k key is. tried.left k key (over.left k key is); on = omega (arith, tried.on, over.time) }
+
+pub returns-clause-loses : goal.returns-clause-loses
+returns-clause-loses c =
+    let over = c.drop_settled_rows.ensures.call.over in
+    loses_then c.args.self.now c.try_due.new.self c.drop_settled_rows.new.self c.in_ok-to.ensures.call.loses
+    (record { number = over.number; slots = over.slots; left = over.left; time = over.time })

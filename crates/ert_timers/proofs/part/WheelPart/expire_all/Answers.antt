@@ -1,8 +1,8 @@
-use Rattle.std.proofs.Common.{◌+◌, drop, ap, subst, arith, get_or}
+use Rattle.std.proofs.Common.{◌≡◌, ◌+◌, drop, length, ap, subst, sym, arith, get_or}
 use Rattle.ert_table.specs.Desks.{settings_of, view_of}
-use Rattle.ert_timers.specs.Expiring.{AreDue, IsReady}
+use Rattle.ert_timers.specs.Expiring.{AreDue, IsReady, ExpiresSome}
 use Rattle.ert_timers.specs.Parts.{Part}
-use Rattle.ert_timers.proofs.Trials.{expires_none, expires_more, still_held}
+use Rattle.ert_timers.proofs.Trials.{expires_none, expires_more, expires_gone_on, still_held}
 use Rattle.ert_timers.proofs.Dues.{is_next, first_held, next_row, no_row, none_left}
 use Rattle.ert_timers.proofs.part.WheelPart.expire_all.Goals as goal
 use Rattle.ert_wheel.specs.declared.row.Row.{Row}
@@ -65,7 +65,8 @@ loop-row-preserved c =
           c.loop-row.invariant.holds one.step.actors (ap (λ (p : Part). p.number) one.part);
       call = expires_more g (view_of c.args.pass.now) c.args.self.now c.loop-row.self c.expire.new.self c.args.to due n (get_or due n none)
           c.args.fired.now c.loop-row.fired c.expire.new.fired (view_of c.loop-row.pass) (view_of c.expire.new.pass)
-          c.loop-row.invariant.call c.loop-row.invariant.holds.sched (next_row due n none c.loop-row-test.true) one;
+          c.loop-row.invariant.call c.loop-row.invariant.holds.sched (next_row due n none c.loop-row-test.true)
+          c.loop-row.invariant.holds.wheel one;
     }
 
 pub go_on-requires : goal.go_on-requires
@@ -73,3 +74,17 @@ go_on-requires c =
     none_left c.loop-row.self c.args.to
     (subst (AreDue c.loop-row.self c.args.to) (no_row c.args.due.now c.loop-row.row-index c.loop-row-test.false)
     c.loop-row.invariant.call.ready.due)
+
+pub returns-clause-call : goal.returns-clause-call
+returns-clause-call c =
+    let g = settings_of c.args.desk.now in
+    let v = view_of c.args.pass.now in
+    let u = view_of c.loop-row.pass in
+    let due = c.args.due.now in
+    let all : c.loop-row.row-index ≡ length due = omega (arith, c.loop-row-test.false, c.loop-row.invariant.call) in
+    subst (λ (q : Part). ExpiresSome g v c.args.self.now q c.args.to due (length due) c.args.fired.now c.loop-row.fired u) (sym c.go_on.ensures)
+    (expires_gone_on g v c.args.self.now c.loop-row.self c.args.to due (length due) c.args.fired.now c.loop-row.fired u
+    (subst (λ n. ExpiresSome g v c.args.self.now c.loop-row.self c.args.to due n c.args.fired.now c.loop-row.fired u) all c.loop-row.invariant.call))
+
+pub returns-clause-on : goal.returns-clause-on
+returns-clause-on c = omega (arith, ap (λ (q : Part). q.passed) c.go_on.ensures, c.requires.few)

@@ -1,10 +1,13 @@
-use Rattle.std.proofs.Common.{◌≡◌, true, None, sym, ap, subst, ◌∙◌}
+use Rattle.std.proofs.Common.{◌≡◌, true, None, refl, sym, ap, subst, ◌∙◌}
 use Rattle.ert_defs.specs.States.{state}
 use Rattle.ert_table.specs.Desks.{view_of}
 use Rattle.ert_timers.specs.Parts.{Part, Stands}
 use Rattle.ert_timers.proofs.Fit.{some_key, none_key, set_none}
 use Rattle.ert_timers.proofs.Forgotten.{forgot}
-use Rattle.ert_timers.specs.Changes.{reused}
+use Rattle.ert_timers.proofs.Passing.{loses_none, loses_row}
+use Rattle.ert_timers.specs.Changes.{dropped, reused}
+use Rattle.ert_timers.specs.Passed.{LosesRows}
+use Rattle.ert_wheel.proofs.Collect.{key_low}
 use Rattle.ert_timers.proofs.part.WheelPart.forget.Goals as goal
 use Rattle.ert_wheel.specs.Rows.{key_in}
 
@@ -26,3 +29,20 @@ returns-else-drop_row-clause-stands c = λ g named.
     none_key (key_in p.keys k) (λ is. let found : c.drop_row.result ≡ true = c.drop_row.ensures.found.1 is in cc) in
     subst (λ (q : Part). Stands g (view_of c.args.pass.now).front q)
     (sym (c.drop_row.ensures.left ∙ ap (λ keys. let q : Part = record p { keys = keys } in q) (set_none p.keys k none))) (c.requires.stands g named)
+
+pub returns-then-drop_row-clause-loses : goal.returns-then-drop_row-clause-loses
+returns-then-drop_row-clause-loses c =
+    let p = c.args.self.now in
+    let k = c.args.timer.slot in
+    let has = some_key (key_in p.keys k) (c.drop_row.ensures.found.0 c.if-drop_row.true) in
+    subst (LosesRows p) (sym (c.free_after.ensures ∙ ap (λ (q : Part). reused q k) c.drop_row.ensures.left))
+    (loses_row p (reused (dropped p k) k) k (key_low p.keys k has.0 has.1) refl refl refl refl)
+
+pub returns-else-drop_row-clause-loses : goal.returns-else-drop_row-clause-loses
+returns-else-drop_row-clause-loses c =
+    let p = c.args.self.now in
+    let k = c.args.timer.slot in
+    let none : key_in p.keys k ≡ None =
+    none_key (key_in p.keys k) (λ is. let found : c.drop_row.result ≡ true = c.drop_row.ensures.found.1 is in cc) in
+    subst (LosesRows p)
+    (sym (c.drop_row.ensures.left ∙ ap (λ keys. let q : Part = record p { keys = keys } in q) (set_none p.keys k none))) (loses_none p)

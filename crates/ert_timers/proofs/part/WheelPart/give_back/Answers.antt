@@ -2,6 +2,7 @@ use Rattle.std.proofs.Common.{◌<◌, ◌+◌, length, refl, sym, ap, subst, �
 use Rattle.ert_timers.specs.Parts.{Part, last_timer}
 use Rattle.ert_timers.proofs.Fit.{fit_counted, some_held}
 use Rattle.ert_timers.proofs.Keeping.{byte_low, lost_seen}
+use Rattle.ert_words.specs.Free.{free_set}
 use Rattle.ert_timers.proofs.part.WheelPart.give_back.Goals as goal
 
 pub overflow_add-self : goal.overflow_add-self
@@ -17,7 +18,7 @@ invariant_of-self c =
     let lost =
     lost_seen _ c.drop_row.new.self c.args.timer.slot c.drop_row.result (c.self.view_is ∙ c.leave.ensures) (c.drop_row.ensures.found.1 (some_held _ c.requires.row))
     c.drop_row.ensures.lost in
-    fit_counted p.processes p.wheel.values p.wheel.keys p.free p.wheel.owners p.arms p.expires p.orphans p.expires (p.orphans + c.from.result) c.self.invariant
+    fit_counted p.processes p.wheel.values p.wheel.keys (free_set p.free) p.wheel.owners p.arms p.expires p.orphans p.expires (p.orphans + c.from.result) c.self.invariant
     (omega (arith, lost.room, byte_low c.args.orphaned c.from.result c.from.ensures))
 
 pub leave-requires-clause-low : goal.leave-requires-clause-low

@@ -6,6 +6,7 @@ use Rattle.ert_timers.specs.Slots.{Slot}
 use Rattle.std.proofs.lemmas.Option.{get_or_from_slice_get}
 use Rattle.ert_timers.proofs.Fit.{may_leave}
 use Rattle.ert_timers.proofs.Keeping.{orders_if, fit_kept, may_keep}
+use Rattle.ert_words.specs.Free.{free_set}
 use Rattle.ert_timers.proofs.part.WheelPart.keep.Goals as goal
 use Rattle.ert_wheel.specs.Rings.{Rings, MayTake, Takes}
 use Rattle.ert_wheel.specs.declared.row.Key.{Key}
@@ -20,7 +21,7 @@ pub disown-requires : goal.disown-requires
 disown-requires c =
     let p = c.self.inside in
     subst (λ (r : Rings). MayTake r c.args.slot) (sym c.insert.ensures.owners)
-    (may_leave p.processes p.wheel.values p.wheel.keys p.free p.wheel.owners p.arms p.expires p.orphans c.args.slot c.self.invariant
+    (may_leave p.processes p.wheel.values p.wheel.keys (free_set p.free) p.wheel.owners p.arms p.expires p.orphans c.args.slot c.self.invariant
     (subst (λ (q : Part). c.args.slot < length q.slots) (sym c.self.view_is) c.requires.free.low))
 
 pub own-requires : goal.own-requires
@@ -28,7 +29,7 @@ own-requires c =
     let p = c.self.inside in
     let same = c.insert.ensures.owners in
     let taken = c.disown.new.self.owners in
-    may_keep p.processes p.wheel.values p.wheel.keys p.free p.wheel.owners taken p.arms p.expires p.orphans c.args.slot c.args.start.now.dest
+    may_keep p.processes p.wheel.values p.wheel.keys (free_set p.free) p.wheel.owners taken p.arms p.expires p.orphans c.args.slot c.args.start.now.dest
     c.self.invariant (subst (λ (q : Part). c.args.slot < length q.slots) (sym c.self.view_is) c.requires.free.low)
     (subst (λ (q : Part). c.args.start.now.dest < q.processes) (sym c.self.view_is) c.requires.dest)
     (c.disown.ensures.slots ∙ ap (λ (r : Rings). r.slots) same) (c.disown.ensures.homes ∙ ap (λ (r : Rings). r.homes) same)
@@ -57,11 +58,11 @@ invariant_of-self c =
     let same = c.insert.ensures.owners in
     let taken = c.disown.new.self.owners in
     let new = c.own.new.self in
-    subst (λ (slots : List Slot). AreFit p.processes slots new.keys p.free new.owners (p.arms + 1) p.expires p.orphans)
+    subst (λ (slots : List Slot). AreFit p.processes slots new.keys (free_set p.free) new.owners (p.arms + 1) p.expires p.orphans)
     (sym (c.own.ensures.values ∙ (c.disown.ensures.values ∙ (c.insert.ensures.values ∙ ap (set p.wheel.values k) is))))
     (subst (λ (keys : List (Option Key)). AreFit p.processes (set p.wheel.values k (slot_for c.args.next (slot_at p.wheel.values k).above start)) keys
-    p.free new.owners (p.arms + 1) p.expires p.orphans) (sym (c.own.ensures.keys ∙ (c.disown.ensures.keys ∙ c.insert.ensures.keys)))
-    (fit_kept seen p.free p.wheel.owners taken new.owners k start c.args.next c.self.invariant refl free
+    (free_set p.free) new.owners (p.arms + 1) p.expires p.orphans) (sym (c.own.ensures.keys ∙ (c.disown.ensures.keys ∙ c.insert.ensures.keys)))
+    (fit_kept seen (free_set p.free) p.wheel.owners taken new.owners k start c.args.next c.self.invariant refl free
     (subst (λ (q : Part). q.arms < 9007199254740992) (sym c.self.view_is) c.requires.few) dest
     (c.own.ensures.slots ∙ (c.disown.ensures.slots ∙ ap (λ (r : Rings). r.slots) same))
     (c.own.ensures.homes ∙ (c.disown.ensures.homes ∙ ap (λ (r : Rings). r.homes) same))

@@ -1,6 +1,7 @@
 use Rattle.std.proofs.Common.{◌+◌, arith}
 use Rattle.ert_timers.proofs.Fit.{fit_counted}
 use Rattle.ert_timers.proofs.Keeping.{byte_low, lost_seen}
+use Rattle.ert_words.specs.Free.{free_set}
 use Rattle.ert_timers.proofs.part.WheelPart.let_go.Goals as goal
 
 pub overflow_add-self : goal.overflow_add-self
@@ -14,5 +15,5 @@ invariant_of-self c =
     let p = c.self.inside in
     let lost =
     lost_seen _ c.drop_row.new.self c.args.slot c.drop_row.result c.self.view_is (c.drop_row.ensures.found.1 c.requires.held) c.drop_row.ensures.lost in
-    fit_counted p.processes p.wheel.values p.wheel.keys p.free p.wheel.owners p.arms p.expires p.orphans (p.expires + c.from.result) p.orphans
+    fit_counted p.processes p.wheel.values p.wheel.keys (free_set p.free) p.wheel.owners p.arms p.expires p.orphans (p.expires + c.from.result) p.orphans
     c.self.invariant (omega (arith, lost.room, byte_low c.args.expired c.from.result c.from.ensures))

@@ -1,10 +1,11 @@
-use Rattle.std.proofs.Common.{◌≡◌, ◌<◌, ◌∙◌, List, Option, sym, subst, arith}
+use Rattle.std.proofs.Common.{◌≡◌, ◌<◌, ◌∙◌, ℕ, List, Option, sym, subst, arith}
 use Rattle.ert_timers.specs.Changes.{NextOf}
 use Rattle.ert_timers.specs.Parts.{AreFit, Part}
 use Rattle.ert_timers.specs.Slots.{Slot}
 use Rattle.ert_timers.specs.contracts.part.WheelPart.{the_view}
 use Rattle.ert_timers.proofs.Fit.{fit_owned}
 use Rattle.ert_timers.proofs.Keeping.{next_found, owned_thinned}
+use Rattle.ert_words.specs.Free.{free_set}
 use Rattle.ert_timers.proofs.part.WheelPart.newest_of.Goals as goal
 use Rattle.ert_timers.proofs.part.WheelPart.newest_of.Goals.{After-find_row}
 use Rattle.ert_wheel.specs.declared.row.Key.{Key}
@@ -26,22 +27,23 @@ invariant_of-self c =
     let fit = c.self.invariant in
     let new = c.find_row.new.wheel in
     let finds = c.find_row.ensures.finds fit.chained.places fit.chained.are in
-    subst (λ (slots : List Slot). AreFit p.processes slots new.keys p.free new.owners p.arms p.expires p.orphans) (sym c.find_row.ensures.values)
-    (subst (λ keys. AreFit p.processes p.wheel.values keys p.free new.owners p.arms p.expires p.orphans) (sym c.find_row.ensures.keys)
-    (fit_owned p.processes p.wheel.values p.wheel.keys p.free p.wheel.owners new.owners p.arms p.expires p.orphans fit c.find_row.ensures.slots
+    subst (λ (slots : List Slot). AreFit p.processes slots new.keys (free_set p.free) new.owners p.arms p.expires p.orphans) (sym c.find_row.ensures.values)
+    (subst (λ keys. AreFit p.processes p.wheel.values keys (free_set p.free) new.owners p.arms p.expires p.orphans) (sym c.find_row.ensures.keys)
+    (fit_owned p.processes p.wheel.values p.wheel.keys (free_set p.free) p.wheel.owners new.owners p.arms p.expires p.orphans fit c.find_row.ensures.slots
     c.find_row.ensures.homes
     (owned_thinned p.wheel.values p.wheel.keys p.wheel.owners new.owners p.arms finds.left fit.chained finds.thinned)))
 
--- the part with these slots and keys
-seen : After-find_row → List Slot → List (Option Key) → Part
-seen c slots keys = record (the_view c.self.inside) { slots = slots; keys = keys }
+-- the part with these slots and keys, and this time
+seen : After-find_row → List Slot → List (Option Key) → ℕ → Part
+seen c slots keys passed = record (the_view c.self.inside) { slots = slots; keys = keys; passed = passed }
 
 -- what comes of the slots and keys that were there comes of those that are
-kept : (c : After-find_row) (Q : Part → Type 0) → Q (seen c c.self.inside.wheel.values c.self.inside.wheel.keys)
-    → Q (seen c c.find_row.new.wheel.values c.find_row.new.wheel.keys)
+kept : (c : After-find_row) (Q : Part → Type 0) → Q (seen c c.self.inside.wheel.values c.self.inside.wheel.keys c.self.inside.wheel.passed)
+    → Q (seen c c.find_row.new.wheel.values c.find_row.new.wheel.keys c.find_row.new.wheel.passed)
 kept c Q was =
-    subst (λ slots. Q (seen c slots c.find_row.new.wheel.keys)) (sym c.find_row.ensures.values)
-    (subst (λ keys. Q (seen c c.self.inside.wheel.values keys)) (sym c.find_row.ensures.keys) was)
+    subst (λ slots. Q (seen c slots c.find_row.new.wheel.keys c.find_row.new.wheel.passed)) (sym c.find_row.ensures.values)
+    (subst (λ keys. Q (seen c c.self.inside.wheel.values keys c.find_row.new.wheel.passed)) (sym c.find_row.ensures.keys)
+    (subst (λ passed. Q (seen c c.self.inside.wheel.values c.self.inside.wheel.keys passed)) (sym c.find_row.ensures.passed) was))
 
 pub returns-clause-part : goal.returns-clause-part
 unfolding seen
@@ -53,5 +55,5 @@ returns-clause-row c =
     let fit = c.self.invariant in
     let p = c.self.inside in
     kept c (λ (p : Part). NextOf p c.args.process c.find_row.result)
-    (next_found (seen c p.wheel.values p.wheel.keys) p.free p.wheel.owners c.find_row.new.wheel.owners c.args.process c.find_row.result fit
+    (next_found (seen c p.wheel.values p.wheel.keys p.wheel.passed) (free_set p.free) p.wheel.owners c.find_row.new.wheel.owners c.args.process c.find_row.result fit
     (c.find_row.ensures.finds fit.chained.places fit.chained.are))

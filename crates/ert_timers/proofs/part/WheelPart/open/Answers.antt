@@ -1,5 +1,6 @@
 use Rattle.std.proofs.Common.{ap, ◌∙◌, refl, replicate, arith}
 use Rattle.ert_timers.proofs.Openings.{fit_open, stands_open}
+use Rattle.ert_words.specs.Free.{free_set}
 use Rattle.ert_timers.proofs.part.WheelPart.open.Goals as goal
 
 pub invariant_of-result : goal.invariant_of-result
@@ -7,7 +8,7 @@ invariant_of-result c =
     let g = c.args.settings.now in
     let counts = c.requires.checked.counts in
     let timers = c.in_ok-timers in
-    fit_open g.processes g.slots timers.timers.values timers.timers.keys c.in_ok-free.free timers.timers.owners counts.slots_high
+    fit_open g.processes g.slots timers.timers.values timers.timers.keys (free_set c.in_ok-free.free) timers.timers.owners counts.slots_high
     counts.processes_high (timers.ensures.values ∙ ap (replicate g.slots) c.new-unused.ensures) timers.ensures.keys c.in_ok-free.ensures.slots c.in_ok-free.ensures.every
     timers.ensures.slots (omega (arith, counts.processes_high, timers.ensures.homes)) timers.ensures.unowned
 

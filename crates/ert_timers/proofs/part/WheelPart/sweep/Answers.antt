@@ -83,3 +83,8 @@ pub returns-clause-tidy : goal.returns-clause-tidy
 returns-clause-tidy c =
     (sweeps_same (settings_of c.args.desk.now) (view_of c.args.pass.now) c.args.by c.args.process c.args.self.now c.loop-row.self
     c.newest_of.new.self (view_of c.loop-row.pass) c.newest_of.ensures.part c.loop-row.invariant.call).tidy
+
+pub returns-clause-loses : goal.returns-clause-loses
+returns-clause-loses c =
+    (sweeps_same (settings_of c.args.desk.now) (view_of c.args.pass.now) c.args.by c.args.process c.args.self.now c.loop-row.self
+    c.newest_of.new.self (view_of c.loop-row.pass) c.newest_of.ensures.part c.loop-row.invariant.call).loses

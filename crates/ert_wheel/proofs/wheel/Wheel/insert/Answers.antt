@@ -1,5 +1,5 @@
 use Rattle.std.proofs.Common.{ap, ◌∙◌, refl, rules, arith}
-use Rattle.ert_wheel.proofs.Writes.{sees, is_held, is_wheel, may_put, count_fits, stored_as, inserted}
+use Rattle.ert_wheel.proofs.Writes.{sees, is_held, is_kept, may_put, count_fits, stored_as, inserted}
 use Rattle.ert_wheel.proofs.wheel.Wheel.insert.Goals as goal
 use Rattle.ert_wheel.specs.Rows.{key_of}
 use Rattle.ert_wheel.specs.Wheels.{bucket_of}
@@ -19,7 +19,7 @@ overflow_add-self g c =
 
 pub invariant_of-self : goal.invariant_of-self
 invariant_of-self g c =
-    is_wheel (stored_as c.set.ensures.keys (inserted (sees c.self.invariant c.self.view_is)
+    is_kept (stored_as c.set.ensures.keys (inserted (sees c.self.invariant c.self.view_is)
     (record {
       low = c.requires.slot;
       vacant = c.requires.vacant;
@@ -27,7 +27,7 @@ invariant_of-self g c =
       order = omega arith;
       newest = c.requires.newest;
     })
-    (c.bucket-home.ensures.is ∙ ap (bucket_of c.self.inside.next_time) c.max.ensures) c.put.ensures.slots refl c.put.ensures.chains))
+    (c.bucket-home.ensures.is ∙ ap (bucket_of c.self.inside.next_time) c.max.ensures) c.put.ensures.slots refl c.put.ensures.chains c.min-self-inside.ensures))
 
 pub returns-clause-keys : goal.returns-clause-keys
 returns-clause-keys g c =
@@ -39,4 +39,4 @@ returns-clause-keys g c =
       order = omega arith;
       newest = c.requires.newest;
     })
-    (c.bucket-home.ensures.is ∙ ap (bucket_of c.self.inside.next_time) c.max.ensures) c.put.ensures.slots refl c.put.ensures.chains))
+    (c.bucket-home.ensures.is ∙ ap (bucket_of c.self.inside.next_time) c.max.ensures) c.put.ensures.slots refl c.put.ensures.chains c.min-self-inside.ensures))

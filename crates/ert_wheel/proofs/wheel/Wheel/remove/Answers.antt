@@ -1,6 +1,6 @@
 use Rattle.std.proofs.Common.{sym, ◌∙◌, refl}
 use Rattle.std.proofs.lemmas.Bool.{true≢false}
-use Rattle.ert_wheel.proofs.Writes.{sees, is_held, is_wheel, found_none, found_some, looks_alone, looks_apart, may_take, count_holds, removed, vacant_view}
+use Rattle.ert_wheel.proofs.Writes.{sees, is_held, is_kept, found_none, found_some, looks_alone, looks_apart, may_take, count_holds, removed, vacant_view}
 use Rattle.ert_wheel.proofs.wheel.Wheel.remove.Goals as goal
 
 pub is_alone-requires : goal.is_alone-requires
@@ -24,7 +24,7 @@ overflow_sub-self g c =
 
 pub invariant_of-self : goal.invariant_of-self
 invariant_of-self g c =
-    is_wheel (removed (sees c.self.invariant c.self.view_is) c.requires
+    is_kept (removed (sees c.self.invariant c.self.view_is) c.requires
     (looks_apart (sees c.self.invariant c.self.view_is) c.requires (λ e. true≢false (sym (c.is_alone.ensures.1 e) ∙ c.if-is_alone.false)))
     c.take.ensures.slots refl c.take.ensures.chains)
 

@@ -19,3 +19,6 @@ pub returns-in-Ok-clause-every : goal.returns-in-Ok-clause-every
 returns-in-Ok-clause-every c slot =
     rw (c.from_vec.ensures.items ∙ c.in-Ok.ensures)
     (contains-from_list (range_with_len 0 c.args.slots) slot ∙ list_any-every c.args.slots slot)
+
+pub returns-in-Ok-clause-order : goal.returns-in-Ok-clause-order
+returns-in-Ok-clause-order c = c.from_vec.ensures.items ∙ c.in-Ok.ensures

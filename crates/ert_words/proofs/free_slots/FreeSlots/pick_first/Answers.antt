@@ -1,7 +1,7 @@
-use Rattle.std.proofs.Common.{subst}
-use Rattle.ert_words.proofs.Held.{Picks, free_of, emptied}
-use Rattle.ert_words.proofs.Moved.{picks_first, room_behind}
-use Rattle.ert_words.specs.Free.{Free}
+use Rattle.std.proofs.Common.{◌≡◌, ◌↔◌, [], ◌∷◌, IsNone, IfNone, IfSome, subst}
+use Rattle.ert_words.proofs.Held.{unchanged_by, Picks, free_of, nothing}
+use Rattle.ert_words.proofs.Moved.{picks_first, room_behind, first_is, same_behind}
+use Rattle.ert_words.specs.Free.{Free, free_set}
 use Rattle.ert_words.proofs.free_slots.FreeSlots.pick_first.Goals as goal
 
 pub invariant_of-self : goal.invariant_of-self
@@ -11,15 +11,26 @@ invariant_of-self c =
     c.pop_front.ensures.items c.self.invariant)
 
 picked : (c : goal.After-pop_front)
-    → Picks c.args.self.now (free_of c.self.inside.slots c.pop_front.new.self.items) c.pop_front.result
+    → Picks (free_set c.args.self.now) (free_of c.self.inside.slots c.pop_front.new.self.items) c.pop_front.result
 picked c =
     let held = c.self.inside.held in
-    let none = emptied held.len held.items c.pop_front.result held.ok.0 c.pop_front.ensures.variant.1 in
-    subst (λ (old : Free). Picks old (free_of c.self.inside.slots c.pop_front.new.self.items) c.pop_front.result)
+    subst (λ (old : Free). Picks (free_set old) (free_of c.self.inside.slots c.pop_front.new.self.items) c.pop_front.result)
     c.self.view_is
-    (picks_first _ held.cap _ _ c.pop_front.result c.pop_front.ensures.items c.self.invariant none)
+    (picks_first _ held.cap _ _ c.pop_front.result c.pop_front.ensures.items c.self.invariant)
 
 pub returns : goal.returns
 returns c =
     let p = picked c in
-    record { none = p.none; unchanged = p.unchanged; held = p.held; taken = p.taken; in_range = p.in_range }
+    let held = c.self.inside.held in
+    let now = c.pop_front.new.self.items in
+    record {
+      none = subst (λ (old : Free). IsNone c.pop_front.result ↔ (old.held ≡ [])) c.self.view_is
+          (nothing held.len held.items c.pop_front.result held.ok.0 c.pop_front.ensures.variant);
+      unchanged = subst (λ (old : Free). IfNone c.pop_front.result ((let f : Free = record { slots = c.self.inside.slots; held = now } in f) ≡ old)) c.self.view_is
+          (unchanged_by c.self.inside.slots held.items now c.pop_front.result (same_behind held.items now c.pop_front.result c.pop_front.ensures.items));
+      first = subst (λ (old : Free). IfSome c.pop_front.result (λ slot. old.held ≡ slot ∷ now)) c.self.view_is
+          (first_is held.items now c.pop_front.result c.pop_front.ensures.items);
+      held = p.held;
+      taken = p.taken;
+      in_range = p.in_range;
+    }

@@ -1,6 +1,8 @@
-use Rattle.std.proofs.Common.{◌<◌, length, arith}
-use Rattle.ert_words.proofs.Held.{can_put, room_left}
+use Rattle.std.proofs.Common.{◌≡◌, ◌<◌, ◌∷◌, length, ap, subst, arith}
+use Rattle.std.specs.FinSet as set
+use Rattle.ert_words.proofs.Held.{can_put, room_left, free_of}
 use Rattle.ert_words.proofs.Moved.{free_of-front, put_in_front}
+use Rattle.ert_words.specs.Free.{Free, free_set}
 use Rattle.ert_words.proofs.free_slots.FreeSlots.put_first.Goals as goal
 
 pub push_front_reserved-requires : goal.push_front_reserved-requires
@@ -16,5 +18,13 @@ invariant_of-self c =
     rw c.push_front_reserved.ensures.items
     (put_in_front _ _ _ _ _ c.self.invariant (omega (arith, c.push_front_reserved.ensures.capacity)) can.in_range can.away)
 
-pub returns : goal.returns
-returns c = free_of-front c.args.self.now _ c.args.slot _ _ c.self.view_is c.push_front_reserved.ensures.items
+pub returns-clause-first : goal.returns-clause-first
+returns-clause-first c =
+    subst (λ (old : Free). (let f : Free = record { slots = c.self.inside.slots; held = c.push_front_reserved.new.self.items } in f) ≡ record { slots = old.slots; held = c.args.slot ∷ old.held })
+    c.self.view_is (ap (λ xs. let f : Free = record { slots = c.self.inside.slots; held = xs } in f) c.push_front_reserved.ensures.items)
+
+pub returns-clause-held : goal.returns-clause-held
+returns-clause-held c =
+    subst (λ (old : Free). free_of c.self.inside.slots c.push_front_reserved.new.self.items
+    ≡ record { slots = old.slots; held = set.insert (free_set old).held c.args.slot })
+    c.self.view_is (free_of-front c.self.inside.slots c.args.slot _ _ c.push_front_reserved.ensures.items)

@@ -1,4 +1,4 @@
-use Rattle.std.proofs.Common.{◌≡◌, true, ap, sym, subst}
+use Rattle.std.proofs.Common.{◌≡◌, true, sym, subst}
 use Rattle.ert_effects.specs.Chains.{SweepsWheel}
 use Rattle.ert_effects.specs.Ways.{Grows}
 use Rattle.ert_table.specs.Desks.{settings_of, view_of, front_of}
@@ -7,7 +7,7 @@ use Rattle.ert_defs.specs.States.{state}
 use Rattle.ert_world.proofs.Alone.{stays_by}
 use Rattle.ert_world.proofs.Calls.{Has, has_at, does_at}
 use Rattle.ert_world.proofs.Gone.{still_exited}
-use Rattle.ert_world.proofs.WheelCalls.{sweep_called}
+use Rattle.ert_world.proofs.WheelCalls.{lost_rows, sweep_called}
 use Rattle.ert_world.specs.Worlds.{Seen, way_of}
 use Rattle.ert_world.proofs.stepping.WorldCallerSteps.sweep_wheel.Goals as goal
 
@@ -27,9 +27,19 @@ returns-clause-call c =
 
 pub returns-clause-stays : goal.returns-clause-stays
 returns-clause-stays c =
-    stays_by (does_at c.deref.ensures (sweep_called c.args.self.now c.self.inside c.deref.result.now c.sweep.new.pass c.args.wheel c.args.process c.index_mut.result.now c.sweep.new.self (has_at c.deref.ensures c.self.view_is c.self.invariant)
+    let done =
+    does_at c.deref.ensures (sweep_called c.args.self.now c.self.inside c.deref.result.now c.sweep.new.pass c.args.wheel c.args.process c.index_mut.result.now c.sweep.new.self (has_at c.deref.ensures c.self.view_is c.self.invariant)
     c.sweep.ensures.belongs c.requires.wheel c.index_mut.ensures.value c.sweep.ensures.number c.sweep.ensures.stands c.sweep.ensures.call c.sweep.ensures.swept
-    c.sweep.ensures.tidy)).goes (ap (λ (w : Seen). w.clock) c.self.view_is)
+    c.sweep.ensures.tidy) in
+    stays_by done.goes
+    (lost_rows c.args.self.now c.self.inside c.deref.result.now c.args.wheel c.index_mut.result.now c.sweep.new.self
+    (has_at c.deref.ensures c.self.view_is c.self.invariant) c.requires.wheel c.index_mut.ensures.value c.sweep.ensures.loses) done.forgets
+
+pub returns-clause-legal : goal.returns-clause-legal
+returns-clause-legal c =
+    (does_at c.deref.ensures (sweep_called c.args.self.now c.self.inside c.deref.result.now c.sweep.new.pass c.args.wheel c.args.process c.index_mut.result.now c.sweep.new.self (has_at c.deref.ensures c.self.view_is c.self.invariant)
+    c.sweep.ensures.belongs c.requires.wheel c.index_mut.ensures.value c.sweep.ensures.number c.sweep.ensures.stands c.sweep.ensures.call c.sweep.ensures.swept
+    c.sweep.ensures.tidy)).goes.legal
 
 pub returns-clause-exited : goal.returns-clause-exited
 returns-clause-exited c =

@@ -1,8 +1,7 @@
 use Rattle.std.proofs.Common.{◌≡◌, ◌≢◌, true, false, None, Option, sym, subst, ap, ◌∙◌}
 use Rattle.std.specs.Option.{is_some}
 use Rattle.ert_world.specs.Worlds.{left_by}
-use Rattle.ert_world.proofs.Alone.{stays_by}
-use Rattle.ert_world.proofs.CancelCalls.{goes_forgetting_some}
+use Rattle.ert_world.proofs.CancelCalls.{goes_forgetting_some, stays_forgetting_some}
 use Rattle.ert_world.proofs.Gone.{gone_some}
 use Rattle.ert_world.proofs.stepping.WorldSchedSteps.answer_held.Goals as goal
 
@@ -18,8 +17,14 @@ returns-clause-stays c =
     let left = left_by c.args.request.now.kind c.in_ok-left.left in
     let some : is_some left ≡ true = subst (λ (x : Option _). is_some x ≡ true) c.cancelled_left.ensures c.if-is_none.ensures in
     let is : left ≢ None = λ none. let clash : true ≡ false = sym some ∙ ap (λ (x : Option _). is_some x) none in cc in
-    stays_by (goes_forgetting_some c.args.request.now.timer left c.args.self.now c.answer.new.self c.forget.new.self _ is c.in_ok-left.ensures.call c.forget.ensures)
-    (c.forget.ensures.clock ∙ c.answer.ensures.clock)
+    stays_forgetting_some c.args.request.now.timer left c.args.self.now c.answer.new.self c.forget.new.self _ is c.in_ok-left.ensures.call c.forget.ensures
+
+pub returns-clause-legal : goal.returns-clause-legal
+returns-clause-legal c =
+    let left = left_by c.args.request.now.kind c.in_ok-left.left in
+    let some : is_some left ≡ true = subst (λ (x : Option _). is_some x ≡ true) c.cancelled_left.ensures c.if-is_none.ensures in
+    let is : left ≢ None = λ none. let clash : true ≡ false = sym some ∙ ap (λ (x : Option _). is_some x) none in cc in
+    (goes_forgetting_some c.args.request.now.timer left c.args.self.now c.answer.new.self c.forget.new.self _ is c.in_ok-left.ensures.call c.forget.ensures).legal
 
 pub forget-requires-clause-wheel : goal.forget-requires-clause-wheel
 forget-requires-clause-wheel c =

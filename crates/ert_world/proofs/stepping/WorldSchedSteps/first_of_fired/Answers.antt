@@ -1,5 +1,6 @@
 use Rattle.std.proofs.Common.{◌≤◌, length, subst, arith}
 use Rattle.std.specs.Arc.{arc_value}
+use Rattle.ert_defs.specs.Legal.{Legal}
 use Rattle.ert_laws.proofs.Few.{fired_few}
 use Rattle.ert_world.specs.Worlds.{Seen, sched_of}
 use Rattle.ert_table.specs.Desks.{settings_of, front_of}
@@ -11,3 +12,7 @@ returns-clause-few c =
     (let few = fired_few (settings_of (arc_value c.self.inside.desk)) (front_of c.self.inside.pass) c.args.sched c.self.invariant.stand.legal in
     let high = (arc_value c.self.inside.desk).checked.counts.slots_high in
     omega (arith, few, high))
+
+pub returns-clause-legal : goal.returns-clause-legal
+returns-clause-legal c =
+    subst (λ (w : Seen). Legal w.settings w.history) c.self.view_is c.self.invariant.stand.legal

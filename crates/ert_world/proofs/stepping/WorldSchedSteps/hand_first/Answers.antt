@@ -1,7 +1,6 @@
 use Rattle.std.proofs.Common.{Ok, sym, subst}
 use Rattle.ert_effects.specs.Chains.{Hands}
 use Rattle.ert_effects.specs.Ways.{Grows}
-use Rattle.ert_world.proofs.Alone.{stays_by}
 use Rattle.ert_world.specs.Stepping.{stay}
 use Rattle.ert_world.specs.Worlds.{way_of}
 use Rattle.ert_world.proofs.stepping.WorldSchedSteps.hand_first.Goals as goal
@@ -14,6 +13,10 @@ returns-clause-call c =
 pub returns-clause-fired : goal.returns-clause-fired
 returns-clause-fired c = rw (c.reuse.ensures.stays.settings, c.reuse.ensures.history) c.in_ok-handed.ensures.fired
 
+pub returns-clause-legal : goal.returns-clause-legal
+returns-clause-legal c =
+    rw (c.reuse.ensures.stays.settings, c.reuse.ensures.history) c.in_ok-handed.ensures.call.legal
+
 pub returns-clause-stays : goal.returns-clause-stays
 returns-clause-stays c =
-    stay c.args.self.now c.hand_over.new.self c.reuse.new.self (stays_by c.in_ok-handed.ensures.call c.hand_over.ensures.clock) c.reuse.ensures.stays
+    stay c.args.self.now c.hand_over.new.self c.reuse.new.self c.hand_over.ensures.stays c.reuse.ensures.stays

@@ -1,7 +1,9 @@
 use Rattle.std.proofs.Common.{◌≡◌, Err, rules, refl, arith}
 use Rattle.ert_effects.specs.WheelCalls.{Advances}
 use Rattle.ert_table.specs.Desks.{settings_of, view_of}
+use Rattle.ert_world.proofs.Alone.{stays_by}
 use Rattle.ert_world.proofs.Calls.{has_at, does_at}
+use Rattle.ert_world.proofs.WheelCalls.{lost_rows, replaced_passed}
 use Rattle.ert_world.proofs.Advances.{advances_plain, advance_ok, advance_fits, advance_refused}
 use Rattle.ert_world.proofs.world.World.advance.Goals as goal
 
@@ -41,3 +43,30 @@ returns-clause-call c =
     c.advance.new.self c.index_mut-part.result.now (record { wheel = c.index_mut-part.result.now.wheel; hand = c.index_mut-part.result.now.hand; fired = c.advance.new.fired })
     (has_at c.deref.ensures c.self.view_is c.self.invariant) c.advance.ensures.belongs c.requires c.index_mut.ensures.value c.index_mut-part.ensures.value c.advance.ensures.number
     c.advance.ensures.stands c.advance.ensures.tidy c.in_ok-to.ensures.call refl refl c.len.ensures c.len-before.ensures)).goes
+
+pub returns-clause-stays : goal.returns-clause-stays
+returns-clause-stays c =
+    let done =
+    (does_at c.deref.ensures (advance_ok Advances advances_plain c.args.self.now c.self.inside c.deref.result.now c.advance.new.pass c.args.sched c.in_ok-to.to c.len.result c.len-before.result c.index_mut.result.now
+    c.advance.new.self c.index_mut-part.result.now (record { wheel = c.index_mut-part.result.now.wheel; hand = c.index_mut-part.result.now.hand; fired = c.advance.new.fired })
+    (has_at c.deref.ensures c.self.view_is c.self.invariant) c.advance.ensures.belongs c.requires c.index_mut.ensures.value c.index_mut-part.ensures.value c.advance.ensures.number
+    c.advance.ensures.stands c.advance.ensures.tidy c.in_ok-to.ensures.call refl refl c.len.ensures c.len-before.ensures)) in
+    stays_by done.goes
+    (lost_rows c.args.self.now c.self.inside c.deref.result.now c.args.sched c.index_mut.result.now c.advance.new.self
+    (has_at c.deref.ensures c.self.view_is c.self.invariant) c.requires c.index_mut.ensures.value c.advance.ensures.loses) done.forgets
+
+pub returns-in_err-to-clause-stays : goal.returns-in_err-to-clause-stays
+returns-in_err-to-clause-stays c =
+    let done =
+    does_at c.deref.ensures (advance_refused c.args.self.now c.self.inside c.deref.result.now c.advance.new.pass c.args.sched c.in_err-to.field-0.0 c.index_mut.result.now c.advance.new.self
+    c.index_mut-part.result.now (record { wheel = c.index_mut-part.result.now.wheel; hand = c.index_mut-part.result.now.hand; fired = c.advance.new.fired })
+    (has_at c.deref.ensures c.self.view_is c.self.invariant) c.advance.ensures.belongs c.requires c.index_mut.ensures.value c.index_mut-part.ensures.value c.advance.ensures.number
+    c.advance.ensures.stands c.advance.ensures.tidy c.in_err-to.ensures.call refl refl) in
+    stays_by done.goes
+    (lost_rows c.args.self.now c.self.inside c.deref.result.now c.args.sched c.index_mut.result.now c.advance.new.self
+    (has_at c.deref.ensures c.self.view_is c.self.invariant) c.requires c.index_mut.ensures.value c.advance.ensures.loses) done.forgets
+
+pub returns-clause-passed : goal.returns-clause-passed
+returns-clause-passed c =
+    replaced_passed c.self.inside c.deref.result.now c.args.sched c.in_ok-to.to c.advance.new.self
+    (has_at c.deref.ensures c.self.view_is c.self.invariant) c.requires c.in_ok-to.ensures.passed

@@ -5,9 +5,9 @@ use Rattle.ert_table.specs.declared.desk.Desk.{Desk}
 use Rattle.ert_timers.specs.Parts.{Part}
 use Rattle.ert_timers.specs.Tidy.{IsTidy}
 use Rattle.std.specs.Prelude.{slice_set}
-use Rattle.ert_world.proofs.Alone.{whole_of}
+use Rattle.ert_world.proofs.Alone.{stays_by, whole_of}
 use Rattle.ert_world.specs.Worlds.{Seen}
-use Rattle.ert_world.proofs.WheelCalls.{replaced_tidy}
+use Rattle.ert_world.proofs.WheelCalls.{lost_rows, replaced_passed, replaced_tidy}
 use Rattle.ert_effects.specs.WheelCalls.{AdvancesAll}
 use Rattle.ert_world.proofs.Calls.{Has, has_at, does_at}
 use Rattle.ert_world.proofs.Advances.{full_advances_plain, advance_ok, advance_fits, advance_refused}
@@ -59,3 +59,30 @@ returns-clause-tidy c =
     (slice_index_or (slice_set c.self.inside.wheels.items c.args.sched c.advance_all.new.self) c.args.sched x)) c.deref.ensures
     (replaced_tidy c.self.inside d (state (settings_of d) (front_of c.advance_all.new.pass)) c.args.sched c.advance_all.new.self has c.requires.sched
     (c.in_ok-to.ensures.tidy (whole_of (settings_of d) (actors_of c.self.inside.pass) c.self.inside.next alone has.fit.holds)))
+
+pub returns-clause-stays : goal.returns-clause-stays
+returns-clause-stays c =
+    let done =
+    (does_at c.deref.ensures (advance_ok AdvancesAll full_advances_plain c.args.self.now c.self.inside c.deref.result.now c.advance_all.new.pass c.args.sched c.in_ok-to.to c.len.result c.len-before.result c.index_mut.result.now
+    c.advance_all.new.self c.index_mut-part.result.now (record { wheel = c.index_mut-part.result.now.wheel; hand = c.index_mut-part.result.now.hand; fired = c.advance_all.new.fired })
+    (has_at c.deref.ensures c.self.view_is c.self.invariant) c.advance_all.ensures.belongs c.requires.sched c.index_mut.ensures.value c.index_mut-part.ensures.value c.advance_all.ensures.number
+    c.advance_all.ensures.stands c.advance_all.ensures.keeps c.in_ok-to.ensures.call refl refl c.len.ensures c.len-before.ensures)) in
+    stays_by done.goes
+    (lost_rows c.args.self.now c.self.inside c.deref.result.now c.args.sched c.index_mut.result.now c.advance_all.new.self
+    (has_at c.deref.ensures c.self.view_is c.self.invariant) c.requires.sched c.index_mut.ensures.value c.advance_all.ensures.loses) done.forgets
+
+pub returns-in_err-to-clause-stays : goal.returns-in_err-to-clause-stays
+returns-in_err-to-clause-stays c =
+    let done =
+    does_at c.deref.ensures (advance_refused c.args.self.now c.self.inside c.deref.result.now c.advance_all.new.pass c.args.sched c.in_err-to.field-0.0 c.index_mut.result.now c.advance_all.new.self
+    c.index_mut-part.result.now (record { wheel = c.index_mut-part.result.now.wheel; hand = c.index_mut-part.result.now.hand; fired = c.advance_all.new.fired })
+    (has_at c.deref.ensures c.self.view_is c.self.invariant) c.advance_all.ensures.belongs c.requires.sched c.index_mut.ensures.value c.index_mut-part.ensures.value c.advance_all.ensures.number
+    c.advance_all.ensures.stands c.advance_all.ensures.keeps c.in_err-to.ensures.call refl refl) in
+    stays_by done.goes
+    (lost_rows c.args.self.now c.self.inside c.deref.result.now c.args.sched c.index_mut.result.now c.advance_all.new.self
+    (has_at c.deref.ensures c.self.view_is c.self.invariant) c.requires.sched c.index_mut.ensures.value c.advance_all.ensures.loses) done.forgets
+
+pub returns-clause-passed : goal.returns-clause-passed
+returns-clause-passed c =
+    replaced_passed c.self.inside c.deref.result.now c.args.sched c.in_ok-to.to c.advance_all.new.self
+    (has_at c.deref.ensures c.self.view_is c.self.invariant) c.requires.sched c.in_ok-to.ensures.passed

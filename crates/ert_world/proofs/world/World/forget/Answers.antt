@@ -13,7 +13,8 @@ invariant_of-self c =
     let g = settings_of d in
     let named = c.self.invariant.belongs.named in
     (forgot c.args.self.now c.self.inside d c.index_mut.result.now c.forget.new.self c.args.timer (record { is = c.self.view_is; fit = c.self.invariant }) c.requires.wheel
-    c.index_mut.ensures.value c.forget.ensures.number (c.forget.ensures.stands g named) (c.forget.ensures.tidy g named)).fit
+    c.index_mut.ensures.value c.forget.ensures.number (c.forget.ensures.stands g named) (c.forget.ensures.tidy g named)
+    c.forget.ensures.loses c.forget.ensures.forgotten).fit
 
 pub returns : goal.returns
 returns c =
@@ -21,7 +22,8 @@ returns c =
     let g = settings_of d in
     let named = c.self.invariant.belongs.named in
     (forgot c.args.self.now c.self.inside d c.index_mut.result.now c.forget.new.self c.args.timer (record { is = c.self.view_is; fit = c.self.invariant }) c.requires.wheel
-    c.index_mut.ensures.value c.forget.ensures.number (c.forget.ensures.stands g named) (c.forget.ensures.tidy g named)).forgets
+    c.index_mut.ensures.value c.forget.ensures.number (c.forget.ensures.stands g named) (c.forget.ensures.tidy g named)
+    c.forget.ensures.loses c.forget.ensures.forgotten).forgets
 
 pub forget-requires-clause-last : goal.forget-requires-clause-last
 forget-requires-clause-last c =

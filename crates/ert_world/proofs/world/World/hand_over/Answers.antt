@@ -1,8 +1,9 @@
-use Rattle.std.proofs.Common.{◌≡◌, Some, Err, rules, refl, sym, subst, ◌∙◌}
+use Rattle.std.proofs.Common.{◌≡◌, Some, Err, rules, refl, ap, sym, subst, ◌∙◌}
 use Rattle.ert_effects.specs.Chains.{Hands}
 use Rattle.ert_defs.specs.Mails.{first_of, others_of}
 use Rattle.ert_defs.specs.States.{state}
 use Rattle.ert_mail.specs.Mailboxes.{Stands}
+use Rattle.ert_world.proofs.Alone.{stays_same}
 use Rattle.ert_world.proofs.Calls.{mail_named}
 use Rattle.ert_table.specs.Desks.{settings_of, front_of}
 use Rattle.ert_table.specs.declared.desk.Desk.{Desk}
@@ -85,3 +86,27 @@ returns-clause-handed c =
     subst (λ (d : Desk). IsHandedIn (seen d c.deliver.new.pass c.self.inside.next c.self.inside.keeper c.self.inside.wheels.items) c.args.fired.now.timer) c.deref.ensures
     (handed_in c.args.self.now c.self.inside c.deref.result.now c.deliver.new.pass c.args.sched c.args.fired.now c.in_ok-handed.handed (has_at c.deref.ensures c.self.view_is c.self.invariant)
     c.requires.sched c.requires.first c.in_ok-handed.ensures.call)
+
+pub returns-clause-stays : goal.returns-clause-stays
+returns-clause-stays c =
+    let done =
+    (does_at c.deref.ensures (handed_now c.args.self.now c.self.inside c.deref.result.now c.deliver.new.pass c.args.sched c.index_mut.result.now c.deliver.new.self c.args.fired.now c.in_ok-handed.handed
+    c.index_mut-2.result.now (record { wheel = c.index_mut-2.result.now.wheel; hand = c.index_mut-2.result.now.hand; fired = c.pop.new.self })
+    (has_at c.deref.ensures c.self.view_is c.self.invariant) c.deliver.ensures.belongs c.requires.sched c.requires.first c.index_mut.ensures.value c.deliver.ensures.process
+    c.deliver.ensures.stands c.in_ok-handed.ensures.call c.in_ok-handed.ensures.sched c.index_mut-2.ensures.value refl refl c.pop.ensures.others)) in
+    stays_same done.goes (ap (λ (w : Seen). w.wheels) c.self.view_is) done.forgets
+
+pub returns-in_err-handed-clause-stays : goal.returns-in_err-handed-clause-stays
+returns-in_err-handed-clause-stays c =
+    let has : Has c.args.self.now c.self.inside c.deref.result.now = has_at c.deref.ensures c.self.view_is c.self.invariant in
+    let placed = fired_placed c.args.self.now c.self.inside c.deref.result.now c.args.sched c.args.fired.now (has_at c.deref.ensures c.self.view_is c.self.invariant) c.requires.first in
+    let done =
+    does_at c.deref.ensures (step_refused c.args.self.now c.self.inside c.deref.result.now c.deliver.new.pass c.args.fired.now.dest c.index_mut.result.now c.deliver.new.self
+    (λ w way. Hands w.settings way c.args.sched (Err c.in_err-handed.field-0.0)) has c.deliver.ensures.belongs
+    placed.dest c.index_mut.ensures.value c.deliver.ensures.process c.deliver.ensures.stands c.in_err-handed.ensures.call.same
+    (λ m grown own. record {
+      fired = c.args.fired.now;
+      first = subst (λ (w : Seen). first_of (sched_of w c.args.sched).fired ≡ Some c.args.fired.now) (sym has.is) c.requires.first;
+      step = own;
+    })) in
+    stays_same done.goes (ap (λ (w : Seen). w.wheels) c.self.view_is) done.forgets

@@ -10,7 +10,10 @@ invariant_of-self c =
     (alone_called c.args.self.now c.self.inside c.deref.result.now _ c.is_alive.new.pass (λ g. TellsAlive g (Caller 0) c.args.process c.is_alive.result) c.deref.ensures c.self.view_is c.self.invariant
     c.is_alive.ensures.belongs c.is_alive.ensures.call (alive_quiet (settings_of c.deref.result.now) (Caller 0) c.args.process c.is_alive.result)).fit
 
-pub returns-clause-call : goal.returns-clause-call
-returns-clause-call c =
-    (alone_called c.args.self.now c.self.inside c.deref.result.now _ c.is_alive.new.pass (λ g. TellsAlive g (Caller 0) c.args.process c.is_alive.result) c.deref.ensures c.self.view_is c.self.invariant
-    c.is_alive.ensures.belongs c.is_alive.ensures.call (alive_quiet (settings_of c.deref.result.now) (Caller 0) c.args.process c.is_alive.result)).goes
+pub returns : goal.returns
+returns c =
+    record {
+      call =
+          (alone_called c.args.self.now c.self.inside c.deref.result.now _ c.is_alive.new.pass (λ g. TellsAlive g (Caller 0) c.args.process c.is_alive.result) c.deref.ensures c.self.view_is c.self.invariant
+          c.is_alive.ensures.belongs c.is_alive.ensures.call (alive_quiet (settings_of c.deref.result.now) (Caller 0) c.args.process c.is_alive.result)).goes;
+    }

@@ -1,10 +1,12 @@
-use Rattle.std.proofs.Common.{◌≡◌, true, subst}
+use Rattle.std.proofs.Common.{◌≡◌, true, ap, subst}
 use Rattle.ert_table.specs.declared.desk.Desk.{Desk}
 use Rattle.ert_effects.specs.WheelCalls.{MarksExit}
 use Rattle.ert_defs.specs.States.{state}
 use Rattle.ert_defs.specs.declared.entry.Actor.TheVariants.{Caller}
 use Rattle.ert_table.specs.Desks.{settings_of, view_of, front_of}
 use Rattle.ert_world.proofs.Calm.{mark_quiet}
+use Rattle.ert_world.proofs.Alone.{stays_same}
+use Rattle.ert_world.specs.Worlds.{Seen}
 use Rattle.ert_world.proofs.Calls.{alone_called}
 use Rattle.ert_world.proofs.Gone.{marked}
 use Rattle.ert_world.proofs.world.World.mark_exit.Goals as goal
@@ -23,3 +25,10 @@ pub returns-clause-exited : goal.returns-clause-exited
 returns-clause-exited c =
     subst (λ (d : Desk). (state (settings_of d) (front_of c.mark_exit.new.pass)).exited c.args.process ≡ true) c.deref.ensures
     (marked (settings_of c.deref.result.now) (view_of c.self.inside.pass) (view_of c.mark_exit.new.pass) c.args.process c.mark_exit.result c.mark_exit.ensures.call)
+
+pub returns-clause-stays : goal.returns-clause-stays
+returns-clause-stays c =
+    let done =
+    (alone_called c.args.self.now c.self.inside c.deref.result.now _ c.mark_exit.new.pass (λ g. MarksExit g (Caller 0) c.args.process c.mark_exit.result) c.deref.ensures c.self.view_is c.self.invariant
+    c.mark_exit.ensures.belongs c.mark_exit.ensures.call (mark_quiet (settings_of c.deref.result.now) (Caller 0) c.args.process c.mark_exit.result)) in
+    stays_same done.goes (ap (λ (w : Seen). w.wheels) c.self.view_is) done.forgets

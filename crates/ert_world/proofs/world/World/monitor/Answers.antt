@@ -12,9 +12,12 @@ invariant_of-self c =
     (λ legal. monitor_made (settings_of c.deref.result.now) (view_of c.self.inside.pass) 0 c.index_mut.result.now.process c.monitor.result (view_of c.monitor.new.pass) legal c.monitor.ensures.call)
     (monitors_only (settings_of c.deref.result.now) 0 c.index_mut.result.now.process c.monitor.result) (monitors_calm (settings_of c.deref.result.now) 0 c.index_mut.result.now.process c.monitor.result)).fit
 
-pub returns-clause-call : goal.returns-clause-call
-returns-clause-call c =
-    (mail_called c.args.self.now c.self.inside c.deref.result.now _ c.monitor.new.pass c.args.process c.index_mut.result.now c.monitor.new.self (λ n g. Monitors g 0 n c.monitor.result)
-    c.deref.ensures c.self.view_is c.self.invariant c.monitor.ensures.belongs c.requires c.index_mut.ensures.value c.monitor.ensures.process c.monitor.ensures.stands
-    (λ legal. monitor_made (settings_of c.deref.result.now) (view_of c.self.inside.pass) 0 c.index_mut.result.now.process c.monitor.result (view_of c.monitor.new.pass) legal c.monitor.ensures.call)
-    (monitors_only (settings_of c.deref.result.now) 0 c.index_mut.result.now.process c.monitor.result) (monitors_calm (settings_of c.deref.result.now) 0 c.index_mut.result.now.process c.monitor.result)).goes
+pub returns : goal.returns
+returns c =
+    record {
+      call =
+          (mail_called c.args.self.now c.self.inside c.deref.result.now _ c.monitor.new.pass c.args.process c.index_mut.result.now c.monitor.new.self (λ n g. Monitors g 0 n c.monitor.result)
+          c.deref.ensures c.self.view_is c.self.invariant c.monitor.ensures.belongs c.requires c.index_mut.ensures.value c.monitor.ensures.process c.monitor.ensures.stands
+          (λ legal. monitor_made (settings_of c.deref.result.now) (view_of c.self.inside.pass) 0 c.index_mut.result.now.process c.monitor.result (view_of c.monitor.new.pass) legal c.monitor.ensures.call)
+          (monitors_only (settings_of c.deref.result.now) 0 c.index_mut.result.now.process c.monitor.result) (monitors_calm (settings_of c.deref.result.now) 0 c.index_mut.result.now.process c.monitor.result)).goes;
+    }

@@ -10,7 +10,10 @@ invariant_of-self c =
     (alone_called c.args.self.now c.self.inside c.deref.result.now _ c.read_timer.new.pass (λ g. Reads g (Caller 0) c.args.timer c.read_timer.result) c.deref.ensures c.self.view_is c.self.invariant
     c.read_timer.ensures.belongs c.read_timer.ensures.call.call (read_quiet (settings_of c.deref.result.now) (Caller 0) c.args.timer c.read_timer.result)).fit
 
-pub returns-clause-call : goal.returns-clause-call
-returns-clause-call c =
-    (alone_called c.args.self.now c.self.inside c.deref.result.now _ c.read_timer.new.pass (λ g. Reads g (Caller 0) c.args.timer c.read_timer.result) c.deref.ensures c.self.view_is c.self.invariant
-    c.read_timer.ensures.belongs c.read_timer.ensures.call.call (read_quiet (settings_of c.deref.result.now) (Caller 0) c.args.timer c.read_timer.result)).goes
+pub returns : goal.returns
+returns c =
+    record {
+      call =
+          (alone_called c.args.self.now c.self.inside c.deref.result.now _ c.read_timer.new.pass (λ g. Reads g (Caller 0) c.args.timer c.read_timer.result) c.deref.ensures c.self.view_is c.self.invariant
+          c.read_timer.ensures.belongs c.read_timer.ensures.call.call (read_quiet (settings_of c.deref.result.now) (Caller 0) c.args.timer c.read_timer.result)).goes;
+    }

@@ -7,7 +7,10 @@ invariant_of-self c =
     (does_but_at c.deref.ensures (cancel_called c.args.self.now c.self.inside c.deref.result.now c.cancel_timer.new.pass c.args.timer c.cancel_timer.result
     (has_at c.deref.ensures c.self.view_is c.self.invariant) c.cancel_timer.ensures.belongs c.cancel_timer.ensures.call.call)).fit
 
-pub returns-clause-call : goal.returns-clause-call
-returns-clause-call c =
-    (does_but_at c.deref.ensures (cancel_called c.args.self.now c.self.inside c.deref.result.now c.cancel_timer.new.pass c.args.timer c.cancel_timer.result
-    (has_at c.deref.ensures c.self.view_is c.self.invariant) c.cancel_timer.ensures.belongs c.cancel_timer.ensures.call.call)).goes
+pub returns : goal.returns
+returns c =
+    record {
+      call =
+          (does_but_at c.deref.ensures (cancel_called c.args.self.now c.self.inside c.deref.result.now c.cancel_timer.new.pass c.args.timer c.cancel_timer.result
+          (has_at c.deref.ensures c.self.view_is c.self.invariant) c.cancel_timer.ensures.belongs c.cancel_timer.ensures.call.call)).goes;
+    }

@@ -12,9 +12,12 @@ invariant_of-self c =
     (λ legal. c.take.ensures.call)
     (takes_only (settings_of c.deref.result.now) 0 c.index_mut.result.now.process c.take.result) (takes_calm (settings_of c.deref.result.now) 0 c.index_mut.result.now.process c.take.result)).fit
 
-pub returns-clause-call : goal.returns-clause-call
-returns-clause-call c =
-    (mail_called c.args.self.now c.self.inside c.deref.result.now _ c.take.new.pass c.args.process c.index_mut.result.now c.take.new.self (λ n g. Takes g 0 n c.take.result)
-    c.deref.ensures c.self.view_is c.self.invariant c.take.ensures.belongs c.requires c.index_mut.ensures.value c.take.ensures.process c.take.ensures.stands
-    (λ legal. c.take.ensures.call)
-    (takes_only (settings_of c.deref.result.now) 0 c.index_mut.result.now.process c.take.result) (takes_calm (settings_of c.deref.result.now) 0 c.index_mut.result.now.process c.take.result)).goes
+pub returns : goal.returns
+returns c =
+    record {
+      call =
+          (mail_called c.args.self.now c.self.inside c.deref.result.now _ c.take.new.pass c.args.process c.index_mut.result.now c.take.new.self (λ n g. Takes g 0 n c.take.result)
+          c.deref.ensures c.self.view_is c.self.invariant c.take.ensures.belongs c.requires c.index_mut.ensures.value c.take.ensures.process c.take.ensures.stands
+          (λ legal. c.take.ensures.call)
+          (takes_only (settings_of c.deref.result.now) 0 c.index_mut.result.now.process c.take.result) (takes_calm (settings_of c.deref.result.now) 0 c.index_mut.result.now.process c.take.result)).goes;
+    }

@@ -12,9 +12,12 @@ invariant_of-self c =
     (λ legal. if_ok_made (settings_of c.deref.result.now) (view_of c.self.inside.pass) (Tells (settings_of c.deref.result.now) 0 c.index_mut.result.now.process) c.tell.result (view_of c.tell.new.pass) legal c.tell.ensures.call)
     (tells_only (settings_of c.deref.result.now) 0 c.index_mut.result.now.process c.tell.result) (tells_calm (settings_of c.deref.result.now) 0 c.index_mut.result.now.process c.tell.result)).fit
 
-pub returns-clause-call : goal.returns-clause-call
-returns-clause-call c =
-    (mail_called c.args.self.now c.self.inside c.deref.result.now _ c.tell.new.pass c.args.process c.index_mut.result.now c.tell.new.self (λ n g. Tells g 0 n c.tell.result)
-    c.deref.ensures c.self.view_is c.self.invariant c.tell.ensures.belongs c.requires c.index_mut.ensures.value c.tell.ensures.process c.tell.ensures.stands
-    (λ legal. if_ok_made (settings_of c.deref.result.now) (view_of c.self.inside.pass) (Tells (settings_of c.deref.result.now) 0 c.index_mut.result.now.process) c.tell.result (view_of c.tell.new.pass) legal c.tell.ensures.call)
-    (tells_only (settings_of c.deref.result.now) 0 c.index_mut.result.now.process c.tell.result) (tells_calm (settings_of c.deref.result.now) 0 c.index_mut.result.now.process c.tell.result)).goes
+pub returns : goal.returns
+returns c =
+    record {
+      call =
+          (mail_called c.args.self.now c.self.inside c.deref.result.now _ c.tell.new.pass c.args.process c.index_mut.result.now c.tell.new.self (λ n g. Tells g 0 n c.tell.result)
+          c.deref.ensures c.self.view_is c.self.invariant c.tell.ensures.belongs c.requires c.index_mut.ensures.value c.tell.ensures.process c.tell.ensures.stands
+          (λ legal. if_ok_made (settings_of c.deref.result.now) (view_of c.self.inside.pass) (Tells (settings_of c.deref.result.now) 0 c.index_mut.result.now.process) c.tell.result (view_of c.tell.new.pass) legal c.tell.ensures.call)
+          (tells_only (settings_of c.deref.result.now) 0 c.index_mut.result.now.process c.tell.result) (tells_calm (settings_of c.deref.result.now) 0 c.index_mut.result.now.process c.tell.result)).goes;
+    }

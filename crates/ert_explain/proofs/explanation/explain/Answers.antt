@@ -1,4 +1,0 @@
-use Rattle.ert_explain.proofs.explanation.explain.Goals as goal
-
-pub returns-in-Json : goal.returns-in-Json
-returns-in-Json c = rw c.in-Json.is (c.json_explanation.ensures c.args.race)

@@ -1,0 +1,35 @@
+//! An explanation, written to a sink.
+ghost use Rattle.std.specs.Prelude.{◌≡◌, ◌≤◌, None};
+ghost use Rattle.ert_explain.specs.Telling.{Tells};
+ghost use Rattle.ert_io.specs.Told.{told};
+ghost use Rattle.ert_scenario.specs.Scenarios.{HasRefusal};
+
+use crate::explanation::explanation_of;
+use crate::message::write_message;
+use ert_io::{Sink, write_all};
+use ert_scenario::ScenarioErr;
+use std::alloc::Global;
+
+/// Writes the message that explains a refusal of bytes, of a scenario with a race where one is wanted, as far as there
+/// is memory and the sink takes it. The sink tells no room.
+pub fn explain<E: Sink>(
+    alloc: Global,
+    bytes: &[u8],
+    race: bool,
+    refusal: &ScenarioErr,
+    errors: &mut E,
+)
+    requires room { E.room errors.old ≡ None }
+    requires why { HasRefusal race bytes.now refusal.now }
+    ensures told { Tells race bytes.now refusal.now (told (E.taken errors.old) (E.room errors.old)) (told (E.taken errors.new) (E.room errors.new)) }
+    ensures later { E.faults errors.old ≤ E.faults errors.new }
+{
+    let Ok(explanation) = explanation_of(alloc, bytes, race, refusal) else {
+        return;
+    };
+    let mut page = String::new(alloc);
+    if write_message(&mut page, bytes, &explanation).is_err() {
+        return;
+    }
+    let _ = write_all(errors, page.as_bytes());
+}

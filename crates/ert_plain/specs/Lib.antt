@@ -1,0 +1,12 @@
+pub mod Laws
+pub mod Pieces
+pub mod Plain
+pub mod PlainClock
+pub mod PlainCounts
+pub mod PlainMail
+pub mod PlainTimers
+pub mod PlainTurns
+pub mod Worked
+pub mod WorkedClocks
+pub mod WorkedTimers
+pub mod WorkedTurns

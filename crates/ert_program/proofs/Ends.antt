@@ -1,0 +1,104 @@
+-- How `run` and `race` end, by what was read and by what then was answered.
+
+use Rattle.std.proofs.Common.{◌≡◌, ℕ, Bool, List, [], ◌++◌, Option, Some, None, inl, inr, refl, sym, ap, subst, ◌∙◌, append-nil, arith}
+use Rattle.std.specs.Prelude.{Result, Ok, Err, IfOk, OnErr, IsErrOf}
+use Rattle.ert_io.specs.Faults.{Rose}
+use Rattle.ert_io.specs.Known.{TakesUpTo}
+use Rattle.ert_race.specs.Written.{Returned}
+use Rattle.ert_scenario.specs.Scenarios.{Plan, IsScenario, HasRefusal}
+use Rattle.ert_scenario.specs.declared.scenario.ScenarioErr.{ScenarioErr}
+use Rattle.ert_script.specs.declared.output.RunErr.{RunErr}
+use Rattle.ert_script.specs.declared.output.RunErr.TheVariants.{WriteFault as OutputFailed, NoMemory as OutOfMemory}
+use Rattle.ert_program.specs.Endings.{end_of, without_desk}
+use Rattle.ert_program.specs.Inputs.{Doing, TakesAll, HasRead, RanOn, WritesPart, InputEnds}
+use Rattle.ert_program.specs.Streams.{Input, Output}
+use Rattle.ert_program.specs.Unread.{EndsUnread}
+use Rattle.ert_program.specs.declared.ending.EndStatus.TheVariants.{NoMemory}
+use Rattle.ert_program.specs.declared.ending.Ended.{Ended}
+
+-- no bytes are a scenario and refused
+abbrev pub NeverBoth : Type 0
+NeverBoth = (race : Bool) (bytes : List ℕ) (plan : Plan) (e : ScenarioErr) → IsScenario race bytes plan → HasRefusal race bytes e → ⊥
+
+-- the bytes that were read are all that there were
+pub all_taken : (text bytes : List ℕ) (rest : Option (List ℕ)) → TakesAll (Some text) rest bytes → bytes ≡ text
+all_taken text bytes None takes = let same : Some text ≡ None = takes.taken in cc
+all_taken text bytes (Some later) takes =
+    let both : Some text ≡ Some (bytes ++ later) = takes.taken in
+    let same : text ≡ bytes ++ later = cc in
+    sym (same ∙ ap (λ (xs : List ℕ). bytes ++ xs) takes.end ∙ append-nil bytes)
+
+takes_none : (left : Option (List ℕ)) → TakesUpTo 16777217 left left
+takes_none None = record { bytes = []; few = omega arith; taken = refl }
+takes_none (Some bytes) = record { bytes = []; few = omega arith; taken = refl }
+
+-- memory ran out before anything was read or written
+unread_memory : (race : Bool) (i : Input) (o : Output) → EndsUnread race i i o o (without_desk NoMemory)
+unread_memory race i o = record {
+  not_done = λ how. cc;
+  refused = λ how. cc;
+  read_fault = λ how. cc;
+  too_long = λ how. cc;
+  write_fault = λ how. cc;
+  no_memory = λ how. (takes_none i.left, refl);
+  others = (λ how. cc, λ how. cc);
+  no_desk = refl;
+  no_refusal = λ how. refl;
+  complete = λ quiet fine bytes plan left short is. refl;
+}
+
+-- an end with no scenario is one of both commands
+pub unread_ends : (race : Bool) (does : Doing) (i j : Input) (o p : Output) (e : Ended) → EndsUnread race i j o p e → InputEnds race does i j o p e
+unread_ends race does i j o p e un = record {
+  done = λ how. absurd (un.not_done how);
+  refused = un.refused;
+  read_fault = un.read_fault;
+  too_long = un.too_long;
+  write_fault = λ how. (let part = un.write_fault how in (part.0, inr part.1));
+  no_memory = λ how. (let none = un.no_memory how in (none.0, inl none.1));
+  others = un.others;
+  complete = λ quiet fine bytes plan left short is. inr (un.complete quiet fine bytes plan left short is);
+}
+
+-- so is what came of the run of a plan that was read
+pub ran_ends : (race : Bool) (does : Doing) (i j : Input) (o p : Output) (plan : Plan) (ran : Result Returned RunErr) → HasRead race i.left j.left plan
+    → IfOk ran (RanOn does plan o.told p.told) → OnErr ran (WritesPart does plan o.told p.told) → (IsErrOf ran OutputFailed → Rose o.faults p.faults)
+    → InputEnds race does i j o p (end_of ran)
+ran_ends race does i j o p plan (Ok r) read ok err cause = record {
+  done = λ how. record { plan = plan; read = read; history = ok.history; text = ok.text; is = ok.is; writes = ok.writes };
+  refused = λ how. cc;
+  read_fault = λ how. cc;
+  too_long = λ how. cc;
+  write_fault = λ how. cc;
+  no_memory = λ how. cc;
+  others = (λ how. cc, λ how. cc);
+  complete = λ quiet fine bytes p left short is. inl refl;
+}
+ran_ends race does i j o p plan (Err OutputFailed) read ok err cause = record {
+  done = λ how. cc;
+  refused = λ how. cc;
+  read_fault = λ how. cc;
+  too_long = λ how. cc;
+  write_fault = λ how. (cause refl, inl (record { plan = plan; read = read; part = err }));
+  no_memory = λ how. cc;
+  others = (λ how. cc, λ how. cc);
+  complete = λ quiet fine bytes p left short is. absurd (fine (cause refl));
+}
+ran_ends race does i j o p plan (Err OutOfMemory) read ok err cause = record {
+  done = λ how. cc;
+  refused = λ how. cc;
+  read_fault = λ how. cc;
+  too_long = λ how. cc;
+  write_fault = λ how. cc;
+  no_memory = λ how. (all, inr (inl (record { plan = plan; read = read; part = err })));
+  others = (λ how. cc, λ how. cc);
+  complete = λ quiet fine bytes p left short is. inr refl;
+}
+  where
+    all : TakesUpTo 16777217 i.left j.left
+    all = let short = read.takes.short in record { bytes = read.bytes; few = omega arith; taken = read.takes.taken }
+
+-- and so is want of memory before the input is read
+pub memory_ends : (race : Bool) (does : Doing) (i : Input) (o : Output) (e : Ended) → e ≡ without_desk NoMemory → InputEnds race does i i o o e
+memory_ends race does i o e is =
+    subst (λ (x : Ended). InputEnds race does i i o o x) (sym is) (unread_ends race does i i o o (without_desk NoMemory) (unread_memory race i o))

@@ -1,0 +1,87 @@
+-- Rows go, and each of their timers is tried once.
+
+use Rattle.std.proofs.Common.{◌≡◌, ◌≢◌, ℕ, ◌<◌, ◌≤◌, List, [], ◌∷◌, ◌++◌, length, Option, Some, None, IfSome, refl, sym, ap, subst, ◌∙◌, set, arith}
+use Rattle.ert_defs.specs.Timers.{Row}
+use Rattle.ert_defs.specs.declared.timer.TimerRef.{TimerRef}
+use Rattle.ert_effects.specs.WheelCalls.{Try, AllDue, AreOnce, IsDueBy, IsUntried}
+use Rattle.ert_timers.specs.Parts.{Part, last_timer}
+use Rattle.ert_timers.specs.Passed.{HasPassed, HoldsNone, LosesRows}
+use Rattle.ert_timers.proofs.Rows.{key_left}
+use Rattle.ert_wheel.specs.Rows.{key_in}
+use Rattle.ert_wheel.specs.declared.row.Key.{Key}
+
+pub loses_none : (p : Part) → LosesRows p p
+loses_none p = record { number = refl; slots = refl; left = λ k key is. is; time = omega arith }
+
+pub loses_then : (p q r : Part) → LosesRows p q → LosesRows q r → LosesRows p r
+loses_then p q r one other = record {
+  number = other.number ∙ one.number;
+  slots = other.slots ∙ one.slots;
+  left = λ k key is. one.left k key (other.left k key is);
+  time = omega (arith, one.time, other.time);
+}
+
+-- the row of a slot goes
+pub loses_row : (p q : Part) (k : ℕ) → k < length p.keys → q.number ≡ p.number → q.slots ≡ p.slots → q.keys ≡ set p.keys k None → q.passed ≡ p.passed
+    → LosesRows p q
+loses_row p q k low number slots keys time = record {
+  number = number;
+  slots = slots;
+  left = λ j key is. (key_left p.keys k j key low (ap (λ ks. key_in ks j) (sym keys) ∙ is)).1;
+  time = omega arith;
+}
+
+-- the last timers are the same
+same_last : (p q : Part) (k : ℕ) → LosesRows p q → last_timer q.number q.slots k ≡ last_timer p.number p.slots k
+same_last p q k loses = ap (λ n. last_timer n q.slots k) loses.number ∙ ap (λ slots. last_timer p.number slots k) loses.slots
+
+-- where rows go no row comes back
+pub holds_less : (p q : Part) (tries : List Try) → LosesRows p q → HoldsNone p tries → HoldsNone q tries
+holds_less p q [] loses none = tt
+holds_less p q (t ∷ tries) loses none =
+    (λ k key is same. none.0 k key (loses.left k key is) (sym (same_last p q k loses) ∙ same), holds_less p q tries loses none.1)
+
+none_push : (p : Part) (tries : List Try) (t : Try) → HoldsNone p tries
+    → ((k : ℕ) (key : Key) → key_in p.keys k ≡ Some key → last_timer p.number p.slots k ≢ t.timer) → HoldsNone p (tries ++ t ∷ [])
+none_push p [] t none one = (one, tt)
+none_push p (x ∷ tries) t none one = (none.0, none_push p tries t none.1 one)
+
+-- a timer whose row is held wasn't tried
+untried : (p : Part) (k : ℕ) (key : Key) (timer : TimerRef) (tries : List Try) → key_in p.keys k ≡ Some key → timer ≡ last_timer p.number p.slots k
+    → HoldsNone p tries → IsUntried timer tries
+untried p k key timer [] held is none = tt
+untried p k key timer (t ∷ tries) held is none = (λ same. none.0 k key held (sym is ∙ sym same), untried p k key timer tries held is none.1)
+
+untried_push : (timer : TimerRef) (tries : List Try) (t : Try) → IsUntried timer tries → t.timer ≢ timer → IsUntried timer (tries ++ t ∷ [])
+untried_push timer [] t all one = (one, tt)
+untried_push timer (x ∷ tries) t all one = (all.0, untried_push timer tries t all.1 one)
+
+once_push : (tries : List Try) (t : Try) → AreOnce tries → IsUntried t.timer tries → AreOnce (tries ++ t ∷ [])
+once_push [] t once one = (tt, tt)
+once_push (x ∷ tries) t once one = (untried_push x.timer tries t once.0 (λ same. one.0 (sym same)), once_push tries t once.1 one.1)
+
+-- so it is tried once
+pub once_more : (p : Part) (k : ℕ) (key : Key) (tries : List Try) (t : Try) → key_in p.keys k ≡ Some key → t.timer ≡ last_timer p.number p.slots k
+    → HoldsNone p tries → AreOnce tries → AreOnce (tries ++ t ∷ [])
+once_more p k key tries t held is none once = once_push tries t once (untried p k key t.timer tries held is none)
+
+-- and after that its row is held no more
+pub none_more : (p q : Part) (k : ℕ) (tries : List Try) (t : Try) → k < length p.keys → t.timer ≡ last_timer p.number p.slots k
+    → q.number ≡ p.number → q.slots ≡ p.slots → q.keys ≡ set p.keys k None → q.passed ≡ p.passed
+    → HoldsNone p tries → HoldsNone q (tries ++ t ∷ [])
+none_more p q k tries t low is number slots keys time none =
+    none_push q tries t (holds_less p q tries (loses_row p q k low number slots keys time) none)
+    (λ j key held same. (key_left p.keys k j key low (ap (λ ks. key_in ks j) (sym keys) ∙ held)).0 (ap (λ (r : TimerRef). r.slot) (same ∙ is)))
+
+pub due_push : (rows : List Row) (to : ℕ) (tries : List Try) (t : Try) → AllDue rows to tries → IsDueBy rows to t.timer → AllDue rows to (tries ++ t ∷ [])
+due_push rows to [] t all one = (one, tt)
+due_push rows to (x ∷ tries) t all one = (all.0, due_push rows to tries t all.1 one)
+
+-- where nothing is due any more, each row that is held is later
+later_some : (to : ℕ) (o : Option Key) (key : Key) → IfSome o (λ (x : Key). to < x.deadline) → o ≡ Some key → to < key.deadline
+later_some to None key later is = absurd cc
+later_some to (Some x) key later is = subst (λ o. IfSome o (λ (x : Key). to < x.deadline)) is later
+
+pub passed : (p : Part) (to : ℕ) → ((k : ℕ) → IfSome (key_in p.keys k) (λ key. to < key.deadline)) → to < p.passed
+    → HasPassed p to
+passed p to each on = record { left = λ k key is. later_some to (key_in p.keys k) key (each k) is; on = on }

@@ -1,0 +1,24 @@
+-- How the rows of a part go, and what it holds no row of.
+
+use Rattle.std.specs.Prelude.{◌≡◌, ◌≢◌, ℕ, ◌<◌, ◌≤◌, List, [], ◌∷◌, Some}
+use Rattle.ert_effects.specs.WheelCalls.{Try}
+use Rattle.ert_timers.specs.Parts.{Part, last_timer}
+use Rattle.ert_wheel.specs.Rows.{key_in}
+use Rattle.ert_wheel.specs.declared.row.Key.{Key}
+
+-- each row that is held is due later than a time, and the wheel has passed that
+pub record HasPassed (p : Part) (to : ℕ) : Type 0 where
+  pub left : (k : ℕ) (key : Key) → key_in p.keys k ≡ Some key → to < key.deadline
+  pub on : to < p.passed
+
+-- some rows have gone, none has come, and time went on if it moved
+pub record LosesRows (p q : Part) : Type 0 where
+  pub number : q.number ≡ p.number
+  pub slots : q.slots ≡ p.slots
+  pub left : (k : ℕ) (key : Key) → key_in q.keys k ≡ Some key → key_in p.keys k ≡ Some key
+  pub time : p.passed ≤ q.passed
+
+-- no row is held of the timers of these tries
+abbrev pub HoldsNone : Part → List Try → Type 0
+HoldsNone p [] = Unit {0}
+HoldsNone p (t ∷ tries) = ((k : ℕ) (key : Key) → key_in p.keys k ≡ Some key → last_timer p.number p.slots k ≢ t.timer) × HoldsNone p tries

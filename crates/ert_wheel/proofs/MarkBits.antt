@@ -1,0 +1,119 @@
+-- The marks of buckets by the bits of words.
+
+use Rattle.std.proofs.Common.{◌≡◌, ◌≢◌, ℕ, ◌+◌, ◌-◌, ◌*◌, ◌/◌, ◌%◌, ◌^◌, ◌<◌, ◌≤◌, min, List, length, get_or, set, replicate, w64, sym, ap, ◌∙◌, inl, inr, arith, get_or-set_same, get_or-set_other}
+use Rattle.std.proofs.Math.Nat.{div-div-eq-div-mul, div-le_self}
+use Rattle.std.proofs.lemmas.Bool.{cases_eq, cases_lt}
+use Rattle.std.proofs.lemmas.List.{get_or-replicate}
+use Rattle.std.proofs.lemmas.Nat.{pow-add}
+use Rattle.std.proofs.lemmas.Nat.Bits.{bit_at-zero, bit_at-trailing_zeros, bit_at_above}
+use Rattle.std.specs.Int.{bit_at, trailing_zeros}
+use Rattle.ert_wheel.specs.Marks.{mark_of}
+use Rattle.ert_wheel.specs.declared.row.TheConstants.{BUCKETS}
+
+-- a bucket's mark is in its word
+pub mark-set_same : (words : List ℕ) (bucket word : ℕ) → bucket / 64 < length words
+    → mark_of (set words (bucket / 64) word) bucket ≡ bit_at word (bucket % 64)
+mark-set_same words bucket word within =
+    ap (λ n. bit_at n (bucket % 64)) (get_or-set_same words (bucket / 64) word 0 within)
+
+-- a word that keeps its other bits keeps the marks of the other buckets
+pub mark-set_other : (words : List ℕ) (bucket word : ℕ) → bucket / 64 < length words
+    → ((i : ℕ) → i < 64 → i ≢ bucket % 64 → bit_at word i ≡ bit_at (get_or words (bucket / 64) 0) i)
+    → (other : ℕ) → other ≢ bucket → mark_of (set words (bucket / 64) word) other ≡ mark_of words other
+mark-set_other words bucket word within kept other differs =
+    elim (cases_eq (other / 64) (bucket / 64)) [
+      | inl same ↦ rw (same, get_or-set_same words (bucket / 64) word 0 within) (kept (other % 64) (omega arith) (λ index. differs (omega arith)))
+      | inr apart ↦ ap (λ n. bit_at n (other % 64)) (get_or-set_other words (bucket / 64) (other / 64) word 0 apart)
+    ]
+
+-- no bucket is marked in words of 0
+pub no_mark : (bucket : ℕ) → bucket < BUCKETS → mark_of (replicate 64 0) bucket ≡ 0
+no_mark bucket low =
+    ap (λ n. bit_at n (bucket % 64)) (get_or-replicate 64 (bucket / 64) 0 0 (omega arith)) ∙ bit_at-zero (bucket % 64)
+
+-- what is shifted
+bit_at_shr : (word from i : ℕ) → bit_at (word / 2 ^ from) i ≡ bit_at word (from + i)
+bit_at_shr word from i =
+    ap (λ n. n % 2) (div-div-eq-div-mul word (2 ^ from) (2 ^ i) ∙ ap (λ m. word / m) (sym (pow-add 2 from i)))
+
+-- the lowest 1 from a place on
+pub record IsFirstBit (word from found : ℕ) : Type 0 where
+  pub up : from ≤ found
+  pub low : found ≤ 64
+  pub below : (place : ℕ) → from ≤ place → place < found → bit_at word place ≡ 0
+  pub here : found < 64 → bit_at word found ≡ 1
+
+pub no_bit : (word from : ℕ) → from < 64 → word / 2 ^ from ≡ 0 → IsFirstBit word from 64
+no_bit word from low none = record {
+  up = omega arith;
+  low = omega arith;
+  below = λ place up less.
+      let e : from + (place - from) ≡ place = omega arith in
+      sym (ap (bit_at word) e) ∙ sym (bit_at_shr word from (place - from)) ∙ ap (λ n. bit_at n (place - from)) none
+      ∙ bit_at-zero (place - from);
+  here = λ less. absurd (omega arith);
+}
+
+pub some_bit : (word from : ℕ) → from < 64 → word < 2 ^ 64 → 0 < word / 2 ^ from
+    → IsFirstBit word from (from + trailing_zeros w64 (word / 2 ^ from))
+some_bit word from low fits some =
+    let left : ℕ = word / 2 ^ from in
+    let less : left < 2 ^ 64 = omega (arith, div-le_self word (2 ^ from)) in
+    let t = bit_at-trailing_zeros w64 left some less in
+    let one : bit_at word (from + trailing_zeros w64 left) ≡ 1 = sym (bit_at_shr word from (trailing_zeros w64 left)) ∙ t.1 in
+    let small : from + trailing_zeros w64 left < 64 =
+    elim (cases_lt (from + trailing_zeros w64 left) 64) [
+      | inl less ↦ less
+      | inr more ↦ absurd (omega (arith, one, bit_at_above word 64 (from + trailing_zeros w64 left) fits more))
+    ] in
+    record {
+      up = omega arith;
+      low = omega (arith, small);
+      below = λ place up below.
+          let e : from + (place - from) ≡ place = omega arith in
+          sym (ap (bit_at word) e) ∙ sym (bit_at_shr word from (place - from)) ∙ t.2 (place - from) (omega arith);
+      here = λ _. one;
+    }
+
+-- no bucket is marked from one on, below another
+pub record IsPast (words : List ℕ) (from bucket : ℕ) : Type 0 where
+  pub up : from ≤ bucket
+  pub low : bucket ≤ BUCKETS
+  pub below : (b : ℕ) → from ≤ b → b < bucket → mark_of words b ≡ 0
+
+-- as far as a word tells
+past_bit : (words : List ℕ) (from bucket bit b : ℕ) → IsPast words from bucket
+    → IsFirstBit (get_or words (bucket / 64) 0) (bucket % 64) bit → from ≤ b → b < bucket / 64 * 64 + bit → mark_of words b ≡ 0
+past_bit words from bucket bit b past first up less =
+    elim (cases_lt b bucket) [
+      | inl before ↦ past.below b up before
+      | inr after ↦
+          let low : bit ≤ 64 = first.low in
+          let e : b / 64 ≡ bucket / 64 = omega arith in
+          ap (λ w. bit_at (get_or words w 0) (b % 64)) e ∙ first.below (b % 64) (omega arith) (omega arith)
+    ]
+
+-- the first marked bucket before an end
+pub record IsFirstMark (words : List ℕ) (from end found : ℕ) : Type 0 where
+  pub up : from ≤ found
+  pub low : found ≤ end
+  pub below : (b : ℕ) → from ≤ b → b < found → mark_of words b ≡ 0
+  pub here : found < end → mark_of words found ≡ 1
+
+pub first_found : (words : List ℕ) (from end bucket bit : ℕ) → IsPast words from bucket → bucket < end → end ≤ BUCKETS
+    → IsFirstBit (get_or words (bucket / 64) 0) (bucket % 64) bit → bit < 64 → IsFirstMark words from end (min (bucket / 64 * 64 + bit) end)
+first_found words from end bucket bit past less most first small =
+    let up : from ≤ bucket = past.up in
+    let high : bucket % 64 ≤ bit = first.up in
+    record {
+      up = omega arith;
+      low = omega arith;
+      below = λ b high low. past_bit words from bucket bit b past first high (omega arith);
+      here = λ before.
+          let is : min (bucket / 64 * 64 + bit) end ≡ bucket / 64 * 64 + bit = omega arith in
+          let e : (bucket / 64 * 64 + bit) / 64 ≡ bucket / 64 = omega arith in
+          let m : (bucket / 64 * 64 + bit) % 64 ≡ bit = omega arith in
+          ap (mark_of words) is
+          ∙ ap (λ w. bit_at (get_or words w 0) ((bucket / 64 * 64 + bit) % 64)) e
+          ∙ ap (bit_at (get_or words (bucket / 64) 0)) m ∙ first.here small;
+    }
