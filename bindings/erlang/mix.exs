@@ -4,10 +4,15 @@ defmodule Ertime.MixProject do
   def project do
     [
       app: :ertime,
-      version: "0.1.0",
+      version: "1.0.0",
       elixir: "~> 1.11",
       description: "The clock and timers of the Erlang runtime, moved by hand in tests",
-      package: [licenses: ["Apache-2.0"], links: %{}],
+      package: [
+        licenses: ["Apache-2.0"],
+        links: %{},
+        files: ~w(README.md mix.exs rebar.config lib src c_src/Makefile c_src/*.c c_src/*.h)
+      ],
+      docs: [main: "Ertime", extras: ["README.md"]],
       compilers: [:ertime_nif | Mix.compilers()],
       erlc_options: [:debug_info],
       deps: []

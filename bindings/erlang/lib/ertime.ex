@@ -2,33 +2,25 @@ defmodule Ertime do
   @moduledoc """
   The clock and timers of the Erlang runtime, with a clock that tests move by hand.
 
-  This is the Erlang module `:ertime` with Elixir's conventions: `open/1` takes a keyword list, and a module that
-  says `use Ertime` is compiled with its calls of `Process.send_after/4`, `System.monotonic_time/1` and so on turned
-  into calls that see the clock of a test. `Ertime.Case` sets up a clock for each test of ExUnit.
+  This is the Erlang module `:ertime` with Elixir's conventions: `open/1` takes a keyword list. `transform/1` turns the
+  calls of loaded modules, such as `Process.send_after/4` and `System.monotonic_time/1`, into calls that see the clock of
+  a test; `test_helper.exs` says so once, for a whole application. `Ertime.Case` sets up a clock for each test of ExUnit.
+
+      # test/test_helper.exs
+      :ok = Ertime.transform(:my_app)
+      :ok = Ertime.transform(:otp)
+      ExUnit.start()
+
+  By hand:
 
       clock = Ertime.open(mode: :multi_time_warp)
       Ertime.use(clock)
-      Process.send_after(self(), :wake_up, 3_600_000)
+      timer = :ertime.send_after(3_600_000, self(), :wake_up)
       Ertime.advance(clock, 3_600_000)
   """
 
   @type clock :: reference()
   @type duration :: integer() | {integer(), System.time_unit()}
-
-  @doc """
-  Turns the calls of the module that says so, in every environment; or only where `:only` says:
-
-      use Ertime, only: [:test]
-  """
-  defmacro __using__(options) do
-    environments = Keyword.get(options, :only, [Mix.env()])
-
-    if Mix.env() in environments do
-      quote do
-        @compile {:parse_transform, :ertime_transform}
-      end
-    end
-  end
 
   @doc "Opens a clock: see `ertime:open/1` for the options."
   @spec open(keyword()) :: clock()
@@ -38,8 +30,13 @@ defmodule Ertime do
   @spec close(clock()) :: boolean()
   defdelegate close(clock), to: :ertime
 
-  @doc "Lets the time pass, and answers how many messages were sent. The time is in milliseconds, or has a unit."
+  @doc """
+  Lets the time pass, and answers how many messages were sent. The time is in milliseconds, or has a unit.
+
+  With `:auto` it goes on by itself from now on, whenever all processes of the clock rest, and with `:by_hand` no longer.
+  """
   @spec advance(clock(), duration() | :until_idle) :: non_neg_integer()
+  @spec advance(clock(), :auto | :by_hand) :: :ok
   defdelegate advance(clock, duration), to: :ertime
 
   @doc "As `advance/2`, of the clock that the process sees."
@@ -58,11 +55,22 @@ defmodule Ertime do
   @spec drift(clock(), number()) :: :ok
   defdelegate drift(clock, parts_per_million), to: :ertime
 
-  @doc "The calling process uses the clock; or, with a list of modules, these are turned as `use Ertime` does it."
-  defdelegate use(clock_or_modules), to: :ertime
+  @doc "The calling process uses the clock, or with `:real` the runtime's. (`use(:otp)` is `transform(:otp)`.)"
+  defdelegate use(clock), to: :ertime
 
-  @doc "Takes `use/1` of modules back."
-  defdelegate unuse(modules), to: :ertime
+  @doc """
+  Turns loaded modules, so that their calls see the clock of a test: a list of modules, all of an application, or with
+  `:otp` those that GenServer, Task, Supervisor and the rest, DateTime, NaiveDateTime, Date and Time need.
+
+  It can be called again. Answers `:ok`, or `{:error, [{module, reason}]}`.
+  """
+  defdelegate transform(modules), to: :ertime
+
+  @doc "Takes `transform/1` back."
+  defdelegate untransform(modules), to: :ertime
+
+  @doc "Runs a test in a process and under a clock of its own: see `:ertime.test/2`. In ExUnit `Ertime.Case` is at hand."
+  def test(options \\ [], fun), do: :ertime.test(Map.new(options), fun)
 
   @doc "Calls a function with the process using the clock."
   defdelegate with(clock, fun), to: :ertime

@@ -12,7 +12,7 @@
 %% have come.
 -module(ertime_rest).
 
--export([wait/1]).
+-export([wait/1, wait/2, describe/1, monitored_by/1]).
 
 -define(KEY, '$ertime_rest').
 -define(YIELDS, 200).
@@ -27,12 +27,15 @@
 }).
 
 wait(Clock) ->
+    wait(Clock, application:get_env(ertime, rest_limit, 5000)).
+
+%% For at most so many milliseconds.
+wait(Clock, Limit) ->
     Known =
         case get(?KEY) of
             #known{clock = Clock} = Before -> Before;
             _ -> #known{clock = Clock}
         end,
-    Limit = application:get_env(ertime, rest_limit, 5000),
     put(?KEY, loop(Known, 0, erlang:monotonic_time(millisecond) + Limit)),
     ok.
 
@@ -150,10 +153,16 @@ ask(Pid, Seen = {Count, _}) ->
         {_, Count} ->
             Seen;
         _ ->
-            case process_info(Pid, monitors) of
-                {monitors, Monitors} -> {reductions(Pid), lists:append([pid_of(M) || M <- Monitors])};
-                undefined -> Seen
-            end
+            %% The count is taken afterwards, since to be asked for its monitors is work for a process.
+            Monitored = monitored_by(Pid),
+            {reductions(Pid), Monitored}
+    end.
+
+%% The processes of this node that it monitors.
+monitored_by(Pid) ->
+    case process_info(Pid, monitors) of
+        {monitors, Monitors} -> lists:append([pid_of(Monitor) || Monitor <- Monitors]);
+        undefined -> []
     end.
 
 reductions(Pid) ->
@@ -214,7 +223,10 @@ number(Pid) ->
 %% --- the error ----------------------------------------------------------------------------------------------------
 
 describe(Pid) ->
-    case process_info(Pid, [registered_name, status, current_function, initial_call, message_queue_len]) of
+    case process_info(Pid, [registered_name, status, current_function, current_stacktrace, initial_call, message_queue_len]) of
         undefined -> {Pid, []};
-        Info -> {Pid, [Item || Item <- Info, Item =/= {registered_name, []}]}
+        Info -> {Pid, [short(Item) || Item <- Info, Item =/= {registered_name, []}]}
     end.
+
+short({current_stacktrace, Stack}) -> {current_stacktrace, lists:sublist(Stack, 6)};
+short(Item) -> Item.

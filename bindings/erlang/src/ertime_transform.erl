@@ -1,195 +1,360 @@
 %% @doc Turns calls about time into calls of {@link ertime}, so that code under test sees the clock of a test.
 %%
 %% As a compile option, `{parse_transform, ertime_transform}', it does so for a module that is compiled; by
-%% {@link ertime:use/1} with a list of modules, for modules that are loaded and were compiled with debug information, of Erlang
-%% and of Elixir.
+%% {@link ertime:transform/1} for modules that are loaded and were compiled with debug information, of Erlang and of Elixir.
 %%
-%% It turns the calls of `erlang', `os', `timer:sleep/1' and of Elixir's `System' and `Process' for which {@link ertime} has a
-%% function; the same as `fun M:F/A'; calls of the auto-imported `monitor' and `demonitor'; and `receive .. after', where a timer
-%% takes the place of the timeout. Calls whose module or function is a variable stay as they are.
+%% It turns the calls of `erlang', `os', `timer', `calendar' and of Elixir's `System' and `Process' for which {@link ertime} has
+%% a function, also where they are imported; the same as `fun M:F/A'; `apply/3' and calls whose module or function is a
+%% variable; and `receive .. after', where a timer takes the place of the timeout.
 -module(ertime_transform).
 
 -export([parse_transform/2]).
 %% @hidden
--export([load/1, unload/1, calls/0]).
+-export([marked/1]).
 
 -define(AFTER, '$ertime_after').
 -define(COUNT, '$ertime_transform').
 
+-record(names, {
+    own = #{},      % {Name, Arity} of the module's functions
+    imported = #{}  % {Name, Arity} => the module that it is imported from
+}).
+
 %% @doc The transform, as the compiler calls it.
+-spec parse_transform([erl_parse:abstract_form()], list()) -> [erl_parse:abstract_form()].
 parse_transform(Forms, _Options) ->
-    Own = own_functions(Forms),
+    Names = #names{
+        own = maps:from_list([{{Name, Arity}, []} || {function, _, Name, Arity, _} <- Forms]),
+        imported = maps:from_list([{FA, M} || {attribute, _, import, {M, FAs}} <- Forms, FA <- FAs])
+    },
     erase(?COUNT),
-    New = [form(Form, Own) || Form <- Forms],
+    New = marked([form(Form, Names) || Form <- Forms]),
     erase(?COUNT),
     New.
 
-%% Functions of the module, or imported into it, that hide an auto-imported one.
-own_functions(Forms) ->
-    [{Name, Arity} || {function, _, Name, Arity, _} <- Forms] ++
-        [FA || {attribute, _, import, {_, Names}} <- Forms, FA <- Names].
+%% With an attribute, by which a module that is turned is known.
+marked(Forms) ->
+    lists:append([[Form | mark(Form)] || Form <- Forms]).
 
-form({function, Anno, Name, Arity, Clauses}, Own) ->
-    {function, Anno, Name, Arity, walk(Clauses, Own)};
+mark({attribute, Anno, module, _}) -> [{attribute, Anno, ertime_transform, true}];
+mark(_) -> [].
+
+form({function, Anno, Name, Arity, Clauses}, Names) ->
+    {New, _} = clauses(Clauses, #{}, Names),
+    {function, Anno, Name, Arity, New};
+form({attribute, Anno, record, {Name, Fields}}, Names) ->
+    {attribute, Anno, record, {Name, [field(Field, Names) || Field <- Fields]}};
 form(Form, _) ->
     Form.
 
-walk({call, Anno, {remote, At, {atom, AtM, M}, {atom, AtF, F}}, Arguments}, Own) ->
-    {NewM, NewF} = target(M, F, length(Arguments)),
-    {call, Anno, {remote, At, {atom, AtM, NewM}, {atom, AtF, NewF}}, walk(Arguments, Own)};
-walk({call, Anno, {atom, At, F}, Arguments}, Own) ->
-    Arity = length(Arguments),
-    case is_imported(F, Arity) andalso not lists:member({F, Arity}, Own) of
-        true -> {call, Anno, {remote, At, {atom, At, ertime}, {atom, At, F}}, walk(Arguments, Own)};
-        false -> {call, Anno, {atom, At, F}, walk(Arguments, Own)}
+%% The default of a record's field.
+field({record_field, Anno, Name, Default}, Names) ->
+    {record_field, Anno, Name, element(1, expression(Default, #{}, Names))};
+field({typed_record_field, Field, Type}, Names) ->
+    {typed_record_field, field(Field, Names), Type};
+field(Field, _) ->
+    Field.
+
+%% --- expressions --------------------------------------------------------------------------------------------------
+
+%% Each answers what it turned, and the variables that are bound after it. Variables matter to `receive .. after' alone.
+expressions(Expressions, Bound, Names) ->
+    lists:mapfoldl(fun(Expression, Before) -> expression(Expression, Before, Names) end, Bound, Expressions).
+
+expression({var, _, _} = Variable, Bound, _) ->
+    {Variable, Bound};
+expression({match, Anno, Pattern, Value}, Bound0, Names) ->
+    {New, Bound} = expression(Value, Bound0, Names),
+    {{match, Anno, Pattern, New}, variables(Pattern, Bound)};
+expression({maybe_match, Anno, Pattern, Value}, Bound0, Names) ->
+    {New, Bound} = expression(Value, Bound0, Names),
+    {{maybe_match, Anno, Pattern, New}, variables(Pattern, Bound)};
+expression({'case', Anno, Value, Clauses}, Bound0, Names) ->
+    {NewValue, Bound1} = expression(Value, Bound0, Names),
+    {New, Bound} = clauses(Clauses, Bound1, Names),
+    {{'case', Anno, NewValue, New}, Bound};
+expression({'if', Anno, Clauses}, Bound0, Names) ->
+    {New, Bound} = clauses(Clauses, Bound0, Names),
+    {{'if', Anno, New}, Bound};
+expression({block, Anno, Body}, Bound0, Names) ->
+    {New, Bound} = expressions(Body, Bound0, Names),
+    {{block, Anno, New}, Bound};
+expression({op, Anno, Op, Left, Right}, Bound0, Names) ->
+    {NewLeft, Bound1} = expression(Left, Bound0, Names),
+    {NewRight, Bound} = expression(Right, Bound1, Names),
+    {{op, Anno, Op, NewLeft, NewRight}, Bound};
+expression({'receive', Anno, Clauses}, Bound0, Names) ->
+    {New, Bound} = clauses(Clauses, Bound0, Names),
+    {{'receive', Anno, New}, Bound};
+expression({'receive', Anno, Clauses, Time, Body}, Bound, Names) ->
+    receive_after(Anno, Clauses, Time, Body, Bound, Names);
+%% What is bound in these isn't seen behind them.
+expression({'try', Anno, Body, Clauses, Catches, After}, Bound, Names) ->
+    {NewBody, InBody} = expressions(Body, Bound, Names),
+    {NewClauses, _} = clauses(Clauses, InBody, Names),
+    {NewCatches, _} = clauses(Catches, Bound, Names),
+    {NewAfter, _} = expressions(After, Bound, Names),
+    {{'try', Anno, NewBody, NewClauses, NewCatches, NewAfter}, Bound};
+expression({'catch', Anno, Body}, Bound, Names) ->
+    {New, _} = expression(Body, Bound, Names),
+    {{'catch', Anno, New}, Bound};
+expression({'maybe', Anno, Body}, Bound, Names) ->
+    {New, _} = expressions(Body, Bound, Names),
+    {{'maybe', Anno, New}, Bound};
+expression({'maybe', Anno, Body, {'else', At, Clauses}}, Bound, Names) ->
+    {New, _} = expressions(Body, Bound, Names),
+    {NewClauses, _} = clauses(Clauses, Bound, Names),
+    {{'maybe', Anno, New, {'else', At, NewClauses}}, Bound};
+expression({'fun', Anno, {clauses, Clauses}}, Bound, Names) ->
+    {New, _} = clauses(Clauses, Bound, Names),
+    {{'fun', Anno, {clauses, New}}, Bound};
+expression({named_fun, Anno, Name, Clauses}, Bound, Names) ->
+    {New, _} = clauses(Clauses, Bound#{Name => []}, Names),
+    {{named_fun, Anno, Name, New}, Bound};
+expression({Comprehension, Anno, Template, Qualifiers}, Bound, Names) when Comprehension =:= lc; Comprehension =:= bc; Comprehension =:= mc ->
+    {NewQualifiers, Inside} = lists:mapfoldl(fun(It, Before) -> qualifier(It, Before, Names) end, Bound, Qualifiers),
+    {New, _} = expression(Template, Inside, Names),
+    {{Comprehension, Anno, New, NewQualifiers}, Bound};
+expression({'fun', Anno, {function, M, F, Arity}}, Bound, Names) ->
+    {external_fun(Anno, M, F, Arity, Names), Bound};
+expression({'fun', Anno, {function, F, Arity}}, Bound, Names) ->
+    {local_fun(Anno, F, Arity, Names), Bound};
+expression({call, Anno, {remote, At, M, F}, Arguments}, Bound0, Names) ->
+    {[NewM, NewF | New], Bound} = side_by_side([M, F | Arguments], Bound0, Names),
+    {remote_call(Anno, At, NewM, NewF, New), Bound};
+expression({call, Anno, {atom, At, F}, Arguments}, Bound0, Names) ->
+    {New, Bound} = side_by_side(Arguments, Bound0, Names),
+    {local_call(Anno, At, F, New, Names), Bound};
+%% All others: their parts are evaluated side by side.
+expression(Tuple, Bound0, Names) when is_tuple(Tuple) ->
+    {New, Bound} = side_by_side(tuple_to_list(Tuple), Bound0, Names),
+    {list_to_tuple(New), Bound};
+expression([_ | _] = List, Bound, Names) ->
+    side_by_side(List, Bound, Names);
+expression(Other, Bound, _) ->
+    {Other, Bound}.
+
+side_by_side([Head | Tail], Bound0, Names) ->
+    {NewHead, Bound1} = expression(Head, Bound0, Names),
+    {NewTail, Bound} = side_by_side(Tail, Bound0, Names),
+    {[NewHead | NewTail], maps:merge(Bound1, Bound)};
+side_by_side([], Bound, _) ->
+    {[], Bound};
+side_by_side(Tail, Bound, Names) ->
+    expression(Tail, Bound, Names).
+
+clauses(Clauses, Bound, Names) ->
+    lists:mapfoldl(
+        fun({clause, Anno, Patterns, Guards, Body}, Sum) ->
+            {New, After} = expressions(Body, variables(Patterns, Bound), Names),
+            {{clause, Anno, Patterns, Guards, New}, maps:merge(Sum, After)}
+        end,
+        Bound,
+        Clauses
+    ).
+
+qualifier({zip, Anno, Generators}, Bound0, Names) ->
+    {New, Bound} = lists:mapfoldl(fun(It, Before) -> qualifier(It, Before, Names) end, Bound0, Generators),
+    {{zip, Anno, New}, Bound};
+qualifier({Generator, Anno, Pattern, Source}, Bound, Names) when
+    Generator =:= generate; Generator =:= b_generate; Generator =:= m_generate; Generator =:= generate_strict;
+    Generator =:= b_generate_strict; Generator =:= m_generate_strict
+->
+    {New, _} = expression(Source, Bound, Names),
+    {{Generator, Anno, Pattern, New}, variables(Pattern, Bound)};
+qualifier(Filter, Bound, Names) ->
+    expression(Filter, Bound, Names).
+
+%% The variables of a pattern, added to these.
+variables({var, _, '_'}, Bound) -> Bound;
+variables({var, _, Name}, Bound) -> Bound#{Name => []};
+variables(Tuple, Bound) when is_tuple(Tuple) -> variables(tuple_to_list(Tuple), Bound);
+variables([Head | Tail], Bound) -> variables(Tail, variables(Head, Bound));
+variables(_, Bound) -> Bound.
+
+%% --- calls --------------------------------------------------------------------------------------------------------
+
+%% A call of a monitor of something else than the time offset stays: the compiler knows that its reference is new, and lets
+%% a receive begin behind what was in the mailbox before.
+remote_call(Anno, At, {atom, _, erlang} = M, {atom, _, monitor} = F, [{atom, _, Type} | _] = Arguments) when Type =/= time_offset ->
+    {call, Anno, {remote, At, M, F}, Arguments};
+remote_call(Anno, At, {atom, _, erlang} = M, {atom, _, process_info} = F, [_, {atom, _, Item}] = Arguments) when Item =/= monitored_by ->
+    {call, Anno, {remote, At, M, F}, Arguments};
+remote_call(Anno, At, {atom, _, erlang}, {atom, _, apply}, [M, F, Arguments] = All) ->
+    case ertime_calls:may_be(literal(M), literal(F), arity(Arguments)) of
+        true -> own_call(Anno, ertime_calls, call, All);
+        false -> {call, Anno, {remote, At, {atom, At, erlang}, {atom, At, apply}}, All}
     end;
-walk({'fun', Anno, {function, {atom, AtM, M}, {atom, AtF, F}, {integer, AtA, Arity}}}, _) ->
-    {NewM, NewF} = target(M, F, Arity),
-    {'fun', Anno, {function, {atom, AtM, NewM}, {atom, AtF, NewF}, {integer, AtA, Arity}}};
-walk({'receive', Anno, Clauses, {integer, At, 0}, Body}, Own) ->
-    {'receive', Anno, walk(Clauses, Own), {integer, At, 0}, walk(Body, Own)};
-walk({'receive', Anno, Clauses, {atom, At, infinity}, Body}, Own) ->
-    {'receive', Anno, walk(Clauses, Own), {atom, At, infinity}, walk(Body, Own)};
-walk({'receive', Anno, Clauses, Time, Body}, Own) ->
-    receive_after(Anno, walk(Clauses, Own), walk(Time, Own), walk(Body, Own));
-walk(Tuple, Own) when is_tuple(Tuple) ->
-    list_to_tuple(walk(tuple_to_list(Tuple), Own));
-walk([Head | Tail], Own) ->
-    [walk(Head, Own) | walk(Tail, Own)];
-walk(Other, _) ->
-    Other.
+remote_call(Anno, At, {atom, AtM, M}, {atom, AtF, F}, Arguments) ->
+    {NewM, NewF} = ertime_calls:target(M, F, length(Arguments)),
+    {call, Anno, {remote, At, {atom, AtM, NewM}, {atom, AtF, NewF}}, Arguments};
+remote_call(Anno, At, M, F, Arguments) ->
+    case ertime_calls:may_be(literal(M), literal(F), length(Arguments)) of
+        true -> own_call(Anno, ertime_calls, call, [M, F, list(Anno, Arguments)]);
+        false -> {call, Anno, {remote, At, M, F}, Arguments}
+    end.
 
-%% begin {Timer, Left} = ertime:receive_start(Time), receive {timeout, Timer, '$ertime_after'} -> Body; .. after Left -> Body end end
+literal({atom, _, Name}) -> Name;
+literal({var, _, _}) -> any;
+literal({call, _, _, _}) -> any;
+literal(_) -> any.
+
+%% The length of a list that stands in the code.
+arity({nil, _}) -> 0;
+arity({cons, _, _, Tail}) ->
+    case arity(Tail) of
+        any -> any;
+        Length -> Length + 1
+    end;
+arity(_) -> any.
+
+list(Anno, Elements) ->
+    lists:foldr(fun(Element, Tail) -> {cons, Anno, Element, Tail} end, {nil, Anno}, Elements).
+
+local_call(Anno, At, F, Arguments, Names) ->
+    case module_of(F, length(Arguments), Names) of
+        none -> {call, Anno, {atom, At, F}, Arguments};
+        M ->
+            case remote_call(Anno, At, {atom, At, M}, {atom, At, F}, Arguments) of
+                {call, _, {remote, _, {atom, _, M}, {atom, _, F}}, _} -> {call, Anno, {atom, At, F}, Arguments};
+                Turned -> Turned
+            end
+    end.
+
+%% Where a function comes from that is called by its name alone.
+module_of(F, Arity, #names{own = Own, imported = Imported}) ->
+    case {Own, Imported} of
+        {#{{F, Arity} := _}, _} -> none;
+        {_, #{{F, Arity} := M}} -> M;
+        _ ->
+            case ertime_calls:auto_imported(F, Arity) of
+                true -> erlang;
+                false -> none
+            end
+    end.
+
+external_fun(Anno, {atom, AtM, M}, {atom, AtF, F}, {integer, _, Arity} = A, _) ->
+    {NewM, NewF} = ertime_calls:target(M, F, Arity),
+    {'fun', Anno, {function, {atom, AtM, NewM}, {atom, AtF, NewF}, A}};
+external_fun(Anno, M, F, Arity, Names) ->
+    Known = case Arity of {integer, _, Number} -> Number; _ -> any end,
+    {Parts, _} = side_by_side([M, F, Arity], #{}, Names),
+    case ertime_calls:may_be(literal(M), literal(F), Known) of
+        true -> own_call(Anno, ertime_calls, external_fun, Parts);
+        false -> {'fun', Anno, {function, M, F, Arity}}
+    end.
+
+local_fun(Anno, F, Arity, Names) ->
+    Stays = {'fun', Anno, {function, F, Arity}},
+    case module_of(F, Arity, Names) of
+        none -> Stays;
+        M ->
+            case ertime_calls:target(M, F, Arity) of
+                {M, F} -> Stays;
+                {NewM, NewF} -> {'fun', Anno, {function, {atom, Anno, NewM}, {atom, Anno, NewF}, {integer, Anno, Arity}}}
+            end
+    end.
+
+own_call(Anno, Module, Name, Arguments) ->
+    {call, Anno, {remote, Anno, {atom, Anno, Module}, {atom, Anno, Name}}, Arguments}.
+
+%% --- receive .. after ---------------------------------------------------------------------------------------------
+
+%%     case
+%%         case ertime:receive_start(Time) of
+%%             {none, Left} -> receive Pattern -> {1, Variables}; .. after Left -> 0 end;
+%%             {Timer, infinity} -> receive {timeout, Timer, '$ertime_after'} -> 0; Pattern -> ertime:receive_stop(Timer), {1, Variables}; .. end
+%%         end
+%%     of
+%%         0 -> Body;
+%%         {1, Variables} -> ..
+%%     end
 %%
-%% Each of the clauses stops the timer first.
-receive_after(Anno0, Clauses, Time, Body) ->
+%% Without a clock the receive is as it was, and the compiler can see that all its clauses match a reference that was just made.
+%% The bodies stand there once, so receives in receives grow no faster than their patterns. The variables that a pattern binds
+%% have other names inside, where not all clauses bind them; those that were bound before keep theirs.
+receive_after(Anno, Clauses, {integer, _, 0} = Time, Body, Bound, Names) ->
+    untimed(Anno, Clauses, Time, Body, Bound, Names);
+receive_after(Anno, Clauses, {atom, _, infinity} = Time, Body, Bound, Names) ->
+    untimed(Anno, Clauses, Time, Body, Bound, Names);
+receive_after(Anno, [], Time, Body, Bound0, Names) ->
+    {NewTime, Bound1} = expression(Time, Bound0, Names),
+    {NewBody, Bound} = expressions(Body, Bound1, Names),
+    {{block, Anno, [own_call(Anno, ertime, sleep, [NewTime]) | NewBody]}, Bound};
+receive_after(Anno0, Clauses, Time, Body, Bound0, Names) ->
     Anno = erl_anno:set_generated(true, Anno0),
-    Timer = variable(Anno, "Timer"),
-    Left = variable(Anno, "Left"),
-    Start = {match, Anno, {tuple, Anno, [Timer, Left]}, own_call(Anno, receive_start, [Time])},
-    Expired = {clause, Anno, [{tuple, Anno, [{atom, Anno, timeout}, Timer, {atom, Anno, ?AFTER}]}], [], generated(Body)},
-    Stopping = [
-        {clause, At, Patterns, Guards, [own_call(Anno, receive_stop, [Timer]) | Then]}
-     || {clause, At, Patterns, Guards, Then} <- Clauses
-    ],
-    {block, Anno, [Start, {'receive', Anno0, [Expired | Stopping], Left, Body}]}.
+    {NewTime, Bound1} = expression(Time, Bound0, Names),
+    {NewBody, InBody} = expressions(Body, Bound1, Names),
+    {Timer, Left} = {fresh(Anno, "Timer"), fresh(Anno, "Left")},
+    Numbered = lists:zip(lists:seq(1, length(Clauses)), Clauses),
+    Expired = {clause, Anno, [{tuple, Anno, [{atom, Anno, timeout}, Timer, {atom, Anno, ?AFTER}]}], [], [{integer, Anno, 0}]},
+    Real = [chosen(Anno, Clause, Bound1, []) || Clause <- Numbered],
+    Stopping = [chosen(Anno, Clause, Bound1, [own_call(Anno, ertime, receive_stop, [Timer])]) || Clause <- Numbered],
+    Choice = {'case', Anno, own_call(Anno, ertime, receive_start, [NewTime]), [
+        {clause, Anno, [{tuple, Anno, [{atom, Anno, none}, Left]}], [], [{'receive', Anno0, Real, Left, [{integer, Anno, 0}]}]},
+        {clause, Anno, [{tuple, Anno, [Timer, {atom, Anno, infinity}]}], [], [{'receive', Anno, [Expired | Stopping]}]}
+    ]},
+    {Bodies, Bound} = lists:mapfoldl(
+        fun({_, {clause, At, Patterns, _, Then}} = Clause, Sum) ->
+            {New, After} = expressions(Then, variables(Patterns, Bound1), Names),
+            {{clause, At, [tag(Anno, Clause, Bound1)], [], used(Anno, Clause, Bound1) ++ New}, maps:merge(Sum, After)}
+        end,
+        InBody,
+        Numbered
+    ),
+    {{'case', Anno, Choice, [{clause, Anno, [{integer, Anno, 0}], [], NewBody} | Bodies]}, Bound}.
 
-own_call(Anno, Name, Arguments) ->
-    {call, Anno, {remote, Anno, {atom, Anno, ertime}, {atom, Anno, Name}}, Arguments}.
+untimed(Anno, Clauses, Time, Body, Bound0, Names) ->
+    {New, Bound1} = clauses(Clauses, Bound0, Names),
+    {NewBody, Bound2} = expressions(Body, Bound0, Names),
+    {{'receive', Anno, New, Time, NewBody}, maps:merge(Bound1, Bound2)}.
 
-%% The copy of a body is told no warnings.
-generated(Body) ->
-    [erl_parse:map_anno(fun(Anno) -> erl_anno:set_generated(true, Anno) end, Expression) || Expression <- Body].
+%% A clause of the receive inside: it tells its number, and what its pattern has bound.
+chosen(Anno, {_, {clause, At, Patterns, Guards, _}} = Clause, Bound, Before) ->
+    Renamed = maps:map(fun(Name, _) -> element(3, fresh(Anno, atom_to_list(Name))) end, maps:from_list(new_variables(Clause, Bound))),
+    Tag = tag(Anno, Clause, Bound),
+    {clause, erl_anno:set_generated(true, At), generated(rename(Patterns, Renamed)), generated(rename(Guards, Renamed)), Before ++ [rename(Tag, Renamed)]}.
 
-variable(Anno, Name) ->
+tag(Anno, {Number, _} = Clause, Bound) ->
+    case new_variables(Clause, Bound) of
+        [] -> {integer, Anno, Number};
+        New -> {tuple, Anno, [{integer, Anno, Number} | [{var, At, Name} || {Name, At} <- New]]}
+    end.
+
+%% A variable that stands twice in a pattern, or in its guard too, is used, though the body has none of it.
+used(Anno, {_, {clause, _, Patterns, Guards, _}} = Clause, Bound) ->
+    [{match, Anno, {var, Anno, '_'}, {var, Anno, Name}} || {Name, _} <- new_variables(Clause, Bound), count(Name, [Patterns, Guards]) > 1].
+
+count(Name, {var, _, Name}) -> 1;
+count(Name, Tuple) when is_tuple(Tuple) -> count(Name, tuple_to_list(Tuple));
+count(Name, [Head | Tail]) -> count(Name, Head) + count(Name, Tail);
+count(_, _) -> 0.
+
+%% The variables that the pattern of a clause binds, each with the place where it stands first.
+new_variables({_, {clause, _, Patterns, _, _}}, Bound) ->
+    lists:sort(maps:to_list(maps:without(maps:keys(Bound), places(Patterns, #{})))).
+
+places({var, _, '_'}, Found) -> Found;
+places({var, At, Name}, Found) when not is_map_key(Name, Found) -> Found#{Name => At};
+places(Tuple, Found) when is_tuple(Tuple) -> places(tuple_to_list(Tuple), Found);
+places([Head | Tail], Found) -> places(Tail, places(Head, Found));
+places(_, Found) -> Found.
+
+rename({var, Anno, Name}, Renamed) -> {var, Anno, maps:get(Name, Renamed, Name)};
+rename(Tuple, Renamed) when is_tuple(Tuple) -> list_to_tuple(rename(tuple_to_list(Tuple), Renamed));
+rename([Head | Tail], Renamed) -> [rename(Head, Renamed) | rename(Tail, Renamed)];
+rename(Other, _) -> Other.
+
+%% The compiler tells no warnings of what the user didn't write.
+generated([Head | Tail]) -> [generated(Head) | generated(Tail)];
+generated([]) -> [];
+generated(Form) -> erl_parse:map_anno(fun(Anno) -> erl_anno:set_generated(true, Anno) end, Form).
+
+fresh(Anno, Name) ->
     Count =
         case get(?COUNT) of
             undefined -> 0;
             Before -> Before
         end,
     put(?COUNT, Count + 1),
-    {var, Anno, list_to_atom("Ertime@" ++ Name ++ integer_to_list(Count))}.
-
-is_imported(monitor, 2) -> true;
-is_imported(demonitor, 1) -> true;
-is_imported(demonitor, 2) -> true;
-is_imported(_, _) -> false.
-
-target(M, F, Arity) ->
-    case lists:keyfind({M, F, Arity}, 1, calls()) of
-        {_, New} -> {ertime, New};
-        false -> {M, F}
-    end.
-
-%% The calls that are turned, each with the name in the module ertime.
-calls() ->
-    [{{erlang, F, A}, F} || {F, A} <- as_erlang()] ++
-        [{{'Elixir.System', F, A}, F} || {F, A} <- as_system()] ++
-        [{{'Elixir.Process', F, A}, F} || {F, A} <- [{cancel_timer, 1}, {cancel_timer, 2}, {read_timer, 1}, {sleep, 1}]] ++
-        [
-            {{'Elixir.System', os_time, 0}, os_system_time},
-            {{'Elixir.System', os_time, 1}, os_system_time},
-            {{'Elixir.Process', send_after, 3}, elixir_send_after},
-            {{'Elixir.Process', send_after, 4}, elixir_send_after},
-            {{os, system_time, 0}, os_system_time},
-            {{os, system_time, 1}, os_system_time},
-            {{os, timestamp, 0}, os_timestamp},
-            {{timer, sleep, 1}, sleep}
-        ].
-
-as_erlang() ->
-    [
-        {monotonic_time, 0}, {monotonic_time, 1}, {system_time, 0}, {system_time, 1}, {time_offset, 0}, {time_offset, 1},
-        {timestamp, 0}, {convert_time_unit, 3}, {start_timer, 3}, {start_timer, 4}, {send_after, 3}, {send_after, 4},
-        {cancel_timer, 1}, {cancel_timer, 2}, {read_timer, 1}, {read_timer, 2}, {monitor, 2}, {demonitor, 1}, {demonitor, 2},
-        {system_flag, 2}, {system_info, 1}, {universaltime, 0}, {localtime, 0}
-    ].
-
-as_system() ->
-    [
-        {monotonic_time, 0}, {monotonic_time, 1}, {system_time, 0}, {system_time, 1}, {time_offset, 0}, {time_offset, 1},
-        {convert_time_unit, 3}
-    ].
-
-%% --- loaded modules -----------------------------------------------------------------------------------------------
-
-load(Modules) ->
-    each(Modules, fun load_one/1).
-
-unload(Modules) ->
-    each(Modules, fun unload_one/1).
-
-each(Modules, Do) ->
-    case [{Module, Reason} || Module <- Modules, {error, Reason} <- [Do(Module)]] of
-        [] -> ok;
-        Failed -> {error, Failed}
-    end.
-
-load_one(Module) ->
-    case code:get_object_code(Module) of
-        error -> {error, no_object_code};
-        {Module, Binary, File} ->
-            case forms(Module, Binary) of
-                {ok, Forms, Options} -> compile_and_load(Module, File, parse_transform(Forms, []), Options);
-                Error -> Error
-            end
-    end.
-
-forms(Module, Binary) ->
-    case beam_lib:chunks(Binary, [debug_info]) of
-        {ok, {_, [{debug_info, {debug_info_v1, Backend, Data}}]}} when Data =/= none ->
-            case Backend:debug_info(erlang_v1, Module, Data, []) of
-                {ok, Forms} -> {ok, Forms, options(Backend)};
-                {error, Reason} -> {error, Reason}
-            end;
-        _ ->
-            {error, no_debug_info}
-    end.
-
-%% Elixir's compiler gives this one too.
-options(elixir_erl) -> [no_auto_import];
-options(_) -> [].
-
-compile_and_load(Module, File, Forms, Options) ->
-    case compile:forms(Forms, [binary, return_errors, debug_info | Options]) of
-        {ok, Module, Binary} -> replace(Module, fun() -> code:load_binary(Module, File, Binary) end);
-        {ok, Module, Binary, _} -> replace(Module, fun() -> code:load_binary(Module, File, Binary) end);
-        {error, Errors, _} -> {error, Errors}
-    end.
-
-unload_one(Module) ->
-    replace(Module, fun() -> code:load_file(Module) end).
-
-replace(Module, Load) ->
-    Sticky = code:is_sticky(Module),
-    Sticky andalso code:unstick_mod(Module),
-    Result =
-        case code:soft_purge(Module) of
-            true -> Load();
-            false -> {error, old_code_is_in_use}
-        end,
-    Sticky andalso code:stick_mod(Module),
-    case Result of
-        {module, Module} -> ok;
-        {error, Reason} -> {error, Reason}
-    end.
+    {var, Anno, list_to_atom("Ertime@" ++ Name ++ "@" ++ integer_to_list(Count))}.

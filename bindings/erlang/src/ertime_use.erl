@@ -1,19 +1,84 @@
 %% @private
-%% Which clock a process sees: that of its own dictionary, of an ancestor or a caller (`$ancestors' and `$callers', which
-%% `proc_lib' and Elixir keep), of the process that spawned it, or the one for everybody.
+%% Which clock a process sees: the one that it uses; else that of an ancestor or a caller (`$ancestors' and `$callers', which
+%% `proc_lib' and Elixir keep) or of the process that spawned it; else the one for everybody.
+%%
+%% A clock that was found by ancestors and callers becomes the process' own, until it is closed. The answers "none" and "the
+%% one for everybody" are kept too, in the dictionary of the process, and hold as long as nobody on the node has taken or left
+%% a clock since: each such step counts up an epoch. Beside the epoch the answer keeps the `$ancestors' and `$callers' by which
+%% it was found, so a process that changes these looks again.
 -module(ertime_use).
 
 -export([clock/0, turn_on/0, lost/0, put_clock/1, put_everywhere/1, everywhere/0, clock_of/1]).
 
 -define(KEY, '$ertime').
--define(DEEPEST, 32).
+-define(SEEN, '$ertime_seen').
+-define(EPOCH, '$ertime_epoch').
 
 %% The clock of the calling process, or none. It is asked for where a clock was opened on the node (ertime_on).
 clock() ->
     case get(?KEY) of
-        undefined -> find();
+        undefined -> seen();
         Clock -> Clock
     end.
+
+%% The epoch is read before the search, and counted up after each change. So an answer that is kept under the epoch of now was
+%% found after the last change.
+seen() ->
+    Epoch = atomics:get(persistent_term:get(?EPOCH), 1),
+    Ancestors = get('$ancestors'),
+    Callers = get('$callers'),
+    case get(?SEEN) of
+        {Clock, Epoch, Ancestors, Callers} -> Clock;
+        Before -> find(Before, Epoch, Ancestors, Callers)
+    end.
+
+find(Before, Epoch, Ancestors, Callers) ->
+    case search(relatives(get(), self()), #{self() => []}) of
+        none ->
+            Clock = for_everybody(everywhere()),
+            seen_before(Before, Clock),
+            put(?SEEN, {Clock, Epoch, Ancestors, Callers}),
+            Clock;
+        Found ->
+            Clock = own_from_now(Found),
+            %% Where the process had no clock at first, those below it may keep that answer.
+            Before =:= undefined orelse changed(),
+            Clock
+    end.
+
+for_everybody(none) ->
+    none;
+for_everybody(Clock) ->
+    case join(Clock) of
+        ok -> Clock;
+        closed -> none
+    end.
+
+own_from_now(real) ->
+    put_own(none);
+own_from_now(Clock) ->
+    case join(Clock) of
+        ok -> put_own(Clock);
+        closed -> clock()
+    end.
+
+join(Clock) ->
+    case ertime_nif:join(Clock) of
+        system_limit -> error(system_limit);
+        Answer -> Answer
+    end.
+
+put_own(Clock) ->
+    seen_before(erase(?SEEN), Clock),
+    put(?KEY, Clock),
+    Clock.
+
+seen_before({Before, _, _, _}, Clock) when is_reference(Before), Before =/= Clock -> ertime_nif:leave(Before);
+seen_before(_, _) -> ok.
+
+%% Somebody has taken a clock or left one.
+changed() ->
+    atomics:add(persistent_term:get(?EPOCH), 1, 1).
 
 %% A clock was opened on this node. The module is replaced once and by one process: a second time would purge the first code,
 %% and with it who happens to be in it.
@@ -22,6 +87,13 @@ turn_on() ->
     ok.
 
 replace_on() ->
+    %% Who waits for a module to be loaded would seem to rest.
+    ok = code:ensure_modules_loaded([
+        ertime, ertime_times, ertime_timers, ertime_monitors, ertime_clock, ertime_timer, ertime_calls, ertime_keeper, ertime_rest,
+        ertime_watch, ertime_test
+    ]),
+    persistent_term:put(?EPOCH, atomics:new(1, [])),
+    ertime_keeper:start(),
     Forms = [
         {attribute, 1, module, ertime_on},
         {attribute, 1, export, [{on, 0}]},
@@ -33,6 +105,7 @@ replace_on() ->
 %% The clock that the process had is closed: the one that it has now.
 lost() ->
     erase(?KEY),
+    erase(?SEEN),
     clock().
 
 put_clock(Clock) ->
@@ -41,16 +114,23 @@ put_clock(Clock) ->
         none -> ok;
         Before -> ertime_nif:leave(Before)
     end,
+    seen_before(erase(?SEEN), Clock),
     case Clock of
         undefined -> erase(?KEY);
         none -> put(?KEY, none);
-        _ -> join(Clock)
-    end.
+        _ -> join(Clock) =:= ok andalso put(?KEY, Clock)
+    end,
+    %% Without a clock on the node nobody keeps an answer.
+    ertime_on:on() andalso changed(),
+    ok.
 
-put_everywhere(none) ->
-    application:unset_env(ertime, everywhere);
 put_everywhere(Clock) ->
-    application:set_env(ertime, everywhere, Clock).
+    case Clock of
+        none -> application:unset_env(ertime, everywhere);
+        _ -> application:set_env(ertime, everywhere, Clock)
+    end,
+    ertime_on:on() andalso changed(),
+    ok.
 
 everywhere() ->
     case application:get_env(ertime, everywhere) of
@@ -60,42 +140,24 @@ everywhere() ->
 
 %% What clock/0 would tell another process of this node, as far as can be seen.
 clock_of(Pid) ->
-    case found_for(Pid, ?DEEPEST) of
+    case search([Pid], #{}) of
         real -> none;
         none -> everywhere();
         Clock -> Clock
     end.
 
-find() ->
-    Found =
-        case first(relatives(get(), self()), ?DEEPEST) of
-            none -> everywhere();
-            Other -> Other
-        end,
-    case Found of
-        none -> none;
-        real -> none;
-        Clock -> join(Clock)
-    end.
-
-join(Clock) ->
-    case ertime_nif:join(Clock) of
-        ok ->
-            put(?KEY, Clock),
-            Clock;
-        closed ->
-            none
-    end.
-
-found_for(_, 0) ->
+%% Depth first, each process once.
+search([], _) ->
     none;
-found_for(Pid, Deep) ->
+search([Pid | Pids], Searched) when is_map_key(Pid, Searched) ->
+    search(Pids, Searched);
+search([Pid | Pids], Searched) ->
     case process_info(Pid, dictionary) of
         undefined ->
-            none;
+            search(Pids, Searched#{Pid => []});
         {dictionary, Dictionary} ->
             case own(Dictionary) of
-                none -> first(relatives(Dictionary, Pid), Deep - 1);
+                none -> search(relatives(Dictionary, Pid) ++ Pids, Searched#{Pid => []});
                 Found -> Found
             end
     end.
@@ -111,14 +173,6 @@ open_or_none(Clock) ->
     case ertime_nif:os_time(Clock) of
         {_, _} -> Clock;
         _ -> none
-    end.
-
-first([], _) ->
-    none;
-first([Pid | Pids], Deep) ->
-    case found_for(Pid, Deep) of
-        none -> first(Pids, Deep);
-        Found -> Found
     end.
 
 relatives(Dictionary, Pid) ->

@@ -68,7 +68,7 @@ with_nodes(Do) ->
 %% Messages between the nodes come at the time at which they were sent.
 together() ->
     with_nodes(fun([A, B]) ->
-        Nodes = ertime_nodes:open([A, {B, #{os_time => {?BEGIN + 3600, second}}}]),
+        Nodes = ertime_nodes:open([{A, #{start => 0}}, {B, #{start => 0, os_time => {?BEGIN + 3600, second}}}]),
         Test = self(),
         Second = erpc:call(B, erlang, spawn, [ertime_nodes_tests_code, relay, [Test, 250]]),
         _ = erpc:call(A, erlang, spawn, [ertime_nodes_tests_code, relay, [Second, 1000]]),

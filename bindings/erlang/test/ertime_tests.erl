@@ -8,7 +8,7 @@
 
 %% The examples of the documentation, each in a process of its own.
 examples_test_() ->
-    [{"example " ++ Name, fun() -> run(Text) end} || {Name, Text} <- examples("ertime.erl") ++ examples("ertime_nodes.erl")].
+    [{"example " ++ Name, fun() -> run(Text) end} || File <- ["ertime", "ertime_times", "ertime_timers", "ertime_monitors", "ertime_clock", "ertime_nodes"], {Name, Text} <- examples(File ++ ".erl")].
 
 examples(File) ->
     case file:read_file(filename:join([code:lib_dir(ertime), "src", File])) of
@@ -50,7 +50,7 @@ in_process(Do) ->
 
 with_clock(Options, Do) ->
     in_process(fun() ->
-        Clock = ertime:open(Options),
+        Clock = ertime:open(maps:merge(#{mode => no_time_warp, start => 0}, Options)),
         try
             ertime:with(Clock, fun() -> Do(Clock) end)
         after
@@ -140,6 +140,12 @@ several_wheels_test_() ->
             ?assertEqual(lists:seq(1, 140000), lists:sort([next() || _ <- lists:seq(1, 140000)]))
         end)
     end}.
+
+%% Without options a clock is as the runtime's.
+defaults_test() ->
+    #{mode := Mode, correction := Correction, start := Start} = ertime:info(ertime:open()),
+    ?assertEqual([erlang:system_info(time_warp_mode), erlang:system_info(time_correction)], [Mode, Correction]),
+    ?assert(Start < -1000000000000000 andalso erlang:system_info(start_time) < 0).
 
 bad_options_test_() ->
     {timeout, 60, fun bad_options/0}.
@@ -277,6 +283,20 @@ warp_row(Mode, Correction, By, Mono, System) ->
         ok = ertime:warp(Clock, {By, second}),
         ?assertEqual({Mono, System}, {ertime:monotonic_time(second) - Mono0, ertime:system_time(second) - System0})
     end).
+
+%% In multi time warp mode without correction the runtime follows a leap back whenever it reads the clock (ERTS User's Guide, "Time
+%% Warp Modes"); a leap forward waits for the check.
+followed_test_() ->
+    {timeout, 60, fun() ->
+        with_clock(#{mode => multi_time_warp, correction => false}, fun(Clock) ->
+            ertime:advance(Clock, 1000),
+            {Mono, System} = {ertime:monotonic_time(), ertime:system_time()},
+            ok = ertime:warp(Clock, {-10, second}, [{check, false}]),
+            ?assertEqual({Mono, System - 10000000000}, {ertime:monotonic_time(), ertime:system_time()}),
+            ertime:advance(Clock, 1000),
+            ?assertEqual(Mono + 1000000000, ertime:monotonic_time())
+        end)
+    end}.
 
 %% What the guide says of a backward leap: without correction monotonic time stands still, with it it is slower by a percent.
 frozen_test_() ->
@@ -485,9 +505,10 @@ many_processes_test_() ->
         end)
     end}.
 
-%% A clock that nothing refers to is collected, with its timers.
+%% A clock that nothing refers to is collected, with its timers. Without allocators of its own (`+Mea min') the runtime doesn't
+%% tell its memory.
 collected_test_() ->
-    {timeout, 60, fun collected/0}.
+    [{timeout, 60, fun collected/0} || {error, notsup} =/= try erlang:memory(system) catch error:Reason -> {error, Reason} end].
 
 collected() ->
     Before = erlang:memory(system),
@@ -550,7 +571,7 @@ first_clocks_at_once_test_() ->
     end}.
 
 first_clocks() ->
-    Opened = [spawn_monitor(fun() -> ertime:use(ertime:open()), 0 = ertime:monotonic_time() end) || _ <- lists:seq(1, 100)],
+    Opened = [spawn_monitor(fun() -> ertime:use(ertime:open(#{start => 0})), 0 = ertime:monotonic_time() end) || _ <- lists:seq(1, 100)],
     Reasons = lists:usort([receive {'DOWN', Monitor, _, Pid, Reason} -> Reason end || {Pid, Monitor} <- Opened]),
     halt(case Reasons of [normal] -> 0; _ -> 1 end).
 

@@ -5,12 +5,15 @@
 
 -include_lib("eunit/include/eunit.hrl").
 
+-import(timer, [sleep/1]).
+-import(erlang, [send_after/3]).
+
 %% Runs a function in a process under a clock, lets the time pass, and answers what it gave, and when, in milliseconds.
 run(Do, Pass) ->
     run(Do, fun(_) -> ok end, Pass).
 
 run(Do, Also, Pass) ->
-    Clock = ertime:open(#{}),
+    Clock = ertime:open(#{start => 0}),
     Test = self(),
     Pid = spawn(fun() ->
         ertime:use(Clock),
@@ -112,6 +115,127 @@ calls_test() ->
     ertime:close(Clock),
     ertime:use(undefined).
 
+%% What the pattern of a receive binds, and what was bound before it, each in a receive of its own and with a timer or without.
+scopes_test() ->
+    Rows = [
+        {{1, 2}, fun() -> self() ! {1, 2}, receive {A, B} -> {A, B} after 100 -> late end end},
+        {other, fun() -> A = 2, self() ! {1, 2}, receive {A, B} -> {A, B}; _ -> other after 100 -> late end end},
+        {{2, 3}, fun() -> A = 2, self() ! {1, 2}, self() ! {2, 3}, receive {A, B} -> {A, B} after 100 -> late end end},
+        {{4, 4}, fun() -> self() ! {5, 4}, self() ! {4, 4}, receive {A, A} = Both -> Both after 100 -> late end end},
+        {7, fun() -> self() ! {x, 3}, self() ! {x, 7}, receive {x, N} when N > 5 -> N after 100 -> late end end},
+        {<<"bc">>, fun() -> self() ! <<2, "bcd">>, receive <<N, B:N/binary, _/binary>> -> B after 100 -> late end end},
+        {[1, 2], fun() -> [self() ! N || N <- [1, 2]], [receive N -> N after 100 -> late end || N <- [1, 2]] end},
+        {{1, 9}, fun() -> F = fun(A) -> receive {A, B} -> {A, B} after 100 -> late end end, self() ! {2, 8}, self() ! {1, 9}, F(1) end},
+        {5, fun() -> self() ! {k, 5}, case k of K -> receive {K, V} -> V after 100 -> late end end end},
+        {{3, 6}, fun() -> self() ! {3, 6}, try {3, none} of {A, _} -> receive {A, B} -> {A, B} after 100 -> late end catch _:_ -> no end end},
+        {{1, 1}, fun() -> self() ! 1, A = receive X -> X after 100 -> X = 0 end, {A, X} end},
+        {{2, 1}, fun() -> self() ! 1, self() ! 2, {receive 2 -> 2 after 100 -> 0 end, receive 1 -> 1 after 100 -> 0 end} end},
+        {{a, #{n => 2}}, fun() -> self() ! #{a => 1, n => 2}, receive #{a := 1, n := N} -> {a, #{n => N}} after 100 -> late end end},
+        {caught, fun() -> self() ! bad, try receive bad -> error(caught); good -> ok after 100 -> late end catch error:E -> E end end}
+    ],
+    [?assertEqual({Index, Expected}, {Index, in_process(Do)}) || {Index, {Expected, Do}} <- lists:zip(lists:seq(1, length(Rows)), Rows)],
+    Clock = ertime:open(#{}),
+    [?assertEqual({Index, Expected}, {Index, in_process(fun() -> ertime:use(Clock), Do() end)}) || {Index, {Expected, Do}} <- lists:zip(lists:seq(1, length(Rows)), Rows)],
+    ?assertEqual([], maps:get(timers, ertime:info(Clock))),
+    ertime:close(Clock).
+
+in_process(Do) ->
+    {Pid, Monitor} = spawn_monitor(fun() -> exit({done, Do()}) end),
+    receive {'DOWN', Monitor, process, Pid, Reason} -> element(2, Reason) end.
+
+%% The compiler lets a receive for a new reference begin behind what is in the mailbox, as without the transform: it says so.
+receive_optimisation_test() ->
+    Calls = [
+        "f(P) -> R = erlang:monitor(process, P), P ! R, receive {R, X} -> X; {'DOWN', R, _, _, _} -> down after 1000 -> late end.",
+        "f(P) -> R = monitor(process, P), erlang:send_after(10, P, x), receive {R, X} -> X; {'DOWN', R, _, _, _} -> down after 1000 -> late end.",
+        "f(P) -> R = make_ref(), P ! R, erlang:send_after(10, P, x), receive {R, X} -> X after P -> late end.",
+        "f(P) -> R = erlang:monitor(process, P), T = erlang:start_timer(10, P, x), Y = receive {R, X} -> erlang:cancel_timer(T), X end, Y."
+    ],
+    [?assertEqual({Call, optimised(Call, [])}, {Call, optimised(Call, [{parse_transform, ertime_transform}])}) || Call <- Calls].
+
+%% How many receives have a mark.
+optimised(Call, Options) ->
+    {ok, _, Binary} = compile:forms(parsed(Call), Options),
+    {beam_file, _, _, _, _, Code} = beam_disasm:file(Binary),
+    Marks = length([mark || {function, _, _, _, Instructions} <- Code, I <- Instructions, is_tuple(I), element(1, I) =:= recv_marker_use]),
+    ?assert(Marks > 0),
+    Marks.
+
+parsed(Text) ->
+    [begin {ok, Tokens, _} = erl_scan:string(Line), {ok, Form} = erl_parse:parse_form(Tokens), Form end || Line <- ["-module(ertime_parsed).", "-export([f/1]).", Text]].
+
+%% Without a clock a call takes no longer where the mailbox is full; in the same run with and without the transform.
+full_mailbox_test() ->
+    Asked = spawn(fun Answer() -> receive {R, From} -> From ! {R, 1}, Answer() end end),
+    Count = 50000,
+    [self() ! {message, N} || N <- lists:seq(1, Count)],
+    Ask = fun() ->
+        R = erlang:monitor(process, Asked),
+        Asked ! {R, self()},
+        receive {R, 1} -> erlang:demonitor(R); {'DOWN', R, _, _, _} -> error(down) after 5000 -> error(late) end
+    end,
+    Reductions = fun() -> {reductions, Done} = process_info(self(), reductions), Done end,
+    %% The first one brings all messages into the mailbox.
+    Ask(),
+    Before = Reductions(),
+    [Ask() || _ <- lists:seq(1, 20)],
+    %% A receive that looks at every message takes thousands of them.
+    ?assert(Reductions() - Before < 20 * 200),
+    exit(Asked, kill),
+    [receive {message, N} -> ok end || N <- lists:seq(1, Count)].
+
+%% Receives in receives grow with their number, and not twofold with each.
+nested_test() ->
+    Size = fun(Depth) ->
+        {ok, _, Binary} = compile:forms(parsed("f(P) -> " ++ nested(Depth) ++ "."), [{parse_transform, ertime_transform}]),
+        byte_size(Binary)
+    end,
+    Sizes = [Size(Depth) || Depth <- [4, 8, 12]],
+    [A, B, C] = Sizes,
+    ?assert(C - B < 2 * (B - A)).
+
+nested(0) -> "P";
+nested(N) ->
+    Number = integer_to_list(N),
+    "receive {a, A" ++ Number ++ "} -> A" ++ Number ++ " after P -> " ++ nested(N - 1) ++ " end".
+
+imported_test() ->
+    ?assertEqual({ok, 5000}, run(fun() -> sleep(5000) end, 10000)),
+    ?assertEqual({ok, 5000}, run(fun() -> (fun sleep/1)(5000) end, 10000)),
+    ?assertEqual({x, 5000}, run(fun() -> send_after(5000, self(), x), receive x -> x end end, 10000)).
+
+%% Modules and functions that are variables, and apply.
+variable_test() ->
+    [Erlang, Timer, Sleep, Time] = [list_to_atom(Name) || Name <- ["erlang", "timer", "sleep", "monotonic_time"]],
+    Rows = [
+        fun() -> Timer:sleep(5000) end,
+        fun() -> timer:Sleep(5000) end,
+        fun() -> Timer:Sleep(5000) end,
+        fun() -> apply(timer, sleep, [5000]) end,
+        fun() -> erlang:apply(Timer, Sleep, [5000]) end,
+        fun() -> (fun Timer:sleep/1)(5000) end,
+        fun() -> lists:foreach(fun timer:sleep/1, [2000, 3000]) end
+    ],
+    [?assertEqual({ok, 5000}, run(Row, 10000)) || Row <- Rows],
+    ?assertEqual({[5, 5, 5], 5000}, run(fun() -> timer:sleep(5000), [Erlang:Time(second), apply(Erlang, monotonic_time, [second]), erlang:Time(second)] end, 10000)),
+    ?assertError(undef, Erlang:no_such_function()),
+    ?assertError(badarg, Erlang:Time(hour)),
+    ?assertEqual([1, 2], apply(lists, list_to_atom("sort"), [[2, 1]])).
+
+-record(stamped, {at = erlang:monotonic_time(second), today = date()}).
+
+record_test() ->
+    ?assertEqual({#stamped{at = 5, today = {2026, 1, 1}}, 5000}, run(fun() -> timer:sleep(5000), #stamped{} end, 10000)).
+
+calendar_test() ->
+    {{Date, Time, Local}, _} = run(fun() -> timer:sleep(86400000), {date(), time(), calendar:local_time()} end, 90000000),
+    ?assertEqual({Date, Time}, Local),
+    ?assertEqual({{{2026, 1, 2}, {0, 0, 0}}, 86400000}, run(fun() -> timer:sleep(86400000), calendar:universal_time() end, 90000000)).
+
+%% A process that is monitored by its clock alone.
+monitored_by_test() ->
+    ?assertEqual({{monitored_by, []}, 10}, run(fun() -> timer:sleep(10), process_info(self(), monitored_by) end, 10)).
+
 %% A function of the module hides an auto-imported one.
 own_test() ->
     ?assertEqual(mine, demonitor(a, b, c)).
@@ -125,10 +249,11 @@ real_test() ->
     ?assertEqual(x, receive x -> x after 5 -> late end),
     ?assert(abs(erlang:system_time(second) - ertime:system_time(second)) < 2).
 
-%% Modules that are loaded: one of Erlang/OTP, and what can't be done.
+%% Modules that are loaded: those of Erlang/OTP, again and again, and what can't be done.
 loaded_test_() ->
     {timeout, 60, fun() ->
-        ?assertEqual(ok, ertime:use([gen_statem, timer])),
+        [?assertEqual(ok, ertime:transform(What)) || What <- [[gen_statem, timer], otp, otp]],
+        ?assertEqual(ok, ertime:use(otp)),
         Clock = ertime:open(#{}),
         ertime:with(Clock, fun() ->
             Test = self(),
@@ -137,6 +262,81 @@ loaded_test_() ->
         end),
         ?assertEqual(slept, receive slept -> slept after 0 -> nothing end),
         ertime:close(Clock),
-        ?assertEqual(ok, ertime:unuse([gen_statem, timer])),
-        ?assertEqual({error, [{ertime_no_such_module, no_object_code}]}, ertime:use([ertime_no_such_module]))
+        ?assertEqual([ok, ok, ok], [ertime:untransform([gen_statem, timer]), ertime:unuse(otp), ertime:untransform(otp)]),
+        ?assertEqual([], [Module || Module <- [gen, gen_server, gen_statem, supervisor, timer], ertime_load:is_turned(Module)]),
+        ?assertEqual(ok, ertime:transform([gen_server])),
+        ?assertEqual(ok, ertime:untransform([gen_server])),
+        ?assertEqual({error, [{ertime_no_such_module, no_object_code}]}, ertime:transform([ertime_no_such_module])),
+        ?assertError(badarg, ertime:transform(ertime_no_such_application)),
+        ?assertError(badarg, ertime:transform("a"))
     end}.
+
+%% The behaviours by the clock of a test, also where their callers aren't turned.
+behaviours_test_() ->
+    %% The reports of a supervisor aren't shown.
+    Start = fun() ->
+        ok = ertime:transform(otp),
+        #{level := Level} = logger:get_primary_config(),
+        ok = logger:set_primary_config(level, none),
+        Level
+    end,
+    {setup, Start, fun(Level) -> ok = logger:set_primary_config(level, Level), ok = ertime:untransform(otp) end, fun(_) ->
+        [
+            {"a call", fun() ->
+                ertime:test(#{advance => auto}, fun(_) ->
+                    Silent = spawn_link(fun() -> receive never -> ok end end),
+                    Before = ertime:monotonic_time(millisecond),
+                    ?assertExit({timeout, _}, untimed(fun() -> gen_server:call(Silent, x, 60000) end)),
+                    ?assertEqual(60000, ertime:monotonic_time(millisecond) - Before)
+                end)
+            end},
+            {"restarts within a period", fun() ->
+                ertime:test(#{advance => auto}, fun(_) ->
+                    process_flag(trap_exit, true),
+                    {ok, Supervisor} = supervisor:start_link(ertime_transform_code, {1, 10}),
+                    [begin crash(Supervisor), timer:sleep(3600000) end || _ <- [1, 2, 3]],
+                    ?assert(is_process_alive(Supervisor)),
+                    crash(Supervisor),
+                    crash(Supervisor),
+                    receive {'EXIT', Supervisor, shutdown} -> ok end
+                end)
+            end},
+            {"a child that doesn't end", fun() ->
+                ertime:test(#{advance => auto}, fun(_) ->
+                    process_flag(trap_exit, true),
+                    {ok, Supervisor} = supervisor:start_link(ertime_transform_code, stubborn),
+                    Before = ertime:monotonic_time(millisecond),
+                    exit(Supervisor, shutdown),
+                    receive {'EXIT', Supervisor, shutdown} -> ok end,
+                    ?assertEqual(5000, ertime:monotonic_time(millisecond) - Before)
+                end)
+            end},
+            {"a start that takes too long", fun() ->
+                ertime:test(#{advance => auto}, fun(_) ->
+                    ?assertEqual({error, timeout}, gen_server:start(ertime_transform_code, slow, [{timeout, 5000}]))
+                end)
+            end},
+            {"the module timer, from code that isn't turned", fun() ->
+                ertime:test(#{}, fun(Clock) ->
+                    {ok, Timer} = lists:nth(1, [timer:F(1000, x) || F <- [list_to_atom("send_interval")]]),
+                    ertime:advance(Clock, 3500),
+                    ?assertEqual(3, received(x)),
+                    {ok, cancel} = timer:cancel(Timer)
+                end)
+            end}
+        ]
+    end}.
+
+untimed(Do) -> Do().
+
+crash(Supervisor) ->
+    [{_, Pid, _, _}] = supervisor:which_children(Supervisor),
+    Monitor = erlang:monitor(process, Pid),
+    exit(Pid, kill),
+    receive {'DOWN', Monitor, _, _, _} -> ok end.
+
+received(What) ->
+    receive
+        What -> 1 + received(What)
+    after 0 -> 0
+    end.

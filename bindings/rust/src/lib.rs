@@ -1,13 +1,14 @@
 //! The clock and timer service of the Erlang runtime, over the C library `libertime`.
 //!
 //! A [`World`] is a service. It reads no clock, starts no thread and never waits: pass it readings by
-//! [`World::tick`], let its schedulers make turns, and take the messages of its processes. `ertime.h` says
-//! what each call does; this crate makes the rest of what a caller owes true: a handle isn't copied, is
-//! closed when it is dropped, and is in one call at a time. The build script links the library that pkg-config
-//! finds as `ertime`.
+//! [`World::tick`], let its schedulers make turns, and take the messages of its processes. `ertime.h` is the
+//! reference of each call. This crate guarantees the rest of what a C caller must: a handle is not copied, is
+//! closed when it is dropped, and is used by one thread at a time. The build script links the library that
+//! pkg-config finds as `ertime`.
 //!
-//! A [`Seat`] is for another thread: it tells the time, cancels and reads timers beside the world, and takes no
-//! lock.
+//! One scheduler and one process are enough for most programs: a process is a mailbox, and a message can be an
+//! index of what the timer is for. A [`Seat`] is for another thread: it reads the time, and cancels and reads
+//! timers while others use the world, without a lock.
 //!
 //! ```
 //! use ertime::{Reading, Settings, Start, World};
@@ -31,14 +32,15 @@ pub use ffi::{
     ert_timer as Timer, ert_turned as Turned,
 };
 
-/// Why a call was refused. Nothing has changed then, but where `ertime.h` says otherwise.
+/// Why a call was refused. Nothing has changed then, unless `ertime.h` says otherwise.
 #[derive(Clone, Copy, Debug, PartialEq, Eq)]
 #[non_exhaustive]
 pub enum Error {
+    /// Out of memory.
     NoMemory,
-    /// The start time is no multiple of a millisecond, or outside -2^58 to 2^58 nanoseconds.
+    /// The start time is not a multiple of a millisecond, or outside -2^58 to 2^58 nanoseconds.
     BadStart,
-    /// `mono` isn't from 0 to below 2^62, or `sys` not between -2^61 and 2^61.
+    /// `mono` is not from 0 to below 2^62, or `sys` not between -2^61 and 2^61.
     BadReading,
     /// A number of schedulers, processes, slots or callers is outside its limits.
     BadCount,
@@ -48,13 +50,13 @@ pub enum Error {
     Range,
     /// A timer can't be due at that time.
     BadTime,
-    /// No slot of the wheel can take a timer, or there is no place for a monitor.
+    /// No slot of the wheel can take a timer, or the process can have no further monitor.
     Full,
     /// The process has exited.
     Exited,
-    /// Each seat of [`Settings::seats`] was given out.
+    /// Every seat of [`Settings::seats`] was given out.
     NoSeat,
-    /// A status that these bindings don't know: they are of another version than the library.
+    /// A status that these bindings don't know: the library is newer.
     Unknown(i32),
 }
 
@@ -102,7 +104,7 @@ fn done(status: i32) -> Result<(), Error> {
     }
 }
 
-/// Some value where the call was made, and None where it answered that there is none.
+/// True if the call was made, and false if it returned that there is none.
 fn done_or(status: i32, none: i32) -> Result<bool, Error> {
     if status == none {
         Ok(false)
@@ -111,25 +113,32 @@ fn done_or(status: i32, none: i32) -> Result<bool, Error> {
     }
 }
 
-/// The time warp modes.
+/// The time warp modes: when the time offset, and so system time, may leap.
 #[derive(Clone, Copy, Debug, PartialEq, Eq)]
 pub enum Mode {
+    /// Never.
     No,
+    /// Once, at [`World::finalize`].
     Single,
+    /// At any check.
     Multi,
 }
 
 /// What a service is opened with.
+///
+/// For plain timers on the monotonic clock set `mode` to [`Mode::Multi`]: then monotonic time and timers go as the
+/// `mono` of the readings does, whatever happens to the system clock.
 #[derive(Clone, Copy, Debug)]
 pub struct Settings {
     pub mode: Mode,
-    /// Whether time correction is on.
+    /// Whether time correction is on. Without it every timer stands still while the system clock, set back, has
+    /// not caught up.
     pub correction: bool,
     /// Monotonic time at the opening, in nanoseconds.
     pub start: i64,
     pub schedulers: u32,
     pub processes: u32,
-    /// Timer slots of each scheduler.
+    /// Timer slots of each scheduler, 1 to 65,536.
     pub slots: u32,
     /// How many seats the service can give out, 16 at most.
     pub seats: u32,
@@ -137,7 +146,7 @@ pub struct Settings {
 }
 
 impl Settings {
-    /// One scheduler, one process, 1,024 slots, no seat, no time warp, and monotonic time from 0.
+    /// One scheduler, one process, 1,024 slots, no seat, no time warp, time correction, and monotonic time from 0.
     pub fn new(first: Reading) -> Settings {
         Settings {
             mode: Mode::No,
@@ -157,7 +166,7 @@ impl Settings {
 pub struct Moved {
     /// Monotonic time after it, in nanoseconds.
     pub now: i64,
-    /// The new time offset, in nanoseconds, where it was set.
+    /// The new time offset, in nanoseconds, if it was set.
     pub shift: Option<i64>,
 }
 
@@ -193,7 +202,7 @@ pub struct Start {
 }
 
 impl Start {
-    /// A timer that is due so many milliseconds after its start.
+    /// A timer that is due that many milliseconds after the last tick before its start.
     pub fn after(milliseconds: i64, process: u32, msg: u64) -> Start {
         Start {
             start: ffi::ert_start {
@@ -213,20 +222,20 @@ impl Start {
         at
     }
 
-    /// The same timer, whose message comes without its name.
+    /// The same timer, with a message that comes without its name.
     pub fn bare(mut self) -> Start {
         self.start.bare = 1;
         self
     }
 }
 
-/// How much room the wheel of a scheduler has.
+/// How many slots the wheel of a scheduler has available.
 #[derive(Clone, Copy, Debug, PartialEq, Eq)]
 pub struct Room {
     /// How many slots can take a timer now.
     pub free: u32,
-    /// The least time at which a slot that rests can take one again, in milliseconds since the start time; None
-    /// where none rests.
+    /// The earliest time at which a slot that waits for its deadlines can take one again, in milliseconds since the
+    /// start time; None if none waits.
     pub ready: Option<u64>,
 }
 
@@ -240,7 +249,7 @@ pub enum Mail {
     Bare {
         msg: u64,
     },
-    /// The answer to a request: the milliseconds that were left, or None where the timer wasn't armed.
+    /// The answer to a request: the milliseconds that were left, or None if the timer was not armed.
     CancelDone {
         timer: Timer,
         left: Option<u64>,
@@ -321,7 +330,7 @@ impl World {
         Ok(world)
     }
 
-    /// Takes a reading of the clocks of the operating system.
+    /// Takes a reading of the clocks of the operating system: monotonic time moves on by it.
     pub fn tick(&mut self, reading: Reading, force: bool) -> Result<Moved, Error> {
         let mut moved = ffi::ert_moved::default();
         done(unsafe {
@@ -330,7 +339,7 @@ impl World {
         Ok(moved.into())
     }
 
-    /// Finalizes the time offset, and answers the state before it.
+    /// Finalizes the time offset, and returns the state before it.
     pub fn finalize(&mut self, reading: Reading) -> Result<(OffsetState, Moved), Error> {
         let mut before = 0;
         let mut moved = ffi::ert_moved::default();
@@ -361,14 +370,14 @@ impl World {
         (offset.offset, state(offset.state))
     }
 
-    /// Starts a timer on the wheel of a scheduler.
+    /// Starts a timer on the wheel of a scheduler. It counts from the last tick.
     pub fn start(&mut self, sched: u32, start: &Start) -> Result<Timer, Error> {
         let mut timer = Timer::default();
         done(unsafe { ffi::ert_world_start(&mut *self.handle, sched, &start.start, &mut timer) })?;
         Ok(timer)
     }
 
-    /// How much room the wheel of a scheduler has.
+    /// How many slots the wheel of a scheduler has available.
     pub fn ready(&mut self, sched: u32) -> Result<Room, Error> {
         let (mut free, mut ready) = (0, 0);
         done(unsafe { ffi::ert_world_ready(&mut *self.handle, sched, &mut free, &mut ready) })?;
@@ -378,28 +387,28 @@ impl World {
         })
     }
 
-    /// Cancels a timer, and answers the milliseconds that were left; None where it isn't armed.
+    /// Cancels a timer, and returns the milliseconds that were left; None if it is not armed.
     pub fn cancel(&mut self, timer: &Timer) -> Option<u64> {
         let mut left = 0;
         let status = unsafe { ffi::ert_world_cancel(&mut *self.handle, timer, &mut left) };
         (status == ffi::ERT_OK).then_some(left)
     }
 
-    /// The milliseconds that are left of a timer; None where it isn't armed.
+    /// The milliseconds that are left of a timer; None if it is not armed.
     pub fn read(&mut self, timer: &Timer) -> Option<u64> {
         let mut left = 0;
         let status = unsafe { ffi::ert_world_read(&mut *self.handle, timer, &mut left) };
         (status == ffi::ERT_OK).then_some(left)
     }
 
-    /// Whether a process hasn't exited.
+    /// Whether a process is alive.
     pub fn is_alive(&mut self, process: u32) -> Result<bool, Error> {
         let mut alive = 0;
         done(unsafe { ffi::ert_world_is_alive(&mut *self.handle, process, &mut alive) })?;
         Ok(alive != 0)
     }
 
-    /// Lets a process exit, and answers whether it hadn't before.
+    /// Makes a process exit, and returns whether it was alive before.
     pub fn exit(&mut self, process: u32) -> Result<bool, Error> {
         let mut first = 0;
         done(unsafe { ffi::ert_world_exit(&mut *self.handle, process, &mut first) })?;
@@ -407,7 +416,7 @@ impl World {
     }
 
     /// Asks the scheduler of a timer to cancel or to read it. The answer comes to `reply_to`, if it is Some
-    /// process; else none is sent.
+    /// process; otherwise none is sent.
     pub fn ask(
         &mut self,
         kind: RequestKind,
@@ -423,7 +432,7 @@ impl World {
         done(unsafe { ffi::ert_world_ask(&mut *self.handle, &request) })
     }
 
-    /// Takes the first message of a process; None where there is none.
+    /// Takes the first message of a process; None if there is none.
     pub fn take(&mut self, process: u32) -> Result<Option<Mail>, Error> {
         let mut first = ffi::ert_mail::default();
         let status = unsafe { ffi::ert_world_take(&mut *self.handle, process, &mut first) };
@@ -437,34 +446,34 @@ impl World {
         Ok(monitor)
     }
 
-    /// Removes a monitor, and answers whether it stood.
+    /// Removes a monitor, and returns whether there was one.
     pub fn demonitor(&mut self, process: u32, monitor: u32) -> Result<bool, Error> {
         let status = unsafe { ffi::ert_world_demonitor(&mut *self.handle, process, monitor) };
         done_or(status, ffi::ERT_NO_MONITOR)
     }
 
-    /// Tells a process the time offset where it is news, and answers by how many messages.
+    /// Notifies the monitors of a process that were last told another time offset, and returns how many.
     pub fn tell(&mut self, process: u32) -> Result<u32, Error> {
         let mut told = 0;
         done(unsafe { ffi::ert_world_tell(&mut *self.handle, process, &mut told) })?;
         Ok(told)
     }
 
-    /// Serves one request of a scheduler, and answers whether there was one.
+    /// Serves one request of a scheduler, and returns whether there was one.
     pub fn serve(&mut self, sched: u32) -> Result<bool, Error> {
         let mut served = 0;
         done(unsafe { ffi::ert_world_serve(&mut *self.handle, sched, &mut served) })?;
         Ok(served != 0)
     }
 
-    /// Lets the due timers of a scheduler expire.
+    /// Expires the due timers of a scheduler.
     pub fn advance(&mut self, sched: u32) -> Result<Advanced, Error> {
         let mut advanced = Advanced::default();
         done(unsafe { ffi::ert_world_advance(&mut *self.handle, sched, &mut advanced) })?;
         Ok(advanced)
     }
 
-    /// Hands over the expired timers of a scheduler.
+    /// Delivers the expired timers of a scheduler.
     pub fn deliver(&mut self, sched: u32) -> Result<Delivered, Error> {
         let mut delivered = Delivered::default();
         done(unsafe { ffi::ert_world_deliver(&mut *self.handle, sched, &mut delivered) })?;
@@ -479,14 +488,17 @@ impl World {
     }
 
     /// How early a timer of a scheduler may be due, in milliseconds since the start time; None where none is
-    /// armed.
+    /// armed. No timer is due before it, and after a turn it is later than the turn's `to`.
+    ///
+    /// It is a timer's deadline, or the begin of a window in which one is due: a loop that sleeps until then and makes
+    /// a turn wakes eight times at most for the timer that is due first, and once where timers are few.
     pub fn next_due(&mut self, sched: u32) -> Result<Option<u64>, Error> {
         let mut due = 0;
         let status = unsafe { ffi::ert_world_next_due(&mut *self.handle, sched, &mut due) };
         Ok(done_or(status, ffi::ERT_EMPTY)?.then_some(due))
     }
 
-    /// A seat for another thread. It isn't given out again, not even once it is dropped.
+    /// A seat for another thread. Its caller is not given out again, not even once it is dropped.
     pub fn seat(&mut self) -> Result<Seat, Error> {
         let mut seat = Seat {
             handle: Box::new(ffi::ert_seat {
@@ -505,8 +517,8 @@ impl Drop for World {
     }
 }
 
-/// The right of a thread to tell the time, and to cancel and read timers, beside its world and all other seats
-/// and without a lock. It outlives its world, and is closed when it is dropped.
+/// Lets another thread read the time, and cancel and read timers, while others use the world and its other seats,
+/// without a lock. It can outlive its world, and is closed when it is dropped.
 ///
 /// The handle of C lies on the heap, so that a `Seat` can be moved.
 #[derive(Debug)]
@@ -540,21 +552,21 @@ impl Seat {
         (offset.offset, state(offset.state))
     }
 
-    /// Cancels a timer, and answers the milliseconds that were left; None where it isn't armed.
+    /// Cancels a timer, and returns the milliseconds that were left; None if it is not armed.
     pub fn cancel(&mut self, timer: &Timer) -> Option<u64> {
         let mut left = 0;
         let status = unsafe { ffi::ert_seat_cancel(&mut *self.handle, timer, &mut left) };
         (status == ffi::ERT_OK).then_some(left)
     }
 
-    /// The milliseconds that are left of a timer; None where it isn't armed.
+    /// The milliseconds that are left of a timer; None if it is not armed.
     pub fn read(&mut self, timer: &Timer) -> Option<u64> {
         let mut left = 0;
         let status = unsafe { ffi::ert_seat_read(&mut *self.handle, timer, &mut left) };
         (status == ffi::ERT_OK).then_some(left)
     }
 
-    /// Whether a process hasn't exited.
+    /// Whether a process is alive.
     pub fn is_alive(&mut self, process: u32) -> Result<bool, Error> {
         let mut alive = 0;
         done(unsafe { ffi::ert_seat_is_alive(&mut *self.handle, process, &mut alive) })?;

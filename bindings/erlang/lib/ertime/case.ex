@@ -14,7 +14,8 @@ defmodule Ertime.Case do
       end
 
   The options are those of `Ertime.open/1`. The test uses the clock, as do the processes that it starts; a tag
-  `clock: [...]` of a test adds options to those of the module. The clock is closed when the test has ended.
+  `clock: [...]` of a test adds options to those of the module. The clock is closed when the test's process has ended.
+  With `advance: :auto` the time goes on by itself; a deadlock, or `limit:` milliseconds of real time, end the test.
   """
 
   defmacro __using__(options) do
@@ -27,9 +28,8 @@ defmodule Ertime.Case do
 
   @doc false
   def setup(options, context) do
-    clock = Ertime.open(Keyword.merge(options, Map.get(context, :clock, [])))
-    Ertime.use(clock)
-    ExUnit.Callbacks.on_exit(fn -> Ertime.close(clock) end)
+    clock = :ertime_test.set_up(Map.new(Keyword.merge(options, Map.get(context, :clock, []))))
+    ExUnit.Callbacks.on_exit(fn -> :ertime_test.tear_down(clock) end)
     %{clock: clock}
   end
 end

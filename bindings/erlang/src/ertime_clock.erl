@@ -1,0 +1,331 @@
+%% @doc A clock by hand: opened, moved, looked at and closed. The module {@link ertime} has all of it.
+-module(ertime_clock).
+
+-export([
+    open/0, open/1, close/1, advance/1, advance/2, warp/1, warp/2, warp/3, drift/2, info/0, info/1, rest/1
+]).
+
+-include("ertime.hrl").
+
+%% 2026-01-01 00:00:00 UTC
+-define(OS_TIME, 1767225600000000000).
+%% The least start time of a clock is -2^58 ns; this is the one of whole milliseconds after it.
+-define(START, -288230376151000000).
+-define(LONGEST, 1 bsl 60).
+-define(MOST_AT_ONE_TIME, 20000).
+
+%% @equiv open(#{})
+-spec open() -> ertime:clock().
+open() ->
+    open(#{}).
+
+%% @doc Opens a clock. It stands still until it is moved, and is freed when nothing refers to it, or by {@link close/1}.
+%%
+%% <ul>
+%% <li>`mode': the time warp mode, `no_time_warp', `single_time_warp' or `multi_time_warp', by default that of the runtime, which
+%%     begins in multi time warp mode from Erlang/OTP 26 on;</li>
+%% <li>`correction': whether time correction is on, by default as in the runtime;</li>
+%% <li>`start': monotonic time at the opening in nanoseconds, a multiple of a million, by default a great negative number, as in
+%%     the runtime: -288,230,376,151 seconds;</li>
+%% <li>`os_time': what the OS system clock tells at the opening, in nanoseconds or with a unit, by default the beginning of
+%%     2026;</li>
+%% <li>`slots': how many timers there can be at a time, by default 1,024; memory for them is taken here, and a start for which
+%%     there is no slot raises `system_limit';</li>
+%% <li>`drift': by how many parts per million the OS system clock runs faster than the OS monotonic clock, by default 0;</li>
+%% <li>`advance': `by_hand', or `auto' for a clock that goes on by itself, as with {@link advance/2};</li>
+%% <li>`limit': how many milliseconds of real time `auto' may take, by default `infinity'.</li>
+%% </ul>
+%%
+%% ```
+%% Clock = ertime:open(#{mode => multi_time_warp, os_time => {1800000000, second}}),
+%% 1800000000 = ertime:with(Clock, fun() -> ertime:system_time(second) end).
+%% '''
+-spec open(ertime:options() | [{atom(), term()}]) -> ertime:clock().
+open(Options) when is_list(Options) ->
+    open(maps:from_list(Options));
+open(Options) ->
+    Defaults = #{
+        mode => erlang:system_info(time_warp_mode), correction => erlang:system_info(time_correction), start => ?START, os_time => {?OS_TIME, nanosecond}, slots => 1024, drift => 0,
+        advance => by_hand, limit => infinity
+    },
+    maps:size(maps:without(maps:keys(Defaults), Options)) =:= 0 orelse error(badarg, [Options]),
+    #{
+        mode := Mode, correction := Correction, start := Start, os_time := OsTime, slots := Slots, drift := Drift,
+        advance := Advance, limit := Limit
+    } = maps:merge(Defaults, Options),
+    is_number(Drift) orelse error(badarg, [Options]),
+    ertime_watch:is_good(Advance, Limit) orelse error(badarg, [Options]),
+    Arguments = [Options],
+    case
+        ertime_nif:open(
+            mode_number(Mode, Arguments),
+            correction_number(Correction, Arguments),
+            Start,
+            0,
+            ertime_times:nanoseconds(OsTime, nanosecond, Arguments),
+            Slots,
+            round(Drift * 1000)
+        )
+    of
+        Clock when is_reference(Clock) ->
+            ertime_use:turn_on(),
+            put(?OWN, Clock),
+            Advance =:= auto andalso ertime_watch:start(Clock, self(), auto(Limit)),
+            Clock;
+        no_memory ->
+            error(system_limit, Arguments);
+        badarg ->
+            error(badarg, Arguments)
+    end.
+
+mode_number(no_time_warp, _) -> 0;
+mode_number(single_time_warp, _) -> 1;
+mode_number(multi_time_warp, _) -> 2;
+mode_number(_, Arguments) -> error(badarg, Arguments).
+
+correction_number(true, _) -> 1;
+correction_number(false, _) -> 0;
+correction_number(_, Arguments) -> error(badarg, Arguments).
+
+%% @doc Closes a clock, and tells whether it was open. Its timers never expire then, and whoever used it goes back to the clock
+%% that it would see else.
+%%
+%% ```
+%% Clock = ertime:open(#{}),
+%% true = ertime:close(Clock),
+%% false = ertime:close(Clock).
+%% '''
+-spec close(ertime:clock()) -> boolean().
+close(Clock) ->
+    case ertime_use:everywhere() of
+        Clock -> ertime_use:put_everywhere(none);
+        _ -> ok
+    end,
+    Asleep = [{Left, To, Timer} || {Left, To, Timer, ?AFTER, _} <- armed(Clock)],
+    case ertime_nif:close(Clock) of
+        badarg ->
+            error(badarg, [Clock]);
+        Was ->
+            ertime_on:on() andalso begin ertime_watch:stop(Clock), ertime_timer:stop(Clock) end,
+            erlang:get(?OWN) =:= Clock andalso erase(?OWN),
+            [erlang:send_after(Left, To, {timeout, Timer, ?AFTER}) || {Left, To, Timer} <- Asleep],
+            Was
+    end.
+
+armed(Clock) ->
+    case ertime_nif:timers(Clock) of
+        badarg -> [];
+        Timers -> Timers
+    end.
+
+%% @equiv advance(clock(), Duration)
+-spec advance(ertime:duration() | until_idle) -> non_neg_integer().
+advance(Duration) ->
+    advance(needed(advance, [Duration]), Duration).
+
+%% @doc Lets the time pass, and answers how many messages were sent.
+%%
+%% With `auto' it goes on by itself from now on, as long as the calling process lives: whenever all processes of the clock rest, to
+%% the next deadline. Where all rest for half a second of real time and nothing is armed, and none of them waits for a port, the
+%% process that called ends by `{deadlock, [{Pid, Info}]}', which says who waits where. `by_hand' ends that.
+%%
+%% The OS clocks go on from deadline to deadline. After the messages of each it waits until the processes of this clock rest,
+%% so that what they start is reckoned from the right time. At the end nothing is due, and all of them rest. With `until_idle'
+%% it goes on until no timer is armed.
+%%
+%% A process that doesn't rest within five seconds (the environment variable `rest_limit' of the application) is told by the
+%% error `{not_at_rest, [{Pid, Info}]}'. Processes that arm timers of 0 milliseconds without end are told by `no_progress'.
+%%
+%% ```
+%% Clock = ertime:open(#{}),
+%% ertime:use(Clock),
+%% _ = ertime:send_after(1000, self(), second),
+%% _ = ertime:send_after(3600000, self(), hour),
+%% 1 = ertime:advance(Clock, 1000),
+%% 1 = ertime:advance(Clock, {3599, second}).
+%% '''
+-spec advance(ertime:clock(), ertime:duration() | until_idle) -> non_neg_integer();
+             (ertime:clock(), auto | by_hand) -> ok.
+advance(Clock, auto) ->
+    _ = is_open(Clock, [Clock, auto]),
+    ertime_watch:is_auto(Clock) orelse ertime_watch:start(Clock, self(), auto(infinity)),
+    ok;
+advance(Clock, by_hand) ->
+    _ = is_open(Clock, [Clock, by_hand]),
+    ertime_watch:stop(Clock);
+advance(Clock, until_idle) ->
+    led(Clock, fun() -> until_idle(Clock, 0, 0) end);
+advance(Clock, Duration) ->
+    Left = ertime_times:nanoseconds(Duration, millisecond, [Clock, Duration]),
+    Left >= 0 orelse error(badarg, [Clock, Duration]),
+    led(Clock, fun() -> steps(Clock, Left, 0, 0) end).
+
+auto(Limit) ->
+    Self = self(),
+    #{advance => auto, limit => Limit, tell => fun(Reason) -> exit(Self, Reason) end, gone => fun() -> ok end}.
+
+is_open(Clock, Arguments) ->
+    case ertime_nif:os_time(Clock) of
+        {_, _} -> true;
+        Reason -> error(Reason, Arguments)
+    end.
+
+%% One process moves a clock at a time.
+led(Clock, Work) ->
+    case ertime_nif:lead(Clock) of
+        true ->
+            put(?OWN, Clock),
+            try
+                ertime_rest:wait(Clock),
+                Work()
+            after
+                ertime_nif:unlead(Clock)
+            end;
+        false ->
+            receive
+            after 1 -> led(Clock, Work)
+            end;
+        Reason ->
+            error(Reason, [Clock])
+    end.
+
+steps(Clock, Left, Sent, Same) ->
+    case step(Clock, Left) of
+        {0, 0, _} ->
+            Sent;
+        {Rest, 0, _} ->
+            steps(Clock, Rest, Sent, 0);
+        {Rest, More, _} ->
+            ertime_rest:wait(Clock),
+            steps(Clock, Rest, Sent + More, at_one_time(Left, Rest, Same))
+    end.
+
+until_idle(Clock, Sent, Same) ->
+    case step(Clock, 0) of
+        {0, 0, 0} ->
+            Sent;
+        {0, 0, _} ->
+            {_, More, _} = step(Clock, ?LONGEST),
+            ertime_rest:wait(Clock),
+            until_idle(Clock, Sent + More, 0);
+        {0, More, _} ->
+            ertime_rest:wait(Clock),
+            until_idle(Clock, Sent + More, at_one_time(0, 0, Same))
+    end.
+
+at_one_time(Left, Left, Same) when Same >= ?MOST_AT_ONE_TIME -> error(no_progress);
+at_one_time(Left, Left, Same) -> Same + 1;
+at_one_time(_, _, _) -> 0.
+
+step(Clock, Left) ->
+    case ertime_nif:step(Clock, Left) of
+        {_, _, _} = Done -> Done;
+        Reason -> error(Reason)
+    end.
+
+%% @equiv warp(clock(), By)
+-spec warp(ertime:duration()) -> ok.
+warp(By) ->
+    warp(needed(warp, [By]), By).
+
+%% @doc Lets the OS system clock leap, forward or back. The runtime notices it at once; timers that are due by it are sent, and
+%% it waits as {@link advance/2} does.
+%%
+%% ```
+%% Clock = ertime:open(#{mode => multi_time_warp, os_time => {1800000000, second}}),
+%% ok = ertime:warp(Clock, {-3600, second}),
+%% 1799996400 = ertime:with(Clock, fun() -> ertime:system_time(second) end).
+%% '''
+-spec warp(ertime:clock(), ertime:duration()) -> ok.
+warp(Clock, By) ->
+    warp(Clock, By, []).
+
+%% @doc The same. With `{check, false}' the runtime notices the leap when it checks the clock next, as it does in production,
+%% within a minute or so; but a leap back in multi time warp mode without time correction at once, as there.
+-spec warp(ertime:clock(), ertime:duration(), [{check, boolean()}]) -> ok.
+warp(Clock, By, Options) ->
+    Arguments = [Clock, By, Options],
+    Leap = ertime_times:nanoseconds(By, millisecond, Arguments),
+    #{check := Check} = ertime_timers:options(Options, #{check => true}, Arguments),
+    led(Clock, fun() ->
+        case ertime_nif:leap(Clock, Leap, Check orelse is_followed(Clock, Leap)) of
+            ok ->
+                ertime_rest:wait(Clock),
+                _ = steps(Clock, 0, 0, 0),
+                ok;
+            Reason ->
+                error(Reason, Arguments)
+        end
+    end).
+
+%% Without correction monotonic time would stand still after a leap back. In multi time warp mode the runtime moves the offset
+%% then, whenever it reads the clock.
+is_followed(Clock, Leap) ->
+    case ertime_nif:settings(Clock) of
+        {2, 0, _, _, _} -> Leap < 0;
+        _ -> false
+    end.
+
+%% @doc From now on the OS system clock runs faster than the OS monotonic clock by so many parts per million.
+-spec drift(ertime:clock(), number()) -> ok.
+drift(Clock, PartsPerMillion) ->
+    case is_number(PartsPerMillion) andalso ertime_nif:drift(Clock, round(PartsPerMillion * 1000)) of
+        ok -> ok;
+        closed -> error(closed, [Clock, PartsPerMillion]);
+        _ -> error(badarg, [Clock, PartsPerMillion])
+    end.
+
+%% @equiv info(clock())
+-spec info() -> map().
+info() ->
+    info(needed(info, [])).
+
+%% @doc What the clock tells and what is armed, the timers in order of their deadlines: for a failing test to print.
+%%
+%% ```
+%% Clock = ertime:open(#{start => 0}),
+%% ertime:use(Clock),
+%% _ = ertime:send_after(1500, self(), ping),
+%% #{monotonic_time := 0, timers := [#{left := 1500, message := ping}]} = ertime:info(Clock).
+%% '''
+-spec info(ertime:clock()) -> map().
+info(Clock) ->
+    case ertime_nif:settings(Clock) of
+        {Mode, Correction, Start, Slots, Drift} ->
+            {Offset, State} = ertime_nif:time_offset(Clock),
+            {Mono, System} = ertime_nif:os_time(Clock),
+            #{
+                mode => ertime_monitors:mode_of(Mode),
+                correction => Correction =:= 1,
+                start => Start,
+                slots => Slots,
+                drift => Drift / 1000,
+                monotonic_time => ertime_nif:monotonic_time(Clock),
+                system_time => ertime_nif:system_time(Clock),
+                time_offset => Offset,
+                offset_state => State,
+                os_monotonic_time => Mono,
+                os_system_time => System,
+                processes => lists:sort(ertime_nif:members(Clock)),
+                timers => [
+                    #{left => Left, to => To, timer => Timer, message => Message, kind => kind(Bare)}
+                 || {Left, To, Timer, Message, Bare} <- lists:sort(ertime_nif:timers(Clock))
+                ]
+            };
+        Reason ->
+            error(Reason, [Clock])
+    end.
+
+kind(true) -> send_after;
+kind(false) -> start_timer.
+
+%% @doc Waits until the processes of a clock rest, as {@link advance/2} does, and moves nothing.
+-spec rest(ertime:clock()) -> ok.
+rest(Clock) ->
+    ertime_rest:wait(Clock).
+
+needed(Name, Arguments) ->
+    case ertime:clock() of
+        none -> erlang:error({no_clock, Name}, Arguments);
+        Clock -> Clock
+    end.

@@ -1,0 +1,157 @@
+%% Which clock a process sees, whenever one comes or goes: what it was told before is never told again where it no longer holds.
+-module(ertime_use_tests).
+
+-include_lib("eunit/include/eunit.hrl").
+
+%% Each in a process that no clock is seen from.
+each_way_test_() ->
+    [{Name, {spawn, fun() -> in_the_open(Do) end}} || {Name, Do} <- ways()].
+
+%% In a process that has nothing to do with the one that tests.
+in_the_open(Do) ->
+    Self = self(),
+    {ok, _} = timer:apply_after(0, erlang, apply, [fun() ->
+        {Pid, Monitor} = spawn_monitor(Do),
+        receive {'DOWN', Monitor, process, Pid, Reason} -> Self ! {ended, Reason} end
+    end, []]),
+    receive {ended, Reason} -> ?assertEqual(normal, Reason) end,
+    ertime:use_everywhere(none).
+
+ways() ->
+    [
+        {"a parent takes a clock, and leaves it", fun() ->
+            Clock = ertime:open(),
+            Child = child(),
+            ?assertEqual(none, seen(Child)),
+            ertime:use(Clock),
+            ?assertEqual(Clock, seen(Child)),
+            ertime:use(undefined),
+            ?assertEqual(Clock, seen(Child)),
+            true = ertime:close(Clock),
+            ?assertEqual(none, seen(Child))
+        end},
+        {"with/2 of a parent", fun() ->
+            {First, Second} = {ertime:open(), ertime:open()},
+            Child = child(),
+            ?assertEqual(none, seen(Child)),
+            ertime:with(First, fun() -> ?assertEqual(First, seen(Child)) end),
+            Other = child(),
+            ?assertEqual(none, seen(Other)),
+            ertime:with(Second, fun() -> ?assertEqual([First, Second], [seen(Child), seen(Other)]) end),
+            ?assertEqual([First, Second], [seen(Child), seen(Other)])
+        end},
+        {"an ancestor far up", fun() ->
+            Clock = ertime:open(),
+            Child = lists:foldl(fun(_, Pid) -> child_of(Pid) end, child(), lists:seq(1, 10)),
+            ?assertEqual(none, seen(Child)),
+            ertime:use(Clock),
+            ?assertEqual(Clock, seen(Child))
+        end},
+        {"a supervisor by its name", fun() ->
+            Clock = ertime:open(),
+            Up = start(fun() -> register(ertime_use_up, self()) end),
+            Child = start(fun() -> put('$ancestors', [ertime_use_up]) end),
+            ?assertEqual(none, seen(Child)),
+            do(Up, fun() -> ertime:use(Clock) end),
+            ?assertEqual(Clock, seen(Child))
+        end},
+        {"a closed clock, and the next one above", fun() ->
+            {Upper, Lower} = {ertime:open(), ertime:open()},
+            ertime:use(Upper),
+            Middle = child(),
+            do(Middle, fun() -> ertime:use(Lower) end),
+            Child = child_of(Middle),
+            ?assertEqual(Lower, seen(Child)),
+            ertime:close(Lower),
+            ?assertEqual([Upper, Upper], [seen(Child), seen(Middle)])
+        end},
+        {"the clock of the node, another, and none", fun() ->
+            {First, Second} = {ertime:open(), ertime:open()},
+            Child = child(),
+            ?assertEqual(none, seen(Child)),
+            Seen = [begin ertime:use_everywhere(It), seen(Child) end || It <- [First, Second, none, First]],
+            ?assertEqual([First, Second, none, First], Seen),
+            ertime:close(First),
+            ?assertEqual(none, seen(Child))
+        end},
+        {"the clock of the node, and that of a parent", fun() ->
+            {Node, Clock} = {ertime:open(), ertime:open()},
+            ertime:use_everywhere(Node),
+            Child = child(),
+            ?assertEqual(Node, seen(Child)),
+            ertime:use(Clock),
+            ?assertEqual(Clock, seen(Child)),
+            ?assertEqual([], [Pid || Pid <- maps:get(processes, ertime:info(Node)), Pid =:= Child]),
+            ertime:close(Clock),
+            ?assertEqual(Node, seen(Child))
+        end},
+        {"callers, and those of an ancestor", fun() ->
+            Clock = ertime:open(),
+            Caller = child(),
+            do(Caller, fun() -> ertime:use(Clock) end),
+            Middle = child(),
+            Child = child_of(Middle),
+            ?assertEqual([none, none], [seen(Child), seen(Middle)]),
+            do(Middle, fun() -> put('$callers', [Caller]) end),
+            ?assertEqual(Clock, seen(Middle)),
+            ?assertEqual(Clock, seen(Child)),
+            Other = start(fun() -> ok end),
+            ?assertEqual(none, seen(Other)),
+            do(Other, fun() -> put('$ancestors', [Caller]) end),
+            ?assertEqual(Clock, seen(Other))
+        end},
+        {"the runtime's clock of an ancestor", fun() ->
+            Clock = ertime:open(),
+            ertime:use(Clock),
+            Middle = child(),
+            do(Middle, fun() -> ertime:use(real) end),
+            Child = child_of(Middle),
+            ?assertEqual([none, none], [seen(Child), seen(Middle)]),
+            do(Middle, fun() -> ertime:use(undefined) end),
+            ?assertEqual([none, Clock], [seen(Child), seen(Middle)]),
+            do(Child, fun() -> ertime:use(undefined) end),
+            ?assertEqual(Clock, seen(Child))
+        end},
+        {"an ancestor exits", fun() ->
+            Clock = ertime:open(),
+            Middle = start(fun() -> ertime:use(Clock) end),
+            {Before, After} = {child_of(Middle), child_of(Middle)},
+            ?assertEqual(Clock, seen(Before)),
+            exit(Middle, kill),
+            wait_for(fun() -> not is_process_alive(Middle) end),
+            ?assertEqual([Clock, none], [seen(Before), seen(After)])
+        end}
+    ].
+
+%% A process that keeps its answers in any case: it calls a time each time it is asked.
+child() -> start(fun() -> ok end).
+
+child_of(Pid) -> do(Pid, fun child/0).
+
+start(First) ->
+    Pid = spawn_link(fun() -> First(), serve() end),
+    _ = do(Pid, fun() -> ok end),
+    unlink(Pid),
+    Pid.
+
+serve() ->
+    receive
+        {do, From, Do} ->
+            From ! {done, self(), Do()},
+            serve()
+    end.
+
+do(Pid, Do) ->
+    Pid ! {do, self(), Do},
+    receive {done, Pid, Result} -> Result end.
+
+seen(Pid) ->
+    do(Pid, fun() ->
+        Times = [ertime:monotonic_time() || _ <- [1, 2]],
+        Clock = ertime:clock(),
+        ?assertEqual(Clock =:= none, abs(hd(Times) - erlang:monotonic_time()) < 1000000000),
+        Clock
+    end).
+
+wait_for(Is) ->
+    Is() orelse begin erlang:yield(), wait_for(Is) end.
