@@ -7,7 +7,12 @@
 
 #include "ertime.h"
 
-enum { RUNS = 7, CALLS = 1000000 };
+enum { RUNS = 7, CALLS = 1000000, LOOKS = 2000, SLOTS = 65536 };
+
+/* In milliseconds. */
+#define MINUTE INT64_C(60000)
+#define HOUR (60 * MINUTE)
+#define YEAR (365 * 24 * HOUR)
 
 static int64_t nanoseconds(void) {
     struct timespec now;
@@ -31,7 +36,7 @@ static void open_world(void) {
         .size = sizeof settings,
         .schedulers = 1,
         .processes = 1,
-        .slots = 65536,
+        .slots = SLOTS,
         .callers = 2,
     };
     reading = settings.first;
@@ -127,6 +132,69 @@ static void measure(const char *name, void (*call)(void), int calls) {
     printf("%-52s %9.1f\n", name, least);
 }
 
+static void close_world(void) {
+    must(ert_world_close(&world));
+    must(ert_seat_close(&seat));
+}
+
+/* How early one of so many timers is due: the last so far ahead, and each other so much before the next. */
+static void measure_next_due(const char *name, int64_t ahead, int64_t apart, int64_t timers) {
+    char row[64];
+    open_world();
+    for (int64_t i = 0; i < timers; i++) {
+        timer_in(ahead - i * apart);
+    }
+    snprintf(row, sizeof row, "ert_world_next_due, %" PRId64 " timers %s", timers, name);
+    measure(row, next_due, LOOKS);
+    close_world();
+}
+
+static void tick_by(int64_t milliseconds) {
+    ert_moved moved;
+    reading.mono += milliseconds * 1000000;
+    reading.sys += milliseconds * 1000000;
+    must(ert_world_tick(&world, &reading, 0, &moved));
+}
+
+static void advance_by(int64_t milliseconds) {
+    ert_advanced advanced;
+    tick_by(milliseconds);
+    must(ert_world_advance(&world, 0, &advanced));
+}
+
+static void advance_a_millisecond(void) {
+    advance_by(1);
+}
+
+static void advance_an_hour(void) {
+    advance_by(HOUR);
+}
+
+static void advance_a_year(void) {
+    advance_by(YEAR);
+}
+
+/* Time goes on again and again, by a tick and an advance, with one timer that isn't due yet. */
+static void measure_leap(const char *name, void (*call)(void), int calls) {
+    open_world();
+    timer_in(140 * YEAR);
+    measure(name, call, calls);
+    close_world();
+}
+
+static void measure_far(void) {
+    static const int64_t timers[] = {1, 1000, SLOTS};
+    for (int i = 0; i < 3; i++) {
+        measure_next_due("in a minute", MINUTE, 0, timers[i]);
+        measure_next_due("in an hour", HOUR, 0, timers[i]);
+        measure_next_due("in a year", YEAR, 0, timers[i]);
+        measure_next_due("over an hour", HOUR, HOUR / SLOTS, timers[i]);
+    }
+    measure_leap("a tick and an advance of a millisecond", advance_a_millisecond, CALLS);
+    measure_leap("a tick and an advance of an hour", advance_an_hour, 10000);
+    measure_leap("a tick and an advance of a year", advance_a_year, 10);
+}
+
 int main(void) {
     open_world();
     printf("%-52s %9s\n", "call", "ns");
@@ -142,10 +210,10 @@ int main(void) {
     measure("ert_seat_read of an armed timer", seat_read, CALLS);
     measure("ert_world_read of an armed timer", read_timer, CALLS);
     measure("ert_world_turn with nothing to do", turn, CALLS);
-    measure("ert_world_next_due, the timer after the look", next_due, CALLS / 100);
+    measure("ert_world_next_due, the timer in 100 seconds", next_due, CALLS / 10);
     timer_in(10);
     measure("ert_world_next_due, the timer in 10 milliseconds", next_due, CALLS / 10);
-    must(ert_world_close(&world));
-    must(ert_seat_close(&seat));
+    close_world();
+    measure_far();
     return EXIT_SUCCESS;
 }
