@@ -146,7 +146,8 @@ def turns(drawing: Drawing, axis: Axis, top: float) -> float:
         for places in strip.values():
             x = axis.ops[places[0]]
             tip = axis.run.lines[places[0]] if len(places) == 1 else f"{len(places)} turns and parts of turns"
-            drawing.line("mark", x, y + 2, x, y + STRIP - 2, tip)
+            with drawing.of_op(places[0]):
+                drawing.line("mark", x, y + 2, x, y + STRIP - 2, tip)
     return top + strips * STRIP
 
 
@@ -161,7 +162,8 @@ def draw_bars(drawing: Drawing, axis: Axis, top: float) -> float:
     if len(timers) <= MOST_ROWS:
         row = ROW if len(timers) <= LABELLED else HEIGHT / len(timers)
         for number, timer in enumerate(timers):
-            shades |= _bar(drawing, axis, timer, top + number * row, row)
+            with drawing.of_op(timer.started):
+                shades |= _bar(drawing, axis, timer, top + number * row, row)
         return legend(drawing, axis, top + len(timers) * row + 6, shades)
     row = HEIGHT / MOST_ROWS
     for number in range(MOST_ROWS):

@@ -183,20 +183,31 @@ def _legend(drawing: Drawing, board: Board, y: float) -> float:
     return y + 14
 
 
+def board_of(text: str, name: str, lines: list[str], source: str) -> Board:
+    """Where everything of a history with its verdict stands."""
+    history = read_history(text, name)
+    return Board(history, verdict_of(lines, history, source))
+
+
 def picture_of_history(text: str, name: str, lines: list[str], source: str, title: str) -> bytes:
     """The picture of a history with its verdict."""
-    history = read_history(text, name)
-    bad = verdict_of(lines, history, source)
-    board = Board(history, bad)
+    return picture_on_board(board_of(text, name, lines, source), title)
+
+
+def picture_on_board(board: Board, title: str, is_part: bool = False) -> bytes:
+    """The picture of a history whose places are known, which may be a part of a page."""
+    history = board.history
+    bad = None if board.bad is None else board.bad + 2
     why = "" if bad is None else reason(history, bad)
     told = f"A history of {len(history.entries)} entries" + (f"; illegal at line {bad}: {why}" if why else "; legal")
-    drawing = Drawing(board.width, title, told)
+    drawing = Drawing(board.width, title, told, is_part)
     _head(drawing, board, title)
     _ground(drawing, board)
     y = board.bottom + 16
     if board.is_named:
         for place in range(len(history.entries)):
-            _entry(drawing, board, place)
+            with drawing.of_op(place):
+                _entry(drawing, board, place)
         names = (" ".join(entry.text.split(" ")[2:]) for entry in history.entries)
         longest = max((len(fitted(words, board.x(place))) for place, words in enumerate(names)), default=0)
         y += longest * 11 * 0.6 * 0.72

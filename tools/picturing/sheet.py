@@ -72,19 +72,30 @@ def _ops(drawing: Drawing, axis: Axis, top: float) -> float:
     is_named = len(run.ops) <= MOST_NAMED and all(gap >= SLANTED - 0.5 for gap in gaps)
     names = [short(run, op, line) for op, line in zip(run.ops, run.lines)]
     drawing.text("soft small", axis.left_edge - 6, top + 8, "ops", "end")
-    for op, line, name, x in zip(run.ops, run.lines, names, axis.ops):
+    for place, (op, line, name, x) in enumerate(zip(run.ops, run.lines, names, axis.ops)):
         tip = f"{json.dumps(op, separators=(',', ':'))} \u2192 {line}"
-        drawing.line("mark", x, top, x, top + 9, tip)
-        if is_named:
-            drawing.text("ink small", x + 3, top + 18, fitted(name, x), "end", tip, -45)
+        with drawing.of_op(place):
+            drawing.line("mark", x, top, x, top + 9, tip)
+            if is_named:
+                drawing.text("ink small", x + 3, top + 18, fitted(name, x), "end", tip, -45)
     return top + (22 + max(wide(name, 11) for name in names) * 0.64 if is_named else 16)
+
+
+def axis_of(run: Run) -> Axis:
+    """Where everything of a run stands in its picture."""
+    return Axis(run, LEFT, INNER)
 
 
 def picture(run: Run, name: str) -> bytes:
     """The picture of a run."""
-    axis = Axis(run, LEFT, INNER)
+    return picture_on(axis_of(run), name)
+
+
+def picture_on(axis: Axis, name: str, is_part: bool = False) -> bytes:
+    """The picture of a run whose places are known, which may be a part of a page."""
+    run = axis.run
     told = f"A scenario of {len(run.ops)} ops, {len(run.readings) - 1} readings and {len(run.timers)} timers"
-    drawing = Drawing(WIDTH, name, told)
+    drawing = Drawing(WIDTH, name, told, is_part)
     y = _head(drawing, run, name)
     y = draw_clocks(drawing, axis, y)
     y = _axis(drawing, axis, y)

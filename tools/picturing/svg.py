@@ -2,7 +2,8 @@
 from __future__ import annotations
 
 import xml.etree.ElementTree as ET
-from collections.abc import Iterable
+from collections.abc import Iterable, Iterator
+from contextlib import contextmanager
 
 SPACE = "http://www.w3.org/2000/svg"
 EM = 0.6
@@ -151,29 +152,42 @@ def signed(time: int, like: int | None = None) -> str:
     return "+" + span(time, like) if time > 0 else span(time, like)
 
 
-class Drawing:
-    """An SVG picture."""
+def style() -> str:
+    """The style sheet of all pictures."""
 
-    def __init__(self, width: float, title: str, told: str) -> None:
+    def rules(palette: dict[str, tuple[str | None, str | None]]) -> str:
+        made = []
+        for name, (fill, stroke) in palette.items():
+            said = [f"fill: {fill}"] if fill else []
+            said += [f"stroke: {stroke}"] if stroke else []
+            made.append(f".{name} {{ {'; '.join(said)} }}")
+        return "\n".join(made)
+
+    return f"\n{rules(LIGHT)}\n@media (prefers-color-scheme: dark) {{\n{rules(DARK)}\n}}\n{SHAPES}"
+
+
+class Drawing:
+    """An SVG picture; or, as a part of a page, one without a style sheet of its own, in which what is drawn of an op has
+    the attribute `data-op`, its number from 0."""
+
+    def __init__(self, width: float, title: str, told: str, is_part: bool = False) -> None:
         self.width = width
+        self.is_part = is_part
+        self._op: int | None = None
         self.root = ET.Element("svg", {"xmlns": SPACE, "role": "img", "aria-label": f"{clean(title)}. {clean(told)}"})
         self._add(self.root, "title", {}).text = clean(title)
         self._add(self.root, "desc", {}).text = clean(told)
-        self._add(self.root, "style", {}).text = self._style()
+        if not is_part:
+            self._add(self.root, "style", {}).text = style()
         attributes = {"class": "page", "x": "0.5", "y": "0.5", "width": num(width - 1), "rx": "6"}
         self.page = self._add(self.root, "rect", attributes)
 
-    @staticmethod
-    def _style() -> str:
-        def rules(palette: dict[str, tuple[str | None, str | None]]) -> str:
-            made = []
-            for name, (fill, stroke) in palette.items():
-                said = [f"fill: {fill}"] if fill else []
-                said += [f"stroke: {stroke}"] if stroke else []
-                made.append(f".{name} {{ {'; '.join(said)} }}")
-            return "\n".join(made)
-
-        return f"\n{rules(LIGHT)}\n@media (prefers-color-scheme: dark) {{\n{rules(DARK)}\n}}\n{SHAPES}"
+    @contextmanager
+    def of_op(self, op: int) -> Iterator[None]:
+        """What is drawn here is of an op."""
+        self._op = op
+        yield
+        self._op = None
 
     @staticmethod
     def _add(parent: ET.Element, tag: str, attributes: dict[str, str]) -> ET.Element:
@@ -186,6 +200,8 @@ class Drawing:
         said = {"class": css}
         for name, value in attributes.items():
             said[name.replace("_", "-")] = value if isinstance(value, str) else num(value)
+        if self.is_part and self._op is not None:
+            said["data-op"] = str(self._op)
         made = self._add(self.root, tag, said)
         if tip:
             ET.SubElement(made, "title").text = clean(tip)

@@ -1,1 +1,1 @@
-"""Tests of what `tools/picture` is made of."""
+"""Tests of what `tools/picture` and `tools/playground` are made of."""
