@@ -5,6 +5,8 @@
 #     make uninstall
 #     make dist         a tar archive for machines without the toolchain, in build/dist
 #     make deb          packages for Debian, in build/deb
+#     make html         all documents as a site with a search, in build/site
+#     make release      checks the version, makes the archive and tags it
 #     make prove        proves what has changed since it was built, and builds it
 #     make clean        removes build/; what was proved stays
 #
@@ -45,7 +47,7 @@ ERT_BENCH = crates/ert_bench/out/ert_bench
 ARCHIVE = crates/ert_c/out/libert_c.a
 HEAP = $(KIT)/c/liblibc_c.a
 
-# The version stands in the header alone. (Cargo reads no other file: .ci/check_install compares its number.)
+# The version is taken from the header. (.ci/check_documents compares the other places that have it.)
 part = $(shell sed -n 's/^.define ERTIME_VERSION_$(1) //p' include/ertime.h)
 MAJOR := $(call part,MAJOR)
 MINOR := $(call part,MINOR)
@@ -63,13 +65,13 @@ EXAMPLES = examples/c/event_loop.c examples/c/seats.c examples/ertime/timer_expi
   examples/races/two_cancels.json examples/ertaudit/early_expiry.txt
 LIBRARIES = $(B)/libertime.a $(B)/$(REAL)
 
-.PHONY: all prove pages install install-strip uninstall dist deb clean
+.PHONY: all prove pages install install-strip uninstall dist deb html release clean
 .DELETE_ON_ERROR:
 
 all: $(ERTIME) $(ERTAUDIT) $(ERT_BENCH) $(LIBRARIES) pages $(B)/THIRD-PARTY
 pages: $(PAGES)
 
-# What exists is taken as it is: a proof takes hours, so none begins because a file has a newer date.
+# What exists is taken as it is: proofs take long, so none begins because a file has a newer date.
 PROVED = crates/ert_cli/out/ert_cli crates/ert_audit/out/ert_audit crates/ert_bench/out/ert_bench crates/ert_c/out/libert_c.a
 $(PROVED) &:
 	packaging/prove $(filter $(PROVED),$(ERTIME) $(ERTAUDIT) $(ERT_BENCH) $(ARCHIVE))
@@ -193,6 +195,17 @@ deb: all
 	  zshcompletiondir=/usr/share/zsh/vendor-completions
 	cd $(DEB) && SOURCE_DATE_EPOCH=$(EPOCH) dpkg-buildpackage -b -us -uc -nc -d
 	@ls $(B)/deb/*.deb
+
+# All documents, the pages and the references as a site. Nothing is proved or built for it. The search needs a server:
+# `python3 -m http.server -d build/site` is one.
+html: pages
+	$(PYTHON) packaging/site $(B)/site $(B)/man
+
+# One version everywhere, with its changes told and nothing left to commit; then the archive and the tag.
+release:
+	$(PYTHON) packaging/release --check
+	$(MAKE) dist
+	$(PYTHON) packaging/release --tag
 
 clean:
 	rm -rf $(B)

@@ -3,29 +3,40 @@
  *
  * A program is built with `cc program.c $(pkg-config --cflags --libs ertime)`. The library starts no thread,
  * takes no lock, calls nothing back, reads no clock and never waits. The program reads the clocks of the
- * operating system and passes what it read, asks what is due, and fetches the messages of timers that have
+ * operating system and passes what it read, asks what is due, and takes the messages of timers that have
  * expired.
  *
- * Conventions. Each call answers a status: ERT_OK, or a negative number that says why the call did nothing.
- * After a refusal nothing has changed, neither the service nor what the out parameters point to, except
- * where the text of a call says otherwise. Times are in nanoseconds where the type is int64_t and in
- * milliseconds where the text says so. Processes, schedulers and slots are numbers from 0.
+ * The words. A service (`ert_world`) is one clock with its timers. A scheduler is a timer wheel and the turn that
+ * expires its timers; a process is a mailbox, from which the program takes their messages. One scheduler and one
+ * process are enough for a server: the message of a timer can be a pointer to its connection.
  *
- * Ownership. The caller owns the memory of a handle, which begins as ERT_INIT and isn't copied or moved while
- * it is open. What lies behind it belongs to the library from ert_world_open to ert_world_close, and from
- * ert_seat_open to ert_seat_close, and comes from malloc. No other call keeps a pointer that it was passed.
+ * Conventions. Each call returns a status: ERT_OK, or a negative number that says why the call did nothing.
+ * After a refusal nothing has changed, neither the service nor what the out parameters point to, unless the text
+ * of a call says otherwise. Times are in nanoseconds if their type is int64_t, and in milliseconds if the text
+ * says so. Processes, schedulers and slots are numbers from 0. A flag of type uint32_t is on if it is not 0.
  *
- * Threads. A handle is in one call at a time. A service has one handle for every call, ert_world; where several
- * threads make these calls, the program puts a lock of its own round it. For the calls that need none there are
- * seats: with an ert_seat of its own a thread tells the time, cancels and reads timers and looks whether a
- * process lives, beside all calls through the service's handle and through other seats, and waits for nobody.
- * A service gives out settings.callers - 1 seats. Any handle may go from one thread to another, as a mutex or
- * pthread_create takes it there. Services that were opened apart share nothing. No call may be made from a
- * signal handler.
+ * Ownership. The caller owns the memory of a handle, which begins as ERT_INIT (all zero) and must not be copied or
+ * moved while it is open. What lies behind it belongs to the library from ert_world_open to ert_world_close, and
+ * from ert_seat_open to ert_seat_close, and comes from malloc. No other call keeps a pointer that it was passed.
+ *
+ * Threads. A handle must not be used by two threads at the same time. A service has one handle for every call,
+ * ert_world; if several threads make these calls, the program must guard it with a mutex. Some calls need no lock
+ * and are made through a seat: with an ert_seat of its own a thread reads the time, cancels and reads timers, and
+ * asks whether a process is alive, while others call through the service's handle and through other seats. It
+ * never blocks. A service gives out settings.callers - 1 seats. Any handle may go from one thread to another, as a
+ * mutex or pthread_create takes it there. Services that were opened apart share nothing. No call may be made from
+ * a signal handler. After fork the child has a copy of the service, which goes on apart from the parent's; it must
+ * not be used if another thread may have been in a call.
  *
  * Undefined, as in C: a null pointer, a pointer to less than the type says, parameters that overlap, a handle
- * that wasn't begun as ERT_INIT or was written to, and two calls at once on one handle. Everything else is
- * answered: a closed handle, numbers out of range, bad readings and unknown kinds.
+ * that did not begin as ERT_INIT or was written to, copied or moved while it was open, and two calls at the same
+ * time on one handle. Everything else is answered: a closed handle, numbers out of range, bad readings and unknown
+ * kinds.
+ *
+ * Versions. Within one major version functions, constants and fields keep their meaning and their place, and no
+ * struct changes its size, except that ert_settings may grow at its end. Functions, statuses and kinds of messages
+ * may be added: treat a negative status that you don't know as a refusal, and ignore a message of a kind that you
+ * don't know. A program that was built against an older header runs with a newer library.
  */
 #ifndef ERTIME_H
 #define ERTIME_H
@@ -46,56 +57,73 @@ extern "C" {
 #define ERT_OK 0
 #define ERT_CLOSED (-1)      /* the handle is closed */
 #define ERT_OPEN (-2)        /* the handle is open already */
-#define ERT_NO_MEMORY (-3)   /* there was no memory */
-#define ERT_BAD_SIZE (-4)    /* `size` isn't sizeof(ert_settings): another version of this header */
+#define ERT_NO_MEMORY (-3)   /* out of memory */
+#define ERT_BAD_SIZE (-4)    /* `size` is not sizeof(ert_settings); the program was built against a different header */
 #define ERT_BAD_MODE (-5)    /* there is no such time warp mode */
-#define ERT_BAD_START (-6)   /* the start time is no multiple of 1,000,000, or outside -2^58 to 2^58 */
-#define ERT_BAD_READING (-7) /* `mono` isn't from 0 to below 2^62, or `sys` not between -2^61 and 2^61 */
+#define ERT_BAD_START (-6)   /* the start time is not a multiple of 1,000,000, or outside -2^58 to 2^58 */
+#define ERT_BAD_READING (-7) /* `mono` is negative, or 2^62 (146 years) or more; or `sys` is not between -2^61 and 2^61,
+                                that is 1896-12-06 to 2043-01-25 */
 #define ERT_BAD_COUNT (-8)   /* schedulers, processes, slots or callers are outside their limits */
 #define ERT_OFFSET_WIDE (-9) /* the time offset would leave -2^62 to 2^62 */
 #define ERT_RANGE (-10)      /* there is no such process or scheduler */
 #define ERT_BAD_TIME (-11)   /* no timer can be due then */
-#define ERT_FULL (-12)       /* no slot of the wheel can take a timer, or there is no place for a monitor */
-#define ERT_NO_TIMER (-13)   /* the timer isn't armed */
+#define ERT_FULL (-12)       /* no slot of the wheel can take a timer, or the process can have no further monitor */
+#define ERT_NO_TIMER (-13)   /* the timer is not armed */
 #define ERT_EMPTY (-14)      /* there is no message, or no timer */
 #define ERT_EXITED (-15)     /* the process has exited */
 #define ERT_BAD_KIND (-16)   /* there is no such kind of request */
-#define ERT_NO_MONITOR (-17) /* the monitor doesn't stand */
-#define ERT_NO_SEAT (-18)    /* each caller but 0 was given a seat */
+#define ERT_NO_MONITOR (-17) /* the process has no such monitor */
+#define ERT_NO_SEAT (-18)    /* every caller but 0 was given a seat */
 
-/* A handle of a service. Begin it with ERT_INIT, and touch no field. */
+/* A handle of a service. It begins as ERT_INIT, which is all zero. Its fields are private. */
 typedef struct {
     void *at_;
     bool live_;
 } ert_world;
 #define ERT_INIT {0, false}
 
-/* A handle of a seat. Begin it with ERT_INIT, and touch no field. */
+/* A handle of a seat. It begins as ERT_INIT, which is all zero. Its fields are private. */
 typedef struct {
     void *at_;
     bool live_;
 } ert_seat;
 
-/* A reading of the clocks of the operating system, in nanoseconds: CLOCK_MONOTONIC and CLOCK_REALTIME. */
+/*
+ * A reading of the clocks of the operating system, in nanoseconds: CLOCK_MONOTONIC and CLOCK_REALTIME. If timers are
+ * to count the time in which the machine is suspended, pass CLOCK_BOOTTIME as `mono`, always.
+ */
 typedef struct {
     int64_t mono;
     int64_t sys;
 } ert_reading;
 
-/* The time warp modes (ERTS User's Guide, "Time Warp Modes"). */
+/*
+ * The time warp modes (ERTS User's Guide, "Time Warp Modes"): when the time offset, and so system time, may leap.
+ * ERT_NO_WARP: never. ERT_SINGLE_WARP: once, at ert_world_finalize. ERT_MULTI_WARP: at any check.
+ */
 #define ERT_NO_WARP 0
 #define ERT_SINGLE_WARP 1
 #define ERT_MULTI_WARP 2
 
-/* What a service is opened with. */
+/*
+ * What a service is opened with.
+ *
+ * For plain timers on the monotonic clock set `mode` to ERT_MULTI_WARP and `correction` to 1: then monotonic time and
+ * timers go as CLOCK_MONOTONIC does, whatever happens to the system clock within the limits of ERT_BAD_READING.
+ *
+ * A zeroed struct has correction OFF. Then monotonic time follows the system clock: if that is set back by an hour,
+ * every timer stands still for an hour; if it is set forward, the timers in between are due at once. With
+ * ERT_NO_WARP and correction, monotonic time runs up to 1 % fast or slow until it has met the system clock, for 100
+ * hours after a leap of an hour, and timers are as much too short or too long.
+ */
 typedef struct {
     uint32_t size;       /* sizeof(ert_settings) */
     uint32_t mode;       /* one of the time warp modes */
-    uint32_t correction; /* whether time correction is on: not 0 */
-    uint32_t schedulers; /* 1 to 64; each has a wheel of timers */
-    uint32_t processes;  /* 1 to 1,024; each has a mailbox */
+    uint32_t correction; /* whether time correction is on; set it to 1, as said above */
+    uint32_t schedulers; /* 1 to 64; each has a timer wheel; 1 is enough for up to 65,536 timers */
+    uint32_t processes;  /* 1 to 1,024; each has a mailbox; 1 is enough for most programs */
     uint32_t slots;      /* timer slots of each wheel, 1 to 65,536; at most 262,144 in all */
-    uint32_t callers;    /* 1 to 17: caller 0 makes the calls through ert_world, and each other can get a seat */
+    uint32_t callers;    /* 1 to 17: caller 0 makes the calls through ert_world, and each other one can get a seat */
     int64_t start;       /* monotonic time at the opening: a multiple of 1,000,000 from -2^58 to 2^58 */
     ert_reading first;   /* the reading that the clock opens with */
 } ert_settings;
@@ -103,11 +131,11 @@ typedef struct {
 /* What a tick or a finalization did. */
 typedef struct {
     int64_t now;      /* monotonic time after it */
-    int64_t shift;    /* the new time offset where it was set, and else 0 */
-    uint32_t shifted; /* 1 where the time offset was set, and else 0 */
+    int64_t shift;    /* the new time offset if it was set, otherwise 0 */
+    uint32_t shifted; /* 1 if the time offset was set, otherwise 0 */
 } ert_moved;
 
-/* The states of the time offset. */
+/* The states of the time offset: it changes at a finalization alone; never; at any check. */
 #define ERT_PRELIMINARY 0
 #define ERT_FINAL 1
 #define ERT_VOLATILE 2
@@ -117,19 +145,19 @@ typedef struct {
     uint32_t state; /* one of the states */
 } ert_offset;
 
-/* Names a timer. A name that never was one is answered as that of a timer that isn't armed. */
+/* The name of a timer. It is never used twice. An unknown name is treated as that of a timer that is not armed. */
 typedef struct {
     uint32_t wheel;
     uint32_t slot;
-    uint64_t generation; /* which use of the slot it is; neither its value nor its order says anything */
+    uint64_t generation; /* which use of the slot it is; neither its value nor its order means anything */
 } ert_timer;
 
 /* What a timer is started with. */
 typedef struct {
-    int64_t when;      /* milliseconds after the call, or a monotonic time in milliseconds */
-    uint64_t msg;      /* a number, or the bits of a pointer: the library hands it back and doesn't follow it */
-    uint32_t absolute; /* whether `when` is a time: not 0 */
-    uint32_t bare;     /* whether the message comes without the timer's name (`send_after`): not 0 */
+    int64_t when;      /* milliseconds after the last tick, or a monotonic time in milliseconds */
+    uint64_t msg;      /* a number, or the bits of a pointer, which the library hands back and does not follow */
+    uint32_t absolute; /* whether `when` is a time */
+    uint32_t bare;     /* whether the message comes without the timer's name (`send_after`) */
     uint32_t dest;     /* the process that gets the message */
 } ert_start;
 
@@ -141,7 +169,7 @@ typedef struct {
 
 typedef struct {
     uint32_t put;     /* how many messages were put into mailboxes */
-    uint32_t dropped; /* how many were thrown away, since their process had exited */
+    uint32_t dropped; /* how many were discarded, since their process had exited */
 } ert_delivered;
 
 typedef struct {
@@ -159,11 +187,11 @@ typedef struct {
 #define ERT_READ_DONE 4   /* the answer to a request to read: timer, has_left, left */
 #define ERT_CHANGE 5      /* the time offset changed: monitor, offset */
 
-/* A message. Fields that its kind hasn't are 0. */
+/* A message. Fields that don't apply to its kind are 0. */
 typedef struct {
     uint32_t tag; /* one of the kinds */
     ert_timer timer;
-    uint32_t has_left; /* 1 where the timer was armed */
+    uint32_t has_left; /* 1 if the timer was armed */
     uint32_t monitor;
     uint64_t msg;
     uint64_t left; /* milliseconds that were left of the timer */
@@ -177,42 +205,45 @@ typedef struct {
     uint32_t kind; /* ERT_CANCEL or ERT_READ */
     ert_timer timer;
     uint32_t reply_to; /* the process that gets the answer */
-    uint32_t info;     /* whether an answer is sent at all: not 0 */
+    uint32_t info;     /* whether an answer is sent at all */
 } ert_request;
 
 /*
  * Opens a service behind a closed handle.
  *
  * The service has no timer and no message, and its monotonic time is `start`. All memory that timers need
- * is taken here: about 110 bytes for each slot, and some for each process, scheduler and caller.
+ * is allocated here: some 66 KB for each scheduler, and some 100 bytes for each slot and for each process
+ * (docs/EMBEDDING.md has a table). Later only messages, requests, monitors and expired timers that wait take more,
+ * and seats.
  *
  * ERT_OPEN: the handle is open, and stays as it was. ERT_BAD_SIZE, ERT_BAD_MODE, ERT_BAD_START,
  * ERT_BAD_READING, ERT_BAD_COUNT: the first of these, in this order, that holds of the settings.
- * ERT_NO_MEMORY: there was no memory; the handle stays closed, and what was taken is given back.
+ * ERT_NO_MEMORY: out of memory; the handle stays closed, and what was allocated is freed.
  *
- * The caller owns the handle and the settings; the settings aren't needed after the call.
+ * The caller owns the handle and the settings; the settings are not needed after the call.
  */
 int32_t ert_world_open(ert_world *world, const ert_settings *settings);
 
 /*
- * Closes an open handle, and gives its memory back.
+ * Closes an open handle, and frees its memory.
  *
- * Timers that are armed never expire then, and messages that weren't taken are gone. The library frees
- * nothing that a message's `msg` points to: take all messages first where that matters. Seats stay open: their
- * clock stands still, and they can cancel and read timers still. What they share is freed with the last of them.
+ * Armed timers and messages that were not taken are discarded. The library frees nothing that a message's `msg`
+ * points to: take all messages first if that matters. Seats stay open: their clock stands still, and they can
+ * still cancel and read timers. What they share is freed with the last of them.
  *
  * The handle is as ERT_INIT makes it, and can be opened again. ERT_CLOSED: the handle was closed; a second
- * close is no fault. A handle that is forgotten while it is open leaks its memory.
+ * close is safe. A handle that is forgotten while it is open leaks its memory.
  */
 int32_t ert_world_close(ert_world *world);
 
 /*
  * Takes a reading of the clocks of the operating system: monotonic time moves on by it.
  *
- * Call it once for each pass of an event loop, before the turns of the schedulers. A `mono` below that of an
- * earlier reading counts as that one. With time correction the clock's rate is adjusted, by up to one
- * percent, where a check finds it apart from system time; a check is made when it is due, or where `force`
- * isn't 0. In multi time warp mode a check may set the time offset (ERTS User's Guide, "Time Correction").
+ * Call it once for each pass of an event loop, before the turns of the schedulers, and before a start that must
+ * count from now. A `mono` below that of an earlier reading counts as that one. A tick makes a check of the two
+ * clocks if the last one is 60 seconds old, or if `force` is not 0. A check in multi time warp mode sets the time
+ * offset if it is off by more than 1 ms. If the offset is final, a check with time correction sets the rate of the
+ * clock, by up to 1 percent, until the next check (ERTS User's Guide, "Time Correction").
  *
  * Writes what it did to `moved`. ERT_BAD_READING and ERT_OFFSET_WIDE: refused, and the clock is as it was.
  * ERT_CLOSED. Constant work; no memory.
@@ -223,7 +254,7 @@ int32_t ert_world_tick(ert_world *world, const ert_reading *reading, uint32_t fo
  * Finalizes the time offset (`erlang:system_flag(time_offset, finalize)`).
  *
  * In single time warp mode the offset is set once, from preliminary to final, so that system time is that of
- * the reading. Where the offset isn't preliminary the call succeeds and moves nothing; then `shifted` is 0.
+ * the reading. If the offset is not preliminary the call succeeds and moves nothing; then `shifted` is 0.
  *
  * Writes the state before it to `before` (ERT_PRELIMINARY, ERT_FINAL or ERT_VOLATILE), and what it did to
  * `moved`. ERT_BAD_READING and ERT_OFFSET_WIDE: refused, and the clock is as it was. ERT_CLOSED.
@@ -234,18 +265,18 @@ int32_t ert_world_finalize(ert_world *world, const ert_reading *reading, uint32_
 /*
  * Monotonic time, in nanoseconds (`erlang:monotonic_time`).
  *
- * It is that of the last tick, and doesn't move between ticks. It never goes back. It begins as the start
- * time of the settings, and is less than 8,796,093,022,207,000,000 above it, some 278 years.
+ * It is that of the last tick, and does not move between ticks. It never goes back. It begins as the start
+ * time of the settings, and stays less than 8,796,093,022,207,000,000 above it, some 278 years.
  *
- * ERT_CLOSED. Constant work; no memory. A call costs about two nanoseconds.
+ * ERT_CLOSED. Constant work, a few nanoseconds; no memory.
  */
 int32_t ert_world_monotonic_time(ert_world *world, int64_t *time);
 
 /*
  * System time, in nanoseconds since 1970 (`erlang:system_time`): monotonic time plus the time offset.
  *
- * Where the offset is volatile, or preliminary until it is finalized, it may leap between two ticks. Where
- * it is final it moves as monotonic time does.
+ * If the offset is volatile, or preliminary until it is finalized, system time may leap between two ticks. If the
+ * offset is final, it moves as monotonic time does.
  *
  * ERT_CLOSED. Constant work; no memory.
  */
@@ -254,8 +285,8 @@ int32_t ert_world_system_time(ert_world *world, int64_t *time);
 /*
  * The time offset, in nanoseconds, with its state (`erlang:time_offset`).
  *
- * System time is monotonic time plus the offset. The state says whether it can change: ERT_PRELIMINARY, by
- * a finalization alone; ERT_FINAL, never; ERT_VOLATILE, at any tick.
+ * System time is monotonic time plus the offset. The state says whether the offset can change: ERT_PRELIMINARY,
+ * by a finalization alone; ERT_FINAL, never; ERT_VOLATILE, at any tick.
  *
  * ERT_CLOSED. Constant work; no memory.
  */
@@ -264,65 +295,69 @@ int32_t ert_world_time_offset(ert_world *world, ert_offset *offset);
 /*
  * Starts a timer on the wheel of a scheduler (`erlang:start_timer`, `erlang:send_after`).
  *
- * It is due `when` milliseconds after the time of the call, rounded up, or at the monotonic time `when`, in
- * milliseconds, where `absolute` isn't 0. When an advance or a turn of the scheduler finds it due it expires,
- * and its message goes to the mailbox of `dest`: ERT_TIMEOUT, or ERT_BARE where `bare` isn't 0. A timer for
- * a process that has exited is started and cancelled at once.
+ * It is due `when` milliseconds after the current monotonic time, rounded up to a millisecond; or, if `absolute`
+ * is not 0, at the monotonic time `when`, in milliseconds. The current monotonic time is that of the last tick: a
+ * timer that is started 50 ms after it expires 50 ms early by the clock on the wall. Tick first if that matters (as
+ * with `uv_update_time` of libuv). When an advance or a turn of the scheduler finds it due it expires, and its
+ * message goes to the mailbox of `dest`: ERT_TIMEOUT, or ERT_BARE if `bare` is not 0. A timer for a process that
+ * has exited is started and cancelled at once.
  *
  * Writes the timer's name to `timer`. ERT_RANGE: there is no scheduler `sched` or no process `dest`.
  * ERT_BAD_TIME: `when` is negative, or the deadline outside 0 to 8,796,093,022,207 milliseconds after the
- * start time. ERT_FULL: each slot of the wheel is taken or rests; a slot that was used 262,143 times rests until the
- * deadlines of these timers have passed. (Or the wheel has had 2^53 timers.) ERT_CLOSED. No memory. Constant work
- * where a slot is known to be free, and else each slot of the wheel is looked at once.
+ * start time. ERT_FULL: no slot of the wheel is available. A slot that was used 262,143 times is unavailable until
+ * the deadlines of these timers have passed; ert_world_ready tells when. (Or the wheel has had 2^53 timers.)
+ * ERT_CLOSED. No memory. Constant work if a slot is known to be free; otherwise each slot of the wheel is looked at
+ * once.
  */
 int32_t ert_world_start(ert_world *world, uint32_t sched, const ert_start *start, ert_timer *timer);
 
 /*
- * Tells how much room the wheel of a scheduler has.
+ * Reports how many slots the wheel of a scheduler has available.
  *
- * Writes how many slots can take a timer now to `room`, and to `ready` the least time at which one that rests can
- * take a timer again, in milliseconds since the start time, as `to` of a turn: 0 where none rests. So a start that
- * was refused by ERT_FULL can be made then, or once a timer of the wheel has been cancelled or handed over.
+ * Writes how many slots can take a timer now to `room`, and to `ready` the earliest time at which one that waits
+ * for its deadlines can take a timer again, in milliseconds since the start time, as `to` of a turn: 0 if none
+ * waits. So a start that was refused by ERT_FULL can be made then, or once a timer of the wheel has been cancelled
+ * or delivered.
  *
- * ERT_RANGE: there is no such scheduler. ERT_CLOSED. It changes nothing, and looks at each slot of the wheel once; no
- * memory.
+ * ERT_RANGE: there is no such scheduler. ERT_CLOSED. It changes nothing, and looks at each slot of the wheel once;
+ * no memory.
  */
 int32_t ert_world_ready(ert_world *world, uint32_t sched, uint32_t *room, uint64_t *ready);
 
 /*
  * Cancels a timer (`erlang:cancel_timer`).
  *
- * After it the timer's message never comes. Writes the milliseconds that were left to `left`: 0 where it was
- * due and hadn't expired.
+ * After it the timer's message never comes. Writes the milliseconds that were left to `left`: 0 if it was
+ * due and had not expired.
  *
- * ERT_NO_TIMER: the timer isn't armed, for it has expired, was cancelled, or never was one; its message may
+ * ERT_NO_TIMER: the timer is not armed: it has expired, was cancelled, or never existed; its message may
  * be in a mailbox, or be on its way there. ERT_CLOSED. Constant work; no memory.
  */
 int32_t ert_world_cancel(ert_world *world, const ert_timer *timer, uint64_t *left);
 
 /*
- * Tells how much is left of a timer (`erlang:read_timer`), in milliseconds, and changes nothing.
+ * Reads the milliseconds that are left of a timer (`erlang:read_timer`), and changes nothing.
  *
- * 0 where it is due and hasn't expired.
+ * Writes them to `left`: 0 if it is due and has not expired.
  *
- * ERT_NO_TIMER: the timer isn't armed, and `left` is as it was. ERT_CLOSED. Constant work; no memory.
+ * ERT_NO_TIMER: the timer is not armed, and `left` is as it was. ERT_CLOSED. Constant work; no memory.
  */
 int32_t ert_world_read(ert_world *world, const ert_timer *timer, uint64_t *left);
 
 /*
- * Tells whether a process hasn't exited: writes 1 or 0 to `alive` (`erlang:is_process_alive`).
+ * Reports whether a process is alive: writes 1 or 0 to `alive` (`erlang:is_process_alive`).
  *
- * Each process is alive from the opening until ert_world_exit is called for it, and never again.
+ * Each process is alive from the opening until ert_world_exit is called for it, and not after that.
  *
  * ERT_RANGE: there is no such process. ERT_CLOSED. Constant work; no memory.
  */
 int32_t ert_world_is_alive(ert_world *world, uint32_t process, uint32_t *alive);
 
 /*
- * Lets a process exit, and cancels all timers whose message would go to it.
+ * Makes a process exit, and cancels all timers whose message would go to it.
  *
- * Writes 1 to `first` where it hadn't exited before, and else 0; then nothing else is done. Messages that it
- * has can't be taken any more, and a timer that expired and wasn't handed over is thrown away.
+ * Sets `first` to 1 if the process had not exited before. Otherwise it sets it to 0 and does nothing else. Messages
+ * in its mailbox can no longer be taken, and a timer that expired and was not delivered is discarded.
  *
  * ERT_RANGE: there is no such process. ERT_CLOSED. Work for each wheel and for those timers; no memory.
  */
@@ -331,8 +366,8 @@ int32_t ert_world_exit(ert_world *world, uint32_t process, uint32_t *first);
 /*
  * Asks the scheduler of a timer to cancel or to read it (`cancel_timer` and `read_timer`, option `async`).
  *
- * The request waits in the inbox of the scheduler that the timer names (of scheduler 0, where it names none)
- * until a turn or ert_world_serve serves it. Where `info` isn't 0 the answer comes to the mailbox of
+ * The request waits in the inbox of the scheduler that the timer names (of scheduler 0, if it names none)
+ * until a turn or ert_world_serve serves it. If `info` is not 0 the answer comes to the mailbox of
  * `reply_to`, as ERT_CANCEL_DONE or ERT_READ_DONE.
  *
  * ERT_BAD_KIND: `kind` is neither ERT_CANCEL nor ERT_READ; this is tested first. ERT_RANGE: there is no
@@ -346,8 +381,8 @@ int32_t ert_world_ask(ert_world *world, const ert_request *request);
  * Messages come in the order in which they were put in. This is how a program learns what has expired: after
  * each turn it takes the messages of its processes until there is none.
  *
- * ERT_EMPTY: there is no message. ERT_EXITED: the process has exited, whatever it has. ERT_RANGE: there is no
- * such process. ERT_CLOSED. Constant work; no memory.
+ * ERT_EMPTY: there is no message. ERT_EXITED: the process has exited, whether it has messages or not. ERT_RANGE:
+ * there is no such process. ERT_CLOSED. Constant work; no memory.
  */
 int32_t ert_world_take(ert_world *world, uint32_t process, ert_mail *mail);
 
@@ -357,8 +392,8 @@ int32_t ert_world_take(ert_world *world, uint32_t process, ert_mail *mail);
  *
  * When the offset has changed, ert_world_tell puts a message ERT_CHANGE for it into the mailbox.
  *
- * ERT_FULL: 64 monitors of the process stand, or its last number was given. ERT_NO_MEMORY. ERT_RANGE: there
- * is no such process. ERT_CLOSED.
+ * ERT_FULL: the process has 64 monitors, or the last number was given. ERT_NO_MEMORY: nothing has changed.
+ * ERT_RANGE: there is no such process. ERT_CLOSED.
  */
 int32_t ert_world_monitor(ert_world *world, uint32_t process, uint32_t *monitor);
 
@@ -367,14 +402,14 @@ int32_t ert_world_monitor(ert_world *world, uint32_t process, uint32_t *monitor)
  *
  * No message comes for it after that; one that is in the mailbox stays there.
  *
- * ERT_NO_MONITOR: no monitor of the process with that number stands. ERT_RANGE: there is no such process.
+ * ERT_NO_MONITOR: the process has no monitor of that number. ERT_RANGE: there is no such process.
  * ERT_CLOSED. Work for the monitors of the process, 64 at most; no memory.
  */
 int32_t ert_world_demonitor(ert_world *world, uint32_t process, uint32_t monitor);
 
 /*
- * Tells a process the time offset, by one message ERT_CHANGE for each of its monitors to which it is news,
- * and writes how many there were to `told`.
+ * Notifies the monitors of a process of the time offset: one message ERT_CHANGE for each that was last told another
+ * one. Writes how many there were to `told`.
  *
  * Call it for each process with monitors, after a tick or a finalization that set the offset.
  *
@@ -384,19 +419,19 @@ int32_t ert_world_demonitor(ert_world *world, uint32_t process, uint32_t monitor
 int32_t ert_world_tell(ert_world *world, uint32_t process, uint32_t *told);
 
 /*
- * Serves one request of a scheduler: that in its hand, or the first of its inbox.
+ * Serves one request of a scheduler: one that an earlier call could not finish, or the first of its inbox.
  *
- * Writes 1 to `served`, or 0 where there was none.
+ * Writes 1 to `served`, or 0 if there was none.
  *
- * ERT_NO_MEMORY: the request stays in the scheduler's hand, and is served by the next call. ERT_RANGE: there
- * is no such scheduler. ERT_CLOSED.
+ * ERT_NO_MEMORY: the request stays, and is served by the next call. ERT_RANGE: there is no such scheduler.
+ * ERT_CLOSED.
  */
 int32_t ert_world_serve(ert_world *world, uint32_t sched, uint32_t *served);
 
 /*
- * Lets every timer of a scheduler's wheel expire that is due at the time of the call.
+ * Expires every timer of a scheduler's wheel that is due at the current monotonic time.
  *
- * Expired timers wait at the scheduler until ert_world_deliver hands them over. Writes how many there were,
+ * Expired timers wait at the scheduler until ert_world_deliver delivers them. Writes how many there were,
  * and that time, to `advanced`.
  *
  * ERT_NO_MEMORY: none has expired. ERT_RANGE: there is no such scheduler. ERT_CLOSED. Work for the due timers
@@ -405,23 +440,23 @@ int32_t ert_world_serve(ert_world *world, uint32_t sched, uint32_t *served);
 int32_t ert_world_advance(ert_world *world, uint32_t sched, ert_advanced *advanced);
 
 /*
- * Hands over the expired timers of a scheduler: each message is put into the mailbox of its process, or
- * thrown away where that has exited.
+ * Delivers the expired timers of a scheduler: each message is put into the mailbox of its process, or
+ * discarded if the process has exited.
  *
  * They go in order of deadline, and then of start. Writes how many of both there were to `delivered`.
  *
- * ERT_NO_MEMORY: those that weren't handed over stay, and the next call goes on with them; what was handed
- * over isn't told then. ERT_RANGE: there is no such scheduler. ERT_CLOSED.
+ * ERT_NO_MEMORY: those that were not delivered stay, and the next call goes on with them; how many were delivered
+ * is not reported then. ERT_RANGE: there is no such scheduler. ERT_CLOSED.
  */
 int32_t ert_world_deliver(ert_world *world, uint32_t sched, ert_delivered *delivered);
 
 /*
- * Makes a turn of a scheduler: serves its requests, 64 at most, advances its wheel, and hands over what has
+ * Makes a turn of a scheduler: serves its requests, 64 at most, advances its wheel, and delivers what has
  * expired. This is the call for an event loop, after each tick.
  *
  * Writes what it did to `turned`.
  *
- * ERT_NO_MEMORY: what was done stays done and isn't told, and the next turn goes on. ERT_RANGE: there is no
+ * ERT_NO_MEMORY: what was done stays done and is not reported, and the next turn goes on. ERT_RANGE: there is no
  * such scheduler. ERT_CLOSED.
  */
 int32_t ert_world_turn(ert_world *world, uint32_t sched, ert_turned *turned);
@@ -430,64 +465,69 @@ int32_t ert_world_turn(ert_world *world, uint32_t sched, ert_turned *turned);
  * Tells how early a timer of a scheduler may be due, in milliseconds since the start time, as `to` of a turn.
  *
  * No armed timer of the wheel is due before it. So an event loop may sleep for `due` less `to` milliseconds
- * after a turn (as with `uv_backend_timeout`), unless something else wakes it: `due` is the deadline of a
- * timer, or 1,024 milliseconds after the time of the last tick where every timer is due later. A timer that was
- * cancelled through a seat counts until it would have been due, so `due` may come too early for its sake.
+ * after a turn (as with `uv_backend_timeout`), unless something else wakes it. After a turn `due` is above `to`.
+ *
+ * `due` is the deadline of a timer, or the begin of a window in which one is due: of 512 milliseconds, of 512 times
+ * that, and so on. After a turn at the begin of a window the answer is in it. So a loop wakes eight times at most for
+ * the timer that is due first, however far it is, and once where few timers are due in the same window. A timer that
+ * was cancelled through a seat counts until it would have been due, so `due` may come too early for its sake.
  *
  * ERT_EMPTY: no timer is armed, and `due` is as it was. ERT_RANGE: there is no such scheduler. ERT_CLOSED.
- * It changes nothing. Work for the milliseconds that it looks ahead, 1,024 after a turn, until the first timer.
+ * It changes nothing. Constant work: it looks at 64 timers at most. Only where a timer was started whose deadline had
+ * passed does it look at all that are due at the next turn.
  */
 int32_t ert_world_next_due(ert_world *world, uint32_t sched, uint64_t *due);
 
 /*
  * Opens a seat of a service behind a closed handle: its next caller, for the use of one thread at a time.
  *
- * The call goes through both handles: make it as every call through the service's handle is made, and hand the
- * seat to its thread afterwards. A seat is of its service for good, and outlives the close of that. Its caller
- * isn't given out again, not even once the seat is closed.
+ * The call uses both handles: make it as every call through the service's handle is made, and hand the seat to
+ * its thread afterwards. A seat belongs to its service for good, and outlives the close of that. Its caller
+ * is not given out again, not even once the seat is closed.
  *
  * ERT_OPEN: the seat's handle is open. ERT_CLOSED: the service's is closed. ERT_NO_SEAT: each of callers 1 to
- * settings.callers - 1 was given a seat. ERT_NO_MEMORY: the caller gets a seat by a later call. After each of
+ * settings.callers - 1 was given a seat. ERT_NO_MEMORY: a later call can give the caller a seat. After each of
  * these nothing has changed behind either handle. Constant work; one small allocation.
  */
 int32_t ert_seat_open(ert_seat *seat, ert_world *world);
 
 /*
- * Closes a seat, on any thread, and gives its memory back; with the last handle of a closed service also what
+ * Closes a seat, on any thread, and frees its memory; with the last handle of a closed service also what
  * all of them shared.
  *
  * The service and its other seats go on, and nothing that the seat did is undone: timers that it cancelled stay
  * cancelled.
  *
  * The handle is as ERT_INIT makes it, and can be opened again, as another caller. ERT_CLOSED: the handle was
- * closed; a second close is no fault. A seat that is forgotten while it is open leaks its memory.
+ * closed; a second close is safe. A seat that is forgotten while it is open leaks its memory.
  */
 int32_t ert_seat_close(ert_seat *seat);
 
 /*
- * Monotonic time, in nanoseconds, as ert_world_monotonic_time tells it.
+ * Monotonic time, in nanoseconds, as ert_world_monotonic_time returns it.
  *
- * It is that of the last tick, whichever thread made it. Of two calls of which one returned before the other
- * began, through whatever handles, the later one is never told an earlier time.
+ * It is that of the last tick, whichever thread made it. If one call returned before another began, through
+ * whatever handles, the later one never returns an earlier time.
  *
  * ERT_CLOSED. Constant work: one load of a word that only ticks write; no memory.
  */
 int32_t ert_seat_monotonic_time(ert_seat *seat, int64_t *time);
 
 /*
- * System time, in nanoseconds since 1970, as ert_world_system_time tells it.
+ * System time, in nanoseconds since 1970, as ert_world_system_time returns it.
  *
- * Monotonic time is read first, and then the time offset. A tick may come between: then it is the sum of the
- * time before that tick and the offset after it, which no moment had where the tick set the offset.
+ * Monotonic time is read first, and then the time offset. A tick may come between: then the result is the sum of
+ * the time before that tick and the offset after it. If the tick set the offset, system time had that value at no
+ * moment.
  *
  * ERT_CLOSED. Constant work: two loads; no memory.
  */
 int32_t ert_seat_system_time(ert_seat *seat, int64_t *time);
 
 /*
- * The time offset, in nanoseconds, with its state, as ert_world_time_offset tells it.
+ * The time offset, in nanoseconds, with its state, as ert_world_time_offset returns it.
  *
- * Both are of one moment. By the next call the thread that ticks may have set another, as its state tells.
+ * Both are of one moment. By the next call the thread that ticks may have set another, if its state allows that.
  *
  * ERT_CLOSED. Constant work: one load; no memory.
  */
@@ -496,29 +536,28 @@ int32_t ert_seat_time_offset(ert_seat *seat, ert_offset *offset);
 /*
  * Cancels a timer, as ert_world_cancel does, whichever thread started it.
  *
- * Of all cancels and the expiry of a timer just one settles it: this call writes the milliseconds that were left
- * to `left` exactly where it did, and then the timer's message never comes. The wheel isn't told: it holds the
- * timer's row until that would have been due, and a start that knows no free slot looks for this one.
+ * Of all cancels and the expiry of a timer exactly one ends it. If it was this call, it returns ERT_OK and writes
+ * the milliseconds that were left to `left`, and the timer's message never comes. The wheel is not told: it keeps
+ * the timer's slot until the timer would have been due, or until a start that finds no other free slot looks for it.
  *
- * ERT_NO_TIMER: the timer isn't armed, for it has expired, was cancelled, or never was one; `left` is as it was.
- * ERT_CLOSED. Constant work: two loads, and one exchange where the timer is armed; no memory.
+ * ERT_NO_TIMER: the timer is not armed: it has expired, was cancelled, or never existed; `left` is as it was.
+ * ERT_CLOSED. Constant work: two loads, and one exchange if the timer is armed; no memory.
  */
 int32_t ert_seat_cancel(ert_seat *seat, const ert_timer *timer, uint64_t *left);
 
 /*
- * Tells how much is left of a timer, in milliseconds, as ert_world_read does, and changes nothing.
+ * Reads the milliseconds that are left of a timer, as ert_world_read does, and changes nothing.
  *
- * Other threads may settle the timer or tick right after it was looked at, so this is what was left at one
- * moment of the call.
+ * Other threads may end the timer or tick right after the reads, so this is what was left during the call.
  *
- * ERT_NO_TIMER: the timer isn't armed, and `left` is as it was. ERT_CLOSED. Constant work: two loads; no memory.
+ * ERT_NO_TIMER: the timer is not armed, and `left` is as it was. ERT_CLOSED. Constant work: two loads; no memory.
  */
 int32_t ert_seat_read(ert_seat *seat, const ert_timer *timer, uint64_t *left);
 
 /*
- * Tells whether a process hasn't exited: writes 1 or 0 to `alive`, as ert_world_is_alive does.
+ * Reports whether a process is alive: writes 1 or 0 to `alive`, as ert_world_is_alive does.
  *
- * 0 is told for good. 1 is so at one moment of the call: another thread may let the process exit right after.
+ * 0 is final. 1 was so at one moment of the call: another thread may make the process exit right after.
  *
  * ERT_RANGE: there is no such process. ERT_CLOSED. Constant work: one load; no memory.
  */
