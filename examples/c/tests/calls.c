@@ -254,9 +254,8 @@ static void timer_calls(void) {
     IS(ert_world_take(&w, 3, &mail), ERT_RANGE);
     IS(ert_world_cancel(&w, &a, &left), ERT_NO_TIMER);
 
-    /* The other is due after the look ahead. */
     IS(ert_world_next_due(&w, 0, &due), ERT_OK);
-    IS(due, 50 + 1024);
+    IS(due, 3000);
     tick(&w, 3000);
     IS(ert_world_next_due(&w, 0, &due), ERT_OK);
     IS(due, 3000);

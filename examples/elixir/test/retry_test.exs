@@ -1,6 +1,6 @@
 defmodule RetryTest do
   use ExUnit.Case, async: true
-  use Ertime.Case
+  use Ertime.Case, start: 0
 
   test "a day of retries", %{clock: clock} do
     test = self()

@@ -1,3 +1,3 @@
-# The calls of these modules see the clock of a test.
-:ok = Ertime.use([Lease, Retry])
+# The calls of this application see the clock of a test.
+:ok = Ertime.transform(:lease)
 ExUnit.start()
