@@ -34,7 +34,7 @@
 ErlNifResourceType *clock_type, *timer_type, *watch_type;
 
 ERL_NIF_TERM atom_ok, atom_true, atom_false, atom_closed, atom_badarg, atom_system_limit, atom_timeout, atom_change,
-    atom_time_offset, atom_clock_service, atom_preliminary, atom_final, atom_volatile, atom_no_memory;
+    atom_time_offset, atom_clock_service, atom_preliminary, atom_final, atom_volatile, atom_no_memory, atom_after;
 
 ERL_NIF_TERM of_status(int32_t status) {
     switch (status) {
@@ -68,6 +68,7 @@ static int load(ErlNifEnv *env, void **private, ERL_NIF_TERM info) {
     atom_badarg = enif_make_atom(env, "badarg");
     atom_system_limit = enif_make_atom(env, "system_limit");
     atom_no_memory = enif_make_atom(env, "no_memory");
+    atom_after = enif_make_atom(env, "$ertime_after");
     atom_timeout = enif_make_atom(env, "timeout");
     atom_change = enif_make_atom(env, "CHANGE");
     atom_time_offset = enif_make_atom(env, "time_offset");
@@ -97,6 +98,7 @@ static ErlNifFunc functions[] = {
     {"time_offset", 1, nif_time_offset, 0},
     {"os_time", 1, nif_os_time, 0},
     {"settings", 1, nif_settings, 0},
+    {"info", 1, nif_info, ERL_NIF_DIRTY_JOB_CPU_BOUND},
     {"start", 6, nif_start, 0},
     {"cancel", 1, nif_cancel, 0},
     {"read", 1, nif_read, 0},

@@ -170,7 +170,7 @@ typedef struct {
 extern ErlNifResourceType *clock_type, *timer_type, *watch_type;
 
 extern ERL_NIF_TERM atom_ok, atom_true, atom_false, atom_closed, atom_badarg, atom_system_limit, atom_timeout, atom_change,
-    atom_time_offset, atom_clock_service, atom_preliminary, atom_final, atom_volatile, atom_no_memory;
+    atom_time_offset, atom_clock_service, atom_preliminary, atom_final, atom_volatile, atom_no_memory, atom_after;
 
 static inline bool get_clock(ErlNifEnv *env, ERL_NIF_TERM term, clock_resource **clock) {
     void *object;
@@ -322,7 +322,10 @@ nif nif_run, nif_leap, nif_tick, nif_drift, nif_finalize, nif_step, nif_free_run
 /* --- times.c and members.c ------------------------------------------------------------------------------------ */
 
 ERL_NIF_TERM of_offset_state(uint32_t it);
-nif nif_monotonic_time, nif_system_time, nif_time_offset, nif_os_time, nif_settings;
+nif nif_monotonic_time, nif_system_time, nif_time_offset, nif_os_time, nif_settings, nif_info;
+ERL_NIF_TERM list_members(ErlNifEnv *env, const state *s);
+ERL_NIF_TERM list_timers(ErlNifEnv *env, state *s);
+ERL_NIF_TERM list_asleep(ErlNifEnv *env, state *s);
 nif nif_lead, nif_unlead, nif_join, nif_leave, nif_members, nif_timers;
 
 #endif

@@ -83,12 +83,18 @@ ERL_NIF_TERM nif_leave(ErlNifEnv *env, int argc, const ERL_NIF_TERM argv[]) {
 
 /* --- lists ---------------------------------------------------------------------------------------------------- */
 
-static ERL_NIF_TERM list_members(ErlNifEnv *env, const state *s) {
+/* Whether its process hasn't exited. */
+static bool counts(const receiver *it) {
+    return !atomic_load_explicit(&it->gone, memory_order_relaxed);
+}
+
+/* The processes that use the clock. Under the lock, or while the state is kept. */
+ERL_NIF_TERM list_members(ErlNifEnv *env, const state *s) {
     ERL_NIF_TERM list = enif_make_list(env, 0);
     walk all;
     walk_begin(&all, &s->receivers);
     for (receiver *it = walk_next(&all); it != NULL; it = walk_next(&all)) {
-        if (it->member && !atomic_load_explicit(&it->gone, memory_order_relaxed)) {
+        if (it->member && counts(it)) {
             list = enif_make_list_cell(env, enif_make_pid(env, &it->pid), list);
         }
     }
@@ -122,7 +128,7 @@ ERL_NIF_TERM nif_members(ErlNifEnv *env, int argc, const ERL_NIF_TERM argv[]) {
     return list;
 }
 
-static ERL_NIF_TERM list_timers(ErlNifEnv *env, state *s, const receiver *from, ERL_NIF_TERM list) {
+static ERL_NIF_TERM add_timers(ErlNifEnv *env, state *s, const receiver *from, ERL_NIF_TERM list) {
     for (const ring *at = from->timers.next; at != &from->timers; at = at->next) {
         timer *it = OF_RING(at, timer, place);
         uint64_t left = 0;
@@ -133,6 +139,43 @@ static ERL_NIF_TERM list_timers(ErlNifEnv *env, state *s, const receiver *from, 
         ERL_NIF_TERM row = enif_make_tuple5(env, enif_make_uint64(env, left), to, enif_make_resource(env, it),
                                             message_of(env, it), it->bare ? atom_true : atom_false);
         list = enif_make_list_cell(env, row, list);
+    }
+    return list;
+}
+
+/* {Left, To, Reference, Message, Bare} of each timer that is armed. While the state is kept. */
+ERL_NIF_TERM list_timers(ErlNifEnv *env, state *s) {
+    ERL_NIF_TERM list = add_timers(env, s, &s->others, enif_make_list(env, 0));
+    walk all;
+    walk_begin(&all, &s->receivers);
+    for (receiver *it = walk_next(&all); it != NULL; it = walk_next(&all)) {
+        list = counts(it) ? add_timers(env, s, it, list) : list;
+    }
+    return list;
+}
+
+static ERL_NIF_TERM add_asleep(ErlNifEnv *env, state *s, const receiver *from, ERL_NIF_TERM list) {
+    for (const ring *at = from->timers.next; at != &from->timers; at = at->next) {
+        timer *it = OF_RING(at, timer, place);
+        if (it->by_name || it->word != WORD_ATOM || !enif_is_identical(it->message.term, atom_after)) {
+            continue;
+        }
+        uint64_t left = 0; /* also where it has expired, and its message wasn't taken */
+        ert_world_read(&s->world, &it->name, &left);
+        ERL_NIF_TERM row = enif_make_tuple3(env, enif_make_uint64(env, left), enif_make_pid(env, &it->to.pid),
+                                            enif_make_resource(env, it));
+        list = enif_make_list_cell(env, row, list);
+    }
+    return list;
+}
+
+/* {Left, To, Reference} of each process that waits with a timeout. While the state is kept, or once it is closed. */
+ERL_NIF_TERM list_asleep(ErlNifEnv *env, state *s) {
+    ERL_NIF_TERM list = enif_make_list(env, 0);
+    walk all;
+    walk_begin(&all, &s->receivers);
+    for (receiver *it = walk_next(&all); it != NULL; it = walk_next(&all)) {
+        list = counts(it) ? add_asleep(env, s, it, list) : list;
     }
     return list;
 }
@@ -150,14 +193,7 @@ ERL_NIF_TERM nif_timers(ErlNifEnv *env, int argc, const ERL_NIF_TERM argv[]) {
     ERL_NIF_TERM list = enif_make_list(env, 0);
     if (is_open(s)) {
         state_begin(s);
-        list = list_timers(env, s, &s->others, list);
-        walk all;
-        walk_begin(&all, &s->receivers);
-        for (receiver *it = walk_next(&all); it != NULL; it = walk_next(&all)) {
-            if (!atomic_load_explicit(&it->gone, memory_order_relaxed)) {
-                list = list_timers(env, s, it, list);
-            }
-        }
+        list = list_timers(env, s);
         state_end(s);
     }
     state_leave(s);

@@ -158,7 +158,10 @@ void state_dismantle(ErlNifEnv *env, state *s, clock_resource *clock) {
     groups_retire(s);
 }
 
-/* close(Clock) -> true | false | badarg */
+/*
+ * close(Clock) -> [{Left, To, Timer}] | false | badarg: of those who wait with a timeout of the clock, how many milliseconds
+ * were left. It is false where the clock was closed.
+ */
 ERL_NIF_TERM nif_close(ErlNifEnv *env, int argc, const ERL_NIF_TERM argv[]) {
     clock_resource *clock;
     if (!get_clock(env, argv[0], &clock)) {
@@ -170,10 +173,12 @@ ERL_NIF_TERM nif_close(ErlNifEnv *env, int argc, const ERL_NIF_TERM argv[]) {
     }
     bool was_open = atomic_exchange(&s->open, false);
     state_leave(s);
-    if (was_open) {
-        state_dismantle(env, s, clock);
+    if (!was_open) {
+        return atom_false;
     }
-    return was_open ? atom_true : atom_false;
+    ERL_NIF_TERM asleep = list_asleep(env, s);
+    state_dismantle(env, s, clock);
+    return asleep;
 }
 
 /* Nothing refers to a clock any more. What would take a scheduler long is left to the thread. */

@@ -71,6 +71,12 @@ ERL_NIF_TERM nif_os_time(ErlNifEnv *env, int argc, const ERL_NIF_TERM argv[]) {
     return enif_make_tuple2(env, enif_make_int64(env, os.mono), enif_make_int64(env, os.sys));
 }
 
+static ERL_NIF_TERM of_settings(ErlNifEnv *env, const ert_settings *it, int64_t drift) {
+    return enif_make_tuple5(env, enif_make_uint(env, it->mode), enif_make_uint(env, it->correction),
+                            enif_make_int64(env, it->start), enif_make_uint(env, it->slots * it->schedulers),
+                            enif_make_int64(env, drift));
+}
+
 /* settings(Clock) -> {Mode, Correction, Start, Slots, Drift} | closed | badarg */
 ERL_NIF_TERM nif_settings(ErlNifEnv *env, int argc, const ERL_NIF_TERM argv[]) {
     clock_resource *clock;
@@ -84,11 +90,47 @@ ERL_NIF_TERM nif_settings(ErlNifEnv *env, int argc, const ERL_NIF_TERM argv[]) {
     bool open = is_open(s);
     int64_t drift = s->drift;
     state_leave(s);
-    if (!open) {
-        return atom_closed;
+    return open ? of_settings(env, &s->settings, drift) : atom_closed;
+}
+
+static ERL_NIF_TERM pair(ErlNifEnv *env, int64_t first, int64_t second) {
+    return enif_make_tuple2(env, enif_make_int64(env, first), enif_make_int64(env, second));
+}
+
+static ERL_NIF_TERM info_of(ErlNifEnv *env, state *s) {
+    ert_offset offset = {0, 0};
+    ert_world_time_offset(&s->world, &offset);
+    const ERL_NIF_TERM all[] = {
+        of_settings(env, &s->settings, s->drift),
+        pair(env, s->os.mono, s->os.sys),
+        pair(env, atomic_load(&s->now), atomic_load(&s->system)),
+        enif_make_tuple2(env, enif_make_int64(env, offset.offset), of_offset_state(offset.state)),
+        list_members(env, s),
+        list_timers(env, s),
+    };
+    return enif_make_tuple_from_array(env, all, sizeof all / sizeof *all);
+}
+
+/*
+ * info(Clock) -> {settings(), {OsMono, OsSys}, {Monotonic, System}, {Offset, State}, Members, Timers} | closed | badarg
+ *
+ * All of one moment. On a dirty scheduler.
+ */
+ERL_NIF_TERM nif_info(ErlNifEnv *env, int argc, const ERL_NIF_TERM argv[]) {
+    clock_resource *clock;
+    if (!get_clock(env, argv[0], &clock)) {
+        return atom_badarg;
     }
-    const ert_settings *it = &s->settings;
-    return enif_make_tuple5(env, enif_make_uint(env, it->mode), enif_make_uint(env, it->correction),
-                            enif_make_int64(env, it->start), enif_make_uint(env, it->slots * it->schedulers),
-                            enif_make_int64(env, drift));
+    state *s = clock->state;
+    if (!state_enter(s)) {
+        return elsewhere(env, "info", nif_info, argc, argv);
+    }
+    ERL_NIF_TERM all = atom_closed;
+    if (is_open(s)) {
+        state_begin(s);
+        all = info_of(env, s);
+        state_end(s);
+    }
+    state_leave(s);
+    return all;
 }

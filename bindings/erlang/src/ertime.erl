@@ -283,16 +283,14 @@ use(Modules) when is_list(Modules); Modules =:= otp ->
     transform(Modules);
 use(Clock) ->
     Before = erlang:get('$ertime'),
-    case Clock of
-        undefined -> ertime_use:put_clock(undefined);
-        real -> ertime_use:put_clock(none);
-        _ when is_reference(Clock) ->
-            case ertime_nif:os_time(Clock) of
-                {_, _} -> ertime_use:put_clock(Clock);
-                Reason -> error(Reason, [Clock])
-            end;
-        _ -> error(badarg, [Clock])
-    end,
+    Answer =
+        case Clock of
+            undefined -> ertime_use:put_clock(undefined);
+            real -> ertime_use:put_clock(none);
+            _ when is_reference(Clock) -> ertime_use:put_clock(Clock);
+            _ -> badarg
+        end,
+    Answer =:= ok orelse error(Answer, [Clock]),
     case Before of
         none -> real;
         _ -> Before

@@ -101,22 +101,22 @@ close(Clock) ->
         Clock -> ertime_use:put_everywhere(none);
         _ -> ok
     end,
-    Asleep = [{Left, To, Timer} || {Left, To, Timer, ?AFTER, _} <- armed(Clock)],
     case ertime_nif:close(Clock) of
         badarg ->
             error(badarg, [Clock]);
-        Was ->
-            ertime_on:on() andalso begin ertime_watch:stop(Clock), ertime_timer:stop(Clock) end,
-            erlang:get(?OWN) =:= Clock andalso erase(?OWN),
+        false ->
+            stopped(Clock),
+            false;
+        Asleep ->
+            stopped(Clock),
             [erlang:send_after(Left, To, {timeout, Timer, ?AFTER}) || {Left, To, Timer} <- Asleep],
-            Was
+            true
     end.
 
-armed(Clock) ->
-    case ertime_nif:timers(Clock) of
-        badarg -> [];
-        Timers -> Timers
-    end.
+%% Nothing works for the clock any more.
+stopped(Clock) ->
+    ertime_on:on() andalso begin ertime_watch:stop(Clock), ertime_timer:stop(Clock) end,
+    erlang:get(?OWN) =:= Clock andalso erase(?OWN).
 
 %% @equiv advance(clock(), Duration)
 -spec advance(ertime:duration() | until_idle) -> non_neg_integer().
@@ -154,11 +154,12 @@ advance(Clock, by_hand) ->
     _ = is_open(Clock, [Clock, by_hand]),
     ertime_watch:stop(Clock);
 advance(Clock, until_idle) ->
-    led(Clock, fun() -> until_idle(Clock, 0, 0) end);
+    led(Clock, [Clock, until_idle], fun() -> until_idle(Clock, 0, 0) end);
 advance(Clock, Duration) ->
-    Left = ertime_times:nanoseconds(Duration, millisecond, [Clock, Duration]),
-    Left >= 0 orelse error(badarg, [Clock, Duration]),
-    led(Clock, fun() -> steps(Clock, Left, 0, 0) end).
+    Arguments = [Clock, Duration],
+    Left = ertime_times:nanoseconds(Duration, millisecond, Arguments),
+    Left >= 0 orelse error(badarg, Arguments),
+    led(Clock, Arguments, fun() -> steps(Clock, Left, 0, 0) end).
 
 auto(Limit) ->
     Self = self(),
@@ -170,24 +171,30 @@ is_open(Clock, Arguments) ->
         Reason -> error(Reason, Arguments)
     end.
 
-%% One process moves a clock at a time.
-led(Clock, Work) ->
+%% One process moves a clock at a time. What the NIF refuses, as where another process closes the clock meanwhile, is thrown,
+%% and is an error of the call that has these arguments.
+led(Clock, Arguments, Work) ->
     case ertime_nif:lead(Clock) of
         true ->
             put(?OWN, Clock),
             try
                 ertime_rest:wait(Clock),
                 Work()
+            catch
+                throw:{?MODULE, Reason} -> error(Reason, Arguments)
             after
                 ertime_nif:unlead(Clock)
             end;
         false ->
             receive
-            after 1 -> led(Clock, Work)
+            after 1 -> led(Clock, Arguments, Work)
             end;
         Reason ->
-            error(Reason, [Clock])
+            error(Reason, Arguments)
     end.
+
+refused(Reason) ->
+    throw({?MODULE, Reason}).
 
 steps(Clock, Left, Sent, Same) ->
     case step(Clock, Left) of
@@ -213,14 +220,14 @@ until_idle(Clock, Sent, Same) ->
             until_idle(Clock, Sent + More, at_one_time(0, 0, Same))
     end.
 
-at_one_time(Left, Left, Same) when Same >= ?MOST_AT_ONE_TIME -> error(no_progress);
+at_one_time(Left, Left, Same) when Same >= ?MOST_AT_ONE_TIME -> refused(no_progress);
 at_one_time(Left, Left, Same) -> Same + 1;
 at_one_time(_, _, _) -> 0.
 
 step(Clock, Left) ->
     case ertime_nif:step(Clock, Left) of
         {_, _, _} = Done -> Done;
-        Reason -> error(Reason)
+        Reason -> refused(Reason)
     end.
 
 %% @equiv warp(clock(), By)
@@ -247,14 +254,14 @@ warp(Clock, By, Options) ->
     Arguments = [Clock, By, Options],
     Leap = ertime_times:nanoseconds(By, millisecond, Arguments),
     #{check := Check} = ertime_timers:options(Options, #{check => true}, Arguments),
-    led(Clock, fun() ->
+    led(Clock, Arguments, fun() ->
         case ertime_nif:leap(Clock, Leap, Check orelse is_followed(Clock, Leap)) of
             ok ->
                 ertime_rest:wait(Clock),
                 _ = steps(Clock, 0, 0, 0),
                 ok;
             Reason ->
-                error(Reason, Arguments)
+                refused(Reason)
         end
     end).
 
@@ -280,7 +287,8 @@ drift(Clock, PartsPerMillion) ->
 info() ->
     info(needed(info, [])).
 
-%% @doc What the clock tells and what is armed, the timers in order of their deadlines: for a failing test to print.
+%% @doc What the clock tells and what is armed, the timers in order of their deadlines: for a failing test to print. All of it is
+%% of one moment.
 %%
 %% ```
 %% Clock = ertime:open(#{start => 0}),
@@ -290,26 +298,24 @@ info() ->
 %% '''
 -spec info(ertime:clock()) -> map().
 info(Clock) ->
-    case ertime_nif:settings(Clock) of
-        {Mode, Correction, Start, Slots, Drift} ->
-            {Offset, State} = ertime_nif:time_offset(Clock),
-            {Mono, System} = ertime_nif:os_time(Clock),
+    case ertime_nif:info(Clock) of
+        {{Mode, Correction, Start, Slots, Drift}, {OsMono, OsSystem}, {Mono, System}, {Offset, State}, Pids, Timers} ->
             #{
                 mode => ertime_monitors:mode_of(Mode),
                 correction => Correction =:= 1,
                 start => Start,
                 slots => Slots,
                 drift => Drift / 1000,
-                monotonic_time => ertime_nif:monotonic_time(Clock),
-                system_time => ertime_nif:system_time(Clock),
+                monotonic_time => Mono,
+                system_time => System,
                 time_offset => Offset,
                 offset_state => State,
-                os_monotonic_time => Mono,
-                os_system_time => System,
-                processes => lists:sort(ertime_nif:members(Clock)),
+                os_monotonic_time => OsMono,
+                os_system_time => OsSystem,
+                processes => lists:sort(Pids),
                 timers => [
                     #{left => Left, to => To, timer => Timer, message => Message, kind => kind(Bare)}
-                 || {Left, To, Timer, Message, Bare} <- lists:sort(ertime_nif:timers(Clock))
+                 || {Left, To, Timer, Message, Bare} <- lists:sort(Timers)
                 ]
             };
         Reason ->
@@ -322,6 +328,7 @@ kind(false) -> start_timer.
 %% @doc Waits until the processes of a clock rest, as {@link advance/2} does, and moves nothing.
 -spec rest(ertime:clock()) -> ok.
 rest(Clock) ->
+    _ = is_open(Clock, [Clock]),
     ertime_rest:wait(Clock).
 
 needed(Name, Arguments) ->

@@ -3,7 +3,7 @@
 %% clock that is opened, and stays.
 -module(ertime_keeper).
 
--export([start/0, later/2, put/2, put_new/2, take/1, has/1, get/1]).
+-export([start/0, later/2, put/2, put_new/2, take/1, drop/2, has/1, get/1]).
 
 -compile({no_auto_import, [put/2, get/1]}).
 
@@ -61,6 +61,11 @@ take(Key) ->
         [{_, Value}] -> Value;
         [] -> none
     end.
+
+%% It stands there no longer, if it did.
+drop(Key, Value) ->
+    true = ets:delete_object(?TABLE, {Key, Value}),
+    ok.
 
 get(Key) ->
     case ets:lookup(?TABLE, Key) of

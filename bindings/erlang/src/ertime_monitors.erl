@@ -156,24 +156,30 @@ system_info(Item) when
         none ->
             erlang:system_info(Item);
         Clock ->
-            case ertime_nif:settings(Clock) of
+            case asked(Item, Clock) of
                 closed ->
                     _ = ertime_use:lost(),
                     system_info(Item);
-                Settings ->
-                    item(Item, Clock, Settings)
+                Told ->
+                    item(Item, Told)
             end
     end;
 system_info(Item) ->
     erlang:system_info(Item).
 
-item(time_offset, Clock, _) -> element(2, ertime_nif:time_offset(Clock));
-item(time_warp_mode, _, {Mode, _, _, _, _}) -> mode_of(Mode);
-item(time_correction, _, {_, Correction, _, _, _}) -> Correction =:= 1;
-item(start_time, _, {_, _, Start, _, _}) -> Start;
-item(end_time, _, {_, _, Start, _, _}) -> Start + 8796093022207 * 1000000;
-item(os_monotonic_time_source, Clock, _) -> source(element(1, ertime_nif:os_time(Clock)));
-item(os_system_time_source, Clock, _) -> source(element(2, ertime_nif:os_time(Clock))).
+%% The one call of the NIF that knows the item.
+asked(time_offset, Clock) -> ertime_nif:time_offset(Clock);
+asked(os_monotonic_time_source, Clock) -> ertime_nif:os_time(Clock);
+asked(os_system_time_source, Clock) -> ertime_nif:os_time(Clock);
+asked(_, Clock) -> ertime_nif:settings(Clock).
+
+item(time_offset, {_, State}) -> State;
+item(time_warp_mode, {Mode, _, _, _, _}) -> mode_of(Mode);
+item(time_correction, {_, Correction, _, _, _}) -> Correction =:= 1;
+item(start_time, {_, _, Start, _, _}) -> Start;
+item(end_time, {_, _, Start, _, _}) -> Start + 8796093022207 * 1000000;
+item(os_monotonic_time_source, {Mono, _}) -> source(Mono);
+item(os_system_time_source, {_, System}) -> source(System).
 
 source(Time) ->
     [{function, ertime}, {resolution, 1000000000}, {extended, no}, {parallel, yes}, {time, Time}].

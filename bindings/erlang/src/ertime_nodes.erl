@@ -127,11 +127,17 @@ send_here() ->
 
 %% @private
 run_here(Nanoseconds) ->
-    ok = ertime_nif:run(clock(), Nanoseconds).
+    case ertime_nif:run(clock(), Nanoseconds) of
+        ok -> ok;
+        Reason -> error(Reason, [Nanoseconds])
+    end.
 
 %% @private
 free_run_here() ->
-    ertime_nif:free_run(clock()).
+    case ertime_nif:free_run(clock()) of
+        Nanoseconds when is_integer(Nanoseconds) -> Nanoseconds;
+        Reason -> error(Reason)
+    end.
 
 %% @private
 warp_here(By) ->

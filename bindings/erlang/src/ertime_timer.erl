@@ -158,8 +158,14 @@ timed(Unit, Do) ->
 
 ask(Request, Name, Arguments) ->
     case ertime:clock() of
-        none -> real(Name, Arguments);
-        Clock -> ask_server(Clock, Request)
+        none ->
+            real(Name, Arguments);
+        Clock ->
+            case asked(Clock, Request) of
+                %% The server has just ended, with its last timer or with the clock.
+                gone -> ask(Request, Name, Arguments);
+                Answer -> Answer
+            end
     end.
 
 %% Where the module is turned too (ertime_load), this is the name of its own function.
@@ -170,11 +176,14 @@ real(Name, Arguments) ->
         false -> apply(timer, Name, Arguments)
     end.
 
-ask_server(Clock, Request) ->
-    case request(server(Clock), Request) of
-        {ok, _} = Answer -> Answer;
-        %% It has just ended with its last timer.
-        gone -> ask_server(Clock, Request)
+asked(Clock, Request) ->
+    case server(Clock) of
+        Server when is_pid(Server) ->
+            Answer = request(Server, Request),
+            Answer =:= gone andalso ertime_keeper:drop({timer, Clock}, Server),
+            Answer;
+        Answer ->
+            Answer
     end.
 
 request(Server, Request) ->
@@ -188,14 +197,17 @@ request(Server, Request) ->
             gone
     end.
 
+%% The server of a clock, or `gone', or why there is none.
 server(Clock) ->
     case ertime_keeper:get({timer, Clock}) of
         none ->
             Self = self(),
             {Pid, Monitor} = spawn_monitor(fun() -> serve(Clock, Self) end),
             receive
+                {'DOWN', Monitor, process, Pid, {?MODULE, Reason}} ->
+                    {error, Reason};
                 {'DOWN', Monitor, process, Pid, _} ->
-                    server(Clock);
+                    gone;
                 {?MODULE, serves, Pid} ->
                     erlang:demonitor(Monitor, [flush]),
                     Pid
@@ -220,15 +232,31 @@ stop(Clock) ->
 serve(Clock, Starter) ->
     case ertime_keeper:put_new({timer, Clock}, self()) of
         true ->
-            _ = ertime:use(Clock),
-            Starter ! {?MODULE, serves, self()},
-            loop(Clock, request_taken(#{}));
+            case seeing(Clock) of
+                ok ->
+                    Starter ! {?MODULE, serves, self()},
+                    loop(Clock, request_taken(#{}));
+                Reason ->
+                    ertime_keeper:drop({timer, Clock}, self()),
+                    Reason =:= closed orelse exit({?MODULE, Reason})
+            end;
         false ->
             ok
     end.
 
+%% The calling process uses a clock, if there is one and it is open.
+seeing(none) ->
+    ok;
+seeing(Clock) ->
+    try
+        _ = ertime:use(Clock),
+        ok
+    catch
+        error:Reason -> Reason
+    end.
+
 loop(Clock, Timers) when map_size(Timers) =:= 0 ->
-    ertime_keeper:take({timer, Clock});
+    ertime_keeper:drop({timer, Clock}, self());
 loop(Clock, Timers) ->
     loop(Clock, request_taken(Timers)).
 
@@ -261,9 +289,15 @@ answered({cancel, Name}, Timers) ->
             {ok, Timers}
     end.
 
-started(Timer = #timer{time = Time}, Timers) ->
+started(Timer = #timer{time = Time, monitor = Monitor}, Timers) ->
     Name = make_ref(),
-    {{ok, {form(Timer), {?MODULE, self(), Name}}}, Timers#{Name => Timer#timer{reference = ertime:start_timer(Time, self(), Name)}}}.
+    try ertime:start_timer(Time, self(), Name) of
+        Reference -> {{ok, {form(Timer), {?MODULE, self(), Name}}}, Timers#{Name => Timer#timer{reference = Reference}}}
+    catch
+        error:Reason ->
+            unmonitored(Monitor),
+            {{error, Reason}, Timers}
+    end.
 
 form(#timer{kind = once, time = 0}) -> instant;
 form(#timer{kind = once}) -> once;
@@ -298,7 +332,7 @@ in_process({erlang, send, [To, Message]}) ->
 in_process(Call) ->
     {Clock, Server} = {ertime:clock(), self()},
     Pid = spawn(fun() ->
-        _ = Clock =/= none andalso ertime:use(Clock),
+        _ = seeing(Clock),
         Server ! {?MODULE, joined, self()},
         under(Clock, Call)
     end),
@@ -309,7 +343,7 @@ in_process(Call) ->
 
 %% The server may have ended when this process asks which clock it sees.
 under(Clock, {M, F, Arguments}) ->
-    _ = Clock =/= none andalso ertime:use(Clock),
+    _ = seeing(Clock),
     ertime_calls:call(M, F, Arguments).
 
 stays(#timer{monitor = Monitor} = Timer, Monitor) ->
@@ -320,4 +354,7 @@ stays(_, _) ->
 
 forget(#timer{reference = Reference, monitor = Monitor}) ->
     _ = ertime:cancel_timer(Reference),
-    Monitor =/= none andalso erlang:demonitor(Monitor, [flush]).
+    unmonitored(Monitor).
+
+unmonitored(none) -> true;
+unmonitored(Monitor) -> erlang:demonitor(Monitor, [flush]).

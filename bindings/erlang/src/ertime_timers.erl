@@ -202,7 +202,8 @@ sleep_until(Timer, Time, Clock) ->
     receive
         {timeout, Timer, ?AFTER} -> ok
     after ?PATIENCE ->
-        case ertime:clock() =:= Clock andalso ertime_nif:monotonic_time(Clock) =:= Now andalso ertime_watch:is_left(Clock) of
+        %% What others do while these are asked is seen by the time, which is asked last.
+        case ertime:clock() =:= Clock andalso ertime_watch:is_left(Clock) andalso ertime_nif:monotonic_time(Clock) =:= Now of
             true ->
                 receive_stop(Timer),
                 error({nobody_advances, [ertime_rest:describe(self())]}, [Time]);
@@ -224,7 +225,8 @@ receive_start(Time) ->
 receive_stop(none) ->
     ok;
 receive_stop(Timer) ->
-    case ertime_nif:cancel(Timer) of
+    %% Where the clock was just closed, the timer is one of the runtime.
+    case cancel_timer(Timer) of
         false ->
             receive
                 {timeout, Timer, ?AFTER} -> ok

@@ -108,17 +108,22 @@ lost() ->
     erase(?SEEN),
     clock().
 
+%% Answers `ok', or why the process can't use the clock; then all is as it was.
+put_clock(Clock) when is_reference(Clock) ->
+    case ertime_nif:join(Clock) of
+        ok -> replace_clock(Clock);
+        Reason -> Reason
+    end;
 put_clock(Clock) ->
-    case get(?KEY) of
-        undefined -> ok;
-        none -> ok;
-        Before -> ertime_nif:leave(Before)
-    end,
+    replace_clock(Clock).
+
+replace_clock(Clock) ->
+    Before = get(?KEY),
+    is_reference(Before) andalso Before =/= Clock andalso ertime_nif:leave(Before),
     seen_before(erase(?SEEN), Clock),
     case Clock of
         undefined -> erase(?KEY);
-        none -> put(?KEY, none);
-        _ -> join(Clock) =:= ok andalso put(?KEY, Clock)
+        _ -> put(?KEY, Clock)
     end,
     %% Without a clock on the node nobody keeps an answer.
     ertime_on:on() andalso changed(),

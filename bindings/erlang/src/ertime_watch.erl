@@ -58,10 +58,17 @@ stop(Clock) ->
 is_auto(Clock) ->
     ertime_keeper:has({auto, Clock}).
 
-%% Whether nobody moves the clock.
+%% Whether nobody moves the clock, and nobody is about to: all others of its processes rest.
 -spec is_left(ertime:clock()) -> boolean().
 is_left(Clock) ->
-    not is_auto(Clock) andalso nobody_leads(Clock).
+    not is_auto(Clock) andalso nobody_leads(Clock) andalso all_rest(Clock).
+
+all_rest(Clock) ->
+    try ertime_rest:wait(Clock, ?LOOK) of
+        ok -> true
+    catch
+        error:{not_at_rest, _} -> false
+    end.
 
 now_ms() -> erlang:monotonic_time(millisecond).
 
@@ -85,8 +92,7 @@ tell(#watch{clock = Clock, options = #{tell := Tell}} = Watch, Reason) ->
     ok.
 
 stop_quietly(Clock) ->
-    _ = ertime_keeper:take({auto, Clock}),
-    ok.
+    ertime_keeper:drop({auto, Clock}, self()).
 
 %% --- time goes on by itself ---------------------------------------------------------------------------------------
 
@@ -104,15 +110,15 @@ auto(Watch = #watch{clock = Clock, started = Started, options = #{limit := Limit
     end.
 
 go_on(Watch = #watch{clock = Clock}) ->
-    try ertime_rest:wait(Clock, ?LOOK) of
-        ok -> next(Watch)
-    catch
-        error:{not_at_rest, _} -> auto(Watch#watch{since = none})
+    case all_rest(Clock) of
+        true -> next(Watch);
+        false -> auto(Watch#watch{since = none})
     end.
 
 next(Watch = #watch{clock = Clock, same = Same}) ->
     case led(Clock) of
         closed -> stop_quietly(Clock);
+        no_memory -> tell(Watch, {no_memory, who_waits(Clock)});
         other -> is_there(Watch, 1) andalso auto(Watch#watch{since = none});
         {_, 0, 0} -> idle(Watch);
         {false, _, _} when Same >= ?MOST_AT_ONE_TIME -> tell(Watch, {no_progress, who_waits(Clock)});
@@ -121,24 +127,28 @@ next(Watch = #watch{clock = Clock, same = Same}) ->
     end.
 
 %% Sends what is due, or else goes on to the next deadline: whether the time was moved, how many messages were sent, and how many
-%% timers were armed then.
+%% timers were armed then. Or why it didn't: `other' where another process moves the clock, `closed' or `no_memory'.
 led(Clock) ->
     case ertime_nif:lead(Clock) of
         true ->
-            try ertime_nif:step(Clock, 0) of
-                {_, 0, Armed} when Armed > 0 ->
-                    {_, Sent, _} = ertime_nif:step(Clock, ?LONGEST),
-                    {true, Sent, Armed};
-                {_, Sent, Armed} ->
-                    {false, Sent, Armed};
-                closed ->
-                    closed
+            try
+                moved(Clock, ertime_nif:step(Clock, 0))
             after
                 ertime_nif:unlead(Clock)
             end;
         false -> other;
-        _ -> closed
+        Reason -> Reason
     end.
+
+moved(Clock, {_, 0, Armed}) when Armed > 0 ->
+    case ertime_nif:step(Clock, ?LONGEST) of
+        {_, Sent, _} -> {true, Sent, Armed};
+        Reason -> Reason
+    end;
+moved(_, {_, Sent, Armed}) ->
+    {false, Sent, Armed};
+moved(_, Reason) ->
+    Reason.
 
 %% All rest, and nothing is armed.
 idle(Watch = #watch{clock = Clock, owner = Owner, since = Since, seen = Before}) ->
@@ -182,8 +192,8 @@ by_hand(Watch = #watch{clock = Clock, owner = Owner, since = Since, seen = Befor
             end
     end.
 
-still(Watch = #watch{clock = Clock, owner = Owner}, Long) ->
-    case Long > ?ASLEEP andalso is_asleep(Clock, Owner) andalso is_left(Clock) of
+still(Watch = #watch{clock = Clock, owner = Owner, seen = {_, Time}}, Long) ->
+    case Long > ?ASLEEP andalso is_asleep(Clock, Owner) andalso is_left(Clock) andalso ertime_nif:monotonic_time(Clock) =:= Time of
         true -> tell(Watch, {nobody_advances, who_waits(Clock)});
         false -> by_hand(Watch)
     end.

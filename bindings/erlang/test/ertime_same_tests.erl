@@ -8,14 +8,22 @@
 -define(LATE, 60000).
 
 same_test_() ->
-    [{Name, fun() -> same(Do) end} || {Name, Do} <- times() ++ units() ++ starts() ++ cancels() ++ reads() ++ monitors() ++ settings()].
+    [{Name, {timeout, 60, fun() -> same(Do) end}} || {Name, Do} <- times() ++ units() ++ starts() ++ cancels() ++ reads() ++ monitors() ++ settings()].
 
+%% In real time a message may be late, so where the results differ the row is done again, and has more time.
 same(Do) ->
-    Real = result(Do, erlang, fun(Milliseconds) -> timer:sleep(Milliseconds + 30) end),
+    same(Do, 30).
+
+same(Do, Late) ->
+    Real = result(Do, erlang, fun(Milliseconds) -> timer:sleep(Milliseconds + Late) end),
     Clock = ertime:open(#{os_time => erlang:system_time()}),
     Ours = ertime:with(Clock, fun() -> result(Do, ertime, fun(Milliseconds) -> ertime:advance(Clock, Milliseconds) end) end),
     ertime:close(Clock),
-    ?assertEqual(Real, Ours).
+    case Real of
+        Ours -> ok;
+        _ when Late < 3000 -> same(Do, 10 * Late);
+        _ -> ?assertEqual(Real, Ours)
+    end.
 
 %% In a process of its own, so that no message of one goes to the other.
 result(Do, Module, Pass) ->
@@ -35,7 +43,7 @@ next() ->
     end.
 
 %% The milliseconds that are left differ by what has passed meanwhile.
-about(Left, Whole) when is_integer(Left), Left =< Whole, Left > Whole - 1000 -> {about, Whole};
+about(Left, Whole) when is_integer(Left), Left =< Whole, Left > Whole - 30000 -> {about, Whole};
 about(Other, _) -> Other.
 
 dead() ->
@@ -53,12 +61,12 @@ times() ->
         {"monotonic_time/1, bad unit", fun(M, _) -> M:monotonic_time(hour) end},
         {"monotonic_time/1, no parts", fun(M, _) -> M:monotonic_time(0) end},
         {"monotonic_time/1, a float", fun(M, _) -> M:monotonic_time(1.0) end},
-        {"system_time/0", fun(M, _) -> abs(M:system_time() - erlang:system_time()) < 2000000000 end},
-        {"system_time/1", fun(M, _) -> abs(M:system_time(second) - erlang:system_time(second)) < 2 end},
+        {"system_time/0", fun(M, _) -> abs(M:system_time() - erlang:system_time()) < 30000000000 end},
+        {"system_time/1", fun(M, _) -> abs(M:system_time(second) - erlang:system_time(second)) < 30 end},
         {"system_time/1, bad unit", fun(M, _) -> M:system_time(weeks) end},
         {"system_time/1, negative parts", fun(M, _) -> M:system_time(-1) end},
-        {"time_offset/0", fun(M, _) -> abs(M:monotonic_time() + M:time_offset() - M:system_time()) < 1000000000 end},
-        {"time_offset/1", fun(M, _) -> abs(M:monotonic_time(second) + M:time_offset(second) - M:system_time(second)) < 3 end},
+        {"time_offset/0", fun(M, _) -> abs(M:monotonic_time() + M:time_offset() - M:system_time()) < 30000000000 end},
+        {"time_offset/1", fun(M, _) -> abs(M:monotonic_time(second) + M:time_offset(second) - M:system_time(second)) < 30 end},
         {"time_offset/1, bad unit", fun(M, _) -> M:time_offset([]) end},
         {"timestamp/0", fun(M, _) -> {A, B, C} = M:timestamp(), {A, B < 1000000, C < 1000000} end},
         {"universaltime/0", fun(M, _) -> element(1, M:universaltime()) end},

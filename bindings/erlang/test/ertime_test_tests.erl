@@ -8,7 +8,10 @@
 -define(HOUR, 3600000).
 
 %% What it answers and raises.
-result_test() ->
+result_test_() ->
+    {timeout, 60, fun result/0}.
+
+result() ->
     ?assertEqual(5, ertime:test(fun(Clock) -> ertime:advance(Clock, 5), erlang:monotonic_time(millisecond) - erlang:system_info(start_time) div 1000000 end)),
     ?assertEqual(multi_time_warp, ertime:test([{mode, multi_time_warp}], fun(_) -> erlang:system_info(time_warp_mode) end)),
     ?assertError(oops, ertime:test(fun(_) -> error(oops) end)),
@@ -23,7 +26,10 @@ result_test() ->
     end.
 
 %% The clock is closed, the mailbox is as it was, and linked processes are gone.
-nothing_is_left_test() ->
+nothing_is_left_test_() ->
+    {timeout, 60, fun nothing_is_left/0}.
+
+nothing_is_left() ->
     Self = self(),
     Ends = [fun() -> ok end, fun() -> error(oops) end, fun() -> exit(oops) end, fun() -> exit(self(), kill), receive after infinity -> ok end end],
     lists:foreach(
@@ -45,7 +51,10 @@ nothing_is_left_test() ->
     ).
 
 %% Whoever is killed amid a test leaves neither its process nor its clock.
-caller_is_killed_test() ->
+caller_is_killed_test_() ->
+    {timeout, 60, fun caller_is_killed/0}.
+
+caller_is_killed() ->
     Self = self(),
     Caller = spawn(fun() -> ertime:test(fun(Clock) -> Self ! {inside, self(), Clock}, receive after infinity -> ok end end) end),
     {Inside, Clock} = receive {inside, Pid, C} -> {Pid, C} end,
@@ -55,26 +64,29 @@ caller_is_killed_test() ->
 
 ended(Pid) ->
     Monitor = erlang:monitor(process, Pid),
-    receive {'DOWN', Monitor, process, Pid, _} -> gone after 1000 -> there end.
+    receive {'DOWN', Monitor, process, Pid, _} -> gone after 30000 -> there end.
 
 wait_until(Is) ->
     Is() orelse begin erlang:yield(), wait_until(Is) end.
 
 %% A process that waits with a timeout goes on by the runtime's clock where its own is closed.
-closed_test() ->
+closed_test_() ->
+    {timeout, 60, fun closed/0}.
+
+closed() ->
     Self = self(),
     ertime:test(fun(_) ->
         unlink(spawn_link(fun() -> timer:sleep(30), Self ! slept end)),
         spawn(fun() -> receive never -> ok after 40 -> Self ! late end end),
         wait_until(fun() -> length(maps:get(timers, ertime:info())) =:= 2 end)
     end),
-    ?assertEqual([slept, late], [receive M -> M after 2000 -> nothing end || _ <- [1, 2]]).
+    ?assertEqual([slept, late], [receive M -> M after 30000 -> nothing end || _ <- [1, 2]]).
 
 %% --- who waits for itself -----------------------------------------------------------------------------------------
 
 nobody_advances_test_() ->
     [
-        {Name, {timeout, 20, fun() -> ?assertError({nobody_advances, [{_, [_ | _]} | _]}, ertime:test(Do)) end}}
+        {Name, {timeout, 60, fun() -> ?assertError({nobody_advances, [{_, [_ | _]} | _]}, ertime:test(Do)) end}}
      || {Name, Do} <- [
             {"a sleep", fun(_) -> timer:sleep(1000) end},
             {"a receive", fun(_) -> receive never -> ok after 1000 -> ok end end},
@@ -89,7 +101,10 @@ nobody_advances_test_() ->
     ].
 
 %% By hand, without test/2.
-own_sleep_test() ->
+own_sleep_test_() ->
+    {timeout, 60, fun own_sleep/0}.
+
+own_sleep() ->
     Clock = ertime:open(),
     ertime:with(Clock, fun() -> ?assertError({nobody_advances, _}, timer:sleep(1000)) end),
     ?assertEqual([], maps:get(timers, ertime:info(Clock))),
@@ -97,7 +112,10 @@ own_sleep_test() ->
     ?assertEqual(ok, timer:sleep(1)).
 
 %% Where another process moves the clock, all is well; and who waits for something real isn't disturbed.
-somebody_advances_test() ->
+somebody_advances_test_() ->
+    {timeout, 60, fun somebody_advances/0}.
+
+somebody_advances() ->
     ertime:test(fun(Clock) ->
         Mover = spawn_link(fun Move() -> ertime:advance(Clock, 10), ertime:with(Clock, fun() -> ok end), Move() end),
         timer:sleep(50),
@@ -106,7 +124,7 @@ somebody_advances_test() ->
     end),
     ertime:test(fun(_) ->
         Self = self(),
-        spawn_link(fun() -> ertime:use(real), timer:sleep(1200), Self ! real end),
+        spawn_link(fun() -> ertime:use(real), timer:sleep(300), Self ! real end),
         ?assertEqual(real, receive real -> real after 600000 -> late end)
     end).
 
@@ -127,7 +145,10 @@ beat(_, 0) -> ok;
 beat(To, Left) -> timer:sleep(?HOUR), To ! {beat, erlang:monotonic_time(second)}, beat(To, Left - 1).
 
 %% Turned on and off, beside steps by hand.
-auto_on_and_off_test() ->
+auto_on_and_off_test_() ->
+    {timeout, 60, fun auto_on_and_off/0}.
+
+auto_on_and_off() ->
     ertime:test(#{start => 0}, fun(Clock) ->
         ok = ertime:advance(Clock, auto),
         timer:sleep(1000),
@@ -143,7 +164,10 @@ auto_on_and_off_test() ->
         ?assertEqual(2501, erlang:monotonic_time(millisecond))
     end).
 
-mode_of_open_test() ->
+mode_of_open_test_() ->
+    {timeout, 60, fun mode_of_open/0}.
+
+mode_of_open() ->
     Clock = ertime:open(#{advance => auto}),
     ?assertEqual(ok, ertime:with(Clock, fun() -> timer:sleep(?HOUR) end)),
     ertime:close(Clock),
@@ -151,7 +175,7 @@ mode_of_open_test() ->
 
 %% Two that wait for each other; the error says where.
 deadlock_test_() ->
-    {timeout, 20, fun() ->
+    {timeout, 60, fun() ->
         try
             ertime:test(#{advance => auto}, fun(_) ->
                 Self = self(),
@@ -170,13 +194,13 @@ deadlock_test_() ->
 
 %% Who waits for a program of the system is in no deadlock.
 port_test_() ->
-    {timeout, 20, fun() ->
+    {timeout, 60, fun() ->
         ?assertEqual("done\n", ertime:test(#{advance => auto}, fun(_) -> timer:sleep(10), os:cmd("sleep 1; echo done") end))
     end}.
 
 %% An interval without end.
 limit_test_() ->
-    {timeout, 20, fun() ->
+    {timeout, 60, fun() ->
         ?assertError({real_time_limit, 300, [_ | _]}, ertime:test(#{advance => auto, limit => 300}, fun(_) ->
             spawn_link(fun Beat() -> timer:sleep(10), Beat() end),
             receive never -> ok end

@@ -8,7 +8,7 @@
 
 %% The examples of the documentation, each in a process of its own.
 examples_test_() ->
-    [{"example " ++ Name, fun() -> run(Text) end} || File <- ["ertime", "ertime_times", "ertime_timers", "ertime_monitors", "ertime_clock", "ertime_nodes"], {Name, Text} <- examples(File ++ ".erl")].
+    [{"example " ++ Name, {timeout, 60, fun() -> run(Text) end}} || File <- ["ertime", "ertime_times", "ertime_timers", "ertime_monitors", "ertime_clock", "ertime_nodes"], {Name, Text} <- examples(File ++ ".erl")].
 
 examples(File) ->
     case file:read_file(filename:join([code:lib_dir(ertime), "src", File])) of
@@ -142,7 +142,10 @@ several_wheels_test_() ->
     end}.
 
 %% Without options a clock is as the runtime's.
-defaults_test() ->
+defaults_test_() ->
+    {timeout, 60, fun defaults/0}.
+
+defaults() ->
     #{mode := Mode, correction := Correction, start := Start} = ertime:info(ertime:open()),
     ?assertEqual([erlang:system_info(time_warp_mode), erlang:system_info(time_correction)], [Mode, Correction]),
     ?assert(Start < -1000000000000000 andalso erlang:system_info(start_time) < 0).
@@ -205,7 +208,7 @@ which_clock() ->
         ?assertEqual(Clock, ertime:clock()),
         ?assertEqual(7000000, time_of(fun spawn/1)),
         ?assertEqual(7000000, time_of(fun proc_lib:spawn/1)),
-        ?assertEqual(7000000, time_of(fun(Do) -> spawn(fun() -> spawn(Do), timer:sleep(50) end) end)),
+        ?assertEqual(7000000, time_of(fun(Do) -> spawn(fun() -> {_, M} = spawn_monitor(Do), receive {'DOWN', M, _, _, _} -> ok end end) end)),
         ?assertEqual(7000000, time_of(fun(Do) -> proc_lib:spawn(fun() -> proc_lib:spawn(Do) end) end)),
         ?assertEqual(7000000, time_of(fun(Do) ->
             Self = self(),
@@ -239,7 +242,7 @@ uses_a_closed_clock() ->
     ?assertEqual(false, ertime:read_timer(Timer)),
     ?assertEqual(false, ertime:cancel_timer(Timer)),
     ?assertEqual(true, ertime:demonitor(Monitor)),
-    ?assert(abs(ertime:monotonic_time() - erlang:monotonic_time()) < 1000000000),
+    ?assert(abs(ertime:monotonic_time() - erlang:monotonic_time()) < 60000000000),
     ?assertError(closed, ertime:use(Clock)),
     ?assertError(closed, ertime:advance(Clock, 1)),
     ?assertError(closed, ertime:info(Clock)),
@@ -271,7 +274,7 @@ warps_test_() ->
         {multi_time_warp, false, 10, 10, 0, -10}
     ],
     [
-        {lists:flatten(io_lib:format("~p ~p ~p", [Mode, Correction, By])), fun() -> warp_row(Mode, Correction, By, Mono, System) end}
+        {lists:flatten(io_lib:format("~p ~p ~p", [Mode, Correction, By])), {timeout, 60, fun() -> warp_row(Mode, Correction, By, Mono, System) end}}
      || {Mode, Correction, MonoOn, SystemOn, MonoBack, SystemBack} <- Rows,
         {By, Mono, System} <- [{10, MonoOn, SystemOn}, {-10, MonoBack, SystemBack}]
     ].
@@ -394,7 +397,9 @@ not_at_rest() ->
     application:load(ertime),
     application:set_env(ertime, rest_limit, 50),
     with_clock(#{}, fun(Clock) ->
-        Pid = spawn(fun() -> register(ertime_busy, self()), ertime:monotonic_time(), spin() end),
+        Self = self(),
+        Pid = spawn(fun() -> register(ertime_busy, self()), ertime:monotonic_time(), Self ! spins, spin() end),
+        receive spins -> ok end,
         try ertime:advance(Clock, 10) of
             _ -> ?assert(false)
         catch
@@ -517,9 +522,12 @@ collected() ->
         ertime:use(Clock),
         [ertime:start_timer(?HOUR, self(), {N, self()}) || N <- lists:seq(1, 100)]
     end) || _ <- lists:seq(1, 50)],
-    timer:sleep(50),
     erlang:garbage_collect(),
-    ?assert(erlang:memory(system) - Before < 20000000).
+    is_given_back(Before + 20000000).
+
+%% A clock that had many slots is given back by a thread.
+is_given_back(Most) ->
+    erlang:memory(system) < Most orelse begin timer:sleep(10), is_given_back(Most) end.
 
 %% A message that holds its own clock and timers.
 circular_test_() ->
@@ -612,6 +620,6 @@ worker(Clock, Count, Seed) ->
      || N <- lists:seq(1, Count)
     ],
     Expected = [Timer || {Timer, false} <- Timers],
-    [receive {timeout, Timer, _} -> ok after 10000 -> error(lost) end || Timer <- Expected],
+    [receive {timeout, Timer, _} -> ok after 60000 -> error(lost) end || Timer <- Expected],
     timer:sleep(50),
     {length(Timers), length(drain())}.

@@ -9,7 +9,7 @@
 
 timers_test_() ->
     [
-        {Name, fun() -> ?assertEqual(Expected, ertime:test(#{start => 0}, fun(Clock) -> Do(Clock) end)) end}
+        {Name, {timeout, 60, fun() -> ?assertEqual(Expected, ertime:test(#{start => 0}, fun(Clock) -> Do(Clock) end)) end}}
      || {Name, Expected, Do} <- [
             {"send_after", [{10, x}, {20, y}], fun(Clock) ->
                 {ok, _} = timer:send_after(20, y),
@@ -88,7 +88,10 @@ received(At) ->
     end.
 
 %% The server of a clock ends with its last timer, or with the clock.
-server_test() ->
+server_test_() ->
+    {timeout, 60, fun server/0}.
+
+server() ->
     Self = self(),
     ertime:test(fun(Clock) ->
         {ok, _} = timer:apply_after(10, erlang, send, [self(), x]),
@@ -103,7 +106,10 @@ server_test() ->
     ?assertNot(is_process_alive(Second)).
 
 %% Without a clock they are those of the runtime, and a timer of each kind is cancelled by the one function.
-real_test() ->
+real_test_() ->
+    {timeout, 60, fun real/0}.
+
+real() ->
     {ok, _} = timer:send_after(1, x),
     receive x -> ok end,
     {ok, Real} = timer:send_interval(100000, x),

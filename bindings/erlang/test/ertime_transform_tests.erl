@@ -30,11 +30,17 @@ run(Do, Also, Pass) ->
     ertime:close(Clock),
     Answer.
 
-timeout_test() ->
+timeout_test_() ->
+    {timeout, 60, fun timeout/0}.
+
+timeout() ->
     ?assertEqual({late, 100}, run(fun() -> receive x -> x after 100 -> late end end, 1000)),
     ?assertEqual(nothing, run(fun() -> receive x -> x after 100 -> late end end, 99)).
 
-message_test() ->
+message_test_() ->
+    {timeout, 60, fun message/0}.
+
+message() ->
     Send = fun(Pid) -> ertime:send_after(40, Pid, x) end,
     ?assertEqual({{x, 0}, 40}, run(fun() -> Got = receive x -> x after 100 -> late end, {Got, queue()} end, Send, 1000)),
     ?assertEqual({x, 40}, run(fun() -> receive Any -> Any after 100 -> late end end, Send, 1000)),
@@ -45,7 +51,10 @@ queue() ->
     Length.
 
 %% The timeout's own message isn't taken by a clause that takes all, and none is left behind.
-catch_all_test() ->
+catch_all_test_() ->
+    {timeout, 60, fun catch_all/0}.
+
+catch_all() ->
     ?assertEqual({[late, late, 0], 200}, run(
         fun() ->
             A = receive First -> {took, First} after 100 -> late end,
@@ -55,7 +64,10 @@ catch_all_test() ->
         1000
     )).
 
-zero_and_infinity_test() ->
+zero_and_infinity_test_() ->
+    {timeout, 60, fun zero_and_infinity/0}.
+
+zero_and_infinity() ->
     ?assertEqual({none, 0}, run(fun() -> receive x -> x after 0 -> none end end, 10)),
     ?assertEqual({ok, 7}, run(fun() -> receive go -> ok after infinity -> none end end, fun(Pid) -> ertime:send_after(7, Pid, go) end, 10)),
     ?assertEqual({none, 0}, run(fun() -> Time = zero(), receive x -> x after Time -> none end end, 10)),
@@ -65,7 +77,10 @@ zero() -> list_to_integer("0").
 atom() -> list_to_atom("soon").
 
 %% Variables of the clauses are there after it, and receives stand in one another.
-variables_test() ->
+variables_test_() ->
+    {timeout, 60, fun variables/0}.
+
+variables() ->
     ?assertEqual({{2, 300}, 300}, run(
         fun() ->
             receive
@@ -81,13 +96,22 @@ variables_test() ->
         1000
     )).
 
-only_after_test() ->
+only_after_test_() ->
+    {timeout, 60, fun only_after/0}.
+
+only_after() ->
     ?assertEqual({done, 100}, run(fun() -> receive after 100 -> done end end, 1000)).
 
-sleep_test() ->
+sleep_test_() ->
+    {timeout, 60, fun sleep/0}.
+
+sleep() ->
     ?assertEqual({ok, 86400000}, run(fun() -> timer:sleep(86400000) end, 86400000)).
 
-funs_test() ->
+funs_test_() ->
+    {timeout, 60, fun funs/0}.
+
+funs() ->
     ?assertEqual({[1500, 1, 1767225601], 1500}, run(
         fun() ->
             timer:sleep(1500),
@@ -96,7 +120,10 @@ funs_test() ->
         2000
     )).
 
-calls_test() ->
+calls_test_() ->
+    {timeout, 60, fun calls/0}.
+
+calls() ->
     Clock = ertime:open(#{os_time => {1767225600, second}, mode => multi_time_warp}),
     ertime:use(Clock),
     Timer = erlang:start_timer(100, self(), x),
@@ -116,7 +143,10 @@ calls_test() ->
     ertime:use(undefined).
 
 %% What the pattern of a receive binds, and what was bound before it, each in a receive of its own and with a timer or without.
-scopes_test() ->
+scopes_test_() ->
+    {timeout, 60, fun scopes/0}.
+
+scopes() ->
     Rows = [
         {{1, 2}, fun() -> self() ! {1, 2}, receive {A, B} -> {A, B} after 100 -> late end end},
         {other, fun() -> A = 2, self() ! {1, 2}, receive {A, B} -> {A, B}; _ -> other after 100 -> late end end},
@@ -144,7 +174,10 @@ in_process(Do) ->
     receive {'DOWN', Monitor, process, Pid, Reason} -> element(2, Reason) end.
 
 %% The compiler lets a receive for a new reference begin behind what is in the mailbox, as without the transform: it says so.
-receive_optimisation_test() ->
+receive_optimisation_test_() ->
+    {timeout, 60, fun receive_optimisation/0}.
+
+receive_optimisation() ->
     Calls = [
         "f(P) -> R = erlang:monitor(process, P), P ! R, receive {R, X} -> X; {'DOWN', R, _, _, _} -> down after 1000 -> late end.",
         "f(P) -> R = monitor(process, P), erlang:send_after(10, P, x), receive {R, X} -> X; {'DOWN', R, _, _, _} -> down after 1000 -> late end.",
@@ -165,7 +198,10 @@ parsed(Text) ->
     [begin {ok, Tokens, _} = erl_scan:string(Line), {ok, Form} = erl_parse:parse_form(Tokens), Form end || Line <- ["-module(ertime_parsed).", "-export([f/1]).", Text]].
 
 %% Without a clock a call takes no longer where the mailbox is full; in the same run with and without the transform.
-full_mailbox_test() ->
+full_mailbox_test_() ->
+    {timeout, 60, fun full_mailbox/0}.
+
+full_mailbox() ->
     Asked = spawn(fun Answer() -> receive {R, From} -> From ! {R, 1}, Answer() end end),
     Count = 50000,
     [self() ! {message, N} || N <- lists:seq(1, Count)],
@@ -185,7 +221,10 @@ full_mailbox_test() ->
     [receive {message, N} -> ok end || N <- lists:seq(1, Count)].
 
 %% Receives in receives grow with their number, and not twofold with each.
-nested_test() ->
+nested_test_() ->
+    {timeout, 60, fun nested/0}.
+
+nested() ->
     Size = fun(Depth) ->
         {ok, _, Binary} = compile:forms(parsed("f(P) -> " ++ nested(Depth) ++ "."), [{parse_transform, ertime_transform}]),
         byte_size(Binary)
@@ -199,13 +238,19 @@ nested(N) ->
     Number = integer_to_list(N),
     "receive {a, A" ++ Number ++ "} -> A" ++ Number ++ " after P -> " ++ nested(N - 1) ++ " end".
 
-imported_test() ->
+imported_test_() ->
+    {timeout, 60, fun imported/0}.
+
+imported() ->
     ?assertEqual({ok, 5000}, run(fun() -> sleep(5000) end, 10000)),
     ?assertEqual({ok, 5000}, run(fun() -> (fun sleep/1)(5000) end, 10000)),
     ?assertEqual({x, 5000}, run(fun() -> send_after(5000, self(), x), receive x -> x end end, 10000)).
 
 %% Modules and functions that are variables, and apply.
-variable_test() ->
+variable_test_() ->
+    {timeout, 60, fun variable/0}.
+
+variable() ->
     [Erlang, Timer, Sleep, Time] = [list_to_atom(Name) || Name <- ["erlang", "timer", "sleep", "monotonic_time"]],
     Rows = [
         fun() -> Timer:sleep(5000) end,
@@ -224,26 +269,41 @@ variable_test() ->
 
 -record(stamped, {at = erlang:monotonic_time(second), today = date()}).
 
-record_test() ->
+record_test_() ->
+    {timeout, 60, fun record/0}.
+
+record() ->
     ?assertEqual({#stamped{at = 5, today = {2026, 1, 1}}, 5000}, run(fun() -> timer:sleep(5000), #stamped{} end, 10000)).
 
-calendar_test() ->
+calendar_test_() ->
+    {timeout, 60, fun calendar/0}.
+
+calendar() ->
     {{Date, Time, Local}, _} = run(fun() -> timer:sleep(86400000), {date(), time(), calendar:local_time()} end, 90000000),
     ?assertEqual({Date, Time}, Local),
     ?assertEqual({{{2026, 1, 2}, {0, 0, 0}}, 86400000}, run(fun() -> timer:sleep(86400000), calendar:universal_time() end, 90000000)).
 
 %% A process that is monitored by its clock alone.
-monitored_by_test() ->
+monitored_by_test_() ->
+    {timeout, 60, fun monitored_by/0}.
+
+monitored_by() ->
     ?assertEqual({{monitored_by, []}, 10}, run(fun() -> timer:sleep(10), process_info(self(), monitored_by) end, 10)).
 
 %% A function of the module hides an auto-imported one.
-own_test() ->
+own_test_() ->
+    {timeout, 60, fun own/0}.
+
+own() ->
     ?assertEqual(mine, demonitor(a, b, c)).
 
 demonitor(_, _, _) -> mine.
 
 %% Without a clock all is as it was.
-real_test() ->
+real_test_() ->
+    {timeout, 60, fun real/0}.
+
+real() ->
     ?assertEqual(late, receive x -> x after 5 -> late end),
     self() ! x,
     ?assertEqual(x, receive x -> x after 5 -> late end),
@@ -282,7 +342,7 @@ behaviours_test_() ->
     end,
     {setup, Start, fun(Level) -> ok = logger:set_primary_config(level, Level), ok = ertime:untransform(otp) end, fun(_) ->
         [
-            {"a call", fun() ->
+            {"a call", timeout, 60, fun() ->
                 ertime:test(#{advance => auto}, fun(_) ->
                     Silent = spawn_link(fun() -> receive never -> ok end end),
                     Before = ertime:monotonic_time(millisecond),
@@ -290,7 +350,7 @@ behaviours_test_() ->
                     ?assertEqual(60000, ertime:monotonic_time(millisecond) - Before)
                 end)
             end},
-            {"restarts within a period", fun() ->
+            {"restarts within a period", timeout, 60, fun() ->
                 ertime:test(#{advance => auto}, fun(_) ->
                     process_flag(trap_exit, true),
                     {ok, Supervisor} = supervisor:start_link(ertime_transform_code, {1, 10}),
@@ -301,7 +361,7 @@ behaviours_test_() ->
                     receive {'EXIT', Supervisor, shutdown} -> ok end
                 end)
             end},
-            {"a child that doesn't end", fun() ->
+            {"a child that doesn't end", timeout, 60, fun() ->
                 ertime:test(#{advance => auto}, fun(_) ->
                     process_flag(trap_exit, true),
                     {ok, Supervisor} = supervisor:start_link(ertime_transform_code, stubborn),
@@ -311,12 +371,12 @@ behaviours_test_() ->
                     ?assertEqual(5000, ertime:monotonic_time(millisecond) - Before)
                 end)
             end},
-            {"a start that takes too long", fun() ->
+            {"a start that takes too long", timeout, 60, fun() ->
                 ertime:test(#{advance => auto}, fun(_) ->
                     ?assertEqual({error, timeout}, gen_server:start(ertime_transform_code, slow, [{timeout, 5000}]))
                 end)
             end},
-            {"the module timer, from code that isn't turned", fun() ->
+            {"the module timer, from code that isn't turned", timeout, 60, fun() ->
                 ertime:test(#{}, fun(Clock) ->
                     {ok, Timer} = lists:nth(1, [timer:F(1000, x) || F <- [list_to_atom("send_interval")]]),
                     ertime:advance(Clock, 3500),
