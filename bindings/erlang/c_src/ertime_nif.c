@@ -34,7 +34,8 @@
 ErlNifResourceType *clock_type, *timer_type, *watch_type;
 
 ERL_NIF_TERM atom_ok, atom_true, atom_false, atom_closed, atom_badarg, atom_system_limit, atom_timeout, atom_change,
-    atom_time_offset, atom_clock_service, atom_preliminary, atom_final, atom_volatile, atom_no_memory, atom_after;
+    atom_time_offset, atom_clock_service, atom_preliminary, atom_final, atom_volatile, atom_no_memory, atom_after,
+    atom_sent;
 
 ERL_NIF_TERM of_status(int32_t status) {
     switch (status) {
@@ -69,6 +70,7 @@ static int load(ErlNifEnv *env, void **private, ERL_NIF_TERM info) {
     atom_system_limit = enif_make_atom(env, "system_limit");
     atom_no_memory = enif_make_atom(env, "no_memory");
     atom_after = enif_make_atom(env, "$ertime_after");
+    atom_sent = enif_make_atom(env, "sent");
     atom_timeout = enif_make_atom(env, "timeout");
     atom_change = enif_make_atom(env, "CHANGE");
     atom_time_offset = enif_make_atom(env, "time_offset");
@@ -101,6 +103,7 @@ static ErlNifFunc functions[] = {
     {"info", 1, nif_info, ERL_NIF_DIRTY_JOB_CPU_BOUND},
     {"start", 6, nif_start, 0},
     {"cancel", 1, nif_cancel, 0},
+    {"stop", 1, nif_stop, 0},
     {"read", 1, nif_read, 0},
     {"is_timer", 1, nif_is_timer, 0},
     {"monitor", 1, nif_monitor, 0},

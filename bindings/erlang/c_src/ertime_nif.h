@@ -93,10 +93,16 @@ typedef struct {
         ErlNifPid pid;
         ERL_NIF_TERM name;
     } to;
-    ert_timer name;
+    union {
+        ert_timer name;
+        uint64_t left; /* milliseconds, of one that is still */
+    };
     uint8_t word;
     bool by_name;
     bool bare;
+    bool still;  /* its clock was closed while it was armed */
+    bool asleep; /* the same, and it is the timeout of a receive, which goes on by the runtime's clock */
+    bool muted;  /* it has expired, and its message isn't sent */
 } timer;
 
 /* A monitor of the time offset. It is listed, and kept, until it is removed or its process exits. */
@@ -170,7 +176,8 @@ typedef struct {
 extern ErlNifResourceType *clock_type, *timer_type, *watch_type;
 
 extern ERL_NIF_TERM atom_ok, atom_true, atom_false, atom_closed, atom_badarg, atom_system_limit, atom_timeout, atom_change,
-    atom_time_offset, atom_clock_service, atom_preliminary, atom_final, atom_volatile, atom_no_memory, atom_after;
+    atom_time_offset, atom_clock_service, atom_preliminary, atom_final, atom_volatile, atom_no_memory, atom_after,
+    atom_sent;
 
 static inline bool get_clock(ErlNifEnv *env, ERL_NIF_TERM term, clock_resource **clock) {
     void *object;
@@ -294,7 +301,8 @@ void timer_list(state *s, receiver *to, timer *it);
 void timer_unlist(timer *it);
 void timer_finish(timer *it);
 void timer_gone(ErlNifEnv *env, void *object);
-nif nif_start, nif_cancel, nif_read, nif_is_timer;
+void timers_stand_still(state *s);
+nif nif_start, nif_cancel, nif_stop, nif_read, nif_is_timer;
 
 /* --- monitors.c ----------------------------------------------------------------------------------------------- */
 

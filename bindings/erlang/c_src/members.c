@@ -154,14 +154,16 @@ ERL_NIF_TERM list_timers(ErlNifEnv *env, state *s) {
     return list;
 }
 
+/* Those of a receive, which belong to nobody else from here on. */
 static ERL_NIF_TERM add_asleep(ErlNifEnv *env, state *s, const receiver *from, ERL_NIF_TERM list) {
     for (const ring *at = from->timers.next; at != &from->timers; at = at->next) {
         timer *it = OF_RING(at, timer, place);
-        if (it->by_name || it->word != WORD_ATOM || !enif_is_identical(it->message.term, atom_after)) {
+        if (it->muted || it->by_name || it->word != WORD_ATOM || !enif_is_identical(it->message.term, atom_after)) {
             continue;
         }
         uint64_t left = 0; /* also where it has expired, and its message wasn't taken */
         ert_world_read(&s->world, &it->name, &left);
+        it->asleep = true;
         ERL_NIF_TERM row = enif_make_tuple3(env, enif_make_uint64(env, left), enif_make_pid(env, &it->to.pid),
                                             enif_make_resource(env, it));
         list = enif_make_list_cell(env, row, list);
@@ -169,7 +171,7 @@ static ERL_NIF_TERM add_asleep(ErlNifEnv *env, state *s, const receiver *from, E
     return list;
 }
 
-/* {Left, To, Reference} of each process that waits with a timeout. While the state is kept, or once it is closed. */
+/* {Left, To, Reference} of each process that waits with a timeout. While the state is kept, and is closed. */
 ERL_NIF_TERM list_asleep(ErlNifEnv *env, state *s) {
     ERL_NIF_TERM list = enif_make_list(env, 0);
     walk all;

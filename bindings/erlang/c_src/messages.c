@@ -145,6 +145,9 @@ void batch_take(state *s, batch *it) {
 
 static void send_timer(ErlNifEnv *env, timer *it) {
     ErlNifPid pid;
+    if (it->muted) {
+        return;
+    }
     if (!it->by_name) {
         pid = it->to.pid;
     } else if (!enif_whereis_pid(env, it->to.name, &pid)) {

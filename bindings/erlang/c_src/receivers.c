@@ -225,11 +225,12 @@ static void gone_take(state *s, settled *done) {
     }
 }
 
-/* Settles some. Answers whether that is all. */
+/* Settles some. Answers whether that is all. It waits for nobody who closes the state: that settles all, and may wait for this. */
 static bool gone_piece(state *s) {
     settled done;
     settled_init(&done);
-    if (!state_enter(s)) {
+    enif_mutex_lock(s->lock);
+    if (is_open(s) && s->busy && !state_wait(s)) {
         return false;
     }
     gone_take(s, &done);

@@ -137,12 +137,13 @@ ERL_NIF_TERM nif_open(ErlNifEnv *env, int argc, const ERL_NIF_TERM argv[]) {
 /* --- closing -------------------------------------------------------------------------------------------------- */
 
 /*
- * Frees what a closed state has. Nobody else touches it: all others look first whether it is open. `clock` is its
- * resource, unless that is gone already.
+ * Frees what a closed state has. Nobody else touches it: all others look first whether it is open, or wait while it is
+ * kept. `clock` is its resource, unless that is gone already. The thread keeps the state, and doesn't from here on.
  */
 void state_dismantle(ErlNifEnv *env, state *s, clock_resource *clock) {
     settled done;
     settled_init(&done);
+    timers_stand_still(s);
     ert_world_close(&s->world);
     receiver_empty(&s->others, &done);
     walk all;
@@ -154,6 +155,8 @@ void state_dismantle(ErlNifEnv *env, state *s, clock_resource *clock) {
         }
         enif_free(it);
     }
+    state_end(s);
+    state_leave(s);
     settled_finish(&done);
     groups_retire(s);
 }
@@ -171,11 +174,11 @@ ERL_NIF_TERM nif_close(ErlNifEnv *env, int argc, const ERL_NIF_TERM argv[]) {
     if (!state_enter(s)) {
         return elsewhere(env, "close", nif_close, argc, argv);
     }
-    bool was_open = atomic_exchange(&s->open, false);
-    state_leave(s);
-    if (!was_open) {
+    if (!atomic_exchange(&s->open, false)) {
+        state_leave(s);
         return atom_false;
     }
+    state_begin(s);
     ERL_NIF_TERM asleep = list_asleep(env, s);
     state_dismantle(env, s, clock);
     return asleep;
@@ -190,7 +193,11 @@ void clock_gone(ErlNifEnv *env, void *object) {
     uint32_t slots = s->settings.schedulers * s->settings.slots;
     bool is_long = s->armed > FEW || s->receivers.count > FEW || s->gone != NULL || slots > SLOTS_AT_ONCE;
     s->abandoned = was_open && is_long;
-    enif_mutex_unlock(s->lock);
+    if (was_open) {
+        state_begin(s);
+    } else {
+        state_leave(s);
+    }
     if (was_open && is_long) {
         background_add(s);
     } else if (was_open) {

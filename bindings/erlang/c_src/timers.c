@@ -94,6 +94,7 @@ static bool start_begin(ErlNifEnv *env, state *s, const ERL_NIF_TERM argv[], con
     made->state = s;
     made->receiver = NULL;
     made->group = NULL;
+    made->still = made->asleep = made->muted = false;
     made->bare = enif_is_identical(argv[4], atom_true);
     made->by_name = to == NULL;
     if (to == NULL) {
@@ -157,7 +158,31 @@ ERL_NIF_TERM nif_start(ErlNifEnv *env, int argc, const ERL_NIF_TERM argv[]) {
     return it.status == ERT_OK ? it.term : it.status == ERT_NO_MEMORY ? atom_system_limit : of_status(it.status);
 }
 
-/* cancel(Timer) -> Milliseconds | false | badarg */
+/* --- settling ------------------------------------------------------------------------------------------------- */
+
+static void stand_still(state *s, const receiver *from) {
+    for (const ring *at = from->timers.next; at != &from->timers; at = at->next) {
+        timer *it = OF_RING(at, timer, place);
+        uint64_t left = 0;
+        ert_world_read(&s->world, &it->name, &left);
+        it->still = !it->asleep && !it->muted;
+        it->left = left;
+    }
+}
+
+/* The timers that are armed when a clock is closed have from then on what was left of them. The state is kept, and closed. */
+void timers_stand_still(state *s) {
+    stand_still(s, &s->others);
+    walk all;
+    walk_begin(&all, &s->receivers);
+    for (receiver *it = walk_next(&all); it != NULL; it = walk_next(&all)) {
+        if (!atomic_load_explicit(&it->gone, memory_order_relaxed)) {
+            stand_still(s, it);
+        }
+    }
+}
+
+/* cancel(Timer) -> Milliseconds | false | badarg: what was left, also of a clock that is closed */
 ERL_NIF_TERM nif_cancel(ErlNifEnv *env, int argc, const ERL_NIF_TERM argv[]) {
     timer *it;
     if (!get_timer(env, argv[0], &it)) {
@@ -169,18 +194,55 @@ ERL_NIF_TERM nif_cancel(ErlNifEnv *env, int argc, const ERL_NIF_TERM argv[]) {
         return elsewhere(env, "cancel", nif_cancel, argc, argv);
     }
     bool was_armed = can_be_armed(it) && ert_world_cancel(&s->world, &it->name, &left) == ERT_OK;
+    bool was_still = it->still;
     if (was_armed) {
         timer_unlist(it);
+    } else if (was_still) {
+        left = it->left;
+        it->still = false;
     }
     state_leave(s);
-    if (!was_armed) {
-        return atom_false;
+    if (was_armed) {
+        timer_finish(it);
     }
-    timer_finish(it);
-    return enif_make_uint64(env, left);
+    return was_armed || was_still ? enif_make_uint64(env, left) : atom_false;
 }
 
-/* read(Timer) -> Milliseconds | false | badarg */
+/*
+ * stop(Timer) -> ok | sent | closed | badarg: the timeout of a receive that has ended
+ *
+ * It is `ok` where no message of it will come, `sent` where one has come or is on its way, and `closed` where the clock was
+ * closed meanwhile, and whoever closed it has told of this timer.
+ */
+ERL_NIF_TERM nif_stop(ErlNifEnv *env, int argc, const ERL_NIF_TERM argv[]) {
+    timer *it;
+    if (!get_timer(env, argv[0], &it)) {
+        return atom_badarg;
+    }
+    state *s = it->state;
+    uint64_t left = 0;
+    if (!state_enter(s)) {
+        return elsewhere(env, "stop", nif_stop, argc, argv);
+    }
+    bool was_armed = false;
+    ERL_NIF_TERM answer = atom_ok;
+    if (!can_be_armed(it)) {
+        answer = it->asleep ? atom_closed : it->still ? atom_ok : atom_sent;
+    } else if (ert_world_cancel(&s->world, &it->name, &left) == ERT_OK) {
+        was_armed = true;
+        timer_unlist(it);
+    } else {
+        it->muted = true;
+    }
+    it->still = false;
+    state_leave(s);
+    if (was_armed) {
+        timer_finish(it);
+    }
+    return answer;
+}
+
+/* read(Timer) -> Milliseconds | false | badarg: what is left, also of a clock that is closed */
 ERL_NIF_TERM nif_read(ErlNifEnv *env, int argc, const ERL_NIF_TERM argv[]) {
     timer *it;
     if (!get_timer(env, argv[0], &it)) {
@@ -192,6 +254,10 @@ ERL_NIF_TERM nif_read(ErlNifEnv *env, int argc, const ERL_NIF_TERM argv[]) {
         return elsewhere(env, "read", nif_read, argc, argv);
     }
     bool armed = can_be_armed(it) && ert_world_read(&s->world, &it->name, &left) == ERT_OK;
+    if (it->still) {
+        armed = true;
+        left = it->left;
+    }
     state_leave(s);
     return armed ? enif_make_uint64(env, left) : atom_false;
 }

@@ -87,8 +87,9 @@ correction_number(true, _) -> 1;
 correction_number(false, _) -> 0;
 correction_number(_, Arguments) -> error(badarg, Arguments).
 
-%% @doc Closes a clock, and tells whether it was open. Its timers never expire then, and whoever used it goes back to the clock
-%% that it would see else.
+%% @doc Closes a clock, and tells whether it was open. Whoever used it goes back to the clock that it would see else. Its timers
+%% never expire then: they can be read and cancelled, and have what was left of them. Whoever waits in a `receive .. after' or
+%% sleeps goes on waiting by the runtime's clock.
 %%
 %% ```
 %% Clock = ertime:open(#{}),
@@ -109,7 +110,7 @@ close(Clock) ->
             false;
         Asleep ->
             stopped(Clock),
-            [erlang:send_after(Left, To, {timeout, Timer, ?AFTER}) || {Left, To, Timer} <- Asleep],
+            Asleep =:= [] orelse ertime_keeper:resume(Asleep),
             true
     end.
 

@@ -1,11 +1,15 @@
 %% @private
 %% What is known of the clocks of this node beside what the NIF knows, in a table. The process that owns it starts with the first
 %% clock that is opened, and stays.
+%%
+%% It also wakes those who wait with a timeout of a clock that was closed, by the runtime's clock.
 -module(ertime_keeper).
 
--export([start/0, later/2, put/2, put_new/2, take/1, drop/2, has/1, get/1]).
+-export([start/0, later/2, put/2, put_new/2, take/1, drop/2, has/1, get/1, resume/1, stop/1]).
 
 -compile({no_auto_import, [put/2, get/1]}).
+
+-include("ertime.hrl").
 
 -define(TABLE, ?MODULE).
 
@@ -24,12 +28,59 @@ own(Starter) ->
     %% It is no process of the clock of the one that started it.
     _ = erlang:put('$ertime', none),
     Starter ! {?MODULE, self()},
-    stay().
+    stay(#{}).
 
-stay() ->
+%% --- timeouts of clocks that were closed --------------------------------------------------------------------------
+
+%% The timers of those who wait, with what is left of each.
+-spec resume([{non_neg_integer(), pid(), reference()}]) -> ok.
+resume(Asleep) ->
+    ?MODULE ! {resume, Asleep},
+    ok.
+
+%% The calling process waits no longer, and no message of the timer will come.
+-spec stop(reference()) -> ok.
+stop(Timer) ->
+    ?MODULE ! {stop, self(), Timer},
     receive
-        _ -> stay()
+        {?MODULE, Timer, stopped} -> ok;
+        {?MODULE, Timer, unknown} ->
+            receive
+                {timeout, Timer, ?AFTER} ->
+                    ?MODULE ! {forget, Timer},
+                    ok
+            after 0 -> ok
+            end
     end.
+
+%% A timer that is unknown was woken before, or will be told of by whoever closes its clock just now; then it isn't woken.
+stay(Timers) ->
+    receive
+        {resume, Asleep} ->
+            stay(lists:foldl(fun resumed/2, Timers, Asleep));
+        {timeout, _, {wake, Timer, To}} when is_map_key(Timer, Timers) ->
+            To ! {timeout, Timer, ?AFTER},
+            stay(maps:remove(Timer, Timers));
+        {stop, From, Timer} when is_map_key(Timer, Timers) ->
+            {Real, Others} = maps:take(Timer, Timers),
+            _ = erlang:cancel_timer(Real),
+            From ! {?MODULE, Timer, stopped},
+            stay(Others);
+        {stop, From, Timer} ->
+            From ! {?MODULE, Timer, unknown},
+            stay(Timers#{Timer => never});
+        {forget, Timer} ->
+            stay(maps:remove(Timer, Timers));
+        _ ->
+            stay(Timers)
+    end.
+
+resumed({_, _, Timer}, Timers) when map_get(Timer, Timers) =:= never ->
+    maps:remove(Timer, Timers);
+resumed({Left, To, Timer}, Timers) ->
+    Timers#{Timer => erlang:start_timer(Left, self(), {wake, Timer, To})}.
+
+%% --- the table ----------------------------------------------------------------------------------------------------
 
 %% The time, or the one after what was answered last for this key.
 later(Key, Time) ->

@@ -3,7 +3,7 @@
 -module(ertime_nif).
 
 -export([
-    open/7, close/1, monotonic_time/1, system_time/1, time_offset/1, os_time/1, settings/1, info/1, start/6, cancel/1, read/1,
+    open/7, close/1, monotonic_time/1, system_time/1, time_offset/1, os_time/1, settings/1, info/1, start/6, cancel/1, stop/1, read/1,
     is_timer/1, monitor/1, demonitor/1, is_monitor/1, step/2, run/2, leap/3, tick/4, drift/2, finalize/1, free_run/1, lead/1,
     unlead/1, join/1, leave/1, members/1, timers/1
 ]).
@@ -30,6 +30,7 @@ settings(_Clock) -> not_loaded().
 info(_Clock) -> not_loaded().
 start(_Clock, _Milliseconds, _To, _Message, _Bare, _Absolute) -> not_loaded().
 cancel(_Timer) -> not_loaded().
+stop(_Timer) -> not_loaded().
 read(_Timer) -> not_loaded().
 is_timer(_Term) -> not_loaded().
 monitor(_Clock) -> not_loaded().

@@ -18,6 +18,7 @@
 -define(YIELDS, 200).
 -define(GRACE, 20).
 -define(MOST_NEW, 2000).
+-define(OWN_MODULES, [ertime, ertime_timers, ertime_rest, ertime_watch, ertime_use, ertime_nif]).
 
 -record(known, {
     clock,
@@ -225,8 +226,24 @@ number(Pid) ->
 describe(Pid) ->
     case process_info(Pid, [registered_name, status, current_function, current_stacktrace, initial_call, message_queue_len]) of
         undefined -> {Pid, []};
-        Info -> {Pid, [short(Item) || Item <- Info, Item =/= {registered_name, []}]}
+        Info -> {Pid, [short(Item) || Item <- without_own(Info), Item =/= {registered_name, []}]}
     end.
+
+%% Whoever sleeps under a clock is shown as who sleeps without one: waiting in `timer:sleep/1', whatever of this package it is in.
+without_own(Info) ->
+    {_, Stack} = lists:keyfind(current_stacktrace, 1, Info),
+    case lists:splitwith(fun({Module, _, _, _}) -> lists:member(Module, ?OWN_MODULES) end, Stack) of
+        {Own, Rest} when Own =/= [] ->
+            case lists:keymember(ertime_timers, 1, Own) of
+                true -> lists:foldl(fun replaced/2, Info, [{status, waiting}, {current_function, {timer, sleep, 1}}, {current_stacktrace, [{timer, sleep, 1, []} | Rest]}]);
+                false -> Info
+            end;
+        _ ->
+            Info
+    end.
+
+replaced(Item, Info) ->
+    lists:keyreplace(element(1, Item), 1, Info, Item).
 
 short({current_stacktrace, Stack}) -> {current_stacktrace, lists:sublist(Stack, 6)};
 short(Item) -> Item.

@@ -1,7 +1,7 @@
 %% @doc The functions of the module `timer', by the clock that the calling process sees; where it sees none, they are those.
 %%
 %% What `timer' does by its server is done here by a server for each clock, which starts with the first request and ends with the
-%% last timer or with the clock.
+%% last timer or with the clock. What takes no time is done at once, as there.
 -module(ertime_timer).
 
 -export([
@@ -14,13 +14,14 @@
 
 -export_type([tref/0]).
 
--opaque tref() :: {once | instant | interval, {ertime_timer, pid(), reference()}} | {send_local, reference()}.
+-opaque tref() :: {once | interval, {ertime_timer, pid(), reference()}} | {send_local, reference()}.
 %% In the forms that those of `timer' have.
 -type result() :: {ok, tref() | timer:tref()} | {error, term()}.
 
 -define(IS_TIME(T), (is_integer(T) andalso T >= 0)).
 -define(IS_CALL(M, F, A), (is_atom(M) andalso is_atom(F) andalso is_list(A))).
 -define(IS_FUN(F, A), (is_list(A) andalso is_function(F, length(A)))).
+-define(IS_RECEIVER(To), (is_pid(To) orelse is_atom(To) orelse (tuple_size(To) =:= 2 andalso is_atom(element(1, To)) andalso is_atom(element(2, To))))).
 
 %% @doc As `timer:apply_after/2'.
 -spec apply_after(integer(), fun(() -> term())) -> result().
@@ -29,12 +30,14 @@ apply_after(Time, Fun) -> apply_after(Time, Fun, []).
 %% @doc As `timer:apply_after/3'.
 -spec apply_after(integer(), fun(), [term()]) -> result().
 apply_after(Time, Fun, Arguments) when ?IS_TIME(Time), ?IS_FUN(Fun, Arguments) ->
-    ask({once, Time, {erlang, apply, [Fun, Arguments]}}, apply_after, [Time, erlang, apply, [Fun, Arguments]]);
+    apply_after(Time, erlang, apply, [Fun, Arguments]);
 apply_after(_, _, _) ->
     {error, badarg}.
 
 %% @doc As `timer:apply_after/4'.
 -spec apply_after(integer(), module(), atom(), [term()]) -> result().
+apply_after(0, M, F, Arguments) ->
+    real(apply_after, [0, M, F, Arguments]);
 apply_after(Time, M, F, Arguments) when ?IS_TIME(Time), ?IS_CALL(M, F, Arguments) ->
     ask({once, Time, {M, F, Arguments}}, apply_after, [Time, M, F, Arguments]);
 apply_after(_, _, _, _) ->
@@ -82,11 +85,11 @@ send_after(Time, Message) -> send_after(Time, self(), Message).
 
 %% @doc As `timer:send_after/3'.
 -spec send_after(integer(), pid() | atom() | {atom(), node()}, term()) -> result().
-send_after(Time, To, Message) when ?IS_TIME(Time), is_atom(To); ?IS_TIME(Time), is_pid(To), node(To) =:= node() ->
+send_after(0, To, Message) ->
+    real(send_after, [0, To, Message]);
+send_after(Time, To, Message) when ?IS_TIME(Time), is_pid(To), node(To) =:= node() ->
     {ok, {send_local, ertime:send_after(Time, To, Message)}};
-send_after(Time, {Name, Node}, Message) when is_atom(Name), Node =:= node() ->
-    send_after(Time, Name, Message);
-send_after(Time, To, Message) when ?IS_TIME(Time), is_pid(To) orelse is_tuple(To) ->
+send_after(Time, To, Message) when ?IS_TIME(Time), ?IS_RECEIVER(To) ->
     apply_after(Time, erlang, send, [To, Message]);
 send_after(_, _, _) ->
     {error, badarg}.
@@ -97,7 +100,7 @@ send_interval(Time, Message) -> send_interval(Time, self(), Message).
 
 %% @doc As `timer:send_interval/3'. It ends with the receiver.
 -spec send_interval(integer(), pid() | atom() | {atom(), node()}, term()) -> result().
-send_interval(Time, To, Message) when ?IS_TIME(Time), is_pid(To) orelse is_atom(To) orelse is_tuple(To) ->
+send_interval(Time, To, Message) when ?IS_TIME(Time), ?IS_RECEIVER(To) ->
     ask({interval, Time, To, {erlang, send, [To, Message]}}, send_interval, [Time, To, Message]);
 send_interval(_, _, _) ->
     {error, badarg}.
@@ -234,6 +237,8 @@ serve(Clock, Starter) ->
         true ->
             case seeing(Clock) of
                 ok ->
+                    %% As after any request that server is there, too.
+                    _ = timer:start(),
                     Starter ! {?MODULE, serves, self()},
                     loop(Clock, request_taken(#{}));
                 Reason ->
@@ -299,7 +304,6 @@ started(Timer = #timer{time = Time, monitor = Monitor}, Timers) ->
             {{error, Reason}, Timers}
     end.
 
-form(#timer{kind = once, time = 0}) -> instant;
 form(#timer{kind = once}) -> once;
 form(_) -> interval.
 

@@ -225,15 +225,19 @@ receive_start(Time) ->
 receive_stop(none) ->
     ok;
 receive_stop(Timer) ->
-    %% Where the clock was just closed, the timer is one of the runtime.
-    case cancel_timer(Timer) of
-        false ->
-            receive
-                {timeout, Timer, ?AFTER} -> ok
-            after 0 -> ok
-            end;
-        _ ->
-            ok
+    case ertime_nif:stop(Timer) of
+        ok -> ok;
+        sent -> taken(Timer);
+        closed -> ertime_keeper:stop(Timer);
+        %% One of the runtime: the clock was closed before it was started.
+        badarg -> erlang:cancel_timer(Timer) =/= false orelse taken(Timer)
+    end,
+    ok.
+
+%% The message is there, or on its way.
+taken(Timer) ->
+    receive
+        {timeout, Timer, ?AFTER} -> ok
     end.
 
 %% @private

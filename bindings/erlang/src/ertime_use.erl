@@ -94,13 +94,21 @@ replace_on() ->
     ]),
     persistent_term:put(?EPOCH, atomics:new(1, [])),
     ertime_keeper:start(),
-    Forms = [
-        {attribute, 1, module, ertime_on},
-        {attribute, 1, export, [{on, 0}]},
-        {function, 1, on, 0, [{clause, 1, [], [], [{atom, 1, true}]}]}
-    ],
-    {ok, ertime_on, Binary} = compile:forms(Forms, [binary]),
-    {module, ertime_on} = code:load_binary(ertime_on, "ertime_on", Binary).
+    {ertime_on, Off, File} = code:get_object_code(ertime_on),
+    {module, ertime_on} = code:load_binary(ertime_on, File, turned_on(Off)).
+
+%% The module with the atom `true' in the place of `false', which stands in it once: for this the compiler isn't started.
+turned_on(Off) ->
+    {ok, ertime_on, Chunks} = beam_lib:all_chunks(Off),
+    {_, Atoms} = lists:keyfind("AtU8", 1, Chunks),
+    [Before, After] = binary:split(Atoms, <<"false">>),
+    Size = byte_size(Before) - 1,
+    <<Others:Size/binary, Length>> = Before,
+    %% From Erlang/OTP 28 on the length has another form.
+    Shorter = case Length of 5 -> 4; 16#50 -> 16#40 end,
+    New = {"AtU8", <<Others/binary, Shorter, "true", After/binary>>},
+    {ok, On} = beam_lib:build_module(lists:keyreplace("AtU8", 1, Chunks, New)),
+    On.
 
 %% The clock that the process had is closed: the one that it has now.
 lost() ->
