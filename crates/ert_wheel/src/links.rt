@@ -117,8 +117,10 @@ fn set_next(nodes: &mut [Node], side: Side, node: u32, next: u32)
     ensures prev { (x : ℕ) → prev_at (links_of side nodes.new) x ≡ prev_at (links_of side nodes.old) x }
     ensures other { links_of (other side) nodes.new ≡ links_of (other side) nodes.old }
 {
-    let prev = prev_of(nodes, side, node);
-    set_link(nodes, side, node, Link { next, prev });
+    match side {
+        Side::Bucket => nodes[node as usize].bucket.next = next,
+        Side::Owner => nodes[node as usize].owner.next = next,
+    }
 }
 
 #[inline]
@@ -128,18 +130,8 @@ fn set_prev(nodes: &mut [Node], side: Side, node: u32, prev: u32)
     ensures next { (x : ℕ) → next_at (links_of side nodes.new) x ≡ next_at (links_of side nodes.old) x }
     ensures other { links_of (other side) nodes.new ≡ links_of (other side) nodes.old }
 {
-    let next = next_of(nodes, side, node);
-    set_link(nodes, side, node, Link { next, prev });
-}
-
-#[inline]
-fn set_link(nodes: &mut [Node], side: Side, node: u32, link: Link)
-    requires { node < length nodes.old }
-    ensures set { links_of side nodes.new ≡ slice_set (links_of side nodes.old) node link }
-    ensures other { links_of (other side) nodes.new ≡ links_of (other side) nodes.old }
-{
     match side {
-        Side::Bucket => nodes[node as usize].bucket = link,
-        Side::Owner => nodes[node as usize].owner = link,
+        Side::Bucket => nodes[node as usize].bucket.prev = prev,
+        Side::Owner => nodes[node as usize].owner.prev = prev,
     }
 }

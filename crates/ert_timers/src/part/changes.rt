@@ -178,6 +178,7 @@ impl WheelPart {
     }
 
     /// Puts in the timer of a start, in a slot that was held free.
+    #[inline(always)]
     pub(crate) fn keep(&mut self, slot: u32, start: &Start, next: Use) -> TimerRef
         requires free { IsFree self.old slot }
         requires dest { start.now.dest < self.old.processes }
