@@ -546,18 +546,19 @@ int32_t ert_world_deliver(ert_world *world, uint32_t sched, ert_delivered *deliv
 int32_t ert_world_turn(ert_world *world, uint32_t sched, ert_turned *turned);
 
 /*
- * Tells how early a timer of a scheduler may be due, in milliseconds since the start time, as `to` of a turn.
+ * Returns the earliest time at which a timer of a scheduler can be due, in milliseconds since the start time, as `to`
+ * of a turn.
  *
  * No armed timer of the wheel is due before it. So an event loop may sleep for `due` less `to` milliseconds
  * after a turn (as with `uv_backend_timeout`), unless something else wakes it. After a turn `due` is above `to`.
  *
- * `due` is the deadline of a timer, or the begin of a window in which one is due: of 512 milliseconds, of 512 times
- * that, and so on. After a turn at the begin of a window the answer is in it. So a loop wakes eight times at most for
- * the timer that is due first, however far it is, and once where few timers are due in the same window. A timer that
- * was cancelled through a seat counts until it would have been due, so `due` may come too early for its sake.
+ * `due` is the deadline of a timer, or the beginning of a window in which one is due: of 512 milliseconds, of 512 times
+ * that, and so on. After a turn at the beginning of a window the answer lies in it. So a loop wakes eight times at most
+ * for the timer that is due first, however far it is, and once if few timers are due in the same window. A timer that
+ * was cancelled through a seat counts until it would have been due, so `due` may be too early because of it.
  *
  * ERT_EMPTY: no timer is armed, and `due` is as it was. ERT_RANGE: there is no such scheduler. ERT_CLOSED.
- * It changes nothing. Constant work: it looks at 64 timers at most. Only where a timer was started whose deadline had
+ * It changes nothing. Constant work: it looks at 64 timers at most. Only if a timer was started whose deadline had
  * passed does it look at all that are due at the next turn.
  */
 int32_t ert_world_next_due(ert_world *world, uint32_t sched, uint64_t *due);
