@@ -31,8 +31,8 @@
  *   another thread    ert_world: one thread at a time. ert_seat: its own thread, beside all others.
  *   signal handler    no call. Set a flag or write to an eventfd, and call from the loop. A handler that interrupts
  *                     a call and returns does no harm; one that leaves it by longjmp breaks the handle.
- *   fork              the child has a copy of the service, which goes on apart from the parent's. It must not be used
- *                     or closed there if another thread may have been in a call. exec and _exit are safe.
+ *   fork              the child has a copy of the service, which goes on apart from the parent's. If the process had
+ *                     several threads, the child must make no call, and not close it. exec and _exit are safe.
  *   exec              the service is gone, as all memory. It has no descriptor, lock, thread or file.
  *   suspend, stop     nothing is lost: the first tick afterwards moves time on, and each timer that is due expires
  *                     once, in order of deadline. Whether the sleep counts is up to the clock passed as `mono`.
