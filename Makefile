@@ -34,6 +34,7 @@ INSTALL_DATA = $(INSTALL) -m 644
 CC = cc
 LD = ld
 OBJCOPY = objcopy
+OBJDUMP = objdump
 AR = ar
 PYTHON = python3
 # Tells the loader of a library that was installed for this machine itself, where whoever installs may.
@@ -88,11 +89,21 @@ $(B)/symbols: include/ertime.h
 	mkdir -p $(B)
 	sed -n 's/^int32_t \(ert_[a-z_]*\)(.*/\1/p' $< >$@
 
+# The library's code in one section, and the tables by which a backtrace goes on through it.
+$(B)/bare.o: $(ARCHIVE) packaging/text.ld
+	mkdir -p $(B)
+	$(LD) -r -T packaging/text.ld --whole-archive $(ARCHIVE) -o $@
+
+$(B)/unwind.o: $(B)/bare.o packaging/unwind
+	$(PYTHON) packaging/unwind --objdump '$(OBJDUMP)' $< >$(B)/unwind.s
+	$(CC) -c $(B)/unwind.s -o $@
+
 # Both archives as one object, in which every other name is local. (Whoever installs may not have the toolchain on
-# the path: so nothing here depends on a file of it.)
-$(B)/ertime.o: $(ARCHIVE) $(B)/symbols
+# the path: so nothing here depends on a file of it.) The linker takes the tables as they are: it would ask that those
+# of an object stand in it.
+$(B)/ertime.o: $(B)/bare.o $(B)/unwind.o $(B)/symbols
 	@[ -f '$(HEAP)' ] || { echo "there is no $(HEAP): rt isn't on the path, or HEAP has to say where it is"; exit 1; }
-	$(LD) -r --whole-archive $(ARCHIVE) $(HEAP) -o $@
+	$(LD) -r --traditional-format --whole-archive $(B)/bare.o $(B)/unwind.o $(HEAP) -o $@
 	$(OBJCOPY) --keep-global-symbols=$(B)/symbols $@
 
 $(B)/libertime.a: $(B)/ertime.o
