@@ -25,6 +25,8 @@ cmakedir = $(libdir)/cmake/ertime
 bashcompletiondir = $(datarootdir)/bash-completion/completions
 zshcompletiondir = $(datarootdir)/zsh/site-functions
 fishcompletiondir = $(datarootdir)/fish/vendor_completions.d
+# gdb looks here for what shows the types of a library, by the path of the library.
+gdbdir = $(datarootdir)/gdb/auto-load$(libdir)
 
 INSTALL = install
 INSTALL_PROGRAM = $(INSTALL)
@@ -32,6 +34,7 @@ INSTALL_DATA = $(INSTALL) -m 644
 CC = cc
 LD = ld
 OBJCOPY = objcopy
+OBJDUMP = objdump
 AR = ar
 PYTHON = python3
 # Tells the loader of a library that was installed for this machine itself, where whoever installs may.
@@ -63,12 +66,13 @@ PAGES5 = ertime-scenario.5 ertime-history.5
 PAGES = $(addprefix $(B)/man/,$(PAGES1) $(PAGES3) $(PAGES5))
 EXAMPLES = examples/c/event_loop.c examples/c/seats.c examples/ertime/timer_expires.json \
   examples/races/two_cancels.json examples/ertaudit/early_expiry.txt
+DOCUMENTS = CHANGELOG.md EMBEDDING.md
 LIBRARIES = $(B)/libertime.a $(B)/$(REAL)
 
 .PHONY: all prove pages install install-strip uninstall dist deb html release clean
 .DELETE_ON_ERROR:
 
-all: $(ERTIME) $(ERTAUDIT) $(ERT_BENCH) $(LIBRARIES) pages $(B)/THIRD-PARTY
+all: $(ERTIME) $(ERTAUDIT) $(ERT_BENCH) $(LIBRARIES) pages $(B)/THIRD-PARTY $(addprefix $(B)/doc/,$(DOCUMENTS))
 pages: $(PAGES)
 
 # What exists is taken as it is: proofs take long, so none begins because a file has a newer date.
@@ -85,11 +89,21 @@ $(B)/symbols: include/ertime.h
 	mkdir -p $(B)
 	sed -n 's/^int32_t \(ert_[a-z_]*\)(.*/\1/p' $< >$@
 
+# The library's code in one section, and the tables by which a backtrace goes on through it.
+$(B)/bare.o: $(ARCHIVE) packaging/text.ld
+	mkdir -p $(B)
+	$(LD) -r -T packaging/text.ld --whole-archive $(ARCHIVE) -o $@
+
+$(B)/unwind.o: $(B)/bare.o packaging/unwind
+	$(PYTHON) packaging/unwind --objdump '$(OBJDUMP)' $< >$(B)/unwind.s
+	$(CC) -c $(B)/unwind.s -o $@
+
 # Both archives as one object, in which every other name is local. (Whoever installs may not have the toolchain on
-# the path: so nothing here depends on a file of it.)
-$(B)/ertime.o: $(ARCHIVE) $(B)/symbols
+# the path: so nothing here depends on a file of it.) The linker takes the tables as they are: it would ask that those
+# of an object stand in it.
+$(B)/ertime.o: $(B)/bare.o $(B)/unwind.o $(B)/symbols
 	@[ -f '$(HEAP)' ] || { echo "there is no $(HEAP): rt isn't on the path, or HEAP has to say where it is"; exit 1; }
-	$(LD) -r --whole-archive $(ARCHIVE) $(HEAP) -o $@
+	$(LD) -r --traditional-format --whole-archive $(B)/bare.o $(B)/unwind.o $(HEAP) -o $@
 	$(OBJCOPY) --keep-global-symbols=$(B)/symbols $@
 
 $(B)/libertime.a: $(B)/ertime.o
@@ -102,6 +116,13 @@ $(B)/$(REAL): $(B)/ertime.o
 $(B)/man/%: man/%.in man/render docs/FORMATS.md include/ertime.h
 	mkdir -p $(B)/man
 	$(PYTHON) man/render --version $(VERSION) $< >$@
+
+# A document by itself: a link to another file of the repository becomes its text.
+$(B)/doc/CHANGELOG.md: CHANGELOG.md
+$(B)/doc/EMBEDDING.md: docs/EMBEDDING.md
+$(addprefix $(B)/doc/,$(DOCUMENTS)):
+	mkdir -p $(B)/doc
+	sed -E 's/!?\[([^]]*)\]\((\.\.\/)*[A-Za-z_]+(\.md|\/)[^)]*\)/\1/g' $< >$@
 
 $(B)/THIRD-PARTY: packaging/notices crates.txt
 	mkdir -p $(B)
@@ -120,7 +141,7 @@ D5 = $(DESTDIR)$(mandir)/man5
 install: all
 	$(INSTALL) -d "$(DESTDIR)$(bindir)" "$(DESTDIR)$(includedir)" "$(DESTDIR)$(libdir)" \
 	  "$(DESTDIR)$(pkgconfigdir)" "$(DESTDIR)$(cmakedir)" "$(D1)" "$(D3)" "$(D5)" "$(DESTDIR)$(docdir)/examples" \
-	  "$(DESTDIR)$(bashcompletiondir)" "$(DESTDIR)$(zshcompletiondir)" "$(DESTDIR)$(fishcompletiondir)"
+	  "$(DESTDIR)$(bashcompletiondir)" "$(DESTDIR)$(zshcompletiondir)" "$(DESTDIR)$(fishcompletiondir)" "$(DESTDIR)$(gdbdir)"
 	$(INSTALL_PROGRAM) $(ERTIME) "$(DESTDIR)$(bindir)/ertime"
 	$(INSTALL_PROGRAM) $(ERTAUDIT) "$(DESTDIR)$(bindir)/ertaudit"
 	$(INSTALL_PROGRAM) $(ERT_BENCH) "$(DESTDIR)$(bindir)/ert_bench"
@@ -142,7 +163,8 @@ install: all
 	  $(INSTALL_DATA) completions/_$$it "$(DESTDIR)$(zshcompletiondir)" && \
 	  $(INSTALL_DATA) completions/$$it.fish "$(DESTDIR)$(fishcompletiondir)" || exit; \
 	done
-	$(INSTALL_DATA) LICENSE $(B)/THIRD-PARTY docs/scenario.schema.json "$(DESTDIR)$(docdir)"
+	$(INSTALL_DATA) tools/gdb/ertime.py "$(DESTDIR)$(gdbdir)/$(REAL)-gdb.py"
+	$(INSTALL_DATA) LICENSE $(B)/THIRD-PARTY docs/scenario.schema.json $(addprefix $(B)/doc/,$(DOCUMENTS)) "$(DESTDIR)$(docdir)"
 	$(INSTALL_DATA) $(EXAMPLES) "$(DESTDIR)$(docdir)/examples"
 	$(tell_loader)
 
@@ -152,7 +174,7 @@ install-strip:
 # Removes the files, and then the folders that held them and are empty, up to the prefix.
 in = $(foreach it,$(2),"$(DESTDIR)$($(1))/$(it)")
 FOLDERS = $(bindir) $(includedir) $(pkgconfigdir) $(cmakedir) $(libdir) $(mandir)/man1 $(mandir)/man3 $(mandir)/man5 \
-  $(docdir)/examples $(docdir) $(bashcompletiondir) $(zshcompletiondir) $(fishcompletiondir)
+  $(docdir)/examples $(docdir) $(bashcompletiondir) $(zshcompletiondir) $(fishcompletiondir) $(gdbdir)
 uninstall:
 	rm -f $(call in,bindir,$(PROGRAMS)) $(call in,includedir,ertime.h) $(call in,pkgconfigdir,ertime.pc)
 	rm -f $(call in,libdir,libertime.a libertime.so $(SONAME) $(REAL))
@@ -160,7 +182,8 @@ uninstall:
 	rm -f $(call in,bashcompletiondir,$(PROGRAMS)) $(call in,zshcompletiondir,$(addprefix _,$(PROGRAMS)))
 	rm -f $(call in,fishcompletiondir,$(addsuffix .fish,$(PROGRAMS)))
 	rm -f $(call in,cmakedir,ertime-config.cmake ertime-config-version.cmake)
-	rm -f $(call in,docdir,LICENSE THIRD-PARTY scenario.schema.json $(addprefix examples/,$(notdir $(EXAMPLES))))
+	rm -f $(call in,gdbdir,$(REAL)-gdb.py)
+	rm -f $(call in,docdir,LICENSE THIRD-PARTY scenario.schema.json $(DOCUMENTS) $(addprefix examples/,$(notdir $(EXAMPLES))))
 	for at in $(FOLDERS); do \
 	  while [ "$$at" != '$(prefix)' ] && [ "$$at" != / ] && { [ ! -e '$(DESTDIR)'"$$at" ] || rmdir '$(DESTDIR)'"$$at" 2>/dev/null; }; do \
 	    at=$$(dirname "$$at"); \

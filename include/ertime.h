@@ -24,9 +24,20 @@
  * and are made through a seat: with an ert_seat of its own a thread reads the time, cancels and reads timers, and
  * asks whether a process is alive, while others call through the service's handle and through other seats. It
  * never blocks. A service gives out settings.callers - 1 seats. Any handle may go from one thread to another, as a
- * mutex or pthread_create takes it there. Services that were opened apart share nothing. No call may be made from
- * a signal handler. After fork the child has a copy of the service, which goes on apart from the parent's; it must
- * not be used if another thread may have been in a call.
+ * mutex or pthread_create takes it there. Services that were opened apart share nothing.
+ *
+ * Where a call may be made, and what happens around it:
+ *
+ *   another thread    ert_world: one thread at a time. ert_seat: its own thread, beside all others.
+ *   signal handler    no call. Set a flag or write to an eventfd, and call from the loop. A handler that interrupts
+ *                     a call and returns does no harm; one that leaves it by longjmp breaks the handle.
+ *   fork              the child has a copy of the service, which goes on apart from the parent's. If the process had
+ *                     several threads, the child must make no call, and not close it. exec and _exit are safe.
+ *   exec              the service is gone, as all memory. It has no descriptor, lock, thread or file.
+ *   suspend, stop     nothing is lost: the first tick afterwards moves time on, and each timer that is due expires
+ *                     once, in order of deadline. Whether the sleep counts is up to the clock passed as `mono`.
+ *   cancelled thread  no call is a cancellation point. A thread with asynchronous cancellation must make none.
+ *   C++ exceptions    no call throws, and none calls back.
  *
  * Undefined, as in C: a null pointer, a pointer to less than the type says, parameters that overlap, a handle
  * that did not begin as ERT_INIT or was written to, copied or moved while it was open, and two calls at the same
@@ -53,6 +64,15 @@ extern "C" {
 #define ERTIME_VERSION_MINOR 0
 #define ERTIME_VERSION_PATCH 0
 
+/*
+ * The same as one number, which can be compared in #if: 1,000,000 times the major, 1,000 times the minor, and the patch
+ * number. And as a text, as "1.0.0".
+ */
+#define ERTIME_VERSION (ERTIME_VERSION_MAJOR * 1000000 + ERTIME_VERSION_MINOR * 1000 + ERTIME_VERSION_PATCH)
+#define ERTIME_TEXT_OF_(it) #it
+#define ERTIME_DOTTED_(major, minor, patch) ERTIME_TEXT_OF_(major) "." ERTIME_TEXT_OF_(minor) "." ERTIME_TEXT_OF_(patch)
+#define ERTIME_VERSION_TEXT ERTIME_DOTTED_(ERTIME_VERSION_MAJOR, ERTIME_VERSION_MINOR, ERTIME_VERSION_PATCH)
+
 /* The statuses. */
 #define ERT_OK 0
 #define ERT_CLOSED (-1)      /* the handle is closed */
@@ -74,6 +94,35 @@ extern "C" {
 #define ERT_BAD_KIND (-16)   /* there is no such kind of request */
 #define ERT_NO_MONITOR (-17) /* the process has no such monitor */
 #define ERT_NO_SEAT (-18)    /* every caller but 0 was given a seat */
+
+/*
+ * The text of a status, for a log: its name and what it means. It is a constant, which nobody frees, and never NULL; a
+ * status that this header does not have is an unknown one. It is in the header, and calls nothing.
+ */
+static inline const char *ert_status_text(int32_t status) {
+    switch (status) {
+    case ERT_OK: return "ERT_OK: done";
+    case ERT_CLOSED: return "ERT_CLOSED: the handle is closed";
+    case ERT_OPEN: return "ERT_OPEN: the handle is open already";
+    case ERT_NO_MEMORY: return "ERT_NO_MEMORY: out of memory";
+    case ERT_BAD_SIZE: return "ERT_BAD_SIZE: the size of the settings is wrong";
+    case ERT_BAD_MODE: return "ERT_BAD_MODE: no such time warp mode";
+    case ERT_BAD_START: return "ERT_BAD_START: the start time is out of range";
+    case ERT_BAD_READING: return "ERT_BAD_READING: a reading of the clocks is out of range";
+    case ERT_BAD_COUNT: return "ERT_BAD_COUNT: a count of the settings is out of range";
+    case ERT_OFFSET_WIDE: return "ERT_OFFSET_WIDE: the time offset would be out of range";
+    case ERT_RANGE: return "ERT_RANGE: no such process or scheduler";
+    case ERT_BAD_TIME: return "ERT_BAD_TIME: no timer can be due then";
+    case ERT_FULL: return "ERT_FULL: no slot is available, or no further monitor";
+    case ERT_NO_TIMER: return "ERT_NO_TIMER: the timer is not armed";
+    case ERT_EMPTY: return "ERT_EMPTY: there is no message, or no timer";
+    case ERT_EXITED: return "ERT_EXITED: the process has exited";
+    case ERT_BAD_KIND: return "ERT_BAD_KIND: no such kind of request";
+    case ERT_NO_MONITOR: return "ERT_NO_MONITOR: no such monitor";
+    case ERT_NO_SEAT: return "ERT_NO_SEAT: every seat was given out";
+    default: return "an unknown status";
+    }
+}
 
 /* A handle of a service. It begins as ERT_INIT, which is all zero. Its fields are private. */
 typedef struct {
@@ -106,7 +155,7 @@ typedef struct {
 #define ERT_MULTI_WARP 2
 
 /*
- * What a service is opened with.
+ * What a service is opened with. ert_settings_init fills it with the recommended settings.
  *
  * For plain timers on the monotonic clock set `mode` to ERT_MULTI_WARP and `correction` to 1: then monotonic time and
  * timers go as CLOCK_MONOTONIC does, whatever happens to the system clock within the limits of ERT_BAD_READING.
@@ -127,6 +176,25 @@ typedef struct {
     int64_t start;       /* monotonic time at the opening: a multiple of 1,000,000 from -2^58 to 2^58 */
     ert_reading first;   /* the reading that the clock opens with */
 } ert_settings;
+
+/*
+ * Fills settings with the recommended ones: plain timers on the monotonic clock, for one event loop.
+ *
+ * Multi time warp mode with time correction, one scheduler, one process, 1,024 slots, no seats, monotonic time 0 at
+ * the opening. `first` is a reading of the clocks. Every field is set, so that none is left to chance: change those
+ * that you want otherwise, and then call ert_world_open. It is in the header, and calls nothing.
+ */
+static inline void ert_settings_init(ert_settings *settings, const ert_reading *first) {
+    settings->size = (uint32_t)sizeof *settings;
+    settings->mode = ERT_MULTI_WARP;
+    settings->correction = 1;
+    settings->schedulers = 1;
+    settings->processes = 1;
+    settings->slots = 1024;
+    settings->callers = 1;
+    settings->start = 0;
+    settings->first = *first;
+}
 
 /* What a tick or a finalization did. */
 typedef struct {
@@ -197,6 +265,22 @@ typedef struct {
     uint64_t left; /* milliseconds that were left of the timer */
     int64_t offset;
 } ert_mail;
+
+/*
+ * The text of a kind of message, the `tag` of ert_mail, for a log: its name and what it means. It is a constant, which
+ * nobody frees, and never NULL; a kind that this header does not have is an unknown one. It is in the header, and calls
+ * nothing.
+ */
+static inline const char *ert_event_text(uint32_t tag) {
+    switch (tag) {
+    case ERT_TIMEOUT: return "ERT_TIMEOUT: a timer expired";
+    case ERT_BARE: return "ERT_BARE: a bare timer expired";
+    case ERT_CANCEL_DONE: return "ERT_CANCEL_DONE: a request to cancel was answered";
+    case ERT_READ_DONE: return "ERT_READ_DONE: a request to read was answered";
+    case ERT_CHANGE: return "ERT_CHANGE: the time offset changed";
+    default: return "an unknown kind of message";
+    }
+}
 
 /* An asynchronous cancel or read of a timer. */
 #define ERT_CANCEL 0
@@ -462,18 +546,19 @@ int32_t ert_world_deliver(ert_world *world, uint32_t sched, ert_delivered *deliv
 int32_t ert_world_turn(ert_world *world, uint32_t sched, ert_turned *turned);
 
 /*
- * Tells how early a timer of a scheduler may be due, in milliseconds since the start time, as `to` of a turn.
+ * Returns the earliest time at which a timer of a scheduler can be due, in milliseconds since the start time, as `to`
+ * of a turn.
  *
  * No armed timer of the wheel is due before it. So an event loop may sleep for `due` less `to` milliseconds
  * after a turn (as with `uv_backend_timeout`), unless something else wakes it. After a turn `due` is above `to`.
  *
- * `due` is the deadline of a timer, or the begin of a window in which one is due: of 512 milliseconds, of 512 times
- * that, and so on. After a turn at the begin of a window the answer is in it. So a loop wakes eight times at most for
- * the timer that is due first, however far it is, and once where few timers are due in the same window. A timer that
- * was cancelled through a seat counts until it would have been due, so `due` may come too early for its sake.
+ * `due` is the deadline of a timer, or the beginning of a window in which one is due: of 512 milliseconds, of 512 times
+ * that, and so on. After a turn at the beginning of a window the answer lies in it. So a loop wakes eight times at most
+ * for the timer that is due first, however far it is, and once if few timers are due in the same window. A timer that
+ * was cancelled through a seat counts until it would have been due, so `due` may be too early because of it.
  *
  * ERT_EMPTY: no timer is armed, and `due` is as it was. ERT_RANGE: there is no such scheduler. ERT_CLOSED.
- * It changes nothing. Constant work: it looks at 64 timers at most. Only where a timer was started whose deadline had
+ * It changes nothing. Constant work: it looks at 64 timers at most. Only if a timer was started whose deadline had
  * passed does it look at all that are due at the next turn.
  */
 int32_t ert_world_next_due(ert_world *world, uint32_t sched, uint64_t *due);

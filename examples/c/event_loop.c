@@ -33,7 +33,7 @@ static ert_reading read_clocks(void) {
 
 static void must(const char *call, int32_t status) {
     if (status != ERT_OK) {
-        fprintf(stderr, "%s: status %" PRId32 "\n", call, status);
+        fprintf(stderr, "%s: %s\n", call, ert_status_text(status));
         exit(EXIT_FAILURE);
     }
 }
@@ -52,7 +52,7 @@ static ert_timer start(ert_world *world, int64_t milliseconds, uint64_t msg) {
     return timer;
 }
 
-/* The timeout of epoll_wait at a time, in milliseconds: -1, for ever, where no timer is armed. */
+/* The timeout of epoll_wait at a time, in milliseconds: -1, for ever, if no timer is armed. */
 static int timeout(ert_world *world, uint64_t now) {
     uint64_t due;
     int32_t status = ert_world_next_due(world, SCHED, &due);
@@ -74,7 +74,7 @@ static void tick(ert_world *world) {
     must("ert_world_tick", ert_world_tick(world, &reading, 0, &moved));
 }
 
-/* Lets timers expire, and answers the time in milliseconds. */
+/* Lets timers expire, and returns the time in milliseconds. */
 static uint64_t turn(ert_world *world) {
     ert_turned turned;
     must("ert_world_turn", ert_world_turn(world, SCHED, &turned));
@@ -83,16 +83,10 @@ static uint64_t turn(ert_world *world) {
 
 int main(void) {
     ert_world world = ERT_INIT;
-    ert_settings settings = {
-        .size = sizeof settings,
-        .mode = ERT_MULTI_WARP,
-        .correction = 1,
-        .schedulers = 1,
-        .processes = 1,
-        .slots = 64, /* room for 64 timers at once; slots don't wear out */
-        .callers = 1,
-        .first = read_clocks(),
-    };
+    ert_reading first = read_clocks();
+    ert_settings settings;
+    ert_settings_init(&settings, &first);
+    settings.slots = 64; /* room for 64 timers at once; slots don't wear out */
     must("ert_world_open", ert_world_open(&world, &settings));
     int polled = epoll_create1(EPOLL_CLOEXEC);
     must_succeed("epoll_create1", polled);

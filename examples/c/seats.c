@@ -102,13 +102,11 @@ static void wait_a_little(void) {
 int main(void) {
     static worker workers[THREADS];
     ert_world world = ERT_INIT;
-    ert_settings settings = {
-        .size = sizeof settings,
-        .schedulers = 1,
-        .processes = 1,
-        .slots = TIMERS, /* one for each start, so no start finds the wheel full */
-        .callers = THREADS + 1,
-    };
+    ert_reading first = {0, 0};
+    ert_settings settings;
+    ert_settings_init(&settings, &first);
+    settings.slots = TIMERS; /* one for each start, so no start finds the wheel full */
+    settings.callers = THREADS + 1;
     must("ert_world_open", ert_world_open(&world, &settings));
     for (int i = 0; i < THREADS; i++) {
         workers[i].number = i;

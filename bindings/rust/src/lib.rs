@@ -126,8 +126,8 @@ pub enum Mode {
 
 /// What a service is opened with.
 ///
-/// For plain timers on the monotonic clock set `mode` to [`Mode::Multi`]: then monotonic time and timers go as the
-/// `mono` of the readings does, whatever happens to the system clock.
+/// For plain timers on the monotonic clock take [`Settings::new`], which has [`Mode::Multi`]: then monotonic time and
+/// timers go as the `mono` of the readings does, whatever happens to the system clock.
 #[derive(Clone, Copy, Debug)]
 pub struct Settings {
     pub mode: Mode,
@@ -146,10 +146,12 @@ pub struct Settings {
 }
 
 impl Settings {
-    /// One scheduler, one process, 1,024 slots, no seat, no time warp, time correction, and monotonic time from 0.
+    /// The recommended settings, as `ert_settings_init` of C has them: timers go as the monotonic clock does, whatever
+    /// happens to the system clock (multi time warp with time correction). One scheduler, one process, 1,024 slots, no
+    /// seat, and monotonic time from 0.
     pub fn new(first: Reading) -> Settings {
         Settings {
-            mode: Mode::No,
+            mode: Mode::Multi,
             correction: true,
             start: 0,
             schedulers: 1,
