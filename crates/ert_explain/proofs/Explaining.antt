@@ -12,7 +12,7 @@ use Rattle.ert_explain.specs.declared.explanation.Explanation.{Explanation}
 pub explained : (race : Bool) (bytes : List ℕ) (d : Data) (refusal : ScenarioErr) (e : Explanation) → refusal ≢ Json → IsValue bytes d
     → IsExplainedBy race d bytes refusal e → IsExplained race bytes refusal e
 explained race bytes d Json e other is by = absurd (other refl)
-explained race bytes d (Shape place) e other is by = record { same = by.same; cause = (d, is, by.cause); position = by.position }
-explained race bytes d (Range place) e other is by = record { same = by.same; cause = (d, is, by.cause); position = by.position }
-explained race bytes d (Limit place) e other is by = record { same = by.same; cause = (d, is, by.cause); position = by.position }
-explained race bytes d NoMemory e other is by = record { same = by.same; cause = (d, is, by.cause); position = by.position }
+explained race bytes d (Shape place) e other is by = record { same = by.same; cause = (d, is, by.cause); position = by.position; shown = (d, is, by.shown) }
+explained race bytes d (Range place) e other is by = record { same = by.same; cause = (d, is, by.cause); position = by.position; shown = (d, is, by.shown) }
+explained race bytes d (Limit place) e other is by = record { same = by.same; cause = (d, is, by.cause); position = by.position; shown = (d, is, by.shown) }
+explained race bytes d NoMemory e other is by = record { same = by.same; cause = (d, is, by.cause); position = by.position; shown = (d, is, by.shown) }

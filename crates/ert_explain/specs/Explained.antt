@@ -1,6 +1,6 @@
 -- When an explanation is true of bytes.
 
-use Rattle.std.specs.Prelude.{◌≡◌, ◌≢◌, ◌+◌, ◌-◌, ◌==◌, ℕ, ℤ, pos, List, Bool, Option, Some, None, option_and_then, if◌then◌else◌}
+use Rattle.std.specs.Prelude.{◌≡◌, ◌≢◌, ◌⊎◌, ◌+◌, ◌-◌, ◌==◌, ℕ, ℤ, pos, List, length, take, drop, min, Bool, Option, Some, None, option_and_then, if◌then◌else◌}
 use Rattle.std.specs.Ordering.{int_eq}
 use Rattle.serde_json.specs.Data.{Data}
 use Rattle.ert_scenario.specs.Scenarios.{IsValue}
@@ -12,6 +12,7 @@ use Rattle.ert_explain.specs.FieldShapes.{fields_shape}
 use Rattle.ert_explain.specs.Labels.{IsSameLabel, IsNewLabel}
 use Rattle.ert_explain.specs.OpRanges.{op_range}
 use Rattle.ert_explain.specs.OpShapes.{op_shape}
+use Rattle.ert_explain.specs.OwnTexts.{IsOwnText}
 use Rattle.ert_explain.specs.Places.{OpSeen, op_at}
 use Rattle.ert_explain.specs.Positions.{IsPosition}
 use Rattle.ert_explain.specs.declared.cause.Cause.{Cause}
@@ -93,14 +94,35 @@ abbrev pub IsCause : Bool → List ℕ → ScenarioErr → Cause → Type 0
 IsCause race bytes refusals.Json cause = IsJsonCause cause
 IsCause race bytes refusal cause = (d : Data) × IsValue bytes d × IsCauseIn race d refusal cause
 
--- an explanation names the refusal, a true cause of it, and a position in the bytes
+-- so many bytes from an offset on; fewer where the bytes end before
+abbrev pub part_at : List ℕ → ℕ → ℕ → List ℕ
+part_at bytes offset n =
+    let rest = drop (min offset (length bytes)) bytes in
+    take (min n (length rest)) rest
+
+-- the bytes that an explanation shows
+abbrev pub part_of : List ℕ → Explanation → List ℕ
+part_of bytes e = part_at bytes e.position.offset e.length
+
+-- what an explanation shows is the own text of what the cause is about, or nothing
+abbrev pub IsShownOf : Bool → Data → ScenarioErr → Cause → ℕ → List ℕ → Type 0
+IsShownOf race d refusal cause n part = (n ≡ 0) ⊎ IsOwnText race d refusal cause part
+
+-- the same of bytes that have the refusal; of bytes that are no JSON nothing is shown
+abbrev pub IsShown : Bool → List ℕ → ScenarioErr → Cause → ℕ → List ℕ → Type 0
+IsShown race bytes refusals.Json cause n part = n ≡ 0
+IsShown race bytes refusal cause n part = (d : Data) × IsValue bytes d × IsShownOf race d refusal cause n part
+
+-- an explanation names the refusal, a true cause of it, and a position in the bytes, and shows what the cause is about
 pub record IsExplained (race : Bool) (bytes : List ℕ) (refusal : ScenarioErr) (e : Explanation) : Type 0 where
   pub same : e.refusal ≡ refusal
   pub cause : IsCause race bytes refusal e.cause
   pub position : IsPosition bytes e.position
+  pub shown : IsShown race bytes refusal e.cause e.length (part_of bytes e)
 
 -- the same, of bytes that are this value
 pub record IsExplainedBy (race : Bool) (d : Data) (bytes : List ℕ) (refusal : ScenarioErr) (e : Explanation) : Type 0 where
   pub same : e.refusal ≡ refusal
   pub cause : IsCauseIn race d refusal e.cause
   pub position : IsPosition bytes e.position
+  pub shown : IsShownOf race d refusal e.cause e.length (part_of bytes e)

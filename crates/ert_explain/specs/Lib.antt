@@ -9,9 +9,11 @@ pub mod Messages
 pub mod OpNames
 pub mod OpRanges
 pub mod OpShapes
+pub mod OwnTexts
 pub mod Params
 pub mod Places
 pub mod Positions
+pub mod Refused
 pub mod Shown
 pub mod Telling
 pub mod Words

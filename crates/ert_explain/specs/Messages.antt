@@ -1,9 +1,10 @@
 -- The message that tells an explanation.
 
-use Rattle.std.specs.Prelude.{ℕ, ◌==◌, ◌++◌, List, [], codes, Bool, true, false, length, take, drop, min, Option, Some, None, if◌then◌else◌, ℤ}
+use Rattle.std.specs.Prelude.{ℕ, ◌==◌, ◌++◌, List, [], codes, Bool, true, false, Option, Some, None, if◌then◌else◌, ℤ}
 use Rattle.std.specs.Fmt.{decimal, signed_decimal}
 use Rattle.ert_scenario.specs.declared.scenario.ScenarioErr.{ScenarioErr}
 use Rattle.ert_scenario.specs.declared.scenario.ScenarioErr.TheVariants as refusals
+use Rattle.ert_explain.specs.Explained.{part_of}
 use Rattle.ert_explain.specs.FieldNames.{name_of}
 use Rattle.ert_explain.specs.Shown.{shown}
 use Rattle.ert_explain.specs.Words.{op_word, param_word, param_kind, expected_text, signature_text, field_kind, list_text}
@@ -114,12 +115,6 @@ front_text (Excess excess) = excess_front excess
 front_text Other = codes "this is no scenario"
 
 -- ---- the part of the input that is shown
-
--- the bytes of the value or the name that is wrong
-abbrev pub part_of : List ℕ → Explanation → List ℕ
-part_of bytes e =
-    let rest = drop (min e.position.offset (length bytes)) bytes in
-    take (min e.length (length rest)) rest
 
 -- whether the part is shown for a fault of the shape of the fields
 abbrev pub shows_field : FieldShape → Bool

@@ -5,6 +5,7 @@ ghost use Rattle.ert_scenario.specs.Scenarios.{HasRefusal};
 ghost use Rattle.ert_scenario.specs.declared.scenario.ScenarioErr.TheVariants.{Json};
 ghost use Rattle.ert_explain.specs.Explained.{IsExplained, IsExplainedBy, IsCauseIn, IsShapeCause, IsRangeCauseAt, IsRangeCause, IsLabelCause};
 ghost use Rattle.ert_explain.specs.Explained.{of_shape, of_range, shape_cause, argument_out, is_one};
+ghost use Rattle.ert_explain.specs.Explained.{part_at};
 ghost use Rattle.ert_explain.specs.FieldRanges.{fields_range};
 ghost use Rattle.ert_explain.specs.FieldShapes.{fields_shape};
 
@@ -19,6 +20,7 @@ use crate::labels::earlier_start;
 use crate::near::{Near, nearest};
 use crate::op_range::{OutOfRange, op_range};
 use crate::op_shape::op_shape;
+use crate::own_text::is_own_text;
 use crate::place::op_at;
 use crate::position::{Position, position_at};
 use ert_defs::NoMemory;
@@ -35,7 +37,8 @@ pub struct Explanation {
     pub cause: Cause,
     /// Where that stands in the bytes.
     pub position: Position,
-    /// How many bytes there are of the value or the name that is wrong.
+    /// How many bytes there are of the text of the value or the name that is wrong, from there on: of an array or an
+    /// object that which opens it; 0 where none is to be shown.
     pub length: usize,
     /// The nearest known name, where a name is unknown and one is near.
     pub near: Option<Near>,
@@ -102,13 +105,23 @@ fn value_explanation(
 {
     let cause = cause_of(value, race, refusal);
     let piece = find(alloc, bytes, value, race, refusal, cause);
-    let part = part_between(bytes, piece.start, piece.end);
-    Explanation {
+    let position = position_at(bytes, piece.start);
+    let length = piece.end.saturating_sub(piece.start);
+    let part = part_at(bytes, position.offset, length);
+    let told = Explanation {
         refusal,
         cause,
-        position: position_at(bytes, piece.start),
-        length: part.len(),
+        position,
+        length,
         near: nearest(alloc, part, cause),
+    };
+    if is_own_text(alloc, part, value, race, refusal, cause) {
+        return told;
+    }
+    Explanation {
+        length: 0,
+        near: None,
+        ..told
     }
 }
 
@@ -213,10 +226,11 @@ fn is_one(value: &Value) -> bool
     number_at(value, Field::Format, 0) == 1
 }
 
-/// The bytes from an offset to before another; none where they don't lie so in the bytes.
-fn part_between(bytes: &[u8], start: usize, end: usize) -> &[u8] {
-    match bytes.get(start..end) {
-        Some(part) => part,
-        None => &[],
-    }
+/// So many bytes from an offset on; fewer where the bytes end before.
+pub(crate) fn part_at(bytes: &[u8], offset: usize, length: usize) -> &[u8]
+    ensures { result.now ≡ part_at bytes.now offset length }
+{
+    let (_, rest) = bytes.split_at(offset.min(bytes.len()));
+    let (part, _) = rest.split_at(length.min(rest.len()));
+    part
 }

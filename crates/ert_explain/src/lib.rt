@@ -1,14 +1,17 @@
 //! Why bytes are no scenario, for a person: at which line and column, at which op, and what is wrong.
 //!
 //! `explain` writes the message that explains a refusal to a sink. It stands on `ert_scenario`, which says which refusal
-//! bytes have, on `serde_json`, which reads them, on `strsim`, which finds the nearest known name, and on `ert_io`. `specs/Explained` says when an explanation is true of bytes: it is of the very
-//! refusal, its cause is what is wrong with the value at that place (`specs/FieldShapes`, `specs/FieldRanges`,
-//! `specs/OpShapes`, `specs/OpRanges`, `specs/Labels`, `specs/Excesses`), and its position lies in the bytes
-//! (`specs/Positions`). `specs/Messages` says which line tells an explanation.
+//! bytes have, on `serde_json`, which reads them, on `strsim`, which finds the nearest known name, and on `ert_io`.
+//! `specs/Explained` says when an explanation is true of bytes: it is of the very refusal, its cause is what is wrong
+//! with the value at that place (`specs/FieldShapes`, `specs/FieldRanges`, `specs/OpShapes`, `specs/OpRanges`,
+//! `specs/Labels`, `specs/Excesses`), its position lies in the bytes (`specs/Positions`), and what it shows of them is
+//! the text of the value or the name that the cause is about (`specs/Refused`, `specs/OwnTexts`), or nothing.
+//! `specs/Messages` says which line tells an explanation.
 //!
 //! The value is read once more, and only for bytes that were refused. Where a value stands in the text is found by a
-//! scanner over its pieces (`scanner`, `locate`), of which no clause speaks: a value has no places. The scanner also
-//! finds where a text stops being JSON.
+//! scanner over its pieces (`scanner`, `locate`), of which no clause speaks: a value has no places. So the piece that it
+//! found is read by itself and compared with the value, and shown only if they are the same (`own_text`). The scanner
+//! also finds where a text stops being JSON.
 #![tactic(auto)]
 
 mod cause;
@@ -27,9 +30,11 @@ mod near;
 mod op_name;
 mod op_range;
 mod op_shape;
+mod own_text;
 mod param;
 mod place;
 mod position;
+mod refused;
 mod scanner;
 mod shown;
 mod telling;

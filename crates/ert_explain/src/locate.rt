@@ -1,27 +1,11 @@
 //! Where a value stands in a text.
 //!
-//! No clause says that it is there: the value of a text has no places.
+//! No clause says that it is there: the value of a text has no places. `own_text` compares what stands there with it.
 
+use crate::own_text::is_known;
 use crate::scanner::{Piece, PieceKind, Scanner};
 use serde_json::Value;
 use std::alloc::Global;
-
-/// The names of the fields of a scenario.
-const OF_SCENARIO: [&str; 10] = [
-    "format",
-    "mode",
-    "correction",
-    "start",
-    "schedulers",
-    "processes",
-    "slots",
-    "first",
-    "ops",
-    "race",
-];
-
-/// The names of the fields of a race.
-const OF_RACE: [&str; 3] = ["turns", "keeper", "callers"];
 
 /// A step into an array or an object.
 #[derive(Clone, Copy)]
@@ -132,29 +116,25 @@ impl Seeker<'_> {
     fn look(&mut self, alloc: Global, bytes: &[u8], piece: Piece) {
         match (self.step, piece.kind) {
             (Step::Member(name), PieceKind::Name) => {
-                self.is_named = is_text(alloc, bytes, piece, &[name]);
+                self.is_named = match text_of(alloc, bytes, piece) {
+                    Some(text) => text.as_str() == name,
+                    None => false,
+                };
             }
             (Step::Member(_), _) if self.is_named => self.found = Some(piece),
             (Step::Item(index), _) if self.count == index => self.found = Some(piece),
-            (Step::OtherName(true), PieceKind::Name) => self.take_other(
-                alloc, bytes, piece, &OF_RACE,
-            ),
-            (Step::OtherName(false), PieceKind::Name) => self.take_other(
-                alloc,
-                bytes,
-                piece,
-                &OF_SCENARIO,
-            ),
+            (Step::OtherName(of_race), PieceKind::Name) => {
+                let is_known = match text_of(alloc, bytes, piece) {
+                    Some(name) => is_known(name.as_str(), of_race),
+                    None => false,
+                };
+                if !is_known {
+                    self.found = Some(piece);
+                }
+            }
             _ => {}
         }
         self.count = self.count.saturating_add(1);
-    }
-
-    /// Takes a name that isn't one of these.
-    fn take_other(&mut self, alloc: Global, bytes: &[u8], piece: Piece, names: &[&str]) {
-        if !is_text(alloc, bytes, piece, names) {
-            self.found = Some(piece);
-        }
     }
 
     /// Whether no later piece counts.
@@ -163,13 +143,10 @@ impl Seeker<'_> {
     }
 }
 
-/// Whether a string is one of these texts.
-fn is_text(alloc: Global, bytes: &[u8], piece: Piece, texts: &[&str]) -> bool {
-    let Some(part) = bytes.get(piece.start..piece.end) else {
-        return false;
-    };
-    match Value::from_slice(alloc, part) {
-        Ok(Value::String(text)) => texts.iter().any(|one| *one == text.as_str()),
-        _ => false,
+/// The text of a string.
+fn text_of(alloc: Global, bytes: &[u8], piece: Piece) -> Option<String> {
+    match Value::from_slice(alloc, bytes.get(piece.start..piece.end)?) {
+        Ok(Value::String(text)) => Some(text),
+        _ => None,
     }
 }

@@ -1,13 +1,13 @@
 //! The message that tells an explanation.
 ghost use Rattle.std.specs.Prelude.{◌≡◌, ◌++◌, OnOk, codes, string_bytes};
-ghost use Rattle.ert_explain.specs.Messages.{message, part_of, is_showing, head_text, place_text, op_place_text, front_text, middle_text, back_text};
+ghost use Rattle.ert_explain.specs.Messages.{message, is_showing, head_text, place_text, op_place_text, front_text, middle_text, back_text};
 
 mod fields;
 mod hints;
 mod ops;
 
 use crate::cause::Cause;
-use crate::explanation::Explanation;
+use crate::explanation::{Explanation, part_at};
 use crate::field_range::FieldRange;
 use crate::field_shape::FieldShape;
 use crate::near::Near;
@@ -30,7 +30,8 @@ pub fn write_message(
 {
     write_head(page, explanation)?;
     write_front(page, explanation.cause)?;
-    write_middle(page, explanation.cause, part_of(bytes, explanation))?;
+    let part = part_at(bytes, explanation.position.offset, explanation.length);
+    write_middle(page, explanation.cause, part)?;
     write_back(page, explanation.cause, explanation.near)?;
     write_newline(page)
 }
@@ -39,15 +40,6 @@ fn write_newline(page: &mut String) -> Result<(), AllocError>
     ensures { OnOk result (string_bytes page.new ≡ string_bytes page.old ++ codes "\n") }
 {
     page.push_str("\n")
-}
-
-/// The bytes of the value or the name that is wrong.
-fn part_of<'a>(bytes: &'a [u8], explanation: &Explanation) -> &'a [u8]
-    ensures { result.now ≡ part_of bytes.now explanation.now }
-{
-    let (_, rest) = bytes.split_at(explanation.position.offset.min(bytes.len()));
-    let (part, _) = rest.split_at(explanation.length.min(rest.len()));
-    part
 }
 
 /// Appends the line and the column, and the place.

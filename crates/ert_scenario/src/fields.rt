@@ -242,14 +242,14 @@ pub fn are_race_fields(members: &Map<String, Value>) -> bool
 }
 
 /// Whether it is the name of a field; `race` is one where a race is wanted.
-fn is_field(name: &str, race: bool) -> bool
+pub fn is_field(name: &str, race: bool) -> bool
     ensures { result ≡ is_field race name.now }
 {
     is_clock_field(name) || is_other_field(name) || (race && name == "race")
 }
 
 /// Whether it is the name of a field of a race.
-fn is_race_field(name: &str) -> bool
+pub fn is_race_field(name: &str) -> bool
     ensures { result ≡ is_among race_fields name.now }
 {
     matches!(name, "turns" | "keeper" | "callers")

@@ -7,4 +7,5 @@ returns c = λ race. record {
   same = refl;
   cause = tt;
   position = position_in c.args.bytes.now c.json_stop-offset.result.0 c.position_at.result c.position_at.ensures;
+  shown = refl;
 }
