@@ -1,0 +1,11 @@
+pub mod Called
+pub mod Given
+pub mod Gone
+pub mod Home
+pub mod Kept
+pub mod Parted
+pub mod Rejoined
+pub mod StandOn
+pub mod Stepped
+pub mod Ticked
+pub mod Turned

@@ -1,0 +1,161 @@
+-- What is left of a world after a shard came back.
+
+use Rattle.std.proofs.Common.{◌≡◌, ℕ, ◌+◌, ◌-◌, ◌<◌, ◌≤◌, Bool, true, false, ◌&&◌, ◌||◌, nat_lt, List, [], ◌∷◌, ◌++◌, length, slice_index_or, refl, sym, ap, subst, ◌∙◌, arith, length-append}
+use Rattle.std.proofs.lemmas.Bool.{ltb-true}
+use Rattle.std.proofs.lemmas.List.{get_or_append_left, get_or-append_right}
+use Rattle.std.proofs.lemmas.Bool.Decides.{nat_tests}
+use Rattle.std.proofs.lemmas.List.Folds.{list_any-append}
+use Rattle.std.specs.Prelude.{nat_eq, nat_le}
+use Rattle.ert_clock.specs.Shown.{Shown, Stands as ClockStands}
+use Rattle.ert_defs.specs.Actors.{same_actor, of}
+use Rattle.ert_defs.specs.Legal.{Legal}
+use Rattle.ert_defs.specs.declared.entry.Actor.{Actor}
+use Rattle.ert_defs.specs.declared.entry.Actor.TheVariants.{Keeper, Wheel, Inbox, Sched, MailOf, Caller}
+use Rattle.ert_defs.specs.declared.entry.Entry.{Entry}
+use Rattle.ert_defs.specs.declared.settings.Settings.{Settings}
+use Rattle.ert_mail.proofs.LawsHold.{inbox_on, mail_on}
+use Rattle.ert_mail.specs.Inboxes.{Waiting, Stands as InboxStands}
+use Rattle.ert_mail.specs.Mailboxes.{Mailbox, Stands as MailStands}
+use Rattle.ert_shard.specs.Hubs.{is_kept, HoldsRest, StandLeft, IsRest}
+use Rattle.ert_shard.specs.Shards.{Share, IsHome, is_own, HoldsShare, ShardParts, Stand, AreFit}
+use Rattle.ert_shard.proofs.StandOn.{keeper_on, sched_on}
+use Rattle.ert_shard.proofs.Kept.{self_own, home_own}
+use Rattle.ert_table.specs.Desks.{settings_of, view_of, front_of, actors_of, Belongs}
+use Rattle.ert_table.specs.Held.{is_held, IsActor}
+use Rattle.ert_table.specs.Views.{Begins, Joined, meeting}
+use Rattle.ert_table.specs.declared.desk.Desk.{Desk}
+use Rattle.ert_table.specs.declared.desk.Pass.{Pass}
+use Rattle.ert_timers.proofs.LawsHold.{stand_on as wheel_on}
+use Rattle.ert_timers.specs.Parts.{Part, Stands as WheelStands}
+use Rattle.ert_world.specs.Parts.{AllParts, parts_of, SchedStands, AreOrdered}
+use Rattle.ert_world.specs.declared.sched_part.SchedPart.{SchedPart}
+
+-- parts in order, and more behind them
+ordered_append : {X : Type 0} (number : X → ℕ) (stands : X → Type 0) (actor : ℕ → Actor) (count total : ℕ) (xs ys : List X)
+    → AreOrdered number stands actor [] count xs → count + length ys ≡ total
+    → ((i : ℕ) (d : X) → i < length ys → (number (slice_index_or ys i d) ≡ count + i) × stands (slice_index_or ys i d))
+    → AreOrdered number stands actor [] total (xs ++ ys)
+ordered_append number stands actor count total xs ys first sum more = record {
+  counted = length-append xs ys ∙ (ap (λ n. n + length ys) first.counted ∙ sum);
+  named = λ i d low. (each i d low (nat_lt i count) refl).0;
+  stand = λ i d low apart. (each i d low (nat_lt i count) refl).1;
+}
+  where
+    each : (i : ℕ) (d : _) → i < total → (b : Bool) → nat_lt i count ≡ b
+        → (number (slice_index_or (xs ++ ys) i d) ≡ i) × stands (slice_index_or (xs ++ ys) i d)
+    each i d low true is =
+        let below : i < count = ltb-true i count is in
+        let at = get_or_append_left xs ys d i (rw first.counted below) in
+        subst (λ y. (number y ≡ i) × stands y) (sym at) (first.named i d below, first.stand i d below refl)
+    each i d low false is =
+        let above : count ≤ i = grind (arith, nat_tests, is) in
+        let at = get_or-append_right xs ys count i d first.counted above in
+        let within : i - count < length ys = omega (arith, above, low, sum) in
+        let back : count + (i - count) ≡ i = omega (arith, above) in
+        let one = more (i - count) d within in
+        subst (λ y. (number y ≡ i) × stands y) (sym at) (one.0 ∙ back, one.1)
+
+-- parts in order stand on
+pub ordered_kept : {X : Type 0} (number : X → ℕ) (old new : X → Type 0) (actor : ℕ → Actor) (count : ℕ) (xs : List X)
+    → ((x : X) → number x < count → old x → new x) → AreOrdered number old actor [] count xs → AreOrdered number new actor [] count xs
+ordered_kept number old new actor count xs on ordered = record {
+  counted = ordered.counted;
+  named = ordered.named;
+  stand = λ i d low apart. on (slice_index_or xs i d) (rw (ordered.named i d low) low) (ordered.stand i d low refl);
+}
+
+single : {X : Type 0} (number : X → ℕ) (stands : X → Type 0) (count : ℕ) (x : X) → number x ≡ count → stands x
+    → (i : ℕ) (d : X) → i < 1 → (number (slice_index_or (x ∷ []) i d) ≡ count + i) × stands (slice_index_or (x ∷ []) i d)
+single number stands count x named stand i d low =
+    let none : i ≡ 0 = omega (arith, low) in
+    subst (λ k. (number (slice_index_or (x ∷ []) k d) ≡ count + k) × stands (slice_index_or (x ∷ []) k d)) (sym none) (named ∙ plus count, stand)
+  where
+    plus : (n : ℕ) → n ≡ n + 0
+    plus n = omega arith
+
+-- the actors that are left with those that came back
+kept_more : (schedulers : ℕ) (s : Share) (a : Actor) → s.number < schedulers → s.from ≤ s.to
+    → (is_kept schedulers s.number s.from a || is_own s a) ≡ is_kept schedulers (s.number + 1) s.to a
+kept_more schedulers s Keeper low ordered = refl
+kept_more schedulers s (Wheel w) low ordered = grind (arith, nat_tests)
+kept_more schedulers s (Inbox w) low ordered = grind (arith, nat_tests)
+kept_more schedulers s (Sched w) low ordered = grind (arith, nat_tests)
+kept_more schedulers s (MailOf p) low ordered = grind (arith, nat_tests, ordered)
+kept_more schedulers s (Caller c) low ordered = grind (arith, nat_tests, low)
+
+pub rejoined : (e t : Desk) (p q r : Pass) (s : Share) (parts : AllParts) (own : ShardParts) → IsRest e p s.number s.from parts → AreFit t q s own
+    → settings_of t ≡ settings_of e → Belongs e r → actors_of r ≡ actors_of p ++ actors_of q → Joined (meeting (view_of p) (view_of q)) (front_of r)
+    → Legal (settings_of e) (front_of r)
+    → IsRest e r (s.number + 1) s.to (parts_of parts.keeper (parts.wheels ++ own.wheel ∷ []) (parts.inboxes ++ own.inbox ∷ []) (parts.mails ++ own.mails) (parts.scheds ++ own.sched ∷ []))
+rejoined e t p q r s parts own rest fit same belongs actors joined legal =
+    let g : Settings = settings_of e in
+    let h : List Entry = front_of r in
+    let holds : HoldsShare g (actors_of q) s = subst (λ x. HoldsShare x (actors_of q) s) same fit.holds in
+    let stand : Stand g (front_of q) s [] own = subst (λ x. Stand x (front_of q) s [] own) same fit.stand in
+    let left : (k : Actor) → IsActor g k → is_kept g.schedulers s.number s.from k ≡ true → of h k ≡ of (front_of p) k =
+    λ k ranged kept. joined.own k (rest.holds.rest k ranged ∙ kept) in
+    let back : (k : Actor) → IsActor g k → is_own s k ≡ true → of h k ≡ of (front_of q) k = λ k ranged mine. joined.other_own k (holds.own k ranged ∙ mine) in
+    let most = rest.holds.most in
+    let few = rest.holds.few in
+    let low = holds.low in
+    let high = holds.most in
+    let ordered = holds.ordered in
+    let counted = stand.mails.counted in
+    record {
+      belongs = belongs;
+      holds = record {
+        most = omega (arith, low);
+        few = holds.most;
+        callers = rest.holds.callers;
+        rest = λ k ranged. ap (λ l. is_held l k) actors ∙ (list_any-append (λ b. same_actor b k) (actors_of p) (actors_of q)
+            ∙ (ap (λ b. b || is_held (actors_of q) k) (rest.holds.rest k ranged) ∙ (ap (λ b. is_kept g.schedulers s.number s.from k || b) (holds.own k ranged)
+            ∙ kept_more g.schedulers s k low ordered)));
+      };
+      stand = record {
+        legal = legal;
+        keeper = keeper_on g (front_of p) h parts.keeper joined.begins (left Keeper tt refl) legal rest.stand.keeper;
+        wheels = ordered_append (λ (x : Part). x.number) (WheelStands g h) Wheel s.number (s.number + 1) parts.wheels (own.wheel ∷ [])
+            (ordered_kept (λ (x : Part). x.number) (WheelStands g (front_of p)) (WheelStands g h) Wheel s.number parts.wheels
+            (λ x below stands. wheel_on g (front_of p) h x joined.begins (left (Wheel x.number) (omega (arith, below, most)) (grind (arith, nat_tests, below))) legal stands)
+            rest.stand.wheels) refl
+            (single (λ (x : Part). x.number) (WheelStands g h) s.number own.wheel stand.wheel_is
+            (wheel_on g (front_of q) h own.wheel joined.other_begins
+            (subst (λ n. of h (Wheel n) ≡ of (front_of q) (Wheel n)) (sym stand.wheel_is) (back (Wheel s.number) low (self_own s.number))) legal (stand.wheel refl)));
+        inboxes = ordered_append (λ (x : Waiting). x.wheel) (InboxStands g h) Inbox s.number (s.number + 1) parts.inboxes (own.inbox ∷ [])
+            (ordered_kept (λ (x : Waiting). x.wheel) (InboxStands g (front_of p)) (InboxStands g h) Inbox s.number parts.inboxes
+            (λ x below stands. inbox_on g (front_of p) h x joined.begins (left (Inbox x.wheel) (omega (arith, below, most)) (grind (arith, nat_tests, below))) stands)
+            rest.stand.inboxes) refl
+            (single (λ (x : Waiting). x.wheel) (InboxStands g h) s.number own.inbox stand.inbox_is
+            (inbox_on g (front_of q) h own.inbox joined.other_begins
+            (subst (λ n. of h (Inbox n) ≡ of (front_of q) (Inbox n)) (sym stand.inbox_is) (back (Inbox s.number) low (self_own s.number))) (stand.inbox refl)));
+        mails = ordered_append (λ (x : Mailbox). x.process) (MailStands g h) MailOf s.from s.to parts.mails own.mails
+            (ordered_kept (λ (x : Mailbox). x.process) (MailStands g (front_of p)) (MailStands g h) MailOf s.from parts.mails
+            (λ x below stands. mail_on g (front_of p) h x joined.begins (left (MailOf x.process) (omega (arith, below, few)) (grind (arith, nat_tests, below))) stands)
+            rest.stand.mails) counted
+            (λ i d below.
+            let named = stand.mails.named i d below in
+            let home : IsHome s (s.from + i) = (omega arith, omega (arith, below, counted)) in
+            let ranged : s.from + i < g.processes = omega (arith, below, counted, high) in
+            (named, mail_on g (front_of q) h (slice_index_or own.mails i d) joined.other_begins
+            (subst (λ n. of h (MailOf n) ≡ of (front_of q) (MailOf n)) (sym named) (back (MailOf (s.from + i)) ranged (home_own s (s.from + i) home)))
+            (stand.mails.stand i d below refl)));
+        scheds = ordered_append (λ (x : SchedPart). x.wheel) (SchedStands g h) Sched s.number (s.number + 1) parts.scheds (own.sched ∷ [])
+            (ordered_kept (λ (x : SchedPart). x.wheel) (SchedStands g (front_of p)) (SchedStands g h) Sched s.number parts.scheds
+            (λ x below stands. sched_on g (front_of p) h x joined.begins (left (Sched x.wheel) (omega (arith, below, most)) (grind (arith, nat_tests, below))) stands)
+            rest.stand.scheds) refl
+            (single (λ (x : SchedPart). x.wheel) (SchedStands g h) s.number own.sched stand.sched_is
+            (sched_on g (front_of q) h own.sched joined.other_begins
+            (subst (λ n. of h (Sched n) ≡ of (front_of q) (Sched n)) (sym stand.sched_is) (back (Sched s.number) low (self_own s.number))) (stand.sched refl)));
+      };
+    }
+
+-- the same, of what a call finds
+pub rejoined_at : (e t : Desk) (p q r : Pass) (left first : ℕ) (s : Share) (parts : AllParts) (own : ShardParts) (new : AllParts) → IsRest e p left first parts → AreFit t q s own
+    → s.number ≡ left → s.from ≡ first
+    → settings_of t ≡ settings_of e → Belongs e r → actors_of r ≡ actors_of p ++ actors_of q → Joined (meeting (view_of p) (view_of q)) (front_of r)
+    → Legal (settings_of e) (front_of r) → new.wheels ≡ parts.wheels ++ own.wheel ∷ [] → new.inboxes ≡ parts.inboxes ++ own.inbox ∷ []
+    → new.mails ≡ parts.mails ++ own.mails → new.scheds ≡ parts.scheds ++ own.sched ∷ []
+    → IsRest e r (s.number + 1) s.to (parts_of parts.keeper new.wheels new.inboxes new.mails new.scheds)
+rejoined_at e t p q r left first s parts own new rest fit at from same belongs actors joined legal wheels inboxes mails scheds =
+    rw (wheels, inboxes, mails, scheds)
+    (rejoined e t p q r s parts own (subst (λ n. IsRest e p n s.from parts) (sym at) (subst (λ n. IsRest e p left n parts) (sym from) rest)) fit same belongs actors joined legal)

@@ -1,0 +1,96 @@
+-- A turn of a shard, by its steps, and how long nothing can be due.
+
+use Rattle.std.proofs.Common.{◌≡◌, ℕ, List, Option, Some, Ok, Err, inl, inr, refl, sym, ap, subst, ◌∙◌}
+use Rattle.std.proofs.Math.Nat.{lt_of_lt_of_le}
+use Rattle.ert_defs.specs.States.{state}
+use Rattle.ert_defs.specs.declared.entry.Entry.{Entry}
+use Rattle.ert_defs.specs.declared.memory.NoMemory.{NoMemory}
+use Rattle.ert_defs.specs.declared.settings.Settings.{Settings}
+use Rattle.ert_effects.proofs.Growing.{grows_then}
+use Rattle.ert_effects.specs.Chains.{AdvancesWheel, Delivers}
+use Rattle.ert_effects.specs.Ways.{Growth, Way, Grows, Then}
+use Rattle.ert_shard.specs.Shards.{Share, Owned, owned, way_of, as_share, Steps, ShardParts, AreFit}
+use Rattle.ert_shard.specs.Turning.{Turns}
+use Rattle.ert_shard.specs.declared.turns.Turn.{Turn}
+use Rattle.ert_shard.proofs.Called.{rows_then}
+use Rattle.ert_table.specs.Desks.{settings_of, front_of}
+use Rattle.ert_table.specs.declared.desk.Desk.{Desk}
+use Rattle.ert_table.specs.declared.desk.Pass.{Pass}
+use Rattle.ert_timers.specs.NextDue.{NoneArmedBefore}
+use Rattle.ert_timers.specs.Parts.{Part, Stands as WheelStands}
+use Rattle.ert_timers.specs.Passed.{HasPassed, LosesRows}
+
+-- a step of a later shard is one of its settings and its share at the start
+pub since : (old mid new : Owned) (call : Settings → ℕ → Way → Growth) → mid.settings ≡ old.settings → mid.share ≡ old.share
+    → Grows (call mid.settings mid.share.number (way_of mid)) mid.history new.history
+    → Grows (call old.settings old.share.number (way_of old)) mid.history new.history
+since old mid new call settings share grows =
+    subst (λ s. Grows (call old.settings s.number (as_share old.settings s)) mid.history new.history) share
+    (subst (λ g. Grows (call g mid.share.number (as_share g mid.share)) mid.history new.history) settings grows)
+
+-- two steps, one after the other
+pub steps_then : (old mid new : Owned) (one other : Settings → ℕ → Way → Growth) → Steps old (one old.settings old.share.number) mid
+    → Steps mid (other mid.settings mid.share.number) new
+    → Steps old (λ way. Then (one old.settings old.share.number way) (other old.settings old.share.number way)) new
+steps_then old mid new one other first second = record {
+  goes = record {
+    grows = grows_then (one old.settings old.share.number (way_of old)) (other old.settings old.share.number (way_of old)) old.history mid.history new.history
+        first.goes.grows (since old mid new other first.goes.settings first.goes.share second.goes.grows);
+    legal = second.goes.legal;
+    table = second.goes.table ∙ first.goes.table;
+    settings = second.goes.settings ∙ first.goes.settings;
+    share = second.goes.share ∙ first.goes.share;
+  };
+  rows = rows_then old.wheel mid.wheel new.wheel first.rows second.rows;
+}
+
+-- a call that is one of another kind
+pub steps_as : (old new : Owned) (call other : Way → Growth) → ((m : List Entry) → call (way_of old) old.history m → other (way_of old) old.history m)
+    → Steps old call new → Steps old other new
+steps_as old new call other so steps = record {
+  goes = record {
+    grows = record { piece = steps.goes.grows.piece; grown = steps.goes.grows.grown; made = so steps.goes.grows.piece steps.goes.grows.made };
+    legal = steps.goes.legal;
+    table = steps.goes.table;
+    settings = steps.goes.settings;
+    share = steps.goes.share;
+  };
+  rows = steps.rows;
+}
+
+pub turned : (old mid new : Owned) (t : Turn) → Steps old (λ way. AdvancesWheel old.settings way old.share.number (Ok (t.to, t.fired))) mid
+    → Steps mid (λ way. Delivers mid.settings way mid.share.number (Ok (t.put, t.dropped))) new
+    → Steps old (λ way. Turns old.settings way old.share.number (Ok t)) new
+turned old mid new t advances delivers =
+    steps_as old new (λ way. Then (AdvancesWheel old.settings way old.share.number (Ok (t.to, t.fired))) (Delivers old.settings way old.share.number (Ok (t.put, t.dropped))))
+    (λ way. Turns old.settings way old.share.number (Ok t)) (λ m made. made)
+    (steps_then old mid new (λ g n way. AdvancesWheel g way n (Ok (t.to, t.fired))) (λ g n way. Delivers g way n (Ok (t.put, t.dropped))) advances delivers)
+
+pub turn_unadvanced : (old new : Owned) (e : NoMemory) → Steps old (λ way. AdvancesWheel old.settings way old.share.number (Err e)) new
+    → Steps old (λ way. Turns old.settings way old.share.number (Err e)) new
+turn_unadvanced old new e advances =
+    steps_as old new (λ way. AdvancesWheel old.settings way old.share.number (Err e)) (λ way. Turns old.settings way old.share.number (Err e))
+    (λ m made. inl made) advances
+
+pub turn_undelivered : (old mid new : Owned) (advanced : ℕ × ℕ) (e : NoMemory) → Steps old (λ way. AdvancesWheel old.settings way old.share.number (Ok advanced)) mid
+    → Steps mid (λ way. Delivers mid.settings way mid.share.number (Err e)) new
+    → Steps old (λ way. Turns old.settings way old.share.number (Err e)) new
+turn_undelivered old mid new advanced e advances delivers =
+    steps_as old new (λ way. Then (AdvancesWheel old.settings way old.share.number (Ok advanced)) (Delivers old.settings way old.share.number (Err e)))
+    (λ way. Turns old.settings way old.share.number (Err e)) (λ m made. inr (advanced, made))
+    (steps_then old mid new (λ g n way. AdvancesWheel g way n (Ok advanced)) (λ g n way. Delivers g way n (Err e)) advances delivers)
+
+-- a wheel that has lost rows has passed the time still
+pub passed_on : (p q : Part) (to : ℕ) → LosesRows p q → HasPassed p to → HasPassed q to
+passed_on p q to loses passed = record {
+  left = λ k key is. passed.left k key (loses.left k key is);
+  on = lt_of_lt_of_le passed.on loses.time;
+}
+
+-- what the wheel tells of its armed timers holds of the shard
+pub none_armed_in : (before : Owned) (d : Desk) (p : Pass) (s : Share) (parts : ShardParts) (answer : Option ℕ) → owned d p s parts.wheel ≡ before
+    → AreFit d p s parts → ((g : Settings) (h : List Entry) → WheelStands g h parts.wheel → NoneArmedBefore (state g h) parts.wheel.number answer)
+    → NoneArmedBefore (state before.settings before.history) before.share.number answer
+none_armed_in before d p s parts answer is fit told =
+    subst (λ (o : Owned). NoneArmedBefore (state o.settings o.history) o.share.number answer) is
+    (subst (λ n. NoneArmedBefore (state (settings_of d) (front_of p)) n answer) fit.stand.wheel_is (told (settings_of d) (front_of p) (fit.stand.wheel refl)))

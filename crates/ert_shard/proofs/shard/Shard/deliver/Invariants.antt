@@ -1,0 +1,19 @@
+use Rattle.std.proofs.Common.{◌≡◌, ◌⊎◌, ◌≤◌, ◌+◌, List, length}
+use Rattle.ert_effects.specs.Chains.{puts, drops}
+use Rattle.ert_effects.specs.declared.answers.Handed.{Handed}
+use Rattle.ert_shard.proofs.Turned.{Handing}
+use Rattle.ert_shard.specs.Turning.{fired_of}
+use Rattle.ert_shard.proofs.shard.Shard.deliver.Given as goal
+
+abbrev pub invariant-loop-fired : goal.invariant-loop-fired
+invariant-loop-fired l =
+    record {
+      hows : List Handed;
+      handing : Handing l.fn.self hows l.self;
+      put_is : l.put ≡ puts hows;
+      dropped_is : l.dropped ≡ drops hows;
+      few : (l.put + l.dropped ≡ 0) ⊎ ((l.put + l.dropped) + length (fired_of l.self) ≤ 65536);
+    }
+
+abbrev pub decreases-loop-fired : goal.decreases-loop-fired
+decreases-loop-fired l = length (fired_of l.self)

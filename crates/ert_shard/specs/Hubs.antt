@@ -1,0 +1,160 @@
+-- What callers see of the rest of a world that is divided, and how shards are given and come back.
+
+use Rattle.std.specs.Prelude.{◌≡◌, ℕ, ◌+◌, ◌-◌, ◌<◌, ◌≤◌, Bool, true, false, not, ◌&&◌, ◌||◌, nat_eq, nat_le, nat_lt, List, [], ◌∷◌, ◌++◌}
+use Rattle.atomic_table.specs.Seated.{TableId}
+use Rattle.ert_clock.specs.Shown.{Shown, Stands as ClockStands}
+use Rattle.ert_defs.specs.Actors.{of}
+use Rattle.ert_defs.specs.Legal.{Legal}
+use Rattle.ert_defs.specs.States.{State}
+use Rattle.ert_defs.specs.declared.entry.Actor.{Actor}
+use Rattle.ert_defs.specs.declared.entry.Actor.TheVariants.{Keeper, Wheel, Inbox, Sched, MailOf, Caller}
+use Rattle.ert_defs.specs.declared.entry.Entry.{Entry}
+use Rattle.ert_defs.specs.declared.settings.Settings.{Settings}
+use Rattle.ert_effects.specs.Ways.{Growth, Way, Grows}
+use Rattle.ert_mail.specs.Inboxes.{Stands as InboxStands}
+use Rattle.ert_mail.specs.Mailboxes.{Stands as MailStands}
+use Rattle.ert_shard.specs.Shards.{Share, share_of, is_own, Owned}
+use Rattle.ert_table.specs.Desks.{settings_of, front_of, actors_of, Belongs}
+use Rattle.ert_table.specs.Held.{is_held, IsActor, actors_but}
+use Rattle.ert_table.specs.Views.{Begins, longer}
+use Rattle.ert_table.specs.declared.desk.Desk.{Desk}
+use Rattle.ert_table.specs.declared.desk.Pass.{Pass}
+use Rattle.ert_timers.specs.Parts.{Stands as WheelStands}
+use Rattle.ert_world.specs.Parts.{AllParts, SchedStands, AreOrdered}
+use Rattle.ert_world.specs.Ways.{among}
+use Rattle.ert_world.specs.Worlds.{Seen}
+
+-- what callers see of the rest of a world: which desk it is of, with its settings, the history that it knows, what its
+-- clock shows, and how many schedulers and processes are left
+pub record Rest : Type 0 where
+  pub table : TableId
+  pub settings : Settings
+  pub history : List Entry
+  pub clock : Shown
+  pub left : ℕ
+  pub first : ℕ
+
+abbrev pub rest : Desk → Pass → Shown → ℕ → ℕ → Rest
+rest d p clock left first = record {
+  table = d.table.shared.table_id;
+  settings = settings_of d;
+  history = front_of p;
+  clock = clock;
+  left = left;
+  first = first;
+}
+
+-- whether an actor was given to no shard: the callers after those of the schedulers were not
+abbrev pub is_kept : ℕ → ℕ → ℕ → Actor → Bool
+is_kept schedulers left first Keeper = true
+is_kept schedulers left first (Wheel w) = nat_lt w left
+is_kept schedulers left first (Inbox w) = nat_lt w left
+is_kept schedulers left first (Sched w) = nat_lt w left
+is_kept schedulers left first (MailOf p) = nat_lt p first
+is_kept schedulers left first (Caller c) = nat_le c left || nat_lt schedulers c
+
+-- of the actors in range a pass holds just those that were given to no shard
+pub record HoldsRest (g : Settings) (actors : List Actor) (left first : ℕ) : Type 0 where
+  pub most : left ≤ g.schedulers
+  pub few : first ≤ g.processes
+  pub callers : g.schedulers < g.callers
+  pub rest : (a : Actor) → IsActor g a → is_held actors a ≡ is_kept g.schedulers left first a
+
+-- the parts that are left stand for a history
+pub record StandLeft (g : Settings) (h : List Entry) (left first : ℕ) (parts : AllParts) : Type 0 where
+  pub legal : Legal g h
+  pub keeper : ClockStands g h parts.keeper
+  pub wheels : AreOrdered (λ p. p.number) (WheelStands g h) Wheel [] left parts.wheels
+  pub inboxes : AreOrdered (λ q. q.wheel) (InboxStands g h) Inbox [] left parts.inboxes
+  pub mails : AreOrdered (λ m. m.process) (MailStands g h) MailOf [] first parts.mails
+  pub scheds : AreOrdered (λ p. p.wheel) (SchedStands g h) Sched [] left parts.scheds
+
+-- the parts of the rest of a world fit
+pub record IsRest (d : Desk) (p : Pass) (left first : ℕ) (parts : AllParts) : Type 0 where
+  pub belongs : Belongs d p
+  pub holds : HoldsRest (settings_of d) (actors_of p) left first
+  pub stand : StandLeft (settings_of d) (front_of p) left first parts
+
+-- nothing was given away of a world
+pub record IsFresh (w : Seen) (r : Rest) : Type 0 where
+  pub table : r.table ≡ w.table
+  pub settings : r.settings ≡ w.settings
+  pub history : r.history ≡ w.history
+  pub clock : r.clock ≡ w.clock
+  pub left : r.left ≡ w.settings.schedulers
+  pub first : r.first ≡ w.settings.processes
+
+-- whether an entry was made by an actor that is left
+abbrev pub is_rests : Rest → Entry → Bool
+is_rests r e = is_kept r.settings.schedulers r.left r.first e.by
+
+abbrev pub way_of : Rest → Way
+way_of r = among r.settings (is_rests r)
+
+-- the world again, of which nothing is given away
+pub record IsWhole (r : Rest) (w : Seen) : Type 0 where
+  pub table : w.table ≡ r.table
+  pub settings : w.settings ≡ r.settings
+  pub history : w.history ≡ r.history
+  pub clock : w.clock ≡ r.clock
+  pub next : w.next ≡ 1
+
+-- the rest of a world makes a call that may move the clock: its history grows by it and is legal. Its desk, its settings
+-- and what is left stay
+pub record HubGoes (old : Rest) (call : Way → Growth) (new : Rest) : Type 0 where
+  pub grows : Grows (call (way_of old)) old.history new.history
+  pub legal : Legal new.settings new.history
+  pub table : new.table ≡ old.table
+  pub settings : new.settings ≡ old.settings
+  pub left : new.left ≡ old.left
+  pub first : new.first ≡ old.first
+
+-- it makes a call that leaves the clock as it is
+pub record HubSteps (old : Rest) (call : Way → Growth) (new : Rest) : Type 0 where
+  pub goes : HubGoes old call new
+  pub clock : new.clock ≡ old.clock
+
+abbrev pub By : Rest → (Settings → State → List Entry → Type 0) → Way → Growth
+By r allows way = way [] (allows r.settings)
+
+-- the last scheduler that is left and the last processes become a shard, which knows as much
+pub record GivesShard (old : Rest) (processes : ℕ) (new : Rest) (shard : Owned) : Type 0 where
+  pub table : shard.table ≡ old.table
+  pub settings : shard.settings ≡ old.settings
+  pub history : shard.history ≡ old.history
+  pub share : shard.share ≡ share_of (old.left - 1) (old.first - processes) old.first
+  pub rest : new ≡ record old { left = old.left - 1; first = old.first - processes }
+
+-- a shard comes back; the history is the longer of the two, which the other begins
+pub record TakesBack (old : Rest) (shard : Owned) (new : Rest) : Type 0 where
+  pub table : new.table ≡ old.table
+  pub settings : new.settings ≡ old.settings
+  pub history : new.history ≡ longer old.history shard.history
+  pub begins : Begins old.history new.history
+  pub other_begins : Begins shard.history new.history
+  pub legal : Legal new.settings new.history
+  pub clock : new.clock ≡ old.clock
+  pub left : new.left ≡ old.left + 1
+  pub first : new.first ≡ shard.share.to
+
+-- an actor was moved from a pass to another; both know what they knew
+pub record Moves (a : Actor) (from to from_new to_new : Pass) : Type 0 where
+  pub from_is : actors_of from_new ≡ actors_but (actors_of from) a
+  pub to_is : actors_of to_new ≡ actors_of to ++ a ∷ []
+  pub from_front : front_of from_new ≡ front_of from
+  pub to_front : front_of to_new ≡ front_of from
+
+-- whether an actor is a mailbox from one number on, below another
+abbrev pub is_mail : ℕ → ℕ → Actor → Bool
+is_mail first last (MailOf p) = nat_le first p && nat_lt p last
+is_mail first last _ = false
+
+abbrev pub HoldsMails : ℕ → ℕ → Pass → Type 0
+HoldsMails first last p = (i : ℕ) → first ≤ i → i < last → is_held (actors_of p) (MailOf i) ≡ true
+
+-- the actors of these mailboxes were moved
+pub record MovesMails (first last : ℕ) (from to from_new to_new : Pass) : Type 0 where
+  pub from_is : (a : Actor) → is_held (actors_of from_new) a ≡ (not (is_mail first last a) && is_held (actors_of from) a)
+  pub to_is : (a : Actor) → is_held (actors_of to_new) a ≡ (is_held (actors_of to) a || is_mail first last a)
+  pub from_front : front_of from_new ≡ front_of from
+  pub to_front : front_of to_new ≡ front_of from

@@ -1,0 +1,3 @@
+pub mod Hubs
+pub mod Shards
+pub mod Turning

@@ -1,0 +1,154 @@
+-- What callers see of a shard, and how its calls make its history longer.
+
+use Rattle.std.specs.Prelude.{◌≡◌, ℕ, ◌+◌, ◌<◌, ◌≤◌, Bool, true, false, ◌&&◌, nat_eq, nat_le, nat_lt, List, [], ◌∷◌, length, slice_index_or}
+use Rattle.atomic_table.specs.Seated.{TableId}
+use Rattle.ert_defs.specs.Actors.{of}
+use Rattle.ert_defs.specs.Legal.{Legal}
+use Rattle.ert_defs.specs.States.{State}
+use Rattle.ert_defs.specs.declared.entry.Actor.{Actor}
+use Rattle.ert_defs.specs.declared.entry.Actor.TheVariants.{Keeper, Wheel, Inbox, Sched, MailOf, Caller}
+use Rattle.ert_defs.specs.declared.entry.Entry.{Entry}
+use Rattle.ert_defs.specs.declared.entry.Event.{Event}
+use Rattle.ert_defs.specs.declared.entry.Event.TheVariants.{Arm}
+use Rattle.ert_defs.specs.declared.settings.Settings.{Settings}
+use Rattle.ert_defs.specs.declared.timer.TimerRef.{TimerRef}
+use Rattle.ert_effects.specs.Ways.{Growth, Way, Grows}
+use Rattle.ert_mail.specs.Inboxes.{Waiting, Stands as InboxStands}
+use Rattle.ert_mail.specs.Mailboxes.{Mailbox, Stands as MailStands}
+use Rattle.ert_table.specs.Desks.{settings_of, front_of, actors_of, Belongs}
+use Rattle.ert_table.specs.Held.{is_held, IsActor}
+use Rattle.ert_table.specs.declared.desk.Desk.{Desk}
+use Rattle.ert_table.specs.declared.desk.Pass.{Pass}
+use Rattle.ert_timers.specs.Freeing.{IsHeld}
+use Rattle.ert_timers.specs.Parts.{Part, Stands as WheelStands}
+use Rattle.ert_timers.specs.Passed.{LosesRows}
+use Rattle.ert_world.specs.Parts.{SchedStands}
+use Rattle.ert_world.specs.Ways.{among}
+use Rattle.ert_world.specs.declared.sched_part.SchedPart.{SchedPart}
+
+-- what a shard has: the scheduler of this number, and the processes from one on, below another
+pub record Share : Type 0 where
+  pub number : ℕ
+  pub from : ℕ
+  pub to : ℕ
+
+-- a process is of a share
+abbrev pub IsHome : Share → ℕ → Type 0
+IsHome s p = (s.from ≤ p) × (p < s.to)
+
+-- whether an actor is of a share
+abbrev pub is_own : Share → Actor → Bool
+is_own s Keeper = false
+is_own s (Wheel w) = nat_eq w s.number
+is_own s (Inbox w) = nat_eq w s.number
+is_own s (Sched w) = nat_eq w s.number
+is_own s (MailOf p) = nat_le s.from p && nat_lt p s.to
+is_own s (Caller c) = nat_eq c (s.number + 1)
+
+-- whether an entry was made by an actor of a share
+abbrev pub is_by : Share → Entry → Bool
+is_by s e = is_own s e.by
+
+-- beside all others, by the actors of a share
+abbrev pub as_share : Settings → Share → Way
+as_share g s = among g (is_by s)
+
+-- what callers see of a shard: which desk it is of, with its settings, the history that it knows, its share, and its
+-- wheel
+pub record Owned : Type 0 where
+  pub table : TableId
+  pub settings : Settings
+  pub history : List Entry
+  pub share : Share
+  pub wheel : Part
+
+abbrev pub share_of : ℕ → ℕ → ℕ → Share
+share_of number from to = record { number = number; from = from; to = to }
+
+-- what callers see of a shard with these: the history is the front of its pass
+abbrev pub owned : Desk → Pass → Share → Part → Owned
+owned d p s wheel = record {
+  table = d.table.shared.table_id;
+  settings = settings_of d;
+  history = front_of p;
+  share = s;
+  wheel = wheel;
+}
+
+-- the steps of a shard come about beside those of all others
+abbrev pub way_of : Owned → Way
+way_of o = as_share o.settings o.share
+
+-- a shard makes a call: its history grows by it and is legal. Its desk, its settings and its share stay
+pub record Goes (old : Owned) (call : Way → Growth) (new : Owned) : Type 0 where
+  pub grows : Grows (call (way_of old)) old.history new.history
+  pub legal : Legal new.settings new.history
+  pub table : new.table ≡ old.table
+  pub settings : new.settings ≡ old.settings
+  pub share : new.share ≡ old.share
+
+-- it makes a call that starts no timer: no row comes to its wheel
+pub record Steps (old : Owned) (call : Way → Growth) (new : Owned) : Type 0 where
+  pub goes : Goes old call new
+  pub rows : LosesRows old.wheel new.wheel
+
+-- of the entries that its history gains, those of its actors are what is allowed after the history before
+abbrev pub By : Owned → (Settings → State → List Entry → Type 0) → Way → Growth
+By o allows way = way [] (allows o.settings)
+
+-- the wheel of a shard holds no row of a timer, if that is of this wheel
+abbrev pub HasForgotten : Owned → TimerRef → Type 0
+HasForgotten o timer = timer.wheel ≡ o.share.number → IsHeld o.wheel timer → ⊥
+
+-- of the actors in range a pass holds just those of a share in range
+pub record HoldsShare (g : Settings) (actors : List Actor) (s : Share) : Type 0 where
+  pub low : s.number < g.schedulers
+  pub seat : s.number + 1 < g.callers
+  pub ordered : s.from ≤ s.to
+  pub most : s.to ≤ g.processes
+  pub own : (a : Actor) → IsActor g a → is_held actors a ≡ is_own s a
+
+-- the parts of a shard
+pub record ShardParts : Type 0 where
+  pub wheel : Part
+  pub inbox : Waiting
+  pub sched : SchedPart
+  pub mails : List Mailbox
+
+abbrev pub parts_of : Part → Waiting → SchedPart → List Mailbox → ShardParts
+parts_of wheel inbox sched mails = record { wheel = wheel; inbox = inbox; sched = sched; mails = mails }
+
+-- the mailboxes of a share stand in order of number; each stands for the history but those that are lent
+pub record AreMails (g : Settings) (h : List Entry) (s : Share) (lent : List Actor) (mails : List Mailbox) : Type 0 where
+  pub counted : s.from + length mails ≡ s.to
+  pub named : (i : ℕ) (d : Mailbox) → i < length mails → (slice_index_or mails i d).process ≡ s.from + i
+  pub stand : (i : ℕ) (d : Mailbox) → i < length mails → is_held lent (MailOf (s.from + i)) ≡ false → MailStands g h (slice_index_or mails i d)
+
+-- the parts of a shard stand for a history but those that are lent
+pub record Stand (g : Settings) (h : List Entry) (s : Share) (lent : List Actor) (parts : ShardParts) : Type 0 where
+  pub legal : Legal g h
+  pub wheel_is : parts.wheel.number ≡ s.number
+  pub wheel : is_held lent (Wheel s.number) ≡ false → WheelStands g h parts.wheel
+  pub inbox_is : parts.inbox.wheel ≡ s.number
+  pub inbox : is_held lent (Inbox s.number) ≡ false → InboxStands g h parts.inbox
+  pub sched_is : parts.sched.wheel ≡ s.number
+  pub sched : is_held lent (Sched s.number) ≡ false → SchedStands g h parts.sched
+  pub mails : AreMails g h s lent parts.mails
+
+-- an event starts a timer for a process of a share, if it starts one
+abbrev pub IsHomeEvent : Share → Event → Type 0
+IsHomeEvent s (Arm timer start) = IsHome s start.dest
+IsHomeEvent s _ = Unit {0}
+
+-- all timers that these entries start are for processes of a share
+abbrev pub AreHome : Share → List Entry → Type 0
+AreHome s [] = Unit {0}
+AreHome s (e ∷ es) = IsHomeEvent s e.event × AreHome s es
+
+-- the parts of a shard fit: the pass is of the desk and holds the actors of its share, each part stands for its
+-- front, and all timers of the wheel were started for processes of the share
+pub record AreFit (d : Desk) (p : Pass) (s : Share) (parts : ShardParts) : Type 0 where
+  pub belongs : Belongs d p
+  pub holds : HoldsShare (settings_of d) (actors_of p) s
+  pub stand : Stand (settings_of d) (front_of p) s [] parts
+  pub home : AreHome s (of (front_of p) (Wheel s.number))

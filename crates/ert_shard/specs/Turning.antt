@@ -1,0 +1,31 @@
+-- What a shard's scheduler has, its turns, and the exit of one of its processes.
+
+use Rattle.std.specs.Prelude.{ℕ, ◌+◌, ◌⊎◌, Bool, true, false, List, [], Result, Ok, Err}
+use Rattle.ert_defs.specs.States.{sched_of}
+use Rattle.ert_defs.specs.Timers.{Row}
+use Rattle.ert_defs.specs.declared.entry.Actor.TheVariants.{Caller}
+use Rattle.ert_defs.specs.declared.memory.NoMemory.{NoMemory}
+use Rattle.ert_defs.specs.declared.settings.Settings.{Settings}
+use Rattle.ert_effects.specs.Chains.{AdvancesWheel, Delivers, SweepsWheel}
+use Rattle.ert_effects.specs.WheelCalls.{MarksExit}
+use Rattle.ert_effects.specs.Ways.{Growth, Way, Then}
+use Rattle.ert_shard.specs.Shards.{Owned}
+use Rattle.ert_shard.specs.declared.turns.Turn.{Turn}
+
+-- the expired timers of a shard
+abbrev pub fired_of : Owned → List Row
+fired_of o = (sched_of o.settings o.history o.share.number).fired
+
+-- a turn: the wheel is advanced, and all expired timers are handed over. There may be no memory for either, and what was
+-- done before stays
+abbrev pub Turns : Settings → Way → ℕ → Result Turn NoMemory → Growth
+Turns g way n (Ok t) h m = Then (AdvancesWheel g way n (Ok (t.to, t.fired))) (Delivers g way n (Ok (t.put, t.dropped))) h m
+Turns g way n (Err e) h m =
+    AdvancesWheel g way n (Err e) h m
+    ⊎ ((advanced : ℕ × ℕ) × Then (AdvancesWheel g way n (Ok advanced)) (Delivers g way n (Err e)) h m)
+
+-- the process exits, and where it hadn't before, the shard's wheel is swept, which has all its timers
+abbrev pub Exits : Settings → Way → ℕ → ℕ → Bool → Growth
+Exits g way n process true h m =
+    Then (way [] (MarksExit g (Caller (n + 1)) process true)) (SweepsWheel g way (n + 1) process n) h m
+Exits g way n process false h m = way [] (MarksExit g (Caller (n + 1)) process false) h m

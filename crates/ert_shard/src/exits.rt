@@ -1,0 +1,47 @@
+//! The exit of a process of a shard.
+use crate::shard::Shard;
+use ert_calls::mark_exit;
+use ert_defs::Actor;
+
+impl Shard {
+    ghost use Rattle.std.specs.Prelude.{◌≡◌, ◌+◌, true};
+    ghost use Rattle.ert_effects.specs.Chains.{SweepsWheel};
+    ghost use Rattle.ert_effects.specs.WheelCalls.{MarksExit};
+    ghost use Rattle.ert_defs.specs.States.{HasExited};
+    ghost use Rattle.ert_defs.specs.declared.entry.Actor.TheVariants.{Caller};
+    ghost use Rattle.ert_shard.specs.Shards.{Steps, By, IsHome};
+    ghost use Rattle.ert_shard.specs.Turning.{Exits};
+
+    /// Lets a process of the shard exit, cancels its timers in the shard's wheel, which has them all, and answers
+    /// true; false, and no more, where it had exited before (`exit`).
+    pub fn exit(&mut self, process: u32) -> bool
+        requires { IsHome self.old.share process }
+        ensures { Steps self.old (λ way. Exits self.old.settings way self.old.share.number process result) self.new }
+    {
+        if !self.mark(process) {
+            return false;
+        }
+        self.sweep(process);
+        true
+    }
+
+    /// Lets a process of the shard exit, and tells whether it hadn't before.
+    fn mark(&mut self, process: u32) -> bool
+        requires { IsHome self.old.share process }
+        ensures call { Steps self.old (By self.old (λ g. MarksExit g (Caller (self.old.share.number + 1)) process result)) self.new }
+        ensures exited { HasExited self.new.settings self.new.history process }
+    {
+        let by = Actor::Caller(self.number + 1);
+        mark_exit(&self.desk, &mut self.pass, by, process)
+    }
+
+    /// Cancels the timers of a process of the shard that has exited.
+    fn sweep(&mut self, process: u32)
+        requires home { IsHome self.old.share process }
+        requires exited { HasExited self.old.settings self.old.history process }
+        ensures { Steps self.old (λ way. SweepsWheel self.old.settings way (self.old.share.number + 1) process self.old.share.number) self.new }
+    {
+        let by = self.number + 1;
+        self.wheel.sweep(&self.desk, &mut self.pass, by, process);
+    }
+}

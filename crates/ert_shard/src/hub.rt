@@ -1,0 +1,120 @@
+//! What is left of a world that is divided: the clock, and what was given to no shard.
+ghost use Rattle.std.specs.Prelude.{◌≡◌};
+
+use ert_keeper::KeeperPart;
+use ert_mail::{InboxPart, MailPart};
+use ert_table::{Desk, Pass};
+use ert_timers::WheelPart;
+use ert_world::{Parts, SchedPart, World};
+use std::marker::Model;
+use std::sync::Arc;
+
+/// What is left of a world: its clock with caller 0, the callers that no scheduler has, and the schedulers and the
+/// processes that were given to no shard, each from 0 on.
+///
+///     let mut hub = Hub::new(world);
+///     let second = hub.shard(512).map_err(..)?;              // scheduler 1, processes 512 to 1023
+///     let first = hub.shard(512).map_err(..)?;               // scheduler 0, processes 0 to 511
+///     let moved = hub.tick(reading, false);                  // by one thread at a time, beside both shards
+///     hub.join(first).map_err(..)?;                          // the last that was given comes back first
+///     hub.join(second).map_err(..)?;
+///     let world = hub.into_world();
+#[derive(Drop)]
+pub struct Hub {
+    pub(crate) desk: Arc<Desk>,
+    pub(crate) pass: Pass,
+    pub(crate) keeper: KeeperPart,
+    pub(crate) wheels: Vec<WheelPart>,
+    pub(crate) inboxes: Vec<InboxPart>,
+    pub(crate) mails: Vec<MailPart>,
+    pub(crate) scheds: Vec<SchedPart>,
+    /// How many schedulers and how many processes are left.
+    pub(crate) left: u32,
+    pub(crate) first: u32,
+}
+
+impl Model for Hub {
+    ghost use Rattle.std.specs.Arc.{arc_value};
+    ghost use Rattle.ert_world.specs.Parts.{parts_of};
+    ghost use Rattle.ert_shard.specs.Hubs.{Rest, rest, IsRest};
+
+    ghost Value = { Rest };
+
+    ghost view = { λ h. rest (arc_value h.desk) h.pass h.keeper h.left h.first };
+
+    ghost invariant = { λ h. IsRest (arc_value h.desk) h.pass h.left h.first (parts_of h.keeper h.wheels.items h.inboxes.items h.mails.items h.scheds.items) };
+}
+
+impl Hub {
+    ghost use Rattle.std.specs.Prelude.{◌≡◌, ◌<◌};
+    ghost use Rattle.ert_shard.specs.Hubs.{IsFresh, IsWhole};
+
+    /// What is left of a world that gave out no seat: all of it. There is a caller for each scheduler, and one more.
+    pub fn new(world: World) -> Hub
+        requires lone { world.next ≡ 1 }
+        requires callers { world.settings.schedulers < world.settings.callers }
+        ensures { IsFresh world result }
+    {
+        let Parts {
+            desk,
+            pass,
+            keeper,
+            wheels,
+            inboxes,
+            mails,
+            scheds,
+            settings,
+        } = world.into_parts();
+        Hub {
+            desk,
+            pass,
+            keeper,
+            wheels,
+            inboxes,
+            mails,
+            scheds,
+            left: settings.schedulers,
+            first: settings.processes,
+        }
+    }
+
+    /// How many schedulers are left: the next shard gets the last of them.
+    pub fn schedulers_left(&self) -> u32
+        ensures { result ≡ self.now.left }
+    {
+        self.left
+    }
+
+    /// How many processes are left: the next shard gets the last of them.
+    pub fn processes_left(&self) -> u32
+        ensures { result ≡ self.now.first }
+    {
+        self.first
+    }
+
+    /// The world again, once every scheduler and every process is back.
+    pub fn into_world(self) -> World
+        requires schedulers { self.left ≡ self.settings.schedulers }
+        requires processes { self.first ≡ self.settings.processes }
+        ensures { IsWhole self result }
+    {
+        let settings = *self.desk.settings();
+        World::from_parts(Parts {
+            settings,
+            desk: self.desk,
+            pass: self.pass,
+            keeper: self.keeper,
+            wheels: self.wheels,
+            inboxes: self.inboxes,
+            mails: self.mails,
+            scheds: self.scheds,
+        })
+    }
+}
+
+fn crosses<T: Send>(_: &T) {}
+
+/// A hub may go to another thread.
+fn _may_cross(hub: &Hub) {
+    crosses(hub);
+}

@@ -1,0 +1,173 @@
+//! The shard of a scheduler, and its calls on the clock and on timers.
+use ert_calls::{cancel_timer, is_alive, monotonic_time, read_timer, system_time, time_offset};
+use ert_defs::{Actor, OffsetState, Start, TimerRef};
+use ert_mail::{InboxPart, MailPart};
+use ert_table::{Desk, Pass};
+use ert_timers::{StartErr, WheelPart};
+use ert_world::SchedPart;
+use std::marker::Model;
+use std::sync::Arc;
+
+/// A share of a desk, and the pass and the parts of one scheduler, of one caller and of some processes.
+///
+/// A thread that has it starts timers for its processes, lets them expire and takes their messages. It reads and
+/// cancels the timers of all shards. Its calls take no lock and wait for nobody, beside the calls of all other shards,
+/// of the hub and of the seats that the hub gave.
+///
+///     let mut shard = hub.shard(256).map_err(..)?;           // scheduler 3 of 4, processes 768 to 1023
+///     let start = Start { when: When::After(50), dest: 768, msg: 7, kind: Kind::Wrapped };
+///     let timer = shard.start(&start);                       // on its own wheel
+///     let left = shard.cancel_timer(other);                  // of any wheel
+///     shard.turn()?;                                         // due timers expire, and their messages are delivered
+///     let message = shard.take(768);                         // Taken::Mail(Mail::Timeout { timer, msg: 7 })
+#[derive(Drop)]
+pub struct Shard {
+    pub(crate) desk: Arc<Desk>,
+    pub(crate) pass: Pass,
+    /// The number of the scheduler. Its caller is the one after that number.
+    pub(crate) number: u32,
+    /// The first of its processes, and the first after them.
+    pub(crate) from: u32,
+    pub(crate) to: u32,
+    pub(crate) wheel: WheelPart,
+    pub(crate) inbox: InboxPart,
+    pub(crate) sched: SchedPart,
+    pub(crate) mails: Vec<MailPart>,
+}
+
+impl Model for Shard {
+    ghost use Rattle.std.specs.Arc.{arc_value};
+    ghost use Rattle.std.specs.Coded.{codes};
+    ghost use Rattle.ert_shard.specs.Shards.{Owned, owned, share_of, parts_of, AreFit};
+    ghost use Rattle.ert_timers.specs.Parts.{part_code};
+
+    ghost Value = { Owned };
+
+    ghost coded = { Prim.hlevel (codes, part_code) };
+
+    ghost view = { λ s. owned (arc_value s.desk) s.pass (share_of s.number s.from s.to) s.wheel };
+
+    ghost invariant = { λ s. AreFit (arc_value s.desk) s.pass (share_of s.number s.from s.to) (parts_of s.wheel s.inbox s.sched s.mails.items) };
+}
+
+impl Shard {
+    ghost use Rattle.std.specs.Prelude.{◌≡◌, ◌≢◌, ◌+◌, ◌<◌, Err, OnSome};
+    ghost use Rattle.ert_effects.specs.ClockCalls.{TellsTime, TellsOffset, TellsSystemTime};
+    ghost use Rattle.ert_effects.specs.TimerCalls.{Reads, Cancels, Starts};
+    ghost use Rattle.ert_effects.specs.WheelCalls.{TellsAlive};
+    ghost use Rattle.ert_effects.specs.declared.answers.StartErr.TheVariants.{NoMemory};
+    ghost use Rattle.ert_defs.specs.declared.entry.Actor.TheVariants.{Caller};
+    ghost use Rattle.ert_shard.specs.Shards.{Goes, Steps, By, IsHome, HasForgotten};
+
+    /// The number of its scheduler, and of its wheel.
+    pub fn number(&self) -> u32
+        ensures { result ≡ self.now.share.number }
+    {
+        self.number
+    }
+
+    /// The first of its processes.
+    pub fn from(&self) -> u32
+        ensures { result ≡ self.now.share.from }
+    {
+        self.from
+    }
+
+    /// The first process after its own.
+    pub fn to(&self) -> u32
+        ensures { result ≡ self.now.share.to }
+    {
+        self.to
+    }
+
+    /// How many processes the service has: each can be named to `is_alive`.
+    pub fn processes(&self) -> u32
+        ensures { result ≡ self.now.settings.processes }
+    {
+        self.desk.settings().processes
+    }
+
+    /// Monotonic time, in nanoseconds (`erlang:monotonic_time`). It never falls from one call to a later one.
+    pub fn monotonic_time(&mut self) -> i64
+        ensures { Steps self.old (By self.old (λ g. TellsTime g (Caller (self.old.share.number + 1)) result)) self.new }
+    {
+        let by = Actor::Caller(self.number + 1);
+        monotonic_time(&self.desk, &mut self.pass, by)
+    }
+
+    /// The time offset, in nanoseconds, with its state (`erlang:time_offset`).
+    pub fn time_offset(&mut self) -> (i64, OffsetState)
+        ensures { Steps self.old (By self.old (λ g. TellsOffset g (Caller (self.old.share.number + 1)) result)) self.new }
+    {
+        let by = Actor::Caller(self.number + 1);
+        time_offset(&self.desk, &mut self.pass, by)
+    }
+
+    /// System time, in nanoseconds: monotonic time, and then the time offset added (`erlang:system_time`).
+    pub fn system_time(&mut self) -> i64
+        ensures { Steps self.old (By self.old (λ g. TellsSystemTime g (Caller (self.old.share.number + 1)) result)) self.new }
+    {
+        let by = Actor::Caller(self.number + 1);
+        system_time(&self.desk, &mut self.pass, by)
+    }
+
+    /// Starts a timer on the shard's wheel, for a process of its own (`erlang` module reference, `start_timer` and
+    /// `send_after`).
+    ///
+    /// BadArg comes where the start has no deadline at the time of the call, and Full where each slot of the wheel
+    /// is taken or rests, or the wheel has had 2^53 timers. A timer for a process that has exited is started and
+    /// cancelled at once. No memory is taken.
+    #[inline(always)]
+    pub fn start(&mut self, start: &Start) -> Result<TimerRef, StartErr>
+        requires { IsHome self.old.share start.now.dest }
+        ensures call { Goes self.old (By self.old (λ g. Starts g (self.old.share.number + 1) self.old.share.number start.now result)) self.new }
+        ensures memory { result ≢ Err NoMemory }
+    {
+        self.wheel
+            .start(&self.desk, &mut self.pass, self.number + 1, start)
+    }
+
+    /// Cancels a timer, of whatever wheel, and answers how many milliseconds were left (`cancel_timer`); None where
+    /// the reference names no timer that is armed.
+    ///
+    /// The shard's own wheel holds no row of a timer that was cancelled so. That of another shard holds its row until
+    /// the timer would be due.
+    #[inline(always)]
+    pub fn cancel_timer(&mut self, timer: TimerRef) -> Option<u64>
+        ensures call { Steps self.old (By self.old (λ g. Cancels g (Caller (self.old.share.number + 1)) timer result)) self.new }
+        ensures forgotten { OnSome result (HasForgotten self.new timer) }
+    {
+        let by = Actor::Caller(self.number + 1);
+        let left = cancel_timer(&self.desk, &mut self.pass, by, timer)?;
+        if timer.wheel == self.number {
+            self.wheel.forget(&self.pass, timer);
+        }
+        Some(left)
+    }
+
+    /// How many milliseconds are left of a timer, of whatever wheel (`read_timer`); None where the reference names
+    /// no timer that is armed.
+    #[inline]
+    pub fn read_timer(&mut self, timer: TimerRef) -> Option<u64>
+        ensures { Steps self.old (By self.old (λ g. Reads g (Caller (self.old.share.number + 1)) timer result)) self.new }
+    {
+        let by = Actor::Caller(self.number + 1);
+        read_timer(&self.desk, &mut self.pass, by, timer)
+    }
+
+    /// Whether a process hasn't exited, of whatever shard (`is_process_alive`).
+    pub fn is_alive(&mut self, process: u32) -> bool
+        requires { process < self.old.settings.processes }
+        ensures { Steps self.old (By self.old (λ g. TellsAlive g (Caller (self.old.share.number + 1)) process result)) self.new }
+    {
+        let by = Actor::Caller(self.number + 1);
+        is_alive(&self.desk, &mut self.pass, by, process)
+    }
+}
+
+fn crosses<T: Send>(_: &T) {}
+
+/// A shard may go to another thread.
+fn _may_cross(shard: &Shard) {
+    crosses(shard);
+}

@@ -1,0 +1,115 @@
+//! The turns of a shard.
+use crate::shard::Shard;
+use ert_defs::{Fired, NoMemory};
+use ert_mail::Handed;
+
+/// What a turn of a shard did.
+#[derive(Clone, Copy, Debug, PartialEq, Eq)]
+pub struct Turn {
+    /// The time of the advance, in whole milliseconds since the start time.
+    pub to: u64,
+    /// How many timers expired.
+    pub fired: u32,
+    /// How many messages were put into mailboxes.
+    pub put: u32,
+    /// How many messages were thrown away, since their process has exited.
+    pub dropped: u32,
+}
+
+impl Shard {
+    ghost use Rattle.std.specs.Prelude.{◌≡◌, ◌≤◌, Some, length, IfOk, OnOk};
+    ghost use Rattle.ert_effects.specs.Chains.{AdvancesWheel, Hands, Delivers};
+    ghost use Rattle.ert_defs.specs.Legal.{Legal};
+    ghost use Rattle.ert_defs.specs.Mails.{first_of, others_of};
+    ghost use Rattle.ert_defs.specs.States.{state};
+    ghost use Rattle.ert_shard.specs.Shards.{Steps};
+    ghost use Rattle.ert_shard.specs.Turning.{fired_of, Turns};
+    ghost use Rattle.ert_timers.specs.NextDue.{NoneArmedBefore, IsNextHeld};
+    ghost use Rattle.ert_timers.specs.Passed.{HasPassed};
+
+    /// How early a timer of the shard's wheel may be due, in whole milliseconds since the start time, as `turn`
+    /// answers; None where no timer is held. No entry is made.
+    ///
+    /// It tells an event loop how long it may sleep: no armed timer of the wheel is due before it. It is the deadline of
+    /// a timer that is held, or the begin of a window, after the time of the last advance, in which one is due
+    /// (`ert_wheel`, `Wheel::next_due`). A timer that another shard cancelled is held until it would be due.
+    pub fn next_due(&self) -> Option<u64>
+        ensures held { IsNextHeld self.now.wheel result }
+        ensures armed { NoneArmedBefore (state self.now.settings self.now.history) self.now.share.number result }
+    {
+        self.wheel.next_due()
+    }
+
+    /// Lets every timer of the shard's wheel expire that is due, and answers the time, in whole milliseconds
+    /// since the start time, and how many expired.
+    ///
+    /// After want of memory none has expired. Else the wheel holds no row then that is due by that time.
+    pub fn advance(&mut self) -> Result<(u64, u32), NoMemory>
+        ensures call { Steps self.old (λ way. AdvancesWheel self.old.settings way self.old.share.number result) self.new }
+        ensures passed { IfOk result (λ answer. HasPassed self.new.wheel answer.0) }
+    {
+        let before = self.sched.fired.len();
+        let to = self
+            .wheel
+            .advance(&self.desk, &mut self.pass, &mut self.sched.fired)?;
+        Ok((to, (self.sched.fired.len() - before) as u32))
+    }
+
+    /// The shard's first expired timer.
+    fn first_of_fired(&self) -> Option<Fired>
+        ensures first { result ≡ first_of (fired_of self.now) }
+        ensures few { length (fired_of self.now) ≤ 65536 }
+        ensures legal { Legal self.now.settings self.now.history }
+    {
+        self.sched.fired.first()
+    }
+
+    /// Hands over the shard's first expired timer to a process of its own.
+    fn hand_first(&mut self, fired: &Fired) -> Result<Handed, NoMemory>
+        requires { first_of (fired_of self.old) ≡ Some fired.now }
+        ensures call { Steps self.old (λ way. Hands self.old.settings way self.old.share.number result) self.new }
+        ensures fired { OnOk result (fired_of self.new ≡ others_of (fired_of self.old)) }
+    {
+        let place = (fired.dest - self.from) as usize;
+        let handed = self.mails[place].deliver(&self.desk, &mut self.pass, fired)?;
+        self.sched.fired.pop();
+        self.wheel.reuse(&self.pass, fired.timer);
+        Ok(handed)
+    }
+
+    /// Hands over the shard's expired timers until there is none, and answers how many messages were put into
+    /// mailboxes and how many were thrown away, since their process has exited.
+    ///
+    /// After want of memory those that weren't handed over stay in the list.
+    pub fn deliver(&mut self) -> Result<(u32, u32), NoMemory>
+        ensures { Steps self.old (λ way. Delivers self.old.settings way self.old.share.number result) self.new }
+    {
+        let mut put = 0;
+        let mut dropped = 0;
+        while let Some(fired) = self.first_of_fired() {
+            match self.hand_first(&fired)? {
+                Handed::Put => put += 1,
+                Handed::Dropped => dropped += 1,
+            }
+        }
+        Ok((put, dropped))
+    }
+
+    /// A turn of the shard: it lets due timers expire, and hands over all expired timers. Then the wheel holds no row
+    /// that is due by the time of the advance.
+    ///
+    /// After want of memory what was done stays done.
+    pub fn turn(&mut self) -> Result<Turn, NoMemory>
+        ensures call { Steps self.old (λ way. Turns self.old.settings way self.old.share.number result) self.new }
+        ensures passed { IfOk result (λ t. HasPassed self.new.wheel t.to) }
+    {
+        let (to, fired) = self.advance()?;
+        let (put, dropped) = self.deliver()?;
+        Ok(Turn {
+            to,
+            fired,
+            put,
+            dropped,
+        })
+    }
+}
