@@ -225,12 +225,27 @@ static void gone_take(state *s, settled *done) {
     }
 }
 
-/* Settles some. Answers whether that is all. It waits for nobody who closes the state: that settles all, and may wait for this. */
+/*
+ * Takes the lock, as state_enter does, and waits for nobody who keeps a state that is closed: whoever closed it settles all,
+ * and may be the very thread that would wait.
+ */
+static bool gone_enter(state *s) {
+    enif_mutex_lock(s->lock);
+    while (s->busy && is_open(s)) {
+        if (on_scheduler()) {
+            enif_mutex_unlock(s->lock);
+            return false;
+        }
+        enif_cond_wait(s->rest, s->lock);
+    }
+    return true;
+}
+
+/* Settles some. Answers whether that is all. */
 static bool gone_piece(state *s) {
     settled done;
     settled_init(&done);
-    enif_mutex_lock(s->lock);
-    if (is_open(s) && s->busy && !state_wait(s)) {
+    if (!gone_enter(s)) {
         return false;
     }
     gone_take(s, &done);

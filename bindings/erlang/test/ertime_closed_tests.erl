@@ -15,7 +15,7 @@
 
 closed_test_() ->
     {setup, fun instrument/0, fun restore/1, [
-        {Name, {timeout, 60, fun() -> closed_before_each(Options, Do, MayRaise) end}}
+        {Name, {timeout, 120, fun() -> closed_before_each(Options, Do, MayRaise) end}}
      || {Name, Options, Do, MayRaise} <- times() ++ timers() ++ monitors() ++ clocks() ++ servers()
     ]}.
 

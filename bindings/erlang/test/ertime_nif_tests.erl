@@ -7,7 +7,7 @@
 
 %% In a process of its own, whose mailbox is empty.
 with_clock(Options, Test) ->
-    {timeout, 60, fun() ->
+    {timeout, 120, fun() ->
         {Pid, Monitor} = spawn_monitor(fun() ->
             Clock = ertime:open(Options),
             ertime:with(Clock, fun() -> Test(Clock) end),
@@ -109,7 +109,7 @@ finalize_test_() ->
     end).
 
 drift_test_() ->
-    {timeout, 60, fun drift/0}.
+    {timeout, 120, fun drift/0}.
 
 drift() ->
     Most = 1000000000,
@@ -120,7 +120,7 @@ drift() ->
 
 %% A clock that is closed leaves nothing at the processes that used it.
 monitored_test_() ->
-    {timeout, 60, fun monitored/0}.
+    {timeout, 120, fun monitored/0}.
 
 monitored() ->
     Clock = ertime:open(#{}),

@@ -8,7 +8,7 @@
 -define(LATE, 60000).
 
 same_test_() ->
-    [{Name, {timeout, 60, fun() -> same(Do) end}} || {Name, Do} <- times() ++ units() ++ starts() ++ cancels() ++ reads() ++ monitors() ++ settings()].
+    [{Name, {timeout, 120, fun() -> same(Do) end}} || {Name, Do} <- times() ++ units() ++ starts() ++ cancels() ++ reads() ++ monitors() ++ settings()].
 
 %% In real time a message may be late, so where the results differ the row is done again, and has more time.
 same(Do) ->

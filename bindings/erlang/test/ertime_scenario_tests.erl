@@ -15,7 +15,7 @@
 
 scenarios_test_() ->
     Files = filelib:wildcard(filename:join(folder(), "*.json")),
-    Played = [{filename:basename(File), {timeout, 60, fun() -> ?assertEqual(lines(File), play(Scenario)) end}} || File <- Files, Scenario <- scenario(File)],
+    Played = [{filename:basename(File), {timeout, 120, fun() -> ?assertEqual(lines(File), play(Scenario)) end}} || File <- Files, Scenario <- scenario(File)],
     [{lists:flatten(io_lib:format("~w scenarios", [length(Played)])), ?_assert(Files =:= [] orelse length(Played) >= 12)} | Played].
 
 %% Beside the package, in a clone of ertime.

@@ -9,7 +9,7 @@
 
 %% What it answers and raises.
 result_test_() ->
-    {timeout, 60, fun result/0}.
+    {timeout, 120, fun result/0}.
 
 result() ->
     ?assertEqual(5, ertime:test(fun(Clock) -> ertime:advance(Clock, 5), erlang:monotonic_time(millisecond) - erlang:system_info(start_time) div 1000000 end)),
@@ -27,7 +27,7 @@ result() ->
 
 %% The clock is closed, the mailbox is as it was, and linked processes are gone.
 nothing_is_left_test_() ->
-    {timeout, 60, fun nothing_is_left/0}.
+    {timeout, 120, fun nothing_is_left/0}.
 
 nothing_is_left() ->
     Self = self(),
@@ -52,7 +52,7 @@ nothing_is_left() ->
 
 %% Whoever is killed amid a test leaves neither its process nor its clock.
 caller_is_killed_test_() ->
-    {timeout, 60, fun caller_is_killed/0}.
+    {timeout, 120, fun caller_is_killed/0}.
 
 caller_is_killed() ->
     Self = self(),
@@ -71,7 +71,7 @@ wait_until(Is) ->
 
 %% A process that waits with a timeout goes on by the runtime's clock where its own is closed.
 closed_test_() ->
-    {timeout, 60, fun closed/0}.
+    {timeout, 120, fun closed/0}.
 
 closed() ->
     Self = self(),
@@ -86,7 +86,7 @@ closed() ->
 
 nobody_advances_test_() ->
     [
-        {Name, {timeout, 60, fun() -> ?assertError({nobody_advances, [{_, [_ | _]} | _]}, ertime:test(Do)) end}}
+        {Name, {timeout, 120, fun() -> ?assertError({nobody_advances, [{_, [_ | _]} | _]}, ertime:test(Do)) end}}
      || {Name, Do} <- [
             {"a sleep", fun(_) -> timer:sleep(1000) end},
             {"a receive", fun(_) -> receive never -> ok after 1000 -> ok end end},
@@ -102,7 +102,7 @@ nobody_advances_test_() ->
 
 %% By hand, without test/2.
 own_sleep_test_() ->
-    {timeout, 60, fun own_sleep/0}.
+    {timeout, 120, fun own_sleep/0}.
 
 own_sleep() ->
     Clock = ertime:open(),
@@ -113,7 +113,7 @@ own_sleep() ->
 
 %% Where another process moves the clock, all is well; and who waits for something real isn't disturbed.
 somebody_advances_test_() ->
-    {timeout, 60, fun somebody_advances/0}.
+    {timeout, 120, fun somebody_advances/0}.
 
 somebody_advances() ->
     ertime:test(fun(Clock) ->
@@ -131,7 +131,7 @@ somebody_advances() ->
 %% --- time goes on by itself ---------------------------------------------------------------------------------------
 
 auto_test_() ->
-    {timeout, 60, fun() ->
+    {timeout, 120, fun() ->
         Beats = ertime:test(#{advance => auto, start => 0}, fun(_) ->
             Self = self(),
             spawn_link(fun() -> beat(Self, 24) end),
@@ -146,7 +146,7 @@ beat(To, Left) -> timer:sleep(?HOUR), To ! {beat, erlang:monotonic_time(second)}
 
 %% Turned on and off, beside steps by hand.
 auto_on_and_off_test_() ->
-    {timeout, 60, fun auto_on_and_off/0}.
+    {timeout, 120, fun auto_on_and_off/0}.
 
 auto_on_and_off() ->
     ertime:test(#{start => 0}, fun(Clock) ->
@@ -165,7 +165,7 @@ auto_on_and_off() ->
     end).
 
 mode_of_open_test_() ->
-    {timeout, 60, fun mode_of_open/0}.
+    {timeout, 120, fun mode_of_open/0}.
 
 mode_of_open() ->
     Clock = ertime:open(#{advance => auto}),
@@ -175,7 +175,7 @@ mode_of_open() ->
 
 %% Two that wait for each other; the error says where.
 deadlock_test_() ->
-    {timeout, 60, fun() ->
+    {timeout, 120, fun() ->
         try
             ertime:test(#{advance => auto}, fun(_) ->
                 Self = self(),
@@ -194,13 +194,13 @@ deadlock_test_() ->
 
 %% Who waits for a program of the system is in no deadlock.
 port_test_() ->
-    {timeout, 60, fun() ->
+    {timeout, 120, fun() ->
         ?assertEqual("done\n", ertime:test(#{advance => auto}, fun(_) -> timer:sleep(10), os:cmd("sleep 1; echo done") end))
     end}.
 
 %% An interval without end.
 limit_test_() ->
-    {timeout, 60, fun() ->
+    {timeout, 120, fun() ->
         ?assertError({real_time_limit, 300, [_ | _]}, ertime:test(#{advance => auto, limit => 300}, fun(_) ->
             spawn_link(fun Beat() -> timer:sleep(10), Beat() end),
             receive never -> ok end
@@ -208,7 +208,7 @@ limit_test_() ->
     end}.
 
 no_progress_test_() ->
-    {timeout, 60, fun() ->
+    {timeout, 120, fun() ->
         ?assertError({no_progress, _}, ertime:test(#{advance => auto}, fun(_) ->
             spawn_link(fun Beat() -> erlang:send_after(0, self(), x), receive x -> Beat() end end),
             receive never -> ok end

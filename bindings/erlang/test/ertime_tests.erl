@@ -8,7 +8,7 @@
 
 %% The examples of the documentation, each in a process of its own.
 examples_test_() ->
-    [{"example " ++ Name, {timeout, 60, fun() -> run(Text) end}} || File <- ["ertime", "ertime_times", "ertime_timers", "ertime_monitors", "ertime_clock", "ertime_nodes"], {Name, Text} <- examples(File ++ ".erl")].
+    [{"example " ++ Name, {timeout, 120, fun() -> run(Text) end}} || File <- ["ertime", "ertime_times", "ertime_timers", "ertime_monitors", "ertime_clock", "ertime_nodes"], {Name, Text} <- examples(File ++ ".erl")].
 
 examples(File) ->
     case file:read_file(filename:join([code:lib_dir(ertime), "src", File])) of
@@ -65,7 +65,7 @@ next() ->
     end.
 
 an_hour_test_() ->
-    {timeout, 60, fun an_hour/0}.
+    {timeout, 120, fun an_hour/0}.
 
 an_hour() ->
     with_clock(#{}, fun(Clock) ->
@@ -79,7 +79,7 @@ an_hour() ->
 
 %% A timer that a message starts is reckoned from the time of that message.
 chain_test_() ->
-    {timeout, 60, fun chain/0}.
+    {timeout, 120, fun chain/0}.
 
 chain() ->
     with_clock(#{}, fun(Clock) ->
@@ -97,7 +97,7 @@ chain(To, Left) ->
     chain(To, Left - 1).
 
 until_idle_test_() ->
-    {timeout, 60, fun until_idle/0}.
+    {timeout, 120, fun until_idle/0}.
 
 until_idle() ->
     with_clock(#{}, fun(Clock) ->
@@ -109,7 +109,7 @@ until_idle() ->
     end).
 
 fractions_test_() ->
-    {timeout, 60, fun fractions/0}.
+    {timeout, 120, fun fractions/0}.
 
 fractions() ->
     with_clock(#{}, fun(Clock) ->
@@ -122,7 +122,7 @@ fractions() ->
 
 %% Slots that are used up, and those of several wheels.
 slots_test_() ->
-    {timeout, 60, fun slots/0}.
+    {timeout, 120, fun slots/0}.
 
 slots() ->
     with_clock(#{slots => 3}, fun(_) ->
@@ -133,7 +133,7 @@ slots() ->
     end).
 
 several_wheels_test_() ->
-    {timeout, 60, fun() ->
+    {timeout, 120, fun() ->
         with_clock(#{slots => 140000}, fun(Clock) ->
             [ertime:send_after(5, self(), N) || N <- lists:seq(1, 140000)],
             ?assertEqual(140000, ertime:advance(Clock, 5)),
@@ -143,7 +143,7 @@ several_wheels_test_() ->
 
 %% Without options a clock is as the runtime's.
 defaults_test_() ->
-    {timeout, 60, fun defaults/0}.
+    {timeout, 120, fun defaults/0}.
 
 defaults() ->
     #{mode := Mode, correction := Correction, start := Start} = ertime:info(ertime:open()),
@@ -151,7 +151,7 @@ defaults() ->
     ?assert(Start < -1000000000000000 andalso erlang:system_info(start_time) < 0).
 
 bad_options_test_() ->
-    {timeout, 60, fun bad_options/0}.
+    {timeout, 120, fun bad_options/0}.
 
 bad_options() ->
     Bad = [
@@ -161,7 +161,7 @@ bad_options() ->
     [?assertError(badarg, ertime:open(Options)) || Options <- Bad].
 
 bad_times_test_() ->
-    {timeout, 60, fun bad_times/0}.
+    {timeout, 120, fun bad_times/0}.
 
 bad_times() ->
     with_clock(#{}, fun(Clock) ->
@@ -173,7 +173,7 @@ bad_times() ->
     end).
 
 info_test_() ->
-    {timeout, 60, fun info/0}.
+    {timeout, 120, fun info/0}.
 
 info() ->
     with_clock(#{mode => multi_time_warp, start => -1000000000}, fun(Clock) ->
@@ -201,7 +201,7 @@ time_of(Spawn) ->
     end.
 
 which_clock_test_() ->
-    {timeout, 60, fun which_clock/0}.
+    {timeout, 120, fun which_clock/0}.
 
 which_clock() ->
     with_clock(#{start => 7000000}, fun(Clock) ->
@@ -228,7 +228,7 @@ outside(Do) ->
     {ok, _} = timer:apply_after(1, erlang, apply, [Do, []]).
 
 a_closed_clock_test_() ->
-    {timeout, 60, fun a_closed_clock/0}.
+    {timeout, 120, fun a_closed_clock/0}.
 
 a_closed_clock() ->
     in_process(fun uses_a_closed_clock/0).
@@ -250,7 +250,7 @@ uses_a_closed_clock() ->
 
 %% Timers of the runtime and of the clock side by side.
 both_test_() ->
-    {timeout, 60, fun both/0}.
+    {timeout, 120, fun both/0}.
 
 both() ->
     Real = erlang:start_timer(?HOUR, self(), x),
@@ -274,7 +274,7 @@ warps_test_() ->
         {multi_time_warp, false, 10, 10, 0, -10}
     ],
     [
-        {lists:flatten(io_lib:format("~p ~p ~p", [Mode, Correction, By])), {timeout, 60, fun() -> warp_row(Mode, Correction, By, Mono, System) end}}
+        {lists:flatten(io_lib:format("~p ~p ~p", [Mode, Correction, By])), {timeout, 120, fun() -> warp_row(Mode, Correction, By, Mono, System) end}}
      || {Mode, Correction, MonoOn, SystemOn, MonoBack, SystemBack} <- Rows,
         {By, Mono, System} <- [{10, MonoOn, SystemOn}, {-10, MonoBack, SystemBack}]
     ].
@@ -290,7 +290,7 @@ warp_row(Mode, Correction, By, Mono, System) ->
 %% In multi time warp mode without correction the runtime follows a leap back whenever it reads the clock (ERTS User's Guide, "Time
 %% Warp Modes"); a leap forward waits for the check.
 followed_test_() ->
-    {timeout, 60, fun() ->
+    {timeout, 120, fun() ->
         with_clock(#{mode => multi_time_warp, correction => false}, fun(Clock) ->
             ertime:advance(Clock, 1000),
             {Mono, System} = {ertime:monotonic_time(), ertime:system_time()},
@@ -303,7 +303,7 @@ followed_test_() ->
 
 %% What the guide says of a backward leap: without correction monotonic time stands still, with it it is slower by a percent.
 frozen_test_() ->
-    {timeout, 60, fun frozen/0}.
+    {timeout, 120, fun frozen/0}.
 
 frozen() ->
     with_clock(#{correction => false}, fun(Clock) ->
@@ -315,7 +315,7 @@ frozen() ->
     end).
 
 slower_test_() ->
-    {timeout, 60, fun slower/0}.
+    {timeout, 120, fun slower/0}.
 
 slower() ->
     with_clock(#{}, fun(Clock) ->
@@ -327,7 +327,7 @@ slower() ->
 
 %% A timer comes at its deadline and not later, though the clock is slow.
 timer_under_correction_test_() ->
-    {timeout, 60, fun timer_under_correction/0}.
+    {timeout, 120, fun timer_under_correction/0}.
 
 timer_under_correction() ->
     with_clock(#{}, fun(Clock) ->
@@ -340,7 +340,7 @@ timer_under_correction() ->
     end).
 
 drift_test_() ->
-    {timeout, 60, fun drift/0}.
+    {timeout, 120, fun drift/0}.
 
 drift() ->
     with_clock(#{mode => multi_time_warp, drift => 1000}, fun(Clock) ->
@@ -350,7 +350,7 @@ drift() ->
     end).
 
 finalize_test_() ->
-    {timeout, 60, fun finalize/0}.
+    {timeout, 120, fun finalize/0}.
 
 finalize() ->
     with_clock(#{mode => single_time_warp}, fun(Clock) ->
@@ -366,7 +366,7 @@ finalize() ->
     end).
 
 change_test_() ->
-    {timeout, 60, fun change/0}.
+    {timeout, 120, fun change/0}.
 
 change() ->
     with_clock(#{mode => multi_time_warp}, fun(Clock) ->
@@ -391,7 +391,7 @@ drain() ->
 %% --- rest ---------------------------------------------------------------------------------------------------------
 
 not_at_rest_test_() ->
-    {timeout, 60, fun not_at_rest/0}.
+    {timeout, 120, fun not_at_rest/0}.
 
 not_at_rest() ->
     application:load(ertime),
@@ -417,7 +417,7 @@ spin() ->
 
 %% Whoever is busy, and has another clock or none, isn't waited for.
 others_are_busy_test_() ->
-    {timeout, 60, fun others_are_busy/0}.
+    {timeout, 120, fun others_are_busy/0}.
 
 others_are_busy() ->
     Busy = outside_busy(),
@@ -436,7 +436,7 @@ outside_busy() ->
 
 %% A process that calls a server with no clock is waited for until it has its answer.
 server_without_clock_test_() ->
-    {timeout, 60, fun server_without_clock/0}.
+    {timeout, 120, fun server_without_clock/0}.
 
 server_without_clock() ->
     in_process(fun calls_a_server_without_clock/0).
@@ -465,7 +465,7 @@ slow_server() ->
     end.
 
 no_progress_is_told_test_() ->
-    {timeout, 60, fun() ->
+    {timeout, 120, fun() ->
         with_clock(#{}, fun(Clock) ->
             Pid = spawn_link(fun() -> endless() end),
             ?assertError(no_progress, ertime:advance(Clock, 10)),
@@ -483,7 +483,7 @@ endless() ->
 %% --- processes and memory -----------------------------------------------------------------------------------------
 
 a_process_dies_test_() ->
-    {timeout, 60, fun a_process_dies/0}.
+    {timeout, 120, fun a_process_dies/0}.
 
 a_process_dies() ->
     with_clock(#{}, fun(Clock) ->
@@ -500,7 +500,7 @@ a_process_dies() ->
     end).
 
 many_processes_test_() ->
-    {timeout, 60, fun() ->
+    {timeout, 120, fun() ->
         with_clock(#{slots => 6000}, fun(Clock) ->
             Self = self(),
             Pids = [spawn_link(fun() -> ertime:sleep(N), Self ! {woken, N} end) || N <- lists:seq(1, 3000)],
@@ -513,7 +513,7 @@ many_processes_test_() ->
 %% A clock that nothing refers to is collected, with its timers. Without allocators of its own (`+Mea min') the runtime doesn't
 %% tell its memory.
 collected_test_() ->
-    [{timeout, 60, fun collected/0} || {error, notsup} =/= try erlang:memory(system) catch error:Reason -> {error, Reason} end].
+    [{timeout, 120, fun collected/0} || {error, notsup} =/= try erlang:memory(system) catch error:Reason -> {error, Reason} end].
 
 collected() ->
     Before = erlang:memory(system),
@@ -531,7 +531,7 @@ is_given_back(Most) ->
 
 %% A message that holds its own clock and timers.
 circular_test_() ->
-    {timeout, 60, fun circular/0}.
+    {timeout, 120, fun circular/0}.
 
 circular() ->
     in_process(fun() ->
@@ -547,7 +547,7 @@ circular() ->
 %% --- many at once -------------------------------------------------------------------------------------------------
 
 many_tests_at_once_test_() ->
-    {timeout, 120, fun() ->
+    {timeout, 300, fun() ->
         Pids = [spawn_monitor(fun() -> one_of_many(N) end) || N <- lists:seq(1, 50)],
         [receive {'DOWN', Monitor, _, Pid, Reason} -> ?assertEqual(normal, Reason) end || {Pid, Monitor} <- Pids]
     end}.
@@ -571,7 +571,7 @@ beat(To, Left) ->
 
 %% Many that open the first clock of a node at once, in a fresh node: none is killed.
 first_clocks_at_once_test_() ->
-    {timeout, 60, fun() ->
+    {timeout, 300, fun() ->
         Paths = lists:append([["-pa", filename:dirname(code:which(Module))] || Module <- [ertime, ?MODULE]]),
         Arguments = ["-noshell", "-run", atom_to_list(?MODULE), "first_clocks" | Paths],
         Port = open_port({spawn_executable, os:find_executable("erl")}, [{args, Arguments}, exit_status]),
@@ -585,7 +585,7 @@ first_clocks() ->
 
 %% Four processes start and cancel while a fifth moves the clock: each timer is delivered or cancelled, and just once.
 stress_test_() ->
-    {timeout, 120, fun() ->
+    {timeout, 300, fun() ->
         Clock = ertime:open(#{slots => 65536}),
         Workers = [spawn_monitor(fun() -> exit({counts, worker(Clock, 5000, N)}) end) || N <- lists:seq(1, 4)],
         Mover = spawn_link(fun() -> move(Clock) end),

@@ -9,7 +9,7 @@
 
 timers_test_() ->
     [
-        {Name, {timeout, 60, fun() -> ?assertEqual(Expected, ertime:test(#{start => 0}, fun(Clock) -> Do(Clock) end)) end}}
+        {Name, {timeout, 120, fun() -> ?assertEqual(Expected, ertime:test(#{start => 0}, fun(Clock) -> Do(Clock) end)) end}}
      || {Name, Expected, Do} <- [
             {"send_after", [{10, x}, {20, y}], fun(Clock) ->
                 {ok, _} = timer:send_after(20, y),
@@ -89,7 +89,7 @@ received(At) ->
 
 %% The server of a clock ends with its last timer, or with the clock.
 server_test_() ->
-    {timeout, 60, fun server/0}.
+    {timeout, 120, fun server/0}.
 
 server() ->
     Self = self(),
@@ -107,7 +107,7 @@ server() ->
 
 %% Without a clock they are those of the runtime, and a timer of each kind is cancelled by the one function.
 real_test_() ->
-    {timeout, 60, fun real/0}.
+    {timeout, 120, fun real/0}.
 
 real() ->
     {ok, _} = timer:send_after(1, x),

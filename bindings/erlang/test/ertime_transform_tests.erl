@@ -31,14 +31,14 @@ run(Do, Also, Pass) ->
     Answer.
 
 timeout_test_() ->
-    {timeout, 60, fun timeout/0}.
+    {timeout, 120, fun timeout/0}.
 
 timeout() ->
     ?assertEqual({late, 100}, run(fun() -> receive x -> x after 100 -> late end end, 1000)),
     ?assertEqual(nothing, run(fun() -> receive x -> x after 100 -> late end end, 99)).
 
 message_test_() ->
-    {timeout, 60, fun message/0}.
+    {timeout, 120, fun message/0}.
 
 message() ->
     Send = fun(Pid) -> ertime:send_after(40, Pid, x) end,
@@ -52,7 +52,7 @@ queue() ->
 
 %% The timeout's own message isn't taken by a clause that takes all, and none is left behind.
 catch_all_test_() ->
-    {timeout, 60, fun catch_all/0}.
+    {timeout, 120, fun catch_all/0}.
 
 catch_all() ->
     ?assertEqual({[late, late, 0], 200}, run(
@@ -65,7 +65,7 @@ catch_all() ->
     )).
 
 zero_and_infinity_test_() ->
-    {timeout, 60, fun zero_and_infinity/0}.
+    {timeout, 120, fun zero_and_infinity/0}.
 
 zero_and_infinity() ->
     ?assertEqual({none, 0}, run(fun() -> receive x -> x after 0 -> none end end, 10)),
@@ -78,7 +78,7 @@ atom() -> list_to_atom("soon").
 
 %% Variables of the clauses are there after it, and receives stand in one another.
 variables_test_() ->
-    {timeout, 60, fun variables/0}.
+    {timeout, 120, fun variables/0}.
 
 variables() ->
     ?assertEqual({{2, 300}, 300}, run(
@@ -97,19 +97,19 @@ variables() ->
     )).
 
 only_after_test_() ->
-    {timeout, 60, fun only_after/0}.
+    {timeout, 120, fun only_after/0}.
 
 only_after() ->
     ?assertEqual({done, 100}, run(fun() -> receive after 100 -> done end end, 1000)).
 
 sleep_test_() ->
-    {timeout, 60, fun sleep/0}.
+    {timeout, 120, fun sleep/0}.
 
 sleep() ->
     ?assertEqual({ok, 86400000}, run(fun() -> timer:sleep(86400000) end, 86400000)).
 
 funs_test_() ->
-    {timeout, 60, fun funs/0}.
+    {timeout, 120, fun funs/0}.
 
 funs() ->
     ?assertEqual({[1500, 1, 1767225601], 1500}, run(
@@ -121,7 +121,7 @@ funs() ->
     )).
 
 calls_test_() ->
-    {timeout, 60, fun calls/0}.
+    {timeout, 120, fun calls/0}.
 
 calls() ->
     Clock = ertime:open(#{os_time => {1767225600, second}, mode => multi_time_warp}),
@@ -144,7 +144,7 @@ calls() ->
 
 %% What the pattern of a receive binds, and what was bound before it, each in a receive of its own and with a timer or without.
 scopes_test_() ->
-    {timeout, 60, fun scopes/0}.
+    {timeout, 120, fun scopes/0}.
 
 scopes() ->
     Rows = [
@@ -175,7 +175,7 @@ in_process(Do) ->
 
 %% The compiler lets a receive for a new reference begin behind what is in the mailbox, as without the transform: it says so.
 receive_optimisation_test_() ->
-    {timeout, 60, fun receive_optimisation/0}.
+    {timeout, 120, fun receive_optimisation/0}.
 
 receive_optimisation() ->
     Calls = [
@@ -199,7 +199,7 @@ parsed(Text) ->
 
 %% Without a clock a call takes no longer where the mailbox is full; in the same run with and without the transform.
 full_mailbox_test_() ->
-    {timeout, 60, fun full_mailbox/0}.
+    {timeout, 120, fun full_mailbox/0}.
 
 full_mailbox() ->
     Asked = spawn(fun Answer() -> receive {R, From} -> From ! {R, 1}, Answer() end end),
@@ -222,7 +222,7 @@ full_mailbox() ->
 
 %% Receives in receives grow with their number, and not twofold with each.
 nested_test_() ->
-    {timeout, 60, fun nested/0}.
+    {timeout, 120, fun nested/0}.
 
 nested() ->
     Size = fun(Depth) ->
@@ -239,7 +239,7 @@ nested(N) ->
     "receive {a, A" ++ Number ++ "} -> A" ++ Number ++ " after P -> " ++ nested(N - 1) ++ " end".
 
 imported_test_() ->
-    {timeout, 60, fun imported/0}.
+    {timeout, 120, fun imported/0}.
 
 imported() ->
     ?assertEqual({ok, 5000}, run(fun() -> sleep(5000) end, 10000)),
@@ -248,7 +248,7 @@ imported() ->
 
 %% Modules and functions that are variables, and apply.
 variable_test_() ->
-    {timeout, 60, fun variable/0}.
+    {timeout, 120, fun variable/0}.
 
 variable() ->
     [Erlang, Timer, Sleep, Time] = [list_to_atom(Name) || Name <- ["erlang", "timer", "sleep", "monotonic_time"]],
@@ -270,13 +270,13 @@ variable() ->
 -record(stamped, {at = erlang:monotonic_time(second), today = date()}).
 
 record_test_() ->
-    {timeout, 60, fun record/0}.
+    {timeout, 120, fun record/0}.
 
 record() ->
     ?assertEqual({#stamped{at = 5, today = {2026, 1, 1}}, 5000}, run(fun() -> timer:sleep(5000), #stamped{} end, 10000)).
 
 calendar_test_() ->
-    {timeout, 60, fun calendar/0}.
+    {timeout, 120, fun calendar/0}.
 
 calendar() ->
     {{Date, Time, Local}, _} = run(fun() -> timer:sleep(86400000), {date(), time(), calendar:local_time()} end, 90000000),
@@ -285,14 +285,14 @@ calendar() ->
 
 %% A process that is monitored by its clock alone.
 monitored_by_test_() ->
-    {timeout, 60, fun monitored_by/0}.
+    {timeout, 120, fun monitored_by/0}.
 
 monitored_by() ->
     ?assertEqual({{monitored_by, []}, 10}, run(fun() -> timer:sleep(10), process_info(self(), monitored_by) end, 10)).
 
 %% A function of the module hides an auto-imported one.
 own_test_() ->
-    {timeout, 60, fun own/0}.
+    {timeout, 120, fun own/0}.
 
 own() ->
     ?assertEqual(mine, demonitor(a, b, c)).
@@ -301,7 +301,7 @@ demonitor(_, _, _) -> mine.
 
 %% Without a clock all is as it was.
 real_test_() ->
-    {timeout, 60, fun real/0}.
+    {timeout, 120, fun real/0}.
 
 real() ->
     ?assertEqual(late, receive x -> x after 5 -> late end),
@@ -311,7 +311,7 @@ real() ->
 
 %% Modules that are loaded: those of Erlang/OTP, again and again, and what can't be done.
 loaded_test_() ->
-    {timeout, 60, fun() ->
+    {timeout, 300, fun() ->
         [?assertEqual(ok, ertime:transform(What)) || What <- [[gen_statem, timer], otp, otp]],
         ?assertEqual(ok, ertime:use(otp)),
         Clock = ertime:open(#{}),

@@ -5,7 +5,7 @@
 
 %% Each in a process that no clock is seen from.
 each_way_test_() ->
-    [{Name, {timeout, 60, {spawn, {timeout, 60, fun() -> in_the_open(Do) end}}}} || {Name, Do} <- ways()].
+    [{Name, {timeout, 120, {spawn, {timeout, 120, fun() -> in_the_open(Do) end}}}} || {Name, Do} <- ways()].
 
 %% In a process that has nothing to do with the one that tests.
 in_the_open(Do) ->
