@@ -45,7 +45,7 @@ static const ert_settings settings = {
     .callers = 2,
 };
 
-/* Refused for want of memory, the call can be made again. */
+/* After ERT_NO_MEMORY the call can be made again. */
 static void made_again(ert_world *world, int32_t (*call)(ert_world *)) {
     succeed = 0;
     int32_t status = call(world);
@@ -86,7 +86,7 @@ int main(void) {
         IS(status, ERT_NO_MEMORY);
         IS(ert_world_close(&world), ERT_CLOSED);
     }
-    printf("open was refused for want of memory: %s\n", refused > 0 ? "yes" : "no");
+    printf("open returned ERT_NO_MEMORY: %s\n", refused > 0 ? "yes" : "no");
 
     ert_seat seat = ERT_INIT;
     succeed = 0;
