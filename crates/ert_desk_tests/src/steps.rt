@@ -6,7 +6,7 @@ use ert_defs::{
     Kind, Mode, NoMemory, OffsetState, Reading, Request, RequestKind, Settings, Start, TimerRef,
     When,
 };
-use ert_effects::{MonitorErr, StartErr, Taken, Turned};
+use ert_effects::{MonitorErr, StartErr, Taken};
 use ert_world::World;
 use std::fmt::Debug;
 use std::process::Abort;
@@ -53,8 +53,6 @@ pub(crate) enum Step {
     Advance(u64, u32),
     /// How many messages were put, and how many thrown away.
     Deliver(u32, u32),
-    /// A last turn in which nothing was left to do, to which millisecond.
-    LastTurn(u64),
     Take(u32, Taken),
     Monitor(u32, Result<u32, MonitorErr>),
     Demonitor(u32, u32, bool),
@@ -161,18 +159,6 @@ pub(crate) fn make(rt: &impl Abort, world: &mut World, at: usize, one: Step) {
         Step::Deliver(put, dropped) => {
             is_scheduler(rt, world, 0);
             same(rt, at, &world.deliver(0), &Ok((put, dropped)));
-        }
-        Step::LastTurn(to) => {
-            is_scheduler(rt, world, 0);
-            is_alone(rt, world);
-            let idle = Turned {
-                served: 0,
-                to,
-                fired: 0,
-                put: 0,
-                dropped: 0,
-            };
-            same(rt, at, &world.last_turn(0), &Ok(idle));
         }
         Step::Take(process, want) => {
             is_process(rt, world, process);

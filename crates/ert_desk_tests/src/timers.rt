@@ -1,6 +1,6 @@
 //! Timers of a wheel, which takes its slots from the last one on.
 use crate::steps::Step::{
-    Advance, Cancel, CancelAlone, Counts, Deliver, Exit, Finalize, IsAlive, LastTurn, MarkExit,
+    Advance, Cancel, CancelAlone, Counts, Deliver, Exit, Finalize, IsAlive, MarkExit,
     Monotonic, Offset, Read, Start, Take,
 };
 use crate::steps::{EIGHT_SLOTS, SETTINGS, timer, until};
@@ -176,16 +176,16 @@ fn a_full_wheel_looks_at_its_slots(rt: HostRuntime) -> Result<(), NoMemory> {
     make_all(&rt, rt.alloc(), &SETTINGS, &steps)
 }
 
-/// A wheel that wasn't told of a cancel holds the timer until a last turn looks at all that it holds.
+/// A wheel that wasn't told of a cancel holds the timer until its world is put together.
 #[test]
-fn a_last_turn_drops_what_was_cancelled(rt: HostRuntime) -> Result<(), NoMemory> {
+fn a_world_that_is_put_together_drops_what_was_cancelled(rt: HostRuntime) -> Result<(), NoMemory> {
     let steps = [
         Start(After(5), 1, 0, Ok(timer(7, 1))),
         Start(After(5), 1, 0, Ok(timer(6, 1))),
-        CancelAlone(timer(7, 1), Some(5)),
-        Advance(0, 0),
         Counts([2, 0, 0, 2]),
-        LastTurn(0),
+        CancelAlone(timer(7, 1), Some(5)),
+        Counts([2, 0, 0, 1]),
+        Advance(0, 0),
         Counts([2, 0, 0, 1]),
         Read(timer(6, 1), Some(5)),
     ];

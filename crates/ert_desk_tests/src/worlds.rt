@@ -86,7 +86,7 @@ fn next(rt: &impl Abort, mut world: World, at: usize, one: Step) -> World {
     }
 }
 
-/// Cancels a timer, and tells its wheel nothing.
+/// Cancels a timer while the world is taken apart, and tells its wheel nothing.
 fn cancel(rt: &impl Abort, world: World, at: usize, timer: TimerRef, want: Option<u64>) -> World {
     is_alone(rt, &world);
     let mut parts = world.into_parts();

@@ -1,7 +1,7 @@
 -- The same entries have one answer: of starts and of advances, by what stands among their probes.
 
 use Rattle.std.proofs.Common.{inl, inr, ◌≡◌, ℕ, zero, suc, ◌+◌, ℤ, false, List, [], ◌∷◌, ◌++◌, Option, Some, None, Ok, Err, refl, sym, ap, subst, ◌∙◌, arith}
-use Rattle.ert_effects.proofs.Advanced.{IsAdvance, advance_is, advance_all_is}
+use Rattle.ert_effects.proofs.Advanced.{IsAdvance, advance_is}
 use Rattle.ert_effects.specs.Laws.{LawOfStarts, LawOfAdvances}
 use Rattle.ert_effects.specs.TimerCalls.{AreProbes, AreTaken, IsStarted, IsBadArg, IsWheelFull}
 use Rattle.ert_effects.specs.WheelCalls.{Try, expires_by, expiry_entries, hit_by, hits}
@@ -159,7 +159,4 @@ advance_same w es a b first second =
     pair_same a b both.0 (first.fired ∙ (both.1 ∙ sym second.fired))
 
 pub advances_same : LawOfAdvances
-advances_same g w = (
-  λ s es a b first second. advance_same w es a b (advance_is w a es first) (advance_is w b es second),
-  λ s es a b first second. advance_same w es a b (advance_all_is g.slots w a es first) (advance_all_is g.slots w b es second),
-)
+advances_same g w = λ s es a b first second. advance_same w es a b (advance_is w a es first) (advance_is w b es second)

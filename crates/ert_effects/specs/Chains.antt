@@ -13,7 +13,7 @@ use Rattle.ert_defs.specs.declared.settings.Settings.{Settings}
 use Rattle.ert_effects.specs.MailCalls.{HandsOver}
 use Rattle.ert_effects.specs.RequestCalls.{Picks, Answers}
 use Rattle.ert_effects.specs.Ways.{Growth, Way, Then, Many}
-use Rattle.ert_effects.specs.WheelCalls.{Advances, AdvancesAll, Sweeps, IsSwept, MarksExit}
+use Rattle.ert_effects.specs.WheelCalls.{Advances, Sweeps, IsSwept, MarksExit}
 use Rattle.ert_effects.specs.declared.answers.Handed.{Handed}
 use Rattle.ert_effects.specs.declared.answers.Handed.TheVariants.{Put, Dropped}
 use Rattle.ert_effects.specs.declared.answers.Turned.{Turned}
@@ -63,10 +63,6 @@ ServesAll g way w (Err e) h m = (n : ℕ) × (n < 64) × Then (ServesMany g way 
 abbrev pub AdvancesWheel : Settings → Way → ℕ → Result (ℕ × ℕ) NoMemory → Growth
 AdvancesWheel g way w answer = way (Wheel w ∷ []) (Advances g w answer)
 
--- the advance of its last turn
-abbrev pub AdvancesAllOfWheel : Settings → Way → ℕ → Result (ℕ × ℕ) NoMemory → Growth
-AdvancesAllOfWheel g way w answer = way (Wheel w ∷ []) (AdvancesAll g w answer)
-
 -- the first expired timer of a scheduler is handed over
 pub record Hands (g : Settings) (way : Way) (w : ℕ) (how : Result Handed NoMemory) (h m : List Entry) : Type 0 where
   pub fired : Row
@@ -115,39 +111,23 @@ abbrev pub Delivers : Settings → Way → ℕ → Result (ℕ × ℕ) NoMemory 
 Delivers g way w (Ok answer) h m = HasDelivered g way w answer h m
 Delivers g way w (Err e) h m = CannotDeliver g way w e h m
 
--- how a scheduler's wheel is advanced, by the answer
-abbrev pub Advance : Type 1
-Advance = Result (ℕ × ℕ) NoMemory → Growth
-
--- a turn is done: requests are served, the wheel is advanced so, and expired timers are handed over
-abbrev pub HasTurnedBy : Advance → Settings → Way → ℕ → Turned → Growth
-HasTurnedBy advances g way w t = Then (ServesAll g way w (Ok t.served))
-    (Then (advances (Ok (t.to, t.fired))) (Delivers g way w (Ok (t.put, t.dropped))))
+-- a turn is done: requests are served, the wheel is advanced, and expired timers are handed over
+abbrev pub HasTurned : Settings → Way → ℕ → Turned → Growth
+HasTurned g way w t = Then (ServesAll g way w (Ok t.served))
+    (Then (AdvancesWheel g way w (Ok (t.to, t.fired))) (Delivers g way w (Ok (t.put, t.dropped))))
 
 -- there is no memory to serve, to advance or to deliver; what was done before stays
-abbrev pub CannotTurnBy : Advance → Settings → Way → ℕ → NoMemory → Growth
-CannotTurnBy advances g way w e h m =
+abbrev pub CannotTurn : Settings → Way → ℕ → NoMemory → Growth
+CannotTurn g way w e h m =
     ServesAll g way w (Err e) h m
-    ⊎ ((served : ℕ) × Then (ServesAll g way w (Ok served)) (advances (Err e)) h m)
+    ⊎ ((served : ℕ) × Then (ServesAll g way w (Ok served)) (AdvancesWheel g way w (Err e)) h m)
     ⊎ ((served : ℕ) × (advanced : ℕ × ℕ)
-    × Then (ServesAll g way w (Ok served)) (Then (advances (Ok advanced)) (Delivers g way w (Err e))) h m)
-
--- a turn in which the wheel is advanced so
-abbrev pub TurnsBy : Advance → Settings → Way → ℕ → Result Turned NoMemory → Growth
-TurnsBy advances g way w (Ok t) h m = HasTurnedBy advances g way w t h m
-TurnsBy advances g way w (Err e) h m = CannotTurnBy advances g way w e h m
-
--- a turn is done, by an advance as `advance` makes it
-abbrev pub HasTurned : Settings → Way → ℕ → Turned → Growth
-HasTurned g way w t = HasTurnedBy (AdvancesWheel g way w) g way w t
+    × Then (ServesAll g way w (Ok served)) (Then (AdvancesWheel g way w (Ok advanced)) (Delivers g way w (Err e))) h m)
 
 -- `turn`
 abbrev pub Turns : Settings → Way → ℕ → Result Turned NoMemory → Growth
-Turns g way w answer h m = TurnsBy (AdvancesWheel g way w) g way w answer h m
-
--- `last_turn`: a turn in which the wheel is advanced with a look at the slots
-abbrev pub LastTurns : Settings → Way → ℕ → Result Turned NoMemory → Growth
-LastTurns g way w answer h m = TurnsBy (AdvancesAllOfWheel g way w) g way w answer h m
+Turns g way w (Ok t) h m = HasTurned g way w t h m
+Turns g way w (Err e) h m = CannotTurn g way w e h m
 
 -- a wheel is swept for a process: then none of its timers for that is armed
 pub record SweepsWheel (g : Settings) (way : Way) (by process w : ℕ) (h m : List Entry) : Type 0 where

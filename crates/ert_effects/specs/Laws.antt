@@ -14,13 +14,13 @@ use Rattle.ert_defs.specs.declared.settings.Settings.{Settings}
 use Rattle.ert_defs.specs.declared.timer.Start.{Start}
 use Rattle.ert_defs.specs.declared.timer.Status.TheVariants.{Armed}
 use Rattle.ert_defs.specs.declared.timer.TimerRef.{TimerRef}
-use Rattle.ert_effects.specs.Chains.{Exits, Turns, LastTurns}
+use Rattle.ert_effects.specs.Chains.{Exits, Turns}
 use Rattle.ert_effects.specs.ClockCalls.{Ticks, Finalizes, TellsTime, TellsOffset, TellsSystemTime}
 use Rattle.ert_effects.specs.MailCalls.{HandsOver, Takes, Monitors, Demonitors, Tells}
 use Rattle.ert_effects.specs.RequestCalls.{Picks, Answers}
 use Rattle.ert_effects.specs.TimerCalls.{Reads, Cancels, Starts}
 use Rattle.ert_effects.specs.Ways.{Growth, Way, alone, beside}
-use Rattle.ert_effects.specs.WheelCalls.{Advances, AdvancesAll, TellsAlive, MarksExit}
+use Rattle.ert_effects.specs.WheelCalls.{Advances, TellsAlive, MarksExit}
 use Rattle.ert_effects.specs.declared.answers.MonitorErr.TheVariants as monitors
 use Rattle.ert_effects.specs.declared.answers.StartErr.TheVariants as starts
 use Rattle.ert_effects.specs.declared.answers.Turned.{Turned}
@@ -65,10 +65,9 @@ LawOfCancels = (g : Settings) (by : Actor) (timer : TimerRef) → IsRead (Cancel
 abbrev pub LawOfStarts : Type 0
 LawOfStarts = (g : Settings) (by wheel : ℕ) (start : Start) → IsReadBut (Err starts.NoMemory) (Starts g by wheel start)
 
--- so are the milliseconds to which a wheel is advanced, and how many timers expired, in a last turn too
+-- so are the milliseconds to which a wheel is advanced, and how many timers expired
 abbrev pub LawOfAdvances : Type 0
 LawOfAdvances = (g : Settings) (w : ℕ) → IsRead (λ (answer : ℕ × ℕ). Advances g w (Ok answer))
-    × IsRead (λ (answer : ℕ × ℕ). AdvancesAll g w (Ok answer))
 
 -- so is whether a process is alive, and whether it was when it exits
 abbrev pub LawOfMarks : Type 0
@@ -114,11 +113,11 @@ Settles g way = (by process wheel : ℕ) (row : Row) (h m after : List Entry) �
 abbrev pub LawOfExits : Type 0
 LawOfExits = (g : Settings) → Settles g (alone g) × ((a : Actor) → Settles g (beside g a))
 
--- a turn of a kind that was made in a way served 64 at most, and leaves no expired timer to hand over
-abbrev pub EndsTurn : (Settings → Way → ℕ → Result Turned NoMemory → Growth) → Settings → Way → Type 0
-EndsTurn turns g way = (w : ℕ) (t : Turned) (h m : List Entry) → turns g way w (Ok t) h m
+-- a turn that was made in a way served 64 at most, and leaves no expired timer to hand over
+abbrev pub EndsTurn : Settings → Way → Type 0
+EndsTurn g way = (w : ℕ) (t : Turned) (h m : List Entry) → Turns g way w (Ok t) h m
     → (t.served ≤ 64) × (((state g (h ++ m)).scheds w).fired ≡ [])
 
--- so does each turn, alone and beside others, and each last turn
+-- so does each turn, alone and beside others
 abbrev pub LawOfTurns : Type 0
-LawOfTurns = (g : Settings) → EndsTurn Turns g (alone g) × ((a : Actor) → EndsTurn Turns g (beside g a)) × EndsTurn LastTurns g (alone g)
+LawOfTurns = (g : Settings) → EndsTurn g (alone g) × ((a : Actor) → EndsTurn g (beside g a))

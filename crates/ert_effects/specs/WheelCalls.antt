@@ -1,6 +1,6 @@
 -- What the calls that go over the timers of a wheel record and answer.
 
-use Rattle.std.specs.Prelude.{◌≡◌, ◌≢◌, ◌⊎◌, ℕ, suc, ◌+◌, ◌<◌, ◌≤◌, ℤ, Bool, true, false, not, List, [], ◌∷◌, ◌++◌, map, Option, Some, None, Result, Ok, Err}
+use Rattle.std.specs.Prelude.{◌≡◌, ◌≢◌, ◌⊎◌, ℕ, ◌+◌, ◌≤◌, ℤ, Bool, true, false, not, List, [], ◌∷◌, ◌++◌, map, Option, Some, None, Result, Ok, Err}
 use Rattle.ert_defs.specs.Entries.{look_entry, probe_entry, expire_entry, orphan_entry, advanced_entry, mark_entry}
 use Rattle.ert_defs.specs.States.{State}
 use Rattle.ert_defs.specs.Timers.{Row, row_of}
@@ -84,32 +84,6 @@ pub record HasAdvanced (w : ℕ) (answer : ℕ × ℕ) (s : State) (es : List En
 abbrev pub Advances : Settings → ℕ → Result (ℕ × ℕ) NoMemory → State → List Entry → Type 0
 Advances g w (Ok answer) s es = HasAdvanced w answer s es
 Advances g w (Err e) s es = (es ≡ []) ⊎ ((now : ℤ) × (es ≡ look_entry (Sched w) now ∷ []))
-
--- entries that look at slots of a wheel, in order of number and each once at most: from one slot on, and
--- below another
-abbrev pub AreLooks : Actor → ℕ → ℕ → ℕ → List Entry → Type 0
-AreLooks by wheel from to [] = Unit {0}
-AreLooks by wheel from to (e ∷ es) =
-    (slot : ℕ) × (found : Option Status) × (from ≤ slot) × (slot < to) × (e ≡ probe_entry by wheel slot found)
-    × AreLooks by wheel (suc slot) to es
-
--- the same, and before the record the scheduler looks at slots of its wheel, so many at most, for rows that
--- others have settled: a look may find a timer armed
-pub record HasAdvancedAll (slots w : ℕ) (answer : ℕ × ℕ) (s : State) (es : List Entry) : Type 0 where
-  pub now : ℤ
-  pub tries : List Try
-  pub looks : List Entry
-  pub fired : answer.1 ≡ hits tries
-  pub settled : AllSettled tries
-  pub due : AllDue (s.rows w) answer.0 tries
-  pub once : AreOnce tries
-  pub are_looks : AreLooks (Sched w) w 0 slots looks
-  pub entries : es ≡ look_entry (Sched w) now ∷ (expiry_entries w tries ++ (looks ++ advanced_entry w answer.0 ∷ []))
-
--- the advance of a scheduler's last turn
-abbrev pub AdvancesAll : Settings → ℕ → Result (ℕ × ℕ) NoMemory → State → List Entry → Type 0
-AdvancesAll g w (Ok answer) s es = HasAdvancedAll g.slots w answer s es
-AdvancesAll g w (Err e) s es = Advances g w (Err e) s es
 
 -- the entry of a try to cancel a timer of a wheel for the exit of its destination
 abbrev pub orphans_by : ℕ → ℕ → TimerRef → Option (Option Status) → Entry

@@ -37,7 +37,7 @@ pub fn exits_settle_timers()
     ensures { LawOfExits }
 {}
 
-/// After a turn, a last turn too, no expired timer waits at the scheduler, and it served 64 requests at most.
+/// After a turn no expired timer waits at the scheduler, and it served 64 requests at most.
 pub fn turns_deliver_all()
     ensures { LawOfTurns }
 {}

@@ -11,7 +11,7 @@ ghost use Rattle.ert_defs.specs.declared.timer.Status.TheVariants.{Armed, Cancel
 ghost use Rattle.ert_effects.specs.Chains.{Exits, Turns};
 ghost use Rattle.ert_effects.specs.TimerCalls.{Reads, Cancels, Starts};
 ghost use Rattle.ert_effects.specs.Ways.{alone};
-ghost use Rattle.ert_effects.specs.WheelCalls.{Advances, AdvancesAll, Sweeps};
+ghost use Rattle.ert_effects.specs.WheelCalls.{Advances, Sweeps};
 ghost use Rattle.ert_effects.specs.MailCalls.{Takes, Monitors, Tells};
 ghost use Rattle.ert_effects.specs.declared.answers.MonitorErr.TheVariants.{Full as MonitorsFull};
 ghost use Rattle.ert_effects.specs.declared.answers.Taken.TheVariants.{Empty, Exited};
@@ -68,8 +68,7 @@ pub fn turns_are_judged()
 {}
 
 /// An advance answers how many timers expired, and not how many it tried. It tries timers that are due, each once. A
-/// try that missed found its timer settled; the advance of a last turn looks at slots after its tries, once at each,
-/// and may find timers armed.
+/// try that missed found its timer settled.
 pub fn advances_are_judged()
     ensures expired { Advances one 0 (Ok (1, 1)) (state one asked) advancing }
     ensures missed { Advances one 0 (Ok (1, 0)) (state one asked) (missing Cancelled) }
@@ -78,8 +77,6 @@ pub fn advances_are_judged()
     ensures stray { Advances one 0 (Ok (1, 0)) idle (missing Cancelled) → ⊥ }
     ensures early { Advances one 0 (Ok (1, 0)) armed (missing Cancelled) → ⊥ }
     ensures tried_twice { Advances one 0 (Ok (1, 0)) (state one asked) (missing_twice Cancelled) → ⊥ }
-    ensures looked { AdvancesAll one 0 (Ok (1, 0)) (state one asked) (missing Armed) }
-    ensures looked_twice { AdvancesAll one 0 (Ok (1, 0)) (state one asked) (missing_twice Armed) → ⊥ }
 {}
 
 /// A process is told an offset once for each monitor that it is new to. A monitor's number has 32 bits, and

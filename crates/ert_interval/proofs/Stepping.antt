@@ -70,17 +70,16 @@ goes_start a r l n i j b lives answer reads is low look alive starts =
     goes_low a r l n i j b lives answer reads is low look (subst (λ x. StartsWhere x answer l i n j) (sym alive) starts)
 
 pub stays_none : (a : Seen) → Stays a a
-stays_none a = record { settings = refl; next = refl; tidy = λ lone i low tidy. tidy }
+stays_none a = record { settings = refl; next = refl }
 
 pub stays_then : (a b c : Seen) → Stays a b → Stays b c → Stays a c
 stays_then a b c one other = record {
   settings = other.settings ∙ one.settings;
   next = other.next ∙ one.next;
-  tidy = λ lone i low tidy. other.tidy (one.next ∙ lone) i (subst (λ (g : Settings). i < g.schedulers) (sym one.settings) low) (one.tidy lone i low tidy);
 }
 
 pub goes_stays : (a b : Seen) (call : Way → Growth) → Goes a call b → Stays a b
-goes_stays a b call goes = record { settings = goes.settings; next = goes.next; tidy = goes.tidy }
+goes_stays a b call goes = record { settings = goes.settings; next = goes.next }
 
 same_stays : (a b : Seen) → b ≡ a → Stays a b
 same_stays a b same = subst (Stays a) (sym same) (stays_none a)

@@ -15,13 +15,12 @@ use Rattle.ert_interval.specs.Deadlines.{start_at, time_of}
 use Rattle.ert_interval.specs.declared.interval.Interval.{Interval}
 use Rattle.ert_interval.specs.declared.interval.IntervalState.{IntervalState}
 use Rattle.ert_interval.specs.declared.interval.IntervalState.TheVariants.{Running, Waiting, Ended}
-use Rattle.ert_world.specs.Worlds.{Seen, Goes, By, StayTidy}
+use Rattle.ert_world.specs.Worlds.{Seen, Goes, By}
 
--- the settings and the seats of a world stay, and each tidy wheel stays tidy
+-- the settings and the seats of a world stay
 pub record Stays (old new : Seen) : Type 0 where
   pub settings : new.settings ≡ old.settings
   pub next : new.next ≡ old.next
-  pub tidy : StayTidy old new
 
 -- the start of the next timer of an interval
 abbrev pub next_start : Settings → Interval → Start

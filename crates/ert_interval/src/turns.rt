@@ -20,7 +20,7 @@ impl IntervalWorld {
     ghost use Rattle.ert_interval.specs.Going.{Stays, StepsAll, StepsOne};
     ghost use Rattle.ert_interval.specs.Intervals.{AreKept};
     ghost use Rattle.ert_interval.specs.Turns.{TurnsBy};
-    ghost use Rattle.ert_world.specs.Worlds.{Goes, StayTidy};
+    ghost use Rattle.ert_world.specs.Worlds.{Goes};
 
     /// A turn of a scheduler (`World::turn`), and then one step of each interval of its wheel, in order of
     /// number.
@@ -32,7 +32,6 @@ impl IntervalWorld {
         requires sched { sched < self.old.world.settings.schedulers }
         ensures kept { AreKept self.new.world self.new.intervals.items }
         ensures turns { TurnsBy sched result self.old.world self.old.intervals.items self.new.world self.new.intervals.items }
-        ensures tidy { StayTidy self.old.world self.new.world }
     {
         let turned = self.turn_world(sched)?;
         let armed = self.go_on_all(sched)?;

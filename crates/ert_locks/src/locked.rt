@@ -78,6 +78,7 @@ pub(crate) fn meet<P: DeskPart, L: DeskName>(desk: &Desk, part: &P, pass: &mut P
         → Meets L.settings (P.kind.actor (P.kind.number part.now)) a (view_of pass.old) (view_of own.old) (view_of pass.new) }
     ensures sched { (x : _) → Fits L.table L.settings scheds x own.old → scheds.stands (settings_of desk.now) (front_of pass.new) x }
 {
+    // For the prover alone: what is known of a part is known of one that is read.
     let _part = part;
     pass.join(desk, own.take(desk));
 }

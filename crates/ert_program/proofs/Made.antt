@@ -20,19 +20,13 @@ use Rattle.ert_script.specs.declared.output.RunErr.TheVariants.{WriteFault as Ou
 use Rattle.ert_table.specs.Desks.{settings_of, KnowsAll}
 use Rattle.ert_transcript.specs.Labels.{Labels}
 use Rattle.ert_world.specs.Openings.{IsOpened}
-use Rattle.ert_world.specs.Worlds.{Seen, IsTidyAt}
+use Rattle.ert_world.specs.Worlds.{Seen}
 use Rattle.ert_program.proofs.Transcripts.{text_of, is_run, stands_for}
 use Rattle.ert_program.specs.Endings.{end_of}
 use Rattle.ert_program.specs.Generated.{generated}
 use Rattle.ert_program.specs.Inputs.{RanOn}
 use Rattle.ert_program.specs.Streams.{Output}
 use Rattle.ert_program.specs.Stresses.{summary_of, SummaryOf, StopsSummary, HasRun, StressEnds}
-
--- each wheel is tidy after it
-all_tidy : (plan : Plan) (start w : Seen) (after : Labels) → IsOpened plan.settings start → RunsAll start [] plan.ops w after
-    → (i : ℕ) → i < plan.settings.schedulers → IsTidyAt w i
-all_tidy plan start w after opened ran i below =
-    ran.runs.tidy opened.next i (subst (λ (g : Settings). i < g.schedulers) (sym opened.stands.settings) below) (opened.tidy i below)
 
 -- all ops of a plan were done on a world that was opened for it
 pub has_run : (plan : Plan) (start w : Seen) (after : Labels) → IsOpened plan.settings start → RunsAll start [] plan.ops w after → HasRun plan w
@@ -42,7 +36,6 @@ has_run plan start w after opened ran = record {
   is = is_run plan start w ran.replies after opened ran.runs ran.stands;
   stands = stands_for plan.settings start w plan.ops ran.replies after opened ran.runs ran.stands;
   next = ran.runs.next ∙ opened.next;
-  tidy = λ i below. all_tidy plan start w after opened ran i (subst (λ (g : Settings). i < g.schedulers) (ran.runs.settings ∙ opened.stands.settings) below);
 }
 
 -- what is told of the world is the summary of its history

@@ -8,7 +8,6 @@ use Rattle.ert_io.specs.Faults.{Rose}
 use Rattle.ert_io.specs.Told.{Told, TakesFront}
 use Rattle.ert_laws.specs.Counts.{Counts, counts_of}
 use Rattle.ert_scenario.specs.Scenarios.{Plan}
-use Rattle.ert_world.specs.Counted.{AreTidy}
 use Rattle.ert_world.specs.Worlds.{Seen, StandsFor}
 use Rattle.ert_transcript.specs.Counts.{settled_line}
 use Rattle.ert_transcript.specs.Texts.{◌⋅◌, end_line}
@@ -43,11 +42,10 @@ pub record StressEnds (seed n : ℕ) (o p : Output) (e : Ended) : Type 0 where
   pub no_memory : e.status ≡ NoMemory → p ≡ o
   pub only : (e.status ≡ Done) ⊎ (e.status ≡ WriteFault) ⊎ (e.status ≡ NoMemory)
 
--- a world did all ops of a plan, one script run of them, and each of its wheels is tidy
+-- a world did all ops of a plan, one script run of them, and gave out no seat
 pub record HasRun (plan : Plan) (w : Seen) : Type 0 where
   pub history : List Entry
   pub transcript : List ℕ
   pub is : RunOf plan history transcript
   pub stands : StandsFor plan.settings history w
   pub next : w.next ≡ 1
-  pub tidy : AreTidy w

@@ -129,6 +129,7 @@ fn tell(world: &mut World, page: &mut String) -> Result<(), AllocError>
 {
     let now = monotonic_time(world);
     let time = system_time(world);
+    // For the prover alone: the times are those of the history for which the world stands.
     history_stands(world);
     write_times(page, now, time)
 }

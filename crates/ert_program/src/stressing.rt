@@ -5,7 +5,6 @@ ghost use Rattle.ert_program.specs.Generated.{generated};
 ghost use Rattle.ert_program.specs.Inputs.{RanOn};
 ghost use Rattle.ert_io.specs.Faults.{Rose};
 ghost use Rattle.ert_laws.specs.Counts.{counts_of};
-ghost use Rattle.ert_world.specs.Counted.{AreTidy};
 ghost use Rattle.ert_program.specs.Streams.{told_of};
 ghost use Rattle.ert_program.specs.Stresses.{SummaryOf, StopsSummary, summary_of, HasRun};
 
@@ -64,7 +63,7 @@ fn run_generated(alloc: Global, seed: u64, n: u64) -> Result<World, NoMemory>
 
 /// Appends how many timers have which status, and the end line.
 fn write_summary(page: &mut String, world: &World) -> Result<(), AllocError>
-    requires { AreTidy world.now }
+    requires { world.now.next ≡ 1 }
     ensures { OnOk result (string_bytes page.new ≡ string_bytes page.old
         ++ summary_of (counts_of world.now.settings (state world.now.settings world.now.history)) world.now.clock.face.time) }
 {

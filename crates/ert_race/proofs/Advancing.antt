@@ -4,13 +4,13 @@ use Rattle.std.proofs.Common.{◌≡◌, ℕ, suc, ◌+◌, Bool, true, false, c
 use Rattle.std.specs.Prelude.{nat_lt}
 use Rattle.std.proofs.lemmas.List.Elements.{filter-append}
 use Rattle.ert_effects.proofs.Growing.{whole_own}
-use Rattle.ert_effects.specs.Chains.{HoldsBy, Serves, ServesAll, ServesMany, Advance, AdvancesWheel, AdvancesAllOfWheel, Hands, Delivers, HasTurned, HasTurnedBy, Turns, LastTurns, times}
+use Rattle.ert_effects.specs.Chains.{HoldsBy, Serves, ServesAll, ServesMany, AdvancesWheel, Hands, Delivers, HasTurned, Turns, times}
 use Rattle.ert_effects.specs.MailCalls.{handed_entries, HandsOver}
 use Rattle.ert_effects.specs.RequestCalls.{Picks, Answers, DoesAsked, HasAnswered}
 use Rattle.ert_effects.specs.TimerCalls.{read_entries, cancel_entries}
 use Rattle.ert_effects.specs.Ways.{Step, Growth, Way, Then, Many, alone, beside}
-use Rattle.ert_effects.proofs.Advanced.{IsAdvance, advance_is, advance_all_is}
-use Rattle.ert_effects.specs.WheelCalls.{Try, expires_by, expiry_entries, Advances, AdvancesAll}
+use Rattle.ert_effects.proofs.Advanced.{IsAdvance, advance_is}
+use Rattle.ert_effects.specs.WheelCalls.{Try, expires_by, expiry_entries, Advances}
 use Rattle.ert_effects.specs.declared.answers.Handed.{Handed}
 use Rattle.ert_effects.specs.declared.answers.Handed.TheVariants.{Put, Dropped}
 use Rattle.ert_effects.specs.declared.answers.Turned.{Turned}
@@ -135,27 +135,14 @@ module _ (g : Settings) (w : ℕ) (way : Way) (count : List Entry → ℕ) (is :
       step_count way count is (MailOf hands.fired.dest ∷ []) (HandsOver g w hands.fired (Ok how)) h m 0
       (λ s es handed. ap (λ (l : List Entry). advances l) handed ∙ handed_none w hands.fired how) hands.step
 
-  turn_by : (advance : Advance) (t : Turned) (h m : List Entry) → ((answer : ℕ × ℕ) (h m : List Entry) → advance (Ok answer) h m → count m ≡ 1)
-      → HasTurnedBy advance g way w t h m → count m ≡ 1
-  turn_by advance t h m once turned =
-      then_count way count is (ServesAll g way w (Ok t.served)) (Then (advance (Ok (t.to, t.fired))) (Delivers g way w (Ok (t.put, t.dropped)))) h m 0 1
-      (λ h m served. serves_all_none t.served h m served)
-      (λ h m rest. then_count way count is (advance (Ok (t.to, t.fired))) (Delivers g way w (Ok (t.put, t.dropped))) h m 1 0 (once (t.to, t.fired))
-      (λ h m delivered. many_none way count is (λ how. Hands g way w (Ok how)) delivered.hows h m (λ how h m hands. hands_none how h m hands) delivered.runs) rest)
-      turned
-
   turn_count : (t : Turned) (h m : List Entry) → HasTurned g way w t h m → count m ≡ 1
   turn_count t h m turned =
-      turn_by (AdvancesWheel g way w) t h m
-      (λ answer h m made. step_count way count is (Wheel w ∷ []) (Advances g w (Ok answer)) h m 1
-      (λ s es advanced. advanced_once w answer es (advance_is w answer es advanced)) made)
-      turned
-
-  last_turn_count : (t : Turned) (h m : List Entry) → LastTurns g way w (Ok t) h m → count m ≡ 1
-  last_turn_count t h m turned =
-      turn_by (AdvancesAllOfWheel g way w) t h m
-      (λ answer h m made. step_count way count is (Wheel w ∷ []) (AdvancesAll g w (Ok answer)) h m 1
-      (λ s es advanced. advanced_once w answer es (advance_all_is g.slots w answer es advanced)) made)
+      then_count way count is (ServesAll g way w (Ok t.served)) (Then (AdvancesWheel g way w (Ok (t.to, t.fired))) (Delivers g way w (Ok (t.put, t.dropped)))) h m 0 1
+      (λ h m served. serves_all_none t.served h m served)
+      (λ h m rest. then_count way count is (AdvancesWheel g way w (Ok (t.to, t.fired))) (Delivers g way w (Ok (t.put, t.dropped))) h m 1 0
+      (λ h m made. step_count way count is (Wheel w ∷ []) (Advances g w (Ok (t.to, t.fired))) h m 1
+      (λ s es advanced. advanced_once w (t.to, t.fired) es (advance_is w (t.to, t.fired) es advanced)) made)
+      (λ h m delivered. many_none way count is (λ how. Hands g way w (Ok how)) delivered.hows h m (λ how h m hands. hands_none how h m hands) delivered.runs) rest)
       turned
 
   turns_count : (turns : List Turned) (h m : List Entry) → Many (λ t. Turns g way w (Ok t)) turns h m → count m ≡ length turns
@@ -201,8 +188,8 @@ round_count : (g : Settings) (w : ℕ) (turns : List Turned) (h m : List Entry) 
 round_count g w [] h m made = ap (λ (l : List Entry). advances l) made
 round_count g w (t ∷ turns) h m made =
     let both : advances m ≡ 1 + length turns =
-    then_count (alone g) (λ m. advances m) (alone_count g) (LastTurns g (alone g) w (Ok t)) (Round g (suc w) turns) h m 1 (length turns)
-    (λ h m one. last_turn_count g w (alone g) (λ m. advances m) (alone_count g) t h m one) (λ h m rest. round_count g (suc w) turns h m rest) made in
+    then_count (alone g) (λ m. advances m) (alone_count g) (Turns g (alone g) w (Ok t)) (Round g (suc w) turns) h m 1 (length turns)
+    (λ h m one. turn_count g w (alone g) (λ m. advances m) (alone_count g) t h m one) (λ h m rest. round_count g (suc w) turns h m rest) made in
     omega (arith, both)
 
 pub rounds_advance : LawOfRounds

@@ -1,7 +1,7 @@
 -- The last turns of a race: one turn more of a round, and as far as they have come.
 
-use Rattle.std.proofs.Common.{◌≡◌, ℕ, suc, ◌+◌, List, [], ◌∷◌, ◌++◌, length, Ok, refl, sym, ap, subst, ◌∙◌, arith, append-nil, append_assoc, length-append, ◌<◌, ◌≤◌, below_more}
-use Rattle.ert_effects.specs.Chains.{LastTurns}
+use Rattle.std.proofs.Common.{◌≡◌, ℕ, suc, ◌+◌, List, [], ◌∷◌, ◌++◌, length, Ok, refl, sym, ap, subst, ◌∙◌, arith, append-nil, append_assoc, length-append, ◌<◌, ◌≤◌}
+use Rattle.ert_effects.specs.Chains.{Turns}
 use Rattle.ert_effects.specs.Ways.{Grows, alone}
 use Rattle.ert_effects.specs.declared.answers.Turned.{Turned}
 use Rattle.ert_defs.specs.declared.entry.Entry.{Entry}
@@ -13,7 +13,7 @@ use Rattle.ert_race.specs.Reports.{Did}
 use Rattle.ert_ops.specs.Races.{Race}
 use Rattle.ert_race.specs.Ends.{RunsAtOnce, EndsRound, RacesTo}
 use Rattle.ert_transcript.specs.Labels.{Labels}
-use Rattle.ert_world.specs.Worlds.{Seen, Goes, IsTidyAt}
+use Rattle.ert_world.specs.Worlds.{Seen, Goes}
 
 -- the number of the next scheduler
 at_first : (w : ℕ) → w + 0 ≡ w
@@ -23,13 +23,13 @@ at_next : (w n : ℕ) → w + suc n ≡ suc w + n
 at_next w n = omega arith
 
 round_more : (g : Settings) (w : ℕ) (turns : List Turned) (t : Turned) (h m n : List Entry) → Round g w turns h m
-    → LastTurns g (alone g) (w + length turns) (Ok t) (h ++ m) n → Round g w (turns ++ t ∷ []) h (m ++ n)
+    → Turns g (alone g) (w + length turns) (Ok t) (h ++ m) n → Round g w (turns ++ t ∷ []) h (m ++ n)
 round_more g w [] t h m n none one = record {
   before = n;
   after = [];
   joined = ap (λ l. l ++ n) none ∙ sym (append-nil n);
-  one = subst (λ l. LastTurns g (alone g) w (Ok t) l n) (ap (λ l. h ++ l) none ∙ append-nil h)
-      (subst (λ k. LastTurns g (alone g) k (Ok t) (h ++ m) n) (at_first w) one);
+  one = subst (λ l. Turns g (alone g) w (Ok t) l n) (ap (λ l. h ++ l) none ∙ append-nil h)
+      (subst (λ k. Turns g (alone g) k (Ok t) (h ++ m) n) (at_first w) one);
   other = refl;
 }
 round_more g w (first ∷ turns) t h m n round one =
@@ -40,8 +40,8 @@ round_more g w (first ∷ turns) t h m n round one =
       joined = ap (λ l. l ++ n) round.joined ∙ append_assoc round.before round.after n;
       one = round.one;
       other = round_more g (suc w) turns t (h ++ round.before) round.after n round.other
-          (subst (λ l. LastTurns g (alone g) (suc w + length turns) (Ok t) l n) place
-          (subst (λ k. LastTurns g (alone g) k (Ok t) (h ++ m) n) (at_next w (length turns)) one));
+          (subst (λ l. Turns g (alone g) (suc w + length turns) (Ok t) l n) place
+          (subst (λ k. Turns g (alone g) k (Ok t) (h ++ m) n) (at_next w (length turns)) one));
     }
 
 -- no turn, and one more
@@ -49,7 +49,7 @@ round_none : (g : Settings) (f : List Entry) → Grows (MakesRound g 0) f f
 round_none g f = record { piece = []; grown = sym (append-nil f); made = record { turns = []; counted = refl; made = refl } }
 
 round_then : (g : Settings) (n : ℕ) (t : Turned) (f h k : List Entry) → Grows (MakesRound g n) f h
-    → Grows (LastTurns g (alone g) n (Ok t)) h k → Grows (MakesRound g (n + 1)) f k
+    → Grows (Turns g (alone g) n (Ok t)) h k → Grows (MakesRound g (n + 1)) f k
 round_then g n t f h k round one = record {
   piece = round.piece ++ one.piece;
   grown = one.grown ∙ (ap (λ l. l ++ one.piece) round.grown ∙ append_assoc f round.piece one.piece);
@@ -57,20 +57,19 @@ round_then g n t f h k round one = record {
     turns = round.made.turns ++ t ∷ [];
     counted = length-append round.made.turns (t ∷ []) ∙ ap (λ i. i + 1) round.made.counted;
     made = round_more g 0 round.made.turns t f round.piece one.piece round.made.made
-        (subst (λ k. LastTurns g (alone g) k (Ok t) (f ++ round.piece) one.piece) (from_zero n (length round.made.turns) round.made.counted)
-        (subst (λ l. LastTurns g (alone g) n (Ok t) l one.piece) round.grown one.made));
+        (subst (λ k. Turns g (alone g) k (Ok t) (f ++ round.piece) one.piece) (from_zero n (length round.made.turns) round.made.counted)
+        (subst (λ l. Turns g (alone g) n (Ok t) l one.piece) round.grown one.made));
   };
 }
   where
     from_zero : (n i : ℕ) → i ≡ n → n ≡ 0 + i
     from_zero n i is = omega (arith, is)
 
--- so many schedulers have made their last turn, and their wheels are tidy
+-- so many schedulers have made their last turn
 pub record IsRoundSoFar (start : Seen) (n : ℕ) (w : Seen) : Type 0 where
   pub grows : Grows (MakesRound start.settings n) start.history w.history
   pub settings : w.settings ≡ start.settings
   pub next : w.next ≡ start.next
-  pub tidy : (i : ℕ) → i < n → IsTidyAt w i
   pub low : n ≤ start.settings.schedulers
 
 pub so_far_first : (w : Seen) → IsRoundSoFar w 0 w
@@ -78,20 +77,17 @@ so_far_first w = record {
   grows = round_none w.settings w.history;
   settings = refl;
   next = refl;
-  tidy = λ i low. absurd (omega arith);
   low = omega arith;
 }
 
 -- one scheduler more
 pub so_far_more : (start v w : Seen) (n : ℕ) (t : Turned) → start.next ≡ 1 → n < start.settings.schedulers → IsRoundSoFar start n v
-    → Goes v (λ way. LastTurns v.settings way n (Ok t)) w → IsTidyAt w n → IsRoundSoFar start (n + 1) w
-so_far_more start v w n t alone_is low far goes tidy = record {
+    → Goes v (λ way. Turns v.settings way n (Ok t)) w → IsRoundSoFar start (n + 1) w
+so_far_more start v w n t alone_is low far goes = record {
   grows = round_then start.settings n t start.history v.history w.history far.grows
-      (subst (λ (g : Settings). Grows (LastTurns g (alone g) n (Ok t)) v.history w.history) far.settings (goes.lone (far.next ∙ alone_is)));
+      (subst (λ (g : Settings). Grows (Turns g (alone g) n (Ok t)) v.history w.history) far.settings (goes.lone (far.next ∙ alone_is)));
   settings = goes.settings ∙ far.settings;
   next = goes.next ∙ far.next;
-  tidy = below_more (IsTidyAt w) n
-      (λ i less. goes.tidy (far.next ∙ alone_is) i (subst (λ (g : Settings). i < g.schedulers) (sym far.settings) (omega (arith, less, low))) (far.tidy i less)) tidy;
   low = omega (arith, low);
 }
 
@@ -102,7 +98,6 @@ ends start w n over far =
       grows = subst (λ k. Grows (MakesRound start.settings k) start.history w.history) all far.grows;
       settings = far.settings;
       next = far.next;
-      tidy = λ i low. far.tidy i (subst (λ k. i < k) (sym all) (subst (λ (g : Settings). i < g.schedulers) far.settings low));
     }
 
 -- a race is what all do at once, and then the last turns
@@ -115,5 +110,4 @@ races_to old seen v w labels race dids same one last =
           (subst (λ (g : Settings). Grows (MakesRound g g.schedulers) v.history w.history) one.settings last.grows);
       settings = last.settings ∙ one.settings;
       next = last.next ∙ one.next;
-      tidy = last.tidy;
     })

@@ -6,7 +6,6 @@ use Rattle.ert_ops.specs.Races.{Race}
 use Rattle.ert_race.specs.Made.{MakesRound}
 use Rattle.ert_race.specs.Outcomes.{ActAtOnce, Races}
 use Rattle.ert_race.specs.Reports.{Did}
-use Rattle.ert_world.specs.Counted.{AreTidy}
 use Rattle.ert_transcript.specs.Labels.{Labels}
 use Rattle.ert_world.specs.Worlds.{Seen}
 
@@ -16,16 +15,14 @@ pub record RunsAtOnce (old : Seen) (labels : Labels) (race : Race) (dids : List 
   pub settings : new.settings ≡ old.settings
   pub next : new.next ≡ old.next
 
--- each scheduler of a world makes a turn, and then all wheels are tidy
+-- each scheduler of a world makes a turn
 pub record EndsRound (old new : Seen) : Type 0 where
   pub grows : Grows (MakesRound old.settings old.settings.schedulers) old.history new.history
   pub settings : new.settings ≡ old.settings
   pub next : new.next ≡ old.next
-  pub tidy : AreTidy new
 
--- the history of a world grows by a race, with these labels, and then all wheels are tidy
+-- the history of a world grows by a race, with these labels
 pub record RacesTo (old : Seen) (labels : Labels) (race : Race) (dids : List Did) (new : Seen) : Type 0 where
   pub grows : Grows (Races old.settings labels race dids) old.history new.history
   pub settings : new.settings ≡ old.settings
   pub next : new.next ≡ old.next
-  pub tidy : AreTidy new

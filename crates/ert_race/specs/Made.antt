@@ -1,7 +1,7 @@
 -- What an actor makes in a stretch of a history, beside others, and what each scheduler makes alone.
 
 use Rattle.std.specs.Prelude.{◌≡◌, ℕ, suc, List, [], ◌∷◌, ◌++◌, length, Ok}
-use Rattle.ert_effects.specs.Chains.{Turns, LastTurns}
+use Rattle.ert_effects.specs.Chains.{Turns}
 use Rattle.ert_effects.specs.Ways.{Growth, Then, Many, alone, beside}
 use Rattle.ert_effects.specs.declared.answers.Turned.{Turned}
 use Rattle.ert_defs.specs.Actors.{IsFree}
@@ -24,12 +24,12 @@ pub record MakesTurns (g : Settings) (w count : ℕ) (h stretch : List Entry) : 
   pub counted : length turns ≡ count
   pub makes : Makes (Sched w) (Many (λ t. Turns g (beside g (Sched w)) w (Ok t)) turns) h stretch
 
--- a last turn of each scheduler from one on, alone, in order of number
+-- a turn of each scheduler from one on, alone, in order of number
 abbrev pub Round : Settings → ℕ → List Turned → Growth
 Round g w [] h m = m ≡ []
-Round g w (t ∷ turns) h m = Then (LastTurns g (alone g) w (Ok t)) (Round g (suc w) turns) h m
+Round g w (t ∷ turns) h m = Then (Turns g (alone g) w (Ok t)) (Round g (suc w) turns) h m
 
--- each of the first so many schedulers makes a last turn, alone
+-- each of the first so many schedulers makes a turn, alone
 pub record MakesRound (g : Settings) (count : ℕ) (h m : List Entry) : Type 0 where
   pub turns : List Turned
   pub counted : length turns ≡ count

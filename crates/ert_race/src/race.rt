@@ -91,6 +91,7 @@ fn run_at_once<L: DeskName + Send + Sync, R: Threads + Wait + Sync, G: Gate + Sy
     let scheds = scheds?;
     let (callers, lists) = callers?;
     let world = service.close(rest, scheds, callers);
+    // For the prover alone: the history of the world is legal.
     history_stands(&world);
     Ok(RaceEnd { world, lists })
 }

@@ -7,7 +7,6 @@ ghost use Rattle.ert_ops.specs.Races.{IsRace, race_of};
 ghost use Rattle.ert_ops.specs.Ranges.{IsInRange};
 ghost use Rattle.ert_race.specs.Lists.{dids_of};
 ghost use Rattle.ert_race.specs.Written.{RacesOn, StopsRace, report_behind};
-ghost use Rattle.ert_world.specs.Counted.{AreTidy};
 
 use crate::gates::Gate;
 use crate::race::{RaceEnd, race_on};
@@ -54,6 +53,7 @@ pub fn run_race<R: Threads + Wait + Sync, G: Gate + Sync, O: Sink>(
     let Ok(end) = race_on(rt, alloc, world, &labels, race, gate) else {
         return Err(RunErr::NoMemory);
     };
+    // For the prover alone: the report is told of a world that stands for its history.
     history_stands(&end.world);
     let Ok(mut page) = report_page(alloc, labels, &end) else {
         return Err(RunErr::NoMemory);
@@ -64,7 +64,7 @@ pub fn run_race<R: Threads + Wait + Sync, G: Gate + Sync, O: Sink>(
 
 /// The report behind the lines of the ops, which bound these labels.
 fn report_page(alloc: Global, mut labels: LabelMap, end: &RaceEnd) -> Result<String, NoMemory>
-    requires { AreTidy end.now.world }
+    requires { end.now.world.next ≡ 1 }
     ensures { IfOk result (λ page. string_bytes page ≡ report_behind end.now.world labels (dids_of end.now.lists.items)) }
 {
     name_all(&mut labels, &end.lists)?;

@@ -17,7 +17,7 @@ pub grows_alone : (old new : Seen) (call : Way → Growth) → Goes old call new
 grows_alone old new call goes lone = goes.lone lone
 
 pub stays_alone : (old new : Seen) (call : Way → Growth) → Goes old call new → StaysAlone old new
-stays_alone old new call goes = record { settings = goes.settings; next = goes.next; tidy = goes.tidy }
+stays_alone old new call goes = record { settings = goes.settings; next = goes.next }
 
 module _ (old new : Seen) (ls : Labels) (op : Op) (timer : TimerRef) (of : IsTimerOf ls op timer) (stays : StaysAlone old new) where
   -- an op was done, and its label bound
@@ -28,12 +28,11 @@ module _ (old new : Seen) (ls : Labels) (op : Op) (timer : TimerRef) (of : IsTim
     settings = stays.settings;
     next = stays.next;
     labels = bound;
-    tidy = stays.tidy;
   }
 
   -- there was no memory for its call
   pub fails_with : (e : NoMemory) → IsAnswered old.settings (alone old.settings) 0 op timer (Err e) old.history new.history → Fails old ls op new
-  fails_with e answered = record { grows = answered.fails ls of; settings = stays.settings; next = stays.next; tidy = stays.tidy }
+  fails_with e answered = record { grows = answered.fails ls of; settings = stays.settings; next = stays.next }
 
   -- there was none for its label
   pub breaks_with : (reply : Reply) → IsAnswered old.settings (alone old.settings) 0 op timer (Ok reply) old.history new.history → HasStarted op reply
@@ -42,5 +41,4 @@ module _ (old new : Seen) (ls : Labels) (op : Op) (timer : TimerRef) (of : IsTim
     grows = unbound old.settings (alone old.settings) 0 ls op reply old.history new.history has (answered.does ls of);
     settings = stays.settings;
     next = stays.next;
-    tidy = stays.tidy;
   }

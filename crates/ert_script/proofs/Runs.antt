@@ -71,7 +71,7 @@ lines_more g ls (o ∷ list) rs after h m op r ran =
 
 -- before the first op a world has done nothing
 pub runs_none : (w : Seen) (ls : Labels) → Runs w ls [] [] w ls
-runs_none w ls = record { grows = record { piece = []; grown = sym (append-nil w.history); made = (refl, refl, refl) }; settings = refl; next = refl; tidy = λ lone i below tidy. tidy }
+runs_none w ls = record { grows = record { piece = []; grown = sym (append-nil w.history); made = (refl, refl, refl) }; settings = refl; next = refl }
 
 -- a run and one more op
 pub runs_more : (start v w : Seen) (ls before after : Labels) (list : List Op) (rs : List Reply) (op : Op) (r : Reply) → Runs start ls list rs v before
@@ -92,7 +92,6 @@ runs_more start v w ls before after list rs op r ran done =
       };
       settings = done.settings ∙ ran.settings;
       next = done.next ∙ ran.next;
-      tidy = λ lone i below tidy. done.tidy (ran.next ∙ lone) i (subst (λ (x : Settings). i < x.schedulers) (sym ran.settings) below) (ran.tidy lone i below tidy);
     }
 
 -- the ops of a list were done, and came to a world and labels; a first part of their lines was written, and this

@@ -36,6 +36,7 @@ pub fn run_ops<K: Sink>(
     ensures later { K.faults sink.old ≤ K.faults sink.new }
     ensures cause { IsErrOf result RunErr.WriteFault → Rose (K.faults sink.old) (K.faults sink.new) }
 {
+    // For the prover alone, here and after each op: what is written is told of a world that stands for its history.
     history_stands(world);
     let mut page = String::new(alloc);
     for op in ops {
@@ -58,6 +59,7 @@ pub fn do_ops(world: &mut World, labels: &mut LabelMap, ops: &[Op]) -> Result<()
     ensures ok { OnOk result (RunsAll world.old labels.old ops.now world.new labels.new) }
     ensures err { OnErr result (RunsSome world.old labels.old ops.now world.new labels.new) }
 {
+    // For the prover alone, here and after each op: the world stands for its history.
     history_stands(world);
     for op in ops {
         reply_op(world, labels, op)?;

@@ -87,5 +87,5 @@ impl Doer for World {
         World::tell(self, process)
     }
 
-    ghost same = { λ w. record { settings = refl; next = refl; tidy = λ lone i below tidy. tidy } };
+    ghost same = { λ w. record { settings = refl; next = refl } };
 }

@@ -105,6 +105,7 @@ fn asker_of<L: DeskName>(seat: &SchedSeat<L>, request: &Request) -> u32
     ensures value { result ≡ request.now.reply_to }
     ensures in_range { result < L.settings.processes }
 {
+    // For the prover alone: what is known of a seat is known of one that is read.
     let _seat = seat;
     request.reply_to
 }
@@ -115,6 +116,7 @@ fn destination_of<L: DeskName>(seat: &SchedSeat<L>, fired: &Fired) -> u32
     ensures value { result ≡ fired.now.dest }
     ensures in_range { result < L.settings.processes }
 {
+    // For the prover alone: what is known of a seat is known of one that is read.
     let _seat = seat;
     fired.dest
 }

@@ -106,7 +106,8 @@ impl<L: DeskName> Service<L> {
     }
 
     /// Closes the service: the passes are joined, the parts are taken from their locks, and a world is put
-    /// together of them. No entry is made, and no memory is taken.
+    /// together of them, whose wheels lose the rows of the timers that were cancelled. No entry is made, and no memory is
+    /// taken.
     ///
     /// It takes the pass that `open` gave and all seats, in order of number. The world's history begins with
     /// what each of them knew, and has no other entries of a seat's actor. It is legal, and keeps the laws of time, of

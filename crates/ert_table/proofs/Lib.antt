@@ -5,6 +5,7 @@ pub mod Joins
 pub mod WordPlaces
 pub mod FirstHolds
 pub mod Closings
+pub mod WholeLoads
 pub mod WordSteps
 pub mod ClockActs
 pub mod ProcessActs

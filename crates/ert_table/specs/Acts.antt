@@ -60,6 +60,10 @@ Compared g step me e n now = (now.1 ≡ []) × (now.0.settings ≡ me.0.settings
 abbrev pub Meets : Settings → Sitter → Sitter → Type 0
 Meets g me now = (now ≡ me) × HasMet me.0.met me.0.front × Legal g me.0.front
 
+-- the pass is as it was, and its front is legal and gives the word that was found
+abbrev pub Sees : Settings → Step (Unit {0}) → Sitter → ℕ → Sitter → Type 0
+Sees g step me n now = (now ≡ me) × Legal g me.0.front × (word_of g (state g me.0.front) step.word ≡ n)
+
 -- an entry that nobody uses
 abbrev pub any_entry : Entry
 any_entry = record { by = Keeper; with = None; event = Look (pos 0) }

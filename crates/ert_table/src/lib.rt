@@ -53,6 +53,7 @@
 //! | `load_offset` | loads it | Off, Watch, Tell |
 //! | `arm` | stores a slot | Arm |
 //! | `load_timer` | loads one | Probe, Peek |
+//! | `see_timer` | loads one, with the pass that holds every actor | none |
 //! | `settle` | exchanges one, if it is as expected | Cancel, Expire, Orphan, Deliver, Drop; on a miss Cancel or Probe |
 //! | `mark` | ors 1 into the word of a process that exits, and else loads it | Mark |
 //!
@@ -73,6 +74,7 @@ mod passes;
 mod places;
 mod plays;
 mod process_steps;
+mod seeing;
 mod timer_steps;
 mod view;
 

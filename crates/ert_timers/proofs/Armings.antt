@@ -1,6 +1,6 @@
 -- A timer is armed in a slot that a part holds free.
 
-use Rattle.std.proofs.Common.{◌≡◌, ◌≢◌, ℕ, zero, suc, ◌+◌, ◌<◌, Bool, true, false, cond, ◌&&◌, nat_eq, max, List, [], ◌∷◌, ◌++◌, length, Option, Some, None, inl, inr, refl, sym, ap, subst, ◌∙◌, arith, set, get_or-set_same, get_or-set_other, length-append, eq-eqb, ne_eqb}
+use Rattle.std.proofs.Common.{◌≡◌, ◌≢◌, ℕ, zero, suc, ◌+◌, ◌<◌, Bool, true, false, cond, ◌&&◌, nat_eq, max, List, [], ◌∷◌, ◌++◌, length, Option, Some, None, Result, Ok, inl, inr, refl, sym, ap, subst, ◌∙◌, arith, set, get_or-set_same, get_or-set_other, length-append, eq-eqb, ne_eqb}
 use Rattle.std.proofs.lemmas.Bool.{cases_eq}
 use Rattle.std.proofs.lemmas.List.{length-set}
 use Rattle.std.specs.FinSet as sets
@@ -17,24 +17,23 @@ use Rattle.ert_defs.specs.declared.entry.Actor.TheVariants.{Wheel, Caller}
 use Rattle.ert_defs.specs.declared.entry.Entry.{Entry}
 use Rattle.ert_defs.specs.declared.settings.Settings.{Settings}
 use Rattle.ert_defs.specs.declared.timer.Start.{Start}
-use Rattle.ert_defs.specs.declared.timer.Status.TheVariants.{Armed, Expired}
+use Rattle.ert_defs.specs.declared.timer.Status.TheVariants.{Armed}
 use Rattle.ert_defs.specs.declared.timer.TimerRef.{TimerRef}
 use Rattle.ert_table.specs.Takes.{Appends, MayStep}
 use Rattle.ert_table.specs.declared.view.View.{View}
 use Rattle.ert_table.proofs.Parts.{stepped}
 use Rattle.ert_timers.specs.Changes.{IsFree, kept, slot_for}
 use Rattle.ert_laws.specs.Counts.{is_arm, is_expire, is_orphan}
-use Rattle.ert_timers.specs.Parts.{HoldsCaller, Part, HoldsRows, Stands, slot_at, last_timer, held_row, unused}
+use Rattle.ert_timers.specs.Parts.{HoldsCaller, IsLive, Part, HoldsRows, Stands, slot_at, last_timer, held_row, unused}
 use Rattle.ert_timers.specs.Starting.{Arms, HoldsTimer, IsUseFor}
-use Rattle.ert_timers.specs.Tidy.{KeepsTidy}
+use Rattle.ert_timers.specs.Passed.{GainsOne}
 use Rattle.ert_timers.specs.Slots.{Slot}
 use Rattle.ert_timers.specs.declared.part.Use.{Use}
 use Rattle.ert_timers.proofs.Keeping.{key_kept, key_new}
-use Rattle.ert_timers.proofs.Later.{IsLater, later_before, unexpired_before}
+use Rattle.ert_timers.proofs.Later.{IsLater, later_before, live_before}
 use Rattle.ert_timers.proofs.NextUses.{use_of, told_of, new_generation, old_apart}
 use Rattle.ert_timers.proofs.Rows.{row_wheel}
 use Rattle.ert_timers.proofs.Standing.{clock_at, clock_stepped, count_same, same_since}
-use Rattle.ert_timers.proofs.Tidied.{next_whole, stays_armed}
 use Rattle.ert_timers.proofs.Tried.{count_more}
 use Rattle.ert_wheel.specs.Rows.{key_in}
 use Rattle.ert_wheel.specs.declared.row.Key.{Key}
@@ -103,12 +102,12 @@ armed_next g s by w wanted deadline timer start wheel due told =
 -- the rows that are held, with the new one
 rows_armed : (g : Settings) (h : List Entry) (w k : ℕ) (slots : List Slot) (keys : List (Option Key)) (slot : Slot) (key : Key) (s t : State)
     (timer : TimerRef) (row : Row) → Legal g h → HoldsRows (state g h) w slots keys → IsLater w (state g h) s
-    → ((j : ℕ) (seen : Key) → key_in keys j ≡ Some seen → s.status (last_timer w slots j) ≢ Some Expired) → IsArmed w s t timer row
+    → ((j : ℕ) (seen : Key) → key_in keys j ≡ Some seen → IsLive (s.status (last_timer w slots j))) → IsArmed w s t timer row
     → timer ≡ last_timer w (set slots k slot) k → row ≡ held_row w (set slots k slot) k key → key.order ≡ length ((state g h).rows w)
     → k < length slots → k < length keys → key_in keys k ≡ None
     → ((n : ℕ) (x : Row) → slice_get ((state g h).rows w) n ≡ Some x → x.timer ≢ timer)
     → HoldsRows t w (set slots k slot) (set keys k (Some key))
-rows_armed g h w k slots keys slot key s t timer row legal holds later unexpired armed named row_is order low wide vacant fresh = record {
+rows_armed g h w k slots keys slot key s t timer row legal holds later live armed named row_is order low wide vacant fresh = record {
   each = λ j seen is.
       elim (cases_eq j k) [
         | inl here ↦
@@ -127,17 +126,16 @@ rows_armed g h w k slots keys slot key s t timer row legal holds later unexpired
               kind = x.kind;
             } in Some r) (sym (get_or-set_other slots k j slot unused other)))
       ];
-  unexpired = λ j seen is.
+  live = λ j seen is.
       elim (cases_eq j k) [
-        | inl here ↦ λ expired.
-            (let armed_here : t.status (last_timer w (set slots k slot) j) ≡ Some Armed =
+        | inl here ↦
+            let armed_here : t.status (last_timer w (set slots k slot) j) ≡ Some Armed =
             ap t.status (ap (last_timer w (set slots k slot)) here ∙ sym named) ∙ armed.here in
-            cc)
+            subst IsLive (sym armed_here) tt
         | inr other ↦
             let same : last_timer w (set slots k slot) j ≡ last_timer w slots j = kept_timer j other in
             let apart : last_timer w slots j ≢ timer = λ e. other (ap (λ (r : TimerRef). r.slot) (e ∙ named)) in
-            λ expired. unexpired j seen (key_kept keys k j key seen wide is other)
-            (sym (armed.other (last_timer w slots j) apart) ∙ (ap t.status (sym same) ∙ expired))
+            subst IsLive (sym (ap t.status same ∙ armed.other (last_timer w slots j) apart)) (live j seen (key_kept keys k j key seen wide is other))
       ];
   armed = λ n x at is.
       elim (place_of ((state g h).rows w) row n x (ap (λ rows. slice_get rows n) (sym rows_are) ∙ at)) [
@@ -163,38 +161,19 @@ rows_armed g h w k slots keys slot key s t timer row legal holds later unexpired
     kept_timer j other = ap (λ (x : Slot). let r : TimerRef = record { wheel = w; slot = j; generation = x.generation } in r)
         (get_or-set_other slots k j slot unused other)
 
--- its own timer is armed then
-armed_self : (g : Settings) (s : State) (by : ℕ) (timer : TimerRef) (start : Start)
-    → (next g s (arm_entry by timer start)).status timer ≡ Some Armed
-armed_self g s by timer start =
-    let self : nat_eq timer.wheel timer.wheel ≡ true = eq-eqb timer.wheel timer.wheel refl in
-    ap (λ b. cond ((nat_eq timer.wheel timer.wheel) && b) (Some Armed) (s.status timer)) (same_timer_self timer) ∙ rw self refl
-
--- a tidy part stays so
-tidy_armed : (g : Settings) (v : View) (by : ℕ) (p : Part) (k : ℕ) (coming : Use) (start : Start) (timer : TimerRef) (u : View)
-    → Appends g v (arm_entry by timer start) u
+-- no row has come but that of the timer
+gains_armed : (p : Part) (k : ℕ) (coming : Use) (start : Start) (timer : TimerRef)
     → timer ≡ last_timer p.number (set p.slots k (slot_for coming (slot_at p.slots k).above start)) k → k < length p.keys
-    → KeepsTidy g v p (kept p k start coming) u
-tidy_armed g v by p k coming start timer u step named wide whole tidy j seen is =
+    → GainsOne p (kept p k start coming) (Ok timer)
+gains_armed p k coming start timer named wide j seen is =
     let slot : Slot = slot_for coming (slot_at p.slots k).above start in
-    let slots : List Slot = set p.slots k slot in
-    let e : Entry = arm_entry by timer start in
-    let s : State = state g v.front in
-    let goes : (r : TimerRef) → (state g u.front).status r ≡ (next g s e).status r =
-    λ r. ap (λ (t : State). t.status r) (next_whole g v e u whole step) in
     elim (cases_eq j k) [
-      | inl here ↦
-          ap (λ n. (state g u.front).status (last_timer p.number slots n)) here
-          ∙ (ap (state g u.front).status (sym named) ∙ (goes timer ∙ armed_self g s by timer start))
-      | inr other ↦
-          let r : TimerRef = last_timer p.number p.slots j in
-          let same : last_timer p.number slots j ≡ r =
-          ap (λ (x : Slot). let t : TimerRef = record { wheel = p.number; slot = j; generation = x.generation } in t)
-          (get_or-set_other p.slots k j slot unused other) in
-          ap (state g u.front).status same
-          ∙ (goes r
-          ∙ stays_armed r (has_actor e (Wheel r.wheel)) (s.status r) e.event refl
-          (tidy j seen (key_kept p.keys k j (record { deadline = coming.deadline; order = p.arms }) seen wide is other)))
+      | inl here ↦ inr (ap (λ (t : TimerRef). Ok t) (named ∙ ap (last_timer p.number (set p.slots k slot)) (sym here)))
+      | inr other ↦ inl (
+        key_kept p.keys k j (record { deadline = coming.deadline; order = p.arms }) seen wide is other,
+        ap (λ (x : Slot). let t : TimerRef = record { wheel = p.number; slot = j; generation = x.generation } in t)
+            (get_or-set_other p.slots k j slot unused other),
+      )
     ]
 
 -- the part stands with the new timer
@@ -248,7 +227,7 @@ arms g v by p q k coming start timer u stands holds free can part timer_is step 
           wide = length-set p.keys k (Some key) ∙ stands.holds.wide;
           rows = rows_armed g v.front w k p.slots p.keys slot key s (state g u.front) timer row stands.legal stands.holds.rows later
               (λ j seen is.
-              unexpired_before g v (arm_entry by timer start) u (last_timer w p.slots j) step holds.wheel (stands.holds.rows.unexpired j seen is))
+              live_before g v (arm_entry by timer start) u (last_timer w p.slots j) step holds.wheel (stands.holds.rows.live j seen is))
               armed named row_is stands.holds.arms free.low wide free.vacant
               (old_apart g v.front w k (use_of g (state g v.front) by w k start coming can) timer stands.legal can.can slot_is generation);
           lasts = λ j high.
@@ -305,7 +284,7 @@ arms g v by p q k coming start timer u stands holds free can part timer_is step 
       }));
       dest = ap (λ (x : Part). (slot_at x.slots timer.slot).dest) part
           ∙ (ap (λ n. (slot_at (set p.slots k slot) n).dest) slot_is ∙ ap (λ (x : Slot). x.dest) slot_same);
-      tidy = subst (λ (x : Part). KeepsTidy g v p x u) (sym part) (tidy_armed g v by p k coming start timer u step named wide);
+      rows = subst (λ (x : Part). GainsOne p x (Ok timer)) (sym part) (gains_armed p k coming start timer named wide);
     }
   where
     above_is : (j : ℕ) → j < g.slots → j ≡ k → (slot_at p.slots k).above ≡ (state g (v.front ++ step.between)).above p.number timer.slot

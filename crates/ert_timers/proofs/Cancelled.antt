@@ -23,7 +23,7 @@ use Rattle.ert_timers.specs.Laws.{LawOfCancels}
 use Rattle.ert_timers.specs.Parts.{Part, last_timer, held_row}
 use Rattle.ert_timers.specs.Tidy.{IsTidy}
 use Rattle.ert_timers.proofs.Later.{later_entry}
-use Rattle.ert_timers.proofs.Tidied.{settles, stays_armed}
+use Rattle.ert_timers.proofs.StayArmed.{settles, stays_armed}
 use Rattle.ert_timers.proofs.Tried.{held_found}
 use Rattle.ert_wheel.specs.Rows.{key_in}
 use Rattle.ert_wheel.specs.declared.row.Key.{Key}

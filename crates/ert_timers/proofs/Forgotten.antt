@@ -9,7 +9,7 @@ use Rattle.ert_defs.specs.declared.settings.Settings.{Settings}
 use Rattle.ert_defs.specs.declared.timer.Status.TheVariants.{Armed}
 use Rattle.ert_timers.specs.Changes.{dropped, reused}
 use Rattle.ert_timers.specs.Parts.{Part, Stands, last_timer}
-use Rattle.ert_timers.proofs.Later.{IsLater}
+use Rattle.ert_timers.proofs.Later.{IsLater, live_unexpired}
 use Rattle.ert_timers.proofs.Rows.{key_left, rows_dropped}
 use Rattle.ert_timers.proofs.Standing.{holds_back, holds_with, takes_none}
 use Rattle.ert_wheel.specs.Rows.{key_in}
@@ -41,6 +41,7 @@ forgot g h p k key stands in_range held settled =
       legal = stands.legal;
       holds = holds_with g s s p (set p.keys k None) p.expires p.orphans stands.holds later (omega arith) (length-set p.keys k None)
           (rows_dropped g h p.number p.slots p.keys s stands.legal stands.holds.rows later k low settled
-          (λ j seen is. stands.holds.rows.unexpired j seen (key_left p.keys k j seen low is).1));
+          (λ j seen is. stands.holds.rows.live j seen (key_left p.keys k j seen low is).1));
       counted = record { arms = stands.counted.arms; expires = stands.counted.expires; orphans = stands.counted.orphans };
-    }) in_range (takes_none (s.status (last_timer p.number p.slots k)) settled (stands.holds.rows.unexpired k key held))
+    }) in_range (takes_none (s.status (last_timer p.number p.slots k)) settled
+    (live_unexpired (s.status (last_timer p.number p.slots k)) (stands.holds.rows.live k key held)))

@@ -23,6 +23,7 @@ use Rattle.ert_table.specs.Takes.{Appends}
 use Rattle.ert_table.proofs.Parts.{stepped}
 use Rattle.ert_table.specs.declared.view.View.{View}
 use Rattle.ert_laws.specs.Counts.{entries_of, is_arm}
+use Rattle.ert_timers.specs.Parts.{IsLive}
 
 -- a later state in which no timer of a wheel was armed since
 pub record IsLater (w : ℕ) (s t : State) : Type 0 where
@@ -165,51 +166,106 @@ unexpired_event r b x (Deliver timer) unmet h = cond_not (same_timer timer r) x 
 unexpired_event r b x (Drop timer) unmet h = cond_not (same_timer timer r) x (handed_as Dropped x) (Some Expired) (handed_not Dropped x h) h
 unexpired_event r b x _ unmet h = h
 
+-- whether an event lets a timer expire, or cancels it for an exit
+abbrev pub ends : Event → TimerRef → Bool
+ends (Expire timer) r = same_timer timer r
+ends (Orphan timer) r = same_timer timer r
+ends _ r = false
+
+cond_live : (b : Bool) (x y : Option Status) → IsLive y → IsLive x → IsLive (cond b y x)
+cond_live true x y h k = h
+cond_live false x y h k = k
+
+cancelled_live : (x : Option Status) → IsLive x → IsLive (settled_as Cancelled x)
+cancelled_live (Some Armed) h = tt
+cancelled_live (Some Cancelled) h = tt
+cancelled_live None h = absurd h
+cancelled_live (Some Expired) h = absurd h
+cancelled_live (Some Delivered) h = absurd h
+cancelled_live (Some Orphaned) h = absurd h
+cancelled_live (Some Dropped) h = absurd h
+
+handed_live : (to : Status) (x : Option Status) → IsLive x → IsLive (handed_as to x)
+handed_live to (Some Armed) h = tt
+handed_live to (Some Cancelled) h = tt
+handed_live to None h = absurd h
+handed_live to (Some Expired) h = absurd h
+handed_live to (Some Delivered) h = absurd h
+handed_live to (Some Orphaned) h = absurd h
+handed_live to (Some Dropped) h = absurd h
+
+-- no other event ends a timer that is armed or was cancelled
+live_event : (r : TimerRef) (b : Bool) (x : Option Status) (event : Event) → ends event r ≡ false → IsLive x → IsLive (status_after r b x event)
+live_event r b x (Arm timer start) unmet h = cond_live (b && same_timer timer r) x (Some Armed) tt h
+live_event r b x (Cancel timer left) unmet h = cond_live (same_timer timer r) x (settled_as Cancelled x) (cancelled_live x h) h
+live_event r b x (Expire timer) unmet h = rw unmet h
+live_event r b x (Orphan timer) unmet h = rw unmet h
+live_event r b x (Deliver timer) unmet h = cond_live (same_timer timer r) x (handed_as Delivered x) (handed_live Delivered x h) h
+live_event r b x (Drop timer) unmet h = cond_live (same_timer timer r) x (handed_as Dropped x) (handed_live Dropped x h) h
+live_event r b x _ unmet h = h
+
+-- such a timer hasn't expired
+pub live_unexpired : (x : Option Status) → IsLive x → x ≢ Some Expired
+live_unexpired x live is = subst IsLive is live
+
 or_second : (x y : Bool) → (x || y) ≡ false → y ≡ false
 or_second true y h = absurd cc
 or_second false y h = h
 
--- and this one is made with the wheel of the timer
-expires_not : (g : Settings) (by : Actor) (with : Option Actor) (event : Event) (r : TimerRef) → Keeps g by with event
-    → (same_actor by (Wheel r.wheel) || is_with with (Wheel r.wheel)) ≡ false → expires event r ≡ false
-expires_not g by with (Expire timer) r keeps free = at (same_timer timer r) refl
+-- and such an event is made with the wheel of the timer
+with_other : (by : Actor) (with : Option Actor) (timer r : TimerRef) → with ≡ Some (Wheel timer.wheel)
+    → (same_actor by (Wheel r.wheel) || is_with with (Wheel r.wheel)) ≡ false → same_timer timer r ≡ false
+with_other by with timer r is free = at (same_timer timer r) refl
   where
     at : (b : Bool) → same_timer timer r ≡ b → same_timer timer r ≡ false
-    at true is =
-        let same : timer ≡ r = same_timer-true timer r is in
+    at true same_is =
+        let same : timer ≡ r = same_timer-true timer r same_is in
         let own : is_with with (Wheel r.wheel) ≡ true =
-        ap (λ x. is_with x (Wheel r.wheel)) keeps.1 ∙ eq-eqb timer.wheel r.wheel (ap (λ (t : TimerRef). t.wheel) same) in
+        ap (λ x. is_with x (Wheel r.wheel)) is ∙ eq-eqb timer.wheel r.wheel (ap (λ (t : TimerRef). t.wheel) same) in
         let none : is_with with (Wheel r.wheel) ≡ false = or_second (same_actor by (Wheel r.wheel)) _ free in
         absurd cc
-    at false is = is
-expires_not g by with _ r keeps free = refl
+    at false other = other
 
-pub unexpired_free : (g : Settings) (r : TimerRef) (s : State) (m : List Entry) → LegalFrom g s m → IsFree m (Wheel r.wheel)
-    → s.status r ≢ Some Expired → (run g s m).status r ≢ Some Expired
-unexpired_free g r s [] legal free h = h
-unexpired_free g r s (e ∷ m) legal free h =
-    unexpired_free g r (next g s e) m legal.1 (free_rest (Wheel r.wheel) e m free)
-    (unexpired_event r (has_actor e (Wheel r.wheel)) (s.status r) e.event
-    (expires_not g e.by e.with e.event r legal.0.keeps (free_first (Wheel r.wheel) e m free)) h)
+ends_not : (g : Settings) (by : Actor) (with : Option Actor) (event : Event) (r : TimerRef) → Keeps g by with event
+    → (same_actor by (Wheel r.wheel) || is_with with (Wheel r.wheel)) ≡ false → ends event r ≡ false
+ends_not g by with (Expire timer) r keeps free = with_other by with timer r keeps.1 free
+ends_not g by with (Orphan timer) r keeps free = with_other by with timer r keeps.1 free
+ends_not g by with _ r keeps free = refl
 
--- so a timer of a wheel that a pass holds hasn't expired at its step if it hadn't before
-pub unexpired_before : (g : Settings) (v : View) (e : Entry) (u : View) (r : TimerRef) (step : Appends g v e u)
-    → is_held v.actors (Wheel r.wheel) ≡ true → (state g v.front).status r ≢ Some Expired
-    → (state g (v.front ++ step.between)).status r ≢ Some Expired
-unexpired_before g v e u r step held h =
+pub live_free : (g : Settings) (r : TimerRef) (s : State) (m : List Entry) → LegalFrom g s m → IsFree m (Wheel r.wheel)
+    → IsLive (s.status r) → IsLive ((run g s m).status r)
+live_free g r s [] legal free h = h
+live_free g r s (e ∷ m) legal free h =
+    live_free g r (next g s e) m legal.1 (free_rest (Wheel r.wheel) e m free)
+    (live_event r (has_actor e (Wheel r.wheel)) (s.status r) e.event
+    (ends_not g e.by e.with e.event r legal.0.keeps (free_first (Wheel r.wheel) e m free)) h)
+
+-- so a timer of a wheel that a pass holds is armed or cancelled at its step if it was so before
+pub live_before : (g : Settings) (v : View) (e : Entry) (u : View) (r : TimerRef) (step : Appends g v e u)
+    → is_held v.actors (Wheel r.wheel) ≡ true → IsLive ((state g v.front).status r)
+    → IsLive ((state g (v.front ++ step.between)).status r)
+live_before g v e u r step held h =
     let legal : Legal g (v.front ++ step.between) =
     legal_first g (opening g) (v.front ++ step.between) (e ∷ []) (subst (Legal g) step.grown step.legal) in
-    subst (λ (t : State). t.status r ≢ Some Expired) (sym (state-append g v.front step.between))
-    (unexpired_free g r (state g v.front) step.between (legal_then g (opening g) v.front step.between legal)
+    subst (λ (t : State). IsLive (t.status r)) (sym (state-append g v.front step.between))
+    (live_free g r (state g v.front) step.between (legal_then g (opening g) v.front step.between legal)
     (step.others (Wheel r.wheel) held) h)
 
--- nor after it
+-- and after it
+pub live_step : (g : Settings) (v : View) (e : Entry) (u : View) (r : TimerRef) → Appends g v e u → is_held v.actors (Wheel r.wheel) ≡ true
+    → ends e.event r ≡ false → IsLive ((state g v.front).status r) → IsLive ((state g u.front).status r)
+live_step g v e u r step held unmet h =
+    subst (λ (t : State). IsLive (t.status r)) (sym (stepped g v e u step))
+    (live_event r (has_actor e (Wheel r.wheel)) ((state g (v.front ++ step.between)).status r) e.event unmet
+    (live_before g v e u r step held h))
+
+-- where it was cancelled for an exit it hasn't expired after it either
 pub unexpired_step : (g : Settings) (v : View) (e : Entry) (u : View) (r : TimerRef) → Appends g v e u → is_held v.actors (Wheel r.wheel) ≡ true
-    → expires e.event r ≡ false → (state g v.front).status r ≢ Some Expired → (state g u.front).status r ≢ Some Expired
+    → expires e.event r ≡ false → IsLive ((state g v.front).status r) → (state g u.front).status r ≢ Some Expired
 unexpired_step g v e u r step held unmet h =
+    let s : State = state g (v.front ++ step.between) in
     subst (λ (t : State). t.status r ≢ Some Expired) (sym (stepped g v e u step))
-    (unexpired_event r (has_actor e (Wheel r.wheel)) ((state g (v.front ++ step.between)).status r) e.event unmet
-    (unexpired_before g v e u r step held h))
+    (unexpired_event r (has_actor e (Wheel r.wheel)) (s.status r) e.event unmet (live_unexpired (s.status r) (live_before g v e u r step held h)))
 
 pub none_counted : (test : Event → Bool) (w : ℕ) (m : List Entry) → IsFree m (Wheel w) → entries_of test w m ≡ 0
 none_counted test w [] free = refl

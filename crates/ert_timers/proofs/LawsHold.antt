@@ -12,9 +12,8 @@ use Rattle.ert_defs.specs.declared.entry.Actor.TheVariants.{Wheel, Sched, Caller
 use Rattle.ert_defs.specs.declared.entry.Entry.{Entry}
 use Rattle.ert_defs.specs.declared.entry.Event.{Event}
 use Rattle.ert_defs.specs.declared.timer.Status.{Status}
-use Rattle.ert_defs.specs.declared.timer.Status.TheVariants.{Expired}
 use Rattle.ert_defs.specs.declared.timer.TimerRef.{TimerRef}
-use Rattle.ert_effects.proofs.Advanced.{IsAdvance, advance_is, advance_all_is}
+use Rattle.ert_effects.proofs.Advanced.{IsAdvance, advance_is}
 use Rattle.ert_effects.specs.RoomCalls.{ShowsRoom, no_room, with_found}
 use Rattle.ert_effects.specs.declared.answers.Room.{Room}
 use Rattle.ert_effects.specs.TimerCalls.{AreProbes, AreTaken, Closes}
@@ -22,10 +21,10 @@ use Rattle.ert_effects.specs.WheelCalls.{Try, expires_by, expiry_entries, orphan
 use Rattle.ert_effects.specs.declared.answers.StartErr.TheVariants.{BadArg, Full, NoMemory}
 use Rattle.ert_table.specs.Held.{IsOurs}
 use Rattle.ert_table.proofs.Parts.{free_later, of_one, of_both}
-use Rattle.ert_timers.specs.Laws.{AreWithWheel, LawOfStanding, LawOfStarts, LawOfAdvances, LawOfFullAdvances, LawOfSweeps, LawOfRooms}
+use Rattle.ert_timers.specs.Laws.{AreWithWheel, LawOfStanding, LawOfStarts, LawOfAdvances, LawOfSweeps, LawOfRooms}
 use Rattle.ert_laws.specs.Counts.{entries_of, is_arm, is_expire, is_orphan}
-use Rattle.ert_timers.specs.Parts.{last_timer}
-use Rattle.ert_timers.proofs.Later.{IsLater, later_free, none_counted, unexpired_free}
+use Rattle.ert_timers.specs.Parts.{IsLive, last_timer}
+use Rattle.ert_timers.proofs.Later.{IsLater, later_free, none_counted, live_free}
 use Rattle.ert_timers.proofs.Rows.{rows_later}
 use Rattle.ert_timers.proofs.Standing.{clock_at, clock_rises, holds_with}
 
@@ -53,8 +52,8 @@ stand_on g f h p longer same legal stands =
       holds =
           holds_with g (state g f) (state g h) p p.keys p.expires p.orphans stands.holds later rises refl
           (rows_later g f w p.slots p.keys (state g h) stands.legal stands.holds.rows later
-          (λ k key is. subst (λ (t : State). t.status (last_timer w p.slots k) ≢ Some Expired) (sym run_is)
-          (unexpired_free g (last_timer w p.slots k) (state g f) m from free (stands.holds.rows.unexpired k key is))));
+          (λ k key is. subst (λ (t : State). IsLive (t.status (last_timer w p.slots k))) (sym run_is)
+          (live_free g (last_timer w p.slots k) (state g f) m from free (stands.holds.rows.live k key is))));
       counted = record {
         arms = stands.counted.arms ∙ count is_arm;
         expires = stands.counted.expires ∙ count is_expire;
@@ -132,10 +131,6 @@ pub advances_only : LawOfAdvances
 advances_only g w (Ok answer) s es advances = advance_only w answer es (advance_is w answer es advances)
 advances_only g w (Err e) s es (inl none) = same_only (Sched w) w es _ none tt
 advances_only g w (Err e) s es (inr looked) = same_only (Sched w) w es _ looked.1 (alone (Sched w) w, tt)
-
-pub full_advances_only : LawOfFullAdvances
-full_advances_only g w (Ok answer) s es advances = advance_only w answer es (advance_all_is g.slots w answer es advances)
-full_advances_only g w (Err e) s es refused = advances_only g w (Err e) s es refused
 
 orphan_only : (by w : ℕ) (timer : TimerRef) (missed : Option (Option Status))
     → IsOurs (Caller by ∷ (Wheel w ∷ [])) (orphans_by by w timer missed).by (orphans_by by w timer missed).with

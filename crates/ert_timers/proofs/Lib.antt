@@ -1,6 +1,6 @@
 pub mod Later
 pub mod Rows
-pub mod Tidied
+pub mod StayArmed
 pub mod Resting
 mod Nearest
 pub mod Standing

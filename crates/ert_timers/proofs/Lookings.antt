@@ -26,12 +26,12 @@ use Rattle.ert_laws.proofs.Since.{rounds_begun}
 use Rattle.ert_laws.specs.Counts.{is_expire, is_orphan}
 use Rattle.ert_timers.specs.Parts.{HoldsCaller, Part, Stands, slot_at, last_timer}
 use Rattle.ert_timers.specs.Starting.{LooksAt, LooksAtSome, TakesSlot, AreFull, probes_from, status_shown}
-use Rattle.ert_timers.specs.Tidy.{KeepsTidy}
+use Rattle.ert_timers.specs.Passed.{LosesRows}
 use Rattle.ert_timers.proofs.Fit.{taken_was}
 use Rattle.ert_timers.proofs.Later.{later_before, later_step}
 use Rattle.ert_timers.proofs.Resting.{later_awake, rested_by}
 use Rattle.ert_timers.proofs.Standing.{clock_at, clock_stepped, count_same, holds_freed, stands_step}
-use Rattle.ert_timers.proofs.Tidied.{tidy_calm, tidy_gone, tidy_then}
+use Rattle.ert_timers.proofs.Passing.{loses_none, loses_row, loses_then}
 use Rattle.ert_timers.proofs.Tried.{stands_gone}
 
 -- what a load of a slot found
@@ -80,7 +80,7 @@ looks_taken g v by now p k found u stands holds away step taken = record {
   full = λ is. inl taken;
   rested = λ held. (let none : true ≡ false = sym held ∙ away in cc);
   since = since_same g v by p.number k found u step holds.wheel;
-  tidy = tidy_calm g v (probe_entry (Caller by) p.number k found) u p step (λ r. refl);
+  loses = loses_none p;
 }
 
 not_armed : (x : Option Status) → is_taken x ≡ false → x ≢ Some Armed
@@ -132,8 +132,7 @@ looks_resting g v by now p q k found u stands holds low away step none gone rest
       full = λ is. inr (ap (λ (x : Part). is_resting (slot_at x.slots k) now) (sym gone) ∙ rests);
       rested = λ held. (let no : true ≡ false = sym held ∙ (ap (λ (x : Part). sets.contains x.free k) gone ∙ away) in cc);
       since = since_same g v by p.number k found u step holds.wheel;
-      tidy = subst (λ (x : Part). KeepsTidy g v p x u) (sym gone)
-          (tidy_gone g v e u p k step (subst (λ n. k < n) (sym stands.holds.wide) low) (λ j other. refl));
+      loses = subst (LosesRows p) (sym gone) (loses_row p (dropped p k) k (subst (λ n. k < n) (sym stands.holds.wide) low) refl refl refl refl);
     }
 
 -- a slot was found not taken, and doesn't rest: it has no row from then on, and is held free
@@ -166,8 +165,8 @@ looks_free g v by now p q r k found u stands holds past low step none gone awake
       full = λ away. (let no : true ≡ false = sym (ap (λ (x : Part). sets.contains x.free k) all ∙ put_here p.free k) ∙ away in cc);
       rested = λ held. here;
       since = since_same g v by p.number k found u step holds.wheel;
-      tidy = subst (λ (x : Part). KeepsTidy g v p x u) (sym all)
-          (tidy_gone g v e u p k step (subst (λ n. k < n) (sym stands.holds.wide) low) (λ j other. refl));
+      loses = subst (LosesRows p) (sym all)
+          (loses_row p (freed (dropped p k) k) k (subst (λ n. k < n) (sym stands.holds.wide) low) refl refl refl refl);
     }
 
 -- nothing was looked at yet
@@ -186,7 +185,7 @@ looks_none g v by now p stands none = record {
   since = λ j. refl;
   above = λ j high. none j;
   look = refl;
-  tidy = λ whole tidy. tidy;
+  loses = loses_none p;
 }
 
 pub probes-push : (by w k : ℕ) (founds : List (Option Status)) (found : Option Status)
@@ -245,7 +244,7 @@ looks_more g v by now p q r n u w some holds one =
       since = λ j. subst (λ m. (state g w.front).since m j ≡ (state g u.front).since m j) some.number (one.since j) ∙ some.since j;
       above = λ j high. one.others j (omega (arith, high)) ∙ some.above j (omega (arith, high));
       look = look_stepped g u (probe_entry (Caller by) q.number n one.found) w one.step holds.caller ∙ some.look;
-      tidy = tidy_then g v p q u r w some.call.actors some.tidy one.tidy;
+      loses = loses_then p q r some.loses one.loses;
     }
   where
     here : (z : ℕ) → n ≡ 0 + length some.founds
@@ -271,6 +270,10 @@ picked_stands g v p q k stands is = subst (λ (x : Part). Stands g v.front x) (s
   counted = record { arms = stands.counted.arms; expires = stands.counted.expires; orphans = stands.counted.orphans };
 })
 
+-- it has lost no row
+loses_picked : (p : Part) (k : ℕ) → LosesRows p (picked p k)
+loses_picked p k = record { number = refl; slots = refl; left = λ j key is. is; time = omega arith }
+
 -- a slot was held free
 pub takes_first : (g : Settings) (v : View) (by now : ℕ) (p q : Part) (k : ℕ) → Stands g v.front p → now ≡ clock_at g (state g v.front)
     → q ≡ picked p k → IsFree q k → sets.contains p.free k ≡ true → TakesSlot g v by now p q (Some k) v
@@ -286,7 +289,7 @@ takes_first g v by now p q k stands told is free held = record {
   rested = subst (λ (x : Part). (turned (uses_at (state g v.front) x.number k)).since ≤ now) (sym is)
       (subst (λ n. (turned (uses_at (state g v.front) p.number k)).since ≤ n) (sym told) (stands.holds.ready k held));
   look = refl;
-  tidy = subst (λ (x : Part). KeepsTidy g v p x v) (sym is) (λ whole tidy. tidy);
+  loses = subst (LosesRows p) (sym is) (loses_picked p k);
 }
 
 -- a slot that is held free after the looks doesn't rest
@@ -324,7 +327,7 @@ takes_then g v by now p p' q r n None u stands told same many some none left hel
       usable = tt;
       rested = tt;
       look = here.look;
-      tidy = subst (λ (x : Part). KeepsTidy g v p x u) (sym left) here.tidy;
+      loses = subst (LosesRows p) (sym left) here.loses;
     }
 takes_then g v by now p p' q r n (Some k) u stands told same many some none left held is free =
     let here = subst (λ (x : Part). LooksAtSome g v by now x q n u) same some in
@@ -342,5 +345,5 @@ takes_then g v by now p p' q r n (Some k) u stands told same many some none left
       rested = subst (λ (x : Part). (turned (uses_at (state g u.front) x.number k)).since ≤ now) (sym is)
           (rested_then g v by now p q n k u stands told here low held);
       look = here.look;
-      tidy = subst (λ (x : Part). KeepsTidy g v p x u) (sym is) here.tidy;
+      loses = loses_then p q r here.loses (subst (LosesRows q) (sym is) (loses_picked q k));
     }

@@ -77,7 +77,7 @@ stands_open g w n p checked low many number processes slots keys arms expires or
         wide = ap length keys ∙ (length-replicate n None ∙ sym many);
         rows = record {
           each = λ k key is. (let e : None ≡ Some key = sym (none k) ∙ is in absurd cc);
-          unexpired = λ k key is. (let e : None ≡ Some key = sym (none k) ∙ is in absurd cc);
+          live = λ k key is. (let e : None ≡ Some key = sym (none k) ∙ is in absurd cc);
           armed = λ m row at is. absurd cc;
         };
         lasts = λ k high. ap (λ (s : Slot). s.generation) (ap (λ ss. slot_at ss k) slots ∙ slot_nowhere n k);

@@ -24,10 +24,9 @@ use Rattle.ert_timers.specs.Changes.{given_back}
 use Rattle.ert_laws.specs.Counts.{is_expire, is_orphan}
 use Rattle.ert_timers.specs.Parts.{HoldsCaller, Part, Stands, slot_at, last_timer, held_row}
 use Rattle.ert_timers.specs.Starting.{HoldsTimer, Orphans, Ends}
-use Rattle.ert_timers.specs.Tidy.{KeepsTidy}
-use Rattle.ert_timers.proofs.Later.{unexpired_step}
+use Rattle.ert_timers.proofs.Later.{live_step, live_unexpired, unexpired_step}
+use Rattle.ert_timers.proofs.Passing.{loses_none, loses_row}
 use Rattle.ert_timers.proofs.Standing.{count_same, holds_back, takes_none, stands_step}
-use Rattle.ert_timers.proofs.Tidied.{settles, tidy_calm, tidy_gone, tidy_then}
 use Rattle.ert_timers.proofs.Tried.{count_more, held_found, self, stands_gone, two_slots}
 use Rattle.ert_wheel.specs.Rows.{key_in}
 use Rattle.ert_wheel.specs.declared.row.Key.{Key}
@@ -67,8 +66,8 @@ orphaned_at g v by p q k key true u stands held low wheel settles settled part =
       part = part;
       stands = subst (λ (x : Part). Stands g u.front x) (sym part)
           (back g v e u p k key true stands held step wheel settled
-          (unexpired_step g v e u timer step wheel refl (stands.holds.rows.unexpired k key held))
-          (stands_gone g v e u p k p.expires (p.orphans + 1) stands (key_low p.keys k key held) step wheel refl (λ j other. refl) settled
+          (unexpired_step g v e u timer step wheel refl (stands.holds.rows.live k key held))
+          (stands_gone g v e u p k p.expires (p.orphans + 1) stands (key_low p.keys k key held) step wheel refl (λ j other. two_slots w p.slots k j other) settled
           (counts.expires ∙ sym (count_same g v e u w is_expire step wheel refl))
           (ap (λ n. n + 1) counts.orphans ∙ sym (count_more g v e u w is_orphan step wheel (self w) refl))));
     }
@@ -86,7 +85,7 @@ orphaned_at g v by p q k key false u stands held low wheel settles settled part 
       part = part;
       stands = subst (λ (x : Part). Stands g u.front x) (sym part)
           (back g v e u p k key false stands held step wheel settled
-          (unexpired_step g v e u timer step wheel refl (stands.holds.rows.unexpired k key held))
+          (live_unexpired ((state g u.front).status timer) (live_step g v e u timer step wheel refl (stands.holds.rows.live k key held)))
           (stands_gone g v e u p k p.expires (p.orphans + 0) stands (key_low p.keys k key held) step wheel refl (λ j other. refl) settled
           (counts.expires ∙ sym (count_same g v e u w is_expire step wheel refl))
           (same ∙ (counts.orphans ∙ sym (count_same g v e u w is_orphan step wheel refl)))));
@@ -119,21 +118,6 @@ may_orphan g v by p timer deadline stands has holds exited =
       };
     })
 
-orphans_other : (by w : ℕ) (timer r : TimerRef) (missed : Option (Option Status)) → same_timer timer r ≡ false
-    → settles (orphans_by by w timer missed).event r ≡ false
-orphans_other by w timer r None other = other
-orphans_other by w timer r (Some found) other = refl
-
--- a tidy part stays so
-pub tidy_orphaned : (g : Settings) (v : View) (by : ℕ) (p q : Part) (timer : TimerRef) (deadline : ℕ) (u : View) → HoldsTimer p timer deadline
-    → Orphans g v by p q timer u → KeepsTidy g v p q u
-tidy_orphaned g v by p q timer deadline u has one =
-    subst (λ (x : Part). KeepsTidy g v p x u) (sym one.part)
-    (tidy_gone g v (orphans_by by p.number timer one.missed) u p timer.slot one.step
-    (key_low p.keys timer.slot (record { deadline = deadline; order = has.order }) has.held) (λ j other.
-    orphans_other by p.number timer (last_timer p.number p.slots j) one.missed
-    (ap (λ t. same_timer t (last_timer p.number p.slots j)) has.named ∙ two_slots p.number p.slots timer.slot j other)))
-
 or_first : (b c : Bool) → b ≡ true → (b || c) ≡ true
 or_first true c is = refl
 or_first false c is = absurd cc
@@ -165,7 +149,7 @@ ends_alive g v by p dest timer was u stands holds not step =
       call = step_takes_place g v (mark_entry (Caller by) dest false false) u here;
       number = refl;
       stands = marked_stands g v by dest was u p stands holds step;
-      tidy = tidy_calm g v (mark_entry (Caller by) dest false false) u p here (λ r. refl);
+      loses = loses_none p;
     }
 
 closing_is : (by w : ℕ) (timer : TimerRef) (missed : Option (Option Status)) → timer.wheel ≡ w → IsSettled missed
@@ -189,8 +173,9 @@ ends_exited g v by p q dest deadline timer was u w is has step orphans =
           (step_takes_place g u (orphans_by by p.number timer orphans.missed) w orphans.step);
       number = ap (λ (x : Part). x.number) orphans.part;
       stands = orphans.stands;
-      tidy = tidy_then g v p p u q w step.actors (tidy_calm g v (mark_entry (Caller by) dest false was) u p step (λ r. refl))
-          (tidy_orphaned g u by p q timer deadline w has orphans);
+      loses = loses_row p q timer.slot (key_low p.keys timer.slot (record { deadline = deadline; order = has.order }) has.held)
+          (ap (λ (x : Part). x.number) orphans.part) (ap (λ (x : Part). x.slots) orphans.part) (ap (λ (x : Part). x.keys) orphans.part)
+          (ap (λ (x : Part). x.passed) orphans.part);
     }
 
 -- a pass holds the same actors after a step

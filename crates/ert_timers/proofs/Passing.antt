@@ -32,7 +32,7 @@ loses_row p q k low number slots keys time = record {
 }
 
 -- the last timers are the same
-same_last : (p q : Part) (k : ℕ) → LosesRows p q → last_timer q.number q.slots k ≡ last_timer p.number p.slots k
+pub same_last : (p q : Part) (k : ℕ) → LosesRows p q → last_timer q.number q.slots k ≡ last_timer p.number p.slots k
 same_last p q k loses = ap (λ n. last_timer n q.slots k) loses.number ∙ ap (λ slots. last_timer p.number slots k) loses.slots
 
 -- where rows go no row comes back

@@ -29,7 +29,6 @@ use Rattle.ert_timers.specs.Slots.{Slot}
 use Rattle.ert_timers.proofs.Lookings.{probes-push}
 use Rattle.ert_timers.proofs.Resting.{rested_by, resting_since}
 use Rattle.ert_timers.proofs.Standing.{clock_at, clock_rises, stands_step}
-use Rattle.ert_timers.proofs.Tidied.{tidy_calm, tidy_then}
 
 -- what a slot is found to be by what is kept of it is what the model says
 found_by : (s : State) (w k now : ℕ) (slot : Slot) (found : Option Status) (room : Room) → slot.generation ≡ s.last w k → slot.above ≡ s.above w k
@@ -115,7 +114,6 @@ sees_none g v by now p u stands holds looks =
       stands = stands_step g v e u p stands looks.step holds.wheel (record { arm = refl; expire = refl; orphan = refl });
       told = refl;
       few = omega arith;
-      tidy = tidy_calm g v e u p looks.step (λ r. refl);
     }
 
 -- one slot more
@@ -146,7 +144,6 @@ sees_more g v by now p n before room u w stands low some holds one few =
           ∙ (ap (with_found s now m (0 + length some.founds) one.found) some.told
           ∙ sym (after-push s now m 0 some.founds one.found no_room))));
       few = few;
-      tidy = tidy_then g v p p u p w some.call.actors some.tidy (tidy_calm g u e w p one.step (λ r. refl));
     }
 
 -- all slots
@@ -161,7 +158,6 @@ sees_all g v by now p n seen u all some = record {
       (shows by p.number now (state g v.front) 0 g.slots some.founds no_room (some.count ∙ all)));
   call = some.call;
   stands = some.stands;
-  tidy = some.tidy;
 }
 
 -- what that tells

@@ -10,8 +10,8 @@ use Rattle.ert_defs.specs.Timers.{Row}
 use Rattle.ert_defs.proofs.Rows.{IsRow, rows_hold}
 use Rattle.ert_defs.specs.declared.entry.Entry.{Entry}
 use Rattle.ert_defs.specs.declared.settings.Settings.{Settings}
-use Rattle.ert_defs.specs.declared.timer.Status.TheVariants.{Armed, Expired}
-use Rattle.ert_timers.specs.Parts.{HoldsRows, last_timer, held_row}
+use Rattle.ert_defs.specs.declared.timer.Status.TheVariants.{Armed}
+use Rattle.ert_timers.specs.Parts.{IsLive, HoldsRows, last_timer, held_row}
 use Rattle.ert_timers.specs.Slots.{Slot}
 use Rattle.ert_timers.proofs.Later.{IsLater}
 use Rattle.ert_wheel.specs.Rows.{key_in}
@@ -45,9 +45,9 @@ armed_row s w slots keys n row holds at is =
     sym at ∙ holds.each row.timer.slot key (holds.armed n row at is) in
     cc
 
--- of the timers that are held none has expired
-abbrev pub AreUnexpired : State → ℕ → List Slot → List (Option Key) → Type 0
-AreUnexpired s w slots keys = (k : ℕ) (key : Key) → key_in keys k ≡ Some key → s.status (last_timer w slots k) ≢ Some Expired
+-- the timers that are held are armed or were cancelled
+abbrev pub AreLive : State → ℕ → List Slot → List (Option Key) → Type 0
+AreLive s w slots keys = (k : ℕ) (key : Key) → key_in keys k ≡ Some key → IsLive (s.status (last_timer w slots k))
 
 module _ (g : Settings) (h : List Entry) (w : ℕ) (slots : List Slot) (keys : List (Option Key)) (t : State) (legal : Legal g h)
     (holds : HoldsRows (state g h) w slots keys) (later : IsLater w (state g h) t) where
@@ -59,19 +59,19 @@ module _ (g : Settings) (h : List Entry) (w : ℕ) (slots : List Slot) (keys : L
   was_armed n row at is = later.armed row.timer (row_wheel g h w n row legal (at_first n row at)) is
 
   -- the rows that are held go on
-  pub rows_later : AreUnexpired t w slots keys → HoldsRows t w slots keys
-  rows_later unexpired = record {
+  pub rows_later : AreLive t w slots keys → HoldsRows t w slots keys
+  rows_later live = record {
     each = λ k key is. ap (λ rows. slice_get rows key.order) later.rows ∙ holds.each k key is;
-    unexpired = unexpired;
+    live = live;
     armed = λ n row at is. holds.armed n row (at_first n row at) (was_armed n row at is);
   }
 
   -- and so they do when the row of a slot goes whose timer isn't armed
   pub rows_dropped : (k : ℕ) → k < length keys → t.status (last_timer w slots k) ≢ Some Armed
-      → AreUnexpired t w slots (set keys k None) → HoldsRows t w slots (set keys k None)
-  rows_dropped k low settled unexpired = record {
+      → AreLive t w slots (set keys k None) → HoldsRows t w slots (set keys k None)
+  rows_dropped k low settled live = record {
     each = λ j key is. ap (λ rows. slice_get rows key.order) later.rows ∙ holds.each j key (key_left keys k j key low is).1;
-    unexpired = unexpired;
+    live = live;
     armed = λ n row at is.
         let key : Key = record { deadline = row.deadline; order = n } in
         let held : key_in keys row.timer.slot ≡ Some key = holds.armed n row (at_first n row at) (was_armed n row at is) in

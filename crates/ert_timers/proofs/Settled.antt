@@ -35,7 +35,7 @@ use Rattle.ert_table.specs.Takes.{TakesPlace}
 use Rattle.ert_table.specs.declared.view.View.{View}
 use Rattle.ert_timers.specs.Freeing.{IsLast, IsLetGo}
 use Rattle.ert_timers.specs.Parts.{Part, Stands, last_timer, slot_at}
-use Rattle.ert_timers.proofs.Later.{was_armed}
+use Rattle.ert_timers.proofs.Later.{live_unexpired, was_armed}
 use Rattle.ert_wheel.specs.Rows.{key_in}
 use Rattle.ert_wheel.specs.declared.row.Key.{Key}
 
@@ -164,7 +164,7 @@ fired_let_go g h p fired stands first =
     vacant : (o : Option Key) → key_in p.keys fired.timer.slot ≡ o → (state g h).status (last_timer p.number p.slots fired.timer.slot) ≡ Some Expired
         → key_in p.keys fired.timer.slot ≡ None
     vacant None is expired = is
-    vacant (Some key) is expired = absurd (stands.holds.rows.unexpired fired.timer.slot key is expired)
+    vacant (Some key) is expired = absurd (live_unexpired ((state g h).status (last_timer p.number p.slots fired.timer.slot)) (stands.holds.rows.live fired.timer.slot key is) expired)
 
     away : (b : Bool) → set.contains p.free fired.timer.slot ≡ b
         → (state g h).status (last_timer p.number p.slots fired.timer.slot) ≡ Some Expired → set.contains p.free fired.timer.slot ≡ false

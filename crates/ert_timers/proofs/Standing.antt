@@ -14,7 +14,7 @@ use Rattle.ert_defs.specs.Timers.{Uses, turned, is_taken}
 use Rattle.ert_defs.specs.declared.entry.Actor.TheVariants.{Wheel}
 use Rattle.ert_defs.specs.declared.entry.Entry.{Entry}
 use Rattle.ert_defs.specs.declared.entry.Event.{Event}
-use Rattle.ert_defs.specs.declared.entry.Event.TheVariants.{Expire}
+use Rattle.ert_defs.specs.declared.entry.Event.TheVariants.{Expire, Orphan}
 use Rattle.ert_defs.specs.declared.settings.Settings.{Settings}
 use Rattle.ert_defs.specs.declared.timer.Status.{Status}
 use Rattle.ert_defs.specs.declared.timer.Status.TheVariants.{Armed, Expired, Delivered, Cancelled, Orphaned, Dropped}
@@ -26,7 +26,7 @@ use Rattle.ert_timers.specs.Changes.{freed, has_uses}
 use Rattle.ert_laws.proofs.Since.{milliseconds_rise, rounds_begun}
 use Rattle.ert_laws.specs.Counts.{entries_of, is_arm, is_expire, is_orphan}
 use Rattle.ert_timers.specs.Parts.{Part, HoldsRows, Holds, Stands, slot_at, last_timer}
-use Rattle.ert_timers.proofs.Later.{IsLater, later_step, expires, unexpired_step, count_step}
+use Rattle.ert_timers.proofs.Later.{IsLater, later_step, ends, live_step, count_step}
 use Rattle.ert_timers.proofs.Resting.{rested_by, used_less}
 use Rattle.ert_timers.proofs.Rows.{rows_later}
 use Rattle.ert_wheel.specs.declared.row.Key.{Key}
@@ -152,9 +152,10 @@ count_same g v e u w test step held unmet =
     at true = unmet
     at false = refl
 
-no_expire : (event : Event) → is_expire event ≡ false → (r : TimerRef) → expires event r ≡ false
-no_expire (Expire timer) unmet r = absurd cc
-no_expire _ unmet r = refl
+no_end : (event : Event) → is_expire event ≡ false → is_orphan event ≡ false → (r : TimerRef) → ends event r ≡ false
+no_end (Expire timer) unmet other r = absurd cc
+no_end (Orphan timer) unmet other r = absurd cc
+no_end _ unmet other r = refl
 
 -- no timer is armed, expires or is cancelled for an exit by an event
 pub record IsCalm (event : Event) : Type 0 where
@@ -173,8 +174,8 @@ stands_step g v e u p stands step held calm = record {
       holds_with g (state g v.front) (state g u.front) p p.keys p.expires p.orphans stands.holds later (clock_stepped g v e u stands.checked step) refl
       (rows_later g v.front p.number p.slots p.keys (state g u.front) stands.legal stands.holds.rows later
       (λ k key is.
-      unexpired_step g v e u (last_timer p.number p.slots k) step held (no_expire e.event calm.expire (last_timer p.number p.slots k))
-      (stands.holds.rows.unexpired k key is)));
+      live_step g v e u (last_timer p.number p.slots k) step held (no_end e.event calm.expire calm.orphan (last_timer p.number p.slots k))
+      (stands.holds.rows.live k key is)));
   counted = record {
     arms = stands.counted.arms ∙ sym (count_same g v e u p.number is_arm step held calm.arm);
     expires = stands.counted.expires ∙ sym (count_same g v e u p.number is_expire step held calm.expire);

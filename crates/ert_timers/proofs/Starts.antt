@@ -1,6 +1,6 @@
 -- A start, of what its steps told.
 
-use Rattle.std.proofs.Common.{◌≡◌, ◌⊎◌, ℕ, zero, suc, ◌+◌, ◌<◌, ◌≤◌, ℤ, pos, true, false, List, [], ◌∷◌, ◌++◌, length, Option, Some, None, option_map, IfSome, Ok, Err, inl, inr, refl, sym, ap, subst, ◌∙◌, arith}
+use Rattle.std.proofs.Common.{◌≡◌, ◌⊎◌, ℕ, zero, suc, ◌+◌, ◌<◌, ◌≤◌, ℤ, pos, true, false, List, [], ◌∷◌, ◌++◌, length, Option, Some, None, option_map, IfSome, Result, Ok, Err, inl, inr, refl, sym, ap, subst, ◌∙◌, arith}
 use Rattle.std.specs.FinSet as sets
 use Rattle.ert_defs.specs.Entries.{look_entry, arm_entry, mark_entry}
 use Rattle.ert_defs.specs.Milliseconds.{natural, down, deadline_of}
@@ -14,6 +14,7 @@ use Rattle.ert_defs.specs.declared.timer.Start.{Start}
 use Rattle.ert_defs.specs.declared.timer.Status.{Status}
 use Rattle.ert_defs.specs.declared.timer.TimerRef.{TimerRef}
 use Rattle.ert_effects.specs.TimerCalls.{AreProbes, AreTaken, Rests, Starts}
+use Rattle.ert_effects.specs.declared.answers.StartErr.{StartErr}
 use Rattle.ert_effects.specs.declared.answers.StartErr.TheVariants.{BadArg, Full}
 use Rattle.ert_calls.proofs.Looks.{look_stepped}
 use Rattle.ert_table.specs.Calls.{IsMade}
@@ -23,14 +24,14 @@ use Rattle.ert_table.proofs.Calls.{step_takes_place, takes_place_then}
 use Rattle.ert_laws.proofs.SlotUses.{timers_few}
 use Rattle.ert_timers.specs.Changes.{is_resting, next_use}
 use Rattle.ert_timers.specs.Looking.{LooksAhead}
-use Rattle.ert_timers.specs.Parts.{HoldsCaller, Part, Stands, slot_at}
+use Rattle.ert_timers.specs.Parts.{HoldsCaller, Part, Stands, slot_at, last_timer}
 use Rattle.ert_timers.specs.Starting.{AreFull, Arms, Ends, IsUseFor, TakesSlot, probes_from}
 use Rattle.ert_timers.specs.declared.looking.Ahead.{Ahead}
 use Rattle.ert_timers.specs.declared.part.Use.{Use}
-use Rattle.ert_timers.specs.Tidy.{KeepsTidy}
+use Rattle.ert_timers.specs.Passed.{GainsOne, LosesRows}
 use Rattle.ert_timers.proofs.Resting.{next_is as use_is, rests_by}
 use Rattle.ert_timers.proofs.Standing.{clock_at, stands_step}
-use Rattle.ert_timers.proofs.Tidied.{tidy_calm, tidy_then}
+use Rattle.ert_timers.proofs.Passing.{same_last}
 
 -- a start that is refused for its time
 pub bad_arg : (g : Settings) (v : View) (by w : ℕ) (start : Start) (ahead : Option Ahead) (u : View) → ahead ≡ None
@@ -196,21 +197,17 @@ is_started g v by p q r s start ahead now slot k next timer u x y z looks takes 
       call = takes_place_then g v u z (look ∷ []) (probes ++ (arm_entry by timer start ∷ tail)) (step_takes_place g v look u looks.step) three;
     }
 
--- a tidy part stays so: after the look
-pub tidy_ahead : (g : Settings) (v : View) (by : ℕ) (start : Start) (ahead : Option Ahead) (u : View) (p : Part) → LooksAhead g v by start ahead u
-    → KeepsTidy g v p p u
-tidy_ahead g v by start ahead u p looks = tidy_calm g v (look_entry (Caller by) looks.now) u p looks.step (λ r. refl)
+-- no row has come where no timer was armed
+pub gains_none : (p q : Part) (answer : Result TimerRef StartErr) → LosesRows p q → GainsOne p q answer
+gains_none p q answer loses k key is = inl (loses.left k key is, same_last p q k loses)
 
--- after the search for a slot
-pub tidy_searched : (g : Settings) (v : View) (by : ℕ) (p q : Part) (start : Start) (ahead : Option Ahead) (now : ℕ) (slot : Option ℕ) (u x : View)
-    → LooksAhead g v by start ahead u → TakesSlot g u by now p q slot x → KeepsTidy g v p q x
-tidy_searched g v by p q start ahead now slot u x looks takes =
-    tidy_then g v p p u q x looks.step.actors (tidy_ahead g v by start ahead u p looks) takes.tidy
-
--- and at the end
-pub tidy_started : (g : Settings) (v : View) (by : ℕ) (p q r s : Part) (start : Start) (ahead : Option Ahead) (now : ℕ) (slot : Option ℕ) (k : ℕ) (next : Use)
-    (timer : TimerRef) (u x y z : View) → LooksAhead g v by start ahead u → TakesSlot g u by now p q slot x → Arms g x by q r k next start timer y
-    → Ends g y by r s start.dest timer z → KeepsTidy g v p s z
-tidy_started g v by p q r s start ahead now slot k next timer u x y z looks takes arms ends =
-    tidy_then g v p q x s z (takes.call.actors ∙ looks.step.actors) (tidy_searched g v by p q start ahead now slot u x looks takes)
-    (tidy_then g x q r y s z arms.step.actors arms.tidy ends.tidy)
+-- and else that of the timer
+pub gains_started : (g : Settings) (by : ℕ) (p q r s : Part) (now : ℕ) (slot : Option ℕ) (k : ℕ) (next : Use) (start : Start)
+    (timer : TimerRef) (u x y z : View) → TakesSlot g u by now p q slot x → Arms g x by q r k next start timer y
+    → Ends g y by r s start.dest timer z → GainsOne p s (Ok timer)
+gains_started g by p q r s now slot k next start timer u x y z takes arms ends j key is =
+    let same : last_timer s.number s.slots j ≡ last_timer r.number r.slots j = same_last r s j ends.loses in
+    elim (arms.rows j key (ends.loses.left j key is)) [
+      | inl was ↦ inl (takes.loses.left j key was.0, same ∙ (was.1 ∙ same_last p q j takes.loses))
+      | inr new ↦ inr (new ∙ ap (λ (t : TimerRef). Ok t) (sym same))
+    ]

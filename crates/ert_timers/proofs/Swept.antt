@@ -25,9 +25,7 @@ use Rattle.ert_timers.specs.Parts.{HoldsCaller, Part, Stands, last_timer, held_r
 use Rattle.ert_timers.specs.Starting.{HoldsTimer, Orphans}
 use Rattle.ert_timers.specs.Sweeping.{SweepsSome}
 use Rattle.ert_timers.proofs.Later.{later_step}
-use Rattle.ert_timers.proofs.Orphaned.{tidy_orphaned}
 use Rattle.ert_timers.proofs.Rows.{armed_row}
-use Rattle.ert_timers.proofs.Tidied.{tidy_then}
 use Rattle.ert_timers.proofs.Passing.{loses_none, loses_row, loses_then, none_more, once_more}
 use Rattle.ert_timers.proofs.Tried.{held_found}
 use Rattle.ert_wheel.specs.Rows.{key_of}
@@ -49,7 +47,6 @@ sweeps_none g v by process p stands exited = record {
   number = refl;
   rows = refl;
   exited = exited;
-  tidy = λ whole tidy. tidy;
 }
 
 may-push : (rows : List Row) (process : ℕ) (tries : List Try) (t : Try) → AllMaySweep rows process tries → MaySweep rows process t.timer t.missed
@@ -110,8 +107,6 @@ sweeps_more g v by process p q r row timer u w some holds next is one =
       exited = ap (λ (s : State). s.exited process) (ap (state g) step.grown ∙ ap (state g) (append_assoc u.front step.between (e ∷ []))
           ∙ state-append g u.front (step.between ++ e ∷ []))
           ∙ exit_stays g process (state g u.front) (step.between ++ e ∷ []) some.exited;
-      tidy = tidy_then g v p q u r w some.call.actors some.tidy
-          (tidy_orphaned g u by q r timer.timer timer.deadline w (next_held q process row timer next is) one);
     }
 
 swept_rows : (status : TimerRef → Option Status) (process : ℕ) (rows : List Row)

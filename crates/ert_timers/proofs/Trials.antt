@@ -10,34 +10,31 @@ use Rattle.std.specs.List.Sorted.{IsSortedBy}
 use Rattle.ert_defs.specs.Entries.{look_entry, advanced_entry}
 use Rattle.ert_defs.specs.Milliseconds.{down}
 use Rattle.ert_defs.specs.States.{look_after, state}
-use Rattle.ert_defs.specs.Timers.{Row, row_of, same_timer}
+use Rattle.ert_defs.specs.Timers.{Row, row_of}
 use Rattle.ert_defs.specs.declared.entry.Actor.TheVariants.{Wheel, Sched}
 use Rattle.ert_defs.specs.declared.entry.Entry.{Entry}
 use Rattle.ert_defs.specs.declared.memory.NoMemory.{NoMemory}
 use Rattle.ert_defs.specs.declared.settings.Settings.{Settings}
 use Rattle.ert_defs.specs.declared.timer.Status.{Status}
 use Rattle.ert_defs.specs.declared.timer.TimerRef.{TimerRef}
-use Rattle.ert_effects.specs.WheelCalls.{Try, expires_by, expiry_entries, hit_by, hits, IsSettled, AllSettled, AllDue, Advances, AdvancesAll}
-use Rattle.ert_effects.specs.Ways.{Step}
+use Rattle.ert_effects.specs.WheelCalls.{Try, expires_by, expiry_entries, hit_by, hits, IsSettled, AllSettled, AllDue}
 use Rattle.ert_calls.proofs.Looks.{look_stepped}
 use Rattle.ert_table.specs.Held.{is_held}
 use Rattle.ert_table.specs.Takes.{Appends, MayStep, TakesPlace}
 use Rattle.ert_table.specs.declared.view.View.{View}
 use Rattle.ert_table.proofs.Calls.{step_takes_place, takes_place_then}
 use Rattle.ert_timers.specs.Changes.{gone_on}
-use Rattle.ert_timers.specs.Expiring.{Expires, ExpiresSome, HasExpired, HasExpiredBy, HasNotExpired, HasTried, HasLooked, HasNotTried, IsTried, IsAdvancedAll, IsReady, AreDue, fired_as, fired_in, timer_of}
+use Rattle.ert_timers.specs.Expiring.{Expires, ExpiresSome, HasExpired, HasNotExpired, HasTried, HasNotTried, IsTried, IsReady, AreDue, fired_as, fired_in, timer_of}
 use Rattle.ert_timers.specs.FiredLists.{Queue}
 use Rattle.ert_timers.specs.Looking.{LooksDown}
 use Rattle.ert_timers.specs.Parts.{HoldsSched, Part, Stands, last_timer}
-use Rattle.ert_timers.specs.Tidy.{KeepsTidy}
 use Rattle.ert_timers.specs.Passed.{LosesRows}
 use Rattle.ert_timers.proofs.Passing.{due_push, holds_less, loses_none, loses_row, loses_then, none_more, once_more}
 use Rattle.ert_timers.proofs.Later.{later_step}
 use Rattle.ert_laws.specs.Counts.{is_arm}
 use Rattle.ert_timers.proofs.Dues.{due_left, first_due, first_held, no_row, none_due}
 use Rattle.ert_timers.proofs.Standing.{stands_step}
-use Rattle.ert_timers.proofs.Tidied.{settles, tidy_calm, tidy_gone, tidy_then}
-use Rattle.ert_timers.proofs.Tried.{held_found, self, two_slots, waits_by}
+use Rattle.ert_timers.proofs.Tried.{held_found, self, waits_by}
 use Rattle.ert_wheel.specs.Rows.{key_in, key_of, times, due_at, comes_before}
 use Rattle.ert_wheel.specs.declared.row.Row.{Row as WheelRow}
 use Rattle.ert_wheel.proofs.Collect.{key_low}
@@ -67,7 +64,6 @@ expires_none g v p to due q ready = record {
   fired = sym (append-nil q.rows);
   waits = sym (append-nil (fired_in g v.front p.number));
   room = omega arith;
-  tidy = λ whole tidy. tidy;
 }
 
 -- the entry of a try is no look
@@ -82,11 +78,6 @@ by_sched w timer (Some found) = refl
 fired_count : (row : Row) (missed : Option (Option Status)) → length (fired_as row missed) ≡ hit_by missed
 fired_count row None = refl
 fired_count row (Some found) = refl
-
-tries_other : (w : ℕ) (timer r : TimerRef) (missed : Option (Option Status)) → same_timer timer r ≡ false
-    → settles (expires_by w timer missed).event r ≡ false
-tries_other w timer r None other = other
-tries_other w timer r (Some found) other = refl
 
 settled-push : (tries : List Try) (t : Try) → AllSettled tries → IsSettled t.missed → AllSettled (tries ++ t ∷ [])
 settled-push [] t all one = (one, tt)
@@ -153,10 +144,6 @@ expires_more g v p q r to due n row old mid new u w some held next wheel one =
           ∙ (ap (λ l. l ++ fired_as (timer_of q row) one.missed) some.waits
           ∙ append_assoc (fired_in g v.front p.number) some.gained (fired_as (timer_of q row) one.missed));
       room = omega (arith, some.room, one.room);
-      tidy = tidy_then g v p q u r w some.call.actors some.tidy
-          (subst (λ (x : Part). KeepsTidy g u q x w) (sym one.part)
-          (tidy_gone g u e w q row.slot one.step low
-          (λ j other. tries_other q.number t.timer (last_timer q.number q.slots j) t.missed (two_slots q.number q.slots row.slot j other))));
     }
 
 -- a part whose wheel has passed a time stands as before
@@ -206,7 +193,6 @@ expires_gone_on g v p q to due n old new u some = record {
   fired = some.fired;
   waits = some.waits;
   room = some.room;
-  tidy = some.tidy;
 }
 
 -- the part stands after the look
@@ -276,65 +262,34 @@ has_tried g v p p' q q' k to due n old old' new u w number first last rows down 
       count = some.count;
       fired = some.fired ∙ ap (λ l. l ++ some.gained) rows;
       waits = some.waits ∙ ap (λ l. l ++ some.gained) (waits_by g v look u p.number looks.step holds.sched has);
-      tidy = subst (λ (x : Part). KeepsTidy g v p x w) (sym last)
-          (tidy_then g v p p u q w looks.step.actors (tidy_calm g v look u p looks.step (λ r. refl)) some.tidy);
     }
 
--- the end is recorded, after some entries
-ended : (advances : Result (ℕ × ℕ) NoMemory → Step) (g : Settings) (v : View) (w k to : ℕ) (es : List Entry) (gained : List Row) (old new : Queue) (u x : View)
-    → k ≡ w → TakesPlace g v es u → advances (Ok (to, length gained)) (state g v.front) (es ++ advanced_entry w to ∷ [])
-    → new.rows ≡ old.rows ++ gained → fired_in g u.front w ≡ fired_in g v.front w ++ gained
-    → Appends g u (advanced_entry k to) x → HoldsSched v w → HasExpiredBy advances g v w to old new x
-ended advances g v w k to es gained old new u x number call allowed fired waits step holds =
-    let last : Appends g u (advanced_entry w to) x = subst (λ m. Appends g u (advanced_entry m to) x) number step in
-    let has : (nat_eq w w || false) ≡ true = ap (λ b. b || false) (self w) in
-    record {
-      gained = gained;
-      call = record {
-        entries = es ++ advanced_entry w to ∷ [];
-        allowed = allowed;
-        call = takes_place_then g v u x es (advanced_entry w to ∷ []) call (step_takes_place g u (advanced_entry w to) x last);
-      };
-      fired = fired;
-      waits = waits_by g u (advanced_entry w to) x w last (subst (λ actors. is_held actors (Sched w) ≡ true) (sym call.actors) holds.sched) has ∙ waits;
-    }
-
--- it is recorded after the tries
+-- the end is recorded after the tries
 pub has_expired : (g : Settings) (v : View) (p q : Part) (k to : ℕ) (old new : Queue) (u x : View) → k ≡ p.number → HasTried g v p q to old new u
     → Appends g u (advanced_entry k to) x → HoldsSched v p.number → HasExpired g v p.number to old new x
 has_expired g v p q k to old new u x number tried step holds =
-    let es : List Entry = look_entry (Sched p.number) tried.now ∷ expiry_entries p.number tried.tries in
-    ended (Advances g p.number) g v p.number k to es tried.gained old new u x number tried.call
-    (record { now = tried.now; tries = tried.tries; fired = tried.count; settled = tried.settled; due = tried.due; once = tried.once; entries = refl })
-    tried.fired tried.waits step holds
-
--- or after looks
-pub has_expired_all : (g : Settings) (v : View) (p q : Part) (k to : ℕ) (old new : Queue) (u x : View) → k ≡ p.number → HasLooked g v p q to old new u
-    → Appends g u (advanced_entry k to) x → HoldsSched v p.number → IsAdvancedAll g v p.number (Ok to) old new x
-has_expired_all g v p q k to old new u x number looked step holds =
-    let look : Entry = look_entry (Sched p.number) looked.now in
-    let last : List Entry = advanced_entry p.number to ∷ [] in
-    ended (AdvancesAll g p.number) g v p.number k to (look ∷ (expiry_entries p.number looked.tries ++ looked.looks)) looked.gained old new u x number looked.call
-    (record {
-      now = looked.now;
-      tries = looked.tries;
-      looks = looked.looks;
-      fired = looked.count;
-      settled = looked.settled;
-      due = looked.due;
-      once = looked.once;
-      are_looks = looked.are_looks;
-      entries = ap (λ (l : List Entry). look ∷ l) (append_assoc (expiry_entries p.number looked.tries) looked.looks last);
-    })
-    looked.fired looked.waits step holds
-
--- a tidy part stays so when it is
-pub tidy_ended : (g : Settings) (u : View) (q : Part) (k to : ℕ) (x : View) → Appends g u (advanced_entry k to) x → KeepsTidy g u q q x
-tidy_ended g u q k to x step = tidy_calm g u (advanced_entry k to) x q step (λ r. refl)
-
-pub tidy_after : (g : Settings) (v : View) (p q : Part) (k to : ℕ) (u x : View) → u.actors ≡ v.actors → KeepsTidy g v p q u
-    → Appends g u (advanced_entry k to) x → KeepsTidy g v p q x
-tidy_after g v p q k to u x same tidy step = tidy_then g v p q u q x same tidy (tidy_ended g u q k to x step)
+    let w : ℕ = p.number in
+    let es : List Entry = look_entry (Sched w) tried.now ∷ expiry_entries w tried.tries in
+    let last : Appends g u (advanced_entry w to) x = subst (λ m. Appends g u (advanced_entry m to) x) number step in
+    let has : (nat_eq w w || false) ≡ true = ap (λ b. b || false) (self w) in
+    record {
+      gained = tried.gained;
+      call = record {
+        entries = es ++ advanced_entry w to ∷ [];
+        allowed = record {
+          now = tried.now;
+          tries = tried.tries;
+          fired = tried.count;
+          settled = tried.settled;
+          due = tried.due;
+          once = tried.once;
+          entries = refl;
+        };
+        call = takes_place_then g v u x es (advanced_entry w to ∷ []) tried.call (step_takes_place g u (advanced_entry w to) x last);
+      };
+      fired = tried.fired;
+      waits = waits_by g u (advanced_entry w to) x w last (subst (λ actors. is_held actors (Sched w) ≡ true) (sym tried.call.actors) holds.sched) has ∙ tried.waits;
+    }
 
 -- there was no memory
 pub not_expired : (g : Settings) (v : View) (w k to : ℕ) (e : NoMemory) (old new : Queue) (u : View) → k ≡ w → LooksDown g v (Sched k) to u
@@ -360,8 +315,6 @@ has_not_tried g v p q k to e old new u stands holds number same down rows =
       loses = subst (LosesRows p) (sym same) (loses_none p);
       number = ap (λ (x : Part). x.number) same;
       stands = subst (λ (x : Part). Stands g u.front x) (sym same) (looked_stands g v p to u stands holds looks);
-      tidy = subst (λ (x : Part). KeepsTidy g v p x u) (sym same)
-          (tidy_calm g v (look_entry (Sched p.number) looks.now) u p looks.step (λ r. refl));
     }
 
 pub when_none : (g : Settings) (v : View) (p q : Part) (r : Result ℕ NoMemory) (old new : Queue) (u : View) → IsErr r

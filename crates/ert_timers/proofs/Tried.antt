@@ -32,7 +32,7 @@ use Rattle.ert_timers.specs.FiredLists.{Queue}
 use Rattle.ert_laws.specs.Counts.{entries_of, is_arm, is_expire, is_orphan}
 use Rattle.ert_timers.specs.Parts.{HoldsSched, Part, Stands, last_timer, held_row}
 use Rattle.ert_timers.specs.Slots.{Slot}
-use Rattle.ert_timers.proofs.Later.{later_before, later_step, expires, unexpired_step, count_step}
+use Rattle.ert_timers.proofs.Later.{later_before, later_step, ends, live_step, count_step}
 use Rattle.ert_timers.proofs.Rows.{key_left, rows_dropped}
 use Rattle.ert_timers.proofs.Standing.{clock_stepped, holds_with, count_same}
 use Rattle.ert_wheel.specs.Rows.{key_in, key_of}
@@ -80,7 +80,7 @@ count_more g v e u w test step held has is =
 -- the row of a timer that isn't armed any more goes
 pub stands_gone : (g : Settings) (v : View) (e : Entry) (u : View) (p : Part) (k expired orphaned : ℕ) → Stands g v.front p
     → k < length p.keys → Appends g v e u → is_held v.actors (Wheel p.number) ≡ true → is_arm e.event ≡ false
-    → ((j : ℕ) → j ≢ k → expires e.event (last_timer p.number p.slots j) ≡ false)
+    → ((j : ℕ) → j ≢ k → ends e.event (last_timer p.number p.slots j) ≡ false)
     → (state g u.front).status (last_timer p.number p.slots k) ≢ Some Armed
     → expired ≡ entries_of is_expire p.number u.front → orphaned ≡ entries_of is_orphan p.number u.front
     → Stands g u.front (record p { keys = set p.keys k None; expires = expired; orphans = orphaned })
@@ -95,7 +95,7 @@ stands_gone g v e u p k expired orphaned stands low step wheel unarmed others se
           (rows_dropped g v.front p.number p.slots p.keys (state g u.front) stands.legal stands.holds.rows later k low settled
           (λ j seen is.
           let left = key_left p.keys k j seen low is in
-          unexpired_step g v e u (last_timer p.number p.slots j) step wheel (others j left.0) (stands.holds.rows.unexpired j seen left.1)));
+          live_step g v e u (last_timer p.number p.slots j) step wheel (others j left.0) (stands.holds.rows.live j seen left.1)));
       counted = record {
         arms = stands.counted.arms ∙ sym (count_same g v e u p.number is_arm step wheel unarmed);
         expires = expires_are;

@@ -11,8 +11,7 @@ use Rattle.ert_defs.specs.declared.entry.Entry.{Entry}
 use Rattle.ert_defs.specs.declared.memory.NoMemory.{NoMemory}
 use Rattle.ert_defs.specs.declared.settings.Settings.{Settings}
 use Rattle.ert_defs.specs.declared.timer.Status.{Status}
-use Rattle.ert_effects.specs.Ways.{Step}
-use Rattle.ert_effects.specs.WheelCalls.{Try, expires_by, expiry_entries, hits, IsSettled, AllSettled, AllDue, AreOnce, Advances, AdvancesAll, AreLooks}
+use Rattle.ert_effects.specs.WheelCalls.{Try, expires_by, expiry_entries, hits, IsSettled, AllSettled, AllDue, AreOnce, Advances}
 use Rattle.ert_table.specs.Calls.{IsMade}
 use Rattle.ert_table.specs.Takes.{Appends, TakesPlace}
 use Rattle.ert_table.specs.declared.view.View.{View}
@@ -20,7 +19,6 @@ use Rattle.ert_timers.specs.Changes.{let_go}
 use Rattle.ert_timers.specs.FiredLists.{Queue}
 use Rattle.ert_timers.specs.Parts.{Part, Stands, last_timer, held_row}
 use Rattle.ert_timers.specs.Passed.{HoldsNone, LosesRows}
-use Rattle.ert_timers.specs.Tidy.{KeepsTidy}
 use Rattle.ert_wheel.specs.Rows.{key_in, key_of, times, due_at, comes_before}
 use Rattle.ert_wheel.specs.declared.row.Row.{Row as WheelRow}
 
@@ -82,19 +80,13 @@ pub record ExpiresSome (g : Settings) (v : View) (p q : Part) (to : ℕ) (due_ro
   pub fired : new.rows ≡ old.rows ++ gained
   pub waits : fired_in g u.front p.number ≡ fired_in g v.front p.number ++ gained
   pub room : old.room ≤ new.room + n
-  pub tidy : KeepsTidy g v p q u
 
--- an advance that may make these steps by its answer: the timers that expired by it come last in the list,
--- and in the scheduler's
-pub record HasExpiredBy (advances : Result (ℕ × ℕ) NoMemory → Step) (g : Settings) (v : View) (w to : ℕ) (old new : Queue) (u : View) : Type 0 where
+-- an advance: the timers that expired by it come last in the list, and in the scheduler's
+pub record HasExpired (g : Settings) (v : View) (w to : ℕ) (old new : Queue) (u : View) : Type 0 where
   pub gained : List Row
-  pub call : IsMade g v (advances (Ok (to, length gained))) u
+  pub call : IsMade g v (Advances g w (Ok (to, length gained))) u
   pub fired : new.rows ≡ old.rows ++ gained
   pub waits : fired_in g u.front w ≡ fired_in g v.front w ++ gained
-
--- an advance that only tries the due rows
-abbrev pub HasExpired : Settings → View → ℕ → ℕ → Queue → Queue → View → Type 0
-HasExpired g v w to old new u = HasExpiredBy (Advances g w) g v w to old new u
 
 -- want of memory: nothing expired
 pub record HasNotExpired (g : Settings) (v : View) (w : ℕ) (e : NoMemory) (old new : Queue) (u : View) : Type 0 where
@@ -116,26 +108,6 @@ pub record HasTried (g : Settings) (v : View) (p q : Part) (to : ℕ) (old new :
   pub count : length gained ≡ hits tries
   pub fired : new.rows ≡ old.rows ++ gained
   pub waits : fired_in g u.front p.number ≡ fired_in g v.front p.number ++ gained
-  pub tidy : KeepsTidy g v p q u
-
--- and then slots were looked at
-pub record HasLooked (g : Settings) (v : View) (p q : Part) (to : ℕ) (old new : Queue) (u : View) : Type 0 where
-  pub now : ℤ
-  pub tries : List Try
-  pub looks : List Entry
-  pub gained : List Row
-  pub settled : AllSettled tries
-  pub due : AllDue ((state g v.front).rows p.number) to tries
-  pub once : AreOnce tries
-  pub loses : LosesRows p q
-  pub are_looks : AreLooks (Sched p.number) p.number 0 g.slots looks
-  pub call : TakesPlace g v (look_entry (Sched p.number) now ∷ (expiry_entries p.number tries ++ looks)) u
-  pub number : q.number ≡ p.number
-  pub ready : IsReady g u.front q to []
-  pub count : length gained ≡ hits tries
-  pub fired : new.rows ≡ old.rows ++ gained
-  pub waits : fired_in g u.front p.number ≡ fired_in g v.front p.number ++ gained
-  pub tidy : KeepsTidy g v p q u
 
 -- want of memory: nothing was tried
 pub record HasNotTried (g : Settings) (v : View) (p q : Part) (e : NoMemory) (old new : Queue) (u : View) : Type 0 where
@@ -143,7 +115,6 @@ pub record HasNotTried (g : Settings) (v : View) (p q : Part) (e : NoMemory) (ol
   pub loses : LosesRows p q
   pub number : q.number ≡ p.number
   pub stands : Stands g u.front q
-  pub tidy : KeepsTidy g v p q u
 
 -- what comes of trying the due rows, by the answer: all were tried, or none for want of memory
 abbrev pub IsTried : Settings → View → Part → Part → Result ℕ NoMemory → Queue → Queue → View → Type 0
@@ -154,8 +125,3 @@ IsTried g v p q (Err e) old new u = HasNotTried g v p q e old new u
 abbrev pub IsAdvanced : Settings → View → ℕ → Result ℕ NoMemory → Queue → Queue → View → Type 0
 IsAdvanced g v w (Ok to) old new u = HasExpired g v w to old new u
 IsAdvanced g v w (Err e) old new u = HasNotExpired g v w e old new u
-
--- the same of an advance that looks at slots after its tries
-abbrev pub IsAdvancedAll : Settings → View → ℕ → Result ℕ NoMemory → Queue → Queue → View → Type 0
-IsAdvancedAll g v w (Ok to) old new u = HasExpiredBy (AdvancesAll g w) g v w to old new u
-IsAdvancedAll g v w (Err e) old new u = HasNotExpired g v w e old new u

@@ -16,7 +16,7 @@ use Rattle.ert_defs.specs.declared.timer.Status.TheVariants.{Armed}
 use Rattle.ert_defs.specs.declared.timer.TimerRef.{TimerRef}
 use Rattle.ert_effects.specs.RoomCalls.{TellsRoom}
 use Rattle.ert_effects.specs.TimerCalls.{Cancels, Starts}
-use Rattle.ert_effects.specs.WheelCalls.{Advances, AdvancesAll, Sweeps}
+use Rattle.ert_effects.specs.WheelCalls.{Advances, Sweeps}
 use Rattle.ert_effects.specs.declared.answers.Room.{Room}
 use Rattle.ert_effects.specs.declared.answers.StartErr.{StartErr}
 use Rattle.ert_laws.specs.Counts.{count_at}
@@ -45,11 +45,6 @@ LawOfStarts = (g : Settings) (by w : ℕ) (start : Start) (answer : Result Timer
 -- those of an advance are of the scheduler and of its wheel alone
 abbrev pub LawOfAdvances : Type 0
 LawOfAdvances = (g : Settings) (w : ℕ) (answer : Result (ℕ × ℕ) NoMemory) (s : State) (es : List Entry) → Advances g w answer s es
-    → AreWithWheel (Sched w) w es
-
--- so are those of an advance that looks at slots after its tries
-abbrev pub LawOfFullAdvances : Type 0
-LawOfFullAdvances = (g : Settings) (w : ℕ) (answer : Result (ℕ × ℕ) NoMemory) (s : State) (es : List Entry) → AdvancesAll g w answer s es
     → AreWithWheel (Sched w) w es
 
 -- those of a sweep are of its caller and of the wheel alone

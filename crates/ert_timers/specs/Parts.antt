@@ -1,6 +1,6 @@
 -- The timers of one scheduler: what its part keeps, and when the part stands for a history.
 
-use Rattle.std.specs.Prelude.{◌≡◌, ◌≢◌, ℕ, ◌+◌, ◌<◌, ◌≤◌, true, false, List, length, count_by, slice_index_or, Option, Some, None, option_map, refl}
+use Rattle.std.specs.Prelude.{◌≡◌, ℕ, ◌+◌, ◌<◌, ◌≤◌, true, false, List, length, count_by, slice_index_or, Option, Some, None, option_map, refl}
 use Rattle.std.specs.Coded.{Coded, code_by, coded×, coded_ℕ, coded_list, coded_option}
 use Rattle.std.specs.FinSet as set
 use Rattle.std.specs.List.{slice_get}
@@ -15,7 +15,8 @@ use Rattle.ert_defs.specs.declared.entry.Actor.TheVariants.{Wheel, Sched, Caller
 use Rattle.ert_defs.specs.declared.entry.Entry.{Entry}
 use Rattle.ert_defs.specs.declared.settings.Settings.{Settings}
 use Rattle.ert_defs.specs.declared.timer.Kind.TheVariants.{Wrapped}
-use Rattle.ert_defs.specs.declared.timer.Status.TheVariants.{Armed, Expired}
+use Rattle.ert_defs.specs.declared.timer.Status.{Status}
+use Rattle.ert_defs.specs.declared.timer.Status.TheVariants.{Armed, Cancelled}
 use Rattle.ert_defs.specs.declared.timer.TimerRef.{TimerRef}
 use Rattle.ert_laws.specs.Counts.{entries_of, is_arm, is_expire, is_orphan}
 use Rattle.ert_table.specs.Held.{is_held}
@@ -114,11 +115,17 @@ pub record AreFit (processes : ℕ) (slots : List Slot) (keys : List (Option Key
   pub dests : (k : ℕ) (key : Key) → key_in keys k ≡ Some key → (slot_at slots k).dest < processes
   pub chained : AreOwned slots keys owners armed
 
+-- a timer whose row is held has this status: it is armed, or was cancelled by one who told the part nothing
+abbrev pub IsLive : Option Status → Type 0
+IsLive (Some Armed) = Unit {0}
+IsLive (Some Cancelled) = Unit {0}
+IsLive _ = ⊥
+
 -- the rows that are held: each is the last of its slot, at the place of its order among the timers of the
--- wheel, and hasn't expired; and each armed timer is held
+-- wheel, and armed or cancelled; and each armed timer is held
 pub record HoldsRows (s : State) (w : ℕ) (slots : List Slot) (keys : List (Option Key)) : Type 0 where
   pub each : (k : ℕ) (key : Key) → key_in keys k ≡ Some key → slice_get (s.rows w) key.order ≡ Some (held_row w slots k key)
-  pub unexpired : (k : ℕ) (key : Key) → key_in keys k ≡ Some key → s.status (last_timer w slots k) ≢ Some Expired
+  pub live : (k : ℕ) (key : Key) → key_in keys k ≡ Some key → IsLive (s.status (last_timer w slots k))
   pub armed : (n : ℕ) (row : Row) → slice_get (s.rows w) n ≡ Some row → s.status row.timer ≡ Some Armed
       → key_in keys row.timer.slot ≡ Some (record { deadline = row.deadline; order = n })
 

@@ -1,7 +1,9 @@
 -- How the rows of a part go, and what it holds no row of.
 
-use Rattle.std.specs.Prelude.{◌≡◌, ◌≢◌, ℕ, ◌<◌, ◌≤◌, List, [], ◌∷◌, Some}
+use Rattle.std.specs.Prelude.{◌≡◌, ◌≢◌, ◌⊎◌, ℕ, ◌<◌, ◌≤◌, List, [], ◌∷◌, Some, Result, Ok}
+use Rattle.ert_defs.specs.declared.timer.TimerRef.{TimerRef}
 use Rattle.ert_effects.specs.WheelCalls.{Try}
+use Rattle.ert_effects.specs.declared.answers.StartErr.{StartErr}
 use Rattle.ert_timers.specs.Parts.{Part, last_timer}
 use Rattle.ert_wheel.specs.Rows.{key_in}
 use Rattle.ert_wheel.specs.declared.row.Key.{Key}
@@ -17,6 +19,14 @@ pub record LosesRows (p q : Part) : Type 0 where
   pub slots : q.slots ≡ p.slots
   pub left : (k : ℕ) (key : Key) → key_in q.keys k ≡ Some key → key_in p.keys k ≡ Some key
   pub time : p.passed ≤ q.passed
+
+-- a row of a slot was held before, and is of the same timer
+abbrev pub WasHeld : Part → Part → ℕ → Key → Type 0
+WasHeld p q k key = (key_in p.keys k ≡ Some key) × (last_timer q.number q.slots k ≡ last_timer p.number p.slots k)
+
+-- some rows may have gone in a start, and none has come but that of the timer that it started
+abbrev pub GainsOne : Part → Part → Result TimerRef StartErr → Type 0
+GainsOne p q answer = (k : ℕ) (key : Key) → key_in q.keys k ≡ Some key → WasHeld p q k key ⊎ (answer ≡ Ok (last_timer q.number q.slots k))
 
 -- no row is held of the timers of these tries
 abbrev pub HoldsNone : Part → List Try → Type 0

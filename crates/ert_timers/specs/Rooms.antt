@@ -16,7 +16,6 @@ use Rattle.ert_table.specs.declared.view.View.{View}
 use Rattle.ert_timers.specs.Changes.{is_resting}
 use Rattle.ert_timers.specs.Parts.{Part, Stands, slot_at}
 use Rattle.ert_timers.specs.Starting.{probes_from}
-use Rattle.ert_timers.specs.Tidy.{KeepsTidy}
 
 -- a slot was looked at, and what was known before became this
 pub record SeesSlot (g : Settings) (v : View) (by now : ℕ) (p : Part) (k : ℕ) (before room : Room) (u : View) : Type 0 where
@@ -36,7 +35,6 @@ pub record SeesAll (g : Settings) (v : View) (by : ℕ) (p : Part) (seen : Room)
   pub shows : ShowsRoom by p.number (natural (down g now)) (state g v.front) 0 g.slots no_room seen probes
   pub call : TakesPlace g v (look_entry (Caller by) now ∷ probes) u
   pub stands : Stands g u.front p
-  pub tidy : KeepsTidy g v p p u
 
 -- a look at the time, and then so many slots were looked at in order
 pub record SeesSome (g : Settings) (v : View) (by now : ℕ) (p : Part) (n : ℕ) (room : Room) (u : View) : Type 0 where
@@ -49,4 +47,3 @@ pub record SeesSome (g : Settings) (v : View) (by now : ℕ) (p : Part) (n : ℕ
   pub stands : Stands g u.front p
   pub told : room ≡ room_after (state g v.front) now p.number 0 founds no_room
   pub few : room.free ≤ n
-  pub tidy : KeepsTidy g v p p u

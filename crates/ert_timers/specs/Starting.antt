@@ -1,6 +1,6 @@
 -- A start of a part: the slots that are looked at, the arming, and what follows from an exit.
 
-use Rattle.std.specs.Prelude.{◌≡◌, ◌≢◌, ◌⊎◌, ℕ, ◌+◌, ◌<◌, ◌≤◌, Bool, true, false, List, [], ◌∷◌, length, Option, Some, None, IfSome}
+use Rattle.std.specs.Prelude.{◌≡◌, ◌≢◌, ◌⊎◌, ℕ, ◌+◌, ◌<◌, ◌≤◌, Bool, true, false, List, [], ◌∷◌, length, Option, Some, None, IfSome, Ok}
 use Rattle.std.specs.FinSet as set
 use Rattle.ert_defs.specs.Entries.{probe_entry, arm_entry, mark_entry}
 use Rattle.ert_defs.specs.Milliseconds.{natural, down, deadline_of}
@@ -20,7 +20,7 @@ use Rattle.ert_table.specs.declared.view.View.{View}
 use Rattle.ert_timers.specs.Changes.{IsFree, is_resting, kept, given_back}
 use Rattle.ert_timers.specs.Expiring.{is_hit}
 use Rattle.ert_timers.specs.Parts.{Part, Stands, last_timer, slot_at}
-use Rattle.ert_timers.specs.Tidy.{KeepsTidy}
+use Rattle.ert_timers.specs.Passed.{LosesRows, GainsOne}
 use Rattle.ert_timers.specs.declared.part.Use.{Use}
 use Rattle.ert_wheel.specs.Rows.{key_in}
 
@@ -53,7 +53,7 @@ pub record Arms (g : Settings) (v : View) (by : ℕ) (p q : Part) (slot : ℕ) (
   pub stands : Stands g u.front q
   pub holds : HoldsTimer q timer next.deadline
   pub dest : (slot_at q.slots timer.slot).dest ≡ start.dest
-  pub tidy : KeepsTidy g v p q u
+  pub rows : GainsOne p q (Ok timer)
 
 -- it is seen whether the destination had exited, and then the timer is cancelled for that
 pub record Ends (g : Settings) (v : View) (by : ℕ) (p q : Part) (dest : ℕ) (timer : TimerRef) (u : View) : Type 0 where
@@ -63,7 +63,7 @@ pub record Ends (g : Settings) (v : View) (by : ℕ) (p q : Part) (dest : ℕ) (
   pub call : TakesPlace g v (mark_entry (Caller by) dest false was ∷ closing) u
   pub number : q.number ≡ p.number
   pub stands : Stands g u.front q
-  pub tidy : KeepsTidy g v p q u
+  pub loses : LosesRows p q
 
 -- the status of what is shown of a slot
 abbrev pub status_shown : Option Shown → Option Status
@@ -83,7 +83,7 @@ pub record LooksAt (g : Settings) (v : View) (by now : ℕ) (p q : Part) (k : �
   pub full : set.contains q.free k ≡ false → (is_taken found ≡ true) ⊎ (is_resting (slot_at p.slots k) now ≡ true)
   pub rested : set.contains q.free k ≡ true → is_resting (slot_at p.slots k) now ≡ false
   pub since : (j : ℕ) → (state g u.front).since p.number j ≡ (state g v.front).since p.number j
-  pub tidy : KeepsTidy g v p q u
+  pub loses : LosesRows p q
 
 -- the entries of looks at slots in order, from one on
 abbrev pub probes_from : ℕ → ℕ → ℕ → List (Option Status) → List Entry
@@ -110,7 +110,7 @@ pub record LooksAtSome (g : Settings) (v : View) (by now : ℕ) (p q : Part) (n 
   pub since : (j : ℕ) → (state g u.front).since p.number j ≡ (state g v.front).since p.number j
   pub above : (j : ℕ) → n ≤ j → set.contains q.free j ≡ false
   pub look : (state g u.front).looked (Caller by) ≡ (state g v.front).looked (Caller by)
-  pub tidy : KeepsTidy g v p q u
+  pub loses : LosesRows p q
 
 -- a slot that can take a timer is found, after looks at some slots; or none is after looks at all
 abbrev pub FindsSlot : ℕ → Part → Part → Option ℕ → List (Option Status) → Type 0
@@ -129,4 +129,4 @@ pub record TakesSlot (g : Settings) (v : View) (by now : ℕ) (p q : Part) (slot
   pub usable : IfSome slot (λ k. is_taken ((state g u.front).status (last_timer q.number q.slots k)) ≡ false)
   pub rested : IfSome slot (λ k. (turned (uses_at (state g u.front) q.number k)).since ≤ now)
   pub look : (state g u.front).looked (Caller by) ≡ (state g v.front).looked (Caller by)
-  pub tidy : KeepsTidy g v p q u
+  pub loses : LosesRows p q

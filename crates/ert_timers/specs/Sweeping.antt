@@ -8,7 +8,6 @@ use Rattle.ert_table.specs.Takes.{TakesPlace}
 use Rattle.ert_table.specs.declared.view.View.{View}
 use Rattle.ert_timers.specs.Parts.{Part, Stands}
 use Rattle.ert_timers.specs.Passed.{HoldsNone, LosesRows}
-use Rattle.ert_timers.specs.Tidy.{KeepsTidy}
 
 -- some of them were tried
 pub record SweepsSome (g : Settings) (v : View) (by process : ℕ) (p q : Part) (u : View) : Type 0 where
@@ -22,4 +21,3 @@ pub record SweepsSome (g : Settings) (v : View) (by process : ℕ) (p q : Part) 
   pub number : q.number ≡ p.number
   pub rows : (state g u.front).rows p.number ≡ (state g v.front).rows p.number
   pub exited : (state g u.front).exited process ≡ true
-  pub tidy : KeepsTidy g v p q u

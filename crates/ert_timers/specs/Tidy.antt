@@ -1,12 +1,9 @@
 -- When a part is tidy: it holds as armed exactly the timers that are.
 
 use Rattle.std.specs.Prelude.{◌≡◌, ◌≢◌, ℕ, Some}
-use Rattle.ert_defs.specs.States.{State, state}
-use Rattle.ert_defs.specs.declared.settings.Settings.{Settings}
+use Rattle.ert_defs.specs.States.{State}
 use Rattle.ert_defs.specs.declared.timer.Status.TheVariants.{Armed}
 use Rattle.ert_defs.specs.declared.timer.TimerRef.{TimerRef}
-use Rattle.ert_table.specs.Held.{IsWhole}
-use Rattle.ert_table.specs.declared.view.View.{View}
 use Rattle.ert_timers.specs.Parts.{Part, last_timer}
 use Rattle.ert_wheel.specs.Rows.{key_in}
 use Rattle.ert_wheel.specs.declared.row.Key.{Key}
@@ -19,7 +16,3 @@ IsTidy s p = (k : ℕ) (key : Key) → key_in p.keys k ≡ Some key → s.status
 abbrev pub IsTidyBut : State → Part → TimerRef → Type 0
 IsTidyBut s p timer = (k : ℕ) (key : Key) → key_in p.keys k ≡ Some key → last_timer p.number p.slots k ≢ timer
     → s.status (last_timer p.number p.slots k) ≡ Some Armed
-
--- a call by a pass that holds every actor leaves a tidy part tidy
-abbrev pub KeepsTidy : Settings → View → Part → Part → View → Type 0
-KeepsTidy g v p q u = IsWhole g v.actors → IsTidy (state g v.front) p → IsTidy (state g u.front) q

@@ -17,7 +17,6 @@ impl WheelPart {
     ghost use Rattle.ert_timers.specs.Expiring.{Expires, ExpiresSome, IsReady, IsTried, IsAdvanced};
     ghost use Rattle.ert_timers.specs.Parts.{HoldsSched, Stands, last_timer};
     ghost use Rattle.ert_timers.specs.Passed.{HasPassed, LosesRows};
-    ghost use Rattle.ert_timers.specs.Tidy.{KeepsTidy};
     ghost use Rattle.ert_wheel.specs.Rows.{key_in, key_of};
 
     /// Lets every timer expire whose deadline has come, by the time that the call itself looks up. Their
@@ -42,7 +41,6 @@ impl WheelPart {
         ensures call { IsAdvanced (settings_of desk.now) (view_of pass.old) self.old.number result fired.old fired.new (view_of pass.new) }
         ensures passed { IfOk result (λ to. HasPassed self.new to) }
         ensures loses { LosesRows self.old self.new }
-        ensures tidy { KeepsTidy (settings_of desk.now) (view_of pass.old) self.old self.new (view_of pass.new) }
     {
         let to = self.try_due(desk, pass, fired)?;
         pass.load_time(

@@ -1,6 +1,6 @@
 //! Laws of the timers of a scheduler, each the contract of a function that does nothing.
 
-ghost use Rattle.ert_timers.specs.Laws.{LawOfStanding, LawOfStarts, LawOfAdvances, LawOfFullAdvances, LawOfSweeps, LawOfRooms, LawOfTidyCounts, LawOfCancels};
+ghost use Rattle.ert_timers.specs.Laws.{LawOfStanding, LawOfStarts, LawOfAdvances, LawOfSweeps, LawOfRooms, LawOfTidyCounts, LawOfCancels};
 
 /// A part stands on while its wheel has no more entries, whatever others do meanwhile.
 pub fn parts_stand_on()
@@ -12,7 +12,6 @@ pub fn parts_stand_on()
 pub fn calls_leave_other_parts()
     ensures starts { LawOfStarts }
     ensures advances { LawOfAdvances }
-    ensures full_advances { LawOfFullAdvances }
     ensures sweeps { LawOfSweeps }
     ensures rooms { LawOfRooms }
 {}

@@ -40,13 +40,13 @@
 //! |---|---|---|
 //! | `start` | looks at the time, stores the word of a free slot, asks whether the destination has exited | constant; every slot once where none is held free |
 //! | `advance` | looks at the time, and tries each due timer in order of deadline and then of start | the due timers and the buckets that are visited |
-//! | `advance_all` | does the same, and then looks at each timer that is left | every slot once |
 //! | `sweep` | tries each timer of a process that has exited | those timers, each once |
 //! | `forget` | drops the row of a timer that the pass has seen settled, and holds its slot free where its round has uses left | constant |
 //! | `reuse` | holds the slot of a timer free whose message was handed over, where its round has uses left | constant |
 //! | `room` | looks at the time and at every slot, and tells how many can take a timer and from when on one more can | every slot once |
 //! | `next_due` | tells how early a timer may be due | 64 timers at most, and where one was started late those that the next advance takes |
 //! | `tally` | counts | none |
+//! | `drop_settled` | with a pass that holds every actor, looks at each timer that is held, and drops the rows of those that others cancelled | every slot once |
 //!
 //! A start that looks at every slot knows from then on all that can be used again; so only where all rest or
 //! are taken does each start look at every slot. Where a window of 512 milliseconds begins, an advance also
@@ -59,9 +59,9 @@
 //! **What it promises.** The part stands for the front of its pass (`specs/Parts`, `Stands`). Each call keeps
 //! that, and takes place with exactly the entries that `ert_effects` says for its answer.
 //!
-//! A part is tidy where each timer that it holds is armed (`specs/Tidy`); then it holds as many as are. A new part
-//! is tidy, and each call of a pass that holds every actor leaves a tidy part tidy. `forget` makes a part tidy
-//! again after a cancel, and `advance_all` makes any part tidy.
+//! Each timer that is held is armed, or was cancelled by one who told the part nothing. A part is tidy where none was
+//! (`specs/Tidy`); then it holds as many as are armed. No call but a cancel, which no part makes, ends that, and
+//! `forget` of the cancelled timer mends it. With a pass that holds every actor `drop_settled` makes any part tidy.
 //!
 //! It stands on `ert_defs`, `ert_effects`, `ert_words`, `ert_wheel`, `ert_table` and `ert_calls`.
 #![tactic(auto)]

@@ -88,12 +88,10 @@ impl WheelPart {
     ghost use Rattle.std.specs.Option.{is_some};
     ghost use Rattle.std.specs.Prelude.{◌≡◌, ◌<◌, ◌≤◌, IfOk, IfSome, ℕ, length, count_by, [], option_map};
     ghost use Rattle.ert_defs.specs.Settings.{IsChecked};
-    ghost use Rattle.ert_defs.specs.States.{state};
     ghost use Rattle.ert_timers.specs.Parts.{Stands, held_row};
     ghost use Rattle.ert_timers.specs.Expiring.{AreDue};
     ghost use Rattle.ert_timers.specs.Changes.{NextOf, gone_on};
     ghost use Rattle.ert_timers.specs.NextDue.{IsNextHeld};
-    ghost use Rattle.ert_timers.specs.Tidy.{IsTidy};
     ghost use Rattle.ert_wheel.specs.Rows.{key_in, key_of, row_at};
 
     /// The part of a wheel of a desk that has just been opened. It has no timer.
@@ -102,7 +100,6 @@ impl WheelPart {
         requires in_range { wheel < settings.now.schedulers }
         ensures number { IfOk result (λ part. part.number ≡ wheel) }
         ensures stands { IfOk result (Stands settings.now []) }
-        ensures tidy { IfOk result (IsTidy (state settings.now [])) }
         ensures passed { IfOk result (λ part. part.passed ≡ 0) }
     {
         let unused = Slot::new(0, 0, 0, 0, Kind::Wrapped);

@@ -22,7 +22,6 @@ impl WheelPart {
     ghost use Rattle.ert_table.specs.Desks.{settings_of, view_of, front_of, Belongs};
     ghost use Rattle.ert_timers.specs.Parts.{HoldsCaller, Stands};
     ghost use Rattle.ert_timers.specs.Rooms.{SeesSlot, SeesAll};
-    ghost use Rattle.ert_timers.specs.Tidy.{KeepsTidy};
 
     /// Looks at the time and at every slot: how many slots can take a timer now, and from when on one more
     /// can that rests and isn't taken. A wheel that has had 2^53 timers takes no more.
@@ -35,7 +34,6 @@ impl WheelPart {
         ensures belongs { Belongs desk.now pass.new }
         ensures stands { Stands (settings_of desk.now) (front_of pass.new) self.now }
         ensures call { IsMade (settings_of desk.now) (view_of pass.old) (TellsRoom (settings_of desk.now) by self.now.number result) (view_of pass.new) }
-        ensures tidy { KeepsTidy (settings_of desk.now) (view_of pass.old) self.now self.now (view_of pass.new) }
     {
         let room = self.see_slots(desk, pass, by);
         if self.arms() < MOST_TIMERS {

@@ -23,7 +23,7 @@ impl WheelPart {
     ghost use Rattle.ert_table.specs.Calls.{IsMade};
     ghost use Rattle.ert_timers.specs.Changes.{IsFree};
     ghost use Rattle.ert_timers.specs.Parts.{HoldsCaller, Stands, slot_at, last_timer};
-    ghost use Rattle.ert_timers.specs.Tidy.{KeepsTidy};
+    ghost use Rattle.ert_timers.specs.Passed.{GainsOne};
     ghost use Rattle.ert_timers.specs.Starting.{HoldsTimer, IsUseFor, Orphans, Arms, Ends, LooksAt, LooksAtSome, TakesSlot};
 
     /// Starts a timer for a caller (`erlang` module reference, `start_timer`), by the time that the call
@@ -49,7 +49,7 @@ impl WheelPart {
         ensures stands { Stands (settings_of desk.now) (front_of pass.new) self.new }
         ensures call { IsMade (settings_of desk.now) (view_of pass.old) (Starts (settings_of desk.now) by self.old.number start.now result) (view_of pass.new) }
         ensures memory { result ≢ Err NoMemory }
-        ensures tidy { KeepsTidy (settings_of desk.now) (view_of pass.old) self.old self.new (view_of pass.new) }
+        ensures rows { GainsOne self.old self.new result }
     {
         let Some(ahead) = look_ahead(desk, pass, by, start) else {
             return Err(StartErr::BadArg);

@@ -14,7 +14,6 @@ impl WheelPart {
     ghost use Rattle.ert_timers.specs.Freeing.{IsHeld, IsLast, IsLetGo};
     ghost use Rattle.ert_timers.specs.Parts.{HoldsCaller, Stands};
     ghost use Rattle.ert_timers.specs.Passed.{LosesRows};
-    ghost use Rattle.ert_timers.specs.Tidy.{IsTidy, IsTidyBut, KeepsTidy};
     ghost use Rattle.ert_defs.specs.declared.settings.Settings.{Settings};
     ghost use Rattle.ert_defs.specs.declared.timer.Status.TheVariants.{Armed};
 
@@ -35,7 +34,6 @@ impl WheelPart {
         ensures call { IsMade (settings_of desk.now) (view_of pass.old) (Sweeps (settings_of desk.now) by self.old.number process) (view_of pass.new) }
         ensures loses { LosesRows self.old self.new }
         ensures swept { IsSwept (state (settings_of desk.now) (front_of pass.new)) self.old.number process }
-        ensures tidy { KeepsTidy (settings_of desk.now) (view_of pass.old) self.old self.new (view_of pass.new) }
     {
         while let Some(row) = self.newest_of(process) {
             let timer = self.timer(row);
@@ -59,9 +57,8 @@ impl WheelPart {
         ensures loses { LosesRows self.old self.new }
         ensures held { IsHeld self.old timer → self.new ≡ given_back self.old timer.slot false }
         ensures away { (IsHeld self.old timer → ⊥) → self.new ≡ self.old }
-        ensures tidy { (g : Settings) → (view_of pass.now).settings ≡ Some g
-            → IsTidyBut (state g (front_of pass.now)) self.old timer → IsTidy (state g (front_of pass.now)) self.new }
     {
+        // For the prover alone: what is known of a pass is known of one that is read.
         let _seen = pass;
         if self.drop_row(timer.slot) {
             self.free_after(timer);
@@ -81,9 +78,8 @@ impl WheelPart {
         ensures number { self.new.number ≡ self.old.number }
         ensures stands { (g : Settings) → (view_of pass.now).settings ≡ Some g → Stands g (front_of pass.now) self.new }
         ensures freed { self.new ≡ reused self.old timer.slot }
-        ensures tidy { (g : Settings) → (view_of pass.now).settings ≡ Some g
-            → IsTidy (state g (front_of pass.now)) self.old → IsTidy (state g (front_of pass.now)) self.new }
     {
+        // For the prover alone, as in `forget`.
         let _handed = pass;
         self.free_after(timer);
     }

@@ -1,11 +1,11 @@
 -- What the entries of the calls tell, alone and beside others.
 
 use Rattle.std.proofs.Common.{◌≡◌, ℕ, zero, suc, ◌+◌, ◌*◌, Bool, true, false, not, cond, List, [], ◌∷◌, filter, Option, Some, None, Result, Ok, Err, is_ok, refl, sym, ap, ◌∙◌, arith}
-use Rattle.ert_effects.proofs.Advanced.{IsAdvance, advance_is, advance_all_is}
-use Rattle.ert_effects.specs.Chains.{Serves, Delivers, Advance, HasTurnedBy, SweepsWheel, SweepsWheels, Exits}
+use Rattle.ert_effects.proofs.Advanced.{advance_is}
+use Rattle.ert_effects.specs.Chains.{Serves, Delivers, HasTurned, SweepsWheel, SweepsWheels, Exits}
 use Rattle.ert_effects.specs.RequestCalls.{Asks}
 use Rattle.ert_effects.specs.Ways.{Step, Way, alone, beside}
-use Rattle.ert_effects.specs.WheelCalls.{Try, Advances, AdvancesAll, MarksExit, Sweeps, orphans_by, orphan_entries}
+use Rattle.ert_effects.specs.WheelCalls.{Try, Advances, MarksExit, Sweeps, orphans_by, orphan_entries}
 use Rattle.ert_effects.specs.declared.answers.Turned.{Turned}
 use Rattle.ert_defs.specs.Entries.{is_ours, mark_entry}
 use Rattle.ert_defs.specs.States.{State}
@@ -20,7 +20,7 @@ use Rattle.ert_defs.specs.declared.timer.Status.{Status}
 use Rattle.ert_defs.specs.declared.timer.TimerRef.{TimerRef}
 use Rattle.ert_told.proofs.Sums.{sum-cons, IsSum, alone_sum, beside_sum, step_sum, then_sum, none_sum}
 use Rattle.ert_told.proofs.Turning.{Weighs, advance_sum, serve_sum, delivers_sum, turn_sum}
-use Rattle.ert_told.specs.Told.{by_answer, by_expiry, by_delivery, by_drop, by_advance, by_exit, by_ask, sum_of, served_by, turn_in, LawOfServes, LawOfDeliveries, LawOfTurns, LawOfLastTurns, LawOfExits, LawOfAsks}
+use Rattle.ert_told.specs.Told.{by_answer, by_expiry, by_delivery, by_drop, by_advance, by_exit, by_ask, sum_of, served_by, turn_in, LawOfServes, LawOfDeliveries, LawOfTurns, LawOfExits, LawOfAsks}
 
 answers_weigh : Weighs by_answer 1 0 0 0 (λ _. 0)
 answers_weigh (Answer wheel left) = refl
@@ -73,23 +73,19 @@ module _ (g : Settings) (w : ℕ) (way : Way) (own : List Entry → List Entry)
       let thrown = delivers_sum by_drop 0 0 0 1 (λ _. 0) drops_weigh g w way (λ m. sum_of by_drop (own m)) (sums by_drop) answer h m made in
       pair_same answer (sum_of by_delivery (own m), sum_of by_drop (own m)) (omega (arith, put)) (omega (arith, thrown))
 
--- a turn in which the wheel is advanced so
+-- a turn
 module _ (g : Settings) (w : ℕ) (way : Way) (own : List Entry → List Entry)
-    (sums : (f : Event → ℕ) → IsSum f way (λ m. sum_of f (own m))) (allows : Result (ℕ × ℕ) NoMemory → Step)
-    (is_advance : (answer : ℕ × ℕ) (s : State) (es : List Entry) → allows (Ok answer) s es → IsAdvance w answer es) where
-  abbrev advance : Advance
-  advance answer = way (Wheel w ∷ []) (allows answer)
-
+    (sums : (f : Event → ℕ) → IsSum f way (λ m. sum_of f (own m))) where
   sum_in_turn : (f : Event → ℕ) (answer expiry put thrown : ℕ) (to : ℕ → ℕ) → Weighs f answer expiry put thrown to → (t : Turned) (h m : List Entry)
-      → HasTurnedBy advance g way w t h m
+      → HasTurned g way w t h m
       → sum_of f (own m) ≡ t.served * answer + ((to t.to + t.fired * expiry) + (t.put * put + t.dropped * thrown))
   sum_in_turn f answer expiry put thrown to weighs t h m made =
-      turn_sum f answer expiry put thrown to weighs g w way (λ m. sum_of f (own m)) (sums f) advance t h m
-      (λ a h m step. step_sum f way (λ m. sum_of f (own m)) (sums f) (Wheel w ∷ []) (allows (Ok a)) h m (to a.0 + a.1 * expiry)
-      (λ s es made. advance_sum f answer expiry put thrown to weighs w a es (is_advance a s es made)) step)
+      turn_sum f answer expiry put thrown to weighs g w way (λ m. sum_of f (own m)) (sums f) t h m
+      (λ a h m step. step_sum f way (λ m. sum_of f (own m)) (sums f) (Wheel w ∷ []) (Advances g w (Ok a)) h m (to a.0 + a.1 * expiry)
+      (λ s es made. advance_sum f answer expiry put thrown to weighs w a es (advance_is w a es made)) step)
       made
 
-  turn_tells : (t : Turned) (h m : List Entry) → HasTurnedBy advance g way w t h m → t ≡ turn_in (own m)
+  turn_tells : (t : Turned) (h m : List Entry) → HasTurned g way w t h m → t ≡ turn_in (own m)
   turn_tells t h m made =
       turned_same t (turn_in (own m)) (omega (arith, sum_in_turn by_answer 1 0 0 0 (λ _. 0) answers_weigh t h m made))
       (omega (arith, sum_in_turn by_advance 0 0 0 0 (λ time. time) advances_weigh t h m made))
@@ -111,15 +107,8 @@ deliveries_tell w g answer h m = (
 
 pub turns_tell : LawOfTurns
 turns_tell w g t h m = (
-  turn_tells g w (alone g) (λ m. m) (λ f. alone_sum f g) (Advances g w) (λ answer s es made. advance_is w answer es made) t h m,
-  λ a. turn_tells g w (beside g a) (filter (is_ours (a ∷ []))) (λ f. beside_sum f g a) (Advances g w) (λ answer s es made. advance_is w answer es made) t h m,
-)
-
-pub last_turns_tell : LawOfLastTurns
-last_turns_tell w g t h m = (
-  turn_tells g w (alone g) (λ m. m) (λ f. alone_sum f g) (AdvancesAll g w) (λ answer s es made. advance_all_is g.slots w answer es made) t h m,
-  λ a. turn_tells g w (beside g a) (filter (is_ours (a ∷ []))) (λ f. beside_sum f g a) (AdvancesAll g w)
-      (λ answer s es made. advance_all_is g.slots w answer es made) t h m,
+  turn_tells g w (alone g) (λ m. m) (λ f. alone_sum f g) t h m,
+  λ a. turn_tells g w (beside g a) (filter (is_ours (a ∷ []))) (λ f. beside_sum f g a) t h m,
 )
 
 -- an exit marks once, and then sweeps

@@ -3,7 +3,7 @@
 use Rattle.std.proofs.Common.{◌≡◌, ℕ, zero, suc, ◌+◌, ◌*◌, Bool, true, false, cond, List, [], ◌∷◌, ◌++◌, Option, Some, None, Result, Ok, Err, refl, ap, ◌∙◌, arith}
 use Rattle.std.specs.Prelude.{nat_lt}
 use Rattle.ert_effects.proofs.Advanced.{IsAdvance}
-use Rattle.ert_effects.specs.Chains.{HoldsBy, Serves, HasServed, ServesAll, ServesMany, Advance, Hands, HandsMany, Delivers, HasTurnedBy, put_by, puts, dropped_by, drops}
+use Rattle.ert_effects.specs.Chains.{HoldsBy, Serves, HasServed, ServesAll, ServesMany, AdvancesWheel, Hands, HandsMany, Delivers, HasTurned, put_by, puts, dropped_by, drops}
 use Rattle.ert_effects.specs.MailCalls.{handed_entries, HandsOver}
 use Rattle.ert_effects.specs.RequestCalls.{Picks, Answers, DoesAsked, HasAnswered}
 use Rattle.ert_effects.specs.TimerCalls.{read_entries, cancel_entries}
@@ -173,12 +173,12 @@ module _ (f : Event → ℕ) (answer expiry put thrown : ℕ) (to : ℕ → ℕ)
         hands_many_sum delivered.hows h m delivered.runs
         ∙ omega (arith, ap (λ n. n * put) delivered.put_is, ap (λ n. n * thrown) delivered.dropped_is)
 
-    pub turn_sum : (advance : Advance) (t : Turned) (h m : List Entry)
-        → ((answer : ℕ × ℕ) (h m : List Entry) → advance (Ok answer) h m → count m ≡ to answer.0 + answer.1 * expiry) → HasTurnedBy advance g way w t h m
+    pub turn_sum : (t : Turned) (h m : List Entry)
+        → ((answer : ℕ × ℕ) (h m : List Entry) → AdvancesWheel g way w (Ok answer) h m → count m ≡ to answer.0 + answer.1 * expiry) → HasTurned g way w t h m
         → count m ≡ t.served * answer + ((to t.to + t.fired * expiry) + (t.put * put + t.dropped * thrown))
-    turn_sum advance t h m each turned =
-        then_sum f way count sums (ServesAll g way w (Ok t.served)) (Then (advance (Ok (t.to, t.fired))) (Delivers g way w (Ok (t.put, t.dropped)))) h m
+    turn_sum t h m each turned =
+        then_sum f way count sums (ServesAll g way w (Ok t.served)) (Then (AdvancesWheel g way w (Ok (t.to, t.fired))) (Delivers g way w (Ok (t.put, t.dropped)))) h m
         (t.served * answer) ((to t.to + t.fired * expiry) + (t.put * put + t.dropped * thrown)) (λ h m served. serves_all_sum t.served h m served)
-        (λ h m rest. then_sum f way count sums (advance (Ok (t.to, t.fired))) (Delivers g way w (Ok (t.put, t.dropped))) h m (to t.to + t.fired * expiry)
+        (λ h m rest. then_sum f way count sums (AdvancesWheel g way w (Ok (t.to, t.fired))) (Delivers g way w (Ok (t.put, t.dropped))) h m (to t.to + t.fired * expiry)
         (t.put * put + t.dropped * thrown) (each (t.to, t.fired)) (λ h m delivered. delivers_sum (t.put, t.dropped) h m delivered) rest)
         turned

@@ -2,7 +2,7 @@
 -- carry the laws as contracts, so that they are proved.
 
 use Rattle.std.specs.Prelude.{◌≡◌, ℕ, Bool, true, false, cond, sum_by, filter, List, [], ◌∷◌, Result, Ok, Err, is_ok}
-use Rattle.ert_effects.specs.Chains.{Serves, Delivers, Turns, LastTurns, Exits}
+use Rattle.ert_effects.specs.Chains.{Serves, Delivers, Turns, Exits}
 use Rattle.ert_effects.specs.RequestCalls.{Asks}
 use Rattle.ert_effects.specs.Ways.{Growth, Way, alone, beside}
 use Rattle.ert_effects.specs.declared.answers.Turned.{Turned}
@@ -89,10 +89,6 @@ LawOfDeliveries = (w : ℕ) → Tells (ℕ × ℕ) (ℕ × ℕ) (λ g way answer
 -- that of `turn` is what its entries tell
 abbrev pub LawOfTurns : Type 0
 LawOfTurns = (w : ℕ) → Tells Turned Turned (λ g way t. Turns g way w (Ok t)) (λ t. t) turn_in
-
--- so is that of `last_turn`
-abbrev pub LawOfLastTurns : Type 0
-LawOfLastTurns = (w : ℕ) → Tells Turned Turned (λ g way t. LastTurns g way w (Ok t)) (λ t. t) turn_in
 
 -- `exit` answers whether one of its entries marks an exit of a process that hadn't exited before
 abbrev pub LawOfExits : Type 0

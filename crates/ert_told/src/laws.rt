@@ -1,15 +1,14 @@
 //! The laws, each the contract of a function that does nothing, so that they are proved wherever this crate is.
 
-ghost use Rattle.ert_told.specs.Told.{LawOfServes, LawOfDeliveries, LawOfTurns, LawOfLastTurns, LawOfExits, LawOfAsks};
+ghost use Rattle.ert_told.specs.Told.{LawOfServes, LawOfDeliveries, LawOfTurns, LawOfExits, LawOfAsks};
 
 /// What a scheduler answers is told by the entries that it makes: `serve` whether a request was served, `deliver`
-/// how many messages were put and how many thrown away, `turn` and `last_turn` all of that, the time to which the
-/// wheel was advanced, and how many timers expired.
+/// how many messages were put and how many thrown away, `turn` all of that, the time to which the wheel was
+/// advanced, and how many timers expired.
 pub fn turns_are_told()
     ensures serves { LawOfServes }
     ensures deliveries { LawOfDeliveries }
     ensures turns { LawOfTurns }
-    ensures last_turns { LawOfLastTurns }
 {}
 
 /// Whether a process had not exited before is told by the entries of `exit`: just then one of them marks such an

@@ -3,9 +3,8 @@
 use Rattle.std.proofs.Common.{◌≡◌, ℕ, ◌+◌, ◌-◌, ◌<◌, ◌≤◌, Bool, true, false, cond, List, [], ◌∷◌, ◌++◌, length, slice_index_or, Some, None, Result, Ok, Err, inl, inr, refl, sym, ap, subst, ◌∙◌, arith, length-append}
 use Rattle.std.specs.Prelude.{slice_set}
 use Rattle.ert_effects.specs.Chains.{AdvancesWheel}
-use Rattle.ert_effects.proofs.Advanced.{IsAdvance, advance_is, advance_all_is}
-use Rattle.ert_effects.specs.WheelCalls.{Advances, AdvancesAll, Try, expires_by, expiry_entries}
-use Rattle.ert_effects.specs.Ways.{Step}
+use Rattle.ert_effects.proofs.Advanced.{IsAdvance, advance_is}
+use Rattle.ert_effects.specs.WheelCalls.{Advances, Try, expires_by, expiry_entries}
 use Rattle.ert_defs.specs.Actors.{has_actor}
 use Rattle.ert_defs.specs.Entries.{look_entry}
 use Rattle.ert_defs.specs.Mails.{SchedState, sched_after}
@@ -25,17 +24,16 @@ use Rattle.ert_table.specs.Held.{is_held}
 use Rattle.ert_table.specs.declared.desk.Desk.{Desk}
 use Rattle.ert_table.specs.declared.desk.Pass.{Pass}
 use Rattle.ert_table.specs.declared.view.View.{View}
-use Rattle.ert_timers.proofs.LawsHold.{advances_only, full_advances_only}
-use Rattle.ert_timers.specs.Expiring.{fired_in, HasExpiredBy, HasNotExpired}
+use Rattle.ert_timers.proofs.LawsHold.{advances_only}
+use Rattle.ert_timers.specs.Expiring.{fired_in, HasExpired, HasNotExpired}
 use Rattle.ert_timers.specs.FiredLists.{Queue}
-use Rattle.ert_timers.specs.Laws.{AreWithWheel}
 use Rattle.ert_timers.specs.Parts.{Part, Stands as WheelStands}
-use Rattle.ert_timers.specs.Tidy.{KeepsTidy}
-use Rattle.ert_world.proofs.Armed.{AreCalm}
+use Rattle.ert_timers.specs.Passed.{LosesRows}
 use Rattle.ert_world.proofs.Calls.{Has, Does, parts_in, finish, schedulers_at}
 use Rattle.ert_world.proofs.Returned.{wheel_back, sched_back}
 use Rattle.ert_world.proofs.SchedCalls.{Had, had, now_stands}
-use Rattle.ert_world.proofs.WheelCalls.{advance_calm, advances_calm, wheel_named, wheel_tidy, one_wheel}
+use Rattle.ert_world.proofs.WheelCalls.{advances_calm, wheel_named}
+use Rattle.ert_world.proofs.Tidying.{lost_hold, one_holds}
 use Rattle.ert_world.specs.Parts.{AllParts, SchedStands}
 use Rattle.ert_world.specs.Worlds.{Seen}
 use Rattle.ert_world.specs.declared.sched_part.SchedPart.{SchedPart}
@@ -86,27 +84,6 @@ advances_leave g w (Ok answer) s es advances = advance_leaves w answer es (advan
 advances_leave g w (Err e) s es (inl none) = leave_as es [] none tt
 advances_leave g w (Err e) s es (inr looked) = leave_as es _ looked.1 (refl, tt)
 
--- the entries of an advance of a kind are of the scheduler and of its wheel, take nothing into its hand, and
--- cancel no timer
-pub record ArePlain (advances : Settings → ℕ → Result (ℕ × ℕ) NoMemory → Step) : Type 0 where
-  pub leave : (g : Settings) (w : ℕ) (answer : Result (ℕ × ℕ) NoMemory) (s : State) (es : List Entry) → advances g w answer s es → LeaveHand es
-  pub only : (g : Settings) (w : ℕ) (answer : Result (ℕ × ℕ) NoMemory) (s : State) (es : List Entry) → advances g w answer s es → AreWithWheel (Sched w) w es
-  pub calm : (g : Settings) (w : ℕ) (answer : Result (ℕ × ℕ) NoMemory) (s : State) (es : List Entry) → advances g w answer s es → AreCalm es
-
-pub advances_plain : ArePlain Advances
-advances_plain = record { leave = advances_leave; only = advances_only; calm = advances_calm }
-
-pub full_advances_plain : ArePlain AdvancesAll
-full_advances_plain = record { leave = leave; only = full_advances_only; calm = calm }
-  where
-    leave : (g : Settings) (w : ℕ) (answer : Result (ℕ × ℕ) NoMemory) (s : State) (es : List Entry) → AdvancesAll g w answer s es → LeaveHand es
-    leave g w (Ok answer) s es advances = advance_leaves w answer es (advance_all_is g.slots w answer es advances)
-    leave g w (Err e) s es refused = advances_leave g w (Err e) s es refused
-
-    calm : (g : Settings) (w : ℕ) (answer : Result (ℕ × ℕ) NoMemory) (s : State) (es : List Entry) → AdvancesAll g w answer s es → AreCalm es
-    calm g w (Ok answer) s es advances = advance_calm w answer es (advance_all_is g.slots w answer es advances)
-    calm g w (Err e) s es refused = advances_calm g w (Err e) s es refused
-
 -- entries that leave the hand, for a pass that holds the scheduler
 leave_by : (g : Settings) (w : ℕ) (es : List Entry) → LeaveHand es → AreByThemselves g (λ (s : State). (s.scheds w).hand) es
 leave_by g w [] leave = tt
@@ -120,11 +97,11 @@ leave_run : (g : Settings) (w : ℕ) (s : State) (es : List Entry) → LeaveHand
 leave_run g w s [] leave = refl
 leave_run g w s (e ∷ es) leave = leave_run g w (next g s e) es leave.1 ∙ hand_at s.rows (s.scheds w) e.event (has_actor e (Sched w)) leave.0
 
--- an advance of a kind leaves the hand
-pub advance_hand : (advances : Settings → ℕ → Result (ℕ × ℕ) NoMemory → Step) → ArePlain advances → (g : Settings) (w : ℕ) (answer : Result (ℕ × ℕ) NoMemory) (v u : View)
-    → is_held v.actors (Sched w) ≡ true → IsMade g v (advances g w answer) u → ((state g u.front).scheds w).hand ≡ ((state g v.front).scheds w).hand
-advance_hand advances plain g w answer v u held made =
-    let leave = plain.leave g w answer (state g v.front) made.entries made.allowed in
+-- an advance leaves the hand
+pub advance_hand : (g : Settings) (w : ℕ) (answer : Result (ℕ × ℕ) NoMemory) (v u : View)
+    → is_held v.actors (Sched w) ≡ true → IsMade g v (Advances g w answer) u → ((state g u.front).scheds w).hand ≡ ((state g v.front).scheds w).hand
+advance_hand g w answer v u held made =
+    let leave = advances_leave g w answer (state g v.front) made.entries made.allowed in
     own_after g v made.entries u (λ (s : State). (s.scheds w).hand)
     (λ s e not. ap (λ (x : SchedState). x.hand) (sched_own g v.actors w held s e not)) made.call (leave_by g w made.entries leave)
     ∙ leave_run g w (state g v.front) made.entries leave
@@ -149,37 +126,36 @@ advance_still g w e v u held made =
     (λ s e not. ap (λ (x : SchedState). x.fired) (sched_own g v.actors w held s e not)) made.call still.0 ∙ still.1
 
 -- the wheel was advanced, and the scheduler has these expired timers
-advanced : (advances : Settings → ℕ → Result (ℕ × ℕ) NoMemory → Step) → ArePlain advances → (before : Seen) (b : Inside) (d : Desk) (q : Pass) (i : ℕ) (old new : Part) (part x : SchedPart) (answer : Result (ℕ × ℕ) NoMemory)
+advanced : (before : Seen) (b : Inside) (d : Desk) (q : Pass) (i : ℕ) (old new : Part) (part x : SchedPart) (answer : Result (ℕ × ℕ) NoMemory)
     → Has before b d → Belongs d q → i < before.settings.schedulers → old ≡ slice_index_or b.wheels.items i old
     → part ≡ slice_index_or b.scheds.items i part → new.number ≡ old.number → WheelStands (settings_of d) (front_of q) new
-    → KeepsTidy (settings_of d) (view_of b.pass) old new (view_of q)
-    → IsMade (settings_of d) (view_of b.pass) (advances (settings_of d) old.number answer) (view_of q)
+    → LosesRows old new
+    → IsMade (settings_of d) (view_of b.pass) (Advances (settings_of d) old.number answer) (view_of q)
     → x.wheel ≡ part.wheel → x.hand ≡ part.hand
     → (x.fired.rows ≡ ((state (settings_of d) (front_of q)).scheds old.number).fired)
     → Does before d q b.next (record (parts_in b) { wheels = slice_set b.wheels.items i new; scheds = slice_set b.scheds.items i x })
-    (λ w way. way (Wheel i ∷ []) (advances w.settings i answer))
-advanced advances plain before b d q i old new part x answer has belongs low lent lent_part named stands keeps made_w wheel hand rows =
+    (λ w way. way (Wheel i ∷ []) (Advances w.settings i answer))
+advanced before b d q i old new part x answer has belongs low lent lent_part named stands loses made_w wheel hand rows =
     let g : Settings = settings_of d in
     let s : State = state g (front_of b.pass) in
     let below : i < g.schedulers = schedulers_at has i low in
     let one : old.number ≡ i = wheel_named g (front_of b.pass) [] (parts_in b) i old has.fit.stand below lent in
     let was : Had b d i part = had before b d i part has low lent_part in
     let at : x.wheel ≡ i = wheel ∙ was.wheel in
-    let made : IsMade g (view_of b.pass) (advances g i answer) (view_of q) =
-    subst (λ n. IsMade g (view_of b.pass) (advances g n answer) (view_of q)) one made_w in
-    let kept = advance_hand advances plain g i answer (view_of b.pass) (view_of q) (has.fit.holds.rest (Sched i) below tt) made in
+    let made : IsMade g (view_of b.pass) (Advances g i answer) (view_of q) =
+    subst (λ n. IsMade g (view_of b.pass) (Advances g n answer) (view_of q)) one made_w in
+    let kept = advance_hand g i answer (view_of b.pass) (view_of q) (has.fit.holds.rest (Sched i) below tt) made in
     let now : SchedStands g (front_of q) x =
     now_stands before b d q i x ((state g (front_of q)).scheds i) has low at refl (hand ∙ (was.hand ∙ sym kept))
     (rows ∙ ap (λ n. ((state g (front_of q)).scheds n).fired) one) in
     let back : AllParts = record (parts_in b) { scheds = slice_set b.scheds.items i x } in
-    let only = plain.only g i answer s made.entries made.allowed in
+    let only = advances_only g i answer s made.entries made.allowed in
     finish before b d q (record back { wheels = slice_set b.wheels.items i new }) made.entries (Sched i ∷ (Wheel i ∷ []))
-    (λ w way. way (Wheel i ∷ []) (advances w.settings i answer)) has belongs made.call only
-    (plain.calm g i answer s made.entries made.allowed) (refl, (refl, tt))
+    (λ w way. way (Wheel i ∷ []) (Advances w.settings i answer)) has belongs made.call only
+    (advances_calm g i answer s made.entries made.allowed) (refl, (refl, tt))
     (λ stand. wheel_back g (front_of q) [] back i new below (named ∙ one) stands (sched_back g (front_of q) (Wheel i ∷ []) (parts_in b) i x below at now stand))
-    (λ m grown own. subst (advances g i answer s) (sym own) made.allowed)
-    (wheel_tidy b d q i old new made.entries (Sched i ∷ (Wheel i ∷ [])) has below lent made.call only (λ j apart. one_wheel (Sched i) i j refl apart)
-    (plain.calm g i answer s made.entries made.allowed) keeps) refl
+    (λ m grown own. subst (Advances g i answer s) (sym own) made.allowed)
+    (λ alone. one_holds (state g (front_of q)) b.wheels.items i old new (rw has.fit.stand.wheels.counted below) lent (lost_hold (state g (front_of q)) old new loses)) refl
 
 pub difference : (a b : ℕ) (xs ys : List Row) → a ≡ length (xs ++ ys) → b ≡ length xs → a - b ≡ length ys
 difference a b xs ys whole first =
@@ -187,15 +163,15 @@ difference a b xs ys whole first =
     omega (arith, whole, first, sum)
 
 -- an advance, with its count
-pub advance_ok : (advances : Settings → ℕ → Result (ℕ × ℕ) NoMemory → Step) → ArePlain advances → (before : Seen) (b : Inside) (d : Desk) (q : Pass) (i to n m : ℕ) (old new : Part) (part x : SchedPart)
+pub advance_ok : (before : Seen) (b : Inside) (d : Desk) (q : Pass) (i to n m : ℕ) (old new : Part) (part x : SchedPart)
     → Has before b d → Belongs d q → i < before.settings.schedulers → old ≡ slice_index_or b.wheels.items i old
     → part ≡ slice_index_or b.scheds.items i part → new.number ≡ old.number → WheelStands (settings_of d) (front_of q) new
-    → KeepsTidy (settings_of d) (view_of b.pass) old new (view_of q)
-    → HasExpiredBy (advances (settings_of d) old.number) (settings_of d) (view_of b.pass) old.number to part.fired x.fired (view_of q)
+    → LosesRows old new
+    → HasExpired (settings_of d) (view_of b.pass) old.number to part.fired x.fired (view_of q)
     → x.wheel ≡ part.wheel → x.hand ≡ part.hand → n ≡ length x.fired.rows → m ≡ length part.fired.rows
     → Does before d q b.next (record (parts_in b) { wheels = slice_set b.wheels.items i new; scheds = slice_set b.scheds.items i x })
-    (λ w way. way (Wheel i ∷ []) (advances w.settings i (Ok (to, n - m))))
-advance_ok advances plain before b d q i to n m old new part x has belongs low lent lent_part named stands keeps expired wheel hand now was =
+    (λ w way. way (Wheel i ∷ []) (Advances w.settings i (Ok (to, n - m))))
+advance_ok before b d q i to n m old new part x has belongs low lent lent_part named stands loses expired wheel hand now was =
     let g : Settings = settings_of d in
     let one : old.number ≡ i = wheel_named g (front_of b.pass) [] (parts_in b) i old has.fit.stand (schedulers_at has i low) lent in
     let had_it : Had b d i part = had before b d i part has low lent_part in
@@ -203,14 +179,14 @@ advance_ok advances plain before b d q i to n m old new part x has belongs low l
     difference n m part.fired.rows expired.gained (now ∙ ap (λ (l : List Row). length l) expired.fired) was in
     subst (λ k. Does before d q b.next
     (record (parts_in b) { wheels = slice_set b.wheels.items i new; scheds = slice_set b.scheds.items i x })
-    (λ w way. way (Wheel i ∷ []) (advances w.settings i (Ok (to, k))))) (sym count)
-    (advanced advances plain before b d q i old new part x (Ok (to, length expired.gained)) has belongs low lent lent_part named stands keeps expired.call wheel hand
+    (λ w way. way (Wheel i ∷ []) (Advances w.settings i (Ok (to, k))))) (sym count)
+    (advanced before b d q i old new part x (Ok (to, length expired.gained)) has belongs low lent lent_part named stands loses expired.call wheel hand
     (expired.fired ∙ (ap (λ l. l ++ expired.gained) (had_it.fired ∙ ap (λ n. fired_in g (front_of b.pass) n) (sym one)) ∙ sym expired.waits)))
 
 -- the count of an advance is small, and it is more rows than before
-pub advance_fits : (allows : Result (ℕ × ℕ) NoMemory → Step) (g : Settings) (w to n m : ℕ) (old new : Queue) (v u : View) → g.slots ≤ 65536
-    → HasExpiredBy allows g v w to old new u → n ≡ length new.rows → m ≡ length old.rows → (m ≤ n) × (n - m ≤ 65536)
-advance_fits allows g w to n m old new v u high is now was =
+pub advance_fits : (g : Settings) (w to n m : ℕ) (old new : Queue) (v u : View) → g.slots ≤ 65536
+    → HasExpired g v w to old new u → n ≡ length new.rows → m ≡ length old.rows → (m ≤ n) × (n - m ≤ 65536)
+advance_fits g w to n m old new v u high is now was =
     let count : n - m ≡ length is.gained = difference n m old.rows is.gained (now ∙ ap (λ (l : List Row). length l) is.fired) was in
     let low : length (fired_in g u.front w) ≤ g.slots = fired_few g u.front w is.call.call.legal in
     let sum : length (fired_in g u.front w) ≡ length (fired_in g v.front w) + length is.gained =
@@ -223,17 +199,17 @@ advance_fits allows g w to n m old new v u high is now was =
 pub advance_refused : (before : Seen) (b : Inside) (d : Desk) (q : Pass) (i : ℕ) (e : NoMemory) (old new : Part) (part x : SchedPart)
     → Has before b d → Belongs d q → i < before.settings.schedulers → old ≡ slice_index_or b.wheels.items i old
     → part ≡ slice_index_or b.scheds.items i part → new.number ≡ old.number → WheelStands (settings_of d) (front_of q) new
-    → KeepsTidy (settings_of d) (view_of b.pass) old new (view_of q)
+    → LosesRows old new
     → HasNotExpired (settings_of d) (view_of b.pass) old.number e part.fired x.fired (view_of q)
     → x.wheel ≡ part.wheel → x.hand ≡ part.hand
     → Does before d q b.next (record (parts_in b) { wheels = slice_set b.wheels.items i new; scheds = slice_set b.scheds.items i x })
     (λ w way. AdvancesWheel w.settings way i (Err e))
-advance_refused before b d q i e old new part x has belongs low lent lent_part named stands keeps refused wheel hand =
+advance_refused before b d q i e old new part x has belongs low lent lent_part named stands loses refused wheel hand =
     let g : Settings = settings_of d in
     let below : i < g.schedulers = schedulers_at has i low in
     let one : old.number ≡ i = wheel_named g (front_of b.pass) [] (parts_in b) i old has.fit.stand below lent in
     let was : Had b d i part = had before b d i part has low lent_part in
     let held = subst (λ n. is_held (view_of b.pass).actors (Sched n) ≡ true) (sym one) (has.fit.holds.rest (Sched i) below tt) in
-    advanced Advances advances_plain before b d q i old new part x (Err e) has belongs low lent lent_part named stands keeps refused.call wheel hand
+    advanced before b d q i old new part x (Err e) has belongs low lent lent_part named stands loses refused.call wheel hand
     (refused.fired ∙ (was.fired ∙ (ap (λ n. ((state g (front_of b.pass)).scheds n).fired) (sym one)
     ∙ sym (advance_still g old.number e (view_of b.pass) (view_of q) held refused.call))))

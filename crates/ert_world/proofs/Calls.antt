@@ -7,26 +7,23 @@ use Rattle.ert_effects.specs.RequestCalls.{Asks}
 use Rattle.ert_effects.specs.Ways.{Growth, Way}
 use Rattle.ert_effects.specs.declared.answers.MonitorErr.{MonitorErr}
 use Rattle.ert_effects.specs.declared.answers.MonitorErr.TheVariants.{Full, NoMemory as WantOfRoom}
-use Rattle.ert_clock.specs.Shown.{Shown, Stands as ClockStands}
+use Rattle.ert_clock.specs.Shown.{Stands as ClockStands}
 use Rattle.ert_defs.proofs.Runs.{state-append, legal_then}
 use Rattle.ert_defs.specs.Legal.{Legal, LegalFrom}
 use Rattle.ert_defs.specs.States.{State, opening, run, state}
 use Rattle.ert_defs.specs.declared.entry.Actor.{Actor}
-use Rattle.ert_defs.specs.declared.entry.Actor.TheVariants.{Keeper, Wheel, Inbox, MailOf, Caller}
+use Rattle.ert_defs.specs.declared.entry.Actor.TheVariants.{Keeper, Inbox, MailOf, Caller}
 use Rattle.ert_defs.specs.declared.entry.Entry.{Entry}
 use Rattle.ert_defs.specs.declared.mail.Request.{Request}
 use Rattle.ert_defs.specs.declared.memory.NoMemory.{NoMemory}
 use Rattle.ert_defs.specs.declared.settings.OffsetState.{OffsetState}
 use Rattle.ert_defs.specs.declared.settings.OffsetState.TheVariants.{Preliminary, Final, Volatile}
 use Rattle.ert_defs.specs.declared.settings.Settings.{Settings}
-use Rattle.ert_defs.specs.declared.timer.Status.TheVariants.{Armed}
-use Rattle.ert_defs.specs.declared.timer.TimerRef.{TimerRef}
 use Rattle.ert_mail.specs.Inboxes.{Waiting, Stands as InboxStands}
 use Rattle.ert_keeper.specs.Published.{ReadsBy}
 use Rattle.ert_keeper.specs.declared.part.KeeperPart.{KeeperPart}
 use Rattle.ert_mail.specs.Mailboxes.{Mailbox, IsMonitor, Stands as MailStands}
 use Rattle.ert_table.proofs.Calls.{whole_exact}
-use Rattle.ert_table.proofs.Parts.{free_of_others}
 use Rattle.ert_table.specs.Calls.{AreOnlyOf, IsMade, IsOmitted, IsMadeIfOk}
 use Rattle.ert_table.specs.Desks.{settings_of, view_of, front_of, actors_of, Belongs}
 use Rattle.ert_table.specs.Held.{is_held, least_caller}
@@ -34,16 +31,16 @@ use Rattle.ert_table.specs.Takes.{TakesPlace}
 use Rattle.ert_table.specs.declared.desk.Desk.{Desk}
 use Rattle.ert_table.specs.declared.desk.Pass.{Pass}
 use Rattle.ert_table.specs.declared.view.View.{View}
-use Rattle.ert_timers.specs.Parts.{last_timer}
 use Rattle.ert_world.proofs.Alone.{whole_of, went}
-use Rattle.ert_world.proofs.Armed.{AreCalm, is_cancel, armed_stays}
+use Rattle.ert_world.proofs.Armed.{AreCalm, is_cancel}
 use Rattle.ert_world.proofs.Calm.{IsQuiet}
 use Rattle.ert_world.proofs.Returned.{mail_back, inbox_back, keeper_back, caller_back}
 use Rattle.ert_world.proofs.Standing.{others_stand}
+use Rattle.ert_world.proofs.Tidying.{AllHoldOn, same_hold, tidy_on}
 use Rattle.ert_world.proofs.Unseated.{AreUnseated, own_unseated}
 use Rattle.ert_world.specs.Parts.{AllParts, parts_of, Stand}
 use Rattle.ert_world.specs.Ways.{is_unseated}
-use Rattle.ert_world.specs.Worlds.{Seen, seen, HoldsRest, AreFit, StayTidy, ForgetsCancelled, HasForgottenAll, Goes, GoesOnClock, By, way_of}
+use Rattle.ert_world.specs.Worlds.{Seen, seen, HoldsRest, AreFit, AreTidy, AreSound, ForgetsCancelled, HasForgottenAll, Goes, GoesOnClock, By, way_of}
 use Rattle.ert_world.specs.declared.world.World.TheInside.{Inside}
 
 -- all parts that a world has
@@ -58,20 +55,21 @@ seen_at d b = seen d b.pass b.next b.keeper b.wheels.items
 pub record Has (before : Seen) (b : Inside) (d : Desk) : Type 0 where
   pub is : seen_at d b ≡ before
   pub fit : AreFit d b.pass b.next (parts_in b)
+  pub tidy : b.next ≡ 1 → AreTidy (settings_of d) (front_of b.pass) b.wheels.items
 
 -- the desk that a world shares
-pub has_at : {before : Seen} {b : Inside} {d e : Desk} → d ≡ e → seen_at e b ≡ before → AreFit e b.pass b.next (parts_in b) → Has before b d
-has_at {before} {b} {d} {e} same is fit = subst (λ x. Has before b x) (sym same) (record { is = is; fit = fit })
+pub has_at : {before : Seen} {b : Inside} {d e : Desk} → d ≡ e → seen_at e b ≡ before → AreSound e b.pass b.next (parts_in b) → Has before b d
+has_at {before} {b} {d} {e} same is kept = subst (λ x. Has before b x) (sym same) (record { is = is; fit = kept.fit; tidy = kept.tidy })
 
 -- the parts of a world after a call: they fit, and what callers see of them goes on by it
 pub record Does (before : Seen) (d : Desk) (q : Pass) (next : ℕ) (parts : AllParts) (call : Seen → Way → Growth) : Type 0 where
-  pub fit : AreFit d q next parts
+  pub fit : AreSound d q next parts
   pub goes : Goes before (call before) (seen d q next parts.keeper parts.wheels)
   pub forgets : ForgetsCancelled before (seen d q next parts.keeper parts.wheels)
 
 -- the same of a call that may move the clock
 pub record DoesOnClock (before : Seen) (d : Desk) (q : Pass) (next : ℕ) (parts : AllParts) (call : Seen → Way → Growth) : Type 0 where
-  pub fit : AreFit d q next parts
+  pub fit : AreSound d q next parts
   pub goes : GoesOnClock before (call before) (seen d q next parts.keeper parts.wheels)
   pub forgets : ForgetsCancelled before (seen d q next parts.keeper parts.wheels)
 
@@ -103,18 +101,6 @@ pub added : (d : Desk) (p q : Pass) (es : List Entry) → front_of q ≡ front_o
 added d p q es front legal =
     let g : Settings = settings_of d in
     legal_then g (opening g) (front_of p) es (subst (Legal g) front legal)
-
--- where nothing is cancelled and no wheel is lent, each tidy wheel stays tidy
-calm_tidy : {before : Seen} (b : Inside) (d : Desk) (q : Pass) (keeper : Shown) (es : List Entry) (lent : List Actor) → Has before b d
-    → TakesPlace (settings_of d) (view_of b.pass) es (view_of q) → AreOnlyOf lent es → ((i : ℕ) → is_held lent (Wheel i) ≡ false)
-    → AreCalm es → StayTidy (seen_at d b) (seen d q b.next keeper b.wheels.items)
-calm_tidy b d q keeper es lent has takes only none calm = λ alone i low tidy x k key is.
-    let g : Settings = settings_of d in
-    let front = exact b d q es has takes alone in
-    let r : TimerRef = last_timer (slice_index_or b.wheels.items i x).number (slice_index_or b.wheels.items i x).slots k in
-    subst (λ (s : State). s.status r ≡ Some Armed) (sym (after d b.pass q es front))
-    (armed_stays g (state g (front_of b.pass)) es r (added d b.pass q es front takes.legal) (free_of_others lent (Wheel r.wheel) es (none r.wheel) only) calm
-    (tidy x k key is))
 
 -- a call that takes no step is one without entries
 pub omitted_made : (g : Settings) (v : View) (allows : State → List Entry → Type 0) (w : View) → Legal g v.front → IsOmitted g v allows w → IsMade g v allows w
@@ -153,33 +139,39 @@ calm_forgets w (e ∷ es) calm =
 -- a call of a world that cancels nothing, on the parts that these actors have
 finish_on_clock : (before : Seen) (b : Inside) (d : Desk) (q : Pass) (new : AllParts) (es : List Entry) (lent : List Actor) (call : Seen → Way → Growth)
     → Has before b d → Belongs d q → TakesPlace (settings_of d) (view_of b.pass) es (view_of q) → AreOnlyOf lent es → AreCalm es → AreUnseated b.next lent
-    → ComeBack b d q lent new → Makes b d q es call → StayTidy (seen_at d b) (seen d q b.next new.keeper new.wheels) → DoesOnClock before d q b.next new call
-finish_on_clock before b d q new es lent call has belongs takes only calm unseated back allowed tidy =
+    → ComeBack b d q lent new → Makes b d q es call → (b.next ≡ 1 → AllHoldOn (state (settings_of d) (front_of q)) b.wheels.items new.wheels) → DoesOnClock before d q b.next new call
+finish_on_clock before b d q new es lent call has belongs takes only calm unseated back allowed hold =
     let g : Settings = settings_of d in
-    let after : Seen = seen d q b.next new.keeper new.wheels in
+    let fit : AreFit d q b.next new = fit_on d b.pass q b.next (parts_in b) new es lent has.fit belongs takes only back in
+    let end : Seen = seen d q b.next new.keeper new.wheels in
     let own = own_unseated g (view_of b.pass) es (view_of q) b.next lent has.fit.holds takes only unseated in
     record {
-      fit = fit_on d b.pass q b.next (parts_in b) new es lent has.fit belongs takes only back;
-      goes = subst (λ w. GoesOnClock w (call w) after) has.is
-          (went (record (seen_at d b) { clock = new.keeper }) after (call (seen_at d b)) (record {
+      fit = record {
+        fit = fit;
+        tidy = λ alone i x low.
+            tidy_on g (state g (front_of b.pass)) (state g (front_of q)) es (slice_index_or b.wheels.items i x) (slice_index_or new.wheels i x)
+            (after d b.pass q es (exact b d q es has takes alone)) calm (fit.stand.wheels.stand i x low refl).holds.rows.live (hold alone i x) (has.tidy alone i x low);
+      };
+      goes = subst (λ w. GoesOnClock w (call w) end) has.is
+          (went (record (seen_at d b) { clock = new.keeper }) end (call (seen_at d b)) (record {
             piece = takes.later;
             grown = takes.grown;
             made = allowed takes.later takes.grown own;
-          }) takes.legal refl refl refl refl tidy);
-      forgets = subst (λ w. ForgetsCancelled w after) has.is (record {
+          }) takes.legal refl refl refl refl);
+      forgets = subst (λ w. ForgetsCancelled w end) has.is (record {
         piece = takes.later;
         grown = takes.grown;
-        forgotten = subst (HasForgottenAll after) (sym own) (calm_forgets after es calm);
+        forgotten = subst (HasForgottenAll end) (sym own) (calm_forgets end es calm);
       });
     }
 
 -- one that leaves the clock
 pub finish : (before : Seen) (b : Inside) (d : Desk) (q : Pass) (new : AllParts) (es : List Entry) (lent : List Actor) (call : Seen → Way → Growth)
     → Has before b d → Belongs d q → TakesPlace (settings_of d) (view_of b.pass) es (view_of q) → AreOnlyOf lent es → AreCalm es → AreUnseated b.next lent
-    → ComeBack b d q lent new → Makes b d q es call → StayTidy (seen_at d b) (seen d q b.next new.keeper new.wheels) → new.keeper ≡ b.keeper
+    → ComeBack b d q lent new → Makes b d q es call → (b.next ≡ 1 → AllHoldOn (state (settings_of d) (front_of q)) b.wheels.items new.wheels) → new.keeper ≡ b.keeper
     → Does before d q b.next new call
-finish before b d q new es lent call has belongs takes only calm unseated back allowed tidy same =
-    let done = finish_on_clock before b d q new es lent call has belongs takes only calm unseated back allowed tidy in
+finish before b d q new es lent call has belongs takes only calm unseated back allowed hold same =
+    let done = finish_on_clock before b d q new es lent call has belongs takes only calm unseated back allowed hold in
     record {
       fit = done.fit;
       goes = subst (λ k. Goes (record before { clock = k }) (call before) (seen d q b.next new.keeper new.wheels))
@@ -187,14 +179,14 @@ finish before b d q new es lent call has belongs takes only calm unseated back a
       forgets = done.forgets;
     }
 
--- one that cancels nothing and lends no wheel
+-- one that cancels nothing and leaves the wheels
 pub calm_called : (before : Seen) (b : Inside) (d : Desk) (q : Pass) (new : AllParts) (es : List Entry) (lent : List Actor) (call : Seen → Way → Growth)
     → Has before b d → Belongs d q → TakesPlace (settings_of d) (view_of b.pass) es (view_of q) → AreOnlyOf lent es → AreCalm es
-    → ((i : ℕ) → is_held lent (Wheel i) ≡ false) → AreUnseated b.next lent → new.wheels ≡ b.wheels.items → new.keeper ≡ b.keeper
+    → AreUnseated b.next lent → new.wheels ≡ b.wheels.items → new.keeper ≡ b.keeper
     → ComeBack b d q lent new → Makes b d q es call → Does before d q b.next new call
-calm_called before b d q new es lent call has belongs takes only calm none unseated wheels same back allowed =
+calm_called before b d q new es lent call has belongs takes only calm unseated wheels same back allowed =
     finish before b d q new es lent call has belongs takes only calm unseated back allowed
-    (subst (λ ws. StayTidy (seen_at d b) (seen d q b.next new.keeper ws)) (sym wheels) (calm_tidy b d q new.keeper es lent has takes only none calm)) same
+    (λ alone. same_hold (state (settings_of d) (front_of q)) b.wheels.items new.wheels wheels) same
 
 -- what one step may record
 pub makes : (b : Inside) (d : Desk) (q : Pass) (es : List Entry) (allows : Settings → State → List Entry → Type 0)
@@ -203,24 +195,24 @@ makes b d q es allows allowed = λ m grown own. subst (allows (settings_of d) (s
 
 pub called_with : (before : Seen) (b : Inside) (d : Desk) (q : Pass) (new : AllParts) (lent : List Actor) (allows : Settings → State → List Entry → Type 0)
     → Has before b d → Belongs d q → (made : IsMade (settings_of d) (view_of b.pass) (allows (settings_of d)) (view_of q)) → AreOnlyOf lent made.entries
-    → AreCalm made.entries → ((i : ℕ) → is_held lent (Wheel i) ≡ false) → AreUnseated b.next lent → new.wheels ≡ b.wheels.items → new.keeper ≡ b.keeper
+    → AreCalm made.entries → AreUnseated b.next lent → new.wheels ≡ b.wheels.items → new.keeper ≡ b.keeper
     → ComeBack b d q lent new → Does before d q b.next new (λ w. By w allows)
-called_with before b d q new lent allows has belongs made only calm none unseated wheels same back =
-    calm_called before b d q new made.entries lent (λ w. By w allows) has belongs made.call only calm none unseated wheels same back
+called_with before b d q new lent allows has belongs made only calm unseated wheels same back =
+    calm_called before b d q new made.entries lent (λ w. By w allows) has belongs made.call only calm unseated wheels same back
     (makes b d q made.entries allows made.allowed)
 
 -- a call by caller 0 alone, that has no part of its own
 pub alone_called : (before : Seen) (b : Inside) (d e : Desk) (q : Pass) (allows : Settings → State → List Entry → Type 0) → d ≡ e → seen_at e b ≡ before
-    → AreFit e b.pass b.next (parts_in b) → Belongs d q → IsMade (settings_of d) (view_of b.pass) (allows (settings_of d)) (view_of q)
+    → AreSound e b.pass b.next (parts_in b) → Belongs d q → IsMade (settings_of d) (view_of b.pass) (allows (settings_of d)) (view_of q)
     → ((s : State) (es : List Entry) → allows (settings_of d) s es → IsQuiet (Caller 0 ∷ []) es) → Does before e q b.next (parts_in b) (λ w. By w allows)
 alone_called before b d e q allows same is fit belongs made quiet =
     let it = quiet (state (settings_of d) (front_of b.pass)) made.entries made.allowed in
-    does_at same (called_with before b d q (parts_in b) (Caller 0 ∷ []) allows (has_at same is fit) belongs made it.only it.calm (λ i. refl) (refl, tt) refl refl
+    does_at same (called_with before b d q (parts_in b) (Caller 0 ∷ []) allows (has_at same is fit) belongs made it.only it.calm (refl, tt) refl refl
     (caller_back (settings_of d) (front_of q) [] (parts_in b) 0))
 
 -- a call on the clock, by caller 0
 pub keeper_called : (before : Seen) (b : Inside) (d e : Desk) (q : Pass) (x : KeeperPart) (allows : Settings → State → List Entry → Type 0) → d ≡ e
-    → seen_at e b ≡ before → AreFit e b.pass b.next (parts_in b) → Belongs d q → ClockStands (settings_of d) (front_of q) x
+    → seen_at e b ≡ before → AreSound e b.pass b.next (parts_in b) → Belongs d q → ClockStands (settings_of d) (front_of q) x
     → IsMade (settings_of d) (view_of b.pass) (allows (settings_of d)) (view_of q)
     → ((s : State) (es : List Entry) → allows (settings_of d) s es → IsQuiet (Keeper ∷ (Caller 0 ∷ [])) es)
     → DoesOnClock before e q b.next (record (parts_in b) { keeper = x }) (λ w. By w allows)
@@ -232,7 +224,7 @@ keeper_called before b d e q x allows same is fit belongs stands made quiet =
     does_on_clock_at same (finish_on_clock before b d q new made.entries (Keeper ∷ (Caller 0 ∷ [])) (λ w. By w allows) has belongs made.call it.only it.calm
     (refl, (refl, tt))
     (λ stand. caller_back g (front_of q) [] new 0 (keeper_back g (front_of q) (Caller 0 ∷ []) (parts_in b) x stands stand))
-    (makes b d q made.entries allows made.allowed) (calm_tidy b d q new.keeper made.entries (Keeper ∷ (Caller 0 ∷ [])) has made.call it.only (λ i. refl) it.calm))
+    (makes b d q made.entries allows made.allowed) (λ alone. same_hold (state g (front_of q)) b.wheels.items b.wheels.items refl))
 
 -- a number in range of what callers see is in range of the desk
 pub processes_at : {before : Seen} {b : Inside} {d : Desk} → Has before b d → (i : ℕ) → i < before.settings.processes → i < (settings_of d).processes
@@ -252,7 +244,7 @@ inbox_named g h lent parts i x stand low is = ap (λ (q : Waiting). q.wheel) is 
 
 -- a call on a mailbox, by caller 0
 pub mail_called : (before : Seen) (b : Inside) (d e : Desk) (q : Pass) (i : ℕ) (old new : Mailbox) (allows : ℕ → Settings → State → List Entry → Type 0)
-    → d ≡ e → seen_at e b ≡ before → AreFit e b.pass b.next (parts_in b) → Belongs d q → i < before.settings.processes
+    → d ≡ e → seen_at e b ≡ before → AreSound e b.pass b.next (parts_in b) → Belongs d q → i < before.settings.processes
     → old ≡ slice_index_or b.mails.items i old → new.process ≡ old.process → MailStands (settings_of d) (front_of q) new
     → (Legal (settings_of d) (front_of b.pass) → IsMade (settings_of d) (view_of b.pass) (allows old.process (settings_of d)) (view_of q))
     → ((s : State) (es : List Entry) → allows old.process (settings_of d) s es → AreOnlyOf (Caller 0 ∷ (MailOf old.process ∷ [])) es)
@@ -268,12 +260,12 @@ mail_called before b d e q i old new allows same is fit belongs low lent named s
     let s : State = state g (front_of b.pass) in
     does_at same (subst (λ n. Does before d q b.next (record (parts_in b) { mails = slice_set b.mails.items n new }) (λ w. By w (allows n))) one
     (called_with before b d q (record (parts_in b) { mails = slice_set b.mails.items p new }) (Caller 0 ∷ (MailOf p ∷ [])) (allows p) has belongs made
-    (only s made.entries made.allowed) (calm s made.entries made.allowed) (λ j. refl) (refl, (refl, tt)) refl refl
+    (only s made.entries made.allowed) (calm s made.entries made.allowed) (refl, (refl, tt)) refl refl
     (λ stand. mail_back g (front_of q) [] (parts_in b) p new (rw one below) named stands (caller_back g (front_of q) (MailOf p ∷ []) (parts_in b) 0 stand))))
 
 -- a request was put into an inbox, by caller 0
 pub inbox_called : (before : Seen) (b : Inside) (d e : Desk) (q : Pass) (i : ℕ) (old new : Waiting) (allows : ℕ → Settings → State → List Entry → Type 0)
-    → d ≡ e → seen_at e b ≡ before → AreFit e b.pass b.next (parts_in b) → Belongs d q → i < before.settings.schedulers
+    → d ≡ e → seen_at e b ≡ before → AreSound e b.pass b.next (parts_in b) → Belongs d q → i < before.settings.schedulers
     → old ≡ slice_index_or b.inboxes.items i old → new.wheel ≡ old.wheel → InboxStands (settings_of d) (front_of q) new
     → (Legal (settings_of d) (front_of b.pass) → IsMade (settings_of d) (view_of b.pass) (allows old.wheel (settings_of d)) (view_of q))
     → ((s : State) (es : List Entry) → allows old.wheel (settings_of d) s es → AreOnlyOf (Caller 0 ∷ (Inbox old.wheel ∷ [])) es)
@@ -289,7 +281,7 @@ inbox_called before b d e q i old new allows same is fit belongs low lent named 
     let s : State = state g (front_of b.pass) in
     does_at same (subst (λ n. Does before d q b.next (record (parts_in b) { inboxes = slice_set b.inboxes.items n new }) (λ w. By w (allows n))) one
     (called_with before b d q (record (parts_in b) { inboxes = slice_set b.inboxes.items n new }) (Caller 0 ∷ (Inbox n ∷ [])) (allows n) has belongs made
-    (only s made.entries made.allowed) (calm s made.entries made.allowed) (λ j. refl) (refl, (refl, tt)) refl refl
+    (only s made.entries made.allowed) (calm s made.entries made.allowed) (refl, (refl, tt)) refl refl
     (λ stand. inbox_back g (front_of q) [] (parts_in b) n new (rw one below) named stands (caller_back g (front_of q) (Inbox n ∷ []) (parts_in b) 0 stand))))
 
 -- a monitor was made or wasn't

@@ -1,6 +1,7 @@
 -- The calls that cancel timers, and the rows that they forget.
 
-use Rattle.std.proofs.Common.{◌≡◌, ◌≢◌, ℕ, ◌<◌, false, List, [], ◌∷◌, filter, append-nil, slice_index_or, Option, Some, None, refl, sym, ap, subst, ◌∙◌, arith}
+use Rattle.std.proofs.Common.{◌≡◌, ◌≢◌, ℕ, ◌<◌, true, false, List, [], ◌∷◌, filter, length, append-nil, slice_index_or, Option, Some, None, refl, sym, ap, subst, ◌∙◌, arith}
+use Rattle.std.specs.Option.{is_some}
 use Rattle.std.specs.Prelude.{slice_set}
 use Rattle.ert_effects.specs.TimerCalls.{Cancels}
 use Rattle.ert_effects.specs.Ways.{Growth, Way, Grows}
@@ -22,7 +23,10 @@ use Rattle.ert_timers.specs.Parts.{Part, last_timer, Stands as WheelStands}
 use Rattle.ert_timers.specs.Changes.{reused}
 use Rattle.ert_timers.specs.Freeing.{IsHeld}
 use Rattle.ert_timers.specs.Passed.{LosesRows}
+use Rattle.ert_timers.proofs.Passing.{same_last}
 use Rattle.ert_timers.specs.Tidy.{IsTidy, IsTidyBut}
+use Rattle.ert_wheel.specs.Rows.{key_in}
+use Rattle.ert_wheel.proofs.Collect.{key_low}
 use Rattle.ert_world.proofs.Alone.{lone, rows_same, stays_by, went}
 use Rattle.ert_world.proofs.Calls.{Has, Makes, ComeBack, parts_in, seen_at, exact, after, added, fit_on, makes, schedulers_at}
 use Rattle.ert_world.proofs.Cancelled.{Settles, cancel_settles, cancel_only}
@@ -31,20 +35,17 @@ use Rattle.ert_world.proofs.Returned.{wheel_back, caller_back, at_place, lend}
 use Rattle.ert_world.proofs.Forgotten.{cancel_cancels}
 use Rattle.ert_world.specs.Ways.{is_unseated}
 use Rattle.ert_world.proofs.Unseated.{AreUnseated, own_unseated}
-use Rattle.ert_world.proofs.WheelCalls.{lost_rows, wheel_named}
+use Rattle.ert_world.proofs.WheelCalls.{rows_set, wheel_named}
 use Rattle.ert_world.specs.Parts.{AllParts}
 use Rattle.ert_world.specs.Stepping.{Stays}
-use Rattle.ert_world.specs.Worlds.{Seen, seen, AreFit, StayTidyBut, Goes, GoesBut, CancelOnly, CancelsOnly, Forgets, HasForgotten, HasForgottenAll, By, way_of}
+use Rattle.ert_world.proofs.Sparing.{IsTidyAt, StayTidyBut, GoesBut, CancelOnly, Forgets}
+use Rattle.ert_world.specs.Worlds.{Seen, seen, AreFit, AreSound, Goes, HasForgotten, HasForgottenAll, By, way_of}
 use Rattle.ert_world.specs.declared.world.World.TheInside.{Inside}
 
 -- the parts of a world after a call that cancelled a timer, if this much was left of it
 pub record DoesBut (timer : TimerRef) (left : Option ℕ) (before : Seen) (d : Desk) (q : Pass) (next : ℕ) (parts : AllParts) (call : Seen → Way → Growth) : Type 0 where
   pub fit : AreFit d q next parts
   pub goes : GoesBut timer left before (call before) (seen d q next parts.keeper parts.wheels)
-
-pub does_but_at : {timer : TimerRef} {left : Option ℕ} {before : Seen} {d e : Desk} {q : Pass} {next : ℕ} {parts : AllParts} {call : Seen → Way → Growth} → d ≡ e
-    → DoesBut timer left before d q next parts call → DoesBut timer left before e q next parts call
-does_but_at {timer} {left} {before} {d} {e} {q} {next} {parts} {call} same done = subst (λ x. DoesBut timer left before x q next parts call) same done
 
 -- wheels that a cancel doesn't touch are tidy but for its timer
 settled_tidy : {before : Seen} (b : Inside) (d : Desk) (q : Pass) (new : AllParts) (es : List Entry) (timer : TimerRef) (left : Option ℕ) → Has before b d
@@ -112,82 +113,101 @@ cancel_called before b d q timer left has belongs made =
     refl (cancel_cancels g (Caller 0) timer left s made.entries made.allowed)
 
 -- a wheel that changed without an entry comes back
-put_back : (b : Inside) (d : Desk) (i : ℕ) (old new : Part) → AreFit d b.pass b.next (parts_in b) → i < (settings_of d).schedulers
-    → old ≡ slice_index_or b.wheels.items i old → new.number ≡ old.number → WheelStands (settings_of d) (front_of b.pass) new
-    → AreFit d b.pass b.next (record (parts_in b) { wheels = slice_set b.wheels.items i new })
-put_back b d i old new fit low lent named stands =
+put_back : (d : Desk) (q : Pass) (next : ℕ) (parts : AllParts) (i : ℕ) (old new : Part) → AreFit d q next parts → i < (settings_of d).schedulers
+    → old ≡ slice_index_or parts.wheels i old → new.number ≡ old.number → WheelStands (settings_of d) (front_of q) new
+    → AreFit d q next (record parts { wheels = slice_set parts.wheels i new })
+put_back d q next parts i old new fit low lent named stands =
     let g : Settings = settings_of d in
     record {
       belongs = fit.belongs;
       holds = fit.holds;
-      stand = wheel_back g (front_of b.pass) [] (parts_in b) i new low (named ∙ wheel_named g (front_of b.pass) [] (parts_in b) i old fit.stand low lent) stands
-          (lend g (front_of b.pass) (Wheel i ∷ []) (parts_in b) fit.stand);
+      stand = wheel_back g (front_of q) [] parts i new low (named ∙ wheel_named g (front_of q) [] parts i old fit.stand low lent) stands
+          (lend g (front_of q) (Wheel i ∷ []) parts fit.stand);
     }
-
--- a world whose wheel forgot a timer
-pub record Forgot (timer : TimerRef) (before : Seen) (b : Inside) (d : Desk) (new : List Part) : Type 0 where
-  pub fit : AreFit d b.pass b.next (record (parts_in b) { wheels = new })
-  pub forgets : Forgets timer before (seen d b.pass b.next b.keeper new)
 
 -- the wheel of a timer forgets it
-pub forgot : (before : Seen) (b : Inside) (d : Desk) (old new : Part) (timer : TimerRef) → Has before b d
-    → timer.wheel < before.settings.schedulers → old ≡ slice_index_or b.wheels.items timer.wheel old → new.number ≡ old.number
-    → WheelStands (settings_of d) (front_of b.pass) new
-    → (IsTidyBut (state (settings_of d) (front_of b.pass)) old timer → IsTidy (state (settings_of d) (front_of b.pass)) new)
-    → LosesRows old new → (IsHeld new timer → ⊥) → Forgot timer before b d (slice_set b.wheels.items timer.wheel new)
-forgot before b d old new timer has low lent named stands tidy loses gone =
-    let s : State = state (settings_of d) (front_of b.pass) in
+forgot : (d : Desk) (q : Pass) (next : ℕ) (parts : AllParts) (old new : Part) (timer : TimerRef) → AreFit d q next parts
+    → timer.wheel < (settings_of d).schedulers → old ≡ slice_index_or parts.wheels timer.wheel old → WheelStands (settings_of d) (front_of q) new
+    → LosesRows old new → (IsHeld new timer → ⊥)
+    → Forgets timer (seen d q next parts.keeper parts.wheels) (seen d q next parts.keeper (slice_set parts.wheels timer.wheel new))
+forgot d q next parts old new timer fit low lent stands loses gone =
+    let s : State = state (settings_of d) (front_of q) in
+    let ws : List Part = parts.wheels in
     let i : ℕ = timer.wheel in
-    let below : i < (settings_of d).schedulers = schedulers_at has i low in
-    let ordered = has.fit.stand.wheels in
+    let wide : i < length ws = rw fit.stand.wheels.counted low in
     record {
-      fit = put_back b d i old new has.fit below lent named stands;
-      forgets = subst (λ w. Forgets timer w (seen d b.pass b.next b.keeper (slice_set b.wheels.items i new))) has.is (record {
-        table = refl;
-        history = refl;
-        settings = refl;
-        clock = refl;
-        next = refl;
-        rows = lost_rows (seen_at d b) b d i old new (record { is = refl; fit = has.fit }) below lent loses;
-        forgotten = λ x.
-            at_place (λ (y : Part). IsHeld y timer → ⊥) b.wheels.items i i new x (rw ordered.counted below) (λ one. gone) (λ other. absurd (other refl));
-        tidy = λ j in_range but x.
-            at_place (λ (y : Part). IsTidy s y) b.wheels.items i j new x (rw ordered.counted below)
-            (λ one. tidy (subst (λ (y : Part). IsTidyBut s y timer) (sym lent) (subst (λ n. IsTidyBut s (slice_index_or b.wheels.items n old) timer) one (but old))))
-            (λ other k key held. but x k key held (λ same.
-            other (sym (ordered.named j x in_range) ∙ ap (λ (r : TimerRef). r.wheel) same)));
-      });
+      table = refl;
+      history = refl;
+      settings = refl;
+      clock = refl;
+      next = refl;
+      rows = rows_set ws i old new wide lent loses;
+      forgotten = λ x. at_place (λ (y : Part). IsHeld y timer → ⊥) ws i i new x wide (λ one. gone) (λ other. absurd (other refl));
+      tidy = λ j in_range but x.
+          at_place (λ (y : Part). IsTidy s y) ws i j new x wide
+          (λ one. tidy_forgot (settings_of d) (front_of q) old new timer stands loses gone
+          (subst (λ (y : Part). IsTidyBut s y timer) (sym lent) (subst (λ n. IsTidyBut s (slice_index_or ws n old) timer) one (but old))))
+          (λ other k key held. but x k key held (λ same.
+          other (sym (fit.stand.wheels.named j x in_range) ∙ ap (λ (r : TimerRef). r.wheel) same)));
     }
+  where
+    tidy_forgot : (g : Settings) (h : List Entry) (p q : Part) (timer : TimerRef) → WheelStands g h q → LosesRows p q → (IsHeld q timer → ⊥)
+        → IsTidyBut (state g h) p timer → IsTidy (state g h) q
+    tidy_forgot g h p q timer stands loses gone but k key held =
+        let same : last_timer q.number q.slots k ≡ last_timer p.number p.slots k = same_last p q k loses in
+        let low : k < length q.slots = omega (arith, key_low q.keys k key held, stands.holds.wide, stands.holds.many) in
+        ap (state g h).status same ∙ but k key (loses.left k key held) (λ is.
+        let slot : k ≡ timer.slot = ap (λ (r : TimerRef). r.slot) is in
+        gone (record {
+          low = subst (λ n. n < length q.slots) slot low;
+          named = sym is ∙ (sym same ∙ ap (last_timer q.number q.slots) slot);
+          row = λ none. (let clash : None ≡ Some key = sym (ap (key_in q.keys) slot ∙ none) ∙ held in cc);
+        }))
+
+-- the parts of a world after a call that may have cancelled a timer, whose row went then
+pub record DoesCancel (before : Seen) (d : Desk) (q : Pass) (next : ℕ) (parts : AllParts) (call : Seen → Way → Growth) : Type 0 where
+  pub fit : AreSound d q next parts
+  pub goes : Goes before (call before) (seen d q next parts.keeper parts.wheels)
+  pub stays : Stays before (seen d q next parts.keeper parts.wheels)
+
+pub does_cancel_at : {before : Seen} {d e : Desk} {q : Pass} {next : ℕ} {parts : AllParts} {call : Seen → Way → Growth} → d ≡ e
+    → DoesCancel before d q next parts call → DoesCancel before e q next parts call
+does_cancel_at {before} {d} {e} {q} {next} {parts} {call} same done = subst (λ x. DoesCancel before x q next parts call) same done
 
 -- where a slot is held free again no row has come
 pub loses_reused : (p q : Part) (k : ℕ) → q ≡ reused p k → LosesRows p q
 loses_reused p q k is = subst (LosesRows p) (sym is) (record { number = refl; slots = refl; left = λ j key held. held; time = omega arith })
 
+-- so a tidy part stays so where rows go
+loses_tidy : (s : State) (p q : Part) → LosesRows p q → IsTidy s p → IsTidy s q
+loses_tidy s p q loses tidy k key held = ap s.status (same_last p q k loses) ∙ tidy k key (loses.left k key held)
+
 -- a world whose wheel holds a slot free again
 pub record Freed (before : Seen) (b : Inside) (d : Desk) (new : List Part) : Type 0 where
-  pub fit : AreFit d b.pass b.next (record (parts_in b) { wheels = new })
+  pub fit : AreSound d b.pass b.next (record (parts_in b) { wheels = new })
   pub stays : Stays before (seen d b.pass b.next b.keeper new)
 
 -- the wheel at a place holds a slot free again
 pub freed : (before : Seen) (b : Inside) (d : Desk) (i : ℕ) (old new : Part) → Has before b d → i < before.settings.schedulers
     → old ≡ slice_index_or b.wheels.items i old → new.number ≡ old.number → WheelStands (settings_of d) (front_of b.pass) new
-    → (IsTidy (state (settings_of d) (front_of b.pass)) old → IsTidy (state (settings_of d) (front_of b.pass)) new)
     → LosesRows old new → Freed before b d (slice_set b.wheels.items i new)
-freed before b d i old new has low lent named stands tidy loses =
+freed before b d i old new has low lent named stands loses =
     let s : State = state (settings_of d) (front_of b.pass) in
+    let ws : List Part = b.wheels.items in
     let below : i < (settings_of d).schedulers = schedulers_at has i low in
+    let lost = rows_set ws i old new (rw has.fit.stand.wheels.counted below) lent loses in
     record {
-      fit = put_back b d i old new has.fit below lent named stands;
-      stays = subst (λ w. Stays w (seen d b.pass b.next b.keeper (slice_set b.wheels.items i new))) has.is (record {
+      fit = record {
+        fit = put_back d b.pass b.next (parts_in b) i old new has.fit below lent named stands;
+        tidy = λ alone j x in_range. loses_tidy s (slice_index_or ws j x) (slice_index_or (slice_set ws i new) j x) (lost j x) (has.tidy alone j x in_range);
+      };
+      stays = subst (λ w. Stays w (seen d b.pass b.next b.keeper (slice_set ws i new))) has.is (record {
         table = refl;
         settings = refl;
         next = refl;
         clock = refl;
-        rows = lost_rows (seen_at d b) b d i old new (record { is = refl; fit = has.fit }) below lent loses;
+        rows = lost;
         forgotten = record { piece = []; grown = sym (append-nil (front_of b.pass)); forgotten = tt };
-        tidy = λ alone j in_range was x.
-            at_place (λ (y : Part). IsTidy s y) b.wheels.items i j new x (rw has.fit.stand.wheels.counted below)
-            (λ one. tidy (subst (λ (y : Part). IsTidy s y) (sym lent) (subst (λ n. IsTidy s (slice_index_or b.wheels.items n old)) one (was old)))) (λ other. was x);
       });
     }
 
@@ -198,7 +218,6 @@ goes_forgetting timer left old mid new call goes forgets =
     went old new call (subst (λ h. Grows (call (way_of old)) old.history h) (sym forgets.history) goes.grows)
     (subst (λ h. Legal new.settings h) (sym forgets.history) (subst (λ g. Legal g mid.history) (sym forgets.settings) goes.legal))
     (forgets.table ∙ goes.table) (forgets.settings ∙ goes.settings) (forgets.clock ∙ goes.clock) (forgets.next ∙ goes.next)
-    (λ alone i low tidy. forgets.tidy i (rw goes.settings low) (goes.tidy alone i low tidy))
 
 -- its wheels forget what it cancelled
 forgets_only : (w : Seen) (timer : TimerRef) (left : Option ℕ) (es : List Entry) → CancelOnly timer left es → HasForgotten w timer → HasForgottenAll w es
@@ -217,24 +236,13 @@ stays_forgetting timer left old mid new call goes forgets =
       forgotten = forgets_only new timer (Some left) (filter (is_unseated old.next) goes.cancels.piece) goes.cancels.only forgets.forgotten;
     })
 
--- a call that cancelled a timer if anything was left of it, which was so
-pub goes_forgetting_some : (timer : TimerRef) (left : Option ℕ) (old mid new : Seen) (call : Way → Growth) → left ≢ None → GoesBut timer left old call mid
-    → Forgets timer mid new → Goes old call new
-goes_forgetting_some timer None old mid new call some goes forgets = absurd (some refl)
-goes_forgetting_some timer (Some left) old mid new call some goes forgets = goes_forgetting timer left old mid new call goes forgets
-
-pub stays_forgetting_some : (timer : TimerRef) (left : Option ℕ) (old mid new : Seen) (call : Way → Growth) → left ≢ None → GoesBut timer left old call mid
-    → Forgets timer mid new → Stays old new
-stays_forgetting_some timer None old mid new call some goes forgets = absurd (some refl)
-stays_forgetting_some timer (Some left) old mid new call some goes forgets = stays_forgetting timer left old mid new call goes forgets
-
 -- where nothing was cancelled there is nothing to forget
 none_cancelled : (w : Seen) (timer : TimerRef) (es : List Entry) → CancelOnly timer None es → HasForgottenAll w es
 none_cancelled w timer [] only = tt
 none_cancelled w timer (e ∷ es) only =
     (λ t n is. absurd (let clash : None ≡ Some n = (only.0 t n is).1 in cc), none_cancelled w timer es only.1)
 
-pub goes_none : {timer : TimerRef} {old new : Seen} {call : Way → Growth} → GoesBut timer None old call new → Goes old call new
+goes_none : {timer : TimerRef} {old new : Seen} {call : Way → Growth} → GoesBut timer None old call new → Goes old call new
 goes_none goes = record {
   grows = goes.grows;
   lone = goes.lone;
@@ -243,31 +251,92 @@ goes_none goes = record {
   settings = goes.settings;
   clock = goes.clock;
   next = goes.next;
-  tidy = goes.tidy;
 }
 
-pub stays_none : (timer : TimerRef) (left : Option ℕ) (old new : Seen) (call : Way → Growth) → left ≡ None → GoesBut timer left old call new → Stays old new
-stays_none timer (Some left) old new call none but = absurd cc
-stays_none timer None old new call none but =
+stays_none : (timer : TimerRef) (old new : Seen) (call : Way → Growth) → GoesBut timer None old call new → Stays old new
+stays_none timer old new call but =
     stays_by (goes_none but) (rows_same old new but.wheels) (record {
       piece = but.cancels.piece;
       grown = but.cancels.grown;
       forgotten = none_cancelled new timer (filter (is_unseated old.next) but.cancels.piece) but.cancels.only;
     })
 
--- a call that made no entry cancelled nothing
-pub but_none : {timer : TimerRef} {old new : Seen} {call : Way → Growth} → Goes old call new → new.wheels ≡ old.wheels → CancelsOnly timer None old new
-    → GoesBut timer None old call new
-but_none goes wheels cancels = record {
-  grows = goes.grows;
-  lone = goes.lone;
-  legal = goes.legal;
-  table = goes.table;
-  settings = goes.settings;
-  clock = goes.clock;
-  next = goes.next;
-  wheels = wheels;
-  tidy = goes.tidy;
-  cancels = cancels;
-  gone = tt;
+-- each wheel of a world is tidy
+all_tidy : (before : Seen) (b : Inside) (d : Desk) → Has before b d → before.next ≡ 1 → (i : ℕ) → i < before.settings.schedulers → IsTidyAt before i
+all_tidy before b d has alone i low =
+    subst (λ (w : Seen). IsTidyAt w i) has.is
+    (λ x. has.tidy (ap (λ (w : Seen). w.next) has.is ∙ alone) i x (schedulers_at has i low))
+
+-- a call that cancelled nothing
+pub cancelled_none : (before : Seen) (b : Inside) (d : Desk) (q : Pass) (parts : AllParts) (timer : TimerRef) (call : Seen → Way → Growth) → Has before b d
+    → DoesBut timer None before d q b.next parts call → DoesCancel before d q b.next parts call
+cancelled_none before b d q parts timer call has done = record {
+  fit = record {
+    fit = done.fit;
+    tidy = λ alone i x low.
+        let one : before.next ≡ 1 = ap (λ (w : Seen). w.next) (sym has.is) ∙ alone in
+        let below : i < before.settings.schedulers = subst (λ g. i < g.schedulers) done.goes.settings low in
+        done.goes.tidy one i below (all_tidy before b d has one i below) x;
+  };
+  goes = goes_none done.goes;
+  stays = stays_none timer before (seen d q b.next parts.keeper parts.wheels) (call before) done.goes;
 }
+
+-- one that cancelled a timer, whose row then went
+pub cancelled_some : (before : Seen) (b : Inside) (d : Desk) (q : Pass) (parts : AllParts) (timer : TimerRef) (left : ℕ) (old new : Part)
+    (call : Seen → Way → Growth) → Has before b d → DoesBut timer (Some left) before d q b.next parts call
+    → old ≡ slice_index_or parts.wheels timer.wheel old → new.number ≡ old.number → WheelStands (settings_of d) (front_of q) new
+    → LosesRows old new → (IsHeld new timer → ⊥)
+    → DoesCancel before d q b.next (record parts { wheels = slice_set parts.wheels timer.wheel new }) call
+cancelled_some before b d q parts timer left old new call has done lent named stands loses gone =
+    let mid : Seen = seen d q b.next parts.keeper parts.wheels in
+    let end : Seen = seen d q b.next parts.keeper (slice_set parts.wheels timer.wheel new) in
+    let low : timer.wheel < (settings_of d).schedulers = done.goes.gone.0 in
+    let forgets : Forgets timer mid end = forgot d q b.next parts old new timer done.fit low lent stands loses gone in
+    record {
+      fit = record {
+        fit = put_back d q b.next parts timer.wheel old new done.fit low lent named stands;
+        tidy = λ alone i x in_range.
+            let one : before.next ≡ 1 = ap (λ (w : Seen). w.next) (sym has.is) ∙ alone in
+            let below : i < before.settings.schedulers = subst (λ g. i < g.schedulers) done.goes.settings in_range in
+            forgets.tidy i in_range (done.goes.tidy one i below (all_tidy before b d has one i below)) x;
+      };
+      goes = goes_forgetting timer left before mid end (call before) done.goes forgets;
+      stays = stays_forgetting timer left before mid end (call before) done.goes forgets;
+    }
+
+-- the same where it is only known that something was left
+pub cancelled_was : (before : Seen) (b : Inside) (d : Desk) (q : Pass) (parts : AllParts) (timer : TimerRef) (left : Option ℕ) (old new : Part)
+    (call : Seen → Way → Growth) → is_some left ≡ true → Has before b d → DoesBut timer left before d q b.next parts call
+    → old ≡ slice_index_or parts.wheels timer.wheel old → new.number ≡ old.number → WheelStands (settings_of d) (front_of q) new
+    → LosesRows old new → (IsHeld new timer → ⊥)
+    → DoesCancel before d q b.next (record parts { wheels = slice_set parts.wheels timer.wheel new }) call
+cancelled_was before b d q parts timer None old new call some has done lent named stands loses gone = absurd cc
+cancelled_was before b d q parts timer (Some left) old new call some has done lent named stands loses gone =
+    cancelled_some before b d q parts timer left old new call has done lent named stands loses gone
+
+pub cancelled_not : (before : Seen) (b : Inside) (d : Desk) (q : Pass) (parts : AllParts) (timer : TimerRef) (left : Option ℕ) (call : Seen → Way → Growth)
+    → is_some left ≡ false → Has before b d → DoesBut timer left before d q b.next parts call → DoesCancel before d q b.next parts call
+cancelled_not before b d q parts timer None call none has done = cancelled_none before b d q parts timer call has done
+cancelled_not before b d q parts timer (Some left) call none has done = absurd cc
+
+-- the wheel of a timer holds no row of it
+pub gone_set : (ws : List Part) (i : ℕ) (new : Part) (timer : TimerRef) → i < length ws → (IsHeld new timer → ⊥)
+    → (x : Part) → IsHeld (slice_index_or (slice_set ws i new) i x) timer → ⊥
+gone_set ws i new timer wide gone x = at_place (λ (y : Part). IsHeld y timer → ⊥) ws i i new x wide (λ one. gone) (λ other. absurd (other refl))
+
+-- a pass of a desk has its settings
+same_settings : (d : Desk) (q : Pass) (g : Settings) → Belongs d q → (view_of q).settings ≡ Some g → settings_of d ≡ g
+same_settings d q g belongs named = (let same : Some (settings_of d) ≡ Some g = sym belongs.named ∙ named in cc)
+
+-- the wheel of a timer that was cancelled stands, and the timer is settled and the last of its slot
+pub stands_then : (d : Desk) (q : Pass) (next : ℕ) (parts : AllParts) (i : ℕ) (old : Part) → AreFit d q next parts → i < (settings_of d).schedulers
+    → old ≡ slice_index_or parts.wheels i old → (g : Settings) → (view_of q).settings ≡ Some g → WheelStands g (front_of q) old
+stands_then d q next parts i old fit low lent g named =
+    subst (λ (x : Settings). WheelStands x (front_of q) old) (same_settings d q g fit.belongs named)
+    (subst (WheelStands (settings_of d) (front_of q)) (sym lent) (fit.stand.wheels.stand i old low refl))
+
+pub settled_then : (d : Desk) (q : Pass) (timer : TimerRef) → Belongs d q → (state (settings_of d) (front_of q)).status timer ≢ Some Armed
+    → (g : Settings) → (view_of q).settings ≡ Some g → (state g (front_of q)).status timer ≢ Some Armed
+settled_then d q timer belongs settled g named =
+    subst (λ (x : Settings). (state x (front_of q)).status timer ≢ Some Armed) (same_settings d q g belongs named) settled

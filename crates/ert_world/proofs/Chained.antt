@@ -2,7 +2,7 @@
 
 use Rattle.std.proofs.Common.{◌≡◌, ◌⊎◌, ℕ, zero, suc, ◌+◌, ◌≤◌, true, List, [], ◌∷◌, ◌++◌, length, Some, Ok, Err, inl, inr, refl, sym, ap, subst, ◌∙◌, arith, append-nil, append_assoc}
 use Rattle.ert_effects.proofs.Growing.{grows_then, grows_more}
-use Rattle.ert_effects.specs.Chains.{Serves, ServesMany, ServesAll, times, Advance, Hands, HandsMany, Delivers, puts, put_by, drops, dropped_by, TurnsBy, SweepsWheel, SweepsWheels, Exits}
+use Rattle.ert_effects.specs.Chains.{Serves, ServesMany, ServesAll, times, AdvancesWheel, Hands, HandsMany, Delivers, puts, put_by, drops, dropped_by, Turns, SweepsWheel, SweepsWheels, Exits}
 use Rattle.ert_effects.specs.WheelCalls.{MarksExit}
 use Rattle.ert_effects.specs.Ways.{Growth, Way, Grows, Then, Many}
 use Rattle.ert_effects.specs.declared.answers.Handed.{Handed}
@@ -113,27 +113,27 @@ module _ {S : Type 0} (settings : S → Settings) (history : S → List Entry) (
       → Made (λ g way. Hands g way w (Ok how)) b c → Made (λ g way. HandsMany g way w (hows ++ how ∷ [])) a c
   handed_more a b c hows how same one other = made_more (λ g way how. Hands g way w (Ok how)) hows how a b c same one other
 
-  -- a turn is done, with an advance of a kind, or stops for want of memory
-  pub turned : (advances : Settings → Way → Advance) (a b c d : S) (t : Turned) → Same a b → Same b c → Made (λ g way. ServesAll g way w (Ok t.served)) a b
-      → Made (λ g way. advances g way (Ok (t.to, t.fired))) b c → Made (λ g way. Delivers g way w (Ok (t.put, t.dropped))) c d
-      → Made (λ g way. TurnsBy (advances g way) g way w (Ok t)) a d
-  turned advances a b c d t on_b on_c one two three =
-      made_then (λ g way. ServesAll g way w (Ok t.served)) (λ g way. Then (advances g way (Ok (t.to, t.fired))) (Delivers g way w (Ok (t.put, t.dropped)))) a b d on_b one
-      (made_then (λ g way. advances g way (Ok (t.to, t.fired))) (λ g way. Delivers g way w (Ok (t.put, t.dropped))) b c d on_c two three)
+  -- a turn is done, or stops for want of memory
+  pub turned : (a b c d : S) (t : Turned) → Same a b → Same b c → Made (λ g way. ServesAll g way w (Ok t.served)) a b
+      → Made (λ g way. AdvancesWheel g way w (Ok (t.to, t.fired))) b c → Made (λ g way. Delivers g way w (Ok (t.put, t.dropped))) c d
+      → Made (λ g way. Turns g way w (Ok t)) a d
+  turned a b c d t on_b on_c one two three =
+      made_then (λ g way. ServesAll g way w (Ok t.served)) (λ g way. Then (AdvancesWheel g way w (Ok (t.to, t.fired))) (Delivers g way w (Ok (t.put, t.dropped)))) a b d on_b one
+      (made_then (λ g way. AdvancesWheel g way w (Ok (t.to, t.fired))) (λ g way. Delivers g way w (Ok (t.put, t.dropped))) b c d on_c two three)
 
-  pub turn_unadvanced : (advances : Settings → Way → Advance) (a b c : S) (served : ℕ) (e : NoMemory) → Same a b
-      → Made (λ g way. ServesAll g way w (Ok served)) a b → Made (λ g way. advances g way (Err e)) b c
-      → Made (λ g way. TurnsBy (advances g way) g way w (Err e)) a c
-  turn_unadvanced advances a b c served e same one two =
-      let both = made_then (λ g way. ServesAll g way w (Ok served)) (λ g way. advances g way (Err e)) a b c same one two in
+  pub turn_unadvanced : (a b c : S) (served : ℕ) (e : NoMemory) → Same a b
+      → Made (λ g way. ServesAll g way w (Ok served)) a b → Made (λ g way. AdvancesWheel g way w (Err e)) b c
+      → Made (λ g way. Turns g way w (Err e)) a c
+  turn_unadvanced a b c served e same one two =
+      let both = made_then (λ g way. ServesAll g way w (Ok served)) (λ g way. AdvancesWheel g way w (Err e)) a b c same one two in
       record { piece = both.piece; grown = both.grown; made = inr (inl (served, both.made)) }
 
-  pub turn_undelivered : (advances : Settings → Way → Advance) (a b c d : S) (served : ℕ) (answer : ℕ × ℕ) (e : NoMemory) → Same a b → Same b c
-      → Made (λ g way. ServesAll g way w (Ok served)) a b → Made (λ g way. advances g way (Ok answer)) b c
-      → Made (λ g way. Delivers g way w (Err e)) c d → Made (λ g way. TurnsBy (advances g way) g way w (Err e)) a d
-  turn_undelivered advances a b c d served answer e on_b on_c one two three =
-      let all = made_then (λ g way. ServesAll g way w (Ok served)) (λ g way. Then (advances g way (Ok answer)) (Delivers g way w (Err e))) a b d on_b one
-      (made_then (λ g way. advances g way (Ok answer)) (λ g way. Delivers g way w (Err e)) b c d on_c two three) in
+  pub turn_undelivered : (a b c d : S) (served : ℕ) (answer : ℕ × ℕ) (e : NoMemory) → Same a b → Same b c
+      → Made (λ g way. ServesAll g way w (Ok served)) a b → Made (λ g way. AdvancesWheel g way w (Ok answer)) b c
+      → Made (λ g way. Delivers g way w (Err e)) c d → Made (λ g way. Turns g way w (Err e)) a d
+  turn_undelivered a b c d served answer e on_b on_c one two three =
+      let all = made_then (λ g way. ServesAll g way w (Ok served)) (λ g way. Then (AdvancesWheel g way w (Ok answer)) (Delivers g way w (Err e))) a b d on_b one
+      (made_then (λ g way. AdvancesWheel g way w (Ok answer)) (λ g way. Delivers g way w (Err e)) b c d on_c two three) in
       record { piece = all.piece; grown = all.grown; made = inr (inr (served, answer, all.made)) }
 
   pub swept_more : (a b c : S) (p n : ℕ) → Same a b → Made (λ g way. SweepsWheels g way w p 0 n) a b → Made (λ g way. SweepsWheel g way w p n) b c

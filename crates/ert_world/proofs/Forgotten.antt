@@ -14,7 +14,8 @@ use Rattle.ert_defs.specs.declared.settings.Settings.{Settings}
 use Rattle.ert_defs.specs.declared.timer.TimerRef.{TimerRef}
 use Rattle.ert_effects.specs.RequestCalls.{DoesAsked, Answers}
 use Rattle.ert_effects.specs.TimerCalls.{Cancels, cancel_entries, read_entries}
-use Rattle.ert_world.specs.Worlds.{CancelOnly, left_by}
+use Rattle.ert_world.proofs.Sparing.{CancelOnly}
+use Rattle.ert_world.specs.Worlds.{left_by}
 
 cancel_at : (by : Actor) (timer : TimerRef) (now : ℤ) (names : Bool) (found answer : Option ℕ)
     → CancelOnly timer answer (look_entry by now ∷ cancel_entries names by timer found answer)

@@ -14,7 +14,7 @@ use Rattle.ert_table.specs.Held.{is_held, actors_but, IsActor}
 use Rattle.ert_table.specs.Views.{longer}
 use Rattle.ert_table.specs.declared.desk.Desk.{Desk}
 use Rattle.ert_table.specs.declared.desk.Pass.{Pass}
-use Rattle.ert_world.specs.Worlds.{IsUnseated, HoldsRest, AreFit}
+use Rattle.ert_world.specs.Worlds.{IsUnseated, HoldsRest, AreTidy, AreSound}
 
 lower : (n m : ℕ) → nat_eq n m ≡ false → n < m + 1 → n < m
 lower n m apart below =
@@ -90,12 +90,15 @@ module _ (g : Settings) (actors : List Actor) (next : ℕ) (holds : HoldsRest g 
   rest_again = record { some = holds.some; most = holds.most; rest = back_held; given = still_given }
 
 -- its parts fit still
-pub fit_after : (d e : Desk) (p q : Pass) (next : ℕ) (parts : AllParts) → d ≡ e → AreFit e p next parts → Belongs d q
-    → actors_of q ≡ actors_but (actors_of p) (Caller next) → front_of q ≡ front_of p → next < (settings_of e).callers → AreFit e q (next + 1) parts
-fit_after d e p q next parts same fit belongs actors front low = record {
-  belongs = subst (λ x. Belongs x q) same belongs;
-  holds = subst (λ l. HoldsRest (settings_of e) l (next + 1)) (sym actors) (rest_after (settings_of e) (actors_of p) next fit.holds low);
-  stand = subst (λ h. Stand (settings_of e) h [] parts) (sym front) fit.stand;
+pub fit_after : (d e : Desk) (p q : Pass) (next : ℕ) (parts : AllParts) → d ≡ e → AreSound e p next parts → Belongs d q
+    → actors_of q ≡ actors_but (actors_of p) (Caller next) → front_of q ≡ front_of p → next < (settings_of e).callers → AreSound e q (next + 1) parts
+fit_after d e p q next parts same kept belongs actors front low = record {
+  fit = record {
+    belongs = subst (λ x. Belongs x q) same belongs;
+    holds = subst (λ l. HoldsRest (settings_of e) l (next + 1)) (sym actors) (rest_after (settings_of e) (actors_of p) next kept.fit.holds low);
+    stand = subst (λ h. Stand (settings_of e) h [] parts) (sym front) kept.fit.stand;
+  };
+  tidy = λ alone. absurd (omega (arith, alone, kept.fit.holds.some));
 }
 
 -- the longer of two fronts that are one
@@ -110,10 +113,14 @@ longer_same f h k one other = subst (λ l. longer l h ≡ k) (sym one) (subst (�
     same = at (nat_le (length k) (length k))
 
 -- the parts of a world fit again once the caller came back
-pub fit_again : (d e : Desk) (p q r : Pass) (next : ℕ) (parts : AllParts) → d ≡ e → AreFit e p next parts → Belongs d r
-    → actors_of q ≡ actors_but (actors_of p) (Caller next) → actors_of r ≡ actors_of q ++ Caller next ∷ [] → front_of r ≡ front_of p → AreFit e r next parts
-fit_again d e p q r next parts same fit belongs rest actors front = record {
-  belongs = subst (λ x. Belongs x r) same belongs;
-  holds = subst (λ l. HoldsRest (settings_of e) l next) (sym (actors ∙ ap (λ l. l ++ Caller next ∷ []) rest)) (rest_again (settings_of e) (actors_of p) next fit.holds);
-  stand = subst (λ h. Stand (settings_of e) h [] parts) (sym front) fit.stand;
+pub fit_again : (d e : Desk) (p q r : Pass) (next : ℕ) (parts : AllParts) → d ≡ e → AreSound e p next parts → Belongs d r
+    → actors_of q ≡ actors_but (actors_of p) (Caller next) → actors_of r ≡ actors_of q ++ Caller next ∷ [] → front_of r ≡ front_of p → AreSound e r next parts
+fit_again d e p q r next parts same kept belongs rest actors front = record {
+  fit = record {
+    belongs = subst (λ x. Belongs x r) same belongs;
+    holds = subst (λ l. HoldsRest (settings_of e) l next) (sym (actors ∙ ap (λ l. l ++ Caller next ∷ []) rest))
+        (rest_again (settings_of e) (actors_of p) next kept.fit.holds);
+    stand = subst (λ h. Stand (settings_of e) h [] parts) (sym front) kept.fit.stand;
+  };
+  tidy = λ alone. subst (λ h. AreTidy (settings_of e) h parts.wheels) (sym front) (kept.tidy alone);
 }

@@ -39,7 +39,8 @@ use Rattle.ert_timers.specs.Freeing.{IsLast}
 use Rattle.ert_timers.specs.Parts.{Part}
 use Rattle.ert_world.proofs.Calls.{Has}
 use Rattle.ert_world.proofs.Standing.{free_kept}
-use Rattle.ert_world.specs.Worlds.{Seen, IsGone, IsSettledIn, IsLastIn}
+use Rattle.ert_world.proofs.Sparing.{IsGone, IsSettledIn, IsLastIn}
+use Rattle.ert_world.specs.Worlds.{Seen}
 use Rattle.ert_world.specs.declared.world.World.TheInside.{Inside}
 
 -- entries that such an entry makes true, and that all entries of a kind keep

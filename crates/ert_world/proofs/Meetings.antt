@@ -17,7 +17,7 @@ use Rattle.ert_table.specs.declared.desk.Desk.{Desk}
 use Rattle.ert_table.specs.declared.desk.Pass.{Pass}
 use Rattle.ert_world.proofs.Calls.{Has, Does, parts_in, calm_called}
 use Rattle.ert_world.specs.Seats.{Seated, seated, Steps, BySeat, Meets}
-use Rattle.ert_world.specs.Worlds.{Seen, seen, AreFit, By}
+use Rattle.ert_world.specs.Worlds.{Seen, seen, AreSound, By}
 use Rattle.ert_world.specs.Ways.{MakesNone}
 use Rattle.ert_world.specs.declared.world.World.TheInside.{Inside}
 
@@ -107,10 +107,10 @@ module _ (before : Seen) (b : Inside) (d : Desk) (s j q r : Pass) (n : ℕ) (has
     (met : IsMeeting d b.pass s j q r (Caller n)) where
   world_met : Does before d q b.next (parts_in b) (λ w. By w MakesNone)
   world_met =
-      calm_called before b d q (parts_in b) [] [] (λ w. By w MakesNone) has belongs (world_takes d b.pass s j q r (Caller n) met) tt tt (λ i. refl) tt refl refl
+      calm_called before b d q (parts_in b) [] [] (λ w. By w MakesNone) has belongs (world_takes d b.pass s j q r (Caller n) met) tt tt tt refl refl
       (λ stand. stand) (λ m grown own. own)
 
-  pub met_fit : AreFit d q b.next (parts_in b)
+  pub met_fit : AreSound d q b.next (parts_in b)
   met_fit = world_met.fit
 
   -- and the seat too

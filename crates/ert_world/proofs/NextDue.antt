@@ -10,9 +10,9 @@ use Rattle.ert_table.specs.declared.desk.Desk.{Desk}
 use Rattle.ert_timers.specs.NextDue.{NoneArmedBefore, IsNearest, IsNextHeld}
 use Rattle.ert_timers.specs.Parts.{Part, Stands as WheelStands}
 use Rattle.ert_timers.specs.Tidy.{IsTidy}
-use Rattle.ert_world.specs.Worlds.{Seen, IsTidyAt}
+use Rattle.ert_world.specs.Worlds.{Seen}
 use Rattle.ert_world.specs.declared.world.World.TheInside.{Inside}
-use Rattle.ert_world.proofs.Calls.{Has, seen_at, schedulers_at}
+use Rattle.ert_world.proofs.Calls.{Has, schedulers_at}
 
 -- what a part of a world tells holds of the world
 pub none_armed_in : (before : Seen) (b : Inside) (d : Desk) (i : ℕ) (p : Part) (answer : Option ℕ) → Has before b d
@@ -39,15 +39,14 @@ part_at before b d i p has low lent e =
 pub nearest_in : (before : Seen) (b : Inside) (d : Desk) (i : ℕ) (p : Part) (answer : Option ℕ) → Has before b d
     → i < before.settings.schedulers → p ≡ slice_index_or b.wheels.items i p
     → ((g : Settings) (h : List Entry) → WheelStands g h p → IsTidy (state g h) p → IsNearest (state g h) p.number p.passed answer)
-    → IsTidyAt before i → (e : Part) → IsNearest (state before.settings before.history) i (slice_index_or before.wheels i e).passed answer
-nearest_in before b d i p answer has low lent told tidy e =
+    → before.next ≡ 1 → (e : Part) → IsNearest (state before.settings before.history) i (slice_index_or before.wheels i e).passed answer
+nearest_in before b d i p answer has low lent told alone e =
     let g : Settings = settings_of d in
     let s : State = state g (front_of b.pass) in
     let below : i < g.schedulers = schedulers_at has i low in
     let stands : WheelStands g (front_of b.pass) p = subst (WheelStands g (front_of b.pass)) (sym lent) (has.fit.stand.wheels.stand i p below refl) in
     let named : p.number ≡ i = ap (λ (x : Part). x.number) lent ∙ has.fit.stand.wheels.named i p below in
-    let all : IsTidyAt (seen_at d b) i = subst (λ (w : Seen). IsTidyAt w i) (sym has.is) tidy in
-    let mine : IsTidy s p = subst (λ (x : Part). IsTidy s x) (sym lent) (all p) in
+    let mine : IsTidy s p = subst (λ (x : Part). IsTidy s x) (sym lent) (has.tidy (ap (λ (w : Seen). w.next) has.is ∙ alone) i p below) in
     subst (λ (w : Seen). IsNearest (state w.settings w.history) i (slice_index_or w.wheels i e).passed answer) has.is
     (subst (λ (x : Part). IsNearest s i x.passed answer) (part_at before b d i p has low lent e)
     (subst (λ n. IsNearest s n p.passed answer) named (told g (front_of b.pass) stands mine)))

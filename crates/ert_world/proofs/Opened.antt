@@ -1,19 +1,17 @@
 -- A world that has just been opened: each part stands for the empty history.
 
-use Rattle.std.proofs.Common.{◌≡◌, ◌≢◌, ℕ, ◌+◌, ◌<◌, Bool, true, false, List, [], ◌∷◌, ◌++◌, slice_index_or, refl, sym, ap, subst, ◌∙◌, arith, length-append, eqb-true, eq-eqb}
+use Rattle.std.proofs.Common.{◌≡◌, ◌≢◌, ℕ, ◌+◌, ◌<◌, Bool, true, false, List, [], ◌∷◌, ◌++◌, slice_index_or, Some, None, refl, sym, ap, subst, ◌∙◌, arith, length-append, eqb-true, eq-eqb}
 use Rattle.std.specs.Prelude.{nat_eq}
 use Rattle.std.proofs.lemmas.List.{get_or_push, get_or_append_left}
 use Rattle.ert_clock.specs.Shown.{Shown, Stands as ClockStands}
 use Rattle.ert_defs.specs.Settings.{IsChecked}
-use Rattle.ert_defs.specs.States.{state}
 use Rattle.ert_defs.specs.declared.settings.Settings.{Settings}
 use Rattle.ert_table.specs.Desks.{settings_of, front_of}
 use Rattle.ert_table.specs.declared.desk.Desk.{Desk}
 use Rattle.ert_table.specs.declared.desk.Pass.{Pass}
-use Rattle.ert_timers.specs.Parts.{Part}
-use Rattle.ert_timers.specs.Tidy.{IsTidy}
+use Rattle.ert_timers.specs.Parts.{Part, held_row}
 use Rattle.ert_world.specs.Openings.{AreNew, IsNewWheel, IsOpened}
-use Rattle.ert_world.specs.Worlds.{seen}
+use Rattle.ert_world.specs.Worlds.{seen, AreTidy}
 
 -- one more part
 pub new_more : {X : Type 0} (is_new : ℕ → X → Type 0) (n : ℕ) (xs : List X) (x : X) → AreNew is_new n xs → is_new n x → AreNew is_new (n + 1) (xs ++ x ∷ [])
@@ -36,13 +34,18 @@ new_more is_new n xs x are one = record {
 
 -- the desk that it has is shared
 pub opened : (g : Settings) (d e : Desk) (p : Pass) (keeper : Shown) (wheels : List Part) → IsChecked g → e ≡ d → settings_of d ≡ g
-    → front_of p ≡ [] → ClockStands g [] keeper → AreNew (IsNewWheel g) g.schedulers wheels → IsOpened g (seen e p 1 keeper wheels)
-opened g d e p keeper wheels checked same settings front stands new =
-    let mine : settings_of e ≡ g = ap settings_of same ∙ settings in
-    record {
-      stands = record { settings = mine; history = front; checked = checked; clock = stands };
-      next = refl;
-      tidy = λ i low x.
-          subst (λ k. IsTidy (state k (front_of p)) (slice_index_or wheels i x)) (sym mine)
-          (subst (λ h. IsTidy (state g h) (slice_index_or wheels i x)) (sym front) (new.each i x low).tidy);
-    }
+    → front_of p ≡ [] → ClockStands g [] keeper → IsOpened g (seen e p 1 keeper wheels)
+opened g d e p keeper wheels checked same settings front stands = record {
+  stands = record { settings = ap settings_of same ∙ settings; history = front; checked = checked; clock = stands };
+  next = refl;
+}
+
+-- no wheel holds a row
+pub new_tidy : (g : Settings) (d e : Desk) (p : Pass) (wheels : List Part) → e ≡ d → settings_of d ≡ g → front_of p ≡ []
+    → AreNew (IsNewWheel g) g.schedulers wheels → AreTidy (settings_of e) (front_of p) wheels
+new_tidy g d e p wheels same settings front new =
+    subst (λ s. AreTidy s (front_of p) wheels) (sym (ap settings_of same ∙ settings))
+    (subst (λ h. AreTidy g h wheels) (sym front) (λ i x low k key is.
+    let row : None ≡ Some (held_row (slice_index_or wheels i x).number (slice_index_or wheels i x).slots k key) =
+    (new.each i x low).stands.holds.rows.each k key is in
+    absurd cc))

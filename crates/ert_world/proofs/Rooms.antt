@@ -1,6 +1,6 @@
 -- A look at all slots of a wheel cancels nothing, and changes no part.
 
-use Rattle.std.proofs.Common.{◌≡◌, ℕ, zero, suc, ◌<◌, set, List, [], ◌∷◌, slice_index_or, refl, sym, ap, subst, ◌∙◌}
+use Rattle.std.proofs.Common.{◌≡◌, ℕ, zero, suc, ◌<◌, set, List, [], ◌∷◌, slice_index_or, inl, refl, sym, ap, subst, ◌∙◌}
 use Rattle.std.proofs.lemmas.List.{set-get_or}
 use Rattle.ert_effects.specs.RoomCalls.{TellsRoom, ShowsRoom, no_room, with_found}
 use Rattle.ert_effects.specs.declared.answers.Room.{Room}
@@ -13,11 +13,10 @@ use Rattle.ert_table.specs.Desks.{settings_of, view_of, front_of, Belongs}
 use Rattle.ert_table.specs.declared.desk.Desk.{Desk}
 use Rattle.ert_table.specs.declared.desk.Pass.{Pass}
 use Rattle.ert_timers.specs.Parts.{Part, Stands as WheelStands}
-use Rattle.ert_timers.specs.Tidy.{KeepsTidy}
 use Rattle.ert_world.proofs.Armed.{AreCalm}
 use Rattle.ert_world.proofs.Calls.{Does, parts_in, seen_at}
 use Rattle.ert_world.proofs.WheelCalls.{wheel_stepped}
-use Rattle.ert_world.specs.Worlds.{Seen, AreFit, By}
+use Rattle.ert_world.specs.Worlds.{Seen, AreSound, By}
 use Rattle.ert_world.specs.declared.world.World.TheInside.{Inside}
 
 shows_calm : (by w now : ℕ) (s : State) (slot n : ℕ) (before room : Room) (es : List Entry) → ShowsRoom by w now s slot n before room es → AreCalm es
@@ -34,12 +33,12 @@ same_set xs i x is = ap (set xs i) is ∙ set-get_or xs i x
 
 -- a call on a wheel by caller 0 that changes nothing of its part
 pub wheel_looked : (before : Seen) (b : Inside) (d e : Desk) (q : Pass) (i : ℕ) (part : Part) (allows : ℕ → Settings → State → List Entry → Type 0)
-    → d ≡ e → seen_at e b ≡ before → AreFit e b.pass b.next (parts_in b) → Belongs d q → i < before.settings.schedulers
+    → d ≡ e → seen_at e b ≡ before → AreSound e b.pass b.next (parts_in b) → Belongs d q → i < before.settings.schedulers
     → part ≡ slice_index_or b.wheels.items i part → WheelStands (settings_of d) (front_of q) part
     → (made : IsMade (settings_of d) (view_of b.pass) (allows part.number (settings_of d)) (view_of q))
     → ((s : State) (es : List Entry) → allows part.number (settings_of d) s es → AreOnlyOf (Caller 0 ∷ (Wheel part.number ∷ [])) es)
-    → ((s : State) (es : List Entry) → allows part.number (settings_of d) s es → AreCalm es) → KeepsTidy (settings_of d) (view_of b.pass) part part (view_of q)
+    → ((s : State) (es : List Entry) → allows part.number (settings_of d) s es → AreCalm es)
     → Does before e q b.next (parts_in b) (λ w. By w (allows i))
-wheel_looked before b d e q i part allows same is fit belongs low lent stands made only calm keeps =
+wheel_looked before b d e q i part allows same is fit belongs low lent stands made only calm =
     subst (λ ws. Does before e q b.next (record (parts_in b) { wheels = ws }) (λ w. By w (allows i))) (same_set b.wheels.items i part lent)
-    (wheel_stepped before b d e q i part part allows same is fit belongs low lent refl stands made only calm keeps)
+    (wheel_stepped before b d e q i part part allows same is fit belongs low lent refl stands made only calm (λ alone k key is. inl (is, refl)))

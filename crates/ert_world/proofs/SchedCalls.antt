@@ -30,8 +30,6 @@ use Rattle.ert_table.specs.Desks.{settings_of, view_of, front_of, Belongs}
 use Rattle.ert_table.specs.Takes.{TakesPlace}
 use Rattle.ert_table.specs.declared.desk.Desk.{Desk}
 use Rattle.ert_table.specs.declared.desk.Pass.{Pass}
-use Rattle.ert_defs.specs.declared.timer.TimerRef.{TimerRef}
-use Rattle.ert_table.specs.declared.view.View.{View}
 use Rattle.ert_timers.proofs.Settled.{fired_let_go, handed_free}
 use Rattle.ert_timers.specs.FiredLists.{Queue}
 use Rattle.ert_world.proofs.Calls.{Has, Does, Makes, ComeBack, parts_in, exact, added, calm_called, called_with, inbox_named, mail_named, schedulers_at}
@@ -40,7 +38,7 @@ use Rattle.ert_world.proofs.Cancelled.{answer_settles}
 use Rattle.ert_world.proofs.Gone.{answers_hit}
 use Rattle.ert_world.proofs.Forgotten.{answer_cancels}
 use Rattle.ert_world.proofs.Standing.{free_kept}
-use Rattle.ert_world.specs.Worlds.{Seen, seen, CancelsOnly, IsHandedIn, By, sched_of, cancelled_by}
+use Rattle.ert_world.specs.Worlds.{Seen, seen, IsHandedIn, By, sched_of, cancelled_by}
 use Rattle.ert_world.specs.declared.world.World.TheInside.{Inside}
 
 -- a scheduler's part stands that has what the state has
@@ -130,7 +128,7 @@ pick_called before b d q i old new part x got has belongs low lent lent_part nam
     let now : SchedStands g (front_of q) x = now_stands before b d q i x (picked got (s.scheds i)) has low at sched_i hand (ap (λ (f : Queue). f.rows) fired ∙ was.fired) in
     let after : AllParts = record (parts_in b) { scheds = slice_set b.scheds.items i x } in
     called_with before b d q (record after { inboxes = slice_set b.inboxes.items i new }) (Sched i ∷ (Inbox i ∷ [])) (λ g. Picks g i got) has belongs made_i
-    (picks_only g i got s made_i.entries made_i.allowed) (picks_calm g i got s made_i.entries made_i.allowed) (λ j. refl) (refl, (refl, tt)) refl refl
+    (picks_only g i got s made_i.entries made_i.allowed) (picks_calm g i got s made_i.entries made_i.allowed) (refl, (refl, tt)) refl refl
     (λ stand. inbox_back g (front_of q) [] after i new below (named ∙ one) stands (sched_back g (front_of q) (Inbox i ∷ []) (parts_in b) i x below at now stand))
 
 -- a scheduler's part and a mailbox come back
@@ -191,7 +189,7 @@ handed_now before b d q n old new fired how part x has belongs low first lent na
     let now = now_stands before b d q n x (handed (Ok how) (s.scheds n)) has low at sched_n (hand ∙ was.hand) (rows ∙ ap (λ (l : List Row). others_of l) was.fired) in
     calm_called before b d q (record (parts_in b) { mails = slice_set b.mails.items fired.dest new; scheds = slice_set b.scheds.items n x }) made.entries
     (Sched n ∷ (MailOf fired.dest ∷ [])) (λ w way. Hands w.settings way n (Ok how)) has belongs made.call
-    (handing_only g n fired (Ok how) s made.entries made.allowed) (hands_calm g n fired (Ok how) s made.entries made.allowed) (λ j. refl) (refl, (refl, tt)) refl refl
+    (handing_only g n fired (Ok how) s made.entries made.allowed) (hands_calm g n fired (Ok how) s made.entries made.allowed) (refl, (refl, tt)) refl refl
     (mail_and_sched before b d q fired.dest n old new x has low placed.dest lent named stands at now)
     (λ m grown own. record {
       fired = fired;
@@ -247,14 +245,5 @@ step_refused before b d q i old new call has belongs ranged lent named stands sa
     let g : Settings = settings_of d in
     let mine : new.process ≡ i = named ∙ mail_named g (front_of b.pass) [] (parts_in b) i old has.fit.stand ranged lent in
     calm_called before b d q (record (parts_in b) { mails = slice_set b.mails.items i new }) [] (MailOf i ∷ []) call has belongs
-    (none_taken b d q has.fit.stand same) tt tt (λ j. refl) (refl, tt) refl refl
+    (none_taken b d q has.fit.stand same) tt tt (refl, tt) refl refl
     (λ stand. mail_back g (front_of q) [] (parts_in b) i new ranged mine stands stand) allowed
-
--- and cancelled nothing
-pub refused_cancels : (before : Seen) (b : Inside) (d e : Desk) (q : Pass) (timer : TimerRef) → Has before b d → view_of q ≡ view_of b.pass
-    → CancelsOnly timer None before (seen e q b.next b.keeper b.wheels.items)
-refused_cancels before b d e q timer has same = record {
-  piece = [];
-  grown = ap (λ (v : View). v.front) same ∙ (ap (λ (w : Seen). w.history) has.is ∙ sym (append-nil before.history));
-  only = tt;
-}

@@ -20,7 +20,7 @@ use Rattle.ert_table.specs.Desks.{settings_of, front_of}
 use Rattle.ert_timers.proofs.Counted.{tidy_counts}
 use Rattle.ert_timers.specs.Parts.{Part, Stands as WheelStands}
 use Rattle.ert_timers.specs.Tidy.{IsTidy}
-use Rattle.ert_world.specs.Worlds.{Seen, AreFit, IsTidyAt, sched_of}
+use Rattle.ert_world.specs.Worlds.{Seen, AreSound, sched_of}
 use Rattle.ert_world.specs.contracts.world.World.{the_view}
 use Rattle.ert_world.specs.declared.sched_part.SchedPart.{SchedPart}
 use Rattle.ert_world.specs.declared.world.World.TheInside.{Inside}
@@ -85,53 +85,52 @@ delivered_few g h checked legal n low =
     omega (arith, grows, all, few)
 
 -- a world's history is legal, and its settings are checked
-pub legal_now : (before : Seen) (b : Inside) → the_view b ≡ before → AreFit (arc_value b.desk) b.pass b.next (parts_in b) → IsChecked before.settings × Legal before.settings before.history
+pub legal_now : (before : Seen) (b : Inside) → the_view b ≡ before → AreSound (arc_value b.desk) b.pass b.next (parts_in b) → IsChecked before.settings × Legal before.settings before.history
 legal_now before b is fit =
-    subst (λ (w : Seen). IsChecked w.settings × Legal w.settings w.history) is ((arc_value b.desk).checked, fit.stand.legal)
+    subst (λ (w : Seen). IsChecked w.settings × Legal w.settings w.history) is ((arc_value b.desk).checked, fit.fit.stand.legal)
 
 -- what a part of a world counts
-pub wheel_counts : (before : Seen) (b : Inside) (i : ℕ) (p : Part) → the_view b ≡ before → AreFit (arc_value b.desk) b.pass b.next (parts_in b) → i < before.settings.schedulers
+pub wheel_counts : (before : Seen) (b : Inside) (i : ℕ) (p : Part) → the_view b ≡ before → AreSound (arc_value b.desk) b.pass b.next (parts_in b) → i < before.settings.schedulers
     → p ≡ slice_index_or b.wheels.items i p
     → (p.arms ≡ entries_of is_arm i before.history) × (p.expires ≡ entries_of is_expire i before.history) × (p.orphans ≡ entries_of is_orphan i before.history)
 wheel_counts before b i p is fit low lent =
     let g : Settings = settings_of (arc_value b.desk) in
     let below : i < g.schedulers = subst (λ (w : Seen). i < w.settings.schedulers) (sym is) low in
-    let stands : WheelStands g (front_of b.pass) p = subst (WheelStands g (front_of b.pass)) (sym lent) (fit.stand.wheels.stand i p below refl) in
-    let named : p.number ≡ i = ap (λ (x : Part). x.number) lent ∙ fit.stand.wheels.named i p below in
+    let stands : WheelStands g (front_of b.pass) p = subst (WheelStands g (front_of b.pass)) (sym lent) (fit.fit.stand.wheels.stand i p below refl) in
+    let named : p.number ≡ i = ap (λ (x : Part). x.number) lent ∙ fit.fit.stand.wheels.named i p below in
     let counted = subst (λ n. (p.arms ≡ entries_of is_arm n (front_of b.pass)) × (p.expires ≡ entries_of is_expire n (front_of b.pass))
     × (p.orphans ≡ entries_of is_orphan n (front_of b.pass))) named (stands.counted.arms, stands.counted.expires, stands.counted.orphans) in
     subst (λ (w : Seen). (p.arms ≡ entries_of is_arm i w.history) × (p.expires ≡ entries_of is_expire i w.history) × (p.orphans ≡ entries_of is_orphan i w.history))
     is counted
 
-pub wheel_rows : (before : Seen) (b : Inside) (i : ℕ) (p : Part) → the_view b ≡ before → AreFit (arc_value b.desk) b.pass b.next (parts_in b) → i < before.settings.schedulers
-    → p ≡ slice_index_or b.wheels.items i p → IsTidyAt before i → count_by is_some p.keys ≡ count_at (state before.settings before.history) Armed i
-wheel_rows before b i p is fit low lent tidy =
+pub wheel_rows : (before : Seen) (b : Inside) (i : ℕ) (p : Part) → the_view b ≡ before → AreSound (arc_value b.desk) b.pass b.next (parts_in b) → i < before.settings.schedulers
+    → p ≡ slice_index_or b.wheels.items i p → before.next ≡ 1 → count_by is_some p.keys ≡ count_at (state before.settings before.history) Armed i
+wheel_rows before b i p is fit low lent alone =
     let g : Settings = settings_of (arc_value b.desk) in
     let s : State = state g (front_of b.pass) in
     let below : i < g.schedulers = subst (λ (w : Seen). i < w.settings.schedulers) (sym is) low in
-    let stands : WheelStands g (front_of b.pass) p = subst (WheelStands g (front_of b.pass)) (sym lent) (fit.stand.wheels.stand i p below refl) in
-    let named : p.number ≡ i = ap (λ (x : Part). x.number) lent ∙ fit.stand.wheels.named i p below in
-    let all : IsTidyAt (the_view b) i = subst (λ (w : Seen). IsTidyAt w i) (sym is) tidy in
-    let mine : IsTidy s p = subst (λ (x : Part). IsTidy s x) (sym lent) (all p) in
+    let stands : WheelStands g (front_of b.pass) p = subst (WheelStands g (front_of b.pass)) (sym lent) (fit.fit.stand.wheels.stand i p below refl) in
+    let named : p.number ≡ i = ap (λ (x : Part). x.number) lent ∙ fit.fit.stand.wheels.named i p below in
+    let mine : IsTidy s p = subst (λ (x : Part). IsTidy s x) (sym lent) (fit.tidy (ap (λ (w : Seen). w.next) is ∙ alone) i p below) in
     subst (λ (w : Seen). count_by is_some p.keys ≡ count_at (state w.settings w.history) Armed i) is
     (subst (λ n. count_by is_some p.keys ≡ count_at s Armed n) named (tidy_counts g (front_of b.pass) p stands mine))
 
-pub sched_waits : (before : Seen) (b : Inside) (i : ℕ) (p : SchedPart) → the_view b ≡ before → AreFit (arc_value b.desk) b.pass b.next (parts_in b) → i < before.settings.schedulers
+pub sched_waits : (before : Seen) (b : Inside) (i : ℕ) (p : SchedPart) → the_view b ≡ before → AreSound (arc_value b.desk) b.pass b.next (parts_in b) → i < before.settings.schedulers
     → p ≡ slice_index_or b.scheds.items i p → length p.fired.rows ≡ length (sched_of before i).fired
 sched_waits before b i p is fit low lent =
     let g : Settings = settings_of (arc_value b.desk) in
     let below : i < g.schedulers = subst (λ (w : Seen). i < w.settings.schedulers) (sym is) low in
-    let stands = subst (λ (x : SchedPart). x.fired.rows ≡ ((state g (front_of b.pass)).scheds x.wheel).fired) (sym lent) (fit.stand.scheds.stand i p below refl).fired in
-    let named : p.wheel ≡ i = ap (λ (x : SchedPart). x.wheel) lent ∙ fit.stand.scheds.named i p below in
+    let stands = subst (λ (x : SchedPart). x.fired.rows ≡ ((state g (front_of b.pass)).scheds x.wheel).fired) (sym lent) (fit.fit.stand.scheds.stand i p below refl).fired in
+    let named : p.wheel ≡ i = ap (λ (x : SchedPart). x.wheel) lent ∙ fit.fit.stand.scheds.named i p below in
     ap (λ (l : List _). length l) (stands ∙ (ap (λ n. ((state g (front_of b.pass)).scheds n).fired) named ∙ ap (λ (w : Seen). (sched_of w i).fired) is))
 
-pub mail_delivered : (before : Seen) (b : Inside) (i : ℕ) (m : Mailbox) → the_view b ≡ before → AreFit (arc_value b.desk) b.pass b.next (parts_in b) → i < before.settings.processes
+pub mail_delivered : (before : Seen) (b : Inside) (i : ℕ) (m : Mailbox) → the_view b ≡ before → AreSound (arc_value b.desk) b.pass b.next (parts_in b) → i < before.settings.processes
     → m ≡ slice_index_or b.mails.items i m → m.delivered ≡ deliveries i before.history
 mail_delivered before b i m is fit low lent =
     let g : Settings = settings_of (arc_value b.desk) in
     let below : i < g.processes = subst (λ (w : Seen). i < w.settings.processes) (sym is) low in
-    let stands = subst (λ (x : Mailbox). x.delivered ≡ deliveries x.process (front_of b.pass)) (sym lent) (fit.stand.mails.stand i m below refl).delivered in
-    let named : m.process ≡ i = ap (λ (x : Mailbox). x.process) lent ∙ fit.stand.mails.named i m below in
+    let stands = subst (λ (x : Mailbox). x.delivered ≡ deliveries x.process (front_of b.pass)) (sym lent) (fit.fit.stand.mails.stand i m below refl).delivered in
+    let named : m.process ≡ i = ap (λ (x : Mailbox). x.process) lent ∙ fit.fit.stand.mails.named i m below in
     stands ∙ (ap (λ n. deliveries n (front_of b.pass)) named ∙ ap (λ (w : Seen). deliveries i w.history) is)
 
 -- a sum goes on by one part

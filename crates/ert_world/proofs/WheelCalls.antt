@@ -1,7 +1,7 @@
 -- The calls that start timers, let them expire, or cancel them for an exit.
 
-use Rattle.std.proofs.Common.{◌≡◌, ◌≢◌, ℕ, zero, suc, ◌<◌, Bool, true, false, List, [], ◌∷◌, ◌++◌, slice_index_or, Option, Some, None, Result, Ok, Err, inl, inr, refl, sym, ap, subst, ◌∙◌, eqb-true, length}
-use Rattle.std.specs.Prelude.{slice_set, nat_eq}
+use Rattle.std.proofs.Common.{◌≡◌, ℕ, zero, suc, ◌<◌, Bool, true, false, List, [], ◌∷◌, ◌++◌, slice_index_or, Option, Some, None, Result, Ok, Err, inl, inr, refl, sym, ap, subst, ◌∙◌, length}
+use Rattle.std.specs.Prelude.{slice_set}
 use Rattle.ert_effects.proofs.Advanced.{IsAdvance, advance_is}
 use Rattle.ert_effects.specs.TimerCalls.{Starts, Closes, AreProbes, AreTaken}
 use Rattle.ert_effects.specs.Chains.{SweepsWheel}
@@ -9,7 +9,6 @@ use Rattle.ert_effects.specs.WheelCalls.{Advances, Sweeps, IsSwept, Try, expires
 use Rattle.ert_effects.specs.Ways.{Growth, Way}
 use Rattle.ert_effects.specs.declared.answers.StartErr.{StartErr}
 use Rattle.ert_effects.specs.declared.answers.StartErr.TheVariants.{BadArg, Full, NoMemory}
-use Rattle.ert_defs.specs.Actors.{same_actor}
 use Rattle.std.proofs.lemmas.List.{get_or_default}
 use Rattle.ert_defs.specs.States.{State, state}
 use Rattle.ert_defs.specs.declared.entry.Actor.{Actor}
@@ -19,27 +18,23 @@ use Rattle.ert_defs.specs.declared.memory.NoMemory.{NoMemory as WantOfMemory}
 use Rattle.ert_defs.specs.declared.settings.Settings.{Settings}
 use Rattle.ert_defs.specs.declared.timer.Start.{Start}
 use Rattle.ert_defs.specs.declared.timer.Status.{Status}
-use Rattle.ert_defs.specs.declared.timer.Status.TheVariants.{Armed}
 use Rattle.ert_defs.specs.declared.timer.TimerRef.{TimerRef}
-use Rattle.ert_table.proofs.Parts.{free_of_others}
 use Rattle.ert_table.specs.Calls.{AreOnlyOf, IsMade}
-use Rattle.ert_table.specs.Desks.{settings_of, view_of, front_of, actors_of, Belongs}
-use Rattle.ert_table.specs.Held.{is_held}
+use Rattle.ert_table.specs.Desks.{settings_of, view_of, front_of, Belongs}
 use Rattle.ert_table.specs.Takes.{TakesPlace}
 use Rattle.ert_table.specs.declared.desk.Desk.{Desk}
 use Rattle.ert_table.specs.declared.desk.Pass.{Pass}
 use Rattle.ert_timers.proofs.LawsHold.{sweeps_only}
 use Rattle.ert_timers.proofs.Passing.{loses_none}
-use Rattle.ert_timers.specs.Passed.{HasPassed, LosesRows}
-use Rattle.ert_timers.specs.Parts.{Part, last_timer, Stands as WheelStands}
-use Rattle.ert_timers.specs.Tidy.{IsTidy, KeepsTidy}
-use Rattle.ert_world.proofs.Alone.{whole_of}
-use Rattle.ert_world.proofs.Armed.{is_cancel, AreCalm, armed_stays}
+use Rattle.ert_timers.specs.Passed.{GainsOne, HasPassed, LosesRows}
+use Rattle.ert_timers.specs.Parts.{Part, Stands as WheelStands}
+use Rattle.ert_world.proofs.Armed.{is_cancel, AreCalm}
 use Rattle.ert_world.proofs.Calm.{calm_as}
-use Rattle.ert_world.proofs.Calls.{Has, Does, Makes, parts_in, seen_at, has_at, does_at, exact, finish, after, added, makes, schedulers_at}
+use Rattle.ert_world.proofs.Calls.{Has, Does, Makes, parts_in, seen_at, has_at, does_at, exact, after, finish, makes, schedulers_at}
 use Rattle.ert_world.proofs.Returned.{at_place, wheel_back, caller_back}
+use Rattle.ert_world.proofs.Tidying.{HoldsOn, lost_hold, one_holds, start_holds}
 use Rattle.ert_world.specs.Parts.{AllParts, Stand}
-use Rattle.ert_world.specs.Worlds.{Seen, seen, AreFit, StayTidy, By}
+use Rattle.ert_world.specs.Worlds.{Seen, AreSound, By}
 use Rattle.ert_world.specs.declared.world.World.TheInside.{Inside}
 
 calm_append : (es fs : List Entry) → AreCalm es → AreCalm fs → AreCalm (es ++ fs)
@@ -113,44 +108,14 @@ pub wheel_named : (g : Settings) (h : List Entry) (lent : List Actor) (parts : A
     → x ≡ slice_index_or parts.wheels i x → x.number ≡ i
 wheel_named g h lent parts i x stand low is = ap (λ (p : Part). p.number) is ∙ stand.wheels.named i x low
 
--- a call on one wheel keeps that tidy, and all others
-pub wheel_tidy : {before : Seen} (b : Inside) (d : Desk) (q : Pass) (i : ℕ) (old new : Part) (es : List Entry) (lent : List Actor) → Has before b d
-    → i < (settings_of d).schedulers → old ≡ slice_index_or b.wheels.items i old → TakesPlace (settings_of d) (view_of b.pass) es (view_of q)
-    → AreOnlyOf lent es → ((j : ℕ) → j ≢ i → is_held lent (Wheel j) ≡ false) → AreCalm es
-    → KeepsTidy (settings_of d) (view_of b.pass) old new (view_of q)
-    → StayTidy (seen_at d b) (seen d q b.next b.keeper (slice_set b.wheels.items i new))
-wheel_tidy b d q i old new es lent has low lent_is takes only none calm keeps = λ alone j below tidy x.
-    let g : Settings = settings_of d in
-    let ordered = has.fit.stand.wheels in
-    let front = exact b d q es has takes alone in
-    at_place (λ (y : Part). IsTidy (state g (front_of q)) y) b.wheels.items i j new x (rw ordered.counted low)
-    (λ one. keeps (whole_of g (actors_of b.pass) b.next alone has.fit.holds)
-    (subst (λ (y : Part). IsTidy (state g (front_of b.pass)) y) (sym lent_is)
-    (subst (λ n. IsTidy (state g (front_of b.pass)) (slice_index_or b.wheels.items n old)) one (tidy old))))
-    (λ other k key is.
-    let p : Part = slice_index_or b.wheels.items j x in
-    let r : TimerRef = last_timer p.number p.slots k in
-    let named : p.number ≡ j = ordered.named j x below in
-    let apart : is_held lent (Wheel p.number) ≡ false = subst (λ n. is_held lent (Wheel n) ≡ false) (sym named) (none j other) in
-    subst (λ (s : State). s.status r ≡ Some Armed) (sym (after d b.pass q es front))
-    (armed_stays g (state g (front_of b.pass)) es r (added d b.pass q es front takes.legal) (free_of_others lent (Wheel r.wheel) es apart only) calm
-    (tidy x k key is)))
-
-pub one_wheel : (a : Actor) (i j : ℕ) → same_actor a (Wheel j) ≡ false → j ≢ i → is_held (a ∷ (Wheel i ∷ [])) (Wheel j) ≡ false
-one_wheel a i j other apart = rw other (by_test (nat_eq i j) refl)
-  where
-    by_test : (t : Bool) → nat_eq i j ≡ t → is_held (Wheel i ∷ []) (Wheel j) ≡ false
-    by_test true is = absurd (apart (sym (eqb-true i j is)))
-    by_test false is = rw is refl
-
 -- a call on a wheel, by caller 0
 pub wheel_called : (before : Seen) (b : Inside) (d : Desk) (q : Pass) (i : ℕ) (old new : Part) (es : List Entry) (call : ℕ → Seen → Way → Growth)
     → Has before b d → Belongs d q → i < before.settings.schedulers → old ≡ slice_index_or b.wheels.items i old → new.number ≡ old.number
     → WheelStands (settings_of d) (front_of q) new → TakesPlace (settings_of d) (view_of b.pass) es (view_of q)
-    → AreOnlyOf (Caller 0 ∷ (Wheel old.number ∷ [])) es → AreCalm es → KeepsTidy (settings_of d) (view_of b.pass) old new (view_of q)
+    → AreOnlyOf (Caller 0 ∷ (Wheel old.number ∷ [])) es → AreCalm es → (b.next ≡ 1 → HoldsOn (state (settings_of d) (front_of q)) old new)
     → Makes b d q es (call old.number)
     → Does before d q b.next (record (parts_in b) { wheels = slice_set b.wheels.items i new }) (call i)
-wheel_called before b d q i old new es call has belongs low lent named stands takes only calm keeps allowed =
+wheel_called before b d q i old new es call has belongs low lent named stands takes only calm holds allowed =
     let g : Settings = settings_of d in
     let n : ℕ = old.number in
     let below : i < g.schedulers = schedulers_at has i low in
@@ -159,55 +124,64 @@ wheel_called before b d q i old new es call has belongs low lent named stands ta
     subst (λ n. Does before d q b.next (record (parts_in b) { wheels = slice_set b.wheels.items n new }) (call n)) one
     (finish before b d q (record (parts_in b) { wheels = slice_set b.wheels.items n new }) es (Caller 0 ∷ (Wheel n ∷ [])) (call n) has belongs takes only calm (refl, (refl, tt))
     (λ stand. wheel_back g (front_of q) [] (parts_in b) n new (rw one below) named stands (caller_back g (front_of q) (Wheel n ∷ []) (parts_in b) 0 stand)) allowed
-    (wheel_tidy b d q n old new es (Caller 0 ∷ (Wheel n ∷ [])) has (rw one below) mine takes only (λ j apart. one_wheel (Caller 0) n j refl apart) calm keeps) refl)
+    (λ alone. one_holds (state g (front_of q)) b.wheels.items n old new (rw (has.fit.stand.wheels.counted, one) below) mine (holds alone)) refl)
 
 -- one that makes a single step
 pub wheel_stepped : (before : Seen) (b : Inside) (d e : Desk) (q : Pass) (i : ℕ) (old new : Part) (allows : ℕ → Settings → State → List Entry → Type 0)
-    → d ≡ e → seen_at e b ≡ before → AreFit e b.pass b.next (parts_in b) → Belongs d q → i < before.settings.schedulers
+    → d ≡ e → seen_at e b ≡ before → AreSound e b.pass b.next (parts_in b) → Belongs d q → i < before.settings.schedulers
     → old ≡ slice_index_or b.wheels.items i old → new.number ≡ old.number → WheelStands (settings_of d) (front_of q) new
     → (made : IsMade (settings_of d) (view_of b.pass) (allows old.number (settings_of d)) (view_of q))
     → ((s : State) (es : List Entry) → allows old.number (settings_of d) s es → AreOnlyOf (Caller 0 ∷ (Wheel old.number ∷ [])) es)
-    → ((s : State) (es : List Entry) → allows old.number (settings_of d) s es → AreCalm es) → KeepsTidy (settings_of d) (view_of b.pass) old new (view_of q)
+    → ((s : State) (es : List Entry) → allows old.number (settings_of d) s es → AreCalm es) → (b.next ≡ 1 → HoldsOn (state (settings_of d) (front_of q)) old new)
     → Does before e q b.next (record (parts_in b) { wheels = slice_set b.wheels.items i new }) (λ w. By w (allows i))
-wheel_stepped before b d e q i old new allows same is fit belongs low lent named stands made only calm keeps =
+wheel_stepped before b d e q i old new allows same is fit belongs low lent named stands made only calm holds =
     let s : State = state (settings_of d) (front_of b.pass) in
     does_at same (wheel_called before b d q i old new made.entries (λ n w. By w (allows n)) (has_at same is fit) belongs low lent named stands made.call
-    (only s made.entries made.allowed) (calm s made.entries made.allowed) keeps (makes b d q made.entries (allows old.number) made.allowed))
+    (only s made.entries made.allowed) (calm s made.entries made.allowed) holds (makes b d q made.entries (allows old.number) made.allowed))
+
+-- the rows of a wheel on which a timer was started
+pub started_hold : {before : Seen} (b : Inside) (d : Desk) (q : Pass) (w : ℕ) (start : Start) (answer : Result TimerRef StartErr) (old new : Part)
+    → Has before b d → IsMade (settings_of d) (view_of b.pass) (Starts (settings_of d) 0 w start answer) (view_of q) → GainsOne old new answer
+    → b.next ≡ 1 → HoldsOn (state (settings_of d) (front_of q)) old new
+started_hold b d q w start answer old new has made gains alone =
+    let g : Settings = settings_of d in
+    let s : State = state g (front_of b.pass) in
+    subst (λ (t : State). HoldsOn t old new) (sym (after d b.pass q made.entries (exact b d q made.entries has made.call alone)))
+    (start_holds g 0 w start answer s made.entries old new made.allowed (starts_calm g 0 w start answer s made.entries made.allowed) gains)
 
 -- caller 0 swept a wheel
 pub sweep_called : (before : Seen) (b : Inside) (d : Desk) (q : Pass) (i process : ℕ) (old new : Part) → Has before b d → Belongs d q
     → i < before.settings.schedulers → old ≡ slice_index_or b.wheels.items i old → new.number ≡ old.number → WheelStands (settings_of d) (front_of q) new
     → IsMade (settings_of d) (view_of b.pass) (Sweeps (settings_of d) 0 old.number process) (view_of q)
-    → IsSwept (state (settings_of d) (front_of q)) old.number process → KeepsTidy (settings_of d) (view_of b.pass) old new (view_of q)
+    → IsSwept (state (settings_of d) (front_of q)) old.number process → LosesRows old new
     → Does before d q b.next (record (parts_in b) { wheels = slice_set b.wheels.items i new }) (λ w way. SweepsWheel w.settings way 0 process i)
-sweep_called before b d q i process old new has belongs low lent named stands made swept keeps =
+sweep_called before b d q i process old new has belongs low lent named stands made swept loses =
     let g : Settings = settings_of d in
     let s : State = state g (front_of b.pass) in
     wheel_called before b d q i old new made.entries (λ n w way. SweepsWheel w.settings way 0 process n) has belongs low lent named stands made.call
-    (sweeps_only g 0 old.number process s made.entries made.allowed) (sweeps_calm g 0 old.number process s made.entries made.allowed) keeps
+    (sweeps_only g 0 old.number process s made.entries made.allowed) (sweeps_calm g 0 old.number process s made.entries made.allowed)
+    (λ alone. lost_hold (state g (front_of q)) old new loses)
     (λ m grown own. record {
       steps = subst (Sweeps g 0 old.number process s) (sym own) made.allowed;
       swept = subst (λ h. IsSwept (state g h) old.number process) grown swept;
     })
 
--- a wheel that was replaced by a tidy one is so
-pub replaced_tidy : {before : Seen} (b : Inside) (d : Desk) (s : State) (i : ℕ) (new : Part) → Has before b d → i < before.settings.schedulers → IsTidy s new
-    → (x : Part) → IsTidy s (slice_index_or (slice_set b.wheels.items i new) i x)
-replaced_tidy b d s i new has low tidy x =
-    at_place (λ (y : Part). IsTidy s y) b.wheels.items i i new x (rw has.fit.stand.wheels.counted (schedulers_at has i low)) (λ one. tidy) (λ other. absurd (other refl))
+-- where one part lost rows, no row has come
+pub rows_set : (ws : List Part) (i : ℕ) (old new : Part) → i < length ws → old ≡ slice_index_or ws i old → LosesRows old new
+    → (j : ℕ) (x : Part) → LosesRows (slice_index_or ws j x) (slice_index_or (slice_set ws i new) j x)
+rows_set ws i old new wide lent loses j x =
+    at_place (λ (y : Part). LosesRows (slice_index_or ws j x) y) ws i j new x wide
+    (λ one. subst (λ (y : Part). LosesRows y new)
+    (lent ∙ (get_or_default ws i old x wide ∙ ap (λ n. slice_index_or ws n x) (sym one))) loses)
+    (λ other. loses_none (slice_index_or ws j x))
 
--- where a wheel lost rows, no row has come
 pub lost_rows : (before : Seen) (b : Inside) (d : Desk) (i : ℕ) (old new : Part) → Has before b d → i < before.settings.schedulers
     → old ≡ slice_index_or b.wheels.items i old → LosesRows old new
     → (j : ℕ) (x : Part) → LosesRows (slice_index_or before.wheels j x) (slice_index_or (slice_set b.wheels.items i new) j x)
 lost_rows before b d i old new has low lent loses j x =
     let ws : List Part = b.wheels.items in
-    let wide : i < length ws = rw has.fit.stand.wheels.counted (schedulers_at has i low) in
     subst (λ (w : Seen). LosesRows (slice_index_or w.wheels j x) (slice_index_or (slice_set ws i new) j x)) has.is
-    (at_place (λ (y : Part). LosesRows (slice_index_or ws j x) y) ws i j new x wide
-    (λ one. subst (λ (y : Part). LosesRows y new)
-    (lent ∙ (get_or_default ws i old x wide ∙ ap (λ n. slice_index_or ws n x) (sym one))) loses)
-    (λ other. loses_none (slice_index_or ws j x)))
+    (rows_set ws i old new (rw has.fit.stand.wheels.counted (schedulers_at has i low)) lent loses j x)
 
 -- a wheel that was replaced by one without due rows has none
 pub replaced_passed : {before : Seen} (b : Inside) (d : Desk) (i to : ℕ) (new : Part) → Has before b d → i < before.settings.schedulers → HasPassed new to

@@ -1,19 +1,16 @@
 -- A world that has just been opened, and its parts.
 
 use Rattle.std.specs.Prelude.{◌≡◌, ℕ, ◌<◌, List, [], length, slice_index_or, None}
-use Rattle.ert_defs.specs.States.{opening}
 use Rattle.ert_defs.specs.declared.settings.Settings.{Settings}
 use Rattle.ert_mail.specs.Inboxes.{Waiting}
 use Rattle.ert_timers.specs.Parts.{Part, Stands}
-use Rattle.ert_timers.specs.Tidy.{IsTidy}
-use Rattle.ert_world.specs.Worlds.{Seen, StandsFor, IsTidyAt}
+use Rattle.ert_world.specs.Worlds.{Seen, StandsFor}
 use Rattle.ert_world.specs.declared.sched_part.SchedPart.{SchedPart}
 
--- a world was opened: it stands for the empty history, has given out no seat, and each wheel is tidy
+-- a world was opened: it stands for the empty history, and has given out no seat
 pub record IsOpened (g : Settings) (w : Seen) : Type 0 where
   pub stands : StandsFor g [] w
   pub next : w.next ≡ 1
-  pub tidy : (i : ℕ) → i < g.schedulers → IsTidyAt w i
 
 -- so many parts of one kind, each new as its number says
 pub record AreNew {X : Type 0} (is_new : ℕ → X → Type 0) (count : ℕ) (xs : List X) : Type 0 where
@@ -24,7 +21,6 @@ pub record AreNew {X : Type 0} (is_new : ℕ → X → Type 0) (count : ℕ) (xs
 pub record IsNewWheel (g : Settings) (number : ℕ) (p : Part) : Type 0 where
   pub named : p.number ≡ number
   pub stands : Stands g [] p
-  pub tidy : IsTidy (opening g) p
 
 -- the inbox of a scheduler in which no request waits
 abbrev pub IsNewInbox : ℕ → Waiting → Type 0

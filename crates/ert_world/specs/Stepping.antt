@@ -13,10 +13,9 @@ use Rattle.ert_timers.specs.Passed.{LosesRows}
 use Rattle.ert_wheel.specs.Rows.{key_in}
 use Rattle.ert_wheel.specs.declared.row.Key.{Key}
 use Rattle.ert_world.specs.Ways.{is_unseated}
-use Rattle.ert_world.specs.Worlds.{Seen, StayTidy, ForgetsCancelled, HasForgottenAll, HasPassedAt, LoseRows}
+use Rattle.ert_world.specs.Worlds.{Seen, ForgetsCancelled, HasForgottenAll, HasPassedAt, LoseRows}
 
--- the desk, its settings, the clock and the seats stay, no row comes, the wheels forget what the world cancelled, and
--- where no seat was given out, tidy wheels stay tidy
+-- the desk, its settings, the clock and the seats stay, no row comes, and the wheels forget what the world cancelled
 pub record Stays (old new : Seen) : Type 0 where
   pub table : new.table ≡ old.table
   pub settings : new.settings ≡ old.settings
@@ -24,7 +23,6 @@ pub record Stays (old new : Seen) : Type 0 where
   pub clock : new.clock ≡ old.clock
   pub rows : LoseRows old new
   pub forgotten : ForgetsCancelled old new
-  pub tidy : StayTidy old new
 
 -- a row that is held was held before
 held_before : (p q : Part) (timer : TimerRef) → LosesRows p q → IsHeld q timer → IsHeld p timer
@@ -71,7 +69,6 @@ stay a b c one other = record {
     time = le_trans first.time second.time;
   });
   forgotten = forgets_then a b c one.forgotten other.forgotten one.next other.rows;
-  tidy = λ alone i low tidy. other.tidy (one.next ∙ alone) i (rw one.settings low) (one.tidy alone i low tidy);
 }
 
 pub same : (a : Seen) → Stays a a
@@ -82,7 +79,6 @@ same a = record {
   clock = refl;
   rows = λ i d. record { number = refl; slots = refl; left = λ k key is. is; time = le_refl (slice_index_or a.wheels i d).passed };
   forgotten = record { piece = []; grown = sym (append-nil a.history); forgotten = tt };
-  tidy = λ alone i low tidy. tidy;
 }
 
 -- a scheduler in range stays so

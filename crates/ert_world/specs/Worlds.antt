@@ -1,6 +1,6 @@
 -- What callers see of a world, the history that it knows, and how its calls make that longer.
 
-use Rattle.std.specs.Prelude.{◌≡◌, ◌≢◌, ℕ, ◌<◌, ◌≤◌, ◌⊎◌, ◌++◌, true, false, List, [], ◌∷◌, filter, slice_index_or, Option, Some, None, Result, Ok, Err}
+use Rattle.std.specs.Prelude.{◌≡◌, ℕ, ◌<◌, ◌≤◌, ◌⊎◌, ◌++◌, true, false, List, [], ◌∷◌, filter, slice_index_or, Option, Some, None, Result, Ok, Err}
 use Rattle.atomic_table.specs.Seated.{TableId}
 use Rattle.ert_effects.specs.Ways.{Growth, Way, Grows, alone}
 use Rattle.ert_clock.specs.Shown.{Shown, Stands as ClockStands}
@@ -18,17 +18,16 @@ use Rattle.ert_defs.specs.declared.mail.RequestKind.{RequestKind}
 use Rattle.ert_defs.specs.declared.mail.RequestKind.TheVariants.{Cancel as ToCancel, Read as ToRead}
 use Rattle.ert_defs.specs.declared.memory.NoMemory.{NoMemory}
 use Rattle.ert_defs.specs.declared.settings.Settings.{Settings}
-use Rattle.ert_defs.specs.declared.timer.Status.TheVariants.{Armed}
 use Rattle.ert_defs.specs.declared.timer.TimerRef.{TimerRef}
 use Rattle.ert_table.specs.Desks.{settings_of, front_of, actors_of, Belongs}
 use Rattle.ert_table.specs.Held.{is_held, IsActor}
 use Rattle.ert_table.specs.declared.desk.Desk.{Desk}
 use Rattle.ert_table.specs.declared.desk.Pass.{Pass}
-use Rattle.ert_timers.specs.Freeing.{IsHeld, IsLast, IsLetGo}
+use Rattle.ert_timers.specs.Freeing.{IsHeld, IsLetGo}
 use Rattle.ert_timers.specs.NextDue.{IsNearest, IsNextHeld}
 use Rattle.ert_timers.specs.Parts.{Part}
 use Rattle.ert_timers.specs.Passed.{HasPassed, LosesRows}
-use Rattle.ert_timers.specs.Tidy.{IsTidy, IsTidyBut}
+use Rattle.ert_timers.specs.Tidy.{IsTidy}
 use Rattle.ert_world.specs.Parts.{AllParts, Stand}
 use Rattle.ert_world.specs.Ways.{beside_seats, is_unseated}
 
@@ -72,33 +71,25 @@ pub record AreFit (d : Desk) (p : Pass) (next : ℕ) (parts : AllParts) : Type 0
   pub holds : HoldsRest (settings_of d) (actors_of p) next
   pub stand : Stand (settings_of d) (front_of p) [] parts
 
--- a wheel of a world is tidy: all timers that it holds are armed
-abbrev pub IsTidyAt : Seen → ℕ → Type 0
-IsTidyAt w i = (d : Part) → IsTidy (state w.settings w.history) (slice_index_or w.wheels i d)
+-- all wheels are tidy after a history: each timer that one holds is armed
+abbrev pub AreTidy : Settings → List Entry → List Part → Type 0
+AreTidy g h wheels = (i : ℕ) (d : Part) → i < g.schedulers → IsTidy (state g h) (slice_index_or wheels i d)
+
+-- the parts of a world are sound: they fit, and where no seat was given out its wheels are tidy
+pub record AreSound (d : Desk) (p : Pass) (next : ℕ) (parts : AllParts) : Type 0 where
+  pub fit : AreFit d p next parts
+  pub tidy : next ≡ 1 → AreTidy (settings_of d) (front_of p) parts.wheels
 
 -- how early the next of the rows that a wheel of a world holds is due, and None where it holds none. It holds the row
 -- of each armed timer, and may hold the row of one that was cancelled until that would have been due
 abbrev pub IsNextHeldAt : Seen → ℕ → Option ℕ → Type 0
 IsNextHeldAt w i answer = (d : Part) → IsNextHeld (slice_index_or w.wheels i d) answer
 
--- where a wheel of a world is tidy, a time that is answered is that of an armed timer, or the begin of a window, after
--- the first time that the wheel hasn't passed, in which one is due
+-- where no seat was given out, a time that is answered is that of an armed timer, or the begin of a window, after the
+-- first time that the wheel hasn't passed, in which one is due
 abbrev pub IsNearestAt : Seen → ℕ → Option ℕ → Type 0
-IsNearestAt w i answer = IsTidyAt w i
+IsNearestAt w i answer = w.next ≡ 1
     → (d : Part) → IsNearest (state w.settings w.history) i (slice_index_or w.wheels i d).passed answer
-
--- where no seat was given out, each wheel that was tidy is so still
-abbrev pub StayTidy : Seen → Seen → Type 0
-StayTidy old new = old.next ≡ 1 → (i : ℕ) → i < old.settings.schedulers → IsTidyAt old i → IsTidyAt new i
-
--- all timers that it holds but one are armed
-abbrev pub IsTidyButAt : Seen → ℕ → TimerRef → Type 0
-IsTidyButAt w i timer = (d : Part) → IsTidyBut (state w.settings w.history) (slice_index_or w.wheels i d) timer
-
--- each wheel that was tidy is so still, but for a timer that was cancelled, if this much was left of it
-abbrev pub StayTidyBut : TimerRef → Option ℕ → Seen → Seen → Type 0
-StayTidyBut timer None old new = StayTidy old new
-StayTidyBut timer (Some left) old new = old.next ≡ 1 → (i : ℕ) → i < old.settings.schedulers → IsTidyAt old i → IsTidyButAt new i timer
 
 -- a world's steps come about beside those of its seats
 abbrev pub way_of : Seen → Way
@@ -138,61 +129,16 @@ pub record Goes (old : Seen) (call : Way → Growth) (new : Seen) : Type 0 where
   pub settings : new.settings ≡ old.settings
   pub clock : new.clock ≡ old.clock
   pub next : new.next ≡ old.next
-  pub tidy : StayTidy old new
 
 -- the same of a call that may move the clock
 abbrev pub GoesOnClock : Seen → (Way → Growth) → Seen → Type 0
 GoesOnClock old call new = Goes (record old { clock = new.clock }) call new
 
--- a timer isn't armed in the history of a world
-abbrev pub IsSettledIn : Seen → TimerRef → Type 0
-IsSettledIn w timer = (state w.settings w.history).status timer ≢ Some Armed
-
--- a timer is the last of its slot, of a wheel of a world
-abbrev pub IsLastIn : Seen → TimerRef → Type 0
-IsLastIn w timer = (d : Part) → IsLast (slice_index_or w.wheels timer.wheel d) timer
-
--- a timer is of a wheel in range, no longer armed and the last of its slot, if this much was left of it when it was
--- cancelled
-abbrev pub IsGone : Seen → TimerRef → Option ℕ → Type 0
-IsGone w timer None = Unit {0}
-IsGone w timer (Some left) = (timer.wheel < w.settings.schedulers) × IsSettledIn w timer × IsLastIn w timer
-
--- these entries cancel no timer but one, if this much was left of it
-abbrev pub CancelOnly : TimerRef → Option ℕ → List Entry → Type 0
-CancelOnly timer left [] = Unit {0}
-CancelOnly timer left (e ∷ es) = ((t : TimerRef) (n : ℕ) → e.event ≡ Cancel t (Some n) → (t ≡ timer) × (left ≡ Some n)) × CancelOnly timer left es
-
--- the history of a world goes on by a piece, whose entries that no seat made do so
-pub record CancelsOnly (timer : TimerRef) (left : Option ℕ) (old new : Seen) : Type 0 where
-  pub piece : List Entry
-  pub grown : new.history ≡ old.history ++ piece
-  pub only : CancelOnly timer left (filter (is_unseated old.next) piece)
-
--- but for one timer that was cancelled, if this much was left of it: its row still stands
-pub record GoesBut (timer : TimerRef) (left : Option ℕ) (old : Seen) (call : Way → Growth) (new : Seen) : Type 0 where
-  pub grows : Grows (call (way_of old)) old.history new.history
-  pub lone : old.next ≡ 1 → Grows (call (alone old.settings)) old.history new.history
-  pub legal : Legal new.settings new.history
-  pub table : new.table ≡ old.table
-  pub settings : new.settings ≡ old.settings
-  pub clock : new.clock ≡ old.clock
-  pub next : new.next ≡ old.next
-  pub wheels : new.wheels ≡ old.wheels
-  pub tidy : StayTidyBut timer left old new
-  pub cancels : CancelsOnly timer left old new
-  pub gone : IsGone new timer left
-
--- the row of a timer goes, and nothing else changes
-pub record Forgets (timer : TimerRef) (old new : Seen) : Type 0 where
-  pub table : new.table ≡ old.table
-  pub history : new.history ≡ old.history
-  pub settings : new.settings ≡ old.settings
-  pub clock : new.clock ≡ old.clock
-  pub next : new.next ≡ old.next
-  pub rows : LoseRows old new
-  pub forgotten : HasForgotten new timer
-  pub tidy : (i : ℕ) → i < old.settings.schedulers → IsTidyButAt old i timer → IsTidyAt new i
+-- parts were put together to a world: it has all of them, but that its wheels may have let go the rows of timers that
+-- others had cancelled
+pub record IsPutTogether (parts new : Seen) : Type 0 where
+  pub rest : new ≡ record parts { wheels = new.wheels }
+  pub rows : LoseRows parts new
 
 -- a timer was let go, of a wheel of a world
 abbrev pub IsLetGoIn : Seen → TimerRef → Type 0

@@ -23,12 +23,12 @@ impl World {
     ghost use Rattle.ert_defs.specs.States.{state};
     ghost use Rattle.ert_defs.specs.declared.timer.Status.TheVariants.{Armed};
     ghost use Rattle.ert_laws.specs.Counts.{counts_of, count_in, entries_of, is_arm, is_expire, is_orphan, deliveries, total};
-    ghost use Rattle.ert_world.specs.Counted.{AreTidy, numbers_of};
+    ghost use Rattle.ert_world.specs.Counted.{numbers_of};
     ghost use Rattle.ert_world.specs.Worlds.{sched_of};
 
-    /// Counts the timers by their status, where every wheel is tidy. No entry is made.
+    /// Counts the timers by their status, of a world that gave out no seat. No entry is made.
     pub fn counts(&self) -> Counts
-        requires { AreTidy self.now }
+        requires { self.now.next ≡ 1 }
         ensures { numbers_of result ≡ counts_of self.now.settings (state self.now.settings self.now.history) }
     {
         let wheels = self.tally();
@@ -46,7 +46,7 @@ impl World {
 
     /// The tallies of all wheels together.
     fn tally(&self) -> Tally
-        requires { AreTidy self.now }
+        requires { self.now.next ≡ 1 }
         ensures legal { Legal self.now.settings self.now.history }
         ensures arms { result.arms ≡ total (λ w. entries_of is_arm w self.now.history) self.now.settings.schedulers }
         ensures expires { result.expires ≡ total (λ w. entries_of is_expire w self.now.history) self.now.settings.schedulers }

@@ -29,10 +29,10 @@
 //! | `next_due` | | no entry: how early a timer of a wheel may be due | 64 timers at most, and where one was started late those that the next advance takes |
 //! | `deliver` | a scheduler | hands over its expired timers, until none is left; the slot of each can then take a timer again | those timers |
 //! | `turn` | a scheduler | serves requests, 64 at most, advances, and delivers | as these three |
-//! | `last_turn` | a scheduler | does the same, and looks at every timer that its wheel holds | every slot of the wheel |
 //! | `seats`, `settings`, `published` | | no entry: how many seats were given out, settings and the last published time | constant |
 //! | `counts` | | no entry: how many timers have which status | the wheels, the schedulers and the processes |
-//! | `into_parts`, `from_parts`, `into_desk` | | no entry: takes a world apart, puts it together, ends it | constant |
+//! | `into_parts`, `into_desk` | | no entry: takes a world apart, ends it | constant |
+//! | `from_parts` | | no entry: puts a world together, and looks at each timer that a wheel holds | each slot of each wheel |
 //!
 //! **What it promises.** Users see of a world its settings, the history that it knows, what its clock shows, the
 //! caller that is to get the next seat, and its wheels (`specs/Worlds`, `Seen`). Each call says what it answers, and
@@ -51,10 +51,9 @@
 //! one, and its wheel isn't told. The row is held until the timer would be due, so `next_due` may answer too early
 //! for its sake, and never too late.
 //!
-//! A wheel is tidy where all timers that it holds are armed. Each wheel of a new world is, and where no seat was
-//! given out every call leaves a tidy wheel tidy: `cancel_timer`, and `serve` for a request to cancel, drop the row
-//! of what they cancelled. In a world that was put together of parts which others used, `last_turn` makes a wheel
-//! tidy. `counts` asks that all are, for then it need not look at any timer.
+//! Where no seat was given out, all timers that a wheel holds are armed: `cancel_timer`, and `serve` for a request to
+//! cancel, drop the row of what they cancelled, and `from_parts` drops the rows of what others cancelled before. So
+//! `counts`, which asks for that, need not look at any timer.
 //!
 //! **Chains.** `serve`, `deliver`, `turn` and `exit` are made of single steps (`steps.rt`), over two traits: what a
 //! scheduler does (`SchedSteps`: answer a request, advance, hand over) and what a caller does (`CallerSteps`: mark,
@@ -73,7 +72,6 @@
 pub mod chains;
 mod clock_calls;
 mod counts;
-mod last_turns;
 mod laws;
 mod mail_calls;
 mod meeting;

@@ -36,11 +36,17 @@ impl SchedSteps for World {
     }
 
     fn answer_held(&mut self, sched: u32, request: &Request) -> Result<Option<u64>, NoMemory> {
-        let left = self.answer(sched, request)?;
+        let left = self.mails[request.reply_to as usize].answer(
+            &self.desk,
+            &mut self.pass,
+            sched,
+            request,
+        )?;
+        self.scheds[sched as usize].hand = None;
         if cancelled_left(request.kind, left).is_none() {
             return Ok(left);
         }
-        self.forget(request.timer);
+        self.wheels[request.timer.wheel as usize].forget(&self.pass, request.timer);
         Ok(left)
     }
 

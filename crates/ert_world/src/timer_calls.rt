@@ -18,7 +18,7 @@ impl World {
     ghost use Rattle.ert_defs.specs.States.{state};
     ghost use Rattle.ert_defs.specs.Timers.{is_taken};
     ghost use Rattle.ert_world.specs.Stepping.{Stays};
-    ghost use Rattle.ert_world.specs.Worlds.{Goes, GoesBut, Forgets, HasForgotten, By, HasExited, IsSettledIn, IsLastIn, IsLetGoIn};
+    ghost use Rattle.ert_world.specs.Worlds.{Goes, HasForgotten, By, HasExited, IsLetGoIn};
 
     /// Starts a timer on a wheel (`erlang` module reference, `start_timer` and `send_after`).
     ///
@@ -42,27 +42,10 @@ impl World {
         ensures call { Goes self.old (By self.old (λ g. Cancels g (Caller 0) timer result)) self.new }
         ensures forgotten { OnSome result (HasForgotten self.new timer) }
     {
-        let left = self.settle(timer)?;
-        self.forget(timer);
-        Some(left)
-    }
-
-    /// Cancels a timer, whose row then still stands in its wheel.
-    #[inline(always)]
-    fn settle(&mut self, timer: TimerRef) -> Option<u64>
-        ensures call { GoesBut timer result self.old (By self.old (λ g. Cancels g (Caller 0) timer result)) self.new }
-    {
-        cancel_timer(&self.desk, &mut self.pass, Actor::Caller(CALLER), timer)
-    }
-
-    /// Drops the row of a timer that was cancelled.
-    pub(crate) fn forget(&mut self, timer: TimerRef)
-        requires wheel { timer.wheel < self.old.settings.schedulers }
-        requires cancelled { IsSettledIn self.old timer }
-        requires last { IsLastIn self.old timer }
-        ensures { Forgets timer self.old self.new }
-    {
+        let by = Actor::Caller(CALLER);
+        let left = cancel_timer(&self.desk, &mut self.pass, by, timer)?;
         self.wheels[timer.wheel as usize].forget(&self.pass, timer);
+        Some(left)
     }
 
     /// Holds the slot of a timer free whose message was handed over.

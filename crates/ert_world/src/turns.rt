@@ -11,11 +11,11 @@ use ert_mail::Handed;
 impl World {
     ghost use Rattle.std.specs.Prelude.{◌≡◌, ◌<◌, ◌≤◌, Some, None, length, IfOk, OnOk};
     ghost use Rattle.ert_effects.specs.Chains.{Serves, AdvancesWheel, Hands, Delivers, Turns};
-    ghost use Rattle.ert_effects.specs.RequestCalls.{Picks, Answers};
+    ghost use Rattle.ert_effects.specs.RequestCalls.{Picks};
     ghost use Rattle.ert_defs.specs.Legal.{Legal};
     ghost use Rattle.ert_defs.specs.Mails.{first_of, others_of};
     ghost use Rattle.ert_defs.specs.States.{state};
-    ghost use Rattle.ert_world.specs.Worlds.{Goes, GoesBut, HasPassedAt, By, IsNextHeldAt, IsNearestAt, IsHandedIn, sched_of, cancelled_by};
+    ghost use Rattle.ert_world.specs.Worlds.{Goes, HasPassedAt, By, IsNextHeldAt, IsNearestAt, IsHandedIn, sched_of};
     ghost use Rattle.ert_timers.specs.NextDue.{NoneArmedBefore};
     ghost use Rattle.ert_world.specs.Stepping.{Stays};
 
@@ -51,22 +51,6 @@ impl World {
         let got = self.inboxes[sched as usize].pick(&self.desk, &mut self.pass);
         self.scheds[sched as usize].hand = got;
         got
-    }
-
-    /// Answers the request in the hand, and empties that.
-    pub(crate) fn answer(&mut self, sched: u32, request: &Request) -> Result<Option<u64>, NoMemory>
-        requires sched { sched < self.old.settings.schedulers }
-        requires hand { (sched_of self.old sched).hand ≡ Some request.now }
-        ensures call { GoesBut request.now.timer (cancelled_by request.now result) self.old (By self.old (λ g. Answers g sched request.now result)) self.new }
-    {
-        let left = self.mails[request.reply_to as usize].answer(
-            &self.desk,
-            &mut self.pass,
-            sched,
-            request,
-        )?;
-        self.scheds[sched as usize].hand = None;
-        Ok(left)
     }
 
     /// Lets every timer of the scheduler's wheel expire that is due, and answers the time, in whole

@@ -48,7 +48,7 @@ impl Model for World {
     ghost use Rattle.std.specs.Coded.{codes};
     ghost use Rattle.ert_timers.specs.Parts.{part_code};
     ghost use Rattle.ert_world.specs.Parts.{parts_of};
-    ghost use Rattle.ert_world.specs.Worlds.{Seen, seen, AreFit};
+    ghost use Rattle.ert_world.specs.Worlds.{Seen, seen, AreSound};
 
     ghost Value = { Seen };
 
@@ -56,7 +56,7 @@ impl Model for World {
 
     ghost view = { λ w. seen (arc_value w.desk) w.pass w.next w.keeper w.wheels.items };
 
-    ghost invariant = { λ w. AreFit (arc_value w.desk) w.pass w.next (parts_of w.keeper w.wheels.items w.inboxes.items w.mails.items w.scheds.items) };
+    ghost invariant = { λ w. AreSound (arc_value w.desk) w.pass w.next (parts_of w.keeper w.wheels.items w.inboxes.items w.mails.items w.scheds.items) };
 }
 
 impl World {

@@ -1,14 +1,9 @@
 -- A call leaves a world orderly.
 
-use Rattle.std.proofs.Common.{◌<◌, subst, ◌∙◌}
+use Rattle.std.proofs.Common.{◌∙◌}
 use Rattle.ert_effects.specs.Ways.{Growth, Way}
 use Rattle.ert_world.specs.Worlds.{Seen, Goes}
 use Rattle.ert_world_tests.specs.Orderly.{IsOrderly}
 
 pub still_orderly : (a b : Seen) (call : Way → Growth) → Goes a call b → IsOrderly a → IsOrderly b
-still_orderly a b call goes was = record {
-  lone = goes.next ∙ was.lone;
-  tidy = λ i low.
-      let in_range : i < a.settings.schedulers = subst (λ g. i < g.schedulers) goes.settings low in
-      goes.tidy was.lone i in_range (was.tidy i in_range);
-}
+still_orderly a b call goes was = record { lone = goes.next ∙ was.lone }

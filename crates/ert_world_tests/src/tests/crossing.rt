@@ -1,9 +1,8 @@
 //! Four callers and two schedulers on one service, at once.
-ghost use Rattle.std.specs.Prelude.{OnOk};
-ghost use Rattle.ert_world.specs.Counted.{AreTidy};
+ghost use Rattle.std.specs.Prelude.{◌≡◌, OnOk};
 
 use crate::tests::compare::same;
-use crate::tests::service_calls::last_turns;
+use crate::tests::service_calls::turn_all;
 use crate::tests::settings::SMALL;
 use crate::tests::trials::{Seats, Told, Trial, try_out};
 use crate::tests::workers::{Answers, MORTAL, Totals, turns, work};
@@ -86,16 +85,16 @@ fn scheds_of<L: DeskName>(
 
 /// All turns that were made, the last ones too, so that no request waits and no timer that is due is armed.
 fn finish(rt: &impl Abort, world: &mut World, totals: &[Totals]) -> Result<Totals, NoMemory>
-    ensures { OnOk result (AreTidy world.new) }
+    ensures { OnOk result (world.new.next ≡ 1) }
 {
     let mut all = Totals::new();
     for one in totals {
         all.join(one);
     }
     for _ in 0..LAST_TURNS {
-        last_turns(rt, world, &mut all)?;
+        turn_all(rt, world, &mut all)?;
     }
-    last_turns(rt, world, &mut all)?;
+    turn_all(rt, world, &mut all)?;
     Ok(all)
 }
 

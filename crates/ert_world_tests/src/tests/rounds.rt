@@ -2,7 +2,7 @@
 ghost use Rattle.ert_world_tests.specs.Orderly.{IsOrderly};
 
 use crate::tests::compare::same;
-use crate::tests::service_calls::{cancel as cancel_of, last_turns, start as start_of};
+use crate::tests::service_calls::{cancel as cancel_of, turn_all, start as start_of};
 use crate::tests::settings::SMALL;
 use crate::tests::trials::{Seats, Told, Trial, try_out};
 use crate::tests::workers::Totals;
@@ -232,7 +232,7 @@ pub(crate) fn use_service<L: DeskName + Send + Sync, R: Threads + Wait + Abort +
 fn a_service_lasts(rt: HostRuntime) -> Result<(), NoMemory> {
     let (mut world, told) = try_out(&rt, rt.alloc(), &FOUR_SLOTS, Trial::Rounds)?;
     let mut totals = Totals::new();
-    last_turns(&rt, &mut world, &mut totals)?;
+    turn_all(&rt, &mut world, &mut totals)?;
     same(&rt, 0, &totals.fired, &0);
     let cancelled = world.counts().cancelled;
     assert!(rt; matches!(told, Told::Started(started) if started == cancelled));

@@ -1,7 +1,7 @@
 //! Each call of a service once, on one thread.
 
 use crate::tests::compare::same;
-use crate::tests::service_calls::{ask, is_process, last_turns, start, times};
+use crate::tests::service_calls::{ask, is_process, turn_all, start, times};
 use crate::tests::settings::SMALL;
 use crate::tests::trials::{Seats, Trial, try_out};
 use crate::tests::workers::Totals;
@@ -214,7 +214,7 @@ pub(crate) fn each_call<L: DeskName, R: Wait + Abort>(
 fn each_call_of_a_service(rt: HostRuntime) -> Result<(), NoMemory> {
     let (mut world, _) = try_out(&rt, rt.alloc(), &SETTINGS, Trial::EachCall)?;
     same(&rt, 0, &world.published(), &5_000_000);
-    last_turns(&rt, &mut world, &mut Totals::new())?;
+    turn_all(&rt, &mut world, &mut Totals::new())?;
     let counts = Counts {
         armed: 0,
         expired: 0,

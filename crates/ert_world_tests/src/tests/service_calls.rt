@@ -1,6 +1,5 @@
 //! Calls of a service, where what a caller has to know is looked up first.
-ghost use Rattle.std.specs.Prelude.{◌<◌, OnOk};
-ghost use Rattle.ert_world.specs.Counted.{AreTidy};
+ghost use Rattle.std.specs.Prelude.{◌≡◌, ◌<◌, OnOk};
 ghost use Rattle.ert_service.specs.Joining.{AreNumbered};
 
 use crate::tests::workers::Totals;
@@ -103,18 +102,18 @@ pub(crate) fn are_scheds<L: DeskName>(
     }
 }
 
-/// A last turn of every scheduler, added to what their turns did before.
-pub(crate) fn last_turns(
+/// A turn of every scheduler, added to what their turns did before.
+pub(crate) fn turn_all(
     rt: &impl Abort,
     world: &mut World,
     totals: &mut Totals,
 ) -> Result<(), NoMemory>
-    ensures { OnOk result (AreTidy world.new) }
+    ensures { OnOk result (world.new.next ≡ 1) }
 {
     for sched in 0..world.settings().schedulers {
-        assert!(rt; world.seats() == 0);
-        let turned = world.last_turn(sched)?;
+        let turned = world.turn(sched)?;
         totals.add(&turned);
     }
+    assert!(rt; world.seats() == 0);
     Ok(())
 }

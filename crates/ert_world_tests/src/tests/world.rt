@@ -245,7 +245,7 @@ fn timers_are_counted(rt: HostRuntime) -> Result<(), NoMemory> {
         Step::Advance(1, 1, 1),
         Step::Exit(1, true),
         Step::Counts(before),
-        Step::LastTurn(1, (0, 1, 0, 1, 0)),
+        Step::Turn(1, (0, 1, 0, 1, 0)),
         Step::Counts(after),
     ];
     go(&rt, &mut world, &steps);

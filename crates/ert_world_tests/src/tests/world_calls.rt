@@ -154,11 +154,3 @@ pub(crate) fn turn(rt: &impl Abort, world: &mut World, sched: u32) -> Given<Turn
     is_scheduler(rt, world, sched);
     world.turn(sched)
 }
-
-pub(crate) fn last_turn(rt: &impl Abort, world: &mut World, sched: u32) -> Given<Turned>
-    requires { IsOrderly world.old }
-    ensures { IsOrderly world.new }
-{
-    is_scheduler(rt, world, sched);
-    world.last_turn(sched)
-}

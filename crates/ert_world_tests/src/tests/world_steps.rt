@@ -3,7 +3,7 @@ ghost use Rattle.ert_world_tests.specs.Orderly.{IsOrderly};
 
 use crate::tests::compare::same;
 use crate::tests::world_calls::{
-    advance, ask, cancel, deliver, exit, last_turn, mark_exit, read, serve, start, take, tick, turn,
+    advance, ask, cancel, deliver, exit, mark_exit, read, serve, start, take, tick, turn,
 };
 use ert_clock::Moved;
 use ert_defs::{Kind, RequestKind, Start, TimerRef, When};
@@ -31,7 +31,6 @@ pub(crate) enum Step {
     Deliver(u32, u32, u32),
     /// How many requests were served, and then as for these two.
     Turn(u32, (u32, u64, u32, u32, u32)),
-    LastTurn(u32, (u32, u64, u32, u32, u32)),
     Take(u32, Taken),
     Exit(u32, bool),
     MarkExit(u32, bool),
@@ -81,7 +80,6 @@ fn go_on(rt: &impl Abort, world: &mut World, at: usize, step: &Step)
             same(rt, at, &deliver(rt, world, sched), &Ok((put, dropped)));
         }
         Step::Turn(sched, did) => same(rt, at, &turn(rt, world, sched), &Ok(turned(did))),
-        Step::LastTurn(sched, did) => same(rt, at, &last_turn(rt, world, sched), &Ok(turned(did))),
         Step::Take(process, taken) => same(rt, at, &take(rt, world, process), &taken),
         Step::Exit(process, exits) => same(rt, at, &exit(rt, world, process), &exits),
         Step::MarkExit(process, exits) => same(rt, at, &mark_exit(rt, world, process), &exits),

@@ -1,6 +1,6 @@
 use Rattle.std.proofs.Common.{◌≡◌, ℕ, pos, cond, nat_eq, Bool, true, false, List, [], ◌∷◌, ◌++◌, Option, Some, None, refl, sym, ap, ◌∙◌, subst, arith, lit≤}
 use Rattle.ert_effects.proofs.Told.{advances_same, event_same}
-use Rattle.ert_effects.specs.WheelCalls.{Try, AllSettled, AreLooks, HasAdvanced, expires_by, expiry_entries, IsSettled, IsDueBy, AllDue, AreOnce}
+use Rattle.ert_effects.specs.WheelCalls.{Try, AllSettled, HasAdvanced, expires_by, expiry_entries, IsSettled, IsDueBy, AllDue, AreOnce}
 use Rattle.ert_effects.specs.Worked.{one, asked, missing}
 use Rattle.ert_defs.specs.Entries.{probe_entry, expire_entry, advanced_entry}
 use Rattle.ert_defs.specs.States.{state}
@@ -53,7 +53,7 @@ returns-clause-missed c = missed
 
 pub returns-clause-miscounted : goal.returns-clause-miscounted
 returns-clause-miscounted c = λ is.
-    let both = (advances_same one 0).0 (state one asked) (missing Cancelled) (1, 1) (1, 0) is missed in
+    let both = advances_same one 0 (state one asked) (missing Cancelled) (1, 1) (1, 0) is missed in
     subst (λ (p : ℕ × ℕ). cond (nat_eq p.1 1) (Unit {0}) ⊥) both tt
 
 -- a probe of an armed timer
@@ -84,30 +84,6 @@ pub returns-clause-unsettled : goal.returns-clause-unsettled
 returns-clause-unsettled c = λ is.
     let same : probed ∷ (advanced_entry 0 1 ∷ []) ≡ expiry_entries 0 is.tries ++ advanced_entry 0 1 ∷ [] = cc is.entries in
     not_first is.tries 1 (advanced_entry 0 1 ∷ []) is.settled same
-
-pub returns-clause-looked : goal.returns-clause-looked
-returns-clause-looked c = record {
-  now = pos 1000000;
-  tries = [];
-  looks = probed ∷ [];
-  fired = refl;
-  settled = tt;
-  due = tt;
-  once = tt;
-  are_looks = (0, Some Armed, omega arith, omega arith, refl, tt);
-  entries = refl;
-}
-
--- two of them aren't looks at one slot
-not_twice : (tries : List Try) (looks : List Entry) → AllSettled tries → AreLooks (Sched 0) 0 0 1 looks
-    → probed ∷ (probed ∷ (advanced_entry 0 1 ∷ [])) ≡ expiry_entries 0 tries ++ (looks ++ advanced_entry 0 1 ∷ []) → ⊥
-not_twice (t ∷ tries) looks settled are same = not_tried t.timer t.missed settled.0 cc
-not_twice [] [] settled are same = not_recorded 1 cc
-not_twice [] (e ∷ []) settled are same = not_recorded 1 cc
-not_twice [] (e ∷ (f ∷ looks)) settled are same = omega (arith, are.2, are.5.2, are.5.3)
-
-pub returns-clause-looked_twice : goal.returns-clause-looked_twice
-returns-clause-looked_twice c = λ is. not_twice is.tries is.looks is.settled is.are_looks (cc is.entries)
 
 -- a look at the slot, and the record, aren't the record alone
 abbrev looked_at : Entry

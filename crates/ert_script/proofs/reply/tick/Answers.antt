@@ -17,6 +17,5 @@ returns c =
         settings = goes.settings;
         next = goes.next;
         labels = refl;
-        tidy = goes.tidy;
       };
     })

@@ -1,4 +1,4 @@
-use Rattle.ert_timers.proofs.LawsHold.{starts_only, advances_only, full_advances_only, sweeps_only, rooms_only}
+use Rattle.ert_timers.proofs.LawsHold.{starts_only, advances_only, sweeps_only, rooms_only}
 use Rattle.ert_timers.proofs.laws.calls_leave_other_parts.Goals as goal
 
 pub returns-clause-starts : goal.returns-clause-starts
@@ -6,9 +6,6 @@ returns-clause-starts c = starts_only
 
 pub returns-clause-advances : goal.returns-clause-advances
 returns-clause-advances c = advances_only
-
-pub returns-clause-full_advances : goal.returns-clause-full_advances
-returns-clause-full_advances c = full_advances_only
 
 pub returns-clause-sweeps : goal.returns-clause-sweeps
 returns-clause-sweeps c = sweeps_only

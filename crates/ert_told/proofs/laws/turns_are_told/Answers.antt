@@ -1,4 +1,4 @@
-use Rattle.ert_told.proofs.Ended.{serves_tell, deliveries_tell, turns_tell, last_turns_tell}
+use Rattle.ert_told.proofs.Ended.{serves_tell, deliveries_tell, turns_tell}
 use Rattle.ert_told.proofs.laws.turns_are_told.Goals as goal
 
 pub returns-clause-serves : goal.returns-clause-serves
@@ -9,6 +9,3 @@ returns-clause-deliveries c = deliveries_tell
 
 pub returns-clause-turns : goal.returns-clause-turns
 returns-clause-turns c = turns_tell
-
-pub returns-clause-last_turns : goal.returns-clause-last_turns
-returns-clause-last_turns c = last_turns_tell

@@ -1,7 +1,4 @@
 use Rattle.std.proofs.Common.{◌≡◌, Err, rules}
-use Rattle.ert_effects.specs.Chains.{AdvancesWheel}
-use Rattle.ert_effects.specs.Ways.{Way}
-use Rattle.ert_defs.specs.declared.settings.Settings.{Settings}
 use Rattle.ert_world.proofs.Chained.{turned, turn_unadvanced, turn_undelivered}
 use Rattle.ert_world.proofs.chains.turn.Goals as goal
 
@@ -12,7 +9,7 @@ returns-in_err-to-clause-call g c =
     let b = c.serve_all.new.steps in
     let kept = c.serve_all.ensures.stays in
     let result : c.from_residual-in_err-to.result ≡ Err c.in_err-to.field-0.0 = search rules in
-    rw result (turn_unadvanced s.settings s.history s.mark s.way c.args.sched (λ (g : Settings) (way : Way). AdvancesWheel g way c.args.sched) a b c.advance_wheel.new.self
+    rw result (turn_unadvanced s.settings s.history s.mark s.way c.args.sched a b c.advance_wheel.new.self
     c.in_ok-served.served c.in_err-to.field-0.0 (g.met.S.SchedSteps.same_settings a b kept, g.met.S.SchedSteps.same_mark a b kept)
     c.in_ok-served.ensures.call c.in_err-to.ensures.call)
 
@@ -23,7 +20,7 @@ returns-in_err-put-clause-call g c =
     let b = c.serve_all.new.steps in
     let d = c.advance_wheel.new.self in
     let result : c.from_residual-in_err-put.result ≡ Err c.in_err-put.field-0.0 = search rules in
-    rw result (turn_undelivered s.settings s.history s.mark s.way c.args.sched (λ (g : Settings) (way : Way). AdvancesWheel g way c.args.sched) a b d c.deliver.new.steps
+    rw result (turn_undelivered s.settings s.history s.mark s.way c.args.sched a b d c.deliver.new.steps
     c.in_ok-served.served (c.in_ok-to.to, c.in_ok-to.fired) c.in_err-put.field-0.0
     (g.met.S.SchedSteps.same_settings a b c.serve_all.ensures.stays, g.met.S.SchedSteps.same_mark a b c.serve_all.ensures.stays)
     (g.met.S.SchedSteps.same_settings b d c.advance_wheel.ensures.stays, g.met.S.SchedSteps.same_mark b d c.advance_wheel.ensures.stays)
@@ -35,7 +32,7 @@ returns-clause-call g c =
     let a = c.args.steps.now in
     let b = c.serve_all.new.steps in
     let d = c.advance_wheel.new.self in
-    turned s.settings s.history s.mark s.way c.args.sched (λ (g : Settings) (way : Way). AdvancesWheel g way c.args.sched) a b d c.deliver.new.steps
+    turned s.settings s.history s.mark s.way c.args.sched a b d c.deliver.new.steps
     (record { served = c.in_ok-served.served; to = c.in_ok-to.to; fired = c.in_ok-to.fired; put = c.in_ok-put.put; dropped = c.in_ok-put.dropped })
     (g.met.S.SchedSteps.same_settings a b c.serve_all.ensures.stays, g.met.S.SchedSteps.same_mark a b c.serve_all.ensures.stays)
     (g.met.S.SchedSteps.same_settings b d c.advance_wheel.ensures.stays, g.met.S.SchedSteps.same_mark b d c.advance_wheel.ensures.stays)

@@ -1,7 +1,6 @@
 use Rattle.std.proofs.Common.{◌≡◌, Ok, Err, inr, rules, subst}
 use Rattle.ert_interval.specs.Calls.{PassesAll, PassesSome}
 use Rattle.ert_interval.specs.Going.{StepsAll}
-use Rattle.ert_interval.proofs.Stepping.{goes_stays, stays_then}
 use Rattle.ert_interval.proofs.intervals.IntervalWorld.turn.Goals as goal
 
 pub returns-in_err-armed-clause-turns : goal.returns-in_err-armed-clause-turns
@@ -34,13 +33,3 @@ returns-clause-turns c = (
   subst (λ is. PassesAll c.args.sched c.go_on_all.new.self.world is c.go_on_all.new.self.intervals.items c.in_ok-armed.armed) c.turn_world.ensures.same
       c.in_ok-armed.ensures.passed,
 )
-
-pub returns-in_err-armed-clause-tidy : goal.returns-in_err-armed-clause-tidy
-returns-in_err-armed-clause-tidy c =
-    (stays_then c.args.self.now.world c.turn_world.new.self.world c.go_on_all.new.self.world
-    (goes_stays c.args.self.now.world c.turn_world.new.self.world _ c.in_ok-turned.ensures.turn) c.go_on_all.ensures.stays).tidy
-
-pub returns-clause-tidy : goal.returns-clause-tidy
-returns-clause-tidy c =
-    (stays_then c.args.self.now.world c.turn_world.new.self.world c.go_on_all.new.self.world
-    (goes_stays c.args.self.now.world c.turn_world.new.self.world _ c.in_ok-turned.ensures.turn) c.go_on_all.ensures.stays).tidy

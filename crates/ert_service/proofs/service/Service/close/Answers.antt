@@ -37,7 +37,7 @@ pub returns-clause-scheds : goal.returns-clause-scheds
 returns-clause-scheds g c =
     let vs = view_of c.join_scheds-scheds.new.pass in
     all_as (λ x. IsSeen (view_of x.pass) vs) (λ x. HasOwn (Sched x.part.wheel) (front_of x.pass) c.from_parts.result.history) c.args.scheds.items
-    (λ x seen. subst (λ h. HasOwn (Sched x.part.wheel) (front_of x.pass) h) (sym (ap (λ (w : Shows). w.history) c.from_parts.ensures))
+    (λ x seen. subst (λ h. HasOwn (Sched x.part.wheel) (front_of x.pass) h) (sym (ap (λ (w : Shows). w.history) c.from_parts.ensures.rest))
     (own_of (Sched x.part.wheel) x.fits.sits.actors (seen_then seen c.join_callers.ensures.seen)))
     c.join_scheds-scheds.ensures.seats
 
@@ -45,7 +45,7 @@ pub returns-clause-callers : goal.returns-clause-callers
 returns-clause-callers g c =
     let vc = view_of c.join_callers.new.pass in
     all_as (λ x. IsSeen (view_of x.pass) vc) (λ x. HasOwn (Caller x.number) (front_of x.pass) c.from_parts.result.history) c.args.callers.items
-    (λ x seen. subst (λ h. HasOwn (Caller x.number) (front_of x.pass) h) (sym (ap (λ (w : Shows). w.history) c.from_parts.ensures))
+    (λ x seen. subst (λ h. HasOwn (Caller x.number) (front_of x.pass) h) (sym (ap (λ (w : Shows). w.history) c.from_parts.ensures.rest))
     (own_of (Caller x.number) x.sits.actors seen))
     c.join_callers.ensures.seats
 
@@ -54,4 +54,4 @@ returns-clause-laws g c =
     let d = arc_value c.args.self.desk in
     let s = settings_of d in
     let legal = subst (λ t. Legal t (front_of c.join_callers.new.pass)) (sym c.args.self.named.settings_is) c.join_callers.ensures.legal in
-    subst (λ (w : Shows). KeepsLaws w.settings w.history) (sym c.from_parts.ensures) (keeps_laws s (front_of c.join_callers.new.pass) d.checked legal)
+    subst (λ (w : Shows). KeepsLaws w.settings w.history) (sym c.from_parts.ensures.rest) (keeps_laws s (front_of c.join_callers.new.pass) d.checked legal)

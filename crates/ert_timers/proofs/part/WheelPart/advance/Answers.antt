@@ -1,6 +1,6 @@
 use Rattle.std.proofs.Common.{[], refl, sym, ◌∙◌}
 use Rattle.ert_table.specs.Desks.{settings_of, view_of}
-use Rattle.ert_timers.proofs.Trials.{still_held, stands_ended, may_end, has_expired, tidy_after}
+use Rattle.ert_timers.proofs.Trials.{still_held, stands_ended, may_end, has_expired}
 use Rattle.ert_timers.proofs.Dues.{none_left}
 use Rattle.ert_timers.proofs.Passing.{passed}
 use Rattle.ert_timers.proofs.part.WheelPart.advance.Goals as goal
@@ -29,12 +29,6 @@ returns-clause-call c =
     has_expired (settings_of c.args.desk.now) (view_of c.args.pass.now) c.args.self.now c.try_due.new.self c.number.result c.in_ok-to.to
     c.args.fired.now c.try_due.new.fired (view_of c.try_due.new.pass) (view_of c.load_time.new.self) (c.number.ensures ∙ tried.number) tried
     c.load_time.ensures.step c.requires.holds
-
-pub returns-clause-tidy : goal.returns-clause-tidy
-returns-clause-tidy c =
-    let tried = c.in_ok-to.ensures.call in
-    tidy_after (settings_of c.args.desk.now) (view_of c.args.pass.now) c.args.self.now c.try_due.new.self c.number.result c.in_ok-to.to
-    (view_of c.try_due.new.pass) (view_of c.load_time.new.self) tried.call.actors tried.tidy c.load_time.ensures.step
 
 pub returns-clause-passed : goal.returns-clause-passed
 returns-clause-passed c = passed c.try_due.new.self c.in_ok-to.to (none_left c.try_due.new.self c.in_ok-to.to c.in_ok-to.ensures.call.ready.due) c.in_ok-to.ensures.on

@@ -1,54 +1,87 @@
-use Rattle.std.proofs.Common.{◌≡◌, false, None, Some, refl, sym, ap, subst, ◌∙◌}
+use Rattle.std.proofs.Common.{◌≡◌, ◌<◌, false, true, None, Some, refl, sym, ap, subst, ◌∙◌}
+use Rattle.ert_defs.specs.Laws.{is_armed}
+use Rattle.ert_defs.specs.States.{state}
 use Rattle.ert_defs.specs.Timers.{Row}
+use Rattle.ert_defs.specs.declared.settings.Settings.{Settings}
+use Rattle.ert_defs.specs.declared.timer.Status.TheVariants.{Armed}
 use Rattle.ert_defs.specs.declared.timer.TimerRef.{TimerRef}
-use Rattle.ert_table.specs.Desks.{settings_of, view_of}
-use Rattle.ert_timers.specs.Changes.{given_back}
-use Rattle.ert_timers.specs.Freeing.{IsHeld}
-use Rattle.ert_timers.specs.Parts.{last_timer}
+use Rattle.ert_table.specs.Desks.{settings_of, view_of, front_of}
+use Rattle.ert_table.specs.Settlings.{shown_in}
+use Rattle.ert_table.specs.declared.view.View.{View}
+use Rattle.ert_timers.specs.Freeing.{IsLast}
+use Rattle.ert_timers.specs.Parts.{Stands, last_timer}
 use Rattle.ert_timers.specs.Starting.{status_shown}
-use Rattle.ert_timers.proofs.Dropped.{drops_none, drops_one, drops_empty, told_some, told_none, sched_probe}
+use Rattle.ert_timers.proofs.Dropped.{drops_none, drops_one, drops_empty, settled_seen, told_some, told_none}
 use Rattle.ert_timers.proofs.part.WheelPart.drop_settled_row.Goals as goal
 use Rattle.ert_wheel.specs.Rows.{key_in, row_at}
 use Rattle.ert_wheel.specs.declared.row.Row.{Row as WheelRow}
 
-pub returns-then-is_armed-clause-call : goal.returns-then-is_armed-clause-call
-returns-then-is_armed-clause-call c =
-    let g = settings_of c.args.desk.now in
-    let v = view_of c.args.pass.now in
-    let u = view_of c.load_timer-shown.new.self in
-    drops_none g v c.args.self.now c.args.slot (status_shown c.load_timer-shown.result) u c.requires.stands c.requires.holds c.requires.low
-    (sched_probe g v c.args.self.now.number c.number-wheel.result c.args.slot c.load_timer-shown.result u c.number-wheel.ensures
-    c.load_timer-shown.ensures.step)
-    (sym c.is_armed.ensures ∙ c.if-is_armed.true)
+pub see_timer-shown-requires-clause-slot : goal.see_timer-shown-requires-clause-slot
+see_timer-shown-requires-clause-slot c = record {
+  wheel_high = subst (λ n. n < (settings_of c.args.desk.now).schedulers) (sym c.number.ensures) c.requires.stands.holds.number;
+  slot_high = subst (λ n. c.args.slot < n) c.requires.stands.holds.many c.requires.low;
+}
 
-pub give_back-requires : goal.give_back-requires
-give_back-requires c =
+pub returns-then-is_armed-clause-drops : goal.returns-then-is_armed-clause-drops
+returns-then-is_armed-clause-drops c =
+    let g = settings_of c.args.desk.now in
+    let h = front_of c.args.pass.now in
+    let p = c.args.self.now in
+    let k = c.args.slot in
+    let has = told_some (row_at k) (key_in p.keys k) c.row.result c.in-Some.row c.row.ensures c.in-Some.is in
+    drops_none g h p k has.0 c.requires.stands has.1
+    (ap (λ n. is_armed (status_shown (shown_in (state g h) n k))) (sym c.number.ensures)
+    ∙ (ap (λ s. is_armed (status_shown s)) (sym c.see_timer-shown.ensures.shown) ∙ (sym c.is_armed.ensures ∙ c.if-is_armed.true)))
+
+pub forget-requires-clause-stands : goal.forget-requires-clause-stands
+forget-requires-clause-stands c = λ g named.
+    let same : Some (settings_of c.args.desk.now) ≡ Some g = sym c.see_timer-shown.ensures.belongs.named ∙ named in
+    let mine : settings_of c.args.desk.now ≡ g = cc in
+    subst (λ (x : Settings). Stands x (front_of c.see_timer-shown.new.self) c.args.self.now) mine
+    (subst (λ (v : View). Stands (settings_of c.args.desk.now) v.front c.args.self.now) (sym c.see_timer-shown.ensures.same) c.requires.stands)
+
+pub forget-requires-clause-last : goal.forget-requires-clause-last
+forget-requires-clause-last c =
     let p = c.args.self.now in
     let k = c.args.slot in
     let has = told_some (row_at k) (key_in p.keys k) c.row.result c.in-Some.row c.row.ensures c.in-Some.is in
     let last : c.timer.result.timer ≡ last_timer p.number p.slots k =
     ap (λ (r : Row). r.timer) c.timer.ensures ∙ ap (λ (r : WheelRow). last_timer p.number p.slots r.slot) (sym has.2) in
-    subst (λ (t : TimerRef). IsHeld p t) (sym last)
-    (record { low = c.requires.low; named = refl; row = λ none. (let no : None ≡ Some has.0 = sym none ∙ has.1 in cc) })
+    subst (λ (t : TimerRef). IsLast p t) (sym last) (record { low = c.requires.low; named = refl })
 
-pub returns-clause-call : goal.returns-clause-call
-returns-clause-call c =
+pub forget-requires-clause-settled : goal.forget-requires-clause-settled
+forget-requires-clause-settled c = λ g named armed.
+    let d = c.args.desk.now in
+    let h = front_of c.args.pass.now in
+    let p = c.args.self.now in
+    let k = c.args.slot in
+    let same : Some (settings_of d) ≡ Some g = sym c.see_timer-shown.ensures.belongs.named ∙ named in
+    let mine : settings_of d ≡ g = cc in
+    let has = told_some (row_at k) (key_in p.keys k) c.row.result c.in-Some.row c.row.ensures c.in-Some.is in
+    let last : c.timer.result.timer ≡ last_timer p.number p.slots k =
+    ap (λ (r : Row). r.timer) c.timer.ensures ∙ ap (λ (r : WheelRow). last_timer p.number p.slots r.slot) (sym has.2) in
+    let here : (state (settings_of d) h).status (last_timer p.number p.slots k) ≡ Some Armed =
+    subst (λ (x : Settings). (state x h).status (last_timer p.number p.slots k) ≡ Some Armed) (sym mine)
+    (subst (λ (v : View). (state g v.front).status (last_timer p.number p.slots k) ≡ Some Armed) c.see_timer-shown.ensures.same
+    (subst (λ (t : TimerRef). (state g (front_of c.see_timer-shown.new.self)).status t ≡ Some Armed) last armed)) in
+    settled_seen (settings_of d) h p k has.0 c.requires.stands has.1
+    (ap (λ n. is_armed (status_shown (shown_in (state (settings_of d) h) n k))) (sym c.number.ensures)
+    ∙ (ap (λ s. is_armed (status_shown s)) (sym c.see_timer-shown.ensures.shown) ∙ (sym c.is_armed.ensures ∙ c.if-is_armed.false))) here
+
+pub returns-clause-drops : goal.returns-clause-drops
+returns-clause-drops c =
     let g = settings_of c.args.desk.now in
-    let v = view_of c.args.pass.now in
-    let u = view_of c.load_timer-shown.new.self in
     let p = c.args.self.now in
     let k = c.args.slot in
     let has = told_some (row_at k) (key_in p.keys k) c.row.result c.in-Some.row c.row.ensures c.in-Some.is in
-    let here : c.timer.result.timer.slot ≡ k =
-    ap (λ (r : Row). r.timer.slot) c.timer.ensures ∙ ap (λ (r : WheelRow). r.slot) (sym has.2) in
-    drops_one g v p k (status_shown c.load_timer-shown.result) u c.requires.stands c.requires.holds c.requires.low
-    (sched_probe g v p.number c.number-wheel.result k c.load_timer-shown.result u c.number-wheel.ensures
-    c.load_timer-shown.ensures.step)
-    c.give_back.new.self has.0 has.1 (sym c.is_armed.ensures ∙ c.if-is_armed.false)
-    (c.give_back.ensures ∙ ap (λ n. given_back p n false) here)
+    let last : c.timer.result.timer ≡ last_timer p.number p.slots k =
+    ap (λ (r : Row). r.timer) c.timer.ensures ∙ ap (λ (r : WheelRow). last_timer p.number p.slots r.slot) (sym has.2) in
+    drops_one g (front_of c.args.pass.now) p c.forget.new.self k c.timer.result.timer last c.requires.low
+    (subst (λ (v : View). Stands g v.front c.forget.new.self) c.see_timer-shown.ensures.same
+    (c.forget.ensures.stands g c.see_timer-shown.ensures.belongs.named)) c.forget.ensures.loses c.forget.ensures.forgotten
 
-pub returns-in_default-clause-call : goal.returns-in_default-clause-call
-returns-in_default-clause-call c =
+pub returns-in_default-clause-drops : goal.returns-in_default-clause-drops
+returns-in_default-clause-drops c =
     let p = c.args.self.now in
-    drops_empty (settings_of c.args.desk.now) (view_of c.args.pass.now) p c.args.slot c.requires.stands
+    drops_empty (settings_of c.args.desk.now) (front_of c.args.pass.now) p c.args.slot c.requires.stands
     (told_none (row_at c.args.slot) (key_in p.keys c.args.slot) c.row.result c.row.ensures c.in_default.is)

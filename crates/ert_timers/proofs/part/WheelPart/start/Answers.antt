@@ -2,7 +2,8 @@ use Rattle.std.proofs.Common.{refl, ap, ◌∙◌, arith}
 use Rattle.ert_table.specs.Desks.{settings_of, view_of}
 use Rattle.ert_timers.specs.Parts.{Part}
 use Rattle.ert_timers.proofs.Orphaned.{still_caller}
-use Rattle.ert_timers.proofs.Starts.{bad_arg, ahead_stands, now_is, use_ahead, is_at_end, is_full, is_started, tidy_ahead, tidy_searched, tidy_started}
+use Rattle.ert_timers.proofs.Starts.{bad_arg, ahead_stands, now_is, use_ahead, is_at_end, is_full, is_started, gains_none, gains_started}
+use Rattle.ert_timers.proofs.Passing.{loses_none}
 use Rattle.ert_timers.proofs.part.WheelPart.start.Goals as goal
 
 pub take_slot-requires-clause-holds : goal.take_slot-requires-clause-holds
@@ -97,23 +98,21 @@ returns-in_default-take_slot-clause-call c =
     c.look_ahead.result c.in-Some.ahead c.take_slot.result (view_of c.look_ahead.new.pass) (view_of c.take_slot.new.pass) c.requires.stands
     c.in-Some.is c.in_default-take_slot.is c.look_ahead.ensures.looks c.take_slot.ensures.call
 
-pub returns-clause-tidy : goal.returns-clause-tidy
-returns-clause-tidy c =
-    tidy_started (settings_of c.args.desk.now) (view_of c.args.pass.now) c.args.by c.args.self.now c.take_slot.new.self c.arm-timer.new.self
-    c.end.new.self c.args.start.now c.look_ahead.result c.in-Some.ahead.now c.take_slot.result c.in-Some-take_slot.slot c.next_use-next.result c.arm-timer.result
+pub returns-clause-rows : goal.returns-clause-rows
+returns-clause-rows c =
+    gains_started (settings_of c.args.desk.now) c.args.by c.args.self.now c.take_slot.new.self c.arm-timer.new.self
+    c.end.new.self c.in-Some.ahead.now c.take_slot.result c.in-Some-take_slot.slot c.next_use-next.result c.args.start.now c.arm-timer.result
     (view_of c.look_ahead.new.pass) (view_of c.take_slot.new.pass) (view_of c.arm-timer.new.pass) (view_of c.end.new.pass)
-    c.look_ahead.ensures.looks c.take_slot.ensures.call c.arm-timer.ensures.call c.end.ensures.call
+    c.take_slot.ensures.call c.arm-timer.ensures.call c.end.ensures.call
 
-pub returns-in_default-clause-tidy : goal.returns-in_default-clause-tidy
-returns-in_default-clause-tidy c =
-    tidy_ahead (settings_of c.args.desk.now) (view_of c.args.pass.now) c.args.by c.args.start.now c.look_ahead.result
-    (view_of c.look_ahead.new.pass) c.args.self.now c.look_ahead.ensures.looks
+pub returns-in_default-clause-rows : goal.returns-in_default-clause-rows
+returns-in_default-clause-rows c = gains_none c.args.self.now c.args.self.now _ (loses_none c.args.self.now)
 
-pub returns-in_default-take_slot-clause-tidy : goal.returns-in_default-take_slot-clause-tidy
-returns-in_default-take_slot-clause-tidy c =
-    tidy_searched (settings_of c.args.desk.now) (view_of c.args.pass.now) c.args.by c.args.self.now c.take_slot.new.self c.args.start.now
-    c.look_ahead.result c.in-Some.ahead.now c.take_slot.result (view_of c.look_ahead.new.pass) (view_of c.take_slot.new.pass) c.look_ahead.ensures.looks
-    c.take_slot.ensures.call
+pub returns-in_default-take_slot-clause-rows : goal.returns-in_default-take_slot-clause-rows
+returns-in_default-take_slot-clause-rows c = gains_none c.args.self.now c.take_slot.new.self _ c.take_slot.ensures.call.loses
+
+pub returns-then-arms-ge-MOST_TIMERS-clause-rows : goal.returns-then-arms-ge-MOST_TIMERS-clause-rows
+returns-then-arms-ge-MOST_TIMERS-clause-rows c = gains_none c.args.self.now c.args.self.now _ (loses_none c.args.self.now)
 
 pub returns-then-arms-ge-MOST_TIMERS-clause-call : goal.returns-then-arms-ge-MOST_TIMERS-clause-call
 returns-then-arms-ge-MOST_TIMERS-clause-call c =
@@ -124,8 +123,3 @@ pub returns-then-arms-ge-MOST_TIMERS-clause-stands : goal.returns-then-arms-ge-M
 returns-then-arms-ge-MOST_TIMERS-clause-stands c =
     ahead_stands (settings_of c.args.desk.now) (view_of c.args.pass.now) c.args.by c.args.start.now c.look_ahead.result
     (view_of c.look_ahead.new.pass) c.args.self.now c.requires.stands c.requires.holds c.look_ahead.ensures.looks
-
-pub returns-then-arms-ge-MOST_TIMERS-clause-tidy : goal.returns-then-arms-ge-MOST_TIMERS-clause-tidy
-returns-then-arms-ge-MOST_TIMERS-clause-tidy c =
-    tidy_ahead (settings_of c.args.desk.now) (view_of c.args.pass.now) c.args.by c.args.start.now c.look_ahead.result
-    (view_of c.look_ahead.new.pass) c.args.self.now c.look_ahead.ensures.looks

@@ -79,11 +79,6 @@ returns-clause-call c =
     sweeps_all (settings_of c.args.desk.now) (view_of c.args.pass.now) c.args.by c.args.process c.args.self.now c.loop-row.self
     (view_of c.loop-row.pass) c.loop-row.invariant.call
 
-pub returns-clause-tidy : goal.returns-clause-tidy
-returns-clause-tidy c =
-    (sweeps_same (settings_of c.args.desk.now) (view_of c.args.pass.now) c.args.by c.args.process c.args.self.now c.loop-row.self
-    c.newest_of.new.self (view_of c.loop-row.pass) c.newest_of.ensures.part c.loop-row.invariant.call).tidy
-
 pub returns-clause-loses : goal.returns-clause-loses
 returns-clause-loses c =
     (sweeps_same (settings_of c.args.desk.now) (view_of c.args.pass.now) c.args.by c.args.process c.args.self.now c.loop-row.self

@@ -15,7 +15,7 @@ pub invariant_of-self : goal.invariant_of-self
 invariant_of-self c =
     (does_at c.deref.ensures (sweep_called c.args.self.now c.self.inside c.deref.result.now c.sweep.new.pass c.args.wheel c.args.process c.index_mut.result.now c.sweep.new.self (has_at c.deref.ensures c.self.view_is c.self.invariant)
     c.sweep.ensures.belongs c.requires.wheel c.index_mut.ensures.value c.sweep.ensures.number c.sweep.ensures.stands c.sweep.ensures.call c.sweep.ensures.swept
-    c.sweep.ensures.tidy)).fit
+    c.sweep.ensures.loses)).fit
 
 pub returns-clause-call : goal.returns-clause-call
 returns-clause-call c =
@@ -23,14 +23,14 @@ returns-clause-call c =
     subst (λ n. Grows (SweepsWheel a.settings (way_of a) n c.args.process c.args.wheel) a.history (front_of c.sweep.new.pass)) (sym c.requires.acts)
     (does_at c.deref.ensures (sweep_called a c.self.inside c.deref.result.now c.sweep.new.pass c.args.wheel c.args.process c.index_mut.result.now c.sweep.new.self (has_at c.deref.ensures c.self.view_is c.self.invariant)
     c.sweep.ensures.belongs c.requires.wheel c.index_mut.ensures.value c.sweep.ensures.number c.sweep.ensures.stands c.sweep.ensures.call c.sweep.ensures.swept
-    c.sweep.ensures.tidy)).goes.grows
+    c.sweep.ensures.loses)).goes.grows
 
 pub returns-clause-stays : goal.returns-clause-stays
 returns-clause-stays c =
     let done =
     does_at c.deref.ensures (sweep_called c.args.self.now c.self.inside c.deref.result.now c.sweep.new.pass c.args.wheel c.args.process c.index_mut.result.now c.sweep.new.self (has_at c.deref.ensures c.self.view_is c.self.invariant)
     c.sweep.ensures.belongs c.requires.wheel c.index_mut.ensures.value c.sweep.ensures.number c.sweep.ensures.stands c.sweep.ensures.call c.sweep.ensures.swept
-    c.sweep.ensures.tidy) in
+    c.sweep.ensures.loses) in
     stays_by done.goes
     (lost_rows c.args.self.now c.self.inside c.deref.result.now c.args.wheel c.index_mut.result.now c.sweep.new.self
     (has_at c.deref.ensures c.self.view_is c.self.invariant) c.requires.wheel c.index_mut.ensures.value c.sweep.ensures.loses) done.forgets
@@ -39,7 +39,7 @@ pub returns-clause-legal : goal.returns-clause-legal
 returns-clause-legal c =
     (does_at c.deref.ensures (sweep_called c.args.self.now c.self.inside c.deref.result.now c.sweep.new.pass c.args.wheel c.args.process c.index_mut.result.now c.sweep.new.self (has_at c.deref.ensures c.self.view_is c.self.invariant)
     c.sweep.ensures.belongs c.requires.wheel c.index_mut.ensures.value c.sweep.ensures.number c.sweep.ensures.stands c.sweep.ensures.call c.sweep.ensures.swept
-    c.sweep.ensures.tidy)).goes.legal
+    c.sweep.ensures.loses)).goes.legal
 
 pub returns-clause-exited : goal.returns-clause-exited
 returns-clause-exited c =

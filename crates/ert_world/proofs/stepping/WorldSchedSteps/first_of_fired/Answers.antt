@@ -9,10 +9,10 @@ use Rattle.ert_world.proofs.stepping.WorldSchedSteps.first_of_fired.Goals as goa
 pub returns-clause-few : goal.returns-clause-few
 returns-clause-few c =
     subst (λ (w : Seen). length (sched_of w c.args.sched).fired ≤ 65536) c.self.view_is
-    (let few = fired_few (settings_of (arc_value c.self.inside.desk)) (front_of c.self.inside.pass) c.args.sched c.self.invariant.stand.legal in
+    (let few = fired_few (settings_of (arc_value c.self.inside.desk)) (front_of c.self.inside.pass) c.args.sched c.self.invariant.fit.stand.legal in
     let high = (arc_value c.self.inside.desk).checked.counts.slots_high in
     omega (arith, few, high))
 
 pub returns-clause-legal : goal.returns-clause-legal
 returns-clause-legal c =
-    subst (λ (w : Seen). Legal w.settings w.history) c.self.view_is c.self.invariant.stand.legal
+    subst (λ (w : Seen). Legal w.settings w.history) c.self.view_is c.self.invariant.fit.stand.legal

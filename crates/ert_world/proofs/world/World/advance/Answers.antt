@@ -1,10 +1,9 @@
 use Rattle.std.proofs.Common.{◌≡◌, Err, rules, refl, arith}
-use Rattle.ert_effects.specs.WheelCalls.{Advances}
 use Rattle.ert_table.specs.Desks.{settings_of, view_of}
 use Rattle.ert_world.proofs.Alone.{stays_by}
 use Rattle.ert_world.proofs.Calls.{has_at, does_at}
 use Rattle.ert_world.proofs.WheelCalls.{lost_rows, replaced_passed}
-use Rattle.ert_world.proofs.Advances.{advances_plain, advance_ok, advance_fits, advance_refused}
+use Rattle.ert_world.proofs.Advances.{advance_ok, advance_fits, advance_refused}
 use Rattle.ert_world.proofs.world.World.advance.Goals as goal
 
 pub invariant_of-self : goal.invariant_of-self
@@ -12,7 +11,7 @@ invariant_of-self c =
     (does_at c.deref.ensures (advance_refused c.args.self.now c.self.inside c.deref.result.now c.advance.new.pass c.args.sched c.in_err-to.field-0.0 c.index_mut.result.now c.advance.new.self
     c.index_mut-part.result.now (record { wheel = c.index_mut-part.result.now.wheel; hand = c.index_mut-part.result.now.hand; fired = c.advance.new.fired })
     (has_at c.deref.ensures c.self.view_is c.self.invariant) c.advance.ensures.belongs c.requires c.index_mut.ensures.value c.index_mut-part.ensures.value c.advance.ensures.number
-    c.advance.ensures.stands c.advance.ensures.tidy c.in_err-to.ensures.call refl refl)).fit
+    c.advance.ensures.stands c.advance.ensures.loses c.in_err-to.ensures.call refl refl)).fit
 
 pub returns-in_err-to-clause-call : goal.returns-in_err-to-clause-call
 returns-in_err-to-clause-call c =
@@ -20,37 +19,37 @@ returns-in_err-to-clause-call c =
     rw result (does_at c.deref.ensures (advance_refused c.args.self.now c.self.inside c.deref.result.now c.advance.new.pass c.args.sched c.in_err-to.field-0.0 c.index_mut.result.now c.advance.new.self
     c.index_mut-part.result.now (record { wheel = c.index_mut-part.result.now.wheel; hand = c.index_mut-part.result.now.hand; fired = c.advance.new.fired })
     (has_at c.deref.ensures c.self.view_is c.self.invariant) c.advance.ensures.belongs c.requires c.index_mut.ensures.value c.index_mut-part.ensures.value c.advance.ensures.number
-    c.advance.ensures.stands c.advance.ensures.tidy c.in_err-to.ensures.call refl refl)).goes
+    c.advance.ensures.stands c.advance.ensures.loses c.in_err-to.ensures.call refl refl)).goes
 
 pub overflow_cast-result : goal.overflow_cast-result
 overflow_cast-result c =
     let g = settings_of c.deref.result.now in
-    let few = advance_fits (Advances g c.index_mut.result.now.number) g c.index_mut.result.now.number c.in_ok-to.to c.len.result c.len-before.result
+    let few = advance_fits g c.index_mut.result.now.number c.in_ok-to.to c.len.result c.len-before.result
     c.index_mut-part.result.now.fired c.advance.new.fired (view_of c.self.inside.pass) (view_of c.advance.new.pass)
     c.deref.result.now.checked.counts.slots_high c.in_ok-to.ensures.call c.len.ensures c.len-before.ensures in
     omega (arith, few.1)
 
 pub invariant_of-self-2 : goal.invariant_of-self-2
 invariant_of-self-2 c =
-    (does_at c.deref.ensures (advance_ok Advances advances_plain c.args.self.now c.self.inside c.deref.result.now c.advance.new.pass c.args.sched c.in_ok-to.to c.len.result c.len-before.result c.index_mut.result.now
+    (does_at c.deref.ensures (advance_ok c.args.self.now c.self.inside c.deref.result.now c.advance.new.pass c.args.sched c.in_ok-to.to c.len.result c.len-before.result c.index_mut.result.now
     c.advance.new.self c.index_mut-part.result.now (record { wheel = c.index_mut-part.result.now.wheel; hand = c.index_mut-part.result.now.hand; fired = c.advance.new.fired })
     (has_at c.deref.ensures c.self.view_is c.self.invariant) c.advance.ensures.belongs c.requires c.index_mut.ensures.value c.index_mut-part.ensures.value c.advance.ensures.number
-    c.advance.ensures.stands c.advance.ensures.tidy c.in_ok-to.ensures.call refl refl c.len.ensures c.len-before.ensures)).fit
+    c.advance.ensures.stands c.advance.ensures.loses c.in_ok-to.ensures.call refl refl c.len.ensures c.len-before.ensures)).fit
 
 pub returns-clause-call : goal.returns-clause-call
 returns-clause-call c =
-    (does_at c.deref.ensures (advance_ok Advances advances_plain c.args.self.now c.self.inside c.deref.result.now c.advance.new.pass c.args.sched c.in_ok-to.to c.len.result c.len-before.result c.index_mut.result.now
+    (does_at c.deref.ensures (advance_ok c.args.self.now c.self.inside c.deref.result.now c.advance.new.pass c.args.sched c.in_ok-to.to c.len.result c.len-before.result c.index_mut.result.now
     c.advance.new.self c.index_mut-part.result.now (record { wheel = c.index_mut-part.result.now.wheel; hand = c.index_mut-part.result.now.hand; fired = c.advance.new.fired })
     (has_at c.deref.ensures c.self.view_is c.self.invariant) c.advance.ensures.belongs c.requires c.index_mut.ensures.value c.index_mut-part.ensures.value c.advance.ensures.number
-    c.advance.ensures.stands c.advance.ensures.tidy c.in_ok-to.ensures.call refl refl c.len.ensures c.len-before.ensures)).goes
+    c.advance.ensures.stands c.advance.ensures.loses c.in_ok-to.ensures.call refl refl c.len.ensures c.len-before.ensures)).goes
 
 pub returns-clause-stays : goal.returns-clause-stays
 returns-clause-stays c =
     let done =
-    (does_at c.deref.ensures (advance_ok Advances advances_plain c.args.self.now c.self.inside c.deref.result.now c.advance.new.pass c.args.sched c.in_ok-to.to c.len.result c.len-before.result c.index_mut.result.now
+    (does_at c.deref.ensures (advance_ok c.args.self.now c.self.inside c.deref.result.now c.advance.new.pass c.args.sched c.in_ok-to.to c.len.result c.len-before.result c.index_mut.result.now
     c.advance.new.self c.index_mut-part.result.now (record { wheel = c.index_mut-part.result.now.wheel; hand = c.index_mut-part.result.now.hand; fired = c.advance.new.fired })
     (has_at c.deref.ensures c.self.view_is c.self.invariant) c.advance.ensures.belongs c.requires c.index_mut.ensures.value c.index_mut-part.ensures.value c.advance.ensures.number
-    c.advance.ensures.stands c.advance.ensures.tidy c.in_ok-to.ensures.call refl refl c.len.ensures c.len-before.ensures)) in
+    c.advance.ensures.stands c.advance.ensures.loses c.in_ok-to.ensures.call refl refl c.len.ensures c.len-before.ensures)) in
     stays_by done.goes
     (lost_rows c.args.self.now c.self.inside c.deref.result.now c.args.sched c.index_mut.result.now c.advance.new.self
     (has_at c.deref.ensures c.self.view_is c.self.invariant) c.requires c.index_mut.ensures.value c.advance.ensures.loses) done.forgets
@@ -61,7 +60,7 @@ returns-in_err-to-clause-stays c =
     does_at c.deref.ensures (advance_refused c.args.self.now c.self.inside c.deref.result.now c.advance.new.pass c.args.sched c.in_err-to.field-0.0 c.index_mut.result.now c.advance.new.self
     c.index_mut-part.result.now (record { wheel = c.index_mut-part.result.now.wheel; hand = c.index_mut-part.result.now.hand; fired = c.advance.new.fired })
     (has_at c.deref.ensures c.self.view_is c.self.invariant) c.advance.ensures.belongs c.requires c.index_mut.ensures.value c.index_mut-part.ensures.value c.advance.ensures.number
-    c.advance.ensures.stands c.advance.ensures.tidy c.in_err-to.ensures.call refl refl) in
+    c.advance.ensures.stands c.advance.ensures.loses c.in_err-to.ensures.call refl refl) in
     stays_by done.goes
     (lost_rows c.args.self.now c.self.inside c.deref.result.now c.args.sched c.index_mut.result.now c.advance.new.self
     (has_at c.deref.ensures c.self.view_is c.self.invariant) c.requires c.index_mut.ensures.value c.advance.ensures.loses) done.forgets

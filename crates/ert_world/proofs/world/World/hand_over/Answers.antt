@@ -15,7 +15,7 @@ use Rattle.ert_world.proofs.world.World.hand_over.Goals as goal
 pub index_mut-requires : goal.index_mut-requires
 index_mut-requires c =
     let placed = fired_placed c.args.self.now c.self.inside _ c.args.sched c.args.fired.now (has_at refl c.self.view_is c.self.invariant) c.requires.first in
-    rw (c.self.inside.mails.ok.0 ∙ c.self.invariant.stand.mails.counted) placed.dest
+    rw (c.self.inside.mails.ok.0 ∙ c.self.invariant.fit.stand.mails.counted) placed.dest
 
 pub deliver-requires-clause-holds : goal.deliver-requires-clause-holds
 deliver-requires-clause-holds c =
@@ -60,6 +60,19 @@ returns-in_err-handed-clause-call c =
       first = subst (λ (w : Seen). first_of (sched_of w c.args.sched).fired ≡ Some c.args.fired.now) (sym has.is) c.requires.first;
       step = own;
     }))).goes
+
+pub invariant_of-self : goal.invariant_of-self
+invariant_of-self c =
+    let has : Has c.args.self.now c.self.inside c.deref.result.now = has_at c.deref.ensures c.self.view_is c.self.invariant in
+    let placed = fired_placed c.args.self.now c.self.inside c.deref.result.now c.args.sched c.args.fired.now has c.requires.first in
+    (does_at c.deref.ensures (step_refused c.args.self.now c.self.inside c.deref.result.now c.deliver.new.pass c.args.fired.now.dest c.index_mut.result.now c.deliver.new.self
+    (λ w way. Hands w.settings way c.args.sched (Err c.in_err-handed.field-0.0)) has c.deliver.ensures.belongs
+    placed.dest c.index_mut.ensures.value c.deliver.ensures.process c.deliver.ensures.stands c.in_err-handed.ensures.call.same
+    (λ m grown own. record {
+      fired = c.args.fired.now;
+      first = subst (λ (w : Seen). first_of (sched_of w c.args.sched).fired ≡ Some c.args.fired.now) (sym has.is) c.requires.first;
+      step = own;
+    }))).fit
 
 pub invariant_of-self-2 : goal.invariant_of-self-2
 invariant_of-self-2 c =

@@ -1,11 +1,11 @@
-use Rattle.std.proofs.Common.{sym, ap, subst, ◌∙◌}
+use Rattle.std.proofs.Common.{refl, sym, ap, subst, ◌∙◌}
 use Rattle.std.specs.Arc.{arc_value}
 use Rattle.ert_defs.specs.declared.entry.Actor.TheVariants.{Caller}
 use Rattle.ert_table.specs.Desks.{Belongs}
 use Rattle.ert_table.specs.declared.desk.Desk.{Desk}
 use Rattle.ert_world.specs.Seats.{Seated}
 use Rattle.ert_world.specs.Worlds.{Seen}
-use Rattle.ert_world.proofs.Calls.{Has}
+use Rattle.ert_world.proofs.Calls.{Has, has_at}
 use Rattle.ert_world.proofs.Meetings.{is_meeting, can_split, belongs_as, met_fit, met_both}
 use Rattle.ert_world.proofs.world.World.meet.Goals as goal
 
@@ -26,7 +26,7 @@ invariant_of-self c =
     let d = arc_value c.self.inside.desk in
     let met = is_meeting d _ c.self.inside.pass c.seat.inside.pass c.join.new.self c.split-pass.new.self c.split-pass.result (Caller c.seat.inside.number) c.deref.ensures c.seat.invariant.actors
     c.join.ensures.actors c.join.ensures.joined c.join.ensures.legal c.split-pass.ensures.rest c.split-pass.ensures.front c.split-pass.ensures.actor c.split-pass.ensures.new_front in
-    let has : Has c.args.self.now c.self.inside d = record { is = c.self.view_is; fit = c.self.invariant } in
+    let has : Has c.args.self.now c.self.inside d = has_at refl c.self.view_is c.self.invariant in
     let belongs = subst (λ (d : Desk). Belongs d c.split-pass.new.self) c.deref-2.ensures c.split-pass.ensures.belongs in
     met_fit c.args.self.now c.self.inside d c.seat.inside.pass c.join.new.self c.split-pass.new.self c.split-pass.result c.seat.inside.number has belongs met
 
@@ -45,7 +45,7 @@ returns c =
     let d = arc_value c.self.inside.desk in
     let met = is_meeting d _ c.self.inside.pass c.seat.inside.pass c.join.new.self c.split-pass.new.self c.split-pass.result (Caller c.seat.inside.number) c.deref.ensures c.seat.invariant.actors
     c.join.ensures.actors c.join.ensures.joined c.join.ensures.legal c.split-pass.ensures.rest c.split-pass.ensures.front c.split-pass.ensures.actor c.split-pass.ensures.new_front in
-    let has : Has c.args.self.now c.self.inside d = record { is = c.self.view_is; fit = c.self.invariant } in
+    let has : Has c.args.self.now c.self.inside d = has_at refl c.self.view_is c.self.invariant in
     let belongs = subst (λ (d : Desk). Belongs d c.split-pass.new.self) c.deref-2.ensures c.split-pass.ensures.belongs in
     met_both c.args.self.now c.self.inside d c.seat.inside.pass c.join.new.self c.split-pass.new.self c.split-pass.result c.seat.inside.number has belongs met
     c.args.seat (arc_value c.seat.inside.desk) c.seat.view_is

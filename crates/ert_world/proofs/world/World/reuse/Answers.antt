@@ -1,8 +1,9 @@
-use Rattle.std.proofs.Common.{slice_index_or, sym, subst}
+use Rattle.std.proofs.Common.{slice_index_or, refl, sym, subst}
 use Rattle.std.specs.Arc.{arc_value}
 use Rattle.ert_table.specs.Desks.{settings_of}
 use Rattle.ert_timers.specs.Freeing.{IsLetGo}
 use Rattle.ert_timers.specs.Parts.{Part}
+use Rattle.ert_world.proofs.Calls.{has_at}
 use Rattle.ert_world.proofs.CancelCalls.{freed, loses_reused}
 use Rattle.ert_world.specs.Worlds.{Seen}
 use Rattle.ert_world.proofs.world.World.reuse.Goals as goal
@@ -15,13 +16,13 @@ reuse-requires-clause-let_go c =
 pub invariant_of-self : goal.invariant_of-self
 invariant_of-self c =
     let d = arc_value c.self.inside.desk in
-    (freed c.args.self.now c.self.inside d c.args.timer.wheel c.index_mut.result.now c.reuse.new.self (record { is = c.self.view_is; fit = c.self.invariant }) c.requires.wheel
-    c.index_mut.ensures.value c.reuse.ensures.number (c.reuse.ensures.stands (settings_of d) c.self.invariant.belongs.named) (c.reuse.ensures.tidy (settings_of d) c.self.invariant.belongs.named)
+    (freed c.args.self.now c.self.inside d c.args.timer.wheel c.index_mut.result.now c.reuse.new.self (has_at refl c.self.view_is c.self.invariant) c.requires.wheel
+    c.index_mut.ensures.value c.reuse.ensures.number (c.reuse.ensures.stands (settings_of d) c.self.invariant.fit.belongs.named)
     (loses_reused c.index_mut.result.now c.reuse.new.self c.args.timer.slot c.reuse.ensures.freed)).fit
 
 pub returns-clause-stays : goal.returns-clause-stays
 returns-clause-stays c =
     let d = arc_value c.self.inside.desk in
-    (freed c.args.self.now c.self.inside d c.args.timer.wheel c.index_mut.result.now c.reuse.new.self (record { is = c.self.view_is; fit = c.self.invariant }) c.requires.wheel
-    c.index_mut.ensures.value c.reuse.ensures.number (c.reuse.ensures.stands (settings_of d) c.self.invariant.belongs.named) (c.reuse.ensures.tidy (settings_of d) c.self.invariant.belongs.named)
+    (freed c.args.self.now c.self.inside d c.args.timer.wheel c.index_mut.result.now c.reuse.new.self (has_at refl c.self.view_is c.self.invariant) c.requires.wheel
+    c.index_mut.ensures.value c.reuse.ensures.number (c.reuse.ensures.stands (settings_of d) c.self.invariant.fit.belongs.named)
     (loses_reused c.index_mut.result.now c.reuse.new.self c.args.timer.slot c.reuse.ensures.freed)).stays

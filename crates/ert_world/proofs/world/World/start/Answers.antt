@@ -1,7 +1,8 @@
 use Rattle.ert_effects.specs.TimerCalls.{Starts}
 use Rattle.ert_table.specs.Desks.{settings_of}
 use Rattle.ert_timers.proofs.LawsHold.{starts_only}
-use Rattle.ert_world.proofs.WheelCalls.{wheel_stepped, starts_calm}
+use Rattle.ert_world.proofs.Calls.{has_at}
+use Rattle.ert_world.proofs.WheelCalls.{wheel_stepped, starts_calm, started_hold}
 use Rattle.ert_world.proofs.world.World.start.Goals as goal
 
 pub invariant_of-self : goal.invariant_of-self
@@ -9,11 +10,15 @@ invariant_of-self c =
     (wheel_stepped c.args.self.now c.self.inside c.deref.result.now _ c.start.new.pass c.args.wheel c.index_mut.result.now c.start.new.self (λ n g. Starts g 0 n c.args.start.now c.start.result)
     c.deref.ensures c.self.view_is c.self.invariant c.start.ensures.belongs c.requires.wheel c.index_mut.ensures.value c.start.ensures.number c.start.ensures.stands c.start.ensures.call
     (starts_only (settings_of c.deref.result.now) 0 c.index_mut.result.now.number c.args.start.now c.start.result)
-    (starts_calm (settings_of c.deref.result.now) 0 c.index_mut.result.now.number c.args.start.now c.start.result) c.start.ensures.tidy).fit
+    (starts_calm (settings_of c.deref.result.now) 0 c.index_mut.result.now.number c.args.start.now c.start.result)
+    (started_hold c.self.inside c.deref.result.now c.start.new.pass c.index_mut.result.now.number c.args.start.now c.start.result c.index_mut.result.now c.start.new.self
+    (has_at c.deref.ensures c.self.view_is c.self.invariant) c.start.ensures.call c.start.ensures.rows)).fit
 
 pub returns-clause-call : goal.returns-clause-call
 returns-clause-call c =
     (wheel_stepped c.args.self.now c.self.inside c.deref.result.now _ c.start.new.pass c.args.wheel c.index_mut.result.now c.start.new.self (λ n g. Starts g 0 n c.args.start.now c.start.result)
     c.deref.ensures c.self.view_is c.self.invariant c.start.ensures.belongs c.requires.wheel c.index_mut.ensures.value c.start.ensures.number c.start.ensures.stands c.start.ensures.call
     (starts_only (settings_of c.deref.result.now) 0 c.index_mut.result.now.number c.args.start.now c.start.result)
-    (starts_calm (settings_of c.deref.result.now) 0 c.index_mut.result.now.number c.args.start.now c.start.result) c.start.ensures.tidy).goes
+    (starts_calm (settings_of c.deref.result.now) 0 c.index_mut.result.now.number c.args.start.now c.start.result)
+    (started_hold c.self.inside c.deref.result.now c.start.new.pass c.index_mut.result.now.number c.args.start.now c.start.result c.index_mut.result.now c.start.new.self
+    (has_at c.deref.ensures c.self.view_is c.self.invariant) c.start.ensures.call c.start.ensures.rows)).goes
