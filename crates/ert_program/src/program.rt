@@ -61,6 +61,7 @@ pub fn ertime<
     ensures no_desk { result.status ≢ EndStatus.Done → result.desk ≡ None }
     ensures refusal { HasItsRefusal result }
     ensures no_refusal { result.status ≢ EndStatus.Refused → result.refusal ≡ None }
+    ensures unrefused { reads_input (asked words.now) ≡ false → result.refusal ≡ None }
 
     // Only `run` and `race` read the input, and only `live` the clock.
     ensures unread { reads_input (asked words.now) ≡ false → input.new ≡ input.old }

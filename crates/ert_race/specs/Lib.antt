@@ -5,5 +5,6 @@ pub mod Made
 pub mod Outcomes
 pub mod Reports
 pub mod Worked
+pub mod WorkedRace
 pub mod Workers
 pub mod Written

@@ -22,6 +22,7 @@
 //! on `ert_script` for the ops and the text.
 #![tactic(auto)]
 
+mod contested;
 mod gates;
 mod laws;
 mod list;
@@ -34,6 +35,7 @@ mod run;
 mod turns;
 mod workers;
 
+pub use contested::a_contest_has_an_outcome;
 pub use gates::{FreeGate, Gate, LedgerGate};
 pub use laws::lists_are_done_whole;
 pub use list::ListDone;

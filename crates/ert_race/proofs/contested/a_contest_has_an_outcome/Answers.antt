@@ -1,0 +1,128 @@
+-- The script runs of two cancels at once, and the turn after them.
+
+use Rattle.std.proofs.Common.{◌≡◌, ℕ, pos, true, false, List, [], ◌∷◌, ◌++◌, Option, Some, None, Ok, refl, rules, arith}
+use Rattle.std.specs.Fmt.{digits}
+use Rattle.ert_effects.specs.Chains.{LastTurns}
+use Rattle.ert_effects.specs.TimerCalls.{IsStarted, Cancels}
+use Rattle.ert_effects.specs.Ways.{alone}
+use Rattle.ert_effects.specs.WheelCalls.{HasAdvancedAll}
+use Rattle.ert_effects.specs.declared.answers.Turned.{Turned}
+use Rattle.ert_defs.specs.Entries.{look_entry, peek_entry, cancel_entry, pick_entry, advanced_entry}
+use Rattle.ert_defs.specs.States.{state}
+use Rattle.ert_defs.specs.declared.entry.Actor.TheVariants.{Caller, Sched}
+use Rattle.ert_defs.specs.declared.entry.Entry.{Entry}
+use Rattle.ert_defs.specs.declared.timer.Kind.TheVariants.{Wrapped}
+use Rattle.ert_defs.specs.declared.timer.When.TheVariants.{After}
+use Rattle.ert_ops.specs.declared.op.Op.TheVariants as ops
+use Rattle.ert_race.specs.WorkedRace.{two_callers, two_cancels, timer, started, contested, last_turn}
+use Rattle.ert_race.specs.Made.{MakesTurns, MakesRound}
+use Rattle.ert_race.specs.Outcomes.{DoesList, ActAtOnce}
+use Rattle.ert_transcript.specs.Calls.{start_of}
+use Rattle.ert_transcript.specs.declared.reply.Reply.TheVariants.{StartOk, Cancel}
+use Rattle.ert_race.proofs.contested.a_contest_has_an_outcome.Goals as goal
+
+starts : IsStarted two_callers 0 0 (start_of (After (pos 5)) 0 7 Wrapped) timer (state two_callers []) started
+starts = record { now = pos 0; probes = []; was = false; closing = []; on_wheel = refl; are_probes = tt; closes = refl; entries = refl }
+
+-- a caller's cancel, of which this is told
+abbrev cancelling : ℕ → Option ℕ → List Entry
+cancelling k left = look_entry (Caller k) (pos 0) ∷ peek_entry (Caller k) timer (Some 5) ∷ cancel_entry (Caller k) timer left ∷ []
+
+cancels : (k : ℕ) (left : Option ℕ) → Cancels two_callers (Caller k) timer left (state two_callers started) (cancelling k left)
+cancels k left = record {
+  now = pos 0;
+  found = Some 5;
+  entries = refl;
+  unread = λ out. let clash : true ≡ false = out in cc;
+  quiet = λ none. let clash : Some 5 ≡ None = none in cc;
+}
+
+does_0 : DoesList two_callers ((1, timer) ∷ []) 0 (ops.Cancel 1 ∷ []) (record { replies = Cancel None ∷ []; own = [] }) started contested
+does_0 = record {
+  pieces = contested;
+  after = [];
+  parted = refl;
+  made = (
+    contested,
+    [],
+    Cancel None,
+    [],
+    refl,
+    refl,
+    record { before = []; during = contested; entries = cancelling 0 None; parted = refl; away = refl; whole = refl; own = refl; allowed = cancels 0 None },
+    (refl, refl, refl),
+  );
+  away = refl;
+}
+
+does_1 : DoesList two_callers ((1, timer) ∷ []) 1 (ops.Cancel 1 ∷ []) (record { replies = Cancel (Some 5) ∷ []; own = [] }) started contested
+does_1 = record {
+  pieces = contested;
+  after = [];
+  parted = refl;
+  made = (
+    contested,
+    [],
+    Cancel (Some 5),
+    [],
+    refl,
+    refl,
+    record { before = []; during = contested; entries = cancelling 1 (Some 5); parted = refl; away = refl; whole = refl; own = refl; allowed = cancels 1 (Some 5) },
+    (refl, refl, refl),
+  );
+  away = refl;
+}
+
+-- no scheduler makes a turn beside them
+turns_none : (w : ℕ) → MakesTurns two_callers w 0 started contested
+turns_none w = record { turns = []; counted = refl; makes = record { pieces = []; after = contested; parted = refl; made = refl; away = refl } }
+
+at_once : ActAtOnce two_callers ((1, timer) ∷ []) two_cancels (record { replies = Cancel None ∷ []; own = [] } ∷ record { replies = Cancel (Some 5) ∷ []; own = [] } ∷ []) started contested
+at_once = record {
+  done = (does_0, (does_1, tt));
+  turned = λ w below. turns_none w;
+  makers = search rules;
+}
+
+abbrev turned : Turned
+turned = record { served = 0; to = 0; fired = 0; put = 0; dropped = 0 }
+
+advances : HasAdvancedAll 1024 0 (0, 0) (state two_callers ((started ++ contested) ++ pick_entry 0 None ∷ [])) (look_entry (Sched 0) (pos 0) ∷ advanced_entry 0 0 ∷ [])
+advances = record { now = pos 0; tries = []; looks = []; fired = refl; settled = tt; due = tt; once = tt; are_looks = tt; entries = refl }
+
+turns : LastTurns two_callers (alone two_callers) 0 (Ok turned) (started ++ contested) last_turn
+turns = record {
+  before = pick_entry 0 None ∷ [];
+  after = look_entry (Sched 0) (pos 0) ∷ advanced_entry 0 0 ∷ [];
+  joined = refl;
+  one = (omega arith, record { before = []; after = pick_entry 0 None ∷ []; joined = refl; one = refl; other = refl });
+  other = record {
+    before = look_entry (Sched 0) (pos 0) ∷ advanced_entry 0 0 ∷ [];
+    after = [];
+    joined = refl;
+    one = advances;
+    other = record { hows = []; runs = refl; put_is = refl; dropped_is = refl; done = refl };
+  };
+}
+
+round : MakesRound two_callers 1 (started ++ contested) last_turn
+round = record {
+  turns = turned ∷ [];
+  counted = refl;
+  made = record { before = last_turn; after = []; joined = refl; one = turns; other = refl };
+}
+
+pub returns : goal.returns
+unfolding digits
+returns c = record {
+  legal = search rules;
+  first = started;
+  later = contested ++ last_turn;
+  parted = refl;
+  replies = StartOk timer ∷ [];
+  labels = (1, timer) ∷ [];
+  began = (started, [], StartOk timer, [], refl, refl, starts, (refl, refl, refl));
+  dids = record { replies = Cancel None ∷ []; own = [] } ∷ record { replies = Cancel (Some 5) ∷ []; own = [] } ∷ [];
+  raced = record { before = contested; after = last_turn; joined = refl; one = at_once; other = round };
+  reads = refl;
+}
