@@ -135,10 +135,12 @@ rejoined e t p q r s parts own rest fit same belongs actors joined legal =
             (λ i d below.
             let named = stand.mails.named i d below in
             let home : IsHome s (s.from + i) = (omega arith, omega (arith, below, counted)) in
-            let ranged : s.from + i < g.processes = omega (arith, below, counted, high) in
-            (named, mail_on g (front_of q) h (slice_index_or own.mails i d) joined.other_begins
-            (subst (λ n. of h (MailOf n) ≡ of (front_of q) (MailOf n)) (sym named) (back (MailOf (s.from + i)) ranged (home_own s (s.from + i) home)))
-            (stand.mails.stand i d below refl)));
+            let ranged : s.from + i < g.processes = omega (arith, below, counted, high) in (
+              named,
+              mail_on g (front_of q) h (slice_index_or own.mails i d) joined.other_begins
+                  (subst (λ n. of h (MailOf n) ≡ of (front_of q) (MailOf n)) (sym named) (back (MailOf (s.from + i)) ranged (home_own s (s.from + i) home)))
+                  (stand.mails.stand i d below refl),
+            ));
         scheds = ordered_append (λ (x : SchedPart). x.wheel) (SchedStands g h) Sched s.number (s.number + 1) parts.scheds (own.sched ∷ [])
             (ordered_kept (λ (x : SchedPart). x.wheel) (SchedStands g (front_of p)) (SchedStands g h) Sched s.number parts.scheds
             (λ x below stands. sched_on g (front_of p) h x joined.begins (left (Sched x.wheel) (omega (arith, below, most)) (grind (arith, nat_tests, below))) stands)

@@ -368,23 +368,26 @@ all_handed old new hows put dropped handing legal put_is dropped_is none =
     let at : ((state old.settings new.history).scheds old.share.number).fired ≡ [] =
     subst (λ s. ((state old.settings new.history).scheds s.number).fired ≡ []) handing.share
     (subst (λ g. ((state g new.history).scheds new.share.number).fired ≡ []) handing.settings fired) in
-    record { rows = handing.rows; goes = record {
-      grows = record {
-        piece = made.piece;
-        grown = made.grown;
-        made = record {
-          hows = hows;
-          runs = made.made;
-          put_is = put_is;
-          dropped_is = dropped_is;
-          done = subst (λ h. ((state old.settings h).scheds old.share.number).fired ≡ []) made.grown at;
+    record {
+      rows = handing.rows;
+      goes = record {
+        grows = record {
+          piece = made.piece;
+          grown = made.grown;
+          made = record {
+            hows = hows;
+            runs = made.made;
+            put_is = put_is;
+            dropped_is = dropped_is;
+            done = subst (λ h. ((state old.settings h).scheds old.share.number).fired ≡ []) made.grown at;
+          };
         };
+        legal = legal;
+        table = handing.table;
+        settings = handing.settings;
+        share = handing.share;
       };
-      legal = legal;
-      table = handing.table;
-      settings = handing.settings;
-      share = handing.share;
-    } }
+    }
 
 pub hand_refused : (old mid new : Owned) (hows : List Handed) (e : NoMemory) → Handing old hows mid
     → Steps mid (λ way. Hands mid.settings way mid.share.number (Err e)) new
@@ -393,10 +396,13 @@ hand_refused old mid new hows e handing steps =
     let one = since old mid new (λ g n way. Hands g way n (Err e)) handing.settings handing.share steps.goes.grows in
     let both = grows_then (HandsMany old.settings (way_of old) old.share.number hows) (Hands old.settings (way_of old) old.share.number (Err e)) old.history mid.history new.history
     handing.made one in
-    record { rows = rows_then old.wheel mid.wheel new.wheel handing.rows steps.rows; goes = record {
-      grows = record { piece = both.piece; grown = both.grown; made = record { hows = hows; runs = both.made } };
-      legal = steps.goes.legal;
-      table = steps.goes.table ∙ handing.table;
-      settings = steps.goes.settings ∙ handing.settings;
-      share = steps.goes.share ∙ handing.share;
-    } }
+    record {
+      rows = rows_then old.wheel mid.wheel new.wheel handing.rows steps.rows;
+      goes = record {
+        grows = record { piece = both.piece; grown = both.grown; made = record { hows = hows; runs = both.made } };
+        legal = steps.goes.legal;
+        table = steps.goes.table ∙ handing.table;
+        settings = steps.goes.settings ∙ handing.settings;
+        share = steps.goes.share ∙ handing.share;
+      };
+    }

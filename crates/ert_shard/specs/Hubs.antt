@@ -125,6 +125,10 @@ pub record GivesShard (old : Rest) (processes : ℕ) (new : Rest) (shard : Owned
   pub share : shard.share ≡ share_of (old.left - 1) (old.first - processes) old.first
   pub rest : new ≡ record old { left = old.left - 1; first = old.first - processes }
 
+-- a shard is the last that was given of those that are out
+abbrev pub IsNext : Rest → Owned → Type 0
+IsNext r o = (o.share.number ≡ r.left) × (o.share.from ≡ r.first)
+
 -- a shard comes back; the history is the longer of the two, which the other begins
 pub record TakesBack (old : Rest) (shard : Owned) (new : Rest) : Type 0 where
   pub table : new.table ≡ old.table

@@ -20,8 +20,8 @@ pub enum ShardErr {
 }
 
 impl Hub {
-    ghost use Rattle.std.specs.Prelude.{◌≡◌, ◌<◌, ◌≤◌, IfOk, OnErr, OnOk, IfErr};
-    ghost use Rattle.ert_shard.specs.Hubs.{GivesShard, TakesBack};
+    ghost use Rattle.std.specs.Prelude.{◌≡◌, ◌↔◌, ◌<◌, ◌≤◌, IfOk, OnErr, OnOk, IfErr, IsTrue};
+    ghost use Rattle.ert_shard.specs.Hubs.{GivesShard, IsNext, TakesBack};
 
     /// Gives the last scheduler that is left, with so many of the processes that are left, to a shard.
     ///
@@ -67,14 +67,22 @@ impl Hub {
         })
     }
 
-    /// Takes a shard back: the last that was given of those that are out.
+    /// Whether a shard is the next that can come back: the last that was given of those that are out.
+    pub fn is_next(&self, shard: &Shard) -> bool
+        ensures { IsTrue result ↔ IsNext self.now shard.now }
+    {
+        shard.number == self.left && shard.from == self.first
+    }
+
+    /// Takes a shard back: the last that was given of those that are out. Shards that are done earlier wait until
+    /// `is_next` tells that it is their turn.
     ///
-    /// Where there is no memory it gives the shard back, and nothing has changed.
+    /// Both know one legal history then: the longer of the two that they knew, which the other begins. Where there is
+    /// no memory it gives the shard back, and nothing has changed.
     pub fn join(&mut self, shard: Shard) -> Result<(), Shard>
         requires table { shard.table ≡ self.old.table }
         requires settings { shard.settings ≡ self.old.settings }
-        requires next { shard.share.number ≡ self.old.left }
-        requires from { shard.share.from ≡ self.old.first }
+        requires next { IsNext self.old shard }
         ensures takes { OnOk result (TakesBack self.old shard self.new) }
         ensures same { OnErr result (self.new ≡ self.old) }
         ensures back { IfErr result (λ back. back ≡ shard) }

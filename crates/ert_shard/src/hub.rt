@@ -12,13 +12,8 @@ use std::sync::Arc;
 /// What is left of a world: its clock with caller 0, the callers that no scheduler has, and the schedulers and the
 /// processes that were given to no shard, each from 0 on.
 ///
-///     let mut hub = Hub::new(world);
-///     let second = hub.shard(512).map_err(..)?;              // scheduler 1, processes 512 to 1023
-///     let first = hub.shard(512).map_err(..)?;               // scheduler 0, processes 0 to 511
-///     let moved = hub.tick(reading, false);                  // by one thread at a time, beside both shards
-///     hub.join(first).map_err(..)?;                          // the last that was given comes back first
-///     hub.join(second).map_err(..)?;
-///     let world = hub.into_world();
+/// Shards are cut from its end: the last scheduler and the last processes go to the next shard, and the last shard that
+/// was given comes back first. One thread at a time has the hub and ticks, beside all shards.
 #[derive(Drop)]
 pub struct Hub {
     pub(crate) desk: Arc<Desk>,

@@ -1,5 +1,45 @@
-//! A world divided among threads, without locks: each scheduler's shard has its wheel, its inbox and the mailboxes
-//! of its own processes.
+//! A world divided among threads, without locks: a hub with the clock, and a shard for each scheduler.
+//!
+//! **Who has what.** A `Hub` takes a world that gave out no seat (`ert_world`), and has its clock, caller 0, every part
+//! and every actor. `Hub::shard` takes from it the last scheduler that is left, with its wheel and its inbox, the caller
+//! of the next number, and the last processes that are left, with their mailboxes: a `Shard`. All are shares of one desk
+//! (`ert_table`), and each has a pass that holds its own actors. Both may go from thread to thread (`Send`). Nobody
+//! takes a lock, and nobody waits.
+//!
+//! | call | made by | what it does | work |
+//! |---|---|---|---|
+//! | `Hub::new`, `into_world` | | makes a hub of a world, and a world of a hub to which all came back | constant |
+//! | `Hub::shard` | | gives a scheduler and processes to a shard | those processes |
+//! | `Hub::join` | | takes the last shard back that was given of those that are out (`is_next`) | those processes |
+//! | `Hub::tick`, `finalize` | the clock, with caller 0 | takes a reading; finalizes the offset | constant |
+//! | `monotonic_time`, `time_offset`, `system_time` | caller 0 or the shard's | reads the clock | constant |
+//! | `cancel_timer`, `read_timer`, `is_alive` | caller 0 or the shard's | cancels or reads a timer of any wheel; looks whether a process has exited | constant |
+//! | `Shard::start` | the shard's caller | starts a timer for a process of the shard | constant where a slot is known to be free, else each slot of the wheel |
+//! | `Shard::exit` | the shard's caller | lets a process exit, and cancels its timers | those timers |
+//! | `Shard::take`, `monitor`, `demonitor`, `tell` | the shard's caller | calls on the mailbox of a process of the shard | constant, or the monitors of the process |
+//! | `Shard::advance`, `deliver`, `turn` | the shard's scheduler | lets due timers expire; hands them over; both | as in `ert_world` |
+//! | `Shard::next_due`, `Hub::published` | | no entry: how early a timer may be due; the last published time | as in `ert_world` |
+//!
+//! **What it promises.** Users see of a shard its desk, its settings, the history that it knows, its share and its wheel
+//! (`specs/Shards`, `Owned`). Each call says what it answers, and that the history grows by a piece in which the entries
+//! of the shard's own actors are just those that the call may make with this answer, by the relations of `ert_effects`,
+//! in the state before the piece (`Goes`, in the way `as_share`). Others make entries between. All these histories are
+//! beginnings of the desk's one legal history, in which each timer settles once, whoever cancels it: a cancel is one
+//! exchange on the timer's word. The calls of a hub are said in the same way (`specs/Hubs`, `Rest`).
+//!
+//! Each timer of a shard's wheel is for a process of the shard, since `start` asks for that and no other has entries of
+//! the wheel (`AreHome`). So a timer that expires finds its mailbox, and an exit has to sweep the shard's own wheel alone.
+//! A wheel that has had timers isn't given to a shard, since of those nothing is known.
+//!
+//! **What it hasn't.** A shard starts no timer for a process of another shard, and has no asynchronous requests (`ask`
+//! and `serve` of `ert_world`). A timer that another shard cancelled keeps its row and its slot until it would be due.
+//!
+//! **Memory.** `start`, `cancel_timer`, `read_timer`, `take`, `exit`, and the calls on the clock take none. Where there is
+//! none, `monitor` and `tell` change nothing, `advance` lets no timer expire, `deliver` keeps what wasn't handed over,
+//! `shard` and `join` leave everything as it was.
+//!
+//! It stands on `ert_defs`, `ert_clock`, `ert_effects`, `ert_table`, `ert_calls`, `ert_keeper`, `ert_timers`, `ert_mail`
+//! and `ert_world`, and its proofs on the laws of `ert_laws`.
 #![tactic(auto)]
 
 mod dividing;

@@ -11,15 +11,8 @@ use std::sync::Arc;
 /// A share of a desk, and the pass and the parts of one scheduler, of one caller and of some processes.
 ///
 /// A thread that has it starts timers for its processes, lets them expire and takes their messages. It reads and
-/// cancels the timers of all shards. Its calls take no lock and wait for nobody, beside the calls of all other shards,
-/// of the hub and of the seats that the hub gave.
-///
-///     let mut shard = hub.shard(256).map_err(..)?;           // scheduler 3 of 4, processes 768 to 1023
-///     let start = Start { when: When::After(50), dest: 768, msg: 7, kind: Kind::Wrapped };
-///     let timer = shard.start(&start);                       // on its own wheel
-///     let left = shard.cancel_timer(other);                  // of any wheel
-///     shard.turn()?;                                         // due timers expire, and their messages are delivered
-///     let message = shard.take(768);                         // Taken::Mail(Mail::Timeout { timer, msg: 7 })
+/// cancels the timers of all shards. Its calls take no lock and wait for nobody, beside the calls of all other shards and
+/// of the hub.
 #[derive(Drop)]
 pub struct Shard {
     pub(crate) desk: Arc<Desk>,

@@ -24,8 +24,11 @@ returns-in_err-to c =
     let parts = parts_of b.wheel b.inbox b.sched b.mails.items in
     let x : SchedPart = record { wheel = b.sched.wheel; hand = b.sched.hand; fired = c.advance.new.fired } in
     let result : c.from_residual.result ≡ Err c.in_err-to.field-0.0 = search rules in
-    rw result (record { call = (did_at c.deref.ensures (advance_refused c.args.self.now c.deref.result.now b.pass c.advance.new.pass s c.in_err-to.field-0.0 parts c.advance.new.self x
-    (has_at c.deref.ensures c.self.view_is c.self.invariant) c.advance.ensures.belongs c.advance.ensures.number c.advance.ensures.stands c.advance.ensures.loses c.in_err-to.ensures.call refl refl)).steps; passed = tt })
+    rw result (record {
+      call = (did_at c.deref.ensures (advance_refused c.args.self.now c.deref.result.now b.pass c.advance.new.pass s c.in_err-to.field-0.0 parts c.advance.new.self x
+          (has_at c.deref.ensures c.self.view_is c.self.invariant) c.advance.ensures.belongs c.advance.ensures.number c.advance.ensures.stands c.advance.ensures.loses c.in_err-to.ensures.call refl refl)).steps;
+      passed = tt;
+    })
 
 pub overflow_cast-result : goal.overflow_cast-result
 overflow_cast-result c =
@@ -50,5 +53,8 @@ returns c =
     let s = share_of b.number b.from b.to in
     let parts = parts_of b.wheel b.inbox b.sched b.mails.items in
     let x : SchedPart = record { wheel = b.sched.wheel; hand = b.sched.hand; fired = c.advance.new.fired } in
-    record { call = (did_at c.deref.ensures (advance_ok c.args.self.now c.deref.result.now b.pass c.advance.new.pass s c.in_ok-to.to c.len.result c.len-before.result parts c.advance.new.self x
-    (has_at c.deref.ensures c.self.view_is c.self.invariant) c.advance.ensures.belongs c.advance.ensures.number c.advance.ensures.stands c.advance.ensures.loses c.in_ok-to.ensures.call refl refl c.len.ensures c.len-before.ensures)).steps; passed = c.in_ok-to.ensures.passed }
+    record {
+      call = (did_at c.deref.ensures (advance_ok c.args.self.now c.deref.result.now b.pass c.advance.new.pass s c.in_ok-to.to c.len.result c.len-before.result parts c.advance.new.self x
+          (has_at c.deref.ensures c.self.view_is c.self.invariant) c.advance.ensures.belongs c.advance.ensures.number c.advance.ensures.stands c.advance.ensures.loses c.in_ok-to.ensures.call refl refl c.len.ensures c.len-before.ensures)).steps;
+      passed = c.in_ok-to.ensures.passed;
+    }
