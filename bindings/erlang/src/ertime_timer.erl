@@ -330,9 +330,15 @@ ended(Name, Timers) ->
         _ -> Timers
     end.
 
-%% A message is sent at once, so that messages of one time come in the order of their timers.
+%% A message is sent at once, so that messages of one time come in the order of their timers; and so is an exit signal, where a
+%% name may stand for a process, as in `timer'.
 in_process({erlang, send, [To, Message]}) ->
     try To ! Message catch error:badarg -> nobody end;
+in_process({erlang, exit, [To, Reason]}) ->
+    case pid_of(To) of
+        Pid when is_pid(Pid) -> exit(Pid, Reason);
+        undefined -> nobody
+    end;
 in_process(Call) ->
     {Clock, Server} = {ertime:clock(), self()},
     Pid = spawn(fun() ->
@@ -344,6 +350,10 @@ in_process(Call) ->
     receive
         {?MODULE, joined, Pid} -> Pid
     end.
+
+pid_of(Name) when is_atom(Name), Name =/= undefined -> whereis(Name);
+pid_of(Pid) when is_pid(Pid) -> Pid;
+pid_of(_) -> undefined.
 
 %% The server may have ended when this process asks which clock it sees.
 under(Clock, {M, F, Arguments}) ->

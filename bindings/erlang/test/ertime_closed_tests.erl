@@ -11,11 +11,11 @@
     ertime, ertime_clock, ertime_times, ertime_timers, ertime_monitors, ertime_use, ertime_rest, ertime_watch, ertime_timer,
     ertime_nodes, ertime_test
 ]).
--define(MOST, 60). % calls of the NIF
+-define(MOST, 40). % calls of the NIF
 
 closed_test_() ->
     {setup, fun instrument/0, fun restore/1, [
-        {Name, {timeout, 120, fun() -> closed_before_each(Options, Do, MayRaise) end}}
+        {Name, {timeout, 300, fun() -> closed_before_each(Options, Do, MayRaise) end}}
      || {Name, Options, Do, MayRaise} <- times() ++ timers() ++ monitors() ++ clocks() ++ servers()
     ]}.
 

@@ -48,11 +48,14 @@ timers_test_() ->
                 by_steps(Clock, 50),
                 length(maps:get(timers, ertime:info(Clock)))
             end},
-            {"exit_after and kill_after", [{killed, 20}, {late, 10}], fun(Clock) ->
-                Pids = [spawn_monitor(fun() -> receive never -> ok end end) || _ <- [1, 2]],
-                [{A, _}, {B, _}] = Pids,
+            {"exit_after and kill_after", [{by_name, 25}, {killed, 20}, {late, 10}], fun(Clock) ->
+                Pids = [spawn_monitor(fun() -> receive never -> ok end end) || _ <- [1, 2, 3]],
+                [{A, _}, {B, _}, {C, _}] = Pids,
+                register(ertime_timer_exits, C),
                 {ok, _} = timer:exit_after(10, A, late),
                 {ok, _} = timer:kill_after(20, B),
+                {ok, _} = timer:exit_after(25, ertime_timer_exits, by_name),
+                {ok, _} = timer:exit_after(25, ertime_no_such_name, by_name),
                 Ends = [{Reason, At} || {At, {'DOWN', _, _, _, Reason}} <- by_steps(Clock, 30)],
                 lists:sort(Ends)
             end},
