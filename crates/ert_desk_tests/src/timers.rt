@@ -1,7 +1,7 @@
 //! Timers of a wheel, which takes its slots from the last one on.
 use crate::steps::Step::{
-    Advance, Cancel, CancelAlone, Counts, Deliver, Exit, Finalize, IsAlive, MarkExit,
-    Monotonic, Offset, Read, Start, Take,
+    Advance, Cancel, CancelAlone, Counts, Deliver, Exit, Finalize, IsAlive, MarkExit, Monotonic,
+    Offset, Read, Start, Take,
 };
 use crate::steps::{EIGHT_SLOTS, SETTINGS, timer, until};
 use crate::worlds::{Left, make_all, make_all_to_end};

@@ -26,7 +26,7 @@ use Rattle.ert_locks.specs.Kinds.{Fits, scheds}
 use Rattle.ert_locks.specs.Names.{IsDesk}
 use Rattle.ert_locks.specs.Passes.{Meets}
 use Rattle.ert_mail.specs.Mailboxes.{handed, answered}
-use Rattle.ert_world.proofs.Advances.{advances_plain, advance_hand, advance_still, advance_fits, difference}
+use Rattle.ert_world.proofs.Advances.{advance_hand, advance_still, advance_fits, difference}
 use Rattle.ert_world.proofs.SchedCalls.{sched_stands}
 use Rattle.ert_world.specs.Parts.{SchedStands}
 use Rattle.ert_world.specs.declared.sched_part.SchedPart.{SchedPart}
@@ -81,13 +81,13 @@ advanced g n m (Ok to) p x j u high held has is now was =
     let count : n - m ≡ length is.gained = difference n m p.fired.rows is.gained (now ∙ ap (λ (l : List Row). length l) is.fired) was in
     record {
       made = subst (λ k. IsMade g j (Advances g w (Ok (to, k))) u) (sym count) is.call;
-      hand = has.hand ∙ sym (advance_hand Advances advances_plain g w (Ok (to, length is.gained)) j u held is.call);
+      hand = has.hand ∙ sym (advance_hand g w (Ok (to, length is.gained)) j u held is.call);
       fired = is.fired ∙ (ap (λ l. l ++ is.gained) has.fired ∙ sym is.waits);
-      few = advance_fits (Advances g w) g w to n m p.fired x.fired j u high is now was;
+      few = advance_fits g w to n m p.fired x.fired j u high is now was;
     }
 advanced g n m (Err e) p x j u high held has is now was = record {
   made = is.call;
-  hand = has.hand ∙ sym (advance_hand Advances advances_plain g p.wheel (Err e) j u held is.call);
+  hand = has.hand ∙ sym (advance_hand g p.wheel (Err e) j u held is.call);
   fired = is.fired ∙ (has.fired ∙ sym (advance_still g p.wheel e j u held is.call));
   few = tt;
 }

@@ -2,7 +2,7 @@
 ghost use Rattle.ert_world_tests.specs.Orderly.{IsOrderly};
 
 use crate::tests::compare::same;
-use crate::tests::service_calls::{cancel as cancel_of, turn_all, start as start_of};
+use crate::tests::service_calls::{cancel as cancel_of, start as start_of, turn_all};
 use crate::tests::settings::SMALL;
 use crate::tests::trials::{Seats, Told, Trial, try_out};
 use crate::tests::workers::Totals;

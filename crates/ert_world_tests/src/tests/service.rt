@@ -1,7 +1,7 @@
 //! Each call of a service once, on one thread.
 
 use crate::tests::compare::same;
-use crate::tests::service_calls::{ask, is_process, turn_all, start, times};
+use crate::tests::service_calls::{ask, is_process, start, times, turn_all};
 use crate::tests::settings::SMALL;
 use crate::tests::trials::{Seats, Trial, try_out};
 use crate::tests::workers::Totals;
