@@ -41,11 +41,11 @@ use Rattle.ert_timers.proofs.LawsHold.{advances_only, sweeps_only}
 use Rattle.ert_timers.proofs.Settled.{fired_let_go, handed_free}
 use Rattle.ert_timers.specs.Freeing.{IsLetGo}
 use Rattle.ert_world.proofs.Standing.{free_kept}
-use Rattle.ert_timers.specs.Expiring.{fired_in, HasExpiredBy, HasNotExpired}
+use Rattle.ert_timers.specs.Expiring.{fired_in, HasExpired, HasNotExpired}
 use Rattle.ert_timers.specs.FiredLists.{Queue}
 use Rattle.ert_timers.specs.Parts.{Part, Stands as WheelStands}
 use Rattle.ert_timers.specs.Passed.{LosesRows}
-use Rattle.ert_world.proofs.Advances.{advances_plain, advance_hand, advance_still, difference}
+use Rattle.ert_world.proofs.Advances.{advance_hand, advance_still, difference}
 use Rattle.ert_world.proofs.SchedCalls.{sched_stands}
 use Rattle.ert_world.specs.Parts.{SchedStands}
 use Rattle.ert_world.specs.declared.sched_part.SchedPart.{SchedPart}
@@ -83,7 +83,7 @@ advanced before d p q s parts new x answer has belongs named stands loses made_w
     let at : x.wheel ≡ i = wheel ∙ was.wheel in
     let made : IsMade g (view_of p) (Advances g i answer) (view_of q) = subst (λ n. IsMade g (view_of p) (Advances g n answer) (view_of q)) one made_w in
     let held : is_held (actors_of p) (Sched i) ≡ true = has.fit.holds.own (Sched i) has.fit.holds.low ∙ self_own i in
-    let kept = advance_hand Advances advances_plain g i answer (view_of p) (view_of q) held made in
+    let kept = advance_hand g i answer (view_of p) (view_of q) held made in
     let below : x.wheel < g.schedulers = rw at has.fit.holds.low in
     let now : SchedStands g (front_of q) x =
     sched_stands g (front_of q) x ((state g (front_of q)).scheds i) below (ap (λ n. (state g (front_of q)).scheds n) at)
@@ -107,7 +107,7 @@ advanced before d p q s parts new x answer has belongs named stands loses made_w
 -- an advance, with its count
 pub advance_ok : (before : Owned) (d : Desk) (p q : Pass) (s : Share) (to n m : ℕ) (parts : ShardParts) (new : Part) (x : SchedPart)
     → Has before d p s parts → Belongs d q → new.number ≡ parts.wheel.number → WheelStands (settings_of d) (front_of q) new → LosesRows parts.wheel new
-    → HasExpiredBy (Advances (settings_of d) parts.wheel.number) (settings_of d) (view_of p) parts.wheel.number to parts.sched.fired x.fired (view_of q)
+    → HasExpired (settings_of d) (view_of p) parts.wheel.number to parts.sched.fired x.fired (view_of q)
     → x.wheel ≡ parts.sched.wheel → x.hand ≡ parts.sched.hand → n ≡ length x.fired.rows → m ≡ length parts.sched.fired.rows
     → Did before d q s (record parts { wheel = new; sched = x }) (λ o way. AdvancesWheel o.settings way o.share.number (Ok (to, n - m)))
 advance_ok before d p q s to n m parts new x has belongs named stands loses expired wheel hand now was =

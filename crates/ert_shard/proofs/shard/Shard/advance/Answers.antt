@@ -1,5 +1,4 @@
 use Rattle.std.proofs.Common.{◌≡◌, Err, rules, refl, arith}
-use Rattle.ert_effects.specs.WheelCalls.{Advances}
 use Rattle.ert_shard.proofs.Called.{did_at, has_at}
 use Rattle.ert_shard.proofs.Turned.{advance_ok, advance_refused}
 use Rattle.ert_shard.specs.Shards.{share_of, parts_of}
@@ -33,7 +32,7 @@ returns-in_err-to c =
 pub overflow_cast-result : goal.overflow_cast-result
 overflow_cast-result c =
     let g = settings_of c.deref.result.now in
-    let few = advance_fits (Advances g c.self.inside.wheel.number) g c.self.inside.wheel.number c.in_ok-to.to c.len.result c.len-before.result
+    let few = advance_fits g c.self.inside.wheel.number c.in_ok-to.to c.len.result c.len-before.result
     c.self.inside.sched.fired c.advance.new.fired (view_of c.self.inside.pass) (view_of c.advance.new.pass)
     c.deref.result.now.checked.counts.slots_high c.in_ok-to.ensures.call c.len.ensures c.len-before.ensures in
     omega (arith, few.1)
