@@ -388,21 +388,3 @@ all_handed old new hows put dropped handing legal put_is dropped_is none =
         share = handing.share;
       };
     }
-
-pub hand_refused : (old mid new : Owned) (hows : List Handed) (e : NoMemory) → Handing old hows mid
-    → Steps mid (λ way. Hands mid.settings way mid.share.number (Err e)) new
-    → Steps old (λ way. Delivers old.settings way old.share.number (Err e)) new
-hand_refused old mid new hows e handing steps =
-    let one = since old mid new (λ g n way. Hands g way n (Err e)) handing.settings handing.share steps.goes.grows in
-    let both = grows_then (HandsMany old.settings (way_of old) old.share.number hows) (Hands old.settings (way_of old) old.share.number (Err e)) old.history mid.history new.history
-    handing.made one in
-    record {
-      rows = rows_then old.wheel mid.wheel new.wheel handing.rows steps.rows;
-      goes = record {
-        grows = record { piece = both.piece; grown = both.grown; made = record { hows = hows; runs = both.made } };
-        legal = steps.goes.legal;
-        table = steps.goes.table ∙ handing.table;
-        settings = steps.goes.settings ∙ handing.settings;
-        share = steps.goes.share ∙ handing.share;
-      };
-    }
