@@ -49,10 +49,10 @@ contested = look_entry (Caller 0) (pos 0)
     ∷ cancel_entry (Caller 0) timer None
     ∷ []
 
--- the scheduler's last turn, in which nothing is due
-abbrev pub last_turn : List Entry
-last_turn = pick_entry 0 None ∷ look_entry (Sched 0) (pos 0) ∷ advanced_entry 0 0 ∷ []
+-- the scheduler's turn after the race, in which nothing is due
+abbrev pub closing_turn : List Entry
+closing_turn = pick_entry 0 None ∷ look_entry (Sched 0) (pos 0) ∷ advanced_entry 0 0 ∷ []
 
 -- all of it
 abbrev pub contest : List Entry
-contest = started ++ (contested ++ last_turn)
+contest = started ++ (contested ++ closing_turn)

@@ -2,10 +2,10 @@
 
 use Rattle.std.proofs.Common.{◌≡◌, ℕ, pos, true, false, List, [], ◌∷◌, ◌++◌, Option, Some, None, Ok, refl, rules, arith}
 use Rattle.std.specs.Fmt.{digits}
-use Rattle.ert_effects.specs.Chains.{LastTurns}
+use Rattle.ert_effects.specs.Chains.{Turns}
 use Rattle.ert_effects.specs.TimerCalls.{IsStarted, Cancels}
 use Rattle.ert_effects.specs.Ways.{alone}
-use Rattle.ert_effects.specs.WheelCalls.{HasAdvancedAll}
+use Rattle.ert_effects.specs.WheelCalls.{HasAdvanced}
 use Rattle.ert_effects.specs.declared.answers.Turned.{Turned}
 use Rattle.ert_defs.specs.Entries.{look_entry, peek_entry, cancel_entry, pick_entry, advanced_entry}
 use Rattle.ert_defs.specs.States.{state}
@@ -14,7 +14,7 @@ use Rattle.ert_defs.specs.declared.entry.Entry.{Entry}
 use Rattle.ert_defs.specs.declared.timer.Kind.TheVariants.{Wrapped}
 use Rattle.ert_defs.specs.declared.timer.When.TheVariants.{After}
 use Rattle.ert_ops.specs.declared.op.Op.TheVariants as ops
-use Rattle.ert_race.specs.WorkedRace.{two_callers, two_cancels, timer, started, contested, last_turn}
+use Rattle.ert_race.specs.WorkedRace.{two_callers, two_cancels, timer, started, contested, closing_turn}
 use Rattle.ert_race.specs.Made.{MakesTurns, MakesRound}
 use Rattle.ert_race.specs.Outcomes.{DoesList, ActAtOnce}
 use Rattle.ert_transcript.specs.Calls.{start_of}
@@ -87,10 +87,10 @@ at_once = record {
 abbrev turned : Turned
 turned = record { served = 0; to = 0; fired = 0; put = 0; dropped = 0 }
 
-advances : HasAdvancedAll 1024 0 (0, 0) (state two_callers ((started ++ contested) ++ pick_entry 0 None ∷ [])) (look_entry (Sched 0) (pos 0) ∷ advanced_entry 0 0 ∷ [])
-advances = record { now = pos 0; tries = []; looks = []; fired = refl; settled = tt; due = tt; once = tt; are_looks = tt; entries = refl }
+advances : HasAdvanced 0 (0, 0) (state two_callers ((started ++ contested) ++ pick_entry 0 None ∷ [])) (look_entry (Sched 0) (pos 0) ∷ advanced_entry 0 0 ∷ [])
+advances = record { now = pos 0; tries = []; fired = refl; settled = tt; due = tt; once = tt; entries = refl }
 
-turns : LastTurns two_callers (alone two_callers) 0 (Ok turned) (started ++ contested) last_turn
+turns : Turns two_callers (alone two_callers) 0 (Ok turned) (started ++ contested) closing_turn
 turns = record {
   before = pick_entry 0 None ∷ [];
   after = look_entry (Sched 0) (pos 0) ∷ advanced_entry 0 0 ∷ [];
@@ -105,11 +105,11 @@ turns = record {
   };
 }
 
-round : MakesRound two_callers 1 (started ++ contested) last_turn
+round : MakesRound two_callers 1 (started ++ contested) closing_turn
 round = record {
   turns = turned ∷ [];
   counted = refl;
-  made = record { before = last_turn; after = []; joined = refl; one = turns; other = refl };
+  made = record { before = closing_turn; after = []; joined = refl; one = turns; other = refl };
 }
 
 pub returns : goal.returns
@@ -117,12 +117,12 @@ unfolding digits
 returns c = record {
   legal = search rules;
   first = started;
-  later = contested ++ last_turn;
+  later = contested ++ closing_turn;
   parted = refl;
   replies = StartOk timer ∷ [];
   labels = (1, timer) ∷ [];
   began = (started, [], StartOk timer, [], refl, refl, starts, (refl, refl, refl));
   dids = record { replies = Cancel None ∷ []; own = [] } ∷ record { replies = Cancel (Some 5) ∷ []; own = [] } ∷ [];
-  raced = record { before = contested; after = last_turn; joined = refl; one = at_once; other = round };
+  raced = record { before = contested; after = closing_turn; joined = refl; one = at_once; other = round };
   reads = refl;
 }
