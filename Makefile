@@ -4,6 +4,7 @@
 #     make install      into prefix, which is /usr/local
 #     make uninstall
 #     make dist         a tar archive for machines without the toolchain, in build/dist
+#                       (make dist TARGET=aarch64 the one of the C library for that processor, by a cross compiler)
 #     make deb          packages for Debian, in build/deb
 #     make html         all documents as a site with a search, in build/site
 #     make release      checks the version, makes the archive and tags it
@@ -28,27 +29,36 @@ fishcompletiondir = $(datarootdir)/fish/vendor_completions.d
 # gdb looks here for what shows the types of a library, by the path of the library.
 gdbdir = $(datarootdir)/gdb/auto-load$(libdir)
 
+# The processor: x86_64, or aarch64, for which the toolchain builds the C library alone.
+TARGET = x86_64
+ifeq ($(filter $(TARGET),x86_64 aarch64),)
+$(error TARGET is x86_64 or aarch64)
+endif
+is_native = $(filter x86_64,$(TARGET))
+CROSS = $(if $(is_native),,$(TARGET)-linux-gnu-)
+
 INSTALL = install
 INSTALL_PROGRAM = $(INSTALL)
 INSTALL_DATA = $(INSTALL) -m 644
-CC = cc
-LD = ld
-OBJCOPY = objcopy
-OBJDUMP = objdump
-AR = ar
+CC = $(if $(is_native),cc,$(CROSS)gcc)
+LD = $(CROSS)ld
+OBJCOPY = $(CROSS)objcopy
+OBJDUMP = $(CROSS)objdump
+AR = $(CROSS)ar
 PYTHON = python3
 # Tells the loader of a library that was installed for this machine itself, where whoever installs may.
 LDCONFIG = ldconfig
 tell_loader = [ -n '$(DESTDIR)' ] || $(LDCONFIG) 2>/dev/null || :
 
 # What was proved: the programs, the library's archive, and the archive of the toolchain by which that one calls
-# malloc. `rt ci` and `packaging/prove` leave them there; other places can be given.
+# malloc. `rt ci` and `packaging/prove` leave them there; other places can be given. For aarch64 the toolchain has no
+# archive of the heap, so it is made from C.
 KIT = $(patsubst %/bin/rt,%,$(realpath $(shell command -v rt 2>/dev/null)))
 ERTIME = crates/ert_cli/out/ert_cli
 ERTAUDIT = crates/ert_audit/out/ert_audit
 ERT_BENCH = crates/ert_bench/out/ert_bench
-ARCHIVE = crates/ert_c/out/libert_c.a
-HEAP = $(KIT)/c/liblibc_c.a
+ARCHIVE = crates/ert_c/out/$(if $(is_native),,$(TARGET)-unknown-linux-gnu/)libert_c.a
+HEAP = $(if $(is_native),$(KIT)/c/liblibc_c.a,$(B)/heap.o)
 
 # The version is taken from the header. (.ci/check_documents compares the other places that have it.)
 part = $(shell sed -n 's/^.define ERTIME_VERSION_$(1) //p' include/ertime.h)
@@ -56,23 +66,23 @@ MAJOR := $(call part,MAJOR)
 MINOR := $(call part,MINOR)
 VERSION := $(MAJOR).$(MINOR).$(call part,PATCH)
 
-B = build
+B = build$(if $(is_native),,/$(TARGET))
 SONAME = libertime.so.$(MAJOR)
 REAL = libertime.so.$(VERSION)
-PROGRAMS = ertime ertaudit ert_bench
+PROGRAMS = $(if $(is_native),ertime ertaudit ert_bench)
 PAGES1 = $(addsuffix .1,$(PROGRAMS))
 PAGES3 = ertime.3
-PAGES5 = ertime-scenario.5 ertime-history.5
+PAGES5 = $(if $(is_native),ertime-scenario.5 ertime-history.5)
 PAGES = $(addprefix $(B)/man/,$(PAGES1) $(PAGES3) $(PAGES5))
-EXAMPLES = examples/c/event_loop.c examples/c/seats.c examples/ertime/timer_expires.json \
-  examples/races/two_cancels.json examples/ertaudit/early_expiry.txt
+EXAMPLES = examples/c/event_loop.c examples/c/seats.c \
+  $(if $(is_native),examples/ertime/timer_expires.json examples/races/two_cancels.json examples/ertaudit/early_expiry.txt)
 DOCUMENTS = CHANGELOG.md EMBEDDING.md
 LIBRARIES = $(B)/libertime.a $(B)/$(REAL)
 
 .PHONY: all prove pages install install-strip uninstall dist deb html release clean
 .DELETE_ON_ERROR:
 
-all: $(ERTIME) $(ERTAUDIT) $(ERT_BENCH) $(LIBRARIES) pages $(B)/THIRD-PARTY $(addprefix $(B)/doc/,$(DOCUMENTS))
+all: $(if $(is_native),$(ERTIME) $(ERTAUDIT) $(ERT_BENCH)) $(LIBRARIES) pages $(B)/THIRD-PARTY $(addprefix $(B)/doc/,$(DOCUMENTS))
 pages: $(PAGES)
 
 # What exists is taken as it is: proofs take long, so none begins because a file has a newer date.
@@ -80,6 +90,15 @@ PROVED = crates/ert_cli/out/ert_cli crates/ert_audit/out/ert_audit crates/ert_be
 $(PROVED) &:
 	packaging/prove $(filter $(PROVED),$(ERTIME) $(ERTAUDIT) $(ERT_BENCH) $(ARCHIVE))
 .PRECIOUS: $(PROVED)
+
+# Over what was proved, the library is built for another processor.
+crates/ert_c/out/aarch64-unknown-linux-gnu/libert_c.a:
+	.ci/build_archive aarch64-unknown-linux-gnu
+.PRECIOUS: crates/ert_c/out/aarch64-unknown-linux-gnu/libert_c.a
+
+$(B)/heap.o: packaging/heap.c
+	mkdir -p $(B)
+	$(CC) -std=c11 -O2 -Wall -Wextra -Werror -fPIC -c $< -o $@
 
 prove:
 	packaging/prove --anew $(PROVED)
@@ -101,9 +120,9 @@ $(B)/unwind.o: $(B)/bare.o packaging/unwind
 # Both archives as one object, in which every other name is local. (Whoever installs may not have the toolchain on
 # the path: so nothing here depends on a file of it.) The linker takes the tables as they are: it would ask that those
 # of an object stand in it.
-$(B)/ertime.o: $(B)/bare.o $(B)/unwind.o $(B)/symbols
+$(B)/ertime.o: $(B)/bare.o $(if $(is_native),$(B)/unwind.o,$(B)/heap.o) $(B)/symbols
 	@[ -f '$(HEAP)' ] || { echo "there is no $(HEAP): rt isn't on the path, or HEAP has to say where it is"; exit 1; }
-	$(LD) -r --traditional-format --whole-archive $(B)/bare.o $(B)/unwind.o $(HEAP) -o $@
+	$(LD) -r --traditional-format --whole-archive $(B)/bare.o $(if $(is_native),$(B)/unwind.o) $(HEAP) -o $@
 	$(OBJCOPY) --keep-global-symbols=$(B)/symbols $@
 
 $(B)/libertime.a: $(B)/ertime.o
@@ -132,19 +151,29 @@ $(B)/THIRD-PARTY: packaging/notices crates.txt
 pc_prefix = $(prefix)
 below = $(patsubst $(prefix)/%,$${prefix}/%,$(1))
 from_cmake = $(shell realpath -m --relative-to='$(cmakedir)' '$(1)')
-FILL = sed -e 's|@VERSION@|$(VERSION)|' -e 's|@MAJOR@|$(MAJOR)|' -e 's|@MINOR@|$(MINOR)|'
+FILL = sed -e 's|@VERSION@|$(VERSION)|' -e 's|@TARGET@|$(TARGET)|' -e 's|@MAJOR@|$(MAJOR)|' -e 's|@MINOR@|$(MINOR)|'
 
 D1 = $(DESTDIR)$(mandir)/man1
 D3 = $(DESTDIR)$(mandir)/man3
 D5 = $(DESTDIR)$(mandir)/man5
 
 install: all
-	$(INSTALL) -d "$(DESTDIR)$(bindir)" "$(DESTDIR)$(includedir)" "$(DESTDIR)$(libdir)" \
-	  "$(DESTDIR)$(pkgconfigdir)" "$(DESTDIR)$(cmakedir)" "$(D1)" "$(D3)" "$(D5)" "$(DESTDIR)$(docdir)/examples" \
-	  "$(DESTDIR)$(bashcompletiondir)" "$(DESTDIR)$(zshcompletiondir)" "$(DESTDIR)$(fishcompletiondir)" "$(DESTDIR)$(gdbdir)"
+	$(INSTALL) -d "$(DESTDIR)$(includedir)" "$(DESTDIR)$(libdir)" "$(DESTDIR)$(pkgconfigdir)" "$(DESTDIR)$(cmakedir)" \
+	  "$(D3)" "$(DESTDIR)$(docdir)/examples" "$(DESTDIR)$(gdbdir)" $(if $(PROGRAMS),"$(DESTDIR)$(bindir)" "$(D1)" "$(D5)" \
+	  "$(DESTDIR)$(bashcompletiondir)" "$(DESTDIR)$(zshcompletiondir)" "$(DESTDIR)$(fishcompletiondir)")
+ifneq ($(PROGRAMS),)
 	$(INSTALL_PROGRAM) $(ERTIME) "$(DESTDIR)$(bindir)/ertime"
 	$(INSTALL_PROGRAM) $(ERTAUDIT) "$(DESTDIR)$(bindir)/ertaudit"
 	$(INSTALL_PROGRAM) $(ERT_BENCH) "$(DESTDIR)$(bindir)/ert_bench"
+	$(INSTALL_DATA) $(addprefix $(B)/man/,$(PAGES1)) "$(D1)"
+	$(INSTALL_DATA) $(addprefix $(B)/man/,$(PAGES5)) "$(D5)"
+	for it in $(PROGRAMS); do \
+	  $(INSTALL_DATA) completions/$$it.bash "$(DESTDIR)$(bashcompletiondir)/$$it" && \
+	  $(INSTALL_DATA) completions/_$$it "$(DESTDIR)$(zshcompletiondir)" && \
+	  $(INSTALL_DATA) completions/$$it.fish "$(DESTDIR)$(fishcompletiondir)" || exit; \
+	done
+	$(INSTALL_DATA) docs/scenario.schema.json "$(DESTDIR)$(docdir)"
+endif
 	$(INSTALL_DATA) include/ertime.h "$(DESTDIR)$(includedir)"
 	$(INSTALL_DATA) $(LIBRARIES) "$(DESTDIR)$(libdir)"
 	ln -sf $(REAL) "$(DESTDIR)$(libdir)/$(SONAME)"
@@ -155,16 +184,9 @@ install: all
 	  packaging/ertime-config.cmake.in >"$(DESTDIR)$(cmakedir)/ertime-config.cmake"
 	$(FILL) packaging/ertime-config-version.cmake.in >"$(DESTDIR)$(cmakedir)/ertime-config-version.cmake"
 	chmod 644 "$(DESTDIR)$(pkgconfigdir)/ertime.pc" "$(DESTDIR)$(cmakedir)"/*.cmake
-	$(INSTALL_DATA) $(addprefix $(B)/man/,$(PAGES1)) "$(D1)"
 	$(INSTALL_DATA) $(addprefix $(B)/man/,$(PAGES3)) "$(D3)"
-	$(INSTALL_DATA) $(addprefix $(B)/man/,$(PAGES5)) "$(D5)"
-	for it in $(PROGRAMS); do \
-	  $(INSTALL_DATA) completions/$$it.bash "$(DESTDIR)$(bashcompletiondir)/$$it" && \
-	  $(INSTALL_DATA) completions/_$$it "$(DESTDIR)$(zshcompletiondir)" && \
-	  $(INSTALL_DATA) completions/$$it.fish "$(DESTDIR)$(fishcompletiondir)" || exit; \
-	done
 	$(INSTALL_DATA) tools/gdb/ertime.py "$(DESTDIR)$(gdbdir)/$(REAL)-gdb.py"
-	$(INSTALL_DATA) LICENSE $(B)/THIRD-PARTY docs/scenario.schema.json $(addprefix $(B)/doc/,$(DOCUMENTS)) "$(DESTDIR)$(docdir)"
+	$(INSTALL_DATA) LICENSE $(B)/THIRD-PARTY $(addprefix $(B)/doc/,$(DOCUMENTS)) "$(DESTDIR)$(docdir)"
 	$(INSTALL_DATA) $(EXAMPLES) "$(DESTDIR)$(docdir)/examples"
 	$(tell_loader)
 
@@ -192,12 +214,12 @@ uninstall:
 	$(tell_loader)
 
 # A tar archive that can be unpacked anywhere. Its files are the same whenever it is made from the same commit.
-NAME = ertime-$(VERSION)-x86_64-linux
+NAME = ertime-$(VERSION)-$(TARGET)-linux
 EPOCH = $(or $(SOURCE_DATE_EPOCH),$(shell git log -1 --format=%ct 2>/dev/null),0)
 dist: all
 	rm -rf $(B)/dist
 	$(MAKE) install DESTDIR='$(abspath $(B))/dist/$(NAME)' prefix= exec_prefix= pc_prefix='$$$${pcfiledir}/../..'
-	$(FILL) packaging/README.dist >$(B)/dist/$(NAME)/README
+	$(FILL) $(if $(is_native),packaging/README.dist,packaging/README.library) >$(B)/dist/$(NAME)/README
 	cd $(B)/dist/$(NAME) && find . -type f ! -name SHA256SUMS -print0 | LC_ALL=C sort -z | xargs -0 sha256sum >SHA256SUMS
 	cd $(B)/dist && tar --sort=name --owner=0 --group=0 --numeric-owner --mtime=@$(EPOCH) -cf - $(NAME) | gzip -9n >$(NAME).tar.gz
 	cd $(B)/dist && sha256sum $(NAME).tar.gz >$(NAME).tar.gz.sha256
