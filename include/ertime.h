@@ -78,7 +78,7 @@ extern "C" {
 #define ERT_CLOSED (-1)      /* the handle is closed */
 #define ERT_OPEN (-2)        /* the handle is open already */
 #define ERT_NO_MEMORY (-3)   /* out of memory */
-#define ERT_BAD_SIZE (-4)    /* `size` is not sizeof(ert_settings); the program was built against a different header */
+#define ERT_BAD_SIZE (-4)    /* `size` is none that this library knows: not set, or by a different header */
 #define ERT_BAD_MODE (-5)    /* there is no such time warp mode */
 #define ERT_BAD_START (-6)   /* the start time is not a multiple of 1,000,000, or outside -2^58 to 2^58 */
 #define ERT_BAD_READING (-7) /* `mono` is negative, or 2^62 (146 years) or more; or `sys` is not between -2^61 and 2^61,
