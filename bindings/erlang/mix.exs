@@ -5,7 +5,7 @@ defmodule Ertime.MixProject do
     [
       app: :ertime,
       version: "1.0.0",
-      elixir: "~> 1.11",
+      elixir: "~> 1.14",
       description: "The clock and timers of the Erlang runtime, moved by hand in tests",
       package: [
         licenses: ["Apache-2.0"],
