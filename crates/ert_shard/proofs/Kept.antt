@@ -1,21 +1,21 @@
 -- After a call that others stepped beside: whose the entries are, and which parts of a shard stand.
 
-use Rattle.std.proofs.Common.{◌≡◌, ℕ, ◌+◌, ◌<◌, ◌≤◌, Bool, true, false, ◌&&◌, List, [], ◌∷◌, ◌++◌, filter, length, slice_index_or, refl, sym, ap, subst, ◌∙◌, arith, eq-eqb}
+use Rattle.std.proofs.Common.{◌≡◌, ℕ, ◌+◌, ◌<◌, Bool, true, false, List, [], ◌∷◌, filter, slice_index_or, refl, sym, ap, subst, ◌∙◌, arith, eq-eqb}
 use Rattle.std.proofs.lemmas.Bool.{lt-ltb, le-leb}
-use Rattle.std.specs.Prelude.{nat_eq, nat_le, nat_lt}
+use Rattle.std.specs.Prelude.{nat_eq}
 use Rattle.ert_defs.proofs.Runs.{legal_then}
 use Rattle.ert_defs.specs.Actors.{same_actor, of}
 use Rattle.ert_defs.specs.Entries.{is_ours}
 use Rattle.ert_defs.specs.Legal.{Legal, LegalFrom}
 use Rattle.ert_defs.specs.States.{State, opening, next, state}
 use Rattle.ert_defs.specs.declared.entry.Actor.{Actor}
-use Rattle.ert_defs.specs.declared.entry.Actor.TheVariants.{Keeper, Wheel, Inbox, Sched, MailOf, Caller}
+use Rattle.ert_defs.specs.declared.entry.Actor.TheVariants.{Wheel, Inbox, Sched, MailOf}
 use Rattle.ert_defs.specs.declared.entry.Entry.{Entry}
 use Rattle.ert_defs.specs.declared.settings.Settings.{Settings}
 use Rattle.ert_mail.proofs.LawsHold.{inbox_on, mail_on}
-use Rattle.ert_mail.specs.Mailboxes.{Mailbox, Stands as MailStands}
+use Rattle.ert_mail.specs.Mailboxes.{Mailbox}
 use Rattle.ert_shard.proofs.StandOn.{sched_on}
-use Rattle.ert_shard.specs.Shards.{Share, IsHome, is_own, is_by, HoldsShare, ShardParts, AreMails, Stand}
+use Rattle.ert_shard.specs.Shards.{Share, IsHome, is_own, is_by, HoldsShare, ShardParts, Stand}
 use Rattle.ert_table.proofs.Calls.{made_ours}
 use Rattle.ert_table.proofs.Closings.{maker_in_range}
 use Rattle.ert_table.proofs.Holders.{held_maker, same_actor-true}

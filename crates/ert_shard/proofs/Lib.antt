@@ -1,10 +1,13 @@
 pub mod Called
+pub mod Cut
+pub mod Deliveries
 pub mod Given
 pub mod Gone
 pub mod Home
 pub mod Kept
 pub mod Parted
 pub mod Rejoined
+pub mod Seats
 pub mod StandOn
 pub mod Stepped
 pub mod Ticked

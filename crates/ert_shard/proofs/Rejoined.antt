@@ -1,12 +1,10 @@
 -- What is left of a world after a shard came back.
 
-use Rattle.std.proofs.Common.{◌≡◌, ℕ, ◌+◌, ◌-◌, ◌<◌, ◌≤◌, Bool, true, false, ◌&&◌, ◌||◌, nat_lt, List, [], ◌∷◌, ◌++◌, length, slice_index_or, refl, sym, ap, subst, ◌∙◌, arith, length-append}
+use Rattle.std.proofs.Common.{◌≡◌, ℕ, ◌+◌, ◌-◌, ◌<◌, ◌≤◌, Bool, true, false, ◌||◌, nat_lt, List, [], ◌∷◌, ◌++◌, length, slice_index_or, refl, sym, ap, subst, ◌∙◌, arith, length-append}
 use Rattle.std.proofs.lemmas.Bool.{ltb-true}
 use Rattle.std.proofs.lemmas.List.{get_or_append_left, get_or-append_right}
 use Rattle.std.proofs.lemmas.Bool.Decides.{nat_tests}
 use Rattle.std.proofs.lemmas.List.Folds.{list_any-append}
-use Rattle.std.specs.Prelude.{nat_eq, nat_le}
-use Rattle.ert_clock.specs.Shown.{Shown, Stands as ClockStands}
 use Rattle.ert_defs.specs.Actors.{same_actor, of}
 use Rattle.ert_defs.specs.Legal.{Legal}
 use Rattle.ert_defs.specs.declared.entry.Actor.{Actor}
@@ -16,13 +14,15 @@ use Rattle.ert_defs.specs.declared.settings.Settings.{Settings}
 use Rattle.ert_mail.proofs.LawsHold.{inbox_on, mail_on}
 use Rattle.ert_mail.specs.Inboxes.{Waiting, Stands as InboxStands}
 use Rattle.ert_mail.specs.Mailboxes.{Mailbox, Stands as MailStands}
-use Rattle.ert_shard.specs.Hubs.{is_kept, HoldsRest, StandLeft, IsRest}
-use Rattle.ert_shard.specs.Shards.{Share, IsHome, is_own, HoldsShare, ShardParts, Stand, AreFit}
+use Rattle.ert_shard.proofs.Cut.{homes_on}
 use Rattle.ert_shard.proofs.StandOn.{keeper_on, sched_on}
+use Rattle.ert_shard.specs.Hubs.{is_kept, share_at, HaveHomes, IsRest}
+use Rattle.ert_shard.specs.Shards.{Share, share_of, IsHome, is_own, HoldsShare, ShardParts, Stand, AreHome, AreFit}
+use Rattle.ert_shard.specs.declared.hub.Home.{Home}
 use Rattle.ert_shard.proofs.Kept.{self_own, home_own}
 use Rattle.ert_table.specs.Desks.{settings_of, view_of, front_of, actors_of, Belongs}
 use Rattle.ert_table.specs.Held.{is_held, IsActor}
-use Rattle.ert_table.specs.Views.{Begins, Joined, meeting}
+use Rattle.ert_table.specs.Views.{Joined, meeting}
 use Rattle.ert_table.specs.declared.desk.Desk.{Desk}
 use Rattle.ert_table.specs.declared.desk.Pass.{Pass}
 use Rattle.ert_timers.proofs.LawsHold.{stand_on as wheel_on}
@@ -74,25 +74,58 @@ single number stands count x named stand i d low =
     plus n = omega arith
 
 -- the actors that are left with those that came back
-kept_more : (schedulers : ℕ) (s : Share) (a : Actor) → s.number < schedulers → s.from ≤ s.to
-    → (is_kept schedulers s.number s.from a || is_own s a) ≡ is_kept schedulers (s.number + 1) s.to a
-kept_more schedulers s Keeper low ordered = refl
-kept_more schedulers s (Wheel w) low ordered = grind (arith, nat_tests)
-kept_more schedulers s (Inbox w) low ordered = grind (arith, nat_tests)
-kept_more schedulers s (Sched w) low ordered = grind (arith, nat_tests)
-kept_more schedulers s (MailOf p) low ordered = grind (arith, nat_tests, ordered)
-kept_more schedulers s (Caller c) low ordered = grind (arith, nat_tests, low)
+kept_more : (seat : ℕ) (s : Share) (a : Actor) → s.from ≤ s.to → (is_kept s.number s.from seat a || is_own s a) ≡ is_kept (s.number + 1) s.to seat a
+kept_more seat s Keeper ordered = refl
+kept_more seat s (Wheel w) ordered = grind (arith, nat_tests)
+kept_more seat s (Inbox w) ordered = grind (arith, nat_tests)
+kept_more seat s (Sched w) ordered = grind (arith, nat_tests)
+kept_more seat s (MailOf p) ordered = grind (arith, nat_tests, ordered)
+kept_more seat s (Caller c) ordered = grind (arith, nat_tests)
 
-pub rejoined : (e t : Desk) (p q r : Pass) (s : Share) (parts : AllParts) (own : ShardParts) → IsRest e p s.number s.from parts → AreFit t q s own
+-- which processes a shard has
+abbrev pub home_of : Share → Home
+home_of s = record { from = s.from; to = s.to }
+
+-- the home law of the wheels that are left, and of one that came back
+homes_more : (f h : List Entry) (s : Share) (homes : List Home) → HaveHomes f s.number homes → ((w : ℕ) → w < s.number → of h (Wheel w) ≡ of f (Wheel w))
+    → AreHome s (of h (Wheel s.number)) → HaveHomes h (s.number + 1) (homes ++ home_of s ∷ [])
+homes_more f h s homes have same home =
+    let on : HaveHomes h s.number homes = homes_on f h s.number homes same have in
+    let counted = on.counted in
+    let size : length (homes ++ home_of s ∷ []) ≡ length homes + 1 = length-append homes (home_of s ∷ []) in
+    record {
+      base = on.base;
+      counted = omega (arith, counted, size);
+      home = λ i d low. each on i d (omega (arith, low, size)) (nat_lt i (length homes)) refl;
+    }
+  where
+    each : (on : HaveHomes h s.number homes) (i : ℕ) (d : Home) → i < length homes + 1 → (b : Bool) → nat_lt i (length homes) ≡ b
+        → AreHome (share_at (on.base + i) (slice_index_or (homes ++ home_of s ∷ []) i d)) (of h (Wheel (on.base + i)))
+    each on i d low true is =
+        let below : i < length homes = ltb-true i (length homes) is in
+        let at = get_or_append_left homes (home_of s ∷ []) d i below in
+        subst (λ x. AreHome (share_at (on.base + i) x) (of h (Wheel (on.base + i)))) (sym at) (on.home i d below)
+    each on i d low false is =
+        let above : length homes ≤ i = grind (arith, nat_tests, is) in
+        let counted = on.counted in
+        let first : i - length homes ≡ 0 = omega (arith, above, low) in
+        let at = get_or-append_right homes (home_of s ∷ []) (length homes) i d refl above in
+        let one : slice_index_or (homes ++ home_of s ∷ []) i d ≡ home_of s = at ∙ ap (λ k. slice_index_or (home_of s ∷ []) k d) first in
+        let place : s.number ≡ on.base + i = omega (arith, above, low, counted) in
+        subst (λ x. AreHome (share_at (on.base + i) x) (of h (Wheel (on.base + i)))) (sym one)
+        (subst (λ w. AreHome (share_of w s.from s.to) (of h (Wheel w))) place home)
+
+pub rejoined : (e t : Desk) (p q r : Pass) (s : Share) (seat : ℕ) (homes : List Home) (parts : AllParts) (own : ShardParts) → IsRest e p s.number s.from seat homes parts
+    → AreFit t q s own
     → settings_of t ≡ settings_of e → Belongs e r → actors_of r ≡ actors_of p ++ actors_of q → Joined (meeting (view_of p) (view_of q)) (front_of r)
     → Legal (settings_of e) (front_of r)
-    → IsRest e r (s.number + 1) s.to (parts_of parts.keeper (parts.wheels ++ own.wheel ∷ []) (parts.inboxes ++ own.inbox ∷ []) (parts.mails ++ own.mails) (parts.scheds ++ own.sched ∷ []))
-rejoined e t p q r s parts own rest fit same belongs actors joined legal =
+    → IsRest e r (s.number + 1) s.to seat (homes ++ home_of s ∷ []) (parts_of parts.keeper (parts.wheels ++ own.wheel ∷ []) (parts.inboxes ++ own.inbox ∷ []) (parts.mails ++ own.mails) (parts.scheds ++ own.sched ∷ []))
+rejoined e t p q r s seat homes parts own rest fit same belongs actors joined legal =
     let g : Settings = settings_of e in
     let h : List Entry = front_of r in
     let holds : HoldsShare g (actors_of q) s = subst (λ x. HoldsShare x (actors_of q) s) same fit.holds in
     let stand : Stand g (front_of q) s [] own = subst (λ x. Stand x (front_of q) s [] own) same fit.stand in
-    let left : (k : Actor) → IsActor g k → is_kept g.schedulers s.number s.from k ≡ true → of h k ≡ of (front_of p) k =
+    let left : (k : Actor) → IsActor g k → is_kept s.number s.from seat k ≡ true → of h k ≡ of (front_of p) k =
     λ k ranged kept. joined.own k (rest.holds.rest k ranged ∙ kept) in
     let back : (k : Actor) → IsActor g k → is_own s k ≡ true → of h k ≡ of (front_of q) k = λ k ranged mine. joined.other_own k (holds.own k ranged ∙ mine) in
     let most = rest.holds.most in
@@ -106,10 +139,11 @@ rejoined e t p q r s parts own rest fit same belongs actors joined legal =
       holds = record {
         most = omega (arith, low);
         few = holds.most;
+        seats = rest.holds.seats;
         callers = rest.holds.callers;
         rest = λ k ranged. ap (λ l. is_held l k) actors ∙ (list_any-append (λ b. same_actor b k) (actors_of p) (actors_of q)
-            ∙ (ap (λ b. b || is_held (actors_of q) k) (rest.holds.rest k ranged) ∙ (ap (λ b. is_kept g.schedulers s.number s.from k || b) (holds.own k ranged)
-            ∙ kept_more g.schedulers s k low ordered)));
+            ∙ (ap (λ b. b || is_held (actors_of q) k) (rest.holds.rest k ranged) ∙ (ap (λ b. is_kept s.number s.from seat k || b) (holds.own k ranged)
+            ∙ kept_more seat s k ordered)));
       };
       stand = record {
         legal = legal;
@@ -149,15 +183,18 @@ rejoined e t p q r s parts own rest fit same belongs actors joined legal =
             (sched_on g (front_of q) h own.sched joined.other_begins
             (subst (λ n. of h (Sched n) ≡ of (front_of q) (Sched n)) (sym stand.sched_is) (back (Sched s.number) low (self_own s.number))) (stand.sched refl)));
       };
+      home = homes_more (front_of p) h s homes rest.home (λ w below. left (Wheel w) (omega (arith, below, most)) (grind (arith, nat_tests, below)))
+          (subst (AreHome s) (sym (back (Wheel s.number) low (self_own s.number))) fit.home);
     }
 
 -- the same, of what a call finds
-pub rejoined_at : (e t : Desk) (p q r : Pass) (left first : ℕ) (s : Share) (parts : AllParts) (own : ShardParts) (new : AllParts) → IsRest e p left first parts → AreFit t q s own
-    → s.number ≡ left → s.from ≡ first
+pub rejoined_at : (e t : Desk) (p q r : Pass) (left first seat : ℕ) (homes : List Home) (s : Share) (parts : AllParts) (own : ShardParts) (new : AllParts) (after : List Home)
+    → IsRest e p left first seat homes parts → AreFit t q s own → s.number ≡ left → s.from ≡ first
     → settings_of t ≡ settings_of e → Belongs e r → actors_of r ≡ actors_of p ++ actors_of q → Joined (meeting (view_of p) (view_of q)) (front_of r)
     → Legal (settings_of e) (front_of r) → new.wheels ≡ parts.wheels ++ own.wheel ∷ [] → new.inboxes ≡ parts.inboxes ++ own.inbox ∷ []
-    → new.mails ≡ parts.mails ++ own.mails → new.scheds ≡ parts.scheds ++ own.sched ∷ []
-    → IsRest e r (s.number + 1) s.to (parts_of parts.keeper new.wheels new.inboxes new.mails new.scheds)
-rejoined_at e t p q r left first s parts own new rest fit at from same belongs actors joined legal wheels inboxes mails scheds =
-    rw (wheels, inboxes, mails, scheds)
-    (rejoined e t p q r s parts own (subst (λ n. IsRest e p n s.from parts) (sym at) (subst (λ n. IsRest e p left n parts) (sym from) rest)) fit same belongs actors joined legal)
+    → new.mails ≡ parts.mails ++ own.mails → new.scheds ≡ parts.scheds ++ own.sched ∷ [] → after ≡ homes ++ home_of s ∷ []
+    → IsRest e r (s.number + 1) s.to seat after (parts_of parts.keeper new.wheels new.inboxes new.mails new.scheds)
+rejoined_at e t p q r left first seat homes s parts own new after rest fit at from same belongs actors joined legal wheels inboxes mails scheds came =
+    rw (wheels, inboxes, mails, scheds, came)
+    (rejoined e t p q r s seat homes parts own
+    (subst (λ n. IsRest e p n s.from seat homes parts) (sym at) (subst (λ n. IsRest e p left n seat homes parts) (sym from) rest)) fit same belongs actors joined legal)

@@ -1,10 +1,13 @@
 -- A call by what is left of a world.
 
-use Rattle.std.proofs.Common.{◌≡◌, ℕ, zero, suc, ◌+◌, ◌<◌, ◌≤◌, Bool, true, false, ◌||◌, List, [], ◌∷◌, ◌++◌, filter, Option, Some, None, refl, sym, ap, subst, ◌∙◌, arith}
+use Rattle.std.proofs.Common.{◌≡◌, ℕ, zero, suc, ◌<◌, Bool, true, false, ◌||◌, List, [], ◌∷◌, filter, ℤ, ◌+ℤ◌, Option, Some, None, refl, sym, ap, subst, ◌∙◌, arith}
 use Rattle.std.proofs.lemmas.Bool.{lt-ltb, le-leb}
 use Rattle.ert_clock.specs.Shown.{Shown, Stands as ClockStands}
 use Rattle.ert_defs.proofs.Runs.{legal_then}
-use Rattle.ert_defs.specs.Actors.{same_actor, of}
+use Rattle.ert_defs.specs.Actors.{same_actor, of, IsFree}
+use Rattle.ert_defs.specs.Clocks.{face}
+use Rattle.ert_effects.specs.ClockCalls.{TellsTime, TellsOffset, TellsSystemTime}
+use Rattle.ert_world.proofs.Calm.{time_quiet, offset_quiet, system_quiet}
 use Rattle.ert_defs.specs.Entries.{is_ours}
 use Rattle.ert_defs.specs.Legal.{Legal, LegalFrom}
 use Rattle.ert_defs.specs.States.{State, opening, next, state}
@@ -18,8 +21,9 @@ use Rattle.ert_keeper.specs.Published.{ReadsBy}
 use Rattle.ert_mail.proofs.LawsHold.{inbox_on, mail_on}
 use Rattle.ert_mail.specs.Inboxes.{Waiting, Stands as InboxStands}
 use Rattle.ert_mail.specs.Mailboxes.{Mailbox, Stands as MailStands}
-use Rattle.ert_shard.proofs.StandOn.{keeper_on, sched_on}
-use Rattle.ert_shard.specs.Hubs.{Rest, rest, is_kept, is_rests, HoldsRest, StandLeft, IsRest, HubGoes, HubSteps, By}
+use Rattle.ert_shard.proofs.Cut.{homes_on}
+use Rattle.ert_shard.specs.Hubs.{Rest, rest, is_kept, HoldsRest, IsRest, HubGoes, HubSteps, By}
+use Rattle.ert_shard.specs.declared.hub.Home.{Home}
 use Rattle.ert_shard.proofs.Rejoined.{ordered_kept}
 use Rattle.ert_table.proofs.Calls.{made_ours}
 use Rattle.ert_table.proofs.Closings.{maker_in_range}
@@ -27,13 +31,13 @@ use Rattle.ert_table.proofs.Holders.{held_maker, same_actor-true}
 use Rattle.ert_table.specs.Calls.{AreOnlyOf, IsMade}
 use Rattle.ert_table.specs.Desks.{settings_of, view_of, front_of, actors_of, Belongs}
 use Rattle.ert_table.specs.Held.{is_held, IsActor, IsOurs, least_caller}
-use Rattle.ert_table.specs.Takes.{TakesPlace}
 use Rattle.ert_table.specs.declared.desk.Desk.{Desk}
 use Rattle.ert_table.specs.declared.desk.Pass.{Pass}
-use Rattle.ert_table.specs.declared.view.View.{View}
 use Rattle.ert_timers.proofs.LawsHold.{stand_on as wheel_on}
 use Rattle.ert_timers.specs.Parts.{Part, Stands as WheelStands}
-use Rattle.ert_world.proofs.Standing.{own_kept, grown_by}
+use Rattle.ert_shard.proofs.StandOn.{keeper_on, sched_on}
+use Rattle.ert_world.proofs.Standing.{own_kept, free_kept, grown_by}
+use Rattle.ert_world.proofs.Values.{time_seen, offset_seen, system_seen}
 use Rattle.ert_world.specs.Parts.{AllParts, SchedStands}
 use Rattle.ert_world.specs.declared.sched_part.SchedPart.{SchedPart}
 
@@ -75,19 +79,19 @@ module _ (g : Settings) (actors : List Actor) (own : Actor → Bool) (holds : (a
           let none : own e.by ≡ false = sym (holds e.by (maker_in_range g e.by e.with e.event legal.0.keeps)) ∙ not_held e is in
           rw (is, none) (more (subst (AreOnlyOf lent) theirs only))
 
-zero_kept : (schedulers left first : ℕ) → is_kept schedulers left first (Caller 0) ≡ true
-zero_kept schedulers left first = rw (le-leb 0 left (omega arith)) refl
+zero_kept : (left first seat : ℕ) → is_kept left first seat (Caller 0) ≡ true
+zero_kept left first seat = rw (le-leb 0 left (omega arith)) refl
 
-pub record Does (before : Rest) (d : Desk) (q : Pass) (left first : ℕ) (new : AllParts) (allows : Settings → State → List Entry → Type 0) : Type 0 where
-  pub fit : IsRest d q left first new
-  pub goes : HubGoes before (By before allows) (rest d q new.keeper left first)
+pub record Does (before : Rest) (d : Desk) (q : Pass) (left first seat : ℕ) (homes : List Home) (new : AllParts) (allows : Settings → State → List Entry → Type 0) : Type 0 where
+  pub fit : IsRest d q left first seat homes new
+  pub goes : HubGoes before (By before allows) (rest d q new.keeper left first seat homes)
 
-pub ticked : (before : Rest) (d e : Desk) (p q : Pass) (left first : ℕ) (parts : AllParts) (x : Shown) (allows : Settings → State → List Entry → Type 0) → d ≡ e
-    → rest e p parts.keeper left first ≡ before → IsRest e p left first parts → Belongs d q → ClockStands (settings_of d) (front_of q) x
+pub ticked : (before : Rest) (d e : Desk) (p q : Pass) (left first seat : ℕ) (homes : List Home) (parts : AllParts) (x : Shown) (allows : Settings → State → List Entry → Type 0) → d ≡ e
+    → rest e p parts.keeper left first seat homes ≡ before → IsRest e p left first seat homes parts → Belongs d q → ClockStands (settings_of d) (front_of q) x
     → IsMade (settings_of d) (view_of p) (allows (settings_of d)) (view_of q)
     → ((st : State) (es : List Entry) → allows (settings_of d) st es → AreOnlyOf (Keeper ∷ (Caller 0 ∷ [])) es)
-    → Does before e q left first (record parts { keeper = x }) allows
-ticked before d e p q left first parts x allows same is fit belongs stands made_d only_d =
+    → Does before e q left first seat homes (record parts { keeper = x }) allows
+ticked before d e p q left first seat homes parts x allows same is fit belongs stands made_d only_d =
     let g : Settings = settings_of e in
     let made : IsMade g (view_of p) (allows g) (view_of q) = subst (λ y. IsMade (settings_of y) (view_of p) (allows (settings_of y)) (view_of q)) same made_d in
     let lent : List Actor = Keeper ∷ (Caller 0 ∷ []) in
@@ -99,16 +103,16 @@ ticked before d e p q left first parts x allows same is fit belongs stands made_
     let most = fit.holds.most in
     let few = fit.holds.few in
     let more = grown_by g (view_of p) made.entries (view_of q) takes in
-    let kept : (k : Actor) → IsActor g k → is_kept g.schedulers left first k ≡ true → is_held lent k ≡ false → of h k ≡ of (front_of p) k =
+    let kept : (k : Actor) → IsActor g k → is_kept left first seat k ≡ true → is_held lent k ≡ false → of h k ≡ of (front_of p) k =
     λ k ranged own apart. own_kept g (view_of p) made.entries (view_of q) lent k takes only (fit.holds.rest k ranged ∙ own) apart in
     let legal = legal_then g (opening g) (front_of p) takes.later (subst (Legal g) takes.grown takes.legal) in
-    let own : filter (λ (e : Entry). is_kept g.schedulers left first e.by) takes.later ≡ made.entries =
-    same_own g (actors_of p) (is_kept g.schedulers left first) fit.holds.rest lent (state g (front_of p)) takes.later (refl, (zero_kept g.schedulers left first, tt)) legal
+    let own : filter (λ (e : Entry). is_kept left first seat e.by) takes.later ≡ made.entries =
+    same_own g (actors_of p) (is_kept left first seat) fit.holds.rest lent (state g (front_of p)) takes.later (refl, (zero_kept left first seat, tt)) legal
     (subst (AreOnlyOf lent) (sym takes.ours) only) ∙ takes.ours in
     record {
       fit = record {
         belongs = subst (λ y. Belongs y q) same belongs;
-        holds = subst (λ l. HoldsRest g l left first) (sym takes.actors) fit.holds;
+        holds = subst (λ l. HoldsRest g l left first seat) (sym takes.actors) fit.holds;
         stand = record {
           legal = takes.legal;
           keeper = subst (λ y. ClockStands (settings_of y) h x) same stands;
@@ -121,8 +125,9 @@ ticked before d e p q left first parts x allows same is fit belongs stands made_
           scheds = ordered_kept (λ (y : SchedPart). y.wheel) (SchedStands g (front_of p)) (SchedStands g h) Sched left parts.scheds
               (λ y below s. sched_on g (front_of p) h y more (kept (Sched y.wheel) (omega (arith, below, most)) (lt-ltb y.wheel left below) refl) s) fit.stand.scheds;
         };
+        home = homes_on (front_of p) h left homes (λ w below. kept (Wheel w) (omega (arith, below, most)) (lt-ltb w left below) refl) fit.home;
       };
-      goes = subst (λ r. HubGoes r (By r allows) (rest e q x left first)) is (record {
+      goes = subst (λ r. HubGoes r (By r allows) (rest e q x left first seat homes)) is (record {
         grows = record {
           piece = takes.later;
           grown = takes.grown;
@@ -133,6 +138,8 @@ ticked before d e p q left first parts x allows same is fit belongs stands made_
         settings = refl;
         left = refl;
         first = refl;
+        next = refl;
+        homes = refl;
       });
     }
 
@@ -150,26 +157,26 @@ only_more a actors [] only = tt
 only_more a actors (e ∷ es) only = (ours_more a actors e.by e.with only.0, only_more a actors es only.1)
 
 -- a call that leaves the clock's part as it is
-pub record Did (before : Rest) (d : Desk) (q : Pass) (left first : ℕ) (parts : AllParts) (allows : Settings → State → List Entry → Type 0) : Type 0 where
-  pub fit : IsRest d q left first parts
-  pub steps : HubSteps before (By before allows) (rest d q parts.keeper left first)
+pub record Did (before : Rest) (d : Desk) (q : Pass) (left first seat : ℕ) (homes : List Home) (parts : AllParts) (allows : Settings → State → List Entry → Type 0) : Type 0 where
+  pub fit : IsRest d q left first seat homes parts
+  pub steps : HubSteps before (By before allows) (rest d q parts.keeper left first seat homes)
 
 -- a call of caller 0 alone
-pub alone_made : (before : Rest) (d e : Desk) (p q : Pass) (left first : ℕ) (parts : AllParts) (allows : Settings → State → List Entry → Type 0) → d ≡ e
-    → rest e p parts.keeper left first ≡ before → IsRest e p left first parts → Belongs d q
+pub alone_made : (before : Rest) (d e : Desk) (p q : Pass) (left first seat : ℕ) (homes : List Home) (parts : AllParts) (allows : Settings → State → List Entry → Type 0) → d ≡ e
+    → rest e p parts.keeper left first seat homes ≡ before → IsRest e p left first seat homes parts → Belongs d q
     → IsMade (settings_of d) (view_of p) (allows (settings_of d)) (view_of q)
     → ((st : State) (es : List Entry) → allows (settings_of d) st es → AreOnlyOf (Caller 0 ∷ []) es)
-    → Did before e q left first parts allows
-alone_made before d e p q left first parts allows same is fit belongs made only =
+    → Did before e q left first seat homes parts allows
+alone_made before d e p q left first seat homes parts allows same is fit belongs made only =
     let g : Settings = settings_of d in
-    let own : IsRest d p left first parts = subst (λ y. IsRest y p left first parts) (sym same) fit in
+    let own : IsRest d p left first seat homes parts = subst (λ y. IsRest y p left first seat homes parts) (sym same) fit in
     let its = only (state g (front_of p)) made.entries made.allowed in
     let takes = made.call in
     let more = grown_by g (view_of p) made.entries (view_of q) takes in
     let kept : of (front_of q) Keeper ≡ of (front_of p) Keeper =
     own_kept g (view_of p) made.entries (view_of q) (Caller 0 ∷ []) Keeper takes its (own.holds.rest Keeper tt) refl in
     let stands : ClockStands g (front_of q) parts.keeper = keeper_on g (front_of p) (front_of q) parts.keeper more kept takes.legal own.stand.keeper in
-    let does = ticked before d e p q left first parts parts.keeper allows same is fit belongs stands made
+    let does = ticked before d e p q left first seat homes parts parts.keeper allows same is fit belongs stands made
     (λ st es allowed. only_more Keeper (Caller 0 ∷ []) es (only st es allowed)) in
     record { fit = does.fit; steps = record { goes = does.goes; clock = ap (λ (r : Rest). r.clock) is } }
 
@@ -182,11 +189,45 @@ least_held : (actors : List Actor) (n : ℕ) → 0 < n → is_held actors (Calle
 least_held actors zero some held = absurd (omega (arith, some))
 least_held actors (suc n) some held = least_from actors n held
 
-pub reads_by : (s : OffsetState) (d : Desk) (p : Pass) (left first : ℕ) (parts : AllParts) → IsRest d p left first parts → ReadsBy s (settings_of d) (view_of p) 0
-reads_by Preliminary d p left first parts fit = tt
-reads_by Final d p left first parts fit =
+pub reads_by : (s : OffsetState) (d : Desk) (p : Pass) (left first seat : ℕ) (homes : List Home) (parts : AllParts) → IsRest d p left first seat homes parts → ReadsBy s (settings_of d) (view_of p) 0
+reads_by Preliminary d p left first seat homes parts fit = tt
+reads_by Final d p left first seat homes parts fit =
     let some = d.checked.counts.callers_low in
-    least_held (actors_of p) (settings_of d).callers some (fit.holds.rest (Caller 0) some ∙ zero_kept (settings_of d).schedulers left first)
-reads_by Volatile d p left first parts fit =
+    least_held (actors_of p) (settings_of d).callers some (fit.holds.rest (Caller 0) some ∙ zero_kept left first seat)
+reads_by Volatile d p left first seat homes parts fit =
     let some = d.checked.counts.callers_low in
-    least_held (actors_of p) (settings_of d).callers some (fit.holds.rest (Caller 0) some ∙ zero_kept (settings_of d).schedulers left first)
+    least_held (actors_of p) (settings_of d).callers some (fit.holds.rest (Caller 0) some ∙ zero_kept left first seat)
+
+-- what caller 0 tells of the time and of the offset is what the clock shows
+module _ (before : Rest) (d e : Desk) (p q : Pass) (left first seat : ℕ) (homes : List Home) (parts : AllParts) (same : d ≡ e)
+    (is : rest e p parts.keeper left first seat homes ≡ before) (fit : IsRest e p left first seat homes parts) where
+  own : IsRest d p left first seat homes parts
+  own = subst (λ y. IsRest y p left first seat homes parts) (sym same) fit
+
+  shows : face (settings_of d) (state (settings_of d) (front_of p)).clock ≡ before.clock.face
+  shows = sym own.stand.keeper.face ∙ ap (λ (r : Rest). r.clock.face) is
+
+  keeper_free : (allows : State → List Entry → Type 0) → (made : IsMade (settings_of d) (view_of p) allows (view_of q))
+      → AreOnlyOf (Caller 0 ∷ []) made.entries → IsFree made.call.later Keeper
+  keeper_free allows made only =
+      free_kept (settings_of d) (view_of p) made.entries (view_of q) (Caller 0 ∷ []) Keeper made.call only (own.holds.rest Keeper tt) refl
+
+  pub time_told : (now : ℤ) → IsMade (settings_of d) (view_of p) (TellsTime (settings_of d) (Caller 0) now) (view_of q) → now ≡ before.clock.face.time
+  time_told now made =
+      let g : Settings = settings_of d in
+      time_seen g (view_of p) (Caller 0) now (view_of q) before.clock.face shows made
+      (keeper_free (TellsTime g (Caller 0) now) made (time_quiet g (Caller 0) now (state g (front_of p)) made.entries made.allowed).only)
+
+  pub offset_told : (answer : ℤ × OffsetState) → IsMade (settings_of d) (view_of p) (TellsOffset (settings_of d) (Caller 0) answer) (view_of q)
+      → (answer.0 ≡ before.clock.face.offset) × (answer.1 ≡ before.clock.face.state)
+  offset_told answer made =
+      let g : Settings = settings_of d in
+      offset_seen g (view_of p) (Caller 0) answer (view_of q) before.clock.face shows made
+      (keeper_free (TellsOffset g (Caller 0) answer) made (offset_quiet g (Caller 0) answer (state g (front_of p)) made.entries made.allowed).only)
+
+  pub system_told : (answer : ℤ) → IsMade (settings_of d) (view_of p) (TellsSystemTime (settings_of d) (Caller 0) answer) (view_of q)
+      → answer ≡ (before.clock.face.time +ℤ before.clock.face.offset)
+  system_told answer made =
+      let g : Settings = settings_of d in
+      system_seen g (view_of p) (Caller 0) answer (view_of q) before.clock.face shows made
+      (keeper_free (TellsSystemTime g (Caller 0) answer) made (system_quiet g (Caller 0) answer (state g (front_of p)) made.entries made.allowed).only)

@@ -1,6 +1,6 @@
 -- What callers see of the rest of a world that is divided, and how shards are given and come back.
 
-use Rattle.std.specs.Prelude.{◌≡◌, ℕ, ◌+◌, ◌-◌, ◌<◌, ◌≤◌, Bool, true, false, not, ◌&&◌, ◌||◌, nat_eq, nat_le, nat_lt, List, [], ◌∷◌, ◌++◌}
+use Rattle.std.specs.Prelude.{◌≡◌, ℕ, ◌+◌, ◌-◌, ◌<◌, ◌≤◌, ◌⊎◌, Bool, true, false, not, ◌&&◌, ◌||◌, nat_le, nat_lt, List, [], ◌∷◌, ◌++◌, length, take, slice_get, Some, slice_index_or}
 use Rattle.atomic_table.specs.Seated.{TableId}
 use Rattle.ert_clock.specs.Shown.{Shown, Stands as ClockStands}
 use Rattle.ert_defs.specs.Actors.{of}
@@ -13,7 +13,11 @@ use Rattle.ert_defs.specs.declared.settings.Settings.{Settings}
 use Rattle.ert_effects.specs.Ways.{Growth, Way, Grows}
 use Rattle.ert_mail.specs.Inboxes.{Stands as InboxStands}
 use Rattle.ert_mail.specs.Mailboxes.{Stands as MailStands}
-use Rattle.ert_shard.specs.Shards.{Share, share_of, is_own, Owned}
+use Rattle.ert_laws.specs.Counts.{entries_of, is_arm}
+use Rattle.ert_shard.specs.Shards.{Share, share_of, Owned, AreHome}
+use Rattle.ert_shard.specs.declared.dividing.ShardErr.{ShardErr}
+use Rattle.ert_shard.specs.declared.dividing.ShardErr.TheVariants.{Used, NoMemory}
+use Rattle.ert_shard.specs.declared.hub.Home.{Home}
 use Rattle.ert_table.specs.Desks.{settings_of, front_of, actors_of, Belongs}
 use Rattle.ert_table.specs.Held.{is_held, IsActor, actors_but}
 use Rattle.ert_table.specs.Views.{Begins, longer}
@@ -21,11 +25,15 @@ use Rattle.ert_table.specs.declared.desk.Desk.{Desk}
 use Rattle.ert_table.specs.declared.desk.Pass.{Pass}
 use Rattle.ert_timers.specs.Parts.{Stands as WheelStands}
 use Rattle.ert_world.specs.Parts.{AllParts, SchedStands, AreOrdered}
+use Rattle.ert_world.specs.Seats.{Seated}
 use Rattle.ert_world.specs.Ways.{among}
 use Rattle.ert_world.specs.Worlds.{Seen}
+use Rattle.ert_world.specs.declared.seat_err.SeatErr.{SeatErr}
+use Rattle.ert_world.specs.declared.seat_err.SeatErr.TheVariants.{NoSeat, NoMemory as NoSeatMemory}
 
 -- what callers see of the rest of a world: which desk it is of, with its settings, the history that it knows, what its
--- clock shows, and how many schedulers and processes are left
+-- clock shows, how many schedulers and processes are left, the caller that is to get the next seat, and, for the last of
+-- the schedulers that are left, which processes the shards had that came back
 pub record Rest : Type 0 where
   pub table : TableId
   pub settings : Settings
@@ -33,32 +41,37 @@ pub record Rest : Type 0 where
   pub clock : Shown
   pub left : ℕ
   pub first : ℕ
+  pub next : ℕ
+  pub homes : List Home
 
-abbrev pub rest : Desk → Pass → Shown → ℕ → ℕ → Rest
-rest d p clock left first = record {
+abbrev pub rest : Desk → Pass → Shown → ℕ → ℕ → ℕ → List Home → Rest
+rest d p clock left first next homes = record {
   table = d.table.shared.table_id;
   settings = settings_of d;
   history = front_of p;
   clock = clock;
   left = left;
   first = first;
+  next = next;
+  homes = homes;
 }
 
--- whether an actor was given to no shard: the callers after those of the schedulers were not
+-- whether an actor was given to no shard and to no seat. Seats get the callers after those of the schedulers
 abbrev pub is_kept : ℕ → ℕ → ℕ → Actor → Bool
-is_kept schedulers left first Keeper = true
-is_kept schedulers left first (Wheel w) = nat_lt w left
-is_kept schedulers left first (Inbox w) = nat_lt w left
-is_kept schedulers left first (Sched w) = nat_lt w left
-is_kept schedulers left first (MailOf p) = nat_lt p first
-is_kept schedulers left first (Caller c) = nat_le c left || nat_lt schedulers c
+is_kept left first next Keeper = true
+is_kept left first next (Wheel w) = nat_lt w left
+is_kept left first next (Inbox w) = nat_lt w left
+is_kept left first next (Sched w) = nat_lt w left
+is_kept left first next (MailOf p) = nat_lt p first
+is_kept left first next (Caller c) = nat_le c left || nat_le next c
 
--- of the actors in range a pass holds just those that were given to no shard
-pub record HoldsRest (g : Settings) (actors : List Actor) (left first : ℕ) : Type 0 where
+-- of the actors in range a pass holds just those that were given to no shard and to no seat
+pub record HoldsRest (g : Settings) (actors : List Actor) (left first next : ℕ) : Type 0 where
   pub most : left ≤ g.schedulers
   pub few : first ≤ g.processes
-  pub callers : g.schedulers < g.callers
-  pub rest : (a : Actor) → IsActor g a → is_held actors a ≡ is_kept g.schedulers left first a
+  pub seats : g.schedulers < next
+  pub callers : next ≤ g.callers
+  pub rest : (a : Actor) → IsActor g a → is_held actors a ≡ is_kept left first next a
 
 -- the parts that are left stand for a history
 pub record StandLeft (g : Settings) (h : List Entry) (left first : ℕ) (parts : AllParts) : Type 0 where
@@ -69,11 +82,22 @@ pub record StandLeft (g : Settings) (h : List Entry) (left first : ℕ) (parts :
   pub mails : AreOrdered (λ m. m.process) (MailStands g h) MailOf [] first parts.mails
   pub scheds : AreOrdered (λ p. p.wheel) (SchedStands g h) Sched [] left parts.scheds
 
+-- the share of a shard that had the wheel of this number and these processes
+abbrev pub share_at : ℕ → Home → Share
+share_at w home = share_of w home.from home.to
+
+-- the last wheels that are left were shards', and all their timers were started for processes of these
+pub record HaveHomes (h : List Entry) (left : ℕ) (homes : List Home) : Type 0 where
+  pub base : ℕ
+  pub counted : base + length homes ≡ left
+  pub home : (i : ℕ) (d : Home) → i < length homes → AreHome (share_at (base + i) (slice_index_or homes i d)) (of h (Wheel (base + i)))
+
 -- the parts of the rest of a world fit
-pub record IsRest (d : Desk) (p : Pass) (left first : ℕ) (parts : AllParts) : Type 0 where
+pub record IsRest (d : Desk) (p : Pass) (left first next : ℕ) (homes : List Home) (parts : AllParts) : Type 0 where
   pub belongs : Belongs d p
-  pub holds : HoldsRest (settings_of d) (actors_of p) left first
+  pub holds : HoldsRest (settings_of d) (actors_of p) left first next
   pub stand : StandLeft (settings_of d) (front_of p) left first parts
+  pub home : HaveHomes (front_of p) left homes
 
 -- nothing was given away of a world
 pub record IsFresh (w : Seen) (r : Rest) : Type 0 where
@@ -83,10 +107,12 @@ pub record IsFresh (w : Seen) (r : Rest) : Type 0 where
   pub clock : r.clock ≡ w.clock
   pub left : r.left ≡ w.settings.schedulers
   pub first : r.first ≡ w.settings.processes
+  pub next : r.next ≡ w.settings.schedulers + 1
+  pub homes : r.homes ≡ []
 
 -- whether an entry was made by an actor that is left
 abbrev pub is_rests : Rest → Entry → Bool
-is_rests r e = is_kept r.settings.schedulers r.left r.first e.by
+is_rests r e = is_kept r.left r.first r.next e.by
 
 abbrev pub way_of : Rest → Way
 way_of r = among r.settings (is_rests r)
@@ -108,6 +134,8 @@ pub record HubGoes (old : Rest) (call : Way → Growth) (new : Rest) : Type 0 wh
   pub settings : new.settings ≡ old.settings
   pub left : new.left ≡ old.left
   pub first : new.first ≡ old.first
+  pub next : new.next ≡ old.next
+  pub homes : new.homes ≡ old.homes
 
 -- it makes a call that leaves the clock as it is
 pub record HubSteps (old : Rest) (call : Way → Growth) (new : Rest) : Type 0 where
@@ -123,7 +151,33 @@ pub record GivesShard (old : Rest) (processes : ℕ) (new : Rest) (shard : Owned
   pub settings : shard.settings ≡ old.settings
   pub history : shard.history ≡ old.history
   pub share : shard.share ≡ share_of (old.left - 1) (old.first - processes) old.first
-  pub rest : new ≡ record old { left = old.left - 1; first = old.first - processes }
+  pub rest : new ≡ record old { left = old.left - 1; first = old.first - processes; homes = take (length old.homes - 1) old.homes }
+
+-- the timers of the last wheel that is left are known to be for so many of the last processes: it has had none, or was a
+-- shard's whose processes are among these
+abbrev pub IsAtHome : Rest → ℕ → Type 0
+IsAtHome r processes =
+    (entries_of is_arm (r.left - 1) r.history ≡ 0)
+    ⊎ ((home : Home) × (slice_get r.homes (length r.homes - 1) ≡ Some home) × (r.first - processes ≤ home.from) × (home.to ≤ r.first))
+
+-- no shard is given: the timers of its wheel aren't known to be for its processes, or there is no memory
+abbrev pub IsShardRefused : Rest → ℕ → ShardErr → Type 0
+IsShardRefused r processes Used = IsAtHome r processes → ⊥
+IsShardRefused r processes NoMemory = IsAtHome r processes
+
+-- the next caller gets a seat on the desk, which knows as much; all else stays
+pub record GivesSeat (old new : Rest) (seat : Seated) : Type 0 where
+  pub table : seat.table ≡ old.table
+  pub settings : seat.settings ≡ old.settings
+  pub history : seat.history ≡ old.history
+  pub number : seat.number ≡ old.next
+  pub below : old.next < old.settings.callers
+  pub rest : new ≡ record old { next = old.next + 1 }
+
+-- a seat is refused: every caller after those of the schedulers has one, or there is no memory
+abbrev pub IsSeatRefused : Rest → SeatErr → Type 0
+IsSeatRefused r NoSeat = r.settings.callers ≤ r.next
+IsSeatRefused r NoSeatMemory = r.next < r.settings.callers
 
 -- a shard is the last that was given of those that are out
 abbrev pub IsNext : Rest → Owned → Type 0
@@ -140,6 +194,8 @@ pub record TakesBack (old : Rest) (shard : Owned) (new : Rest) : Type 0 where
   pub clock : new.clock ≡ old.clock
   pub left : new.left ≡ old.left + 1
   pub first : new.first ≡ shard.share.to
+  pub next : new.next ≡ old.next
+  pub homes : new.homes ≡ old.homes ++ record { from = shard.share.from; to = shard.share.to } ∷ []
 
 -- an actor was moved from a pass to another; both know what they knew
 pub record Moves (a : Actor) (from to from_new to_new : Pass) : Type 0 where

@@ -4,7 +4,7 @@ ghost use Rattle.ert_table.specs.Desks.{front_of, actors_of, Belongs};
 ghost use Rattle.ert_table.specs.Held.{is_held};
 ghost use Rattle.ert_shard.specs.Hubs.{Moves, MovesMails, HoldsMails};
 
-use crate::hub::Hub;
+use crate::hub::{Home, Hub};
 use crate::shard::Shard;
 use ert_defs::Actor;
 use ert_table::{Desk, Pass};
@@ -13,7 +13,8 @@ use std::sync::Arc;
 /// Why no shard is given.
 #[derive(Clone, Copy, Debug, PartialEq, Eq)]
 pub enum ShardErr {
-    /// The wheel has had timers, whose processes aren't known to be of the shard.
+    /// The wheel has had timers, whose processes aren't known to be of the shard: it was no shard's, or one's that had other
+    /// processes too.
     Used,
     /// There is no memory.
     NoMemory,
@@ -21,21 +22,23 @@ pub enum ShardErr {
 
 impl Hub {
     ghost use Rattle.std.specs.Prelude.{◌≡◌, ◌↔◌, ◌<◌, ◌≤◌, IfOk, OnErr, OnOk, IfErr, IsTrue};
-    ghost use Rattle.ert_shard.specs.Hubs.{GivesShard, IsNext, TakesBack};
+    ghost use Rattle.ert_shard.specs.Hubs.{GivesShard, IsAtHome, IsShardRefused, IsNext, TakesBack};
 
-    /// Gives the last scheduler that is left, with so many of the processes that are left, to a shard.
+    /// Gives the last scheduler that is left, with so many of the last processes that are left, to a shard.
     ///
-    /// After a refusal nothing has changed.
+    /// A wheel that was a shard's before comes with its timers, and the shard gets the processes that the other had, or
+    /// more (`Used`). After a refusal nothing has changed.
     pub fn shard(&mut self, processes: u32) -> Result<Shard, ShardErr>
         requires some { 0 < self.old.left }
         requires few { processes ≤ self.old.first }
         ensures gives { IfOk result (λ shard. GivesShard self.old processes self.new shard) }
+        ensures refused { IfErr result (IsShardRefused self.old processes) }
         ensures same { OnErr result (self.new ≡ self.old) }
     {
         let number = self.left - 1;
         let to = self.first;
         let from = to - processes;
-        if self.wheels[number as usize].tally().arms != 0 {
+        if !self.is_at_home(processes) {
             return Err(ShardErr::Used);
         }
         let Ok(desk) = Arc::try_clone(&self.desk) else {
@@ -52,6 +55,7 @@ impl Hub {
         let wheel = self.wheels.pop().unwrap();
         let inbox = self.inboxes.pop().unwrap();
         let sched = self.scheds.pop().unwrap();
+        self.homes.pop();
         self.left = number;
         self.first = from;
         Ok(Shard {
@@ -65,6 +69,21 @@ impl Hub {
             sched,
             mails,
         })
+    }
+
+    /// Whether the timers of the last wheel that is left are known to be for so many of the last processes.
+    fn is_at_home(&self, processes: u32) -> bool
+        requires some { 0 < self.now.left }
+        requires few { processes ≤ self.now.first }
+        ensures { IsTrue result ↔ IsAtHome self.now processes }
+    {
+        if self.wheels[self.left as usize - 1].tally().arms == 0 {
+            return true;
+        }
+        match self.homes.last() {
+            Some(home) => home.is_within(self.first - processes, self.first),
+            None => false,
+        }
     }
 
     /// Whether a shard is the next that can come back: the last that was given of those that are out.
@@ -91,12 +110,14 @@ impl Hub {
             || self.inboxes.reserve(1).is_err()
             || self.scheds.reserve(1).is_err()
             || self.mails.reserve(shard.mails.len()).is_err()
+            || self.homes.reserve(1).is_err()
         {
             return Err(shard);
         }
         let Shard {
             pass,
             number,
+            from,
             to,
             wheel,
             inbox,
@@ -109,6 +130,7 @@ impl Hub {
         self.inboxes.push_reserved(inbox);
         self.scheds.push_reserved(sched);
         let _joined = self.mails.append(&mut mails);
+        self.homes.push_reserved(Home { from, to });
         self.left = number + 1;
         self.first = to;
         Ok(())

@@ -1,6 +1,7 @@
 //! What is left of a world that is divided: the clock, and what was given to no shard.
 ghost use Rattle.std.specs.Prelude.{◌≡◌};
 
+use ert_defs::Settings;
 use ert_keeper::KeeperPart;
 use ert_mail::{InboxPart, MailPart};
 use ert_table::{Desk, Pass};
@@ -9,8 +10,26 @@ use ert_world::{Parts, SchedPart, World};
 use std::marker::Model;
 use std::sync::Arc;
 
-/// What is left of a world: its clock with caller 0, the callers that no scheduler has, and the schedulers and the
-/// processes that were given to no shard, each from 0 on.
+/// Which processes a shard had: those from one on, below another.
+#[derive(Clone, Copy)]
+pub(crate) struct Home {
+    pub(crate) from: u32,
+    pub(crate) to: u32,
+}
+
+impl Home {
+    ghost use Rattle.std.specs.Prelude.{◌≤◌, ◌↔◌, IsTrue};
+
+    /// Whether these are among the processes from one on, below another.
+    pub(crate) fn is_within(&self, from: u32, to: u32) -> bool
+        ensures { IsTrue result ↔ ((from ≤ self.now.from) × (self.now.to ≤ to)) }
+    {
+        from <= self.from && self.to <= to
+    }
+}
+
+/// What is left of a world: its clock with caller 0, the callers that no scheduler and no seat has, and the schedulers and
+/// the processes that were given to no shard, each from 0 on.
 ///
 /// Shards are cut from its end: the last scheduler and the last processes go to the next shard, and the last shard that
 /// was given comes back first. One thread at a time has the hub and ticks, beside all shards.
@@ -26,6 +45,10 @@ pub struct Hub {
     /// How many schedulers and how many processes are left.
     pub(crate) left: u32,
     pub(crate) first: u32,
+    /// The least caller after those of the schedulers that was given no seat.
+    pub(crate) next: u32,
+    /// Which processes the shards had that came back: for the last of the schedulers that are left.
+    pub(crate) homes: Vec<Home>,
 }
 
 impl Model for Hub {
@@ -35,13 +58,13 @@ impl Model for Hub {
 
     ghost Value = { Rest };
 
-    ghost view = { λ h. rest (arc_value h.desk) h.pass h.keeper h.left h.first };
+    ghost view = { λ h. rest (arc_value h.desk) h.pass h.keeper h.left h.first h.next h.homes.items };
 
-    ghost invariant = { λ h. IsRest (arc_value h.desk) h.pass h.left h.first (parts_of h.keeper h.wheels.items h.inboxes.items h.mails.items h.scheds.items) };
+    ghost invariant = { λ h. IsRest (arc_value h.desk) h.pass h.left h.first h.next h.homes.items (parts_of h.keeper h.wheels.items h.inboxes.items h.mails.items h.scheds.items) };
 }
 
 impl Hub {
-    ghost use Rattle.std.specs.Prelude.{◌≡◌, ◌<◌};
+    ghost use Rattle.std.specs.Prelude.{◌≡◌, ◌+◌, ◌<◌};
     ghost use Rattle.ert_shard.specs.Hubs.{IsFresh, IsWhole};
 
     /// What is left of a world that gave out no seat: all of it. There is a caller for each scheduler, and one more.
@@ -60,6 +83,7 @@ impl Hub {
             scheds,
             settings,
         } = world.into_parts();
+        let homes = Vec::new(*wheels.allocator());
         Hub {
             desk,
             pass,
@@ -70,7 +94,16 @@ impl Hub {
             scheds,
             left: settings.schedulers,
             first: settings.processes,
+            next: settings.schedulers + 1,
+            homes,
         }
+    }
+
+    /// The settings that the service was opened with.
+    pub fn settings(&self) -> &Settings
+        ensures { result.now ≡ self.now.settings }
+    {
+        self.desk.settings()
     }
 
     /// How many schedulers are left: the next shard gets the last of them.
@@ -87,10 +120,11 @@ impl Hub {
         self.first
     }
 
-    /// The world again, once every scheduler and every process is back.
+    /// The world again, once every scheduler and every process is back, where no seat was given.
     pub fn into_world(self) -> World
         requires schedulers { self.left ≡ self.settings.schedulers }
         requires processes { self.first ≡ self.settings.processes }
+        requires seats { self.next ≡ self.settings.schedulers + 1 }
         ensures { IsWhole self result }
     {
         let settings = *self.desk.settings();

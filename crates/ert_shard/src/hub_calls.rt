@@ -48,21 +48,25 @@ impl Hub {
 
     /// Monotonic time, in nanoseconds (`erlang:monotonic_time`).
     pub fn monotonic_time(&mut self) -> i64
-        ensures { HubSteps self.old (By self.old (λ g. TellsTime g (Caller 0) result)) self.new }
+        ensures value { result ≡ self.old.clock.face.time }
+        ensures call { HubSteps self.old (By self.old (λ g. TellsTime g (Caller 0) result)) self.new }
     {
         monotonic_time(&self.desk, &mut self.pass, Actor::Caller(CALLER))
     }
 
     /// The time offset, in nanoseconds, with its state (`erlang:time_offset`).
     pub fn time_offset(&mut self) -> (i64, OffsetState)
-        ensures { HubSteps self.old (By self.old (λ g. TellsOffset g (Caller 0) result)) self.new }
+        ensures value { result.0 ≡ self.old.clock.face.offset }
+        ensures state { result.1 ≡ self.old.clock.face.state }
+        ensures call { HubSteps self.old (By self.old (λ g. TellsOffset g (Caller 0) result)) self.new }
     {
         time_offset(&self.desk, &mut self.pass, Actor::Caller(CALLER))
     }
 
     /// System time, in nanoseconds: monotonic time plus the time offset (`erlang:system_time`).
     pub fn system_time(&mut self) -> i64
-        ensures { HubSteps self.old (By self.old (λ g. TellsSystemTime g (Caller 0) result)) self.new }
+        ensures value { result ≡ self.old.clock.face.time +ℤ self.old.clock.face.offset }
+        ensures call { HubSteps self.old (By self.old (λ g. TellsSystemTime g (Caller 0) result)) self.new }
     {
         system_time(&self.desk, &mut self.pass, Actor::Caller(CALLER))
     }

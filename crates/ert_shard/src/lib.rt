@@ -2,14 +2,16 @@
 //!
 //! **Who has what.** A `Hub` takes a world that gave out no seat (`ert_world`), and has its clock, caller 0, every part
 //! and every actor. `Hub::shard` takes from it the last scheduler that is left, with its wheel and its inbox, the caller
-//! of the next number, and the last processes that are left, with their mailboxes: a `Shard`. All are shares of one desk
-//! (`ert_table`), and each has a pass that holds its own actors. Both may go from thread to thread (`Send`). Nobody
-//! takes a lock, and nobody waits.
+//! of the next number, and the last processes that are left, with their mailboxes: a `Shard`. `Hub::seat` takes from it
+//! the next caller after those of the schedulers: a `Seat` (`ert_world`), for a thread that reads and cancels timers and
+//! starts none. All are shares of one desk (`ert_table`), and each has a pass that holds its own actors. All may go from
+//! thread to thread (`Send`). Nobody takes a lock, and nobody waits.
 //!
 //! | call | made by | what it does | work |
 //! |---|---|---|---|
 //! | `Hub::new`, `into_world` | | makes a hub of a world, and a world of a hub to which all came back | constant |
 //! | `Hub::shard` | | gives a scheduler and processes to a shard | those processes |
+//! | `Hub::seat` | | gives the next caller a seat | constant |
 //! | `Hub::join` | | takes the last shard back that was given of those that are out (`is_next`) | those processes |
 //! | `Hub::tick`, `finalize` | the clock, with caller 0 | takes a reading; finalizes the offset | constant |
 //! | `monotonic_time`, `time_offset`, `system_time` | caller 0 or the shard's | reads the clock | constant |
@@ -29,14 +31,16 @@
 //!
 //! Each timer of a shard's wheel is for a process of the shard, since `start` asks for that and no other has entries of
 //! the wheel (`AreHome`). So a timer that expires finds its mailbox, and an exit has to sweep the shard's own wheel alone.
-//! A wheel that has had timers isn't given to a shard, since of those nothing is known.
+//! A wheel that comes back keeps its timers, and the hub remembers which processes its shard had: it goes to another shard
+//! with these, or with more. A wheel that had timers before the world was divided isn't given away, since of those nothing
+//! is known.
 //!
 //! **What it hasn't.** A shard starts no timer for a process of another shard, and has no asynchronous requests (`ask`
 //! and `serve` of `ert_world`). A timer that another shard cancelled keeps its row and its slot until it would be due.
 //!
 //! **Memory.** `start`, `cancel_timer`, `read_timer`, `take`, `exit`, and the calls on the clock take none. Where there is
 //! none, `monitor` and `tell` change nothing, `advance` lets no timer expire, `deliver` keeps what wasn't handed over,
-//! `shard` and `join` leave everything as it was.
+//! `shard`, `seat` and `join` leave everything as it was.
 //!
 //! It stands on `ert_defs`, `ert_clock`, `ert_effects`, `ert_table`, `ert_calls`, `ert_keeper`, `ert_timers`, `ert_mail`
 //! and `ert_world`, and its proofs on the laws of `ert_laws`.
@@ -47,6 +51,7 @@ mod exits;
 mod hub;
 mod hub_calls;
 mod mail_calls;
+mod seating;
 mod shard;
 mod turns;
 

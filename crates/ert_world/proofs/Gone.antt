@@ -66,22 +66,22 @@ or_true : (x y : Bool) → y ≡ true → (x || y) ≡ true
 or_true true y is = refl
 or_true false y is = is
 
-abbrev IsMark : ℕ → Entry → Type 0
-IsMark process e = (was : Bool) × (e ≡ mark_entry (Caller 0) process true was)
+abbrev IsMark : ℕ → ℕ → Entry → Type 0
+IsMark by process e = (was : Bool) × (e ≡ mark_entry (Caller by) process true was)
 
-mark_exits : (g : Settings) (process : ℕ) (s : State) (e : Entry) → IsMark process e → (next g s e).exited process ≡ true
-mark_exits g process s e mark =
+mark_exits : (g : Settings) (by process : ℕ) (s : State) (e : Entry) → IsMark by process e → (next g s e).exited process ≡ true
+mark_exits g by process s e mark =
     let self : (nat_eq process process && true) ≡ true = rw (eq-eqb process process refl) refl in
     subst (λ x. (next g s x).exited process ≡ true) (sym mark.1) (or_true (s.exited process) (nat_eq process process && true) self)
 
 -- a process that was marked has exited
-pub marked : (g : Settings) (v w : View) (process : ℕ) (answer : Bool) → IsMade g v (MarksExit g (Caller 0) process answer) w
+pub marked : (g : Settings) (v w : View) (by process : ℕ) (answer : Bool) → IsMade g v (MarksExit g (Caller by) process answer) w
     → (state g w.front).exited process ≡ true
-marked g v w process answer made =
-    let has : HasOne (IsMark process) made.entries = subst (HasOne (IsMark process)) (sym made.allowed) (inl (not answer, refl)) in
+marked g v w by process answer made =
+    let has : HasOne (IsMark by process) made.entries = subst (HasOne (IsMark by process)) (sym made.allowed) (inl (not answer, refl)) in
     subst (λ (s : State). s.exited process ≡ true) (sym (grown_state g v made.entries w made.call))
-    (came_about g v.actors (λ (s : State). s.exited process ≡ true) (IsMark process) (λ m. Unit {0}) (λ e m free. tt) (mark_exits g process)
-    (λ s m free exited. exit_stays g process s m exited) (state g v.front) made.call.later tt (subst (HasOne (IsMark process)) (sym made.call.ours) has))
+    (came_about g v.actors (λ (s : State). s.exited process ≡ true) (IsMark by process) (λ m. Unit {0}) (λ e m free. tt) (mark_exits g by process)
+    (λ s m free exited. exit_stays g process s m exited) (state g v.front) made.call.later tt (subst (HasOne (IsMark by process)) (sym made.call.ours) has))
 
 not_armed : (x : Option Status) → settled_as Cancelled x ≢ Some Armed
 not_armed None = λ is. cc
@@ -93,7 +93,7 @@ cancel_settles g timer s e cancel =
     subst (λ x. (next g s x).status timer ≢ Some Armed) (sym cancel.2) (rw (same_timer_self timer) (not_armed (s.status timer)))
 
 -- a timer that was cancelled isn't armed
-settled : (g : Settings) (v : View) (es : List Entry) (w : View) (timer : TimerRef) → (takes : TakesPlace g v es w) → IsFree takes.later (Wheel timer.wheel)
+pub settled : (g : Settings) (v : View) (es : List Entry) (w : View) (timer : TimerRef) → (takes : TakesPlace g v es w) → IsFree takes.later (Wheel timer.wheel)
     → HasOne (IsHit timer) es → (state g w.front).status timer ≢ Some Armed
 settled g v es w timer takes free has =
     subst (λ (s : State). s.status timer ≢ Some Armed) (sym (grown_state g v es w takes))

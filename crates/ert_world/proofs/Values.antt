@@ -22,6 +22,7 @@ use Rattle.ert_table.specs.Calls.{AreOnlyOf, IsMade}
 use Rattle.ert_table.specs.Desks.{settings_of, view_of, front_of, actors_of}
 use Rattle.ert_table.specs.declared.desk.Desk.{Desk}
 use Rattle.ert_table.specs.declared.desk.Pass.{Pass}
+use Rattle.ert_table.specs.declared.view.View.{View}
 use Rattle.ert_world.proofs.Calls.{Has}
 use Rattle.ert_world.proofs.Standing.{free_kept}
 use Rattle.ert_world.specs.Worlds.{Seen}
@@ -55,40 +56,57 @@ all_seen g actors s (e ∷ m) legal free =
     at true is more = rw is (found_seen g s e.by e.event legal.0.found, more)
     at false is more = rw is more
 
-seen_by : (before : Seen) (b : Inside) (d : Desk) (q : Pass) (allows : State → List Entry → Type 0) → Has before b d
-    → (made : IsMade (settings_of d) (view_of b.pass) allows (view_of q)) → AreOnlyOf (Caller 0 ∷ []) made.entries → AllSee before.clock.face made.entries
-seen_by before b d q allows has made only =
-    let g : Settings = settings_of d in
-    let free = free_kept g (view_of b.pass) made.entries (view_of q) (Caller 0 ∷ []) Keeper made.call only (has.fit.holds.rest Keeper tt tt) refl in
-    let legal = legal_then g (opening g) (front_of b.pass) made.call.later (subst (Legal g) made.call.grown made.call.legal) in
-    let shows : face g (state g (front_of b.pass)).clock ≡ before.clock.face =
-    sym (has.fit.stand.keeper refl).face ∙ ap (λ (w : Seen). w.clock.face) has.is in
-    subst (λ f. AllSee f made.entries) shows
-    (subst (λ l. AllSee (face g (state g (front_of b.pass)).clock) l) made.call.ours (all_seen g (actors_of b.pass) (state g (front_of b.pass)) made.call.later legal free))
+-- so it is at the entries of a call
+seen_at : (g : Settings) (v : View) (allows : State → List Entry → Type 0) (w : View) (f : Face) → face g (state g v.front).clock ≡ f
+    → (made : IsMade g v allows w) → IsFree made.call.later Keeper → AllSee f made.entries
+seen_at g v allows w f shows made free =
+    let legal = legal_then g (opening g) v.front made.call.later (subst (Legal g) made.call.grown made.call.legal) in
+    subst (λ x. AllSee x made.entries) shows
+    (subst (λ l. AllSee (face g (state g v.front).clock) l) made.call.ours (all_seen g v.actors (state g v.front) made.call.later legal free))
+
+-- what a call tells beside which the clock's part has no entry
+pub time_seen : (g : Settings) (v : View) (by : Actor) (now : ℤ) (w : View) (f : Face) → face g (state g v.front).clock ≡ f
+    → (made : IsMade g v (TellsTime g by now) w) → IsFree made.call.later Keeper → now ≡ f.time
+time_seen g v by now w f shows made free = (subst (λ l. AllSee f l) made.allowed (seen_at g v (TellsTime g by now) w f shows made free)).0
+
+pub offset_seen : (g : Settings) (v : View) (by : Actor) (answer : ℤ × OffsetState) (w : View) (f : Face) → face g (state g v.front).clock ≡ f
+    → (made : IsMade g v (TellsOffset g by answer) w) → IsFree made.call.later Keeper → (answer.0 ≡ f.offset) × (answer.1 ≡ f.state)
+offset_seen g v by answer w f shows made free = (subst (λ l. AllSee f l) made.allowed (seen_at g v (TellsOffset g by answer) w f shows made free)).0
+
+pub system_seen : (g : Settings) (v : View) (by : Actor) (answer : ℤ) (w : View) (f : Face) → face g (state g v.front).clock ≡ f
+    → (made : IsMade g v (TellsSystemTime g by answer) w) → IsFree made.call.later Keeper → answer ≡ (f.time +ℤ f.offset)
+system_seen g v by answer w f shows made free =
+    let told = subst (λ l. AllSee f l) made.allowed.entries (seen_at g v (TellsSystemTime g by answer) w f shows made free) in
+    made.allowed.sum ∙ ap (λ (x : ℤ). x +ℤ made.allowed.offset) told.0 ∙ ap (λ (x : ℤ). f.time +ℤ x) told.1.0.0
+
+-- a world's clock shows what its part shows, which has no entry beside a call of caller 0
+shows : (before : Seen) (b : Inside) (d : Desk) → Has before b d → face (settings_of d) (state (settings_of d) (front_of b.pass)).clock ≡ before.clock.face
+shows before b d has = sym (has.fit.stand.keeper refl).face ∙ ap (λ (w : Seen). w.clock.face) has.is
+
+keeper_free : (before : Seen) (b : Inside) (d : Desk) (q : Pass) (allows : State → List Entry → Type 0) → Has before b d
+    → (made : IsMade (settings_of d) (view_of b.pass) allows (view_of q)) → AreOnlyOf (Caller 0 ∷ []) made.entries → IsFree made.call.later Keeper
+keeper_free before b d q allows has made only =
+    free_kept (settings_of d) (view_of b.pass) made.entries (view_of q) (Caller 0 ∷ []) Keeper made.call only (has.fit.holds.rest Keeper tt tt) refl
 
 pub time_value : (before : Seen) (b : Inside) (d : Desk) (q : Pass) (now : ℤ) → Has before b d
     → IsMade (settings_of d) (view_of b.pass) (TellsTime (settings_of d) (Caller 0) now) (view_of q) → now ≡ before.clock.face.time
 time_value before b d q now has made =
     let g : Settings = settings_of d in
-    let s : State = state g (front_of b.pass) in
-    let all = seen_by before b d q (TellsTime g (Caller 0) now) has made (time_quiet g (Caller 0) now s made.entries made.allowed).only in
-    (subst (λ l. AllSee before.clock.face l) made.allowed all).0
+    time_seen g (view_of b.pass) (Caller 0) now (view_of q) before.clock.face (shows before b d has) made
+    (keeper_free before b d q (TellsTime g (Caller 0) now) has made (time_quiet g (Caller 0) now (state g (front_of b.pass)) made.entries made.allowed).only)
 
 pub offset_value : (before : Seen) (b : Inside) (d : Desk) (q : Pass) (answer : ℤ × OffsetState) → Has before b d
     → IsMade (settings_of d) (view_of b.pass) (TellsOffset (settings_of d) (Caller 0) answer) (view_of q)
     → (answer.0 ≡ before.clock.face.offset) × (answer.1 ≡ before.clock.face.state)
 offset_value before b d q answer has made =
     let g : Settings = settings_of d in
-    let s : State = state g (front_of b.pass) in
-    let all = seen_by before b d q (TellsOffset g (Caller 0) answer) has made (offset_quiet g (Caller 0) answer s made.entries made.allowed).only in
-    (subst (λ l. AllSee before.clock.face l) made.allowed all).0
+    offset_seen g (view_of b.pass) (Caller 0) answer (view_of q) before.clock.face (shows before b d has) made
+    (keeper_free before b d q (TellsOffset g (Caller 0) answer) has made (offset_quiet g (Caller 0) answer (state g (front_of b.pass)) made.entries made.allowed).only)
 
 pub system_value : (before : Seen) (b : Inside) (d : Desk) (q : Pass) (answer : ℤ) → Has before b d
     → IsMade (settings_of d) (view_of b.pass) (TellsSystemTime (settings_of d) (Caller 0) answer) (view_of q)
     → answer ≡ (before.clock.face.time +ℤ before.clock.face.offset)
 system_value before b d q answer has made =
     let g : Settings = settings_of d in
-    let s : State = state g (front_of b.pass) in
-    let all = seen_by before b d q (TellsSystemTime g (Caller 0) answer) has made (system_quiet g (Caller 0) answer s made.entries made.allowed).only in
-    let told = subst (λ l. AllSee before.clock.face l) made.allowed.entries all in
-    made.allowed.sum ∙ ap (λ (x : ℤ). x +ℤ made.allowed.offset) told.0 ∙ ap (λ (x : ℤ). before.clock.face.time +ℤ x) told.1.0.0
+    system_seen g (view_of b.pass) (Caller 0) answer (view_of q) before.clock.face (shows before b d has) made
+    (keeper_free before b d q (TellsSystemTime g (Caller 0) answer) has made (system_quiet g (Caller 0) answer (state g (front_of b.pass)) made.entries made.allowed).only)

@@ -32,6 +32,7 @@
 //! | `seats`, `settings`, `published` | | no entry: how many seats were given out, settings and the last published time | constant |
 //! | `counts` | | no entry: how many timers have which status | the wheels, the schedulers and the processes |
 //! | `into_parts`, `into_desk` | | no entry: takes a world apart, ends it | constant |
+//! | `Seat::from_parts`, `into_parts` | | no entry: puts a seat together, takes one apart | constant |
 //! | `from_parts` | | no entry: puts a world together, and looks at each timer that a wheel holds | each slot of each wheel |
 //!
 //! **What it promises.** Users see of a world its settings, the history that it knows, what its clock shows, the
@@ -80,6 +81,7 @@ mod parts;
 mod sched_part;
 mod seat;
 mod seat_err;
+mod seat_parts;
 mod stepping;
 mod steps;
 mod timer_calls;

@@ -1,7 +1,7 @@
 use Rattle.std.proofs.Common.{rules, FitsSigned, w64, to_z-of_z}
 use Rattle.ert_defs.specs.declared.entry.Actor.TheVariants.{Caller}
 use Rattle.ert_effects.specs.ClockCalls.{TellsTime}
-use Rattle.ert_shard.proofs.Ticked.{alone_made}
+use Rattle.ert_shard.proofs.Ticked.{alone_made, time_told}
 use Rattle.ert_table.specs.Desks.{settings_of}
 use Rattle.ert_world.proofs.Calm.{time_quiet}
 use Rattle.ert_world.specs.Parts.{parts_of}
@@ -10,15 +10,22 @@ use Rattle.ert_shard.proofs.hub.Hub.monotonic_time.Goals as goal
 pub invariant_of-self : goal.invariant_of-self
 invariant_of-self c =
     let b = c.self.inside in
-    (alone_made c.args.self.now c.deref.result.now _ b.pass c.monotonic_time.new.pass b.left b.first (parts_of b.keeper b.wheels.items b.inboxes.items b.mails.items b.scheds.items)
+    (alone_made c.args.self.now c.deref.result.now _ b.pass c.monotonic_time.new.pass b.left b.first b.next b.homes.items (parts_of b.keeper b.wheels.items b.inboxes.items b.mails.items b.scheds.items)
     (λ g. TellsTime g (Caller 0) c.monotonic_time.result) c.deref.ensures c.self.view_is c.self.invariant c.monotonic_time.ensures.belongs c.monotonic_time.ensures.call
     (λ st es is. (time_quiet (settings_of c.deref.result.now) (Caller 0) c.monotonic_time.result st es is).only)).fit
 
-pub returns : goal.returns
-returns c =
+pub returns-clause-call : goal.returns-clause-call
+returns-clause-call c =
     let b = c.self.inside in
     let fits : FitsSigned w64 c.monotonic_time.result = search rules in
     simp to_z-of_z
-    (alone_made c.args.self.now c.deref.result.now _ b.pass c.monotonic_time.new.pass b.left b.first (parts_of b.keeper b.wheels.items b.inboxes.items b.mails.items b.scheds.items)
+    (alone_made c.args.self.now c.deref.result.now _ b.pass c.monotonic_time.new.pass b.left b.first b.next b.homes.items (parts_of b.keeper b.wheels.items b.inboxes.items b.mails.items b.scheds.items)
     (λ g. TellsTime g (Caller 0) c.monotonic_time.result) c.deref.ensures c.self.view_is c.self.invariant c.monotonic_time.ensures.belongs c.monotonic_time.ensures.call
     (λ st es is. (time_quiet (settings_of c.deref.result.now) (Caller 0) c.monotonic_time.result st es is).only)).steps
+
+pub returns-clause-value : goal.returns-clause-value
+returns-clause-value c =
+    let b = c.self.inside in
+    let fits : FitsSigned w64 c.monotonic_time.result = search rules in
+    simp to_z-of_z (time_told c.args.self.now c.deref.result.now _ b.pass c.monotonic_time.new.pass b.left b.first b.next b.homes.items (parts_of b.keeper b.wheels.items b.inboxes.items b.mails.items b.scheds.items) c.deref.ensures
+    c.self.view_is c.self.invariant c.monotonic_time.result c.monotonic_time.ensures.call)

@@ -1,10 +1,10 @@
-use Rattle.std.proofs.Common.{◌≡◌, ◌+◌, None, Some, rules, sym, ap, subst}
+use Rattle.std.proofs.Common.{◌≡◌, ◌+◌, None, Some, rules, sym, ap}
 use Rattle.ert_defs.specs.declared.entry.Actor.TheVariants.{Caller}
 use Rattle.ert_effects.specs.TimerCalls.{Cancels}
 use Rattle.ert_shard.proofs.Called.{alone_called, lost, wheel_replaced}
 use Rattle.ert_shard.proofs.Gone.{gone, named_stands, named_over}
 use Rattle.ert_shard.specs.Shards.{Owned, By, share_of, parts_of}
-use Rattle.ert_table.specs.Desks.{settings_of, front_of}
+use Rattle.ert_table.specs.Desks.{settings_of}
 use Rattle.ert_world.proofs.Cancelled.{cancel_only}
 use Rattle.ert_shard.proofs.shard.Shard.cancel_timer.Goals as goal
 

@@ -1,4 +1,4 @@
-use Rattle.std.proofs.Common.{◌≡◌, [], rules, Ok, Err, Some, refl, sym, ap, subst, ◌∙◌}
+use Rattle.std.proofs.Common.{◌≡◌, rules, Ok, Err, Some, refl, sym, ap, subst}
 use Rattle.std.specs.Arc.{arc_value}
 use Rattle.std.specs.Prelude.{slice_set, ◌-◌}
 use Rattle.ert_defs.specs.Mails.{first_of, others_of}
@@ -6,7 +6,7 @@ use Rattle.ert_defs.specs.States.{state}
 use Rattle.ert_effects.specs.Chains.{Hands}
 use Rattle.ert_shard.proofs.Called.{Has, does_at, did_at, has_at, lost, mail_named, place_low, wheel_replaced}
 use Rattle.ert_shard.proofs.Gone.{named_stands}
-use Rattle.ert_shard.proofs.Turned.{own_first, step_refused, sched_holds, mail_stands, handed_now, hands_on, handed_in, named_free}
+use Rattle.ert_shard.proofs.Deliveries.{own_first, step_refused, sched_holds, mail_stands, handed_now, hands_on, handed_in, named_free}
 use Rattle.ert_shard.specs.Turning.{fired_of}
 use Rattle.ert_shard.specs.Shards.{Owned, share_of, parts_of}
 use Rattle.ert_table.specs.Desks.{settings_of, front_of}

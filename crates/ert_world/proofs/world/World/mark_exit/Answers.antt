@@ -24,7 +24,7 @@ returns-clause-call c =
 pub returns-clause-exited : goal.returns-clause-exited
 returns-clause-exited c =
     subst (λ (d : Desk). (state (settings_of d) (front_of c.mark_exit.new.pass)).exited c.args.process ≡ true) c.deref.ensures
-    (marked (settings_of c.deref.result.now) (view_of c.self.inside.pass) (view_of c.mark_exit.new.pass) c.args.process c.mark_exit.result c.mark_exit.ensures.call)
+    (marked (settings_of c.deref.result.now) (view_of c.self.inside.pass) (view_of c.mark_exit.new.pass) 0 c.args.process c.mark_exit.result c.mark_exit.ensures.call)
 
 pub returns-clause-stays : goal.returns-clause-stays
 returns-clause-stays c =
