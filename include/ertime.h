@@ -73,6 +73,12 @@ extern "C" {
 #define ERTIME_DOTTED_(major, minor, patch) ERTIME_TEXT_OF_(major) "." ERTIME_TEXT_OF_(minor) "." ERTIME_TEXT_OF_(patch)
 #define ERTIME_VERSION_TEXT ERTIME_DOTTED_(ERTIME_VERSION_MAJOR, ERTIME_VERSION_MINOR, ERTIME_VERSION_PATCH)
 
+/*
+ * The version of the library that the program runs with, as ERTIME_VERSION is that of the header which it was built
+ * with. It is the same number or a greater one of the same major version. No handle, no memory.
+ */
+uint32_t ert_version(void);
+
 /* The statuses. */
 #define ERT_OK 0
 #define ERT_CLOSED (-1)      /* the handle is closed */
@@ -248,6 +254,16 @@ typedef struct {
     uint32_t dropped;
 } ert_turned;
 
+/* What a turn with a bound did. */
+typedef struct {
+    uint64_t to;
+    uint32_t served;
+    uint32_t fired;
+    uint32_t put;
+    uint32_t dropped;
+    uint32_t more; /* 1 if expired timers are left, which the next turn delivers, otherwise 0 */
+} ert_turned_some;
+
 /* The kinds of messages. */
 #define ERT_TIMEOUT 1     /* of a timer: timer, msg */
 #define ERT_BARE 2        /* of a bare timer: msg */
@@ -420,6 +436,20 @@ int32_t ert_world_ready(ert_world *world, uint32_t sched, uint32_t *room, uint64
 int32_t ert_world_cancel(ert_world *world, const ert_timer *timer, uint64_t *left);
 
 /*
+ * Restarts a timer that is armed: it gets a new deadline and a new name (as `uv_timer_again` of libuv).
+ *
+ * The timer is cancelled, and one is started on its wheel with all that `start` says; its slot can be used again at
+ * once. So an idle timeout is moved on by one call. Writes the new name over the old one in `timer`.
+ *
+ * ERT_RANGE: there is no process `dest`. ERT_BAD_TIME: as of ert_world_start; nothing has changed. ERT_NO_TIMER: the
+ * timer is not armed: it has expired, was cancelled, or never existed; none is started. ERT_FULL: the timer is
+ * cancelled, and none is started, since its slot has been used 262,143 times and waits for the deadlines of these
+ * timers, and no other one is available. (Or the wheel has had 2^53 timers.) After each of them `timer` is as it was.
+ * ERT_CLOSED. Work as of ert_world_cancel and ert_world_start; no memory.
+ */
+int32_t ert_world_restart(ert_world *world, ert_timer *timer, const ert_start *start);
+
+/*
  * Reads the milliseconds that are left of a timer (`erlang:read_timer`), and changes nothing.
  *
  * Writes them to `left`: 0 if it is due and has not expired.
@@ -427,6 +457,34 @@ int32_t ert_world_cancel(ert_world *world, const ert_timer *timer, uint64_t *lef
  * ERT_NO_TIMER: the timer is not armed, and `left` is as it was. ERT_CLOSED. Constant work; no memory.
  */
 int32_t ert_world_read(ert_world *world, const ert_timer *timer, uint64_t *left);
+
+/*
+ * Reports how many timers the wheel of a scheduler holds: writes it to `held`.
+ *
+ * They are the timers that are armed. If seats were given out, a timer that a seat cancelled is held too, until it
+ * would have been due.
+ *
+ * ERT_RANGE: there is no such scheduler. ERT_CLOSED. It changes nothing. Constant work; no memory.
+ */
+int32_t ert_world_held(ert_world *world, uint32_t sched, uint64_t *held);
+
+/*
+ * Reports how many expired timers of a scheduler wait to be delivered: writes it to `expired`.
+ *
+ * After ert_world_turn or ert_world_deliver that returned ERT_OK it is 0.
+ *
+ * ERT_RANGE: there is no such scheduler. ERT_CLOSED. It changes nothing. Constant work; no memory.
+ */
+int32_t ert_world_expired(ert_world *world, uint32_t sched, uint64_t *expired);
+
+/*
+ * Reports how many messages are in the mailbox of a process: writes it to `count`.
+ *
+ * Messages of a process that has exited count too, though they can no longer be taken.
+ *
+ * ERT_RANGE: there is no such process. ERT_CLOSED. It changes nothing. Constant work; no memory.
+ */
+int32_t ert_world_mail_count(ert_world *world, uint32_t process, uint64_t *count);
 
 /*
  * Reports whether a process is alive: writes 1 or 0 to `alive` (`erlang:is_process_alive`).
@@ -544,6 +602,18 @@ int32_t ert_world_deliver(ert_world *world, uint32_t sched, ert_delivered *deliv
  * such scheduler. ERT_CLOSED.
  */
 int32_t ert_world_turn(ert_world *world, uint32_t sched, ert_turned *turned);
+
+/*
+ * Makes a turn of a scheduler that delivers at most `most` expired timers.
+ *
+ * A loop in which very many timers can be due at once delivers them in several passes, and handles its input between
+ * them. Writes what it did to `turned`: `more` is 1 if expired timers are left, and then the loop should not sleep. The
+ * next turn delivers them first, in their order. The bound is on deliveries alone: the turn serves up to 64 requests
+ * and expires every timer that is due, as ert_world_turn does.
+ *
+ * ERT_NO_MEMORY: as of ert_world_turn. ERT_RANGE: there is no such scheduler. ERT_CLOSED.
+ */
+int32_t ert_world_turn_some(ert_world *world, uint32_t sched, uint32_t most, ert_turned_some *turned);
 
 /*
  * Returns the earliest time at which a timer of a scheduler can be due, in milliseconds since the start time, as `to`

@@ -12,6 +12,7 @@ pub const ERT_OFFSET_WIDE: i32 = -9;
 pub const ERT_RANGE: i32 = -10;
 pub const ERT_BAD_TIME: i32 = -11;
 pub const ERT_FULL: i32 = -12;
+pub const ERT_NO_TIMER: i32 = -13;
 pub const ERT_EMPTY: i32 = -14;
 pub const ERT_EXITED: i32 = -15;
 pub const ERT_NO_MONITOR: i32 = -17;
@@ -116,6 +117,18 @@ pub struct ert_turned {
     pub dropped: u32,
 }
 
+/// What a turn with a bound did. `to` is in milliseconds since the start time.
+#[repr(C)]
+#[derive(Default)]
+pub struct ert_turned_some {
+    pub to: u64,
+    pub served: u32,
+    pub fired: u32,
+    pub put: u32,
+    pub dropped: u32,
+    pub more: u32,
+}
+
 #[repr(C)]
 #[derive(Default)]
 pub struct ert_mail {
@@ -137,6 +150,7 @@ pub struct ert_request {
 }
 
 unsafe extern "C" {
+    pub fn ert_version() -> u32;
     pub fn ert_world_open(world: *mut ert_world, settings: *const ert_settings) -> i32;
     pub fn ert_world_close(world: *mut ert_world) -> i32;
     pub fn ert_world_tick(
@@ -167,7 +181,15 @@ unsafe extern "C" {
         ready: *mut u64,
     ) -> i32;
     pub fn ert_world_cancel(world: *mut ert_world, timer: *const ert_timer, left: *mut u64) -> i32;
+    pub fn ert_world_restart(
+        world: *mut ert_world,
+        timer: *mut ert_timer,
+        start: *const ert_start,
+    ) -> i32;
     pub fn ert_world_read(world: *mut ert_world, timer: *const ert_timer, left: *mut u64) -> i32;
+    pub fn ert_world_held(world: *mut ert_world, sched: u32, held: *mut u64) -> i32;
+    pub fn ert_world_expired(world: *mut ert_world, sched: u32, expired: *mut u64) -> i32;
+    pub fn ert_world_mail_count(world: *mut ert_world, process: u32, count: *mut u64) -> i32;
     pub fn ert_world_is_alive(world: *mut ert_world, process: u32, alive: *mut u32) -> i32;
     pub fn ert_world_exit(world: *mut ert_world, process: u32, first: *mut u32) -> i32;
     pub fn ert_world_ask(world: *mut ert_world, request: *const ert_request) -> i32;
@@ -184,6 +206,12 @@ unsafe extern "C" {
         delivered: *mut ert_delivered,
     ) -> i32;
     pub fn ert_world_turn(world: *mut ert_world, sched: u32, turned: *mut ert_turned) -> i32;
+    pub fn ert_world_turn_some(
+        world: *mut ert_world,
+        sched: u32,
+        most: u32,
+        turned: *mut ert_turned_some,
+    ) -> i32;
     pub fn ert_world_next_due(world: *mut ert_world, sched: u32, due: *mut u64) -> i32;
     pub fn ert_seat_open(seat: *mut ert_seat, world: *mut ert_world) -> i32;
     pub fn ert_seat_close(seat: *mut ert_seat) -> i32;

@@ -96,6 +96,11 @@ fn error(status: i32) -> Error {
     }
 }
 
+/// The version of the library: 1,000,000 times the major, 1,000 times the minor, and the patch number.
+pub fn version() -> u32 {
+    unsafe { ffi::ert_version() }
+}
+
 fn done(status: i32) -> Result<(), Error> {
     if status == ffi::ERT_OK {
         Ok(())
@@ -396,11 +401,44 @@ impl World {
         (status == ffi::ERT_OK).then_some(left)
     }
 
+    /// Gives an armed timer a new deadline, with all that the start says, and returns its new name; None if it is not
+    /// armed.
+    ///
+    /// After `Full` the timer is cancelled and none is started; after any other error nothing has changed.
+    pub fn restart(&mut self, timer: &Timer, start: &Start) -> Result<Option<Timer>, Error> {
+        let mut next = *timer;
+        let status =
+            unsafe { ffi::ert_world_restart(&mut *self.handle, &mut next, &start.start) };
+        Ok(done_or(status, ffi::ERT_NO_TIMER)?.then_some(next))
+    }
+
     /// The milliseconds that are left of a timer; None if it is not armed.
     pub fn read(&mut self, timer: &Timer) -> Option<u64> {
         let mut left = 0;
         let status = unsafe { ffi::ert_world_read(&mut *self.handle, timer, &mut left) };
         (status == ffi::ERT_OK).then_some(left)
+    }
+
+    /// How many timers the wheel of a scheduler holds: those that are armed, and those that seats cancelled and that
+    /// would not be due yet.
+    pub fn held(&mut self, sched: u32) -> Result<u64, Error> {
+        let mut held = 0;
+        done(unsafe { ffi::ert_world_held(&mut *self.handle, sched, &mut held) })?;
+        Ok(held)
+    }
+
+    /// How many expired timers of a scheduler wait to be delivered.
+    pub fn expired(&mut self, sched: u32) -> Result<u64, Error> {
+        let mut expired = 0;
+        done(unsafe { ffi::ert_world_expired(&mut *self.handle, sched, &mut expired) })?;
+        Ok(expired)
+    }
+
+    /// How many messages are in the mailbox of a process.
+    pub fn mail_count(&mut self, process: u32) -> Result<u64, Error> {
+        let mut count = 0;
+        done(unsafe { ffi::ert_world_mail_count(&mut *self.handle, process, &mut count) })?;
+        Ok(count)
     }
 
     /// Whether a process is alive.
@@ -487,6 +525,21 @@ impl World {
         let mut turned = Turned::default();
         done(unsafe { ffi::ert_world_turn(&mut *self.handle, sched, &mut turned) })?;
         Ok(turned)
+    }
+
+    /// Makes a turn of a scheduler that delivers so many expired timers at most, and returns whether more are left: the
+    /// next turn delivers them first. Every timer that is due expires, however many there are.
+    pub fn turn_some(&mut self, sched: u32, most: u32) -> Result<(Turned, bool), Error> {
+        let mut some = ffi::ert_turned_some::default();
+        done(unsafe { ffi::ert_world_turn_some(&mut *self.handle, sched, most, &mut some) })?;
+        let turned = Turned {
+            to: some.to,
+            served: some.served,
+            fired: some.fired,
+            put: some.put,
+            dropped: some.dropped,
+        };
+        Ok((turned, some.more != 0))
     }
 
     /// How early a timer of a scheduler may be due, in milliseconds since the start time; None where none is

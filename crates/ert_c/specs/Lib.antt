@@ -6,3 +6,4 @@ pub mod Places
 pub mod SeatCalls
 pub mod Through
 pub mod Told
+pub mod Waiting

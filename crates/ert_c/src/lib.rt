@@ -22,8 +22,8 @@
 //! |---|---|
 //! | `place`, `handle` | where a box lies, and the handles of a world and of a seat |
 //! | `status`, `laws` | the statuses; that each has a number of its own |
-//! | `opening`, `clock_calls`, `timer_calls`, `mail_calls`, `turn_calls` | the structs that cross, what they mean, and how answers are told |
-//! | `clock_exports`, `timer_exports`, `mail_exports`, `turn_exports`, `seat_exports` | the exported functions |
+//! | `opening`, `clock_calls`, `timer_calls`, `mail_calls`, `turn_calls`, `waiting_calls` | the structs that cross, what they mean, and how answers are told |
+//! | `clock_exports`, `timer_exports`, `mail_exports`, `turn_exports`, `waiting_exports`, `seat_exports`, `version_exports` | the exported functions |
 //!
 //! What C owes (pointers to values, one call at a time on a handle, no copy of an open handle) nothing checks;
 //! `docs/EMBEDDING.md` lists it. It stands on `ert_world` and what that names, and on the allocator.
@@ -43,6 +43,9 @@ mod timer_calls;
 mod timer_exports;
 mod turn_calls;
 mod turn_exports;
+mod version_exports;
+mod waiting_calls;
+mod waiting_exports;
 
 pub use clock_calls::{ErtMoved, ErtOffset};
 pub use handle::{ErtSeat, ErtWorld};
@@ -51,3 +54,5 @@ pub use mail_calls::{ErtMail, ErtRequest};
 pub use opening::{ErtReading, ErtSettings};
 pub use timer_calls::{ErtStart, ErtTimer};
 pub use turn_calls::{ErtAdvanced, ErtDelivered, ErtTurned};
+pub use version_exports::VERSION;
+pub use waiting_calls::ErtTurnedSome;

@@ -36,7 +36,7 @@ impl Model for MailPart {
 }
 
 impl MailPart {
-    ghost use Rattle.std.specs.Prelude.{◌<◌, Some, OnOk, OnErr};
+    ghost use Rattle.std.specs.Prelude.{◌<◌, Some, OnOk, OnErr, length};
     ghost use Rattle.ert_defs.specs.Mails.{first_of};
     ghost use Rattle.ert_effects.specs.MailCalls.{HandsOver, Takes};
     ghost use Rattle.ert_effects.specs.RequestCalls.{Answers};
@@ -69,6 +69,13 @@ impl MailPart {
         ensures { result ≡ self.now.delivered }
     {
         self.delivered
+    }
+
+    /// How many messages wait in it.
+    pub fn waiting(&self) -> u64
+        ensures { result ≡ length self.now.held.queue }
+    {
+        self.queue.len() as u64
     }
 
     /// Makes room for one more message.

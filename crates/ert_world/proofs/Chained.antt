@@ -77,7 +77,7 @@ module _ {S : Type 0} (settings : S → Settings) (history : S → List Entry) (
   abbrev pub Made : (Settings → Way → Growth) → S → S → Type 0
   Made call a b = Grows (call (settings a) (way (settings a) (mark a) w)) (history a) (history b)
 
-  abbrev Same : S → S → Type 0
+  abbrev pub Same : S → S → Type 0
   Same a b = (settings b ≡ settings a) × (mark b ≡ mark a)
 
   -- a later call is one of the settings and the mark at the start
@@ -87,7 +87,7 @@ module _ {S : Type 0} (settings : S → Settings) (history : S → List Entry) (
       subst (λ n. Grows (call (settings a) (way (settings a) n w)) (history b) (history c)) same.1
       (subst (λ g. Grows (call g (way g (mark b) w)) (history b) (history c)) same.0 made)
 
-  made_then : (first second : Settings → Way → Growth) (a b c : S) → Same a b → Made first a b → Made second b c
+  pub made_then : (first second : Settings → Way → Growth) (a b c : S) → Same a b → Made first a b → Made second b c
       → Made (λ g way. Then (first g way) (second g way)) a c
   made_then first second a b c same one other =
       grows_then (first (settings a) (way (settings a) (mark a) w)) (second (settings a) (way (settings a) (mark a) w)) (history a) (history b) (history c) one

@@ -137,7 +137,7 @@ and_first : (x y : Bool) → (x && y) ≡ true → x ≡ true
 and_first true y is = refl
 and_first false y is = absurd cc
 
-wheel_low : (g : Settings) (timer : TimerRef) → names_timer g timer ≡ true → timer.wheel < g.schedulers
+pub wheel_low : (g : Settings) (timer : TimerRef) → names_timer g timer ≡ true → timer.wheel < g.schedulers
 wheel_low g timer is =
     ltb-true timer.wheel g.schedulers (and_first _ (nat_lt timer.slot g.slots) (and_first _ (is_generation timer.generation) is))
 

@@ -28,7 +28,7 @@ none_armed_in before b d i p answer has low lent told =
     (subst (λ n. NoneArmedBefore (state g (front_of b.pass)) n answer) named (told g (front_of b.pass) stands))
 
 -- the part is the world's, whatever stands for one that isn't there
-part_at : (before : Seen) (b : Inside) (d : Desk) (i : ℕ) (p : Part) → Has before b d
+pub part_at : (before : Seen) (b : Inside) (d : Desk) (i : ℕ) (p : Part) → Has before b d
     → i < before.settings.schedulers → p ≡ slice_index_or b.wheels.items i p
     → (e : Part) → p ≡ slice_index_or b.wheels.items i e
 part_at before b d i p has low lent e =

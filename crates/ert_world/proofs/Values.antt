@@ -1,13 +1,16 @@
 -- The time and the offset that a world answers are those of its clock: nobody else moves that.
 
-use Rattle.std.proofs.Common.{◌≡◌, ℤ, ◌+ℤ◌, Bool, true, false, List, [], ◌∷◌, filter, refl, sym, ap, subst, ◌∙◌}
+use Rattle.std.proofs.Common.{◌≡◌, ℕ, ℤ, ◌+ℤ◌, Bool, true, false, List, [], ◌∷◌, filter, None, Err, refl, sym, ap, subst, ◌∙◌}
 use Rattle.ert_effects.specs.ClockCalls.{TellsTime, TellsOffset, TellsSystemTime}
+use Rattle.ert_effects.specs.TimerCalls.{Starts}
+use Rattle.ert_effects.specs.declared.answers.StartErr.TheVariants.{BadArg}
 use Rattle.ert_defs.proofs.Runs.{clock_stays, free_first, free_rest, legal_then}
 use Rattle.ert_defs.specs.Actors.{IsFree}
 use Rattle.ert_defs.specs.Clocks.{Clock, face}
 use Rattle.ert_defs.specs.Entries.{is_ours}
 use Rattle.ert_defs.specs.Legal.{Found, Legal, LegalFrom}
 use Rattle.ert_defs.specs.Lines.{Face}
+use Rattle.ert_defs.specs.Milliseconds.{deadline_of}
 use Rattle.ert_defs.specs.States.{State, opening, next, state}
 use Rattle.ert_defs.specs.declared.entry.Actor.{Actor}
 use Rattle.ert_defs.specs.declared.entry.Actor.TheVariants.{Keeper, Caller}
@@ -16,6 +19,7 @@ use Rattle.ert_defs.specs.declared.entry.Event.{Event}
 use Rattle.ert_defs.specs.declared.entry.Event.TheVariants.{Look, Off}
 use Rattle.ert_defs.specs.declared.settings.OffsetState.{OffsetState}
 use Rattle.ert_defs.specs.declared.settings.Settings.{Settings}
+use Rattle.ert_defs.specs.declared.timer.Start.{Start}
 use Rattle.ert_world.proofs.Calm.{time_quiet, offset_quiet, system_quiet}
 use Rattle.ert_table.proofs.Holders.{free_one}
 use Rattle.ert_table.specs.Calls.{AreOnlyOf, IsMade}
@@ -25,6 +29,7 @@ use Rattle.ert_table.specs.declared.desk.Pass.{Pass}
 use Rattle.ert_table.specs.declared.view.View.{View}
 use Rattle.ert_world.proofs.Calls.{Has}
 use Rattle.ert_world.proofs.Standing.{free_kept}
+use Rattle.ert_world.specs.Restarts.{HasNoDeadline}
 use Rattle.ert_world.specs.Worlds.{Seen}
 use Rattle.ert_world.specs.declared.world.World.TheInside.{Inside}
 
@@ -110,3 +115,16 @@ system_value before b d q answer has made =
     let g : Settings = settings_of d in
     system_seen g (view_of b.pass) (Caller 0) answer (view_of q) before.clock.face (shows before b d has) made
     (keeper_free before b d q (TellsSystemTime g (Caller 0) answer) has made (system_quiet g (Caller 0) answer (state g (front_of b.pass)) made.entries made.allowed).only)
+
+-- a start that is refused for its deadline has none at the time that the clock shows
+pub refused_value : (before : Seen) (b : Inside) (d : Desk) (q : Pass) (w : ℕ) (start : Start) → Has before b d
+    → IsMade (settings_of d) (view_of b.pass) (Starts (settings_of d) 0 w start (Err BadArg)) (view_of q) → HasNoDeadline before start
+refused_value before b d q w start has made =
+    let g : Settings = settings_of d in
+    let s : State = state g (front_of b.pass) in
+    let only = (time_quiet g (Caller 0) made.allowed.now s made.entries made.allowed.entries).only in
+    let all = seen_at g (view_of b.pass) (Starts g 0 w start (Err BadArg)) (view_of q) before.clock.face (shows before b d has) made
+    (keeper_free before b d q (Starts g 0 w start (Err BadArg)) has made only) in
+    let told = (subst (λ l. AllSee before.clock.face l) made.allowed.entries all).0 in
+    subst (λ x. deadline_of before.settings start x ≡ None) told
+    (subst (λ (w : Seen). deadline_of w.settings start made.allowed.now ≡ None) has.is made.allowed.refused)

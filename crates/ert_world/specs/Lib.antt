@@ -1,7 +1,10 @@
+pub mod Bounded
 pub mod Counted
+pub mod Held
 pub mod Laws
 pub mod Openings
 pub mod Parts
+pub mod Restarts
 pub mod Seats
 pub mod Stepping
 pub mod Ways

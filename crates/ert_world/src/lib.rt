@@ -18,6 +18,7 @@
 //! | `start` | caller 0 | starts a timer on a wheel | constant where a slot is known to be free, else each slot of the wheel |
 //! | `room` | caller 0 | looks how many slots of a wheel can take a timer | each slot of the wheel |
 //! | `cancel_timer` | caller 0 or a seat | cancels a timer; the world's also lets its wheel forget it | constant |
+//! | `restart` | caller 0 | cancels an armed timer and starts one on its wheel | as `cancel_timer` and `start` |
 //! | `read_timer`, `is_alive` | caller 0 or a seat | reads a timer; looks whether a process has exited | constant |
 //! | `mark_exit` | caller 0 | lets a process exit | constant |
 //! | `exit` | caller 0 | `mark_exit`, and then cancels the timers of the process in every wheel | the wheels and those timers |
@@ -29,7 +30,9 @@
 //! | `next_due` | | no entry: how early a timer of a wheel may be due | 64 timers at most, and where one was started late those that the next advance takes |
 //! | `deliver` | a scheduler | hands over its expired timers, until none is left; the slot of each can then take a timer again | those timers |
 //! | `turn` | a scheduler | serves requests, 64 at most, advances, and delivers | as these three |
+//! | `turn_some` | a scheduler | the same, and delivers so many expired timers at most | as these three |
 //! | `seats`, `settings`, `published` | | no entry: how many seats were given out, settings and the last published time | constant |
+//! | `held`, `expired`, `mail_count` | | no entry: how many timers a wheel holds, how many expired ones and how many messages wait | constant |
 //! | `counts` | | no entry: how many timers have which status | the wheels, the schedulers and the processes |
 //! | `into_parts`, `into_desk` | | no entry: takes a world apart, ends it | constant |
 //! | `Seat::from_parts`, `into_parts` | | no entry: puts a seat together, takes one apart | constant |
@@ -70,14 +73,17 @@
 //! and `ert_mail`, and its proofs on the laws of `ert_laws`.
 #![tactic(auto)]
 
+mod bounded;
 pub mod chains;
 mod clock_calls;
 mod counts;
+mod held;
 mod laws;
 mod mail_calls;
 mod meeting;
 mod opening;
 mod parts;
+mod restart;
 mod sched_part;
 mod seat;
 mod seat_err;
@@ -92,6 +98,7 @@ pub use counts::Counts;
 pub use ert_effects::{Room, Turned};
 pub use laws::{entries_are_divided, next_due_goes_on};
 pub use parts::Parts;
+pub use restart::RestartErr;
 pub use sched_part::SchedPart;
 pub use seat::Seat;
 pub use seat_err::SeatErr;

@@ -1,7 +1,10 @@
+use Rattle.std.proofs.Common.{subst}
 use Rattle.ert_effects.specs.TimerCalls.{Starts}
-use Rattle.ert_table.specs.Desks.{settings_of}
+use Rattle.ert_table.specs.Calls.{IsMade}
+use Rattle.ert_table.specs.Desks.{settings_of, view_of}
 use Rattle.ert_timers.proofs.LawsHold.{starts_only}
 use Rattle.ert_world.proofs.Calls.{has_at}
+use Rattle.ert_world.proofs.Values.{refused_value}
 use Rattle.ert_world.proofs.WheelCalls.{wheel_stepped, starts_calm, started_hold}
 use Rattle.ert_world.proofs.world.World.start.Goals as goal
 
@@ -22,3 +25,9 @@ returns-clause-call c =
     (starts_calm (settings_of c.deref.result.now) 0 c.index_mut.result.now.number c.args.start.now c.start.result)
     (started_hold c.self.inside c.deref.result.now c.start.new.pass c.index_mut.result.now.number c.args.start.now c.start.result c.index_mut.result.now c.start.new.self
     (has_at c.deref.ensures c.self.view_is c.self.invariant) c.start.ensures.call c.start.ensures.rows)).goes
+
+pub returns-clause-time : goal.returns-clause-time
+returns-clause-time c = λ is.
+    refused_value c.args.self.now c.self.inside c.deref.result.now c.start.new.pass c.index_mut.result.now.number c.args.start.now
+    (has_at c.deref.ensures c.self.view_is c.self.invariant)
+    (subst (λ r. IsMade (settings_of c.deref.result.now) (view_of c.self.inside.pass) (Starts (settings_of c.deref.result.now) 0 c.index_mut.result.now.number c.args.start.now r) (view_of c.start.new.pass)) is c.start.ensures.call)

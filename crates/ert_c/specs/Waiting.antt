@@ -1,0 +1,67 @@
+-- What a service does by the calls that give a timer a new deadline, tell how much waits, and hand over or take so many
+-- messages at most, and how C is told the answers.
+
+use Rattle.std.specs.Prelude.{◌≡◌, ℕ, ℤ, Bool, length, Result, Ok, Err, IfOk}
+use Rattle.ert_defs.specs.States.{state}
+use Rattle.ert_defs.specs.declared.memory.NoMemory.{NoMemory as WantOfMemory}
+use Rattle.ert_defs.specs.declared.timer.Start.{Start}
+use Rattle.ert_defs.specs.declared.timer.TimerRef.{TimerRef}
+use Rattle.ert_effects.specs.declared.answers.Turned.{Turned}
+use Rattle.ert_world.specs.Bounded.{TurnsSome}
+use Rattle.ert_world.specs.Held.{HoldsRows, AreArmed}
+use Rattle.ert_world.specs.Restarts.{Restarts}
+use Rattle.ert_world.specs.Stepping.{Stays}
+use Rattle.ert_world.specs.Worlds.{Seen, HasPassedAt, sched_of}
+use Rattle.ert_world.specs.declared.restart.RestartErr.{RestartErr}
+use Rattle.ert_world.specs.declared.restart.RestartErr.TheVariants.{BadArg, NotArmed, Full}
+use Rattle.ert_c.specs.Calls.{Makes}
+use Rattle.ert_c.specs.Told.{flag, timer_as, IsGiven}
+use Rattle.ert_c.specs.declared.status.TheConstants.{OK, BAD_TIME, FULL, NO_TIMER}
+use Rattle.ert_c.specs.declared.timer_calls.ErtTimer.{ErtTimer}
+use Rattle.ert_c.specs.declared.waiting_calls.ErtTurnedSome.{ErtTurnedSome}
+
+-- caller 0 gives an armed timer a new deadline: the name of the next, or why there is none
+abbrev pub RestartsBy : TimerRef → Start → Result TimerRef RestartErr → Seen → Seen → Type 0
+RestartsBy timer start answer = Makes (λ w. Restarts w timer start answer)
+
+-- the timer that was started in its place, or why none was
+abbrev pub IsRestarted : Result TimerRef RestartErr → ErtTimer → ℤ → ErtTimer → Type 0
+IsRestarted (Ok next) old status new = (status ≡ OK) × (new ≡ timer_as next)
+IsRestarted (Err BadArg) old status new = (status ≡ BAD_TIME) × (new ≡ old)
+IsRestarted (Err NotArmed) old status new = (status ≡ NO_TIMER) × (new ≡ old)
+IsRestarted (Err Full) old status new = (status ≡ FULL) × (new ≡ old)
+
+-- a number that is always told
+abbrev pub IsCount : ℕ → ℤ → ℕ → Type 0
+IsCount answer status new = (status ≡ OK) × (new ≡ answer)
+
+-- what is told is how many rows a wheel holds: those of the armed timers where no seat was given out; nothing has changed
+pub record TellsHeld (sched answer : ℕ) (old new : Seen) : Type 0 where
+  pub rows : HoldsRows old sched answer
+  pub armed : AreArmed old sched answer
+  pub unchanged : new ≡ old
+
+-- what is told is how many expired timers wait at a scheduler; nothing has changed
+pub record TellsExpired (sched answer : ℕ) (old new : Seen) : Type 0 where
+  pub waiting : answer ≡ length (sched_of old sched).fired
+  pub unchanged : new ≡ old
+
+-- what is told is how many messages wait in a mailbox; nothing has changed
+pub record TellsMail (process answer : ℕ) (old new : Seen) : Type 0 where
+  pub waiting : answer ≡ length ((state old.settings old.history).mails process).queue
+  pub unchanged : new ≡ old
+
+-- a scheduler makes a turn that hands over so many expired timers at most: what it did and whether more wait, or want of
+-- memory
+pub record TurnsSomeBy (sched most : ℕ) (answer : Result (Turned × Bool) WantOfMemory) (old new : Seen) : Type 0 where
+  pub makes : Makes (λ w way. TurnsSome w.settings way sched most answer) old new
+  pub stays : Stays old new
+  pub passed : IfOk answer (λ done. HasPassedAt new sched done.0.to)
+
+-- what such a turn did, for C
+abbrev pub turned_some_as : Turned × Bool → ErtTurnedSome
+turned_some_as p = record { to = p.0.to; served = p.0.served; fired = p.0.fired; put = p.0.put; dropped = p.0.dropped; more = flag p.1 }
+
+-- what such a turn did, or want of memory
+abbrev pub IsTurnedSome : Result (Turned × Bool) WantOfMemory → ErtTurnedSome → ℤ → ErtTurnedSome → Type 0
+IsTurnedSome = IsGiven turned_some_as

@@ -1,0 +1,43 @@
+use Rattle.std.proofs.Common.{◌≡◌, Err, rules}
+use Rattle.ert_world.proofs.Bounding.{turned_some, turn_some_unadvanced, turn_some_undelivered}
+use Rattle.ert_world.proofs.bounded.turn_some.Goals as goal
+
+pub returns-in_err-to-clause-call : goal.returns-in_err-to-clause-call
+returns-in_err-to-clause-call g c =
+    let s = g.S.SchedSteps in
+    let a = c.args.steps.now in
+    let b = c.serve_all.new.steps in
+    let kept = c.serve_all.ensures.stays in
+    let result : c.from_residual-in_err-to.result ≡ Err c.in_err-to.field-0.0 = search rules in
+    rw result (turn_some_unadvanced s.settings s.history s.mark s.way c.args.sched c.args.most a b c.advance_wheel.new.self
+    c.in_ok-served.served c.in_err-to.field-0.0 (g.met.S.SchedSteps.same_settings a b kept, g.met.S.SchedSteps.same_mark a b kept)
+    c.in_ok-served.ensures.call c.in_err-to.ensures.call)
+
+pub returns-in_err-put-clause-call : goal.returns-in_err-put-clause-call
+returns-in_err-put-clause-call g c =
+    let s = g.S.SchedSteps in
+    let a = c.args.steps.now in
+    let b = c.serve_all.new.steps in
+    let d = c.advance_wheel.new.self in
+    let result : c.from_residual-in_err-put.result ≡ Err c.in_err-put.field-0.0 = search rules in
+    rw result (turn_some_undelivered s.settings s.history s.mark s.way c.args.sched c.args.most a b d c.deliver_some.new.steps
+    c.in_ok-served.served (c.in_ok-to.to, c.in_ok-to.fired) c.in_err-put.field-0.0
+    (g.met.S.SchedSteps.same_settings a b c.serve_all.ensures.stays, g.met.S.SchedSteps.same_mark a b c.serve_all.ensures.stays)
+    (g.met.S.SchedSteps.same_settings b d c.advance_wheel.ensures.stays, g.met.S.SchedSteps.same_mark b d c.advance_wheel.ensures.stays)
+    c.in_ok-served.ensures.call c.in_ok-to.ensures.call c.in_err-put.ensures.call)
+
+pub returns-clause-call : goal.returns-clause-call
+returns-clause-call g c =
+    let s = g.S.SchedSteps in
+    let a = c.args.steps.now in
+    let b = c.serve_all.new.steps in
+    let d = c.advance_wheel.new.self in
+    turned_some s.settings s.history s.mark s.way c.args.sched c.args.most a b d c.deliver_some.new.steps
+    (record { served = c.in_ok-served.served; to = c.in_ok-to.to; fired = c.in_ok-to.fired; put = c.in_ok-put.put; dropped = c.in_ok-put.dropped }) c.in_ok-put.more
+    (g.met.S.SchedSteps.same_settings a b c.serve_all.ensures.stays, g.met.S.SchedSteps.same_mark a b c.serve_all.ensures.stays)
+    (g.met.S.SchedSteps.same_settings b d c.advance_wheel.ensures.stays, g.met.S.SchedSteps.same_mark b d c.advance_wheel.ensures.stays)
+    c.in_ok-served.ensures.call c.in_ok-to.ensures.call c.in_ok-put.ensures.call
+
+pub returns-clause-passed : goal.returns-clause-passed
+returns-clause-passed g c =
+    g.met.S.SchedSteps.still_passed c.advance_wheel.new.self c.deliver_some.new.steps c.args.sched c.in_ok-to.to c.deliver_some.ensures.stays c.in_ok-to.ensures.passed

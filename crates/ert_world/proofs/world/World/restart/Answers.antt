@@ -1,0 +1,27 @@
+use Rattle.std.proofs.Common.{◌<◌, Ok, Err, refl, sym, subst, ◌∙◌}
+use Rattle.ert_defs.specs.declared.settings.Settings.{Settings}
+use Rattle.ert_world.proofs.Composed.{goes_nothing}
+use Rattle.ert_world.proofs.Restarting.{cancelled_low, started_anew, refused_full}
+use Rattle.ert_world.specs.Restarts.{Restarts}
+use Rattle.ert_world.specs.declared.restart.RestartErr.TheVariants.{BadArg}
+use Rattle.ert_world.proofs.world.World.restart.Goals as goal
+
+pub returns-in_default : goal.returns-in_default
+returns-in_default c =
+    goes_nothing c.args.self.now (Restarts c.args.self.now c.args.timer c.args.start.now (Err BadArg)) c.deadline_now.ensures.legal
+    (refl, sym c.deadline_now.ensures.value ∙ c.in_default.is)
+
+pub start-requires-clause-wheel : goal.start-requires-clause-wheel
+start-requires-clause-wheel c =
+    let one = c.in-Some-cancel_timer.ensures.call in
+    subst (λ (g : Settings). c.args.timer.wheel < g.schedulers) (sym one.settings) (cancelled_low _ _ c.args.timer c.in-Some-cancel_timer._left one)
+
+pub returns-in-Ok : goal.returns-in-Ok
+returns-in-Ok c =
+    started_anew c.args.self.now c.cancel_timer.new.self c.start.new.self c.args.timer c.args.start.now c.in-Some-cancel_timer._left (Ok c.in-Ok.next)
+    c.in-Some-cancel_timer.ensures.call c.in-Ok.ensures.call
+
+pub returns-in-Err : goal.returns-in-Err
+returns-in-Err c =
+    refused_full c.args.self.now c.cancel_timer.new.self c.start.new.self c.args.timer c.args.start.now c.in-Some-cancel_timer._left c.in-Some._deadline c.in-Err.field-0
+    (sym c.deadline_now.ensures.value ∙ c.in-Some.is) c.in-Some-cancel_timer.ensures.call c.in-Err.ensures.call c.in-Err.ensures.time c.in-Err.ensures.memory

@@ -1,0 +1,55 @@
+-- The turn of a scheduler that hands over so many expired timers at most.
+
+use Rattle.std.specs.Prelude.{◌≡◌, ◌≢◌, ◌⊎◌, ℕ, ◌<◌, ◌≤◌, Bool, true, false, List, [], ◌++◌, length, Result, Ok, Err}
+use Rattle.ert_defs.specs.States.{state}
+use Rattle.ert_defs.specs.Timers.{Row}
+use Rattle.ert_defs.specs.declared.entry.Entry.{Entry}
+use Rattle.ert_defs.specs.declared.memory.NoMemory.{NoMemory}
+use Rattle.ert_defs.specs.declared.settings.Settings.{Settings}
+use Rattle.ert_effects.specs.Chains.{ServesAll, AdvancesWheel, Hands, HandsMany, puts, drops}
+use Rattle.ert_effects.specs.Ways.{Growth, Way, Then}
+use Rattle.ert_effects.specs.declared.answers.Handed.{Handed}
+use Rattle.ert_effects.specs.declared.answers.Turned.{Turned}
+
+-- whether expired timers are left, of which so many were handed over: they are left only after the most
+abbrev pub AreLeft : Bool → ℕ → ℕ → List Row → Type 0
+AreLeft true most count fired = (count ≡ most) × (fired ≢ [])
+AreLeft false most count fired = fired ≡ []
+
+-- expired timers are handed over, so many at most: so many are put, and so many thrown away, and whether more are left
+pub record HasDeliveredSome (g : Settings) (way : Way) (w most : ℕ) (answer : ℕ × ℕ × Bool) (h m : List Entry) : Type 0 where
+  pub hows : List Handed
+  pub runs : HandsMany g way w hows h m
+  pub few : length hows ≤ most
+  pub put_is : answer.0 ≡ puts hows
+  pub dropped_is : answer.1 ≡ drops hows
+  pub rest : AreLeft answer.2 most (length hows) ((state g (h ++ m)).scheds w).fired
+
+-- fewer than that are handed over, and there is no memory for the next: it stays in the list
+pub record CannotDeliverSome (g : Settings) (way : Way) (w most : ℕ) (e : NoMemory) (h m : List Entry) : Type 0 where
+  pub hows : List Handed
+  pub few : length hows < most
+  pub runs : Then (HandsMany g way w hows) (Hands g way w (Err e)) h m
+
+-- `deliver_some`, of so many expired timers of a scheduler at most
+abbrev pub DeliversSome : Settings → Way → ℕ → ℕ → Result (ℕ × ℕ × Bool) NoMemory → Growth
+DeliversSome g way w most (Ok answer) h m = HasDeliveredSome g way w most answer h m
+DeliversSome g way w most (Err e) h m = CannotDeliverSome g way w most e h m
+
+-- a turn is done: requests are served, the wheel is advanced, and so many expired timers at most are handed over
+abbrev pub HasTurnedSome : Settings → Way → ℕ → ℕ → Turned → Bool → Growth
+HasTurnedSome g way w most t more = Then (ServesAll g way w (Ok t.served))
+    (Then (AdvancesWheel g way w (Ok (t.to, t.fired))) (DeliversSome g way w most (Ok (t.put, t.dropped, more))))
+
+-- there is no memory to serve, to advance or to deliver; what was done before stays
+abbrev pub CannotTurnSome : Settings → Way → ℕ → ℕ → NoMemory → Growth
+CannotTurnSome g way w most e h m =
+    ServesAll g way w (Err e) h m
+    ⊎ ((served : ℕ) × Then (ServesAll g way w (Ok served)) (AdvancesWheel g way w (Err e)) h m)
+    ⊎ ((served : ℕ) × (advanced : ℕ × ℕ)
+    × Then (ServesAll g way w (Ok served)) (Then (AdvancesWheel g way w (Ok advanced)) (DeliversSome g way w most (Err e))) h m)
+
+-- `turn_some`: what it did, and whether expired timers are left
+abbrev pub TurnsSome : Settings → Way → ℕ → ℕ → Result (Turned × Bool) NoMemory → Growth
+TurnsSome g way w most (Ok answer) h m = HasTurnedSome g way w most answer.0 answer.1 h m
+TurnsSome g way w most (Err e) h m = CannotTurnSome g way w most e h m

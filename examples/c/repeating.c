@@ -1,0 +1,165 @@
+/*
+ * Timers that repeat at a fixed rate, and an alarm at a time of the day that stays right if the system clock is set.
+ * The readings of the clocks are made up here, so that the program waits for nothing.
+ *
+ *     cc repeating.c -o repeating $(pkg-config --cflags --libs ertime)
+ */
+#include <inttypes.h>
+#include <stdio.h>
+#include <stdlib.h>
+
+#include "ertime.h"
+
+#define MILLISECOND INT64_C(1000000)
+#define SECOND (1000 * MILLISECOND)
+
+enum { PROCESS = 0, SCHED = 0, EACH = 1, LATEST = 2, ALARM = 3 };
+
+/* A timer that repeats: it is due each `period` milliseconds, counted from its first deadline. */
+struct repeating {
+    uint64_t name;
+    int64_t due;
+    int64_t period;
+};
+
+static void must(const char *call, int32_t status) {
+    if (status != ERT_OK) {
+        fprintf(stderr, "%s: %s\n", call, ert_status_text(status));
+        exit(EXIT_FAILURE);
+    }
+}
+
+static void tick(ert_world *world, int64_t mono, int64_t sys, ert_moved *moved) {
+    ert_reading reading = {mono, sys};
+    /* A check is forced, so that the offset follows the system clock at once and not within a minute. */
+    must("ert_world_tick", ert_world_tick(world, &reading, 1, moved));
+}
+
+/* Starts a timer at a monotonic time in milliseconds. */
+static ert_timer start_at(ert_world *world, int64_t due, uint64_t msg) {
+    ert_start what = {.when = due, .absolute = 1, .msg = msg, .dest = PROCESS};
+    ert_timer timer;
+    must("ert_world_start", ert_world_start(world, SCHED, &what, &timer));
+    return timer;
+}
+
+/* Goes on with a repeating timer. A deadline that has passed is due at the next turn: so each one is met, however late
+ * the turns come. */
+static void repeat_each(ert_world *world, struct repeating *it) {
+    it->due += it->period;
+    start_at(world, it->due, it->name);
+}
+
+/* Goes on at the next deadline that has not passed, and returns how many were left out. */
+static int64_t repeat_latest(ert_world *world, struct repeating *it, int64_t now) {
+    int64_t late = now - it->due;
+    int64_t left_out = late / it->period;
+    it->due += (left_out + 1) * it->period;
+    start_at(world, it->due, it->name);
+    return left_out;
+}
+
+/* Makes turns until no timer is due, and says what came. */
+static void pass(ert_world *world, struct repeating *each, struct repeating *latest) {
+    ert_turned turned;
+    ert_mail mail;
+    int64_t now;
+    do {
+        must("ert_world_turn", ert_world_turn(world, SCHED, &turned));
+        now = (int64_t)turned.to;
+        while (ert_world_take(world, PROCESS, &mail) == ERT_OK) {
+            if (mail.msg == EACH) {
+                printf("%4" PRId64 " ms: each, due at %" PRId64 "\n", now, each->due);
+                repeat_each(world, each);
+            } else {
+                printf("%4" PRId64 " ms: latest, due at %" PRId64, now, latest->due);
+                printf(", %" PRId64 " left out\n", repeat_latest(world, latest, now));
+            }
+        }
+    } while (turned.fired != 0);
+}
+
+static void repeating(void) {
+    ert_world world = ERT_INIT;
+    ert_reading first = {0, 0};
+    ert_settings settings;
+    ert_moved moved;
+    struct repeating each = {EACH, 100, 100};
+    struct repeating latest = {LATEST, 100, 100};
+    /* The turn at 350 ms comes late: at 200 and at 300 there was none. */
+    static const int64_t turns[] = {100, 350, 400};
+    ert_settings_init(&settings, &first);
+    must("ert_world_open", ert_world_open(&world, &settings));
+    start_at(&world, each.due, each.name);
+    start_at(&world, latest.due, latest.name);
+    for (size_t i = 0; i < sizeof turns / sizeof *turns; i++) {
+        tick(&world, turns[i] * MILLISECOND, turns[i] * MILLISECOND, &moved);
+        pass(&world, &each, &latest);
+    }
+    must("ert_world_close", ert_world_close(&world));
+}
+
+/* What starts an alarm at a system time: that time less the offset is the monotonic time, rounded up to a millisecond. */
+static ert_start alarm_at(ert_world *world, int64_t system) {
+    ert_offset offset;
+    must("ert_world_time_offset", ert_world_time_offset(world, &offset));
+    int64_t due = system - offset.offset;
+    int64_t milliseconds = due / MILLISECOND + (due % MILLISECOND > 0);
+    ert_start what = {.when = milliseconds, .absolute = 1, .msg = ALARM, .dest = PROCESS};
+    return what;
+}
+
+static void show(const char *what, int64_t system) {
+    int64_t seconds = system / SECOND % (24 * 3600);
+    printf("%02" PRId64 ":%02" PRId64 ":%02" PRId64 " %s\n", seconds / 3600, seconds / 60 % 60, seconds % 60, what);
+}
+
+static void alarm_of_the_day(void) {
+    static const int64_t day = 20000 * INT64_C(86400) * SECOND;
+    const int64_t eight = day + 8 * 3600 * SECOND, nine = eight + 3600 * SECOND;
+    /* After half an hour the system clock is set back by ten minutes. So by then 08:20 is read. */
+    const ert_reading readings[] = {
+        {1800 * SECOND, eight + 1200 * SECOND},
+        {3600 * SECOND, eight + 3000 * SECOND},
+        {4200 * SECOND, nine},
+    };
+    ert_world world = ERT_INIT;
+    ert_reading first = {0, eight};
+    ert_settings settings;
+    ert_moved moved;
+    ert_turned turned;
+    ert_mail mail;
+    uint32_t monitor, told;
+    int64_t system;
+    ert_settings_init(&settings, &first);
+    must("ert_world_open", ert_world_open(&world, &settings));
+    must("ert_world_monitor", ert_world_monitor(&world, PROCESS, &monitor));
+    ert_start start = alarm_at(&world, nine);
+    ert_timer alarm;
+    must("ert_world_start", ert_world_start(&world, SCHED, &start, &alarm));
+    for (size_t i = 0; i < sizeof readings / sizeof *readings; i++) {
+        tick(&world, readings[i].mono, readings[i].sys, &moved);
+        must("ert_world_system_time", ert_world_system_time(&world, &system));
+        show("a turn", system);
+        if (moved.shifted) {
+            must("ert_world_tell", ert_world_tell(&world, PROCESS, &told));
+        }
+        must("ert_world_turn", ert_world_turn(&world, SCHED, &turned));
+        while (ert_world_take(&world, PROCESS, &mail) == ERT_OK) {
+            if (mail.tag == ERT_CHANGE) {
+                start = alarm_at(&world, nine);
+                must("ert_world_restart", ert_world_restart(&world, &alarm, &start));
+                show("the clock was set, and the alarm is moved", system);
+            } else {
+                show("the alarm", system);
+            }
+        }
+    }
+    must("ert_world_close", ert_world_close(&world));
+}
+
+int main(void) {
+    repeating();
+    alarm_of_the_day();
+    return EXIT_SUCCESS;
+}

@@ -1,0 +1,200 @@
+/* Restarts, counts and turns with a bound: each answer, and what stays as it was. What is expected stands in ertime.h. */
+#include <inttypes.h>
+#include <stdio.h>
+#include <stdlib.h>
+
+#include "ertime.h"
+
+#define MILLISECOND INT64_C(1000000)
+#define TIMERS 10
+
+static int failed;
+
+static void expect(int line, const char *what, int64_t got, int64_t wanted) {
+    if (got != wanted) {
+        fprintf(stderr, "line %d: %s is %" PRId64 ", not %" PRId64 "\n", line, what, got, wanted);
+        failed += 1;
+    }
+}
+
+#define IS(got, wanted) expect(__LINE__, #got, (int64_t)(got), (int64_t)(wanted))
+
+static void opened(ert_world *world, uint32_t slots) {
+    ert_reading first = {1000 * MILLISECOND, 5000 * MILLISECOND};
+    ert_settings settings;
+    ert_settings_init(&settings, &first);
+    settings.slots = slots;
+    settings.processes = 2;
+    settings.callers = 2;
+    IS(ert_world_open(world, &settings), ERT_OK);
+}
+
+static void tick(ert_world *world, int64_t milliseconds) {
+    ert_reading reading = {(1000 + milliseconds) * MILLISECOND, (5000 + milliseconds) * MILLISECOND};
+    ert_moved moved;
+    IS(ert_world_tick(world, &reading, 0, &moved), ERT_OK);
+}
+
+static uint64_t held(ert_world *world) {
+    uint64_t count = 7777;
+    IS(ert_world_held(world, 0, &count), ERT_OK);
+    return count;
+}
+
+static uint64_t expired(ert_world *world) {
+    uint64_t count = 7777;
+    IS(ert_world_expired(world, 0, &count), ERT_OK);
+    return count;
+}
+
+static uint64_t in_mailbox(ert_world *world, uint32_t process) {
+    uint64_t count = 7777;
+    IS(ert_world_mail_count(world, process, &count), ERT_OK);
+    return count;
+}
+
+static void refusals(void) {
+    ert_world world = ERT_INIT;
+    ert_timer timer = {7, 7, 7};
+    ert_start start = {.when = 50, .msg = 1, .dest = 2};
+    ert_turned_some some = {7, 7, 7, 7, 7, 7};
+    uint64_t count = 7;
+    IS(ert_world_restart(&world, &timer, &start), ERT_CLOSED);
+    IS(ert_world_held(&world, 0, &count), ERT_CLOSED);
+    IS(ert_world_expired(&world, 0, &count), ERT_CLOSED);
+    IS(ert_world_mail_count(&world, 0, &count), ERT_CLOSED);
+    IS(ert_world_turn_some(&world, 0, 1, &some), ERT_CLOSED);
+    opened(&world, 1);
+    IS(ert_world_restart(&world, &timer, &start), ERT_RANGE);
+    IS(ert_world_held(&world, 1, &count), ERT_RANGE);
+    IS(ert_world_expired(&world, 1, &count), ERT_RANGE);
+    IS(ert_world_mail_count(&world, 2, &count), ERT_RANGE);
+    IS(ert_world_turn_some(&world, 1, 1, &some), ERT_RANGE);
+    start.dest = 1;
+    IS(ert_world_restart(&world, &timer, &start), ERT_NO_TIMER);
+    IS(timer.slot, 7);
+    IS(count, 7);
+    IS(some.more, 7);
+    IS(ert_world_close(&world), ERT_OK);
+}
+
+static void restarts(void) {
+    ert_world world = ERT_INIT;
+    ert_timer timer, old;
+    ert_start start = {.when = 50, .msg = 1, .dest = 0};
+    ert_turned turned;
+    ert_mail mail;
+    uint64_t left = 7;
+    opened(&world, 1); /* so that the second start can have the slot of the first alone */
+    IS(ert_world_start(&world, 0, &start, &timer), ERT_OK);
+    old = timer;
+    tick(&world, 30);
+    start.when = -1;
+    IS(ert_world_restart(&world, &timer, &start), ERT_BAD_TIME);
+    IS(ert_world_read(&world, &timer, &left), ERT_OK);
+    IS(left, 20);
+    start.when = 50;
+    start.msg = 2;
+    start.dest = 1;
+    IS(ert_world_restart(&world, &timer, &start), ERT_OK);
+    IS(timer.wheel == old.wheel && timer.generation == old.generation && timer.slot == old.slot, 0);
+    IS(ert_world_read(&world, &old, &left), ERT_NO_TIMER);
+    IS(ert_world_read(&world, &timer, &left), ERT_OK);
+    IS(left, 50);
+    IS(held(&world), 1);
+    tick(&world, 79);
+    IS(ert_world_turn(&world, 0, &turned), ERT_OK);
+    IS(turned.fired, 0);
+    tick(&world, 80);
+    IS(ert_world_turn(&world, 0, &turned), ERT_OK);
+    IS(turned.put, 1);
+    IS(ert_world_take(&world, 0, &mail), ERT_EMPTY);
+    IS(ert_world_take(&world, 1, &mail), ERT_OK);
+    IS(mail.msg, 2);
+    IS(mail.timer.generation, timer.generation);
+    old = timer;
+    IS(ert_world_restart(&world, &timer, &start), ERT_NO_TIMER);
+    IS(timer.generation, old.generation);
+    IS(held(&world), 0);
+    IS(ert_world_close(&world), ERT_OK);
+}
+
+static void bounded_turns(void) {
+    ert_world world = ERT_INIT;
+    ert_timer timers[TIMERS];
+    ert_turned_some some;
+    ert_advanced advanced;
+    ert_mail mail;
+    uint64_t left;
+    opened(&world, TIMERS);
+    for (uint32_t it = 0; it < TIMERS; it += 1) {
+        ert_start start = {.when = 5, .msg = it, .dest = 0};
+        IS(ert_world_start(&world, 0, &start, &timers[it]), ERT_OK);
+        IS(held(&world), it + 1);
+    }
+    IS(ert_world_cancel(&world, &timers[0], &left), ERT_OK);
+    IS(held(&world), TIMERS - 1);
+    tick(&world, 5);
+    IS(ert_world_turn_some(&world, 0, 0, &some), ERT_OK);
+    IS(some.to, 5);
+    IS(some.fired, TIMERS - 1);
+    IS(some.put, 0);
+    IS(some.more, 1);
+    IS(held(&world), 0);
+    for (uint32_t done = 0; done < TIMERS - 1; done += 3) {
+        IS(expired(&world), TIMERS - 1 - done);
+        IS(in_mailbox(&world, 0), done);
+        IS(ert_world_turn_some(&world, 0, 3, &some), ERT_OK);
+        IS(some.fired, 0);
+        IS(some.put, 3);
+        IS(some.dropped, 0);
+        IS(some.more, done + 3 < TIMERS - 1);
+    }
+    IS(ert_world_turn_some(&world, 0, 3, &some), ERT_OK);
+    IS(some.put, 0);
+    IS(some.more, 0);
+    for (uint32_t it = 1; it < TIMERS; it += 1) {
+        IS(ert_world_take(&world, 0, &mail), ERT_OK);
+        IS(mail.msg, it);
+        IS(in_mailbox(&world, 0), TIMERS - 1 - it);
+    }
+    IS(in_mailbox(&world, 1), 0);
+    IS(ert_world_advance(&world, 0, &advanced), ERT_OK);
+    IS(expired(&world), 0);
+    IS(ert_world_close(&world), ERT_OK);
+}
+
+/* A timer that a seat cancelled is held until it would have been due. */
+static void beside_a_seat(void) {
+    ert_world world = ERT_INIT;
+    ert_seat seat = ERT_INIT;
+    ert_timer timer;
+    ert_start start = {.when = 5, .msg = 1, .dest = 0};
+    ert_turned turned;
+    uint64_t left;
+    opened(&world, 2);
+    IS(ert_world_start(&world, 0, &start, &timer), ERT_OK);
+    IS(ert_seat_open(&seat, &world), ERT_OK);
+    IS(ert_seat_cancel(&seat, &timer, &left), ERT_OK);
+    IS(held(&world), 1);
+    IS(ert_world_restart(&world, &timer, &start), ERT_NO_TIMER);
+    tick(&world, 5);
+    IS(ert_world_turn(&world, 0, &turned), ERT_OK);
+    IS(turned.fired, 0);
+    IS(held(&world), 0);
+    IS(ert_seat_close(&seat), ERT_OK);
+    IS(ert_world_close(&world), ERT_OK);
+}
+
+int main(void) {
+    IS(ert_version(), ERTIME_VERSION);
+    refusals();
+    restarts();
+    bounded_turns();
+    beside_a_seat();
+    if (failed != 0) {
+        return EXIT_FAILURE;
+    }
+    puts("restarts, counts and turns with a bound are as they must be");
+    return EXIT_SUCCESS;
+}
