@@ -14,6 +14,7 @@
 -type options() :: #{
     advance := auto | by_hand,
     limit := non_neg_integer() | infinity,  % real milliseconds that `auto' may take
+    pace => boolean(),                      % whether it goes on as real time does while they don't rest, by default not
     tell := fun((term()) -> term()),        % is called once with what went wrong
     gone := fun(() -> term())               % is called when the owner has ended
 }.
@@ -111,8 +112,25 @@ auto(Watch = #watch{clock = Clock, started = Started, options = #{limit := Limit
 
 go_on(Watch = #watch{clock = Clock}) ->
     case all_rest(Clock) of
-        true -> next(Watch);
-        false -> auto(Watch#watch{since = none})
+        true ->
+            next(Watch);
+        false ->
+            _ = [paced(Clock, ?LOOK * 1000000) || maps:get(pace, Watch#watch.options, false)],
+            auto(Watch#watch{since = none})
+    end.
+
+%% They haven't rested for so many nanoseconds, which pass.
+paced(Clock, Left) ->
+    case ertime_nif:lead(Clock) of
+        true ->
+            Stepped = ertime_nif:step(Clock, Left),
+            _ = ertime_nif:unlead(Clock),
+            case Stepped of
+                {Rest, _, _} when Rest > 0 -> paced(Clock, Rest);
+                _ -> ok
+            end;
+        _ ->
+            ok
     end.
 
 next(Watch = #watch{clock = Clock, same = Same}) ->
