@@ -86,13 +86,9 @@ cancelled() ->
             Do(Clock)
         end
      || Do <- [
-            fun ertime_nif:free_run/1,
-            fun(Clock) -> ertime_nif:step(Clock, 0) end,
-            fun(Clock) -> ertime_nif:step(Clock, ?LONGEST) end,
+            fun(Clock) -> ertime_nif:free_run(Clock), ertime_nif:step(Clock, ?LONGEST) end,
             fun(Clock) -> ertime_nif:run(Clock, 1 bsl 50), ertime_nif:step(Clock, 0) end,
-            fun(Clock) -> start(Clock, 1000, x), until_idle(Clock) end,
-            fun move/1,
-            fun(Clock) -> filled(Clock, x), past_all(Clock) end
+            fun(Clock) -> start(Clock, 1000, x), until_idle(Clock), move(Clock) end
         ]
     ].
 
@@ -151,10 +147,10 @@ monitors() ->
 %% Messages of some size.
 messages() ->
     Clock = opened(),
-    Message = {lists:seq(1, 100), <<"a binary of some length">>},
-    filled(Clock, Message),
+    Start = fun() -> start(Clock, 1000, {lists:seq(1, 100), <<"a binary of some length">>}) end,
+    often(Start),
     past_all(Clock),
-    [ertime_nif:cancel(Timer) || Timer <- filled(Clock, Message)].
+    [ertime_nif:cancel(Timer) || Timer <- often(Start)].
 
 %% Clocks that are dropped, and closed.
 dropped() ->
