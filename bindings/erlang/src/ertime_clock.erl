@@ -194,6 +194,7 @@ led(Clock, Arguments, Work) ->
             error(Reason, Arguments)
     end.
 
+-spec refused(term()) -> no_return().
 refused(Reason) ->
     throw({?MODULE, Reason}).
 

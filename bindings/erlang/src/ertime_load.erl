@@ -31,8 +31,7 @@ compiled(Modules) ->
 
 -spec unload([module()]) -> ok.
 unload(Modules) ->
-    [replace(Module, fun() -> load_file(Module) end) || Module <- Modules, is_turned(Module)],
-    ok.
+    lists:foreach(fun(Module) -> replace(Module, fun() -> load_file(Module) end) end, [Module || Module <- Modules, is_turned(Module)]).
 
 %% Whether a module is loaded and turned.
 -spec is_turned(module()) -> boolean().
@@ -116,8 +115,8 @@ cover(Module, Binary) ->
             {error, Reason} -> {error, Reason}
         end
     after
-        file:delete(File),
-        file:del_dir(Folder)
+        _ = file:delete(File),
+        _ = file:del_dir(Folder)
     end.
 
 replace(Module, Load) ->

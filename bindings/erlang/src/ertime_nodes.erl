@@ -78,7 +78,7 @@ settle(_, _, 0) ->
     error(not_at_rest);
 settle(Nodes, Before, Left) ->
     Others = lists:usort([node() | Nodes]),
-    [erpc:call(A, erpc, call, [B, erlang, node, []]) || A <- Others, B <- Others, A =/= B],
+    _ = [erpc:call(A, erpc, call, [B, erlang, node, []]) || A <- Others, B <- Others, A =/= B],
     case on_all(Nodes, rest_here, []) of
         Before -> ok;
         After -> settle(Nodes, After, Left - 1)

@@ -5,5 +5,7 @@
 
 -export([on/0]).
 
+%% The compiler makes it `false', and Dialyzer, which knows nothing of the other module, takes it for a boolean.
+-spec on() -> boolean().
 on() ->
-    false.
+    1.0 > 2.0.

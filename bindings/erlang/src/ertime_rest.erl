@@ -4,10 +4,12 @@
 %%
 %% Where nothing else runs on the node, they do. That is seen at one moment: between two counts of context switches the
 %% calling process alone was scheduled in, and the counts of active tasks in between found it alone, so no other was running
-%% or runnable. It yields once, since it may have a signal to answer for which another waits.
+%% or runnable. It yields once, since it may have a signal to answer for which another waits. Who loads a module may be suspended
+%% meanwhile, with nothing to run, until all schedulers have seen the new code: so the code server has to wait for a message too.
 %%
 %% Where others are busy, the processes of the clock are looked at: those that have called it, and those that would see it if
-%% they did. Two looks at each find the same count of reductions, so at the moment between them all of them rested. New
+%% they did. Two looks at each find the same count of reductions, so at the moment between them all of them rested. One that is
+%% suspended rests once it has been so for a while: the runtime itself suspends who waits for all schedulers, and not for long. New
 %% processes are found by their numbers, which the runtime gives in order: one that is spawned for nothing tells how far they
 %% have come.
 -module(ertime_rest).
@@ -18,11 +20,13 @@
 -define(YIELDS, 200).
 -define(GRACE, 20).
 -define(MOST_NEW, 2000).
+-define(SUSPENDED, 100).
 -define(OWN_MODULES, [ertime, ertime_timers, ertime_rest, ertime_watch, ertime_use, ertime_nif]).
 
 -record(known, {
     clock,
     members = #{},  % pid => {reductions when its monitors were asked for, what it monitors}
+    suspended = #{}, % pid => {its reductions, the millisecond in which it was first seen suspended with them}
     pending = [],   % {pid, how often it was looked at}: new, and it hasn't waited for anything yet
     last = none     % the number of the newest process
 }).
@@ -49,8 +53,12 @@ loop(Known = #known{members = Members}, Round, Until) ->
 
 is_idle() ->
     {Switches, _} = erlang:statistics(context_switches),
-    is_alone() andalso erlang:yield() andalso is_alone() andalso is_alone() andalso
+    is_alone() andalso erlang:yield() andalso is_alone() andalso loads_nothing() andalso is_alone() andalso
         {Switches + 1, 0} =:= erlang:statistics(context_switches).
+
+%% To ask a process that waits lets no other one run.
+loads_nothing() ->
+    process_info(whereis(code_server), status) =:= {status, waiting}.
 
 is_alone() ->
     erlang:statistics(total_active_tasks_all) =:= 1.
@@ -101,24 +109,36 @@ same(Members, Reductions) ->
     ).
 
 pass(Known0) ->
-    Known = #known{members = Members} = join(Known0),
+    Known = #known{members = Members, suspended = Before} = join(Known0),
     Self = self(),
-    {Alive, Reductions, Busy} = maps:fold(
+    {Alive, Reductions, Suspended, Busy} = maps:fold(
         fun
             (Pid, _, Sum) when Pid =:= Self -> Sum;
-            (Pid, Seen, {Live, Counts, Work}) ->
+            (Pid, Seen, {Live, Counts, Stopped, Work}) ->
                 case process_info(Pid, [status, reductions]) of
-                    undefined -> {Live, Counts, Work};
-                    [{_, Status}, {_, Count}] when Status =:= waiting; Status =:= suspended ->
-                        {Live#{Pid => Seen}, Counts#{Pid => Count}, Work};
+                    undefined ->
+                        {Live, Counts, Stopped, Work};
+                    [{_, waiting}, {_, Count}] ->
+                        {Live#{Pid => Seen}, Counts#{Pid => Count}, Stopped, Work};
+                    [{_, suspended}, {_, Count}] ->
+                        {Rests, Since} = suspended(Pid, Count, Before),
+                        {Live#{Pid => Seen}, Counts#{Pid => Count}, Stopped#{Pid => Since}, [Pid || not Rests] ++ Work};
                     _ ->
-                        {Live#{Pid => Seen}, Counts, [Pid | Work]}
+                        {Live#{Pid => Seen}, Counts, Stopped, [Pid | Work]}
                 end
         end,
-        {#{}, #{}, []},
+        {#{}, #{}, #{}, []},
         Members
     ),
-    {Known#known{members = Alive}, Reductions, Busy}.
+    {Known#known{members = Alive, suspended = Suspended}, Reductions, Busy}.
+
+%% Whether a process has been suspended for a while, and since when.
+suspended(Pid, Count, Before) ->
+    Now = erlang:monotonic_time(millisecond),
+    case Before of
+        #{Pid := {Count, Since}} -> {Now - Since >= ?SUSPENDED, {Count, Since}};
+        _ -> {false, {Count, Now}}
+    end.
 
 undecided(#known{pending = Pending}) ->
     [Pid || {Pid, _} <- Pending].
@@ -145,7 +165,7 @@ waits(Pid) ->
     case process_info(Pid, status) of
         undefined -> true;
         {_, waiting} -> true;
-        {_, suspended} -> true;
+        {_, suspended} -> Pid =/= whereis(code_server);
         _ -> false
     end.
 

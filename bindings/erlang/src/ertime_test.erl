@@ -37,6 +37,7 @@ set_up(Options) ->
 tear_down(Clock) ->
     ertime:close(Clock).
 
+-dialyzer({no_return, under/4}).
 under(Clock, Fun, Advance, Limit) ->
     Self = self(),
     Callers = [Self | case get('$callers') of undefined -> []; Before -> Before end],

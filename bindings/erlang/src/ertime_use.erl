@@ -99,7 +99,7 @@ replace_on() ->
 
 %% The module with the atom `true' in the place of `false', which stands in it once: for this the compiler isn't started.
 turned_on(Off) ->
-    {ok, ertime_on, Chunks} = beam_lib:all_chunks(Off),
+    {ok, _, Chunks} = beam_lib:all_chunks(Off),
     {_, Atoms} = lists:keyfind("AtU8", 1, Chunks),
     [Before, After] = binary:split(Atoms, <<"false">>),
     Size = byte_size(Before) - 1,

@@ -14,6 +14,8 @@
 -type options() :: #{
     advance := auto | by_hand,
     limit := non_neg_integer() | infinity,  % real milliseconds that `auto' may take
+    pace => boolean(),                      % whether it goes on as real time does while they don't rest, or where other
+                                            % nodes are connected, of whose work nothing is seen here; by default not
     tell := fun((term()) -> term()),        % is called once with what went wrong
     gone := fun(() -> term())               % is called when the owner has ended
 }.
@@ -21,6 +23,8 @@
 -define(DEADLOCK, 500).
 -define(ASLEEP, 2000).
 -define(LOOK, 100).
+-define(PACE, 10).
+-define(MOST_STEPS, 1000).
 -define(AFTER, '$ertime_after').
 -define(LONGEST, 1 bsl 60).
 -define(MOST_AT_ONE_TIME, 20000).
@@ -37,6 +41,8 @@ start(Clock, Owner, Options = #{advance := Advance}) ->
     Self = self(),
     Pid = spawn(fun() ->
         put('$ertime', none),
+        %% Else those that keep all schedulers busy could keep it from running.
+        maps:get(pace, Options, false) andalso process_flag(priority, high),
         Advance =:= auto andalso ertime_keeper:put({auto, Clock}, self()),
         Self ! {?MODULE, self()},
         loop(#watch{clock = Clock, owner = Owner, options = Options, monitor = erlang:monitor(process, Owner), started = now_ms()})
@@ -109,10 +115,35 @@ auto(Watch = #watch{clock = Clock, started = Started, options = #{limit := Limit
             go_on(Watch)
     end.
 
-go_on(Watch = #watch{clock = Clock}) ->
-    case all_rest(Clock) of
-        true -> next(Watch);
-        false -> auto(Watch#watch{since = none})
+go_on(Watch = #watch{clock = Clock, options = Options}) ->
+    case {all_rest(Clock), maps:get(pace, Options, false)} of
+        {true, false} -> next(Watch);
+        {false, false} -> auto(Watch#watch{since = none});
+        {false, true} -> paced(Watch, ?LOOK);
+        {true, true} -> connected(Watch, nodes(connected))
+    end.
+
+connected(Watch, []) -> next(Watch);
+connected(Watch, _) -> is_there(Watch, ?PACE) andalso paced(Watch, ?PACE).
+
+%% So many real milliseconds are over.
+paced(Watch = #watch{clock = Clock}, Milliseconds) ->
+    pass(Clock, Milliseconds * 1000000, ?MOST_STEPS),
+    auto(Watch#watch{since = none}).
+
+pass(_, _, 0) ->
+    ok;
+pass(Clock, Left, Steps) ->
+    case ertime_nif:lead(Clock) of
+        true ->
+            Stepped = ertime_nif:step(Clock, Left),
+            _ = ertime_nif:unlead(Clock),
+            case Stepped of
+                {Rest, _, _} when Rest > 0 -> pass(Clock, Rest, Steps - 1);
+                _ -> ok
+            end;
+        _ ->
+            ok
     end.
 
 next(Watch = #watch{clock = Clock, same = Same}) ->

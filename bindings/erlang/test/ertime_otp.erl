@@ -1,5 +1,6 @@
 %% Runs one of OTP's own test suites by Common Test: in real time, or by a clock that all processes of the node see and that goes
-%% on by itself. Each case that failed or was skipped is told in a line, and at the end how many there were and how long it took.
+%% on by itself: to the next deadline whenever they rest, and as real time does while they don't, since some cases poll the
+%% clock or keep all schedulers busy until a time is over. Each case that failed or was skipped is told in a line, and at the end how many there were and how long it took.
 %% `.ci/otp_suites' compiles the suites and runs it:
 %%
 %%     erl -noshell -run ertime_otp main real|auto FOLDER SUITE
@@ -34,12 +35,15 @@ by_itself() ->
     Clock = ertime:open(#{slots => ?MOST_SLOTS}),
     ok = ertime:transform(otp),
     ok = ertime:use_everywhere(Clock),
-    _ = spawn(fun() -> process_flag(trap_exit, true), ertime:use(real), mover(Clock) end),
+    _ = spawn(fun() -> ertime:use(real), mover(Clock) end),
     ok.
 
 mover(Clock) ->
-    ok = ertime:advance(Clock, auto),
-    receive {'EXIT', _, _} -> mover(Clock) end.
+    Self = self(),
+    ertime_watch:start(Clock, Self, #{
+        advance => auto, limit => infinity, pace => true, tell => fun(_) -> Self ! again end, gone => fun() -> ok end
+    }),
+    receive again -> mover(Clock) end.
 
 tell(Format, Arguments) ->
     file:write_file(os:getenv("ERTIME_TOLD"), io_lib:format(Format ++ "~n", Arguments), [append]).
