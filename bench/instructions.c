@@ -68,6 +68,14 @@ static void start_cancel(uint32_t calls) {
     }
 }
 
+static void restart(uint32_t calls) {
+    start_others(OTHERS);
+    for (uint32_t i = 0; i < calls; i++) {
+        ert_start start = {.when = 1 + (int64_t)i * 7919 % SPREAD};
+        must(ert_world_restart(&world, &timers[i % OTHERS], &start));
+    }
+}
+
 static void read_timer(uint32_t calls) {
     uint64_t left;
     start_others(OTHERS);
@@ -111,6 +119,7 @@ static const struct {
     {"start", start},
     {"cancel", cancel},
     {"start_cancel", start_cancel},
+    {"restart", restart},
     {"read", read_timer},
     {"tick_and_idle_turn", tick_and_idle_turn},
     {"next_due", next_due},

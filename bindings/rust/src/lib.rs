@@ -407,8 +407,7 @@ impl World {
     /// After `Full` the timer is cancelled and none is started; after any other error nothing has changed.
     pub fn restart(&mut self, timer: &Timer, start: &Start) -> Result<Option<Timer>, Error> {
         let mut next = *timer;
-        let status =
-            unsafe { ffi::ert_world_restart(&mut *self.handle, &mut next, &start.start) };
+        let status = unsafe { ffi::ert_world_restart(&mut *self.handle, &mut next, &start.start) };
         Ok(done_or(status, ffi::ERT_NO_TIMER)?.then_some(next))
     }
 
