@@ -14,8 +14,8 @@
 -type options() :: #{
     advance := auto | by_hand,
     limit := non_neg_integer() | infinity,  % real milliseconds that `auto' may take
-    pace => boolean(),                      % whether it goes on as real time does while they don't rest, or where other
-                                            % nodes are connected, of whose work nothing is seen here; by default not
+    pace => boolean(),                      % whether it goes on as real time does while they don't rest, and ten times as
+                                            % fast where other nodes are connected, of whose work nothing is seen here
     tell := fun((term()) -> term()),        % is called once with what went wrong
     gone := fun(() -> term())               % is called when the owner has ended
 }.
@@ -124,7 +124,7 @@ go_on(Watch = #watch{clock = Clock, options = Options}) ->
     end.
 
 connected(Watch, []) -> next(Watch);
-connected(Watch, _) -> is_there(Watch, ?PACE) andalso paced(Watch, ?PACE).
+connected(Watch, _) -> is_there(Watch, ?PACE) andalso paced(Watch, 10 * ?PACE).
 
 %% So many real milliseconds are over.
 paced(Watch = #watch{clock = Clock}, Milliseconds) ->

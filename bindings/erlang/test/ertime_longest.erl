@@ -107,8 +107,9 @@ few() ->
             Clock = opened(Slots),
             often(20, fun() ->
                 [start(Clock, Time(), x) || _ <- lists:seq(1, 1000)],
-                move(Clock),
-                until_idle(Clock)
+                until_idle(Clock),
+                [start(Clock, Time(), x) || _ <- lists:seq(1, 1000)],
+                past_all(Clock)
             end)
         end
      || Slots <- [1024, ?SLOTS], Time <- [fun() -> 1000 end, fun() -> rand:uniform(1 bsl rand:uniform(40)) end]

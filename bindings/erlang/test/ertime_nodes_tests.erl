@@ -54,7 +54,7 @@ with_nodes(Do) ->
     Peers = [
         begin
             Name = list_to_atom("ertime_" ++ integer_to_list(N) ++ "_" ++ os:getpid()),
-            {ok, Peer, Node} = peer:start_link(#{name => Name, host => "127.0.0.1", longnames => true, args => Arguments}),
+            {ok, Peer, Node} = peer:start_link(#{name => Name, host => "127.0.0.1", longnames => true, args => Arguments, wait_boot => 120000}),
             {Peer, Node}
         end
      || N <- [1, 2]
