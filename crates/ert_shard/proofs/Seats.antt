@@ -96,8 +96,3 @@ back_fit d e p q r left first seat homes parts same rest belongs but actors fron
     refit e p r left first seat seat homes parts rest (subst (λ x. Belongs x r) same belongs)
     (subst (λ l. HoldsRest (settings_of e) l left first seat) (sym (actors ∙ ap (λ l. l ++ Caller seat ∷ []) but))
     (rest_with (settings_of e) (actors_of p) left first seat rest.holds low)) front
-
--- a caller that is left is held
-pub seat_held : (e : Desk) (p : Pass) (left first seat : ℕ) (homes : List Home) (parts : AllParts) → IsRest e p left first seat homes parts
-    → seat < (settings_of e).callers → is_held (actors_of p) (Caller seat) ≡ true
-seat_held e p left first seat homes parts rest low = rest.holds.rest (Caller seat) low ∙ grind (arith, nat_tests)
