@@ -1,6 +1,6 @@
 //! Tests of the parts that step on a desk: the clock's, the timers of a scheduler, inboxes and mailboxes. A world
-//! holds them all, so they are tested by its calls, and by the words and the counts that they leave. What each
-//! call of a world answers is tested in `ert_world_tests`.
+//! holds them all, so they are tested by its calls, and by the words and the counts that they leave; so are restarts, turns
+//! with a bound, and how much waits. What each other call of a world answers is tested in `ert_world_tests`.
 #![tactic(auto)]
 
 #[cfg(test)]
@@ -11,5 +11,7 @@ mod mail;
 mod steps;
 #[cfg(test)]
 mod timers;
+#[cfg(test)]
+mod waiting;
 #[cfg(test)]
 mod worlds;
