@@ -1,6 +1,7 @@
 /*
  * What calls of shards take with 1, 2 and 4 threads, each with a shard of its own: nanoseconds for a call overall, which
- * is the time of a pass over the calls of all threads, the least of some passes.
+ * is the time of a pass, from where its first thread begins to where its last one ends, over the calls of all threads.
+ * It is the least of some passes.
  */
 #define _POSIX_C_SOURCE 200809L
 #include <inttypes.h>
@@ -18,6 +19,7 @@ typedef struct {
     ert_shard shard;
     uint32_t process;
     int number;
+    int64_t begin, end;
     ert_timer timers[TIMERS];
     char apart[128];
 } worker;
@@ -116,9 +118,12 @@ static void start_all(void) {
 }
 
 static void *run(void *argument) {
+    worker *w = argument;
     for (int pass = 0; pass < PASSES; pass++) {
         pthread_barrier_wait(&gate);
-        job(argument);
+        w->begin = nanoseconds();
+        job(w);
+        w->end = nanoseconds();
         pthread_barrier_wait(&gate);
     }
     return NULL;
@@ -151,10 +156,13 @@ static double least(void (*what)(worker *), void (*before)(void), int calls) {
             before();
         }
         pthread_barrier_wait(&gate);
-        int64_t start = nanoseconds();
         pthread_barrier_wait(&gate);
-        int64_t took = nanoseconds() - start;
-        best = took < best ? took : best;
+        int64_t begin = workers[0].begin, end = workers[0].end;
+        for (int i = 1; i < threads; i++) {
+            begin = workers[i].begin < begin ? workers[i].begin : begin;
+            end = workers[i].end > end ? workers[i].end : end;
+        }
+        best = end - begin < best ? end - begin : best;
     }
     for (int i = 0; i < threads; i++) {
         pthread_join(running[i], NULL);

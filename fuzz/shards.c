@@ -213,7 +213,7 @@ static void exit_one(soaker *s) {
 static void turn_by_parts(soaker *s, ert_turned *turned) {
     ert_advanced advanced;
     must("ert_shard_advance", ert_shard_advance(&s->shard, &advanced));
-    if (below(&s->random, TIMERS / BURST / 2) == 0) {
+    if (advanced.fired > 0 && below(&s->random, 200) == 0) {
         exit_one(s);
     }
     ert_delivered delivered;
