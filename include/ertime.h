@@ -26,9 +26,12 @@
  * never blocks. A service gives out settings.callers - 1 seats. Any handle may go from one thread to another, as a
  * mutex or pthread_create takes it there. Services that were opened apart share nothing.
  *
+ * A thread per core. A service can be divided among threads instead, so that each starts its own timers and makes its
+ * own turns, beside all others and without a lock: see "Hub and shards" at the end of this file.
+ *
  * Where a call may be made, and what happens around it:
  *
- *   another thread    ert_world: one thread at a time. ert_seat: its own thread, beside all others.
+ *   another thread    ert_world, ert_hub: one thread at a time. ert_seat, ert_shard: its own thread, beside all others.
  *   signal handler    no call. Set a flag or write to an eventfd, and call from the loop. A handler that interrupts
  *                     a call and returns does no harm; one that leaves it by longjmp breaks the handle.
  *   fork              the child has a copy of the service, which goes on apart from the parent's. If the process had
@@ -100,6 +103,7 @@ uint32_t ert_version(void);
 #define ERT_BAD_KIND (-16)   /* there is no such kind of request */
 #define ERT_NO_MONITOR (-17) /* the process has no such monitor */
 #define ERT_NO_SEAT (-18)    /* every caller but 0 was given a seat */
+#define ERT_NO_SHARD (-19)   /* no scheduler is left that a shard could have */
 
 /*
  * The text of a status, for a log: its name and what it means. It is a constant, which nobody frees, and never NULL; a
@@ -126,6 +130,7 @@ static inline const char *ert_status_text(int32_t status) {
     case ERT_BAD_KIND: return "ERT_BAD_KIND: no such kind of request";
     case ERT_NO_MONITOR: return "ERT_NO_MONITOR: no such monitor";
     case ERT_NO_SEAT: return "ERT_NO_SEAT: every seat was given out";
+    case ERT_NO_SHARD: return "ERT_NO_SHARD: no scheduler is left for a shard";
     default: return "an unknown status";
     }
 }
@@ -717,6 +722,310 @@ int32_t ert_seat_read(ert_seat *seat, const ert_timer *timer, uint64_t *left);
  * ERT_RANGE: there is no such process. ERT_CLOSED. Constant work: one load; no memory.
  */
 int32_t ert_seat_is_alive(ert_seat *seat, uint32_t process, uint32_t *alive);
+
+/*
+ * Hub and shards: a service that is divided among threads.
+ *
+ * A hub (`ert_hub`) has the clock. A shard (`ert_shard`) has one scheduler with its wheel, and some processes with their
+ * mailboxes: as much as a thread with an event loop needs. Each thread starts timers on its own shard, for processes of
+ * that, makes its own turns and takes its own messages, beside all other threads. No call takes a lock, and none waits.
+ *
+ *     settings.schedulers = threads;              one for each thread
+ *     settings.processes = threads;               one or more for each
+ *     settings.callers = threads + 1;             one for each shard, and caller 0 for the hub
+ *     ert_hub_open(&hub, &settings);
+ *     for (i = 0; i < threads; i++) {
+ *         ert_hub_shard(&hub, &shards[i], 1);     and then hand the shard to its thread
+ *     }
+ *
+ * A shard cancels and reads the timers of all shards, by their names: of all cancels and the expiry of a timer exactly
+ * one ends it, whichever threads they come from. The wheel of another shard is not told: it keeps the timer's slot until
+ * the timer would have been due, or until a start that finds no other free slot looks for it. So if threads are to end
+ * one another's timers, have one shard's thread start the timer and any thread cancel it.
+ *
+ * Time moves by ert_hub_tick alone, for all shards at once. One thread can tick, or whoever wakes does, under a lock of
+ * the program around the hub. Who doesn't get it need not wait, since another thread is ticking:
+ *
+ *     if (pthread_mutex_trylock(&ticking) == 0) {
+ *         read_clocks(&reading);
+ *         ert_hub_tick(&hub, &reading, 0, &moved);
+ *         pthread_mutex_unlock(&ticking);
+ *     }
+ *     ert_shard_turn(&shard, &turned);
+ *
+ * The clocks are read under the lock, so that the readings come in order. A thread that sleeps until ert_shard_next_due
+ * has to look at the time when it wakes, as this does: it may have been the only one that was awake.
+ *
+ * Memory. ert_hub_open allocates and writes what the wheels of all shards need, and ert_hub_shard a block for each shard.
+ * What comes later belongs to the thread that calls: mailboxes, monitors and expired timers that wait. What the threads
+ * share while they run are the words of the clock, of processes and of timers; those of a wheel are on cache lines apart
+ * from all others. Calls read handles and don't write them, so handles may lie in one array.
+ *
+ * A handle of either kind begins as ERT_INIT, and what is said of handles, threads and forks at the beginning of this file
+ * is so for these too: a hub and each shard are used by one thread at a time.
+ */
+
+/* A handle of a hub. It begins as ERT_INIT, which is all zero. Its fields are private. */
+typedef struct {
+    void *at_;
+    bool live_;
+} ert_hub;
+
+/* A handle of a shard. It begins as ERT_INIT, which is all zero. Its fields are private. */
+typedef struct {
+    void *at_;
+    bool live_;
+} ert_shard;
+
+/*
+ * Opens a service that is to be divided among threads, and its hub behind a closed handle.
+ *
+ * It is the same as ert_world_open in all but the handle: the settings, the memory and the statuses. Each scheduler of
+ * the settings can go to a shard, and needs a caller of its own: `callers` has to be above `schedulers`.
+ *
+ * ERT_OPEN: the handle is open, and stays as it was. ERT_BAD_SIZE, ERT_BAD_MODE, ERT_BAD_START, ERT_BAD_READING,
+ * ERT_BAD_COUNT: the first of these, in this order, that holds of the settings; ERT_BAD_COUNT also if `callers` is not
+ * above `schedulers`. ERT_NO_MEMORY: out of memory; the handle stays closed, and what was allocated is freed.
+ */
+int32_t ert_hub_open(ert_hub *hub, const ert_settings *settings);
+
+/*
+ * Closes a hub, on any thread, and frees its memory; with the last handle of a service also what all of them share.
+ *
+ * Shards stay open: their clock stands still, so nothing more expires, and they can still start, cancel and read timers.
+ * Close the shards first, or after it; the order does not matter.
+ *
+ * The handle is as ERT_INIT makes it, and can be opened again. ERT_CLOSED: the handle was closed; a second close is safe.
+ */
+int32_t ert_hub_close(ert_hub *hub);
+
+/*
+ * Gives a scheduler to a shard behind a closed handle, with so many processes: the last scheduler and the last processes
+ * that the hub has left.
+ *
+ * The call uses both handles: make it as every call of the hub is made, and hand the shard to its thread afterwards. So
+ * the shard that is given first has the scheduler of the greatest number; ert_shard_processes tells which processes it
+ * has. It may be none, and then the shard starts no timers. A shard keeps what it was given until it is closed.
+ *
+ * ERT_OPEN: the shard's handle is open. ERT_CLOSED: the hub's is closed. ERT_NO_SHARD: no scheduler is left. ERT_RANGE: the
+ * hub has not so many processes left. After each of these nothing has changed behind either handle. ERT_NO_MEMORY: no shard
+ * was given; the hub may have one scheduler and these processes less, which nobody has then: close it, and open another.
+ * Work for these processes; a few small allocations.
+ */
+int32_t ert_hub_shard(ert_hub *hub, ert_shard *shard, uint32_t processes);
+
+/*
+ * Takes a reading of the clocks of the operating system: monotonic time moves on by it for the hub and for all shards, as
+ * by ert_world_tick.
+ *
+ * Other threads see the new time by their next call. If one call returned before another began, through whatever handles
+ * of the service, the later one never sees an earlier time.
+ *
+ * Writes what it did to `moved`. ERT_BAD_READING and ERT_OFFSET_WIDE: refused, and the clock is as it was. ERT_CLOSED.
+ * Constant work; no memory.
+ */
+int32_t ert_hub_tick(ert_hub *hub, const ert_reading *reading, uint32_t force, ert_moved *moved);
+
+/*
+ * Finalizes the time offset, as ert_world_finalize does.
+ *
+ * Writes the state before it to `before`, and what it did to `moved`. ERT_BAD_READING and ERT_OFFSET_WIDE: refused, and
+ * the clock is as it was. ERT_CLOSED. Constant work; no memory.
+ */
+int32_t ert_hub_finalize(ert_hub *hub, const ert_reading *reading, uint32_t *before, ert_moved *moved);
+
+/*
+ * Monotonic time, in nanoseconds, as ert_world_monotonic_time returns it.
+ *
+ * ERT_CLOSED. Constant work; no memory.
+ */
+int32_t ert_hub_monotonic_time(ert_hub *hub, int64_t *time);
+
+/*
+ * System time, in nanoseconds since 1970, as ert_world_system_time returns it.
+ *
+ * ERT_CLOSED. Constant work; no memory.
+ */
+int32_t ert_hub_system_time(ert_hub *hub, int64_t *time);
+
+/*
+ * The time offset, in nanoseconds, with its state, as ert_world_time_offset returns it.
+ *
+ * ERT_CLOSED. Constant work; no memory.
+ */
+int32_t ert_hub_time_offset(ert_hub *hub, ert_offset *offset);
+
+/*
+ * Cancels a timer of whatever shard, beside all threads, as ert_seat_cancel does: the wheel is not told.
+ *
+ * Writes the milliseconds that were left to `left`. ERT_NO_TIMER: the timer is not armed; `left` is as it was. ERT_CLOSED.
+ * Constant work: two loads, and one exchange if the timer is armed; no memory.
+ */
+int32_t ert_hub_cancel(ert_hub *hub, const ert_timer *timer, uint64_t *left);
+
+/*
+ * Reads the milliseconds that are left of a timer of whatever shard, as ert_seat_read does, and changes nothing.
+ *
+ * ERT_NO_TIMER: the timer is not armed, and `left` is as it was. ERT_CLOSED. Constant work: two loads; no memory.
+ */
+int32_t ert_hub_read(ert_hub *hub, const ert_timer *timer, uint64_t *left);
+
+/*
+ * Closes a shard, on any thread, and frees its memory; with the last handle of a service also what all of them share.
+ *
+ * Nothing that the shard did is undone: its armed timers stay armed, so that others can cancel and read them, and never
+ * expire. Messages that were not taken are discarded, and what their `msg` points to is not freed. Its scheduler and its
+ * processes are not given out again.
+ *
+ * The handle is as ERT_INIT makes it, and can be opened again. ERT_CLOSED: the handle was closed; a second close is safe.
+ */
+int32_t ert_shard_close(ert_shard *shard);
+
+/*
+ * Tells which processes are of a shard: writes the first of them to `from`, and the first after them to `to`.
+ *
+ * If both are the same, it has none. ERT_CLOSED. It changes nothing. Constant work; no memory.
+ */
+int32_t ert_shard_processes(ert_shard *shard, uint32_t *from, uint32_t *to);
+
+/*
+ * Monotonic time, in nanoseconds: that of the last tick, whichever thread made it.
+ *
+ * If one call returned before another began, through whatever handles, the later one never returns an earlier time.
+ *
+ * ERT_CLOSED. Constant work: one load of a word that only ticks write; no memory.
+ */
+int32_t ert_shard_monotonic_time(ert_shard *shard, int64_t *time);
+
+/*
+ * System time, in nanoseconds since 1970, as ert_seat_system_time returns it: a tick may come between its two loads.
+ *
+ * ERT_CLOSED. Constant work: two loads; no memory.
+ */
+int32_t ert_shard_system_time(ert_shard *shard, int64_t *time);
+
+/*
+ * The time offset, in nanoseconds, with its state: both are of one moment.
+ *
+ * ERT_CLOSED. Constant work: one load; no memory.
+ */
+int32_t ert_shard_time_offset(ert_shard *shard, ert_offset *offset);
+
+/*
+ * Starts a timer on the wheel of a shard, for a process of the shard, as ert_world_start does.
+ *
+ * Writes the timer's name to `timer`. ERT_RANGE: the process `dest` is not of the shard. ERT_BAD_TIME: `when` is negative,
+ * or the deadline outside 0 to 8,796,093,022,207 milliseconds after the start time. ERT_FULL: no slot of the wheel is
+ * available. ERT_CLOSED. No memory. Constant work if a slot is known to be free; otherwise each slot of the wheel is looked
+ * at once.
+ */
+int32_t ert_shard_start(ert_shard *shard, const ert_start *start, ert_timer *timer);
+
+/*
+ * Cancels a timer, whichever shard started it.
+ *
+ * After it the timer's message never comes. Writes the milliseconds that were left to `left`: 0 if it was due and had not
+ * expired. If the timer is of this shard, its slot can be used again; if it is of another one, that keeps the slot until
+ * the timer would have been due, or until a start that finds no other free slot looks for it.
+ *
+ * ERT_NO_TIMER: the timer is not armed: it has expired, was cancelled, or never existed; `left` is as it was. ERT_CLOSED.
+ * Constant work; no memory.
+ */
+int32_t ert_shard_cancel(ert_shard *shard, const ert_timer *timer, uint64_t *left);
+
+/*
+ * Reads the milliseconds that are left of a timer, whichever shard started it, and changes nothing.
+ *
+ * Other threads may end the timer or tick right after the reads, so this is what was left during the call.
+ *
+ * ERT_NO_TIMER: the timer is not armed, and `left` is as it was. ERT_CLOSED. Constant work: two loads; no memory.
+ */
+int32_t ert_shard_read(ert_shard *shard, const ert_timer *timer, uint64_t *left);
+
+/*
+ * Reports whether a process of whatever shard is alive: writes 1 or 0 to `alive`. 0 is final.
+ *
+ * ERT_RANGE: there is no such process. ERT_CLOSED. Constant work: one load; no memory.
+ */
+int32_t ert_shard_is_alive(ert_shard *shard, uint32_t process, uint32_t *alive);
+
+/*
+ * Makes a process of the shard exit, and cancels all timers whose message would go to it: they are all of this shard.
+ *
+ * Sets `first` to 1 if the process had not exited before. Otherwise it sets it to 0 and does nothing else. Messages in its
+ * mailbox can no longer be taken, and a timer that expired and was not delivered is discarded.
+ *
+ * ERT_RANGE: the process is not of the shard. ERT_CLOSED. Work for those timers; no memory.
+ */
+int32_t ert_shard_exit(ert_shard *shard, uint32_t process, uint32_t *first);
+
+/*
+ * Takes the first message of a process of the shard, as ert_world_take does, and writes it to `mail`.
+ *
+ * ERT_EMPTY: there is no message. ERT_EXITED: the process has exited, whether it has messages or not. ERT_RANGE: the
+ * process is not of the shard. ERT_CLOSED. Constant work; no memory.
+ */
+int32_t ert_shard_take(ert_shard *shard, uint32_t process, ert_mail *mail);
+
+/*
+ * Makes a monitor of the time offset for a process of the shard, as ert_world_monitor does, and writes its number.
+ *
+ * ERT_FULL: the process has 64 monitors, or the last number was given. ERT_NO_MEMORY: nothing has changed. ERT_RANGE: the
+ * process is not of the shard. ERT_CLOSED.
+ */
+int32_t ert_shard_monitor(ert_shard *shard, uint32_t process, uint32_t *monitor);
+
+/*
+ * Removes a monitor of a process of the shard, as ert_world_demonitor does.
+ *
+ * ERT_NO_MONITOR: the process has no monitor of that number. ERT_RANGE: the process is not of the shard. ERT_CLOSED.
+ */
+int32_t ert_shard_demonitor(ert_shard *shard, uint32_t process, uint32_t monitor);
+
+/*
+ * Notifies the monitors of a process of the shard of the time offset, as ert_world_tell does, and writes how many there
+ * were to `told`.
+ *
+ * ERT_NO_MEMORY: nothing has changed, and the call can be made again. ERT_RANGE: the process is not of the shard.
+ * ERT_CLOSED.
+ */
+int32_t ert_shard_tell(ert_shard *shard, uint32_t process, uint32_t *told);
+
+/*
+ * Expires every timer of the shard that is due at the current monotonic time, as ert_world_advance does.
+ *
+ * Writes how many there were, and that time, to `advanced`. ERT_NO_MEMORY: none has expired. ERT_CLOSED. Work for the due
+ * timers and the milliseconds since the last advance.
+ */
+int32_t ert_shard_advance(ert_shard *shard, ert_advanced *advanced);
+
+/*
+ * Delivers the expired timers of the shard, as ert_world_deliver does, and writes how many messages were put and
+ * discarded to `delivered`.
+ *
+ * ERT_NO_MEMORY: those that were not delivered stay, and the next call goes on with them. ERT_CLOSED.
+ */
+int32_t ert_shard_deliver(ert_shard *shard, ert_delivered *delivered);
+
+/*
+ * Makes a turn of the shard: advances its wheel, and delivers what has expired. This is the call for the event loop of
+ * its thread.
+ *
+ * Writes what it did to `turned`; `served` is 0, since a shard has no requests. ERT_NO_MEMORY: what was done stays done and
+ * is not reported, and the next turn goes on. ERT_CLOSED.
+ */
+int32_t ert_shard_turn(ert_shard *shard, ert_turned *turned);
+
+/*
+ * Returns the earliest time at which a timer of the shard can be due, in milliseconds since the start time, as `to` of a
+ * turn.
+ *
+ * What ert_world_next_due says of it holds here too. A timer that another thread cancelled counts until it would have been
+ * due.
+ *
+ * ERT_EMPTY: the wheel holds no timer, and `due` is as it was. ERT_CLOSED. It changes nothing. Constant work.
+ */
+int32_t ert_shard_next_due(ert_shard *shard, uint64_t *due);
 
 #ifdef __cplusplus
 }

@@ -25,7 +25,7 @@ REQUESTS = {0: "ERT_CANCEL", 1: "ERT_READ"}
 
 
 class Handle:
-    """`ert_world` and `ert_seat`."""
+    """`ert_world`, `ert_seat`, `ert_hub` and `ert_shard`."""
 
     what = "a service"
 
@@ -44,6 +44,14 @@ class Handle:
 
 class Seat(Handle):
     what = "a seat"
+
+
+class Hub(Handle):
+    what = "a hub"
+
+
+class Shard(Handle):
+    what = "a shard"
 
 
 class Timer:
@@ -84,7 +92,15 @@ class Request:
 class Printers(gdb.printing.PrettyPrinter):
     """By the name of the type, since the structs of the header have no tags."""
 
-    KINDS = {"ert_world": Handle, "ert_seat": Seat, "ert_timer": Timer, "ert_mail": Mail, "ert_request": Request}
+    KINDS = {
+        "ert_world": Handle,
+        "ert_seat": Seat,
+        "ert_hub": Hub,
+        "ert_shard": Shard,
+        "ert_timer": Timer,
+        "ert_mail": Mail,
+        "ert_request": Request,
+    }
 
     def __init__(self):
         super().__init__("ertime", [gdb.printing.SubPrettyPrinter(it) for it in self.KINDS])

@@ -17,6 +17,7 @@ pub const ERT_EMPTY: i32 = -14;
 pub const ERT_EXITED: i32 = -15;
 pub const ERT_NO_MONITOR: i32 = -17;
 pub const ERT_NO_SEAT: i32 = -18;
+pub const ERT_NO_SHARD: i32 = -19;
 
 #[repr(C)]
 #[derive(Debug)]
@@ -28,6 +29,20 @@ pub struct ert_world {
 #[repr(C)]
 #[derive(Debug)]
 pub struct ert_seat {
+    pub at_: *mut c_void,
+    pub live_: bool,
+}
+
+#[repr(C)]
+#[derive(Debug)]
+pub struct ert_hub {
+    pub at_: *mut c_void,
+    pub live_: bool,
+}
+
+#[repr(C)]
+#[derive(Debug)]
+pub struct ert_shard {
     pub at_: *mut c_void,
     pub live_: bool,
 }
@@ -221,4 +236,48 @@ unsafe extern "C" {
     pub fn ert_seat_cancel(seat: *mut ert_seat, timer: *const ert_timer, left: *mut u64) -> i32;
     pub fn ert_seat_read(seat: *mut ert_seat, timer: *const ert_timer, left: *mut u64) -> i32;
     pub fn ert_seat_is_alive(seat: *mut ert_seat, process: u32, alive: *mut u32) -> i32;
+
+    pub fn ert_hub_open(hub: *mut ert_hub, settings: *const ert_settings) -> i32;
+    pub fn ert_hub_close(hub: *mut ert_hub) -> i32;
+    pub fn ert_hub_shard(hub: *mut ert_hub, shard: *mut ert_shard, processes: u32) -> i32;
+    pub fn ert_hub_tick(
+        hub: *mut ert_hub,
+        reading: *const ert_reading,
+        force: u32,
+        moved: *mut ert_moved,
+    ) -> i32;
+    pub fn ert_hub_finalize(
+        hub: *mut ert_hub,
+        reading: *const ert_reading,
+        before: *mut u32,
+        moved: *mut ert_moved,
+    ) -> i32;
+    pub fn ert_hub_monotonic_time(hub: *mut ert_hub, time: *mut i64) -> i32;
+    pub fn ert_hub_system_time(hub: *mut ert_hub, time: *mut i64) -> i32;
+    pub fn ert_hub_time_offset(hub: *mut ert_hub, offset: *mut ert_offset) -> i32;
+    pub fn ert_hub_cancel(hub: *mut ert_hub, timer: *const ert_timer, left: *mut u64) -> i32;
+    pub fn ert_hub_read(hub: *mut ert_hub, timer: *const ert_timer, left: *mut u64) -> i32;
+
+    pub fn ert_shard_close(shard: *mut ert_shard) -> i32;
+    pub fn ert_shard_processes(shard: *mut ert_shard, from: *mut u32, to: *mut u32) -> i32;
+    pub fn ert_shard_monotonic_time(shard: *mut ert_shard, time: *mut i64) -> i32;
+    pub fn ert_shard_system_time(shard: *mut ert_shard, time: *mut i64) -> i32;
+    pub fn ert_shard_time_offset(shard: *mut ert_shard, offset: *mut ert_offset) -> i32;
+    pub fn ert_shard_start(
+        shard: *mut ert_shard,
+        start: *const ert_start,
+        timer: *mut ert_timer,
+    ) -> i32;
+    pub fn ert_shard_cancel(shard: *mut ert_shard, timer: *const ert_timer, left: *mut u64) -> i32;
+    pub fn ert_shard_read(shard: *mut ert_shard, timer: *const ert_timer, left: *mut u64) -> i32;
+    pub fn ert_shard_is_alive(shard: *mut ert_shard, process: u32, alive: *mut u32) -> i32;
+    pub fn ert_shard_exit(shard: *mut ert_shard, process: u32, first: *mut u32) -> i32;
+    pub fn ert_shard_take(shard: *mut ert_shard, process: u32, mail: *mut ert_mail) -> i32;
+    pub fn ert_shard_monitor(shard: *mut ert_shard, process: u32, monitor: *mut u32) -> i32;
+    pub fn ert_shard_demonitor(shard: *mut ert_shard, process: u32, monitor: u32) -> i32;
+    pub fn ert_shard_tell(shard: *mut ert_shard, process: u32, told: *mut u32) -> i32;
+    pub fn ert_shard_advance(shard: *mut ert_shard, advanced: *mut ert_advanced) -> i32;
+    pub fn ert_shard_deliver(shard: *mut ert_shard, delivered: *mut ert_delivered) -> i32;
+    pub fn ert_shard_turn(shard: *mut ert_shard, turned: *mut ert_turned) -> i32;
+    pub fn ert_shard_next_due(shard: *mut ert_shard, due: *mut u64) -> i32;
 }

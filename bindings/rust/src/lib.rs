@@ -8,7 +8,8 @@
 //!
 //! One scheduler and one process are enough for most programs: a process is a mailbox, and a message can be an
 //! index of what the timer is for. A [`Seat`] is for another thread: it reads the time, and cancels and reads
-//! timers while others use the world, without a lock.
+//! timers while others use the world, without a lock. Where each thread has timers of its own, a [`Hub`] gives each a
+//! [`Shard`], in the place of a world.
 //!
 //! ```
 //! use ertime::{Reading, Settings, Start, World};
@@ -23,6 +24,7 @@
 //! ```
 
 mod ffi;
+mod shards;
 
 use std::fmt;
 use std::ptr;
@@ -31,6 +33,7 @@ pub use ffi::{
     ert_advanced as Advanced, ert_delivered as Delivered, ert_reading as Reading,
     ert_timer as Timer, ert_turned as Turned,
 };
+pub use shards::{Hub, Shard};
 
 /// Why a call was refused. Nothing has changed then, unless `ertime.h` says otherwise.
 #[derive(Clone, Copy, Debug, PartialEq, Eq)]
@@ -56,6 +59,8 @@ pub enum Error {
     Exited,
     /// Every seat of [`Settings::seats`] was given out.
     NoSeat,
+    /// No scheduler is left that a shard could have.
+    NoShard,
     /// A status that these bindings don't know: the library is newer.
     Unknown(i32),
 }
@@ -73,6 +78,7 @@ impl fmt::Display for Error {
             Error::Full => f.write_str("there is no free place"),
             Error::Exited => f.write_str("the process has exited"),
             Error::NoSeat => f.write_str("every seat was given out"),
+            Error::NoShard => f.write_str("no scheduler is left for a shard"),
             Error::Unknown(status) => write!(f, "unknown status {status}"),
         }
     }
@@ -92,6 +98,7 @@ fn error(status: i32) -> Error {
         ffi::ERT_FULL => Error::Full,
         ffi::ERT_EXITED => Error::Exited,
         ffi::ERT_NO_SEAT => Error::NoSeat,
+        ffi::ERT_NO_SHARD => Error::NoShard,
         other => Error::Unknown(other),
     }
 }
@@ -164,6 +171,20 @@ impl Settings {
             slots: 1_024,
             seats: 0,
             first,
+        }
+    }
+
+    fn in_c(&self, callers: u32) -> ffi::ert_settings {
+        ffi::ert_settings {
+            size: size_of::<ffi::ert_settings>() as u32,
+            mode: self.mode as u32,
+            correction: self.correction.into(),
+            schedulers: self.schedulers,
+            processes: self.processes,
+            slots: self.slots,
+            callers,
+            start: self.start,
+            first: self.first,
         }
     }
 }
@@ -315,18 +336,8 @@ unsafe impl Send for World {}
 
 impl World {
     pub fn open(settings: &Settings) -> Result<World, Error> {
-        let settings = ffi::ert_settings {
-            size: size_of::<ffi::ert_settings>() as u32,
-            mode: settings.mode as u32,
-            correction: settings.correction.into(),
-            schedulers: settings.schedulers,
-            processes: settings.processes,
-            slots: settings.slots,
-            // The world's calls are made by one caller more.
-            callers: settings.seats.saturating_add(1),
-            start: settings.start,
-            first: settings.first,
-        };
+        // The world's calls are made by one caller more.
+        let settings = settings.in_c(settings.seats.saturating_add(1));
         let mut world = World {
             handle: Box::new(ffi::ert_world {
                 at_: ptr::null_mut(),

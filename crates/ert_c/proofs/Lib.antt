@@ -1,4 +1,5 @@
 pub mod Carried
 pub mod Cast
 pub mod Heap
+pub mod Sharing
 pub mod Ways

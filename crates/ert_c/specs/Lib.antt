@@ -1,9 +1,11 @@
 pub mod Calls
 pub mod ClockCalls
 pub mod Constants
+pub mod HubCalls
 pub mod Opened
 pub mod Places
 pub mod SeatCalls
+pub mod ShardCalls
 pub mod Through
 pub mod Told
 pub mod Waiting

@@ -5,14 +5,16 @@
 //! What lies behind it is a field of the contracts alone (`WorldPlace`, `value`), so each exported function says
 //! what it does to the service. The handle of a seat (`ErtSeat`, `SeatPlace`) is the same with a boxed `Seat`. No
 //! call follows both handles at once but the one that opens a seat, and that takes nothing of the seat's: two
-//! handles can't be known to be of one service.
+//! handles can't be known to be of one service. The handles of a hub (`ErtHub`) and of a shard (`ErtShard`) are of the
+//! same form, with a boxed `Hub` and `Shard`, and the one call of both gives the shard. So no shard comes back to its
+//! hub: it is closed.
 //!
 //! **The place** (`Place`) is what the two have in common: three short functions reach the pointer, at any type,
 //! with proofs by hand. C is shown no type parameter, so what it holds are structs of their own, and one function
 //! of each (`as_place`) lends it as a `Place`: it owns the same, word for word, and the two have one proof by hand
 //! (`proofs/Cast`). A place can't be dropped: so nothing can be forgotten in one.
 //!
-//! **The calls** are those of `ert_world::World` and `Seat`, each between a test and a telling. A closed handle is
+//! **The calls** are those of `ert_world::World` and `Seat`, and of `ert_shard::Hub` and `Shard`, each between a test and a telling. A closed handle is
 //! answered and never followed; a number out of range is answered before the call, whose `requires` it would break;
 //! then the call is made, and its answer is told by a status and by what is written (`tell_..`). So a contract
 //! reads, by `specs/Through`: through this handle the service makes this call with some answer, and that answer
@@ -23,21 +25,28 @@
 //! | `place`, `handle` | where a box lies, and the handles of a world and of a seat |
 //! | `status`, `laws` | the statuses; that each has a number of its own |
 //! | `opening`, `clock_calls`, `timer_calls`, `mail_calls`, `turn_calls`, `waiting_calls` | the structs that cross, what they mean, and how answers are told |
-//! | `clock_exports`, `timer_exports`, `mail_exports`, `turn_exports`, `waiting_exports`, `seat_exports`, `version_exports` | the exported functions |
+//! | `clock_exports`, `timer_exports`, `mail_exports`, `turn_exports`, `waiting_exports`, `seat_exports`, `version_exports` | the exported functions of a world and of a seat, and the version |
+//! | `shard_handle` | the handles of a hub and of a shard |
+//! | `hub_exports`, `shard_exports`, `shard_mail_exports`, `shard_turn_exports` | their exported functions |
 //!
 //! What C owes (pointers to values, one call at a time on a handle, no copy of an open handle) nothing checks;
-//! `docs/EMBEDDING.md` lists it. It stands on `ert_world` and what that names, and on the allocator.
+//! `docs/EMBEDDING.md` lists it. It stands on `ert_world`, `ert_shard` and what they name, and on the allocator.
 #![tactic(auto)]
 
 mod clock_calls;
 mod clock_exports;
 mod handle;
+mod hub_exports;
 mod laws;
 mod mail_calls;
 mod mail_exports;
 mod opening;
 mod place;
 mod seat_exports;
+mod shard_exports;
+mod shard_handle;
+mod shard_mail_exports;
+mod shard_turn_exports;
 mod status;
 mod timer_calls;
 mod timer_exports;
@@ -52,6 +61,7 @@ pub use handle::{ErtSeat, ErtWorld};
 pub use laws::constants_are_fixed;
 pub use mail_calls::{ErtMail, ErtRequest};
 pub use opening::{ErtReading, ErtSettings};
+pub use shard_handle::{ErtHub, ErtShard};
 pub use timer_calls::{ErtStart, ErtTimer};
 pub use turn_calls::{ErtAdvanced, ErtDelivered, ErtTurned};
 pub use version_exports::VERSION;

@@ -39,3 +39,5 @@ pub const BAD_KIND: i32 = -16;
 pub const NO_MONITOR: i32 = -17;
 /// Every caller but 0 has a seat.
 pub const NO_SEAT: i32 = -18;
+/// No scheduler is left that a shard could have.
+pub const NO_SHARD: i32 = -19;

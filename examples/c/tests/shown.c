@@ -10,6 +10,8 @@ __attribute__((noinline)) static void show(void) { shown += 1; }
 int main(void) {
     ert_world world = ERT_INIT, closed = ERT_INIT, broken = {NULL, true};
     ert_seat seat = ERT_INIT;
+    ert_hub hub = ERT_INIT;
+    ert_shard shard = ERT_INIT;
     ert_reading first = {0, 0};
     ert_settings settings;
     const ert_timer timer = {1, 5, 262144};
@@ -24,11 +26,14 @@ int main(void) {
     const ert_request requests[] = {{ERT_CANCEL, {0, 2, 3}, 4, 1}, {ERT_READ, {0, 2, 3}, 0, 0}, {7, {0, 0, 0}, 0, 0}};
     ert_settings_init(&settings, &first);
     settings.callers = 2;
-    if (ert_world_open(&world, &settings) != ERT_OK || ert_seat_open(&seat, &world) != ERT_OK) {
+    if (ert_world_open(&world, &settings) != ERT_OK || ert_seat_open(&seat, &world) != ERT_OK
+        || ert_hub_open(&hub, &settings) != ERT_OK || ert_hub_shard(&hub, &shard, 1) != ERT_OK) {
         return EXIT_FAILURE;
     }
     show();
     (void)closed, (void)broken, (void)timer, (void)mails, (void)requests;
+    ert_shard_close(&shard);
+    ert_hub_close(&hub);
     ert_seat_close(&seat);
     ert_world_close(&world);
     return EXIT_SUCCESS;

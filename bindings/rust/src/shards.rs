@@ -1,0 +1,255 @@
+//! A service that is divided among threads: a hub with the clock, and a shard for each thread.
+
+use std::ops::Range;
+use std::ptr;
+
+use crate::{
+    Advanced, Delivered, Error, Mail, Moved, OffsetState, Reading, Settings, Start, Timer, Turned,
+    done, done_or, ffi, mail, state,
+};
+
+/// The clock of a service that is divided among threads, and what was given to no shard. It is closed when it is dropped.
+///
+/// Time moves by [`Hub::tick`] alone, for all shards at once. One thread can have the hub; or it lies in a `Mutex`, and
+/// whoever wakes ticks if `try_lock` gets it.
+///
+/// The handle of C lies on the heap, so that a `Hub` can be moved.
+#[derive(Debug)]
+pub struct Hub {
+    handle: Box<ffi::ert_hub>,
+}
+
+// What lies behind the handle is shared with shards alone, by atomic steps, and each method takes `&mut self`.
+unsafe impl Send for Hub {}
+
+impl Hub {
+    /// Opens a service that is to be divided. Each of its schedulers can go to a shard.
+    ///
+    /// `BadCount` also if `settings.schedulers` is 17 or more, since each shard has a caller of its own.
+    pub fn open(settings: &Settings) -> Result<Hub, Error> {
+        // One caller for each shard, and one for the hub.
+        let callers = settings.schedulers.saturating_add(1);
+        let settings = settings.in_c(callers.saturating_add(settings.seats));
+        let mut hub = Hub {
+            handle: Box::new(ffi::ert_hub {
+                at_: ptr::null_mut(),
+                live_: false,
+            }),
+        };
+        done(unsafe { ffi::ert_hub_open(&mut *hub.handle, &settings) })?;
+        Ok(hub)
+    }
+
+    /// Gives the last scheduler that is left, and so many of the last processes, to a shard for a thread.
+    pub fn shard(&mut self, processes: u32) -> Result<Shard, Error> {
+        let mut shard = Shard {
+            handle: Box::new(ffi::ert_shard {
+                at_: ptr::null_mut(),
+                live_: false,
+            }),
+        };
+        done(unsafe { ffi::ert_hub_shard(&mut *self.handle, &mut *shard.handle, processes) })?;
+        Ok(shard)
+    }
+
+    /// Takes a reading of the clocks of the operating system: monotonic time moves on by it, for all shards.
+    pub fn tick(&mut self, reading: Reading, force: bool) -> Result<Moved, Error> {
+        let mut moved = ffi::ert_moved::default();
+        done(unsafe { ffi::ert_hub_tick(&mut *self.handle, &reading, force.into(), &mut moved) })?;
+        Ok(moved.into())
+    }
+
+    /// Finalizes the time offset, and returns the state before it.
+    pub fn finalize(&mut self, reading: Reading) -> Result<(OffsetState, Moved), Error> {
+        let mut before = 0;
+        let mut moved = ffi::ert_moved::default();
+        done(unsafe {
+            ffi::ert_hub_finalize(&mut *self.handle, &reading, &mut before, &mut moved)
+        })?;
+        Ok((state(before), moved.into()))
+    }
+
+    /// Monotonic time, in nanoseconds.
+    pub fn monotonic_time(&mut self) -> i64 {
+        let mut time = 0;
+        let _open = unsafe { ffi::ert_hub_monotonic_time(&mut *self.handle, &mut time) };
+        time
+    }
+
+    /// System time, in nanoseconds.
+    pub fn system_time(&mut self) -> i64 {
+        let mut time = 0;
+        let _open = unsafe { ffi::ert_hub_system_time(&mut *self.handle, &mut time) };
+        time
+    }
+
+    /// The time offset, in nanoseconds, with its state.
+    pub fn time_offset(&mut self) -> (i64, OffsetState) {
+        let mut offset = ffi::ert_offset::default();
+        let _open = unsafe { ffi::ert_hub_time_offset(&mut *self.handle, &mut offset) };
+        (offset.offset, state(offset.state))
+    }
+
+    /// Cancels a timer of whatever shard, and returns the milliseconds that were left; None if it is not armed.
+    pub fn cancel(&mut self, timer: &Timer) -> Option<u64> {
+        let mut left = 0;
+        let status = unsafe { ffi::ert_hub_cancel(&mut *self.handle, timer, &mut left) };
+        (status == ffi::ERT_OK).then_some(left)
+    }
+
+    /// The milliseconds that are left of a timer of whatever shard; None if it is not armed.
+    pub fn read(&mut self, timer: &Timer) -> Option<u64> {
+        let mut left = 0;
+        let status = unsafe { ffi::ert_hub_read(&mut *self.handle, timer, &mut left) };
+        (status == ffi::ERT_OK).then_some(left)
+    }
+}
+
+impl Drop for Hub {
+    fn drop(&mut self) {
+        let _status = unsafe { ffi::ert_hub_close(&mut *self.handle) };
+    }
+}
+
+/// What a thread needs of a divided service: one scheduler with its wheel, and some processes. It is closed when it is
+/// dropped; its armed timers never expire then.
+///
+/// Its thread starts timers for its processes, makes its turns and takes its messages, beside all other threads and
+/// without a lock. It cancels and reads the timers of all shards.
+///
+/// The handle of C lies on the heap, so that a `Shard` can be moved.
+#[derive(Debug)]
+pub struct Shard {
+    handle: Box<ffi::ert_shard>,
+}
+
+// What lies behind the handle is shared with the hub and other shards by atomic steps alone, and each method takes
+// `&mut self`.
+unsafe impl Send for Shard {}
+
+impl Shard {
+    /// The processes of the shard.
+    pub fn processes(&mut self) -> Range<u32> {
+        let (mut from, mut to) = (0, 0);
+        let _open = unsafe { ffi::ert_shard_processes(&mut *self.handle, &mut from, &mut to) };
+        from..to
+    }
+
+    /// Monotonic time, in nanoseconds: that of the last tick, whichever thread made it.
+    pub fn monotonic_time(&mut self) -> i64 {
+        let mut time = 0;
+        let _open = unsafe { ffi::ert_shard_monotonic_time(&mut *self.handle, &mut time) };
+        time
+    }
+
+    /// System time, in nanoseconds: monotonic time, and the time offset that was read after it.
+    pub fn system_time(&mut self) -> i64 {
+        let mut time = 0;
+        let _open = unsafe { ffi::ert_shard_system_time(&mut *self.handle, &mut time) };
+        time
+    }
+
+    /// The time offset, in nanoseconds, with its state.
+    pub fn time_offset(&mut self) -> (i64, OffsetState) {
+        let mut offset = ffi::ert_offset::default();
+        let _open = unsafe { ffi::ert_shard_time_offset(&mut *self.handle, &mut offset) };
+        (offset.offset, state(offset.state))
+    }
+
+    /// Starts a timer for a process of the shard. It counts from the last tick.
+    pub fn start(&mut self, start: &Start) -> Result<Timer, Error> {
+        let mut timer = Timer::default();
+        done(unsafe { ffi::ert_shard_start(&mut *self.handle, &start.start, &mut timer) })?;
+        Ok(timer)
+    }
+
+    /// Cancels a timer of whatever shard, and returns the milliseconds that were left; None if it is not armed.
+    pub fn cancel(&mut self, timer: &Timer) -> Option<u64> {
+        let mut left = 0;
+        let status = unsafe { ffi::ert_shard_cancel(&mut *self.handle, timer, &mut left) };
+        (status == ffi::ERT_OK).then_some(left)
+    }
+
+    /// The milliseconds that are left of a timer of whatever shard; None if it is not armed.
+    pub fn read(&mut self, timer: &Timer) -> Option<u64> {
+        let mut left = 0;
+        let status = unsafe { ffi::ert_shard_read(&mut *self.handle, timer, &mut left) };
+        (status == ffi::ERT_OK).then_some(left)
+    }
+
+    /// Whether a process of whatever shard is alive.
+    pub fn is_alive(&mut self, process: u32) -> Result<bool, Error> {
+        let mut alive = 0;
+        done(unsafe { ffi::ert_shard_is_alive(&mut *self.handle, process, &mut alive) })?;
+        Ok(alive != 0)
+    }
+
+    /// Makes a process of the shard exit, and returns whether it was alive before.
+    pub fn exit(&mut self, process: u32) -> Result<bool, Error> {
+        let mut first = 0;
+        done(unsafe { ffi::ert_shard_exit(&mut *self.handle, process, &mut first) })?;
+        Ok(first != 0)
+    }
+
+    /// Takes the first message of a process of the shard; None if there is none.
+    pub fn take(&mut self, process: u32) -> Result<Option<Mail>, Error> {
+        let mut first = ffi::ert_mail::default();
+        let status = unsafe { ffi::ert_shard_take(&mut *self.handle, process, &mut first) };
+        Ok(done_or(status, ffi::ERT_EMPTY)?.then(|| mail(first)))
+    }
+
+    /// Makes a monitor of the time offset for a process of the shard.
+    pub fn monitor(&mut self, process: u32) -> Result<u32, Error> {
+        let mut monitor = 0;
+        done(unsafe { ffi::ert_shard_monitor(&mut *self.handle, process, &mut monitor) })?;
+        Ok(monitor)
+    }
+
+    /// Removes a monitor, and returns whether there was one.
+    pub fn demonitor(&mut self, process: u32, monitor: u32) -> Result<bool, Error> {
+        let status = unsafe { ffi::ert_shard_demonitor(&mut *self.handle, process, monitor) };
+        done_or(status, ffi::ERT_NO_MONITOR)
+    }
+
+    /// Notifies the monitors of a process that were last told another time offset, and returns how many.
+    pub fn tell(&mut self, process: u32) -> Result<u32, Error> {
+        let mut told = 0;
+        done(unsafe { ffi::ert_shard_tell(&mut *self.handle, process, &mut told) })?;
+        Ok(told)
+    }
+
+    /// Expires the due timers of the shard.
+    pub fn advance(&mut self) -> Result<Advanced, Error> {
+        let mut advanced = Advanced::default();
+        done(unsafe { ffi::ert_shard_advance(&mut *self.handle, &mut advanced) })?;
+        Ok(advanced)
+    }
+
+    /// Delivers the expired timers of the shard.
+    pub fn deliver(&mut self) -> Result<Delivered, Error> {
+        let mut delivered = Delivered::default();
+        done(unsafe { ffi::ert_shard_deliver(&mut *self.handle, &mut delivered) })?;
+        Ok(delivered)
+    }
+
+    /// Makes a turn of the shard: advances and delivers. `served` is 0, since a shard has no requests.
+    pub fn turn(&mut self) -> Result<Turned, Error> {
+        let mut turned = Turned::default();
+        done(unsafe { ffi::ert_shard_turn(&mut *self.handle, &mut turned) })?;
+        Ok(turned)
+    }
+
+    /// How early a timer of the shard may be due, in milliseconds since the start time, as `World::next_due` returns
+    /// it; None if its wheel holds none.
+    pub fn next_due(&mut self) -> Result<Option<u64>, Error> {
+        let mut due = 0;
+        let status = unsafe { ffi::ert_shard_next_due(&mut *self.handle, &mut due) };
+        Ok(done_or(status, ffi::ERT_EMPTY)?.then_some(due))
+    }
+}
+
+impl Drop for Shard {
+    fn drop(&mut self) {
+        let _status = unsafe { ffi::ert_shard_close(&mut *self.handle) };
+    }
+}

@@ -1,0 +1,71 @@
+-- How a call through the handle of a hub or of a shard is shown.
+
+use Rattle.std.proofs.Common.{◌≡◌, ℕ, ◌<◌, ◌≤◌, ◌⊎◌, ℤ, Option, Some, None, Ok, inr, refl, subst, sym, false, arith}
+use Rattle.ert_c.specs.HubCalls.{OpensHub}
+use Rattle.ert_c.specs.Opened.{IsRead}
+use Rattle.ert_c.specs.Places.{is_there}
+use Rattle.ert_c.specs.ShardCalls.{HasShard, HasLost, IsRefused, CutsShard, OpensShard, IfHome}
+use Rattle.ert_c.specs.Through.{Through}
+use Rattle.ert_c.specs.declared.opening.ErtSettings.{ErtSettings}
+use Rattle.ert_c.specs.declared.status.TheConstants.{NO_MEMORY, NO_SHARD}
+use Rattle.ert_defs.specs.declared.settings.Settings.{Settings}
+use Rattle.ert_shard.specs.Hubs.{Rest}
+use Rattle.ert_shard.specs.Shards.{Share, Owned}
+
+-- a call is made by what was lent
+pub made_through : {W : Type 0} (kept : Type 0) (call : W → W → Type 0) (old new : Option W) (status : ℤ) (was now : W) → old ≡ Some was
+    → new ≡ Some now → call was now → Through kept call old status new
+made_through {W} kept call old new status was now is becomes made =
+    subst (λ (o : Option W). Through kept call o status new) (sym is) (now, becomes, made)
+
+-- a process below the first of a share isn't of it
+pub below_home : (call refused : Type 0) (s : Share) (p from : ℕ) → p < from → from ≡ s.from → refused → IfHome s p call refused
+below_home call refused s p from lower is r =
+    record { home = λ h. absurd (omega (arith, lower, is, h.0)); below = λ _. r; above = λ _. r }
+
+-- nor is one from the end of the share on
+pub above_home : (call refused : Type 0) (s : Share) (p to : ℕ) → to ≤ p → to ≡ s.to → refused → IfHome s p call refused
+above_home call refused s p to higher is r =
+    record { home = λ h. absurd (omega (arith, higher, is, h.1)); below = λ _. r; above = λ _. r }
+
+-- and all between are
+pub at_home : (call refused : Type 0) (s : Share) (p from to : ℕ) → from ≤ p → from ≡ s.from → p < to → to ≡ s.to → call
+    → IfHome s p call refused
+at_home call refused s p from to low from_is high to_is made = record {
+  home = λ _. made;
+  below = λ h. absurd (omega (arith, low, from_is, h));
+  above = λ h. absurd (omega (arith, high, to_is, h));
+}
+
+-- for want of memory a closed handle of a hub stays closed
+pub opens_no_hub : (c : ErtSettings) (o : Option Rest) (g : Settings) → is_there o ≡ false → IsRead c (Ok g) → g.schedulers < g.callers
+    → OpensHub c o NO_MEMORY o
+opens_no_hub c None g h read few = record {
+  read = Ok g;
+  meant = read;
+  opens = record { below = λ _. inr (refl, refl); above = λ m. absurd (omega (arith, few, m)) };
+}
+opens_no_hub c (Some r) g h read few = cc
+
+-- what an open hub does for a closed handle of a shard
+pub opens_shard : (processes : ℕ) (hub : Option Rest) (shard : Option Owned) (old : Rest) (status : ℤ) (left : Option Rest)
+    (given : Option Owned) → hub ≡ Some old → is_there shard ≡ false → CutsShard processes old status left given
+    → OpensShard processes hub shard status left given
+opens_shard processes hub None old status left given is h cuts =
+    subst (λ (o : Option Rest). OpensShard processes o None status left given) (sym is) cuts
+opens_shard processes hub (Some s) old status left given is h cuts = cc
+
+-- a handle behind which nothing stands
+pub none_there : (o : Option Owned) → is_there o ≡ false → o ≡ None
+none_there None h = refl
+none_there (Some s) h = cc
+
+-- a hub cuts a shard, where it has as much left
+pub cuts_some : (processes : ℕ) (old : Rest) (status : ℤ) (hub : Option Rest) (shard : Option Owned) → 0 < old.left → processes ≤ old.first
+    → HasShard processes old status hub shard ⊎ IsRefused NO_SHARD old status hub shard ⊎ IsRefused NO_MEMORY old status hub shard
+    ⊎ HasLost processes old status hub shard
+    → CutsShard processes old status hub shard
+cuts_some processes old status hub shard some few made = record {
+  below = λ _. record { below = λ h. absurd (omega (arith, few, h)); above = λ _. made };
+  above = λ h. absurd (omega (arith, some, h));
+}

@@ -1,0 +1,7 @@
+use Rattle.std.proofs.Common.{refl, ◌∙◌, rules}
+use Rattle.ert_c.proofs.Sharing.{made_through}
+use Rattle.ert_c.proofs.shard_exports.ert_shard_time_offset.Goals as goal
+
+pub returns : goal.returns
+returns c = made_through _ _ _ _ _ c.lend.result.now c.time_offset-value.new.self (c.as_place.ensures.value ∙ c.lend.ensures.value) refl
+    (record { told = refl; offset_state = c.time_offset-value.result.1; state = search rules; steps = search rules })

@@ -1,0 +1,84 @@
+-- What C is told of a hub.
+
+use Rattle.std.specs.Prelude.{◌≡◌, ◌⊎◌, ℕ, ℤ, Bool, Option, Some, None, Result, Ok, Err}
+use Rattle.ert_clock.specs.Ticks.{act_of, Gives, FinalizesFrom}
+use Rattle.ert_clock.specs.declared.clock.ClockErr.{ClockErr}
+use Rattle.ert_clock.specs.declared.clock.Moved.{Moved}
+use Rattle.ert_effects.specs.ClockCalls.{Ticks, Finalizes, TellsTime, TellsOffset, TellsSystemTime}
+use Rattle.ert_effects.specs.TimerCalls.{Reads, Cancels}
+use Rattle.ert_c.specs.ClockCalls.{state_as}
+use Rattle.ert_c.specs.Opened.{IsRead}
+use Rattle.ert_c.specs.Through.{IfBelow}
+use Rattle.ert_c.specs.declared.clock_calls.ErtOffset.{ErtOffset}
+use Rattle.ert_c.specs.declared.opening.ErtSettings.{ErtSettings}
+use Rattle.ert_c.specs.declared.status.TheConstants.{OK, OPEN, NO_MEMORY, BAD_COUNT}
+use Rattle.ert_defs.specs.declared.entry.Actor.TheVariants.{Caller}
+use Rattle.ert_defs.specs.declared.settings.OffsetState.{OffsetState}
+use Rattle.ert_defs.specs.declared.settings.Reading.{Reading}
+use Rattle.ert_defs.specs.declared.settings.Settings.{Settings}
+use Rattle.ert_defs.specs.declared.timer.TimerRef.{TimerRef}
+use Rattle.ert_shard.specs.Hubs.{Rest, IsFresh, HubGoes, HubSteps, By}
+use Rattle.ert_world.specs.Openings.{IsOpened}
+use Rattle.ert_world.specs.Worlds.{Seen}
+
+-- a hub stands behind the handle: that of a service that was opened with these settings, of which nothing was given away
+pub record HasHub (g : Settings) (status : ℤ) (new : Option Rest) : Type 0 where
+  pub world : Seen
+  pub hub : Rest
+  pub is : new ≡ Some hub
+  pub opened : IsOpened g world
+  pub fresh : IsFresh world hub
+  pub told : status ≡ OK
+
+-- what was read opens a hub, or finds no memory for it; a refusal is told by its status, as is a number of callers that
+-- isn't above that of the schedulers
+abbrev pub OpensHubBy : Result Settings ℤ → ℤ → Option Rest → Type 0
+OpensHubBy (Ok g) status new =
+    IfBelow g.schedulers g.callers (HasHub g status new ⊎ ((status ≡ NO_MEMORY) × (new ≡ None))) ((status ≡ BAD_COUNT) × (new ≡ None))
+OpensHubBy (Err why) status new = (status ≡ why) × (new ≡ None)
+
+-- behind a closed handle a hub is opened with what C passed, or isn't
+pub record OpensNewHub (c : ErtSettings) (status : ℤ) (new : Option Rest) : Type 0 where
+  pub read : Result Settings ℤ
+  pub meant : IsRead c read
+  pub opens : OpensHubBy read status new
+
+-- a closed handle is opened or stays closed, and an open one is left as it was
+abbrev pub OpensHub : ErtSettings → Option Rest → ℤ → Option Rest → Type 0
+OpensHub c None status new = OpensNewHub c status new
+OpensHub c (Some r) status new = (status ≡ OPEN) × (new ≡ Some r)
+
+-- a hub makes a tick
+pub record HubTicksBy (r : Reading) (force : Bool) (answer : Result Moved ClockErr) (old new : Rest) : Type 0 where
+  pub gives : Gives old.clock r (act_of force) answer new.clock
+  pub goes : HubGoes old (By old (λ g. Ticks g 0 r force answer)) new
+
+-- a hub makes a finalization
+pub record HubFinalizesBy (r : Reading) (answer : Result (OffsetState × Moved) ClockErr) (old new : Rest) : Type 0 where
+  pub gives : FinalizesFrom old.clock.face.state old.clock r answer new.clock
+  pub goes : HubGoes old (By old (λ g. Finalizes g 0 r answer)) new
+
+-- a hub looks up monotonic time as caller 0, and C is told it
+pub record HubReadsTime (status time : ℤ) (old new : Rest) : Type 0 where
+  pub told : status ≡ OK
+  pub steps : HubSteps old (By old (λ g. TellsTime g (Caller 0) time)) new
+
+-- a hub looks up system time as caller 0, and C is told it
+pub record HubReadsSystemTime (status time : ℤ) (old new : Rest) : Type 0 where
+  pub told : status ≡ OK
+  pub steps : HubSteps old (By old (λ g. TellsSystemTime g (Caller 0) time)) new
+
+-- a hub looks up the time offset and its state as caller 0, and C is told them
+pub record HubReadsOffset (status : ℤ) (offset : ErtOffset) (old new : Rest) : Type 0 where
+  pub told : status ≡ OK
+  pub offset_state : OffsetState
+  pub state : offset.state ≡ state_as offset_state
+  pub steps : HubSteps old (By old (λ g. TellsOffset g (Caller 0) (offset.offset, offset_state))) new
+
+-- a hub cancels a timer as caller 0: what was left of it, where it was armed
+abbrev pub HubCancelsBy : TimerRef → Option ℕ → Rest → Rest → Type 0
+HubCancelsBy timer answer old new = HubSteps old (By old (λ g. Cancels g (Caller 0) timer answer)) new
+
+-- a hub reads a timer as caller 0: what is left of it, where it is armed
+abbrev pub HubReadsBy : TimerRef → Option ℕ → Rest → Rest → Type 0
+HubReadsBy timer answer old new = HubSteps old (By old (λ g. Reads g (Caller 0) timer answer)) new

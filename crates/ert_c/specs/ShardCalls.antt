@@ -1,0 +1,185 @@
+-- What C is told of a shard.
+
+use Rattle.std.specs.Prelude.{◌≡◌, ◌≢◌, ◌⊎◌, ℕ, ◌+◌, ◌<◌, ◌≤◌, ℤ, Bool, Option, Some, None, Result, Err, IfOk, OnSome, ⊤}
+use Rattle.ert_effects.specs.Chains.{AdvancesWheel, Delivers}
+use Rattle.ert_effects.specs.ClockCalls.{TellsTime, TellsOffset, TellsSystemTime}
+use Rattle.ert_effects.specs.MailCalls.{Takes, Monitors, Demonitors, Tells}
+use Rattle.ert_effects.specs.TimerCalls.{Reads, Cancels, Starts}
+use Rattle.ert_effects.specs.WheelCalls.{TellsAlive}
+use Rattle.ert_effects.specs.declared.answers.MonitorErr.{MonitorErr}
+use Rattle.ert_effects.specs.declared.answers.StartErr.{StartErr}
+use Rattle.ert_effects.specs.declared.answers.StartErr.TheVariants.{NoMemory}
+use Rattle.ert_effects.specs.declared.answers.Taken.{Taken}
+use Rattle.ert_c.specs.ClockCalls.{state_as}
+use Rattle.ert_c.specs.Through.{Through, Answers, IfBelow, IsOutOfRange}
+use Rattle.ert_c.specs.Told.{start_of, IsStarted, IsFlag, IsGiven, IsDemonitored}
+use Rattle.ert_c.specs.declared.clock_calls.ErtOffset.{ErtOffset}
+use Rattle.ert_c.specs.declared.status.TheConstants.{OK, CLOSED, OPEN, NO_MEMORY, RANGE, NO_SHARD}
+use Rattle.ert_c.specs.declared.timer_calls.ErtStart.{ErtStart}
+use Rattle.ert_c.specs.declared.timer_calls.ErtTimer.{ErtTimer}
+use Rattle.ert_c.specs.declared.turn_calls.ErtTurned.{ErtTurned}
+use Rattle.ert_defs.specs.States.{state}
+use Rattle.ert_defs.specs.declared.entry.Actor.TheVariants.{Caller}
+use Rattle.ert_defs.specs.declared.memory.NoMemory.{NoMemory as WantOfMemory}
+use Rattle.ert_defs.specs.declared.settings.OffsetState.{OffsetState}
+use Rattle.ert_defs.specs.declared.timer.Start.{Start}
+use Rattle.ert_defs.specs.declared.timer.TimerRef.{TimerRef}
+use Rattle.ert_shard.specs.Hubs.{Rest, GivesShard}
+use Rattle.ert_shard.specs.Shards.{Share, IsHome, Owned, Goes, Steps, By, HasForgotten}
+use Rattle.ert_shard.specs.Turning.{Turns, Exits}
+use Rattle.ert_shard.specs.declared.turns.Turn.{Turn}
+use Rattle.ert_timers.specs.NextDue.{NoneArmedBefore, IsNextHeld}
+use Rattle.ert_timers.specs.Passed.{HasPassed}
+
+-- a hub gave a shard, and this one stands behind the shard's handle
+pub record HasShard (processes : ℕ) (old : Rest) (status : ℤ) (hub : Option Rest) (shard : Option Owned) : Type 0 where
+  pub left : Rest
+  pub given : Owned
+  pub hub_is : hub ≡ Some left
+  pub shard_is : shard ≡ Some given
+  pub gives : GivesShard old processes left given
+  pub told : status ≡ OK
+
+-- a hub gave a shard for which there was no memory, so that nobody has it
+pub record HasLost (processes : ℕ) (old : Rest) (status : ℤ) (hub : Option Rest) (shard : Option Owned) : Type 0 where
+  pub left : Rest
+  pub lost : Owned
+  pub hub_is : hub ≡ Some left
+  pub shard_is : shard ≡ None
+  pub gives : GivesShard old processes left lost
+  pub told : status ≡ NO_MEMORY
+
+-- no shard is given, and the hub is as it was
+abbrev pub IsRefused : ℤ → Rest → ℤ → Option Rest → Option Owned → Type 0
+IsRefused why old status hub shard = (status ≡ why) × (hub ≡ Some old) × (shard ≡ None)
+
+-- a hub gives the last scheduler and so many processes to a shard, if there are as many; else it is as it was
+abbrev pub CutsShard : ℕ → Rest → ℤ → Option Rest → Option Owned → Type 0
+CutsShard processes old status hub shard = IfBelow 0 old.left
+    (IfBelow old.first processes (IsRefused RANGE old status hub shard)
+    (HasShard processes old status hub shard ⊎ IsRefused NO_SHARD old status hub shard
+    ⊎ IsRefused NO_MEMORY old status hub shard ⊎ HasLost processes old status hub shard))
+    (IsRefused NO_SHARD old status hub shard)
+
+-- a shard is opened, or nothing has changed: neither what stands behind the one handle nor behind the other
+abbrev pub OpensShard : ℕ → Option Rest → Option Owned → ℤ → Option Rest → Option Owned → Type 0
+OpensShard processes hub (Some s) status left given = (status ≡ OPEN) × (left ≡ hub) × (given ≡ Some s)
+OpensShard processes None None status left given = (status ≡ CLOSED) × (left ≡ None) × (given ≡ None)
+OpensShard processes (Some old) None status left given = CutsShard processes old status left given
+
+-- C is told which processes are of a shard, and nothing has changed
+pub record TellsProcesses (status : ℤ) (from to : ℕ) (old new : Owned) : Type 0 where
+  pub told : status ≡ OK
+  pub from_is : from ≡ old.share.from
+  pub to_is : to ≡ old.share.to
+  pub unchanged : new ≡ old
+
+-- a call for a process that has to be of a share
+pub record IfHome (share : Share) (process : ℕ) (call refused : Type 0) : Type 0 where
+  pub home : IsHome share process → call
+  pub below : process < share.from → refused
+  pub above : share.to ≤ process → refused
+
+-- a call for a process of a shard, which is refused where the process isn't of it
+abbrev pub AtHome : {A : Type 0} → ℕ → (A → Owned → Owned → Type 0) → (A → Type 0) → ℤ → Type 0 → Owned → Owned → Type 0
+AtHome process call tells status kept old new = IfHome old.share process (Answers call tells old new) (IsOutOfRange status kept old new)
+
+-- such a call goes through a handle, and C finds the answer in a place of its own; else that place is as it was
+abbrev pub AnswersAtHome : {A P : Type 0} → ℕ → (A → Owned → Owned → Type 0) → (A → P → ℤ → P → Type 0) → P → P
+    → Option Owned → ℤ → Option Owned → Type 0
+AnswersAtHome process call tells kept found old status new =
+    Through (found ≡ kept) (AtHome process call (λ answer. tells answer kept status found) status (found ≡ kept)) old status new
+
+-- a shard looks up monotonic time as its caller, and C is told it
+pub record ShardReadsTime (status time : ℤ) (old new : Owned) : Type 0 where
+  pub told : status ≡ OK
+  pub steps : Steps old (By old (λ g. TellsTime g (Caller (old.share.number + 1)) time)) new
+
+-- a shard looks up system time as its caller, and C is told it
+pub record ShardReadsSystemTime (status time : ℤ) (old new : Owned) : Type 0 where
+  pub told : status ≡ OK
+  pub steps : Steps old (By old (λ g. TellsSystemTime g (Caller (old.share.number + 1)) time)) new
+
+-- a shard looks up the time offset and its state as its caller, and C is told them
+pub record ShardReadsOffset (status : ℤ) (offset : ErtOffset) (old new : Owned) : Type 0 where
+  pub told : status ≡ OK
+  pub offset_state : OffsetState
+  pub state : offset.state ≡ state_as offset_state
+  pub steps : Steps old (By old (λ g. TellsOffset g (Caller (old.share.number + 1)) (offset.offset, offset_state))) new
+
+-- a shard starts a timer on its wheel as its caller, with this answer, which is never want of memory
+pub record ShardStartsBy (start : Start) (answer : Result TimerRef StartErr) (old new : Owned) : Type 0 where
+  pub goes : Goes old (By old (λ g. Starts g (old.share.number + 1) old.share.number start answer)) new
+  pub memory : answer ≢ Err NoMemory
+
+-- C starts a timer on the wheel of a shard; where the process isn't of the shard, nothing has changed
+abbrev pub ShardStarts : ErtStart → ErtTimer → ErtTimer → Option Owned → ℤ → Option Owned → Type 0
+ShardStarts start = AnswersAtHome start.dest (ShardStartsBy (start_of start)) IsStarted
+
+-- a shard cancels a timer as its caller: what was left of it, where it was armed, and then its own wheel holds no row of it
+pub record ShardCancelsBy (timer : TimerRef) (answer : Option ℕ) (old new : Owned) : Type 0 where
+  pub steps : Steps old (By old (λ g. Cancels g (Caller (old.share.number + 1)) timer answer)) new
+  pub forgotten : OnSome answer (HasForgotten new timer)
+
+-- a shard reads a timer as its caller: what is left of it, where it is armed
+abbrev pub ShardReadsBy : TimerRef → Option ℕ → Owned → Owned → Type 0
+ShardReadsBy timer answer old new = Steps old (By old (λ g. Reads g (Caller (old.share.number + 1)) timer answer)) new
+
+-- a shard sees as its caller whether a process is alive
+abbrev pub ShardTellsAliveBy : ℕ → Bool → Owned → Owned → Type 0
+ShardTellsAliveBy process answer old new = Steps old (By old (λ g. TellsAlive g (Caller (old.share.number + 1)) process answer)) new
+
+-- C is told by a shard whether a process is alive; where there is no such one, nothing has changed
+abbrev pub ShardTellsAlive : ℕ → ℕ → ℤ → ℕ → Owned → Owned → Type 0
+ShardTellsAlive process kept status found old new = IfBelow process old.settings.processes
+    (Answers (ShardTellsAliveBy process) (λ answer. IsFlag answer status found) old new) (IsOutOfRange status (found ≡ kept) old new)
+
+-- a shard lets a process of its own exit: whether it was alive, and then its wheel is swept
+abbrev pub ShardExitsBy : ℕ → Bool → Owned → Owned → Type 0
+ShardExitsBy process answer old new = Steps old (λ way. Exits old.settings way old.share.number process answer) new
+
+-- a shard takes the first message of a process as its caller, if there is one and the process is alive
+abbrev pub ShardTakesBy : ℕ → Taken → Owned → Owned → Type 0
+ShardTakesBy process answer old new = Steps old (By old (λ g. Takes g (old.share.number + 1) process answer)) new
+
+-- a shard makes a monitor of the time offset for a process: its number, or why there is none
+abbrev pub ShardMonitorsBy : ℕ → Result ℕ MonitorErr → Owned → Owned → Type 0
+ShardMonitorsBy process answer old new = Steps old (By old (λ g. Monitors g (old.share.number + 1) process answer)) new
+
+-- a shard removes a monitor of a process: whether it stood
+abbrev pub ShardDemonitorsBy : ℕ → ℕ → Bool → Owned → Owned → Type 0
+ShardDemonitorsBy process monitor answer old new = Steps old (By old (λ g. Demonitors g (old.share.number + 1) process monitor answer)) new
+
+-- C removes a monitor of a process of a shard; where the process isn't of the shard, nothing has changed
+abbrev pub ShardDemonitors : ℕ → ℕ → Option Owned → ℤ → Option Owned → Type 0
+ShardDemonitors process monitor old status new = Through ⊤ (AtHome process (ShardDemonitorsBy process monitor) (λ answer. IsDemonitored answer status) status ⊤) old status new
+
+-- a shard has the monitors of a process told the offset: how many messages are put, or want of memory
+abbrev pub ShardTellsBy : ℕ → Result ℕ WantOfMemory → Owned → Owned → Type 0
+ShardTellsBy process answer old new = Steps old (By old (λ g. Tells g (old.share.number + 1) process answer)) new
+
+-- a shard advances its wheel: to which millisecond and how many timers expired, or want of memory. Then each row of the
+-- wheel is due later
+pub record ShardAdvancesBy (answer : Result (ℕ × ℕ) WantOfMemory) (old new : Owned) : Type 0 where
+  pub steps : Steps old (λ way. AdvancesWheel old.settings way old.share.number answer) new
+  pub passed : IfOk answer (λ advanced. HasPassed new.wheel advanced.0)
+
+-- a shard hands its expired timers over: how many were put and dropped, or want of memory
+abbrev pub ShardDeliversBy : Result (ℕ × ℕ) WantOfMemory → Owned → Owned → Type 0
+ShardDeliversBy answer old new = Steps old (λ way. Delivers old.settings way old.share.number answer) new
+
+-- a shard makes a turn: what it did, or want of memory. Then each row of its wheel is due later than the time of the advance
+pub record ShardTurnsBy (answer : Result Turn WantOfMemory) (old new : Owned) : Type 0 where
+  pub steps : Steps old (λ way. Turns old.settings way old.share.number answer) new
+  pub passed : IfOk answer (λ turned. HasPassed new.wheel turned.to)
+
+-- what a turn of a shard did, which serves no requests, or want of memory
+abbrev pub IsTurnTold : Result Turn WantOfMemory → ErtTurned → ℤ → ErtTurned → Type 0
+IsTurnTold = IsGiven (λ t. record { to = t.to; served = 0; fired = t.fired; put = t.put; dropped = t.dropped })
+
+-- what is told is how early a row of the shard's wheel is due, or where the window begins in which it is; no armed timer of
+-- the wheel is due before it, and nothing has changed
+pub record ShardLooksAhead (answer : Option ℕ) (old new : Owned) : Type 0 where
+  pub held : IsNextHeld old.wheel answer
+  pub armed : NoneArmedBefore (state old.settings old.history) old.share.number answer
+  pub unchanged : new ≡ old

@@ -1,0 +1,49 @@
+//! The exported calls of a shard on mailboxes and monitors.
+ghost use Rattle.ert_c.specs.ShardCalls.{AnswersAtHome, ShardDemonitors, ShardTakesBy, ShardMonitorsBy, ShardTellsBy};
+ghost use Rattle.ert_c.specs.Told.{IsTaken, IsMonitored, IsNumber};
+
+use crate::handle::opened;
+use crate::mail_calls::{ErtMail, tell_demonitored, tell_monitored, tell_taken};
+use crate::shard_handle::{ErtShard, at_home};
+use crate::status::{CLOSED, RANGE};
+use crate::turn_calls::tell;
+
+/// Takes the first message of a process of a shard.
+#[unsafe(no_mangle)]
+pub extern "C" fn ert_shard_take(shard: &mut ErtShard, process: u32, mail: &mut ErtMail) -> i32
+    ensures { AnswersAtHome process (ShardTakesBy process) IsTaken mail.old mail.new shard.old.place.value result shard.new.place.value }
+{
+    let own = at_home!(shard, process);
+    let answer = own.take(process);
+    tell_taken(answer, mail)
+}
+
+/// Makes a monitor of the time offset for a process of a shard.
+#[unsafe(no_mangle)]
+pub extern "C" fn ert_shard_monitor(shard: &mut ErtShard, process: u32, monitor: &mut u32) -> i32
+    ensures { AnswersAtHome process (ShardMonitorsBy process) IsMonitored monitor.old monitor.new shard.old.place.value result shard.new.place.value }
+{
+    let own = at_home!(shard, process);
+    let answer = own.monitor(process);
+    tell_monitored(answer, monitor)
+}
+
+/// Tells a process of a shard the time offset where it is news.
+#[unsafe(no_mangle)]
+pub extern "C" fn ert_shard_tell(shard: &mut ErtShard, process: u32, told: &mut u32) -> i32
+    ensures { AnswersAtHome process (ShardTellsBy process) IsNumber told.old told.new shard.old.place.value result shard.new.place.value }
+{
+    let own = at_home!(shard, process);
+    let answer = own.tell(process);
+    tell(answer, told)
+}
+
+/// Removes a monitor of a process of a shard.
+#[unsafe(no_mangle)]
+pub extern "C" fn ert_shard_demonitor(shard: &mut ErtShard, process: u32, monitor: u32) -> i32
+    ensures { ShardDemonitors process monitor shard.old.place.value result shard.new.place.value }
+{
+    let own = at_home!(shard, process);
+    let answer = own.demonitor(process, monitor);
+    tell_demonitored(answer)
+}

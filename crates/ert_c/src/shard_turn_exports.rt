@@ -1,0 +1,65 @@
+//! The exported calls of a shard's scheduler.
+ghost use Rattle.ert_c.specs.ShardCalls.{ShardAdvancesBy, ShardDeliversBy, ShardTurnsBy, ShardLooksAhead, IsTurnTold};
+ghost use Rattle.ert_c.specs.Through.{AnswersThrough};
+ghost use Rattle.ert_c.specs.Told.{IsAdvanced, IsDelivered, IsDueTold};
+
+use crate::handle::opened;
+use crate::shard_handle::ErtShard;
+use crate::status::CLOSED;
+use crate::turn_calls::{
+    ErtAdvanced, ErtDelivered, ErtTurned, tell, tell_advanced, tell_delivered, tell_due,
+};
+use ert_defs::NoMemory;
+use ert_shard::Turn;
+
+/// Lets the due timers of a shard expire.
+#[unsafe(no_mangle)]
+pub extern "C" fn ert_shard_advance(shard: &mut ErtShard, advanced: &mut ErtAdvanced) -> i32
+    ensures { AnswersThrough ShardAdvancesBy IsAdvanced advanced.old advanced.new shard.old.place.value result shard.new.place.value }
+{
+    let answer = opened!(shard).advance();
+    tell_advanced(answer, advanced)
+}
+
+/// Hands over the expired timers of a shard.
+#[unsafe(no_mangle)]
+pub extern "C" fn ert_shard_deliver(shard: &mut ErtShard, delivered: &mut ErtDelivered) -> i32
+    ensures { AnswersThrough ShardDeliversBy IsDelivered delivered.old delivered.new shard.old.place.value result shard.new.place.value }
+{
+    let answer = opened!(shard).deliver();
+    tell_delivered(answer, delivered)
+}
+
+/// Makes a turn of a shard: advances and delivers.
+#[unsafe(no_mangle)]
+pub extern "C" fn ert_shard_turn(shard: &mut ErtShard, turned: &mut ErtTurned) -> i32
+    ensures { AnswersThrough ShardTurnsBy IsTurnTold turned.old turned.new shard.old.place.value result shard.new.place.value }
+{
+    let answer = opened!(shard).turn();
+    tell_turn(answer, turned)
+}
+
+/// Tells how early a timer of a shard may be due.
+#[unsafe(no_mangle)]
+pub extern "C" fn ert_shard_next_due(shard: &mut ErtShard, due: &mut u64) -> i32
+    ensures { AnswersThrough ShardLooksAhead IsDueTold due.old due.new shard.old.place.value result shard.new.place.value }
+{
+    let answer = opened!(shard).next_due();
+    tell_due(answer, due)
+}
+
+/// Tells C what a turn of a shard did. It serves no requests.
+fn tell_turn(answer: Result<Turn, NoMemory>, turned: &mut ErtTurned) -> i32
+    ensures { IsTurnTold answer turned.old result turned.new }
+{
+    tell(
+        answer.map(|done| ErtTurned {
+            to: done.to,
+            served: 0,
+            fired: done.fired,
+            put: done.put,
+            dropped: done.dropped,
+        }),
+        turned,
+    )
+}
