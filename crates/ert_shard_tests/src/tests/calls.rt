@@ -12,7 +12,7 @@ use std::alloc::Global;
 use std::fmt::Debug;
 use std::process::Abort;
 
-/// Two schedulers and four processes, with no time correction.
+/// Two schedulers and four processes, with no time correction, and a caller for one seat.
 pub(crate) const SETTINGS: Settings = Settings {
     mode: Mode::No,
     correction: false,
@@ -20,7 +20,7 @@ pub(crate) const SETTINGS: Settings = Settings {
     schedulers: 2,
     processes: 4,
     slots: 64,
-    callers: 3,
+    callers: 4,
     first: Reading { mono: 0, sys: 0 },
 };
 
@@ -49,6 +49,14 @@ pub(crate) fn cut(rt: &impl Abort, hub: &mut Hub, processes: u32) -> Shard
 {
     assert!(rt; hub.schedulers_left() > 0 && hub.processes_left() >= processes);
     hub.shard(processes).expect(rt, "a shard")
+}
+
+/// The world again.
+pub(crate) fn whole(rt: &impl Abort, hub: Hub) -> World {
+    let settings = *hub.settings();
+    assert!(rt; hub.schedulers_left() == settings.schedulers);
+    assert!(rt; hub.processes_left() == settings.processes && hub.seats() == 0);
+    hub.into_world()
 }
 
 /// The next shard comes back.

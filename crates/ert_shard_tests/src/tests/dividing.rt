@@ -1,8 +1,9 @@
 //! Each call of a hub and of two shards, on one thread.
-use crate::tests::calls::{cut, exit, join, open, same, start, take, tick};
+use crate::tests::calls::{cut, exit, join, open, same, start, take, tick, whole};
 use ert_defs::{Mail, NoMemory, OffsetState};
 use ert_effects::Taken;
 use ert_shard::{Hub, Shard, ShardErr, Turn};
+use ert_world::SeatErr;
 use std::process::Abort;
 
 /// What a turn at this time does that puts so many messages.
@@ -90,8 +91,8 @@ fn a_hub_calls(rt: HostRuntime) -> Result<(), NoMemory> {
     Ok(())
 }
 
-/// The shard that was cut last comes back first, and then the other is next. A wheel that has had timers isn't cut
-/// again.
+/// The shard that was cut last comes back first, and then the other is next. A wheel that has had timers isn't cut for
+/// fewer processes than it had.
 #[test]
 fn shards_come_back(rt: HostRuntime) -> Result<(), NoMemory> {
     let mut hub = open(&rt, rt.alloc())?;
@@ -100,8 +101,44 @@ fn shards_come_back(rt: HostRuntime) -> Result<(), NoMemory> {
     let _timer = start(&rt, &mut low, 1, 5);
     same(&rt, &hub.is_next(&high), &false);
     join(&rt, &mut hub, low);
-    assert!(rt; hub.schedulers_left() > 0 && hub.processes_left() >= 2);
-    assert!(rt; matches!(hub.shard(2), Err(ShardErr::Used)));
+    assert!(rt; hub.schedulers_left() > 0 && hub.processes_left() >= 1);
+    assert!(rt; matches!(hub.shard(1), Err(ShardErr::Used)));
     same(&rt, &hub.is_next(&high), &true);
+    Ok(())
+}
+
+/// A wheel that came back is cut again for the processes that it had, and its timer expires there.
+#[test]
+fn a_wheel_is_cut_again(rt: HostRuntime) -> Result<(), NoMemory> {
+    let mut hub = open(&rt, rt.alloc())?;
+    let mut high = cut(&rt, &mut hub, 2);
+    let _timer = start(&rt, &mut high, 3, 5);
+    join(&rt, &mut hub, high);
+    let mut high = cut(&rt, &mut hub, 2);
+    tick(&rt, &mut hub, 5);
+    same(&rt, &high.turn(), &Ok(turn(5, 1)));
+    Ok(())
+}
+
+/// A hub of which nothing is given away is a world.
+#[test]
+fn a_hub_is_a_world(rt: HostRuntime) -> Result<(), NoMemory> {
+    let hub = open(&rt, rt.alloc())?;
+    same(&rt, &whole(&rt, hub).seats(), &0);
+    Ok(())
+}
+
+/// A seat of the hub cancels a timer of a shard. There is one caller for seats.
+#[test]
+fn a_seat_calls(rt: HostRuntime) -> Result<(), NoMemory> {
+    let mut hub = open(&rt, rt.alloc())?;
+    let mut seat = hub.seat(rt.alloc()).expect(&rt, "a seat");
+    let mut high = cut(&rt, &mut hub, 1);
+    let timer = start(&rt, &mut high, 3, 40);
+    same(&rt, &seat.read_timer(timer), &Some(40));
+    same(&rt, &seat.cancel_timer(timer), &Some(40));
+    same(&rt, &high.cancel_timer(timer), &None);
+    same(&rt, &hub.seats(), &1);
+    assert!(rt; matches!(hub.seat(rt.alloc()), Err(SeatErr::NoSeat)));
     Ok(())
 }
