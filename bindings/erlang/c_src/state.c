@@ -5,9 +5,9 @@
 #include <string.h>
 
 enum {
-    WHEEL_SLOTS = 65536,          /* the most slots of a wheel */
-    MOST_SLOTS = 4 * WHEEL_SLOTS, /* the most slots of a clock */
-    SLOTS_AT_ONCE = 16384         /* whose memory a scheduler gives back */
+    WHEEL_SLOTS = 16384,           /* the most slots of a wheel: a start on a full one looks at each */
+    MOST_SLOTS = 16 * WHEEL_SLOTS, /* the most slots of a clock */
+    SLOTS_AT_ONCE = 16384          /* whose memory a scheduler gives back */
 };
 
 /* --- who has it ----------------------------------------------------------------------------------------------- */
