@@ -45,8 +45,9 @@ static void texts(void) {
     NAMES(ert_status_text, ERT_BAD_KIND);
     NAMES(ert_status_text, ERT_NO_MONITOR);
     NAMES(ert_status_text, ERT_NO_SEAT);
+    NAMES(ert_status_text, ERT_NO_SHARD);
     TELLS(ert_status_text(1), "an unknown status");
-    TELLS(ert_status_text(ERT_NO_SEAT - 1), "an unknown status");
+    TELLS(ert_status_text(ERT_NO_SHARD - 1), "an unknown status");
     TELLS(ert_status_text(INT32_MIN), "an unknown status");
     NAMES(ert_event_text, ERT_TIMEOUT);
     NAMES(ert_event_text, ERT_BARE);
