@@ -106,7 +106,7 @@ prove:
 # The functions of the header. No other name of the library can be seen from outside.
 $(B)/symbols: include/ertime.h
 	mkdir -p $(B)
-	sed -n 's/^int32_t \(ert_[a-z_]*\)(.*/\1/p' $< >$@
+	sed -n 's/^u\{0,1\}int32_t \(ert_[a-z_]*\)(.*/\1/p' $< >$@
 
 # The library's code in one section, and the tables by which a backtrace goes on through it.
 $(B)/bare.o: $(ARCHIVE) packaging/text.ld
