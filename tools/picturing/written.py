@@ -187,10 +187,10 @@ def _settings(line: str, entries: list[Entry]) -> History:
     words = Words(line)
     words.one_of("settings")
     mode, correction, start = words.one_of("no", "single", "multi"), words.flag(), words.integer()
-    schedulers, processes = words.within(1, 64), words.within(1, 1024)
-    slots, callers = words.within(1, 65_536), words.within(1, 17)
+    schedulers, processes = words.within(1, 1024), words.within(1, 524_288)
+    slots, callers = words.within(1, 16_777_216), words.within(1, 1025)
     first = words.within(0, 2**62 - 1), words.within(1 - 2**61, 2**61 - 1)
-    if words.place != len(words.words) or start % 1_000_000 or abs(start) > 2**58 or slots * schedulers > 262_144:
+    if words.place != len(words.words) or start % 1_000_000 or abs(start) > 2**58 or slots * schedulers > 67_108_864:
         raise Misspelled
     return History(mode, correction, start, schedulers, processes, slots, callers, first, entries)
 

@@ -7,6 +7,7 @@ use Rattle.ert_defs.specs.declared.settings.Mode.TheVariants.{No}
 use Rattle.ert_defs.specs.declared.settings.Settings.{Settings}
 use Rattle.ert_defs.specs.declared.settings.SettingsFault.{SettingsFault}
 use Rattle.ert_defs.specs.declared.settings.SettingsFault.TheVariants.{Start, First, Count}
+use Rattle.ert_defs.specs.declared.settings.TheConstants.{MOST_SCHEDULERS, MOST_PROCESSES, MOST_CHAINS, MOST_SLOTS, MOST_SLOTS_IN_ALL, MOST_CALLERS}
 
 -- a start time (profile): a multiple of 1,000,000 from -2^58 to 2^58
 pub record IsStart (start : ℤ) : Type 0 where
@@ -17,14 +18,15 @@ pub record IsStart (start : ℤ) : Type 0 where
 -- the counts are within their limits (profile)
 pub record HasCounts (g : Settings) : Type 0 where
   pub schedulers_low : 1 ≤ g.schedulers
-  pub schedulers_high : g.schedulers ≤ 64
+  pub schedulers_high : g.schedulers ≤ MOST_SCHEDULERS
   pub processes_low : 1 ≤ g.processes
-  pub processes_high : g.processes ≤ 1024
+  pub processes_high : g.processes ≤ MOST_PROCESSES
+  pub chains_in_all : (g.schedulers * g.processes) ≤ MOST_CHAINS
   pub slots_low : 1 ≤ g.slots
-  pub slots_high : g.slots ≤ 65536
-  pub slots_in_all : (g.schedulers * g.slots) ≤ 262144
+  pub slots_high : g.slots ≤ MOST_SLOTS
+  pub slots_in_all : (g.schedulers * g.slots) ≤ MOST_SLOTS_IN_ALL
   pub callers_low : 1 ≤ g.callers
-  pub callers_high : g.callers ≤ 17
+  pub callers_high : g.callers ≤ MOST_CALLERS
 
 -- settings that a service can be opened with
 pub record IsChecked (g : Settings) : Type 0 where

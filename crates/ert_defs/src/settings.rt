@@ -8,6 +8,25 @@ use crate::milliseconds::{LAST_DEADLINE, NANOSECONDS_PER_MILLISECOND};
 /// How long a service may run, in nanoseconds: more than a quarter of a millennium (profile).
 const SPAN: i64 = LAST_DEADLINE as i64 * NANOSECONDS_PER_MILLISECOND;
 
+/// The most schedulers that a service can have (profile): so many that the generations of all their timers, of 53 bits
+/// each, add up to at most 2^63.
+pub const MOST_SCHEDULERS: u32 = 1_024;
+
+/// The most processes (profile): a slot keeps the process that it notifies in 19 bits.
+pub const MOST_PROCESSES: u32 = 4_096;
+
+/// The greatest product of schedulers and processes (profile): each scheduler has a chain of timers for each process.
+pub const MOST_CHAINS: u64 = 67_108_864;
+
+/// The most timer slots of a scheduler (profile).
+pub const MOST_SLOTS: u32 = 16_777_216;
+
+/// The most timer slots of all schedulers together (profile).
+pub const MOST_SLOTS_IN_ALL: u64 = 67_108_864;
+
+/// The most callers (profile): one, and one more for each scheduler.
+pub const MOST_CALLERS: u32 = 1_025;
+
 /// The time warp modes (ERTS User's Guide, "Time Warp Modes").
 #[derive(Clone, Copy, Debug, PartialEq, Eq)]
 pub enum Mode {
@@ -71,13 +90,13 @@ pub struct Settings {
     pub correction: bool,
     /// Monotonic time at the opening, in nanoseconds: a multiple of 1,000,000 from -2^58 to 2^58.
     pub start: i64,
-    /// 1 to 64.
+    /// 1 to `MOST_SCHEDULERS`.
     pub schedulers: u32,
-    /// 1 to 1,024.
+    /// 1 to `MOST_PROCESSES`; times the schedulers at most `MOST_CHAINS`.
     pub processes: u32,
-    /// Timer slots of each scheduler, 1 to 65,536; at most 262,144 in all.
+    /// Timer slots of each scheduler, 1 to `MOST_SLOTS`; at most `MOST_SLOTS_IN_ALL` of all schedulers.
     pub slots: u32,
-    /// 1 to 17.
+    /// 1 to `MOST_CALLERS`.
     pub callers: u32,
     /// The reading that the clock opens with.
     pub first: Reading,
@@ -130,15 +149,17 @@ impl Settings {
     fn has_counts(&self) -> bool
         ensures { IsTrue result ↔ HasCounts self.now }
     {
+        let chains = self.schedulers as u64 * self.processes as u64;
         let slots = self.schedulers as u64 * self.slots as u64;
         1 <= self.schedulers
-            && self.schedulers <= 64
+            && self.schedulers <= MOST_SCHEDULERS
             && 1 <= self.processes
-            && self.processes <= 1024
+            && self.processes <= MOST_PROCESSES
+            && chains <= MOST_CHAINS
             && 1 <= self.slots
-            && self.slots <= 65536
-            && slots <= 262_144
+            && self.slots <= MOST_SLOTS
+            && slots <= MOST_SLOTS_IN_ALL
             && 1 <= self.callers
-            && self.callers <= 17
+            && self.callers <= MOST_CALLERS
     }
 }

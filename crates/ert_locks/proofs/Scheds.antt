@@ -37,6 +37,7 @@ use Rattle.ert_table.specs.declared.desk.Desk.{Desk}
 use Rattle.ert_table.specs.declared.desk.Pass.{Pass}
 use Rattle.ert_table.specs.declared.view.View.{View}
 use Rattle.ert_timers.specs.Expiring.{IsAdvanced}
+use Rattle.ert_defs.specs.declared.settings.TheConstants.{MOST_SLOTS}
 
 -- after a step the part and its pass make a seat again, where the part has what the history has
 pub seat_after : {table : TableId} {g : Settings} {x : SchedPart} {p : Pass} {h : List Entry} (d : Desk) (after : SchedState) → IsDesk table g d → Belongs d p
@@ -72,9 +73,9 @@ pub record Advanced (g : Settings) (n m : ℕ) (to : Result ℕ NoMemory) (p : S
   pub made : IsMade g j (Advances g p.wheel (counted to (n - m))) u
   pub hand : p.hand ≡ ((state g u.front).scheds p.wheel).hand
   pub fired : x.fired.rows ≡ ((state g u.front).scheds p.wheel).fired
-  pub few : IfOk to (λ at. (m ≤ n) × (n - m ≤ 65536))
+  pub few : IfOk to (λ at. (m ≤ n) × (n - m ≤ MOST_SLOTS))
 
-pub advanced : (g : Settings) (n m : ℕ) (to : Result ℕ NoMemory) (p x : SchedPart) (j u : View) → g.slots ≤ 65536 → is_held j.actors (Sched p.wheel) ≡ true
+pub advanced : (g : Settings) (n m : ℕ) (to : Result ℕ NoMemory) (p x : SchedPart) (j u : View) → g.slots ≤ MOST_SLOTS → is_held j.actors (Sched p.wheel) ≡ true
     → SchedStands g j.front p → IsAdvanced g j p.wheel to p.fired x.fired u → n ≡ length x.fired.rows → m ≡ length p.fired.rows → Advanced g n m to p x j u
 advanced g n m (Ok to) p x j u high held has is now was =
     let w = p.wheel in

@@ -1,6 +1,7 @@
 //! A wheel behind its lock.
 ghost use Rattle.std.specs.Prelude.{◌≡◌, ◌≤◌, ◌-◌, IfOk};
 ghost use Rattle.ert_locks.specs.Hands.{counted};
+ghost use Rattle.ert_defs.specs.declared.settings.TheConstants.{MOST_SLOTS};
 
 use crate::locked::{Locked, meet};
 use crate::names::DeskName;
@@ -88,7 +89,7 @@ impl<L: DeskName> Locked<WheelPart, L> {
 
 /// What an advance answers, where there were so many expired timers before it and after it.
 fn counted(to: Result<u64, NoMemory>, before: usize, after: usize) -> Result<(u64, u32), NoMemory>
-    requires { IfOk to (λ at. (before ≤ after) × (after - before ≤ 65536)) }
+    requires { IfOk to (λ at. (before ≤ after) × (after - before ≤ MOST_SLOTS)) }
     ensures { result ≡ counted to (after - before) }
 {
     let to = to?;

@@ -1,7 +1,7 @@
 -- Each message of a timer that was put into a mailbox is that of a timer of its own, and a service has at
--- most 2^59 timers: so the messages can be counted in 64 bits.
+-- most 2^63 timers: so the messages can be counted in 64 bits.
 
-use Rattle.std.proofs.Common.{◌≡◌, ℕ, zero, suc, ◌<◌, ◌≤◌, List, arith, inl, inr, ap}
+use Rattle.std.proofs.Common.{◌^◌, ◌≡◌, ℕ, zero, suc, ◌<◌, ◌≤◌, List, arith, inl, inr, ap}
 use Rattle.std.proofs.lemmas.Bool.{cases_eq}
 use Rattle.ert_defs.specs.Legal.{Legal}
 use Rattle.ert_defs.specs.Settings.{IsChecked}
@@ -23,7 +23,7 @@ total_one f p (suc n) low = elim (cases_eq p n) [
   | inr other ↦ omega (arith, total_one f p n (omega arith))
 ]
 
-pub deliveries_few : (g : Settings) (h : List Entry) (p : ℕ) → p < g.processes → IsChecked g → Legal g h → deliveries p h ≤ 576460752303423488
+pub deliveries_few : (g : Settings) (h : List Entry) (p : ℕ) → p < g.processes → IsChecked g → Legal g h → deliveries p h ≤ 2 ^ 63
 deliveries_few g h p known checked legal =
     let s : State = state g h in
     let all : total (λ p. deliveries p h) g.processes ≡ total (count_at s Delivered) g.schedulers = deliveries_counted g h legal in

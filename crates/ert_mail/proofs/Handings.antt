@@ -1,6 +1,6 @@
 -- The steps by which an expired timer is handed over.
 
-use Rattle.std.proofs.Common.{◌≡◌, ℕ, Bool, true, false, ◌||◌, ◌+◌, ◌<◌, ◌≤◌, List, [], ◌∷◌, ◌++◌, Some, Ok, refl, sym, ap, subst, ◌∙◌, eq-eqb, arith}
+use Rattle.std.proofs.Common.{◌^◌, ◌≡◌, ℕ, Bool, true, false, ◌||◌, ◌+◌, ◌<◌, ◌≤◌, List, [], ◌∷◌, ◌++◌, Some, Ok, refl, sym, ap, subst, ◌∙◌, eq-eqb, arith}
 use Rattle.ert_defs.specs.Entries.{mark_entry, deliver_entry, drop_entry}
 use Rattle.ert_defs.specs.Laws.{IsFired}
 use Rattle.ert_defs.specs.Legal.{Can, Legal, IsSlot}
@@ -210,7 +210,7 @@ stands_handed g v w fired how m n now is same held standing steps process has de
 
 -- one more is counted in 64 bits
 pub count_fits : (g : Settings) (v w : View) (fired : Row) (m : Mailbox) → IsChecked g → fired.dest ≡ m.process
-    → is_held v.actors (MailOf m.process) ≡ true → Stands g v.front m → IsHanded g v fired Put w → m.delivered + 1 ≤ 576460752303423488
+    → is_held v.actors (MailOf m.process) ≡ true → Stands g v.front m → IsHanded g v fired Put w → m.delivered + 1 ≤ 2 ^ 63
 count_fits g v w fired m checked dest held stands steps =
     let p = m.process in
     let count = deliveries_after g v (handed_entries fired.timer.wheel fired Put) w p held steps.call in

@@ -1,6 +1,6 @@
 -- Messages that are handed over one after the other, and the mail of a process among all that waits.
 
-use Rattle.std.proofs.Common.{◌≡◌, ◌≢◌, Result, Ok, Err, ℕ, zero, suc, ◌+◌, ◌<◌, ◌≤◌, Bool, true, false, cond, nat_eq, List, [], ◌∷◌, ◌++◌, All, length, map, slice_index_or, Option, Some, None, string_bytes, refl, sym, ap, subst, ◌∙◌, arith, append-nil, append_assoc}
+use Rattle.std.proofs.Common.{◌^◌, ◌≡◌, ◌≢◌, Result, Ok, Err, ℕ, zero, suc, ◌+◌, ◌<◌, ◌≤◌, Bool, true, false, cond, nat_eq, List, [], ◌∷◌, ◌++◌, All, length, map, slice_index_or, Option, Some, None, string_bytes, refl, sym, ap, subst, ◌∙◌, arith, append-nil, append_assoc}
 use Rattle.std.proofs.lemmas.List.{length-map, length_push}
 use Rattle.std.proofs.lemmas.List.Elements.{All-nil, All-push, filter_map-append}
 use Rattle.std.specs.FinMap as finite
@@ -253,8 +253,8 @@ stopped a b c sched t turn is goes lone names rows mail hands = record {
 }
 
 -- the counts of those that were handed over and of those that were lost stay few
-pub few_handed : (handed lost n m : ℕ) → (handed + lost) + n ≤ 576460752303423488 → n ≡ m + 1 → ((handed + 1) + lost) + m ≤ 576460752303423488
+pub few_handed : (handed lost n m : ℕ) → (handed + lost) + n ≤ 2 ^ 63 → n ≡ m + 1 → ((handed + 1) + lost) + m ≤ 2 ^ 63
 few_handed handed lost n m few fewer = omega (arith, few, fewer)
 
-pub few_lost : (handed lost n m : ℕ) → (handed + lost) + n ≤ 576460752303423488 → n ≡ m + 1 → (handed + (lost + 1)) + m ≤ 576460752303423488
+pub few_lost : (handed lost n m : ℕ) → (handed + lost) + n ≤ 2 ^ 63 → n ≡ m + 1 → (handed + (lost + 1)) + m ≤ 2 ^ 63
 few_lost handed lost n m few fewer = omega (arith, few, fewer)

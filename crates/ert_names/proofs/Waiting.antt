@@ -1,6 +1,6 @@
 -- Few messages wait for the registrar: no more than timers were ever delivered.
 
-use Rattle.std.proofs.Common.{◌≡◌, ℕ, ◌+◌, ◌≤◌, Bool, true, false, cond, List, [], ◌∷◌, length, filter, Option, refl, arith, append-nil}
+use Rattle.std.proofs.Common.{◌^◌, ◌≡◌, ℕ, ◌+◌, ◌≤◌, Bool, true, false, cond, List, [], ◌∷◌, length, filter, Option, refl, arith, append-nil}
 use Rattle.std.proofs.lemmas.List.{length-append}
 use Rattle.ert_defs.specs.Actors.{is_with, has_actor}
 use Rattle.ert_defs.specs.Legal.{Can, Keeps, LegalFrom}
@@ -81,7 +81,7 @@ run_grows g n s (e ∷ es) kept legal fit =
     omega (arith, one, rest, sum)
 
 -- so they can be counted
-pub few_waiting : (n : ℕ) (w : Seen) → StandsFor w.settings w.history w → FitsRows n w → length (waiting w) ≤ 576460752303423488
+pub few_waiting : (n : ℕ) (w : Seen) → StandsFor w.settings w.history w → FitsRows n w → length (waiting w) ≤ 2 ^ 63
 few_waiting n w stands fits =
     let grown = run_grows w.settings n (opening w.settings) w.history (kept_opening w.settings n) stands.clock.legal fits.entries in
     let two = fits.processes in

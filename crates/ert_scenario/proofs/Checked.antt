@@ -1,6 +1,6 @@
 -- The tests of the ranges, and the facts that they test.
 
-use Rattle.std.proofs.Common.{◌≡◌, ◌&&◌, ◌≤◌, ℕ, ℤ, ◌≤ℤ◌, ◌<ℤ◌, true, false, Result, Ok, Err, is_ok, leb, int_le, int_lt, leb-true, le-leb, arith, refl}
+use Rattle.std.proofs.Common.{◌≡◌, ◌&&◌, ◌*◌, ◌≤◌, ℕ, ℤ, ◌≤ℤ◌, ◌<ℤ◌, true, false, Result, Ok, Err, is_ok, leb, int_le, int_lt, leb-true, le-leb, arith, refl}
 use Rattle.std.proofs.lemmas.Bool.{false≢true}
 use Rattle.std.proofs.lemmas.Int.{ints}
 use Rattle.std.specs.Bool.{Decides}
@@ -43,7 +43,33 @@ Decides-start start =
 within : (low value high : ℕ) → Decides (leb low value && leb value high) ((low ≤ value) × (value ≤ high))
 within low value high = Decides-and _ _ (Decides-nat_le low value) (Decides-nat_le value high)
 
-Decides-counts : (g : Settings) → Decides (has_counts g) (HasCounts g)
+-- the counts of a scenario
+pub record IsSmall (g : Settings) : Type 0 where
+  pub schedulers_low : 1 ≤ g.schedulers
+  pub schedulers_high : g.schedulers ≤ 64
+  pub processes_low : 1 ≤ g.processes
+  pub processes_high : g.processes ≤ 1024
+  pub slots_low : 1 ≤ g.slots
+  pub slots_high : g.slots ≤ 65536
+  pub slots_in_all : (g.schedulers * g.slots) ≤ 262144
+  pub callers_low : 1 ≤ g.callers
+  pub callers_high : g.callers ≤ 17
+
+-- a service can have them
+small_fits : (g : Settings) → IsSmall g → HasCounts g
+small_fits g h = record {
+  schedulers_low = h.schedulers_low;
+  schedulers_high = omega (arith, h.schedulers_high);
+  processes_low = h.processes_low;
+  processes_high = omega (arith, h.processes_high);
+  slots_low = h.slots_low;
+  slots_high = omega (arith, h.slots_high);
+  slots_in_all = omega (arith, h.slots_in_all);
+  callers_low = h.callers_low;
+  callers_high = omega (arith, h.callers_high);
+}
+
+Decides-counts : (g : Settings) → Decides (has_counts g) (IsSmall g)
 unfolding has_counts
 Decides-counts g =
     Decides-like _
@@ -70,20 +96,21 @@ Decides-counts g =
     (Decides-and _ _ (within 1 g.slots 65536)
     (Decides-and _ _ (Decides-nat_le _ _) (within 1 g.callers 17)))))
 
-pub Decides-checked : (g : Settings) → Decides (is_checked g) (IsChecked g)
+pub Decides-checked : (g : Settings) → Decides (is_checked g) (IsChecked g × IsSmall g)
 unfolding is_checked
 Decides-checked g =
     Decides-like _
-    (λ p. record { start = p.0; first = p.1.0; counts = p.1.1 })
-    (λ h. (h.start, (h.first, h.counts)))
+    (λ p. (record { start = p.0; first = p.1.0; counts = small_fits g p.1.1 }, p.1.1))
+    (λ h. (h.0.start, (h.0.first, h.1)))
     (Decides-and _ _ (Decides-start g.start) (Decides-and _ _ (Decides-reading g.first) (Decides-counts g)))
 
 never : (g : Settings) → (IsChecked g → ⊥) → false ≡ is_checked g
-never g not = same_from_decides false (is_checked g) (λ h. absurd (false≢true h), λ h. absurd (not h)) (Decides-checked g)
+never g not = same_from_decides false (is_checked g) (λ h. absurd (false≢true h), λ h. absurd (not h.0)) (Decides-checked g)
 
--- what the check of settings answers is the test
-pub is_ok_check : (answer : Result (Unit {0}) SettingsFault) (g : Settings) → Checks g answer → is_ok answer ≡ is_checked g
-is_ok_check (Ok _) g h = same_from_decides true (is_checked g) (λ _. h, λ _. refl) (Decides-checked g)
+-- where the check of settings finds no fault, and the counts are those of a scenario, the test holds
+pub is_ok_check : (answer : Result (Unit {0}) SettingsFault) (g : Settings) → Checks g answer → (is_ok answer && has_counts g) ≡ is_checked g
+is_ok_check (Ok _) g h =
+    same_from_decides (has_counts g) (is_checked g) (Decides-like (has_counts g) (λ small. (h, small)) (λ p. p.1) (Decides-counts g)) (Decides-checked g)
 is_ok_check (Err Start) g h = never g (λ c. h c.start)
 is_ok_check (Err First) g h = never g (λ c. h.1 c.first)
 is_ok_check (Err Count) g h = never g (λ c. h.2 c.counts)

@@ -52,7 +52,7 @@ unfolding settings_of
 valid_settings race d g h =
     let f = follows (head_of race d) _ g h in
     let fits = in_range_parts (is_checked (settings_with f.read)) (settings_with f.read) g f.then in
-    subst IsChecked fits.1 ((Decides-checked (settings_with f.read)).0 fits.0)
+    subst IsChecked fits.1 ((Decides-checked (settings_with f.read)).0 fits.0).0
 
 valid_top : (race : Bool) (d : Data) (top : Top) → top_of race d ≡ Ok top → IsChecked top.settings
 unfolding top_of

@@ -18,7 +18,7 @@ unfoldable pub is_start : ℤ → Bool
 is_start start = int_eq (int_rem_euclid start (pos 1000000)) (pos 0)
     && (int_le (negsuc 288230376151711743) start && int_le start (pos 288230376151711744))
 
--- whether the counts are within their limits
+-- whether the counts are within the limits of scenarios, which are narrower than those of a service
 unfoldable pub has_counts : Settings → Bool
 has_counts g = (nat_le 1 g.schedulers && nat_le g.schedulers 64)
     && ((nat_le 1 g.processes && nat_le g.processes 1024)
@@ -26,7 +26,7 @@ has_counts g = (nat_le 1 g.schedulers && nat_le g.schedulers 64)
     && (nat_le (g.schedulers * g.slots) 262144
     && (nat_le 1 g.callers && nat_le g.callers 17))))
 
--- whether a service can be opened with the settings
+-- whether a scenario can have the settings
 unfoldable pub is_checked : Settings → Bool
 is_checked g = is_start g.start && (is_reading g.first && has_counts g)
 

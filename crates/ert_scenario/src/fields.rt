@@ -8,7 +8,7 @@ ghost use Rattle.ert_scenario.specs.Fields.{clock_fields, other_fields, race_fie
 ghost use Rattle.ert_scenario.specs.Fields.{start_time, time_warp_mode, time_correction, count, times, modes, one_or_two};
 ghost use Rattle.ert_scenario.specs.Fields.{clock_of, sizes_of, head_of, settings_with, settings_of, race_turns, top_of};
 ghost use Rattle.ert_scenario.specs.Kinds.{called};
-ghost use Rattle.ert_scenario.specs.Ranges.{is_checked};
+ghost use Rattle.ert_scenario.specs.Ranges.{has_counts, is_checked};
 
 use crate::fault::Fault;
 use crate::kinds::{boolean, both, count_of, in_range, integer, present, reading, text, word};
@@ -288,10 +288,28 @@ fn settings_with(head: Head) -> Settings
     }
 }
 
-/// Whether a service can be opened with the settings.
+/// Whether a scenario can have the settings: a service can be opened with them, and the counts are within the limits
+/// of scenarios, which are narrower.
 #[tactic(auto, using(crate::proofs::Checked::is_ok_check))]
 fn is_checked(settings: Settings) -> bool
     ensures { result ≡ is_checked settings }
 {
-    settings.check().is_ok()
+    settings.check().is_ok() && is_small(&settings)
+}
+
+/// Whether the counts are within the limits of scenarios.
+#[tactic(auto, unfolding(crate::specs::Ranges::has_counts))]
+fn is_small(settings: &Settings) -> bool
+    ensures { result ≡ has_counts settings.now }
+{
+    let slots = settings.schedulers as u64 * settings.slots as u64;
+    1 <= settings.schedulers
+        && settings.schedulers <= 64
+        && 1 <= settings.processes
+        && settings.processes <= 1024
+        && 1 <= settings.slots
+        && settings.slots <= 65_536
+        && slots <= 262_144
+        && 1 <= settings.callers
+        && settings.callers <= 17
 }

@@ -30,6 +30,7 @@ use Rattle.ert_table.specs.declared.desk.Pass.{Pass}
 use Rattle.ert_table.specs.declared.view.View.{View}
 use native.Mathlib.Bridge.{le_prop}
 use Rattle.ert_world.specs.declared.sched_part.SchedPart.{SchedPart}
+use Rattle.ert_defs.specs.declared.settings.TheConstants.{MOST_SLOTS}
 
 -- after a turn no expired timer waits, nor after all were handed over
 pub turn_ends : (g : Settings) (a : Actor) (wheel : ℕ) (answer : Result Turned NoMemory) (f h : List Entry) → Grows (Turns g (beside g a) wheel answer) f h
@@ -72,8 +73,8 @@ dest_low g p part row named stands first =
     (λ legal. (first_placed g (front_of p) part.wheel row legal (ap (λ (l : List Row). first_of l) (sym stands.fired) ∙ first)).dest)
 
 -- a list has few rows
-pub rows_few : (g : Settings) (p : Pass) (part : SchedPart) → g.slots ≤ 65536 → p.seat.me.0.settings ≡ Some g → SchedStands g (front_of p) part
-    → length part.fired.rows ≤ 65536
+pub rows_few : (g : Settings) (p : Pass) (part : SchedPart) → g.slots ≤ MOST_SLOTS → p.seat.me.0.settings ≡ Some g → SchedStands g (front_of p) part
+    → length part.fired.rows ≤ MOST_SLOTS
 rows_few g p part high named stands =
     legal_by g p.seat.me.0.settings (front_of p) le_prop named p.legal
     (λ legal.

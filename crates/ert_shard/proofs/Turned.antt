@@ -27,6 +27,7 @@ use Rattle.ert_world.proofs.Advances.{advance_hand, advance_still, difference}
 use Rattle.ert_world.proofs.SchedCalls.{sched_stands}
 use Rattle.ert_world.specs.Parts.{SchedStands}
 use Rattle.ert_world.specs.declared.sched_part.SchedPart.{SchedPart}
+use Rattle.ert_defs.specs.declared.settings.TheConstants.{MOST_SLOTS}
 
 -- what the scheduler's part has
 pub record Had (d : Desk) (p : Pass) (s : Share) (part : SchedPart) : Type 0 where
@@ -116,12 +117,12 @@ advance_refused before d p q s e parts new x has belongs named stands loses refu
     (subst (λ n. is_held (view_of p).actors (Sched n) ≡ true) (sym one) held) refused.call))))
 
 -- the expired timers of a shard are few
-pub few : (before : Owned) (d : Desk) (p : Pass) (s : Share) (parts : ShardParts) → Has before d p s parts → length (fired_of before) ≤ 65536
+pub few : (before : Owned) (d : Desk) (p : Pass) (s : Share) (parts : ShardParts) → Has before d p s parts → length (fired_of before) ≤ MOST_SLOTS
 few before d p s parts has =
     let g : Settings = settings_of d in
     let low : length ((state g (front_of p)).scheds s.number).fired ≤ g.slots = fired_few g (front_of p) s.number has.fit.stand.legal in
-    let high : g.slots ≤ 65536 = d.checked.counts.slots_high in
-    subst (λ (o : Owned). length (fired_of o) ≤ 65536) has.is (omega (arith, low, high))
+    let high : g.slots ≤ MOST_SLOTS = d.checked.counts.slots_high in
+    subst (λ (o : Owned). length (fired_of o) ≤ MOST_SLOTS) has.is (omega (arith, low, high))
 
 -- the shard's wheel was swept for a process
 pub sweep_called : (before : Owned) (d : Desk) (p q : Pass) (s : Share) (parts : ShardParts) (process : ℕ) (new : Part) → Has before d p s parts → Belongs d q

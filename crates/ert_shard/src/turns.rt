@@ -26,6 +26,7 @@ impl Shard {
     ghost use Rattle.ert_shard.specs.Turning.{fired_of, Turns};
     ghost use Rattle.ert_timers.specs.NextDue.{NoneArmedBefore, IsNextHeld};
     ghost use Rattle.ert_timers.specs.Passed.{HasPassed};
+    ghost use Rattle.ert_defs.specs.declared.settings.TheConstants.{MOST_SLOTS};
 
     /// How early a timer of the shard's wheel may be due, in whole milliseconds since the start time, as `turn`
     /// answers; None where no timer is held. No entry is made.
@@ -58,7 +59,7 @@ impl Shard {
     /// The shard's first expired timer.
     fn first_of_fired(&self) -> Option<Fired>
         ensures first { result ≡ first_of (fired_of self.now) }
-        ensures few { length (fired_of self.now) ≤ 65536 }
+        ensures few { length (fired_of self.now) ≤ MOST_SLOTS }
         ensures legal { Legal self.now.settings self.now.history }
     {
         self.sched.fired.first()

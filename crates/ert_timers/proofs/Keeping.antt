@@ -22,6 +22,7 @@ use Rattle.ert_wheel.proofs.Collect.{key_low}
 use Rattle.ert_wheel.proofs.Parts.{with_place_here, with_place_there, kept_place}
 use Rattle.ert_wheel.proofs.Views.{counts_more}
 use Rattle.ert_words.specs.Free.{FreeSet}
+use Rattle.ert_defs.specs.declared.settings.TheConstants.{MOST_SLOTS}
 
 pub on_true : (b : Bool) (P : Type 0) → b ≡ true → OnTrue b P → P
 on_true true P is h = h
@@ -116,7 +117,7 @@ fit_kept p free owners taken new k start next fit same can few dest slots homes 
     let key : Key = record { deadline = next.deadline; order = p.arms } in
     let wide : k < length p.keys = subst (λ n. k < n) (sym fit.wide) can.low in
     record {
-      few = subst (λ n. n ≤ 65536) (sym (length-set p.slots k slot)) fit.few;
+      few = subst (λ n. n ≤ MOST_SLOTS) (sym (length-set p.slots k slot)) fit.few;
       wide = length-set p.keys k (Some key) ∙ (fit.wide ∙ sym (length-set p.slots k slot));
       all_slots = fit.all_slots ∙ sym (length-set p.slots k slot);
       owned = slots ∙ (fit.owned ∙ sym (length-set p.slots k slot));

@@ -15,6 +15,7 @@ use Rattle.ert_wheel.specs.Rings.{Rings, AreChains}
 use Rattle.ert_wheel.specs.Rows.{key_in}
 use Rattle.ert_wheel.specs.declared.row.Key.{Key}
 use Rattle.ert_words.specs.Free.{FreeSet}
+use Rattle.ert_defs.specs.declared.settings.TheConstants.{MOST_SLOTS, MOST_PROCESSES}
 
 -- there is no key
 pub key_nowhere : (n k : ℕ) → key_in (replicate n None) k ≡ None
@@ -35,7 +36,7 @@ slot_nowhere n k =
 no_keys : (n : ℕ) → count_by is_some (let keys : List (Option Key) = replicate n None in keys) ≡ 0
 no_keys n = omega (arith, sum_by-replicate (λ (o : Option Key). cond (is_some o) 1 0) n None)
 
-pub fit_open : (processes n : ℕ) (slots : List Slot) (keys : List (Option Key)) (free : FreeSet) (owners : Rings) → n ≤ 65536 → processes ≤ 1024
+pub fit_open : (processes n : ℕ) (slots : List Slot) (keys : List (Option Key)) (free : FreeSet) (owners : Rings) → n ≤ MOST_SLOTS → processes ≤ MOST_PROCESSES
     → slots ≡ replicate n unused → keys ≡ replicate n None → free.slots ≡ n
     → ((k : ℕ) → sets.contains free.held k ≡ nat_lt k n) → owners.slots ≡ n → processes ≤ owners.homes
     → AreChains owners (λ _. None) → AreFit processes slots keys free owners 0 0 0

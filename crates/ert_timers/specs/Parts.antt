@@ -27,6 +27,7 @@ use Rattle.ert_wheel.specs.Rings.{Rings, Place, AreChains}
 use Rattle.ert_wheel.specs.Rows.{key_in}
 use Rattle.ert_wheel.specs.declared.row.Key.{Key}
 use Rattle.ert_words.specs.Free.{FreeSet}
+use Rattle.ert_defs.specs.declared.settings.TheConstants.{MOST_SLOTS, MOST_PROCESSES}
 
 -- the part of one scheduler's timers: its number, the number of processes, by slot what is kept of the last
 -- timer, by slot the key of the row that is held as armed, the slots that are held free, how many timers were
@@ -97,12 +98,12 @@ pub record AreOwned (slots : List Slot) (keys : List (Option Key)) (owners : Rin
 
 -- what the fields of a part keep, whatever the history
 pub record AreFit (processes : ℕ) (slots : List Slot) (keys : List (Option Key)) (free : FreeSet) (owners : Rings) (armed expired orphaned : ℕ) : Type 0 where
-  pub few : length slots ≤ 65536
+  pub few : length slots ≤ MOST_SLOTS
   pub wide : length keys ≡ length slots
   pub all_slots : free.slots ≡ length slots
   pub owned : owners.slots ≡ length slots
   pub homes : processes ≤ owners.homes
-  pub few_homes : processes ≤ 1024
+  pub few_homes : processes ≤ MOST_PROCESSES
   -- a slot that is held free has no row
   pub vacant : (k : ℕ) → set.contains free.held k ≡ true → key_in keys k ≡ None
   pub below : (k : ℕ) → set.contains free.held k ≡ true → k < length slots

@@ -38,6 +38,7 @@ use Rattle.ert_world.specs.Parts.{AllParts, SchedStands}
 use Rattle.ert_world.specs.Worlds.{Seen}
 use Rattle.ert_world.specs.declared.sched_part.SchedPart.{SchedPart}
 use Rattle.ert_world.specs.declared.world.World.TheInside.{Inside}
+use Rattle.ert_defs.specs.declared.settings.TheConstants.{MOST_SLOTS}
 
 pub cond_same : (b : Bool) (s : SchedState) → (cond b s s).fired ≡ s.fired
 cond_same true s = refl
@@ -184,8 +185,8 @@ advance_ok before b d q i to n m old new part x has belongs low lent lent_part n
     (expired.fired ∙ (ap (λ l. l ++ expired.gained) (had_it.fired ∙ ap (λ n. fired_in g (front_of b.pass) n) (sym one)) ∙ sym expired.waits)))
 
 -- the count of an advance is small, and it is more rows than before
-pub advance_fits : (g : Settings) (w to n m : ℕ) (old new : Queue) (v u : View) → g.slots ≤ 65536
-    → HasExpired g v w to old new u → n ≡ length new.rows → m ≡ length old.rows → (m ≤ n) × (n - m ≤ 65536)
+pub advance_fits : (g : Settings) (w to n m : ℕ) (old new : Queue) (v u : View) → g.slots ≤ MOST_SLOTS
+    → HasExpired g v w to old new u → n ≡ length new.rows → m ≡ length old.rows → (m ≤ n) × (n - m ≤ MOST_SLOTS)
 advance_fits g w to n m old new v u high is now was =
     let count : n - m ≡ length is.gained = difference n m old.rows is.gained (now ∙ ap (λ (l : List Row). length l) is.fired) was in
     let low : length (fired_in g u.front w) ≤ g.slots = fired_few g u.front w is.call.call.legal in

@@ -12,6 +12,7 @@ use Rattle.ert_defs.specs.declared.entry.Actor.TheVariants.{Caller}
 use Rattle.ert_defs.specs.declared.entry.Entry.{Entry}
 use Rattle.ert_defs.specs.declared.memory.NoMemory.{NoMemory}
 use Rattle.ert_defs.specs.declared.settings.Settings.{Settings}
+use Rattle.ert_defs.specs.declared.settings.TheConstants.{MOST_SLOTS}
 
 times_more : (n : ℕ) → times n ++ tt ∷ [] ≡ times (suc n)
 times_more zero = refl
@@ -37,11 +38,11 @@ one_less [] ys x first is = absurd cc
 one_less (y ∷ xs) ys x first is = ap (λ l. suc (length l)) is
 
 -- so the counts stay few
-pub few_put : (put dropped n m : ℕ) → (put + dropped ≡ 0) ⊎ ((put + dropped) + n ≤ 65536) → n ≤ 65536 → suc m ≡ n → ((put + 1) + dropped) + m ≤ 65536
+pub few_put : (put dropped n m : ℕ) → (put + dropped ≡ 0) ⊎ ((put + dropped) + n ≤ MOST_SLOTS) → n ≤ MOST_SLOTS → suc m ≡ n → ((put + 1) + dropped) + m ≤ MOST_SLOTS
 few_put put dropped n m (inl none) few next = omega (arith, none, few, next)
 few_put put dropped n m (inr some) few next = omega (arith, some, few, next)
 
-pub few_dropped : (put dropped n m : ℕ) → (put + dropped ≡ 0) ⊎ ((put + dropped) + n ≤ 65536) → n ≤ 65536 → suc m ≡ n → (put + (dropped + 1)) + m ≤ 65536
+pub few_dropped : (put dropped n m : ℕ) → (put + dropped ≡ 0) ⊎ ((put + dropped) + n ≤ MOST_SLOTS) → n ≤ MOST_SLOTS → suc m ≡ n → (put + (dropped + 1)) + m ≤ MOST_SLOTS
 few_dropped put dropped n m (inl none) few next = omega (arith, none, few, next)
 few_dropped put dropped n m (inr some) few next = omega (arith, some, few, next)
 

@@ -1,6 +1,6 @@
 -- The counts of all parts of a world together.
 
-use Rattle.std.proofs.Common.{◌≡◌, ℕ, zero, suc, ◌+◌, ◌-◌, ◌<◌, ◌≤◌, List, length, slice_index_or, count_by, refl, sym, ap, subst, ◌∙◌, arith, Fits, w64}
+use Rattle.std.proofs.Common.{◌^◌, ◌≡◌, ℕ, zero, suc, ◌+◌, ◌-◌, ◌<◌, ◌≤◌, List, length, slice_index_or, count_by, refl, sym, ap, subst, ◌∙◌, arith, Fits, w64}
 use Rattle.std.specs.Arc.{arc_value}
 use Rattle.std.specs.Option.{is_some}
 use Rattle.ert_defs.specs.Legal.{Legal}
@@ -26,9 +26,9 @@ use Rattle.ert_world.specs.declared.sched_part.SchedPart.{SchedPart}
 use Rattle.ert_world.specs.declared.world.World.TheInside.{Inside}
 use Rattle.ert_world.proofs.Calls.{parts_in}
 
--- no sum of counts is greater: each of 64 wheels at most has 2^53 timers at most
+-- no sum of counts is greater: each of 1,024 wheels at most has 2^53 timers at most
 abbrev pub most : ℕ
-most = 576460752303423488
+most = 2 ^ 63
 
 pub total_one : (f : ℕ → ℕ) (n : ℕ) → total f (n + 1) ≡ total f n + f n
 total_one f n = ap (total f) (more n)

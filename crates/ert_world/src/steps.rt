@@ -9,6 +9,7 @@ ghost use Rattle.ert_defs.specs.States.{state};
 ghost use Rattle.ert_defs.specs.declared.entry.Actor.TheVariants.{Caller, MailOf};
 ghost use Rattle.ert_defs.specs.declared.entry.Entry.{Entry};
 ghost use Rattle.ert_defs.specs.declared.settings.Settings.{Settings};
+ghost use Rattle.ert_defs.specs.declared.settings.TheConstants.{MOST_SLOTS};
 
 use ert_defs::{Fired, NoMemory, Request};
 use ert_mail::Handed;
@@ -68,7 +69,7 @@ pub trait SchedSteps {
         requires { acts self.now sched }
         ensures first { result ≡ first_of ((state (settings self.now) (history self.now)).scheds sched).fired }
         ensures legal { is_legal self.now }
-        ensures few { length ((state (settings self.now) (history self.now)).scheds sched).fired ≤ 65536 };
+        ensures few { length ((state (settings self.now) (history self.now)).scheds sched).fired ≤ MOST_SLOTS };
 
     /// Hands over the scheduler's first expired timer.
     fn hand_first(&mut self, sched: u32, fired: &Fired) -> Result<Handed, NoMemory>

@@ -105,10 +105,10 @@ static void bad_settings(void) {
     s = plain, s.start = 1, refuse(s, ERT_BAD_START);
     s = plain, s.first.mono = -1, refuse(s, ERT_BAD_READING);
     s = plain, s.first.sys = INT64_MIN, refuse(s, ERT_BAD_READING);
-    s = plain, s.schedulers = 65, refuse(s, ERT_BAD_COUNT);
+    s = plain, s.schedulers = 1025, refuse(s, ERT_BAD_COUNT);
     s = plain, s.processes = 0, refuse(s, ERT_BAD_COUNT);
-    s = plain, s.slots = 65537, refuse(s, ERT_BAD_COUNT);
-    s = plain, s.callers = 18, refuse(s, ERT_BAD_COUNT);
+    s = plain, s.slots = 16777217, refuse(s, ERT_BAD_COUNT);
+    s = plain, s.callers = 1026, refuse(s, ERT_BAD_COUNT);
 }
 
 static void open_twice(void) {

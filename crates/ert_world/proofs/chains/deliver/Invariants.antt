@@ -4,6 +4,7 @@ use Rattle.ert_effects.specs.declared.answers.Handed.{Handed}
 use Rattle.ert_defs.specs.States.{state}
 use Rattle.ert_world.proofs.Chained.{Made}
 use Rattle.ert_world.proofs.chains.deliver.Given as goal
+use Rattle.ert_defs.specs.declared.settings.TheConstants.{MOST_SLOTS}
 
 abbrev pub invariant-loop-fired : goal.invariant-loop-fired
 invariant-loop-fired g l =
@@ -13,7 +14,7 @@ invariant-loop-fired g l =
       made : Made s.settings s.history s.mark s.way l.fn.sched (λ g way. HandsMany g way l.fn.sched hows) l.fn.steps l.steps;
       put_is : l.put ≡ puts hows;
       dropped_is : l.dropped ≡ drops hows;
-      few : (l.put + l.dropped ≡ 0) ⊎ ((l.put + l.dropped) + length ((state (s.settings l.steps) (s.history l.steps)).scheds l.fn.sched).fired ≤ 65536);
+      few : (l.put + l.dropped ≡ 0) ⊎ ((l.put + l.dropped) + length ((state (s.settings l.steps) (s.history l.steps)).scheds l.fn.sched).fired ≤ MOST_SLOTS);
       stays : s.stays l.fn.steps l.steps;
     }
 

@@ -1,4 +1,4 @@
-use Rattle.std.proofs.Common.{◌≡◌, ◌∙◌, ◌≤◌, ◌+◌, ◌-◌, List, [], ◌∷◌, ◌++◌, add-zero, rules, refl, sym, ap, subst}
+use Rattle.std.proofs.Common.{◌^◌, ◌≡◌, ◌∙◌, ◌≤◌, ◌+◌, ◌-◌, List, [], ◌∷◌, ◌++◌, add-zero, rules, refl, sym, ap, subst}
 use Rattle.std.specs.VecDeque.{deque_len, deque_capacity}
 use Rattle.ert_defs.specs.Mails.{message_of}
 use Rattle.ert_defs.specs.declared.mail.Mail.{Mail}
@@ -21,8 +21,8 @@ returns-in-Dropped-clause-stands c =
 
 pub overflow_add-self : goal.overflow_add-self
 overflow_add-self c =
-    let few : c.self.inside.delivered + 1 ≤ 576460752303423488 =
-    subst (λ (m : Mailbox). m.delivered + 1 ≤ 576460752303423488) (sym c.self.view_is)
+    let few : c.self.inside.delivered + 1 ≤ 2 ^ 63 =
+    subst (λ (m : Mailbox). m.delivered + 1 ≤ 2 ^ 63) (sym c.self.view_is)
     (count_fits (settings_of c.args.desk.now) (view_of c.args.pass.now) (view_of c.hand_over.new.pass) c.args.fired.now c.args.self.now
     c.args.desk.now.checked c.requires.dest c.requires.holds.mail c.requires.stands c.in_default.ensures.steps) in
     search rules

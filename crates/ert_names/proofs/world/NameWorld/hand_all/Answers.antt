@@ -1,4 +1,4 @@
-use Rattle.std.proofs.Common.{◌≡◌, ◌≤◌, true, false, Some, None, Ok, Err, length, [], ◌∷◌, ◌++◌, rules, subst, arith}
+use Rattle.std.proofs.Common.{◌^◌, ◌≡◌, ◌≤◌, true, false, Some, None, Ok, Err, length, [], ◌∷◌, ◌++◌, rules, subst, arith}
 use Rattle.ert_defs.specs.Legal.{Legal}
 use Rattle.ert_defs.specs.declared.memory.NoMemory.{NoMemory}
 use Rattle.ert_names.specs.Handing.{waiting, HandsNext, HandsOne, HandsNone}
@@ -9,8 +9,8 @@ use Rattle.ert_names.proofs.world.NameWorld.hand_all.Goals as goal
 
 pub loop-was_handed-init : goal.loop-was_handed-init
 loop-was_handed-init c =
-    let few : length (waiting c.args.self.now.world) ≤ 576460752303423488 =
-    subst (λ (w : Registered). length (waiting w.world) ≤ 576460752303423488) c.self.view_is
+    let few : length (waiting c.args.self.now.world) ≤ 2 ^ 63 =
+    subst (λ (w : Registered). length (waiting w.world) ≤ 2 ^ 63) c.self.view_is
     (few_waiting (length c.self.inside.rows.items) c.self.inside.world c.settings-settings.ensures.stands c.self.invariant.fits) in
     record {
       messages = [];

@@ -1,4 +1,4 @@
-use Rattle.std.proofs.Common.{◌≤◌, ◌+◌, List, length}
+use Rattle.std.proofs.Common.{◌^◌, ◌≤◌, ◌+◌, List, length}
 use Rattle.ert_names.specs.Calls.{HandsOver, AreCounted, Message, TakesMany}
 use Rattle.ert_names.specs.Handing.{waiting}
 use Rattle.ert_names.proofs.world.NameWorld.hand_all.Given as goal
@@ -8,7 +8,7 @@ invariant-loop-was_handed l = record {
   messages : List Message;
   some : HandsOver l.fn.self messages (TakesMany l.fn.self.world.settings messages) l.self;
   counted : AreCounted l.fn.self messages l.handed l.lost;
-  few : (l.handed + l.lost) + length (waiting l.self.world) ≤ 576460752303423488;
+  few : (l.handed + l.lost) + length (waiting l.self.world) ≤ 2 ^ 63;
 }
 
 abbrev pub decreases-loop-was_handed : goal.decreases-loop-was_handed

@@ -4,12 +4,13 @@ use Rattle.ert_defs.specs.States.{state}
 use Rattle.ert_service.proofs.Chained.{rows_few}
 use Rattle.ert_table.specs.Desks.{front_of}
 use Rattle.ert_service.proofs.sitting.SittingSchedSteps.first_of_fired.Goals as goal
+use Rattle.ert_defs.specs.declared.settings.TheConstants.{MOST_SLOTS}
 
 pub returns-clause-few : goal.returns-clause-few
 returns-clause-few g c =
     let s = g.L.DeskName.settings in
     let service = c.args.self.now.service.now in
     let seat = c.args.self.now.seat.now in
-    let high = subst (λ t. t.slots ≤ 65536) service.named.settings_is (arc_value service.desk).checked.counts.slots_high in
+    let high = subst (λ t. t.slots ≤ MOST_SLOTS) service.named.settings_is (arc_value service.desk).checked.counts.slots_high in
     let few = rows_few s seat.pass seat.part high seat.fits.sits.named seat.fits.stands in
-    subst (λ (n : ℕ). length ((state s (front_of seat.pass)).scheds n).fired ≤ 65536) c.requires (subst (λ l. length l ≤ 65536) seat.fits.stands.fired few)
+    subst (λ (n : ℕ). length ((state s (front_of seat.pass)).scheds n).fired ≤ MOST_SLOTS) c.requires (subst (λ l. length l ≤ MOST_SLOTS) seat.fits.stands.fired few)

@@ -4,6 +4,7 @@ use Rattle.ert_effects.specs.declared.answers.Handed.{Handed}
 use Rattle.ert_shard.proofs.Deliveries.{Handing}
 use Rattle.ert_shard.specs.Turning.{fired_of}
 use Rattle.ert_shard.proofs.shard.Shard.deliver.Given as goal
+use Rattle.ert_defs.specs.declared.settings.TheConstants.{MOST_SLOTS}
 
 abbrev pub invariant-loop-fired : goal.invariant-loop-fired
 invariant-loop-fired l =
@@ -12,7 +13,7 @@ invariant-loop-fired l =
       handing : Handing l.fn.self hows l.self;
       put_is : l.put ≡ puts hows;
       dropped_is : l.dropped ≡ drops hows;
-      few : (l.put + l.dropped ≡ 0) ⊎ ((l.put + l.dropped) + length (fired_of l.self) ≤ 65536);
+      few : (l.put + l.dropped ≡ 0) ⊎ ((l.put + l.dropped) + length (fired_of l.self) ≤ MOST_SLOTS);
     }
 
 abbrev pub decreases-loop-fired : goal.decreases-loop-fired
