@@ -1,13 +1,13 @@
 -- The marks of buckets by the bits of words.
 
-use Rattle.std.proofs.Common.{◌≡◌, ◌≢◌, ℕ, ◌+◌, ◌-◌, ◌*◌, ◌/◌, ◌%◌, ◌^◌, ◌<◌, ◌≤◌, min, List, length, get_or, set, replicate, w64, sym, ap, ◌∙◌, inl, inr, arith, get_or-set_same, get_or-set_other}
+use Rattle.std.proofs.Common.{◌≡◌, ◌≢◌, ℕ, ◌+◌, ◌-◌, ◌*◌, ◌/◌, ◌%◌, ◌^◌, ◌<◌, ◌≤◌, min, List, length, get_or, set, replicate, w64, bit_and, bit_or, sym, ap, ◌∙◌, inl, inr, arith, get_or-set_same, get_or-set_other}
 use Rattle.std.proofs.Math.Nat.{div-div-eq-div-mul, div-le_self}
 use Rattle.std.proofs.lemmas.Bool.{cases_eq, cases_lt}
-use Rattle.std.proofs.lemmas.List.{get_or-replicate}
+use Rattle.std.proofs.lemmas.List.{get_or-replicate, length-replicate, length-set}
 use Rattle.std.proofs.lemmas.Nat.{pow-add}
-use Rattle.std.proofs.lemmas.Nat.Bits.{bit_at-zero, bit_at-trailing_zeros, bit_at_above}
-use Rattle.std.specs.Int.{bit_at, trailing_zeros}
-use Rattle.ert_wheel.specs.Marks.{mark_of}
+use Rattle.std.proofs.lemmas.Nat.Bits.{bit_at-zero, bit_at-trailing_zeros, bit_at_above, bit_at_set_same, bit_at_set_other, bit_at_clear_same, bit_at_clear_other}
+use Rattle.std.specs.Int.{bit_at, bit_not, trailing_zeros}
+use Rattle.ert_wheel.specs.Marks.{mark_of, AreSummed}
 use Rattle.ert_wheel.specs.declared.row.TheConstants.{BUCKETS}
 
 -- a bucket's mark is in its word
@@ -42,6 +42,7 @@ pub record IsFirstBit (word from found : ℕ) : Type 0 where
   pub low : found ≤ 64
   pub below : (place : ℕ) → from ≤ place → place < found → bit_at word place ≡ 0
   pub here : found < 64 → bit_at word found ≡ 1
+  pub none : found ≡ 64 → word / 2 ^ from ≡ 0
 
 pub no_bit : (word from : ℕ) → from < 64 → word / 2 ^ from ≡ 0 → IsFirstBit word from 64
 no_bit word from low none = record {
@@ -52,6 +53,7 @@ no_bit word from low none = record {
       sym (ap (bit_at word) e) ∙ sym (bit_at_shr word from (place - from)) ∙ ap (λ n. bit_at n (place - from)) none
       ∙ bit_at-zero (place - from);
   here = λ less. absurd (omega arith);
+  none = λ _. none;
 }
 
 pub some_bit : (word from : ℕ) → from < 64 → word < 2 ^ 64 → 0 < word / 2 ^ from
@@ -73,7 +75,50 @@ some_bit word from low fits some =
           let e : from + (place - from) ≡ place = omega arith in
           sym (ap (bit_at word) e) ∙ sym (bit_at_shr word from (place - from)) ∙ t.2 (place - from) (omega arith);
       here = λ _. one;
+      none = λ end. absurd (omega (arith, small, end));
     }
+
+-- words of 0 have no mark
+pub sums_none : AreSummed (replicate 64 0) 0
+sums_none = record {
+  wide = length-replicate {A = ℕ} 64 0;
+  none = λ at low _. get_or-replicate 64 at 0 0 low;
+  some = λ at low one. absurd (omega (arith, sym one ∙ bit_at-zero at));
+}
+
+-- a word that isn't 0 is noted
+pub sums_set : (words : List ℕ) (used at word : ℕ) → AreSummed words used → at < 64 → word ≢ 0
+    → AreSummed (set words at word) (bit_or used (1 * 2 ^ at % 2 ^ 64))
+sums_set words used at word sums low some = record {
+  wide = length-set words at word ∙ sums.wide;
+  none = λ i less clear.
+      elim (cases_eq i at) [
+        | inl same ↦ absurd (omega (arith, sym (bit_at_set_same w64 used at low) ∙ (ap (bit_at (bit_or used (1 * 2 ^ at % 2 ^ 64))) (sym same) ∙ clear)))
+        | inr apart ↦ get_or-set_other words at i word 0 apart ∙ sums.none i less (sym (bit_at_set_other w64 used at low i apart) ∙ clear)
+      ];
+  some = λ i less one.
+      elim (cases_eq i at) [
+        | inl same ↦ rw (same, get_or-set_same words at word 0 (omega (arith, low, sums.wide))) some
+        | inr apart ↦ rw (get_or-set_other words at i word 0 apart) (sums.some i less (sym (bit_at_set_other w64 used at low i apart) ∙ one))
+      ];
+}
+
+-- a word of 0 is noted
+pub sums_clear : (words : List ℕ) (used at : ℕ) → AreSummed words used → at < 64
+    → AreSummed (set words at 0) (bit_and used (bit_not w64 (1 * 2 ^ at % 2 ^ 64)))
+sums_clear words used at sums low = record {
+  wide = length-set words at 0 ∙ sums.wide;
+  none = λ i less clear.
+      elim (cases_eq i at) [
+        | inl same ↦ rw same (get_or-set_same words at 0 0 (omega (arith, low, sums.wide)))
+        | inr apart ↦ get_or-set_other words at i 0 0 apart ∙ sums.none i less (sym (bit_at_clear_other w64 used at low i less apart) ∙ clear)
+      ];
+  some = λ i less one.
+      elim (cases_eq i at) [
+        | inl same ↦ absurd (omega (arith, sym one ∙ (ap (bit_at (bit_and used (bit_not w64 (1 * 2 ^ at % 2 ^ 64)))) same ∙ bit_at_clear_same w64 used at low)))
+        | inr apart ↦ rw (get_or-set_other words at i 0 0 apart) (sums.some i less (sym (bit_at_clear_other w64 used at low i less apart) ∙ one))
+      ];
+}
 
 -- no bucket is marked from one on, below another
 pub record IsPast (words : List ℕ) (from bucket : ℕ) : Type 0 where

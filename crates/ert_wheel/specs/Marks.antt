@@ -1,6 +1,6 @@
 -- A mark for each bucket, in words of 64 bits.
 
-use Rattle.std.specs.Prelude.{◌≡◌, ℕ, ◌+◌, ◌<◌, ◌≤◌, ◌/◌, ◌%◌, List, Option, Some, slice_index_or}
+use Rattle.std.specs.Prelude.{◌≡◌, ◌≢◌, ℕ, length, ◌+◌, ◌<◌, ◌≤◌, ◌/◌, ◌%◌, List, Option, Some, slice_index_or}
 use Rattle.std.specs.Int.{bit_at}
 use Rattle.ert_wheel.specs.Links.{links_of, next_at}
 use Rattle.ert_wheel.specs.Nodes.{Nodes, HasNodes}
@@ -11,6 +11,12 @@ use Rattle.ert_wheel.specs.declared.row.TheConstants.{BUCKETS}
 -- the mark of a bucket: 1 or 0
 abbrev pub mark_of : List ℕ → ℕ → ℕ
 mark_of words bucket = bit_at (slice_index_or words (bucket / 64) 0) (bucket % 64)
+
+-- a bit for each word tells whether it has a mark
+pub record AreSummed (words : List ℕ) (used : ℕ) : Type 0 where
+  pub wide : length words ≡ 64
+  pub none : (at : ℕ) → at < 64 → bit_at used at ≡ 0 → slice_index_or words at 0 ≡ 0
+  pub some : (at : ℕ) → at < 64 → bit_at used at ≡ 1 → slice_index_or words at 0 ≢ 0
 
 -- the node after the head of a bucket
 abbrev pub newest_node : Nodes → ℕ → ℕ

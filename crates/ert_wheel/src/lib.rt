@@ -47,7 +47,8 @@
 //! move in the one advance that comes into its window.
 //!
 //! **Marks** (`Marks`). A bit for each bucket tells whether it has a slot: a put sets it, and a take that leaves
-//! the ring empty clears it. So no look comes to an empty bucket: it goes over 64 words of 64 bits at most.
+//! the ring empty clears it. One more word has a bit for each word of them. So no look comes to an empty bucket: it reads
+//! three words at most, however far the next row is.
 //!
 //! **A step of time** visits the buckets that have rows, up to the bucket of the time that it comes to.
 //!

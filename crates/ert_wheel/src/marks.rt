@@ -1,4 +1,4 @@
-ghost use Rattle.std.specs.Prelude.{◌≡◌, ◌+◌, ◌<◌, ◌≤◌, ℕ};
+ghost use Rattle.std.specs.Prelude.{◌≡◌, ◌+◌, ◌/◌, ◌^◌, ◌<◌, ◌≤◌, ℕ};
 ghost use Rattle.std.specs.Int.{bit_at};
 
 use crate::row::BUCKETS;
@@ -8,20 +8,23 @@ use std::marker::Model;
 #[derive(Drop)]
 pub struct Marks {
     words: [u64; 64],
+    // A bit for each word, which tells whether it has a mark.
+    used: u64,
 }
 
 impl Model for Marks {
-    ghost use Rattle.std.specs.Prelude.{◌≡◌, ℕ, List, length};
+    ghost use Rattle.std.specs.Prelude.{ℕ, List};
+    ghost use Rattle.ert_wheel.specs.Marks.{AreSummed};
 
     ghost Value = { List ℕ };
 
     ghost view = { λ m. m.words };
 
-    ghost invariant = { λ m. length m.words ≡ 64 };
+    ghost invariant = { λ m. AreSummed m.words m.used };
 }
 
 impl Marks {
-    ghost use Rattle.std.specs.Prelude.{◌≡◌, ◌≢◌, ◌<◌, ◌≤◌, ℕ};
+    ghost use Rattle.std.specs.Prelude.{◌≡◌, ◌≢◌, ◌<◌, ◌≤◌, ℕ, slice_set};
     ghost use Rattle.ert_wheel.specs.Marks.{mark_of};
     ghost use Rattle.ert_wheel.specs.declared.row.TheConstants.{BUCKETS};
 
@@ -29,7 +32,10 @@ impl Marks {
     pub fn new() -> Marks
         ensures { (bucket : ℕ) → bucket < BUCKETS → mark_of result bucket ≡ 0 }
     {
-        Marks { words: [0; 64] }
+        Marks {
+            words: [0; 64],
+            used: 0,
+        }
     }
 
     /// Marks a bucket.
@@ -39,7 +45,9 @@ impl Marks {
         ensures here { mark_of self.new bucket ≡ 1 }
         ensures others { (other : ℕ) → other ≢ bucket → mark_of self.new other ≡ mark_of self.old other }
     {
-        self.words[(bucket / 64) as usize] |= 1 << (bucket % 64);
+        let at = bucket / 64;
+        let word = self.words[at as usize] | 1 << (bucket % 64);
+        self.store(at, word);
     }
 
     /// Takes the mark of a bucket away.
@@ -49,7 +57,9 @@ impl Marks {
         ensures here { mark_of self.new bucket ≡ 0 }
         ensures others { (other : ℕ) → other ≢ bucket → mark_of self.new other ≡ mark_of self.old other }
     {
-        self.words[(bucket / 64) as usize] &= !(1 << (bucket % 64));
+        let at = bucket / 64;
+        let word = self.words[at as usize] & !(1 << (bucket % 64));
+        self.store(at, word);
     }
 
     /// The first marked bucket from one on and before an end; the end where there is none.
@@ -62,16 +72,36 @@ impl Marks {
         ensures below { (bucket : ℕ) → from ≤ bucket → bucket < result → mark_of self.now bucket ≡ 0 }
         ensures here { result < end → mark_of self.now result ≡ 1 }
     {
-        let mut bucket = from;
-        while bucket < end {
-            let base = bucket / 64 * 64;
-            let bit = first_bit(self.words[(bucket / 64) as usize], bucket % 64);
-            if bit < 64 {
-                return (base + bit).min(end);
-            }
-            bucket = base + 64;
+        if from == end {
+            return end;
         }
-        end
+        let at = from / 64;
+        let bit = first_bit(self.words[at as usize], from % 64);
+        if bit < 64 {
+            return (at * 64 + bit).min(end);
+        }
+        if at == 63 {
+            return end;
+        }
+        let at = first_bit(self.used, at + 1);
+        if at == 64 {
+            return end;
+        }
+        (at * 64 + first_bit(self.words[at as usize], 0)).min(end)
+    }
+
+    /// Stores a word, and tells of it whether it has a mark.
+    #[inline]
+    fn store(&mut self, at: u32, word: u64)
+        requires { at < 64 }
+        ensures { self.new ≡ slice_set self.old at word }
+    {
+        self.words[at as usize] = word;
+        if word == 0 {
+            self.used &= !(1 << at);
+        } else {
+            self.used |= 1 << at;
+        }
     }
 }
 
@@ -83,6 +113,7 @@ fn first_bit(word: u64, from: u32) -> u32
     ensures low { result ≤ 64 }
     ensures below { (place : ℕ) → from ≤ place → place < result → bit_at word place ≡ 0 }
     ensures here { result < 64 → bit_at word result ≡ 1 }
+    ensures none { result ≡ 64 → word / 2 ^ from ≡ 0 }
 {
     let left = word >> from;
     if left == 0 {

@@ -13,3 +13,6 @@ returns-clause-below c = (some_bit c.args.word c.args.from c.requires c.ranges.w
 
 pub returns-clause-here : goal.returns-clause-here
 returns-clause-here c = (some_bit c.args.word c.args.from c.requires c.ranges.word.fits (omega (arith, c.if-left-eq0.false))).here
+
+pub returns-clause-none : goal.returns-clause-none
+returns-clause-none c = (some_bit c.args.word c.args.from c.requires c.ranges.word.fits (omega (arith, c.if-left-eq0.false))).none
