@@ -1,15 +1,20 @@
 -- One step of a clock: what a tick answers and leaves follows from what the code computes one after the
 -- other.
 
-use Rattle.std.proofs.Common.{◌≡◌, ℤ, refl, sym, ap, ◌∙◌, subst, Option, Some, None}
+use Rattle.std.proofs.Common.{Bool, false, ◌≡◌, ℤ, ◌-ℤ◌, refl, sym, ap, ◌∙◌, subst, Option, Some, None}
 use Rattle.std.specs.Prelude.{Ok, Err}
-use Rattle.ert_defs.specs.Lines.{Face, Due, IsInRange, time_after, due_after, ticked, shifted}
+use Rattle.ert_defs.specs.Lines.{Face, Due, IsInRange, time_after, due_after, due_at, due_from, is_base, ticked, shifted}
 use Rattle.ert_defs.specs.Readings.{IsValid}
 use Rattle.ert_defs.specs.Sound.{Sound, MayShift}
 use Rattle.ert_defs.specs.declared.entry.Act.{Act}
 use Rattle.ert_defs.specs.declared.settings.Reading.{Reading}
 use Rattle.ert_defs.specs.declared.settings.Settings.{Settings}
 use Rattle.ert_defs.proofs.Bounds.{sound_tick, sound_shift, due_fits}
+use Rattle.ert_defs.specs.declared.entry.Act.TheVariants.{Plain, Force, Finalize}
+use Rattle.ert_defs.specs.declared.settings.OffsetState.{OffsetState}
+use Rattle.ert_defs.specs.declared.settings.OffsetState.TheVariants.{Preliminary, Final, Volatile}
+use Rattle.std.proofs.lemmas.Bool.{true≢false}
+use Rattle.ert_clock.specs.Faces.{runs_on}
 use Rattle.ert_clock.specs.Shown.{IsKept}
 use Rattle.ert_clock.specs.Ticks.{offset_of, IsWide, Limits, Gives}
 use Rattle.ert_clock.specs.declared.clock.ClockErr.{ClockErr}
@@ -92,4 +97,25 @@ done_gives g f r act now due shift next told e d = record {
   told = d.computed.told;
   shift = e ∙ ap offset_of (d.limits.1 ∙ due_then g f r act now due d.computed);
   shows = ap (λ (f : Face). record { settings = g; face = f }) (next_then g f r act now due shift next d);
+}
+
+-- where no line ends, no shift is due
+quiet_due : (act : Act) (due : Bool) (state : OffsetState) (x offset : ℤ) → is_base act due ≡ false → due_from act due state x offset ≡ None
+quiet_due Plain due Volatile x offset not = rw not refl
+quiet_due Plain due Preliminary x offset not = refl
+quiet_due Plain due Final x offset not = refl
+quiet_due Force due state x offset not = absurd (true≢false not)
+quiet_due Finalize due state x offset not = absurd (true≢false not)
+
+-- where no line ends, time alone runs on
+pub quiet : (g : Settings) (f : Face) (r : Reading) (act : Act) (now : ℤ) (next : Face) → IsValid r → now ≡ time_after g f r
+    → is_base act (due_at g f r) ≡ false → next ≡ runs_on f r now → Done g f r act now None None next
+quiet g f r act now next valid told not is = record {
+  computed = record {
+    valid = valid;
+    told = told;
+    due_is = sym (quiet_due act (due_at g f r) f.state (r.sys -ℤ now) f.offset not);
+  };
+  limits = (tt, refl);
+  next_is = rw not is;
 }

@@ -124,7 +124,8 @@ impl Clock {
         }
     }
 
-    /// Takes one reading, for one of the three acts. It computes first what can be refused.
+    /// Takes one reading, for one of the three acts. It computes first what can be refused; between two checks that is
+    /// nothing, and time alone runs on.
     fn step(&mut self, reading: Reading, act: Act) -> Result<Moved, ClockErr>
         ensures { Gives self.old reading act result self.new }
     {
@@ -133,6 +134,10 @@ impl Clock {
         }
         let settings = &self.settings;
         let now = time_after(settings, &self.face, reading);
+        if !self.face.ends_line(settings, reading, act) {
+            self.face.run(reading, now);
+            return Ok(Moved { now, shift: None });
+        }
         let shift = limit(self.face.due_after(settings, reading, act, now))?;
         self.face.tick(settings, reading, act, now);
         self.face.shift(shift);

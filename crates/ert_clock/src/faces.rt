@@ -102,7 +102,7 @@ impl Line {
 }
 
 impl Face {
-    ghost use Rattle.ert_clock.specs.Faces.{base_of, face_of};
+    ghost use Rattle.ert_clock.specs.Faces.{base_of, face_of, runs_on};
 
     /// The face at the opening. The first reading counts as a check.
     pub fn opening(settings: &Settings) -> Face
@@ -180,6 +180,14 @@ impl Face {
             sys: reading.sys,
             rate: rate_after(act, self.state, error),
         }
+    }
+
+    /// Takes a tick to a time by which no line ends.
+    pub fn run(&mut self, reading: Reading, now: i64)
+        ensures { face_of self.new ≡ runs_on (face_of self.old) reading now }
+    {
+        self.mono = self.mono_after(reading);
+        self.time = now;
     }
 
     /// Takes a tick to a time, before any shift.
