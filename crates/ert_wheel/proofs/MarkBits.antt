@@ -27,9 +27,9 @@ mark-set_other words bucket word within kept other differs =
     ]
 
 -- no bucket is marked in words of 0
-pub no_mark : (bucket : ℕ) → bucket < BUCKETS → mark_of (replicate 64 0) bucket ≡ 0
+pub no_mark : (bucket : ℕ) → bucket < BUCKETS → mark_of (replicate 40 0) bucket ≡ 0
 no_mark bucket low =
-    ap (λ n. bit_at n (bucket % 64)) (get_or-replicate 64 (bucket / 64) 0 0 (omega arith)) ∙ bit_at-zero (bucket % 64)
+    ap (λ n. bit_at n (bucket % 64)) (get_or-replicate 40 (bucket / 64) 0 0 (omega arith)) ∙ bit_at-zero (bucket % 64)
 
 -- what is shifted
 bit_at_shr : (word from i : ℕ) → bit_at (word / 2 ^ from) i ≡ bit_at word (from + i)

@@ -7,7 +7,7 @@ use std::marker::Model;
 /// A mark for each bucket, in words of 64 bits.
 #[derive(Drop)]
 pub struct Marks {
-    words: [u64; 64],
+    words: [u64; 40],
 }
 
 impl Model for Marks {
@@ -17,7 +17,7 @@ impl Model for Marks {
 
     ghost view = { λ m. m.words };
 
-    ghost invariant = { λ m. length m.words ≡ 64 };
+    ghost invariant = { λ m. length m.words ≡ 40 };
 }
 
 impl Marks {
@@ -29,7 +29,7 @@ impl Marks {
     pub fn new() -> Marks
         ensures { (bucket : ℕ) → bucket < BUCKETS → mark_of result bucket ≡ 0 }
     {
-        Marks { words: [0; 64] }
+        Marks { words: [0; 40] }
     }
 
     /// Marks a bucket.
