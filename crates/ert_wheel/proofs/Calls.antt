@@ -2,33 +2,32 @@
 
 use Rattle.std.proofs.Common.{map, ◌≡◌, ℕ, ◌+◌, ◌<◌, ◌≤◌, ◌^◌, true, cond, List, Option, Some, None, length, get_or, sym, subst, ◌∙◌, ap, inl, inr, refl, arith}
 use Rattle.std.proofs.lemmas.Bool.{cases_lt, lt-ltb, le-ltb}
-use Rattle.std.proofs.lemmas.List.{get_or-map}
 use Rattle.std.proofs.lemmas.List.FromFn.{get_or-map-range_with_len, length-map-range_with_len}
 use Rattle.std.specs.List.{range_with_len}
 use Rattle.ert_wheel.proofs.Parts.{IsSlot, IsHead, slot_is, head_is, node_is, put_chains, take_chains}
 use Rattle.ert_wheel.specs.Chained.{Shape, Spliced, Unspliced}
-use Rattle.ert_wheel.specs.Links.{link_of, links_of, next_at, prev_at, alone, no_link}
-use Rattle.ert_wheel.specs.Nodes.{Nodes, rings, HasNodes}
-use Rattle.ert_wheel.specs.Rings.{Rings, Place, order_of, shape, AreChains, MayTake, Puts, PutsInHome, Takes, slot_at, Finds, FindsOldest}
+use Rattle.ert_wheel.specs.Links.{next_at, prev_at, alone, no_link}
+use Rattle.ert_wheel.specs.Rings.{Rings, HasLinks, Place, order_of, shape, AreChains, MayTake, Puts, PutsInHome, Takes, slot_at, Finds, FindsOldest}
 use Rattle.ert_wheel.specs.declared.links.Link.{Link}
-use Rattle.ert_wheel.specs.declared.links.Node.{Node}
-use Rattle.ert_wheel.specs.declared.links.Side.{Side}
-use Rattle.ert_wheel.specs.declared.links.Side.TheVariants.{Bucket, Owner}
-use Rattle.ert_wheel.specs.declared.row.TheConstants.{BUCKETS}
 
--- a slot is put in: `lent` is what the nodes are while they are written
-pub puts : (old : Nodes) (slots : ℕ) (before lent after : List Node) (side : Side) (slot home : ℕ)
-    → record { slots = slots; nodes = before } ≡ old → lent ≡ before → slot < old.slots → home < BUCKETS
-    → Spliced (next_at (links_of side lent)) (prev_at (links_of side lent)) (next_at (links_of side after)) (prev_at (links_of side after)) (slots + home) slot
-    → PutsInHome (rings side old) (rings side (record { slots = slots; nodes = after })) slot home
-puts old slots before lent after side slot home is e low in_range spliced =
-    let P : Nodes → Type 0 = λ n. slot < n.slots
-    → PutsInHome (rings side n) (rings side (record { slots = slots; nodes = after })) slot home in
-    subst P is
-    (λ low places order are out fits apart above. put_chains _ places slot home order (links_of side after)
+-- a slot is put in: `lent` is what the links are while they are written
+pub splices : (old : Rings) (slots homes : ℕ) (before lent after : List Link) (slot home : ℕ)
+    → record { slots = slots; homes = homes; links = before } ≡ old → lent ≡ before
+    → Spliced (next_at lent) (prev_at lent) (next_at after) (prev_at after) (slots + home) slot
+    → Spliced (next_at old.links) (prev_at old.links) (next_at after) (prev_at after) (old.slots + home) slot
+splices old slots homes before lent after slot home is e spliced =
+    subst (λ (r : Rings). Spliced (next_at r.links) (prev_at r.links) (next_at after) (prev_at after) (r.slots + home) slot) is
+    (subst (λ (l : List Link). Spliced (next_at l) (prev_at l) (next_at after) (prev_at after) (slots + home) slot) e spliced)
+
+pub puts : (old : Rings) (slots homes : ℕ) (before after : List Link) (slot home : ℕ)
+    → record { slots = slots; homes = homes; links = before } ≡ old → slot < old.slots → home < old.homes
+    → Spliced (next_at old.links) (prev_at old.links) (next_at after) (prev_at after) (old.slots + home) slot
+    → PutsInHome old (record { slots = slots; homes = homes; links = after }) slot home
+puts old slots homes before after slot home is low in_range spliced =
+    subst (λ (r : Rings). PutsInHome old r slot home) (sym (ap (λ (r : Rings). let n : Rings = record r { links = after } in n) is))
+    (λ places order are out fits apart above. put_chains old places slot home order after
     (record { are = are; low = low; in_range = in_range; out = out; fits = fits; apart = apart; above = above })
-    (subst (λ (l : List Node). Spliced (next_at (links_of side l)) (prev_at (links_of side l)) (next_at (links_of side after)) (prev_at (links_of side after)) (slots + home) slot) e spliced))
-    low
+    spliced)
 
 -- and with an order above all others
 pub puts_newest : (old new : Rings) (slot home : ℕ) → PutsInHome old new slot home → Puts old new slot home
@@ -36,25 +35,21 @@ puts_newest old new slot home puts places order are out fits above =
     puts places order are out fits (λ j p h e. absurd (omega (arith, above j p h))) (λ j p h at. above j p h)
 
 -- a slot is taken out
-pub takes : (old : Nodes) (slots : ℕ) (before lent after : List Node) (side : Side) (slot : ℕ)
-    → record { slots = slots; nodes = before } ≡ old → lent ≡ before → slot < old.slots
-    → Unspliced (next_at (links_of side lent)) (prev_at (links_of side lent)) (next_at (links_of side after)) (prev_at (links_of side after)) slot
-    → Takes (rings side old) (rings side (record { slots = slots; nodes = after })) slot
-takes old slots before lent after side slot is e low unspliced =
-    let P : Nodes → Type 0 = λ n. slot < n.slots
-    → Takes (rings side n) (rings side (record { slots = slots; nodes = after })) slot in
-    subst P is
-    (λ low places are. take_chains _ places slot (links_of side after) are low
-    (subst (λ (l : List Node). Unspliced (next_at (links_of side l)) (prev_at (links_of side l)) (next_at (links_of side after)) (prev_at (links_of side after)) slot) e unspliced))
-    low
+pub unsplices : (old : Rings) (slots homes : ℕ) (before lent after : List Link) (slot : ℕ)
+    → record { slots = slots; homes = homes; links = before } ≡ old → lent ≡ before
+    → Unspliced (next_at lent) (prev_at lent) (next_at after) (prev_at after) slot
+    → Unspliced (next_at old.links) (prev_at old.links) (next_at after) (prev_at after) slot
+unsplices old slots homes before lent after slot is e unspliced =
+    subst (λ (r : Rings). Unspliced (next_at r.links) (prev_at r.links) (next_at after) (prev_at after) slot) is
+    (subst (λ (l : List Link). Unspliced (next_at l) (prev_at l) (next_at after) (prev_at after) slot) e unspliced)
 
--- and the other side is as it was
-pub stays : (old : Nodes) (slots : ℕ) (before lent after : List Node) (side : Side)
-    → record { slots = slots; nodes = before } ≡ old → lent ≡ before → links_of side after ≡ links_of side lent
-    → rings side (record { slots = slots; nodes = after }) ≡ rings side old
-stays old slots before lent after side is e same =
-    ap (λ (l : List Link). record { slots = slots; homes = BUCKETS; links = l }) (same ∙ ap (links_of side) e)
-    ∙ ap (rings side) is
+pub takes : (old : Rings) (slots homes : ℕ) (before after : List Link) (slot : ℕ)
+    → record { slots = slots; homes = homes; links = before } ≡ old → slot < old.slots
+    → Unspliced (next_at old.links) (prev_at old.links) (next_at after) (prev_at after) slot
+    → Takes old (record { slots = slots; homes = homes; links = after }) slot
+takes old slots homes before after slot is low unspliced =
+    subst (λ (r : Rings). Takes old r slot) (sym (ap (λ (r : Rings). let n : Rings = record r { links = after } in n) is))
+    (λ places are. take_chains old places slot after are low unspliced)
 
 -- what comes before a slot is a node
 pub before_in_range : (r : Rings) (places : ℕ → Option Place) (slot : ℕ) → AreChains r places → slot < r.slots
@@ -68,14 +63,35 @@ before_in_range r places slot are low = at (places slot) refl
         elim (node_is r.slots r.homes places (prev_at r.links slot) (are.chained.before_on slot s.on))
         [ inl (p, t) ↦ omega (arith, t.low) | inr t ↦ t.few ]
 
-pub before_low : (old : Nodes) (slots : ℕ) (before lent : List Node) (side : Side) (slot : ℕ)
-    → record { slots = slots; nodes = before } ≡ old → lent ≡ before → MayTake (rings side old) slot
-    → HasNodes (record { slots = slots; nodes = before }) → prev_at (links_of side lent) slot < length lent
-before_low old slots before lent side slot is e may has =
-    let P : Nodes → Type 0 = λ n. prev_at (links_of side n.nodes) slot < n.slots + BUCKETS in
-    let known : prev_at (links_of side before) slot < slots + BUCKETS =
-    subst P (sym is) (before_in_range (rings side old) may.places slot may.are may.low) in
-    subst (λ (l : List Node). prev_at (links_of side l) slot < length l) (sym e) (omega (arith, has.len))
+pub before_low : (old : Rings) (slots homes : ℕ) (before lent : List Link) (slot : ℕ)
+    → record { slots = slots; homes = homes; links = before } ≡ old → lent ≡ before → MayTake old slot
+    → HasLinks (record { slots = slots; homes = homes; links = before }) → prev_at lent slot < length lent
+before_low old slots homes before lent slot is e may has =
+    let P : Rings → Type 0 = λ r. prev_at r.links slot < r.slots + r.homes in
+    let known : prev_at before slot < slots + homes =
+    subst P (sym is) (before_in_range old may.places slot may.are may.low) in
+    subst (λ (l : List Link). prev_at l slot < length l) (sym e) (omega (arith, has.len))
+
+-- and so is what comes after it
+pub after_in_range : (r : Rings) (places : ℕ → Option Place) (slot : ℕ) → AreChains r places → slot < r.slots
+    → next_at r.links slot < r.slots + r.homes
+after_in_range r places slot are low = at (places slot) refl
+  where
+    at : (o : Option Place) → places slot ≡ o → next_at r.links slot < r.slots + r.homes
+    at None none = omega (arith, (are.alone slot low none).forth)
+    at (Some place) has =
+        let s : IsSlot r.slots r.homes places slot place = slot_is r.slots r.homes places slot place low has in
+        elim (node_is r.slots r.homes places (next_at r.links slot) (are.chained.after_on slot s.on))
+        [ inl (p, t) ↦ omega (arith, t.low) | inr t ↦ t.few ]
+
+pub after_low : (old : Rings) (slots homes : ℕ) (before lent : List Link) (slot : ℕ)
+    → record { slots = slots; homes = homes; links = before } ≡ old → lent ≡ before → MayTake old slot
+    → HasLinks (record { slots = slots; homes = homes; links = before }) → next_at lent slot < length lent
+after_low old slots homes before lent slot is e may has =
+    let P : Rings → Type 0 = λ r. next_at r.links slot < r.slots + r.homes in
+    let known : next_at before slot < slots + homes =
+    subst P (sym is) (after_in_range old may.places slot may.are may.low) in
+    subst (λ (l : List Link). next_at l slot < length l) (sym e) (omega (arith, has.len))
 
 -- no slot of the chain is between a node and the next
 greatest_of : (r : Rings) (places : ℕ → Option Place) (x home bound : ℕ) → AreChains r places
@@ -138,36 +154,35 @@ older_at r slot low places place are has =
     let s : IsSlot r.slots r.homes places slot place = slot_is r.slots r.homes places slot place low has in
     finds r places slot place.home place.order are s.on s.at_home s.top
 
-pub finds_newest : (n : Nodes) (slots : ℕ) (nodes lent : List Node) (side : Side) (home node : ℕ) (found : Option ℕ)
-    → record { slots = slots; nodes = nodes } ≡ n → lent ≡ nodes → home < BUCKETS
-    → node ≡ next_at (links_of side lent) (slots + home) → found ≡ slot_at n.slots node → (places : ℕ → Option Place)
-    → AreChains (rings side n) places → Finds (rings side n) places home (2 ^ 64) found
-finds_newest n slots nodes lent side home node found is same low read e places are =
-    let P : Nodes → Type 0 = λ n. found ≡ slot_at n.slots node → AreChains (rings side n) places
-    → Finds (rings side n) places home (2 ^ 64) found in
-    let r : Rings = rings side (record { slots = slots; nodes = nodes }) in
-    subst P is
-    (λ e are.
-    let is_found : found ≡ slot_at slots (next_at r.links (slots + home)) =
-    e ∙ ap (slot_at slots) (read ∙ ap (λ (l : List Node). next_at (links_of side l) (slots + home)) same) in
-    subst (λ (f : Option ℕ). Finds r places home (2 ^ 64) f) (sym is_found) (newest_at r home low places are))
-    e are
-
-pub finds_older : (n : Nodes) (slots : ℕ) (nodes lent : List Node) (side : Side) (slot node : ℕ) (found : Option ℕ)
-    → record { slots = slots; nodes = nodes } ≡ n → lent ≡ nodes → slot < n.slots
-    → node ≡ next_at (links_of side lent) slot → found ≡ slot_at n.slots node → (places : ℕ → Option Place)
-    (place : Place) → AreChains (rings side n) places → places slot ≡ Some place
-    → Finds (rings side n) places place.home place.order found
-finds_older n slots nodes lent side slot node found is same low read e places place are in_place =
-    let P : Nodes → Type 0 = λ n. slot < n.slots → found ≡ slot_at n.slots node → AreChains (rings side n) places
-    → Finds (rings side n) places place.home place.order found in
-    let r : Rings = rings side (record { slots = slots; nodes = nodes }) in
+pub finds_newest : (n : Rings) (slots homes : ℕ) (links lent : List Link) (home node : ℕ) (found : Option ℕ)
+    → record { slots = slots; homes = homes; links = links } ≡ n → lent ≡ links → home < n.homes
+    → node ≡ next_at lent (slots + home) → found ≡ slot_at n.slots node → (places : ℕ → Option Place)
+    → AreChains n places → Finds n places home (2 ^ 64) found
+finds_newest n slots homes links lent home node found is same low read e places are =
+    let P : Rings → Type 0 = λ n. home < n.homes → found ≡ slot_at n.slots node → AreChains n places
+    → Finds n places home (2 ^ 64) found in
+    let r : Rings = record { slots = slots; homes = homes; links = links } in
     subst P is
     (λ low e are.
-    let is_found : found ≡ slot_at slots (next_at r.links slot) =
-    e ∙ ap (slot_at slots) (read ∙ ap (λ (l : List Node). next_at (links_of side l) slot) same) in
-    subst (λ (f : Option ℕ). Finds r places place.home place.order f) (sym is_found)
-    (older_at r slot low places place are in_place))
+    let is_found : found ≡ slot_at slots (next_at links (slots + home)) =
+    e ∙ ap (slot_at slots) (read ∙ ap (λ (l : List Link). next_at l (slots + home)) same) in
+    subst (λ (f : Option ℕ). Finds r places home (2 ^ 64) f) (sym is_found) (newest_at r home low places are))
+    low e are
+
+pub finds_older : (n : Rings) (slots homes : ℕ) (links lent : List Link) (slot node : ℕ) (found : Option ℕ)
+    → record { slots = slots; homes = homes; links = links } ≡ n → lent ≡ links → slot < n.slots
+    → node ≡ next_at lent slot → found ≡ slot_at n.slots node → (places : ℕ → Option Place)
+    (place : Place) → AreChains n places → places slot ≡ Some place
+    → Finds n places place.home place.order found
+finds_older n slots homes links lent slot node found is same low read e places place are in_place =
+    let P : Rings → Type 0 = λ n. slot < n.slots → found ≡ slot_at n.slots node → AreChains n places
+    → Finds n places place.home place.order found in
+    let r : Rings = record { slots = slots; homes = homes; links = links } in
+    subst P is
+    (λ low e are.
+    let is_found : found ≡ slot_at slots (next_at links slot) =
+    e ∙ ap (slot_at slots) (read ∙ ap (λ (l : List Link). next_at l slot) same) in
+    subst (λ (f : Option ℕ). Finds r places place.home place.order f) (sym is_found) (older_at r slot low places place are in_place))
     low e are
 
 -- a look back from a node finds the oldest slot of its home that is newer
@@ -230,50 +245,40 @@ newer_at r slot low places place are has =
     let s : IsSlot r.slots r.homes places slot place = slot_is r.slots r.homes places slot place low has in
     finds_back r slot places place.home (place.order + 1) are s.on s.at_home s.bound
 
-pub finds_oldest : (n : Nodes) (slots : ℕ) (nodes lent : List Node) (side : Side) (home node : ℕ) (found : Option ℕ)
-    → record { slots = slots; nodes = nodes } ≡ n → lent ≡ nodes → home < BUCKETS
-    → node ≡ prev_at (links_of side lent) (slots + home) → found ≡ slot_at n.slots node → (places : ℕ → Option Place)
-    → AreChains (rings side n) places → FindsOldest (rings side n) places home 0 found
-finds_oldest n slots nodes lent side home node found is same low read e places are =
-    let P : Nodes → Type 0 = λ n. found ≡ slot_at n.slots node → AreChains (rings side n) places
-    → FindsOldest (rings side n) places home 0 found in
-    let r : Rings = rings side (record { slots = slots; nodes = nodes }) in
-    subst P is
-    (λ e are.
-    let is_found : found ≡ slot_at slots (prev_at r.links (slots + home)) =
-    e ∙ ap (slot_at slots) (read ∙ ap (λ (l : List Node). prev_at (links_of side l) (slots + home)) same) in
-    subst (λ (f : Option ℕ). FindsOldest r places home 0 f) (sym is_found) (oldest_at r home low places are))
-    e are
-
-pub finds_newer : (n : Nodes) (slots : ℕ) (nodes lent : List Node) (side : Side) (slot node : ℕ) (found : Option ℕ)
-    → record { slots = slots; nodes = nodes } ≡ n → lent ≡ nodes → slot < n.slots
-    → node ≡ prev_at (links_of side lent) slot → found ≡ slot_at n.slots node → (places : ℕ → Option Place)
-    (place : Place) → AreChains (rings side n) places → places slot ≡ Some place
-    → FindsOldest (rings side n) places place.home (place.order + 1) found
-finds_newer n slots nodes lent side slot node found is same low read e places place are in_place =
-    let P : Nodes → Type 0 = λ n. slot < n.slots → found ≡ slot_at n.slots node → AreChains (rings side n) places
-    → FindsOldest (rings side n) places place.home (place.order + 1) found in
-    let r : Rings = rings side (record { slots = slots; nodes = nodes }) in
+pub finds_oldest : (n : Rings) (slots homes : ℕ) (links lent : List Link) (home node : ℕ) (found : Option ℕ)
+    → record { slots = slots; homes = homes; links = links } ≡ n → lent ≡ links → home < n.homes
+    → node ≡ prev_at lent (slots + home) → found ≡ slot_at n.slots node → (places : ℕ → Option Place)
+    → AreChains n places → FindsOldest n places home 0 found
+finds_oldest n slots homes links lent home node found is same low read e places are =
+    let P : Rings → Type 0 = λ n. home < n.homes → found ≡ slot_at n.slots node → AreChains n places
+    → FindsOldest n places home 0 found in
+    let r : Rings = record { slots = slots; homes = homes; links = links } in
     subst P is
     (λ low e are.
-    let is_found : found ≡ slot_at slots (prev_at r.links slot) =
-    e ∙ ap (slot_at slots) (read ∙ ap (λ (l : List Node). prev_at (links_of side l) slot) same) in
-    subst (λ (f : Option ℕ). FindsOldest r places place.home (place.order + 1) f) (sym is_found)
-    (newer_at r slot low places place are in_place))
+    let is_found : found ≡ slot_at slots (prev_at links (slots + home)) =
+    e ∙ ap (slot_at slots) (read ∙ ap (λ (l : List Link). prev_at l (slots + home)) same) in
+    subst (λ (f : Option ℕ). FindsOldest r places home 0 f) (sym is_found) (oldest_at r home low places are))
+    low e are
+
+pub finds_newer : (n : Rings) (slots homes : ℕ) (links lent : List Link) (slot node : ℕ) (found : Option ℕ)
+    → record { slots = slots; homes = homes; links = links } ≡ n → lent ≡ links → slot < n.slots
+    → node ≡ prev_at lent slot → found ≡ slot_at n.slots node → (places : ℕ → Option Place)
+    (place : Place) → AreChains n places → places slot ≡ Some place
+    → FindsOldest n places place.home (place.order + 1) found
+finds_newer n slots homes links lent slot node found is same low read e places place are in_place =
+    let P : Rings → Type 0 = λ n. slot < n.slots → found ≡ slot_at n.slots node → AreChains n places
+    → FindsOldest n places place.home (place.order + 1) found in
+    let r : Rings = record { slots = slots; homes = homes; links = links } in
+    subst P is
+    (λ low e are.
+    let is_found : found ≡ slot_at slots (prev_at links slot) =
+    e ∙ ap (slot_at slots) (read ∙ ap (λ (l : List Link). prev_at l slot) same) in
+    subst (λ (f : Option ℕ). FindsOldest r places place.home (place.order + 1) f) (sym is_found) (newer_at r slot low places place are in_place))
     low e are
 
 -- nodes that are alone
-link_alone : (side : Side) (x : ℕ) → link_of side (alone x) ≡ record { next = x; prev = x }
-link_alone Bucket x = refl
-link_alone Owner x = refl
-
-pub links_alone : (side : Side) (n x : ℕ) → x < n
-    → get_or (links_of side (map alone (range_with_len 0 n))) x no_link ≡ record { next = x; prev = x }
-links_alone side n x low =
-    let long : x < length (map alone (range_with_len 0 n)) = omega (arith, length-map-range_with_len alone 0 n) in
-    get_or-map (link_of side) (map alone (range_with_len 0 n)) x (alone x) no_link long
-    ∙ ap (link_of side) (get_or-map-range_with_len alone 0 n x x (alone x) low (omega arith))
-    ∙ link_alone side x
+pub links_alone : (n x : ℕ) → x < n → get_or (map alone (range_with_len 0 n)) x no_link ≡ record { next = x; prev = x }
+links_alone n x low = get_or-map-range_with_len alone 0 n x x no_link low (omega arith)
 
 -- where no slot has a place only heads are on
 only_heads : (slots homes x : ℕ) → (shape slots homes (λ _. None)).on x ≡ true → IsHead slots homes (λ _. None) x
@@ -282,17 +287,17 @@ only_heads slots homes x on =
     [ inl (p, s) ↦ let none : None ≡ Some p = s.has in cc | inr h ↦ h ]
 
 -- all chains empty
-pub empty_chains : (side : Side) (slots : ℕ)
-    → AreChains (rings side (record { slots = slots; nodes = map alone (range_with_len 0 (slots + BUCKETS)) })) (λ _. None)
-empty_chains side slots =
-    let a : Shape = shape slots BUCKETS (λ _. None) in
-    let links : List Link = links_of side (map alone (range_with_len 0 (slots + BUCKETS))) in
-    let is : (x : ℕ) → x < slots + BUCKETS → get_or links x no_link ≡ record { next = x; prev = x } =
-    λ x low. links_alone side (slots + BUCKETS) x low in
+pub empty_chains : (slots homes : ℕ)
+    → AreChains (record { slots = slots; homes = homes; links = map alone (range_with_len 0 (slots + homes)) }) (λ _. None)
+empty_chains slots homes =
+    let a : Shape = shape slots homes (λ _. None) in
+    let links : List Link = map alone (range_with_len 0 (slots + homes)) in
+    let is : (x : ℕ) → x < slots + homes → get_or links x no_link ≡ record { next = x; prev = x } =
+    λ x low. links_alone (slots + homes) x low in
     let next : (x : ℕ) → a.on x ≡ true → next_at links x ≡ x =
-    λ x on. ap (λ (l : Link). l.next) (is x (only_heads slots BUCKETS x on).few) in
+    λ x on. ap (λ (l : Link). l.next) (is x (only_heads slots homes x on).few) in
     let prev : (x : ℕ) → a.on x ≡ true → prev_at links x ≡ x =
-    λ x on. ap (λ (l : Link). l.prev) (is x (only_heads slots BUCKETS x on).few) in
+    λ x on. ap (λ (l : Link). l.prev) (is x (only_heads slots homes x on).few) in
     record {
       orders = λ j p h. (let none : None ≡ Some p = h in cc);
       once = λ i j p q h k e. (let none : None ≡ Some p = h in cc);
@@ -303,8 +308,8 @@ empty_chains side slots =
         before_after = λ x on. ap (prev_at links) (next x on) ∙ prev x on;
         home = λ x on. ap a.home (next x on);
         down = λ x on. (let e : a.low (next_at links x) ≡ a.low x = ap a.low (next x on) in
-            omega (arith, (only_heads slots BUCKETS x on).bound));
-        least = λ x j on low held same lower. absurd (omega (arith, (only_heads slots BUCKETS j held).high));
+            omega (arith, (only_heads slots homes x on).bound));
+        least = λ x j on low held same lower. absurd (omega (arith, (only_heads slots homes j held).high));
       };
       alone = λ j low none. record {
         forth = ap (λ (l : Link). l.next) (is j (omega arith));
@@ -312,10 +317,11 @@ empty_chains side slots =
       };
     }
 
--- there is a node for each
-pub has_nodes : (slots : ℕ) → slots ≤ 2 ^ 30
-    → HasNodes (record { slots = slots; nodes = map alone (range_with_len 0 (slots + BUCKETS)) })
-has_nodes slots few = record {
-  len = length-map-range_with_len alone 0 (slots + BUCKETS);
+-- there is a link for each
+pub has_links : (slots homes : ℕ) → slots ≤ 2 ^ 30 → homes ≤ 2 ^ 30
+    → HasLinks (record { slots = slots; homes = homes; links = map alone (range_with_len 0 (slots + homes)) })
+has_links slots homes few few_homes = record {
+  len = length-map-range_with_len alone 0 (slots + homes);
   few = few;
+  few_homes = few_homes;
 }

@@ -73,7 +73,7 @@ falls keys was next bucket i j key other m has held e =
     let later : was < next = m.later in
     let a : max key.deadline next ≡ max key.deadline was = omega arith in
     let fell : bucket_of next (max key.deadline was) < bucket_of was (max other.deadline was) =
-    home_falls 6 was next (max other.deadline was) (max key.deadline was) later (omega arith) (omega arith) (e ∙ m.is) (omega (arith, m.is, m.high)) in
+    home_falls 3 was next (max other.deadline was) (max key.deadline was) later (omega arith) (omega arith) (e ∙ m.is) (omega (arith, m.is, m.high)) in
     omega (arith, ap (bucket_of next) a, fell)
 
 -- what stands in the bucket was not moved
@@ -214,7 +214,7 @@ all_moved keys was next bucket bound j (Some key) m held none =
       | inr s ↦
           let apart : bucket_of was (max key.deadline was) ≢ bucket_of was next =
           λ e. none key refl (s.home ∙ e ∙ sym m.is) in
-          s.home ∙ sym (home_stays 7 was next (max key.deadline was) later (omega arith) apart) ∙ sym (ap (bucket_of next) a)
+          s.home ∙ sym (home_stays 4 was next (max key.deadline was) later (omega arith) apart) ∙ sym (ap (bucket_of next) a)
     ])
 
 pub cascade_all : (chains : Rings) (keys : List (Option Key)) (was next bucket bound : ℕ) → Moves keys was next bucket
@@ -249,7 +249,7 @@ moves chains keys was next bucket may =
     let up : was ≤ next = may.move.up in
     let later : was < next =
     elim (cases_eq was next) [
-      | inl e ↦ absurd (omega (arith, may.is, may.high, home_next 6 was, ap (bucket_of was) e))
+      | inl e ↦ absurd (omega (arith, may.is, may.high, home_next 3 was, ap (bucket_of was) e))
       | inr ne ↦ omega arith
     ] in
     record {
@@ -266,13 +266,13 @@ near_place : (keys : List (Option Key)) (was next j : ℕ) (o : Option Key)
 near_place keys was next j None left near held = refl
 near_place keys was next j (Some key) left near held =
     ap (λ h. Some (record { home = h; order = key.order }))
-    (sym (home_stays_near 6 was next (max key.deadline was) near) ∙ ap (bucket_of next) (sym (left j key held)))
+    (sym (home_stays_near 3 was next (max key.deadline was) near) ∙ ap (bucket_of next) (sym (left j key held)))
 
 -- in another there is a bucket to be emptied
 pub far_cascades : (chains : Rings) (keys : List (Option Key)) (was next bucket : ℕ) → MayMove chains keys was next
     → bucket ≡ bucket_of was next → next / 512 ≢ was / 512 → MayCascade chains keys was next bucket
 far_cascades chains keys was next bucket may is far =
-    record { move = may; is = is; high = omega (arith, is, home_far 6 next was far) }
+    record { move = may; is = is; high = omega (arith, is, home_far 3 next was far) }
 
 pub near_chains : (chains : Rings) (keys : List (Option Key)) (was next : ℕ) → MayMove chains keys was next
     → next / 512 ≡ was / 512 → AreChains chains (places (home_by next) keys)

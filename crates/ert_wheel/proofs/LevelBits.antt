@@ -67,18 +67,22 @@ powers_up i j up =
 -- the bucket as it is computed
 pub record IsByBits (d n leading : ℕ) : Type 0 where
   pub few : leading ≤ 63
-  pub home : (63 - leading) / 9 * 512 + bit_and (d / 2 ^ ((63 - leading) / 9 * 9)) 511 ≡ home_at 7 d n
+  pub top : (63 - leading) / 9 ≤ 4
+  pub home : (63 - leading) / 9 * 512 + bit_and (d / 2 ^ ((63 - leading) / 9 * 9)) 511 ≡ home_at 4 d n
 
-pub by_bits : (d n leading : ℕ) → d < 2 ^ 64 → n < 2 ^ 64
+pub by_bits : (d n leading : ℕ) → d < 2 ^ 45 → n < 2 ^ 45
     → 512 ≤ bit_xor d n → leading ≡ count_leading_zeros 64 (bit_xor d n) → IsByBits d n leading
 by_bits d n leading d_fits n_fits high e =
     let x : ℕ = bit_xor d n in
     let some : 1 ≤ x = omega arith in
-    let t = leading_top 64 x some (xor_lt 64 d n d_fits n_fits) in
+    let small : x < 2 ^ 45 = xor_lt 45 d n d_fits n_fits in
+    let t = leading_top 64 x some (omega arith) in
     let j : ℕ = t.0 in
     let l : ℕ = j / 9 in
     let whole : leading + suc j ≡ 64 = ap (λ m. m + suc j) e ∙ t.1 in
     let top : 63 - leading ≡ j = omega arith in
+    let j_low : j < 45 =
+    elim (cases_lt j 45) [ inl less ↦ less | inr more ↦ absurd (omega (arith, t.2, powers_up 45 j more)) ] in
     let below : x < 512 ^ suc l =
     omega (arith, t.3, powers_up (suc j) (suc l * 9) (omega arith), size (suc l)) in
     let above : 0 < l → 512 ^ l ≤ x =
@@ -86,24 +90,25 @@ by_bits d n leading d_fits n_fits high e =
       | inl less ↦ absurd (omega (arith, t.2, powers_up (l * 9) j (omega arith)))
       | inr more ↦ omega (arith, size l)
     ] in
-    let found : home_at 7 d n ≡ 512 * l + d / 512 ^ l % 512 = by_level 7 l d n (omega arith) (omega arith) below above in
+    let found : home_at 4 d n ≡ 512 * l + d / 512 ^ l % 512 = by_level 4 l d n (omega arith) (omega arith) below above in
     let digit : bit_and (d / 2 ^ (l * 9)) 511 ≡ d / 512 ^ l % 512 =
     and_mask (d / 2 ^ (l * 9)) 9 ∙ ap (λ m. d / m % 512) (size l) in
     record {
       few = omega arith;
+      top = omega arith;
       home = ap (λ m. m / 9 * 512 + bit_and (d / 2 ^ (m / 9 * 9)) 511) top ∙ omega (arith, found, digit);
     }
 
 -- and where both stand in one window of the lowest level
-pub by_place : (d n : ℕ) → bit_xor d n < 512 → bit_and d 511 ≡ home_at 7 d n
-by_place d n low = and_mask d 9 ∙ sym (home_near 6 d n (same_window d n low))
+pub by_place : (d n : ℕ) → bit_xor d n < 512 → bit_and d 511 ≡ home_at 4 d n
+by_place d n low = and_mask d 9 ∙ sym (home_near 3 d n (same_window d n low))
 
-pub next_place : (n : ℕ) → bit_and n 511 ≡ home_at 7 n n
-next_place n = and_mask n 9 ∙ sym (home_next 6 n)
+pub next_place : (n : ℕ) → bit_and n 511 ≡ home_at 4 n n
+next_place n = and_mask n 9 ∙ sym (home_next 3 n)
 
--- there are as many buckets as a number of 64 bits needs
-pub bucket_low : (n d : ℕ) → d < 2 ^ 64 → home_at 7 d n < 4096
-bucket_low n d fits = omega (arith, home_low 7 d n (omega arith))
+-- there are as many buckets as a number of 45 bits needs
+pub bucket_low : (n d : ℕ) → d < 2 ^ 45 → home_at 4 d n < 2560
+bucket_low n d fits = omega (arith, home_low 4 d n (omega arith))
 
 -- the low bits of a time are cleared
 pub begin_is : (time level : ℕ) → time < 2 ^ 64 → level ≤ 7

@@ -27,9 +27,9 @@ mark-set_other words bucket word within kept other differs =
     ]
 
 -- no bucket is marked in words of 0
-pub no_mark : (bucket : ℕ) → bucket < BUCKETS → mark_of (replicate 64 0) bucket ≡ 0
+pub no_mark : (bucket : ℕ) → bucket < BUCKETS → mark_of (replicate 40 0) bucket ≡ 0
 no_mark bucket low =
-    ap (λ n. bit_at n (bucket % 64)) (get_or-replicate 64 (bucket / 64) 0 0 (omega arith)) ∙ bit_at-zero (bucket % 64)
+    ap (λ n. bit_at n (bucket % 64)) (get_or-replicate 40 (bucket / 64) 0 0 (omega arith)) ∙ bit_at-zero (bucket % 64)
 
 -- what is shifted
 bit_at_shr : (word from i : ℕ) → bit_at (word / 2 ^ from) i ≡ bit_at word (from + i)
@@ -79,44 +79,44 @@ some_bit word from low fits some =
     }
 
 -- words of 0 have no mark
-pub sums_none : AreSummed (replicate 64 0) 0
+pub sums_none : AreSummed (replicate 40 0) 0
 sums_none = record {
-  wide = length-replicate {A = ℕ} 64 0;
-  none = λ at low _. get_or-replicate 64 at 0 0 low;
+  wide = length-replicate {A = ℕ} 40 0;
+  none = λ at low _. get_or-replicate 40 at 0 0 low;
   some = λ at low one. absurd (omega (arith, sym one ∙ bit_at-zero at));
 }
 
 -- a word that isn't 0 is noted
-pub sums_set : (words : List ℕ) (used at word : ℕ) → AreSummed words used → at < 64 → word ≢ 0
+pub sums_set : (words : List ℕ) (used at word : ℕ) → AreSummed words used → at < 40 → word ≢ 0
     → AreSummed (set words at word) (bit_or used (1 * 2 ^ at % 2 ^ 64))
 sums_set words used at word sums low some = record {
   wide = length-set words at word ∙ sums.wide;
   none = λ i less clear.
       elim (cases_eq i at) [
-        | inl same ↦ absurd (omega (arith, sym (bit_at_set_same w64 used at low) ∙ (ap (bit_at (bit_or used (1 * 2 ^ at % 2 ^ 64))) (sym same) ∙ clear)))
-        | inr apart ↦ get_or-set_other words at i word 0 apart ∙ sums.none i less (sym (bit_at_set_other w64 used at low i apart) ∙ clear)
+        | inl same ↦ absurd (omega (arith, sym (bit_at_set_same w64 used at (omega (arith, low))) ∙ (ap (bit_at (bit_or used (1 * 2 ^ at % 2 ^ 64))) (sym same) ∙ clear)))
+        | inr apart ↦ get_or-set_other words at i word 0 apart ∙ sums.none i less (sym (bit_at_set_other w64 used at (omega (arith, low)) i apart) ∙ clear)
       ];
   some = λ i less one.
       elim (cases_eq i at) [
         | inl same ↦ rw (same, get_or-set_same words at word 0 (omega (arith, low, sums.wide))) some
-        | inr apart ↦ rw (get_or-set_other words at i word 0 apart) (sums.some i less (sym (bit_at_set_other w64 used at low i apart) ∙ one))
+        | inr apart ↦ rw (get_or-set_other words at i word 0 apart) (sums.some i less (sym (bit_at_set_other w64 used at (omega (arith, low)) i apart) ∙ one))
       ];
 }
 
 -- a word of 0 is noted
-pub sums_clear : (words : List ℕ) (used at : ℕ) → AreSummed words used → at < 64
+pub sums_clear : (words : List ℕ) (used at : ℕ) → AreSummed words used → at < 40
     → AreSummed (set words at 0) (bit_and used (bit_not w64 (1 * 2 ^ at % 2 ^ 64)))
 sums_clear words used at sums low = record {
   wide = length-set words at 0 ∙ sums.wide;
   none = λ i less clear.
       elim (cases_eq i at) [
         | inl same ↦ rw same (get_or-set_same words at 0 0 (omega (arith, low, sums.wide)))
-        | inr apart ↦ get_or-set_other words at i 0 0 apart ∙ sums.none i less (sym (bit_at_clear_other w64 used at low i less apart) ∙ clear)
+        | inr apart ↦ get_or-set_other words at i 0 0 apart ∙ sums.none i less (sym (bit_at_clear_other w64 used at (omega (arith, low)) i (omega (arith, less)) apart) ∙ clear)
       ];
   some = λ i less one.
       elim (cases_eq i at) [
-        | inl same ↦ absurd (omega (arith, sym one ∙ (ap (bit_at (bit_and used (bit_not w64 (1 * 2 ^ at % 2 ^ 64)))) same ∙ bit_at_clear_same w64 used at low)))
-        | inr apart ↦ rw (get_or-set_other words at i 0 0 apart) (sums.some i less (sym (bit_at_clear_other w64 used at low i less apart) ∙ one))
+        | inl same ↦ absurd (omega (arith, sym one ∙ (ap (bit_at (bit_and used (bit_not w64 (1 * 2 ^ at % 2 ^ 64)))) same ∙ bit_at_clear_same w64 used at (omega (arith, low)))))
+        | inr apart ↦ rw (get_or-set_other words at i 0 0 apart) (sums.some i less (sym (bit_at_clear_other w64 used at (omega (arith, low)) i (omega (arith, less)) apart) ∙ one))
       ];
 }
 

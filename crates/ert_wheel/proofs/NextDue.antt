@@ -193,7 +193,7 @@ row_home : {next count first home : ℕ} {keys : List (Option Key)} {chains : Ri
 row_home {next = next} {keys = keys} j key f has =
     f.used.none_below j (record { home = home_by next key; order = key.order })
     (omega (arith, f.wheel.slots, key_low keys j key has)) (at_place keys (home_by next) j key has)
-    (omega (arith, f.first, home_up 7 next next (max key.deadline next) (omega arith) (omega arith)))
+    (omega (arith, f.first, home_up 4 next next (max key.deadline next) (omega arith) (omega arith)))
     (bucket_low next (max key.deadline next) (omega (arith, f.wheel.low j key has, f.wheel.time)))
 
 -- where there is a row it is one of the buckets
@@ -210,7 +210,7 @@ home_low {next = next} f row =
 later_bucket : (next : ℕ) (key other : Key) → home_by next key < home_by next other → key.deadline ≤ other.deadline
 later_bucket next key other less =
     elim (cases_lt other.deadline key.deadline) [
-      | inl early ↦ absurd (omega (arith, home_up 7 next (max other.deadline next) (max key.deadline next) (omega arith) (omega arith)))
+      | inl early ↦ absurd (omega (arith, home_up 4 next (max other.deadline next) (max key.deadline next) (omega arith) (omega arith)))
       | inr late ↦ late
     ]
 
@@ -237,7 +237,7 @@ none_before_window {next = next} {first = first} {home = home} {keys = keys} f l
           let x : max key.deadline next ≡ key.deadline = not_late next first key f.first (omega (arith, b.at_home)) in
           let y : max other.deadline next ≡ other.deadline = not_late next first other f.first (omega arith) in
           let one : max key.deadline next / 512 ^ l ≡ max other.deadline next / 512 ^ l =
-          one_window 7 l (max key.deadline next) (max other.deadline next) next (b.at_home ∙ sym e) (omega (arith, b.at_home)) (omega (arith, b.at_home)) in
+          one_window 4 l (max key.deadline next) (max other.deadline next) next (b.at_home ∙ sym e) (omega (arith, b.at_home)) (omega (arith, b.at_home)) in
           let same : key.deadline / 512 ^ l ≡ other.deadline / 512 ^ l =
           ap (λ d. d / 512 ^ l) (sym x) ∙ one ∙ ap (λ d. d / 512 ^ l) y in
           omega (arith, b.begin, ap (λ q. q * 512 ^ l) same, div-mul-le_self other.deadline (512 ^ l))
@@ -266,7 +266,7 @@ near_window {next = next} {first = first} {home = home} f less low b =
       | inr ne ↦
           let x : max key.deadline next ≡ key.deadline = not_late next first key f.first (omega (arith, b.at_home)) in
           let window : next / 512 ^ level < max key.deadline next / 512 ^ level =
-          later_window 7 level (max key.deadline next) next (omega arith) (omega arith) (omega arith) (omega (arith, b.at_home)) in
+          later_window 4 level (max key.deadline next) next (omega arith) (omega arith) (omega arith) (omega (arith, b.at_home)) in
           let after : next / 512 ^ level < key.deadline / 512 ^ level = omega (arith, ap (λ d. d / 512 ^ level) x) in
           inr (record {
             later = omega (arith, b.begin, before_window next key.deadline (512 ^ level) (pos512 level) after);
@@ -284,7 +284,7 @@ near_window {next = next} {first = first} {home = home} f less low b =
 
 -- the least of the first bucket's rows is the least of all
 pub least_due : {next count first home least : ℕ} {keys : List (Option Key)} {chains : Rings}
-    → IsFirst next count first home keys chains → home < BUCKETS → IsLeastIn keys (home_by next) home (2 ^ 64 - 1) least
+    → IsFirst next count first home keys chains → home < BUCKETS → IsLeastIn keys (home_by next) home (2 ^ 45 - 1) least
     → IsDueIn keys (home_by next) home least
 least_due {next = next} {home = home} {least = least} {keys = keys} f low looks =
     elim looks.near [
@@ -297,7 +297,7 @@ least_due {next = next} {home = home} {least = least} {keys = keys} f low looks 
     ]
 
 pub none_before_least : {next count first home least : ℕ} {keys : List (Option Key)} {chains : Rings}
-    → IsFirst next count first home keys chains → IsLeastIn keys (home_by next) home (2 ^ 64 - 1) least
+    → IsFirst next count first home keys chains → IsLeastIn keys (home_by next) home (2 ^ 45 - 1) least
     → IsDueIn keys (home_by next) home least → NoneBefore keys least
 none_before_least {next = next} {home = home} f looks due j key has =
     elim (cases_eq (home_by next key) home) [
@@ -345,9 +345,9 @@ due_next {next = next} {floor = floor} {first = first} {home = home} {keys = key
     let late : next ≤ k.0.deadline = omega (arith, above h.slot k.0 k.1) in
     let x : max k.0.deadline next ≡ k.0.deadline = omega arith in
     let here : bucket_of next k.0.deadline ≡ bucket_of next next = ap (bucket_of next) (sym x) ∙ at ∙ f.first in
-    let n : bucket_of next next ≡ next % 512 = home_next 6 next in
-    let one : k.0.deadline / 512 ≡ next / 512 = window_of 6 next k.0.deadline (omega arith) in
-    let d : bucket_of next k.0.deadline ≡ k.0.deadline % 512 = home_near 6 k.0.deadline next one in
+    let n : bucket_of next next ≡ next % 512 = home_next 3 next in
+    let one : k.0.deadline / 512 ≡ next / 512 = window_of 3 next k.0.deadline (omega arith) in
+    let d : bucket_of next k.0.deadline ≡ k.0.deadline % 512 = home_near 3 k.0.deadline next one in
     record {
       some = row;
       none_before = λ slot key has. omega (arith, above slot key has);

@@ -97,7 +97,7 @@ count_fits {seen = seen} slot key s low vacant = omega (
 pub record CanInsert (seen : List (Option Key)) (slot : ℕ) (key : Key) : Type 0 where
   pub low : slot < length seen
   pub vacant : key_in seen slot ≡ None
-  pub deadline : key.deadline < 2 ^ 64 - 1
+  pub deadline : key.deadline < 2 ^ 45 - 1
   pub order : key.order < 2 ^ 64
   pub newest : (j : ℕ) → IfSome (key_in seen j) (λ k. k.order < key.order)
 
@@ -122,7 +122,7 @@ inserted {next = next} {stored = stored} {seen = seen} {chains = chains} {new = 
         time = s.wheel.time;
         counts = ap (λ n. n + 1) s.wheel.counts ∙ sym (counts_more seen slot key can.low can.vacant);
         low = λ j k has. elim (key_set seen slot (Some key) j k can.low has) [
-          | inl (here, some) ↦ let same : key ≡ k = cc in subst (λ (x : Key). x.deadline < 2 ^ 64 - 1) same can.deadline
+          | inl (here, some) ↦ let same : key ≡ k = cc in subst (λ (x : Key). x.deadline < 2 ^ 45 - 1) same can.deadline
           | inr (ne, was) ↦ s.wheel.low j k was
         ];
         are = chains_set new h seen slot (Some key) can.low
@@ -194,12 +194,13 @@ vacant_view seen slot none = sym (set-get_or seen slot None) ∙ ap (set seen sl
 -- time may move on where all that is passed is gone
 pub may_move : {next next' count : ℕ} {keys : List (Option Key)} {chains : Rings} (to : ℕ) → IsWheel next count keys chains
     → ((j : ℕ) → IfSome (key_in keys j) (λ key. to < key.deadline)) → next ≤ next' → next' ≤ max next (to + 1)
-    → MayMove chains keys next next'
-may_move to w none up low = record {
+    → next' < 2 ^ 45 - 1 → MayMove chains keys next next'
+may_move to w none up low fits = record {
   slots = w.slots;
   homes = w.homes;
   are = w.are;
   up = up;
+  time = fits;
   low = w.low;
   left = λ j key has.
       let later : to < key.deadline = subst (λ (o : Option Key). IfSome o (λ k. to < k.deadline)) has (none j) in
@@ -210,7 +211,7 @@ may_move to w none up low = record {
 pub moved : {next next' count floor floor' : ℕ} {stored : List Key} {seen : List (Option Key)} {chains new : Rings} (to after : ℕ)
     → Sees next count floor stored seen chains → ((j : ℕ) → IfSome (key_in seen j) (λ key. to < key.deadline))
     → after ≤ to + 1 → floor' ≡ max floor after
-    → next' < 2 ^ 64 - 1 → new.slots ≡ chains.slots → new.homes ≡ chains.homes
+    → next' < 2 ^ 45 - 1 → new.slots ≡ chains.slots → new.homes ≡ chains.homes
     → AreChains new (places (home_by next') seen) → Sees next' count floor' stored seen new
 moved to after s none low up fits slots homes are = record {
   are_stored = s.are_stored;

@@ -4,7 +4,6 @@ pub mod Levels
 pub mod Links
 pub mod Marks
 pub mod NextDue
-pub mod Nodes
 pub mod Rings
 pub mod Rows
 pub mod Walks

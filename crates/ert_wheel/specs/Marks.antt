@@ -2,10 +2,8 @@
 
 use Rattle.std.specs.Prelude.{◌≡◌, ◌≢◌, ℕ, length, ◌+◌, ◌<◌, ◌≤◌, ◌/◌, ◌%◌, List, Option, Some, slice_index_or}
 use Rattle.std.specs.Int.{bit_at}
-use Rattle.ert_wheel.specs.Links.{links_of, next_at}
-use Rattle.ert_wheel.specs.Nodes.{Nodes, HasNodes}
+use Rattle.ert_wheel.specs.Links.{next_at}
 use Rattle.ert_wheel.specs.Rings.{Rings, Place, StandsIn}
-use Rattle.ert_wheel.specs.declared.links.Side.TheVariants.{Bucket}
 use Rattle.ert_wheel.specs.declared.row.TheConstants.{BUCKETS}
 
 -- the mark of a bucket: 1 or 0
@@ -14,19 +12,19 @@ mark_of words bucket = bit_at (slice_index_or words (bucket / 64) 0) (bucket % 6
 
 -- a bit for each word tells whether it has a mark
 pub record AreSummed (words : List ℕ) (used : ℕ) : Type 0 where
-  pub wide : length words ≡ 64
-  pub none : (at : ℕ) → at < 64 → bit_at used at ≡ 0 → slice_index_or words at 0 ≡ 0
-  pub some : (at : ℕ) → at < 64 → bit_at used at ≡ 1 → slice_index_or words at 0 ≢ 0
+  pub wide : length words ≡ 40
+  pub none : (at : ℕ) → at < 40 → bit_at used at ≡ 0 → slice_index_or words at 0 ≡ 0
+  pub some : (at : ℕ) → at < 40 → bit_at used at ≡ 1 → slice_index_or words at 0 ≢ 0
 
--- the node after the head of a bucket
-abbrev pub newest_node : Nodes → ℕ → ℕ
-newest_node n home = next_at (links_of Bucket n.nodes) (n.slots + home)
+-- the node after the head of a home
+abbrev pub newest_node : Rings → ℕ → ℕ
+newest_node r home = next_at r.links (r.slots + home)
 
 -- a bucket is marked just where its chain has a slot
-pub record AreMarked (n : Nodes) (marks : List ℕ) : Type 0 where
-  pub nodes : HasNodes n
-  pub used : (home : ℕ) → home < BUCKETS → mark_of marks home ≡ 1 → newest_node n home < n.slots
-  pub clear : (home : ℕ) → home < BUCKETS → mark_of marks home ≡ 0 → n.slots ≤ newest_node n home
+pub record AreMarked (r : Rings) (marks : List ℕ) : Type 0 where
+  pub homes : r.homes ≡ BUCKETS
+  pub used : (home : ℕ) → home < BUCKETS → mark_of marks home ≡ 1 → newest_node r home < r.slots
+  pub clear : (home : ℕ) → home < BUCKETS → mark_of marks home ≡ 0 → r.slots ≤ newest_node r home
 
 -- some slot belongs to a home
 pub record HasSlot (r : Rings) (places : ℕ → Option Place) (home : ℕ) : Type 0 where

@@ -33,7 +33,7 @@ pub record Begins (keys : List (Option Key)) (passed time : ℕ) : Type 0 where
   pub later : passed < time
   pub level : ℕ
   pub above : 1 ≤ level
-  pub highest : level ≤ 7
+  pub highest : level ≤ 4
   pub window : ℕ
   pub begin : time ≡ window * 512 ^ level
   pub slot : ℕ
@@ -59,8 +59,8 @@ LawOfNearAnswers = (keys : List (Option Key)) (passed time least : ℕ) → IsNe
     → IsLeastDeadline keys least → least / 512 ≤ passed / 512 → time ≡ least
 
 -- Answers come closer: who is told the begin of a window, lets time pass up to it and asks again is told a deadline, or
--- the begin of a window of a lower level, as long as the least deadline is the same. There are seven such levels, so an
--- answer that isn't a deadline comes seven times at most for one least deadline, whatever rows come or go beside it.
+-- the begin of a window of a lower level, as long as the least deadline is the same. There are four such levels, so an
+-- answer that isn't a deadline comes four times at most for one least deadline, whatever rows come or go beside it.
 abbrev pub LawOfCloserAnswers : Type 0
 LawOfCloserAnswers = (was keys : List (Option Key)) (earlier passed first second least : ℕ) → NoneBefore was first
     → NoneBefore keys second → IsLeastDeadline was least → IsLeastDeadline keys least → first ≤ passed
@@ -103,4 +103,4 @@ pub record BeginsIn (keys : List (Option Key)) (home : Key → ℕ) (bucket time
 -- no row
 abbrev pub IsEarlyIn : List (Option Key) → (Key → ℕ) → ℕ → Option ℕ → Type 0
 IsEarlyIn keys home bucket None = (slot : ℕ) (key : Key) → key_in keys slot ≡ Some key → home key ≡ bucket → ⊥
-IsEarlyIn keys home bucket (Some time) = IsLeastIn keys home bucket (2 ^ 64 - 1) time ⊎ BeginsIn keys home bucket time
+IsEarlyIn keys home bucket (Some time) = IsLeastIn keys home bucket (2 ^ 45 - 1) time ⊎ BeginsIn keys home bucket time

@@ -23,9 +23,9 @@ held_key links stored slot = cond (nat_eq (next_at links slot) slot) None (Some 
 abbrev pub held_keys : Rings → List Key → List (Option Key)
 held_keys chains stored = map (held_key chains.links stored) (range_with_len 0 (length stored))
 
--- the bucket of a time, seen from the next time: there are eight levels
+-- the bucket of a time, seen from the next time: there are five levels
 abbrev pub bucket_of : ℕ → ℕ → ℕ
-bucket_of next_time time = home_at 7 time next_time
+bucket_of next_time time = home_at 4 time next_time
 
 -- the bucket of a key, where all times before `next_time` were passed: a late row has that of the next time
 abbrev pub home_by : ℕ → Key → ℕ

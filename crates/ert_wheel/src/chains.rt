@@ -1,57 +1,53 @@
 ghost use Rattle.std.specs.Prelude.{◌≡◌, ◌↔◌, ◌≤◌, IfOk, IsTrue};
 
-use crate::links::{Node, Side, alone, link_in, next_of, prev_of, unlink};
-use crate::marks::Marks;
-use crate::row::BUCKETS;
+use crate::links::{Link, alone, link_in, next_of, prev_of, unlink};
 use ert_defs::NoMemory;
 use std::alloc::Global;
 use std::marker::Model;
 
-/// Two families of chains of slots: a chain for each bucket, and one for each owner.
+/// A chain of slots for each home.
 ///
-/// On each side a slot is in the chain of one home, or in none. A chain has its slots in the order in which they
-/// were put in, the newest first. Why a slot belongs to a home is the wheel's to know.
+/// A slot is in the chain of one home, or in none. A chain has its slots in the order in which they were put in, the
+/// newest first. Why a slot belongs to a home is the wheel's or its user's to know.
 #[derive(Drop)]
 pub struct Chains {
     slots: u32,
-    // Those of the slots, and then the heads: one for the bucket and the owner of each number.
-    nodes: Vec<Node>,
-    // The buckets that have slots.
-    marks: Marks,
+    homes: u32,
+    // Those of the slots, and then those of the homes' heads.
+    links: Vec<Link>,
 }
 
 impl Model for Chains {
-    ghost use Rattle.ert_wheel.specs.Marks.{AreMarked};
-    ghost use Rattle.ert_wheel.specs.Nodes.{Nodes};
+    ghost use Rattle.ert_wheel.specs.Rings.{Rings, HasLinks};
 
-    ghost Value = { Nodes };
+    ghost Value = { Rings };
 
-    ghost view = { λ c. record { slots = c.slots; nodes = c.nodes.items } };
+    ghost view = { λ c. record { slots = c.slots; homes = c.homes; links = c.links.items } };
 
-    ghost invariant = { λ c. AreMarked (record { slots = c.slots; nodes = c.nodes.items }) c.marks };
+    ghost invariant = { λ c. HasLinks (record { slots = c.slots; homes = c.homes; links = c.links.items }) };
 }
 
 impl Chains {
-    ghost use Rattle.std.specs.Prelude.{◌≡◌, ◌↔◌, ◌+◌, ◌<◌, ◌≤◌, ◌^◌, ℕ, Option, Some, None, IfOk, IsTrue};
-    ghost use Rattle.ert_wheel.specs.Links.{other, next_at};
-    ghost use Rattle.ert_wheel.specs.Marks.{FirstUsed};
-    ghost use Rattle.ert_wheel.specs.Nodes.{rings};
-    ghost use Rattle.ert_wheel.specs.Rings.{Place, AreChains, MayPut, Puts, PutsInHome, MayTake, Takes, Finds, FindsOldest, slot_at};
-    ghost use Rattle.ert_wheel.specs.declared.links.Side.{Side};
-    ghost use Rattle.ert_wheel.specs.declared.links.Side.TheVariants.{Bucket};
-    ghost use Rattle.ert_wheel.specs.declared.row.TheConstants.{BUCKETS};
+    ghost use Rattle.std.specs.Prelude.{◌≡◌, ◌↔◌, ◌+◌, ◌<◌, ◌≤◌, ◌^◌, ℕ, Option, None, IfOk, IsTrue, MatchOption};
+    ghost use Rattle.ert_wheel.specs.Chained.{Spliced, Unspliced};
+    ghost use Rattle.ert_wheel.specs.Links.{next_at, prev_at};
+    ghost use Rattle.ert_wheel.specs.Rings.{Place, AreChains, MayPut, Puts, PutsInHome, MayTake, Takes, Finds, FindsOldest};
+    ghost use Rattle.ert_wheel.specs.Rings.{slot_at, IsOnlyOf, HasOthers};
 
     /// All chains empty. No call takes memory after this.
-    pub fn new(alloc: Global, slots: u32) -> Result<Chains, NoMemory>
-        requires { slots ≤ 2 ^ 30 }
+    pub fn new(alloc: Global, slots: u32, homes: u32) -> Result<Chains, NoMemory>
+        requires slots { slots ≤ 2 ^ 30 }
+        requires homes { homes ≤ 2 ^ 30 }
         ensures slots { IfOk result (λ chains. chains.slots ≡ slots) }
-        ensures empty { IfOk result (λ chains. (side : Side) → AreChains (rings side chains) (λ _. None)) }
+        ensures homes { IfOk result (λ chains. chains.homes ≡ homes) }
+        ensures empty { IfOk result (λ chains. AreChains chains (λ _. None)) }
+        ensures heads { IfOk result (λ chains. (home : ℕ) → home < homes → next_at chains.links (slots + home) ≡ slots + home) }
     {
-        let nodes = alone(alloc, slots + BUCKETS)?;
+        let links = alone(alloc, slots + homes)?;
         Ok(Chains {
             slots,
-            nodes,
-            marks: Marks::new(),
+            homes,
+            links,
         })
     }
 
@@ -65,100 +61,103 @@ impl Chains {
 
     /// Puts a slot that is in no chain into that of a home, as its newest.
     #[inline]
-    pub fn put(&mut self, side: Side, slot: u32, home: u32)
-        requires { MayPut (rings side self.old) slot home }
+    pub fn put(&mut self, slot: u32, home: u32)
+        requires { MayPut self.old slot home }
         ensures slots { self.new.slots ≡ self.old.slots }
-        ensures other { rings (other side) self.new ≡ rings (other side) self.old }
-        ensures chains { Puts (rings side self.old) (rings side self.new) slot home }
-        ensures in_home { PutsInHome (rings side self.old) (rings side self.new) slot home }
+        ensures homes { self.new.homes ≡ self.old.homes }
+        ensures chains { Puts self.old self.new slot home }
+        ensures in_home { PutsInHome self.old self.new slot home }
+        ensures spliced { Spliced (next_at self.old.links) (prev_at self.old.links)
+            (next_at self.new.links) (prev_at self.new.links) (self.old.slots + home) slot }
     {
         let head = self.slots + home;
-        link_in(&mut self.nodes, side, head, slot);
-        if let Side::Bucket = side {
-            self.marks.set(home);
-        }
+        link_in(&mut self.links, head, slot);
     }
 
     /// Takes a slot out of its chain, where it is in one.
     #[inline]
-    pub fn take(&mut self, side: Side, slot: u32)
-        requires { MayTake (rings side self.old) slot }
+    pub fn take(&mut self, slot: u32)
+        requires { MayTake self.old slot }
         ensures slots { self.new.slots ≡ self.old.slots }
-        ensures other { rings (other side) self.new ≡ rings (other side) self.old }
-        ensures chains { Takes (rings side self.old) (rings side self.new) slot }
+        ensures homes { self.new.homes ≡ self.old.homes }
+        ensures chains { Takes self.old self.new slot }
+        ensures unspliced { Unspliced (next_at self.old.links) (prev_at self.old.links)
+            (next_at self.new.links) (prev_at self.new.links) slot }
     {
-        let next = next_of(&self.nodes, side, slot);
-        let prev = prev_of(&self.nodes, side, slot);
-        unlink(&mut self.nodes, side, slot);
-        if let Side::Bucket = side {
-            if are_head(self.slots, next, prev) {
-                self.marks.clear(next - self.slots);
-            }
-        }
+        unlink(&mut self.links, slot);
     }
 
     /// Whether a slot is alone in its ring: it is in no chain.
     #[inline]
-    pub fn is_alone(&self, side: Side, slot: u32) -> bool
+    pub fn is_alone(&self, slot: u32) -> bool
         requires { slot < self.now.slots }
-        ensures { IsTrue result ↔ (next_at (rings side self.now).links slot ≡ slot) }
+        ensures { IsTrue result ↔ (next_at self.now.links slot ≡ slot) }
     {
-        next_of(&self.nodes, side, slot) == slot
+        next_of(&self.links, slot) == slot
     }
 
-    /// The first bucket that has a slot, from one on and before an end; the end where there is none.
+    /// Whether a home has no slot.
     #[inline]
-    pub fn first_used(&self, from: u32, end: u32) -> u32
-        requires from { from ≤ end }
-        requires end { end ≤ BUCKETS }
-        ensures up { from ≤ result }
-        ensures low { result ≤ end }
-        ensures first { (places : ℕ → Option Place) → AreChains (rings Bucket self.now) places
-            → FirstUsed (rings Bucket self.now) places from end result }
+    pub fn is_empty(&self, home: u32) -> bool
+        requires { home < self.now.homes }
+        ensures { IsTrue result ↔ (self.now.slots ≤ next_at self.now.links (self.now.slots + home)) }
     {
-        self.marks.first(from, end)
+        next_of(&self.links, self.slots + home) >= self.slots
+    }
+
+    /// The home whose only slot this is; None where its home has others, or it is in no chain.
+    #[inline]
+    pub fn only_of(&self, slot: u32) -> Option<u32>
+        requires { slot < self.now.slots }
+        ensures { MatchOption result (HasOthers self.now slot) (IsOnlyOf self.now slot) }
+    {
+        let next = next_of(&self.links, slot);
+        if next == prev_of(&self.links, slot) && next >= self.slots {
+            return Some(next - self.slots);
+        }
+        None
     }
 
     /// The newest slot of a home; None where it has none.
     #[inline]
-    pub fn newest(&self, side: Side, home: u32) -> Option<u32>
-        requires { home < BUCKETS }
-        ensures { (places : ℕ → Option Place) → AreChains (rings side self.now) places
-            → Finds (rings side self.now) places home (2 ^ 64) result }
+    pub fn newest(&self, home: u32) -> Option<u32>
+        requires { home < self.now.homes }
+        ensures { (places : ℕ → Option Place) → AreChains self.now places
+            → Finds self.now places home (2 ^ 64) result }
     {
         let head = self.slots + home;
-        self.slot_at(next_of(&self.nodes, side, head))
+        self.slot_at(next_of(&self.links, head))
     }
 
     /// The oldest slot of a home; None where it has none.
     #[inline]
-    pub fn oldest(&self, side: Side, home: u32) -> Option<u32>
-        requires { home < BUCKETS }
-        ensures { (places : ℕ → Option Place) → AreChains (rings side self.now) places
-            → FindsOldest (rings side self.now) places home 0 result }
+    pub fn oldest(&self, home: u32) -> Option<u32>
+        requires { home < self.now.homes }
+        ensures { (places : ℕ → Option Place) → AreChains self.now places
+            → FindsOldest self.now places home 0 result }
     {
         let head = self.slots + home;
-        self.slot_at(prev_of(&self.nodes, side, head))
+        self.slot_at(prev_of(&self.links, head))
     }
 
     /// The slot that is next older than this one in its chain; None where there is none.
     #[inline]
-    pub fn older(&self, side: Side, slot: u32) -> Option<u32>
+    pub fn older(&self, slot: u32) -> Option<u32>
         requires { slot < self.now.slots }
-        ensures { (places : ℕ → Option Place) (place : Place) → AreChains (rings side self.now) places
-            → places slot ≡ Some place → Finds (rings side self.now) places place.home place.order result }
+        ensures { (places : ℕ → Option Place) (place : Place) → AreChains self.now places
+            → places slot ≡ Some place → Finds self.now places place.home place.order result }
     {
-        self.slot_at(next_of(&self.nodes, side, slot))
+        self.slot_at(next_of(&self.links, slot))
     }
 
     /// The slot that is next newer than this one in its chain; None where there is none.
     #[inline]
-    pub fn newer(&self, side: Side, slot: u32) -> Option<u32>
+    pub fn newer(&self, slot: u32) -> Option<u32>
         requires { slot < self.now.slots }
-        ensures { (places : ℕ → Option Place) (place : Place) → AreChains (rings side self.now) places
-            → places slot ≡ Some place → FindsOldest (rings side self.now) places place.home (place.order + 1) result }
+        ensures { (places : ℕ → Option Place) (place : Place) → AreChains self.now places
+            → places slot ≡ Some place → FindsOldest self.now places place.home (place.order + 1) result }
     {
-        self.slot_at(prev_of(&self.nodes, side, slot))
+        self.slot_at(prev_of(&self.links, slot))
     }
 
     // The slot of a node, and none of a head.
@@ -168,12 +167,4 @@ impl Chains {
     {
         (node < self.slots).then_some(node)
     }
-}
-
-// Whether both neighbours of a slot are its head: then it is the only one of its chain.
-#[inline]
-fn are_head(slots: u32, next: u32, prev: u32) -> bool
-    ensures { IsTrue result ↔ ((next ≡ prev) × (slots ≤ next)) }
-{
-    next == prev && next >= slots
 }

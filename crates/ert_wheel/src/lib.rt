@@ -1,29 +1,25 @@
 //! The timing wheel of levels: the rows of a scheduler's timers by their slots, and the due ones in order of
 //! deadline. It stands on `ert_defs` for want of memory alone.
 //!
-//! **Chains** (`Chains`). A slot is in the chain of one bucket, or in none, and beside that in the chain of one
-//! owner, or in none. A chain is a ring of links through its head. A slot in no chain is alone in a ring of its own.
-//! So putting a slot in writes four links, as does taking it out, with no case for an empty chain, a first or a
-//! last slot, or a slot in none. A chain runs from its newest slot to its oldest.
+//! **Chains** (`Chains`). A slot is in the chain of one home, or in none. A chain is a ring of links through its head. A
+//! slot in no chain is alone in a ring of its own. So putting a slot in writes four links, as does taking it out, with
+//! no case for an empty chain, a first or a last slot, or a slot in none. A chain runs from its newest slot to its
+//! oldest. The links stand in one vector, 8 bytes each: those of the slots, and behind them those of the heads.
 //!
-//! **Nodes.** Both links of a slot stand in one node of 16 bytes, so a call on both its chains misses the caches once
-//! for the slot. The nodes of the slots come first in one vector, and behind them those of the heads, where node i has
-//! the head of bucket i and that of owner i:
+//! A wheel has two: the chains of the buckets, and beside these the chains of the owners, with as many heads as there
+//! are owners. What is read and written in one stays out of the caches' lines of the other: a cancel touches links of
+//! 8 bytes and nothing else of the wheel.
 //!
-//!     slot 0    slot 1    ...    head 0              head 1      ...    head 4,095
-//!     bucket    bucket           bucket 0's newest   bucket 1's         bucket 4,095's
-//!     owner     owner            owner 0's newest    owner 1's          owner 4,095's
-//!
-//! Whether a slot has a row is told by its bucket link alone. So `remove` reads and writes nodes and nothing else, and
-//! a row's key stays where it was stored until the slot has another. `Chains` knows nothing of rows: why a slot
-//! belongs to a home is the wheel's or its user's to know, and a contract speaks of every assignment of places that
-//! fits.
+//! Whether a slot has a row is told by its link among the buckets' alone. So `remove` reads and writes these links and
+//! nothing else, and a row's key stays where it was stored until the slot has another. `Chains` knows nothing of rows:
+//! why a slot belongs to a home is the wheel's or its user's to know, and a contract speaks of every assignment of
+//! places that fits.
 //!
 //! **Records** (`Kept`). A row's deadline stands beside the value that the wheel's user keeps of its slot, in one
 //! record. So where a row moves to a lower level, what its expiry will read comes into the caches. The orders lie in
 //! a vector of their own, since a move doesn't read them.
 //!
-//! **Levels** (`Wheel`). A wheel has 4,096 buckets, 512 on each of eight levels. A bucket of
+//! **Levels** (`Wheel`). A wheel has 2,560 buckets, 512 on each of five levels. A bucket of
 //! the lowest level is a millisecond; one of the next is a window of 512 milliseconds, and so on: a bucket is as
 //! wide as all of the level below. A row's home is told by its deadline and by the next time, the first that
 //! wasn't passed: the lowest level in which both stand in one window, and there the deadline's place. With the
@@ -33,10 +29,12 @@
 //!     0       1 ms              488 .. 511, of window 1 of level 1   1,000 .. 1,023
 //!     1       512 ms            2 .. 511, of window 0 of level 2     1,024 .. 262,143
 //!     2       262,144 ms        1 .. 511, of window 0 of level 3     262,144 .. 134,217,727
-//!     ...
+//!     3       134,217,728 ms    1 .. 511, of window 0 of level 4     134,217,728 .. 68,719,476,735
+//!     4       68,719,476,736 ms 1 .. 511                             68,719,476,736 .. 35,184,372,088,830
 //!
 //! The number of a bucket is its level times 512 and its place, so later times have higher numbers, or the same.
-//! A row that is late has the bucket of the next time itself. Eight levels are for any deadline of 64 bits.
+//! A row that is late has the bucket of the next time itself. Five levels are for deadlines of 45 bits, over a thousand
+//! years of milliseconds.
 //!
 //! **A cascade.** When time moves on to another window, the rows that are left have their homes by a new next
 //! time. Those of one bucket alone change, however far time leaps: of the bucket in which the new next time stood.
@@ -46,9 +44,10 @@
 //! as a start does in the wheel, with two misses of the caches where there are many rows. All rows of a bucket
 //! move in the one advance that comes into its window.
 //!
-//! **Marks** (`Marks`). A bit for each bucket tells whether it has a slot: a put sets it, and a take that leaves
-//! the ring empty clears it. One more word has a bit for each word of them. So no look comes to an empty bucket: it reads
-//! three words at most, however far the next row is.
+//! **Marks** (`Marks`, `MarkedChains`). A bit for each bucket tells whether it has a slot: a put into an empty one sets
+//! it, and a take of the only slot clears it. All other puts and takes leave the bits alone. One more word has a bit
+//! for each of the 40 words. So no look comes to an empty bucket: it reads three words at most, however far the next row
+//! is.
 //!
 //! **A step of time** visits the buckets that have rows, up to the bucket of the time that it comes to.
 //!
@@ -62,8 +61,9 @@
 //! **Owners.** `own` puts a slot into the chain of an owner as its newest, `disown` takes it out, and `newest_owned`
 //! tells the newest. This hangs on no row: a slot may have an owner without a row, and a row without an owner.
 //!
-//! **At rest** a slot takes 32 bytes and its value: 16 of key and 16 of node; and a wheel 64 KiB for its heads, and 512
-//! bytes for the marks. All is taken when the wheel is made, and no call takes memory after that.
+//! **At rest** a slot takes 32 bytes and its value: 16 of key and 16 of links; an owner 8 bytes for its head; and a wheel
+//! 20 KiB for the heads of its buckets, and 320 bytes for the marks. All is taken when the wheel is made, and no call
+//! takes memory after that.
 //!
 //! `due` gives the due rows and leaves them, so that the part above can settle and `remove` them one by
 //! one, and then tell by `pass` that nothing is left; `advance` does all three. What they answer is said
@@ -75,6 +75,7 @@ mod chains;
 mod kept;
 mod laws;
 mod links;
+mod marked;
 mod marks;
 mod row;
 mod walk;

@@ -1,6 +1,6 @@
 use crate::chains::Chains;
 use crate::kept::Kept;
-use crate::links::Side;
+use crate::marked::MarkedChains;
 use crate::row::{BUCKETS, Key, LAST, Row};
 use crate::walk::{bucket, collect, early_in, first_bucket, least_in, move_on, visit_end};
 use ert_defs::NoMemory;
@@ -15,7 +15,7 @@ use std::marker::Model;
 /// row, as the list of their values, as the chains of the owners, and as the first time that wasn't passed. A slot has a
 /// value with a row or without, and may so be in an owner's chain.
 ///
-///     let mut wheel = Wheel::new(alloc, 64, 0u64)?;
+///     let mut wheel = Wheel::new(alloc, 64, 1, 0u64)?;
 ///     let mut due = Vec::with_capacity(alloc, 64)?;
 ///     wheel.insert(Row { deadline: 20, order: 0, slot: 3 }, 7);
 ///     wheel.advance(20, &mut due);        // gives that row, and takes it out
@@ -27,24 +27,24 @@ pub struct Wheel<T> {
     floor: u64,
     len: u32,
     kept: Kept<T>,
-    chains: Chains,
+    buckets: MarkedChains,
+    owners: Chains,
 }
 
 impl<T> Model for Wheel<T> {
-    ghost use Rattle.ert_wheel.specs.Nodes.{buckets, owners};
     ghost use Rattle.ert_wheel.specs.Rows.{Held};
     ghost use Rattle.ert_wheel.specs.Wheels.{held_keys, IsKept};
 
     ghost Value = { Held T };
 
     ghost view = { λ w. record {
-      keys = held_keys (buckets w.chains) w.kept.keys;
-      owners = owners w.chains;
+      keys = held_keys w.buckets w.kept.keys;
+      owners = w.owners;
       values = w.kept.values;
       passed = w.next_time;
     } };
 
-    ghost invariant = { λ w. IsKept w.next_time w.len w.floor (held_keys (buckets w.chains) w.kept.keys) (buckets w.chains) };
+    ghost invariant = { λ w. IsKept w.next_time w.len w.floor (held_keys w.buckets w.kept.keys) w.buckets };
 }
 
 impl<T: Copy> Wheel<T> {
@@ -56,27 +56,30 @@ impl<T: Copy> Wheel<T> {
     ghost use Rattle.ert_wheel.specs.NextDue.{NoRow, IsNextDue};
     ghost use Rattle.ert_wheel.specs.Rings.{Place, AreChains, MayPut, Puts, PutsInHome, MayTake, Takes, Finds};
     ghost use Rattle.ert_wheel.specs.Rows.{key_in, key_of, row_at, times, due_at, left_at, comes_before};
-    ghost use Rattle.ert_wheel.specs.declared.row.TheConstants.{BUCKETS, LAST};
+    ghost use Rattle.ert_wheel.specs.declared.row.TheConstants.{NEVER, LAST};
 
-    /// A wheel without rows, with room for one of each slot below `slots`, and with this value of each. No owner has
-    /// a slot.
-    pub fn new(alloc: Global, slots: u32, value: T) -> Result<Wheel<T>, NoMemory>
-        requires { slots ≤ 2 ^ 30 }
+    /// A wheel without rows, with room for one of each slot below `slots`, and with this value of each. The numbers of
+    /// owners are below `owners`, and none has a slot.
+    pub fn new(alloc: Global, slots: u32, owners: u32, value: T) -> Result<Wheel<T>, NoMemory>
+        requires slots { slots ≤ 2 ^ 30 }
+        requires owners { owners ≤ 2 ^ 30 }
         ensures keys { IfOk result (λ wheel. wheel.keys ≡ replicate slots None) }
         ensures slots { IfOk result (λ wheel. wheel.owners.slots ≡ slots) }
-        ensures homes { IfOk result (λ wheel. wheel.owners.homes ≡ BUCKETS) }
+        ensures homes { IfOk result (λ wheel. wheel.owners.homes ≡ owners) }
         ensures unowned { IfOk result (λ wheel. AreChains wheel.owners (λ _. None)) }
         ensures values { IfOk result (λ wheel. wheel.values ≡ replicate slots value) }
         ensures passed { IfOk result (λ wheel. wheel.passed ≡ 0) }
     {
         let kept = Kept::new(alloc, slots, value)?;
-        let chains = Chains::new(alloc, slots)?;
+        let buckets = MarkedChains::new(alloc, slots)?;
+        let owners = Chains::new(alloc, slots, owners)?;
         Ok(Wheel {
             next_time: 0,
             floor: 0,
             len: 0,
             kept,
-            chains,
+            buckets,
+            owners,
         })
     }
 
@@ -99,7 +102,7 @@ impl<T: Copy> Wheel<T> {
         requires { slot < length self.now.keys }
         ensures { result ≡ option_map (row_at slot) (key_in self.now.keys slot) }
     {
-        if self.chains.is_alone(Side::Bucket, slot) {
+        if self.buckets.is_alone(slot) {
             return None;
         }
         let Key { deadline, order } = self.kept.key(slot);
@@ -114,7 +117,7 @@ impl<T: Copy> Wheel<T> {
     pub fn slots(&self) -> u32
         ensures { result ≡ length self.now.keys }
     {
-        self.chains.slots()
+        self.buckets.slots()
     }
 
     /// The value of a slot: that of the last row that was put in, or the one with which the wheel was made.
@@ -129,12 +132,12 @@ impl<T: Copy> Wheel<T> {
     /// Puts a row in, with a value of its slot. The slot has no row, and the order is above that of every row that is
     /// held.
     ///
-    /// A row whose deadline was passed already is given by the next advance.
+    /// A row whose deadline was passed already is given by the next advance. A deadline is at most 2^45 - 2.
     #[inline]
     pub fn insert(&mut self, row: Row, value: T)
         requires slot { row.slot < length self.old.keys }
         requires vacant { key_in self.old.keys row.slot ≡ None }
-        requires deadline { row.deadline < u64.MAX }
+        requires deadline { row.deadline < NEVER }
         requires newest { (slot : ℕ) → IfSome (key_in self.old.keys slot) (λ key. key.order < row.order) }
         ensures keys { self.new.keys ≡ slice_set self.old.keys row.slot (Some (key_of row)) }
         ensures owners { self.new.owners ≡ self.old.owners }
@@ -147,7 +150,7 @@ impl<T: Copy> Wheel<T> {
             slot,
         } = row;
         let home = bucket(self.next_time, deadline.max(self.next_time));
-        self.chains.put(Side::Bucket, slot, home);
+        self.buckets.put(slot, home);
         self.kept.set(slot, Key { deadline, order }, value);
         self.floor = self.floor.min(deadline);
         self.len += 1;
@@ -163,10 +166,10 @@ impl<T: Copy> Wheel<T> {
         ensures values { self.new.values ≡ self.old.values }
         ensures passed { self.new.passed ≡ self.old.passed }
     {
-        if self.chains.is_alone(Side::Bucket, slot) {
+        if self.buckets.is_alone(slot) {
             return false;
         }
-        self.chains.take(Side::Bucket, slot);
+        self.buckets.take(slot);
         self.len -= 1;
         true
     }
@@ -183,7 +186,7 @@ impl<T: Copy> Wheel<T> {
         ensures owned { Puts self.old.owners self.new.owners slot owner }
         ensures in_home { PutsInHome self.old.owners self.new.owners slot owner }
     {
-        self.chains.put(Side::Owner, slot, owner);
+        self.owners.put(slot, owner);
     }
 
     /// Takes a slot out of its owner's chain, where it is in one.
@@ -197,7 +200,7 @@ impl<T: Copy> Wheel<T> {
         ensures homes { self.new.owners.homes ≡ self.old.owners.homes }
         ensures disowned { Takes self.old.owners self.new.owners slot }
     {
-        self.chains.take(Side::Owner, slot);
+        self.owners.take(slot);
     }
 
     /// The newest slot of an owner; None where it has none.
@@ -207,7 +210,7 @@ impl<T: Copy> Wheel<T> {
         ensures { (places : ℕ → Option Place) → AreChains self.now.owners places
             → Finds self.now.owners places owner (2 ^ 64) result }
     {
-        self.chains.newest(Side::Owner, owner)
+        self.owners.newest(owner)
     }
 
     /// Writes the rows with a deadline at most `to`, in order of deadline, then of order, into `out`,
@@ -221,10 +224,10 @@ impl<T: Copy> Wheel<T> {
     {
         out.clear();
         let end = visit_end(self.next_time, to);
-        let mut home = self.chains.first_used(first_bucket(self.next_time), end);
+        let mut home = self.buckets.first_used(first_bucket(self.next_time), end);
         while home < end {
-            collect(&self.chains, &self.kept, home, to, out);
-            home = self.chains.first_used(home + 1, end);
+            collect(&self.buckets, &self.kept, home, to, out);
+            home = self.buckets.first_used(home + 1, end);
         }
         out.sort_unstable();
     }
@@ -234,7 +237,7 @@ impl<T: Copy> Wheel<T> {
     /// No row has an earlier deadline. The answer is a row's deadline, or the begin of a window, after the first time
     /// that wasn't passed, in which a row is due: of 512 milliseconds, of 262,144, and so on. So it is exact where the
     /// least deadline stands in that time's window of 512 milliseconds. Whoever lets time pass up to it and asks again is
-    /// told a narrower window, and at last the deadline: after seven such answers at most, however far it is.
+    /// told a narrower window, and at last the deadline: after four such answers at most, however far it is.
     ///
     /// It looks at the first bucket that has a row, and there at 64 rows at most; where these are all, the answer is exact.
     /// Only where a row was put in late since the last pass does it look at each late row, and at those of the next time.
@@ -245,14 +248,14 @@ impl<T: Copy> Wheel<T> {
             return None;
         }
         let first = first_bucket(self.next_time);
-        let home = self.chains.first_used(first, BUCKETS);
+        let home = self.buckets.first_used(first, BUCKETS);
         if home > first {
-            return early_in(&self.chains, &self.kept, home);
+            return early_in(&self.buckets, &self.kept, home);
         }
         if self.floor >= self.next_time {
             return Some(self.next_time);
         }
-        Some(least_in(&self.chains, &self.kept, home))
+        Some(least_in(&self.buckets, &self.kept, home))
     }
 
     /// Tells that nothing is left up to `to`: no later call looks at a time up to it again. Where this comes into
@@ -268,7 +271,7 @@ impl<T: Copy> Wheel<T> {
     {
         let after = to.min(LAST - 1) + 1;
         let next_time = self.next_time.max(after);
-        move_on(&mut self.chains, &self.kept, self.next_time, next_time);
+        move_on(&mut self.buckets, &self.kept, self.next_time, next_time);
         self.next_time = next_time;
         self.floor = self.floor.max(after);
     }

@@ -1,5 +1,5 @@
-use Rattle.std.proofs.Common.{refl}
-use Rattle.ert_wheel.proofs.LevelBits.{by_bits, by_place}
+use Rattle.std.proofs.Common.{refl, arith}
+use Rattle.ert_wheel.proofs.LevelBits.{by_bits, by_place, bucket_low}
 use Rattle.ert_wheel.proofs.walk.bucket.Goals as goal
 
 pub returns-then-differing-lt512-clause-is : goal.returns-then-differing-lt512-clause-is
@@ -7,8 +7,12 @@ returns-then-differing-lt512-clause-is c = by_place c.args.time c.args.next_time
 
 pub overflow_sub-level : goal.overflow_sub-level
 overflow_sub-level c =
-    (by_bits c.args.time c.args.next_time _ c.ranges.time.fits c.ranges.next_time.fits c.if-differing-lt512.false refl).few
+    (by_bits c.args.time c.args.next_time _ (omega (arith, c.requires.time)) (omega (arith, c.requires.next)) c.if-differing-lt512.false refl).few
 
 pub returns-clause-is : goal.returns-clause-is
 returns-clause-is c =
-    (by_bits c.args.time c.args.next_time _ c.ranges.time.fits c.ranges.next_time.fits c.if-differing-lt512.false refl).home
+    (by_bits c.args.time c.args.next_time _ (omega (arith, c.requires.time)) (omega (arith, c.requires.next)) c.if-differing-lt512.false refl).home
+
+pub returns-clause-low : goal.returns-clause-low
+returns-clause-low c =
+    omega (arith, returns-clause-is c, bucket_low c.args.next_time c.args.time (omega (arith, c.requires.time)))

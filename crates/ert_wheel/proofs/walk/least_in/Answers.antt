@@ -2,34 +2,33 @@ use Rattle.std.proofs.Common.{ℕ, min, ap, ◌∙◌, subst, sym}
 use Rattle.ert_wheel.proofs.Collect.{at_key, steps_fall}
 use Rattle.ert_wheel.proofs.NextDue.{IsPassed, passes_none, steps_on, passes_all}
 use Rattle.ert_wheel.proofs.walk.least_in.Goals as goal
-use Rattle.ert_wheel.specs.Nodes.{buckets}
 use Rattle.ert_wheel.specs.Wheels.{no_key, held_keys, places}
 use Rattle.ert_wheel.specs.declared.row.TheConstants.{NEVER}
 
 pub loop-next-init : goal.loop-next-init
 loop-next-init g c = λ home are.
-    passes_none (buckets c.args.chains.now) (held_keys (buckets c.args.chains.now) c.args.kept.now.keys) home c.args.bucket NEVER c.newest-next.result c.requires.may.slots are
-    (c.newest-next.ensures (places home (held_keys (buckets c.args.chains.now) c.args.kept.now.keys)) are)
+    passes_none c.args.chains.now (held_keys c.args.chains.now c.args.kept.now.keys) home c.args.bucket NEVER c.newest-next.result c.requires.may.slots are
+    (c.newest-next.ensures (places home (held_keys c.args.chains.now c.args.kept.now.keys)) are)
 
 pub loop-next-smaller : goal.loop-next-smaller
 loop-next-smaller g c =
     let may = c.requires.may in
-    steps_fall (buckets c.args.chains.now) c.args.kept.now.keys may.home c.args.bucket c.in-Some.slot c.loop-next.next c.older-next.result
+    steps_fall c.args.chains.now c.args.kept.now.keys may.home c.args.bucket c.in-Some.slot c.loop-next.next c.older-next.result
     (record { slots = may.slots; are = may.are; stands = (c.loop-next.invariant may.home may.are).stands; is = c.in-Some.is; older = c.older-next.ensures })
 
 pub loop-next-preserved : goal.loop-next-preserved
 loop-next-preserved g c = λ home are.
-    subst (λ (least : ℕ). IsPassed (held_keys (buckets c.args.chains.now) c.args.kept.now.keys) home c.args.bucket NEVER c.older-next.result least) (sym (c.min-least.ensures ∙ ap (min c.loop-next.least) c.deadline.ensures))
-    (steps_on (buckets c.args.chains.now) c.args.kept.now.keys home c.args.bucket NEVER c.in-Some.slot c.loop-next.next c.older-next.result c.loop-next.least no_key
+    subst (λ (least : ℕ). IsPassed (held_keys c.args.chains.now c.args.kept.now.keys) home c.args.bucket NEVER c.older-next.result least) (sym (c.min-least.ensures ∙ ap (min c.loop-next.least) c.deadline.ensures))
+    (steps_on c.args.chains.now c.args.kept.now.keys home c.args.bucket NEVER c.in-Some.slot c.loop-next.next c.older-next.result c.loop-next.least no_key
     (record { slots = c.requires.may.slots; are = are; stands = (c.loop-next.invariant home are).stands; is = c.in-Some.is; older = c.older-next.ensures })
     (c.loop-next.invariant home are))
 
 pub returns : goal.returns
 returns g c = λ home are.
-    passes_all (held_keys (buckets c.args.chains.now) c.args.kept.now.keys) home c.args.bucket NEVER c.loop-next.next c.loop-next.least c.in_default.is (c.loop-next.invariant home are)
+    passes_all (held_keys c.args.chains.now c.args.kept.now.keys) home c.args.bucket NEVER c.loop-next.next c.loop-next.least c.in_default.is (c.loop-next.invariant home are)
 
 pub deadline-requires : goal.deadline-requires
 deadline-requires g c =
     let may = c.requires.may in
-    (at_key (buckets c.args.chains.now) c.args.kept.now.keys may.home c.args.bucket c.in-Some.slot c.loop-next.next c.older-next.result no_key
+    (at_key c.args.chains.now c.args.kept.now.keys may.home c.args.bucket c.in-Some.slot c.loop-next.next c.older-next.result no_key
     (record { slots = may.slots; are = may.are; stands = (c.loop-next.invariant may.home may.are).stands; is = c.in-Some.is; older = c.older-next.ensures })).low

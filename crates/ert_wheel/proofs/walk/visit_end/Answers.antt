@@ -7,8 +7,8 @@ returns c =
     let next = c.args.next_time in
     let last = c.max.result in
     record {
-      ordered = omega (arith, c.bucket.ensures.is, home_up 7 next next last (omega arith) (omega (arith, c.max.ensures)));
+      ordered = omega (arith, c.bucket.ensures.is, home_up 4 next next last (omega arith) (omega (arith, c.max.ensures)));
       in_range = omega (arith, c.bucket.ensures.low);
       covers = λ time up low below.
-          omega (arith, c.bucket.ensures.is, home_up 7 next time last up (omega (arith, c.max.ensures, c.min.ensures)));
+          omega (arith, c.bucket.ensures.is, home_up 4 next time last up (omega (arith, c.max.ensures, c.min.ensures)));
     }

@@ -3,5 +3,5 @@ use Rattle.ert_wheel.proofs.chains.Chains.older.Goals as goal
 
 pub returns : goal.returns
 returns c =
-    let n = c.self.inside in
-    finds_older c.args.self.now n.slots n.nodes.items c.deref.result.now c.args.side c.args.slot c.next_of.result c.slot_at.result c.self.view_is c.deref.ensures.value c.requires c.next_of.ensures c.slot_at.ensures
+    let r = c.self.inside in
+    finds_older c.args.self.now r.slots r.homes r.links.items c.deref.result.now c.args.slot c.next_of.result c.slot_at.result c.self.view_is c.deref.ensures.value c.requires c.next_of.ensures c.slot_at.ensures

@@ -3,7 +3,6 @@ use Rattle.ert_wheel.proofs.Due.{seen_start, seen_skip, visit_may, visit_more, d
 use Rattle.ert_wheel.proofs.Writes.{sees}
 use Rattle.ert_wheel.proofs.Writes.{keys_of}
 use Rattle.ert_wheel.proofs.wheel.Wheel.due.Goals as goal
-use Rattle.ert_wheel.specs.Nodes.{buckets}
 use Rattle.ert_wheel.specs.Wheels.{home_by, places}
 
 pub loop-home-init : goal.loop-home-init
@@ -12,7 +11,7 @@ loop-home-init g c =
     let wheel = (sees c.self.invariant c.self.view_is).wheel in
     record {
       capacity_stays = c.clear.ensures.capacity;
-      sees = seen_skip w.next_time w.len c.first_bucket.result c.visit_end-end.result c.first_used-home.result c.args.to c.args.self.now.keys (buckets w.chains) c.clear.new.self.items
+      sees = seen_skip w.next_time w.len c.first_bucket.result c.visit_end-end.result c.first_used-home.result c.args.to c.args.self.now.keys w.buckets c.clear.new.self.items
           wheel c.first_used-home.ensures.up c.first_used-home.ensures.low (c.first_used-home.ensures.first (places (home_by w.next_time) c.args.self.now.keys) wheel.are)
           (seen_start w.next_time c.first_bucket.result c.args.to c.args.self.now.keys c.clear.new.self.items c.first_bucket.ensures.is c.clear.ensures.items);
     }
@@ -38,7 +37,7 @@ loop-home-preserved g c =
     let wheel = (sees c.self.invariant c.self.view_is).wheel in
     record {
       capacity_stays = c.collect.ensures.capacity ∙ c.loop-home.invariant.capacity_stays;
-      sees = seen_skip w.next_time w.len (c.loop-home.home + 1) c.visit_end-end.result c.first_used-home-in-loop-home.result c.args.to c.args.self.now.keys (buckets w.chains) c.collect.new.rows.items
+      sees = seen_skip w.next_time w.len (c.loop-home.home + 1) c.visit_end-end.result c.first_used-home-in-loop-home.result c.args.to c.args.self.now.keys w.buckets c.collect.new.rows.items
           wheel c.first_used-home-in-loop-home.ensures.up c.first_used-home-in-loop-home.ensures.low
           (c.first_used-home-in-loop-home.ensures.first (places (home_by w.next_time) c.args.self.now.keys) wheel.are)
           (visit_more
@@ -53,7 +52,7 @@ loop-home-preserved g c =
 pub returns-clause-each : goal.returns-clause-each
 returns-clause-each g c =
     let w = c.self.inside in
-    due_each w.next_time w.len c.visit_end-end.result c.args.to c.loop-home.home c.args.self.now.keys (buckets w.chains)
+    due_each w.next_time w.len c.visit_end-end.result c.args.to c.loop-home.home c.args.self.now.keys w.buckets
     c.loop-home.out.items c.sort_unstable.new.self.items (sees c.self.invariant c.self.view_is).wheel c.visit_end-end.ensures
     c.loop-home-test.false c.loop-home.invariant.sees c.sort_unstable.ensures.permutation
 

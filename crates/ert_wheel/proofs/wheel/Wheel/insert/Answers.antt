@@ -1,4 +1,4 @@
-use Rattle.std.proofs.Common.{ap, ◌∙◌, refl, rules, arith}
+use Rattle.std.proofs.Common.{ap, ◌∙◌, rules, arith}
 use Rattle.ert_wheel.proofs.Writes.{sees, is_held, is_kept, may_put, count_fits, stored_as, inserted}
 use Rattle.ert_wheel.proofs.wheel.Wheel.insert.Goals as goal
 use Rattle.ert_wheel.specs.Rows.{key_of}
@@ -27,7 +27,7 @@ invariant_of-self g c =
       order = omega arith;
       newest = c.requires.newest;
     })
-    (c.bucket-home.ensures.is ∙ ap (bucket_of c.self.inside.next_time) c.max.ensures) c.put.ensures.slots refl c.put.ensures.chains c.min-self-inside.ensures))
+    (c.bucket-home.ensures.is ∙ ap (bucket_of c.self.inside.next_time) c.max.ensures) c.put.ensures.slots c.put.ensures.homes c.put.ensures.chains c.min-self-inside.ensures))
 
 pub returns-clause-keys : goal.returns-clause-keys
 returns-clause-keys g c =
@@ -39,4 +39,4 @@ returns-clause-keys g c =
       order = omega arith;
       newest = c.requires.newest;
     })
-    (c.bucket-home.ensures.is ∙ ap (bucket_of c.self.inside.next_time) c.max.ensures) c.put.ensures.slots refl c.put.ensures.chains c.min-self-inside.ensures))
+    (c.bucket-home.ensures.is ∙ ap (bucket_of c.self.inside.next_time) c.max.ensures) c.put.ensures.slots c.put.ensures.homes c.put.ensures.chains c.min-self-inside.ensures))

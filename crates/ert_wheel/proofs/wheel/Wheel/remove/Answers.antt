@@ -1,4 +1,4 @@
-use Rattle.std.proofs.Common.{sym, ◌∙◌, refl}
+use Rattle.std.proofs.Common.{sym, ◌∙◌}
 use Rattle.std.proofs.lemmas.Bool.{true≢false}
 use Rattle.ert_wheel.proofs.Writes.{sees, is_held, is_kept, found_none, found_some, looks_alone, looks_apart, may_take, count_holds, removed, vacant_view}
 use Rattle.ert_wheel.proofs.wheel.Wheel.remove.Goals as goal
@@ -26,7 +26,7 @@ pub invariant_of-self : goal.invariant_of-self
 invariant_of-self g c =
     is_kept (removed (sees c.self.invariant c.self.view_is) c.requires
     (looks_apart (sees c.self.invariant c.self.view_is) c.requires (λ e. true≢false (sym (c.is_alone.ensures.1 e) ∙ c.if-is_alone.false)))
-    c.take.ensures.slots refl c.take.ensures.chains)
+    c.take.ensures.slots c.take.ensures.homes c.take.ensures.chains)
 
 pub returns-clause-found : goal.returns-clause-found
 returns-clause-found g c =
@@ -37,4 +37,4 @@ pub returns-clause-left : goal.returns-clause-left
 returns-clause-left g c =
     is_held (removed (sees c.self.invariant c.self.view_is) c.requires
     (looks_apart (sees c.self.invariant c.self.view_is) c.requires (λ e. true≢false (sym (c.is_alone.ensures.1 e) ∙ c.if-is_alone.false)))
-    c.take.ensures.slots refl c.take.ensures.chains)
+    c.take.ensures.slots c.take.ensures.homes c.take.ensures.chains)

@@ -1,0 +1,150 @@
+ghost use Rattle.std.specs.Prelude.{◌≡◌, ◌↔◌, ◌≤◌, IfOk, IsTrue};
+
+use crate::chains::Chains;
+use crate::marks::Marks;
+use crate::row::BUCKETS;
+use ert_defs::NoMemory;
+use std::alloc::Global;
+use std::marker::Model;
+
+/// The chains of the buckets, with a mark for each bucket that has a slot.
+#[derive(Drop)]
+pub struct MarkedChains {
+    chains: Chains,
+    marks: Marks,
+}
+
+impl Model for MarkedChains {
+    ghost use Rattle.ert_wheel.specs.Marks.{AreMarked};
+    ghost use Rattle.ert_wheel.specs.Rings.{Rings};
+
+    ghost Value = { Rings };
+
+    ghost view = { λ m. m.chains };
+
+    ghost invariant = { λ m. AreMarked m.chains m.marks };
+}
+
+impl MarkedChains {
+    ghost use Rattle.std.specs.Prelude.{◌≡◌, ◌↔◌, ◌+◌, ◌<◌, ◌≤◌, ◌^◌, ℕ, Option, None, IfOk, IsTrue};
+    ghost use Rattle.ert_wheel.specs.Links.{next_at};
+    ghost use Rattle.ert_wheel.specs.Marks.{FirstUsed};
+    ghost use Rattle.ert_wheel.specs.Rings.{Place, AreChains, MayPut, Puts, PutsInHome, MayTake, Takes, Finds, FindsOldest};
+    ghost use Rattle.ert_wheel.specs.declared.row.TheConstants.{BUCKETS};
+
+    /// All chains empty. No call takes memory after this.
+    pub fn new(alloc: Global, slots: u32) -> Result<MarkedChains, NoMemory>
+        requires { slots ≤ 2 ^ 30 }
+        ensures slots { IfOk result (λ chains. chains.slots ≡ slots) }
+        ensures homes { IfOk result (λ chains. chains.homes ≡ BUCKETS) }
+        ensures empty { IfOk result (λ chains. AreChains chains (λ _. None)) }
+    {
+        let chains = Chains::new(alloc, slots, BUCKETS)?;
+        Ok(MarkedChains {
+            chains,
+            marks: Marks::new(),
+        })
+    }
+
+    /// How many slots there are.
+    #[inline]
+    pub fn slots(&self) -> u32
+        ensures { result ≡ self.now.slots }
+    {
+        self.chains.slots()
+    }
+
+    /// Puts a slot that is in no chain into that of a bucket, as its newest. The mark is written only where the bucket
+    /// was empty.
+    #[inline]
+    pub fn put(&mut self, slot: u32, home: u32)
+        requires { MayPut self.old slot home }
+        ensures slots { self.new.slots ≡ self.old.slots }
+        ensures homes { self.new.homes ≡ self.old.homes }
+        ensures chains { Puts self.old self.new slot home }
+        ensures in_home { PutsInHome self.old self.new slot home }
+    {
+        let was_empty = self.chains.is_empty(home);
+        self.chains.put(slot, home);
+        if was_empty {
+            self.marks.set(home);
+        }
+    }
+
+    /// Takes a slot out of its chain, where it is in one.
+    #[inline]
+    pub fn take(&mut self, slot: u32)
+        requires { MayTake self.old slot }
+        ensures slots { self.new.slots ≡ self.old.slots }
+        ensures homes { self.new.homes ≡ self.old.homes }
+        ensures chains { Takes self.old self.new slot }
+    {
+        let only = self.chains.only_of(slot);
+        self.chains.take(slot);
+        if let Some(home) = only {
+            self.marks.clear(home);
+        }
+    }
+
+    /// Whether a slot is alone in its ring: it is in no chain.
+    #[inline]
+    pub fn is_alone(&self, slot: u32) -> bool
+        requires { slot < self.now.slots }
+        ensures { IsTrue result ↔ (next_at self.now.links slot ≡ slot) }
+    {
+        self.chains.is_alone(slot)
+    }
+
+    /// The first bucket that has a slot, from one on and before an end; the end where there is none.
+    #[inline]
+    pub fn first_used(&self, from: u32, end: u32) -> u32
+        requires from { from ≤ end }
+        requires end { end ≤ BUCKETS }
+        ensures up { from ≤ result }
+        ensures low { result ≤ end }
+        ensures first { (places : ℕ → Option Place) → AreChains self.now places
+            → FirstUsed self.now places from end result }
+    {
+        self.marks.first(from, end)
+    }
+
+    /// The newest slot of a bucket; None where it has none.
+    #[inline]
+    pub fn newest(&self, home: u32) -> Option<u32>
+        requires { home < BUCKETS }
+        ensures { (places : ℕ → Option Place) → AreChains self.now places
+            → Finds self.now places home (2 ^ 64) result }
+    {
+        self.chains.newest(home)
+    }
+
+    /// The oldest slot of a bucket; None where it has none.
+    #[inline]
+    pub fn oldest(&self, home: u32) -> Option<u32>
+        requires { home < BUCKETS }
+        ensures { (places : ℕ → Option Place) → AreChains self.now places
+            → FindsOldest self.now places home 0 result }
+    {
+        self.chains.oldest(home)
+    }
+
+    /// The slot that is next older than this one in its chain; None where there is none.
+    #[inline]
+    pub fn older(&self, slot: u32) -> Option<u32>
+        requires { slot < self.now.slots }
+        ensures { (places : ℕ → Option Place) (place : Place) → AreChains self.now places
+            → places slot ≡ Some place → Finds self.now places place.home place.order result }
+    {
+        self.chains.older(slot)
+    }
+
+    /// The slot that is next newer than this one in its chain; None where there is none.
+    #[inline]
+    pub fn newer(&self, slot: u32) -> Option<u32>
+        requires { slot < self.now.slots }
+        ensures { (places : ℕ → Option Place) (place : Place) → AreChains self.now places
+            → places slot ≡ Some place → FindsOldest self.now places place.home (place.order + 1) result }
+    {
+        self.chains.newer(slot)
+    }
+}
