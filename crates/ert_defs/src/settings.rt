@@ -13,7 +13,7 @@ const SPAN: i64 = LAST_DEADLINE as i64 * NANOSECONDS_PER_MILLISECOND;
 pub const MOST_SCHEDULERS: u32 = 1_024;
 
 /// The most processes (profile): a slot keeps the process that it notifies in 19 bits.
-pub const MOST_PROCESSES: u32 = 4_096;
+pub const MOST_PROCESSES: u32 = 524_288;
 
 /// The greatest product of schedulers and processes (profile): each scheduler has a chain of timers for each process.
 pub const MOST_CHAINS: u64 = 67_108_864;

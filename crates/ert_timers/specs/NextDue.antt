@@ -30,7 +30,7 @@ pub record BeginsArmed (s : State) (w passed time : ℕ) : Type 0 where
   pub later : passed < time
   pub level : ℕ
   pub above : 1 ≤ level
-  pub highest : level ≤ 7
+  pub highest : level ≤ 4
   pub window : ℕ
   pub begin : time ≡ window * 512 ^ level
   pub row : Row

@@ -103,7 +103,7 @@ impl WheelPart {
         ensures passed { IfOk result (λ part. part.passed ≡ 0) }
     {
         let unused = Slot::new(0, 0, 0, 0, Kind::Wrapped);
-        let timers = Wheel::new(alloc, settings.slots, unused)?;
+        let timers = Wheel::new(alloc, settings.slots, settings.processes, unused)?;
         let free = FreeSlots::new(alloc, settings.slots)?;
         let due = Vec::with_capacity(alloc, settings.slots as usize)?;
         Ok(WheelPart {

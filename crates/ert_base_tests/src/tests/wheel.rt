@@ -2,11 +2,15 @@
 
 ghost use Rattle.std.specs.Prelude.{◌≡◌, ◌+◌, ◌<◌, ◌≤◌, ℕ, IfOk, length, vec_capacity};
 ghost use Rattle.ert_base_tests.specs.Trial.{AreBelow};
+ghost use Rattle.ert_base_tests.specs.declared.tests.wheel.TheConstants.{LAST};
 
 use ert_wheel::{Row, Wheel};
 use std::alloc::Global;
 use std::process::Abort;
 use std::test::Fail;
+
+/// The greatest deadline that a row can have.
+const LAST: u64 = (1 << 45) - 2;
 
 /// A row's deadline, order and slot.
 type Words = (u64, u64, u32);
@@ -32,7 +36,7 @@ fn open(alloc: Global) -> Result<(Wheel<u64>, Vec<Row>), Fail>
     ensures room { IfOk result (λ opened. vec_capacity opened.1 ≡ 3) }
     ensures empty { IfOk result (λ opened. AreBelow 0 opened.0.keys) }
 {
-    let wheel = Wheel::new(alloc, 3, 0)?;
+    let wheel = Wheel::new(alloc, 3, 1, 0)?;
     let out = Vec::with_capacity(alloc, 3)?;
     Ok((wheel, out))
 }
@@ -40,7 +44,7 @@ fn open(alloc: Global) -> Result<(Wheel<u64>, Vec<Row>), Fail>
 // Puts a row into a slot that has none, or in place of the one that it has.
 fn put(wheel: &mut Wheel<u64>, row: Row)
     requires slot { row.slot < length wheel.old.keys }
-    requires deadline { row.deadline < u64.MAX }
+    requires deadline { row.deadline ≤ LAST }
     requires newest { AreBelow row.order wheel.old.keys }
     ensures len { length wheel.new.keys ≡ length wheel.old.keys }
     ensures values { length wheel.new.values ≡ length wheel.old.values }
@@ -89,7 +93,7 @@ fn run(rt: &impl Abort, alloc: Global, calls: &[Call]) -> Result<(), Fail> {
     'calls: for (step, call) in calls.iter().enumerate() {
         let right = match *call {
             Call::Put(deadline, slot) => {
-                assert!(rt; slot < 3 && deadline < u64::MAX && order < 1_000);
+                assert!(rt; slot < 3 && deadline <= LAST && order < 1_000);
                 put(
                     &mut wheel,
                     Row {
@@ -150,9 +154,9 @@ fn time_leaps(rt: HostRuntime) -> Result<(), Fail> {
         Call::Put(1029, 1),
         Call::Put(5, 2),
         Call::Advance(u64::MAX, &[(5, 1, 2), (1029, 0, 1)]),
-        Call::Put(u64::MAX - 1, 0),
+        Call::Put(LAST, 0),
         Call::Len(1),
-        Call::Advance(u64::MAX, &[(u64::MAX - 1, 2, 0)]),
+        Call::Advance(u64::MAX, &[(LAST, 2, 0)]),
     ];
     run(&rt, rt.alloc(), &calls)
 }
@@ -173,7 +177,7 @@ fn rows_are_taken_out(rt: HostRuntime) -> Result<(), Fail> {
 
 #[test]
 fn a_slot_has_an_owner(rt: HostRuntime) -> Result<(), Fail> {
-    let mut wheel = Wheel::new(rt.alloc(), 3, 0u64)?;
+    let mut wheel = Wheel::new(rt.alloc(), 3, 2, 0u64)?;
     wheel.own(2, 1);
     let owned = (wheel.newest_owned(0), wheel.newest_owned(1));
     assert!(rt; owned == (None, Some(2)), "{owned:?}");
