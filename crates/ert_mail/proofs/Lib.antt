@@ -6,3 +6,4 @@ pub mod AnswerSteps
 pub mod Counts
 pub mod InboxStanding
 pub mod LawsHold
+mod Listing

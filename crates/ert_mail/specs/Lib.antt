@@ -1,4 +1,5 @@
 pub mod Mailboxes
 pub mod Inboxes
 pub mod Laws
+pub mod Lists
 pub mod Steps

@@ -38,6 +38,7 @@
 mod handing;
 mod inbox;
 mod laws;
+mod list;
 mod part;
 mod replies;
 mod watching;
@@ -45,4 +46,5 @@ mod watching;
 pub use ert_effects::{Handed, MonitorErr, Taken};
 pub use inbox::InboxPart;
 pub use laws::{calls_leave_other_parts, inboxes_stand_on, mailboxes_stand_on};
+pub use list::MailList;
 pub use part::MailPart;

@@ -32,6 +32,7 @@ impl MailPart {
         ensures number { IfOk result (λ number. number ≡ self.old.held.next) }
         ensures full { (result ≡ Err Full) ↔ AreMany self.old.held }
         ensures err { OnErr result (IsSame self.old self.new) }
+        ensures queue { self.new.held.queue ≡ self.old.held.queue }
         ensures process { self.new.process ≡ self.old.process }
         ensures stands { Stands (settings_of desk.now) (front_of pass.new) self.new }
     {
@@ -71,6 +72,7 @@ impl MailPart {
         ensures call { IsMade (settings_of desk.now) (view_of pass.old)
             (Demonitors (settings_of desk.now) by self.old.process monitor result) (view_of pass.new) }
         ensures was { result ≡ stands_in monitor self.old.held.monitors }
+        ensures queue { self.new.held.queue ≡ self.old.held.queue }
         ensures process { self.new.process ≡ self.old.process }
         ensures stands { Stands (settings_of desk.now) (front_of pass.new) self.new }
     {

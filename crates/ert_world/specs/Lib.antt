@@ -2,6 +2,7 @@ pub mod Bounded
 pub mod Counted
 pub mod Held
 pub mod Laws
+pub mod Mailing
 pub mod Openings
 pub mod Parts
 pub mod Restarts

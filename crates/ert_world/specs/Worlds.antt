@@ -1,6 +1,6 @@
 -- What callers see of a world, the history that it knows, and how its calls make that longer.
 
-use Rattle.std.specs.Prelude.{◌≡◌, ℕ, ◌<◌, ◌≤◌, ◌⊎◌, ◌++◌, true, false, List, [], ◌∷◌, filter, slice_index_or, Option, Some, None, Result, Ok, Err}
+use Rattle.std.specs.Prelude.{◌≡◌, ℕ, ◌<◌, ◌≤◌, ◌⊎◌, ◌++◌, Bool, true, false, List, [], ◌∷◌, filter, slice_index_or, Option, Some, None, Result, Ok, Err}
 use Rattle.atomic_table.specs.Seated.{TableId}
 use Rattle.ert_effects.specs.Ways.{Growth, Way, Grows, alone}
 use Rattle.ert_clock.specs.Shown.{Shown, Stands as ClockStands}
@@ -19,6 +19,8 @@ use Rattle.ert_defs.specs.declared.mail.RequestKind.TheVariants.{Cancel as ToCan
 use Rattle.ert_defs.specs.declared.memory.NoMemory.{NoMemory}
 use Rattle.ert_defs.specs.declared.settings.Settings.{Settings}
 use Rattle.ert_defs.specs.declared.timer.TimerRef.{TimerRef}
+use Rattle.ert_mail.specs.Lists.{AreListed}
+use Rattle.ert_mail.specs.Mailboxes.{Mailbox}
 use Rattle.ert_table.specs.Desks.{settings_of, front_of, actors_of, Belongs}
 use Rattle.ert_table.specs.Held.{is_held, IsActor}
 use Rattle.ert_table.specs.declared.desk.Desk.{Desk}
@@ -79,6 +81,16 @@ AreTidy g h wheels = (i : ℕ) (d : Part) → i < g.schedulers → IsTidy (state
 pub record AreSound (d : Desk) (p : Pass) (next : ℕ) (parts : AllParts) : Type 0 where
   pub fit : AreFit d p next parts
   pub tidy : next ≡ 1 → AreTidy (settings_of d) (front_of p) parts.wheels
+
+-- where processes are listed, each whose mailbox has mail is
+abbrev pub ListAll : Option (List Bool) → List Mailbox → Type 0
+ListAll None mails = Unit {0}
+ListAll (Some listed) mails = AreListed listed mails
+
+-- what a world keeps: its parts are sound, and the processes with mail are listed where any are
+pub record AreKept (d : Desk) (p : Pass) (next : ℕ) (parts : AllParts) (list : Option (List Bool)) : Type 0 where
+  pub sound : AreSound d p next parts
+  pub listed : ListAll list parts.mails
 
 -- how early the next of the rows that a wheel of a world holds is due, and None where it holds none. It holds the row
 -- of each armed timer, and may hold the row of one that was cancelled until that would have been due

@@ -80,6 +80,7 @@ mod counts;
 mod held;
 mod laws;
 mod mail_calls;
+mod mailing;
 mod meeting;
 mod opening;
 mod parts;

@@ -1,4 +1,5 @@
 //! The calls of callers on mailboxes and inboxes.
+use crate::mailing::may_get_mail;
 use crate::world::{CALLER, World};
 use ert_defs::{NoMemory, Request};
 use ert_mail::{MonitorErr, Taken};
@@ -66,6 +67,7 @@ impl World {
         requires { process < self.old.settings.processes }
         ensures call { Goes self.old (By self.old (λ g. Tells g 0 process result)) self.new }
     {
+        may_get_mail(&mut self.list, process);
         self.mails[process as usize].tell(&self.desk, &mut self.pass, CALLER)
     }
 }

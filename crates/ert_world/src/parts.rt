@@ -86,6 +86,7 @@ impl World {
             inboxes,
             mails,
             scheds,
+            list: None,
             next: CALLER + 1,
         }
     }

@@ -1,4 +1,5 @@
 //! A world makes the single steps of its schedulers, and those of caller 0.
+use crate::mailing::may_get_mail;
 use crate::steps::{CallerSteps, SchedSteps};
 use crate::turns::cancelled_left;
 use crate::world::{CALLER, World};
@@ -36,6 +37,7 @@ impl SchedSteps for World {
     }
 
     fn answer_held(&mut self, sched: u32, request: &Request) -> Result<Option<u64>, NoMemory> {
+        may_get_mail(&mut self.list, request.reply_to);
         let left = self.mails[request.reply_to as usize].answer(
             &self.desk,
             &mut self.pass,

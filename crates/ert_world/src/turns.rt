@@ -3,6 +3,7 @@ ghost use Rattle.std.specs.Prelude.{◌≡◌};
 ghost use Rattle.ert_world.specs.Worlds.{left_by};
 
 use crate::chains;
+use crate::mailing::may_get_mail;
 use crate::world::World;
 use ert_defs::{Fired, NoMemory, Request, RequestKind};
 use ert_effects::Turned;
@@ -105,6 +106,7 @@ impl World {
         ensures fired { OnOk result ((sched_of self.new sched).fired ≡ others_of (sched_of self.old sched).fired) }
         ensures handed { OnOk result (IsHandedIn self.new fired.now.timer) }
     {
+        may_get_mail(&mut self.list, fired.dest);
         let handed = self.mails[fired.dest as usize].deliver(&self.desk, &mut self.pass, fired)?;
         self.scheds[sched as usize].fired.pop();
         Ok(handed)

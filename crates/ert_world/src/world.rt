@@ -7,7 +7,7 @@ use crate::seat::Seat;
 use crate::seat_err::SeatErr;
 use ert_defs::{Actor, NoMemory, Settings};
 use ert_keeper::KeeperPart;
-use ert_mail::{InboxPart, MailPart};
+use ert_mail::{InboxPart, MailList, MailPart};
 use ert_table::{Desk, Pass};
 use ert_timers::WheelPart;
 use std::alloc::Global;
@@ -39,6 +39,8 @@ pub struct World {
     pub(crate) inboxes: Vec<InboxPart>,
     pub(crate) mails: Vec<MailPart>,
     pub(crate) scheds: Vec<SchedPart>,
+    /// The processes whose mailboxes may have mail, from the first `next_mail` on.
+    pub(crate) list: Option<MailList>,
     /// The least caller that was given no seat.
     pub(crate) next: u32,
 }
@@ -48,7 +50,7 @@ impl Model for World {
     ghost use Rattle.std.specs.Coded.{codes};
     ghost use Rattle.ert_timers.specs.Parts.{part_code};
     ghost use Rattle.ert_world.specs.Parts.{parts_of};
-    ghost use Rattle.ert_world.specs.Worlds.{Seen, seen, AreSound};
+    ghost use Rattle.ert_world.specs.Worlds.{Seen, seen, AreKept};
 
     ghost Value = { Seen };
 
@@ -56,7 +58,7 @@ impl Model for World {
 
     ghost view = { λ w. seen (arc_value w.desk) w.pass w.next w.keeper w.wheels.items };
 
-    ghost invariant = { λ w. AreSound (arc_value w.desk) w.pass w.next (parts_of w.keeper w.wheels.items w.inboxes.items w.mails.items w.scheds.items) };
+    ghost invariant = { λ w. AreKept (arc_value w.desk) w.pass w.next (parts_of w.keeper w.wheels.items w.inboxes.items w.mails.items w.scheds.items) w.list };
 }
 
 impl World {
@@ -89,6 +91,7 @@ impl World {
             inboxes,
             mails,
             scheds,
+            list: None,
             next: CALLER + 1,
         })
     }

@@ -16,12 +16,12 @@ use Rattle.ert_world.proofs.stepping.WorldSchedSteps.answer_held.Goals as goal
 
 pub index_mut-requires : goal.index_mut-requires
 index_mut-requires c =
-    let low = asker_low c.args.self.now c.self.inside _ c.args.sched c.args.request.now (has_at refl c.self.view_is c.self.invariant) c.requires.hand in
-    rw (c.self.inside.mails.ok.0 ∙ c.self.invariant.fit.stand.mails.counted) low
+    let low = asker_low c.args.self.now c.self.inside _ c.args.sched c.args.request.now (has_at refl c.self.view_is c.self.invariant.sound) c.requires.hand in
+    rw (c.self.inside.mails.ok.0 ∙ c.self.invariant.sound.fit.stand.mails.counted) low
 
 pub answer-requires-clause-holds : goal.answer-requires-clause-holds
 answer-requires-clause-holds c =
-    let has : Has c.args.self.now c.self.inside c.deref.result.now = has_at c.deref.ensures c.self.view_is c.self.invariant in
+    let has : Has c.args.self.now c.self.inside c.deref.result.now = has_at c.deref.ensures c.self.view_is c.self.invariant.sound in
     let low = asker_low c.args.self.now c.self.inside c.deref.result.now c.args.sched c.args.request.now has c.requires.hand in
     sched_holds c.args.self.now c.self.inside c.deref.result.now c.args.sched c.args.request.now.reply_to c.index_mut.result.now.process has
     (schedulers_at has c.args.sched c.requires.acts) low
@@ -30,30 +30,33 @@ answer-requires-clause-holds c =
 
 pub answer-requires-clause-asker : goal.answer-requires-clause-asker
 answer-requires-clause-asker c =
-    let has : Has c.args.self.now c.self.inside c.deref.result.now = has_at c.deref.ensures c.self.view_is c.self.invariant in
+    let has : Has c.args.self.now c.self.inside c.deref.result.now = has_at c.deref.ensures c.self.view_is c.self.invariant.sound in
     let low = asker_low c.args.self.now c.self.inside c.deref.result.now c.args.sched c.args.request.now has c.requires.hand in
     sym (mail_named (settings_of c.deref.result.now) (front_of c.self.inside.pass) _ (parts_in c.self.inside) c.args.request.now.reply_to c.index_mut.result.now
     has.fit.stand low c.index_mut.ensures.value)
 
 pub answer-requires-clause-stands : goal.answer-requires-clause-stands
 answer-requires-clause-stands c =
-    let has : Has c.args.self.now c.self.inside c.deref.result.now = has_at c.deref.ensures c.self.view_is c.self.invariant in
+    let has : Has c.args.self.now c.self.inside c.deref.result.now = has_at c.deref.ensures c.self.view_is c.self.invariant.sound in
     let low = asker_low c.args.self.now c.self.inside c.deref.result.now c.args.sched c.args.request.now has c.requires.hand in
     subst (Stands (settings_of c.deref.result.now) (front_of c.self.inside.pass)) (sym c.index_mut.ensures.value)
     (has.fit.stand.mails.stand c.args.request.now.reply_to c.index_mut.result.now low refl)
 
 pub invariant_of-self : goal.invariant_of-self
-invariant_of-self c =
-    let has : Has c.args.self.now c.self.inside c.deref.result.now = has_at c.deref.ensures c.self.view_is c.self.invariant in
+invariant_of-self c = record {
+  sound =
+      (let has : Has c.args.self.now c.self.inside c.deref.result.now = has_at c.deref.ensures c.self.view_is c.self.invariant.sound in
     let low = asker_low c.args.self.now c.self.inside c.deref.result.now c.args.sched c.args.request.now has c.requires.hand in
     (does_at c.deref.ensures (step_refused c.args.self.now c.self.inside c.deref.result.now c.answer.new.pass c.args.request.now.reply_to c.index_mut.result.now c.answer.new.self
     (λ w. By w (λ g. Answers g c.args.sched c.args.request.now (Err c.in_err-left.field-0.0))) has c.answer.ensures.belongs
     low c.index_mut.ensures.value c.answer.ensures.process c.answer.ensures.stands c.in_err-left.ensures.call.same
-    (λ m grown own. own))).fit
+    (λ m grown own. own))).fit);
+  listed = c.self.invariant.listed;
+}
 
 pub returns-in_err-left : goal.returns-in_err-left
 returns-in_err-left c =
-    let has : Has c.args.self.now c.self.inside c.deref.result.now = has_at c.deref.ensures c.self.view_is c.self.invariant in
+    let has : Has c.args.self.now c.self.inside c.deref.result.now = has_at c.deref.ensures c.self.view_is c.self.invariant.sound in
     let low = asker_low c.args.self.now c.self.inside c.deref.result.now c.args.sched c.args.request.now has c.requires.hand in
     let result : c.from_residual.result ≡ Err c.in_err-left.field-0.0 = search rules in
     let done = does_at c.deref.ensures (step_refused c.args.self.now c.self.inside c.deref.result.now c.answer.new.pass c.args.request.now.reply_to c.index_mut.result.now c.answer.new.self
@@ -67,8 +70,9 @@ returns-in_err-left c =
     }
 
 pub invariant_of-self-then-is_none : goal.invariant_of-self-then-is_none
-invariant_of-self-then-is_none c =
-    let has : Has c.args.self.now c.self.inside c.deref.result.now = has_at c.deref.ensures c.self.view_is c.self.invariant in
+invariant_of-self-then-is_none c = record {
+  sound =
+      (let has : Has c.args.self.now c.self.inside c.deref.result.now = has_at c.deref.ensures c.self.view_is c.self.invariant.sound in
     let done = answered_now c.args.self.now c.self.inside c.deref.result.now c.answer.new.pass c.args.sched c.index_mut.result.now c.answer.new.self c.args.request.now c.in_ok-left.left
     c.index_mut-2.result.now (record { wheel = c.index_mut-2.result.now.wheel; hand = None; fired = c.index_mut-2.result.now.fired })
     has c.answer.ensures.belongs c.requires.acts c.requires.hand c.index_mut.ensures.value c.answer.ensures.process
@@ -76,11 +80,13 @@ invariant_of-self-then-is_none c =
     (does_cancel_at c.deref.ensures (cancelled_not c.args.self.now c.self.inside c.deref.result.now c.answer.new.pass
     (record (parts_in c.self.inside) { mails = slice_set c.self.inside.mails.items c.args.request.now.reply_to c.answer.new.self; scheds = slice_set c.self.inside.scheds.items c.args.sched (record { wheel = c.index_mut-2.result.now.wheel; hand = None; fired = c.index_mut-2.result.now.fired }) })
     c.args.request.now.timer (left_by c.args.request.now.kind c.in_ok-left.left) (λ w. By w (λ g. Answers g c.args.sched c.args.request.now (Ok c.in_ok-left.left)))
-    (subst (λ (x : Option _). is_some x ≡ false) c.cancelled_left.ensures c.if-is_none.ensures) has done)).fit
+    (subst (λ (x : Option _). is_some x ≡ false) c.cancelled_left.ensures c.if-is_none.ensures) has done)).fit);
+  listed = c.self.invariant.listed;
+}
 
 pub returns-then-is_none-clause-call : goal.returns-then-is_none-clause-call
 returns-then-is_none-clause-call c =
-    let has : Has c.args.self.now c.self.inside c.deref.result.now = has_at c.deref.ensures c.self.view_is c.self.invariant in
+    let has : Has c.args.self.now c.self.inside c.deref.result.now = has_at c.deref.ensures c.self.view_is c.self.invariant.sound in
     let done = answered_now c.args.self.now c.self.inside c.deref.result.now c.answer.new.pass c.args.sched c.index_mut.result.now c.answer.new.self c.args.request.now c.in_ok-left.left
     c.index_mut-2.result.now (record { wheel = c.index_mut-2.result.now.wheel; hand = None; fired = c.index_mut-2.result.now.fired })
     has c.answer.ensures.belongs c.requires.acts c.requires.hand c.index_mut.ensures.value c.answer.ensures.process
@@ -92,7 +98,7 @@ returns-then-is_none-clause-call c =
 
 pub returns-then-is_none-clause-stays : goal.returns-then-is_none-clause-stays
 returns-then-is_none-clause-stays c =
-    let has : Has c.args.self.now c.self.inside c.deref.result.now = has_at c.deref.ensures c.self.view_is c.self.invariant in
+    let has : Has c.args.self.now c.self.inside c.deref.result.now = has_at c.deref.ensures c.self.view_is c.self.invariant.sound in
     let done = answered_now c.args.self.now c.self.inside c.deref.result.now c.answer.new.pass c.args.sched c.index_mut.result.now c.answer.new.self c.args.request.now c.in_ok-left.left
     c.index_mut-2.result.now (record { wheel = c.index_mut-2.result.now.wheel; hand = None; fired = c.index_mut-2.result.now.fired })
     has c.answer.ensures.belongs c.requires.acts c.requires.hand c.index_mut.ensures.value c.answer.ensures.process
@@ -104,7 +110,7 @@ returns-then-is_none-clause-stays c =
 
 pub forget-requires-clause-stands : goal.forget-requires-clause-stands
 forget-requires-clause-stands c =
-    let has : Has c.args.self.now c.self.inside c.deref.result.now = has_at c.deref.ensures c.self.view_is c.self.invariant in
+    let has : Has c.args.self.now c.self.inside c.deref.result.now = has_at c.deref.ensures c.self.view_is c.self.invariant.sound in
     let done = answered_now c.args.self.now c.self.inside c.deref.result.now c.answer.new.pass c.args.sched c.index_mut.result.now c.answer.new.self c.args.request.now c.in_ok-left.left
     c.index_mut-2.result.now (record { wheel = c.index_mut-2.result.now.wheel; hand = None; fired = c.index_mut-2.result.now.fired })
     has c.answer.ensures.belongs c.requires.acts c.requires.hand c.index_mut.ensures.value c.answer.ensures.process
@@ -117,7 +123,7 @@ forget-requires-clause-stands c =
 
 pub forget-requires-clause-last : goal.forget-requires-clause-last
 forget-requires-clause-last c =
-    let has : Has c.args.self.now c.self.inside c.deref.result.now = has_at c.deref.ensures c.self.view_is c.self.invariant in
+    let has : Has c.args.self.now c.self.inside c.deref.result.now = has_at c.deref.ensures c.self.view_is c.self.invariant.sound in
     let done = answered_now c.args.self.now c.self.inside c.deref.result.now c.answer.new.pass c.args.sched c.index_mut.result.now c.answer.new.self c.args.request.now c.in_ok-left.left
     c.index_mut-2.result.now (record { wheel = c.index_mut-2.result.now.wheel; hand = None; fired = c.index_mut-2.result.now.fired })
     has c.answer.ensures.belongs c.requires.acts c.requires.hand c.index_mut.ensures.value c.answer.ensures.process
@@ -129,7 +135,7 @@ forget-requires-clause-last c =
 
 pub forget-requires-clause-settled : goal.forget-requires-clause-settled
 forget-requires-clause-settled c =
-    let has : Has c.args.self.now c.self.inside c.deref.result.now = has_at c.deref.ensures c.self.view_is c.self.invariant in
+    let has : Has c.args.self.now c.self.inside c.deref.result.now = has_at c.deref.ensures c.self.view_is c.self.invariant.sound in
     let done = answered_now c.args.self.now c.self.inside c.deref.result.now c.answer.new.pass c.args.sched c.index_mut.result.now c.answer.new.self c.args.request.now c.in_ok-left.left
     c.index_mut-2.result.now (record { wheel = c.index_mut-2.result.now.wheel; hand = None; fired = c.index_mut-2.result.now.fired })
     has c.answer.ensures.belongs c.requires.acts c.requires.hand c.index_mut.ensures.value c.answer.ensures.process
@@ -140,8 +146,9 @@ forget-requires-clause-settled c =
     settled_then c.deref.result.now c.answer.new.pass c.args.request.now.timer done.fit.belongs gone.1
 
 pub invariant_of-self-2 : goal.invariant_of-self-2
-invariant_of-self-2 c =
-    let has : Has c.args.self.now c.self.inside c.deref.result.now = has_at c.deref.ensures c.self.view_is c.self.invariant in
+invariant_of-self-2 c = record {
+  sound =
+      (let has : Has c.args.self.now c.self.inside c.deref.result.now = has_at c.deref.ensures c.self.view_is c.self.invariant.sound in
     let done = answered_now c.args.self.now c.self.inside c.deref.result.now c.answer.new.pass c.args.sched c.index_mut.result.now c.answer.new.self c.args.request.now c.in_ok-left.left
     c.index_mut-2.result.now (record { wheel = c.index_mut-2.result.now.wheel; hand = None; fired = c.index_mut-2.result.now.fired })
     has c.answer.ensures.belongs c.requires.acts c.requires.hand c.index_mut.ensures.value c.answer.ensures.process
@@ -152,11 +159,13 @@ invariant_of-self-2 c =
     (record (parts_in c.self.inside) { mails = slice_set c.self.inside.mails.items c.args.request.now.reply_to c.answer.new.self; scheds = slice_set c.self.inside.scheds.items c.args.sched (record { wheel = c.index_mut-2.result.now.wheel; hand = None; fired = c.index_mut-2.result.now.fired }) })
     c.args.request.now.timer (left_by c.args.request.now.kind c.in_ok-left.left) c.index_mut-3.result.now c.forget.new.self (λ w. By w (λ g. Answers g c.args.sched c.args.request.now (Ok c.in_ok-left.left)))
     some has done c.index_mut-3.ensures.value c.forget.ensures.number
-    (c.forget.ensures.stands (settings_of c.deref.result.now) done.fit.belongs.named) c.forget.ensures.loses c.forget.ensures.forgotten)).fit
+    (c.forget.ensures.stands (settings_of c.deref.result.now) done.fit.belongs.named) c.forget.ensures.loses c.forget.ensures.forgotten)).fit);
+  listed = c.self.invariant.listed;
+}
 
 pub returns-clause-call : goal.returns-clause-call
 returns-clause-call c =
-    let has : Has c.args.self.now c.self.inside c.deref.result.now = has_at c.deref.ensures c.self.view_is c.self.invariant in
+    let has : Has c.args.self.now c.self.inside c.deref.result.now = has_at c.deref.ensures c.self.view_is c.self.invariant.sound in
     let done = answered_now c.args.self.now c.self.inside c.deref.result.now c.answer.new.pass c.args.sched c.index_mut.result.now c.answer.new.self c.args.request.now c.in_ok-left.left
     c.index_mut-2.result.now (record { wheel = c.index_mut-2.result.now.wheel; hand = None; fired = c.index_mut-2.result.now.fired })
     has c.answer.ensures.belongs c.requires.acts c.requires.hand c.index_mut.ensures.value c.answer.ensures.process
@@ -171,7 +180,7 @@ returns-clause-call c =
 
 pub returns-clause-stays : goal.returns-clause-stays
 returns-clause-stays c =
-    let has : Has c.args.self.now c.self.inside c.deref.result.now = has_at c.deref.ensures c.self.view_is c.self.invariant in
+    let has : Has c.args.self.now c.self.inside c.deref.result.now = has_at c.deref.ensures c.self.view_is c.self.invariant.sound in
     let done = answered_now c.args.self.now c.self.inside c.deref.result.now c.answer.new.pass c.args.sched c.index_mut.result.now c.answer.new.self c.args.request.now c.in_ok-left.left
     c.index_mut-2.result.now (record { wheel = c.index_mut-2.result.now.wheel; hand = None; fired = c.index_mut-2.result.now.fired })
     has c.answer.ensures.belongs c.requires.acts c.requires.hand c.index_mut.ensures.value c.answer.ensures.process

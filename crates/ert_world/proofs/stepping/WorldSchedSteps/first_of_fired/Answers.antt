@@ -10,10 +10,10 @@ use Rattle.ert_defs.specs.declared.settings.TheConstants.{MOST_SLOTS}
 pub returns-clause-few : goal.returns-clause-few
 returns-clause-few c =
     subst (λ (w : Seen). length (sched_of w c.args.sched).fired ≤ MOST_SLOTS) c.self.view_is
-    (let few = fired_few (settings_of (arc_value c.self.inside.desk)) (front_of c.self.inside.pass) c.args.sched c.self.invariant.fit.stand.legal in
+    (let few = fired_few (settings_of (arc_value c.self.inside.desk)) (front_of c.self.inside.pass) c.args.sched c.self.invariant.sound.fit.stand.legal in
     let high = (arc_value c.self.inside.desk).checked.counts.slots_high in
     omega (arith, few, high))
 
 pub returns-clause-legal : goal.returns-clause-legal
 returns-clause-legal c =
-    subst (λ (w : Seen). Legal w.settings w.history) c.self.view_is c.self.invariant.fit.stand.legal
+    subst (λ (w : Seen). Legal w.settings w.history) c.self.view_is c.self.invariant.sound.fit.stand.legal

@@ -7,18 +7,21 @@ use Rattle.ert_world.proofs.Advances.{advance_ok, advance_fits, advance_refused}
 use Rattle.ert_world.proofs.world.World.advance.Goals as goal
 
 pub invariant_of-self : goal.invariant_of-self
-invariant_of-self c =
-    (does_at c.deref.ensures (advance_refused c.args.self.now c.self.inside c.deref.result.now c.advance.new.pass c.args.sched c.in_err-to.field-0.0 c.index_mut.result.now c.advance.new.self
+invariant_of-self c = record {
+  sound =
+      ((does_at c.deref.ensures (advance_refused c.args.self.now c.self.inside c.deref.result.now c.advance.new.pass c.args.sched c.in_err-to.field-0.0 c.index_mut.result.now c.advance.new.self
     c.index_mut-part.result.now (record { wheel = c.index_mut-part.result.now.wheel; hand = c.index_mut-part.result.now.hand; fired = c.advance.new.fired })
-    (has_at c.deref.ensures c.self.view_is c.self.invariant) c.advance.ensures.belongs c.requires c.index_mut.ensures.value c.index_mut-part.ensures.value c.advance.ensures.number
-    c.advance.ensures.stands c.advance.ensures.loses c.in_err-to.ensures.call refl refl)).fit
+    (has_at c.deref.ensures c.self.view_is c.self.invariant.sound) c.advance.ensures.belongs c.requires c.index_mut.ensures.value c.index_mut-part.ensures.value c.advance.ensures.number
+    c.advance.ensures.stands c.advance.ensures.loses c.in_err-to.ensures.call refl refl)).fit);
+  listed = c.self.invariant.listed;
+}
 
 pub returns-in_err-to-clause-call : goal.returns-in_err-to-clause-call
 returns-in_err-to-clause-call c =
     let result : c.from_residual.result ≡ Err c.in_err-to.field-0.0 = search rules in
     rw result (does_at c.deref.ensures (advance_refused c.args.self.now c.self.inside c.deref.result.now c.advance.new.pass c.args.sched c.in_err-to.field-0.0 c.index_mut.result.now c.advance.new.self
     c.index_mut-part.result.now (record { wheel = c.index_mut-part.result.now.wheel; hand = c.index_mut-part.result.now.hand; fired = c.advance.new.fired })
-    (has_at c.deref.ensures c.self.view_is c.self.invariant) c.advance.ensures.belongs c.requires c.index_mut.ensures.value c.index_mut-part.ensures.value c.advance.ensures.number
+    (has_at c.deref.ensures c.self.view_is c.self.invariant.sound) c.advance.ensures.belongs c.requires c.index_mut.ensures.value c.index_mut-part.ensures.value c.advance.ensures.number
     c.advance.ensures.stands c.advance.ensures.loses c.in_err-to.ensures.call refl refl)).goes
 
 pub overflow_cast-result : goal.overflow_cast-result
@@ -30,17 +33,20 @@ overflow_cast-result c =
     omega (arith, few.1)
 
 pub invariant_of-self-2 : goal.invariant_of-self-2
-invariant_of-self-2 c =
-    (does_at c.deref.ensures (advance_ok c.args.self.now c.self.inside c.deref.result.now c.advance.new.pass c.args.sched c.in_ok-to.to c.len.result c.len-before.result c.index_mut.result.now
+invariant_of-self-2 c = record {
+  sound =
+      ((does_at c.deref.ensures (advance_ok c.args.self.now c.self.inside c.deref.result.now c.advance.new.pass c.args.sched c.in_ok-to.to c.len.result c.len-before.result c.index_mut.result.now
     c.advance.new.self c.index_mut-part.result.now (record { wheel = c.index_mut-part.result.now.wheel; hand = c.index_mut-part.result.now.hand; fired = c.advance.new.fired })
-    (has_at c.deref.ensures c.self.view_is c.self.invariant) c.advance.ensures.belongs c.requires c.index_mut.ensures.value c.index_mut-part.ensures.value c.advance.ensures.number
-    c.advance.ensures.stands c.advance.ensures.loses c.in_ok-to.ensures.call refl refl c.len.ensures c.len-before.ensures)).fit
+    (has_at c.deref.ensures c.self.view_is c.self.invariant.sound) c.advance.ensures.belongs c.requires c.index_mut.ensures.value c.index_mut-part.ensures.value c.advance.ensures.number
+    c.advance.ensures.stands c.advance.ensures.loses c.in_ok-to.ensures.call refl refl c.len.ensures c.len-before.ensures)).fit);
+  listed = c.self.invariant.listed;
+}
 
 pub returns-clause-call : goal.returns-clause-call
 returns-clause-call c =
     (does_at c.deref.ensures (advance_ok c.args.self.now c.self.inside c.deref.result.now c.advance.new.pass c.args.sched c.in_ok-to.to c.len.result c.len-before.result c.index_mut.result.now
     c.advance.new.self c.index_mut-part.result.now (record { wheel = c.index_mut-part.result.now.wheel; hand = c.index_mut-part.result.now.hand; fired = c.advance.new.fired })
-    (has_at c.deref.ensures c.self.view_is c.self.invariant) c.advance.ensures.belongs c.requires c.index_mut.ensures.value c.index_mut-part.ensures.value c.advance.ensures.number
+    (has_at c.deref.ensures c.self.view_is c.self.invariant.sound) c.advance.ensures.belongs c.requires c.index_mut.ensures.value c.index_mut-part.ensures.value c.advance.ensures.number
     c.advance.ensures.stands c.advance.ensures.loses c.in_ok-to.ensures.call refl refl c.len.ensures c.len-before.ensures)).goes
 
 pub returns-clause-stays : goal.returns-clause-stays
@@ -48,24 +54,24 @@ returns-clause-stays c =
     let done =
     (does_at c.deref.ensures (advance_ok c.args.self.now c.self.inside c.deref.result.now c.advance.new.pass c.args.sched c.in_ok-to.to c.len.result c.len-before.result c.index_mut.result.now
     c.advance.new.self c.index_mut-part.result.now (record { wheel = c.index_mut-part.result.now.wheel; hand = c.index_mut-part.result.now.hand; fired = c.advance.new.fired })
-    (has_at c.deref.ensures c.self.view_is c.self.invariant) c.advance.ensures.belongs c.requires c.index_mut.ensures.value c.index_mut-part.ensures.value c.advance.ensures.number
+    (has_at c.deref.ensures c.self.view_is c.self.invariant.sound) c.advance.ensures.belongs c.requires c.index_mut.ensures.value c.index_mut-part.ensures.value c.advance.ensures.number
     c.advance.ensures.stands c.advance.ensures.loses c.in_ok-to.ensures.call refl refl c.len.ensures c.len-before.ensures)) in
     stays_by done.goes
     (lost_rows c.args.self.now c.self.inside c.deref.result.now c.args.sched c.index_mut.result.now c.advance.new.self
-    (has_at c.deref.ensures c.self.view_is c.self.invariant) c.requires c.index_mut.ensures.value c.advance.ensures.loses) done.forgets
+    (has_at c.deref.ensures c.self.view_is c.self.invariant.sound) c.requires c.index_mut.ensures.value c.advance.ensures.loses) done.forgets
 
 pub returns-in_err-to-clause-stays : goal.returns-in_err-to-clause-stays
 returns-in_err-to-clause-stays c =
     let done =
     does_at c.deref.ensures (advance_refused c.args.self.now c.self.inside c.deref.result.now c.advance.new.pass c.args.sched c.in_err-to.field-0.0 c.index_mut.result.now c.advance.new.self
     c.index_mut-part.result.now (record { wheel = c.index_mut-part.result.now.wheel; hand = c.index_mut-part.result.now.hand; fired = c.advance.new.fired })
-    (has_at c.deref.ensures c.self.view_is c.self.invariant) c.advance.ensures.belongs c.requires c.index_mut.ensures.value c.index_mut-part.ensures.value c.advance.ensures.number
+    (has_at c.deref.ensures c.self.view_is c.self.invariant.sound) c.advance.ensures.belongs c.requires c.index_mut.ensures.value c.index_mut-part.ensures.value c.advance.ensures.number
     c.advance.ensures.stands c.advance.ensures.loses c.in_err-to.ensures.call refl refl) in
     stays_by done.goes
     (lost_rows c.args.self.now c.self.inside c.deref.result.now c.args.sched c.index_mut.result.now c.advance.new.self
-    (has_at c.deref.ensures c.self.view_is c.self.invariant) c.requires c.index_mut.ensures.value c.advance.ensures.loses) done.forgets
+    (has_at c.deref.ensures c.self.view_is c.self.invariant.sound) c.requires c.index_mut.ensures.value c.advance.ensures.loses) done.forgets
 
 pub returns-clause-passed : goal.returns-clause-passed
 returns-clause-passed c =
     replaced_passed c.self.inside c.deref.result.now c.args.sched c.in_ok-to.to c.advance.new.self
-    (has_at c.deref.ensures c.self.view_is c.self.invariant) c.requires c.in_ok-to.ensures.passed
+    (has_at c.deref.ensures c.self.view_is c.self.invariant.sound) c.requires c.in_ok-to.ensures.passed

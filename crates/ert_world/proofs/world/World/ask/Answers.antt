@@ -6,11 +6,14 @@ use Rattle.ert_world.proofs.Calm.{asks_calm}
 use Rattle.ert_world.proofs.world.World.ask.Goals as goal
 
 pub invariant_of-self : goal.invariant_of-self
-invariant_of-self c =
-    (inbox_called c.args.self.now c.self.inside c.deref.result.now _ c.ask.new.pass c.inbox_for-wheel.result c.index_mut.result.now c.ask.new.self (λ n g. Asks g 0 n c.args.request c.ask.result)
-    c.deref.ensures c.self.view_is c.self.invariant c.ask.ensures.belongs c.inbox_for-wheel.ensures.in_range c.index_mut.ensures.value c.ask.ensures.wheel c.ask.ensures.stands
+invariant_of-self c = record {
+  sound =
+      ((inbox_called c.args.self.now c.self.inside c.deref.result.now _ c.ask.new.pass c.inbox_for-wheel.result c.index_mut.result.now c.ask.new.self (λ n g. Asks g 0 n c.args.request c.ask.result)
+    c.deref.ensures c.self.view_is c.self.invariant.sound c.ask.ensures.belongs c.inbox_for-wheel.ensures.in_range c.index_mut.ensures.value c.ask.ensures.wheel c.ask.ensures.stands
     (λ legal. if_ok_made (settings_of c.deref.result.now) (view_of c.self.inside.pass) (Asks (settings_of c.deref.result.now) 0 c.index_mut.result.now.wheel c.args.request) c.ask.result (view_of c.ask.new.pass) legal c.ask.ensures.call)
-    (asks_only (settings_of c.deref.result.now) 0 c.index_mut.result.now.wheel c.args.request c.ask.result) (asks_calm (settings_of c.deref.result.now) 0 c.index_mut.result.now.wheel c.args.request c.ask.result)).fit
+    (asks_only (settings_of c.deref.result.now) 0 c.index_mut.result.now.wheel c.args.request c.ask.result) (asks_calm (settings_of c.deref.result.now) 0 c.index_mut.result.now.wheel c.args.request c.ask.result)).fit);
+  listed = c.self.invariant.listed;
+}
 
 pub returns : goal.returns
 returns c =
@@ -18,7 +21,7 @@ returns c =
       call =
           asked_in c.args.self.now _ c.args.request c.ask.result c.inbox_for-wheel.result _ c.inbox_for-wheel.ensures.value
           (inbox_called c.args.self.now c.self.inside c.deref.result.now _ c.ask.new.pass c.inbox_for-wheel.result c.index_mut.result.now c.ask.new.self (λ n g. Asks g 0 n c.args.request c.ask.result)
-          c.deref.ensures c.self.view_is c.self.invariant c.ask.ensures.belongs c.inbox_for-wheel.ensures.in_range c.index_mut.ensures.value c.ask.ensures.wheel c.ask.ensures.stands
+          c.deref.ensures c.self.view_is c.self.invariant.sound c.ask.ensures.belongs c.inbox_for-wheel.ensures.in_range c.index_mut.ensures.value c.ask.ensures.wheel c.ask.ensures.stands
           (λ legal. if_ok_made (settings_of c.deref.result.now) (view_of c.self.inside.pass) (Asks (settings_of c.deref.result.now) 0 c.index_mut.result.now.wheel c.args.request) c.ask.result (view_of c.ask.new.pass) legal c.ask.ensures.call)
           (asks_only (settings_of c.deref.result.now) 0 c.index_mut.result.now.wheel c.args.request c.ask.result) (asks_calm (settings_of c.deref.result.now) 0 c.index_mut.result.now.wheel c.args.request c.ask.result)).goes;
     }

@@ -8,15 +8,18 @@ use Rattle.ert_world.proofs.CancelCalls.{cancel_called, cancelled_none, cancelle
 use Rattle.ert_world.proofs.world.World.cancel_timer.Goals as goal
 
 pub invariant_of-self : goal.invariant_of-self
-invariant_of-self c =
-    let has = has_at c.deref.ensures c.self.view_is c.self.invariant in
+invariant_of-self c = record {
+  sound =
+      (let has = has_at c.deref.ensures c.self.view_is c.self.invariant.sound in
     (does_cancel_at c.deref.ensures (cancelled_none c.args.self.now c.self.inside c.deref.result.now c.cancel_timer.new.pass (parts_in c.self.inside) c.args.timer _ has
     (cancel_called c.args.self.now c.self.inside c.deref.result.now c.cancel_timer.new.pass c.args.timer None has c.cancel_timer.ensures.belongs
-    ((c.in_err-left.ensures {u = tt}).call.call)))).fit
+    ((c.in_err-left.ensures {u = tt}).call.call)))).fit);
+  listed = c.self.invariant.listed;
+}
 
 pub returns-in_err-left-clause-call : goal.returns-in_err-left-clause-call
 returns-in_err-left-clause-call c =
-    let has = has_at c.deref.ensures c.self.view_is c.self.invariant in
+    let has = has_at c.deref.ensures c.self.view_is c.self.invariant.sound in
     rw c.from_residual.ensures (does_cancel_at c.deref.ensures (cancelled_none c.args.self.now c.self.inside c.deref.result.now c.cancel_timer.new.pass
     (parts_in c.self.inside) c.args.timer _ has
     (cancel_called c.args.self.now c.self.inside c.deref.result.now c.cancel_timer.new.pass c.args.timer None has c.cancel_timer.ensures.belongs
@@ -24,15 +27,15 @@ returns-in_err-left-clause-call c =
 
 pub index_mut-requires : goal.index_mut-requires
 index_mut-requires c =
-    let has = has_at c.deref.ensures c.self.view_is c.self.invariant in
+    let has = has_at c.deref.ensures c.self.view_is c.self.invariant.sound in
     let done = cancel_called c.args.self.now c.self.inside c.deref.result.now c.cancel_timer.new.pass c.args.timer (Some c.in_ok-left.left) has
     c.cancel_timer.ensures.belongs c.in_ok-left.ensures.call.call in
-    rw (c.self.inside.wheels.ok.0 ∙ c.self.invariant.fit.stand.wheels.counted)
+    rw (c.self.inside.wheels.ok.0 ∙ c.self.invariant.sound.fit.stand.wheels.counted)
     (subst (λ (d : Desk). c.args.timer.wheel < (settings_of d).schedulers) c.deref.ensures done.goes.gone.0)
 
 pub forget-requires-clause-stands : goal.forget-requires-clause-stands
 forget-requires-clause-stands c =
-    let has = has_at c.deref.ensures c.self.view_is c.self.invariant in
+    let has = has_at c.deref.ensures c.self.view_is c.self.invariant.sound in
     let done = cancel_called c.args.self.now c.self.inside c.deref.result.now c.cancel_timer.new.pass c.args.timer (Some c.in_ok-left.left) has
     c.cancel_timer.ensures.belongs c.in_ok-left.ensures.call.call in
     stands_then c.deref.result.now c.cancel_timer.new.pass c.self.inside.next (parts_in c.self.inside) c.args.timer.wheel c.index_mut.result.now done.fit
@@ -40,30 +43,33 @@ forget-requires-clause-stands c =
 
 pub forget-requires-clause-last : goal.forget-requires-clause-last
 forget-requires-clause-last c =
-    let has = has_at c.deref.ensures c.self.view_is c.self.invariant in
+    let has = has_at c.deref.ensures c.self.view_is c.self.invariant.sound in
     let done = cancel_called c.args.self.now c.self.inside c.deref.result.now c.cancel_timer.new.pass c.args.timer (Some c.in_ok-left.left) has
     c.cancel_timer.ensures.belongs c.in_ok-left.ensures.call.call in
     subst (λ (p : Part). IsLast p c.args.timer) (sym c.index_mut.ensures.value) (done.goes.gone.2 c.index_mut.result.now)
 
 pub forget-requires-clause-settled : goal.forget-requires-clause-settled
 forget-requires-clause-settled c =
-    let has = has_at c.deref.ensures c.self.view_is c.self.invariant in
+    let has = has_at c.deref.ensures c.self.view_is c.self.invariant.sound in
     let done = cancel_called c.args.self.now c.self.inside c.deref.result.now c.cancel_timer.new.pass c.args.timer (Some c.in_ok-left.left) has
     c.cancel_timer.ensures.belongs c.in_ok-left.ensures.call.call in
     settled_then c.deref.result.now c.cancel_timer.new.pass c.args.timer done.fit.belongs done.goes.gone.1
 
 pub invariant_of-self-2 : goal.invariant_of-self-2
-invariant_of-self-2 c =
-    let has = has_at c.deref.ensures c.self.view_is c.self.invariant in
+invariant_of-self-2 c = record {
+  sound =
+      (let has = has_at c.deref.ensures c.self.view_is c.self.invariant.sound in
     let done = cancel_called c.args.self.now c.self.inside c.deref.result.now c.cancel_timer.new.pass c.args.timer (Some c.in_ok-left.left) has
     c.cancel_timer.ensures.belongs c.in_ok-left.ensures.call.call in
     (does_cancel_at c.deref.ensures (cancelled_some c.args.self.now c.self.inside c.deref.result.now c.cancel_timer.new.pass (parts_in c.self.inside) c.args.timer
     c.in_ok-left.left c.index_mut.result.now c.forget.new.self _ has done c.index_mut.ensures.value c.forget.ensures.number
-    (c.forget.ensures.stands (settings_of c.deref.result.now) done.fit.belongs.named) c.forget.ensures.loses c.forget.ensures.forgotten)).fit
+    (c.forget.ensures.stands (settings_of c.deref.result.now) done.fit.belongs.named) c.forget.ensures.loses c.forget.ensures.forgotten)).fit);
+  listed = c.self.invariant.listed;
+}
 
 pub returns-clause-call : goal.returns-clause-call
 returns-clause-call c =
-    let has = has_at c.deref.ensures c.self.view_is c.self.invariant in
+    let has = has_at c.deref.ensures c.self.view_is c.self.invariant.sound in
     let done = cancel_called c.args.self.now c.self.inside c.deref.result.now c.cancel_timer.new.pass c.args.timer (Some c.in_ok-left.left) has
     c.cancel_timer.ensures.belongs c.in_ok-left.ensures.call.call in
     (does_cancel_at c.deref.ensures (cancelled_some c.args.self.now c.self.inside c.deref.result.now c.cancel_timer.new.pass (parts_in c.self.inside) c.args.timer
@@ -72,7 +78,7 @@ returns-clause-call c =
 
 pub returns-clause-forgotten : goal.returns-clause-forgotten
 returns-clause-forgotten c =
-    let has = has_at c.deref.ensures c.self.view_is c.self.invariant in
+    let has = has_at c.deref.ensures c.self.view_is c.self.invariant.sound in
     let done = cancel_called c.args.self.now c.self.inside c.deref.result.now c.cancel_timer.new.pass c.args.timer (Some c.in_ok-left.left) has
     c.cancel_timer.ensures.belongs c.in_ok-left.ensures.call.call in
     gone_set c.self.inside.wheels.items c.args.timer.wheel c.forget.new.self c.args.timer

@@ -6,18 +6,21 @@ use Rattle.ert_world.proofs.Calm.{demonitors_calm}
 use Rattle.ert_world.proofs.world.World.demonitor.Goals as goal
 
 pub invariant_of-self : goal.invariant_of-self
-invariant_of-self c =
-    (mail_called c.args.self.now c.self.inside c.deref.result.now _ c.demonitor.new.pass c.args.process c.index_mut.result.now c.demonitor.new.self (λ n g. Demonitors g 0 n c.args.monitor c.demonitor.result)
-    c.deref.ensures c.self.view_is c.self.invariant c.demonitor.ensures.belongs c.requires c.index_mut.ensures.value c.demonitor.ensures.process c.demonitor.ensures.stands
+invariant_of-self c = record {
+  sound =
+      ((mail_called c.args.self.now c.self.inside c.deref.result.now _ c.demonitor.new.pass c.args.process c.index_mut.result.now c.demonitor.new.self (λ n g. Demonitors g 0 n c.args.monitor c.demonitor.result)
+    c.deref.ensures c.self.view_is c.self.invariant.sound c.demonitor.ensures.belongs c.requires c.index_mut.ensures.value c.demonitor.ensures.process c.demonitor.ensures.stands
     (λ legal. c.demonitor.ensures.call)
-    (demonitors_only (settings_of c.deref.result.now) 0 c.index_mut.result.now.process c.args.monitor c.demonitor.result) (demonitors_calm (settings_of c.deref.result.now) 0 c.index_mut.result.now.process c.args.monitor c.demonitor.result)).fit
+    (demonitors_only (settings_of c.deref.result.now) 0 c.index_mut.result.now.process c.args.monitor c.demonitor.result) (demonitors_calm (settings_of c.deref.result.now) 0 c.index_mut.result.now.process c.args.monitor c.demonitor.result)).fit);
+  listed = c.self.invariant.listed;
+}
 
 pub returns : goal.returns
 returns c =
     record {
       call =
           (mail_called c.args.self.now c.self.inside c.deref.result.now _ c.demonitor.new.pass c.args.process c.index_mut.result.now c.demonitor.new.self (λ n g. Demonitors g 0 n c.args.monitor c.demonitor.result)
-          c.deref.ensures c.self.view_is c.self.invariant c.demonitor.ensures.belongs c.requires c.index_mut.ensures.value c.demonitor.ensures.process c.demonitor.ensures.stands
+          c.deref.ensures c.self.view_is c.self.invariant.sound c.demonitor.ensures.belongs c.requires c.index_mut.ensures.value c.demonitor.ensures.process c.demonitor.ensures.stands
           (λ legal. c.demonitor.ensures.call)
           (demonitors_only (settings_of c.deref.result.now) 0 c.index_mut.result.now.process c.args.monitor c.demonitor.result) (demonitors_calm (settings_of c.deref.result.now) 0 c.index_mut.result.now.process c.args.monitor c.demonitor.result)).goes;
     }

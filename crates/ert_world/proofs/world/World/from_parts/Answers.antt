@@ -25,11 +25,14 @@ drop_all_settled-requires-clause-ordered c =
     (subst (λ (x : Desk). AreFit x p.pass 1 (parts_of p.keeper p.wheels.items p.inboxes.items p.mails.items p.scheds.items)) (sym c.deref.ensures) c.requires.fit).stand.wheels
 
 pub invariant_of-result : goal.invariant_of-result
-invariant_of-result c =
-    let p = c.args.parts in
+invariant_of-result c = record {
+  sound =
+      (let p = c.args.parts in
     kept_then c.deref.result.now (arc_value p.desk) p.pass c.drop_all_settled.new.pass (parts_of p.keeper p.wheels.items p.inboxes.items p.mails.items p.scheds.items)
     c.drop_all_settled.new.wheels.items c.deref.ensures c.requires.fit c.drop_all_settled.ensures.belongs c.drop_all_settled.ensures.same
-    c.drop_all_settled.ensures.ordered c.drop_all_settled.ensures.tidy
+    c.drop_all_settled.ensures.ordered c.drop_all_settled.ensures.tidy);
+  listed = tt;
+}
 
 pub returns : goal.returns
 returns c =

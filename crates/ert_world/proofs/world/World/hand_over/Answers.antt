@@ -14,13 +14,13 @@ use Rattle.ert_world.proofs.world.World.hand_over.Goals as goal
 
 pub index_mut-requires : goal.index_mut-requires
 index_mut-requires c =
-    let placed = fired_placed c.args.self.now c.self.inside _ c.args.sched c.args.fired.now (has_at refl c.self.view_is c.self.invariant) c.requires.first in
-    rw (c.self.inside.mails.ok.0 ∙ c.self.invariant.fit.stand.mails.counted) placed.dest
+    let placed = fired_placed c.args.self.now c.self.inside _ c.args.sched c.args.fired.now (has_at refl c.self.view_is c.self.invariant.sound) c.requires.first in
+    rw (c.self.inside.mails.ok.0 ∙ c.self.invariant.sound.fit.stand.mails.counted) placed.dest
 
 pub deliver-requires-clause-holds : goal.deliver-requires-clause-holds
 deliver-requires-clause-holds c =
-    let has : Has c.args.self.now c.self.inside c.deref.result.now = has_at c.deref.ensures c.self.view_is c.self.invariant in
-    let placed = fired_placed c.args.self.now c.self.inside c.deref.result.now c.args.sched c.args.fired.now (has_at c.deref.ensures c.self.view_is c.self.invariant) c.requires.first in
+    let has : Has c.args.self.now c.self.inside c.deref.result.now = has_at c.deref.ensures c.self.view_is c.self.invariant.sound in
+    let placed = fired_placed c.args.self.now c.self.inside c.deref.result.now c.args.sched c.args.fired.now (has_at c.deref.ensures c.self.view_is c.self.invariant.sound) c.requires.first in
     sched_holds c.args.self.now c.self.inside c.deref.result.now c.args.fired.now.timer.wheel c.args.fired.now.dest c.index_mut.result.now.process has
     (rw placed.wheel (schedulers_at has c.args.sched c.requires.sched)) placed.dest
     (mail_named (settings_of c.deref.result.now) (front_of c.self.inside.pass) _ (parts_in c.self.inside) c.args.fired.now.dest c.index_mut.result.now
@@ -28,29 +28,29 @@ deliver-requires-clause-holds c =
 
 pub deliver-requires-clause-dest : goal.deliver-requires-clause-dest
 deliver-requires-clause-dest c =
-    let has : Has c.args.self.now c.self.inside c.deref.result.now = has_at c.deref.ensures c.self.view_is c.self.invariant in
-    let placed = fired_placed c.args.self.now c.self.inside c.deref.result.now c.args.sched c.args.fired.now (has_at c.deref.ensures c.self.view_is c.self.invariant) c.requires.first in
+    let has : Has c.args.self.now c.self.inside c.deref.result.now = has_at c.deref.ensures c.self.view_is c.self.invariant.sound in
+    let placed = fired_placed c.args.self.now c.self.inside c.deref.result.now c.args.sched c.args.fired.now (has_at c.deref.ensures c.self.view_is c.self.invariant.sound) c.requires.first in
     sym (mail_named (settings_of c.deref.result.now) (front_of c.self.inside.pass) _ (parts_in c.self.inside) c.args.fired.now.dest c.index_mut.result.now
     has.fit.stand placed.dest c.index_mut.ensures.value)
 
 pub deliver-requires-clause-first : goal.deliver-requires-clause-first
 deliver-requires-clause-first c =
-    let has : Has c.args.self.now c.self.inside c.deref.result.now = has_at c.deref.ensures c.self.view_is c.self.invariant in
-    let placed = fired_placed c.args.self.now c.self.inside c.deref.result.now c.args.sched c.args.fired.now (has_at c.deref.ensures c.self.view_is c.self.invariant) c.requires.first in
+    let has : Has c.args.self.now c.self.inside c.deref.result.now = has_at c.deref.ensures c.self.view_is c.self.invariant.sound in
+    let placed = fired_placed c.args.self.now c.self.inside c.deref.result.now c.args.sched c.args.fired.now (has_at c.deref.ensures c.self.view_is c.self.invariant.sound) c.requires.first in
     subst (λ n. first_of ((state (settings_of c.deref.result.now) (front_of c.self.inside.pass)).scheds n).fired ≡ Some c.args.fired.now) (sym placed.wheel)
     (subst (λ (w : Seen). first_of (sched_of w c.args.sched).fired ≡ Some c.args.fired.now) (sym has.is) c.requires.first)
 
 pub deliver-requires-clause-stands : goal.deliver-requires-clause-stands
 deliver-requires-clause-stands c =
-    let has : Has c.args.self.now c.self.inside c.deref.result.now = has_at c.deref.ensures c.self.view_is c.self.invariant in
-    let placed = fired_placed c.args.self.now c.self.inside c.deref.result.now c.args.sched c.args.fired.now (has_at c.deref.ensures c.self.view_is c.self.invariant) c.requires.first in
+    let has : Has c.args.self.now c.self.inside c.deref.result.now = has_at c.deref.ensures c.self.view_is c.self.invariant.sound in
+    let placed = fired_placed c.args.self.now c.self.inside c.deref.result.now c.args.sched c.args.fired.now (has_at c.deref.ensures c.self.view_is c.self.invariant.sound) c.requires.first in
     subst (Stands (settings_of c.deref.result.now) (front_of c.self.inside.pass)) (sym c.index_mut.ensures.value)
     (has.fit.stand.mails.stand c.args.fired.now.dest c.index_mut.result.now placed.dest refl)
 
 pub returns-in_err-handed-clause-call : goal.returns-in_err-handed-clause-call
 returns-in_err-handed-clause-call c =
-    let has : Has c.args.self.now c.self.inside c.deref.result.now = has_at c.deref.ensures c.self.view_is c.self.invariant in
-    let placed = fired_placed c.args.self.now c.self.inside c.deref.result.now c.args.sched c.args.fired.now (has_at c.deref.ensures c.self.view_is c.self.invariant) c.requires.first in
+    let has : Has c.args.self.now c.self.inside c.deref.result.now = has_at c.deref.ensures c.self.view_is c.self.invariant.sound in
+    let placed = fired_placed c.args.self.now c.self.inside c.deref.result.now c.args.sched c.args.fired.now (has_at c.deref.ensures c.self.view_is c.self.invariant.sound) c.requires.first in
     let result : c.from_residual.result ≡ Err c.in_err-handed.field-0.0 = search rules in
     rw result (does_at c.deref.ensures (step_refused c.args.self.now c.self.inside c.deref.result.now c.deliver.new.pass c.args.fired.now.dest c.index_mut.result.now c.deliver.new.self
     (λ w way. Hands w.settings way c.args.sched (Err c.in_err-handed.field-0.0)) has c.deliver.ensures.belongs
@@ -62,8 +62,9 @@ returns-in_err-handed-clause-call c =
     }))).goes
 
 pub invariant_of-self : goal.invariant_of-self
-invariant_of-self c =
-    let has : Has c.args.self.now c.self.inside c.deref.result.now = has_at c.deref.ensures c.self.view_is c.self.invariant in
+invariant_of-self c = record {
+  sound =
+      (let has : Has c.args.self.now c.self.inside c.deref.result.now = has_at c.deref.ensures c.self.view_is c.self.invariant.sound in
     let placed = fired_placed c.args.self.now c.self.inside c.deref.result.now c.args.sched c.args.fired.now has c.requires.first in
     (does_at c.deref.ensures (step_refused c.args.self.now c.self.inside c.deref.result.now c.deliver.new.pass c.args.fired.now.dest c.index_mut.result.now c.deliver.new.self
     (λ w way. Hands w.settings way c.args.sched (Err c.in_err-handed.field-0.0)) has c.deliver.ensures.belongs
@@ -72,32 +73,37 @@ invariant_of-self c =
       fired = c.args.fired.now;
       first = subst (λ (w : Seen). first_of (sched_of w c.args.sched).fired ≡ Some c.args.fired.now) (sym has.is) c.requires.first;
       step = own;
-    }))).fit
+    }))).fit);
+  listed = c.self.invariant.listed;
+}
 
 pub invariant_of-self-2 : goal.invariant_of-self-2
-invariant_of-self-2 c =
-    (does_at c.deref.ensures (handed_now c.args.self.now c.self.inside c.deref.result.now c.deliver.new.pass c.args.sched c.index_mut.result.now c.deliver.new.self c.args.fired.now c.in_ok-handed.handed
+invariant_of-self-2 c = record {
+  sound =
+      ((does_at c.deref.ensures (handed_now c.args.self.now c.self.inside c.deref.result.now c.deliver.new.pass c.args.sched c.index_mut.result.now c.deliver.new.self c.args.fired.now c.in_ok-handed.handed
     c.index_mut-2.result.now (record { wheel = c.index_mut-2.result.now.wheel; hand = c.index_mut-2.result.now.hand; fired = c.pop.new.self })
-    (has_at c.deref.ensures c.self.view_is c.self.invariant) c.deliver.ensures.belongs c.requires.sched c.requires.first c.index_mut.ensures.value c.deliver.ensures.process
-    c.deliver.ensures.stands c.in_ok-handed.ensures.call c.in_ok-handed.ensures.sched c.index_mut-2.ensures.value refl refl c.pop.ensures.others)).fit
+    (has_at c.deref.ensures c.self.view_is c.self.invariant.sound) c.deliver.ensures.belongs c.requires.sched c.requires.first c.index_mut.ensures.value c.deliver.ensures.process
+    c.deliver.ensures.stands c.in_ok-handed.ensures.call c.in_ok-handed.ensures.sched c.index_mut-2.ensures.value refl refl c.pop.ensures.others)).fit);
+  listed = c.self.invariant.listed;
+}
 
 pub returns-clause-call : goal.returns-clause-call
 returns-clause-call c =
     (does_at c.deref.ensures (handed_now c.args.self.now c.self.inside c.deref.result.now c.deliver.new.pass c.args.sched c.index_mut.result.now c.deliver.new.self c.args.fired.now c.in_ok-handed.handed
     c.index_mut-2.result.now (record { wheel = c.index_mut-2.result.now.wheel; hand = c.index_mut-2.result.now.hand; fired = c.pop.new.self })
-    (has_at c.deref.ensures c.self.view_is c.self.invariant) c.deliver.ensures.belongs c.requires.sched c.requires.first c.index_mut.ensures.value c.deliver.ensures.process
+    (has_at c.deref.ensures c.self.view_is c.self.invariant.sound) c.deliver.ensures.belongs c.requires.sched c.requires.first c.index_mut.ensures.value c.deliver.ensures.process
     c.deliver.ensures.stands c.in_ok-handed.ensures.call c.in_ok-handed.ensures.sched c.index_mut-2.ensures.value refl refl c.pop.ensures.others)).goes
 
 pub returns-clause-fired : goal.returns-clause-fired
 returns-clause-fired c =
     subst (λ (d : Desk). ((state (settings_of d) (front_of c.deliver.new.pass)).scheds c.args.sched).fired ≡ others_of (sched_of c.args.self.now c.args.sched).fired) c.deref.ensures
-    (hands_on c.args.self.now c.self.inside c.deref.result.now c.deliver.new.pass c.args.sched c.args.fired.now c.in_ok-handed.handed (has_at c.deref.ensures c.self.view_is c.self.invariant)
+    (hands_on c.args.self.now c.self.inside c.deref.result.now c.deliver.new.pass c.args.sched c.args.fired.now c.in_ok-handed.handed (has_at c.deref.ensures c.self.view_is c.self.invariant.sound)
     c.requires.first c.in_ok-handed.ensures.sched)
 
 pub returns-clause-handed : goal.returns-clause-handed
 returns-clause-handed c =
     subst (λ (d : Desk). IsHandedIn (seen d c.deliver.new.pass c.self.inside.next c.self.inside.keeper c.self.inside.wheels.items) c.args.fired.now.timer) c.deref.ensures
-    (handed_in c.args.self.now c.self.inside c.deref.result.now c.deliver.new.pass c.args.sched c.args.fired.now c.in_ok-handed.handed (has_at c.deref.ensures c.self.view_is c.self.invariant)
+    (handed_in c.args.self.now c.self.inside c.deref.result.now c.deliver.new.pass c.args.sched c.args.fired.now c.in_ok-handed.handed (has_at c.deref.ensures c.self.view_is c.self.invariant.sound)
     c.requires.sched c.requires.first c.in_ok-handed.ensures.call)
 
 pub returns-clause-stays : goal.returns-clause-stays
@@ -105,14 +111,14 @@ returns-clause-stays c =
     let done =
     (does_at c.deref.ensures (handed_now c.args.self.now c.self.inside c.deref.result.now c.deliver.new.pass c.args.sched c.index_mut.result.now c.deliver.new.self c.args.fired.now c.in_ok-handed.handed
     c.index_mut-2.result.now (record { wheel = c.index_mut-2.result.now.wheel; hand = c.index_mut-2.result.now.hand; fired = c.pop.new.self })
-    (has_at c.deref.ensures c.self.view_is c.self.invariant) c.deliver.ensures.belongs c.requires.sched c.requires.first c.index_mut.ensures.value c.deliver.ensures.process
+    (has_at c.deref.ensures c.self.view_is c.self.invariant.sound) c.deliver.ensures.belongs c.requires.sched c.requires.first c.index_mut.ensures.value c.deliver.ensures.process
     c.deliver.ensures.stands c.in_ok-handed.ensures.call c.in_ok-handed.ensures.sched c.index_mut-2.ensures.value refl refl c.pop.ensures.others)) in
     stays_same done.goes (ap (λ (w : Seen). w.wheels) c.self.view_is) done.forgets
 
 pub returns-in_err-handed-clause-stays : goal.returns-in_err-handed-clause-stays
 returns-in_err-handed-clause-stays c =
-    let has : Has c.args.self.now c.self.inside c.deref.result.now = has_at c.deref.ensures c.self.view_is c.self.invariant in
-    let placed = fired_placed c.args.self.now c.self.inside c.deref.result.now c.args.sched c.args.fired.now (has_at c.deref.ensures c.self.view_is c.self.invariant) c.requires.first in
+    let has : Has c.args.self.now c.self.inside c.deref.result.now = has_at c.deref.ensures c.self.view_is c.self.invariant.sound in
+    let placed = fired_placed c.args.self.now c.self.inside c.deref.result.now c.args.sched c.args.fired.now (has_at c.deref.ensures c.self.view_is c.self.invariant.sound) c.requires.first in
     let done =
     does_at c.deref.ensures (step_refused c.args.self.now c.self.inside c.deref.result.now c.deliver.new.pass c.args.fired.now.dest c.index_mut.result.now c.deliver.new.self
     (λ w way. Hands w.settings way c.args.sched (Err c.in_err-handed.field-0.0)) has c.deliver.ensures.belongs

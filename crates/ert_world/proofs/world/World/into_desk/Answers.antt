@@ -10,4 +10,4 @@ pub returns-clause-laws : goal.returns-clause-laws
 returns-clause-laws c =
     let d = arc_value c.self.inside.desk in
     subst (λ (w : Seen). KeepsLaws w.settings w.history) c.self.view_is
-    (keeps_laws (settings_of d) (front_of c.self.inside.pass) d.checked c.self.invariant.fit.stand.legal)
+    (keeps_laws (settings_of d) (front_of c.self.inside.pass) d.checked c.self.invariant.sound.fit.stand.legal)

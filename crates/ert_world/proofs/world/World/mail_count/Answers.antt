@@ -5,4 +5,4 @@ use Rattle.ert_world.proofs.world.World.mail_count.Goals as goal
 
 pub returns : goal.returns
 returns c =
-    c.waiting.ensures ∙ mail_waits c.args.self.now c.self.inside _ c.args.process c.index.result.now (has_at refl c.self.view_is c.self.invariant) c.requires c.index.ensures
+    c.waiting.ensures ∙ mail_waits c.args.self.now c.self.inside _ c.args.process c.index.result.now (has_at refl c.self.view_is c.self.invariant.sound) c.requires c.index.ensures

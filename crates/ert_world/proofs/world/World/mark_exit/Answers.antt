@@ -12,13 +12,16 @@ use Rattle.ert_world.proofs.Gone.{marked}
 use Rattle.ert_world.proofs.world.World.mark_exit.Goals as goal
 
 pub invariant_of-self : goal.invariant_of-self
-invariant_of-self c =
-    (alone_called c.args.self.now c.self.inside c.deref.result.now _ c.mark_exit.new.pass (λ g. MarksExit g (Caller 0) c.args.process c.mark_exit.result) c.deref.ensures c.self.view_is c.self.invariant
-    c.mark_exit.ensures.belongs c.mark_exit.ensures.call (mark_quiet (settings_of c.deref.result.now) (Caller 0) c.args.process c.mark_exit.result)).fit
+invariant_of-self c = record {
+  sound =
+      ((alone_called c.args.self.now c.self.inside c.deref.result.now _ c.mark_exit.new.pass (λ g. MarksExit g (Caller 0) c.args.process c.mark_exit.result) c.deref.ensures c.self.view_is c.self.invariant.sound
+    c.mark_exit.ensures.belongs c.mark_exit.ensures.call (mark_quiet (settings_of c.deref.result.now) (Caller 0) c.args.process c.mark_exit.result)).fit);
+  listed = c.self.invariant.listed;
+}
 
 pub returns-clause-call : goal.returns-clause-call
 returns-clause-call c =
-    (alone_called c.args.self.now c.self.inside c.deref.result.now _ c.mark_exit.new.pass (λ g. MarksExit g (Caller 0) c.args.process c.mark_exit.result) c.deref.ensures c.self.view_is c.self.invariant
+    (alone_called c.args.self.now c.self.inside c.deref.result.now _ c.mark_exit.new.pass (λ g. MarksExit g (Caller 0) c.args.process c.mark_exit.result) c.deref.ensures c.self.view_is c.self.invariant.sound
     c.mark_exit.ensures.belongs c.mark_exit.ensures.call (mark_quiet (settings_of c.deref.result.now) (Caller 0) c.args.process c.mark_exit.result)).goes
 
 pub returns-clause-exited : goal.returns-clause-exited
@@ -29,6 +32,6 @@ returns-clause-exited c =
 pub returns-clause-stays : goal.returns-clause-stays
 returns-clause-stays c =
     let done =
-    (alone_called c.args.self.now c.self.inside c.deref.result.now _ c.mark_exit.new.pass (λ g. MarksExit g (Caller 0) c.args.process c.mark_exit.result) c.deref.ensures c.self.view_is c.self.invariant
+    (alone_called c.args.self.now c.self.inside c.deref.result.now _ c.mark_exit.new.pass (λ g. MarksExit g (Caller 0) c.args.process c.mark_exit.result) c.deref.ensures c.self.view_is c.self.invariant.sound
     c.mark_exit.ensures.belongs c.mark_exit.ensures.call (mark_quiet (settings_of c.deref.result.now) (Caller 0) c.args.process c.mark_exit.result)) in
     stays_same done.goes (ap (λ (w : Seen). w.wheels) c.self.view_is) done.forgets

@@ -22,13 +22,16 @@ split-pass-requires-clause-held c =
     can_split c.self.inside.pass c.seat.inside.pass c.join.new.self (Caller c.seat.inside.number) c.seat.invariant.actors c.join.ensures.actors
 
 pub invariant_of-self : goal.invariant_of-self
-invariant_of-self c =
-    let d = arc_value c.self.inside.desk in
+invariant_of-self c = record {
+  sound =
+      (let d = arc_value c.self.inside.desk in
     let met = is_meeting d _ c.self.inside.pass c.seat.inside.pass c.join.new.self c.split-pass.new.self c.split-pass.result (Caller c.seat.inside.number) c.deref.ensures c.seat.invariant.actors
     c.join.ensures.actors c.join.ensures.joined c.join.ensures.legal c.split-pass.ensures.rest c.split-pass.ensures.front c.split-pass.ensures.actor c.split-pass.ensures.new_front in
-    let has : Has c.args.self.now c.self.inside d = has_at refl c.self.view_is c.self.invariant in
+    let has : Has c.args.self.now c.self.inside d = has_at refl c.self.view_is c.self.invariant.sound in
     let belongs = subst (λ (d : Desk). Belongs d c.split-pass.new.self) c.deref-2.ensures c.split-pass.ensures.belongs in
-    met_fit c.args.self.now c.self.inside d c.seat.inside.pass c.join.new.self c.split-pass.new.self c.split-pass.result c.seat.inside.number has belongs met
+    met_fit c.args.self.now c.self.inside d c.seat.inside.pass c.join.new.self c.split-pass.new.self c.split-pass.result c.seat.inside.number has belongs met);
+  listed = c.self.invariant.listed;
+}
 
 pub invariant_of-result : goal.invariant_of-result
 invariant_of-result c = record {
@@ -45,7 +48,7 @@ returns c =
     let d = arc_value c.self.inside.desk in
     let met = is_meeting d _ c.self.inside.pass c.seat.inside.pass c.join.new.self c.split-pass.new.self c.split-pass.result (Caller c.seat.inside.number) c.deref.ensures c.seat.invariant.actors
     c.join.ensures.actors c.join.ensures.joined c.join.ensures.legal c.split-pass.ensures.rest c.split-pass.ensures.front c.split-pass.ensures.actor c.split-pass.ensures.new_front in
-    let has : Has c.args.self.now c.self.inside d = has_at refl c.self.view_is c.self.invariant in
+    let has : Has c.args.self.now c.self.inside d = has_at refl c.self.view_is c.self.invariant.sound in
     let belongs = subst (λ (d : Desk). Belongs d c.split-pass.new.self) c.deref-2.ensures c.split-pass.ensures.belongs in
     met_both c.args.self.now c.self.inside d c.seat.inside.pass c.join.new.self c.split-pass.new.self c.split-pass.result c.seat.inside.number has belongs met
     c.args.seat (arc_value c.seat.inside.desk) c.seat.view_is

@@ -6,18 +6,21 @@ use Rattle.ert_world.proofs.Calm.{monitors_calm}
 use Rattle.ert_world.proofs.world.World.monitor.Goals as goal
 
 pub invariant_of-self : goal.invariant_of-self
-invariant_of-self c =
-    (mail_called c.args.self.now c.self.inside c.deref.result.now _ c.monitor.new.pass c.args.process c.index_mut.result.now c.monitor.new.self (λ n g. Monitors g 0 n c.monitor.result)
-    c.deref.ensures c.self.view_is c.self.invariant c.monitor.ensures.belongs c.requires c.index_mut.ensures.value c.monitor.ensures.process c.monitor.ensures.stands
+invariant_of-self c = record {
+  sound =
+      ((mail_called c.args.self.now c.self.inside c.deref.result.now _ c.monitor.new.pass c.args.process c.index_mut.result.now c.monitor.new.self (λ n g. Monitors g 0 n c.monitor.result)
+    c.deref.ensures c.self.view_is c.self.invariant.sound c.monitor.ensures.belongs c.requires c.index_mut.ensures.value c.monitor.ensures.process c.monitor.ensures.stands
     (λ legal. monitor_made (settings_of c.deref.result.now) (view_of c.self.inside.pass) 0 c.index_mut.result.now.process c.monitor.result (view_of c.monitor.new.pass) legal c.monitor.ensures.call)
-    (monitors_only (settings_of c.deref.result.now) 0 c.index_mut.result.now.process c.monitor.result) (monitors_calm (settings_of c.deref.result.now) 0 c.index_mut.result.now.process c.monitor.result)).fit
+    (monitors_only (settings_of c.deref.result.now) 0 c.index_mut.result.now.process c.monitor.result) (monitors_calm (settings_of c.deref.result.now) 0 c.index_mut.result.now.process c.monitor.result)).fit);
+  listed = c.self.invariant.listed;
+}
 
 pub returns : goal.returns
 returns c =
     record {
       call =
           (mail_called c.args.self.now c.self.inside c.deref.result.now _ c.monitor.new.pass c.args.process c.index_mut.result.now c.monitor.new.self (λ n g. Monitors g 0 n c.monitor.result)
-          c.deref.ensures c.self.view_is c.self.invariant c.monitor.ensures.belongs c.requires c.index_mut.ensures.value c.monitor.ensures.process c.monitor.ensures.stands
+          c.deref.ensures c.self.view_is c.self.invariant.sound c.monitor.ensures.belongs c.requires c.index_mut.ensures.value c.monitor.ensures.process c.monitor.ensures.stands
           (λ legal. monitor_made (settings_of c.deref.result.now) (view_of c.self.inside.pass) 0 c.index_mut.result.now.process c.monitor.result (view_of c.monitor.new.pass) legal c.monitor.ensures.call)
           (monitors_only (settings_of c.deref.result.now) 0 c.index_mut.result.now.process c.monitor.result) (monitors_calm (settings_of c.deref.result.now) 0 c.index_mut.result.now.process c.monitor.result)).goes;
     }

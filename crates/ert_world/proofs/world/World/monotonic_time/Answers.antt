@@ -8,18 +8,21 @@ use Rattle.ert_world.proofs.Values.{time_value}
 use Rattle.ert_world.proofs.world.World.monotonic_time.Goals as goal
 
 pub invariant_of-self : goal.invariant_of-self
-invariant_of-self c =
-    (alone_called c.args.self.now c.self.inside c.deref.result.now _ c.monotonic_time.new.pass (λ g. TellsTime g (Caller 0) c.monotonic_time.result) c.deref.ensures c.self.view_is c.self.invariant
-    c.monotonic_time.ensures.belongs c.monotonic_time.ensures.call (time_quiet (settings_of c.deref.result.now) (Caller 0) c.monotonic_time.result)).fit
+invariant_of-self c = record {
+  sound =
+      ((alone_called c.args.self.now c.self.inside c.deref.result.now _ c.monotonic_time.new.pass (λ g. TellsTime g (Caller 0) c.monotonic_time.result) c.deref.ensures c.self.view_is c.self.invariant.sound
+    c.monotonic_time.ensures.belongs c.monotonic_time.ensures.call (time_quiet (settings_of c.deref.result.now) (Caller 0) c.monotonic_time.result)).fit);
+  listed = c.self.invariant.listed;
+}
 
 pub returns-clause-call : goal.returns-clause-call
 returns-clause-call c =
     let fits : FitsSigned w64 c.monotonic_time.result = search rules in
     simp to_z-of_z
-    (alone_called c.args.self.now c.self.inside c.deref.result.now _ c.monotonic_time.new.pass (λ g. TellsTime g (Caller 0) c.monotonic_time.result) c.deref.ensures c.self.view_is c.self.invariant
+    (alone_called c.args.self.now c.self.inside c.deref.result.now _ c.monotonic_time.new.pass (λ g. TellsTime g (Caller 0) c.monotonic_time.result) c.deref.ensures c.self.view_is c.self.invariant.sound
     c.monotonic_time.ensures.belongs c.monotonic_time.ensures.call (time_quiet (settings_of c.deref.result.now) (Caller 0) c.monotonic_time.result)).goes
 
 pub returns-clause-value : goal.returns-clause-value
 returns-clause-value c =
     let fits : FitsSigned w64 c.monotonic_time.result = search rules in
-    simp to_z-of_z (time_value c.args.self.now c.self.inside c.deref.result.now c.monotonic_time.new.pass c.monotonic_time.result (has_at c.deref.ensures c.self.view_is c.self.invariant) c.monotonic_time.ensures.call)
+    simp to_z-of_z (time_value c.args.self.now c.self.inside c.deref.result.now c.monotonic_time.new.pass c.monotonic_time.result (has_at c.deref.ensures c.self.view_is c.self.invariant.sound) c.monotonic_time.ensures.call)

@@ -14,15 +14,18 @@ reuse-requires-clause-let_go c =
     (subst (λ (w : Seen). IsLetGo (slice_index_or w.wheels c.args.timer.wheel c.index_mut.result.now) c.args.timer) (sym c.self.view_is) (c.requires.let_go c.index_mut.result.now))
 
 pub invariant_of-self : goal.invariant_of-self
-invariant_of-self c =
-    let d = arc_value c.self.inside.desk in
-    (freed c.args.self.now c.self.inside d c.args.timer.wheel c.index_mut.result.now c.reuse.new.self (has_at refl c.self.view_is c.self.invariant) c.requires.wheel
-    c.index_mut.ensures.value c.reuse.ensures.number (c.reuse.ensures.stands (settings_of d) c.self.invariant.fit.belongs.named)
-    (loses_reused c.index_mut.result.now c.reuse.new.self c.args.timer.slot c.reuse.ensures.freed)).fit
+invariant_of-self c = record {
+  sound =
+      (let d = arc_value c.self.inside.desk in
+    (freed c.args.self.now c.self.inside d c.args.timer.wheel c.index_mut.result.now c.reuse.new.self (has_at refl c.self.view_is c.self.invariant.sound) c.requires.wheel
+    c.index_mut.ensures.value c.reuse.ensures.number (c.reuse.ensures.stands (settings_of d) c.self.invariant.sound.fit.belongs.named)
+    (loses_reused c.index_mut.result.now c.reuse.new.self c.args.timer.slot c.reuse.ensures.freed)).fit);
+  listed = c.self.invariant.listed;
+}
 
 pub returns-clause-stays : goal.returns-clause-stays
 returns-clause-stays c =
     let d = arc_value c.self.inside.desk in
-    (freed c.args.self.now c.self.inside d c.args.timer.wheel c.index_mut.result.now c.reuse.new.self (has_at refl c.self.view_is c.self.invariant) c.requires.wheel
-    c.index_mut.ensures.value c.reuse.ensures.number (c.reuse.ensures.stands (settings_of d) c.self.invariant.fit.belongs.named)
+    (freed c.args.self.now c.self.inside d c.args.timer.wheel c.index_mut.result.now c.reuse.new.self (has_at refl c.self.view_is c.self.invariant.sound) c.requires.wheel
+    c.index_mut.ensures.value c.reuse.ensures.number (c.reuse.ensures.stands (settings_of d) c.self.invariant.sound.fit.belongs.named)
     (loses_reused c.index_mut.result.now c.reuse.new.self c.args.timer.slot c.reuse.ensures.freed)).stays

@@ -9,25 +9,28 @@ use Rattle.ert_world.proofs.WheelCalls.{wheel_stepped, starts_calm, started_hold
 use Rattle.ert_world.proofs.world.World.start.Goals as goal
 
 pub invariant_of-self : goal.invariant_of-self
-invariant_of-self c =
-    (wheel_stepped c.args.self.now c.self.inside c.deref.result.now _ c.start.new.pass c.args.wheel c.index_mut.result.now c.start.new.self (λ n g. Starts g 0 n c.args.start.now c.start.result)
-    c.deref.ensures c.self.view_is c.self.invariant c.start.ensures.belongs c.requires.wheel c.index_mut.ensures.value c.start.ensures.number c.start.ensures.stands c.start.ensures.call
+invariant_of-self c = record {
+  sound =
+      ((wheel_stepped c.args.self.now c.self.inside c.deref.result.now _ c.start.new.pass c.args.wheel c.index_mut.result.now c.start.new.self (λ n g. Starts g 0 n c.args.start.now c.start.result)
+    c.deref.ensures c.self.view_is c.self.invariant.sound c.start.ensures.belongs c.requires.wheel c.index_mut.ensures.value c.start.ensures.number c.start.ensures.stands c.start.ensures.call
     (starts_only (settings_of c.deref.result.now) 0 c.index_mut.result.now.number c.args.start.now c.start.result)
     (starts_calm (settings_of c.deref.result.now) 0 c.index_mut.result.now.number c.args.start.now c.start.result)
     (started_hold c.self.inside c.deref.result.now c.start.new.pass c.index_mut.result.now.number c.args.start.now c.start.result c.index_mut.result.now c.start.new.self
-    (has_at c.deref.ensures c.self.view_is c.self.invariant) c.start.ensures.call c.start.ensures.rows)).fit
+    (has_at c.deref.ensures c.self.view_is c.self.invariant.sound) c.start.ensures.call c.start.ensures.rows)).fit);
+  listed = c.self.invariant.listed;
+}
 
 pub returns-clause-call : goal.returns-clause-call
 returns-clause-call c =
     (wheel_stepped c.args.self.now c.self.inside c.deref.result.now _ c.start.new.pass c.args.wheel c.index_mut.result.now c.start.new.self (λ n g. Starts g 0 n c.args.start.now c.start.result)
-    c.deref.ensures c.self.view_is c.self.invariant c.start.ensures.belongs c.requires.wheel c.index_mut.ensures.value c.start.ensures.number c.start.ensures.stands c.start.ensures.call
+    c.deref.ensures c.self.view_is c.self.invariant.sound c.start.ensures.belongs c.requires.wheel c.index_mut.ensures.value c.start.ensures.number c.start.ensures.stands c.start.ensures.call
     (starts_only (settings_of c.deref.result.now) 0 c.index_mut.result.now.number c.args.start.now c.start.result)
     (starts_calm (settings_of c.deref.result.now) 0 c.index_mut.result.now.number c.args.start.now c.start.result)
     (started_hold c.self.inside c.deref.result.now c.start.new.pass c.index_mut.result.now.number c.args.start.now c.start.result c.index_mut.result.now c.start.new.self
-    (has_at c.deref.ensures c.self.view_is c.self.invariant) c.start.ensures.call c.start.ensures.rows)).goes
+    (has_at c.deref.ensures c.self.view_is c.self.invariant.sound) c.start.ensures.call c.start.ensures.rows)).goes
 
 pub returns-clause-time : goal.returns-clause-time
 returns-clause-time c = λ is.
     refused_value c.args.self.now c.self.inside c.deref.result.now c.start.new.pass c.index_mut.result.now.number c.args.start.now
-    (has_at c.deref.ensures c.self.view_is c.self.invariant)
+    (has_at c.deref.ensures c.self.view_is c.self.invariant.sound)
     (subst (λ r. IsMade (settings_of c.deref.result.now) (view_of c.self.inside.pass) (Starts (settings_of c.deref.result.now) 0 c.index_mut.result.now.number c.args.start.now r) (view_of c.start.new.pass)) is c.start.ensures.call)

@@ -6,18 +6,21 @@ use Rattle.ert_world.proofs.Calm.{takes_calm}
 use Rattle.ert_world.proofs.world.World.take.Goals as goal
 
 pub invariant_of-self : goal.invariant_of-self
-invariant_of-self c =
-    (mail_called c.args.self.now c.self.inside c.deref.result.now _ c.take.new.pass c.args.process c.index_mut.result.now c.take.new.self (λ n g. Takes g 0 n c.take.result)
-    c.deref.ensures c.self.view_is c.self.invariant c.take.ensures.belongs c.requires c.index_mut.ensures.value c.take.ensures.process c.take.ensures.stands
+invariant_of-self c = record {
+  sound =
+      ((mail_called c.args.self.now c.self.inside c.deref.result.now _ c.take.new.pass c.args.process c.index_mut.result.now c.take.new.self (λ n g. Takes g 0 n c.take.result)
+    c.deref.ensures c.self.view_is c.self.invariant.sound c.take.ensures.belongs c.requires c.index_mut.ensures.value c.take.ensures.process c.take.ensures.stands
     (λ legal. c.take.ensures.call)
-    (takes_only (settings_of c.deref.result.now) 0 c.index_mut.result.now.process c.take.result) (takes_calm (settings_of c.deref.result.now) 0 c.index_mut.result.now.process c.take.result)).fit
+    (takes_only (settings_of c.deref.result.now) 0 c.index_mut.result.now.process c.take.result) (takes_calm (settings_of c.deref.result.now) 0 c.index_mut.result.now.process c.take.result)).fit);
+  listed = c.self.invariant.listed;
+}
 
 pub returns : goal.returns
 returns c =
     record {
       call =
           (mail_called c.args.self.now c.self.inside c.deref.result.now _ c.take.new.pass c.args.process c.index_mut.result.now c.take.new.self (λ n g. Takes g 0 n c.take.result)
-          c.deref.ensures c.self.view_is c.self.invariant c.take.ensures.belongs c.requires c.index_mut.ensures.value c.take.ensures.process c.take.ensures.stands
+          c.deref.ensures c.self.view_is c.self.invariant.sound c.take.ensures.belongs c.requires c.index_mut.ensures.value c.take.ensures.process c.take.ensures.stands
           (λ legal. c.take.ensures.call)
           (takes_only (settings_of c.deref.result.now) 0 c.index_mut.result.now.process c.take.result) (takes_calm (settings_of c.deref.result.now) 0 c.index_mut.result.now.process c.take.result)).goes;
     }

@@ -6,18 +6,21 @@ use Rattle.ert_world.proofs.Calm.{tells_calm}
 use Rattle.ert_world.proofs.world.World.tell.Goals as goal
 
 pub invariant_of-self : goal.invariant_of-self
-invariant_of-self c =
-    (mail_called c.args.self.now c.self.inside c.deref.result.now _ c.tell.new.pass c.args.process c.index_mut.result.now c.tell.new.self (λ n g. Tells g 0 n c.tell.result)
-    c.deref.ensures c.self.view_is c.self.invariant c.tell.ensures.belongs c.requires c.index_mut.ensures.value c.tell.ensures.process c.tell.ensures.stands
+invariant_of-self c = record {
+  sound =
+      ((mail_called c.args.self.now c.self.inside c.deref.result.now _ c.tell.new.pass c.args.process c.index_mut.result.now c.tell.new.self (λ n g. Tells g 0 n c.tell.result)
+    c.deref.ensures c.self.view_is c.self.invariant.sound c.tell.ensures.belongs c.requires c.index_mut.ensures.value c.tell.ensures.process c.tell.ensures.stands
     (λ legal. if_ok_made (settings_of c.deref.result.now) (view_of c.self.inside.pass) (Tells (settings_of c.deref.result.now) 0 c.index_mut.result.now.process) c.tell.result (view_of c.tell.new.pass) legal c.tell.ensures.call)
-    (tells_only (settings_of c.deref.result.now) 0 c.index_mut.result.now.process c.tell.result) (tells_calm (settings_of c.deref.result.now) 0 c.index_mut.result.now.process c.tell.result)).fit
+    (tells_only (settings_of c.deref.result.now) 0 c.index_mut.result.now.process c.tell.result) (tells_calm (settings_of c.deref.result.now) 0 c.index_mut.result.now.process c.tell.result)).fit);
+  listed = c.self.invariant.listed;
+}
 
 pub returns : goal.returns
 returns c =
     record {
       call =
           (mail_called c.args.self.now c.self.inside c.deref.result.now _ c.tell.new.pass c.args.process c.index_mut.result.now c.tell.new.self (λ n g. Tells g 0 n c.tell.result)
-          c.deref.ensures c.self.view_is c.self.invariant c.tell.ensures.belongs c.requires c.index_mut.ensures.value c.tell.ensures.process c.tell.ensures.stands
+          c.deref.ensures c.self.view_is c.self.invariant.sound c.tell.ensures.belongs c.requires c.index_mut.ensures.value c.tell.ensures.process c.tell.ensures.stands
           (λ legal. if_ok_made (settings_of c.deref.result.now) (view_of c.self.inside.pass) (Tells (settings_of c.deref.result.now) 0 c.index_mut.result.now.process) c.tell.result (view_of c.tell.new.pass) legal c.tell.ensures.call)
           (tells_only (settings_of c.deref.result.now) 0 c.index_mut.result.now.process c.tell.result) (tells_calm (settings_of c.deref.result.now) 0 c.index_mut.result.now.process c.tell.result)).goes;
     }

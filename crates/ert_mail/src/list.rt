@@ -1,0 +1,83 @@
+//! The processes whose mailboxes may have mail.
+use crate::part::MailPart;
+use ert_defs::NoMemory;
+use ert_words::FreeSlots;
+use std::alloc::Global;
+use std::marker::Model;
+
+/// The processes whose mailboxes may have mail, each once, in a row.
+///
+/// One is put last where its mailbox may get mail, and stays until it is its turn and the mailbox is found empty. So each
+/// put is paid for by one look, and to find the next process takes constant time, amortized.
+#[derive(Drop)]
+pub struct MailList {
+    /// The processes in the row, held as the free slots of a wheel are.
+    row: FreeSlots,
+    /// By process, whether it is in the row.
+    listed: Vec<bool>,
+}
+
+impl Model for MailList {
+    ghost use Rattle.std.specs.Prelude.{Bool, List};
+    ghost use Rattle.ert_mail.specs.Lists.{IsRow};
+    ghost use Rattle.ert_words.specs.Free.{free_set};
+
+    ghost Value = { List Bool };
+
+    ghost view = { λ m. m.listed.items };
+
+    ghost invariant = { λ m. IsRow (free_set m.row) m.listed.items };
+}
+
+impl MailList {
+    ghost use Rattle.std.specs.Prelude.{◌≡◌, ◌<◌, ℕ, true, false, IfOk, IfSome, IfNone, length, replicate, slice_set, slice_index_or};
+    ghost use Rattle.ert_mail.specs.Lists.{AreListed, IsNextIn};
+
+    /// A list with every process below a number.
+    pub fn all(alloc: Global, processes: u32) -> Result<MailList, NoMemory>
+        ensures { IfOk result (λ list. list ≡ replicate processes true) }
+    {
+        let row = FreeSlots::new(alloc, processes)?;
+        let listed = vec![in alloc; true; processes as usize]?;
+        Ok(MailList { row, listed })
+    }
+
+    /// Puts a process last, unless it is listed.
+    pub fn put(&mut self, process: u32)
+        requires { process < length self.old }
+        ensures { self.new ≡ slice_set self.old process true }
+    {
+        if self.listed[process as usize] {
+            return;
+        }
+        self.listed[process as usize] = true;
+        self.row.put(process);
+    }
+
+    /// Takes the first process out; None where none is listed.
+    fn pick(&mut self) -> Option<u32>
+        ensures none { IfNone result (self.new ≡ self.old) }
+        ensures empty { IfNone result ((process : ℕ) → slice_index_or self.old process false ≡ false) }
+        ensures was { IfSome result (λ process. slice_index_or self.old process false ≡ true) }
+        ensures picked { IfSome result (λ process. self.new ≡ slice_set self.old process false) }
+    {
+        let process = self.row.pick_first()?;
+        self.listed[process as usize] = false;
+        Some(process)
+    }
+
+    /// A process whose mailbox has mail; None exactly where all are empty. It is put last, so that each gets its turn.
+    pub fn next(&mut self, mails: &[MailPart]) -> Option<u32>
+        requires listed { AreListed self.old mails.now }
+        ensures listed { AreListed self.new mails.now }
+        ensures next { IsNextIn mails.now result }
+    {
+        while let Some(process) = self.pick() {
+            if mails[process as usize].waiting() > 0 {
+                self.put(process);
+                return Some(process);
+            }
+        }
+        None
+    }
+}

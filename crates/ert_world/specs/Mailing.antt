@@ -1,0 +1,40 @@
+-- A process with mail, and takes of several messages.
+
+use Rattle.std.specs.Prelude.{◌≡◌, ◌≢◌, ℕ, ◌<◌, List, [], ◌++◌, length, Option, Some, None}
+use Rattle.ert_defs.specs.States.{state}
+use Rattle.ert_defs.specs.declared.entry.Entry.{Entry}
+use Rattle.ert_defs.specs.declared.mail.Mail.{Mail}
+use Rattle.ert_defs.specs.declared.settings.Settings.{Settings}
+use Rattle.ert_effects.specs.MailCalls.{Takes}
+use Rattle.ert_effects.specs.Ways.{Growth, Way, Then, Many}
+use Rattle.ert_effects.specs.declared.answers.Taken.TheVariants.{Mail as Took, Empty, Exited}
+use Rattle.ert_world.specs.Worlds.{Seen, Goes}
+use Rattle.ert_world.specs.declared.mailing.TakeEnd.{TakeEnd}
+use Rattle.ert_world.specs.declared.mailing.TakeEnd.TheVariants.{Most, Empty as FoundEmpty, Exited as HadExited}
+
+-- the messages of a process in the history of a world
+abbrev pub mail_of : Seen → ℕ → List Mail
+mail_of w process = ((state w.settings w.history).mails process).queue
+
+-- a process in range has mail, or none has
+abbrev pub IsNextMail : Seen → Option ℕ → Type 0
+IsNextMail w (Some process) = (process < w.settings.processes) × (mail_of w process ≢ [])
+IsNextMail w None = (process : ℕ) → process < w.settings.processes → mail_of w process ≡ []
+
+-- messages of a process are taken, one after the other
+abbrev pub TakesMails : Settings → Way → ℕ → List Mail → Growth
+TakesMails g way process mails h m = Many (λ mail. way [] (Takes g 0 process (Took mail))) mails h m
+
+-- `take_some`: so many messages are taken, or fewer, and then the mailbox was empty or the process had exited
+abbrev pub TakesSome : Settings → Way → ℕ → ℕ → List Mail → TakeEnd → Growth
+TakesSome g way process most mails Most h m = (length mails ≡ most) × TakesMails g way process mails h m
+TakesSome g way process most mails FoundEmpty h m =
+    (length mails < most) × Then (TakesMails g way process mails) (way [] (Takes g 0 process Empty)) h m
+TakesSome g way process most mails HadExited h m =
+    (length mails < most) × Then (TakesMails g way process mails) (way [] (Takes g 0 process Exited)) h m
+
+-- the messages that a world took stand last in a list
+pub record TakesInto (old : Seen) (process most : ℕ) (before after : List Mail) (ended : TakeEnd) (new : Seen) : Type 0 where
+  pub mails : List Mail
+  pub put : after ≡ before ++ mails
+  pub goes : Goes old (λ way. TakesSome old.settings way process most mails ended) new

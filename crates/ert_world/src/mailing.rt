@@ -1,0 +1,70 @@
+//! The calls that find a process with mail, and take several messages.
+ghost use Rattle.std.specs.Prelude.{◌≡◌, ◌<◌, IfSome, length, option_map, slice_set, true};
+
+use crate::world::{CALLER, World};
+use ert_defs::{Mail, NoMemory};
+use ert_mail::{MailList, Taken};
+
+/// How a take of several messages ended.
+#[derive(Clone, Copy, Debug, PartialEq, Eq)]
+pub enum TakeEnd {
+    /// As many were taken as were asked for.
+    Most,
+    /// The mailbox was empty then.
+    Empty,
+    /// The process has exited.
+    Exited,
+}
+
+/// Lists a process whose mailbox may get mail.
+pub(crate) fn may_get_mail(list: &mut Option<MailList>, process: u32)
+    requires { IfSome list.old (λ listed. process < length listed) }
+    ensures { list.new ≡ option_map (λ listed. slice_set listed process true) list.old }
+{
+    if let Some(list) = list {
+        list.put(process);
+    }
+}
+
+impl World {
+    ghost use Rattle.std.specs.Prelude.{◌≡◌, ◌+◌, ◌<◌, ◌≤◌, IfOk, vec_len};
+    ghost use Rattle.std.specs.Vec.{vec_capacity};
+    ghost use Rattle.ert_world.specs.Mailing.{IsNextMail, TakesInto};
+
+    /// A process whose mailbox has mail, also one that has exited; None exactly where all mailboxes are empty. Each has
+    /// its turn: the next call tells another, where another has mail. No entry is made.
+    ///
+    /// The work is constant, amortized: one step for each process whose mailbox got mail since it was found empty. The
+    /// first call of a world makes the list, with a step and 5 bytes for each process; later calls take no memory. After
+    /// want of memory nothing has changed.
+    pub fn next_mail(&mut self) -> Result<Option<u32>, NoMemory>
+        ensures next { IfOk result (IsNextMail self.old) }
+        ensures same { self.new ≡ self.old }
+    {
+        let mut list = match self.list.take() {
+            Some(list) => list,
+            None => MailList::all(*self.mails.allocator(), self.desk.settings().processes)?,
+        };
+        let next = list.next(&self.mails);
+        self.list = Some(list);
+        Ok(next)
+    }
+
+    /// Takes the first messages of a process (`receive`), so many at most, and puts them last into a vector with room
+    /// for them. It ends with the first take that finds the mailbox empty, or that the process has exited, and tells
+    /// that. No memory is taken.
+    pub fn take_some(&mut self, process: u32, most: usize, mails: &mut Vec<Mail>) -> TakeEnd
+        requires process { process < self.old.settings.processes }
+        requires room { vec_len mails.old + most ≤ vec_capacity mails.old }
+        ensures { TakesInto self.old process most mails.old.items mails.new.items result self.new }
+    {
+        for _ in 0..most {
+            match self.take(process) {
+                Taken::Mail(mail) => mails.push_reserved(mail),
+                Taken::Empty => return TakeEnd::Empty,
+                Taken::Exited => return TakeEnd::Exited,
+            }
+        }
+        TakeEnd::Most
+    }
+}
