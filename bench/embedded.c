@@ -7,7 +7,7 @@
 
 #include "ertime.h"
 
-enum { RUNS = 7, CALLS = 1000000, LOOKS = 2000, SLOTS = 65536 };
+enum { RUNS = 7, CALLS = 1000000, LOOKS = 2000, SLOTS = 65536, PROCESSES = 1024, MONITORS = 64, SPREAD = 60000 };
 
 /* In milliseconds. */
 #define MINUTE INT64_C(60000)
@@ -31,17 +31,22 @@ static void must(int32_t status) {
     }
 }
 
-static void open_world(void) {
+static void open_for(uint32_t processes, uint32_t mode) {
     ert_settings settings = {
         .size = sizeof settings,
+        .mode = mode,
         .schedulers = 1,
-        .processes = 1,
+        .processes = processes,
         .slots = SLOTS,
         .callers = 2,
     };
     reading = settings.first;
     must(ert_world_open(&world, &settings));
     must(ert_seat_open(&seat, &world));
+}
+
+static void open_world(void) {
+    open_for(1, ERT_NO_WARP);
 }
 
 static void os_clock(void) {
@@ -104,6 +109,17 @@ static void start_and_seat_cancel(void) {
     must(ert_world_turn(&world, 0, &turned));
 }
 
+/* A request that the scheduler serves, and whose answer is taken. */
+static void start_and_ask(void) {
+    ert_start start = {.when = 500};
+    ert_mail mail;
+    uint32_t served;
+    must(ert_world_start(&world, 0, &start, &timer));
+    must(ert_world_ask(&world, &(ert_request){.kind = ERT_CANCEL, .timer = timer, .info = 1}));
+    must(ert_world_serve(&world, 0, &served));
+    must(ert_world_take(&world, 0, &mail));
+}
+
 static void turn(void) {
     ert_turned turned;
     must(ert_world_turn(&world, 0, &turned));
@@ -119,6 +135,10 @@ static void timer_in(int64_t milliseconds) {
     must(ert_world_start(&world, 0, &start, &timer));
 }
 
+static void print(const char *name, double least) {
+    printf("%-52s %9.1f\n", name, least);
+}
+
 static void measure(const char *name, void (*call)(void), int calls) {
     double least = 1e18;
     for (int run = 0; run < RUNS; run++) {
@@ -129,7 +149,7 @@ static void measure(const char *name, void (*call)(void), int calls) {
         double each = (double)(nanoseconds() - begun) / calls;
         least = each < least ? each : least;
     }
-    printf("%-52s %9.1f\n", name, least);
+    print(name, least);
 }
 
 static void close_world(void) {
@@ -195,6 +215,105 @@ static void measure_far(void) {
     measure_leap("a tick and an advance of a year", advance_a_year, 10);
 }
 
+/* The milliseconds of a timer, from 1 to a minute, by a generator of its own for each run. */
+static int64_t wait_of(uint64_t *state) {
+    *state = *state * UINT64_C(6364136223846793005) + UINT64_C(1442695040888963407);
+    return 1 + (int64_t)((*state >> 33) % SPREAD);
+}
+
+static double longer(double longest, int64_t begun) {
+    double took = (double)(nanoseconds() - begun);
+    return took > longest ? took : longest;
+}
+
+/* The longest single call among as many timers as there are slots, of a run: of the advances of each millisecond until
+ * all have expired, and of the starts after that. */
+static void longest_calls(double *advance, double *start) {
+    ert_advanced advanced;
+    ert_delivered delivered;
+    ert_mail mail;
+    uint64_t state = 1;
+    open_world();
+    for (int i = 0; i < SLOTS; i++) {
+        timer_in(wait_of(&state));
+    }
+    for (int i = 0; i < SPREAD; i++) {
+        tick_by(1);
+        int64_t begun = nanoseconds();
+        must(ert_world_advance(&world, 0, &advanced));
+        *advance = longer(*advance, begun);
+        must(ert_world_deliver(&world, 0, &delivered));
+        for (uint32_t put = 0; put < delivered.put; put++) {
+            must(ert_world_take(&world, 0, &mail));
+        }
+    }
+    for (int i = 0; i < SLOTS; i++) {
+        int64_t wait = wait_of(&state), begun = nanoseconds();
+        timer_in(wait);
+        *start = longer(*start, begun);
+    }
+    close_world();
+}
+
+static void measure_longest(void) {
+    double advance = 1e18, start = 1e18;
+    for (int run = 0; run < RUNS; run++) {
+        double advance_of_run = 0, start_of_run = 0;
+        longest_calls(&advance_of_run, &start_of_run);
+        advance = advance_of_run < advance ? advance_of_run : advance;
+        start = start_of_run < start ? start_of_run : start;
+    }
+    print("the longest ert_world_start of 65536", start);
+    print("the longest ert_world_advance by a millisecond", advance);
+}
+
+/* Each process but the first exits with one timer, beside many of the first. */
+static double exits(void) {
+    ert_start start = {.when = MINUTE};
+    uint32_t first;
+    open_for(PROCESSES, ERT_NO_WARP);
+    for (uint32_t i = 0; i < SLOTS; i++) {
+        start.dest = i < PROCESSES ? i : 0;
+        must(ert_world_start(&world, 0, &start, &timer));
+    }
+    int64_t begun = nanoseconds();
+    for (uint32_t process = 1; process < PROCESSES; process++) {
+        must(ert_world_exit(&world, process, &first));
+    }
+    double each = (double)(nanoseconds() - begun) / (PROCESSES - 1);
+    close_world();
+    return each;
+}
+
+/* Each process is told of a new time offset, for all its monitors. */
+static double tells(void) {
+    ert_moved moved;
+    uint32_t monitor, told;
+    open_for(PROCESSES, ERT_MULTI_WARP);
+    for (uint32_t i = 0; i < MONITORS * PROCESSES; i++) {
+        must(ert_world_monitor(&world, i % PROCESSES, &monitor));
+    }
+    reading.mono += 1;
+    reading.sys += INT64_C(1000000000);
+    must(ert_world_tick(&world, &reading, 1, &moved));
+    int64_t begun = nanoseconds();
+    for (uint32_t process = 0; process < PROCESSES; process++) {
+        must(ert_world_tell(&world, process, &told));
+    }
+    double each = (double)(nanoseconds() - begun) / PROCESSES;
+    close_world();
+    return each;
+}
+
+static void measure_whole(const char *name, double (*pass)(void)) {
+    double least = 1e18;
+    for (int run = 0; run < RUNS; run++) {
+        double each = pass();
+        least = each < least ? each : least;
+    }
+    print(name, least);
+}
+
 int main(void) {
     open_world();
     printf("%-52s %9s\n", "call", "ns");
@@ -205,6 +324,7 @@ int main(void) {
     measure("ert_world_tick, each reading 100 ns later", tick, CALLS);
     measure("ert_world_start and ert_world_cancel", start_and_cancel, CALLS);
     measure("ert_world_start, ert_seat_cancel and ert_world_turn", start_and_seat_cancel, CALLS);
+    measure("ert_world_start, and a cancel by a request", start_and_ask, CALLS);
     measure("ert_seat_monotonic_time", seat_monotonic_time, CALLS);
     timer_in(100000);
     measure("ert_seat_read of an armed timer", seat_read, CALLS);
@@ -214,6 +334,9 @@ int main(void) {
     timer_in(10);
     measure("ert_world_next_due, the timer in 10 milliseconds", next_due, CALLS / 10);
     close_world();
+    measure_whole("ert_world_exit of a process with one timer", exits);
+    measure_whole("ert_world_tell of a process with 64 monitors", tells);
+    measure_longest();
     measure_far();
     return EXIT_SUCCESS;
 }

@@ -190,12 +190,12 @@ class Histories(unittest.TestCase):
 
     def test_histories_judged_by_hand(self) -> None:
         """Each illegal one of the auditor's own short histories has its reason, and no legal entry has one."""
-        source = (EXAMPLES.parent / "crates/ert_audit/src/tests/histories.rt").read_text()
-        rows = re.findall(r'\(\s*"([^"]*)",\s*"([^"]*)",\s*"(legal|illegal) (\d+)",?\s*\)', source)
-        self.assertGreater(len(rows), 100)
-        for settings, entries, word, line in rows:
-            text = f"settings {settings}\n" + re.sub(r"\\\n\s*", "", entries).replace("\\n", "\n")
-            history = read_history(text.rstrip("\n") + "\n", "here")
+        rows = [it for path in sorted((EXAMPLES / "messages").glob("*.json")) for it in json.loads(path.read_text())]
+        texts = [(it["input"], it["output"].split()) for it in rows if it["program"] == "ertaudit" and it["output"]]
+        judged = [(text, word, line) for text, (word, line) in texts if word in ("legal", "illegal")]
+        self.assertGreater(len(judged), 140)
+        for text, word, line in judged:
+            history = read_history(text, "here")
             state = State(history)
             for place, entry in enumerate(history.entries, 2):
                 is_bad = word == "illegal" and place == int(line)

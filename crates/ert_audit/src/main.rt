@@ -14,8 +14,6 @@ mod explaining;
 mod lines;
 mod refusing;
 mod status;
-#[cfg(test)]
-mod tests;
 mod verdict;
 
 pub use auditing::{Audited, audit};

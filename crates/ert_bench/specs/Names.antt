@@ -3,27 +3,18 @@
 use Rattle.std.specs.Prelude.{◌≡◌, ℕ, List, All, String, codes, string_bytes}
 use Rattle.std.specs.declared.alloc.Global.{Global}
 use Rattle.ert_bench.specs.declared.operations.Operation.{Operation}
-use Rattle.ert_bench.specs.declared.operations.Operation.TheVariants.{MonotonicTime, SystemTime, StartCancel, Start, StartAgain, Read, Cancel, CancelStart, CancelStartAny, WorstStart, WorstAdvance, ExpireAtOnce, ExpireSpread, CancelAsync, Exit, Tick, Tell, OwnWheels, OneWheel, TimeBesideTicks, Unique}
+use Rattle.ert_bench.specs.declared.operations.Operation.TheVariants.{MonotonicTime, StartCancel, Start, StartAgain, Cancel, CancelStart, ExpireAtOnce, ExpireSpread, OwnWheels, OneWheel, TimeBesideTicks, Unique}
 
 -- the name of an operation
 abbrev pub name_of : Operation → List ℕ
 name_of MonotonicTime = codes "monotonic_time"
-name_of SystemTime = codes "system_time"
 name_of StartCancel = codes "start_cancel"
 name_of Start = codes "start"
 name_of StartAgain = codes "start_again"
-name_of Read = codes "read"
 name_of Cancel = codes "cancel"
 name_of CancelStart = codes "cancel_start"
-name_of CancelStartAny = codes "cancel_start_any"
-name_of WorstStart = codes "worst_start"
-name_of WorstAdvance = codes "worst_advance"
 name_of ExpireAtOnce = codes "expire_at_once"
 name_of ExpireSpread = codes "expire_spread"
-name_of CancelAsync = codes "cancel_async"
-name_of Exit = codes "exit"
-name_of Tick = codes "tick"
-name_of Tell = codes "tell"
 name_of OwnWheels = codes "own_wheels"
 name_of OneWheel = codes "one_wheel"
 name_of TimeBesideTicks = codes "time_beside_ticks"

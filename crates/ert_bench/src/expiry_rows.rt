@@ -6,7 +6,7 @@ use crate::passes::{Passes, Work, time};
 use crate::rig::Rig;
 use crate::stopwatch::Stopwatch;
 use crate::waits::{SPREAD, spread_waits};
-use ert_defs::{Mode, TimerRef};
+use ert_defs::TimerRef;
 use ert_io::OsClock;
 use std::alloc::Global;
 
@@ -22,14 +22,14 @@ impl Work for AtOnce {
 
     fn prepare(&mut self) -> Result<(), BenchErr> {
         for _ in 0..self.count {
-            self.rig.start(1, 0)?;
+            self.rig.start(1)?;
         }
         self.rig.next_millisecond()
     }
 
     fn run(&mut self, _: &mut ()) -> Result<(), BenchErr> {
         let handed = self.rig.expire_all()?;
-        self.rig.take_all(0, handed)?;
+        self.rig.take_all(handed)?;
         expect(handed == self.count)
     }
 }
@@ -41,7 +41,7 @@ pub(crate) fn expire_at_once<C: OsClock>(
 ) -> Result<Passes, BenchErr>
     requires { 0 < count }
 {
-    let rig = Rig::open(alloc, count, Mode::No)?;
+    let rig = Rig::open(alloc, count)?;
     time(alloc, watch, count, AtOnce { rig, count })
 }
 
@@ -65,7 +65,7 @@ impl Work for Spread {
         for _ in 0..SPREAD {
             self.rig.next_millisecond()?;
             let handed = self.rig.expire_all()?;
-            self.rig.take_all(0, handed)?;
+            self.rig.take_all(handed)?;
         }
         Ok(())
     }
@@ -79,7 +79,7 @@ pub(crate) fn expire_spread<C: OsClock>(
     requires { 0 < count }
 {
     let spread = Spread {
-        rig: Rig::open(alloc, count, Mode::No)?,
+        rig: Rig::open(alloc, count)?,
         waits: spread_waits(alloc, count)?,
         timers: Vec::with_capacity(alloc, count as usize)?,
     };

@@ -7,9 +7,9 @@
 //!
 //! - `operations` has the operations by name, and `selecting` those that a command line names.
 //! - `measuring` tells which measurements an operation has. Each is a function that makes a row: those of a
-//!   `World` stand in `clock_rows`, `timer_rows`, `replacing_rows`, `worst_rows`, `expiry_rows` and `mail_rows`,
-//!   over a `Rig`, a world whose wheels take timers in turn; those of several threads in `service_rows` and
-//!   `unique_rows`.
+//!   `World` stand in `clock_rows`, `timer_rows`, `replacing_rows` and `expiry_rows`, over a `Rig`, a world whose wheels
+//!   take timers in turn; those of several threads in `service_rows` and `unique_rows`. Other calls are measured from
+//!   C (`bench/embedded`).
 //! - `passes` times the passes of some `Work` by a `stopwatch`, `waits` draws what is random, `memory` tells
 //!   what timers take, and `table` writes the rows.
 #![tactic(auto)]
@@ -17,7 +17,6 @@
 mod bench_err;
 mod clock_rows;
 mod expiry_rows;
-mod mail_rows;
 mod measuring;
 mod memory;
 mod operations;
@@ -32,7 +31,6 @@ mod table;
 mod timer_rows;
 mod unique_rows;
 mod waits;
-mod worst_rows;
 
 pub use bench_err::BenchErr;
 use ert_io::{HostClock, StdSink};

@@ -2,20 +2,13 @@
 ghost use Rattle.std.specs.Prelude.{◌<◌, ◌≤◌};
 
 use crate::bench_err::BenchErr;
-use crate::clock_rows::Time;
 use crate::operations::Operation;
 use crate::passes::Passes;
-use crate::rig::SLOTS;
 use crate::service_rows::Job;
 use crate::stopwatch::Stopwatch;
 use crate::table::Row;
 use crate::timer_rows::TimerCall;
-use crate::waits::Dests;
-use crate::worst_rows::Call;
-use crate::{
-    clock_rows, expiry_rows, mail_rows, replacing_rows, service_rows, timer_rows, unique_rows,
-    worst_rows,
-};
+use crate::{clock_rows, expiry_rows, replacing_rows, service_rows, timer_rows, unique_rows};
 use ert_io::OsClock;
 use std::alloc::Global;
 use std::rt::Files;
@@ -41,11 +34,8 @@ pub(crate) fn measure<R: Files + AllocGlobal + Threads + Wait + Sync, C: OsClock
         | Operation::OneWheel
         | Operation::TimeBesideTicks
         | Operation::Unique => measure_threads(rt, operation, watch, rows),
-        Operation::Start
-        | Operation::Read
-        | Operation::Cancel
-        | Operation::ExpireAtOnce
-        | Operation::ExpireSpread => measure_sizes(rt, operation, bytes, watch, rows),
+        Operation::Start | Operation::Cancel | Operation::ExpireAtOnce | Operation::ExpireSpread =>
+            measure_sizes(rt, operation, bytes, watch, rows),
         _ => measure_calls(rt, operation, watch, rows),
     }
 }
@@ -65,20 +55,12 @@ fn measure_calls<R: AllocGlobal, C: OsClock>(
             }
             Ok(())
         }
-        Operation::StartAgain
-        | Operation::CancelStart
-        | Operation::CancelStartAny
-        | Operation::CancelAsync
-        | Operation::Exit => {
+        Operation::StartAgain | Operation::CancelStart => {
             let passes = beside_others(rt.alloc(), operation, watch)?;
             add(rows, operation, (OTHERS, 1), passes, None)
         }
-        Operation::WorstStart | Operation::WorstAdvance => {
-            let passes = alone(rt.alloc(), operation, watch)?;
-            add(rows, operation, (SLOTS, 1), passes, None)
-        }
         _ => {
-            let passes = alone(rt.alloc(), operation, watch)?;
+            let passes = clock_rows::read(rt.alloc(), watch)?;
             add(rows, operation, (0, 1), passes, None)
         }
     }
@@ -92,30 +74,7 @@ fn beside_others<C: OsClock>(
 ) -> Result<Passes, BenchErr> {
     match operation {
         Operation::StartAgain => timer_rows::call_each(alloc, watch, OTHERS, TimerCall::StartAgain),
-        Operation::CancelStart => { replacing_rows::cancel_start(alloc, watch, OTHERS, Dests::One) }
-        Operation::CancelStartAny => {
-            replacing_rows::cancel_start(alloc, watch, OTHERS, Dests::Any)
-        }
-        Operation::CancelAsync => {
-            timer_rows::call_each(alloc, watch, OTHERS, TimerCall::CancelAsync)
-        }
-        _ => timer_rows::exit(alloc, watch, OTHERS),
-    }
-}
-
-/// Measures an operation of a world that is its own.
-fn alone<C: OsClock>(
-    alloc: Global,
-    operation: Operation,
-    watch: &mut Stopwatch<C>,
-) -> Result<Passes, BenchErr> {
-    match operation {
-        Operation::MonotonicTime => clock_rows::read(alloc, watch, Time::Monotonic),
-        Operation::SystemTime => clock_rows::read(alloc, watch, Time::System),
-        Operation::WorstStart => worst_rows::longest(alloc, watch, Call::Start),
-        Operation::WorstAdvance => worst_rows::longest(alloc, watch, Call::Advance),
-        Operation::Tick => clock_rows::tick(alloc, watch),
-        _ => mail_rows::tell(alloc, watch),
+        _ => replacing_rows::cancel_start(alloc, watch, OTHERS),
     }
 }
 
@@ -149,7 +108,6 @@ fn of_size<C: OsClock>(
 {
     match operation {
         Operation::Start => timer_rows::call_each(alloc, watch, size, TimerCall::Start),
-        Operation::Read => timer_rows::call_each(alloc, watch, size, TimerCall::Read),
         Operation::Cancel => timer_rows::call_each(alloc, watch, size, TimerCall::Cancel),
         Operation::ExpireAtOnce => expiry_rows::expire_at_once(alloc, watch, size),
         _ => expiry_rows::expire_spread(alloc, watch, size),

@@ -3,7 +3,6 @@ use crate::bench_err::BenchErr;
 use crate::measuring::SIZES;
 use crate::rig::Rig;
 use crate::waits::spread_waits;
-use ert_defs::Mode;
 use std::fs;
 use std::rt::Files;
 
@@ -17,9 +16,9 @@ pub(crate) fn bytes_of_sizes<R: Files + AllocGlobal>(rt: &R) -> Result<Vec<u64>,
     for size in SIZES {
         let waits = spread_waits(rt.alloc(), size)?;
         let before = resident(rt)?;
-        let mut rig = Rig::open(rt.alloc(), size, Mode::No)?;
+        let mut rig = Rig::open(rt.alloc(), size)?;
         for wait in &waits {
-            rig.start(*wait, 0)?;
+            rig.start(*wait)?;
         }
         let taken = resident(rt)?.saturating_sub(before);
         bytes.push(taken.checked_div(size as u64).unwrap_or(0))?;

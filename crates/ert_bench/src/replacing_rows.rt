@@ -5,8 +5,7 @@ use crate::bench_err::BenchErr;
 use crate::passes::{Passes, Work, time};
 use crate::rig::{Outstanding, Rig};
 use crate::stopwatch::Stopwatch;
-use crate::waits::{Dests, draw_dests, mix, spread_waits};
-use ert_defs::Mode;
+use crate::waits::{mix, spread_waits};
 use ert_io::OsClock;
 use std::alloc::Global;
 
@@ -18,21 +17,18 @@ struct Replaces {
 }
 
 impl Replaces {
-    fn new(alloc: Global, count: u32, whose: Dests) -> Result<Replaces, BenchErr> {
+    fn new(alloc: Global, count: u32) -> Result<Replaces, BenchErr> {
         let mut replaces = Replaces {
-            rig: Rig::open(alloc, count, Mode::No)?,
+            rig: Rig::open(alloc, count)?,
             timers: Vec::with_capacity(alloc, count as usize)?,
         };
-        replaces.start_all(
-            &spread_waits(alloc, count)?,
-            &draw_dests(alloc, count, whose)?,
-        )?;
+        replaces.start_all(&spread_waits(alloc, count)?)?;
         Ok(replaces)
     }
 
-    fn start_all(&mut self, waits: &[u32], dests: &[u32]) -> Result<(), BenchErr> {
-        for (wait, dest) in waits.iter().zip(dests) {
-            self.timers.push(self.rig.outstanding(*wait, *dest)?)?;
+    fn start_all(&mut self, waits: &[u32]) -> Result<(), BenchErr> {
+        for wait in waits {
+            self.timers.push(self.rig.outstanding(*wait)?)?;
         }
         Ok(())
     }
@@ -55,9 +51,8 @@ pub(crate) fn cancel_start<C: OsClock>(
     alloc: Global,
     watch: &mut Stopwatch<C>,
     count: u32,
-    whose: Dests,
 ) -> Result<Passes, BenchErr>
     requires { 0 < count }
 {
-    time(alloc, watch, count, Replaces::new(alloc, count, whose)?)
+    time(alloc, watch, count, Replaces::new(alloc, count)?)
 }

@@ -2,23 +2,22 @@ ghost use Rattle.std.specs.Prelude.{◌≡◌, ◌<◌};
 
 use crate::bench_err::{BenchErr, expect};
 use ert_defs::milliseconds::NANOSECONDS_PER_MILLISECOND;
-use ert_defs::{Kind, Mail, Mode, Reading, Request, RequestKind, Settings, Start, TimerRef, When};
+use ert_defs::{Kind, Mode, Reading, Settings, Start, TimerRef, When};
 use ert_mail::Taken;
 use ert_world::World;
 use std::alloc::Global;
 
 /// How many processes the worlds have.
-pub(crate) const PROCESSES: u32 = 1_024;
+const PROCESSES: u32 = 1_024;
 
 /// How many slots a wheel has.
-pub(crate) const SLOTS: u32 = 65_536;
+const SLOTS: u32 = 65_536;
 
 /// A timer that is outstanding, and what it was started with.
 #[derive(Clone, Copy, Debug)]
 pub(crate) struct Outstanding {
     timer: TimerRef,
     wait: u32,
-    dest: u32,
 }
 
 /// A world under measure. Its wheels take timers in turn. Its starts and cancels are inlined, as the world's are where
@@ -40,10 +39,10 @@ impl Rig {
     ghost use Rattle.std.specs.Prelude.{◌≡◌, ◌<◌};
 
     /// Opens a world for so many timers: with one wheel, or four where one is too small.
-    pub(crate) fn open(alloc: Global, timers: u32, mode: Mode) -> Result<Rig, BenchErr> {
+    pub(crate) fn open(alloc: Global, timers: u32) -> Result<Rig, BenchErr> {
         let wheels = if timers <= SLOTS { 1 } else { 4 };
         let settings = Settings {
-            mode,
+            mode: Mode::No,
             correction: true,
             start: 0,
             schedulers: wheels,
@@ -72,14 +71,13 @@ impl Rig {
         wheel
     }
 
-    /// Starts a timer that is due after so many milliseconds, for one of the processes.
+    /// Starts a timer for process 0 that is due after so many milliseconds.
     #[inline(always)]
-    pub(crate) fn start(&mut self, wait: u32, dest: u32) -> Result<TimerRef, BenchErr> {
-        expect(dest < PROCESSES)?;
+    pub(crate) fn start(&mut self, wait: u32) -> Result<TimerRef, BenchErr> {
         let wheel = self.next_wheel();
         let start = Start {
             when: When::After(wait as i64),
-            dest,
+            dest: 0,
             msg: 7,
             kind: Kind::Wrapped,
         };
@@ -88,40 +86,31 @@ impl Rig {
             .map_err(|_| BenchErr::Unexpected)
     }
 
-    /// Starts a timer for process 0 for each of the waits, and appends their references.
+    /// Starts a timer for each of the waits, and appends their references.
     pub(crate) fn start_all(
         &mut self,
         waits: &[u32],
         timers: &mut Vec<TimerRef>,
     ) -> Result<(), BenchErr> {
         for wait in waits {
-            timers.push(self.start(*wait, 0)?)?;
+            timers.push(self.start(*wait)?)?;
         }
         Ok(())
     }
 
-    /// The same, with what it was started with.
-    pub(crate) fn outstanding(&mut self, wait: u32, dest: u32) -> Result<Outstanding, BenchErr> {
+    /// Starts a timer, and keeps what it was started with.
+    pub(crate) fn outstanding(&mut self, wait: u32) -> Result<Outstanding, BenchErr> {
         Ok(Outstanding {
-            timer: self.start(wait, dest)?,
+            timer: self.start(wait)?,
             wait,
-            dest,
         })
-    }
-
-    /// Starts a timer of a minute for each process but the first.
-    pub(crate) fn start_one_each(&mut self) -> Result<(), BenchErr> {
-        for process in 1..PROCESSES {
-            self.start(60_000, process)?;
-        }
-        Ok(())
     }
 
     /// Cancels each timer, and starts another like it.
     pub(crate) fn replace_all(&mut self, timers: &mut [Outstanding]) -> Result<(), BenchErr> {
         for it in timers.iter_mut() {
             self.cancel(it.timer)?;
-            it.timer = self.start(it.wait, it.dest)?;
+            it.timer = self.start(it.wait)?;
         }
         Ok(())
     }
@@ -139,76 +128,20 @@ impl Rig {
         Ok(())
     }
 
-    /// Reads a timer, which is armed.
-    pub(crate) fn read(&mut self, timer: TimerRef) -> Result<(), BenchErr> {
-        expect(self.world.read_timer(timer).is_some())
-    }
-
-    pub(crate) fn read_all(&mut self, timers: &[TimerRef]) -> Result<(), BenchErr> {
-        for timer in timers {
-            self.read(*timer)?;
-        }
-        Ok(())
-    }
-
-    /// Cancels a timer by a request, and takes the answer, for process 0.
-    pub(crate) fn cancel_async(&mut self, timer: TimerRef) -> Result<(), BenchErr> {
-        self.world.ask(Request {
-            kind: RequestKind::Cancel,
-            timer,
-            reply_to: 0,
-            info: true,
-        })?;
-        self.serve(timer.wheel)?;
-        self.take_answer()
-    }
-
-    /// Serves a request, which waits.
-    fn serve(&mut self, wheel: u32) -> Result<(), BenchErr> {
-        expect(wheel < self.wheels)?;
-        expect(self.world.serve(wheel)?)
-    }
-
-    /// Takes the answer of a request that cancelled a timer.
-    fn take_answer(&mut self) -> Result<(), BenchErr> {
-        let answer = self.world.take(0);
-        expect(matches!(answer, Taken::Mail(Mail::CancelDone { left: Some(_), .. })))
-    }
-
-    pub(crate) fn cancel_all_async(&mut self, timers: &[TimerRef]) -> Result<(), BenchErr> {
-        for timer in timers {
-            self.cancel_async(*timer)?;
-        }
-        Ok(())
-    }
-
-    /// Lets each process but the first exit, which hadn't yet.
-    pub(crate) fn exit_all(&mut self) -> Result<(), BenchErr> {
-        for process in 1..PROCESSES {
-            expect(self.world.exit(process))?;
-        }
-        Ok(())
-    }
-
     /// Takes a reading that is a millisecond later than the last of this call.
     pub(crate) fn next_millisecond(&mut self) -> Result<(), BenchErr> {
         self.now = self.now.saturating_add(NANOSECONDS_PER_MILLISECOND);
-        self.tick(self.now, false)?;
+        self.tick(self.now)?;
         Ok(())
     }
 
     /// Takes a reading of both OS clocks, with so many nanoseconds.
-    pub(crate) fn tick(&mut self, nanoseconds: i64, force: bool) -> Result<i64, BenchErr> {
-        self.read_clocks(nanoseconds, nanoseconds, force)
-    }
-
-    pub(crate) fn read_clocks(
-        &mut self,
-        mono: i64,
-        sys: i64,
-        force: bool,
-    ) -> Result<i64, BenchErr> {
-        let moved = self.world.tick(Reading { mono, sys }, force);
+    pub(crate) fn tick(&mut self, nanoseconds: i64) -> Result<i64, BenchErr> {
+        let reading = Reading {
+            mono: nanoseconds,
+            sys: nanoseconds,
+        };
+        let moved = self.world.tick(reading, false);
         Ok(moved.map_err(|_| BenchErr::Unexpected)?.now)
     }
 
@@ -230,24 +163,23 @@ impl Rig {
     }
 
     /// Lets the due timers of a wheel expire; how many there were.
-    pub(crate) fn advance(&mut self, wheel: u32) -> Result<u32, BenchErr> {
+    fn advance(&mut self, wheel: u32) -> Result<u32, BenchErr> {
         expect(wheel < self.wheels)?;
         let (_, fired) = self.world.advance(wheel)?;
         Ok(fired)
     }
 
     /// Hands over the messages of a wheel's expired timers; how many there were.
-    pub(crate) fn deliver(&mut self, wheel: u32) -> Result<u32, BenchErr> {
+    fn deliver(&mut self, wheel: u32) -> Result<u32, BenchErr> {
         expect(wheel < self.wheels)?;
         let (put, _) = self.world.deliver(wheel)?;
         Ok(put)
     }
 
-    /// Takes so many messages of a process.
-    pub(crate) fn take_all(&mut self, process: u32, count: u32) -> Result<(), BenchErr> {
-        expect(process < PROCESSES)?;
+    /// Takes so many messages of process 0.
+    pub(crate) fn take_all(&mut self, count: u32) -> Result<(), BenchErr> {
         for _ in 0..count {
-            expect(matches!(self.world.take(process), Taken::Mail(_)))?;
+            expect(matches!(self.world.take(0), Taken::Mail(_)))?;
         }
         Ok(())
     }
@@ -259,46 +191,5 @@ impl Rig {
             sum = sum.wrapping_add(self.world.monotonic_time());
         }
         sum
-    }
-
-    pub(crate) fn system_times(&mut self, count: u32) -> i64 {
-        let mut sum = 0i64;
-        for _ in 0..count {
-            sum = sum.wrapping_add(self.world.system_time());
-        }
-        sum
-    }
-
-    /// Each process gets one monitor of the time offset more.
-    pub(crate) fn monitor_all(&mut self) -> Result<(), BenchErr> {
-        for process in 0..PROCESSES {
-            expect(self.world.monitor(process).is_ok())?;
-        }
-        Ok(())
-    }
-
-    /// Tells each process of the time offset, for so many monitors.
-    pub(crate) fn tell_all(&mut self, monitors: u32) -> Result<(), BenchErr> {
-        for process in 0..PROCESSES {
-            expect(self.world.tell(process)? == monitors)?;
-        }
-        Ok(())
-    }
-
-    /// Takes all messages of all processes.
-    pub(crate) fn empty_mailboxes(&mut self) {
-        for process in 0..PROCESSES {
-            self.empty_mailbox(process);
-        }
-    }
-
-    fn empty_mailbox(&mut self, process: u32)
-        requires { process < 1024 }
-    {
-        for _ in 0..u32::MAX {
-            if !matches!(self.world.take(process), Taken::Mail(_)) {
-                return;
-            }
-        }
     }
 }

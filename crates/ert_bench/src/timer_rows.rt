@@ -1,12 +1,12 @@
-//! Timers that are started, read and cancelled.
+//! Timers that are started and cancelled.
 ghost use Rattle.std.specs.Prelude.{◌<◌};
 
 use crate::bench_err::BenchErr;
 use crate::passes::{Passes, Work, time};
-use crate::rig::{PROCESSES, Rig};
+use crate::rig::Rig;
 use crate::stopwatch::Stopwatch;
 use crate::waits::{mix, spread_waits};
-use ert_defs::{Mode, TimerRef};
+use ert_defs::TimerRef;
 use ert_io::OsClock;
 use std::alloc::Global;
 
@@ -31,7 +31,7 @@ impl Work for StartCancel {
 
     fn run(&mut self, _: &mut ()) -> Result<(), BenchErr> {
         for _ in 0..CALLS {
-            let timer = self.rig.start(TIMEOUT, 0)?;
+            let timer = self.rig.start(TIMEOUT)?;
             self.rig.cancel(timer)?;
         }
         Ok(())
@@ -70,7 +70,7 @@ impl Timers {
     /// A new world, without timers.
     fn open(&mut self) -> Result<Rig, BenchErr> {
         self.timers.clear();
-        Rig::open(self.alloc, self.count, Mode::No)
+        Rig::open(self.alloc, self.count)
     }
 
     /// Starts them.
@@ -101,17 +101,14 @@ impl Timers {
     }
 }
 
-/// What is done with each timer of a world; all but the starts go in random order.
+/// What is done with each timer of a world; the cancels go in random order.
 #[derive(Clone, Copy)]
 pub(crate) enum TimerCall {
     /// In a new world.
     Start,
     /// In a world where as many were started and cancelled.
     StartAgain,
-    Read,
     Cancel,
-    /// By a request, which its scheduler answers.
-    CancelAsync,
 }
 
 /// Makes a call for each of the timers.
@@ -128,16 +125,14 @@ impl Work for Calls {
         match self.call {
             TimerCall::Start => self.timers.open(),
             TimerCall::StartAgain => self.timers.cancelled(),
-            _ => self.timers.mixed(),
+            TimerCall::Cancel => self.timers.mixed(),
         }
     }
 
     fn run(&mut self, rig: &mut Rig) -> Result<(), BenchErr> {
         match self.call {
             TimerCall::Start | TimerCall::StartAgain => self.timers.start_all(rig),
-            TimerCall::Read => rig.read_all(&self.timers.timers),
             TimerCall::Cancel => rig.cancel_all(&self.timers.timers),
-            TimerCall::CancelAsync => rig.cancel_all_async(&self.timers.timers),
         }
     }
 }
@@ -152,33 +147,4 @@ pub(crate) fn call_each<C: OsClock>(
 {
     let timers = Timers::new(alloc, count)?;
     time(alloc, watch, count, Calls { timers, call })
-}
-
-/// Lets processes with one timer each exit, while other timers are outstanding.
-#[derive(Drop)]
-struct Exits {
-    others: Timers,
-}
-
-impl Work for Exits {
-    type World = Rig;
-
-    fn prepare(&mut self) -> Result<Rig, BenchErr> {
-        let mut rig = self.others.started()?;
-        rig.start_one_each()?;
-        Ok(rig)
-    }
-
-    fn run(&mut self, rig: &mut Rig) -> Result<(), BenchErr> {
-        rig.exit_all()
-    }
-}
-
-pub(crate) fn exit<C: OsClock>(
-    alloc: Global,
-    watch: &mut Stopwatch<C>,
-    others: u32,
-) -> Result<Passes, BenchErr> {
-    let others = Timers::new(alloc, others)?;
-    time(alloc, watch, PROCESSES - 1, Exits { others })
 }

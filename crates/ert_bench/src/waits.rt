@@ -1,5 +1,4 @@
 //! What is drawn at random: each from one seed, so that every run has the same.
-use crate::rig::PROCESSES;
 use rand::RngExt;
 use rand::seq::SliceRandom;
 use rand_core::SeedableRng;
@@ -23,26 +22,4 @@ pub(crate) fn spread_waits(alloc: Global, timers: u32) -> Result<Vec<u32>, Alloc
 pub(crate) fn mix<T>(timers: &mut [T]) {
     let mut random = Xoshiro256PlusPlus::seed_from_u64(2);
     timers.shuffle(&mut random);
-}
-
-/// For whom timers are started.
-#[derive(Clone, Copy)]
-pub(crate) enum Dests {
-    /// All for process 0.
-    One,
-    /// Each for one of all processes, at random.
-    Any,
-}
-
-/// The destinations of so many timers.
-pub(crate) fn draw_dests(alloc: Global, timers: u32, whose: Dests) -> Result<Vec<u32>, AllocError> {
-    let mut random = Xoshiro256PlusPlus::seed_from_u64(3);
-    let mut dests = Vec::with_capacity(alloc, timers as usize)?;
-    for _ in 0..timers {
-        dests.push(match whose {
-            Dests::One => 0,
-            Dests::Any => random.random_range(0..PROCESSES),
-        })?;
-    }
-    Ok(dests)
 }

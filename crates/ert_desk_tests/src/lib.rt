@@ -1,6 +1,6 @@
 //! Tests of the parts that step on a desk: the clock's, the timers of a scheduler, inboxes and mailboxes. A world
 //! holds them all, so they are tested by its calls, and by the words and the counts that they leave; so are restarts, turns
-//! with a bound, and how much waits. What each other call of a world answers is tested in `ert_world_tests`.
+//! with a bound, and how much waits. What a scenario can show of a world stands in `examples/ertime`.
 #![tactic(auto)]
 
 #[cfg(test)]

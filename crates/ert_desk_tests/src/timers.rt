@@ -156,6 +156,20 @@ fn an_exit_cancels_the_timers_of_one_process(rt: HostRuntime) -> Result<(), NoMe
     make_all(&rt, rt.alloc(), &EIGHT_SLOTS, &steps)
 }
 
+/// The timers of a process that is marked stay armed until their wheel is swept.
+#[test]
+fn a_process_is_marked(rt: HostRuntime) -> Result<(), NoMemory> {
+    let steps = [
+        Start(After(5), 1, 0, Ok(timer(7, 1))),
+        MarkExit(1, true),
+        Read(timer(7, 1), Some(5)),
+        MarkExit(1, false),
+        Exit(1, false),
+        Read(timer(7, 1), Some(5)),
+    ];
+    make_all(&rt, rt.alloc(), &EIGHT_SLOTS, &steps)
+}
+
 /// A slot is free again once its timer was cancelled, though the wheel wasn't told, and not while its timer has
 /// expired and waits to be delivered.
 #[test]

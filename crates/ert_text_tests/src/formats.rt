@@ -1,37 +1,12 @@
 //! Scenarios of format 2, and values of format 1 that are migrated to it.
 
-use crate::frames::{OPS_2, answer, gives};
+use crate::frames::{OPS_2, gives};
 use ert_defs::When;
-use ert_scenario::ScenarioErr::{Range, Shape};
 use ert_scenario::{Op, migrate, read_scenario};
 use serde_json::Value;
 use std::alloc::Global;
 use std::process::Abort;
 use std::test::Fail;
-
-#[test]
-fn refuses_ops(rt: HostRuntime) {
-    let shape_1 = [
-        r#"["cancel_async",1,0]"#,
-        r#"["cancel_async",1,0,1]"#,
-        r#"["read_async",1,0,"true"]"#,
-        r#"["read_async",1,0,true,true]"#,
-        r#"["cancel_quiet"]"#,
-        r#"["cancel_quiet",1,true]"#,
-        r#"["send_after",1,0,"rel",5,0]"#,
-    ];
-    let range_1 = [
-        r#"["cancel_async",1,1,false]"#,
-        r#"["cancel_quiet",1000000]"#,
-        r#"["send_after",1,1,"rel",5,0,1]"#,
-    ];
-    let range_2 = [r#"["send_after",1,0,"rel",5,0,1],["send_after",1,0,"rel",5,0,1]"#];
-    let range_3 = [r#"["send_after",1,0,"rel",5,0,1],["time"],["start",1,0,"rel",5,0,1]"#];
-    answer(&rt, rt.alloc(), OPS_2, Err(Shape(1)), &shape_1);
-    answer(&rt, rt.alloc(), OPS_2, Err(Range(1)), &range_1);
-    answer(&rt, rt.alloc(), OPS_2, Err(Range(2)), &range_2);
-    answer(&rt, rt.alloc(), OPS_2, Err(Range(3)), &range_3);
-}
 
 #[test]
 fn accepts_ops(rt: HostRuntime) {

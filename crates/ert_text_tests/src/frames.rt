@@ -1,14 +1,11 @@
-//! What reading answers for parts of a text, each put into a frame.
+//! What is read of parts of a text, each put into a frame. What is refused is told by the rows of `examples/messages`.
 
-use ert_scenario::{Op, ScenarioErr, read_scenario};
+use ert_scenario::{Op, read_scenario};
 use std::alloc::{AllocError, Global};
 use std::process::Abort;
 
 /// The text before a part and that after it, and whether a race is wanted.
 pub(crate) type Frame = (&'static str, &'static str, bool);
-
-/// The part is the whole text.
-pub(crate) const WHOLE: Frame = ("", "", false);
 
 /// The part is fields after the others; of a key that is repeated the last value counts.
 pub(crate) const FIELDS: Frame = (r#"{"format":1,"first":[0,0],"ops":[],"#, "}", false);
@@ -26,29 +23,6 @@ pub(crate) fn framed(
     part: &str,
 ) -> Result<String, AllocError> {
     format!(in alloc; "{before}{part}{after}")
-}
-
-/// How many ops are read, or why none are.
-fn read(alloc: Global, frame: Frame, part: &str) -> Result<usize, ScenarioErr> {
-    let Ok(text) = framed(alloc, frame, part) else {
-        return Err(ScenarioErr::NoMemory);
-    };
-    let scenario = read_scenario(alloc, text.as_bytes(), frame.2)?;
-    Ok(scenario.ops.len())
-}
-
-/// Each of these parts answers the same: how many ops were read, or why none were.
-pub(crate) fn answer(
-    rt: &impl Abort,
-    alloc: Global,
-    frame: Frame,
-    want: Result<usize, ScenarioErr>,
-    parts: &[&str],
-) {
-    for part in parts {
-        let got = read(alloc, frame, part);
-        assert!(rt; got == want, "{got:?}, not {want:?}, at {part}");
-    }
 }
 
 /// The texts of all ops, with commas between them.

@@ -1,5 +1,5 @@
 //! Tests of scenarios of both formats, with and without a race, read or made from a seed; of races, over gates that
-//! choose which of two steps comes first; and of the whole program over streams in memory.
+//! choose which of two steps comes first; and of the whole program over streams in memory, of which a call fails.
 #![tactic(auto)]
 
 #[cfg(test)]

@@ -1,14 +1,11 @@
-//! The program `ertime` over streams in memory and a clock of given readings: how it ends, and what was written.
+//! The program `ertime` over streams in memory and a clock of given readings, of which a call fails: how it ends, and
+//! what was written. What it writes of other input is told by the rows of `examples/messages`.
 ghost use Rattle.std.specs.Prelude.{◌≤◌, IfOk};
 ghost use Rattle.ert_program.specs.Endings.{HasItsRefusal};
 
-mod clock_rows;
-mod explained;
 mod in_memory;
 mod live;
 mod race;
-mod refused_rows;
-mod timer_rows;
 
 use ert_defs::Reading;
 use ert_io::{MemClock, MemSink, MemSource};
@@ -19,14 +16,12 @@ use std::sync::Wait;
 use std::test::Fail;
 use std::thread::Threads;
 
-/// Forward and backward leaps of the OS clock, and the transcript: 98 bytes.
-const LEAP: &str = r#"{"format":1,"correction":false,"first":[0,10000000000],
+/// Forward and backward leaps of the OS clock, with little to open, and the transcript: 98 bytes.
+const LEAP: &str = r#"{"format":1,"correction":false,"slots":1,"first":[0,10000000000],
     "ops":[["tick",0,12000000000],["tick",0,11000000000],["time"],["tick",0,13000000000],["system"]]}"#;
 
 const LEAP_TEXT: &str =
     "tick 2000000000\ntick 2000000000\ntime 2000000000\ntick 3000000000\nsystem 13000000000\nend 3000000000\n";
-
-const USAGE: &str = "usage: ertime run | race | live N | stress SEED N\n";
 
 /// What a run is given: its words, its input, the readings of its clock, the call of each of the three that fails,
 /// from 1, or 0 for none, and the most bytes that one write takes.
@@ -137,99 +132,6 @@ fn ends_within<R: AllocGlobal + Threads + Wait + Sync>(
     Ok(ended == status && text.len() == length && lines.iter().any(|all| all.starts_with(text)))
 }
 
-/// The text of a scenario.
-fn scenario(alloc: Global, format: u32, fields: &str, ops: &str) -> Result<String, AllocError> {
-    format!(in alloc; "{{\"format\":{format},{fields},\"ops\":[{ops}]}}")
-}
-
-#[test]
-fn writes_transcripts_and_refusals(rt: HostRuntime) -> Result<(), Fail> {
-    for (format, rows, status) in [
-        (1, clock_rows::ROWS.as_slice(), EndStatus::Done),
-        (1, timer_rows::ROWS.as_slice(), EndStatus::Done),
-        (2, timer_rows::BARE_ROWS.as_slice(), EndStatus::Done),
-        (1, refused_rows::ROWS.as_slice(), EndStatus::Refused),
-    ] {
-        for (fields, ops, lines) in rows {
-            let text = scenario(rt.alloc(), format, fields, ops)?;
-            let given = sound(&["run"], text.as_bytes());
-            assert!(rt; ends(&rt, given, status, lines)?, "at {text}");
-        }
-    }
-    Ok(())
-}
-
-#[test]
-fn refuses_other_texts(rt: HostRuntime) -> Result<(), Fail> {
-    for (text, line) in refused_rows::TEXTS {
-        let given = sound(&["run"], text.as_bytes());
-        assert!(rt; ends(&rt, given, EndStatus::Refused, line)?, "at {text}");
-    }
-    // A byte that begins no character, and brackets that are nested too deeply.
-    let deep = [[b'['; 200], [b']'; 200]].concat(rt.alloc())?;
-    for text in [&[255], deep.as_slice()] {
-        let given = sound(&["run"], text);
-        assert!(rt; ends(&rt, given, EndStatus::Refused, "refused json\n")?);
-    }
-    Ok(())
-}
-
-/// A text, so many times, with commas between.
-fn repeated(alloc: Global, op: &str, count: usize) -> Result<String, AllocError> {
-    let mut ops = String::from_str(alloc, op)?;
-    for _ in 1..count {
-        ops.push_str(",")?;
-        ops.push_str(op)?;
-    }
-    Ok(ops)
-}
-
-#[test]
-fn takes_64_monitors_and_100_000_ops(rt: HostRuntime) -> Result<(), Fail> {
-    for (op, count, status, tail) in [
-        (
-            r#"["monitor",0]"#,
-            65,
-            EndStatus::Done,
-            "\nmonitor 63\nmonitor full\nend 0\n",
-        ),
-        (
-            r#"["time"]"#,
-            100_001,
-            EndStatus::Refused,
-            "refused limit 0\n",
-        ),
-    ] {
-        let ops = repeated(rt.alloc(), op, count)?;
-        let text = scenario(rt.alloc(), 1, r#""first":[0,0]"#, ops.as_str())?;
-        let (ended, written) = end_of(&rt, sound(&["run"], text.as_bytes()), &FreeGate)?;
-        let is_right = ended == status && written.as_str().ends_with(tail);
-        assert!(rt; is_right, "at {op}: {written}");
-    }
-    Ok(())
-}
-
-#[test]
-fn refuses_other_command_lines(rt: HostRuntime) -> Result<(), Fail> {
-    let lines: [&[&str]; 7] = [
-        &[],
-        &[""],
-        &["run", "run"],
-        &["live", "0"],
-        &["live", "+5"],
-        &["stress", "1", "100001"],
-        &["--help"],
-    ];
-    for words in lines {
-        let given = sound(words, LEAP.as_bytes());
-        assert!(rt; ends(&rt, given, EndStatus::Usage, USAGE)?);
-    }
-    let mut fails = sound(&[], &[]);
-    fails.write = 1;
-    assert!(rt; ends(&rt, fails, EndStatus::WriteFault, "")?);
-    Ok(())
-}
-
 #[test]
 fn stops_at_a_failed_write(rt: HostRuntime) -> Result<(), Fail> {
     // The text has 98 bytes, and each write takes one.
@@ -258,19 +160,6 @@ fn stops_at_a_failed_read(rt: HostRuntime) -> Result<(), Fail> {
         let mut given = sound(&["run"], LEAP.as_bytes());
         given.read = read;
         assert!(rt; ends(&rt, given, status, lines)?, "at {read}");
-    }
-    Ok(())
-}
-
-#[test]
-fn refuses_a_long_input(rt: HostRuntime) -> Result<(), Fail> {
-    for (count, status, line) in [
-        (16_777_216, EndStatus::Refused, "refused json\n"),
-        (16_777_217, EndStatus::TooLong, ""),
-    ] {
-        let spaces = vec![in rt.alloc(); b' '; count]?;
-        let given = sound(&["run"], spaces.as_slice());
-        assert!(rt; ends(&rt, given, status, line)?, "at {count}");
     }
     Ok(())
 }

@@ -8,6 +8,4 @@ pub(crate) mod service_calls;
 mod settings;
 pub(crate) mod trials;
 mod workers;
-mod world;
 mod world_calls;
-mod world_steps;

@@ -5,7 +5,6 @@ ghost use Rattle.ert_shard.specs.Shards.{IsHome};
 ghost use Rattle.ert_shard_tests.specs.Kept.{IsSame, IsStill};
 
 use ert_defs::{Kind, Mode, NoMemory, Reading, Settings, Start, TimerRef, When};
-use ert_effects::Taken;
 use ert_shard::{Hub, Shard};
 use ert_world::World;
 use std::alloc::Global;
@@ -88,20 +87,6 @@ pub(crate) fn start(rt: &impl Abort, shard: &mut Shard, dest: u32, wait: i64) ->
         kind: Kind::Wrapped,
     };
     shard.start(&start).expect(rt, "a timer")
-}
-
-pub(crate) fn take(rt: &impl Abort, shard: &mut Shard, process: u32) -> Taken
-    ensures { IsSame shard.old shard.new }
-{
-    is_home(rt, shard, process);
-    shard.take(process)
-}
-
-pub(crate) fn exit(rt: &impl Abort, shard: &mut Shard, process: u32) -> bool
-    ensures { IsSame shard.old shard.new }
-{
-    is_home(rt, shard, process);
-    shard.exit(process)
 }
 
 /// A reading of both clocks, in milliseconds.

@@ -1,8 +1,8 @@
-//! Each call of a hub and of two shards, on one thread.
-use crate::tests::calls::{cut, exit, join, open, same, start, take, tick, whole};
-use ert_defs::{Mail, NoMemory, OffsetState};
-use ert_effects::Taken;
-use ert_shard::{Hub, Shard, ShardErr, Turn};
+//! What a program in C cannot do with a hub and its shards: shards that come back, a seat, and a world again. Each call
+//! that it can make is tested by `examples/c/tests/shards.c`, and calls of many threads by `fuzz/shards.c`.
+use crate::tests::calls::{cut, join, open, same, start, tick, whole};
+use ert_defs::NoMemory;
+use ert_shard::{Shard, ShardErr, Turn};
 use ert_world::SeatErr;
 use std::process::Abort;
 
@@ -23,74 +23,6 @@ fn are_cut(rt: &impl Abort, low: &Shard, high: &Shard) {
     same(rt, &high.processes(), &4);
 }
 
-/// Each shard reads the other's timer, and one of them cancels it, once.
-fn cross(rt: &impl Abort, low: &mut Shard, high: &mut Shard) {
-    let timer = start(rt, low, 0, 50);
-    let other = start(rt, high, 2, 20);
-    same(rt, &high.read_timer(timer), &Some(50));
-    same(rt, &low.cancel_timer(other), &Some(20));
-    same(rt, &high.cancel_timer(other), &None);
-    same(rt, &high.read_timer(other), &None);
-    same(rt, &low.next_due(), &Some(50));
-}
-
-/// The timer of process 0 expires at 50 ms. That of process 2 was cancelled, and its row goes.
-fn expire(rt: &impl Abort, hub: &mut Hub, low: &mut Shard, high: &mut Shard) {
-    tick(rt, hub, 50);
-    same(rt, &hub.published(), &50_000_000);
-    same(rt, &low.monotonic_time(), &50_000_000);
-    same(rt, &low.system_time(), &50_000_000);
-    same(rt, &low.time_offset(), &(0, OffsetState::Final));
-    same(rt, &low.turn(), &Ok(turn(50, 1)));
-    same(rt, &high.turn(), &Ok(turn(50, 0)));
-    same(rt, &high.next_due(), &None);
-    let taken = take(rt, low, 0);
-    assert!(rt; matches!(taken, Taken::Mail(Mail::Timeout { msg: 7, .. })));
-    same(rt, &take(rt, low, 0), &Taken::Empty);
-}
-
-/// A process exits, and its timers are cancelled with it.
-fn leave(rt: &impl Abort, low: &mut Shard, high: &mut Shard) {
-    let timer = start(rt, high, 3, 10);
-    same(rt, &exit(rt, high, 3), &true);
-    same(rt, &exit(rt, high, 3), &false);
-    same(rt, &low.read_timer(timer), &None);
-    assert!(rt; 3 < low.processes());
-    same(rt, &low.is_alive(3), &false);
-    same(rt, &take(rt, high, 3), &Taken::Exited);
-}
-
-/// Both shards make each of their calls.
-#[test]
-fn shards_call(rt: HostRuntime) -> Result<(), NoMemory> {
-    let mut hub = open(&rt, rt.alloc())?;
-    let mut high = cut(&rt, &mut hub, 2);
-    let mut low = cut(&rt, &mut hub, 2);
-    are_cut(&rt, &low, &high);
-    cross(&rt, &mut low, &mut high);
-    expire(&rt, &mut hub, &mut low, &mut high);
-    leave(&rt, &mut low, &mut high);
-    Ok(())
-}
-
-/// The hub reads and cancels what a shard started.
-#[test]
-fn a_hub_calls(rt: HostRuntime) -> Result<(), NoMemory> {
-    let mut hub = open(&rt, rt.alloc())?;
-    let mut high = cut(&rt, &mut hub, 1);
-    let timer = start(&rt, &mut high, 3, 40);
-    tick(&rt, &mut hub, 15);
-    same(&rt, &hub.monotonic_time(), &15_000_000);
-    same(&rt, &hub.system_time(), &15_000_000);
-    same(&rt, &hub.time_offset(), &(0, OffsetState::Final));
-    same(&rt, &hub.read_timer(timer), &Some(25));
-    same(&rt, &hub.cancel_timer(timer), &Some(25));
-    same(&rt, &hub.cancel_timer(timer), &None);
-    assert!(rt; 3 < high.processes());
-    same(&rt, &high.is_alive(3), &true);
-    Ok(())
-}
-
 /// The shard that was cut last comes back first, and then the other is next. A wheel that has had timers isn't cut for
 /// fewer processes than it had.
 #[test]
@@ -98,6 +30,7 @@ fn shards_come_back(rt: HostRuntime) -> Result<(), NoMemory> {
     let mut hub = open(&rt, rt.alloc())?;
     let high = cut(&rt, &mut hub, 2);
     let mut low = cut(&rt, &mut hub, 2);
+    are_cut(&rt, &low, &high);
     let _timer = start(&rt, &mut low, 1, 5);
     same(&rt, &hub.is_next(&high), &false);
     join(&rt, &mut hub, low);
@@ -116,6 +49,7 @@ fn a_wheel_is_cut_again(rt: HostRuntime) -> Result<(), NoMemory> {
     join(&rt, &mut hub, high);
     let mut high = cut(&rt, &mut hub, 2);
     tick(&rt, &mut hub, 5);
+    same(&rt, &hub.published(), &5_000_000);
     same(&rt, &high.turn(), &Ok(turn(5, 1)));
     Ok(())
 }

@@ -1,4 +1,4 @@
-//! The commands `live` and `stress`.
+//! The command `live`.
 use super::{Given, ends, sound};
 use ert_program::EndStatus;
 use std::alloc::AllocError;
@@ -82,46 +82,6 @@ fn is_right<R: AllocGlobal + Threads + Wait + Sync>(
 fn tells_both_times_of_each_reading(rt: HostRuntime) -> Result<(), Fail> {
     for (number, row) in LIVE_ROWS.iter().enumerate() {
         assert!(rt; is_right(&rt, *row)?, "row {number}");
-    }
-    Ok(())
-}
-
-// The first draw of seed 1 chooses a turn, and that of seed 0 a receive. Seed 7 makes 262 starts in its first
-// 1,000 ops and 25,117 in 100,000, and there is a slot for each: a definition of the generator in another
-// language counts them so, with what becomes of them.
-const STRESS_ROWS: [(&str, &str, &str); 4] = [
-    (
-        "1",
-        "1",
-        "settled armed 0 expired 0 delivered 0 dropped 0 cancelled 0 orphaned 0\nend 0\n",
-    ),
-    (
-        "0",
-        "1",
-        "settled armed 0 expired 0 delivered 0 dropped 0 cancelled 0 orphaned 0\nend 0\n",
-    ),
-    (
-        "7",
-        "1000",
-        "settled armed 62 expired 0 delivered 179 dropped 0 cancelled 21 orphaned 0\nend 2986000000\n",
-    ),
-    (
-        "7",
-        "100000",
-        "settled armed 512 expired 0 delivered 24454 dropped 0 cancelled 151 orphaned 0\nend 259465000000\n",
-    ),
-];
-
-#[test]
-fn counts_the_timers_of_made_scenarios(rt: HostRuntime) -> Result<(), Fail> {
-    for (seed, n, lines) in STRESS_ROWS {
-        let words = ["stress", seed, n];
-        for _ in 0..2 {
-            assert!(rt;
-                ends(&rt, sound(&words, &[]), EndStatus::Done, lines)?,
-                "{seed} {n}"
-            );
-        }
     }
     Ok(())
 }

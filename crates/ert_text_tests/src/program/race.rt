@@ -1,5 +1,5 @@
 //! The command `race`.
-use super::{ends, ends_within, sound};
+use super::{ends_within, sound};
 use ert_program::EndStatus;
 use std::test::Fail;
 
@@ -32,42 +32,6 @@ fn reports_a_race_or_its_front(rt: HostRuntime) -> Result<(), Fail> {
         assert!(rt;
             ends_within(&rt, given, status, length, &REPORTS)?,
             "at {read}, {write}"
-        );
-    }
-    Ok(())
-}
-
-// The field `race` behind the others, and the line of `race`.
-const RACE_REFUSALS: [(&str, &str); 4] = [
-    ("", "refused shape 0\n"),
-    (
-        r#","race":{"turns":-1,"keeper":[],"callers":[]}"#,
-        "refused range 0\n",
-    ),
-    (
-        r#","race":{"turns":10001,"keeper":[],"callers":[]}"#,
-        "refused limit 0\n",
-    ),
-    (
-        r#","race":{"turns":0,"keeper":[],"callers":[[],[],[],[],[],[],[],[],[],[],[],[],[],[],[],[],[]]}"#,
-        "refused limit 0\n",
-    ),
-];
-
-#[test]
-fn refuses_other_races(rt: HostRuntime) -> Result<(), Fail> {
-    for (race, line) in RACE_REFUSALS {
-        let text = format!(in rt.alloc(); "{{\"format\":1,\"first\":[0,0],\"ops\":[]{race}}}")?;
-        let given = sound(&["race"], text.as_bytes());
-        assert!(rt; ends(&rt, given, EndStatus::Refused, line)?, "at {race}");
-        if race.is_empty() {
-            continue;
-        }
-        // `run` takes no scenario with a race.
-        let given = sound(&["run"], text.as_bytes());
-        assert!(rt;
-            ends(&rt, given, EndStatus::Refused, "refused shape 0\n")?,
-            "at {race}"
         );
     }
     Ok(())
