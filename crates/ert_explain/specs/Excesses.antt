@@ -3,6 +3,7 @@
 use Rattle.std.specs.Prelude.{ℕ, ℤ, pos, int_lt, nat_lt, List, length, codes, Bool, Option, Some, None, if◌then◌else◌}
 use Rattle.serde_json.specs.Data.{Data}
 use Rattle.serde_json.specs.Find.{get}
+use Rattle.ert_scenario.specs.declared.limits.TheConstants.{MOST_LISTS, MOST_TURNS}
 use Rattle.ert_explain.specs.FieldRanges.{number_at}
 use Rattle.ert_explain.specs.Places.{items_at}
 use Rattle.ert_explain.specs.declared.excess.Excess.{Excess}
@@ -11,7 +12,7 @@ use Rattle.ert_explain.specs.declared.field.Field.TheVariants as fields
 
 -- that of a race with so many callers' lists and turns
 abbrev pub race_excess : ℕ → ℤ → Excess
-race_excess callers turns = if nat_lt 16 callers then Callers callers else (if int_lt (pos 10000) turns then Turns turns else Ops)
+race_excess callers turns = if nat_lt MOST_LISTS callers then Callers callers else (if int_lt (pos MOST_TURNS) turns then Turns turns else Ops)
 
 -- that of the race that this is, where it is there and wanted
 abbrev pub excess_by : Bool → Option Data → Excess

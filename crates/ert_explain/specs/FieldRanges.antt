@@ -6,6 +6,7 @@ use Rattle.std.specs.Option.{option_or}
 use Rattle.std.specs.Ordering.{int_eq}
 use Rattle.serde_json.specs.Data.{Data}
 use Rattle.serde_json.specs.Find.{get, as_number, as_i64}
+use Rattle.ert_scenario.specs.declared.limits.TheConstants.{MOST_SCHEDULERS, MOST_PROCESSES, MOST_SLOTS, MOST_SLOTS_IN_ALL, MOST_TURNS}
 use Rattle.ert_explain.specs.FieldNames.{name_of}
 use Rattle.ert_explain.specs.OpRanges.{is_out}
 use Rattle.ert_explain.specs.Places.{items_at}
@@ -52,12 +53,12 @@ counts_of d = record { schedulers = number_at Schedulers (pos 1) d; processes = 
 -- the slots of all wheels together, where their count fits 64 bits
 unfoldable pub slots_range : ℤ → ℤ → Option FieldRange
 slots_range schedulers slots =
-    if int_lt (pos 262144) (schedulers *ℤ slots) && int_lt (schedulers *ℤ slots) (pos 9223372036854775808) then Some ManySlots else None
+    if int_lt (pos MOST_SLOTS_IN_ALL) (schedulers *ℤ slots) && int_lt (schedulers *ℤ slots) (pos 9223372036854775808) then Some ManySlots else None
 
 -- the counts
 unfoldable pub sizes_range : Data → Option FieldRange
 sizes_range d =
-    option_or (option_or (option_or (outside Schedulers (pos 1) (pos 64) d) (outside Processes (pos 1) (pos 1024) d)) (outside Slots (pos 1) (pos 65536) d))
+    option_or (option_or (option_or (outside Schedulers (pos 1) (pos MOST_SCHEDULERS) d) (outside Processes (pos 1) (pos MOST_PROCESSES) d)) (outside Slots (pos 1) (pos MOST_SLOTS) d))
     (slots_range (number_at Schedulers (pos 1) d) (number_at Slots (pos 1024) d))
 
 -- a time that is no multiple of 1,000,000
@@ -83,7 +84,7 @@ reading_range (mono ∷ sys ∷ d ∷ ds) = None
 -- the turns of the race that this is, where it is there
 abbrev pub turns_by : Bool → Option Data → Option FieldRange
 turns_by race None = None
-turns_by race (Some it) = if race then outside Turns (pos 0) (pos 10000) it else None
+turns_by race (Some it) = if race then outside Turns (pos 0) (pos MOST_TURNS) it else None
 
 -- the turns of a race
 unfoldable pub turns_range : Bool → Data → Option FieldRange

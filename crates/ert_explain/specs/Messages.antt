@@ -2,6 +2,7 @@
 
 use Rattle.std.specs.Prelude.{ℕ, ◌==◌, ◌++◌, List, [], codes, Bool, true, false, Option, Some, None, if◌then◌else◌, ℤ}
 use Rattle.std.specs.Fmt.{decimal, signed_decimal}
+use Rattle.ert_scenario.specs.declared.limits.TheConstants.{MOST_SLOTS_IN_ALL, MOST_LISTS, MOST_TURNS, MOST_OPS}
 use Rattle.ert_scenario.specs.declared.scenario.ScenarioErr.{ScenarioErr}
 use Rattle.ert_scenario.specs.declared.scenario.ScenarioErr.TheVariants as refusals
 use Rattle.ert_explain.specs.Explained.{part_of}
@@ -70,7 +71,7 @@ fields_front (shapes.Caller number) = caller_text number
 -- of the range of a field
 abbrev pub range_front : RangeOfField → List ℕ
 range_front (ranges.Outside field limits) = codes "\"" ⋅ name_of field ⋅ codes "\" is "
-range_front ranges.ManySlots = codes "all schedulers together have more than 262144 slots"
+range_front ranges.ManySlots = codes "all schedulers together have more than " ⋅ decimal MOST_SLOTS_IN_ALL ⋅ codes " slots"
 range_front ranges.PartOfMillisecond = codes "\"start\" is "
 range_front (ranges.Reading param limits) = param_word param ⋅ codes " is "
 
@@ -99,9 +100,9 @@ op_front ops.Sound = codes "this is no op"
 
 -- of too many of something
 abbrev pub excess_front : TooMany → List ℕ
-excess_front (excesses.Callers count) = codes "there are " ⋅ decimal count ⋅ codes " lists of callers, and at most 16 may be"
-excess_front (excesses.Turns turns) = codes "there are " ⋅ signed_decimal turns ⋅ codes " turns, and at most 10000 may be"
-excess_front excesses.Ops = codes "there are more than 100000 ops"
+excess_front (excesses.Callers count) = codes "there are " ⋅ decimal count ⋅ codes " lists of callers, and at most " ⋅ decimal MOST_LISTS ⋅ codes " may be"
+excess_front (excesses.Turns turns) = codes "there are " ⋅ signed_decimal turns ⋅ codes " turns, and at most " ⋅ decimal MOST_TURNS ⋅ codes " may be"
+excess_front excesses.Ops = codes "there are more than " ⋅ decimal MOST_OPS ⋅ codes " ops"
 
 -- of a cause
 abbrev pub front_text : Cause → List ℕ

@@ -6,16 +6,17 @@ ghost use Rattle.ert_explain.specs.Excesses.{excess_of, race_excess};
 use crate::field::Field;
 use crate::field_range::number_at;
 use crate::place::items_of;
+use ert_scenario::limits::{MOST_LISTS, MOST_TURNS};
 use serde_json::Value;
 
 /// Of what a scenario has too many.
 #[derive(Clone, Copy)]
 pub enum Excess {
-    /// So many callers' lists, which are more than 16.
+    /// So many callers' lists, which are more than `MOST_LISTS`.
     Callers(usize),
-    /// So many turns, which are more than 10,000.
+    /// So many turns, which are more than `MOST_TURNS`.
     Turns(i64),
-    /// Neither of these, so ops: there are more than 100,000 in all lists together.
+    /// Neither of these, so ops: there are more than `MOST_OPS` in all lists together.
     Ops,
 }
 
@@ -37,10 +38,10 @@ pub(crate) fn excess_of(value: &Value, race: bool) -> Excess
 fn race_excess(callers: usize, turns: i64) -> Excess
     ensures { result ≡ race_excess callers turns }
 {
-    if callers > 16 {
+    if callers > MOST_LISTS as usize {
         return Excess::Callers(callers);
     }
-    if turns > 10_000 {
+    if turns > MOST_TURNS as i64 {
         return Excess::Turns(turns);
     }
     Excess::Ops

@@ -9,6 +9,9 @@ use crate::op_range::{Counts, Limits, is_out};
 use crate::param::Param;
 use crate::place::items_of;
 use ert_defs::milliseconds::NANOSECONDS_PER_MILLISECOND;
+use ert_scenario::limits::{
+    MOST_PROCESSES, MOST_SCHEDULERS, MOST_SLOTS, MOST_SLOTS_IN_ALL, MOST_TURNS,
+};
 use serde_json::Value;
 
 /// Which field of a scenario is out of its range: the first of these that is.
@@ -16,7 +19,7 @@ use serde_json::Value;
 pub enum FieldRange {
     /// The number of this field isn't within these limits.
     Outside(Field, Limits),
-    /// There are more than 262,144 slots in all wheels together.
+    /// There are more than `MOST_SLOTS_IN_ALL` slots in all wheels together.
     ManySlots,
     /// The start time is no multiple of 1,000,000.
     PartOfMillisecond,
@@ -55,9 +58,9 @@ fn outside(value: &Value, field: Field, least: i64, greatest: i64) -> Option<Fie
 fn sizes_range(value: &Value) -> Option<FieldRange>
     ensures { result ≡ sizes_range (view value.now) }
 {
-    outside(value, Field::Schedulers, 1, 64)
-        .or(outside(value, Field::Processes, 1, 1024))
-        .or(outside(value, Field::Slots, 1, 65_536))
+    outside(value, Field::Schedulers, 1, MOST_SCHEDULERS as i64)
+        .or(outside(value, Field::Processes, 1, MOST_PROCESSES as i64))
+        .or(outside(value, Field::Slots, 1, MOST_SLOTS as i64))
         .or(slots_range(
             number_at(value, Field::Schedulers, 1),
             number_at(value, Field::Slots, 1024),
@@ -70,7 +73,7 @@ fn slots_range(schedulers: i64, slots: i64) -> Option<FieldRange>
     ensures { result ≡ slots_range schedulers slots }
 {
     match schedulers.checked_mul(slots) {
-        Some(all) if all > 262_144 => Some(FieldRange::ManySlots),
+        Some(all) if all > MOST_SLOTS_IN_ALL as i64 => Some(FieldRange::ManySlots),
         _ => None,
     }
 }
@@ -162,7 +165,7 @@ fn turns_range(value: &Value, race: bool) -> Option<FieldRange>
     ensures { result ≡ turns_range race (view value.now) }
 {
     match value.get("race") {
-        Some(it) if race => outside(it, Field::Turns, 0, 10_000),
+        Some(it) if race => outside(it, Field::Turns, 0, MOST_TURNS as i64),
         _ => None,
     }
 }

@@ -4,19 +4,18 @@
 use Rattle.std.proofs.Common.{◌≡◌, ◌∙◌, refl, sym, ap, inl, inr, ℕ, ℤ, ◌<◌, Bool, true, false, cond, ◌&&◌, nat_eq, List, [], length, get_or, set, Option, Some, eq-eqb, ne_eqb}
 use Rattle.std.proofs.lemmas.Bool.{cases_eq}
 use Rattle.std.proofs.lemmas.List.{length-set, get_or-set_same, get_or-set_other}
-use Rattle.std.specs.Prelude.{◌||◌}
 use Rattle.ert_defs.proofs.FiredTimers.{cond_same}
 use Rattle.ert_defs.specs.Actors.{same_actor, is_with, IsUser}
-use Rattle.ert_defs.specs.Mails.{MailState, SchedState, no_mail, idle_sched, mail_after, inbox_after, sched_after}
-use Rattle.ert_defs.specs.States.{look_after, exited_after}
+use Rattle.ert_defs.specs.Mails.{SchedState, idle_sched, inbox_after, sched_after}
+use Rattle.ert_defs.specs.States.{look_after}
 use Rattle.ert_defs.specs.Timers.{Row}
 use Rattle.ert_defs.specs.declared.entry.Actor.{Actor}
 use Rattle.ert_defs.specs.declared.entry.Actor.TheVariants.{Keeper, Wheel, Inbox, Sched, MailOf, Caller}
 use Rattle.ert_defs.specs.declared.entry.Event.{Event}
-use Rattle.ert_defs.specs.declared.entry.Event.TheVariants.{Look, Mark}
+use Rattle.ert_defs.specs.declared.entry.Event.TheVariants.{Look}
 use Rattle.ert_defs.specs.declared.mail.Request.{Request}
 use Rattle.ert_defs.specs.declared.settings.Settings.{Settings}
-use Rattle.ert_state.specs.Parts.{LastLooks, look_of, looks_after, exited_at, exits_after, mail_at, mails_after, inbox_at, inboxes_after, sched_at, scheds_after}
+use Rattle.ert_state.specs.Parts.{LastLooks, look_of, looks_after, inbox_at, inboxes_after, sched_at, scheds_after}
 
 -- a cell of a list of which one cell was set
 pub cell_set : {X : Type 0} (xs : List X) (i j : ℕ) (v d : X) → i < length xs
@@ -33,21 +32,6 @@ cell_after f xs i j d low = cell_set xs i j (f (get_or xs i d)) d low ∙ elim (
   | inl is ↦ ap (λ k. cond (nat_eq i j) (f (get_or xs k d)) (get_or xs j d)) is
   | inr not ↦ rw (ne_eqb i j not) refl
 ]
-
--- the mailboxes go on as those of the model
-pub mails_follow : (scheds : ℕ → SchedState) (with : Option Actor) (event : Event) (xs : List MailState)
-    → ((p : ℕ) → with ≡ Some (MailOf p) → p < length xs) → (q : ℕ)
-    → mail_at (mails_after scheds with event xs) q
-    ≡ cond (is_with with (MailOf q)) (mail_after scheds (mail_at xs q) event) (mail_at xs q)
-mails_follow scheds (Some (MailOf p)) event xs below q =
-    cell_after (λ m. mail_after scheds m event) xs p q no_mail (below p refl)
-mails_follow scheds _ event xs below q = refl
-
--- and stay as many
-pub length-mails_after : (scheds : ℕ → SchedState) (with : Option Actor) (event : Event) (xs : List MailState)
-    → length (mails_after scheds with event xs) ≡ length xs
-length-mails_after scheds (Some (MailOf p)) event xs = length-set xs p _
-length-mails_after scheds _ event xs = refl
 
 -- the inboxes go on as those of the model
 pub inboxes_follow : (with : Option Actor) (event : Event) (xs : List (List Request))
@@ -120,30 +104,3 @@ length-schedulers_after (Inbox n) (Look now) l = refl
 length-schedulers_after (MailOf n) (Look now) l = refl
 length-schedulers_after (Caller n) (Look now) l = refl
 length-schedulers_after by _ l = refl
-
-exits_or : (b x : Bool) → cond b true x ≡ (x || (b && true))
-exits_or true true = refl
-exits_or true false = refl
-exits_or false true = refl
-exits_or false false = refl
-
-exits_stay : (b x : Bool) → x ≡ (x || (b && false))
-exits_stay true true = refl
-exits_stay true false = refl
-exits_stay false true = refl
-exits_stay false false = refl
-
--- the exits go on as those of the model
-pub exits_follow : (event : Event) (xs : List Bool)
-    → ((p : ℕ) (exits was : Bool) → event ≡ Mark p exits was → p < length xs) → (q : ℕ)
-    → exited_at (exits_after event xs) q ≡ exited_after q (exited_at xs q) event
-exits_follow (Mark p true was) xs below q =
-    cell_set xs p q true false (below p true was refl) ∙ exits_or (nat_eq p q) (get_or xs q false)
-exits_follow (Mark p false was) xs below q = exits_stay (nat_eq p q) (get_or xs q false)
-exits_follow _ xs below q = refl
-
--- and stay as many
-pub length-exits_after : (event : Event) (xs : List Bool) → length (exits_after event xs) ≡ length xs
-length-exits_after (Mark p true was) xs = length-set xs p true
-length-exits_after (Mark p false was) xs = refl
-length-exits_after _ xs = refl

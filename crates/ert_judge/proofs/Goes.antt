@@ -22,8 +22,8 @@ use Rattle.ert_state.specs.Uses.{uses_in}
 use Rattle.ert_state.specs.Wheels.{timers_at, IsOwn}
 use Rattle.ert_judge.specs.declared.judge.Judge.{Judge}
 use Rattle.ert_state.specs.declared.wheels.Timer.{Timer}
-use Rattle.ert_judge.proofs.CellLaws.{mails_follow, length-mails_after, inboxes_follow, length-inboxes_after, scheds_follow, length-scheds_after, looks_follow, length-callers_after, length-schedulers_after, exits_follow, length-exits_after}
-use Rattle.ert_judge.proofs.Makers.{IsMade, IsPartner, made, looker, marked, not_by_wheel, not_by_inbox, not_by_mail, not_with_sched}
+use Rattle.ert_judge.proofs.CellLaws.{inboxes_follow, length-inboxes_after, scheds_follow, length-scheds_after, looks_follow, length-callers_after, length-schedulers_after}
+use Rattle.ert_judge.proofs.Makers.{IsMade, IsPartner, made, looker, not_by_wheel, not_by_inbox, not_by_mail, not_with_sched}
 use Rattle.ert_judge.proofs.Stands.{same_states, by_other, with_other, clock_stands}
 
 -- the timers have gone on by an event that is made with an actor
@@ -35,10 +35,6 @@ pub record TimersGo (g : Settings) (look : ℤ) (with : Option Actor) (event : E
   pub wheels : length new ≡ length old
 
 -- the number that an actor in range names is below its count
-mail_below : (g : Settings) (with : Option Actor) (n p : ℕ) → IsPartner g with → n ≡ g.processes → with ≡ Some (MailOf p) → p < n
-mail_below g with n p partner count is =
-    subst (λ (x : ℕ). p < x) (sym count) (subst (IsPartner g) is partner)
-
 inbox_below : (g : Settings) (with : Option Actor) (n w : ℕ) → IsPartner g with → n ≡ g.schedulers → with ≡ Some (Inbox w) → w < n
 inbox_below g with n w partner count is =
     subst (λ (x : ℕ). w < x) (sym count) (subst (IsPartner g) is partner)
@@ -47,23 +43,17 @@ sched_below : (g : Settings) (by : Actor) (n w : ℕ) → IsMaker g by → n ≡
 sched_below g by n w maker count is =
     subst (λ (x : ℕ). w < x) (sym count) (subst (IsMaker g) is maker)
 
-mark_below : (g : Settings) (by : Actor) (with : Option Actor) (event : Event) (n p : ℕ) (exits was : Bool)
-    → Keeps g by with event → n ≡ g.processes → event ≡ Mark p exits was → p < n
-mark_below g by with event n p exits was keeps count is =
-    subst (λ (x : ℕ). p < x) (sym count) (marked g by with p exits was (subst (λ (x : Event). Keeps g by with x) is keeps))
-
 look_by : (g : Settings) (by : Actor) (with : Option Actor) (event : Event) (now : ℤ) → Keeps g by with event → event ≡ Look now → IsUser g by
 look_by g by with event now keeps is = looker g by with now (subst (λ (x : Event). Keeps g by with x) is keeps)
 
 -- the state that a judge keeps moves as the model's
 goes : (g : Settings) (c : Clock) (old new : Judge) (e : Entry) → Keeps g e.by e.with e.event
     → length (looks_in old.looks).callers ≡ g.callers → length (looks_in old.looks).schedulers ≡ g.schedulers
-    → length old.exits ≡ g.processes → length old.mailboxes ≡ g.processes
     → length old.inboxes ≡ g.schedulers → length old.schedulers ≡ g.schedulers
     → TimersGo g (look_of (looks_in old.looks) e.by) e.with e.event old.timers new.timers
     → Follows old e new
     → next g (shown c old) e ≡ shown (next g (shown c old) e).clock new
-goes g c old new e keeps callers lookers processes mails inboxes schedulers timers follows =
+goes g c old new e keeps callers lookers inboxes schedulers timers follows =
     let m : IsMade g e.by e.with = made g e.by e.with e.event keeps in
     same_states (next g (shown c old) e) (shown (next g (shown c old) e).clock new)
     refl
@@ -72,12 +62,8 @@ goes g c old new e keeps callers lookers processes mails inboxes schedulers time
     (λ w. rw (by_other e.by (Wheel w) e.with (not_by_wheel g e.by w m.maker)) (sym (timers.rows w)))
     (λ w k. rw (by_other e.by (Wheel w) e.with (not_by_wheel g e.by w m.maker)) (sym (timers.uses w k)))
     (λ r. rw (by_other e.by (Wheel r.wheel) e.with (not_by_wheel g e.by r.wheel m.maker)) (sym (timers.status r)))
-    (λ p. sym (ap (λ xs. exited_at xs p) follows.exits
-    ∙ exits_follow e.event old.exits
-    (λ q exits was. mark_below g e.by e.with e.event (length old.exits) q exits was keeps processes) p))
-    (λ p. rw (by_other e.by (MailOf p) e.with (not_by_mail g e.by p m.maker)) (sym (ap (λ xs. mail_at xs p) follows.mailboxes
-    ∙ mails_follow (scheds_in old.schedulers) e.with e.event old.mailboxes
-    (λ q. mail_below g e.with (length old.mailboxes) q m.partner mails) p)))
+    (λ p. sym (follows.exits p))
+    (λ p. rw (by_other e.by (MailOf p) e.with (not_by_mail g e.by p m.maker)) (sym (follows.mailboxes p)))
     (λ w. rw (by_other e.by (Inbox w) e.with (not_by_inbox g e.by w m.maker)) (sym (ap (λ xs. inbox_at xs w) follows.inboxes
     ∙ inboxes_follow e.with e.event old.inboxes
     (λ v. inbox_below g e.with (length old.inboxes) v m.partner inboxes) w)))
@@ -94,8 +80,7 @@ stands_on g h old new e stands can timers follows =
     let P : State → Type 0 = λ s. s ≡ shown s.clock new in
     let to : next g (state g h) e ≡ state g (h ++ e ∷ []) = sym (state-append g h (e ∷ [])) in
     let from : next g (shown c old) e ≡ next g (state g h) e = ap (λ s. next g s e) (sym stands.kept) in
-    let kept : P (next g (shown c old) e) = goes g c old new e can.keeps stands.callers stands.lookers stands.processes stands.mails
-    stands.inboxes stands.schedulers timers follows in
+    let kept : P (next g (shown c old) e) = goes g c old new e can.keeps stands.callers stands.lookers stands.inboxes stands.schedulers timers follows in
     let clock : ClockIs g (next g (state g h) e).clock new.clock =
     clock_stands g c e.by e.with e.event old.clock new.clock can.keeps stands.clock
     (subst (λ (x : Settings). ClockFollows x old.clock e.event new.clock) stands.settings follows.clock) in
@@ -108,8 +93,6 @@ stands_on g h old new e stands can timers follows =
       callers = ap (λ (l : LastLooks). length l.callers) follows.looks ∙ length-callers_after e.by e.event (looks_in old.looks) ∙ stands.callers;
       lookers = ap (λ (l : LastLooks). length l.schedulers) follows.looks ∙ length-schedulers_after e.by e.event (looks_in old.looks) ∙ stands.lookers;
       wheels = timers.wheels ∙ stands.wheels;
-      processes = ap length follows.exits ∙ length-exits_after e.event old.exits ∙ stands.processes;
-      mails = ap length follows.mailboxes ∙ length-mails_after (scheds_in old.schedulers) e.with e.event old.mailboxes ∙ stands.mails;
       inboxes = ap length follows.inboxes ∙ length-inboxes_after e.with e.event old.inboxes ∙ stands.inboxes;
       schedulers = ap length follows.schedulers ∙ length-scheds_after (rows_in old.timers) e.by e.event old.schedulers ∙ stands.schedulers;
     }

@@ -142,8 +142,3 @@ not_with_sched g (Some (Sched v)) w h = absurd h
 -- who looks is a caller or a scheduler in range
 pub looker : (g : Settings) (by : Actor) (with : Option Actor) (now : ℤ) → Keeps g by with (Look now) → IsUser g by
 looker g by with now k = k.0
-
--- the process of a mark is in range
-pub marked : (g : Settings) (by : Actor) (with : Option Actor) (p : ℕ) (exits was : Bool)
-    → Keeps g by with (Mark p exits was) → p < g.processes
-marked g by with p exits was k = k.2

@@ -1,15 +1,15 @@
 -- A judge at the opening stands for the empty history.
 
-use Rattle.std.proofs.Common.{arith, ◌≡◌, [], ℕ, zero, suc, refl, sym, ap, ◌∙◌, List, length, false}
+use Rattle.std.proofs.Common.{arith, ◌≡◌, [], ℕ, zero, suc, refl, sym, ap, ◌∙◌, List, length}
 use Rattle.std.specs.Prelude.{get_or, replicate}
 use Rattle.std.proofs.lemmas.List.{length-replicate}
 use Rattle.ert_defs.specs.Clocks.{first_clock}
-use Rattle.ert_defs.specs.Mails.{no_mail, idle_sched}
+use Rattle.ert_defs.specs.Mails.{idle_sched}
 use Rattle.ert_defs.specs.States.{opening}
 use Rattle.ert_defs.specs.declared.entry.Actor.{Actor}
 use Rattle.ert_defs.specs.declared.entry.Actor.TheVariants.{Keeper, Wheel, Inbox, Sched, MailOf, Caller}
 use Rattle.ert_defs.specs.declared.settings.Settings.{Settings}
-use Rattle.ert_state.specs.Parts.{LastLooks, no_looks, look_of, exited_at, mail_at, inbox_at, sched_at}
+use Rattle.ert_state.specs.Parts.{LastLooks, no_looks, look_of, inbox_at, sched_at}
 use Rattle.ert_judge.specs.Shown.{shown, IsOpening, StandsFor}
 use Rattle.ert_state.specs.Uses.{uses_in}
 use Rattle.ert_state.specs.Wheels.{timers_at, rows_of, status_in, IsOwn}
@@ -49,16 +49,14 @@ stands_open g j is = record {
       (λ w. sym (ap rows_of (none_at g j w is)))
       (λ w k. sym (ap (λ ts. uses_in ts k) (none_at g j w is)))
       (λ r. sym (ap (λ ts. status_in ts r) (none_at g j r.wheel is)))
-      (λ p. sym (ap (λ xs. exited_at xs p) is.exits ∙ cell_opening g.processes p false))
-      (λ p. sym (ap (λ xs. mail_at xs p) is.mailboxes ∙ cell_opening g.processes p no_mail))
+      (λ p. sym (is.exits p))
+      (λ p. sym (is.mailboxes p))
       (λ w. sym (ap (λ xs. inbox_at xs w) is.inboxes ∙ cell_opening g.schedulers w []))
       (λ w. sym (ap (λ xs. sched_at xs w) is.schedulers ∙ cell_opening g.schedulers w idle_sched));
   own = λ w. own_none w (timers_at j.timers w) (none_at g j w is);
   callers = ap (λ (l : LastLooks). length l.callers) is.looks ∙ length-replicate g.callers g.start;
   lookers = ap (λ (l : LastLooks). length l.schedulers) is.looks ∙ length-replicate g.schedulers g.start;
   wheels = ap length is.timers ∙ length-replicate g.schedulers [];
-  processes = ap length is.exits ∙ length-replicate g.processes false;
-  mails = ap length is.mailboxes ∙ length-replicate g.processes no_mail;
   inboxes = ap length is.inboxes ∙ length-replicate g.schedulers [];
   schedulers = ap length is.schedulers ∙ length-replicate g.schedulers idle_sched;
 }

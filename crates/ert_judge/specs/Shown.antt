@@ -6,7 +6,7 @@ use Rattle.ert_defs.specs.Legal.{CanTick, Legal}
 use Rattle.ert_defs.specs.Lines.{Face, Due, due_after, ticked, shifted}
 use Rattle.ert_defs.specs.Mails.{no_mail, idle_sched}
 use Rattle.ert_defs.specs.Milliseconds.{down, deadline_of}
-use Rattle.ert_defs.specs.States.{State, state}
+use Rattle.ert_defs.specs.States.{State, exited_after, state}
 use Rattle.ert_defs.specs.Timers.{IsNextUse, is_taken, timer_at}
 use Rattle.ert_defs.specs.declared.entry.Actor.{Actor}
 use Rattle.ert_defs.specs.declared.entry.Entry.{Entry}
@@ -16,7 +16,7 @@ use Rattle.ert_defs.specs.declared.settings.Settings.{Settings}
 use Rattle.ert_defs.specs.declared.timer.Status.{Status}
 use Rattle.ert_defs.specs.declared.timer.TimerRef.{TimerRef}
 use Rattle.ert_clock.specs.Faces.{face_of}
-use Rattle.ert_state.specs.Parts.{looks_in, no_looks, look_of, looks_after, rows_in, status_at, timers_after, exited_at, exits_after, mail_at, mails_after, inbox_at, inboxes_after, sched_at, scheds_in, scheds_after}
+use Rattle.ert_state.specs.Parts.{looks_in, no_looks, look_of, looks_after, rows_in, status_at, timers_after, exited_at, mail_at, mail_after_with, inbox_at, inboxes_after, sched_at, scheds_in, scheds_after}
 use Rattle.ert_state.specs.Uses.{uses_in}
 use Rattle.ert_state.specs.Wheels.{timers_at, is_settled, IsOwn}
 use Rattle.ert_state.specs.declared.clock.Clock.{Clock as KeptClock}
@@ -53,8 +53,8 @@ pub record IsOpening (g : Settings) (j : Judge) : Type 0 where
   pub clock : ClockIs g (first_clock g) j.clock
   pub looks : looks_in j.looks ≡ no_looks g
   pub timers : j.timers ≡ replicate g.schedulers []
-  pub exits : j.exits ≡ replicate g.processes false
-  pub mailboxes : j.mailboxes ≡ replicate g.processes no_mail
+  pub exits : (p : ℕ) → exited_at j.exits p ≡ false
+  pub mailboxes : (p : ℕ) → mail_at j.mailboxes p ≡ no_mail
   pub inboxes : j.inboxes ≡ replicate g.schedulers []
   pub schedulers : j.schedulers ≡ replicate g.schedulers idle_sched
 
@@ -112,8 +112,9 @@ pub record Follows (old : Judge) (e : Entry) (new : Judge) : Type 0 where
   pub looks : looks_in new.looks ≡ looks_after e.by e.event (looks_in old.looks)
   pub timers : new.timers
       ≡ timers_after (deadline_by old.settings (last_look old e.by) e.event) e.event old.timers
-  pub exits : new.exits ≡ exits_after e.event old.exits
-  pub mailboxes : new.mailboxes ≡ mails_after (scheds_in old.schedulers) e.with e.event old.mailboxes
+  pub exits : (p : ℕ) → exited_at new.exits p ≡ exited_after p (exited_at old.exits p) e.event
+  pub mailboxes : (p : ℕ) → mail_at new.mailboxes p
+      ≡ mail_after_with (scheds_in old.schedulers) e.with e.event p (mail_at old.mailboxes p)
   pub inboxes : new.inboxes ≡ inboxes_after e.with e.event old.inboxes
   pub schedulers : new.schedulers ≡ scheds_after (rows_in old.timers) e.by e.event old.schedulers
 
@@ -127,7 +128,5 @@ pub record StandsFor (g : Settings) (h : List Entry) (j : Judge) : Type 0 where
   pub callers : length (looks_in j.looks).callers ≡ g.callers
   pub lookers : length (looks_in j.looks).schedulers ≡ g.schedulers
   pub wheels : length j.timers ≡ g.schedulers
-  pub processes : length j.exits ≡ g.processes
-  pub mails : length j.mailboxes ≡ g.processes
   pub inboxes : length j.inboxes ≡ g.schedulers
   pub schedulers : length j.schedulers ≡ g.schedulers

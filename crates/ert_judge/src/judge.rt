@@ -40,8 +40,8 @@ impl Judge {
             clock: Clock::opening(settings),
             looks: Looks::new(alloc, settings)?,
             timers: Timers::new(alloc, settings.schedulers)?,
-            exits: Exits::new(alloc, settings.processes)?,
-            mailboxes: Mailboxes::new(alloc, settings.processes)?,
+            exits: Exits::new(alloc),
+            mailboxes: Mailboxes::new(alloc),
             inboxes: Inboxes::new(alloc, settings.schedulers)?,
             schedulers: Schedulers::new(alloc, settings.schedulers)?,
         })
@@ -60,7 +60,7 @@ impl Judge {
         self.schedulers.follow(entry.by, event, &self.timers)?;
         self.timers.follow(event, deadline)?;
         self.looks.follow(entry.by, event);
-        self.exits.follow(event);
+        self.exits.follow(event)?;
         self.inboxes.follow(entry.with, event)?;
         self.follow_clock(event);
         Ok(())

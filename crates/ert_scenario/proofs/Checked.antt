@@ -3,6 +3,7 @@
 use Rattle.std.proofs.Common.{◌≡◌, ◌&&◌, ◌*◌, ◌≤◌, ℕ, ℤ, ◌≤ℤ◌, ◌<ℤ◌, true, false, Result, Ok, Err, is_ok, leb, int_le, int_lt, leb-true, le-leb, arith, refl}
 use Rattle.std.proofs.lemmas.Bool.{false≢true}
 use Rattle.std.proofs.lemmas.Int.{ints}
+use Rattle.std.proofs.lemmas.Nat.{mul-le}
 use Rattle.std.specs.Bool.{Decides}
 use Rattle.std.proofs.lemmas.Bool.Decides.{Decides-and, Decides-like, Decides-int_eq, same_from_decides}
 use Rattle.ert_defs.specs.Readings.{IsValid}
@@ -10,7 +11,9 @@ use Rattle.ert_defs.specs.Settings.{IsStart, HasCounts, IsChecked, Checks}
 use Rattle.ert_defs.specs.declared.settings.Reading.{Reading}
 use Rattle.ert_defs.specs.declared.settings.Settings.{Settings}
 use Rattle.ert_defs.specs.declared.settings.SettingsFault.{SettingsFault}
+use Rattle.ert_defs.specs.declared.settings.TheConstants.{MOST_CHAINS}
 use Rattle.ert_defs.specs.declared.settings.SettingsFault.TheVariants.{Start, First, Count}
+use Rattle.ert_scenario.specs.declared.limits.TheConstants.{MOST_SCHEDULERS, MOST_PROCESSES, MOST_SLOTS, MOST_SLOTS_IN_ALL, MOST_CALLERS}
 use Rattle.ert_scenario.specs.Ranges.{is_reading, is_start, has_counts, is_checked}
 
 pub Decides-nat_le : (a b : ℕ) → Decides (leb a b) (a ≤ b)
@@ -46,14 +49,18 @@ within low value high = Decides-and _ _ (Decides-nat_le low value) (Decides-nat_
 -- the counts of a scenario
 pub record IsSmall (g : Settings) : Type 0 where
   pub schedulers_low : 1 ≤ g.schedulers
-  pub schedulers_high : g.schedulers ≤ 64
+  pub schedulers_high : g.schedulers ≤ MOST_SCHEDULERS
   pub processes_low : 1 ≤ g.processes
-  pub processes_high : g.processes ≤ 1024
+  pub processes_high : g.processes ≤ MOST_PROCESSES
   pub slots_low : 1 ≤ g.slots
-  pub slots_high : g.slots ≤ 65536
-  pub slots_in_all : (g.schedulers * g.slots) ≤ 262144
+  pub slots_high : g.slots ≤ MOST_SLOTS
+  pub slots_in_all : (g.schedulers * g.slots) ≤ MOST_SLOTS_IN_ALL
   pub callers_low : 1 ≤ g.callers
-  pub callers_high : g.callers ≤ 17
+  pub callers_high : g.callers ≤ MOST_CALLERS
+
+-- so many schedulers and processes have fewer chains of timers than a service can have
+few_chains : (schedulers processes : ℕ) → schedulers ≤ MOST_SCHEDULERS → processes ≤ MOST_PROCESSES → (schedulers * processes) ≤ MOST_CHAINS
+few_chains schedulers processes few small = omega (arith, mul-le schedulers processes MOST_SCHEDULERS MOST_PROCESSES few small)
 
 -- a service can have them
 small_fits : (g : Settings) → IsSmall g → HasCounts g
@@ -62,6 +69,7 @@ small_fits g h = record {
   schedulers_high = omega (arith, h.schedulers_high);
   processes_low = h.processes_low;
   processes_high = omega (arith, h.processes_high);
+  chains_in_all = few_chains g.schedulers g.processes h.schedulers_high h.processes_high;
   slots_low = h.slots_low;
   slots_high = omega (arith, h.slots_high);
   slots_in_all = omega (arith, h.slots_in_all);
@@ -91,10 +99,10 @@ Decides-counts g =
         ((h.slots_low, h.slots_high), (h.slots_in_all, (h.callers_low, h.callers_high))),
       ),
     ))
-    (Decides-and _ _ (within 1 g.schedulers 64)
-    (Decides-and _ _ (within 1 g.processes 1024)
-    (Decides-and _ _ (within 1 g.slots 65536)
-    (Decides-and _ _ (Decides-nat_le _ _) (within 1 g.callers 17)))))
+    (Decides-and _ _ (within 1 g.schedulers MOST_SCHEDULERS)
+    (Decides-and _ _ (within 1 g.processes MOST_PROCESSES)
+    (Decides-and _ _ (within 1 g.slots MOST_SLOTS)
+    (Decides-and _ _ (Decides-nat_le _ _) (within 1 g.callers MOST_CALLERS)))))
 
 pub Decides-checked : (g : Settings) → Decides (is_checked g) (IsChecked g × IsSmall g)
 unfolding is_checked

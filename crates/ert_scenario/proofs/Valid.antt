@@ -77,6 +77,7 @@ with_more g lists few h = record {
     schedulers_high = h.counts.schedulers_high;
     processes_low = h.counts.processes_low;
     processes_high = h.counts.processes_high;
+    chains_in_all = h.counts.chains_in_all;
     slots_low = h.counts.slots_low;
     slots_high = h.counts.slots_high;
     slots_in_all = h.counts.slots_in_all;

@@ -12,6 +12,7 @@ use Rattle.ert_scenario.specs.Walks.{all_raws, founds_of}
 use Rattle.ert_scenario.specs.declared.fault.Fault.{Fault}
 use Rattle.ert_scenario.specs.declared.fault.Fault.TheVariants.{Shape, Range}
 use Rattle.ert_scenario.specs.declared.fields.Top.{Top}
+use Rattle.ert_scenario.specs.declared.limits.TheConstants.{MOST_LISTS, MOST_TURNS, MOST_OPS}
 
 -- the fault, where there is one
 abbrev pub fault_of : {X : Type 0} → Found X → Option Fault
@@ -59,7 +60,7 @@ turns_in (Err fault) = 0
 -- a value has more than 100,000 ops in all lists together, more than 16 callers' lists, or more than 10,000
 -- turns
 abbrev pub IsTooMuch : Bool → Data → Type 0
-IsTooMuch race d = (100000 < length (founds_in (op_founds race d))) ⊎ ((16 < count_in (lists_found race d)) ⊎ (10000 < turns_in (top_of race d)))
+IsTooMuch race d = (MOST_OPS < length (founds_in (op_founds race d))) ⊎ ((MOST_LISTS < count_in (lists_found race d)) ⊎ (MOST_TURNS < turns_in (top_of race d)))
 
 -- the place has it, and no lesser place has
 pub record IsLeast (Has : ℕ → Type 0) (place : ℕ) : Type 0 where

@@ -7,6 +7,7 @@ use Rattle.ert_defs.specs.declared.settings.Reading.{Reading}
 use Rattle.ert_defs.specs.declared.settings.Settings.{Settings}
 use Rattle.ert_ops.specs.declared.op.Op.{Op}
 use Rattle.ert_ops.specs.declared.op.Op.TheVariants.{Tick, Check, Finalize, Notify, Time, System, Offset, Info, Convert, Start, SendAfter, Cancel, CancelQuiet, Read, CancelAsync, ReadAsync, Serve, Advance, Deliver, Turn, Receive, Exit, Alive, Monitor, Demonitor}
+use Rattle.ert_scenario.specs.declared.limits.TheConstants.{MOST_SCHEDULERS, MOST_PROCESSES, MOST_SLOTS, MOST_SLOTS_IN_ALL, MOST_CALLERS}
 
 -- whether a reading is valid
 unfoldable pub is_reading : Reading → Bool
@@ -20,11 +21,11 @@ is_start start = int_eq (int_rem_euclid start (pos 1000000)) (pos 0)
 
 -- whether the counts are within the limits of scenarios, which are narrower than those of a service
 unfoldable pub has_counts : Settings → Bool
-has_counts g = (nat_le 1 g.schedulers && nat_le g.schedulers 64)
-    && ((nat_le 1 g.processes && nat_le g.processes 1024)
-    && ((nat_le 1 g.slots && nat_le g.slots 65536)
-    && (nat_le (g.schedulers * g.slots) 262144
-    && (nat_le 1 g.callers && nat_le g.callers 17))))
+has_counts g = (nat_le 1 g.schedulers && nat_le g.schedulers MOST_SCHEDULERS)
+    && ((nat_le 1 g.processes && nat_le g.processes MOST_PROCESSES)
+    && ((nat_le 1 g.slots && nat_le g.slots MOST_SLOTS)
+    && (nat_le (g.schedulers * g.slots) MOST_SLOTS_IN_ALL
+    && (nat_le 1 g.callers && nat_le g.callers MOST_CALLERS))))
 
 -- whether a scenario can have the settings
 unfoldable pub is_checked : Settings → Bool

@@ -15,6 +15,7 @@ use Rattle.ert_scenario.specs.declared.doer.Doer.TheVariants.{Everyone, Keeper, 
 use Rattle.ert_scenario.specs.declared.fault.Fault.TheVariants as faults
 use Rattle.ert_scenario.specs.declared.fields.Top.{Top}
 use Rattle.ert_scenario.specs.declared.format.Format.{Format}
+use Rattle.ert_scenario.specs.declared.limits.TheConstants.{MOST_LISTS, MOST_TURNS, MOST_OPS}
 use Rattle.ert_scenario.specs.declared.scenario.Scenario.{Scenario}
 use Rattle.ert_scenario.specs.declared.scenario.ScenarioErr.{ScenarioErr}
 use Rattle.ert_scenario.specs.declared.scenario.ScenarioErr.TheVariants.{Json, Shape, Range, Limit, NoMemory}
@@ -40,7 +41,7 @@ refused why (Some place) otherwise = Err (why place)
 
 -- whether there are more than so many ops, callers' lists or turns
 abbrev pub is_over : ℕ → ℕ → ℕ → Bool
-is_over ops lists turns = nat_lt 100000 ops || (nat_lt 16 lists || nat_lt 10000 turns)
+is_over ops lists turns = nat_lt MOST_OPS ops || (nat_lt MOST_LISTS lists || nat_lt MOST_TURNS turns)
 
 -- place 0, where there are too many of something
 abbrev pub over : Top → Option RaceValues → List (Found Op) → Option ℕ

@@ -12,6 +12,7 @@ ghost use Rattle.ert_scenario.specs.Ranges.{has_counts, is_checked};
 
 use crate::fault::Fault;
 use crate::kinds::{boolean, both, count_of, in_range, integer, present, reading, text, word};
+use crate::limits::{MOST_CALLERS, MOST_PROCESSES, MOST_SCHEDULERS, MOST_SLOTS, MOST_SLOTS_IN_ALL};
 use ert_defs::{Mode, Reading, Settings};
 use serde_json::{Map, Value};
 
@@ -304,12 +305,12 @@ fn is_small(settings: &Settings) -> bool
 {
     let slots = settings.schedulers as u64 * settings.slots as u64;
     1 <= settings.schedulers
-        && settings.schedulers <= 64
+        && settings.schedulers <= MOST_SCHEDULERS
         && 1 <= settings.processes
-        && settings.processes <= 1024
+        && settings.processes <= MOST_PROCESSES
         && 1 <= settings.slots
-        && settings.slots <= 65_536
-        && slots <= 262_144
+        && settings.slots <= MOST_SLOTS
+        && slots <= MOST_SLOTS_IN_ALL as u64
         && 1 <= settings.callers
-        && settings.callers <= 17
+        && settings.callers <= MOST_CALLERS
 }

@@ -33,6 +33,7 @@ mod format;
 mod kinds;
 mod labels;
 mod laws;
+pub mod limits;
 mod lists;
 mod migration;
 mod quick;

@@ -14,7 +14,8 @@ mod tokens;
 use self::members::{Seen, read_object};
 use crate::fields::{Top, top_of};
 use crate::format::{Format, format_of};
-use crate::scenario::{MAX_OPS, Scenario, ScenarioErr, first_range, is_over};
+use crate::limits::MOST_OPS;
+use crate::scenario::{Scenario, ScenarioErr, first_range, is_over};
 use crate::walk::Walk;
 use ert_defs::Settings;
 use ert_ops::Op;
@@ -48,7 +49,7 @@ fn read_seen(alloc: Global, text: &str) -> Result<Option<Seen>, AllocError>
 {
     let mut scratch = Scratch::new(alloc);
     let mut reader = Reader::new(text, &mut scratch)?;
-    let room = MAX_OPS.min(text.len() / OP_BYTES);
+    let room = (MOST_OPS as usize).min(text.len() / OP_BYTES);
     let Some(seen) = read_object(alloc, &mut reader, room)? else {
         return Ok(None);
     };

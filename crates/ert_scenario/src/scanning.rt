@@ -9,9 +9,10 @@ ghost use Rattle.ert_scenario.specs.Walks.{raws_of, caller_raws, race_raws, all_
 use crate::doer::Doer;
 use crate::format::Format;
 use crate::kinds::items_in;
+use crate::limits::MOST_OPS;
 use crate::lists::{Lists, RaceItems};
 use crate::rows::op_of;
-use crate::scenario::{MAX_OPS, ScenarioErr};
+use crate::scenario::ScenarioErr;
 use crate::walk::Walk;
 use serde_json::Value;
 use std::alloc::Global;
@@ -21,7 +22,7 @@ pub(crate) fn scan(alloc: Global, format: Format, lists: &Lists) -> Result<Walk,
     ensures ok { IfOk result (λ w. IsOver w.ops.items w.range (all_raws format (lists_seen lists.now))) }
     ensures err { IfErr result (λ e. IsShapeAt e (first_shape 1 (all_raws format (lists_seen lists.now)))) }
 {
-    let mut walk = Walk::new(alloc, lists.ops.len().min(MAX_OPS))?;
+    let mut walk = Walk::new(alloc, lists.ops.len().min(MOST_OPS as usize))?;
     scan_list(&mut walk, format, Doer::Everyone, lists.ops)?;
     scan_others(&mut walk, format, lists)?;
     Ok(walk)

@@ -13,6 +13,7 @@ use crate::fault::Fault;
 use crate::fields::{Top, top_of};
 use crate::format::{Format, format_of};
 use crate::labels::{Labels, first_out};
+use crate::limits::{MOST_LISTS, MOST_OPS, MOST_TURNS};
 use crate::lists::{Lists, lists_found};
 use crate::quick::read_quickly;
 use crate::scanning::scan;
@@ -22,15 +23,6 @@ use ert_ops::{Op, RaceLists};
 use serde_json::Value;
 use std::alloc::Global;
 use thiserror::Error;
-
-/// The most ops of a scenario, in all its lists together.
-pub(crate) const MAX_OPS: usize = 100_000;
-
-/// The most callers' lists of a race.
-const MAX_LISTS: usize = 16;
-
-/// The most turns of each scheduler in a race.
-const MAX_TURNS: u64 = 10_000;
 
 /// What a service is opened with, and the ops that are run on it.
 #[derive(Debug, Drop)]
@@ -187,7 +179,7 @@ fn scenario_with(
 pub(crate) fn is_over(ops: usize, lists: usize, turns: u64) -> bool
     ensures { result ≡ is_over ops lists turns }
 {
-    ops > MAX_OPS || lists > MAX_LISTS || turns > MAX_TURNS
+    ops > MOST_OPS as usize || lists > MOST_LISTS as usize || turns > MOST_TURNS as u64
 }
 
 /// The place of the first range fault of the ops.

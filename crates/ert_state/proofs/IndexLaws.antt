@@ -1,8 +1,7 @@
 -- The laws of what finds a wheel's timers: it fits them after one was armed and after one moved.
 
-use Rattle.std.proofs.Common.{arith, ◌≡◌, ◌≢◌, ◌∙◌, refl, sym, ap, subst, inl, inr, ℕ, ◌<◌, Bool, true, false, cond, ◌&&◌, nat_eq, List, [], ◌∷◌, ◌++◌, length, get_or, set, Some, eq-eqb, ne_eqb}
+use Rattle.std.proofs.Common.{arith, ◌≡◌, ◌≢◌, ◌∙◌, refl, sym, ap, subst, inl, inr, ℕ, Bool, true, false, cond, ◌&&◌, nat_eq, List, [], ◌∷◌, ◌++◌, length, get_or, set, Some, eq-eqb, ne_eqb}
 use Rattle.std.proofs.lemmas.Bool.{cases_eq, and_left, and_right, and_from}
-use Rattle.std.proofs.lemmas.List.{get_or-set_same, get_or-set_other}
 use Rattle.std.proofs.lemmas.Option.{slice_get_within, slice_get_past, same_Some}
 use Rattle.std.specs.Prelude.{slice_get}
 use Rattle.std.specs.BTreeMap.{BTreeMap, get, is_at}
@@ -12,7 +11,7 @@ use Rattle.ert_defs.specs.declared.timer.Status.{Status}
 use Rattle.ert_defs.specs.declared.timer.Status.TheVariants.{Armed, Expired, Delivered, Cancelled, Orphaned, Dropped}
 use Rattle.ert_defs.specs.declared.timer.TimerRef.{TimerRef}
 use Rattle.ert_state.specs.Uses.{uses_of, none_kept, used_by, uses_in, IsNewUse}
-use Rattle.ert_state.specs.Indexes.{pair_cmp, is_armed_for, PutsPlace, Sets, IsIndexed, StandsAt}
+use Rattle.ert_state.specs.Indexes.{pair_cmp, kept_at, is_armed_for, PutsPlace, Sets, IsIndexed, StandsAt}
 use Rattle.ert_state.specs.declared.uses.Uses.{Uses as KeptUses}
 use Rattle.ert_state.specs.declared.wheels.Timer.{Timer}
 use Rattle.ert_state.proofs.PairLaws.{is_at_pair}
@@ -20,6 +19,10 @@ use Rattle.ert_state.proofs.PlaceLaws.{slice_get_push, slice_get_before, slice_g
 use Rattle.ert_state.proofs.UseLaws.{uses_push, uses_moved}
 use Rattle.ert_state.proofs.ArmedLaws.{Waits}
 use Rattle.ert_state.proofs.MoveLaws.{moved_at, read_there}
+
+-- a map has the uses of a slot, and all else as another has it
+abbrev pub PutsUses : BTreeMap ℕ KeptUses → BTreeMap ℕ KeptUses → ℕ → KeptUses → Type 0
+PutsUses m n slot uses = (k : ℕ) → kept_at n k ≡ cond (nat_eq slot k) uses (kept_at m k)
 
 -- where a map has the places of timers, it has them after the place of a new one was put in
 pub placed_kept : (ts : List Timer) (m n : BTreeMap (ℕ × ℕ) ℕ) (k g place : ℕ) → IsNewUse ts k g
@@ -56,21 +59,20 @@ push_placed ts m n t puts placed p u stands = elim (cases_eq p (length ts)) [
   | inr other ↦ placed p u (sym (slice_get_before ts t p other) ∙ stands)
 ]
 
-push_uses : (ts : List Timer) (slots : List KeptUses) (uses : KeptUses) (t : Timer) → t.row.timer.slot < length slots
+push_uses : (ts : List Timer) (slots more_slots : BTreeMap ℕ KeptUses) (uses : KeptUses) (t : Timer)
     → uses_of uses ≡ used_by t.row (uses_in ts t.row.timer.slot)
-    → ((k : ℕ) → uses_of (get_or slots k none_kept) ≡ uses_in ts k)
-    → (k : ℕ) → uses_of (get_or (set slots t.row.timer.slot uses) k none_kept) ≡ uses_in (ts ++ t ∷ []) k
-push_uses ts slots uses t low more kept k = sym (uses_push (uses_of none_kept) ts t k ∙ elim (cases_eq t.row.timer.slot k) [
+    → PutsUses slots more_slots t.row.timer.slot uses
+    → ((k : ℕ) → uses_of (kept_at slots k) ≡ uses_in ts k)
+    → (k : ℕ) → uses_of (kept_at more_slots k) ≡ uses_in (ts ++ t ∷ []) k
+push_uses ts slots more_slots uses t more puts kept k = sym (uses_push (uses_of none_kept) ts t k ∙ elim (cases_eq t.row.timer.slot k) [
   | inl is ↦
-      let set_there : get_or (set slots t.row.timer.slot uses) k none_kept ≡ uses =
-      ap (λ j. get_or (set slots t.row.timer.slot uses) j none_kept) (sym is)
-      ∙ get_or-set_same slots t.row.timer.slot uses none_kept low in
+      let set_there : kept_at more_slots k ≡ uses = puts k ∙ rw (eq-eqb t.row.timer.slot k is) refl in
       let here : used_by t.row (uses_in ts k) ≡ used_by t.row (uses_in ts t.row.timer.slot) =
       ap (λ j. used_by t.row (uses_in ts j)) (sym is) in
       rw (eq-eqb t.row.timer.slot k is) (here ∙ sym more ∙ sym (ap uses_of set_there))
   | inr other ↦
       rw (ne_eqb t.row.timer.slot k other)
-      (sym (ap uses_of (get_or-set_other slots t.row.timer.slot k uses none_kept (λ e. other (sym e))) ∙ kept k))
+      (sym (ap uses_of (puts k ∙ rw (ne_eqb t.row.timer.slot k other) refl) ∙ kept k))
 ])
 
 push_waits : (ts : List Timer) (s n : BTreeSet (ℕ × ℕ)) (t : Timer) → t.status ≡ Armed
@@ -91,26 +93,26 @@ push_waits ts s n t armed puts waits d p =
     by_case true = refl
     by_case false = refl
 
-pub indexed_push : (ts : List Timer) (m n : BTreeMap (ℕ × ℕ) ℕ) (slots : List KeptUses) (uses : KeptUses) (s a : BTreeSet (ℕ × ℕ)) (t : Timer)
-    → t.status ≡ Armed → t.row.timer.slot < length slots → IsNewUse ts t.row.timer.slot t.row.timer.generation
+pub indexed_push : (ts : List Timer) (m n : BTreeMap (ℕ × ℕ) ℕ) (slots more_slots : BTreeMap ℕ KeptUses) (uses : KeptUses) (s a : BTreeSet (ℕ × ℕ)) (t : Timer)
+    → t.status ≡ Armed → PutsUses slots more_slots t.row.timer.slot uses → IsNewUse ts t.row.timer.slot t.row.timer.generation
     → uses_of uses ≡ used_by t.row (uses_in ts t.row.timer.slot)
     → ((q : ℕ × ℕ) → get pair_cmp n q
     ≡ cond (is_at (pair_cmp (t.row.timer.slot, t.row.timer.generation)) q) (Some (length ts)) (get pair_cmp m q))
     → ((q : ℕ × ℕ) → contains pair_cmp a q ≡ cond (is_at (pair_cmp (t.row.deadline, length ts)) q) true (contains pair_cmp s q))
     → IsIndexed ts m slots s
-    → IsIndexed (ts ++ t ∷ []) n (set slots t.row.timer.slot uses) a
-indexed_push ts m n slots uses s a t armed low new more puts waits is = record {
+    → IsIndexed (ts ++ t ∷ []) n more_slots a
+indexed_push ts m n slots more_slots uses s a t armed low new more puts waits is = record {
   placed = push_placed ts m n t puts
       (placed_kept ts m n t.row.timer.slot t.row.timer.generation (length ts) new puts is.placed);
-  uses = push_uses ts slots uses t low more is.uses;
+  uses = push_uses ts slots more_slots uses t more low is.uses;
   waits = push_waits ts s a t armed waits is.waits;
 }
 
 -- without memory for it the timers are as they were
-pub indexed_place : (ts : List Timer) (m n : BTreeMap (ℕ × ℕ) ℕ) (slots room : List KeptUses) (s a : BTreeSet (ℕ × ℕ)) (k g place : ℕ)
+pub indexed_place : (ts : List Timer) (m n : BTreeMap (ℕ × ℕ) ℕ) (slots room : BTreeMap ℕ KeptUses) (s a : BTreeSet (ℕ × ℕ)) (k g place : ℕ)
     → IsNewUse ts k g
     → ((q : ℕ × ℕ) → get pair_cmp n q ≡ cond (is_at (pair_cmp (k, g)) q) (Some place) (get pair_cmp m q))
-    → ((j : ℕ) → get_or room j none_kept ≡ get_or slots j none_kept) → a.keys ≡ s.keys
+    → ((j : ℕ) → kept_at room j ≡ kept_at slots j) → a.keys ≡ s.keys
     → IsIndexed ts m slots s → IsIndexed ts n room a
 indexed_place ts m n slots room s a k g place new puts same unchanged is = record {
   placed = placed_kept ts m n k g place new puts is.placed;
@@ -133,7 +135,7 @@ taken_out true was Dropped other = refl
 taken_out false was Dropped other = and_right was false refl
 
 -- the timers of a wheel after a move, and what finds them
-pub indexed_moved : (ts : List Timer) (m : BTreeMap (ℕ × ℕ) ℕ) (slots : List KeptUses) (s a : BTreeSet (ℕ × ℕ)) (r : TimerRef)
+pub indexed_moved : (ts : List Timer) (m : BTreeMap (ℕ × ℕ) ℕ) (slots : BTreeMap ℕ KeptUses) (s a : BTreeSet (ℕ × ℕ)) (r : TimerRef)
     (from to : Status) (p : ℕ) (t : Timer) → StandsAt ts r p t → t.status ≡ from → to ≢ Armed
     → ((q : ℕ × ℕ) → contains pair_cmp a q ≡ cond (is_at (pair_cmp (t.row.deadline, p)) q) false (contains pair_cmp s q))
     → IsIndexed ts m slots s
@@ -162,7 +164,7 @@ indexed_moved ts m slots s a r from to p t at was settled takes is =
     }
 
 -- what finds the timers then
-pub indexed_there : (ts now : List Timer) (m : BTreeMap (ℕ × ℕ) ℕ) (slots : List KeptUses) (s a : BTreeSet (ℕ × ℕ)) (r : TimerRef)
+pub indexed_there : (ts now : List Timer) (m : BTreeMap (ℕ × ℕ) ℕ) (slots : BTreeMap ℕ KeptUses) (s a : BTreeSet (ℕ × ℕ)) (r : TimerRef)
     (from to : Status) (p : ℕ) (t u : Timer) → ts ≡ now → StandsAt now r p t → u ≡ get_or ts p u → t.status ≡ from
     → to ≢ Armed → Sets s a t.row.deadline p false → IsIndexed ts m slots s
     → IsIndexed (set ts p (record { row = u.row; status = to })) m slots a
@@ -173,8 +175,8 @@ indexed_there ts now m slots s a r from to p t u same at is was settled takes in
     (indexed_moved ts m slots s a r from to p t old was settled takes indexed)
 
 -- what finds the timers where nothing was put but room
-pub indexed_room : (ts : List Timer) (m n : BTreeMap (ℕ × ℕ) ℕ) (slots room : List KeptUses) (s : BTreeSet (ℕ × ℕ))
-    → n.entries ≡ m.entries → ((j : ℕ) → get_or room j none_kept ≡ get_or slots j none_kept) → IsIndexed ts m slots s
+pub indexed_room : (ts : List Timer) (m n : BTreeMap (ℕ × ℕ) ℕ) (slots room : BTreeMap ℕ KeptUses) (s : BTreeSet (ℕ × ℕ))
+    → n.entries ≡ m.entries → ((j : ℕ) → kept_at room j ≡ kept_at slots j) → IsIndexed ts m slots s
     → IsIndexed ts n room s
 indexed_room ts m n slots room s same kept is = record {
   placed = λ p t stands. rw same (is.placed p t stands);
@@ -183,23 +185,23 @@ indexed_room ts m n slots room s same kept is = record {
 }
 
 -- what finds the timers where the place of one was put that could not be armed
-pub indexed_unarmed : (ts us now : List Timer) (m n : BTreeMap (ℕ × ℕ) ℕ) (slots room : List KeptUses) (s a : BTreeSet (ℕ × ℕ))
+pub indexed_unarmed : (ts us now : List Timer) (m n : BTreeMap (ℕ × ℕ) ℕ) (slots room : BTreeMap ℕ KeptUses) (s a : BTreeSet (ℕ × ℕ))
     (k g place : ℕ) → us ≡ ts → ts ≡ now → IsNewUse now k g → PutsPlace m n k g place
-    → ((j : ℕ) → get_or room j none_kept ≡ get_or slots j none_kept) → a.keys ≡ s.keys → IsIndexed ts m slots s → IsIndexed us n room a
+    → ((j : ℕ) → kept_at room j ≡ kept_at slots j) → a.keys ≡ s.keys → IsIndexed ts m slots s → IsIndexed us n room a
 indexed_unarmed ts us now m n slots room s a k g place as_was same new puts kept unchanged is =
     let here : IsNewUse ts k g = subst (λ ws. IsNewUse ws k g) (sym same) new in
     subst (λ ws. IsIndexed ws n room a) (sym as_was)
     (indexed_place ts m n slots room s a k g place here puts kept unchanged is)
 
 -- what finds the timers after one was armed
-pub indexed_armed : (ts us now : List Timer) (m n : BTreeMap (ℕ × ℕ) ℕ) (slots room : List KeptUses) (s a : BTreeSet (ℕ × ℕ))
+pub indexed_armed : (ts us now : List Timer) (m n : BTreeMap (ℕ × ℕ) ℕ) (slots room more_slots : BTreeMap ℕ KeptUses) (s a : BTreeSet (ℕ × ℕ))
     (place : ℕ) (uses : KeptUses) (t : Timer) → us ≡ ts ++ t ∷ [] → ts ≡ now → place ≡ length ts → t.status ≡ Armed
-    → t.row.timer.slot < length room → IsNewUse now t.row.timer.slot t.row.timer.generation
+    → PutsUses room more_slots t.row.timer.slot uses → IsNewUse now t.row.timer.slot t.row.timer.generation
     → uses_of uses ≡ used_by t.row (uses_in now t.row.timer.slot)
     → PutsPlace m n t.row.timer.slot t.row.timer.generation place
-    → ((j : ℕ) → get_or room j none_kept ≡ get_or slots j none_kept) → Sets s a t.row.deadline place true → IsIndexed ts m slots s
-    → IsIndexed us n (set room t.row.timer.slot uses) a
-indexed_armed ts us now m n slots room s a place uses t put same at armed low new more puts kept adds is =
+    → ((j : ℕ) → kept_at room j ≡ kept_at slots j) → Sets s a t.row.deadline place true → IsIndexed ts m slots s
+    → IsIndexed us n more_slots a
+indexed_armed ts us now m n slots room more_slots s a place uses t put same at armed low new more puts kept adds is =
     let new_here : IsNewUse ts t.row.timer.slot t.row.timer.generation =
     subst (λ ws. IsNewUse ws t.row.timer.slot t.row.timer.generation) (sym same) new in
     let more_here : uses_of uses ≡ used_by t.row (uses_in ts t.row.timer.slot) =
@@ -207,8 +209,8 @@ indexed_armed ts us now m n slots room s a place uses t put same at armed low ne
     let puts_here : PutsPlace m n t.row.timer.slot t.row.timer.generation (length ts) =
     subst (λ p. PutsPlace m n t.row.timer.slot t.row.timer.generation p) at puts in
     let adds_here : Sets s a t.row.deadline (length ts) true = subst (λ p. Sets s a t.row.deadline p true) at adds in
-    subst (λ ws. IsIndexed ws n (set room t.row.timer.slot uses) a) (sym put)
-    (indexed_push ts m n room uses s a t armed low new_here more_here puts_here adds_here (record {
+    subst (λ ws. IsIndexed ws n more_slots a) (sym put)
+    (indexed_push ts m n room more_slots uses s a t armed low new_here more_here puts_here adds_here (record {
       placed = is.placed;
       uses = λ j. ap uses_of (kept j) ∙ is.uses j;
       waits = is.waits;

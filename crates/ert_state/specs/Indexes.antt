@@ -1,7 +1,7 @@
 -- What finds the timers of a wheel: the place of each by its slot and generation, the uses of each slot,
 -- and the armed ones by deadline and then by place.
 
-use Rattle.std.specs.Prelude.{◌≡◌, ℕ, ◌+◌, slice_get, Bool, true, false, cond, ◌&&◌, nat_eq, nat_le, nat_lt, List, get_or, take, drop, Option, Some, None}
+use Rattle.std.specs.Prelude.{◌≡◌, ℕ, ◌+◌, unwrap_or, slice_get, Bool, true, false, cond, ◌&&◌, nat_eq, nat_le, nat_lt, List, take, drop, Option, Some, None}
 use Rattle.std.specs.BTreeMap.{BTreeMap, get, is_at}
 use Rattle.std.specs.BTreeSet.{BTreeSet, contains}
 use Rattle.std.specs.Ordering.{nat_cmp, ordering_then}
@@ -32,11 +32,15 @@ PutsPlace m n k g p =
 abbrev pub Sets : BTreeSet (ℕ × ℕ) → BTreeSet (ℕ × ℕ) → ℕ → ℕ → Bool → Type 0
 Sets s n d p has = (q : ℕ × ℕ) → contains pair_cmp n q ≡ cond (is_at (pair_cmp (d, p)) q) has (contains pair_cmp s q)
 
+-- what is kept of a slot's uses
+abbrev pub kept_at : BTreeMap ℕ KeptUses → ℕ → KeptUses
+kept_at slots k = unwrap_or (get nat_cmp slots k) none_kept
+
 -- what finds the timers of a wheel fits them: the place of each, the uses of each slot, and which are armed
-pub record IsIndexed (ts : List Timer) (places : BTreeMap (ℕ × ℕ) ℕ) (slots : List KeptUses) (armed : BTreeSet (ℕ × ℕ)) : Type 0 where
+pub record IsIndexed (ts : List Timer) (places : BTreeMap (ℕ × ℕ) ℕ) (slots : BTreeMap ℕ KeptUses) (armed : BTreeSet (ℕ × ℕ)) : Type 0 where
   pub placed : (p : ℕ) (t : Timer) → slice_get ts p ≡ Some t
       → get pair_cmp places (t.row.timer.slot, t.row.timer.generation) ≡ Some p
-  pub uses : (k : ℕ) → uses_of (get_or slots k none_kept) ≡ uses_in ts k
+  pub uses : (k : ℕ) → uses_of (kept_at slots k) ≡ uses_in ts k
   pub waits : (d p : ℕ) → contains pair_cmp armed (d, p) ≡ is_armed_for (slice_get ts p) d
 
 -- no timer has a reference

@@ -1,13 +1,17 @@
--- The parts that a judge keeps, and how each goes on by an event. A part is a list of cells, and a cell
--- past its end is as at the opening.
+-- The parts that a judge keeps, and how each goes on by an event. A part is a cell for each number. Those of callers
+-- and of schedulers are a list, and a cell past its end is as at the opening.
 
-use Rattle.std.specs.Prelude.{ℕ, ℤ, Bool, true, false, cond, List, [], ◌∷◌, ◌++◌, ◌+◌, get_or, set, map, replicate, Option, Some, None}
+use Rattle.std.specs.BTreeMap.{get}
+use Rattle.std.specs.BTreeSet.{contains}
+use Rattle.std.specs.Ordering.{nat_cmp}
+use Rattle.std.specs.Prelude.{ℕ, ℤ, unwrap_or, Bool, cond, List, [], ◌∷◌, ◌++◌, ◌+◌, get_or, set, map, replicate, Option, Some, None}
+use Rattle.ert_defs.specs.Actors.{is_with}
 use Rattle.ert_defs.specs.Mails.{MailState, SchedState, no_mail, idle_sched, mail_after, inbox_after, sched_after, is_about, with_row, message_in, answer_in, without, changes_of, told_of}
 use Rattle.ert_defs.specs.Timers.{Row, row_from}
 use Rattle.ert_defs.specs.declared.entry.Actor.{Actor}
 use Rattle.ert_defs.specs.declared.entry.Actor.TheVariants.{Inbox, Sched, MailOf, Caller}
 use Rattle.ert_defs.specs.declared.entry.Event.{Event}
-use Rattle.ert_defs.specs.declared.entry.Event.TheVariants.{Look, Arm, Cancel, Expire, Orphan, Deliver, Drop, Mark}
+use Rattle.ert_defs.specs.declared.entry.Event.TheVariants.{Look, Arm, Cancel, Expire, Orphan, Deliver, Drop}
 use Rattle.ert_defs.specs.declared.mail.Request.{Request}
 use Rattle.ert_defs.specs.declared.settings.Settings.{Settings}
 use Rattle.ert_defs.specs.declared.timer.Start.{Start}
@@ -16,17 +20,14 @@ use Rattle.ert_defs.specs.declared.timer.Status.TheVariants.{Armed, Expired, Del
 use Rattle.ert_defs.specs.declared.timer.TimerRef.{TimerRef}
 use Rattle.ert_state.specs.Uses.{IsNewUse}
 use Rattle.ert_state.specs.Wheels.{timers_at, rows_of, status_in, moved}
+use Rattle.ert_state.specs.declared.exits.Exits.{Exits}
 use Rattle.ert_state.specs.declared.looks.Looks.{Looks}
+use Rattle.ert_state.specs.declared.mailboxes.Mailboxes.{Mailboxes}
 use Rattle.ert_state.specs.declared.wheels.Timer.{Timer}
 
 -- whether a process has exited
-abbrev pub exited_at : List Bool → ℕ → Bool
-exited_at xs p = get_or xs p false
-
--- which processes have exited after an event
-abbrev pub exits_after : Event → List Bool → List Bool
-exits_after (Mark process true was) xs = set xs process true
-exits_after _ xs = xs
+abbrev pub exited_at : Exits → ℕ → Bool
+exited_at exits p = contains nat_cmp exits.exited p
 
 -- the last looks, of callers and of schedulers
 pub record LastLooks : Type 0 where
@@ -154,11 +155,10 @@ abbrev pub told_all : ℤ → MailState → MailState
 told_all offset m =
     record { queue = m.queue ++ changes_of offset m.monitors; monitors = told_of offset m.monitors; next = m.next }
 
--- what a process has
-abbrev pub mail_at : List MailState → ℕ → MailState
-mail_at xs p = get_or xs p no_mail
+-- what a process has, and nothing where no mailbox of it is kept
+abbrev pub mail_at : Mailboxes → ℕ → MailState
+mail_at kept p = unwrap_or (get nat_cmp kept.mailboxes p) no_mail
 
--- the mailboxes after an event that is made with an actor
-abbrev pub mails_after : (ℕ → SchedState) → Option Actor → Event → List MailState → List MailState
-mails_after scheds (Some (MailOf p)) event xs = set xs p (mail_after scheds (mail_at xs p) event)
-mails_after scheds _ event xs = xs
+-- what a process has after an event that is made with an actor
+abbrev pub mail_after_with : (ℕ → SchedState) → Option Actor → Event → ℕ → MailState → MailState
+mail_after_with scheds with event p m = cond (is_with with (MailOf p)) (mail_after scheds m event) m

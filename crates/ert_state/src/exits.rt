@@ -1,56 +1,56 @@
 use ert_defs::{Event, NoMemory};
 use std::alloc::Global;
-use std::marker::Model;
+use std::collections::BTreeSet;
 
-/// Which processes have exited.
+/// Which processes have exited. It takes memory for those alone.
 #[derive(Drop)]
 pub struct Exits {
-    exited: Vec<bool>,
-}
-
-impl Model for Exits {
-    ghost use Rattle.std.specs.Prelude.{List, Bool};
-
-    ghost Value = { List Bool };
-
-    ghost view = { λ x. x.exited.items };
+    exited: BTreeSet<u32>,
 }
 
 impl Exits {
-    ghost use Rattle.std.specs.Prelude.{◌≡◌, IfOk, replicate, false};
-    ghost use Rattle.ert_state.specs.Parts.{exited_at, exits_after};
+    ghost use Rattle.std.specs.Prelude.{◌≡◌, ℕ, OnOk, true, false};
+    ghost use Rattle.ert_defs.specs.States.{exited_after};
+    ghost use Rattle.ert_state.specs.Parts.{exited_at};
 
-    /// So many processes, of which none has exited.
-    pub fn new(alloc: Global, processes: u32) -> Result<Exits, NoMemory>
-        ensures { IfOk result (λ exits. exits ≡ replicate processes false) }
+    /// No process has exited.
+    pub fn new(alloc: Global) -> Exits
+        ensures { (p : ℕ) → exited_at result p ≡ false }
     {
-        Ok(Exits {
-            exited: vec![in alloc; false; processes as usize]?,
-        })
+        Exits {
+            exited: BTreeSet::new(alloc),
+        }
     }
 
     /// Whether a process has exited.
     pub fn has_exited(&self, process: u32) -> bool
         ensures { result ≡ exited_at self.now process }
     {
-        match self.exited.get(process as usize) {
-            Some(exited) => *exited,
-            None => false,
-        }
+        self.exited.contains(&process)
     }
 
     /// Goes on by an event.
-    pub fn follow(&mut self, event: &Event)
-        ensures { self.new ≡ exits_after event.now self.old }
+    pub fn follow(&mut self, event: &Event) -> Result<(), NoMemory>
+        ensures { OnOk result ((p : ℕ) → exited_at self.new p ≡ exited_after p (exited_at self.old p) event.now) }
     {
         if let Event::Mark {
             process,
             exits: true,
             ..
         } = *event
-            && let Some(exited) = self.exited.get_mut(process as usize)
         {
-            *exited = true;
+            return self.add(process);
+        }
+        Ok(())
+    }
+
+    /// Adds a process that has exited.
+    fn add(&mut self, process: u32) -> Result<(), NoMemory>
+        ensures { OnOk result ((p : ℕ) → exited_at self.new p ≡ exited_after p (exited_at self.old p) (Event.Mark process true false)) }
+    {
+        match self.exited.insert(process) {
+            Ok(_) => Ok(()),
+            Err(_) => Err(NoMemory),
         }
     }
 }

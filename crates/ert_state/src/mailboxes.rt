@@ -7,7 +7,7 @@ use crate::schedulers::Schedulers;
 use ert_defs::{Actor, Event, Fired, Mail, Monitor, NoMemory, Request};
 use ert_monitors::{has_monitor, remove_monitor, tell_monitors};
 use std::alloc::Global;
-use std::collections::VecDeque;
+use std::collections::{BTreeMap, VecDeque};
 use std::marker::Model;
 
 /// What one process has.
@@ -29,6 +29,20 @@ impl Model for Mailbox {
 }
 
 impl Mailbox {
+    ghost use Rattle.std.specs.Prelude.{◌≡◌};
+    ghost use Rattle.ert_defs.specs.Mails.{no_mail};
+
+    /// That of a process that has nothing.
+    fn new(alloc: Global) -> Mailbox
+        ensures { result ≡ no_mail }
+    {
+        Mailbox {
+            queue: VecDeque::new(alloc),
+            monitors: Vec::new(alloc),
+            next: 0,
+        }
+    }
+
     /// Goes on by an event of this mailbox. The schedulers are as they were before it.
     fn follow(&mut self, event: &Event, schedulers: &Schedulers) -> Result<(), NoMemory>
         ensures { OnOk result (self.new ≡ mail_after (scheds_in schedulers.now) self.old event.now) }
@@ -103,57 +117,42 @@ impl Mailbox {
     }
 }
 
-/// What each process has.
+/// What each process has. It takes memory for those alone that had something.
 #[derive(Drop)]
 pub struct Mailboxes {
-    mailboxes: Vec<Mailbox>,
-}
-
-impl Model for Mailboxes {
-    ghost use Rattle.std.specs.Prelude.{List};
-    ghost use Rattle.ert_defs.specs.Mails.{MailState};
-
-    ghost Value = { List MailState };
-
-    ghost view = { λ x. x.mailboxes.items };
+    alloc: Global,
+    /// By process. One that isn't here has nothing.
+    mailboxes: BTreeMap<u32, Mailbox>,
 }
 
 impl Mailboxes {
-    ghost use Rattle.std.specs.Prelude.{◌≡◌, ◌<◌, IfOk, OnOk, replicate, length};
+    ghost use Rattle.std.specs.Prelude.{◌≡◌, ℕ, OnOk, length};
     ghost use Rattle.ert_defs.specs.Legal.{stands_in};
     ghost use Rattle.ert_defs.specs.Mails.{first_of, no_mail};
-    ghost use Rattle.ert_state.specs.Parts.{mail_at, mails_after, scheds_in};
+    ghost use Rattle.ert_state.specs.Parts.{mail_at, mail_after_with, scheds_in};
 
-    /// So many processes that have nothing.
-    pub fn new(alloc: Global, processes: u32) -> Result<Mailboxes, NoMemory>
-        ensures { IfOk result (λ mailboxes. mailboxes ≡ replicate processes no_mail) }
+    /// No process has anything.
+    pub fn new(alloc: Global) -> Mailboxes
+        ensures { (p : ℕ) → mail_at result p ≡ no_mail }
     {
-        let mut mailboxes = Vec::new(alloc);
-        for _ in 0..processes {
-            let mailbox = Mailbox {
-                queue: VecDeque::new(alloc),
-                monitors: Vec::new(alloc),
-                next: 0,
-            };
-            if mailboxes.push(mailbox).is_err() {
-                return Err(NoMemory);
-            }
+        Mailboxes {
+            alloc,
+            mailboxes: BTreeMap::new(alloc),
         }
-        Ok(Mailboxes { mailboxes })
     }
 
     /// The first message of a process.
     pub fn first(&self, process: u32) -> Option<Mail>
         ensures { result ≡ first_of (mail_at self.now process).queue }
     {
-        first(&self.mailboxes.get(process as usize)?.queue)
+        first(&self.mailboxes.get(&process)?.queue)
     }
 
     /// Whether a monitor of a process stands.
     pub fn has_monitor(&self, process: u32, monitor: u32) -> bool
         ensures { result ≡ stands_in monitor (mail_at self.now process).monitors }
     {
-        match self.mailboxes.get(process as usize) {
+        match self.mailboxes.get(&process) {
             Some(mailbox) => has_monitor(&mailbox.monitors, monitor),
             None => false,
         }
@@ -163,7 +162,7 @@ impl Mailboxes {
     pub fn count(&self, process: u32) -> usize
         ensures { result ≡ length (mail_at self.now process).monitors }
     {
-        match self.mailboxes.get(process as usize) {
+        match self.mailboxes.get(&process) {
             Some(mailbox) => mailbox.monitors.len(),
             None => 0,
         }
@@ -173,7 +172,7 @@ impl Mailboxes {
     pub fn next(&self, process: u32) -> u64
         ensures { result ≡ (mail_at self.now process).next }
     {
-        match self.mailboxes.get(process as usize) {
+        match self.mailboxes.get(&process) {
             Some(mailbox) => mailbox.next,
             None => 0,
         }
@@ -186,14 +185,20 @@ impl Mailboxes {
         event: &Event,
         schedulers: &Schedulers,
     ) -> Result<(), NoMemory>
-        ensures { OnOk result (self.new ≡ mails_after (scheds_in schedulers.now) with event.now self.old) }
+        ensures { OnOk result ((p : ℕ) → mail_at self.new p
+            ≡ mail_after_with (scheds_in schedulers.now) with event.now p (mail_at self.old p)) }
     {
         let Some(Actor::MailOf(process)) = with else {
             return Ok(());
         };
-        match self.mailboxes.get_mut(process as usize) {
-            Some(mailbox) => mailbox.follow(event, schedulers),
-            None => Ok(()),
+        if let Some(mailbox) = self.mailboxes.get_mut(&process) {
+            return mailbox.follow(event, schedulers);
+        }
+        let mut mailbox = Mailbox::new(self.alloc);
+        mailbox.follow(event, schedulers)?;
+        match self.mailboxes.insert(process, mailbox) {
+            Ok(_) => Ok(()),
+            Err(_) => Err(NoMemory),
         }
     }
 }

@@ -1,6 +1,7 @@
-ghost use Rattle.std.specs.Prelude.{◌≡◌, ◌↔◌, ◌<◌, ◌≤ℤ◌, ℕ, pos, IsTrue, true, OnOk, OnErr, get_or, length};
-ghost use Rattle.ert_state.specs.Indexes.{PutsPlace, Sets};
-ghost use Rattle.ert_state.specs.Uses.{none_kept};
+ghost use Rattle.std.specs.Prelude.{◌≡◌, ◌==◌, ◌↔◌, ◌≤ℤ◌, ℕ, pos, IsTrue, true, OnOk, OnErr, IsSome, if◌then◌else◌};
+ghost use Rattle.std.specs.BTreeMap.{get};
+ghost use Rattle.std.specs.Ordering.{nat_cmp};
+ghost use Rattle.ert_state.specs.Indexes.{PutsPlace, Sets, kept_at};
 
 use crate::lists::push;
 use crate::uses::Uses;
@@ -23,8 +24,8 @@ pub struct Wheel {
     /// The place of each timer, by its slot and its generation. A place may stand here for which there was
     /// no memory for the timer itself.
     places: BTreeMap<(u32, u64), usize>,
-    /// The uses of each slot. A slot past the end had no timer.
-    slots: Vec<Uses>,
+    /// The uses of each slot. A slot that isn't here had no timer.
+    slots: BTreeMap<u32, Uses>,
     /// The deadline and the place of each armed timer.
     armed: BTreeSet<(u64, usize)>,
 }
@@ -38,7 +39,7 @@ impl Model for Wheel {
 
     ghost view = { λ w. w.timers.items };
 
-    ghost invariant = { λ w. IsIndexed w.timers.items w.places w.slots.items w.armed };
+    ghost invariant = { λ w. IsIndexed w.timers.items w.places w.slots w.armed };
 }
 
 impl Wheel {
@@ -54,7 +55,7 @@ impl Wheel {
         Wheel {
             timers: Vec::new(alloc),
             places: BTreeMap::new(alloc),
-            slots: Vec::new(alloc),
+            slots: BTreeMap::new(alloc),
             armed: BTreeSet::new(alloc),
         }
     }
@@ -91,7 +92,7 @@ impl Wheel {
     pub fn uses(&self, slot: u32) -> Uses
         ensures { uses_of result ≡ uses_in self.now slot }
     {
-        match self.slots.get(slot as usize) {
+        match self.slots.get(&slot) {
             Some(uses) => *uses,
             None => Uses::none(),
         }
@@ -156,7 +157,7 @@ impl Wheel {
         push(&mut self.timers, timer)?;
         match put_armed(&mut self.armed, row.deadline, place) {
             Ok(()) => {
-                self.slots[row.timer.slot as usize] = uses;
+                put_uses(&mut self.slots, row.timer.slot, uses);
                 Ok(())
             }
             Err(error) => {
@@ -189,15 +190,27 @@ fn is_due(timer: Timer, now: i128) -> bool
 }
 
 /// Makes room for the uses of a slot.
-fn make_room(slots: &mut Vec<Uses>, slot: u32) -> Result<(), NoMemory>
-    ensures room { OnOk result (slot < length slots.new.items) }
-    ensures kept { (k : ℕ) → get_or slots.new.items k none_kept ≡ get_or slots.old.items k none_kept }
+fn make_room(slots: &mut BTreeMap<u32, Uses>, slot: u32) -> Result<(), NoMemory>
+    ensures room { OnOk result (IsSome (get nat_cmp slots.new slot)) }
+    ensures kept { (k : ℕ) → kept_at slots.new k ≡ kept_at slots.old k }
 {
-    let wanted = slot as usize + 1;
-    if slots.len() < wanted {
-        slots.resize(wanted, Uses::none())?;
+    if slots.contains_key(&slot) {
+        return Ok(());
     }
-    Ok(())
+    match slots.insert(slot, Uses::none()) {
+        Ok(_) => Ok(()),
+        Err(_) => Err(NoMemory),
+    }
+}
+
+/// Puts the uses of a slot for which there is room.
+fn put_uses(slots: &mut BTreeMap<u32, Uses>, slot: u32, uses: Uses)
+    requires { IsSome (get nat_cmp slots.old slot) }
+    ensures { (k : ℕ) → kept_at slots.new k ≡ (if slot == k then uses else kept_at slots.old k) }
+{
+    if let Some(kept) = slots.get_mut(&slot) {
+        *kept = uses;
+    }
 }
 
 /// Puts the place of a timer among those by slot and generation. Without memory these stay as they were.

@@ -7,6 +7,7 @@ use crate::field::Field;
 use crate::field_range::FieldRange;
 use crate::field_shape::FieldShape;
 use crate::near::Near;
+use ert_scenario::limits::MOST_SLOTS_IN_ALL;
 use std::alloc::AllocError;
 use std::fmt::Write;
 
@@ -46,7 +47,10 @@ pub(super) fn write_range_front(page: &mut String, range: FieldRange) -> Result<
     match range {
         FieldRange::Outside(field, _) => write!(page, "\"{}\" is ", field.name()),
         FieldRange::ManySlots => {
-            page.push_str("all schedulers together have more than 262144 slots")
+            write!(
+                page,
+                "all schedulers together have more than {MOST_SLOTS_IN_ALL} slots"
+            )
         }
         FieldRange::PartOfMillisecond => page.push_str("\"start\" is "),
         FieldRange::Reading(param, _) => write!(page, "{} is ", param.word()),

@@ -8,6 +8,7 @@ use crate::near::Near;
 use crate::op_name::OpName;
 use crate::op_shape::OpShape;
 use crate::place::ListName;
+use ert_scenario::limits::{MOST_LISTS, MOST_OPS, MOST_TURNS};
 use std::alloc::AllocError;
 use std::fmt::Write;
 
@@ -78,10 +79,10 @@ pub(super) fn write_excess(page: &mut String, excess: Excess) -> Result<(), Allo
         Excess::Callers(count) => {
             write!(
                 page,
-                "there are {count} lists of callers, and at most 16 may be"
+                "there are {count} lists of callers, and at most {MOST_LISTS} may be"
             )
         }
-        Excess::Turns(turns) => write!(page, "there are {turns} turns, and at most 10000 may be"),
-        Excess::Ops => page.push_str("there are more than 100000 ops"),
+        Excess::Turns(turns) => write!(page, "there are {turns} turns, and at most {MOST_TURNS} may be"),
+        Excess::Ops => write!(page, "there are more than {MOST_OPS} ops"),
     }
 }

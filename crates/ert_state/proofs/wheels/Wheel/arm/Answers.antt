@@ -8,14 +8,14 @@ use Rattle.ert_state.proofs.wheels.Wheel.arm.Goals as goal
 
 pub invariant_of-self-in_err-put_place : goal.invariant_of-self-in_err-put_place
 invariant_of-self-in_err-put_place c =
-    indexed_room c.self.inside.timers.items c.self.inside.places c.put_place.new.places c.self.inside.slots.items
-    c.make_room.new.slots.items c.self.inside.armed c.in_err-put_place.ensures.kept c.make_room.ensures.kept
+    indexed_room c.self.inside.timers.items c.self.inside.places c.put_place.new.places c.self.inside.slots
+    c.make_room.new.slots c.self.inside.armed c.in_err-put_place.ensures.kept c.make_room.ensures.kept
     c.self.invariant
 
 pub invariant_of-self-in_err-push : goal.invariant_of-self-in_err-push
 invariant_of-self-in_err-push c =
     indexed_unarmed c.self.inside.timers.items c.push.new.list.items c.args.self.now c.self.inside.places
-    c.put_place.new.places c.self.inside.slots.items c.make_room.new.slots.items c.self.inside.armed
+    c.put_place.new.places c.self.inside.slots c.make_room.new.slots c.self.inside.armed
     c.self.inside.armed c.args.row.timer.slot c.args.row.timer.generation c.len-place.result c.in_err-push.ensures.kept
     c.self.view_is c.requires.new c.in_ok-put_place.ensures.put c.make_room.ensures.kept refl c.self.invariant
 
@@ -23,16 +23,16 @@ pub invariant_of-self-in-Ok : goal.invariant_of-self-in-Ok
 invariant_of-self-in-Ok c =
     let timer : Timer = record { row = c.args.row; status = Armed } in
     indexed_armed c.self.inside.timers.items c.push.new.list.items c.args.self.now c.self.inside.places
-    c.put_place.new.places c.self.inside.slots.items c.make_room.new.slots.items c.self.inside.armed
+    c.put_place.new.places c.self.inside.slots c.make_room.new.slots c.put_uses.new.slots c.self.inside.armed
     c.put_armed.new.armed c.len-place.result c.with-uses.result timer c.in_ok-push.ensures.put c.self.view_is
-    (c.len-place.ensures ∙ c.self.inside.timers.ok.0) refl c.in_ok-make_room.ensures.room c.requires.new
+    (c.len-place.ensures ∙ c.self.inside.timers.ok.0) refl c.put_uses.ensures c.requires.new
     (c.with-uses.ensures ∙ ap (used_by c.args.row) c.uses.ensures)
     c.in_ok-put_place.ensures.put c.make_room.ensures.kept c.in-Ok.ensures.put c.self.invariant
 
 pub invariant_of-self-in-Err : goal.invariant_of-self-in-Err
 invariant_of-self-in-Err c =
     indexed_unarmed c.self.inside.timers.items c.pop.new.self.items c.args.self.now c.self.inside.places
-    c.put_place.new.places c.self.inside.slots.items c.make_room.new.slots.items c.self.inside.armed
+    c.put_place.new.places c.self.inside.slots c.make_room.new.slots c.self.inside.armed
     c.put_armed.new.armed c.args.row.timer.slot c.args.row.timer.generation c.len-place.result
     (popped c.self.inside.timers.items c.push.new.list.items c.pop.new.self.items (record { row = c.args.row; status = Armed })
     (vec_len c.push.new.list) c.in_ok-push.ensures.put c.push.new.list.ok.0 c.pop.ensures.rest) c.self.view_is c.requires.new c.in_ok-put_place.ensures.put c.make_room.ensures.kept c.in-Err.ensures.kept

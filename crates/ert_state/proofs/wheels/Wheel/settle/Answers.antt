@@ -17,7 +17,7 @@ index_mut-requires c =
 
 pub invariant_of-self : goal.invariant_of-self
 invariant_of-self c =
-    indexed_there c.self.inside.timers.items c.args.self.now c.self.inside.places c.self.inside.slots.items
+    indexed_there c.self.inside.timers.items c.args.self.now c.self.inside.places c.self.inside.slots
     c.self.inside.armed c.remove.new.self c.args.timer c.args.from c.args.to c.in-Some.place c.in-Some.found
     c.index_mut.result.now c.self.view_is c.in-Some.ensures c.index_mut.ensures.value
     (same_true the_type (search rules) _ _ (sym c.if-eq.ensures)) c.requires c.remove.ensures.updates.0 c.self.invariant
