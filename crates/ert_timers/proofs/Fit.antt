@@ -45,6 +45,7 @@ fit_dropped processes slots keys free owners a x o k key fit held =
         places = fit.chained.places;
         are = fit.chained.are;
         held = λ j seen is. fit.chained.held j seen (key_left keys k j seen low is).1;
+        lasts = fit.chained.lasts;
         orders = fit.chained.orders;
       };
     }

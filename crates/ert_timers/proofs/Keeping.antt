@@ -8,18 +8,18 @@ use Rattle.std.specs.FinSet as sets
 use Rattle.std.specs.Ordering.{nat_cmp}
 use Rattle.ert_defs.specs.declared.timer.Start.{Start}
 use Rattle.ert_timers.specs.Changes.{IsFree, LostRow, NextOf, picked, slot_for, kept}
-use Rattle.ert_timers.specs.Owners.{Thinned, FindsRow}
+use Rattle.ert_timers.specs.Owners.{Joins, Thinned, FindsRow}
 use Rattle.ert_timers.specs.Parts.{AreFit, AreOwned, Part, slot_at, unused}
 use Rattle.ert_timers.specs.Slots.{Slot}
 use Rattle.ert_timers.specs.declared.part.Use.{Use}
 use mir.Val.{bool_byte}
 use Rattle.ert_timers.proofs.Fit.{fit_picked, taken_out}
-use Rattle.ert_wheel.specs.Rings.{Rings, Place, StandsIn, MayPut, Puts, Takes, with_place}
+use Rattle.ert_wheel.specs.Rings.{Rings, Place, StandsIn, with_place}
 use Rattle.ert_wheel.specs.Rows.{key_in, key_of}
 use Rattle.ert_wheel.specs.declared.row.Key.{Key}
 use Rattle.ert_wheel.specs.declared.row.Row.{Row}
 use Rattle.ert_wheel.proofs.Collect.{key_low}
-use Rattle.ert_wheel.proofs.Parts.{with_place_here, with_place_there, kept_place}
+use Rattle.ert_wheel.proofs.Parts.{with_place_here, with_place_there}
 use Rattle.ert_wheel.proofs.Views.{counts_more}
 use Rattle.ert_words.specs.Free.{FreeSet}
 use Rattle.ert_defs.specs.declared.settings.TheConstants.{MOST_SLOTS}
@@ -56,63 +56,61 @@ key_new keys k j key seen low is same =
     sym (ap (key_in (set keys k (Some key))) same ∙ get_or-set_same keys k (Some key) None low) ∙ is in
     cc
 
--- the slot leaves the chain in which it may be, and comes into that of the timer's process
-owned_kept : (slots : List Slot) (keys : List (Option Key)) (owners taken new : Rings) (a k : ℕ) (slot : Slot) (key : Key)
-    → AreOwned slots keys owners a → k < length slots → k < length keys → key.order ≡ a → a < 2 ^ 64 → Takes owners taken k
-    → Puts taken new k slot.dest → AreOwned (set slots k slot) (set keys k (Some key)) new (a + 1)
-owned_kept slots keys owners taken new a k slot key are low wide order fits takes puts =
-    let here : Place = record { home = slot.dest; order = key.order } in
-    let left : ℕ → Option Place = with_place are.places k None in
+-- the slot stands in the chain of the timer's process
+owned_kept : (slots : List Slot) (keys : List (Option Key)) (owners new : Rings) (a k : ℕ) (slot : Slot) (key : Key)
+    (are : AreOwned slots keys owners a) → k < length slots → k < length keys → Joins new are.places k slot.dest a
+    → AreOwned (set slots k slot) (set keys k (Some key)) new (a + 1)
+owned_kept slots keys owners new a k slot key are low wide joins =
+    let here : Option Place = Some joins.place in
+    let slot_here : (j : ℕ) → j ≡ k → slot_at (set slots k slot) j ≡ slot =
+    λ j same. ap (slot_at (set slots k slot)) same ∙ get_or-set_same slots k slot unused low in
+    let place_here : (j : ℕ) → j ≡ k → with_place are.places k here j ≡ here =
+    λ j same. ap (with_place are.places k here) same ∙ with_place_here are.places k here in
     record {
-      places = with_place left k (Some here);
-      are = puts left key.order (takes are.places are.are) (with_place_here are.places k None) (omega (arith, order))
-          (λ j place is. omega (arith, order, are.orders j place (kept_place are.places k j place is)));
+      places = with_place are.places k here;
+      are = joins.are;
       held = λ j seen is.
           elim (cases_eq j k) [
-            | inl same ↦
-                ap (with_place left k (Some here)) same
-                ∙ (with_place_here left k (Some here)
-                ∙ (ap (λ (s : Slot). let p : Place = record { home = s.dest; order = key.order } in Some p)
-                (sym (ap (slot_at (set slots k slot)) same ∙ get_or-set_same slots k slot unused low))
-                ∙ ap (λ (x : Key). let p : Place = record { home = (slot_at (set slots k slot) j).dest; order = x.order } in Some p)
-                (key_new keys k j key seen wide is same)))
+            | inl same ↦ record {
+              place = joins.place;
+              has = place_here j same;
+              at_home = joins.at_home ∙ sym (ap (λ (s : Slot). s.dest) (slot_here j same));
+            }
             | inr other ↦
-                with_place_there left k (Some here) j other
-                ∙ (with_place_there are.places k None j other
-                ∙ (are.held j seen (key_kept keys k j key seen wide is other)
-                ∙ ap (λ (s : Slot). let p : Place = record { home = s.dest; order = seen.order } in Some p)
-                (sym (slot_other slots k j slot other))))
+                let s : StandsIn are.places (slot_at slots j).dest j = are.held j seen (key_kept keys k j key seen wide is other) in
+                record {
+                  place = s.place;
+                  has = with_place_there are.places k here j other ∙ s.has;
+                  at_home = s.at_home ∙ sym (ap (λ (s : Slot). s.dest) (slot_other slots k j slot other));
+                }
+          ];
+      lasts = λ j place is.
+          elim (cases_eq j k) [
+            | inl same ↦
+                let e : Some joins.place ≡ Some place = sym (place_here j same) ∙ is in
+                let it : joins.place ≡ place = cc in
+                sym (ap (λ (p : Place). p.home) it) ∙ joins.at_home ∙ sym (ap (λ (s : Slot). s.dest) (slot_here j same))
+            | inr other ↦
+                are.lasts j place (sym (with_place_there are.places k here j other) ∙ is)
+                ∙ sym (ap (λ (s : Slot). s.dest) (slot_other slots k j slot other))
           ];
       orders = λ j place is.
           elim (cases_eq j k) [
             | inl same ↦
-                let e : Some here ≡ Some place =
-                sym (ap (with_place left k (Some here)) same ∙ with_place_here left k (Some here)) ∙ is in
-                let it : here ≡ place = cc in
-                omega (arith, order, ap (λ (p : Place). p.order) it)
-            | inr other ↦
-                omega (arith, are.orders j place (kept_place are.places k j place (sym (with_place_there left k (Some here) j other) ∙ is)))
+                let e : Some joins.place ≡ Some place = sym (place_here j same) ∙ is in
+                let it : joins.place ≡ place = cc in
+                omega (arith, joins.low, ap (λ (p : Place). p.order) it)
+            | inr other ↦ omega (arith, are.orders j place (sym (with_place_there are.places k here j other) ∙ is))
           ];
     }
 
--- it may come into it
-pub may_keep : (processes : ℕ) (slots : List Slot) (keys : List (Option Key)) (free : FreeSet) (owners taken : Rings) (a x o k dest : ℕ)
-    → AreFit processes slots keys free owners a x o → k < length slots → dest < processes → taken.slots ≡ owners.slots
-    → taken.homes ≡ owners.homes → Takes owners taken k → MayPut taken k dest
-may_keep processes slots keys free owners taken a x o k dest fit low in_range same homes takes = record {
-  places = with_place fit.chained.places k None;
-  are = takes fit.chained.places fit.chained.are;
-  low = omega (arith, same, fit.owned);
-  in_range = omega (arith, homes, fit.homes);
-  out = with_place_here fit.chained.places k None;
-}
-
 -- a timer is put in
-pub fit_kept : (p : Part) (free : FreeSet) (owners taken new : Rings) (k : ℕ) (start : Start) (next : Use)
-    → AreFit p.processes p.slots p.keys free owners p.arms p.expires p.orphans → free.held ≡ p.free → IsFree p k
-    → p.arms < 9007199254740992 → start.dest < p.processes → new.slots ≡ owners.slots → new.homes ≡ owners.homes → Takes owners taken k → Puts taken new k start.dest
+pub fit_kept : (p : Part) (free : FreeSet) (owners new : Rings) (k : ℕ) (start : Start) (next : Use)
+    (fit : AreFit p.processes p.slots p.keys free owners p.arms p.expires p.orphans) → free.held ≡ p.free → IsFree p k
+    → p.arms < 9007199254740992 → start.dest < p.processes → new.slots ≡ owners.slots → new.homes ≡ owners.homes
+    → Joins new fit.chained.places k start.dest p.arms
     → let q = kept p k start next in AreFit q.processes q.slots q.keys free new q.arms q.expires q.orphans
-fit_kept p free owners taken new k start next fit same can few dest slots homes takes puts =
+fit_kept p free owners new k start next fit same can few dest slots homes joins =
     let slot : Slot = slot_for next (slot_at p.slots k).above start in
     let key : Key = record { deadline = next.deadline; order = p.arms } in
     let wide : k < length p.keys = subst (λ n. k < n) (sym fit.wide) can.low in
@@ -139,7 +137,7 @@ fit_kept p free owners taken new k start next fit same can few dest slots homes 
             | inr other ↦ subst (λ (s : Slot). s.dest < p.processes) (sym (slot_other p.slots k j slot other))
                 (fit.dests j seen (key_kept p.keys k j key seen wide is other))
           ];
-      chained = owned_kept p.slots p.keys owners taken new p.arms k slot key fit.chained can.low wide refl (omega (arith, few)) takes puts;
+      chained = owned_kept p.slots p.keys owners new p.arms k slot key fit.chained can.low wide joins;
     }
   where
     other_free : (j : ℕ) → sets.contains free.held j ≡ true → j ≢ k
@@ -154,8 +152,12 @@ owned_thinned slots keys owners new a left are t = record {
   places = left;
   are = t.are;
   held = λ j key is. elim (t.each j) [
-    | inl same ↦ same ∙ are.held j key is
+    | inl same ↦ let s = are.held j key is in record { place = s.place; has = same ∙ s.has; at_home = s.at_home }
     | inr gone ↦ let none : None ≡ Some key = sym gone.1 ∙ is in absurd cc
+  ];
+  lasts = λ j place is. elim (t.each j) [
+    | inl same ↦ are.lasts j place (sym same ∙ is)
+    | inr gone ↦ let none : None ≡ Some place = sym gone.0 ∙ is in absurd cc
   ];
   orders = λ j place is. elim (t.each j) [
     | inl same ↦ are.orders j place (sym same ∙ is)
@@ -168,9 +170,9 @@ pub next_found : (p : Part) (free : FreeSet) (owners new : Rings) (process : ℕ
     (fit : AreFit p.processes p.slots p.keys free owners p.arms p.expires p.orphans)
     → FindsRow p.keys fit.chained.places process new found → NextOf p process found
 next_found p free owners new process None fit finds = λ k key is dest.
-    let place : Place = record { home = (slot_at p.slots k).dest; order = key.order } in
+    let s = fit.chained.held k key is in
     elim (finds.thinned.each k) [
-      | inl same ↦ finds.is k place (key_low p.keys k key is) (same ∙ fit.chained.held k key is) dest
+      | inl same ↦ finds.is k s.place (key_low p.keys k key is) (same ∙ s.has) (s.at_home ∙ dest)
       | inr gone ↦ let none : None ≡ Some key = sym gone.1 ∙ is in absurd cc
     ]
 next_found p free owners new process (Some row) fit finds =
@@ -180,10 +182,10 @@ next_found p free owners new process (Some row) fit finds =
       has,
       elim (finds.thinned.each row.slot) [
         | inl same ↦
-            let e : Some (record { home = (slot_at p.slots row.slot).dest; order = row.order }) ≡ Some stands.place =
-            sym (same ∙ fit.chained.held row.slot (key_of row) has) ∙ stands.has in
-            let it : record { home = (slot_at p.slots row.slot).dest; order = row.order } ≡ stands.place = cc in
-            ap (λ (q : Place). q.home) it ∙ stands.at_home
+            let s = fit.chained.held row.slot (key_of row) has in
+            let e : Some s.place ≡ Some stands.place = sym (same ∙ s.has) ∙ stands.has in
+            let it : s.place ≡ stands.place = cc in
+            sym s.at_home ∙ ap (λ (q : Place). q.home) it ∙ stands.at_home
         | inr gone ↦ let none : None ≡ Some (key_of row) = sym gone.1 ∙ has in absurd cc
       ],
     )

@@ -60,6 +60,7 @@ fit_open processes n slots keys free owners few few_homes slots_are keys_are all
         places = λ _. None;
         are = chains;
         held = λ k key is. (let e : None ≡ Some key = sym (none k) ∙ is in absurd cc);
+        lasts = λ k place is. (let e : None ≡ Some place = is in absurd cc);
         orders = λ k place is. (let e : None ≡ Some place = is in absurd cc);
       };
     }

@@ -1,12 +1,14 @@
 -- The chains of the processes: a row is found, and slots without a row leave.
 
-use Rattle.std.proofs.Common.{◌≡◌, ◌≢◌, ℕ, zero, suc, ◌+◌, ◌^◌, ◌<◌, ◌≤◌, cond, nat_eq, List, length, Option, Some, None, option_map, refl, sym, ap, subst, ◌∙◌, arith, inl, inr}
+use Rattle.std.proofs.Common.{◌≡◌, ◌≢◌, ℕ, zero, suc, ◌+◌, ◌^◌, ◌<◌, ◌≤◌, ◌↔◌, Bool, true, cond, nat_eq, List, length, Option, Some, None, option_map, refl, sym, ap, subst, ◌∙◌, arith, inl, inr}
 use Rattle.std.proofs.lemmas.Bool.{cases_eq, eq-eqb, ne_eqb}
-use Rattle.ert_timers.specs.Owners.{Thinned, IsIn, FindsRow}
-use Rattle.ert_wheel.proofs.Parts.{IsSlot, slot_is, with_place_here, with_place_there}
+use Rattle.std.specs.Bool.{IsTrue}
+use Rattle.std.specs.Option.{IsSome}
+use Rattle.ert_timers.specs.Owners.{MayJoin, Joins, Thinned, IsIn, FindsRow}
+use Rattle.ert_wheel.proofs.Parts.{IsSlot, slot_is, with_place_here, with_place_there, kept_place}
 use Rattle.ert_wheel.specs.Chained.{Shape}
 use Rattle.ert_wheel.specs.Links.{next_at}
-use Rattle.ert_wheel.specs.Rings.{Rings, Place, AreChains, StandsIn, Finds, Takes, shape, with_place}
+use Rattle.ert_wheel.specs.Rings.{Rings, Place, AreChains, StandsIn, Finds, MayTake, Takes, MayPut, Puts, shape, with_place}
 use Rattle.ert_wheel.specs.Rows.{key_in, row_at}
 use Rattle.ert_wheel.specs.declared.row.Key.{Key}
 use Rattle.ert_wheel.specs.declared.row.Row.{Row}
@@ -90,6 +92,68 @@ linked_falls old new places k place are left same low has =
           | inr ne ↦ (left.alone j (omega (arith, same)) (with_place_there places k None j ne ∙ none)).forth
         ]
     at j (Some p) some down alone = absurd (not_alone old places j p are down some alone)
+
+-- a slot that is in a chain, and whose last timer went to a process, stands in that of this process
+pub stands_with : (places : ℕ → Option Place) (slot dest process : ℕ) (owned : Bool) → IsTrue owned ↔ IsSome (places slot)
+    → ((place : Place) → places slot ≡ Some place → place.home ≡ dest) → dest ≡ process → owned ≡ true → StandsIn places process slot
+stands_with places slot dest process owned tells lasts same hit = at (places slot) refl (tells.0 hit)
+  where
+    at : (o : Option Place) → places slot ≡ o → IsSome o → StandsIn places process slot
+    at None none some = absurd cc
+    at (Some place) has some = record { place = place; has = has; at_home = lasts place has ∙ same }
+
+-- a slot stays in a chain
+pub joins_stay : (owners : Rings) (places : ℕ → Option Place) (slot process bound : ℕ) → AreChains owners places
+    → ((k : ℕ) (place : Place) → places k ≡ Some place → place.order < bound) → StandsIn places process slot
+    → Joins owners places slot process bound
+joins_stay owners places slot process bound are orders s =
+    let here : Option Place = Some s.place in
+    let same : (j : ℕ) → with_place places slot here j ≡ places j =
+    λ j. elim (cases_eq j slot) [
+      | inl e ↦ ap (with_place places slot here) e ∙ with_place_here places slot here ∙ sym s.has ∙ sym (ap places e)
+      | inr ne ↦ with_place_there places slot here j ne
+    ] in
+    record {
+      place = s.place;
+      at_home = s.at_home;
+      low = omega (arith, orders slot s.place s.has);
+      are = subst (λ (p : ℕ → Option Place). AreChains owners p) (λ i j. sym (same j) i) are;
+    }
+
+-- or it leaves one and comes into another
+pub joins_anew : (old taken new : Rings) (places : ℕ → Option Place) (slot process bound : ℕ) (stays : Bool)
+    → AreChains old places → MayJoin places slot process bound stays → Takes old taken slot → Puts taken new slot process
+    → Joins new places slot process bound
+joins_anew old taken new places slot process bound stays are may takes puts =
+    let here : Place = record { home = process; order = bound } in
+    let left : ℕ → Option Place = with_place places slot None in
+    let same : (j : ℕ) → with_place left slot (Some here) j ≡ with_place places slot (Some here) j =
+    λ j. elim (cases_eq j slot) [
+      | inl e ↦ ap (with_place left slot (Some here)) e ∙ with_place_here left slot (Some here)
+          ∙ sym (with_place_here places slot (Some here)) ∙ sym (ap (with_place places slot (Some here)) e)
+      | inr ne ↦ with_place_there left slot (Some here) j ne ∙ with_place_there places slot None j ne
+          ∙ sym (with_place_there places slot (Some here) j ne)
+    ] in
+    let all : AreChains new (with_place left slot (Some here)) =
+    puts left bound (takes places are) (with_place_here places slot None) may.fits
+    (λ j place is. may.orders j place (kept_place places slot j place is)) in
+    record {
+      place = here;
+      at_home = refl;
+      low = omega arith;
+      are = subst (λ (p : ℕ → Option Place). AreChains new p) (λ i j. same j i) all;
+    }
+
+-- a slot that was taken out may come in
+pub may_come : (old taken : Rings) (slot process : ℕ) → MayTake old slot → Takes old taken slot → taken.slots ≡ old.slots
+    → taken.homes ≡ old.homes → process < old.homes → MayPut taken slot process
+may_come old taken slot process may takes slots homes in_range = record {
+  places = with_place may.places slot None;
+  are = takes may.places may.are;
+  low = omega (arith, slots, may.low);
+  in_range = omega (arith, homes, in_range);
+  out = with_place_here may.places slot None;
+}
 
 -- none has left at first
 pub thinned_none : (owners : Rings) (keys : List (Option Key)) (places : ℕ → Option Place) → AreChains owners places

@@ -1,6 +1,6 @@
 -- The timers of one scheduler: what its part keeps, and when the part stands for a history.
 
-use Rattle.std.specs.Prelude.{◌≡◌, ℕ, ◌+◌, ◌<◌, ◌≤◌, true, false, List, length, count_by, slice_index_or, Option, Some, None, option_map, refl}
+use Rattle.std.specs.Prelude.{◌≡◌, ℕ, ◌+◌, ◌<◌, ◌≤◌, true, false, List, length, count_by, slice_index_or, Option, Some, None, refl}
 use Rattle.std.specs.Coded.{Coded, code_by, coded×, coded_ℕ, coded_list, coded_option}
 use Rattle.std.specs.FinSet as set
 use Rattle.std.specs.List.{slice_get}
@@ -23,7 +23,7 @@ use Rattle.ert_table.specs.Held.{is_held}
 use Rattle.ert_table.specs.declared.view.View.{View}
 use Rattle.ert_timers.specs.Codes.{slot_code, key_code}
 use Rattle.ert_timers.specs.Slots.{Slot}
-use Rattle.ert_wheel.specs.Rings.{Rings, Place, AreChains}
+use Rattle.ert_wheel.specs.Rings.{Rings, Place, AreChains, StandsIn}
 use Rattle.ert_wheel.specs.Rows.{key_in}
 use Rattle.ert_wheel.specs.declared.row.Key.{Key}
 use Rattle.ert_words.specs.Free.{FreeSet}
@@ -85,15 +85,13 @@ held_row w slots k key = record {
   kind = (slot_at slots k).kind;
 }
 
--- where the timer of a slot belongs: to its process, in order of arming
-abbrev pub owner_of : List Slot → ℕ → Option Key → Option Place
-owner_of slots k = option_map (λ key. record { home = (slot_at slots k).dest; order = key.order })
-
--- the chains of the processes: that of each has the slots of its rows, and maybe slots that have no row any more
+-- the chains of the processes: that of each has the slots of its rows, and maybe slots that have no row any more, but whose
+-- last timer went to it
 pub record AreOwned (slots : List Slot) (keys : List (Option Key)) (owners : Rings) (armed : ℕ) : Type 0 where
   pub places : ℕ → Option Place
   pub are : AreChains owners places
-  pub held : (k : ℕ) (key : Key) → key_in keys k ≡ Some key → places k ≡ owner_of slots k (Some key)
+  pub held : (k : ℕ) (key : Key) → key_in keys k ≡ Some key → StandsIn places (slot_at slots k).dest k
+  pub lasts : (k : ℕ) (place : Place) → places k ≡ Some place → place.home ≡ (slot_at slots k).dest
   pub orders : (k : ℕ) (place : Place) → places k ≡ Some place → place.order < armed
 
 -- what the fields of a part keep, whatever the history

@@ -6,9 +6,10 @@
 //! the message and the kind of the last timer, its generation, and one above the greatest deadline of all the
 //! slot's timers. A timer that is held as armed also has a row in a timing wheel (`ert_wheel`), which tells what is
 //! due, and its slot stands in the chain of its process there, so that an exit costs in proportion to the timers of
-//! that process. Its order in both is how many timers of the wheel were armed before it. A timer that is settled
-//! leaves the wheel, and its slot leaves the chain later: when it is used again, or when the process is swept. The
-//! wheel holds what is kept of a slot, as the slot's value.
+//! that process. Its order in the wheel is how many timers of the wheel were armed before it. A timer that is settled
+//! leaves the wheel, and its slot stays in the chain until it is used for another process, or until the process is
+//! swept. So a start for the process of the slot's last timer changes no chain of a process. The wheel holds what is
+//! kept of a slot, as the slot's value.
 //!
 //! **What others do.** Any thread may cancel a timer by one exchange on its word, and tells the part nothing.
 //! So a held timer may be settled already. An advance finds that out when its own exchange misses; a start
@@ -50,8 +51,8 @@
 //!
 //! A start that looks at every slot knows from then on all that can be used again; so only where all rest or
 //! are taken does each start look at every slot. Where a window of 512 milliseconds begins, an advance also
-//! does work for each timer that is due in it. A sweep does work too for the timers of the process that were
-//! settled and whose slots were not used again.
+//! does work for each timer that is due in it. A sweep does work too for the slots whose last timer went to the
+//! process and was settled.
 //!
 //! Each timer is tried once, by one exchange, and then its row goes. No call waits for anybody. Only `open`
 //! takes memory, and `advance` for its list of expired timers, before the first of them expires.

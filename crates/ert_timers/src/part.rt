@@ -34,7 +34,7 @@ pub struct WheelPart {
     /// How many processes the desk has.
     processes: u32,
     /// The timers that are held as armed, and for each process the chain of the slots whose timers go to it. A slot
-    /// without such a timer stays in its chain until it is used again, or until the chain is swept.
+    /// without such a timer stays in its chain until it is used for another process, or until the chain is swept.
     wheel: Wheel<Slot>,
     /// The slots that are known to be free: first those that have had a long wait.
     free: FreeSlots,
@@ -182,8 +182,8 @@ impl WheelPart {
         }
     }
 
-    /// The newest row of a process; None where the process has none. Slots that come before it in the chain of
-    /// the process have no row any more, and leave the chain.
+    /// The row of a process whose slot came into its chain last; None where the process has none. Slots that come before it
+    /// in the chain have no row any more, and leave it.
     pub(crate) fn newest_of(&mut self, process: u32) -> Option<Row>
         requires { process < self.old.processes }
         ensures part { self.new ≡ self.old }

@@ -1,10 +1,12 @@
 -- What each call on chains does, in the form in which the calls meet it.
 
-use Rattle.std.proofs.Common.{map, ◌≡◌, ℕ, ◌+◌, ◌<◌, ◌≤◌, ◌^◌, true, cond, List, Option, Some, None, length, get_or, sym, subst, ◌∙◌, ap, inl, inr, refl, arith}
-use Rattle.std.proofs.lemmas.Bool.{cases_lt, lt-ltb, le-ltb}
+use Rattle.std.proofs.Common.{map, ◌≡◌, ◌↔◌, ℕ, ◌+◌, ◌<◌, ◌≤◌, ◌^◌, Bool, true, false, not, cond, List, Option, Some, None, length, get_or, sym, subst, ◌∙◌, ap, inl, inr, refl, arith}
+use Rattle.std.proofs.lemmas.Bool.{cases_lt, lt-ltb, le-ltb, false≢true}
 use Rattle.std.proofs.lemmas.List.FromFn.{get_or-map-range_with_len, length-map-range_with_len}
+use Rattle.std.specs.Bool.{IsTrue}
 use Rattle.std.specs.List.{range_with_len}
-use Rattle.ert_wheel.proofs.Parts.{IsSlot, IsHead, slot_is, head_is, node_is, put_chains, take_chains}
+use Rattle.std.specs.Option.{IsSome}
+use Rattle.ert_wheel.proofs.Parts.{IsSlot, IsHead, slot_is, head_is, node_is, placed_apart, put_chains, take_chains}
 use Rattle.ert_wheel.specs.Chained.{Shape, Spliced, Unspliced}
 use Rattle.ert_wheel.specs.Links.{next_at, prev_at, alone, no_link}
 use Rattle.ert_wheel.specs.Rings.{Rings, HasLinks, Place, order_of, shape, AreChains, MayTake, Puts, PutsInHome, Takes, slot_at, Finds, FindsOldest}
@@ -50,6 +52,17 @@ pub takes : (old : Rings) (slots homes : ℕ) (before after : List Link) (slot :
 takes old slots homes before after slot is low unspliced =
     subst (λ (r : Rings). Takes old r slot) (sym (ap (λ (r : Rings). let n : Rings = record r { links = after } in n) is))
     (λ places are. take_chains old places slot after are low unspliced)
+
+-- a slot isn't alone just where it has a place
+pub is_placed : (r : Rings) (slot : ℕ) (alone : Bool) (places : ℕ → Option Place) → AreChains r places → slot < r.slots
+    → IsTrue alone ↔ (next_at r.links slot ≡ slot) → IsTrue (not alone) ↔ IsSome (places slot)
+is_placed r slot alone places are low tells = at alone (places slot) refl tells
+  where
+    at : (b : Bool) (o : Option Place) → places slot ≡ o → IsTrue b ↔ (next_at r.links slot ≡ slot) → IsTrue (not b) ↔ IsSome o
+    at false None none tells = (λ t. absurd (false≢true (tells.1 (are.alone slot low none).forth)), λ s. absurd (false≢true s))
+    at false (Some place) has tells = (λ t. refl, λ s. refl)
+    at true None none tells = (λ t. absurd (false≢true t), λ s. absurd (false≢true s))
+    at true (Some place) has tells = absurd (placed_apart r places slot place are low has (tells.0 refl))
 
 -- what comes before a slot is a node
 pub before_in_range : (r : Rings) (places : ℕ → Option Place) (slot : ℕ) → AreChains r places → slot < r.slots

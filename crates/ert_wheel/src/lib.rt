@@ -58,8 +58,8 @@
 //! put in since the next time moved on. A floor below all deadlines tells whether that was so. Those rows are due at once,
 //! or at the next millisecond, so that the next advance takes them.
 //!
-//! **Owners.** `own` puts a slot into the chain of an owner as its newest, `disown` takes it out, and `newest_owned`
-//! tells the newest. This hangs on no row: a slot may have an owner without a row, and a row without an owner.
+//! **Owners.** `own` puts a slot into the chain of an owner as its newest, `disown` takes it out, `is_owned` tells whether
+//! it is in one, and `newest_owned` tells the newest of an owner. This hangs on no row: a slot may have an owner without a row, and a row without an owner.
 //!
 //! **At rest** a slot takes 32 bytes and its value: 16 of key and 16 of links; an owner 8 bytes for its head; and a wheel
 //! 20 KiB for the heads of its buckets, and 320 bytes for the marks. All is taken when the wheel is made, and no call

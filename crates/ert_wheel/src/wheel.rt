@@ -203,6 +203,16 @@ impl<T: Copy> Wheel<T> {
         self.owners.take(slot);
     }
 
+    /// Whether a slot is in the chain of an owner.
+    #[inline]
+    pub fn is_owned(&self, slot: u32) -> bool
+        requires { slot < self.now.owners.slots }
+        ensures { (places : ℕ → Option Place) → AreChains self.now.owners places
+            → IsTrue result ↔ IsSome (places slot) }
+    {
+        !self.owners.is_alone(slot)
+    }
+
     /// The newest slot of an owner; None where it has none.
     #[inline]
     pub fn newest_owned(&self, owner: u32) -> Option<u32>

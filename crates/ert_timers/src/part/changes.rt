@@ -1,14 +1,16 @@
 //! How the small calls change what a part keeps.
 ghost use Rattle.std.specs.FinSet as set;
-ghost use Rattle.std.specs.Prelude.{◌≡◌, ◌≤◌, ◌<◌, ◌++◌, [], ◌∷◌, IfSome, IsSome, MatchBool, false, true, nat_lt};
+ghost use Rattle.std.specs.Prelude.{◌≡◌, ◌≤◌, ◌<◌, ◌++◌, [], ◌∷◌, ℕ, Option, Some, IfSome, IsSome, MatchBool, false, true, nat_lt};
 ghost use Rattle.ert_defs.specs.Timers as timers;
 ghost use Rattle.ert_timers.specs.Changes as changes;
+ghost use Rattle.ert_timers.specs.Owners.{MayJoin, Joins};
+ghost use Rattle.ert_wheel.specs.Rings.{Place, AreChains, MayTake, StandsIn};
 ghost use Rattle.ert_words.specs.Free.{free_set};
 
 use super::{Use, WheelPart, is_long};
 use crate::slot::Slot;
 use ert_defs::{FIRST_LATER_GENERATION, Start, TimerRef, USES_OF_ROUND, use_of};
-use ert_wheel::Row;
+use ert_wheel::{Row, Wheel};
 use ert_words::FreeSlots;
 
 impl Slot {
@@ -177,7 +179,8 @@ impl WheelPart {
         }
     }
 
-    /// Puts in the timer of a start, in a slot that was held free.
+    /// Puts in the timer of a start, in a slot that was held free. Where the slot's last timer went to the same process
+    /// the slot stays in the chain of that, and no chain of a process is read or written but for one link.
     #[inline(always)]
     pub(crate) fn keep(&mut self, slot: u32, start: &Start, next: Use) -> TimerRef
         requires free { IsFree self.old slot }
@@ -187,7 +190,9 @@ impl WheelPart {
         ensures kept { self.new ≡ kept self.old slot start.now next }
         ensures timer { result ≡ last_timer self.new.number self.new.slots slot }
     {
-        let above = self.wheel.value(slot).above().max(next.deadline + 1);
+        let last = self.wheel.value(slot);
+        let stays = is_with(&self.wheel, slot, last, start.dest);
+        let above = last.above().max(next.deadline + 1);
         let kept = Slot::new(next.generation, above, start.dest, start.msg, start.kind);
         let row = Row {
             deadline: next.deadline,
@@ -196,8 +201,7 @@ impl WheelPart {
         };
         self.arms += 1;
         self.wheel.insert(row, kept);
-        self.wheel.disown(slot);
-        self.wheel.own(slot, start.dest);
+        join(&mut self.wheel, slot, start.dest, stays);
         TimerRef {
             wheel: self.number,
             slot,
@@ -211,6 +215,37 @@ fn has_uses(generation: u64) -> bool
     ensures { result ≡ nat_lt (timers.use_of generation) 262143 }
 {
     use_of(generation) < USES_OF_ROUND
+}
+
+/// Whether a slot stands in the chain of a process, by what is kept of its last timer.
+#[inline]
+fn is_with(wheel: &Wheel<Slot>, slot: u32, last: Slot, process: u32) -> bool
+    requires { slot < wheel.now.owners.slots }
+    ensures { (places : ℕ → Option Place) → AreChains wheel.now.owners places
+        → ((place : Place) → places slot ≡ Some place → place.home ≡ last.dest)
+        → result ≡ true → StandsIn places process slot }
+{
+    last.dest() == process && wheel.is_owned(slot)
+}
+
+/// Puts a slot into the chain of a process, where it doesn't stay in it.
+#[inline]
+fn join(wheel: &mut Wheel<Slot>, slot: u32, process: u32, stays: bool)
+    requires process { process < wheel.old.owners.homes }
+    requires may { MayTake wheel.old.owners slot }
+    ensures keys { wheel.new.keys ≡ wheel.old.keys }
+    ensures values { wheel.new.values ≡ wheel.old.values }
+    ensures passed { wheel.new.passed ≡ wheel.old.passed }
+    ensures slots { wheel.new.owners.slots ≡ wheel.old.owners.slots }
+    ensures homes { wheel.new.owners.homes ≡ wheel.old.owners.homes }
+    ensures joins { (places : ℕ → Option Place) (bound : ℕ) → AreChains wheel.old.owners places
+        → MayJoin places slot process bound stays → Joins wheel.new.owners places slot process bound }
+{
+    if stays {
+        return;
+    }
+    wheel.disown(slot);
+    wheel.own(slot, process);
 }
 
 /// Adds a slot that was taken out again, at the other end than that of the one that is taken instead: the first

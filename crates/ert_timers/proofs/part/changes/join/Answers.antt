@@ -1,0 +1,16 @@
+use Rattle.ert_timers.proofs.Owners.{joins_stay, joins_anew, may_come}
+use Rattle.ert_timers.proofs.part.changes.join.Goals as goal
+
+pub own-requires : goal.own-requires
+own-requires c =
+    may_come c.args.wheel.now.owners c.disown.new.self.owners c.args.slot c.args.process c.requires.may c.disown.ensures.disowned
+    c.disown.ensures.slots c.disown.ensures.homes c.requires.process
+
+pub returns-then-stays-clause-joins : goal.returns-then-stays-clause-joins
+returns-then-stays-clause-joins c = λ places bound are may.
+    joins_stay c.args.wheel.now.owners places c.args.slot c.args.process bound are may.orders (may.stands c.if-stays.true)
+
+pub returns-clause-joins : goal.returns-clause-joins
+returns-clause-joins c = λ places bound are may.
+    joins_anew c.args.wheel.now.owners c.disown.new.self.owners c.own.new.self.owners places c.args.slot c.args.process bound c.args.stays
+    are may c.disown.ensures.disowned c.own.ensures.owned
