@@ -87,11 +87,6 @@ const OF_THE_CLOCK: [(&str, Event); 9] = [
     ),
 ];
 
-#[test]
-fn reads_events_of_the_clock(rt: HostRuntime) {
-    reads(&rt, rt.alloc(), &OF_THE_CLOCK);
-}
-
 const AFTER: Start = Start {
     when: When::After(6),
     dest: 5,
@@ -155,31 +150,64 @@ const OF_TIMERS: [(&str, Event); 10] = [
     ),
 ];
 
-#[test]
-fn reads_events_of_timers(rt: HostRuntime) {
-    reads(&rt, rt.alloc(), &OF_TIMERS);
-}
-
-#[test]
-fn reads_where_timers_stood(rt: HostRuntime) {
-    let rows = [
-        ("probe 1 2 none", None),
-        ("probe 1 2 armed", Some(Status::Armed)),
-        ("probe 1 2 expired", Some(Status::Expired)),
-        ("probe 1 2 delivered", Some(Status::Delivered)),
-        ("probe 1 2 cancelled", Some(Status::Cancelled)),
-        ("probe 1 2 orphaned", Some(Status::Orphaned)),
-        ("probe 1 2 dropped", Some(Status::Dropped)),
-    ];
-    for (words, found) in rows {
-        let event = Event::Probe {
+const OF_PROBES: [(&str, Event); 7] = [
+    (
+        "probe 1 2 none",
+        Event::Probe {
             wheel: 1,
             slot: 2,
-            found,
-        };
-        reads(&rt, rt.alloc(), &[(words, event)]);
-    }
-}
+            found: None,
+        },
+    ),
+    (
+        "probe 1 2 armed",
+        Event::Probe {
+            wheel: 1,
+            slot: 2,
+            found: Some(Status::Armed),
+        },
+    ),
+    (
+        "probe 1 2 expired",
+        Event::Probe {
+            wheel: 1,
+            slot: 2,
+            found: Some(Status::Expired),
+        },
+    ),
+    (
+        "probe 1 2 delivered",
+        Event::Probe {
+            wheel: 1,
+            slot: 2,
+            found: Some(Status::Delivered),
+        },
+    ),
+    (
+        "probe 1 2 cancelled",
+        Event::Probe {
+            wheel: 1,
+            slot: 2,
+            found: Some(Status::Cancelled),
+        },
+    ),
+    (
+        "probe 1 2 orphaned",
+        Event::Probe {
+            wheel: 1,
+            slot: 2,
+            found: Some(Status::Orphaned),
+        },
+    ),
+    (
+        "probe 1 2 dropped",
+        Event::Probe {
+            wheel: 1,
+            slot: 2,
+            found: Some(Status::Dropped),
+        },
+    ),
+];
 
 const READ: Request = Request {
     kind: RequestKind::Read,
@@ -232,84 +260,108 @@ const OF_REQUESTS: [(&str, Event); 6] = [
     ),
 ];
 
-#[test]
-fn reads_events_of_requests(rt: HostRuntime) {
-    reads(&rt, rt.alloc(), &OF_REQUESTS);
-}
+const OF_PROCESSES: [(&str, Event); 4] = [
+    (
+        "mark 5 true false",
+        Event::Mark {
+            process: 5,
+            exits: true,
+            was: false,
+        },
+    ),
+    (
+        "unwatch 5 6 true",
+        Event::Unwatch {
+            process: 5,
+            monitor: 6,
+            was: true,
+        },
+    ),
+    (
+        "watch 5 6 -7",
+        Event::Watch {
+            process: 5,
+            monitor: 6,
+            offset: -7,
+        },
+    ),
+    (
+        "tell 5 -7",
+        Event::Tell {
+            process: 5,
+            offset: -7,
+        },
+    ),
+];
 
-#[test]
-fn reads_events_of_processes(rt: HostRuntime) {
-    let rows = [
-        (
-            "mark 5 true false",
-            Event::Mark {
-                process: 5,
-                exits: true,
-                was: false,
-            },
-        ),
-        (
-            "unwatch 5 6 true",
-            Event::Unwatch {
-                process: 5,
-                monitor: 6,
-                was: true,
-            },
-        ),
-        (
-            "watch 5 6 -7",
-            Event::Watch {
-                process: 5,
-                monitor: 6,
-                offset: -7,
-            },
-        ),
-        (
-            "tell 5 -7",
-            Event::Tell {
-                process: 5,
-                offset: -7,
-            },
-        ),
-    ];
-    reads(&rt, rt.alloc(), &rows);
-}
-
-#[test]
-fn reads_messages(rt: HostRuntime) {
-    let rows = [
-        ("take 5 none", None),
-        (
-            "take 5 timeout 1 2 3 4",
-            Some(Mail::Timeout {
+const OF_MESSAGES: [(&str, Event); 6] = [
+    (
+        "take 5 none",
+        Event::Take {
+            process: 5,
+            got: None,
+        },
+    ),
+    (
+        "take 5 timeout 1 2 3 4",
+        Event::Take {
+            process: 5,
+            got: Some(Mail::Timeout {
                 timer: TIMER,
                 msg: 4,
             }),
-        ),
-        ("take 5 bare 4", Some(Mail::Bare { msg: 4 })),
-        (
-            "take 5 cancel_done 1 2 3 none",
-            Some(Mail::CancelDone {
+        },
+    ),
+    (
+        "take 5 bare 4",
+        Event::Take {
+            process: 5,
+            got: Some(Mail::Bare { msg: 4 }),
+        },
+    ),
+    (
+        "take 5 cancel_done 1 2 3 none",
+        Event::Take {
+            process: 5,
+            got: Some(Mail::CancelDone {
                 timer: TIMER,
                 left: None,
             }),
-        ),
-        (
-            "take 5 read_done 1 2 3 4",
-            Some(Mail::ReadDone {
+        },
+    ),
+    (
+        "take 5 read_done 1 2 3 4",
+        Event::Take {
+            process: 5,
+            got: Some(Mail::ReadDone {
                 timer: TIMER,
                 left: Some(4),
             }),
-        ),
-        (
-            "take 5 change 6 -7",
-            Some(Mail::Change {
+        },
+    ),
+    (
+        "take 5 change 6 -7",
+        Event::Take {
+            process: 5,
+            got: Some(Mail::Change {
                 monitor: 6,
                 offset: -7,
             }),
-        ),
+        },
+    ),
+];
+
+#[test]
+fn reads_events(rt: HostRuntime) {
+    let tables = [
+        OF_THE_CLOCK.as_slice(),
+        OF_TIMERS.as_slice(),
+        OF_PROBES.as_slice(),
+        OF_REQUESTS.as_slice(),
+        OF_PROCESSES.as_slice(),
+        OF_MESSAGES.as_slice(),
     ];
-    for (words, got) in rows {
-        reads(&rt, rt.alloc(), &[(words, Event::Take { process: 5, got })]);
+    for rows in tables {
+        reads(&rt, rt.alloc(), rows);
     }
 }
