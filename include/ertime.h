@@ -628,7 +628,7 @@ int32_t ert_world_turn_some(ert_world *world, uint32_t sched, uint32_t most, ert
  * after a turn (as with `uv_backend_timeout`), unless something else wakes it. After a turn `due` is above `to`.
  *
  * `due` is the deadline of a timer, or the beginning of a window in which one is due: of 512 milliseconds, of 512 times
- * that, and so on. After a turn at the beginning of a window the answer lies in it. So a loop wakes eight times at most
+ * that, and so on. After a turn at the beginning of a window the answer lies in it. So a loop wakes five times at most
  * for the timer that is due first, however far it is, and once if few timers are due in the same window. A timer that
  * was cancelled through a seat counts until it would have been due, so `due` may be too early because of it.
  *

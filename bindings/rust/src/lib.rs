@@ -556,7 +556,7 @@ impl World {
     /// armed. No timer is due before it, and after a turn it is later than the turn's `to`.
     ///
     /// It is a timer's deadline, or the begin of a window in which one is due: a loop that sleeps until then and makes
-    /// a turn wakes eight times at most for the timer that is due first, and once where timers are few.
+    /// a turn wakes five times at most for the timer that is due first, and once where timers are few.
     pub fn next_due(&mut self, sched: u32) -> Result<Option<u64>, Error> {
         let mut due = 0;
         let status = unsafe { ffi::ert_world_next_due(&mut *self.handle, sched, &mut due) };

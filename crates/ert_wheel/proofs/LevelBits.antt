@@ -103,6 +103,13 @@ by_bits d n leading d_fits n_fits high e =
 pub by_place : (d n : ℕ) → bit_xor d n < 512 → bit_and d 511 ≡ home_at 4 d n
 by_place d n low = and_mask d 9 ∙ sym (home_near 3 d n (same_window d n low))
 
+-- or in one of the next level
+pub by_window : (d n : ℕ) → d < 2 ^ 45 → 512 ≤ bit_xor d n → bit_xor d n < 262144 → 512 + bit_and (d / 2 ^ 9) 511 ≡ home_at 4 d n
+by_window d n fits high low =
+    let found : home_at 4 d n ≡ 512 * 1 + d / 512 ^ 1 % 512 =
+    by_level 4 1 d n (omega arith) (omega arith) (omega arith) (λ _. omega arith) in
+    omega (arith, found, and_mask (d / 2 ^ 9) 9)
+
 pub next_place : (n : ℕ) → bit_and n 511 ≡ home_at 4 n n
 next_place n = and_mask n 9 ∙ sym (home_next 3 n)
 

@@ -1,3 +1,5 @@
+ghost use Rattle.std.specs.Prelude.{◌≡◌, min};
+
 use crate::chains::Chains;
 use crate::kept::Kept;
 use crate::marked::MarkedChains;
@@ -152,7 +154,7 @@ impl<T: Copy> Wheel<T> {
         let home = bucket(self.next_time, deadline.max(self.next_time));
         self.buckets.put(slot, home);
         self.kept.set(slot, Key { deadline, order }, value);
-        self.floor = self.floor.min(deadline);
+        lower(&mut self.floor, deadline);
         self.len += 1;
     }
 
@@ -303,5 +305,15 @@ impl<T: Copy> Wheel<T> {
             self.remove(row.slot);
         }
         self.pass(to);
+    }
+}
+
+/// Lowers a floor to a deadline that is below it. Most deadlines are above it, and then nothing is written.
+#[inline]
+fn lower(floor: &mut u64, deadline: u64)
+    ensures { floor.new ≡ min floor.old deadline }
+{
+    if deadline < *floor {
+        *floor = deadline;
     }
 }

@@ -11,6 +11,9 @@ const DEADLINE: u64 = 1 << 3;
 /// The place of the generation: status and deadline are below it.
 const GENERATION: u64 = 1 << 46;
 
+/// The status of a timer that is armed in the first round of its slot.
+const ARMED: u64 = 1;
+
 /// The status of a timer that is armed in a later round of its slot.
 const ARMED_LATER: u64 = 7;
 
@@ -35,8 +38,12 @@ pub fn timer_of(word: u64) -> Option<(Status, u64, u64)>
     ensures in_range { IfSome result (λ timer. IsTimer timer.1 timer.2) }
 {
     let code = word % DEADLINE;
-    let status = status_of(code)?;
     let deadline = word / DEADLINE % (GENERATION / DEADLINE);
+    // Most that are looked at are armed in the first round.
+    if code == ARMED {
+        return Some((Status::Armed, deadline, word / GENERATION));
+    }
+    let status = status_of(code)?;
     if code == ARMED_LATER {
         return Some((status, deadline, word / DEADLINE));
     }
@@ -47,7 +54,7 @@ fn code_of(status: Status, generation: u64) -> u64
     ensures { result ≡ words.status_code status generation }
 {
     match status {
-        Status::Armed if generation < FIRST_LATER_GENERATION => 1,
+        Status::Armed if generation < FIRST_LATER_GENERATION => ARMED,
         Status::Armed => ARMED_LATER,
         Status::Expired => 2,
         Status::Delivered => 3,
@@ -62,7 +69,7 @@ fn status_of(code: u64) -> Option<Status>
     ensures unknown { code ≡ 0 → IsNone result }
 {
     match code {
-        1 | ARMED_LATER => Some(Status::Armed),
+        ARMED | ARMED_LATER => Some(Status::Armed),
         2 => Some(Status::Expired),
         3 => Some(Status::Delivered),
         4 => Some(Status::Cancelled),

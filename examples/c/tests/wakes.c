@@ -11,7 +11,7 @@
 #define MILLISECOND INT64_C(1000000)
 #define DAY INT64_C(86400000)
 
-enum { FEW = 64, SLOTS = 4096, MOST_WAKES = 8 };
+enum { FEW = 64, SLOTS = 4096, MOST_WAKES = 5 };
 
 /* Readings of the OS clock end at 2^62 nanoseconds, 146 years. Deadlines end at 2^43 milliseconds, 278 years. */
 static const int64_t LAST_TIME = (INT64_C(1) << 62) / MILLISECOND - 1;

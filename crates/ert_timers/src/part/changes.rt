@@ -77,9 +77,14 @@ impl WheelPart {
         ensures picked { IfSome result (λ slot. self.new ≡ picked self.old slot) }
         ensures usable { IfSome result (IsFree self.new) }
     {
-        let long = is_long(now, deadline);
         let slot = self.free.pick()?;
-        if is_long(now, self.wheel.value(slot).above()) == long {
+        let above = self.wheel.value(slot).above();
+        // Most waits are short, and one test tells that neither of both is long.
+        if !is_long(now, above.max(deadline)) {
+            return Some(slot);
+        }
+        let long = is_long(now, deadline);
+        if is_long(now, above) == long {
             return Some(slot);
         }
         exchange(&mut self.free, slot, long)

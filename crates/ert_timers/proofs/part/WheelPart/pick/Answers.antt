@@ -14,6 +14,18 @@ returns-in_err-slot-clause-none c =
     subst (λ (p : Part). IfNone c.from_residual.result ((slot : ℕ) → sets.contains p.free slot ≡ false)) c.self.view_is
     (pick_none (free_set c.self.inside.free).held c.from_residual.result (λ none. ap (λ xs. sets.from_list xs) (c.in_err-slot.ensures.none.0 refl)))
 
+pub invariant_of-self-then-not-is_long : goal.invariant_of-self-then-not-is_long
+invariant_of-self-then-not-is_long c =
+    let p = c.self.inside in
+    fit_picked p.processes p.wheel.values p.wheel.keys (free_set p.free) (free_set c.pick.new.self) p.wheel.owners p.arms p.expires p.orphans c.in_ok-slot.slot
+    c.self.invariant c.in_ok-slot.ensures.taken
+
+pub returns-then-not-is_long-clause-usable : goal.returns-then-not-is_long-clause-usable
+returns-then-not-is_long-clause-usable c =
+    let p = c.self.inside in
+    pick_usable (the_view p) (free_set p.free) (free_set c.pick.new.self) p.wheel.owners (Some c.in_ok-slot.slot) c.self.invariant refl c.in_ok-slot.ensures.held
+    c.in_ok-slot.ensures.taken
+
 pub invariant_of-self-then-is_long-long : goal.invariant_of-self-then-is_long-long
 invariant_of-self-then-is_long-long c =
     let p = c.self.inside in

@@ -27,7 +27,7 @@ invariant_of-self g c =
       order = omega arith;
       newest = c.requires.newest;
     })
-    (c.bucket-home.ensures.is ∙ ap (bucket_of c.self.inside.next_time) c.max.ensures) c.put.ensures.slots c.put.ensures.homes c.put.ensures.chains c.min-self-inside.ensures))
+    (c.bucket-home.ensures.is ∙ ap (bucket_of c.self.inside.next_time) c.max.ensures) c.put.ensures.slots c.put.ensures.homes c.put.ensures.chains c.lower.ensures))
 
 pub returns-clause-keys : goal.returns-clause-keys
 returns-clause-keys g c =
@@ -39,4 +39,4 @@ returns-clause-keys g c =
       order = omega arith;
       newest = c.requires.newest;
     })
-    (c.bucket-home.ensures.is ∙ ap (bucket_of c.self.inside.next_time) c.max.ensures) c.put.ensures.slots c.put.ensures.homes c.put.ensures.chains c.min-self-inside.ensures))
+    (c.bucket-home.ensures.is ∙ ap (bucket_of c.self.inside.next_time) c.max.ensures) c.put.ensures.slots c.put.ensures.homes c.put.ensures.chains c.lower.ensures))
