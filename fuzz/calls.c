@@ -83,6 +83,22 @@ static void do_start(Run *run) {
     }
 }
 
+static void do_restart(Run *run) {
+    uint32_t how = byte(&run->input);
+    ert_start start = {wait(&run->input), number(&run->input, 1), 0, (how >> 3) & 1, (how >> 4) % 5};
+    ert_timer timer = name(run), old = timer;
+    if (how % 8 == 7) {
+        start.when = -start.when - 1;
+    }
+    int32_t wanted = mirror_restart(&run->mirror, &timer, &start);
+    SAME(ert_world_restart(&run->world, &timer, &start), wanted);
+    if (wanted == ERT_OK) {
+        mirror_started(&run->mirror, old.wheel, &start, &timer);
+    } else {
+        SAME(timer.generation, old.generation);
+    }
+}
+
 static void do_cancel(Run *run) {
     bool by_seat = byte(&run->input) % 4 == 0;
     ert_timer timer = name(run);
@@ -177,6 +193,45 @@ static void take(Run *run, uint32_t process) {
     }
 }
 
+/* Several messages at once, and the places after them stay as they were. */
+static void take_some(Run *run, uint32_t process) {
+    enum { ROOM = 5 };
+    ert_mail got[ROOM], wanted;
+    size_t room = byte(&run->input) % (ROOM + 1), count = 99, taken = 0;
+    int32_t status = ERT_OK;
+    for (size_t i = 0; i < ROOM; i++) {
+        got[i].tag = 77;
+    }
+    int32_t ended = ert_world_take_some(&run->world, process, got, room, &count);
+    for (; taken < room && (status = mirror_take(&run->mirror, process, &wanted)) == ERT_OK; taken++) {
+        same_mail(&got[taken], &wanted);
+    }
+    SAME(ended, status);
+    SAME(count, taken);
+    for (; taken < ROOM; taken++) {
+        SAME(got[taken].tag, 77);
+    }
+}
+
+/* A process with mail is found exactly if one has mail. */
+static void next_mail(Run *run) {
+    uint32_t process = 99, some = 0;
+    for (uint32_t i = 0; i < run->mirror.settings.processes; i++) {
+        some += mirror_has_mail(&run->mirror, i);
+    }
+    SAME(ert_world_next_mail(&run->world, &process), some == 0 ? ERT_EMPTY : ERT_OK);
+    SAME(some == 0 ? process == 99 : process < run->mirror.settings.processes && mirror_has_mail(&run->mirror, process), true);
+}
+
+static void do_mail(Run *run) {
+    uint32_t how = byte(&run->input), process = some(run, run->mirror.settings.processes);
+    if (how % 2 == 0) {
+        take_some(run, process);
+    } else {
+        next_mail(run);
+    }
+}
+
 static void do_ask(Run *run) {
     uint32_t how = byte(&run->input);
     ert_request request = {how & 1, name(run), (how >> 1) % PROCESSES, (how >> 4) & 1};
@@ -227,9 +282,13 @@ static void monitor(Run *run, uint32_t process) {
 }
 
 static void do_process(Run *run) {
-    uint32_t process = some(run, run->mirror.settings.processes), what = byte(&run->input) & 7;
+    uint32_t process = some(run, run->mirror.settings.processes), how = byte(&run->input), what = how & 7;
     uint32_t got = 9, monitored;
-    if (what == 0) {
+    if (how >= 192) {
+        uint64_t cancelled = 9;
+        SAME(ert_world_cancel_all(&run->world, process, &cancelled), ERT_OK);
+        SAME(cancelled, mirror_cancel_all(&run->mirror, process));
+    } else if (what == 0) {
         SAME(ert_world_exit(&run->world, process, &got), ERT_OK);
         SAME(got, mirror_exit(&run->mirror, process));
     } else if (what < 4) {
@@ -273,9 +332,10 @@ static void do_look(Run *run) {
 
 /* The calls, those that tell most more than once. */
 static void (*const calls[])(Run *) = {
-    do_start, do_start, do_start, do_start, do_start, do_start, do_start, do_cancel, do_cancel, do_read, do_tick,
-    do_tick,  do_tick,  do_tick,  do_times, do_take,  do_take,  do_ask,   do_ask,    do_step,   do_step, do_step,
-    do_step,  do_step,  do_step,  do_step,  do_look,  do_look,  do_look,  do_look,   do_process, do_finalize,
+    do_start, do_start, do_start, do_start, do_start, do_start, do_start,   do_cancel,   do_cancel, do_read, do_tick,
+    do_tick,  do_tick,  do_tick,  do_times, do_take,  do_take,  do_ask,     do_ask,      do_step,   do_step, do_step,
+    do_step,  do_step,  do_step,  do_step,  do_look,  do_look,  do_look,    do_look,     do_process, do_finalize,
+    do_mail,  do_mail,  do_mail,  do_restart, do_restart,
 };
 
 /* At the end every timer that is armed is let expire, and every message taken. */

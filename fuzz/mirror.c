@@ -177,6 +177,27 @@ int32_t mirror_cancel(Mirror *mirror, const ert_timer *name, bool by_seat, uint6
     return status;
 }
 
+int32_t mirror_restart(Mirror *mirror, const ert_timer *name, const ert_start *start) {
+    uint64_t left;
+    if (start->dest >= mirror->settings.processes) {
+        return ERT_RANGE;
+    }
+    return deadline_of(mirror, start) < 0 ? ERT_BAD_TIME : mirror_cancel(mirror, name, false, &left);
+}
+
+uint64_t mirror_cancel_all(Mirror *mirror, uint32_t process) {
+    uint64_t cancelled = 0;
+    for (uint32_t i = 0; i < mirror->started; i++) {
+        Timer *timer = &mirror->timers[i];
+        if (timer->dest == process) {
+            cancelled += timer->fate == ARMED;
+            timer->fate = timer->fate == ARMED ? GONE : timer->fate;
+            timer->by_seat = false;
+        }
+    }
+    return cancelled;
+}
+
 uint32_t mirror_exit(Mirror *mirror, uint32_t process) {
     if (mirror->processes[process].exited) {
         return 0;
@@ -284,6 +305,10 @@ ert_turned mirror_turn(Mirror *mirror, uint32_t sched) {
     turned.put = delivered.put;
     turned.dropped = delivered.dropped;
     return turned;
+}
+
+bool mirror_has_mail(const Mirror *mirror, uint32_t process) {
+    return mirror->processes[process].first < mirror->processes[process].last;
 }
 
 int32_t mirror_take(Mirror *mirror, uint32_t process, ert_mail *mail) {

@@ -80,7 +80,10 @@ void mirror_started(Mirror *mirror, uint32_t sched, const ert_start *start, cons
 uint32_t mirror_room(const Mirror *mirror, uint32_t sched);
 int32_t mirror_read(const Mirror *mirror, const ert_timer *name, uint64_t *left);
 int32_t mirror_cancel(Mirror *mirror, const ert_timer *name, bool by_seat, uint64_t *left);
+/* The status of a restart; where it is ERT_OK, the timer is cancelled and `mirror_started` takes the new name. */
+int32_t mirror_restart(Mirror *mirror, const ert_timer *name, const ert_start *start);
 uint32_t mirror_exit(Mirror *mirror, uint32_t process);
+uint64_t mirror_cancel_all(Mirror *mirror, uint32_t process);
 
 void mirror_ask(Mirror *mirror, const ert_request *request);
 uint32_t mirror_serve(Mirror *mirror, uint32_t sched);
@@ -89,6 +92,8 @@ ert_delivered mirror_deliver(Mirror *mirror, uint32_t sched);
 ert_turned mirror_turn(Mirror *mirror, uint32_t sched);
 
 int32_t mirror_take(Mirror *mirror, uint32_t process, ert_mail *mail);
+/* Whether a process has messages, also one that has exited. */
+bool mirror_has_mail(const Mirror *mirror, uint32_t process);
 int32_t mirror_demonitor(Mirror *mirror, uint32_t process, uint32_t number);
 uint32_t mirror_tell(Mirror *mirror, uint32_t process);
 

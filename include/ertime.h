@@ -56,6 +56,7 @@
 #define ERTIME_H
 
 #include <stdbool.h>
+#include <stddef.h>
 #include <stdint.h>
 
 #ifdef __cplusplus
@@ -511,6 +512,17 @@ int32_t ert_world_is_alive(ert_world *world, uint32_t process, uint32_t *alive);
 int32_t ert_world_exit(ert_world *world, uint32_t process, uint32_t *first);
 
 /*
+ * Cancels all timers whose message would go to a process, and writes how many there were to `cancelled`.
+ *
+ * The process lives on. After it no timer for it is armed. A message that is in its mailbox, and that of a timer that has
+ * expired, come as before. A program that gives a process to each connection in turn calls this when a connection ends,
+ * in place of ert_world_exit, after which no timer can be started for the process.
+ *
+ * ERT_RANGE: there is no such process. ERT_CLOSED. Work for each wheel and for those timers; no memory.
+ */
+int32_t ert_world_cancel_all(ert_world *world, uint32_t process, uint64_t *cancelled);
+
+/*
  * Asks the scheduler of a timer to cancel or to read it (`cancel_timer` and `read_timer`, option `async`).
  *
  * The request waits in the inbox of the scheduler that the timer names (of scheduler 0, if it names none)
@@ -532,6 +544,33 @@ int32_t ert_world_ask(ert_world *world, const ert_request *request);
  * there is no such process. ERT_CLOSED. Constant work; no memory.
  */
 int32_t ert_world_take(ert_world *world, uint32_t process, ert_mail *mail);
+
+/*
+ * Takes the first messages of a process, at most `room`, and writes them to `mails` in their order.
+ *
+ * Writes to `count` how many there are; the rest of `mails` is as it was. The status tells how it ended, and the
+ * messages were taken in each case: ERT_OK, `room` of them, and more may be there; ERT_EMPTY, the mailbox is empty now;
+ * ERT_EXITED, the process has exited. So a program goes on until the status is not ERT_OK. `mails` has place for `room`
+ * messages, and may not be null.
+ *
+ * ERT_RANGE: there is no such process. ERT_CLOSED. After these two `count` and `mails` are as they were. Work for the
+ * messages that are taken; no memory.
+ */
+int32_t ert_world_take_some(ert_world *world, uint32_t process, ert_mail *mails, size_t room, size_t *count);
+
+/*
+ * Finds a process that has messages, and writes its number to `process`.
+ *
+ * ERT_EMPTY is returned exactly if all mailboxes are empty. Each process has its turn: the next call finds another one,
+ * if another has messages. So after a turn a program asks until ERT_EMPTY, and takes the messages of each process that it
+ * is told, without a call for each process that has none. A process that has exited is found too while it has messages,
+ * which can no longer be taken: a program that lets processes exit takes their messages first.
+ *
+ * ERT_NO_MEMORY: there was no memory for the first such call of the world, which makes a list of the processes, 5 bytes
+ * for each; nothing has changed, and the call can be made again. ERT_CLOSED. Otherwise constant work, amortized: a step
+ * for each process whose mailbox got messages since it was found empty; no memory.
+ */
+int32_t ert_world_next_mail(ert_world *world, uint32_t *process);
 
 /*
  * Makes a monitor of the time offset for a process (`erlang:monitor(time_offset, clock_service)`), and writes

@@ -207,8 +207,17 @@ unsafe extern "C" {
     pub fn ert_world_mail_count(world: *mut ert_world, process: u32, count: *mut u64) -> i32;
     pub fn ert_world_is_alive(world: *mut ert_world, process: u32, alive: *mut u32) -> i32;
     pub fn ert_world_exit(world: *mut ert_world, process: u32, first: *mut u32) -> i32;
+    pub fn ert_world_cancel_all(world: *mut ert_world, process: u32, cancelled: *mut u64) -> i32;
     pub fn ert_world_ask(world: *mut ert_world, request: *const ert_request) -> i32;
     pub fn ert_world_take(world: *mut ert_world, process: u32, mail: *mut ert_mail) -> i32;
+    pub fn ert_world_take_some(
+        world: *mut ert_world,
+        process: u32,
+        mails: *mut ert_mail,
+        room: usize,
+        count: *mut usize,
+    ) -> i32;
+    pub fn ert_world_next_mail(world: *mut ert_world, process: *mut u32) -> i32;
     pub fn ert_world_monitor(world: *mut ert_world, process: u32, monitor: *mut u32) -> i32;
     pub fn ert_world_demonitor(world: *mut ert_world, process: u32, monitor: u32) -> i32;
     pub fn ert_world_tell(world: *mut ert_world, process: u32, told: *mut u32) -> i32;

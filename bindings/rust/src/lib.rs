@@ -465,6 +465,13 @@ impl World {
         Ok(first != 0)
     }
 
+    /// Cancels all timers of a process, which lives on, and returns how many there were.
+    pub fn cancel_all(&mut self, process: u32) -> Result<u64, Error> {
+        let mut cancelled = 0;
+        done(unsafe { ffi::ert_world_cancel_all(&mut *self.handle, process, &mut cancelled) })?;
+        Ok(cancelled)
+    }
+
     /// Asks the scheduler of a timer to cancel or to read it. The answer comes to `reply_to`, if it is Some
     /// process; otherwise none is sent.
     pub fn ask(
@@ -487,6 +494,36 @@ impl World {
         let mut first = ffi::ert_mail::default();
         let status = unsafe { ffi::ert_world_take(&mut *self.handle, process, &mut first) };
         Ok(done_or(status, ffi::ERT_EMPTY)?.then(|| mail(first)))
+    }
+
+    /// Takes the first messages of a process, `most` at most, and puts them last into a vector; false if the mailbox
+    /// was empty before there were so many.
+    pub fn take_some(
+        &mut self,
+        process: u32,
+        most: usize,
+        mails: &mut Vec<Mail>,
+    ) -> Result<bool, Error> {
+        let mut places = vec![ffi::ert_mail::default(); most];
+        let mut count = 0;
+        let status = unsafe {
+            ffi::ert_world_take_some(
+                &mut *self.handle,
+                process,
+                places.as_mut_ptr(),
+                most,
+                &mut count,
+            )
+        };
+        mails.extend(places[..count].iter().map(|place| mail(*place)));
+        done_or(status, ffi::ERT_EMPTY)
+    }
+
+    /// A process that has messages; None if all mailboxes are empty. Each process has its turn.
+    pub fn next_mail(&mut self) -> Result<Option<u32>, Error> {
+        let mut process = 0;
+        let status = unsafe { ffi::ert_world_next_mail(&mut *self.handle, &mut process) };
+        Ok(done_or(status, ffi::ERT_EMPTY)?.then_some(process))
     }
 
     /// Makes a monitor of the time offset for a process.

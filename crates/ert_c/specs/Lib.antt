@@ -2,6 +2,7 @@ pub mod Calls
 pub mod ClockCalls
 pub mod Constants
 pub mod HubCalls
+pub mod Mailing
 pub mod Opened
 pub mod Places
 pub mod SeatCalls

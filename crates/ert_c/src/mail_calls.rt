@@ -1,11 +1,14 @@
 //! Messages, requests and monitors, as C passes and is told them.
-ghost use Rattle.std.specs.Prelude.{◌≡◌};
+ghost use Rattle.std.specs.Prelude.{◌≡◌, ◌<◌};
+ghost use Rattle.ert_defs.specs.Legal.{Legal};
+ghost use Rattle.ert_c.specs.Mailing.{end_as, IsNextTold, TakesPlaces};
 ghost use Rattle.ert_c.specs.Told.{no_timer, mail_of, mail_as, request_of, request_kind_at, IsTaken, IsAsked, IsMonitored, IsDemonitored};
 
 use crate::status::{EMPTY, EXITED, FULL, NO_MEMORY, NO_MONITOR, OK};
 use crate::timer_calls::ErtTimer;
 use ert_defs::{Mail, NoMemory, Request, RequestKind};
 use ert_effects::{MonitorErr, Taken};
+use ert_world::{TakeEnd, World};
 
 /// A message. Fields that its kind has not are 0.
 #[repr(C)]
@@ -153,4 +156,51 @@ pub(crate) fn tell_demonitored(answer: bool) -> i32
     ensures { IsDemonitored answer result }
 {
     if answer { OK } else { NO_MONITOR }
+}
+
+/// Tells C a process with mail.
+pub(crate) fn tell_next(answer: Result<Option<u32>, NoMemory>, process: &mut u32) -> i32
+    ensures { IsNextTold answer process.old result process.new }
+{
+    match answer {
+        Ok(Some(next)) => {
+            *process = next;
+            OK
+        }
+        Ok(None) => EMPTY,
+        Err(_) => NO_MEMORY,
+    }
+}
+
+/// Takes messages of a process into places, and answers how many, and how that ended.
+pub(crate) fn take_places(
+    world: &mut World,
+    process: u32,
+    mails: &mut [ErtMail],
+) -> (usize, TakeEnd)
+    requires process { process < world.old.settings.processes }
+    requires legal { Legal world.old.settings world.old.history }
+    ensures { TakesPlaces process world.old mails.old mails.new result world.new }
+{
+    let mut taken = 0;
+    while taken < mails.len() {
+        match world.take(process) {
+            Taken::Mail(mail) => mails[taken] = mail_as(mail),
+            Taken::Empty => return (taken, TakeEnd::Empty),
+            Taken::Exited => return (taken, TakeEnd::Exited),
+        }
+        taken += 1;
+    }
+    (taken, TakeEnd::Most)
+}
+
+/// Tells C how a take of several messages ended.
+pub(crate) fn tell_end(ended: TakeEnd) -> i32
+    ensures { result ≡ end_as ended }
+{
+    match ended {
+        TakeEnd::Most => OK,
+        TakeEnd::Empty => EMPTY,
+        TakeEnd::Exited => EXITED,
+    }
 }

@@ -1,12 +1,14 @@
 //! The exported calls on mailboxes, requests and monitors.
-ghost use Rattle.std.specs.Prelude.{⊤};
+ghost use Rattle.std.specs.Prelude.{⊤, length};
 ghost use Rattle.ert_c.specs.Calls.{AtProcess, AnswersAtProcess, PutsRequest, TakesBy, MonitorsBy, DemonitorsBy, TellsBy};
 ghost use Rattle.ert_c.specs.Told.{IsTaken, IsMonitored, IsDemonitored, IsNumber};
-ghost use Rattle.ert_c.specs.Through.{Through};
+ghost use Rattle.ert_c.specs.Mailing.{FindsMail, IsNextTold, TakesSomeBy, IsTookSome};
+ghost use Rattle.ert_c.specs.Through.{Through, AnswersThrough};
 
 use crate::handle::{ErtWorld, at_process, opened};
 use crate::mail_calls::{
-    ErtMail, ErtRequest, request_kind_at, tell_asked, tell_demonitored, tell_monitored, tell_taken,
+    ErtMail, ErtRequest, request_kind_at, take_places, tell_asked, tell_demonitored, tell_end,
+    tell_monitored, tell_next, tell_taken,
 };
 use crate::status::{BAD_KIND, CLOSED, RANGE};
 use crate::turn_calls::tell;
@@ -35,6 +37,32 @@ pub extern "C" fn ert_world_take(world: &mut ErtWorld, process: u32, mail: &mut 
     let service = at_process!(world, process);
     let answer = service.take(process);
     tell_taken(answer, mail)
+}
+
+/// Takes the first messages of a process, as many as there is room for at most.
+#[unsafe(no_mangle)]
+pub extern "C" fn ert_world_take_some(
+    world: &mut ErtWorld,
+    process: u32,
+    mails: &mut [ErtMail],
+    count: &mut usize,
+) -> i32
+    ensures { AnswersAtProcess process (TakesSomeBy process (length mails.old)) IsTookSome (mails.old, count.old) (mails.new, count.new)
+        world.old.place.value result world.new.place.value }
+{
+    let service = at_process!(world, process);
+    let (taken, ended) = take_places(service, process, mails);
+    *count = taken;
+    tell_end(ended)
+}
+
+/// Tells a process with mail.
+#[unsafe(no_mangle)]
+pub extern "C" fn ert_world_next_mail(world: &mut ErtWorld, process: &mut u32) -> i32
+    ensures { AnswersThrough FindsMail IsNextTold process.old process.new world.old.place.value result world.new.place.value }
+{
+    let answer = opened!(world).next_mail();
+    tell_next(answer, process)
 }
 
 /// Makes a monitor of the time offset for a process.

@@ -1,12 +1,15 @@
 //! The exported calls on timers and processes.
 ghost use Rattle.std.specs.Prelude.{◌≡◌};
 ghost use Rattle.ert_c.specs.Calls.{AnswersAtProcess, StartsTimer, AsksRoom, CancelsBy, ReadsBy, TellsAliveBy, ExitsBy};
+ghost use Rattle.ert_c.specs.Mailing.{CancelsAllBy};
 ghost use Rattle.ert_c.specs.Told.{timer_of, IsLeft, IsFlag};
+ghost use Rattle.ert_c.specs.Waiting.{IsCount};
 ghost use Rattle.ert_c.specs.Through.{AnswersThrough};
 
 use crate::handle::{ErtWorld, at_process, at_sched, opened};
 use crate::status::{CLOSED, RANGE};
 use crate::timer_calls::{ErtStart, ErtTimer, tell_flag, tell_left, tell_room, tell_started};
+use crate::waiting_calls::tell_count;
 
 /// Starts a timer on the wheel of a scheduler.
 #[unsafe(no_mangle)]
@@ -79,4 +82,19 @@ pub extern "C" fn ert_world_exit(world: &mut ErtWorld, process: u32, first: &mut
     let service = at_process!(world, process);
     let answer = service.exit(process);
     tell_flag(answer, first)
+}
+
+/// Cancels all timers of a process, and tells how many.
+#[unsafe(no_mangle)]
+pub extern "C" fn ert_world_cancel_all(
+    world: &mut ErtWorld,
+    process: u32,
+    cancelled: &mut u64,
+) -> i32
+    ensures { AnswersAtProcess process (CancelsAllBy process) (λ answer _. IsCount answer) cancelled.old cancelled.new
+        world.old.place.value result world.new.place.value }
+{
+    let service = at_process!(world, process);
+    let answer = service.cancel_all(process);
+    tell_count(answer, cancelled)
 }

@@ -109,7 +109,7 @@ sweeps_more g v by process p q r row timer u w some holds next is one =
           ∙ exit_stays g process (state g u.front) (step.between ++ e ∷ []) some.exited;
     }
 
-swept_rows : (status : TimerRef → Option Status) (process : ℕ) (rows : List Row)
+pub swept_rows : (status : TimerRef → Option Status) (process : ℕ) (rows : List Row)
     → ((n : ℕ) (row : Row) → slice_get rows n ≡ Some row → row.dest ≡ process → status row.timer ≢ Some Armed) → AreSwept status process rows
 swept_rows status process [] each = tt
 swept_rows status process (r ∷ rows) each = (each 0 r refl, swept_rows status process rows (λ n row at. each (n + 1) row (later n row at)))

@@ -3,6 +3,7 @@ pub mod Codes
 pub mod Dropping
 pub mod Expiring
 pub mod FiredLists
+pub mod HeldFor
 pub mod Freeing
 pub mod Laws
 pub mod Looking

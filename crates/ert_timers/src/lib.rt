@@ -42,6 +42,7 @@
 //! | `start` | looks at the time, stores the word of a free slot, asks whether the destination has exited | constant; every slot once where none is held free |
 //! | `advance` | looks at the time, and tries each due timer in order of deadline and then of start | the due timers and the buckets that are visited |
 //! | `sweep` | tries each timer of a process that has exited | those timers, each once |
+//! | `held_for` | finds a timer of a process that is held | constant, amortized: a slot without a timer leaves the chain |
 //! | `forget` | drops the row of a timer that the pass has seen settled, and holds its slot free where its round has uses left | constant |
 //! | `reuse` | holds the slot of a timer free whose message was handed over, where its round has uses left | constant |
 //! | `room` | looks at the time and at every slot, and tells how many can take a timer and from when on one more can | every slot once |
@@ -70,6 +71,7 @@
 mod advancing;
 mod dropping;
 mod fired_list;
+mod held_for;
 mod laws;
 mod looking;
 mod part;

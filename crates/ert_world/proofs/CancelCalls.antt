@@ -282,6 +282,43 @@ cancelled_none before b d q parts timer call has done = record {
   stays = stays_none timer before (seen d q b.next parts.keeper parts.wheels) (call before) done.goes;
 }
 
+-- one that cancelled nothing, since a seat had settled the timer before, whose row then went
+pub cancelled_settled : (before : Seen) (b : Inside) (d : Desk) (q : Pass) (parts : AllParts) (timer : TimerRef) (old new : Part) (call : Seen → Way → Growth)
+    → Has before b d → DoesBut timer None before d q b.next parts call → timer.wheel < (settings_of d).schedulers
+    → old ≡ slice_index_or parts.wheels timer.wheel old → new.number ≡ old.number → WheelStands (settings_of d) (front_of q) new
+    → LosesRows old new → (IsHeld new timer → ⊥)
+    → DoesCancel before d q b.next (record parts { wheels = slice_set parts.wheels timer.wheel new }) call
+cancelled_settled before b d q parts timer old new call has done low lent named stands loses gone =
+    let end : Seen = seen d q b.next parts.keeper (slice_set parts.wheels timer.wheel new) in
+    let forgets = forgot d q b.next parts old new timer done.fit low lent stands loses gone in
+    let goes : Goes before (call before) end = record {
+      grows = done.goes.grows;
+      lone = done.goes.lone;
+      legal = done.goes.legal;
+      table = done.goes.table;
+      settings = done.goes.settings;
+      clock = done.goes.clock;
+      next = done.goes.next;
+    } in
+    record {
+      fit = record {
+        fit = put_back d q b.next parts timer.wheel old new done.fit low lent named stands;
+        tidy = λ alone i x in_range.
+            let one : before.next ≡ 1 = ap (λ (w : Seen). w.next) (sym has.is) ∙ alone in
+            let below : i < before.settings.schedulers = subst (λ g. i < g.schedulers) done.goes.settings in_range in
+            let tidy = done.goes.tidy one i below (all_tidy before b d has one i below) in
+            forgets.tidy i in_range (λ y k key held apart. tidy y k key held) x;
+      };
+      goes = goes;
+      stays = stays_by goes
+          (subst (λ (ws : List Part). (i : ℕ) (d : Part) → LosesRows (slice_index_or ws i d) (slice_index_or end.wheels i d)) done.goes.wheels forgets.rows)
+          (record {
+            piece = done.goes.cancels.piece;
+            grown = done.goes.cancels.grown;
+            forgotten = none_cancelled end timer (filter (is_unseated before.next) done.goes.cancels.piece) done.goes.cancels.only;
+          });
+    }
+
 -- one that cancelled a timer, whose row then went
 pub cancelled_some : (before : Seen) (b : Inside) (d : Desk) (q : Pass) (parts : AllParts) (timer : TimerRef) (left : ℕ) (old new : Part)
     (call : Seen → Way → Growth) → Has before b d → DoesBut timer (Some left) before d q b.next parts call

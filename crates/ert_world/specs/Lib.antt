@@ -1,4 +1,5 @@
 pub mod Bounded
+pub mod Cancelling
 pub mod Counted
 pub mod Held
 pub mod Laws

@@ -11,7 +11,7 @@ use Rattle.ert_effects.specs.TimerCalls.{Cancels, Starts}
 use Rattle.ert_effects.specs.Ways.{Growth, Way, Then}
 use Rattle.ert_effects.specs.declared.answers.StartErr.{StartErr}
 use Rattle.ert_effects.specs.declared.answers.StartErr.TheVariants.{Full as WheelIsFull}
-use Rattle.ert_world.specs.Worlds.{Seen}
+use Rattle.ert_world.specs.Worlds.{Seen, HasForgotten}
 use Rattle.ert_world.specs.declared.restart.RestartErr.{RestartErr}
 use Rattle.ert_world.specs.declared.restart.RestartErr.TheVariants.{BadArg, NotArmed, Full}
 
@@ -30,3 +30,10 @@ Restarts w timer start (Ok next) way h m = StartsAnew w.settings way timer start
 Restarts w timer start (Err BadArg) way h m = (m ≡ []) × HasNoDeadline w start
 Restarts w timer start (Err NotArmed) way h m = way [] (Cancels w.settings (Caller 0) timer None) h m
 Restarts w timer start (Err Full) way h m = StartsAnew w.settings way timer start (Err WheelIsFull) h m
+
+-- the wheels of a world hold no row of the timer that was restarted, where it was cancelled
+abbrev pub Forgets : TimerRef → Result TimerRef RestartErr → Seen → Type 0
+Forgets timer (Ok next) w = HasForgotten w timer
+Forgets timer (Err BadArg) w = Unit {0}
+Forgets timer (Err NotArmed) w = Unit {0}
+Forgets timer (Err Full) w = HasForgotten w timer

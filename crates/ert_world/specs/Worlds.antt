@@ -1,6 +1,6 @@
 -- What callers see of a world, the history that it knows, and how its calls make that longer.
 
-use Rattle.std.specs.Prelude.{◌≡◌, ℕ, ◌<◌, ◌≤◌, ◌⊎◌, ◌++◌, Bool, true, false, List, [], ◌∷◌, filter, slice_index_or, Option, Some, None, Result, Ok, Err}
+use Rattle.std.specs.Prelude.{◌≡◌, ◌≢◌, ℕ, ◌<◌, ◌≤◌, ◌⊎◌, ◌++◌, Bool, true, false, List, [], ◌∷◌, filter, slice_index_or, Option, Some, None, Result, Ok, Err}
 use Rattle.atomic_table.specs.Seated.{TableId}
 use Rattle.ert_effects.specs.Ways.{Growth, Way, Grows, alone}
 use Rattle.ert_clock.specs.Shown.{Shown, Stands as ClockStands}
@@ -188,3 +188,7 @@ left_by ToRead left = None
 abbrev pub cancelled_by : Request → Result (Option ℕ) NoMemory → Option ℕ
 cancelled_by request (Ok left) = left_by request.kind left
 cancelled_by request (Err e) = None
+
+-- no wheel of a world holds the row of a timer that was started before and that it had forgotten
+abbrev pub StayForgotten : Seen → Seen → Type 0
+StayForgotten old new = (timer : TimerRef) → (state old.settings old.history).status timer ≢ None → HasForgotten old timer → HasForgotten new timer

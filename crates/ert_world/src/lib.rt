@@ -22,8 +22,11 @@
 //! | `read_timer`, `is_alive` | caller 0 or a seat | reads a timer; looks whether a process has exited | constant |
 //! | `mark_exit` | caller 0 | lets a process exit | constant |
 //! | `exit` | caller 0 | `mark_exit`, and then cancels the timers of the process in every wheel | the wheels and those timers |
+//! | `cancel_all` | caller 0 | cancels the timers of a process in every wheel; it lives on | the wheels and those timers |
 //! | `ask` | caller 0 | puts a request to cancel or to read a timer into the inbox of its wheel | constant |
 //! | `take` | caller 0 | takes the first message of a process | constant |
+//! | `take_some` | caller 0 | takes so many messages of a process at most | those messages |
+//! | `next_mail` | | no entry: finds a process with mail | constant, amortized; the first one each process |
 //! | `monitor`, `demonitor`, `tell` | caller 0 | makes, removes and informs monitors of the time offset | the monitors of the process, 64 at most |
 //! | `serve` | a scheduler | answers the request in its hand, or else the first of its inbox | constant |
 //! | `advance` | a scheduler | lets the timers of its wheel expire that are due | those timers and the buckets that are visited |
@@ -64,8 +67,9 @@
 //! sweep). They are written and proved once (`chains.rt`), for all that has the steps: a world, and each service
 //! of parts with locks of their own (`ert_service`).
 //!
-//! **Memory.** `start`, `room`, `cancel_timer`, `read_timer`, `take`, `exit`, `meet`, the calls on the clock and all
-//! calls of a seat take none. Where there is none, `seat`, `ask`, `monitor` and `tell` change nothing, `advance` lets
+//! **Memory.** `start`, `room`, `cancel_timer`, `cancel_all`, `read_timer`, `take`, `take_some`, `exit`, `meet`, the
+//! calls on the clock and all calls of a seat take none. Where there is none, `seat`, `ask`, `monitor`, `tell` and
+//! the first `next_mail` change nothing, `advance` lets
 //! no timer expire, `serve` keeps the request in the hand, `deliver` keeps what wasn't handed over, and of a turn
 //! what was done stays done. So each of them can be made again. No call copies a part.
 //!
@@ -74,6 +78,7 @@
 #![tactic(auto)]
 
 mod bounded;
+mod cancelling;
 pub mod chains;
 mod clock_calls;
 mod counts;
@@ -98,6 +103,7 @@ mod world;
 pub use counts::Counts;
 pub use ert_effects::{Room, Turned};
 pub use laws::{entries_are_divided, next_due_goes_on};
+pub use mailing::TakeEnd;
 pub use parts::Parts;
 pub use restart::RestartErr;
 pub use sched_part::SchedPart;

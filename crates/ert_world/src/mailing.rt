@@ -29,6 +29,7 @@ pub(crate) fn may_get_mail(list: &mut Option<MailList>, process: u32)
 impl World {
     ghost use Rattle.std.specs.Prelude.{◌≡◌, ◌+◌, ◌<◌, ◌≤◌, IfOk, vec_len};
     ghost use Rattle.std.specs.Vec.{vec_capacity};
+    ghost use Rattle.ert_defs.specs.Legal.{Legal};
     ghost use Rattle.ert_world.specs.Mailing.{IsNextMail, TakesInto};
 
     /// A process whose mailbox has mail, also one that has exited; None exactly where all mailboxes are empty. Each has
@@ -58,13 +59,23 @@ impl World {
         requires room { vec_len mails.old + most ≤ vec_capacity mails.old }
         ensures { TakesInto self.old process most mails.old.items mails.new.items result self.new }
     {
-        for _ in 0..most {
+        self.is_legal();
+        let mut taken = 0;
+        while taken < most {
             match self.take(process) {
                 Taken::Mail(mail) => mails.push_reserved(mail),
                 Taken::Empty => return TakeEnd::Empty,
                 Taken::Exited => return TakeEnd::Exited,
             }
+            taken += 1;
         }
         TakeEnd::Most
+    }
+
+    /// For the prover alone: its history is legal.
+    pub(crate) fn is_legal(&self)
+        ensures { Legal self.now.settings self.now.history }
+    {
+        let _kept = &self.pass;
     }
 }

@@ -19,17 +19,18 @@ impl World {
     ghost use Rattle.std.specs.Prelude.{◌≡◌, ◌<◌};
     ghost use Rattle.ert_defs.specs.Legal.{Legal};
     ghost use Rattle.ert_defs.specs.Milliseconds.{deadline_of};
-    ghost use Rattle.ert_world.specs.Restarts.{Restarts};
+    ghost use Rattle.ert_world.specs.Restarts.{Restarts, Forgets};
     ghost use Rattle.ert_world.specs.Worlds.{Goes};
 
     /// Gives an armed timer a new deadline, and answers its new name (as `uv_timer_again` of libuv): it is
     /// cancelled, and one is started on its wheel, which can have its slot.
     ///
-    /// Whether the start has a deadline is looked at first. So a timer is lost only where the answer is Full. No
-    /// memory is taken.
+    /// Whether the start has a deadline is looked at first. So a timer is lost only where the answer is Full. Where one
+    /// was cancelled its wheel holds no row of it. No memory is taken.
     pub fn restart(&mut self, timer: TimerRef, start: &Start) -> Result<TimerRef, RestartErr>
         requires { start.now.dest < self.old.settings.processes }
-        ensures { Goes self.old (Restarts self.old timer start.now result) self.new }
+        ensures call { Goes self.old (Restarts self.old timer start.now result) self.new }
+        ensures forgotten { Forgets timer result self.new }
     {
         let Some(_deadline) = self.deadline_now(start) else {
             return Err(RestartErr::BadArg);

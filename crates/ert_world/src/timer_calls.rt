@@ -19,7 +19,7 @@ impl World {
     ghost use Rattle.ert_defs.specs.Timers.{is_taken};
     ghost use Rattle.ert_world.specs.Restarts.{HasNoDeadline};
     ghost use Rattle.ert_world.specs.Stepping.{Stays};
-    ghost use Rattle.ert_world.specs.Worlds.{Goes, HasForgotten, By, HasExited, IsLetGoIn};
+    ghost use Rattle.ert_world.specs.Worlds.{Goes, HasForgotten, StayForgotten, By, HasExited, IsLetGoIn};
 
     /// Starts a timer on a wheel (`erlang` module reference, `start_timer` and `send_after`).
     ///
@@ -33,6 +33,7 @@ impl World {
         ensures call { Goes self.old (By self.old (λ g. Starts g 0 wheel start.now result)) self.new }
         ensures time { result ≡ Err BadArg → HasNoDeadline self.old start.now }
         ensures memory { result ≢ Err NoMemory }
+        ensures forgotten { StayForgotten self.old self.new }
     {
         self.wheels[wheel as usize].start(&self.desk, &mut self.pass, CALLER, start)
     }

@@ -64,6 +64,7 @@ impl Model for World {
 impl World {
     ghost use Rattle.std.specs.Arc.{arc_value};
     ghost use Rattle.std.specs.Prelude.{◌≡◌, ◌+◌, IfErr, OnErr};
+    ghost use Rattle.ert_defs.specs.Legal.{Legal};
     ghost use Rattle.ert_laws.specs.KeptLaws.{KeepsLaws};
     ghost use Rattle.ert_table.specs.Desks.{settings_of, KnowsAll};
     ghost use Rattle.ert_world.specs.Openings.{IsOpened};
@@ -132,10 +133,11 @@ impl World {
         self.next - 1
     }
 
-    /// The settings that the service was opened with.
+    /// The settings that the service was opened with, by which its history is legal.
     pub fn settings(&self) -> &Settings
         ensures value { result.now ≡ self.now.settings }
         ensures stands { StandsFor self.now.settings self.now.history self.now }
+        ensures legal { Legal self.now.settings self.now.history }
     {
         self.desk.settings()
     }

@@ -1,4 +1,5 @@
-/* Restarts, counts and turns with a bound: each answer, and what stays as it was. What is expected stands in ertime.h. */
+/* Restarts, counts, turns with a bound, the processes with mail, and cancels of all timers of a process: each answer, and
+ * what stays as it was. What is expected stands in ertime.h. */
 #include <inttypes.h>
 #include <stdio.h>
 #include <stdlib.h>
@@ -58,18 +59,30 @@ static void refusals(void) {
     ert_timer timer = {7, 7, 7};
     ert_start start = {.when = 50, .msg = 1, .dest = 2};
     ert_turned_some some = {7, 7, 7, 7, 7, 7};
+    ert_mail mails[2] = {{.tag = 7}, {.tag = 7}};
     uint64_t count = 7;
+    size_t taken = 7;
+    uint32_t process = 7;
     IS(ert_world_restart(&world, &timer, &start), ERT_CLOSED);
     IS(ert_world_held(&world, 0, &count), ERT_CLOSED);
     IS(ert_world_expired(&world, 0, &count), ERT_CLOSED);
     IS(ert_world_mail_count(&world, 0, &count), ERT_CLOSED);
     IS(ert_world_turn_some(&world, 0, 1, &some), ERT_CLOSED);
+    IS(ert_world_take_some(&world, 0, mails, 2, &taken), ERT_CLOSED);
+    IS(ert_world_next_mail(&world, &process), ERT_CLOSED);
+    IS(ert_world_cancel_all(&world, 0, &count), ERT_CLOSED);
     opened(&world, 1);
     IS(ert_world_restart(&world, &timer, &start), ERT_RANGE);
     IS(ert_world_held(&world, 1, &count), ERT_RANGE);
     IS(ert_world_expired(&world, 1, &count), ERT_RANGE);
     IS(ert_world_mail_count(&world, 2, &count), ERT_RANGE);
     IS(ert_world_turn_some(&world, 1, 1, &some), ERT_RANGE);
+    IS(ert_world_take_some(&world, 2, mails, 2, &taken), ERT_RANGE);
+    IS(ert_world_cancel_all(&world, 2, &count), ERT_RANGE);
+    IS(ert_world_next_mail(&world, &process), ERT_EMPTY);
+    IS(process, 7);
+    IS(taken, 7);
+    IS(mails[0].tag, 7);
     start.dest = 1;
     IS(ert_world_restart(&world, &timer, &start), ERT_NO_TIMER);
     IS(timer.slot, 7);
@@ -164,6 +177,103 @@ static void bounded_turns(void) {
     IS(ert_world_close(&world), ERT_OK);
 }
 
+/* So many timers of a process send a message when the clock has gone on by five milliseconds. */
+static void send(ert_world *world, uint32_t process, uint32_t count, int64_t until) {
+    ert_timer timer;
+    ert_turned turned;
+    for (uint32_t it = 0; it < count; it += 1) {
+        ert_start start = {.when = 0, .msg = 100 * (process + 1) + it, .dest = process};
+        IS(ert_world_start(world, 0, &start, &timer), ERT_OK);
+    }
+    tick(world, until);
+    IS(ert_world_turn(world, 0, &turned), ERT_OK);
+    IS(turned.put, count);
+}
+
+static uint32_t with_mail(ert_world *world) {
+    uint32_t process = 7777;
+    IS(ert_world_next_mail(world, &process), ERT_OK);
+    return process;
+}
+
+static void mail_is_found(void) {
+    ert_world world = ERT_INIT;
+    ert_mail mails[TIMERS], none[1] = {{.tag = 7}};
+    size_t taken = 7;
+    uint32_t process = 7, first;
+    opened(&world, TIMERS);
+    send(&world, 1, 3, 1);
+    IS(with_mail(&world), 1); /* mail that came before the first such call is found */
+    IS(with_mail(&world), 1);
+    IS(ert_world_take_some(&world, 1, none, 0, &taken), ERT_OK);
+    IS(taken, 0);
+    IS(none[0].tag, 7);
+    IS(ert_world_take_some(&world, 1, mails, 2, &taken), ERT_OK);
+    IS(taken, 2);
+    IS(mails[0].msg, 200);
+    IS(mails[1].msg, 201);
+    IS(with_mail(&world), 1);
+    mails[1].tag = 7;
+    IS(ert_world_take_some(&world, 1, mails, 2, &taken), ERT_EMPTY);
+    IS(taken, 1);
+    IS(mails[0].msg, 202);
+    IS(mails[1].tag, 7);
+    IS(ert_world_next_mail(&world, &process), ERT_EMPTY);
+    IS(process, 7);
+    IS(ert_world_take_some(&world, 1, mails, 2, &taken), ERT_EMPTY);
+    IS(taken, 0);
+    send(&world, 1, 1, 2); /* and so is mail that comes later, each in its turn */
+    send(&world, 0, 2, 3);
+    first = with_mail(&world);
+    IS(with_mail(&world), 1 - first);
+    IS(with_mail(&world), first);
+    IS(ert_world_take_some(&world, 0, mails, TIMERS, &taken), ERT_EMPTY);
+    IS(taken, 2);
+    IS(with_mail(&world), 1);
+    IS(ert_world_exit(&world, 1, &process), ERT_OK);
+    IS(ert_world_take_some(&world, 1, mails, TIMERS, &taken), ERT_EXITED);
+    IS(taken, 0);
+    IS(with_mail(&world), 1);
+    IS(ert_world_close(&world), ERT_OK);
+}
+
+static void all_are_cancelled(void) {
+    ert_world world = ERT_INIT;
+    ert_seat seat = ERT_INIT;
+    ert_timer timers[TIMERS];
+    ert_turned turned;
+    ert_mail mail;
+    uint64_t left, cancelled = 7;
+    opened(&world, TIMERS);
+    IS(ert_world_cancel_all(&world, 0, &cancelled), ERT_OK);
+    IS(cancelled, 0);
+    for (uint32_t it = 0; it < TIMERS; it += 1) {
+        ert_start start = {.when = it == 0 ? 0 : 5, .msg = it, .dest = it % 2};
+        IS(ert_world_start(&world, 0, &start, &timers[it]), ERT_OK);
+    }
+    tick(&world, 1);
+    IS(ert_world_turn(&world, 0, &turned), ERT_OK);
+    IS(turned.put, 1);
+    IS(ert_seat_open(&seat, &world), ERT_OK);
+    IS(ert_seat_cancel(&seat, &timers[2], &left), ERT_OK);
+    IS(ert_world_cancel_all(&world, 0, &cancelled), ERT_OK); /* of its five one has expired, and a seat cancelled one */
+    IS(cancelled, TIMERS / 2 - 2);
+    IS(held(&world), TIMERS / 2);
+    for (uint32_t it = 0; it < TIMERS; it += 1) {
+        IS(ert_world_read(&world, &timers[it], &left), it % 2 == 0 ? ERT_NO_TIMER : ERT_OK);
+    }
+    IS(ert_world_cancel_all(&world, 0, &cancelled), ERT_OK);
+    IS(cancelled, 0);
+    IS(ert_world_take(&world, 0, &mail), ERT_OK); /* what had come before stays, and the process lives on */
+    IS(mail.msg, 0);
+    send(&world, 0, 2, 2);
+    IS(ert_world_cancel_all(&world, 1, &cancelled), ERT_OK);
+    IS(cancelled, TIMERS / 2);
+    IS(held(&world), 0);
+    IS(ert_seat_close(&seat), ERT_OK);
+    IS(ert_world_close(&world), ERT_OK);
+}
+
 /* A timer that a seat cancelled is held until it would have been due. */
 static void beside_a_seat(void) {
     ert_world world = ERT_INIT;
@@ -192,9 +302,11 @@ int main(void) {
     restarts();
     bounded_turns();
     beside_a_seat();
+    mail_is_found();
+    all_are_cancelled();
     if (failed != 0) {
         return EXIT_FAILURE;
     }
-    puts("restarts, counts and turns with a bound are as they must be");
+    puts("restarts, counts, turns with a bound, mail that is found and cancels of all are as they must be");
     return EXIT_SUCCESS;
 }

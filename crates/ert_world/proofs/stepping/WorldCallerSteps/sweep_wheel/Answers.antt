@@ -15,8 +15,8 @@ pub invariant_of-self : goal.invariant_of-self
 invariant_of-self c = record {
   sound =
       ((does_at c.deref.ensures (sweep_called c.args.self.now c.self.inside c.deref.result.now c.sweep.new.pass c.args.wheel c.args.process c.index_mut.result.now c.sweep.new.self (has_at c.deref.ensures c.self.view_is c.self.invariant.sound)
-    c.sweep.ensures.belongs c.requires.wheel c.index_mut.ensures.value c.sweep.ensures.number c.sweep.ensures.stands c.sweep.ensures.call c.sweep.ensures.swept
-    c.sweep.ensures.loses)).fit);
+      c.sweep.ensures.belongs c.requires.wheel c.index_mut.ensures.value c.sweep.ensures.number c.sweep.ensures.stands c.sweep.ensures.call c.sweep.ensures.swept
+      c.sweep.ensures.loses)).fit);
   listed = c.self.invariant.listed;
 }
 

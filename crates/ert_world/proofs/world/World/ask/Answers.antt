@@ -9,9 +9,9 @@ pub invariant_of-self : goal.invariant_of-self
 invariant_of-self c = record {
   sound =
       ((inbox_called c.args.self.now c.self.inside c.deref.result.now _ c.ask.new.pass c.inbox_for-wheel.result c.index_mut.result.now c.ask.new.self (λ n g. Asks g 0 n c.args.request c.ask.result)
-    c.deref.ensures c.self.view_is c.self.invariant.sound c.ask.ensures.belongs c.inbox_for-wheel.ensures.in_range c.index_mut.ensures.value c.ask.ensures.wheel c.ask.ensures.stands
-    (λ legal. if_ok_made (settings_of c.deref.result.now) (view_of c.self.inside.pass) (Asks (settings_of c.deref.result.now) 0 c.index_mut.result.now.wheel c.args.request) c.ask.result (view_of c.ask.new.pass) legal c.ask.ensures.call)
-    (asks_only (settings_of c.deref.result.now) 0 c.index_mut.result.now.wheel c.args.request c.ask.result) (asks_calm (settings_of c.deref.result.now) 0 c.index_mut.result.now.wheel c.args.request c.ask.result)).fit);
+      c.deref.ensures c.self.view_is c.self.invariant.sound c.ask.ensures.belongs c.inbox_for-wheel.ensures.in_range c.index_mut.ensures.value c.ask.ensures.wheel c.ask.ensures.stands
+      (λ legal. if_ok_made (settings_of c.deref.result.now) (view_of c.self.inside.pass) (Asks (settings_of c.deref.result.now) 0 c.index_mut.result.now.wheel c.args.request) c.ask.result (view_of c.ask.new.pass) legal c.ask.ensures.call)
+      (asks_only (settings_of c.deref.result.now) 0 c.index_mut.result.now.wheel c.args.request c.ask.result) (asks_calm (settings_of c.deref.result.now) 0 c.index_mut.result.now.wheel c.args.request c.ask.result)).fit);
   listed = c.self.invariant.listed;
 }
 

@@ -11,9 +11,9 @@ pub invariant_of-self : goal.invariant_of-self
 invariant_of-self c = record {
   sound =
       (let has = has_at c.deref.ensures c.self.view_is c.self.invariant.sound in
-    (does_cancel_at c.deref.ensures (cancelled_none c.args.self.now c.self.inside c.deref.result.now c.cancel_timer.new.pass (parts_in c.self.inside) c.args.timer _ has
-    (cancel_called c.args.self.now c.self.inside c.deref.result.now c.cancel_timer.new.pass c.args.timer None has c.cancel_timer.ensures.belongs
-    ((c.in_err-left.ensures {u = tt}).call.call)))).fit);
+      (does_cancel_at c.deref.ensures (cancelled_none c.args.self.now c.self.inside c.deref.result.now c.cancel_timer.new.pass (parts_in c.self.inside) c.args.timer _ has
+      (cancel_called c.args.self.now c.self.inside c.deref.result.now c.cancel_timer.new.pass c.args.timer None has c.cancel_timer.ensures.belongs
+      ((c.in_err-left.ensures {u = tt}).call.call)))).fit);
   listed = c.self.invariant.listed;
 }
 
@@ -59,11 +59,11 @@ pub invariant_of-self-2 : goal.invariant_of-self-2
 invariant_of-self-2 c = record {
   sound =
       (let has = has_at c.deref.ensures c.self.view_is c.self.invariant.sound in
-    let done = cancel_called c.args.self.now c.self.inside c.deref.result.now c.cancel_timer.new.pass c.args.timer (Some c.in_ok-left.left) has
-    c.cancel_timer.ensures.belongs c.in_ok-left.ensures.call.call in
-    (does_cancel_at c.deref.ensures (cancelled_some c.args.self.now c.self.inside c.deref.result.now c.cancel_timer.new.pass (parts_in c.self.inside) c.args.timer
-    c.in_ok-left.left c.index_mut.result.now c.forget.new.self _ has done c.index_mut.ensures.value c.forget.ensures.number
-    (c.forget.ensures.stands (settings_of c.deref.result.now) done.fit.belongs.named) c.forget.ensures.loses c.forget.ensures.forgotten)).fit);
+      let done = cancel_called c.args.self.now c.self.inside c.deref.result.now c.cancel_timer.new.pass c.args.timer (Some c.in_ok-left.left) has
+      c.cancel_timer.ensures.belongs c.in_ok-left.ensures.call.call in
+      (does_cancel_at c.deref.ensures (cancelled_some c.args.self.now c.self.inside c.deref.result.now c.cancel_timer.new.pass (parts_in c.self.inside) c.args.timer
+      c.in_ok-left.left c.index_mut.result.now c.forget.new.self _ has done c.index_mut.ensures.value c.forget.ensures.number
+      (c.forget.ensures.stands (settings_of c.deref.result.now) done.fit.belongs.named) c.forget.ensures.loses c.forget.ensures.forgotten)).fit);
   listed = c.self.invariant.listed;
 }
 

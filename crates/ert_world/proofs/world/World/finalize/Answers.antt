@@ -8,7 +8,7 @@ pub invariant_of-self : goal.invariant_of-self
 invariant_of-self c = record {
   sound =
       ((keeper_called c.args.self.now c.self.inside c.deref.result.now _ c.finalize.new.pass c.finalize.new.self (λ g. Finalizes g 0 c.args.reading c.finalize.result) c.deref.ensures c.self.view_is c.self.invariant.sound
-    c.finalize.ensures.belongs c.finalize.ensures.stands c.finalize.ensures.call (finalizes_quiet (settings_of c.deref.result.now) 0 c.args.reading c.finalize.result)).fit);
+      c.finalize.ensures.belongs c.finalize.ensures.stands c.finalize.ensures.call (finalizes_quiet (settings_of c.deref.result.now) 0 c.args.reading c.finalize.result)).fit);
   listed = c.self.invariant.listed;
 }
 

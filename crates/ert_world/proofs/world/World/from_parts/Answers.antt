@@ -28,9 +28,9 @@ pub invariant_of-result : goal.invariant_of-result
 invariant_of-result c = record {
   sound =
       (let p = c.args.parts in
-    kept_then c.deref.result.now (arc_value p.desk) p.pass c.drop_all_settled.new.pass (parts_of p.keeper p.wheels.items p.inboxes.items p.mails.items p.scheds.items)
-    c.drop_all_settled.new.wheels.items c.deref.ensures c.requires.fit c.drop_all_settled.ensures.belongs c.drop_all_settled.ensures.same
-    c.drop_all_settled.ensures.ordered c.drop_all_settled.ensures.tidy);
+      kept_then c.deref.result.now (arc_value p.desk) p.pass c.drop_all_settled.new.pass (parts_of p.keeper p.wheels.items p.inboxes.items p.mails.items p.scheds.items)
+      c.drop_all_settled.new.wheels.items c.deref.ensures c.requires.fit c.drop_all_settled.ensures.belongs c.drop_all_settled.ensures.same
+      c.drop_all_settled.ensures.ordered c.drop_all_settled.ensures.tidy);
   listed = tt;
 }
 

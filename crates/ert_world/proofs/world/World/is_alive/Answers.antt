@@ -9,7 +9,7 @@ pub invariant_of-self : goal.invariant_of-self
 invariant_of-self c = record {
   sound =
       ((alone_called c.args.self.now c.self.inside c.deref.result.now _ c.is_alive.new.pass (λ g. TellsAlive g (Caller 0) c.args.process c.is_alive.result) c.deref.ensures c.self.view_is c.self.invariant.sound
-    c.is_alive.ensures.belongs c.is_alive.ensures.call (alive_quiet (settings_of c.deref.result.now) (Caller 0) c.args.process c.is_alive.result)).fit);
+      c.is_alive.ensures.belongs c.is_alive.ensures.call (alive_quiet (settings_of c.deref.result.now) (Caller 0) c.args.process c.is_alive.result)).fit);
   listed = c.self.invariant.listed;
 }
 

@@ -15,7 +15,7 @@ pub invariant_of-self : goal.invariant_of-self
 invariant_of-self c = record {
   sound =
       ((alone_called c.args.self.now c.self.inside c.deref.result.now _ c.mark_exit.new.pass (λ g. MarksExit g (Caller 0) c.args.process c.mark_exit.result) c.deref.ensures c.self.view_is c.self.invariant.sound
-    c.mark_exit.ensures.belongs c.mark_exit.ensures.call (mark_quiet (settings_of c.deref.result.now) (Caller 0) c.args.process c.mark_exit.result)).fit);
+      c.mark_exit.ensures.belongs c.mark_exit.ensures.call (mark_quiet (settings_of c.deref.result.now) (Caller 0) c.args.process c.mark_exit.result)).fit);
   listed = c.self.invariant.listed;
 }
 

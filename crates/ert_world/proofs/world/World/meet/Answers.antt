@@ -25,11 +25,11 @@ pub invariant_of-self : goal.invariant_of-self
 invariant_of-self c = record {
   sound =
       (let d = arc_value c.self.inside.desk in
-    let met = is_meeting d _ c.self.inside.pass c.seat.inside.pass c.join.new.self c.split-pass.new.self c.split-pass.result (Caller c.seat.inside.number) c.deref.ensures c.seat.invariant.actors
-    c.join.ensures.actors c.join.ensures.joined c.join.ensures.legal c.split-pass.ensures.rest c.split-pass.ensures.front c.split-pass.ensures.actor c.split-pass.ensures.new_front in
-    let has : Has c.args.self.now c.self.inside d = has_at refl c.self.view_is c.self.invariant.sound in
-    let belongs = subst (λ (d : Desk). Belongs d c.split-pass.new.self) c.deref-2.ensures c.split-pass.ensures.belongs in
-    met_fit c.args.self.now c.self.inside d c.seat.inside.pass c.join.new.self c.split-pass.new.self c.split-pass.result c.seat.inside.number has belongs met);
+      let met = is_meeting d _ c.self.inside.pass c.seat.inside.pass c.join.new.self c.split-pass.new.self c.split-pass.result (Caller c.seat.inside.number) c.deref.ensures c.seat.invariant.actors
+      c.join.ensures.actors c.join.ensures.joined c.join.ensures.legal c.split-pass.ensures.rest c.split-pass.ensures.front c.split-pass.ensures.actor c.split-pass.ensures.new_front in
+      let has : Has c.args.self.now c.self.inside d = has_at refl c.self.view_is c.self.invariant.sound in
+      let belongs = subst (λ (d : Desk). Belongs d c.split-pass.new.self) c.deref-2.ensures c.split-pass.ensures.belongs in
+      met_fit c.args.self.now c.self.inside d c.seat.inside.pass c.join.new.self c.split-pass.new.self c.split-pass.result c.seat.inside.number has belongs met);
   listed = c.self.invariant.listed;
 }
 

@@ -14,11 +14,11 @@ pub invariant_of-result : goal.invariant_of-result
 invariant_of-result c = record {
   sound =
       (let fit : AreFit (arc_value c.in-Ok.desk) c.in_ok-desk.pass 1 (parts_of c.open-2.result c.in_ok-wheels.wheels.items c.in_ok-inboxes.inboxes.items c.in_ok-mails.mails.items c.in_ok-scheds.scheds.items) =
-    search rules in
-    record {
-      fit = fit;
-      tidy = λ one. new_tidy c.args.settings.now c.in_ok-desk.desk (arc_value c.in-Ok.desk) c.in_ok-desk.pass c.in_ok-wheels.wheels.items c.in-Ok.ensures.ok
-          c.in_ok-desk.ensures.settings c.in_ok-desk.ensures.front c.in_ok-wheels.ensures;
-    });
+      search rules in
+      record {
+        fit = fit;
+        tidy = λ one. new_tidy c.args.settings.now c.in_ok-desk.desk (arc_value c.in-Ok.desk) c.in_ok-desk.pass c.in_ok-wheels.wheels.items c.in-Ok.ensures.ok
+            c.in_ok-desk.ensures.settings c.in_ok-desk.ensures.front c.in_ok-wheels.ensures;
+      });
   listed = tt;
 }

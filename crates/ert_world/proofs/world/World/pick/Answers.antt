@@ -9,9 +9,9 @@ pub invariant_of-self : goal.invariant_of-self
 invariant_of-self c = record {
   sound =
       ((does_at c.deref.ensures (pick_called c.args.self.now c.self.inside c.deref.result.now c.pick-got.new.pass c.args.sched c.index_mut.result.now c.pick-got.new.self c.index_mut-2.result.now
-    (record { wheel = c.index_mut-2.result.now.wheel; hand = c.pick-got.result; fired = c.index_mut-2.result.now.fired }) c.pick-got.result
-    (has_at c.deref.ensures c.self.view_is c.self.invariant.sound) c.pick-got.ensures.belongs c.requires.sched c.index_mut.ensures.value c.index_mut-2.ensures.value c.pick-got.ensures.wheel
-    c.pick-got.ensures.stands c.pick-got.ensures.call c.pick-got.ensures.sched refl refl refl)).fit);
+      (record { wheel = c.index_mut-2.result.now.wheel; hand = c.pick-got.result; fired = c.index_mut-2.result.now.fired }) c.pick-got.result
+      (has_at c.deref.ensures c.self.view_is c.self.invariant.sound) c.pick-got.ensures.belongs c.requires.sched c.index_mut.ensures.value c.index_mut-2.ensures.value c.pick-got.ensures.wheel
+      c.pick-got.ensures.stands c.pick-got.ensures.call c.pick-got.ensures.sched refl refl refl)).fit);
   listed = c.self.invariant.listed;
 }
 

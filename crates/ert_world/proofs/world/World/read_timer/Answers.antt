@@ -9,7 +9,7 @@ pub invariant_of-self : goal.invariant_of-self
 invariant_of-self c = record {
   sound =
       ((alone_called c.args.self.now c.self.inside c.deref.result.now _ c.read_timer.new.pass (λ g. Reads g (Caller 0) c.args.timer c.read_timer.result) c.deref.ensures c.self.view_is c.self.invariant.sound
-    c.read_timer.ensures.belongs c.read_timer.ensures.call.call (read_quiet (settings_of c.deref.result.now) (Caller 0) c.args.timer c.read_timer.result)).fit);
+      c.read_timer.ensures.belongs c.read_timer.ensures.call.call (read_quiet (settings_of c.deref.result.now) (Caller 0) c.args.timer c.read_timer.result)).fit);
   listed = c.self.invariant.listed;
 }
 

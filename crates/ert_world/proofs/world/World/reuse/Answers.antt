@@ -17,9 +17,9 @@ pub invariant_of-self : goal.invariant_of-self
 invariant_of-self c = record {
   sound =
       (let d = arc_value c.self.inside.desk in
-    (freed c.args.self.now c.self.inside d c.args.timer.wheel c.index_mut.result.now c.reuse.new.self (has_at refl c.self.view_is c.self.invariant.sound) c.requires.wheel
-    c.index_mut.ensures.value c.reuse.ensures.number (c.reuse.ensures.stands (settings_of d) c.self.invariant.sound.fit.belongs.named)
-    (loses_reused c.index_mut.result.now c.reuse.new.self c.args.timer.slot c.reuse.ensures.freed)).fit);
+      (freed c.args.self.now c.self.inside d c.args.timer.wheel c.index_mut.result.now c.reuse.new.self (has_at refl c.self.view_is c.self.invariant.sound) c.requires.wheel
+      c.index_mut.ensures.value c.reuse.ensures.number (c.reuse.ensures.stands (settings_of d) c.self.invariant.sound.fit.belongs.named)
+      (loses_reused c.index_mut.result.now c.reuse.new.self c.args.timer.slot c.reuse.ensures.freed)).fit);
   listed = c.self.invariant.listed;
 }
 

@@ -8,8 +8,8 @@ pub invariant_of-self : goal.invariant_of-self
 invariant_of-self c = record {
   sound =
       ((wheel_looked c.args.self.now c.self.inside c.deref.result.now _ c.room.new.pass c.args.wheel c.index.result.now (λ n g. TellsRoom g 0 n c.room.result)
-    c.deref.ensures c.self.view_is c.self.invariant.sound c.room.ensures.belongs c.requires c.index.ensures c.room.ensures.stands c.room.ensures.call
-    (rooms_only (settings_of c.deref.result.now) 0 c.index.result.now.number c.room.result) (room_calm (settings_of c.deref.result.now) 0 c.index.result.now.number c.room.result)).fit);
+      c.deref.ensures c.self.view_is c.self.invariant.sound c.room.ensures.belongs c.requires c.index.ensures c.room.ensures.stands c.room.ensures.call
+      (rooms_only (settings_of c.deref.result.now) 0 c.index.result.now.number c.room.result) (room_calm (settings_of c.deref.result.now) 0 c.index.result.now.number c.room.result)).fit);
   listed = c.self.invariant.listed;
 }
 

@@ -4,6 +4,7 @@ use Rattle.ert_table.specs.Calls.{IsMade}
 use Rattle.ert_table.specs.Desks.{settings_of, view_of}
 use Rattle.ert_timers.proofs.LawsHold.{starts_only}
 use Rattle.ert_world.proofs.Calls.{has_at}
+use Rattle.ert_world.proofs.Started.{forgotten_start}
 use Rattle.ert_world.proofs.Values.{refused_value}
 use Rattle.ert_world.proofs.WheelCalls.{wheel_stepped, starts_calm, started_hold}
 use Rattle.ert_world.proofs.world.World.start.Goals as goal
@@ -12,11 +13,11 @@ pub invariant_of-self : goal.invariant_of-self
 invariant_of-self c = record {
   sound =
       ((wheel_stepped c.args.self.now c.self.inside c.deref.result.now _ c.start.new.pass c.args.wheel c.index_mut.result.now c.start.new.self (λ n g. Starts g 0 n c.args.start.now c.start.result)
-    c.deref.ensures c.self.view_is c.self.invariant.sound c.start.ensures.belongs c.requires.wheel c.index_mut.ensures.value c.start.ensures.number c.start.ensures.stands c.start.ensures.call
-    (starts_only (settings_of c.deref.result.now) 0 c.index_mut.result.now.number c.args.start.now c.start.result)
-    (starts_calm (settings_of c.deref.result.now) 0 c.index_mut.result.now.number c.args.start.now c.start.result)
-    (started_hold c.self.inside c.deref.result.now c.start.new.pass c.index_mut.result.now.number c.args.start.now c.start.result c.index_mut.result.now c.start.new.self
-    (has_at c.deref.ensures c.self.view_is c.self.invariant.sound) c.start.ensures.call c.start.ensures.rows)).fit);
+      c.deref.ensures c.self.view_is c.self.invariant.sound c.start.ensures.belongs c.requires.wheel c.index_mut.ensures.value c.start.ensures.number c.start.ensures.stands c.start.ensures.call
+      (starts_only (settings_of c.deref.result.now) 0 c.index_mut.result.now.number c.args.start.now c.start.result)
+      (starts_calm (settings_of c.deref.result.now) 0 c.index_mut.result.now.number c.args.start.now c.start.result)
+      (started_hold c.self.inside c.deref.result.now c.start.new.pass c.index_mut.result.now.number c.args.start.now c.start.result c.index_mut.result.now c.start.new.self
+      (has_at c.deref.ensures c.self.view_is c.self.invariant.sound) c.start.ensures.call c.start.ensures.rows)).fit);
   listed = c.self.invariant.listed;
 }
 
@@ -34,3 +35,8 @@ returns-clause-time c = λ is.
     refused_value c.args.self.now c.self.inside c.deref.result.now c.start.new.pass c.index_mut.result.now.number c.args.start.now
     (has_at c.deref.ensures c.self.view_is c.self.invariant.sound)
     (subst (λ r. IsMade (settings_of c.deref.result.now) (view_of c.self.inside.pass) (Starts (settings_of c.deref.result.now) 0 c.index_mut.result.now.number c.args.start.now r) (view_of c.start.new.pass)) is c.start.ensures.call)
+
+pub returns-clause-forgotten : goal.returns-clause-forgotten
+returns-clause-forgotten c =
+    forgotten_start c.args.self.now c.self.inside c.deref.result.now _ c.args.wheel c.args.start.now c.start.result c.index_mut.result.now c.start.new.self
+    (has_at c.deref.ensures c.self.view_is c.self.invariant.sound) c.requires.wheel c.index_mut.ensures.value c.start.ensures.rows (returns-clause-call c)

@@ -11,7 +11,7 @@ pub invariant_of-self : goal.invariant_of-self
 invariant_of-self c = record {
   sound =
       ((alone_called c.args.self.now c.self.inside c.deref.result.now _ c.system_time.new.pass (λ g. TellsSystemTime g (Caller 0) c.system_time.result) c.deref.ensures c.self.view_is c.self.invariant.sound
-    c.system_time.ensures.belongs c.system_time.ensures.call (system_quiet (settings_of c.deref.result.now) (Caller 0) c.system_time.result)).fit);
+      c.system_time.ensures.belongs c.system_time.ensures.call (system_quiet (settings_of c.deref.result.now) (Caller 0) c.system_time.result)).fit);
   listed = c.self.invariant.listed;
 }
 

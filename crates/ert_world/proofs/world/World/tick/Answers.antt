@@ -9,7 +9,7 @@ pub invariant_of-self : goal.invariant_of-self
 invariant_of-self c = record {
   sound =
       ((keeper_called c.args.self.now c.self.inside c.deref.result.now _ c.tick.new.pass c.tick.new.self (λ g. Ticks g 0 c.args.reading c.args.force c.tick.result) c.deref.ensures c.self.view_is c.self.invariant.sound
-    c.tick.ensures.belongs c.tick.ensures.stands c.tick.ensures.call (acts_quiet (settings_of c.deref.result.now) 0 c.args.reading (act_of c.args.force) c.tick.result)).fit);
+      c.tick.ensures.belongs c.tick.ensures.stands c.tick.ensures.call (acts_quiet (settings_of c.deref.result.now) 0 c.args.reading (act_of c.args.force) c.tick.result)).fit);
   listed = c.self.invariant.listed;
 }
 

@@ -10,7 +10,7 @@ pub invariant_of-self : goal.invariant_of-self
 invariant_of-self c = record {
   sound =
       ((alone_called c.args.self.now c.self.inside c.deref.result.now _ c.time_offset.new.pass (λ g. TellsOffset g (Caller 0) c.time_offset.result) c.deref.ensures c.self.view_is c.self.invariant.sound
-    c.time_offset.ensures.belongs c.time_offset.ensures.call (offset_quiet (settings_of c.deref.result.now) (Caller 0) c.time_offset.result)).fit);
+      c.time_offset.ensures.belongs c.time_offset.ensures.call (offset_quiet (settings_of c.deref.result.now) (Caller 0) c.time_offset.result)).fit);
   listed = c.self.invariant.listed;
 }
 

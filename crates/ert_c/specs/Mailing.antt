@@ -1,0 +1,57 @@
+-- What a service does by the calls that find a process with mail, take several messages, and cancel all timers of a
+-- process, and how C is told the answers.
+
+use Rattle.std.specs.Prelude.{◌≡◌, ℕ, ℤ, map, drop, List, ◌++◌, length, Option, Some, None, Result, Ok, Err, IfOk}
+use Rattle.ert_defs.specs.declared.mail.Mail.{Mail}
+use Rattle.ert_defs.specs.declared.memory.NoMemory.{NoMemory as WantOfMemory}
+use Rattle.ert_world.specs.Cancelling.{CancelsAll}
+use Rattle.ert_world.specs.Mailing.{IsNextMail, TakesSome}
+use Rattle.ert_world.specs.Stepping.{Stays}
+use Rattle.ert_world.specs.Worlds.{Seen}
+use Rattle.ert_world.specs.declared.mailing.TakeEnd.{TakeEnd}
+use Rattle.ert_world.specs.declared.mailing.TakeEnd.TheVariants.{Most, Empty, Exited}
+use Rattle.ert_c.specs.Calls.{Makes}
+use Rattle.ert_c.specs.Told.{mail_as}
+use Rattle.ert_c.specs.declared.mail_calls.ErtMail.{ErtMail}
+use Rattle.ert_c.specs.declared.status.TheConstants.{OK, NO_MEMORY, EMPTY, EXITED}
+
+-- what is told is a process that has mail, or that none has, or want of memory; nothing has changed
+pub record FindsMail (answer : Result (Option ℕ) WantOfMemory) (old new : Seen) : Type 0 where
+  pub next : IfOk answer (IsNextMail old)
+  pub unchanged : new ≡ old
+
+-- a process with mail, for C
+abbrev pub IsNextTold : Result (Option ℕ) WantOfMemory → ℕ → ℤ → ℕ → Type 0
+IsNextTold (Ok (Some process)) old status new = (status ≡ OK) × (new ≡ process)
+IsNextTold (Ok None) old status new = (status ≡ EMPTY) × (new ≡ old)
+IsNextTold (Err e) old status new = (status ≡ NO_MEMORY) × (new ≡ old)
+
+-- caller 0 takes messages of a process, so many at most: these, and how that ended
+abbrev pub TakesSomeBy : ℕ → ℕ → List Mail × TakeEnd → Seen → Seen → Type 0
+TakesSomeBy process most answer = Makes (λ w way. TakesSome w.settings way process most answer.0 answer.1)
+
+-- how a take of several messages ended, for C
+abbrev pub end_as : TakeEnd → ℤ
+end_as Most = OK
+end_as Empty = EMPTY
+end_as Exited = EXITED
+
+-- messages stand in the first of some places, and the others are as they were
+abbrev pub StandFirst : List Mail → List ErtMail → List ErtMail → Type 0
+StandFirst mails kept found = found ≡ map mail_as mails ++ drop (length mails) kept
+
+-- the messages that were taken and how many there are, for C
+abbrev pub IsTookSome : List Mail × TakeEnd → List ErtMail × ℕ → ℤ → List ErtMail × ℕ → Type 0
+IsTookSome answer kept status found = (status ≡ end_as answer.1) × (found.1 ≡ length answer.0) × StandFirst answer.0 kept.0 found.0
+
+-- messages were taken into places, so many at most as there are, and counted
+pub record TakesPlaces (process : ℕ) (old : Seen) (kept found : List ErtMail) (answer : ℕ × TakeEnd) (new : Seen) : Type 0 where
+  pub mails : List Mail
+  pub makes : TakesSomeBy process (length kept) (mails, answer.1) old new
+  pub count : answer.0 ≡ length mails
+  pub places : StandFirst mails kept found
+
+-- caller 0 cancels all timers of a process: so many were cancelled
+pub record CancelsAllBy (process answer : ℕ) (old new : Seen) : Type 0 where
+  pub makes : Makes (λ w way. CancelsAll w.settings way process answer) old new
+  pub stays : Stays old new

@@ -1,0 +1,91 @@
+-- A process with mail, and takes of several messages.
+
+use Rattle.std.proofs.Common.{◌≡◌, ◌≢◌, ℕ, ◌+◌, ◌<◌, ◌≤◌, List, [], ◌∷◌, ◌++◌, length, Option, Some, None, slice_index_or, refl, sym, ap, subst, ◌∙◌, arith}
+use Rattle.ert_defs.specs.Legal.{Legal}
+use Rattle.ert_defs.specs.Mails.{MailState}
+use Rattle.ert_defs.specs.States.{state}
+use Rattle.ert_defs.specs.declared.entry.Entry.{Entry}
+use Rattle.ert_defs.specs.declared.mail.Mail.{Mail}
+use Rattle.ert_defs.specs.declared.settings.Settings.{Settings}
+use Rattle.ert_effects.specs.MailCalls.{Takes}
+use Rattle.ert_effects.specs.Ways.{Growth, Way}
+use Rattle.ert_effects.specs.declared.answers.Taken.{Taken}
+use Rattle.ert_effects.specs.declared.answers.Taken.TheVariants.{Mail as Took, Empty, Exited}
+use Rattle.ert_mail.specs.Lists.{IsNextIn}
+use Rattle.ert_mail.specs.Mailboxes.{Mailbox, seen as box}
+use Rattle.ert_table.specs.Desks.{settings_of, front_of}
+use Rattle.ert_table.specs.declared.desk.Desk.{Desk}
+use Rattle.ert_world.proofs.Alone.{went}
+use Rattle.ert_world.proofs.Calls.{Has, processes_at}
+use Rattle.ert_world.proofs.Composed.{goes_more, goes_nothing, goes_then}
+use Rattle.ert_world.proofs.Listed.{mails_low}
+use Rattle.ert_world.specs.Mailing.{mail_of, IsNextMail, TakesMails, TakesSome}
+use Rattle.ert_world.specs.Worlds.{Seen, Goes, By, way_of}
+use Rattle.ert_world.specs.declared.mailing.TakeEnd.TheVariants.{Most, Empty as FoundEmpty, Exited as HadExited}
+use Rattle.ert_world.specs.declared.world.World.TheInside.{Inside}
+
+-- the messages of a mailbox are those of its process
+queue_at : (before : Seen) (b : Inside) (d : Desk) (i : ℕ) (x : Mailbox) → Has before b d → i < before.settings.processes
+    → (slice_index_or b.mails.items i x).held.queue ≡ mail_of before i
+queue_at before b d i x has low =
+    let g : Settings = settings_of d in
+    let below : i < g.processes = processes_at has i low in
+    let m : Mailbox = slice_index_or b.mails.items i x in
+    ap (λ (s : MailState). s.queue) ((has.fit.stand.mails.stand i x below refl).held
+    ∙ ap (λ n. (state g (front_of b.pass)).mails n) (has.fit.stand.mails.named i x below))
+    ∙ ap (λ (w : Seen). mail_of w i) has.is
+
+-- what is told of mailboxes is so of a world
+pub next_told : (before : Seen) (b : Inside) (d : Desk) (mails : List Mailbox) (answer : Option ℕ) → Has before b d → mails ≡ b.mails.items
+    → IsNextIn mails answer → IsNextMail before answer
+next_told before b d mails (Some p) has same next =
+    let mine = subst (λ (ms : List Mailbox). IsNextIn ms (Some p)) same next in
+    let low : p < before.settings.processes = subst (λ (w : Seen). p < w.settings.processes) has.is (subst (λ n. p < n) has.fit.stand.mails.counted mine.0) in
+    let none : Mailbox = box 0 [] [] 0 0 0 in
+    (low, λ empty. mine.1 none (queue_at before b d p none has low ∙ empty))
+next_told before b d mails None has same next =
+    let mine = subst (λ (ms : List Mailbox). IsNextIn ms None) same next in
+    let none : Mailbox = box 0 [] [] 0 0 0 in
+    λ p low. sym (queue_at before b d p none has low) ∙ mine p none (mails_low before b d p has low)
+
+-- what is made by a call is made by another
+goes_as : (a c : Seen) (call other : Way → Growth) → Goes a call c → ((h m : List Entry) → call (way_of a) h m → other (way_of a) h m) → Goes a other c
+goes_as a c call other goes is =
+    went a c other (record { piece = goes.grows.piece; grown = goes.grows.grown; made = is a.history goes.grows.piece goes.grows.made })
+    goes.legal goes.table goes.settings goes.clock goes.next
+
+-- none is taken yet
+pub took_none : (a : Seen) (process : ℕ) → Legal a.settings a.history → Goes a (λ way. TakesMails a.settings way process []) a
+took_none a process legal = goes_nothing a (λ (way : Way). TakesMails a.settings way process []) legal refl
+
+-- one more is
+pub took_more : (a b c : Seen) (process : ℕ) (mails : List Mail) (mail : Mail) (answer : Taken) → answer ≡ Took mail
+    → Goes a (λ way. TakesMails a.settings way process mails) b → Goes b (By b (λ g. Takes g 0 process answer)) c
+    → Goes a (λ way. TakesMails a.settings way process (mails ++ mail ∷ [])) c
+took_more a b c process mails mail answer is one other =
+    goes_more a b c (λ (g : Settings) (way : Way) (m : Mail). way [] (Takes g 0 process (Took m))) mails mail one
+    (subst (λ (t : Taken). Goes b (By b (λ g. Takes g 0 process t)) c) is other)
+
+-- as many as may be
+pub took_most : (a b : Seen) (process most : ℕ) (mails : List Mail) → length mails ≡ most → Goes a (λ way. TakesMails a.settings way process mails) b
+    → Goes a (λ way. TakesSome a.settings way process most mails Most) b
+took_most a b process most mails all goes =
+    goes_as a b (λ (way : Way). TakesMails a.settings way process mails) (λ (way : Way). TakesSome a.settings way process most mails Most) goes (λ h m made. (all, made))
+
+-- fewer, and then the mailbox was empty
+pub took_empty : (a b c : Seen) (process most : ℕ) (mails : List Mail) (answer : Taken) → answer ≡ Empty → length mails < most
+    → Goes a (λ way. TakesMails a.settings way process mails) b → Goes b (By b (λ g. Takes g 0 process answer)) c
+    → Goes a (λ way. TakesSome a.settings way process most mails FoundEmpty) c
+took_empty a b c process most mails answer is few one other =
+    goes_as a c _ (λ (way : Way). TakesSome a.settings way process most mails FoundEmpty)
+    (goes_then a b c (λ (way : Way). TakesMails a.settings way process mails) (λ (g : Settings) (way : Way). way [] (Takes g 0 process Empty)) one
+    (subst (λ (t : Taken). Goes b (By b (λ g. Takes g 0 process t)) c) is other)) (λ h m made. (few, made))
+
+-- fewer, and then the process had exited
+pub took_exited : (a b c : Seen) (process most : ℕ) (mails : List Mail) (answer : Taken) → answer ≡ Exited → length mails < most
+    → Goes a (λ way. TakesMails a.settings way process mails) b → Goes b (By b (λ g. Takes g 0 process answer)) c
+    → Goes a (λ way. TakesSome a.settings way process most mails HadExited) c
+took_exited a b c process most mails answer is few one other =
+    goes_as a c _ (λ (way : Way). TakesSome a.settings way process most mails HadExited)
+    (goes_then a b c (λ (way : Way). TakesMails a.settings way process mails) (λ (g : Settings) (way : Way). way [] (Takes g 0 process Exited)) one
+    (subst (λ (t : Taken). Goes b (By b (λ g. Takes g 0 process t)) c) is other)) (λ h m made. (few, made))

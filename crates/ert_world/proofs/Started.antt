@@ -1,0 +1,207 @@
+-- A start names a timer that was never named before, so no row comes of one that was.
+
+use Rattle.std.proofs.Common.{◌≡◌, ◌≢◌, ◌⊎◌, ⊎_elim, ℕ, ℤ, ◌<◌, Bool, true, false, cond, ◌&&◌, List, [], ◌∷◌, ◌++◌, filter, length, slice_index_or, Option, Some, None, Result, Ok, inl, inr, refl, sym, ap, subst, ◌∙◌, eq-eqb, arith}
+use Rattle.std.specs.Prelude.{slice_set, nat_eq}
+use Rattle.ert_defs.proofs.Runs.{legal_then, state-append}
+use Rattle.ert_defs.proofs.Slots.{IsOrdered, can_use, next_is_new, ordered, ordered_next}
+use Rattle.ert_defs.specs.Entries.{arm_entry}
+use Rattle.ert_defs.specs.Legal.{Can, Legal, LegalFrom, left_by}
+use Rattle.ert_defs.specs.Milliseconds.{deadline_of}
+use Rattle.ert_defs.specs.States.{State, opening, next, run, state, uses_at}
+use Rattle.ert_defs.specs.Timers.{Row, same_timer, settled_as, handed_as, status_after, timer_at}
+use Rattle.ert_defs.specs.declared.entry.Actor.TheVariants.{Wheel, Caller}
+use Rattle.ert_defs.specs.declared.entry.Entry.{Entry}
+use Rattle.ert_defs.specs.declared.entry.Event.{Event}
+use Rattle.ert_defs.specs.declared.entry.Event.TheVariants.{Arm, Cancel, Expire, Orphan, Deliver, Drop}
+use Rattle.ert_defs.specs.declared.settings.Settings.{Settings}
+use Rattle.ert_defs.specs.declared.timer.Start.{Start}
+use Rattle.ert_defs.specs.declared.timer.Status.{Status}
+use Rattle.ert_defs.specs.declared.timer.Status.TheVariants.{Armed, Expired, Delivered, Cancelled, Orphaned, Dropped}
+use Rattle.ert_defs.specs.declared.timer.TimerRef.{TimerRef}
+use Rattle.ert_defs.specs.Actors.{has_actor}
+use Rattle.ert_effects.specs.TimerCalls.{Cancels, Starts}
+use Rattle.ert_effects.specs.declared.answers.StartErr.{StartErr}
+use Rattle.ert_table.specs.Desks.{settings_of, front_of}
+use Rattle.ert_table.specs.declared.desk.Desk.{Desk}
+use Rattle.ert_timers.proofs.Settled.{HasOne, IsHit}
+use Rattle.ert_timers.specs.Freeing.{IsHeld}
+use Rattle.ert_timers.specs.Parts.{Part, Stands as WheelStands, last_timer}
+use Rattle.ert_timers.specs.Passed.{GainsOne, WasHeld}
+use Rattle.ert_wheel.proofs.Collect.{key_low}
+use Rattle.ert_wheel.specs.Rows.{key_in}
+use Rattle.ert_wheel.specs.declared.row.Key.{Key}
+use Rattle.ert_world.proofs.Calls.{Has, schedulers_at}
+use Rattle.ert_world.proofs.Gone.{cancels_hit}
+use Rattle.ert_world.proofs.NextDue.{part_at}
+use Rattle.ert_world.proofs.Returned.{at_place}
+use Rattle.ert_world.specs.Ways.{is_unseated}
+use Rattle.ert_world.specs.Worlds.{Seen, Goes, By, HasForgotten}
+use Rattle.ert_world.specs.declared.world.World.TheInside.{Inside}
+
+-- settling and handing over leave a status
+settled_some : (to : Status) (x : Option Status) → x ≢ None → settled_as to x ≢ None
+settled_some to None some = absurd (some refl)
+settled_some to (Some Armed) some = λ is. cc
+settled_some to (Some Expired) some = some
+settled_some to (Some Delivered) some = some
+settled_some to (Some Cancelled) some = some
+settled_some to (Some Orphaned) some = some
+settled_some to (Some Dropped) some = some
+
+handed_some : (to : Status) (x : Option Status) → x ≢ None → handed_as to x ≢ None
+handed_some to None some = absurd (some refl)
+handed_some to (Some Armed) some = some
+handed_some to (Some Expired) some = λ is. cc
+handed_some to (Some Delivered) some = some
+handed_some to (Some Cancelled) some = some
+handed_some to (Some Orphaned) some = some
+handed_some to (Some Dropped) some = some
+
+cond_some : (b : Bool) (x y : Option Status) → x ≢ None → y ≢ None → cond b x y ≢ None
+cond_some true x y one other = one
+cond_some false x y one other = other
+
+-- so no event takes it
+status_some : (r : TimerRef) (b : Bool) (x : Option Status) (event : Event) → x ≢ None → status_after r b x event ≢ None
+status_some r b x (Arm timer start) some = cond_some (b && same_timer timer r) (Some Armed) x (λ is. cc) some
+status_some r b x (Cancel timer left) some = cond_some (same_timer timer r) (settled_as Cancelled x) x (settled_some Cancelled x some) some
+status_some r b x (Expire timer) some = cond_some (same_timer timer r) (settled_as Expired x) x (settled_some Expired x some) some
+status_some r b x (Orphan timer) some = cond_some (same_timer timer r) (settled_as Orphaned x) x (settled_some Orphaned x some) some
+status_some r b x (Deliver timer) some = cond_some (same_timer timer r) (handed_as Delivered x) x (handed_some Delivered x some) some
+status_some r b x (Drop timer) some = cond_some (same_timer timer r) (handed_as Dropped x) x (handed_some Dropped x some) some
+status_some r b x _ some = some
+
+some_next : (g : Settings) (s : State) (e : Entry) (timer : TimerRef) → s.status timer ≢ None → (next g s e).status timer ≢ None
+some_next g s e timer some = status_some timer (has_actor e (Wheel timer.wheel)) (s.status timer) e.event some
+
+some_run : (g : Settings) (s : State) (m : List Entry) (timer : TimerRef) → s.status timer ≢ None → (run g s m).status timer ≢ None
+some_run g s [] timer some = some
+some_run g s (e ∷ m) timer some = some_run g (next g s e) m timer (some_next g s e timer some)
+
+-- of the entries that pass a test the first is such, or a later one
+one_in : (D : Entry → Type 0) (test : Entry → Bool) (e : Entry) (m : List Entry) (P : Type 0) → (D e → P) → (HasOne D (filter test m) → P)
+    → HasOne D (filter test (e ∷ m)) → P
+one_in D test e m P here more has = at (test e) refl
+  where
+    at : (b : Bool) → test e ≡ b → P
+    at true is =
+        let mine : filter test (e ∷ m) ≡ e ∷ filter test m = rw is refl in
+        ⊎_elim here more (subst (HasOne D) mine has)
+    at false is =
+        let theirs : filter test (e ∷ m) ≡ filter test m = rw is refl in
+        more (subst (HasOne D) theirs has)
+
+left_some : (g : Settings) (look : ℤ) (x : Option Status) (row : Option Row) (n : ℕ) → Some n ≡ left_by g look x row → x ≡ Some Armed
+left_some g look None row n is = absurd cc
+left_some g look (Some Armed) row n is = refl
+left_some g look (Some Expired) row n is = absurd cc
+left_some g look (Some Delivered) row n is = absurd cc
+left_some g look (Some Cancelled) row n is = absurd cc
+left_some g look (Some Orphaned) row n is = absurd cc
+left_some g look (Some Dropped) row n is = absurd cc
+
+-- after a cancel that hit, a timer has a status
+hit_some : (g : Settings) (test : Entry → Bool) (timer : TimerRef) (s : State) (m : List Entry) → LegalFrom g s m → HasOne (IsHit timer) (filter test m)
+    → (run g s m).status timer ≢ None
+hit_some g test timer s [] legal has = absurd has
+hit_some g test timer s (e ∷ m) legal has =
+    one_in (IsHit timer) test e m ((run g (next g s e) m).status timer ≢ None)
+    (λ hit. some_run g (next g s e) m timer (some_next g s e timer (armed_some (s.status timer)
+    (left_some g (s.looked hit.0) (s.status timer) _ hit.1 (subst (Can g s) hit.2 legal.0).found))))
+    (λ more. hit_some g test timer (next g s e) m legal.1 more) has
+  where
+    armed_some : (x : Option Status) → x ≡ Some Armed → x ≢ None
+    armed_some x is none = (let clash : Some Armed ≡ None = sym is ∙ none in cc)
+
+-- the arming of a timer
+abbrev pub IsArm : TimerRef → Entry → Type 0
+IsArm timer e = (by : ℕ) × (start : Start) × (e ≡ arm_entry by timer start)
+
+-- it had no status before
+armed_new : (g : Settings) (s : State) (by : ℕ) (timer : TimerRef) (start : Start) → IsOrdered s → Can g s (arm_entry by timer start) → s.status timer ≡ None
+armed_new g s by timer start order can =
+    let here : (nat_eq timer.wheel timer.wheel && nat_eq timer.slot timer.slot) ≡ true = rw (eq-eqb timer.wheel timer.wheel refl, eq-eqb timer.slot timer.slot refl) refl in
+    let may = can_use g s (Caller by) timer (deadline_of g start (s.looked (Caller by))) timer.wheel timer.slot can.known here in
+    next_is_new (λ n. s.status (timer_at timer.wheel timer.slot n)) (uses_at s timer.wheel timer.slot)
+    (record { now = may.now; wanted = may.wanted; generation = timer.generation }) (order timer.wheel timer.slot) may.can
+
+-- so a timer with a status isn't armed again
+never_again : (g : Settings) (test : Entry → Bool) (timer : TimerRef) (s : State) (m : List Entry) → IsOrdered s → s.status timer ≢ None → LegalFrom g s m
+    → HasOne (IsArm timer) (filter test m) → ⊥
+never_again g test timer s [] order some legal has = has
+never_again g test timer s (e ∷ m) order some legal has =
+    one_in (IsArm timer) test e m ⊥ (λ arm. some (armed_new g s arm.0 timer arm.1 order (subst (Can g s) arm.2 legal.0)))
+    (λ more. never_again g test timer (next g s e) m (ordered_next g s e order legal.0) (some_next g s e timer some) legal.1 more) has
+
+has_later : (D : Entry → Type 0) (es fs : List Entry) → HasOne D fs → HasOne D (es ++ fs)
+has_later D [] fs has = has
+has_later D (e ∷ es) fs has = inr (has_later D es fs has)
+
+-- a start that gave a timer armed it
+starts_arm : (g : Settings) (by w : ℕ) (start : Start) (timer : TimerRef) (s : State) (es : List Entry) → Starts g by w start (Ok timer) s es → HasOne (IsArm timer) es
+starts_arm g by w start timer s es starts =
+    subst (HasOne (IsArm timer)) (sym starts.entries) (inr (has_later (IsArm timer) starts.probes _ (inl (by, start, refl))))
+
+legal_piece : (a : Seen) (h : List Entry) (piece : List Entry) → Legal a.settings h → h ≡ a.history ++ piece → LegalFrom a.settings (state a.settings a.history) piece
+legal_piece a h piece legal grown =
+    legal_then a.settings (opening a.settings) a.history piece (subst (Legal a.settings) grown legal)
+
+-- a timer that was cancelled had a status after that
+pub cancelled_known : (a b : Seen) (timer : TimerRef) (left : ℕ) → Goes a (By a (λ g. Cancels g (Caller 0) timer (Some left))) b
+    → (state b.settings b.history).status timer ≢ None
+cancelled_known a b timer left goes =
+    let g : Settings = a.settings in
+    let test = is_unseated a.next in
+    let hit = (cancels_hit g (Caller 0) timer left (state g a.history) (filter test goes.grows.piece) goes.grows.made).1 in
+    let legal = legal_piece a b.history goes.grows.piece (subst (λ (x : Settings). Legal x b.history) goes.settings goes.legal) goes.grows.grown in
+    let some = hit_some g test timer (state g a.history) goes.grows.piece legal hit in
+    subst (λ (x : Settings). (state x b.history).status timer ≢ None) (sym goes.settings)
+    (subst (λ (s : State). s.status timer ≢ None) (sym (grown_run g a.history goes.grows.piece b.history goes.grows.grown)) some)
+  where
+    grown_run : (g : Settings) (f m h : List Entry) → h ≡ f ++ m → state g h ≡ run g (state g f) m
+    grown_run g f m h is = ap (state g) is ∙ state-append g f m
+
+-- a start gives no name that was given before
+new_name : (a c : Seen) (w : ℕ) (start : Start) (timer : TimerRef) → Legal a.settings a.history → Goes a (By a (λ g. Starts g 0 w start (Ok timer))) c
+    → (state a.settings a.history).status timer ≢ None → ⊥
+new_name a c w start timer legal goes some =
+    let g : Settings = a.settings in
+    let s : State = state g a.history in
+    let test = is_unseated a.next in
+    never_again g test timer s goes.grows.piece (ordered g a.history legal) some
+    (legal_piece a c.history goes.grows.piece (subst (λ (x : Settings). Legal x c.history) goes.settings goes.legal) goes.grows.grown)
+    (starts_arm g 0 w start timer s (filter test goes.grows.piece) goes.grows.made)
+
+-- a row that is held after a start was held before, or is of the timer that was started
+row_from : (g : Settings) (h : List Entry) (old new : Part) (answer : Result TimerRef StartErr) (timer : TimerRef) → WheelStands g h old → GainsOne old new answer
+    → IsHeld new timer → IsHeld old timer ⊎ (answer ≡ Ok timer)
+row_from g h old new answer timer stands gains held = at (key_in new.keys timer.slot) refl
+  where
+    at : (o : Option Key) → key_in new.keys timer.slot ≡ o → IsHeld old timer ⊎ (answer ≡ Ok timer)
+    at None is = absurd (held.row is)
+    at (Some key) is = ⊎_elim (λ (was : WasHeld old new timer.slot key). inl (record {
+      low = (let low : timer.slot < length old.keys = key_low old.keys timer.slot key was.0 in omega (arith, low, stands.holds.wide, stands.holds.many));
+      named = held.named ∙ was.1;
+      row = λ none. (let clash : None ≡ Some key = sym none ∙ was.0 in cc);
+    })) (λ one. inr (one ∙ ap (λ t. Ok t) (sym held.named))) (gains timer.slot key is)
+
+-- so the wheels forget on
+pub forgotten_start : (before : Seen) (b : Inside) (d : Desk) (c : Seen) (i : ℕ) (start : Start) (answer : Result TimerRef StartErr) (old new : Part)
+    → Has before b d → i < before.settings.schedulers → old ≡ slice_index_or b.wheels.items i old → GainsOne old new answer
+    → Goes before (By before (λ g. Starts g 0 i start answer)) c
+    → (timer : TimerRef) → (state before.settings before.history).status timer ≢ None → HasForgotten before timer
+    → (x : Part) → IsHeld (slice_index_or (slice_set b.wheels.items i new) timer.wheel x) timer → ⊥
+forgotten_start before b d c i start answer old new has low lent gains goes timer some gone x =
+    let g : Settings = settings_of d in
+    let below : i < g.schedulers = schedulers_at has i low in
+    let stands : WheelStands g (front_of b.pass) old = subst (WheelStands g (front_of b.pass)) (sym lent) (has.fit.stand.wheels.stand i old below refl) in
+    let legal : Legal before.settings before.history = subst (λ (w : Seen). Legal w.settings w.history) has.is has.fit.stand.legal in
+    let gone_there : IsHeld (slice_index_or b.wheels.items timer.wheel x) timer → ⊥ =
+    subst (λ (w : Seen). IsHeld (slice_index_or w.wheels timer.wheel x) timer → ⊥) (sym has.is) (gone x) in
+    at_place (λ (y : Part). IsHeld y timer → ⊥) b.wheels.items i timer.wheel new x (rw has.fit.stand.wheels.counted below)
+    (λ one held. ⊎_elim
+    (λ was. gone_there (subst (λ n. IsHeld (slice_index_or b.wheels.items n x) timer) (sym one)
+    (subst (λ (y : Part). IsHeld y timer) (part_at before b d i old has low lent x) was)))
+    (λ named. new_name before c i start timer legal (subst (λ r. Goes before (By before (λ g. Starts g 0 i start r)) c) named goes) some)
+    (row_from g (front_of b.pass) old new answer timer stands gains held))
+    (λ other. gone_there)

@@ -1,0 +1,16 @@
+use Rattle.std.proofs.Common.{[], ◌∷◌, ◌++◌, length, arith, ap, sym, ◌∙◌, append_assoc, length-append}
+use Rattle.ert_world.proofs.Mailed.{took_more}
+use Rattle.ert_world.proofs.world.World.take_some.Goals as goal
+
+pub loop-taken-preserved : goal.loop-taken-preserved
+loop-taken-preserved c =
+    let i = c.loop-taken.invariant in
+    let more = length-append i.took (c.in-Mail.mail ∷ []) in
+    record {
+      took = i.took ++ c.in-Mail.mail ∷ [];
+      put = c.push_reserved.ensures.items ∙ (ap (λ l. l ++ c.in-Mail.mail ∷ []) i.put ∙ append_assoc c.args.mails.now.items i.took (c.in-Mail.mail ∷ []));
+      count = omega (arith, more, i.count);
+      few = omega (arith, c.loop-taken-test.true);
+      room = omega (arith, i.room, c.push_reserved.ensures.len, c.push_reserved.ensures.capacity);
+      goes = took_more c.args.self.now c.loop-taken.self c.take.new.self c.args.process i.took c.in-Mail.mail c.take.result c.in-Mail.is i.goes c.take.ensures.call;
+    }
