@@ -1,7 +1,6 @@
-//! Tests of crates that stand on few others, by their public calls: readings that the clock refuses, the readings
-//! of the machine's clocks, the streams, unique integers, the units, the wheel and the packing of words; and the
-//! words of command lines, and written histories. What the clock makes of its readings, and the conversion of
-//! times, are shown by the examples of `ertime`.
+//! Tests of crates that stand on few others, by their public calls: the readings of the machine's clocks, streams of
+//! which a call fails, unique integers, the units, the packing of words, and what written histories spell. What the
+//! programs write of a text is told by the rows of `examples/messages`, and wheels are tested by the worlds that have them.
 #![tactic(auto)]
 
 #[cfg(test)]

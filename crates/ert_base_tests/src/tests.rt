@@ -1,10 +1,7 @@
-mod clock;
-mod commands;
 mod os_clocks;
 mod spelling;
 mod stamps;
 mod streams;
 mod uniques;
 mod units;
-mod wheel;
 mod words;

@@ -1,19 +1,14 @@
+//! Streams in memory of which a call fails. Those of the machine, and an input that is too long, are what the programs
+//! have (`.ci/check_messages`).
 ghost use Rattle.std.specs.Prelude.{length};
 ghost use Rattle.ert_io.specs.Known.{HasRoom};
 
-use ert_io::{
-    MemSink, MemSource, ReadErr, Sink, Source, StdSink, StdSource, WriteErr, read_all, write_all,
-};
+use ert_io::{MemSink, MemSource, ReadErr, Sink, Source, WriteErr, read_all, write_all};
 use std::alloc::{AllocError, Global};
 use std::fmt::Display;
-use std::fs;
 use std::process::Abort;
 
 const READ_FAULT: Result<&[u8], ReadErr> = Err(ReadErr::ReadFault);
-
-const TOO_LONG: Result<&[u8], ReadErr> = Err(ReadErr::TooLong);
-
-const WRITE_FAULT: Result<(), WriteErr> = Err(WriteErr::WriteFault { written: 0 });
 
 const WRITE_FAULT_AT_20: Result<(), WriteErr> = Err(WriteErr::WriteFault { written: 20 });
 
@@ -52,56 +47,6 @@ fn writes<K: Sink>(
 {
     let got = write_all(sink, bytes);
     assert!(rt; got == want, "step {step}: {got:?}, not {want:?}");
-}
-
-#[test]
-fn files_are_written_and_read(rt: HostRuntime) {
-    let path = "ert_io.bytes";
-    let bytes = pattern(rt.alloc(), 150_000).expect(&rt, "there is memory");
-    let all = bytes.as_slice();
-    let file = fs::create(&rt, path).expect(&rt, "a file is made");
-    writes(&rt, 1, &mut StdSink::new(file), all, Ok(()));
-    let file = fs::open(&rt, path).expect(&rt, "the file is there");
-    let mut source = StdSource::new(file);
-    reads(&rt, rt.alloc(), 2, &mut source, 150_000, Ok(all));
-    // One file is open for writing alone, the other for reading alone.
-    let file = fs::create(&rt, path).expect(&rt, "a file is made");
-    let mut source = StdSource::new(file);
-    reads(&rt, rt.alloc(), 3, &mut source, 150_000, READ_FAULT);
-    let file = fs::open(&rt, path).expect(&rt, "the file is there");
-    writes(&rt, 4, &mut StdSink::new(file), all, WRITE_FAULT);
-    fs::remove_file(&rt, path).expect(&rt, "the file is there");
-}
-
-/// A source of so many bytes is read within a limit.
-fn reads_within(rt: &impl Abort, alloc: Global, step: u32, count: usize, limit: usize, fits: bool) {
-    let bytes = pattern(alloc, count).expect(rt, "there is memory");
-    let want = pattern(alloc, count).expect(rt, "there is memory");
-    let mut source = MemSource::new(bytes, Vec::new(alloc));
-    let all = Ok(want.as_slice());
-    reads(
-        rt,
-        alloc,
-        step,
-        &mut source,
-        limit,
-        if fits { all } else { TOO_LONG },
-    );
-}
-
-#[test]
-fn limits(rt: HostRuntime) {
-    for (step, count, limit, fits) in [
-        (1, 0, 0, true),
-        (2, 1, 0, false),
-        (3, 5, 5, true),
-        (4, 6, 5, false),
-        (5, 65_536, 65_536, true),
-        (6, 65_537, 65_536, false),
-        (7, 150_000, usize::MAX, true),
-    ] {
-        reads_within(&rt, rt.alloc(), step, count, limit, fits);
-    }
 }
 
 /// Which call fails, of a source or a sink in memory.

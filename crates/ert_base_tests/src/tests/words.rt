@@ -69,37 +69,20 @@ fn timers_are_packed(rt: HostRuntime) {
     assert!(rt; timer_of(0).is_none());
 }
 
+/// A slot that was put in as the first one is picked as the first, and as the last one as the last.
 #[test]
-fn free_slots(rt: HostRuntime) -> Result<(), Fail> {
-    let mut free = FreeSlots::new(rt.alloc(), 2)?;
-    let slot = free.pick().ok_or("none held")?;
-    free.put(slot);
-    let picked = (free.pick(), free.pick(), free.pick());
-    assert!(rt;
-        picked == (Some(0), Some(1), None) || picked == (Some(1), Some(0), None),
-        "{picked:?}"
-    );
-    Ok(())
-}
-
-/// A slot that was put in as the first one is picked as the first.
-#[test]
-fn free_slots_begin_with_what_was_put_first(rt: HostRuntime) -> Result<(), Fail> {
+fn free_slots_have_two_ends(rt: HostRuntime) -> Result<(), Fail> {
     let mut free = FreeSlots::new(rt.alloc(), 3)?;
     let slot = free.pick().ok_or("none held")?;
     free.put_first(slot);
-    let first = free.pick_first();
-    assert!(rt; first == Some(slot), "{first:?}");
-    Ok(())
-}
-
-/// A slot that was put in as the last one is picked as the last.
-#[test]
-fn free_slots_end_with_what_was_put_last(rt: HostRuntime) -> Result<(), Fail> {
-    let mut free = FreeSlots::new(rt.alloc(), 3)?;
-    let slot = free.pick_first().ok_or("none held")?;
-    free.put(slot);
+    let first = free.pick_first().ok_or("none held")?;
+    free.put(first);
     let last = free.pick();
-    assert!(rt; last == Some(slot), "{last:?}");
+    let others = (free.pick(), free.pick(), free.pick());
+    assert!(rt; first == slot && last == Some(slot), "{first} {last:?}");
+    assert!(rt;
+        matches!(others, (Some(one), Some(other), None) if one != other && one != slot && other != slot),
+        "{others:?}"
+    );
     Ok(())
 }
