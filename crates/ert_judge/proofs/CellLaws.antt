@@ -1,7 +1,7 @@
 -- The laws of the parts that are lists of cells: each goes on by an event as the model's part does, and
 -- stays as long as it was.
 
-use Rattle.std.proofs.Common.{◌≡◌, ◌∙◌, refl, sym, ap, inl, inr, ℕ, ℤ, ◌<◌, Bool, true, false, cond, ◌&&◌, nat_eq, List, [], length, get_or, set, Option, Some, eq-eqb, ne_eqb}
+use Rattle.std.proofs.Common.{◌≡◌, ◌∙◌, refl, sym, ap, inl, inr, ℕ, ℤ, ◌<◌, cond, nat_eq, List, [], length, get_or, set, Option, Some, eq-eqb, ne_eqb}
 use Rattle.std.proofs.lemmas.Bool.{cases_eq}
 use Rattle.std.proofs.lemmas.List.{length-set, get_or-set_same, get_or-set_other}
 use Rattle.ert_defs.proofs.FiredTimers.{cond_same}

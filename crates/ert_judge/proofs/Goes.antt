@@ -1,6 +1,6 @@
 -- A judge that stands for a history goes on to stand for it with one more entry.
 
-use Rattle.std.proofs.Common.{◌≡◌, ◌<◌, ◌++◌, ◌∷◌, [], ℕ, refl, sym, ap, ◌∙◌, subst, Bool, cond, List, length, Option, Some}
+use Rattle.std.proofs.Common.{◌≡◌, ◌<◌, ◌++◌, ◌∷◌, [], ℕ, refl, sym, ap, ◌∙◌, subst, cond, List, length, Option, Some}
 use Rattle.std.specs.Prelude.{ℤ}
 use Rattle.ert_defs.specs.Actors.{is_with, IsMaker, IsUser}
 use Rattle.ert_defs.specs.Clocks.{Clock}
@@ -11,12 +11,12 @@ use Rattle.ert_defs.specs.declared.entry.Actor.{Actor}
 use Rattle.ert_defs.specs.declared.entry.Actor.TheVariants.{Wheel, Inbox, Sched, MailOf}
 use Rattle.ert_defs.specs.declared.entry.Entry.{Entry}
 use Rattle.ert_defs.specs.declared.entry.Event.{Event}
-use Rattle.ert_defs.specs.declared.entry.Event.TheVariants.{Look, Mark}
+use Rattle.ert_defs.specs.declared.entry.Event.TheVariants.{Look}
 use Rattle.ert_defs.specs.declared.settings.Settings.{Settings}
 use Rattle.ert_defs.specs.declared.timer.TimerRef.{TimerRef}
 use Rattle.ert_defs.proofs.Runs.{state-append, legal_more}
 use Rattle.ert_defs.proofs.Slots.{uses_after}
-use Rattle.ert_state.specs.Parts.{LastLooks, looks_in, look_of, rows_in, status_at, exited_at, mail_at, inbox_at, sched_at, scheds_in}
+use Rattle.ert_state.specs.Parts.{LastLooks, looks_in, look_of, rows_in, status_at, inbox_at, sched_at}
 use Rattle.ert_judge.specs.Shown.{shown, ClockIs, ClockFollows, Follows, StandsFor}
 use Rattle.ert_state.specs.Uses.{uses_in}
 use Rattle.ert_state.specs.Wheels.{timers_at, IsOwn}

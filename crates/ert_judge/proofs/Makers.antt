@@ -1,6 +1,6 @@
 -- Who makes an entry in range, and with whom.
 
-use Rattle.std.proofs.Common.{◌≡◌, ◌<◌, ℕ, refl, sym, subst, Bool, false, Option, Some, None}
+use Rattle.std.proofs.Common.{◌≡◌, ◌<◌, ℕ, refl, sym, subst, false, Option, Some, None}
 use Rattle.std.specs.Prelude.{ℤ}
 use Rattle.ert_defs.specs.Actors.{same_actor, is_with, IsCaller, IsMaker, IsUser}
 use Rattle.ert_defs.specs.Legal.{Keeps, IsWithCaller, IsWithMail, IsProber, IsReader}
