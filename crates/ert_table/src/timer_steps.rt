@@ -1,5 +1,6 @@
 //! Steps on the words of slots.
 ghost use Rattle.std.specs.Prelude.{◌≡◌, ◌≢◌, Some};
+ghost use Rattle.ert_defs.specs.Legal.{IsSlot};
 ghost use Rattle.ert_defs.specs.Words.{word_of_slot};
 ghost use Rattle.ert_defs.specs.declared.timer.Status.TheVariants.{Armed};
 ghost use Rattle.ert_table.specs.Desks.{settings_of, state_of, Belongs, MayMake, Makes, MayLoadTimer, read_made, settled_made, SettlesOrMisses, IsDeadlineOf};
@@ -36,6 +37,18 @@ impl Settle {
             Settle::Deliver => Status::Delivered,
             Settle::Drop => Status::Dropped,
         }
+    }
+}
+
+impl Desk {
+    /// Begins to bring the word of a slot into the caches. It is no step, and tells nothing: a caller that will write the
+    /// word waits for it beside what else it reads, and not after all that it has written.
+    #[inline]
+    pub fn touch(&self, wheel: u32, slot: u32)
+        requires { IsSlot (settings_of self.now) wheel slot }
+    {
+        let place = slot_place(&self.settings, wheel as usize, slot as usize);
+        self.table.shared.peek(place);
     }
 }
 

@@ -4,6 +4,11 @@ use Rattle.ert_timers.proofs.Armings.{arms, may_arm}
 use Rattle.ert_timers.proofs.NextUses.{deadline_is}
 use Rattle.ert_timers.proofs.part.WheelPart.arm.Goals as goal
 
+pub touch-requires : goal.touch-requires
+touch-requires c =
+    let holds = c.requires.stands.holds in
+    record { wheel_high = omega (arith, c.number.ensures, holds.number); slot_high = omega (arith, c.requires.free.low, holds.many) }
+
 pub keep-timer-requires-clause-dest : goal.keep-timer-requires-clause-dest
 keep-timer-requires-clause-dest c =
     subst (λ n. c.args.start.now.dest < n) (sym c.requires.stands.holds.processes) c.requires.dest
