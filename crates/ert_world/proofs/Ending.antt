@@ -1,6 +1,6 @@
 -- A timer that a wheel of a world holds is cancelled, or was settled before, and then its row goes.
 
-use Rattle.std.proofs.Common.{◌≡◌, ◌≢◌, ◌⊎◌, ⊎_elim, ℕ, zero, suc, ◌+◌, ◌<◌, ◌≤◌, Bool, true, false, ◌&&◌, ◌||◌, List, [], ◌∷◌, ◌++◌, filter, length, count_by, slice_index_or, Option, Some, None, inl, inr, refl, sym, ap, subst, ◌∙◌, arith}
+use Rattle.std.proofs.Common.{◌≡◌, ◌≢◌, ◌⊎◌, ⊎_elim, ℕ, zero, suc, ◌+◌, ◌<◌, ◌≤◌, Bool, true, false, ◌&&◌, ◌||◌, List, [], ◌∷◌, ◌++◌, filter, count_by, slice_index_or, Option, Some, None, inl, inr, refl, sym, ap, subst, ◌∙◌, arith}
 use Rattle.std.specs.Option.{is_some}
 use Rattle.std.specs.Prelude.{slice_set, nat_lt, nat_le}
 use Rattle.std.proofs.lemmas.Bool.{le-leb, lt-ltb}
@@ -21,13 +21,11 @@ use Rattle.ert_defs.specs.declared.entry.Entry.{Entry}
 use Rattle.ert_defs.specs.declared.settings.Settings.{Settings}
 use Rattle.ert_defs.specs.declared.settings.TheConstants.{MOST_SLOTS}
 use Rattle.ert_defs.specs.declared.timer.Status.{Status}
-use Rattle.ert_defs.specs.declared.timer.Status.TheVariants.{Armed, Cancelled}
+use Rattle.ert_defs.specs.declared.timer.Status.TheVariants.{Armed}
 use Rattle.ert_defs.specs.declared.timer.TimerRef.{TimerRef}
 use Rattle.ert_effects.specs.TimerCalls.{Cancels, cancel_entries}
 use Rattle.ert_effects.specs.WheelCalls.{IsFor, IsSwept}
-use Rattle.ert_effects.specs.Ways.{Growth, Way}
-use Rattle.ert_table.specs.Calls.{IsMade}
-use Rattle.ert_table.specs.Desks.{settings_of, view_of, front_of, Belongs}
+use Rattle.ert_table.specs.Desks.{settings_of, view_of, front_of}
 use Rattle.ert_table.specs.declared.desk.Desk.{Desk}
 use Rattle.ert_table.specs.declared.desk.Pass.{Pass}
 use Rattle.ert_table.specs.declared.view.View.{View}
@@ -38,7 +36,7 @@ use Rattle.ert_timers.proofs.Tried.{held_found}
 use Rattle.ert_timers.specs.Changes.{given_back}
 use Rattle.ert_timers.specs.Freeing.{IsHeld}
 use Rattle.ert_timers.specs.HeldFor.{IsHeldFor}
-use Rattle.ert_timers.specs.Parts.{Part, Stands as WheelStands, IsLive, last_timer, slot_at, held_row}
+use Rattle.ert_timers.specs.Parts.{Part, Stands as WheelStands, IsLive, last_timer, held_row}
 use Rattle.ert_timers.specs.Passed.{LosesRows}
 use Rattle.ert_wheel.proofs.Collect.{key_low}
 use Rattle.ert_wheel.proofs.Views.{counts_less}

@@ -1,6 +1,6 @@
 -- Timers of a process are cancelled one after the other, wheel by wheel.
 
-use Rattle.std.proofs.Common.{◌≡◌, ◌≢◌, ℕ, zero, suc, ◌+◌, ◌<◌, ◌≤◌, Bool, true, false, cond, sum, List, [], ◌∷◌, ◌++◌, length, count_by, slice_index_or, Option, Some, None, refl, sym, ap, subst, ◌∙◌, arith}
+use Rattle.std.proofs.Common.{◌≡◌, ◌≢◌, ℕ, suc, ◌+◌, ◌<◌, ◌≤◌, Bool, true, false, cond, sum, List, [], ◌∷◌, ◌++◌, length, count_by, slice_index_or, Option, Some, None, refl, sym, ap, subst, ◌∙◌, arith}
 use mir.Val.{bool_byte}
 use Rattle.std.specs.FinSet as set
 use Rattle.std.specs.Option.{is_some}
@@ -13,7 +13,7 @@ use Rattle.ert_defs.specs.declared.settings.Settings.{Settings}
 use Rattle.ert_defs.specs.declared.timer.TimerRef.{TimerRef}
 use Rattle.ert_effects.specs.TimerCalls.{Cancels}
 use Rattle.ert_effects.specs.WheelCalls.{IsSwept}
-use Rattle.ert_effects.specs.Ways.{Growth, Way, Many}
+use Rattle.ert_effects.specs.Ways.{Way, Many}
 use Rattle.ert_timers.specs.Freeing.{IsHeld}
 use Rattle.ert_timers.proofs.Passing.{same_last}
 use Rattle.ert_timers.specs.Parts.{Part}
@@ -25,7 +25,7 @@ use Rattle.ert_world.proofs.Alone.{went}
 use Rattle.ert_world.proofs.Composed.{goes_more, goes_nothing}
 use Rattle.ert_world.specs.Cancelling.{Ended, cancelled, IsOther, AreOnce, CancelsOne, CancelsOn, CancelsAll, numbered, IsHeldAt, HoldsFewer}
 use Rattle.ert_world.specs.Stepping.{Stays}
-use Rattle.ert_world.specs.Worlds.{Seen, Goes, By, HasForgotten, LoseRows, way_of}
+use Rattle.ert_world.specs.Worlds.{Seen, Goes, By, HasForgotten, LoseRows}
 
 -- a part that isn't there
 abbrev pub no_part : Part

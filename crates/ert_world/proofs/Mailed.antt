@@ -1,6 +1,6 @@
 -- A process with mail, and takes of several messages.
 
-use Rattle.std.proofs.Common.{◌≡◌, ◌≢◌, ℕ, ◌+◌, ◌<◌, ◌≤◌, List, [], ◌∷◌, ◌++◌, length, Option, Some, None, slice_index_or, refl, sym, ap, subst, ◌∙◌, arith}
+use Rattle.std.proofs.Common.{◌≡◌, ℕ, ◌<◌, List, [], ◌∷◌, ◌++◌, length, Option, Some, None, slice_index_or, refl, sym, ap, subst, ◌∙◌}
 use Rattle.ert_defs.specs.Legal.{Legal}
 use Rattle.ert_defs.specs.Mails.{MailState}
 use Rattle.ert_defs.specs.States.{state}

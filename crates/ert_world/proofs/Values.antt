@@ -23,7 +23,7 @@ use Rattle.ert_defs.specs.declared.timer.Start.{Start}
 use Rattle.ert_world.proofs.Calm.{time_quiet, offset_quiet, system_quiet}
 use Rattle.ert_table.proofs.Holders.{free_one}
 use Rattle.ert_table.specs.Calls.{AreOnlyOf, IsMade}
-use Rattle.ert_table.specs.Desks.{settings_of, view_of, front_of, actors_of}
+use Rattle.ert_table.specs.Desks.{settings_of, view_of, front_of}
 use Rattle.ert_table.specs.declared.desk.Desk.{Desk}
 use Rattle.ert_table.specs.declared.desk.Pass.{Pass}
 use Rattle.ert_table.specs.declared.view.View.{View}

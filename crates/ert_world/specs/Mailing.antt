@@ -2,7 +2,6 @@
 
 use Rattle.std.specs.Prelude.{◌≡◌, ◌≢◌, ℕ, ◌<◌, List, [], ◌++◌, length, Option, Some, None}
 use Rattle.ert_defs.specs.States.{state}
-use Rattle.ert_defs.specs.declared.entry.Entry.{Entry}
 use Rattle.ert_defs.specs.declared.mail.Mail.{Mail}
 use Rattle.ert_defs.specs.declared.settings.Settings.{Settings}
 use Rattle.ert_effects.specs.MailCalls.{Takes}

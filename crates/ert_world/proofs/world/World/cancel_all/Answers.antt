@@ -1,6 +1,5 @@
-use Rattle.std.proofs.Common.{◌≡◌, ◌<◌, ◌+◌, ◌*◌, ◌≤◌, sym, subst, ◌∙◌, arith}
-use Rattle.ert_defs.specs.declared.settings.Settings.{Settings}
-use Rattle.ert_world.proofs.EndingAll.{wheels_all, wheels_more, wheels_none}
+use Rattle.std.proofs.Common.{arith}
+use Rattle.ert_world.proofs.EndingAll.{wheels_more, wheels_none}
 use Rattle.ert_world.specs.Stepping.{same, stay}
 use Rattle.ert_world.proofs.world.World.cancel_all.Goals as goal
 

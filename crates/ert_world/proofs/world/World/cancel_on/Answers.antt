@@ -1,8 +1,5 @@
-use Rattle.std.proofs.Common.{◌≡◌, ◌<◌, ◌+◌, ◌≤◌, None, Some, cond, sym, ap, subst, ◌∙◌, arith}
-use Rattle.std.specs.Option.{is_some}
+use Rattle.std.proofs.Common.{◌<◌, None, Some, cond, sym, ap, subst, ◌∙◌, arith}
 use Rattle.ert_defs.specs.declared.settings.Settings.{Settings}
-use Rattle.ert_timers.specs.Freeing.{IsHeld}
-use Rattle.ert_timers.specs.Parts.{Part}
 use Rattle.ert_world.proofs.EndingAll.{EndsSome, byte_is, byte_low, ends_all, ends_more, ends_none, fewer_at, held_same, no_part, rows_at}
 use Rattle.ert_world.specs.Cancelling.{IsHeldAt}
 use Rattle.ert_world.specs.Stepping.{Stays, same, stay}

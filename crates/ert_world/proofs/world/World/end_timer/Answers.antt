@@ -1,7 +1,4 @@
-use Rattle.std.proofs.Common.{◌<◌, sym, subst}
 use Rattle.ert_table.specs.Desks.{settings_of}
-use Rattle.ert_table.specs.declared.desk.Desk.{Desk}
-use Rattle.ert_timers.specs.Freeing.{IsLast}
 use Rattle.ert_world.proofs.Calls.{Has, has_at, parts_in, schedulers_at}
 use Rattle.ert_world.proofs.CancelCalls.{cancel_called, does_cancel_at, gone_set, settled_then, stands_then}
 use Rattle.ert_world.proofs.Ending.{ended, ended_over, held_old, rows_fewer}

@@ -1,4 +1,4 @@
-use Rattle.std.proofs.Common.{[], ◌∷◌, ◌++◌, length, arith, ap, sym, ◌∙◌, append_assoc, length-append}
+use Rattle.std.proofs.Common.{[], ◌∷◌, ◌++◌, arith, ap, ◌∙◌, append_assoc, length-append}
 use Rattle.ert_world.proofs.Mailed.{took_more}
 use Rattle.ert_world.proofs.world.World.take_some.Goals as goal
 
