@@ -184,7 +184,7 @@ typedef struct {
     uint32_t schedulers; /* 1 to 64; each has a timer wheel; 1 is enough for up to 65,536 timers */
     uint32_t processes;  /* 1 to 1,024; each has a mailbox; 1 is enough for most programs */
     uint32_t slots;      /* timer slots of each wheel, 1 to 65,536; at most 262,144 in all */
-    uint32_t callers;    /* 1 to 17: caller 0 makes the calls through ert_world, and each other one can get a seat */
+    uint32_t callers;    /* 1 to 1,025: caller 0 makes the calls through ert_world, and each other one can get a seat */
     int64_t start;       /* monotonic time at the opening: a multiple of 1,000,000 from -2^58 to 2^58 */
     ert_reading first;   /* the reading that the clock opens with */
 } ert_settings;
@@ -771,7 +771,7 @@ int32_t ert_seat_is_alive(ert_seat *seat, uint32_t process, uint32_t *alive);
  *
  *     settings.schedulers = threads;              one for each thread
  *     settings.processes = threads;               one or more for each
- *     settings.callers = threads + 1;             one for each shard, and caller 0 for the hub
+ *     settings.callers = threads + 1;             one for each shard, and caller 0 for the hub; more for seats (ert_hub_seat)
  *     ert_hub_open(&hub, &settings);
  *     for (i = 0; i < threads; i++) {
  *         ert_hub_shard(&hub, &shards[i], 1);     and then hand the shard to its thread
@@ -839,6 +839,20 @@ int32_t ert_hub_open(ert_hub *hub, const ert_settings *settings);
 int32_t ert_hub_close(ert_hub *hub);
 
 /*
+ * Gives the next caller after those of the schedulers a seat, behind a closed handle: `settings.callers` less
+ * `settings.schedulers + 1` seats in all. A thread that has one tells the time, and cancels and reads the timers of all
+ * shards, by the calls of a seat (ert_seat_..), beside the hub, all shards and all other seats.
+ *
+ * The call uses both handles: make it as every call of the hub is made, and hand the seat to its thread afterwards. A
+ * caller is given out once: closing a seat does not give it back.
+ *
+ * ERT_OPEN: the seat's handle is open. ERT_CLOSED: the hub's is closed. ERT_NO_SEAT: each of these callers has a seat.
+ * ERT_NO_MEMORY: out of memory; a later call can give the caller a seat. After each of these nothing has changed behind
+ * either handle. Constant work; one small allocation.
+ */
+int32_t ert_hub_seat(ert_hub *hub, ert_seat *seat);
+
+/*
  * Gives a scheduler to a shard behind a closed handle, with so many processes: the last scheduler and the last processes
  * that the hub has left.
  *
@@ -847,9 +861,9 @@ int32_t ert_hub_close(ert_hub *hub);
  * has. It may be none, and then the shard starts no timers. A shard keeps what it was given until it is closed.
  *
  * ERT_OPEN: the shard's handle is open. ERT_CLOSED: the hub's is closed. ERT_NO_SHARD: no scheduler is left. ERT_RANGE: the
- * hub has not so many processes left. After each of these nothing has changed behind either handle. ERT_NO_MEMORY: no shard
- * was given; the hub may have one scheduler and these processes less, which nobody has then: close it, and open another.
- * Work for these processes; a few small allocations.
+ * hub has not so many processes left. ERT_NO_MEMORY: out of memory; a later call can give the shard. After each of these
+ * nothing is lost, and nothing has changed behind either handle. Work for these processes and for the schedulers that are
+ * left; a few small allocations.
  */
 int32_t ert_hub_shard(ert_hub *hub, ert_shard *shard, uint32_t processes);
 

@@ -41,7 +41,9 @@ fn main() -> Result<(), Error> {
     settings.schedulers = THREADS;
     settings.processes = THREADS;
     settings.slots = TIMERS;
+    settings.seats = 1;
     let mut hub = Hub::open(&settings)?;
+    let mut seat = hub.seat()?;
     let gate = Barrier::new(THREADS as usize + 1);
     let (mut names, mut passed): (Vec<_>, Vec<_>) = (0..THREADS).map(|_| channel()).unzip();
     names.rotate_left(1);
@@ -62,6 +64,7 @@ fn main() -> Result<(), Error> {
         }
         Ok(())
     })?;
+    assert_eq!(seat.monotonic_time(), 20_000_000);
     println!("cancelled: {cancelled}, taken: {taken}, of {}", THREADS * TIMERS);
     Ok(())
 }

@@ -248,6 +248,7 @@ unsafe extern "C" {
 
     pub fn ert_hub_open(hub: *mut ert_hub, settings: *const ert_settings) -> i32;
     pub fn ert_hub_close(hub: *mut ert_hub) -> i32;
+    pub fn ert_hub_seat(hub: *mut ert_hub, seat: *mut ert_seat) -> i32;
     pub fn ert_hub_shard(hub: *mut ert_hub, shard: *mut ert_shard, processes: u32) -> i32;
     pub fn ert_hub_tick(
         hub: *mut ert_hub,

@@ -152,7 +152,7 @@ pub struct Settings {
     pub processes: u32,
     /// Timer slots of each scheduler, 1 to 65,536.
     pub slots: u32,
-    /// How many seats the service can give out, 16 at most.
+    /// How many seats the service can give out, 1,024 at most.
     pub seats: u32,
     pub first: Reading,
 }

@@ -4,8 +4,8 @@ use std::ops::Range;
 use std::ptr;
 
 use crate::{
-    Advanced, Delivered, Error, Mail, Moved, OffsetState, Reading, Settings, Start, Timer, Turned,
-    done, done_or, ffi, mail, state,
+    Advanced, Delivered, Error, Mail, Moved, OffsetState, Reading, Seat, Settings, Start, Timer,
+    Turned, done, done_or, ffi, mail, state,
 };
 
 /// The clock of a service that is divided among threads, and what was given to no shard. It is closed when it is dropped.
@@ -25,7 +25,8 @@ unsafe impl Send for Hub {}
 impl Hub {
     /// Opens a service that is to be divided. Each of its schedulers can go to a shard.
     ///
-    /// `BadCount` also if `settings.schedulers` is 17 or more, since each shard has a caller of its own.
+    /// `BadCount` also if `settings.schedulers` and `settings.seats` are above 1,024 together, since each shard and each
+    /// seat has a caller of its own.
     pub fn open(settings: &Settings) -> Result<Hub, Error> {
         // One caller for each shard, and one for the hub.
         let callers = settings.schedulers.saturating_add(1);
@@ -50,6 +51,19 @@ impl Hub {
         };
         done(unsafe { ffi::ert_hub_shard(&mut *self.handle, &mut *shard.handle, processes) })?;
         Ok(shard)
+    }
+
+    /// Gives the next of `settings.seats` seats: a thread that has it tells the time, and cancels and reads the timers of
+    /// all shards.
+    pub fn seat(&mut self) -> Result<Seat, Error> {
+        let mut seat = Seat {
+            handle: Box::new(ffi::ert_seat {
+                at_: ptr::null_mut(),
+                live_: false,
+            }),
+        };
+        done(unsafe { ffi::ert_hub_seat(&mut *self.handle, &mut *seat.handle) })?;
+        Ok(seat)
     }
 
     /// Takes a reading of the clocks of the operating system: monotonic time moves on by it, for all shards.
@@ -253,3 +267,18 @@ impl Drop for Shard {
         let _status = unsafe { ffi::ert_shard_close(&mut *self.handle) };
     }
 }
+
+// A hub and a shard go from thread to thread, and one thread at a time has each. This does not compile if one of them is
+// not `Send`, or if one is `Sync`: then both implementations are its, and `IS` is ambiguous.
+const _: () = {
+    const fn crosses<T: Send>() {}
+    trait Unshared<Why> {
+        const IS: () = ();
+    }
+    impl<T> Unshared<()> for T {}
+    impl<T: Sync> Unshared<u8> for T {}
+    crosses::<Hub>();
+    crosses::<Shard>();
+    let () = <Hub as Unshared<_>>::IS;
+    let () = <Shard as Unshared<_>>::IS;
+};

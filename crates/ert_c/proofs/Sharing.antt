@@ -1,16 +1,17 @@
 -- How a call through the handle of a hub or of a shard is shown.
 
-use Rattle.std.proofs.Common.{◌≡◌, ℕ, ◌<◌, ◌≤◌, ◌⊎◌, ℤ, Option, Some, None, Ok, inr, refl, subst, sym, false, arith}
+use Rattle.std.proofs.Common.{◌≡◌, ℕ, ◌<◌, ◌≤◌, ◌⊎◌, ◌+◌, ◌-◌, ℤ, Option, Some, None, Ok, inr, refl, ap, ◌∙◌, subst, sym, false, arith}
 use Rattle.ert_c.specs.HubCalls.{OpensHub}
 use Rattle.ert_c.specs.Opened.{IsRead}
 use Rattle.ert_c.specs.Places.{is_there}
-use Rattle.ert_c.specs.ShardCalls.{HasShard, HasLost, IsRefused, CutsShard, OpensShard, IfHome}
+use Rattle.ert_c.specs.ShardCalls.{HasShard, HasBack, IsRefused, CutsShard, OpensShard, IfHome}
 use Rattle.ert_c.specs.Through.{Through}
 use Rattle.ert_c.specs.declared.opening.ErtSettings.{ErtSettings}
 use Rattle.ert_c.specs.declared.status.TheConstants.{NO_MEMORY, NO_SHARD}
 use Rattle.ert_defs.specs.declared.settings.Settings.{Settings}
-use Rattle.ert_shard.specs.Hubs.{Rest}
+use Rattle.ert_shard.specs.Hubs.{Rest, GivesShard, TakesBack, IsNext}
 use Rattle.ert_shard.specs.Shards.{Share, Owned}
+use Rattle.ert_world.proofs.Given.{longer_same}
 
 -- a call is made by what was lent
 pub made_through : {W : Type 0} (kept : Type 0) (call : W → W → Type 0) (old new : Option W) (status : ℤ) (was now : W) → old ≡ Some was
@@ -63,9 +64,46 @@ none_there (Some s) h = cc
 -- a hub cuts a shard, where it has as much left
 pub cuts_some : (processes : ℕ) (old : Rest) (status : ℤ) (hub : Option Rest) (shard : Option Owned) → 0 < old.left → processes ≤ old.first
     → HasShard processes old status hub shard ⊎ IsRefused NO_SHARD old status hub shard ⊎ IsRefused NO_MEMORY old status hub shard
-    ⊎ HasLost processes old status hub shard
+    ⊎ HasBack old status hub shard
     → CutsShard processes old status hub shard
 cuts_some processes old status hub shard some few made = record {
   below = λ _. record { below = λ h. absurd (omega (arith, few, h)); above = λ _. made };
   above = λ h. absurd (omega (arith, some, h));
 }
+
+-- two rests of a world are the same, where each of their fields is
+rest_same : (a b : Rest) → a.table ≡ b.table → a.settings ≡ b.settings → a.history ≡ b.history → a.clock ≡ b.clock → a.left ≡ b.left → a.first ≡ b.first
+    → a.next ≡ b.next → a.homes ≡ b.homes → a ≡ b
+rest_same a b table settings history clock left first seat homes = λ i. record {
+  table = table i;
+  settings = settings i;
+  history = history i;
+  clock = clock i;
+  left = left i;
+  first = first i;
+  next = seat i;
+  homes = homes i;
+}
+
+-- a shard that comes back at once leaves the hub as it was, but for what it remembers of the wheel
+pub taken_back : (processes : ℕ) (old mid again : Rest) (shard : Owned) → 0 < old.left → GivesShard old processes mid shard → TakesBack mid shard again
+    → again ≡ record old { homes = again.homes }
+taken_back processes old mid again shard some gives takes =
+    let left_is : mid.left ≡ old.left - 1 = ap (λ (r : Rest). r.left) gives.rest in
+    let left_back : again.left ≡ mid.left + 1 = takes.left in
+    rest_same again (record old { homes = again.homes })
+    (takes.table ∙ ap (λ (r : Rest). r.table) gives.rest)
+    (takes.settings ∙ ap (λ (r : Rest). r.settings) gives.rest)
+    (takes.history ∙ longer_same mid.history shard.history old.history (ap (λ (r : Rest). r.history) gives.rest) gives.history)
+    (takes.clock ∙ ap (λ (r : Rest). r.clock) gives.rest)
+    (omega (arith, left_is, left_back, some))
+    (takes.first ∙ ap (λ (s : Share). s.to) gives.share)
+    (takes.next ∙ ap (λ (r : Rest). r.next) gives.rest)
+    refl
+
+-- such a shard is the next
+pub given_next : (processes : ℕ) (old mid : Rest) (shard : Owned) → GivesShard old processes mid shard → IsNext mid shard
+given_next processes old mid shard gives = (
+  ap (λ (s : Share). s.number) gives.share ∙ sym (ap (λ (r : Rest). r.left) gives.rest),
+  ap (λ (s : Share). s.from) gives.share ∙ sym (ap (λ (r : Rest). r.first) gives.rest),
+)

@@ -1,6 +1,6 @@
 -- What C is told of a hub.
 
-use Rattle.std.specs.Prelude.{◌≡◌, ◌⊎◌, ℕ, ℤ, Bool, Option, Some, None, Result, Ok, Err}
+use Rattle.std.specs.Prelude.{◌≡◌, ◌⊎◌, ℕ, ◌<◌, ◌≤◌, ℤ, Bool, Option, Some, None, Result, Ok, Err}
 use Rattle.ert_clock.specs.Ticks.{act_of, Gives, FinalizesFrom}
 use Rattle.ert_clock.specs.declared.clock.ClockErr.{ClockErr}
 use Rattle.ert_clock.specs.declared.clock.Moved.{Moved}
@@ -11,14 +11,15 @@ use Rattle.ert_c.specs.Opened.{IsRead}
 use Rattle.ert_c.specs.Through.{IfBelow}
 use Rattle.ert_c.specs.declared.clock_calls.ErtOffset.{ErtOffset}
 use Rattle.ert_c.specs.declared.opening.ErtSettings.{ErtSettings}
-use Rattle.ert_c.specs.declared.status.TheConstants.{OK, OPEN, NO_MEMORY, BAD_COUNT}
+use Rattle.ert_c.specs.declared.status.TheConstants.{OK, CLOSED, OPEN, NO_MEMORY, BAD_COUNT, NO_SEAT}
 use Rattle.ert_defs.specs.declared.entry.Actor.TheVariants.{Caller}
 use Rattle.ert_defs.specs.declared.settings.OffsetState.{OffsetState}
 use Rattle.ert_defs.specs.declared.settings.Reading.{Reading}
 use Rattle.ert_defs.specs.declared.settings.Settings.{Settings}
 use Rattle.ert_defs.specs.declared.timer.TimerRef.{TimerRef}
-use Rattle.ert_shard.specs.Hubs.{Rest, IsFresh, HubGoes, HubSteps, By}
+use Rattle.ert_shard.specs.Hubs.{Rest, IsFresh, GivesSeat, HubGoes, HubSteps, By}
 use Rattle.ert_world.specs.Openings.{IsOpened}
+use Rattle.ert_world.specs.Seats.{Seated}
 use Rattle.ert_world.specs.Worlds.{Seen}
 
 -- a hub stands behind the handle: that of a service that was opened with these settings, of which nothing was given away
@@ -47,6 +48,25 @@ pub record OpensNewHub (c : ErtSettings) (status : ℤ) (new : Option Rest) : Ty
 abbrev pub OpensHub : ErtSettings → Option Rest → ℤ → Option Rest → Type 0
 OpensHub c None status new = OpensNewHub c status new
 OpensHub c (Some r) status new = (status ≡ OPEN) × (new ≡ Some r)
+
+-- a hub gave its next caller a seat, and this one stands behind the seat's handle
+pub record HasHubSeat (old : Rest) (status : ℤ) (hub : Option Rest) (seat : Option Seated) : Type 0 where
+  pub left : Rest
+  pub given : Seated
+  pub hub_is : hub ≡ Some left
+  pub seat_is : seat ≡ Some given
+  pub gives : GivesSeat old left given
+  pub told : status ≡ OK
+
+-- why a hub gives no seat: every caller after those of the schedulers has one, or there is no memory
+abbrev pub IsSeatless : Rest → ℤ → Type 0
+IsSeatless old status = ((status ≡ NO_SEAT) × (old.settings.callers ≤ old.next)) ⊎ ((status ≡ NO_MEMORY) × (old.next < old.settings.callers))
+
+-- a seat of a hub is opened, or nothing has changed: neither what stands behind the one handle nor behind the other
+abbrev pub OpensHubSeat : Option Rest → Option Seated → ℤ → Option Rest → Option Seated → Type 0
+OpensHubSeat hub (Some s) status left given = (status ≡ OPEN) × (left ≡ hub) × (given ≡ Some s)
+OpensHubSeat None None status left given = (status ≡ CLOSED) × (left ≡ None) × (given ≡ None)
+OpensHubSeat (Some old) None status left given = HasHubSeat old status left given ⊎ (IsSeatless old status × (left ≡ Some old) × (given ≡ None))
 
 -- a hub makes a tick
 pub record HubTicksBy (r : Reading) (force : Bool) (answer : Result Moved ClockErr) (old new : Rest) : Type 0 where

@@ -40,13 +40,13 @@ pub record HasShard (processes : ℕ) (old : Rest) (status : ℤ) (hub : Option 
   pub gives : GivesShard old processes left given
   pub told : status ≡ OK
 
--- a hub gave a shard for which there was no memory, so that nobody has it
-pub record HasLost (processes : ℕ) (old : Rest) (status : ℤ) (hub : Option Rest) (shard : Option Owned) : Type 0 where
-  pub left : Rest
-  pub lost : Owned
-  pub hub_is : hub ≡ Some left
+-- there was no memory for a shard that a hub gave, and the hub took it back: it is as it was, but that it remembers which
+-- processes the wheel was for
+pub record HasBack (old : Rest) (status : ℤ) (hub : Option Rest) (shard : Option Owned) : Type 0 where
+  pub again : Rest
+  pub hub_is : hub ≡ Some again
+  pub same : again ≡ record old { homes = again.homes }
   pub shard_is : shard ≡ None
-  pub gives : GivesShard old processes left lost
   pub told : status ≡ NO_MEMORY
 
 -- no shard is given, and the hub is as it was
@@ -58,7 +58,7 @@ abbrev pub CutsShard : ℕ → Rest → ℤ → Option Rest → Option Owned →
 CutsShard processes old status hub shard = IfBelow 0 old.left
     (IfBelow old.first processes (IsRefused RANGE old status hub shard)
     (HasShard processes old status hub shard ⊎ IsRefused NO_SHARD old status hub shard
-    ⊎ IsRefused NO_MEMORY old status hub shard ⊎ HasLost processes old status hub shard))
+    ⊎ IsRefused NO_MEMORY old status hub shard ⊎ HasBack old status hub shard))
     (IsRefused NO_SHARD old status hub shard)
 
 -- a shard is opened, or nothing has changed: neither what stands behind the one handle nor behind the other

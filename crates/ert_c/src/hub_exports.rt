@@ -1,20 +1,20 @@
 //! The exported calls of a hub.
 ghost use Rattle.std.specs.Prelude.{◌≡◌};
 ghost use Rattle.ert_c.specs.ClockCalls.{is_on, IsMoved, IsFinalized};
-ghost use Rattle.ert_c.specs.HubCalls.{OpensHub, HubTicksBy, HubFinalizesBy, HubReadsTime, HubReadsSystemTime, HubReadsOffset, HubCancelsBy, HubReadsBy};
+ghost use Rattle.ert_c.specs.HubCalls.{OpensHub, OpensHubSeat, HubTicksBy, HubFinalizesBy, HubReadsTime, HubReadsSystemTime, HubReadsOffset, HubCancelsBy, HubReadsBy};
 ghost use Rattle.ert_c.specs.Opened.{reading_as, Closes};
 ghost use Rattle.ert_c.specs.ShardCalls.{OpensShard};
 ghost use Rattle.ert_c.specs.Through.{Through, Answers, AnswersThrough};
 ghost use Rattle.ert_c.specs.Told.{timer_of, IsLeft};
 
 use crate::clock_calls::{ErtMoved, ErtOffset, state_as, tell_finalized, tell_moved};
-use crate::handle::opened;
+use crate::handle::{ErtSeat, opened};
 use crate::opening::{ErtReading, ErtSettings};
 use crate::shard_handle::{ErtHub, ErtShard};
-use crate::status::{BAD_COUNT, CLOSED, NO_MEMORY, NO_SHARD, OK, OPEN, RANGE};
+use crate::status::{BAD_COUNT, CLOSED, NO_MEMORY, NO_SEAT, NO_SHARD, OK, OPEN, RANGE};
 use crate::timer_calls::{ErtTimer, tell_left};
 use ert_shard::{Hub, ShardErr};
-use ert_world::World;
+use ert_world::{SeatErr, World};
 use std::alloc::Global;
 
 /// Opens a service that is divided among threads, and its hub.
@@ -77,16 +77,38 @@ pub extern "C" fn ert_hub_shard(
         return RANGE;
     }
     match rest.shard(processes) {
-        Ok(given) => {
-            let Ok(boxed) = Box::new(alloc, given) else {
-                return NO_MEMORY;
-            };
-            shard.place.as_place().fill(boxed);
-            shard.live = true;
-            OK
-        }
+        Ok(given) => match Box::new(alloc, given) {
+            Ok(boxed) => {
+                shard.place.as_place().fill(boxed);
+                shard.live = true;
+                OK
+            }
+            Err(failed) => {
+                rest.join(failed.value);
+                NO_MEMORY
+            }
+        },
         Err(ShardErr::Used) => NO_SHARD,
         Err(ShardErr::NoMemory) => NO_MEMORY,
+    }
+}
+
+/// Gives the next caller after those of the schedulers a seat.
+#[unsafe(no_mangle)]
+pub extern "C" fn ert_hub_seat(alloc: Global, hub: &mut ErtHub, seat: &mut ErtSeat) -> i32
+    ensures { OpensHubSeat hub.old.place.value seat.old.place.value result hub.new.place.value seat.new.place.value }
+{
+    if seat.live {
+        return OPEN;
+    }
+    match opened!(hub).seat(alloc) {
+        Ok(given) => {
+            seat.place.as_place().fill(given);
+            seat.live = true;
+            OK
+        }
+        Err(SeatErr::NoSeat) => NO_SEAT,
+        Err(SeatErr::NoMemory) => NO_MEMORY,
     }
 }
 

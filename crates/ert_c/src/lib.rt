@@ -6,8 +6,8 @@
 //! what it does to the service. The handle of a seat (`ErtSeat`, `SeatPlace`) is the same with a boxed `Seat`. No
 //! call follows both handles at once but the one that opens a seat, and that takes nothing of the seat's: two
 //! handles can't be known to be of one service. The handles of a hub (`ErtHub`) and of a shard (`ErtShard`) are of the
-//! same form, with a boxed `Hub` and `Shard`, and the one call of both gives the shard. So no shard comes back to its
-//! hub: it is closed.
+//! same form, with a boxed `Hub` and `Shard`. A hub gives a shard or a seat, by a call of both handles that takes nothing
+//! of the other's; and no shard comes back to its hub, since nothing tells that they are of one service: it is closed.
 //!
 //! **The place** (`Place`) is what the two have in common: three short functions reach the pointer, at any type,
 //! with proofs by hand. C is shown no type parameter, so what it holds are structs of their own, and one function

@@ -7,6 +7,7 @@ pub mod Home
 pub mod Kept
 pub mod Parted
 pub mod Rejoined
+pub mod Returned
 pub mod Seats
 pub mod StandOn
 pub mod Stepped

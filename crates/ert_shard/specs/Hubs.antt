@@ -1,6 +1,6 @@
 -- What callers see of the rest of a world that is divided, and how shards are given and come back.
 
-use Rattle.std.specs.Prelude.{◌≡◌, ℕ, ◌+◌, ◌-◌, ◌<◌, ◌≤◌, ◌⊎◌, Bool, true, false, not, ◌&&◌, ◌||◌, nat_le, nat_lt, List, [], ◌∷◌, ◌++◌, length, take, slice_get, Some, slice_index_or}
+use Rattle.std.specs.Prelude.{◌≡◌, ℕ, zero, suc, ◌+◌, ◌-◌, ◌<◌, ◌≤◌, ◌⊎◌, Bool, true, false, not, ◌&&◌, ◌||◌, nat_le, nat_lt, List, [], ◌∷◌, ◌++◌, length, take, remove, All, slice_get, Some, slice_index_or}
 use Rattle.atomic_table.specs.Seated.{TableId}
 use Rattle.ert_clock.specs.Shown.{Shown, Stands as ClockStands}
 use Rattle.ert_defs.specs.Actors.{of}
@@ -92,6 +92,13 @@ pub record HaveHomes (h : List Entry) (left : ℕ) (homes : List Home) : Type 0 
   pub counted : base + length homes ≡ left
   pub home : (i : ℕ) (d : Home) → i < length homes → AreHome (share_at (base + i) (slice_index_or homes i d)) (of h (Wheel (base + i)))
 
+-- there is room for every scheduler and for every process
+pub record HasRoom (g : Settings) (wheels inboxes mails scheds : ℕ) : Type 0 where
+  pub wheels_room : g.schedulers ≤ wheels
+  pub inboxes_room : g.schedulers ≤ inboxes
+  pub mails_room : g.processes ≤ mails
+  pub scheds_room : g.schedulers ≤ scheds
+
 -- the parts of the rest of a world fit
 pub record IsRest (d : Desk) (p : Pass) (left first next : ℕ) (homes : List Home) (parts : AllParts) : Type 0 where
   pub belongs : Belongs d p
@@ -153,14 +160,25 @@ pub record GivesShard (old : Rest) (processes : ℕ) (new : Rest) (shard : Owned
   pub share : shard.share ≡ share_of (old.left - 1) (old.first - processes) old.first
   pub rest : new ≡ record old { left = old.left - 1; first = old.first - processes; homes = take (length old.homes - 1) old.homes }
 
--- the timers of the last wheel that is left are known to be for so many of the last processes: it has had none, or was a
--- shard's whose processes are among these
-abbrev pub IsAtHome : Rest → ℕ → Type 0
-IsAtHome r processes =
-    (entries_of is_arm (r.left - 1) r.history ≡ 0)
-    ⊎ ((home : Home) × (slice_get r.homes (length r.homes - 1) ≡ Some home) × (r.first - processes ≤ home.from) × (home.to ≤ r.first))
+-- the processes below one, for a wheel
+abbrev pub share_below : ℕ → ℕ → Share
+share_below w first = share_of w 0 first
 
--- no shard is given: the timers of its wheel aren't known to be for its processes, or there is no memory
+-- the timers of a wheel that is left are known to be for processes from one on, below another: it has had none, or was a
+-- shard's whose processes are among these
+abbrev pub AreKnown : Rest → ℕ → ℕ → ℕ → Type 0
+AreKnown r w from to =
+    (entries_of is_arm w r.history ≡ 0)
+    ⊎ ((home : Home) × (r.left - w ≤ length r.homes) × (slice_get r.homes (length r.homes - (r.left - w)) ≡ Some home) × (from ≤ home.from) × (home.to ≤ to))
+
+-- those of the last wheel that is left are known to be for so many of the last processes, and those of the wheels that stay
+-- for the processes that stay
+pub record IsAtHome (r : Rest) (processes : ℕ) : Type 0 where
+  pub own : AreKnown r (r.left - 1) (r.first - processes) r.first
+  pub others : (w : ℕ) → w < r.left - 1 → AreKnown r w 0 (r.first - processes)
+
+-- no shard is given: the timers of its wheel aren't known to be for its processes, or those of another to be for others, or
+-- there is no memory
 abbrev pub IsShardRefused : Rest → ℕ → ShardErr → Type 0
 IsShardRefused r processes Used = IsAtHome r processes → ⊥
 IsShardRefused r processes NoMemory = IsAtHome r processes
@@ -196,6 +214,26 @@ pub record TakesBack (old : Rest) (shard : Owned) (new : Rest) : Type 0 where
   pub first : new.first ≡ shard.share.to
   pub next : new.next ≡ old.next
   pub homes : new.homes ≡ old.homes ++ record { from = shard.share.from; to = shard.share.to } ∷ []
+
+-- shards are of the desk of a hub
+abbrev pub AreOurs : Rest → List Owned → Type 0
+AreOurs r shards = All (λ o. (o.table ≡ r.table) × (o.settings ≡ r.settings)) shards
+
+-- so many of some shards came back, one after the other, each when it was the next; these are left of them
+abbrev pub ComeBack : ℕ → Rest → List Owned → Rest → List Owned → Type 0
+ComeBack zero old shards new left = (new ≡ old) × (left ≡ shards)
+ComeBack (suc n) old shards new left =
+    (i : ℕ) × (o : Owned) × (mid : Rest) × (slice_get shards i ≡ Some o) × IsNext old o × TakesBack old o mid × ComeBack n mid (remove shards i) new left
+
+-- shards came back until none of those that are left is the next
+pub record TakesAll (old : Rest) (shards : List Owned) (new : Rest) (left : List Owned) : Type 0 where
+  pub count : ℕ
+  pub back : ComeBack count old shards new left
+  pub begins : Begins old.history new.history
+  pub table : new.table ≡ old.table
+  pub settings : new.settings ≡ old.settings
+  pub ours : AreOurs new left
+  pub none : All (λ o. IsNext new o → ⊥) left
 
 -- an actor was moved from a pass to another; both know what they knew
 pub record Moves (a : Actor) (from to from_new to_new : Pass) : Type 0 where

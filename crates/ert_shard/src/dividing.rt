@@ -13,25 +13,32 @@ use std::sync::Arc;
 /// Why no shard is given.
 #[derive(Clone, Copy, Debug, PartialEq, Eq)]
 pub enum ShardErr {
-    /// The wheel has had timers, whose processes aren't known to be of the shard: it was no shard's, or one's that had other
-    /// processes too.
+    /// A wheel has had timers, and their processes aren't known to be those that its shard is to have, or, of a wheel that
+    /// stays, those that stay: it was no shard's before, or one's that had other processes.
     Used,
     /// There is no memory.
     NoMemory,
 }
 
 impl Hub {
-    ghost use Rattle.std.specs.Prelude.{◌≡◌, ◌↔◌, ◌<◌, ◌≤◌, IfOk, OnErr, OnOk, IfErr, IsTrue};
-    ghost use Rattle.ert_shard.specs.Hubs.{GivesShard, IsAtHome, IsShardRefused, IsNext, TakesBack};
+    ghost use Rattle.std.specs.Prelude.{◌≡◌, ◌↔◌, ◌<◌, ◌≤◌, ℕ, IfOk, OnOk, OnErr, IfErr, IsTrue};
+    ghost use Rattle.ert_defs.specs.Actors.{of};
+    ghost use Rattle.ert_defs.specs.declared.entry.Actor.TheVariants.{Wheel};
+    ghost use Rattle.ert_shard.specs.Hubs.{GivesShard, AreKnown, IsAtHome, IsShardRefused, IsNext, TakesBack, share_below};
+    ghost use Rattle.ert_shard.specs.Shards.{AreHome};
 
     /// Gives the last scheduler that is left, with so many of the last processes that are left, to a shard.
     ///
-    /// A wheel that was a shard's before comes with its timers, and the shard gets the processes that the other had, or
-    /// more (`Used`). After a refusal nothing has changed.
+    /// No other wheel has a timer for a process of the shard: a wheel that was a shard's before comes with its timers, and
+    /// the shard gets the processes that the other had, or more, but none that a wheel that stays has timers for; and no
+    /// shard is given of a world whose wheels had timers before it was divided (`Used`). After a refusal nothing has
+    /// changed.
     pub fn shard(&mut self, processes: u32) -> Result<Shard, ShardErr>
         requires some { 0 < self.old.left }
         requires few { processes ≤ self.old.first }
         ensures gives { IfOk result (λ shard. GivesShard self.old processes self.new shard) }
+        ensures home { IfOk result (λ shard. AreHome shard.share (of shard.history (Wheel shard.share.number))) }
+        ensures apart { OnOk result ((w : ℕ) → w < self.new.left → AreHome (share_below w self.new.first) (of self.new.history (Wheel w))) }
         ensures refused { IfErr result (IsShardRefused self.old processes) }
         ensures same { OnErr result (self.new ≡ self.old) }
     {
@@ -40,6 +47,10 @@ impl Hub {
         let from = to - processes;
         if !self.is_at_home(processes) {
             return Err(ShardErr::Used);
+        }
+        let out = self.desk.settings().schedulers - number;
+        if self.homes.reserve(out as usize).is_err() {
+            return Err(ShardErr::NoMemory);
         }
         let Ok(desk) = Arc::try_clone(&self.desk) else {
             return Err(ShardErr::NoMemory);
@@ -71,19 +82,36 @@ impl Hub {
         })
     }
 
-    /// Whether the timers of the last wheel that is left are known to be for so many of the last processes.
+    /// Whether the timers of the last wheel that is left are known to be for so many of the last processes, and those of
+    /// the others for the processes before them.
     fn is_at_home(&self, processes: u32) -> bool
         requires some { 0 < self.now.left }
         requires few { processes ≤ self.now.first }
         ensures { IsTrue result ↔ IsAtHome self.now processes }
     {
-        if self.wheels[self.left as usize - 1].tally().arms == 0 {
+        let from = self.first - processes;
+        let last = self.left - 1;
+        for wheel in 0..last {
+            if !self.are_known(wheel, 0, from) {
+                return false;
+            }
+        }
+        self.are_known(last, from, self.first)
+    }
+
+    /// Whether the timers of a wheel that is left are known to be for processes from one on, below another.
+    fn are_known(&self, wheel: u32, from: u32, to: u32) -> bool
+        requires { wheel < self.now.left }
+        ensures { IsTrue result ↔ AreKnown self.now wheel from to }
+    {
+        if self.wheels[wheel as usize].tally().arms == 0 {
             return true;
         }
-        match self.homes.last() {
-            Some(home) => home.is_within(self.first - processes, self.first),
-            None => false,
+        let after = (self.left - wheel) as usize;
+        if self.homes.len() < after {
+            return false;
         }
+        self.homes[self.homes.len() - after].is_within(from, to)
     }
 
     /// Whether a shard is the next that can come back: the last that was given of those that are out.
@@ -93,27 +121,16 @@ impl Hub {
         shard.number == self.left && shard.from == self.first
     }
 
-    /// Takes a shard back: the last that was given of those that are out. Shards that are done earlier wait until
-    /// `is_next` tells that it is their turn.
+    /// Takes a shard back: the last that was given of those that are out (`is_next`). It takes no memory.
     ///
-    /// Both know one legal history then: the longer of the two that they knew, which the other begins. Where there is
-    /// no memory it gives the shard back, and nothing has changed.
-    pub fn join(&mut self, shard: Shard) -> Result<(), Shard>
+    /// Both know one legal history then: the longer of the two that they knew, which the other begins.
+    pub fn join(&mut self, shard: Shard)
         requires table { shard.table ≡ self.old.table }
         requires settings { shard.settings ≡ self.old.settings }
         requires next { IsNext self.old shard }
-        ensures takes { OnOk result (TakesBack self.old shard self.new) }
-        ensures same { OnErr result (self.new ≡ self.old) }
-        ensures back { IfErr result (λ back. back ≡ shard) }
+        ensures takes { TakesBack self.old shard self.new }
+        ensures home { AreHome shard.share (of self.new.history (Wheel shard.share.number)) }
     {
-        if self.wheels.reserve(1).is_err()
-            || self.inboxes.reserve(1).is_err()
-            || self.scheds.reserve(1).is_err()
-            || self.mails.reserve(shard.mails.len()).is_err()
-            || self.homes.reserve(1).is_err()
-        {
-            return Err(shard);
-        }
         let Shard {
             pass,
             number,
@@ -133,7 +150,6 @@ impl Hub {
         self.homes.push_reserved(Home { from, to });
         self.left = number + 1;
         self.first = to;
-        Ok(())
     }
 }
 

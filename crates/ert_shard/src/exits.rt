@@ -12,9 +12,8 @@ impl Shard {
     ghost use Rattle.ert_shard.specs.Shards.{Steps, By, IsHome};
     ghost use Rattle.ert_shard.specs.Turning.{Exits};
 
-    /// Lets a process of the shard exit, cancels its timers in the shard's wheel, and returns true; false, and no
-    /// more, if it had exited before (`exit`). A timer for it that another wheel had before the world was divided
-    /// stays armed.
+    /// Lets a process of the shard exit, cancels its timers, and returns true; false, and no more, if it had exited
+    /// before (`exit`). All its timers are in the shard's wheel, see `Hub::shard`.
     pub fn exit(&mut self, process: u32) -> bool
         requires { IsHome self.old.share process }
         ensures { Steps self.old (λ way. Exits self.old.settings way self.old.share.number process result) self.new }

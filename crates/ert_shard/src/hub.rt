@@ -32,7 +32,8 @@ impl Home {
 /// the processes that were given to no shard, each from 0 on.
 ///
 /// Shards are cut from its end: the last scheduler and the last processes go to the next shard, and the last shard that
-/// was given comes back first. One thread at a time has the hub and ticks, beside all shards.
+/// was given comes back first (`join_all` takes them in this order). There is room for all of them. One thread at a time
+/// has the hub and ticks, beside all shards.
 #[derive(Drop)]
 pub struct Hub {
     pub(crate) desk: Arc<Desk>,
@@ -52,15 +53,20 @@ pub struct Hub {
 }
 
 impl Model for Hub {
+    ghost use Rattle.std.specs.Prelude.{◌+◌, ◌-◌, ◌≤◌};
     ghost use Rattle.std.specs.Arc.{arc_value};
+    ghost use Rattle.std.specs.Vec.{vec_len, vec_capacity};
+    ghost use Rattle.ert_table.specs.Desks.{settings_of};
     ghost use Rattle.ert_world.specs.Parts.{parts_of};
-    ghost use Rattle.ert_shard.specs.Hubs.{Rest, rest, IsRest};
+    ghost use Rattle.ert_shard.specs.Hubs.{Rest, rest, IsRest, HasRoom};
 
     ghost Value = { Rest };
 
     ghost view = { λ h. rest (arc_value h.desk) h.pass h.keeper h.left h.first h.next h.homes.items };
 
-    ghost invariant = { λ h. IsRest (arc_value h.desk) h.pass h.left h.first h.next h.homes.items (parts_of h.keeper h.wheels.items h.inboxes.items h.mails.items h.scheds.items) };
+    ghost invariant = { λ h. IsRest (arc_value h.desk) h.pass h.left h.first h.next h.homes.items (parts_of h.keeper h.wheels.items h.inboxes.items h.mails.items h.scheds.items)
+        × HasRoom (settings_of (arc_value h.desk)) (vec_capacity h.wheels) (vec_capacity h.inboxes) (vec_capacity h.mails) (vec_capacity h.scheds)
+        × (vec_len h.homes + ((settings_of (arc_value h.desk)).schedulers - h.left) ≤ vec_capacity h.homes) };
 }
 
 impl Hub {

@@ -10,9 +10,10 @@
 //! | call | made by | what it does | work |
 //! |---|---|---|---|
 //! | `Hub::new`, `into_world` | | makes a hub of a world, and a world of a hub to which all came back | constant |
-//! | `Hub::shard` | | gives a scheduler and processes to a shard | those processes |
+//! | `Hub::shard` | | gives a scheduler and processes to a shard | those processes, and the schedulers that are left |
 //! | `Hub::seat` | | gives the next caller a seat | constant |
 //! | `Hub::join` | | takes the last shard back that was given of those that are out (`is_next`) | those processes |
+//! | `Hub::join_all` | | takes shards back in whatever order they stand | those processes, and the square of how many |
 //! | `Hub::tick`, `finalize` | the clock, with caller 0 | takes a reading; finalizes the offset | constant |
 //! | `monotonic_time`, `time_offset`, `system_time` | caller 0 or the shard's | reads the clock | constant |
 //! | `cancel_timer`, `read_timer`, `is_alive` | caller 0 or the shard's | cancels or reads a timer of any wheel; looks whether a process has exited | constant |
@@ -30,17 +31,18 @@
 //! exchange on the timer's word. The calls of a hub are said in the same way (`specs/Hubs`, `Rest`).
 //!
 //! Each timer of a shard's wheel is for a process of the shard, since `start` asks for that and no other has entries of
-//! the wheel (`AreHome`). So a timer that expires finds its mailbox, and an exit has to sweep the shard's own wheel alone.
-//! A wheel that comes back keeps its timers, and the hub remembers which processes its shard had: it goes to another shard
-//! with these, or with more. A wheel that had timers before the world was divided isn't given away, since of those nothing
-//! is known.
+//! the wheel (`AreHome`). So a timer that expires finds its mailbox, and an exit has to sweep the shard's own wheel alone:
+//! no other wheel has timers for the process. For a wheel that comes back keeps its timers, and the hub remembers which
+//! processes its shard had: it goes to another shard with these, or with more, but with none that a wheel that stays has
+//! timers for. And a world whose wheels had timers before it was divided gives no shard (`ShardErr::Used`), since of those
+//! nothing is known: divide a world that was just opened.
 //!
 //! **What it hasn't.** A shard starts no timer for a process of another shard, and has no asynchronous requests (`ask`
 //! and `serve` of `ert_world`). A timer that another shard cancelled keeps its row and its slot until it would be due.
 //!
-//! **Memory.** `start`, `cancel_timer`, `read_timer`, `take`, `exit`, and the calls on the clock take none. Where there is
-//! none, `monitor` and `tell` change nothing, `advance` lets no timer expire, `deliver` keeps what wasn't handed over,
-//! `shard`, `seat` and `join` leave everything as it was.
+//! **Memory.** `start`, `cancel_timer`, `read_timer`, `take`, `exit`, the calls on the clock, `join` and `join_all` take
+//! none. Where there is none, `monitor` and `tell` change nothing, `advance` lets no timer expire, `deliver` keeps what
+//! wasn't handed over, `shard` and `seat` leave everything as it was.
 //!
 //! It stands on `ert_defs`, `ert_clock`, `ert_effects`, `ert_table`, `ert_calls`, `ert_keeper`, `ert_timers`, `ert_mail`
 //! and `ert_world`, and its proofs on the laws of `ert_laws`.
@@ -50,6 +52,8 @@ mod dividing;
 mod exits;
 mod hub;
 mod hub_calls;
+mod joining;
+mod laws;
 mod mail_calls;
 mod seating;
 mod shard;

@@ -73,6 +73,41 @@ static int32_t turn(ert_world *world) {
     return ert_world_turn(world, 0, &turned);
 }
 
+/* A hub gives a shard, and a seat, after each want of memory: nothing of it is lost. */
+static void divide(void) {
+    ert_settings divided = settings;
+    ert_hub hub = ERT_INIT;
+    ert_shard shards[2] = {ERT_INIT, ERT_INIT};
+    ert_seat seat = ERT_INIT;
+    uint32_t from, to;
+    divided.callers = 4;
+    IS(ert_hub_open(&hub, &divided), ERT_OK);
+    for (int i = 0; i < 2; i++) {
+        int32_t status;
+        long refused = 0;
+        do {
+            succeed = refused;
+            status = ert_hub_shard(&hub, &shards[i], 1);
+            succeed = -1;
+            refused++;
+        } while (status == ERT_NO_MEMORY && refused < 100);
+        IS(status, ERT_OK);
+        IS(refused > 1, 1);
+        IS(ert_shard_processes(&shards[i], &from, &to), ERT_OK);
+        IS((int32_t)from, 1 - i);
+        IS((int32_t)to, 2 - i);
+    }
+    succeed = 0;
+    IS(ert_hub_seat(&hub, &seat), ERT_NO_MEMORY);
+    succeed = -1;
+    IS(ert_seat_close(&seat), ERT_CLOSED);
+    IS(ert_hub_seat(&hub, &seat), ERT_OK);
+    IS(ert_seat_close(&seat), ERT_OK);
+    IS(ert_hub_close(&hub), ERT_OK);
+    IS(ert_shard_close(&shards[0]), ERT_OK);
+    IS(ert_shard_close(&shards[1]), ERT_OK);
+}
+
 int main(void) {
     ert_world world = ERT_INIT;
     long refused = 0;
@@ -110,6 +145,7 @@ int main(void) {
     IS(ert_world_take(&world, 1, &mail), ERT_EMPTY);
     IS(ert_world_close(&world), ERT_OK);
     IS(ert_seat_close(&seat), ERT_OK);
+    divide();
     puts("each call could be made again");
     return EXIT_SUCCESS;
 }

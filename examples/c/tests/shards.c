@@ -18,7 +18,7 @@ static void expect(int line, const char *what, int64_t got, int64_t wanted) {
 
 #define IS(got, wanted) expect(__LINE__, #got, (int64_t)(got), (int64_t)(wanted))
 
-/* Two shards can be cut: that of scheduler 1 first. */
+/* Two shards can be cut, that of scheduler 1 first, and there is a caller for one seat. */
 static const ert_settings plain = {
     .size = sizeof(ert_settings),
     .mode = ERT_SINGLE_WARP,
@@ -26,7 +26,7 @@ static const ert_settings plain = {
     .schedulers = 2,
     .processes = 5,
     .slots = 2,
-    .callers = 3,
+    .callers = 4,
     .start = 0,
     .first = {1000 * MILLISECOND, 5000 * MILLISECOND},
 };
@@ -54,7 +54,10 @@ static void closed_handles(void) {
     uint64_t left = 7;
     uint32_t n = 7;
     uint32_t m = 7;
+    ert_seat seat = ERT_INIT;
     IS(ert_hub_shard(&h, &s, 0), ERT_CLOSED);
+    IS(ert_hub_seat(&h, &seat), ERT_CLOSED);
+    IS(ert_seat_close(&seat), ERT_CLOSED);
     IS(ert_hub_tick(&h, &reading, 0, &moved), ERT_CLOSED);
     IS(ert_hub_finalize(&h, &reading, &n, &moved), ERT_CLOSED);
     IS(ert_hub_monotonic_time(&h, &time), ERT_CLOSED);
@@ -145,6 +148,32 @@ static ert_timer start(ert_shard *s, int64_t when, uint32_t dest, uint64_t msg) 
     ert_timer timer = {9, 9, 9};
     IS(ert_shard_start(s, &how, &timer), ERT_OK);
     return timer;
+}
+
+/* A seat of the hub reads and cancels what a shard started. There is one, and a caller is given out once. */
+static void seat_of_a_hub(void) {
+    divided d;
+    ert_seat seat = ERT_INIT;
+    ert_seat other = ERT_INIT;
+    uint64_t left = 7;
+    int64_t time = 7;
+    open_divided(&d);
+    IS(ert_hub_seat(&d.hub, &seat), ERT_OK);
+    IS(ert_hub_seat(&d.hub, &seat), ERT_OPEN);
+    IS(ert_hub_seat(&d.hub, &other), ERT_NO_SEAT);
+    IS(ert_seat_close(&other), ERT_CLOSED);
+    ert_timer timer = start(&d.high, 40, 3, 1);
+    tick(&d.hub, 15);
+    IS(ert_seat_monotonic_time(&seat, &time), ERT_OK);
+    IS(time, 15 * MILLISECOND);
+    IS(ert_seat_read(&seat, &timer, &left), ERT_OK);
+    IS(left, 25);
+    IS(ert_seat_cancel(&seat, &timer, &left), ERT_OK);
+    IS(left, 25);
+    IS(ert_shard_cancel(&d.high, &timer, &left), ERT_NO_TIMER);
+    close_divided(&d);
+    IS(ert_seat_monotonic_time(&seat, &time), ERT_OK);
+    IS(ert_seat_close(&seat), ERT_OK);
 }
 
 static void clock_of_all(void) {
@@ -320,6 +349,7 @@ static void monitors(void) {
 int main(void) {
     closed_handles();
     bad_settings();
+    seat_of_a_hub();
     clock_of_all();
     timers_of_both();
     turns();

@@ -65,8 +65,7 @@ pub(crate) fn join(rt: &impl Abort, hub: &mut Hub, shard: Shard)
     ensures { TakesBack hub.old shard hub.new }
 {
     assert!(rt; hub.is_next(&shard));
-    let joined = hub.join(shard);
-    assert!(rt; joined.is_ok());
+    hub.join(shard);
 }
 
 fn is_home(rt: &impl Abort, shard: &Shard, process: u32)

@@ -40,6 +40,22 @@ fn shards_come_back(rt: HostRuntime) -> Result<(), NoMemory> {
     Ok(())
 }
 
+/// Shards come back in any order.
+#[test]
+fn shards_come_back_in_any_order(rt: HostRuntime) -> Result<(), NoMemory> {
+    let mut hub = open(&rt, rt.alloc())?;
+    let high = cut(&rt, &mut hub, 2);
+    let low = cut(&rt, &mut hub, 2);
+    let mut back = Vec::new(rt.alloc());
+    back.reserve(2)?;
+    back.push_reserved(high);
+    back.push_reserved(low);
+    hub.join_all(&mut back);
+    same(&rt, &(back.len(), hub.schedulers_left()), &(0, 2));
+    same(&rt, &whole(&rt, hub).seats(), &0);
+    Ok(())
+}
+
 /// A wheel that came back is cut again for the processes that it had, and its timer expires there.
 #[test]
 fn a_wheel_is_cut_again(rt: HostRuntime) -> Result<(), NoMemory> {
