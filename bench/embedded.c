@@ -7,7 +7,7 @@
 
 #include "ertime.h"
 
-enum { RUNS = 7, CALLS = 1000000, LOOKS = 2000, SLOTS = 65536 };
+enum { RUNS = 7, CALLS = 1000000, LOOKS = 2000, SLOTS = 65536, MILLION = 1000000 };
 
 /* In milliseconds. */
 #define MINUTE INT64_C(60000)
@@ -31,17 +31,21 @@ static void must(int32_t status) {
     }
 }
 
-static void open_world(void) {
+static void open_with(uint32_t slots) {
     ert_settings settings = {
         .size = sizeof settings,
         .schedulers = 1,
         .processes = 1,
-        .slots = SLOTS,
+        .slots = slots,
         .callers = 2,
     };
     reading = settings.first;
     must(ert_world_open(&world, &settings));
     must(ert_seat_open(&seat, &world));
+}
+
+static void open_world(void) {
+    open_with(SLOTS);
 }
 
 static void os_clock(void) {
@@ -195,6 +199,29 @@ static void measure_far(void) {
     measure_leap("a tick and an advance of a year", advance_a_year, 10);
 }
 
+static void refused_start(void) {
+    ert_start start = {.when = 500};
+    ert_timer none;
+    if (ert_world_start(&world, 0, &start, &none) != ERT_FULL) {
+        fprintf(stderr, "the wheel isn't full\n");
+        exit(EXIT_FAILURE);
+    }
+}
+
+/* Beside a million timers, one due every 3.6 milliseconds, of which the first is an hour away. */
+static void measure_million(void) {
+    open_with(MILLION + 1);
+    for (int64_t i = 0; i < MILLION; i++) {
+        timer_in(HOUR + i * HOUR / MILLION);
+    }
+    measure("ert_world_start and ert_world_cancel, 1000000 timers", start_and_cancel, CALLS);
+    measure("ert_world_turn with nothing to do, 1000000 timers", turn, CALLS);
+    measure("ert_world_next_due, 1000000 timers", next_due, LOOKS);
+    timer_in(HOUR);
+    measure("ert_world_start on a full wheel, 1000001 timers", refused_start, LOOKS);
+    close_world();
+}
+
 int main(void) {
     open_world();
     printf("%-52s %9s\n", "call", "ns");
@@ -215,5 +242,6 @@ int main(void) {
     measure("ert_world_next_due, the timer in 10 milliseconds", next_due, CALLS / 10);
     close_world();
     measure_far();
+    measure_million();
     return EXIT_SUCCESS;
 }

@@ -25,7 +25,7 @@ unsafe impl Send for Hub {}
 impl Hub {
     /// Opens a service that is to be divided. Each of its schedulers can go to a shard.
     ///
-    /// `BadCount` also if `settings.schedulers` is 17 or more, since each shard has a caller of its own.
+    /// `BadCount` also if schedulers and seats together are more than 1,024, since each shard has a caller of its own.
     pub fn open(settings: &Settings) -> Result<Hub, Error> {
         // One caller for each shard, and one for the hub.
         let callers = settings.schedulers.saturating_add(1);
