@@ -7,7 +7,16 @@
 
 #include "ertime.h"
 
-enum { RUNS = 7, CALLS = 1000000, LOOKS = 2000, SLOTS = 65536, PROCESSES = 1024, MONITORS = 64, SPREAD = 60000 };
+enum {
+    RUNS = 7,
+    CALLS = 1000000,
+    LOOKS = 2000,
+    SLOTS = 65536,
+    MILLION = 1000000,
+    PROCESSES = 1024,
+    MONITORS = 64,
+    SPREAD = 60000,
+};
 
 /* In milliseconds. */
 #define MINUTE INT64_C(60000)
@@ -31,13 +40,13 @@ static void must(int32_t status) {
     }
 }
 
-static void open_for(uint32_t processes, uint32_t mode) {
+static void open_with(uint32_t slots, uint32_t processes, uint32_t mode) {
     ert_settings settings = {
         .size = sizeof settings,
         .mode = mode,
         .schedulers = 1,
         .processes = processes,
-        .slots = SLOTS,
+        .slots = slots,
         .callers = 2,
     };
     reading = settings.first;
@@ -46,7 +55,7 @@ static void open_for(uint32_t processes, uint32_t mode) {
 }
 
 static void open_world(void) {
-    open_for(1, ERT_NO_WARP);
+    open_with(SLOTS, 1, ERT_NO_WARP);
 }
 
 static void os_clock(void) {
@@ -271,7 +280,7 @@ static void measure_longest(void) {
 static double exits(void) {
     ert_start start = {.when = MINUTE};
     uint32_t first;
-    open_for(PROCESSES, ERT_NO_WARP);
+    open_with(SLOTS, PROCESSES, ERT_NO_WARP);
     for (uint32_t i = 0; i < SLOTS; i++) {
         start.dest = i < PROCESSES ? i : 0;
         must(ert_world_start(&world, 0, &start, &timer));
@@ -289,7 +298,7 @@ static double exits(void) {
 static double tells(void) {
     ert_moved moved;
     uint32_t monitor, told;
-    open_for(PROCESSES, ERT_MULTI_WARP);
+    open_with(SLOTS, PROCESSES, ERT_MULTI_WARP);
     for (uint32_t i = 0; i < MONITORS * PROCESSES; i++) {
         must(ert_world_monitor(&world, i % PROCESSES, &monitor));
     }
@@ -312,6 +321,29 @@ static void measure_whole(const char *name, double (*pass)(void)) {
         least = each < least ? each : least;
     }
     print(name, least);
+}
+
+static void refused_start(void) {
+    ert_start start = {.when = 500};
+    ert_timer none;
+    if (ert_world_start(&world, 0, &start, &none) != ERT_FULL) {
+        fprintf(stderr, "the wheel isn't full\n");
+        exit(EXIT_FAILURE);
+    }
+}
+
+/* Beside a million timers, one due every 3.6 milliseconds, of which the first is an hour away. */
+static void measure_million(void) {
+    open_with(MILLION + 1, 1, ERT_NO_WARP);
+    for (int64_t i = 0; i < MILLION; i++) {
+        timer_in(HOUR + i * HOUR / MILLION);
+    }
+    measure("ert_world_start and ert_world_cancel, 1000000 timers", start_and_cancel, CALLS);
+    measure("ert_world_turn with nothing to do, 1000000 timers", turn, CALLS);
+    measure("ert_world_next_due, 1000000 timers", next_due, LOOKS);
+    timer_in(HOUR);
+    measure("ert_world_start on a full wheel, 1000001 timers", refused_start, LOOKS);
+    close_world();
 }
 
 int main(void) {
@@ -338,5 +370,6 @@ int main(void) {
     measure_whole("ert_world_tell of a process with 64 monitors", tells);
     measure_longest();
     measure_far();
+    measure_million();
     return EXIT_SUCCESS;
 }

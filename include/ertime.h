@@ -181,9 +181,10 @@ typedef struct {
     uint32_t size;       /* sizeof(ert_settings) */
     uint32_t mode;       /* one of the time warp modes */
     uint32_t correction; /* whether time correction is on; set it to 1, as said above */
-    uint32_t schedulers; /* 1 to 64; each has a timer wheel; 1 is enough for up to 65,536 timers */
-    uint32_t processes;  /* 1 to 1,024; each has a mailbox; 1 is enough for most programs */
-    uint32_t slots;      /* timer slots of each wheel, 1 to 65,536; at most 262,144 in all */
+    uint32_t schedulers; /* 1 to 1,024; each has a timer wheel; 1 is enough for up to a million timers */
+    uint32_t processes;  /* 1 to 524,288; each has a mailbox; 1 is enough for most programs; the product of schedulers
+                            and processes is at most 67,108,864 */
+    uint32_t slots;      /* timer slots of each wheel, 1 to 16,777,216; at most 67,108,864 in all */
     uint32_t callers;    /* 1 to 1,025: caller 0 makes the calls through ert_world, and each other one can get a seat */
     int64_t start;       /* monotonic time at the opening: a multiple of 1,000,000 from -2^58 to 2^58 */
     ert_reading first;   /* the reading that the clock opens with */
@@ -411,9 +412,11 @@ int32_t ert_world_time_offset(ert_world *world, ert_offset *offset);
  * Writes the timer's name to `timer`. ERT_RANGE: there is no scheduler `sched` or no process `dest`.
  * ERT_BAD_TIME: `when` is negative, or the deadline outside 0 to 8,796,093,022,207 milliseconds after the
  * start time. ERT_FULL: no slot of the wheel is available. A slot that was used 262,143 times is unavailable until
- * the deadlines of these timers have passed; ert_world_ready tells when. (Or the wheel has had 2^53 timers.)
- * ERT_CLOSED. No memory. Constant work if a slot is known to be free; otherwise each slot of the wheel is looked at
- * once.
+ * the deadlines of these timers have passed; ert_world_ready tells when. (Or the wheel has had 2^53 timers.) On a wheel
+ * of more than 131,072 slots it means that none of 131,072 slots is available: another one may be, but only if a seat
+ * has cancelled its timer, or the deadlines have just passed for which it waited. The next starts look at the others.
+ * ERT_CLOSED. No memory. Constant work if a slot is known to be free; otherwise 131,072 slots of the wheel are looked at,
+ * or all if there are fewer: less than half a millisecond.
  */
 int32_t ert_world_start(ert_world *world, uint32_t sched, const ert_start *start, ert_timer *timer);
 
@@ -969,8 +972,9 @@ int32_t ert_shard_time_offset(ert_shard *shard, ert_offset *offset);
  *
  * Writes the timer's name to `timer`. ERT_RANGE: the process `dest` is not of the shard. ERT_BAD_TIME: `when` is negative,
  * or the deadline outside 0 to 8,796,093,022,207 milliseconds after the start time. ERT_FULL: no slot of the wheel is
- * available. ERT_CLOSED. No memory. Constant work if a slot is known to be free; otherwise each slot of the wheel is looked
- * at once.
+ * available, of 131,072 that are looked at if there are more (the others by the next starts): one whose timer another
+ * shard has cancelled is found so. ERT_CLOSED. No memory. Constant work if a slot is known to be free; otherwise 131,072
+ * slots of the wheel are looked at, or all if there are fewer.
  */
 int32_t ert_shard_start(ert_shard *shard, const ert_start *start, ert_timer *timer);
 

@@ -150,7 +150,7 @@ pub struct Settings {
     pub start: i64,
     pub schedulers: u32,
     pub processes: u32,
-    /// Timer slots of each scheduler, 1 to 65,536.
+    /// Timer slots of each scheduler, 1 to 16,777,216; at most 67,108,864 of all.
     pub slots: u32,
     /// How many seats the service can give out, 1,024 at most.
     pub seats: u32,

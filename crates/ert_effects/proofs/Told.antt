@@ -3,7 +3,7 @@
 use Rattle.std.proofs.Common.{inl, inr, ◌≡◌, ℕ, zero, suc, ◌+◌, ℤ, false, List, [], ◌∷◌, ◌++◌, Option, Some, None, Ok, Err, refl, sym, ap, subst, ◌∙◌, arith}
 use Rattle.ert_effects.proofs.Advanced.{IsAdvance, advance_is}
 use Rattle.ert_effects.specs.Laws.{LawOfStarts, LawOfAdvances}
-use Rattle.ert_effects.specs.TimerCalls.{AreProbes, AreTaken, IsStarted, IsBadArg, IsWheelFull}
+use Rattle.ert_effects.specs.TimerCalls.{AreProbes, AreTaken, Round, IsRoundTaken, IsStarted, IsBadArg, IsWheelFull}
 use Rattle.ert_effects.specs.WheelCalls.{Try, expires_by, expiry_entries, hit_by, hits}
 use Rattle.ert_effects.specs.declared.answers.StartErr.TheVariants.{BadArg, Full, NoMemory}
 use Rattle.ert_defs.specs.Entries.{look_entry, probe_entry, arm_entry, expire_entry, mark_entry, advanced_entry}
@@ -68,6 +68,19 @@ taken_probes by wheel now s slot (suc n) es taken =
     subst (AreProbes (Caller by) wheel) (sym taken.2)
     (slot, taken.0, refl, taken_probes by wheel now s (suc slot) n taken.1 taken.4)
 
+pub probes-append : (by : Actor) (wheel : ℕ) (es fs : List Entry) → AreProbes by wheel es → AreProbes by wheel fs → AreProbes by wheel (es ++ fs)
+probes-append by wheel [] fs one other = other
+probes-append by wheel (e ∷ es) fs one other = (one.0, one.1, one.2, probes-append by wheel es fs one.3 other)
+
+-- and so were those of a round
+pub round_probes : (by wheel now : ℕ) (s : State) {slots : ℕ} (round : Round slots) (es : List Entry) → IsRoundTaken by wheel now s round es
+    → AreProbes (Caller by) wheel es
+round_probes by wheel now s round es taken =
+    subst (AreProbes (Caller by) wheel) (sym taken.entries)
+    (probes-append (Caller by) wheel taken.first taken.second
+    (taken_probes by wheel now s round.from round.ahead taken.first taken.onward)
+    (taken_probes by wheel now s 0 round.behind taken.second taken.around))
+
 started_same : (g : Settings) (by wheel : ℕ) (start : Start) (t u : TimerRef) (s : State) (es : List Entry) → IsStarted g by wheel start t s es
     → IsStarted g by wheel start u s es → t ≡ u
 started_same g by wheel start t u s es first second =
@@ -87,7 +100,7 @@ not_full g by wheel start t s es first second =
     let same : first.probes ++ (arm_entry by t start ∷ (mark_entry (Caller by) start.dest false first.was ∷ first.closing)) ≡ second.probes = cc (sym first.entries ∙ second.entries) in
     none_armed by wheel start first.probes second.probes t _
     (elim second.are_taken [
-      | inl taken ↦ taken_probes by wheel _ s 0 g.slots second.probes taken
+      | inl found ↦ round_probes by wheel _ s found.0 second.probes found.1
       | inr many ↦ subst (AreProbes (Caller by) wheel) (sym many.1) tt
     ]) same
 

@@ -1,14 +1,13 @@
 -- Laws on what the calls answer. The functions of src/laws.rt carry them as contracts, so that they are
 -- proved.
 
-use Rattle.std.specs.Prelude.{◌≡◌, ◌≢◌, ℕ, ◌<◌, Bool, true, Contains, List, ◌++◌, Option, Some, Result, Ok, Err, ◌≤◌, []}
+use Rattle.std.specs.Prelude.{◌≡◌, ◌≢◌, ℕ, ◌<◌, Bool, true, Contains, List, ◌++◌, Option, Some, Ok, Err, ◌≤◌, []}
 use Rattle.ert_defs.specs.Legal.{Legal}
 use Rattle.ert_defs.specs.States.{State, state}
 use Rattle.ert_defs.specs.Timers.{Row}
 use Rattle.ert_defs.specs.declared.entry.Actor.{Actor}
 use Rattle.ert_defs.specs.declared.entry.Entry.{Entry}
 use Rattle.ert_defs.specs.declared.mail.Request.{Request}
-use Rattle.ert_defs.specs.declared.memory.NoMemory.{NoMemory}
 use Rattle.ert_defs.specs.declared.settings.Reading.{Reading}
 use Rattle.ert_defs.specs.declared.settings.Settings.{Settings}
 use Rattle.ert_defs.specs.declared.timer.Start.{Start}
@@ -19,7 +18,7 @@ use Rattle.ert_effects.specs.ClockCalls.{Ticks, Finalizes, TellsTime, TellsOffse
 use Rattle.ert_effects.specs.MailCalls.{HandsOver, Takes, Monitors, Demonitors, Tells}
 use Rattle.ert_effects.specs.RequestCalls.{Picks, Answers}
 use Rattle.ert_effects.specs.TimerCalls.{Reads, Cancels, Starts}
-use Rattle.ert_effects.specs.Ways.{Growth, Way, alone, beside}
+use Rattle.ert_effects.specs.Ways.{Way, alone, beside}
 use Rattle.ert_effects.specs.WheelCalls.{Advances, TellsAlive, MarksExit}
 use Rattle.ert_effects.specs.declared.answers.MonitorErr.TheVariants as monitors
 use Rattle.ert_effects.specs.declared.answers.StartErr.TheVariants as starts

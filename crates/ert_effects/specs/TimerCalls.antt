@@ -1,7 +1,7 @@
 -- What the calls that read, cancel and start timers record and answer (`erlang` module reference,
 -- `read_timer`, `cancel_timer`, `start_timer`).
 
-use Rattle.std.specs.Prelude.{◌≡◌, ◌≢◌, ◌⊎◌, ℕ, zero, suc, ◌<◌, ℤ, length, Bool, true, false, List, [], ◌∷◌, ◌++◌, Option, Some, None, Result, Ok, Err}
+use Rattle.std.specs.Prelude.{◌≡◌, ◌≢◌, ◌⊎◌, ℕ, zero, suc, ◌+◌, ◌<◌, ◌≤◌, ℤ, length, Bool, true, false, List, [], ◌∷◌, ◌++◌, Option, Some, None, Result, Ok, Err}
 use Rattle.ert_defs.specs.Entries.{look_entry, probe_entry, peek_entry, cancel_entry, arm_entry, orphan_entry, mark_entry}
 use Rattle.ert_defs.specs.Legal.{names_timer}
 use Rattle.ert_defs.specs.Milliseconds.{natural, down, deadline_of}
@@ -15,6 +15,7 @@ use Rattle.ert_defs.specs.declared.timer.Start.{Start}
 use Rattle.ert_defs.specs.declared.timer.Status.{Status}
 use Rattle.ert_defs.specs.declared.timer.Status.TheVariants.{Armed}
 use Rattle.ert_defs.specs.declared.timer.TimerRef.{TimerRef}
+use Rattle.ert_effects.specs.declared.answers.TheConstants.{MOST_LOOKS}
 use Rattle.ert_effects.specs.declared.answers.StartErr.{StartErr}
 use Rattle.ert_effects.specs.declared.answers.StartErr.TheVariants.{BadArg, Full, NoMemory}
 
@@ -94,12 +95,35 @@ AreTaken by wheel now s slot (suc n) es =
     (found : Option Status) × (later : List Entry) × (es ≡ probe_entry (Caller by) wheel slot found ∷ later)
     × ((is_taken found ≡ true) ⊎ Rests s now wheel slot) × AreTaken by wheel now s (suc slot) n later
 
--- no slot is free for a start that has a deadline: each was looked at, or the wheel has had 2^53 timers
+-- the slots that a start looks at where it knows of none that is free: some from one on, and some from the first on, of
+-- which each comes before that one. These are `MOST_LOOKS` slots, or all where there are fewer
+pub record Round (slots : ℕ) : Type 0 where
+  pub from : ℕ
+  pub ahead : ℕ
+  pub behind : ℕ
+  pub within : from + ahead ≤ slots
+  pub apart : behind ≤ from
+  pub all : slots ≤ MOST_LOOKS → ahead + behind ≡ slots
+  pub many : MOST_LOOKS ≤ slots → ahead + behind ≡ MOST_LOOKS
+
+-- a slot is one of them
+abbrev pub IsInRound : {slots : ℕ} → Round slots → ℕ → Type 0
+IsInRound round k = ((round.from ≤ k) × (k < round.from + round.ahead)) ⊎ (k < round.behind)
+
+-- they were looked at, and each was taken or rests
+pub record IsRoundTaken (by wheel now : ℕ) (s : State) {slots : ℕ} (round : Round slots) (es : List Entry) : Type 0 where
+  pub first : List Entry
+  pub second : List Entry
+  pub onward : AreTaken by wheel now s round.from round.ahead first
+  pub around : AreTaken by wheel now s 0 round.behind second
+  pub entries : es ≡ first ++ second
+
+-- no slot is free for a start that has a deadline, of those that it looked at; or the wheel has had 2^53 timers
 pub record IsWheelFull (g : Settings) (by wheel : ℕ) (start : Start) (s : State) (es : List Entry) : Type 0 where
   pub now : ℤ
   pub probes : List Entry
   pub accepted : deadline_of g start now ≢ None
-  pub are_taken : AreTaken by wheel (natural (down g now)) s 0 g.slots probes
+  pub are_taken : ((round : Round g.slots) × IsRoundTaken by wheel (natural (down g now)) s round probes)
       ⊎ ((length (s.rows wheel) ≡ 9007199254740992) × (probes ≡ []))
   pub entries : es ≡ look_entry (Caller by) now ∷ probes
 

@@ -29,7 +29,7 @@ mod answers;
 mod laws;
 mod worked;
 
-pub use answers::{Handed, MonitorErr, Room, SERVED_A_TURN, StartErr, Taken, Turned};
+pub use answers::{Handed, MOST_LOOKS, MonitorErr, Room, SERVED_A_TURN, StartErr, Taken, Turned};
 pub use laws::{answers_are_read, exits_settle_timers, messages_are_read, turns_deliver_all};
 pub use worked::{
     advances_are_judged, cancels_are_judged, exits_are_judged, messages_are_judged,

@@ -4,6 +4,7 @@ use Rattle.std.proofs.Common.{◌≡◌, ℕ, zero, suc, ℤ, Bool, true, false,
 use Rattle.ert_effects.specs.Chains.{Holds, HoldsBy, Serves, ServesMany, ServesAll, times, AdvancesWheel, Hands, HandsMany, Delivers, Turns, SweepsWheels, Exits}
 use Rattle.ert_effects.specs.ClockCalls.{RefusesTick, Ticks}
 use Rattle.ert_effects.specs.MailCalls.{Takes}
+use Rattle.ert_effects.proofs.Told.{round_probes}
 use Rattle.ert_effects.specs.TimerCalls.{Starts, Closes}
 use Rattle.ert_effects.specs.WheelCalls.{Try, expires_by, expiry_entries, orphans_by, orphan_entries}
 use Rattle.ert_effects.specs.Ways.{alone, Many, Then}
@@ -36,7 +37,7 @@ use Rattle.ert_defs.specs.declared.timer.TimerRef.{TimerRef}
 use Rattle.ert_defs.proofs.Runs.{legal_first, legal_then, state-append}
 use Rattle.ert_interval.specs.Calls.{is_still, AreStill}
 use Rattle.ert_interval.specs.Intervals.{HasNoRequests}
-use Rattle.ert_interval.proofs.Still.{probes_still, taken_still}
+use Rattle.ert_interval.proofs.Still.{probes_still}
 use Rattle.ert_interval.proofs.Steps.{spares, AllSpare, asks, NoneAsks, idle_stays}
 
 -- whether an entry cancels no timer and is no request
@@ -104,7 +105,7 @@ starts_plain g by w start (Err Full) s es starts =
     plain_as es _ starts.entries (
       refl,
       elim starts.are_taken [
-        | inl taken ↦ still_plain starts.probes (taken_still by w _ s 0 g.slots starts.probes taken)
+        | inl found ↦ still_plain starts.probes (probes_still (Caller by) w starts.probes (round_probes by w _ s found.0 starts.probes found.1))
         | inr many ↦ plain_as starts.probes [] many.1 tt
       ],
     )

@@ -3,7 +3,8 @@
 use Rattle.std.proofs.Common.{◌≡◌, ◌≢◌, ◌⊎◌, inl, inr, ℕ, zero, suc, ◌<◌, ◌≤◌, max, ℤ, Bool, true, false, cond, ◌&&◌, ◌||◌, nat_lt, nat_le, List, [], ◌∷◌, ◌++◌, length, All, Option, Some, None, Ok, Err, refl, sym, ap, subst, ◌∙◌, arith, append_assoc, eq-eqb, lt-ltb}
 use Rattle.std.proofs.lemmas.Bool.{cases_eq, le-leb, ltb-true}
 use Rattle.std.proofs.lemmas.Bool.Decides.{nat_tests}
-use Rattle.ert_effects.specs.TimerCalls.{Starts, Closes, AreTaken}
+use Rattle.ert_effects.proofs.Told.{round_probes}
+use Rattle.ert_effects.specs.TimerCalls.{Starts, Closes, Round, IsRoundTaken}
 use Rattle.ert_effects.specs.declared.answers.StartErr.{StartErr}
 use Rattle.ert_effects.specs.declared.answers.StartErr.TheVariants.{BadArg, Full, NoMemory}
 use Rattle.ert_defs.specs.Actors.{has_actor}
@@ -30,7 +31,7 @@ use Rattle.ert_interval.specs.Intervals.{HasFired, IsGoing, IsToldAt, IsTold}
 use Rattle.ert_interval.proofs.Plain.{ArePlain, plain_spares, starts_plain}
 use Rattle.ert_interval.proofs.Reading.{piece_legal, piece_state}
 use Rattle.ert_interval.proofs.Steps.{row_stays, fired_stays, used_stays, going_stays, none_from}
-use Rattle.ert_interval.proofs.Still.{still_armed, still_lives, still_full, still_append, probes_still, taken_still, full_from}
+use Rattle.ert_interval.proofs.Still.{still_armed, still_lives, still_full, still_append, probes_still, full_round}
 use Rattle.ert_world.specs.Worlds.{Seen, Goes, By}
 
 -- a row at the end is found, where there was none before
@@ -238,19 +239,19 @@ started a b w start timer deadline goes lone legal_b due =
 
 -- what a start that is refused with Full found
 abbrev FoundFull : Settings → ℕ → ℤ → State → List Entry → Type 0
-FoundFull g w now s probes = AreTaken 0 w (natural (down g now)) s 0 g.slots probes ⊎ ((length (s.rows w) ≡ 9007199254740992) × (probes ≡ []))
+FoundFull g w now s probes = ((round : Round g.slots) × IsRoundTaken 0 w (natural (down g now)) s round probes) ⊎ ((length (s.rows w) ≡ 9007199254740992) × (probes ≡ []))
 
 taken_all : (g : Settings) (s : State) (w : ℕ) (now : ℤ) (probes : List Entry) → LegalFrom g s (look_entry (Caller 0) now ∷ probes)
     → FoundFull g w now s probes → IsFull g s w
 taken_all g s w now probes legal (inl taken) =
     let found : now ≡ s.clock.now = legal.0.found in
-    inl (λ k low.
-    full_from g s (next g s (look_entry (Caller 0) now)) (natural (down g s.clock.now)) w 0 g.slots probes (λ j. refl) legal.1
-    (subst (λ x. AreTaken 0 w (natural (down g x)) s 0 g.slots probes) found taken) k (omega arith) (omega (arith, low)))
+    inl (taken.0, λ k within.
+    full_round g s (next g s (look_entry (Caller 0) now)) (natural (down g s.clock.now)) w taken.0 probes (λ j. refl) legal.1
+    (subst (λ x. IsRoundTaken 0 w (natural (down g x)) s taken.0 probes) found taken.1) k within)
 taken_all g s w now probes legal (inr many) = inr many.0
 
 found_still : (g : Settings) (w : ℕ) (now : ℤ) (s : State) (probes : List Entry) → FoundFull g w now s probes → AreStill probes
-found_still g w now s probes (inl taken) = taken_still 0 w (natural (down g now)) s 0 g.slots probes taken
+found_still g w now s probes (inl taken) = probes_still (Caller 0) w probes (round_probes 0 w (natural (down g now)) s taken.0 probes taken.1)
 found_still g w now s probes (inr many) = subst AreStill (sym many.1) tt
 
 -- a start that found no free slot leaves a full wheel

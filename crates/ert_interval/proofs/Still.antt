@@ -2,7 +2,7 @@
 
 use Rattle.std.proofs.Common.{◌≡◌, ◌⊎◌, ℕ, zero, suc, ◌+◌, ◌<◌, ◌≤◌, ℤ, Bool, true, false, cond, ◌&&◌, nat_eq, List, [], ◌∷◌, ◌++◌, length, Option, Some, refl, sym, ap, subst, ◌∙◌, inl, inr, arith, eqb-true, eq-eqb}
 use Rattle.std.proofs.lemmas.Bool.{cases_eq}
-use Rattle.ert_effects.specs.TimerCalls.{AreProbes, AreTaken}
+use Rattle.ert_effects.specs.TimerCalls.{AreProbes, AreTaken, Round, IsInRound, IsRoundTaken}
 use Rattle.ert_defs.specs.Actors.{has_actor}
 use Rattle.ert_defs.specs.Entries.{probe_entry}
 use Rattle.ert_defs.specs.Clocks.{Clock, clock_after}
@@ -132,10 +132,10 @@ many_one g s by with b _ w known still many = absurd cc
 
 full_next : (g : Settings) (s : State) (e : Entry) (w : ℕ) → Known g s e.by e.with e.event → is_still e.event ≡ true → IsFull g s w → IsFull g (next g s e) w
 full_next g s e w known still (inl full) =
-    inl (λ k low.
+    inl (full.0, λ k within.
     subst (λ (c : Clock). SlotFull (next g s e).status (natural (down g c.now)) w k (uses_at (next g s e) w k))
     (sym (clock_one g s.clock (has_actor e Keeper) e.event still))
-    (full_one g (s.looked e.by) s.status (λ v. has_actor e (Wheel v)) (uses_at s w k) e.event (natural (down g s.clock.now)) w k still (full k low)))
+    (full_one g (s.looked e.by) s.status (λ v. has_actor e (Wheel v)) (uses_at s w k) e.event (natural (down g s.clock.now)) w k still (full.1 k within)))
 full_next g s e w known still (inr many) = inr (many_one g s e.by e.with (has_actor e (Wheel w)) e.event w known still many)
 
 -- a full wheel stays so
@@ -153,12 +153,8 @@ probes_still by w [] probes = tt
 probes_still by w (e ∷ es) probes =
     (subst (λ (x : Entry). is_still x.event ≡ true) (sym probes.2) refl, probes_still by w es probes.3)
 
-pub taken_still : (by w now : ℕ) (s : State) (slot n : ℕ) (es : List Entry) → AreTaken by w now s slot n es → AreStill es
-taken_still by w now s slot zero es taken = subst AreStill (sym taken) tt
-taken_still by w now s slot (suc n) es taken = subst AreStill (sym taken.2) (refl, taken_still by w now s (suc slot) n taken.1 taken.4)
-
 -- each slot of a range is taken or rests, as the probes found
-pub full_from : (g : Settings) (s t : State) (now w slot n : ℕ) (es : List Entry) → ((k : ℕ) → uses_at t w k ≡ uses_at s w k) → LegalFrom g t es
+full_from : (g : Settings) (s t : State) (now w slot n : ℕ) (es : List Entry) → ((k : ℕ) → uses_at t w k ≡ uses_at s w k) → LegalFrom g t es
     → AreTaken 0 w now s slot n es → (k : ℕ) → slot ≤ k → k < slot + n → SlotFull t.status now w k (uses_at t w k)
 full_from g s t now w slot zero es same legal taken k low high = absurd (omega (arith, low, high))
 full_from g s t now w slot (suc n) es same legal taken k low high =
@@ -178,3 +174,38 @@ full_from g s t now w slot (suc n) es same legal taken k low high =
           subst (SlotFull t.status now w k) (uses k)
           (full_from g s t' now w (suc slot) n taken.1 (λ j. uses j ∙ same j) legal_e.1 taken.4 k (omega (arith, low, not)) (omega (arith, high)))
     ]
+
+-- the same of a range, and of the first slots after that
+full_both : (g : Settings) (s t : State) (now w slot n m : ℕ) (es fs : List Entry) → ((k : ℕ) → uses_at t w k ≡ uses_at s w k) → LegalFrom g t (es ++ fs)
+    → AreTaken 0 w now s slot n es → AreTaken 0 w now s 0 m fs → (k : ℕ) → ((slot ≤ k) × (k < slot + n)) ⊎ (k < m)
+    → SlotFull t.status now w k (uses_at t w k)
+full_both g s t now w slot zero m es fs same legal taken more k (inl within) = absurd (omega (arith, within.0, within.1))
+full_both g s t now w slot zero m es fs same legal taken more k (inr low) =
+    full_from g s t now w 0 m fs same (subst (λ (xs : List Entry). LegalFrom g t (xs ++ fs)) taken legal) more k (omega arith) (omega (arith, low))
+full_both g s t now w slot (suc n) m es fs same legal taken more k is =
+    let found : Option Status = taken.0 in
+    let e : Entry = probe_entry (Caller 0) w slot found in
+    let legal_e : LegalFrom g t (e ∷ (taken.1 ++ fs)) = subst (λ (xs : List Entry). LegalFrom g t (xs ++ fs)) taken.2 legal in
+    let t' : State = next g t e in
+    let uses : (j : ℕ) → uses_at t' w j ≡ uses_at t w j = λ j. same_uses (has_actor e (Wheel w)) (uses_at t w j) in
+    elim is [
+      | inl within ↦ elim (cases_eq k slot) [
+        | inl here ↦
+            full_from g s t now w slot 1 (e ∷ []) same (legal_e.0, tt)
+            (found, [], refl, taken.3, refl) k (omega (arith, here)) (omega (arith, here))
+        | inr not ↦
+            subst (SlotFull t.status now w k) (uses k)
+            (full_both g s t' now w (suc slot) n m taken.1 fs (λ j. uses j ∙ same j) legal_e.1 taken.4 more k
+            (inl (omega (arith, within.0, not), omega (arith, within.1))))
+      ]
+      | inr low ↦
+          subst (SlotFull t.status now w k) (uses k)
+          (full_both g s t' now w (suc slot) n m taken.1 fs (λ j. uses j ∙ same j) legal_e.1 taken.4 more k (inr low))
+    ]
+
+-- the same of a round
+pub full_round : (g : Settings) (s t : State) (now w : ℕ) (round : Round g.slots) (es : List Entry) → ((k : ℕ) → uses_at t w k ≡ uses_at s w k)
+    → LegalFrom g t es → IsRoundTaken 0 w now s round es → (k : ℕ) → IsInRound round k → SlotFull t.status now w k (uses_at t w k)
+full_round g s t now w round es same legal taken k within =
+    full_both g s t now w round.from round.ahead round.behind taken.first taken.second same
+    (subst (LegalFrom g t) taken.entries legal) taken.onward taken.around k within

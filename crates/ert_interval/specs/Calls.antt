@@ -1,7 +1,7 @@
 -- What the calls on intervals answer, and how they move the intervals.
 
 use Rattle.std.specs.Prelude.{◌≡◌, ◌≢◌, ◌⊎◌, ◌↔◌, ℕ, ◌+◌, ◌<◌, ◌≤◌, ℤ, ◌-ℤ◌, Bool, true, false, List, [], ◌∷◌, ◌++◌, length, slice_index_or, Option, Some, None, Result, Ok, Err}
-use Rattle.ert_effects.specs.TimerCalls.{Starts, Cancels, Rests}
+use Rattle.ert_effects.specs.TimerCalls.{Starts, Cancels, Rests, Round, IsInRound}
 use Rattle.ert_effects.specs.declared.answers.StartErr.TheVariants.{Full as WheelIsFull}
 use Rattle.ert_defs.specs.Milliseconds.{natural, down, deadline_at}
 use Rattle.ert_defs.specs.States.{State, state}
@@ -61,10 +61,10 @@ pub record Unmoved (old new : Interval) : Type 0 where
   pub deadline : new.deadline ≡ old.deadline
   pub firings : new.firings.items ≡ old.firings.items
 
--- each slot of a wheel is taken, or rests at the time; or the wheel has had 2^53 timers
+-- each slot of a wheel that a start looks at is taken, or rests at the time; or the wheel has had 2^53 timers
 abbrev pub IsFull : Settings → State → ℕ → Type 0
 IsFull g s w =
-    ((k : ℕ) → k < g.slots → (is_taken (s.status (timer_at w k (s.last w k))) ≡ true) ⊎ Rests s (natural (down g s.clock.now)) w k)
+    ((round : Round g.slots) × ((k : ℕ) → IsInRound round k → (is_taken (s.status (timer_at w k (s.last w k))) ≡ true) ⊎ Rests s (natural (down g s.clock.now)) w k))
     ⊎ (length (s.rows w) ≡ 9007199254740992)
 
 -- the state of an interval after a turn of its wheel that went on with it

@@ -4,7 +4,8 @@ use Rattle.std.proofs.Common.{◌≡◌, ℕ, zero, suc, Bool, true, false, List
 use Rattle.ert_effects.specs.ClockCalls.{Ticks, Finalizes, FinalizesFrom, Acts}
 use Rattle.ert_effects.specs.MailCalls.{HandsOver, Takes, Monitors, Demonitors, Tells}
 use Rattle.ert_effects.specs.RequestCalls.{Asks, Picks, Answers, DoesAsked}
-use Rattle.ert_effects.specs.TimerCalls.{Starts, AreProbes, AreTaken, Closes, read_entries, cancel_entries}
+use Rattle.ert_effects.proofs.Told.{round_probes}
+use Rattle.ert_effects.specs.TimerCalls.{Starts, AreProbes, Closes, read_entries, cancel_entries}
 use Rattle.ert_effects.specs.WheelCalls.{Advances, Sweeps, Try, expires_by, expiry_entries, orphans_by, orphan_entries}
 use Rattle.ert_effects.specs.declared.answers.Handed.{Handed}
 use Rattle.ert_effects.specs.declared.answers.Handed.TheVariants.{Put, Dropped}
@@ -79,11 +80,6 @@ probes_have by w [] are = tt
 probes_have by w (e ∷ es) are =
     (subst (λ (x : Entry). has_actor x by ≡ true) (sym are.2) ((rw (same_actor_self by) refl)), probes_have by w es are.3)
 
-taken_have : (by w now : ℕ) (s : State) (slot n : ℕ) (es : List Entry) → AreTaken by w now s slot n es → AllHave (Caller by) es
-taken_have by w now s slot zero es are = as_these (Caller by) es _ are tt
-taken_have by w now s slot (suc n) es are =
-    as_these (Caller by) es _ are.2 ((rw (same_actor_self (Caller by)) refl), taken_have by w now s (suc slot) n are.1 are.4)
-
 closing_have : (was : Bool) (by : ℕ) (timer : TimerRef) (es : List Entry) → Closes was by timer es → AllHave (Caller by) es
 closing_have false by timer es closes = as_these (Caller by) es _ closes tt
 closing_have true by timer es (inl hit) = as_these (Caller by) es _ hit ((rw (same_actor_self (Caller by)) refl), tt)
@@ -104,7 +100,7 @@ starts_have g by w start (Err Full) s es starts =
     as_these (Caller by) es _ starts.entries (
       (rw (same_actor_self (Caller by)) refl),
       elim starts.are_taken [
-        | inl taken ↦ taken_have by w _ s 0 g.slots starts.probes taken
+        | inl found ↦ probes_have (Caller by) w starts.probes (round_probes by w _ s found.0 starts.probes found.1)
         | inr many ↦ as_these (Caller by) starts.probes _ many.1 tt
       ],
     )

@@ -5,7 +5,8 @@ use Rattle.ert_effects.specs.Chains.{HoldsBy, Holds, Serves, ServesMany, ServesA
 use Rattle.ert_effects.specs.ClockCalls.{RefusesTick, Acts}
 use Rattle.ert_effects.specs.MailCalls.{HandsOver, Takes}
 use Rattle.ert_effects.specs.RequestCalls.{Answers, DoesAsked}
-use Rattle.ert_effects.specs.TimerCalls.{Reads, read_entries, Cancels, cancel_entries, Starts, AreProbes, AreTaken, Closes}
+use Rattle.ert_effects.proofs.Told.{round_probes}
+use Rattle.ert_effects.specs.TimerCalls.{Reads, read_entries, Cancels, cancel_entries, Starts, AreProbes, Closes}
 use Rattle.ert_effects.specs.Ways.{Growth, Way, Then, Many, Grows, alone}
 use Rattle.ert_effects.specs.WheelCalls.{Try, expires_by, expiry_entries, orphans_by, orphan_entries, TellsAlive, MarksExit}
 use Rattle.ert_effects.specs.declared.answers.Handed.{Handed}
@@ -123,10 +124,6 @@ probes_fit n q by wheel [] are = tt
 probes_fit n q by wheel (e ∷ es) are =
     (subst (λ (e : Entry). Fits n q e.event) (sym are.2) tt, probes_fit n q by wheel es are.3)
 
-taken_fits : (n q by wheel now : ℕ) (s : State) (slot k : ℕ) (es : List Entry) → AreTaken by wheel now s slot k es → AllFit n q es
-taken_fits n q by wheel now s slot zero es are = fit_as n q es [] are tt
-taken_fits n q by wheel now s slot (suc k) es are = fit_as n q es _ are.2 (tt, taken_fits n q by wheel now s (suc slot) k are.1 are.4)
-
 closes_fit : (n q : ℕ) (was : Bool) (by : ℕ) (timer : TimerRef) (es : List Entry) → Closes was by timer es → AllFit n q es
 closes_fit n q false by timer es closes = fit_as n q es [] closes tt
 closes_fit n q true by timer es (inl orphan) = fit_as n q es _ orphan (tt, tt)
@@ -139,7 +136,7 @@ refused_start_fits n q g by wheel start starts.Full s es full =
     fit_as n q es _ full.entries (
       tt,
       elim full.are_taken [
-        | inl taken ↦ taken_fits n q by wheel _ s 0 g.slots full.probes taken
+        | inl found ↦ probes_fit n q (Caller by) wheel full.probes (round_probes by wheel _ s found.0 full.probes found.1)
         | inr many ↦ fit_as n q full.probes [] many.1 tt
       ],
     )

@@ -1,10 +1,13 @@
--- Starts that are refused: the service answers as the plain one. A wheel is full where it found each slot
--- taken, since no slot rests: each is in its first round.
+-- Starts that are refused: the service answers as the plain one. A wheel is full where it found each slot taken that it
+-- looked at: these are all slots, since fewer timers were started than a start looks at slots. No slot rests: each is in
+-- its first round.
 
-use Rattle.std.proofs.Common.{◌≡◌, ◌≢◌, ◌⊎◌, ℕ, ℤ, zero, suc, ◌+◌, ◌<◌, ◌≤◌, Bool, true, cond, nat_le, List, [], ◌∷◌, Option, Some, None, refl, sym, ap, ◌∙◌, subst, inl, inr, arith}
+use Rattle.std.proofs.Common.{◌≡◌, ◌≢◌, ◌⊎◌, ℕ, ℤ, zero, suc, ◌+◌, ◌<◌, ◌≤◌, Bool, true, cond, nat_le, List, [], ◌∷◌, ◌++◌, length, Option, Some, None, refl, sym, ap, ◌∙◌, subst, inl, inr, arith}
 use Rattle.std.proofs.lemmas.Bool.Decides.{nat_tests}
-use Rattle.std.proofs.lemmas.Bool.{cases_eq}
-use Rattle.ert_effects.specs.TimerCalls.{AreProbes, AreTaken, Rests, IsBadArg, IsWheelFull}
+use Rattle.std.proofs.lemmas.Bool.{cases_eq, cases_lt}
+use Rattle.ert_effects.proofs.Told.{round_probes}
+use Rattle.ert_effects.specs.declared.answers.TheConstants.{MOST_LOOKS}
+use Rattle.ert_effects.specs.TimerCalls.{AreTaken, Round, IsInRound, IsRoundTaken, Rests, IsBadArg, IsWheelFull}
 use Rattle.ert_defs.proofs.FiredTimers.{cond_same}
 use Rattle.ert_defs.specs.Actors.{has_actor}
 use Rattle.ert_defs.specs.Clocks.{Clock}
@@ -22,9 +25,9 @@ use Rattle.ert_defs.specs.declared.timer.TimerRef.{TimerRef}
 use Rattle.ert_plain.proofs.Bound.{IsName}
 use Rattle.ert_plain.proofs.Clocks.{IsDone, done_as}
 use Rattle.ert_plain.proofs.FirstRounds.{first_round, not_resting}
-use Rattle.ert_plain.proofs.Meets.{Meets, meets_next, meets_probes}
+use Rattle.ert_plain.proofs.Meets.{IsKept, Meets, meets_next, meets_probes}
 use Rattle.ert_plain.proofs.Steps.{as_look}
-use Rattle.ert_plain.proofs.Taken.{all_taken, count_pairs}
+use Rattle.ert_plain.proofs.Taken.{all_taken, as_many, count_pairs}
 use Rattle.ert_transcript.specs.Labels.{Labels, label_of}
 use Rattle.ert_transcript.specs.Lines.{line_of}
 use Rattle.ert_plain.specs.Pieces.{Piece}
@@ -73,11 +76,6 @@ bad_arg_done g n ls l w start s c es h legal does plain =
 
 -- each slot that was looked at is taken
 
-taken_probes : (w now : ℕ) (s : State) (k n : ℕ) (es : List Entry) → AreTaken 0 w now s k n es → AreProbes (Caller 0) w es
-taken_probes w now s k zero es are = subst (λ (x : List Entry). AreProbes (Caller 0) w x) (sym are) tt
-taken_probes w now s k (suc n) es are =
-    subst (λ (x : List Entry). AreProbes (Caller 0) w x) (sym are.2) (k, are.0, refl, taken_probes w now s (suc k) n are.1 are.4)
-
 -- slots of two states have the same last timers, and these the same statuses
 pub record AreSame (w : ℕ) (s z : State) : Type 0 where
   pub status : (r : TimerRef) → z.status r ≡ s.status r
@@ -108,7 +106,59 @@ slots_taken g w now s z k (suc n) es same first legal are j low high =
           first lawful.1 are.4 j (omega arith) (omega arith)
     ]
 
-pub full_done : (g : Settings) (n : ℕ) (ls : Labels) (l w : ℕ) (start : Start) (s c : State) (es : List Entry) → n < 262143 → Meets g n ls s c
+-- the same of a range, and of the first slots after that
+both_taken : (g : Settings) (w now : ℕ) (s z : State) (k n m : ℕ) (es fs : List Entry) → AreSame w s z → ((j : ℕ) → (turned (uses_at s w j)).since ≡ 0)
+    → LegalFrom g z (es ++ fs) → AreTaken 0 w now s k n es → AreTaken 0 w now s 0 m fs → (j : ℕ) → ((k ≤ j) × (j < k + n)) ⊎ (j < m)
+    → is_taken (s.status (timer_at w j (s.last w j))) ≡ true
+both_taken g w now s z k zero m es fs same first legal are more j (inl within) = absurd (omega (arith, within.0, within.1))
+both_taken g w now s z k zero m es fs same first legal are more j (inr low) =
+    slots_taken g w now s z 0 m fs same first (subst (λ (x : List Entry). LegalFrom g z (x ++ fs)) are legal) more j (omega arith) (omega (arith, low))
+both_taken g w now s z k (suc n) m es fs same first legal are more j is =
+    let probe : Entry = probe_entry (Caller 0) w k are.0 in
+    let lawful : LegalFrom g z (probe ∷ (are.1 ++ fs)) = subst (λ (x : List Entry). LegalFrom g z (x ++ fs)) are.2 legal in
+    let again : AreSame w s (next g z probe) =
+    record { status = same.status; last = λ i. cond_same (has_actor probe (Wheel w)) (z.last w i) ∙ same.last i } in
+    elim is [
+      | inl within ↦ elim (cases_eq j k) [
+        | inl here ↦
+            subst (λ (i : ℕ). is_taken (s.status (timer_at w i (s.last w i))) ≡ true) (sym here)
+            (first_taken w k now s z are.0 same (first k) lawful.0.found are.3)
+        | inr other ↦
+            both_taken g w now s (next g z probe) (suc k) n m are.1 fs again first lawful.1 are.4 more j
+            (inl (omega (arith, within.0, other), omega (arith, within.1)))
+      ]
+      | inr low ↦ both_taken g w now s (next g z probe) (suc k) n m are.1 fs again first lawful.1 are.4 more j (inr low)
+    ]
+
+-- the same of a round
+round_taken : (g : Settings) (w now : ℕ) (s z : State) (round : Round g.slots) (es : List Entry) → AreSame w s z
+    → ((j : ℕ) → (turned (uses_at s w j)).since ≡ 0) → LegalFrom g z es → IsRoundTaken 0 w now s round es → (j : ℕ) → IsInRound round j
+    → is_taken (s.status (timer_at w j (s.last w j))) ≡ true
+round_taken g w now s z round es same first legal are j within =
+    both_taken g w now s z round.from round.ahead round.behind are.first are.second same first (subst (LegalFrom g z) are.entries legal)
+    are.onward are.around j within
+
+-- where fewer timers were started than a start looks at slots, a round has all slots
+has_all : (g : Settings) (s : State) (w n : ℕ) (round : Round g.slots) → IsKept s → length (s.rows w) ≤ n → n < 131072
+    → ((j : ℕ) → IsInRound round j → is_taken (s.status (timer_at w j (s.last w j))) ≡ true) → (j : ℕ) → j < g.slots → IsInRound round j
+has_all g s w n round kept some few taken j low = elim (cases_lt g.slots MOST_LOOKS) [
+  | inl small ↦
+      let all : round.ahead + round.behind ≡ g.slots = round.all (omega (arith, small)) in
+      at all
+  | inr large ↦
+      let many : round.ahead + round.behind ≡ MOST_LOOKS = round.many large in
+      let used : round.ahead + round.behind ≤ length (s.rows w) = as_many s w round.from round.ahead round.behind kept round.apart
+      (λ k below. taken k (inr below)) (λ k above below. taken k (inl (above, below))) in
+      absurd (omega (arith, many, used, some, few))
+]
+  where
+    at : round.ahead + round.behind ≡ g.slots → IsInRound round j
+    at all = elim (cases_lt j round.from) [
+      | inl below ↦ inr (omega (arith, all, below, round.within))
+      | inr above ↦ inl (above, omega (arith, all, low, round.apart))
+    ]
+
+pub full_done : (g : Settings) (n : ℕ) (ls : Labels) (l w : ℕ) (start : Start) (s c : State) (es : List Entry) → n < 131072 → Meets g n ls s c
     → LegalFrom g s es → IsWheelFull g 0 w start s es → line_of (label_of ls) (full start.kind) ≡ line_of slot_of (full start.kind)
     → IsRefused g n ls l w start s c (full start.kind) es
 full_done g n ls l w start s c es few h legal does plain =
@@ -117,16 +167,16 @@ full_done g n ls l w start s c es few h legal does plain =
     let looked : State = next g s (look_entry (Caller 0) does.now) in
     let due : deadline_of g start c.clock.now ≢ None = λ none.
     does.accepted (ap (λ (x : ℤ). deadline_of g start x) time ∙ none) in
-    let are : AreTaken 0 w (natural (down g does.now)) s 0 g.slots does.probes = elim does.are_taken [
+    let are : (round : Round g.slots) × IsRoundTaken 0 w (natural (down g does.now)) s round does.probes = elim does.are_taken [
       | inl are ↦ are
       | inr many ↦ absurd (omega (arith, many.0, h.few w, few))
     ] in
     let first : (i : ℕ) → (turned (uses_at s w i)).since ≡ 0 = λ i.
     not_resting (uses_at s w i) (first_round (uses_at s w i) (h.kept.ordered w i).sound (omega (arith, h.lasts w i))) in
+    let seen : (j : ℕ) → IsInRound are.0 j → is_taken (s.status (timer_at w j (s.last w j))) ≡ true =
+    round_taken g w (natural (down g does.now)) s looked are.0 does.probes (record { status = λ r. refl; last = λ i. refl }) first lawful.1 are.1 in
     let taken : taken_of s.status (s.rows w) ≡ g.slots =
-    all_taken g ls s c w h.kept h.shows (λ j lt.
-    slots_taken g w (natural (down g does.now)) s looked 0 g.slots does.probes (record { status = λ r. refl; last = λ i. refl })
-    first lawful.1 are j (omega arith) (omega arith)) in
+    all_taken g ls s c w h.kept h.shows (λ j lt. seen j (has_all g s w n are.0 h.kept (h.few w) few seen j lt)) in
     let all : taken_of c.status (c.rows w) ≡ g.slots =
     sym (count_pairs is_taken (IsName g ls) s.status c.status h.shows.status (s.rows w) (c.rows w) (h.shows.rows w)) ∙ taken in
     let look = meets_next g n ls (as_look does.now) (Caller 0) None s c h lawful.0 in
@@ -136,6 +186,6 @@ full_done g n ls l w start s c es few h legal does plain =
       done = done_as g n ls s c (full start.kind) es (look_entry (Caller 0) does.now ∷ does.probes) (starting g c l w start) _ does.entries piece
           (record {
             line = plain;
-            meets = meets_probes g n ls (Caller 0) w does.probes looked _ (taken_probes w (natural (down g does.now)) s 0 g.slots does.probes are) lawful.1 look;
+            meets = meets_probes g n ls (Caller 0) w does.probes looked _ (round_probes 0 w (natural (down g does.now)) s are.0 does.probes are.1) lawful.1 look;
           });
     }

@@ -46,7 +46,7 @@ IsFreeFor (ops.Start l w when p msg) ls = IsFreeLabel l ls
 IsFreeFor (ops.SendAfter l w when p msg) ls = IsFreeLabel l ls
 IsFreeFor _ ls = Unit {0}
 
-pub op_agrees : (g : Settings) (n : ℕ) (ls cl : Labels) (h m : List Entry) (c : State) (op : Op) (reply : Reply) → n < 262143
+pub op_agrees : (g : Settings) (n : ℕ) (ls cl : Labels) (h m : List Entry) (c : State) (op : Op) (reply : Reply) → n < 131072
     → IsFreeFor op ls → IsFreeFor op cl → Agrees g n ls cl (state g h) c → LegalFrom g (state g h) m
     → Calls g (alone g) 0 ls op reply h m → IsAgreed g n ls cl (state g h) c op reply m
 op_agrees g n ls cl h m c (ops.Start l w when p msg) reply few free other a legal does =

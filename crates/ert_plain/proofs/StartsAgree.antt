@@ -68,7 +68,7 @@ started_agrees g n ls cl l w start t s c es piece free other names does =
     (new_name g ls l t does.new.some does.new.in_range does.new.free does.new.new) in
     record { meets = does.meets; names = names_bound g ls cl l t (timer_at w l 1) free other named names }
 
-pub start_op : (g : Settings) (n : ℕ) (ls cl : Labels) (h m : List Entry) (c : State) (l w : ℕ) (when : When) (p msg : ℕ) (reply : Reply) → n < 262143
+pub start_op : (g : Settings) (n : ℕ) (ls cl : Labels) (h m : List Entry) (c : State) (l w : ℕ) (when : When) (p msg : ℕ) (reply : Reply) → n < 131072
     → IsFreeLabel l ls → IsFreeLabel l cl → Agrees g n ls cl (state g h) c → LegalFrom g (state g h) m
     → Calls g (alone g) 0 ls (ops.Start l w when p msg) reply h m → IsAgreed g n ls cl (state g h) c (ops.Start l w when p msg) reply m
 start_op g n ls cl h m c l w when p msg (StartOk t) few free other agrees legal does =
@@ -90,7 +90,7 @@ start_op g n ls cl h m c l w when p msg StartFull few free other agrees legal do
     (ap (λ (r : Reply). labels_after cl (ops.Start l w when p msg) r) one.replies) agrees.names one.done
 start_op g n ls cl h m c l w when p msg _ few free other agrees legal does = absurd does
 
-pub send_after_op : (g : Settings) (n : ℕ) (ls cl : Labels) (h m : List Entry) (c : State) (l w : ℕ) (when : When) (p msg : ℕ) (reply : Reply) → n < 262143
+pub send_after_op : (g : Settings) (n : ℕ) (ls cl : Labels) (h m : List Entry) (c : State) (l w : ℕ) (when : When) (p msg : ℕ) (reply : Reply) → n < 131072
     → IsFreeLabel l ls → IsFreeLabel l cl → Agrees g n ls cl (state g h) c → LegalFrom g (state g h) m
     → Calls g (alone g) 0 ls (ops.SendAfter l w when p msg) reply h m → IsAgreed g n ls cl (state g h) c (ops.SendAfter l w when p msg) reply m
 send_after_op g n ls cl h m c l w when p msg (SendAfterOk t) few free other agrees legal does =

@@ -1,7 +1,7 @@
 -- A wheel is full exactly where as many of its rows take a slot as it has slots: a row that takes a slot is
 -- the last of it, and no two rows have one reference.
 
-use Rattle.std.proofs.Common.{◌≡◌, ◌≢◌, ℕ, zero, suc, ◌+◌, ◌<◌, ◌≤◌, Bool, true, false, cond, ◌&&◌, nat_eq, nat_lt, List, [], ◌∷◌, All, AllPairs, get_or, Option, Some, None, refl, sym, ap, ◌∙◌, subst, inl, inr, arith, eq-eqb, eqb-true}
+use Rattle.std.proofs.Common.{◌≡◌, ◌≢◌, ℕ, zero, suc, ◌+◌, ◌-◌, ◌<◌, ◌≤◌, Bool, true, false, cond, ◌&&◌, nat_eq, nat_lt, List, [], ◌∷◌, All, AllPairs, length, get_or, Option, Some, None, refl, sym, ap, ◌∙◌, subst, inl, inr, arith, eq-eqb, eqb-true}
 use Rattle.std.proofs.lemmas.Bool.{cases_eq, and_parts}
 use Rattle.std.proofs.lemmas.Bool.Decides.{nat_tests}
 use Rattle.std.proofs.lemmas.List.Elements.{All-head, All-tail}
@@ -186,6 +186,43 @@ one_below s w k (suc n) kept lt free = elim (cases_eq k n) [
       omega (arith, most_below s w n kept, below_more s.status n (s.rows w))
   | inr other ↦ omega (arith, one_below s w k n kept (omega arith) free, at_most_one s w n kept, below_more s.status n (s.rows w))
 ]
+
+-- as many rows as slots that are taken, of a range and of the first slots, which come before it
+
+below_rises : (s : State) (w n d : ℕ) → count_rows (is_below s.status n) (s.rows w) ≤ count_rows (is_below s.status (n + d)) (s.rows w)
+below_rises s w n zero =
+    let same : n + 0 ≡ n = omega arith in
+    subst (λ (m : ℕ). count_rows (is_below s.status n) (s.rows w) ≤ count_rows (is_below s.status m) (s.rows w)) (sym same) (omega arith)
+below_rises s w n (suc d) =
+    let next_is : n + suc d ≡ suc (n + d) = omega arith in
+    subst (λ (m : ℕ). count_rows (is_below s.status n) (s.rows w) ≤ count_rows (is_below s.status m) (s.rows w)) (sym next_is)
+    (omega (arith, below_rises s w n d, below_more s.status (n + d) (s.rows w)))
+
+range_below : (s : State) (w from n : ℕ) → IsKept s → ((k : ℕ) → from ≤ k → k < from + n → is_taken (s.status (last_timer s w k)) ≡ true)
+    → count_rows (is_below s.status from) (s.rows w) + n ≤ count_rows (is_below s.status (from + n)) (s.rows w)
+range_below s w from zero kept taken = omega (arith, below_rises s w from 0)
+range_below s w from (suc n) kept taken =
+    let next_is : from + suc n ≡ suc (from + n) = omega arith in
+    let before = range_below s w from n kept (λ k low high. taken k low (omega arith)) in
+    let here : count_rows (is_at s.status (from + n)) (s.rows w) ≡ 1 = count_at s w (from + n) true kept (taken (from + n) (omega arith) (omega arith)) in
+    subst (λ (m : ℕ). count_rows (is_below s.status from) (s.rows w) + suc n ≤ count_rows (is_below s.status m) (s.rows w)) (sym next_is)
+    (omega (arith, before, here, below_more s.status (from + n) (s.rows w)))
+
+few_rows : (test : Row → Bool) (rows : List Row) → count_rows test rows ≤ length rows
+few_rows test [] = omega arith
+few_rows test (r ∷ rows) = omega (arith, few_rows test rows, one_at_most (test r))
+  where
+    one_at_most : (b : Bool) → one_if b ≤ 1
+    one_at_most true = omega arith
+    one_at_most false = omega arith
+
+pub as_many : (s : State) (w from ahead behind : ℕ) → IsKept s → behind ≤ from → ((k : ℕ) → k < behind → is_taken (s.status (last_timer s w k)) ≡ true)
+    → ((k : ℕ) → from ≤ k → k < from + ahead → is_taken (s.status (last_timer s w k)) ≡ true) → ahead + behind ≤ length (s.rows w)
+as_many s w from ahead behind kept apart first second =
+    let between : behind + (from - behind) ≡ from = omega (arith, apart) in
+    let rises = subst (λ (m : ℕ). count_rows (is_below s.status behind) (s.rows w) ≤ count_rows (is_below s.status m) (s.rows w)) between
+    (below_rises s w behind (from - behind)) in
+    omega (arith, all_below s w behind kept first, rises, range_below s w from ahead kept second, few_rows (is_below s.status (from + ahead)) (s.rows w))
 
 -- all rows are in range, by their names
 

@@ -57,7 +57,7 @@ impl<L: DeskName> Service<L> {
     /// Starts a timer on a wheel (`erlang` module reference, `start_timer` and `send_after`).
     ///
     /// BadArg comes where the start has no deadline at the time of the call, and Full where each slot of the
-    /// wheel is taken or rests, or the wheel has had 2^53 timers. A timer for a process that has exited is started
+    /// wheel that was looked at is taken or rests (`MOST_LOOKS` of `ert_effects`), or the wheel has had 2^53 timers. A timer for a process that has exited is started
     /// and cancelled at once, so that it is settled when the call returns. No memory is taken.
     pub fn start<R: Wait>(
         &self,

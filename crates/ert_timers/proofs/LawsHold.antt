@@ -16,7 +16,8 @@ use Rattle.ert_defs.specs.declared.timer.TimerRef.{TimerRef}
 use Rattle.ert_effects.proofs.Advanced.{IsAdvance, advance_is}
 use Rattle.ert_effects.specs.RoomCalls.{ShowsRoom, no_room, with_found}
 use Rattle.ert_effects.specs.declared.answers.Room.{Room}
-use Rattle.ert_effects.specs.TimerCalls.{AreProbes, AreTaken, Closes}
+use Rattle.ert_effects.proofs.Told.{round_probes}
+use Rattle.ert_effects.specs.TimerCalls.{AreProbes, Closes}
 use Rattle.ert_effects.specs.WheelCalls.{Try, expires_by, expiry_entries, orphans_by, orphan_entries}
 use Rattle.ert_effects.specs.declared.answers.StartErr.TheVariants.{BadArg, Full, NoMemory}
 use Rattle.ert_table.specs.Held.{IsOurs}
@@ -80,11 +81,6 @@ probes_only by w [] are = tt
 probes_only by w (e ∷ es) are =
     (subst (λ (x : Entry). IsOurs (by ∷ (Wheel w ∷ [])) x.by x.with) (sym are.2) (paired by w w refl), probes_only by w es are.3)
 
-taken_only : (by w now : ℕ) (s : State) (slot n : ℕ) (es : List Entry) → AreTaken by w now s slot n es → AreWithWheel (Caller by) w es
-taken_only by w now s slot zero es are = same_only (Caller by) w es _ are tt
-taken_only by w now s slot (suc n) es are =
-    same_only (Caller by) w es _ are.2 (paired (Caller by) w w refl, taken_only by w now s (suc slot) n are.1 are.4)
-
 closing_only : (was : Bool) (by w : ℕ) (timer : TimerRef) (es : List Entry) → timer.wheel ≡ w → Closes was by timer es
     → AreWithWheel (Caller by) w es
 closing_only false by w timer es wheel closes = same_only (Caller by) w es _ closes tt
@@ -105,7 +101,7 @@ starts_only g by w start (Err Full) s es starts =
     same_only (Caller by) w es _ starts.entries (
       alone (Caller by) w,
       elim starts.are_taken [
-        | inl taken ↦ taken_only by w (natural (down g starts.now)) s 0 g.slots starts.probes taken
+        | inl found ↦ probes_only (Caller by) w starts.probes (round_probes by w (natural (down g starts.now)) s found.0 starts.probes found.1)
         | inr none ↦ same_only (Caller by) w starts.probes _ none.1 tt
       ],
     )

@@ -1,4 +1,4 @@
--- A slot is looked at, and all slots are.
+-- A slot is looked at, and the slots of a round are.
 
 use Rattle.std.proofs.Common.{◌≡◌, ◌≢◌, ◌⊎◌, ℕ, suc, ◌+◌, ◌<◌, ◌≤◌, true, false, ◌||◌, List, [], ◌∷◌, ◌++◌, length, Option, Some, None, IfNone, IfSome, option_map, inl, inr, refl, sym, ap, subst, ◌∙◌, arith, append-nil, length-append, eq-eqb, ne_eqb}
 use Rattle.std.proofs.lemmas.Bool.{cases_eq}
@@ -6,6 +6,8 @@ use Rattle.std.specs.Cmp.{nat_cmp_total, unsigned_tied}
 use Rattle.std.specs.FinSet as sets
 use Rattle.std.specs.Ordering.{nat_cmp}
 use Rattle.ert_defs.specs.Entries.{probe_entry}
+use Rattle.ert_defs.specs.Legal.{Legal}
+use Rattle.ert_defs.specs.Settings.{IsChecked}
 use Rattle.ert_defs.specs.States.{State, uses_at, state}
 use Rattle.ert_defs.specs.Timers.{Uses, turned, is_taken, timer_at}
 use Rattle.ert_defs.specs.declared.entry.Actor.{Actor}
@@ -15,6 +17,8 @@ use Rattle.ert_defs.specs.declared.settings.Settings.{Settings}
 use Rattle.ert_defs.specs.declared.timer.Status.{Status}
 use Rattle.ert_defs.specs.declared.timer.Status.TheVariants.{Armed}
 use Rattle.ert_calls.proofs.Looks.{can_step, look_stepped}
+use Rattle.ert_effects.proofs.Told.{probes-append}
+use Rattle.ert_effects.specs.TimerCalls.{AreProbes, Round}
 use Rattle.ert_table.specs.Held.{is_held}
 use Rattle.ert_table.specs.Settlings.{Shown}
 use Rattle.ert_table.specs.Takes.{Appends, TakesPlace}
@@ -25,12 +29,12 @@ use Rattle.ert_timers.specs.Changes.{IsFree, is_resting, dropped, freed, picked}
 use Rattle.ert_laws.proofs.Since.{rounds_begun}
 use Rattle.ert_laws.specs.Counts.{is_expire, is_orphan}
 use Rattle.ert_timers.specs.Parts.{HoldsCaller, Part, Stands, slot_at, last_timer}
-use Rattle.ert_timers.specs.Starting.{LooksAt, LooksAtSome, TakesSlot, AreFull, probes_from, status_shown}
+use Rattle.ert_timers.specs.Starting.{LooksAt, LooksAtSome, FindsRound, LooksAround, TakesSlot, AreFull, probes_from, status_shown}
 use Rattle.ert_timers.specs.Passed.{LosesRows}
 use Rattle.ert_timers.proofs.Fit.{taken_was}
 use Rattle.ert_timers.proofs.Later.{later_before, later_step}
 use Rattle.ert_timers.proofs.Resting.{later_awake, rested_by}
-use Rattle.ert_timers.proofs.Standing.{clock_at, clock_stepped, count_same, holds_freed, stands_step}
+use Rattle.ert_timers.proofs.Standing.{clock_at, clock_rises, clock_stepped, count_same, holds_freed, stands_step}
 use Rattle.ert_timers.proofs.Passing.{loses_none, loses_row, loses_then}
 use Rattle.ert_timers.proofs.Tried.{stands_gone}
 
@@ -170,20 +174,19 @@ looks_free g v by now p q r k found u stands holds past low step none gone awake
     }
 
 -- nothing was looked at yet
-pub looks_none : (g : Settings) (v : View) (by now : ℕ) (p : Part) → Stands g v.front p → ((k : ℕ) → sets.contains p.free k ≡ false)
-    → LooksAtSome g v by now p p 0 v
-looks_none g v by now p stands none = record {
+pub looks_none : (g : Settings) (v : View) (by now : ℕ) (p : Part) (from : ℕ) → Stands g v.front p → LooksAtSome g v by now p p from from v
+looks_none g v by now p from stands = record {
   founds = [];
   call = record { actors = refl; legal = stands.legal; later = []; grown = sym (append-nil v.front); ours = refl };
-  count = refl;
+  count = omega arith;
   stands = stands;
   number = refl;
   slots = refl;
   arms = refl;
   full = tt;
-  rested = λ j held. (let no : true ≡ false = sym held ∙ none j in cc);
+  rested = λ j held. inl held;
   since = λ j. refl;
-  above = λ j high. none j;
+  others = λ j out. refl;
   look = refl;
   loses = loses_none p;
 }
@@ -215,40 +218,108 @@ full-push q r now k (x ∷ founds) found slots same full last =
       full-push q r now (k + 1) founds found slots (λ j low. same j (omega (arith, low, e))) full.1 (subst (λ n. IsFullAt r now n found) e last),
     )
 
+-- a slot outside of a range is outside of one that is less by one
+out_before : (from n j : ℕ) → from ≤ n → (j < from) ⊎ (n + 1 ≤ j) → (j ≢ n) × ((j < from) ⊎ (n ≤ j))
+out_before from n j order (inl low) = (λ same. omega (arith, order, low, same), inl low)
+out_before from n j order (inr high) = (λ same. omega (arith, high, same), inr (omega (arith, high)))
+
 -- one more was looked at
-pub looks_more : (g : Settings) (v : View) (by now : ℕ) (p q r : Part) (n : ℕ) (u w : View) → LooksAtSome g v by now p q n u
-    → HoldsCaller g u by q.number → LooksAt g u by now q r n w → LooksAtSome g v by now p r (n + 1) w
-looks_more g v by now p q r n u w some holds one =
+pub looks_more : (g : Settings) (v : View) (by now : ℕ) (p q r : Part) (from n : ℕ) (u w : View) → LooksAtSome g v by now p q from n u
+    → HoldsCaller g u by q.number → LooksAt g u by now q r n w → LooksAtSome g v by now p r from (n + 1) w
+looks_more g v by now p q r from n u w some holds one =
     let e : Entry = probe_entry (Caller by) p.number n one.found in
     let step : Appends g u e w = subst (λ m. Appends g u (probe_entry (Caller by) m n one.found) w) some.number one.step in
+    let order : from ≤ n = omega (arith, some.count) in
     record {
       founds = some.founds ++ one.found ∷ [];
       call = subst (λ es. TakesPlace g v es w)
-          (ap (λ m. probes_from by p.number 0 some.founds ++ probe_entry (Caller by) p.number m one.found ∷ []) (here 0)
-          ∙ sym (probes-push by p.number 0 some.founds one.found))
-          (takes_place_then g v u w (probes_from by p.number 0 some.founds) (e ∷ []) some.call (step_takes_place g u e w step));
-      count = length-append some.founds (one.found ∷ []) ∙ ap (λ m. m + 1) some.count;
+          (ap (λ m. probes_from by p.number from some.founds ++ probe_entry (Caller by) p.number m one.found ∷ []) (sym some.count)
+          ∙ sym (probes-push by p.number from some.founds one.found))
+          (takes_place_then g v u w (probes_from by p.number from some.founds) (e ∷ []) some.call (step_takes_place g u e w step));
+      count = omega (arith, length-append some.founds (one.found ∷ []), some.count);
       stands = one.stands;
       number = one.number ∙ some.number;
       slots = one.slots ∙ some.slots;
       arms = one.arms ∙ some.arms;
-      full = full-push q r now 0 some.founds one.found one.slots (λ j low. one.others j (omega (arith, low, some.count))) some.full
-          (subst (λ m. IsFullAt r now m one.found) (here 0)
+      full = full-push q r now from some.founds one.found one.slots (λ j low. one.others j (λ same. omega (arith, low, some.count, same))) some.full
+          (subst (λ m. IsFullAt r now m one.found) (sym some.count)
           (λ away. subst (λ s. (is_taken one.found ≡ true) ⊎ (is_resting (slot_at s n) now ≡ true)) (sym one.slots) (one.full away)));
       rested = λ j held.
           elim (cases_eq j n) [
-            | inl same ↦ subst (λ m. is_resting (slot_at r.slots m) now ≡ false) (sym same)
-                (ap (λ s. is_resting (slot_at s n) now) one.slots ∙ one.rested (ap (sets.contains r.free) (sym same) ∙ held))
-            | inr other ↦ ap (λ s. is_resting (slot_at s j) now) one.slots ∙ some.rested j (sym (one.others j other) ∙ held)
+            | inl same ↦ inr (subst (λ m. is_resting (slot_at r.slots m) now ≡ false) (sym same)
+                (ap (λ s. is_resting (slot_at s n) now) one.slots ∙ one.rested (ap (sets.contains r.free) (sym same) ∙ held)))
+            | inr other ↦ elim (some.rested j (sym (one.others j other) ∙ held)) [
+              | inl was ↦ inl was
+              | inr awake ↦ inr (ap (λ s. is_resting (slot_at s j) now) one.slots ∙ awake)
+            ]
           ];
       since = λ j. subst (λ m. (state g w.front).since m j ≡ (state g u.front).since m j) some.number (one.since j) ∙ some.since j;
-      above = λ j high. one.others j (omega (arith, high)) ∙ some.above j (omega (arith, high));
+      others = λ j out.
+          let before = out_before from n j order out in
+          one.others j before.0 ∙ some.others j before.1;
       look = look_stepped g u (probe_entry (Caller by) q.number n one.found) w one.step holds.caller ∙ some.look;
       loses = loses_then p q r some.loses one.loses;
     }
-  where
-    here : (z : ℕ) → n ≡ 0 + length some.founds
-    here z = omega (arith, some.count)
+
+-- what was found of slots that are held free as before
+full-same : (q r : Part) (now k : ℕ) (founds : List (Option Status)) → r.slots ≡ q.slots
+    → ((j : ℕ) → k ≤ j → sets.contains r.free j ≡ sets.contains q.free j) → AreFull q now k founds → AreFull r now k founds
+full-same q r now k [] slots same full = tt
+full-same q r now k (x ∷ founds) slots same full = (
+  λ away. subst (λ s. (is_taken x ≡ true) ⊎ (is_resting (slot_at s k) now ≡ true)) (sym slots) (full.0 (sym (same k (omega arith)) ∙ away)),
+  full-same q r now (k + 1) founds slots (λ j low. same j (omega (arith, low))) full.1,
+)
+
+-- the slots of a round were looked at
+pub looks_around : (g : Settings) (v : View) (by now : ℕ) (p q r : Part) (round : Round (length p.slots)) (u w : View)
+    → ((k : ℕ) → sets.contains p.free k ≡ false) → LooksAtSome g v by now p q round.from (round.from + round.ahead) u
+    → LooksAtSome g u by now q r 0 round.behind w → LooksAround g v by now p r w
+looks_around g v by now p q r round u w none first second =
+    let front : List Entry = probes_from by p.number round.from first.founds in
+    let back : List Entry = probes_from by p.number 0 second.founds in
+    let call : TakesPlace g u back w = subst (λ n. TakesPlace g u (probes_from by n 0 second.founds) w) first.number second.call in
+    let apart : (j : ℕ) → round.from ≤ j → sets.contains r.free j ≡ sets.contains q.free j = λ j low.
+    second.others j (inr (omega (arith, low, round.apart))) in
+    record {
+      round = round;
+      probes = front ++ back;
+      finds = record {
+        ahead = first.founds;
+        behind = second.founds;
+        many_ahead = omega (arith, first.count);
+        many_behind = omega (arith, second.count);
+        full_ahead = full-same q r now round.from first.founds second.slots apart first.full;
+        full_behind = second.full;
+        probes_are = refl;
+      };
+      call = takes_place_then g v u w front back first.call call;
+      stands = second.stands;
+      number = second.number ∙ first.number;
+      slots = second.slots ∙ first.slots;
+      arms = second.arms ∙ first.arms;
+      rested = λ j held. elim (second.rested j held) [
+        | inl was ↦ elim (first.rested j was) [
+          | inl before ↦ (let no : true ≡ false = sym before ∙ none j in absurd cc)
+          | inr awake ↦ ap (λ s. is_resting (slot_at s j) now) second.slots ∙ awake
+        ]
+        | inr awake ↦ awake
+      ];
+      since = λ j. subst (λ n. (state g w.front).since n j ≡ (state g u.front).since n j) first.number (second.since j) ∙ first.since j;
+      look = second.look ∙ first.look;
+      loses = loses_then p q r first.loses second.loses;
+    }
+
+-- the entries of looks at slots are such looks
+pub are_probes : (by w k : ℕ) (founds : List (Option Status)) → AreProbes (Caller by) w (probes_from by w k founds)
+are_probes by w k [] = tt
+are_probes by w k (found ∷ founds) = (k, found, refl, are_probes by w (k + 1) founds)
+
+round_are_probes : (by now w : ℕ) (q : Part) {slots : ℕ} (round : Round slots) (probes : List Entry) → FindsRound by now w q round probes
+    → AreProbes (Caller by) w probes
+round_are_probes by now w q round probes finds =
+    subst (AreProbes (Caller by) w) (sym finds.probes_are)
+    (probes-append (Caller by) w (probes_from by w round.from finds.ahead) (probes_from by w 0 finds.behind) (are_probes by w round.from finds.ahead)
+    (are_probes by w 0 finds.behind))
 
 -- the part stands when a slot is held free no more
 picked_stands : (g : Settings) (v : View) (p q : Part) (k : ℕ) → Stands g v.front p → q ≡ picked p k → Stands g v.front q
@@ -278,7 +349,8 @@ loses_picked p k = record { number = refl; slots = refl; left = λ j key is. is;
 pub takes_first : (g : Settings) (v : View) (by now : ℕ) (p q : Part) (k : ℕ) → Stands g v.front p → now ≡ clock_at g (state g v.front)
     → q ≡ picked p k → IsFree q k → sets.contains p.free k ≡ true → TakesSlot g v by now p q (Some k) v
 takes_first g v by now p q k stands told is free held = record {
-  founds = [];
+  probes = [];
+  are_probes = tt;
   call = record { actors = refl; legal = stands.legal; later = []; grown = sym (append-nil v.front); ours = refl };
   stands = picked_stands g v p q k stands is;
   number = ap (λ (x : Part). x.number) is;
@@ -293,9 +365,9 @@ takes_first g v by now p q k stands told is free held = record {
 }
 
 -- a slot that is held free after the looks doesn't rest
-rested_then : (g : Settings) (v : View) (by now : ℕ) (p q : Part) (n k : ℕ) (u : View) → Stands g v.front p → now ≡ clock_at g (state g v.front)
-    → LooksAtSome g v by now p q n u → k < g.slots → sets.contains q.free k ≡ true → (turned (uses_at (state g u.front) q.number k)).since ≤ now
-rested_then g v by now p q n k u stands told some low held =
+rested_then : (g : Settings) (v : View) (by now : ℕ) (p q : Part) (k : ℕ) (u : View) → Stands g v.front p → now ≡ clock_at g (state g v.front)
+    → LooksAround g v by now p q u → k < g.slots → sets.contains q.free k ≡ true → (turned (uses_at (state g u.front) q.number k)).since ≤ now
+rested_then g v by now p q k u stands told some low held =
     rested_by (state g u.front) q.number k now (slot_at q.slots k) (some.stands.holds.lasts k low) (some.stands.holds.aboves k low)
     (begun q.number some.number) (some.rested k held)
   where
@@ -304,37 +376,39 @@ rested_then g v by now p q n k u stands told some low held =
         subst (λ m. (state g u.front).since m k ≤ now) (sym same)
         (omega (arith, told, some.since k, rounds_begun g v.front p.number k stands.checked stands.legal))
 
--- none was, and all were looked at
-pub takes_then : (g : Settings) (v : View) (by now : ℕ) (p p' q r : Part) (n : ℕ) (slot : Option ℕ) (u : View) → Stands g v.front p
-    → now ≡ clock_at g (state g v.front) → p' ≡ p → n ≡ length p.slots → LooksAtSome g v by now p' q n u
+-- none was, and those of a round were looked at
+pub takes_then : (g : Settings) (v : View) (by now : ℕ) (p p' q r : Part) (slot : Option ℕ) (u : View) → Stands g v.front p
+    → now ≡ clock_at g (state g v.front) → p' ≡ p → LooksAround g v by now p' q u
     → IfNone slot ((k : ℕ) → sets.contains q.free k ≡ false) → IfNone slot (r ≡ q)
     → IfSome slot (λ k. sets.contains q.free k ≡ true) → IfSome slot (λ k. r ≡ picked q k) → IfSome slot (IsFree r)
     → TakesSlot g v by now p r slot u
-takes_then g v by now p p' q r n None u stands told same many some none left held is free =
-    let here = subst (λ (x : Part). LooksAtSome g v by now x q n u) same some in
+takes_then g v by now p p' q r None u stands told same some none left held is free =
+    let here = subst (λ (x : Part). LooksAround g v by now x q u) same some in
     record {
-      founds = here.founds;
+      probes = here.probes;
+      are_probes = round_are_probes by now p.number q here.round here.probes here.finds;
       call = here.call;
       stands = subst (λ (x : Part). Stands g u.front x) (sym left) here.stands;
       number = ap (λ (x : Part). x.number) left ∙ here.number;
       slots = ap (λ (x : Part). x.slots) left ∙ here.slots;
       arms = ap (λ (x : Part). x.arms) left ∙ here.arms;
-      finds = (
-        here.count ∙ many,
-        subst (λ (x : Part). AreFull x now 0 here.founds) (sym left) here.full,
-        λ j. ap (λ (x : Part). sets.contains x.free j) left ∙ none j,
-      );
+      finds = record {
+        round = here.round;
+        finds = subst (λ (x : Part). FindsRound by now p.number x here.round here.probes) (sym left) here.finds;
+        none = λ j. ap (λ (x : Part). sets.contains x.free j) left ∙ none j;
+      };
       usable = tt;
       rested = tt;
       look = here.look;
       loses = subst (LosesRows p) (sym left) here.loses;
     }
-takes_then g v by now p p' q r n (Some k) u stands told same many some none left held is free =
-    let here = subst (λ (x : Part). LooksAtSome g v by now x q n u) same some in
+takes_then g v by now p p' q r (Some k) u stands told same some none left held is free =
+    let here = subst (λ (x : Part). LooksAround g v by now x q u) same some in
     let low : k < g.slots =
     omega (arith, free.low, ap (λ (x : Part). length x.slots) is, here.stands.holds.many) in
     record {
-      founds = here.founds;
+      probes = here.probes;
+      are_probes = round_are_probes by now p.number q here.round here.probes here.finds;
       call = here.call;
       stands = picked_stands g u q r k here.stands is;
       number = ap (λ (x : Part). x.number) is ∙ here.number;
@@ -343,7 +417,14 @@ takes_then g v by now p p' q r n (Some k) u stands told same many some none left
       finds = free;
       usable = ap (λ (x : Part). is_taken ((state g u.front).status (last_timer x.number x.slots k))) is ∙ here.stands.holds.free k held;
       rested = subst (λ (x : Part). (turned (uses_at (state g u.front) x.number k)).since ≤ now) (sym is)
-          (rested_then g v by now p q n k u stands told here low held);
+          (rested_then g v by now p q k u stands told here low held);
       look = here.look;
       loses = loses_then p q r here.loses (subst (LosesRows q) (sym is) (loses_picked q k));
     }
+
+-- the clock doesn't go back while looks take place
+pub clock_taken : (g : Settings) (v : View) (es : List Entry) (u : View) → IsChecked g → TakesPlace g v es u
+    → clock_at g (state g v.front) ≤ clock_at g (state g u.front)
+clock_taken g v es u checked takes =
+    subst (λ (h : List Entry). clock_at g (state g v.front) ≤ clock_at g (state g h)) (sym takes.grown)
+    (clock_rises g v.front takes.later checked (subst (Legal g) takes.grown takes.legal))

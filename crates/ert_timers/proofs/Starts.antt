@@ -13,7 +13,7 @@ use Rattle.ert_defs.specs.declared.settings.Settings.{Settings}
 use Rattle.ert_defs.specs.declared.timer.Start.{Start}
 use Rattle.ert_defs.specs.declared.timer.Status.{Status}
 use Rattle.ert_defs.specs.declared.timer.TimerRef.{TimerRef}
-use Rattle.ert_effects.specs.TimerCalls.{AreProbes, AreTaken, Rests, Starts}
+use Rattle.ert_effects.specs.TimerCalls.{AreTaken, Rests, Round, IsRoundTaken, Starts}
 use Rattle.ert_effects.specs.declared.answers.StartErr.{StartErr}
 use Rattle.ert_effects.specs.declared.answers.StartErr.TheVariants.{BadArg, Full}
 use Rattle.ert_calls.proofs.Looks.{look_stepped}
@@ -47,11 +47,6 @@ pub ahead_stands : (g : Settings) (v : View) (by : ℕ) (start : Start) (ahead :
     → HoldsCaller g v by p.number → LooksAhead g v by start ahead u → Stands g u.front p
 ahead_stands g v by start ahead u p stands holds looks =
     stands_step g v (look_entry (Caller by) looks.now) u p stands looks.step holds.wheel (record { arm = refl; expire = refl; orphan = refl })
-
--- the entries of looks at slots are such looks
-are_probes : (by w k : ℕ) (founds : List (Option Status)) → AreProbes (Caller by) w (probes_from by w k founds)
-are_probes by w k [] = tt
-are_probes by w k (found ∷ founds) = (k, found, refl, are_probes by w (k + 1) founds)
 
 -- the look of a start that is accepted
 record IsAhead (g : Settings) (start : Start) (looked : ℤ) (ahead : Ahead) : Type 0 where
@@ -94,28 +89,53 @@ are_taken by w now s q k (suc n) (found ∷ founds) many none lasts aboves full 
     one (inl taken) = inl taken
     one (inr rests) = inr (rests_by s w k now (slot_at q.slots k) (lasts k (omega arith)) (aboves k (omega arith)) rests)
 
+-- a round of as many slots
+abbrev round_of : (n m : ℕ) → n ≡ m → Round n → Round m
+round_of n m same round = record {
+  from = round.from;
+  ahead = round.ahead;
+  behind = round.behind;
+  within = omega (arith, round.within, same);
+  apart = round.apart;
+  all = λ few. round.all (omega (arith, few, same)) ∙ same;
+  many = λ many. round.many (omega (arith, many, same));
+}
+
 -- a start for which no slot was found
 pub is_full : (g : Settings) (v : View) (by : ℕ) (p q : Part) (start : Start) (ahead : Option Ahead) (a : Ahead) (slot : Option ℕ) (u x : View)
     → Stands g v.front p → ahead ≡ Some a → slot ≡ None → LooksAhead g v by start ahead u → TakesSlot g u by a.now p q slot x
     → IsMade g v (Starts g by p.number start (Err Full)) x
 is_full g v by p q start ahead a slot u x stands has none looks takes =
     let all = subst (λ s. TakesSlot g u by a.now p q s x) none takes in
-    let probes : List Entry = probes_from by p.number 0 all.founds in
     let is = is_ahead g v by start ahead a u looks has in
     let s : State = state g v.front in
+    let round : Round g.slots = round_of (length p.slots) g.slots stands.holds.many all.finds.round in
+    let lasts : (j : ℕ) → j < g.slots → (slot_at q.slots j).generation ≡ s.last p.number j = λ j low.
+    ap (λ ss. (slot_at ss j).generation) all.slots ∙ stands.holds.lasts j low in
+    let aboves : (j : ℕ) → j < g.slots → (slot_at q.slots j).above ≡ s.above p.number j = λ j low.
+    ap (λ ss. (slot_at ss j).above) all.slots ∙ stands.holds.aboves j low in
     record {
-      entries = look_entry (Caller by) looks.now ∷ probes;
+      entries = look_entry (Caller by) looks.now ∷ all.probes;
       allowed = record {
         now = looks.now;
-        probes = probes;
+        probes = all.probes;
         accepted = λ no_deadline. (let e : Some a.deadline ≡ None = sym is.told ∙ no_deadline in cc);
-        are_taken = inl (subst (λ n. AreTaken by p.number n s 0 g.slots probes) (ap natural is.down_to)
-            (are_taken by p.number a.now s q 0 g.slots all.founds (all.finds.0 ∙ stands.holds.many) all.finds.2
-            (λ j low. ap (λ ss. (slot_at ss j).generation) all.slots ∙ stands.holds.lasts j (omega (arith, low)))
-            (λ j low. ap (λ ss. (slot_at ss j).above) all.slots ∙ stands.holds.aboves j (omega (arith, low))) all.finds.1));
+        are_taken = inl (
+          round,
+          subst (λ n. IsRoundTaken by p.number n s round all.probes) (ap natural is.down_to) (record {
+            first = probes_from by p.number round.from all.finds.finds.ahead;
+            second = probes_from by p.number 0 all.finds.finds.behind;
+            onward = are_taken by p.number a.now s q round.from round.ahead all.finds.finds.ahead all.finds.finds.many_ahead all.finds.none
+                (λ j low. lasts j (omega (arith, low, round.within))) (λ j low. aboves j (omega (arith, low, round.within))) all.finds.finds.full_ahead;
+            around = are_taken by p.number a.now s q 0 round.behind all.finds.finds.behind all.finds.finds.many_behind all.finds.none
+                (λ j low. lasts j (omega (arith, low, round.apart, round.within))) (λ j low. aboves j (omega (arith, low, round.apart, round.within)))
+                all.finds.finds.full_behind;
+            entries = all.finds.finds.probes_are;
+          }),
+        );
         entries = refl;
       };
-      call = takes_place_then g v u x (look_entry (Caller by) looks.now ∷ []) probes
+      call = takes_place_then g v u x (look_entry (Caller by) looks.now ∷ []) all.probes
           (step_takes_place g v (look_entry (Caller by) looks.now) u looks.step) all.call;
     }
 
@@ -176,7 +196,7 @@ pub is_started : (g : Settings) (v : View) (by : ℕ) (p q r s : Part) (start : 
     → Ends g y by r s start.dest timer z → IsMade g v (Starts g by p.number start (Ok timer)) z
 is_started g v by p q r s start ahead now slot k next timer u x y z looks takes arms ends =
     let look : Entry = look_entry (Caller by) looks.now in
-    let probes : List Entry = probes_from by p.number 0 takes.founds in
+    let probes : List Entry = takes.probes in
     let tail : List Entry = mark_entry (Caller by) start.dest false ends.was ∷ ends.closing in
     let two : TakesPlace g x (arm_entry by timer start ∷ tail) z =
     takes_place_then g x y z (arm_entry by timer start ∷ []) tail (step_takes_place g x (arm_entry by timer start) y arms.step) ends.call in
@@ -190,7 +210,7 @@ is_started g v by p q r s start ahead now slot k next timer u x y z looks takes 
         was = ends.was;
         closing = ends.closing;
         on_wheel = ap (λ (t : TimerRef). t.wheel) arms.holds.named ∙ (ap (λ (a : Part). a.number) arms.part ∙ takes.number);
-        are_probes = are_probes by p.number 0 takes.founds;
+        are_probes = takes.are_probes;
         closes = ends.closes;
         entries = refl;
       };

@@ -1,6 +1,6 @@
 -- A start of a part: the slots that are looked at, the arming, and what follows from an exit.
 
-use Rattle.std.specs.Prelude.{◌≡◌, ◌≢◌, ◌⊎◌, ℕ, ◌+◌, ◌<◌, ◌≤◌, Bool, true, false, List, [], ◌∷◌, length, Option, Some, None, IfSome, Ok}
+use Rattle.std.specs.Prelude.{◌≡◌, ◌≢◌, ◌⊎◌, ℕ, ◌+◌, ◌<◌, ◌≤◌, Bool, true, false, List, [], ◌∷◌, ◌++◌, length, Option, Some, None, IfSome, Ok}
 use Rattle.std.specs.FinSet as set
 use Rattle.ert_defs.specs.Entries.{probe_entry, arm_entry, mark_entry}
 use Rattle.ert_defs.specs.Milliseconds.{natural, down, deadline_of}
@@ -12,7 +12,7 @@ use Rattle.ert_defs.specs.declared.settings.Settings.{Settings}
 use Rattle.ert_defs.specs.declared.timer.Start.{Start}
 use Rattle.ert_defs.specs.declared.timer.Status.{Status}
 use Rattle.ert_defs.specs.declared.timer.TimerRef.{TimerRef}
-use Rattle.ert_effects.specs.TimerCalls.{Closes}
+use Rattle.ert_effects.specs.TimerCalls.{AreProbes, Closes, Round}
 use Rattle.ert_effects.specs.WheelCalls.{orphans_by, IsSettled}
 use Rattle.ert_table.specs.Settlings.{Shown}
 use Rattle.ert_table.specs.Takes.{Appends, TakesPlace}
@@ -96,36 +96,68 @@ AreFull q now k [] = Unit {0}
 AreFull q now k (found ∷ founds) =
     (set.contains q.free k ≡ false → (is_taken found ≡ true) ⊎ (is_resting (slot_at q.slots k) now ≡ true)) × AreFull q now (k + 1) founds
 
--- so many slots were looked at, in order; no slot from there on is held free
-pub record LooksAtSome (g : Settings) (v : View) (by now : ℕ) (p q : Part) (n : ℕ) (u : View) : Type 0 where
+-- slots from one on, up to another, were looked at in order; of the others no slot is held free that wasn't
+pub record LooksAtSome (g : Settings) (v : View) (by now : ℕ) (p q : Part) (from to : ℕ) (u : View) : Type 0 where
   pub founds : List (Option Status)
-  pub call : TakesPlace g v (probes_from by p.number 0 founds) u
-  pub count : length founds ≡ n
+  pub call : TakesPlace g v (probes_from by p.number from founds) u
+  pub count : from + length founds ≡ to
   pub stands : Stands g u.front q
   pub number : q.number ≡ p.number
   pub slots : q.slots ≡ p.slots
   pub arms : q.arms ≡ p.arms
-  pub full : AreFull q now 0 founds
-  pub rested : (j : ℕ) → set.contains q.free j ≡ true → is_resting (slot_at q.slots j) now ≡ false
+  pub full : AreFull q now from founds
+  pub rested : (j : ℕ) → set.contains q.free j ≡ true → (set.contains p.free j ≡ true) ⊎ (is_resting (slot_at q.slots j) now ≡ false)
   pub since : (j : ℕ) → (state g u.front).since p.number j ≡ (state g v.front).since p.number j
-  pub above : (j : ℕ) → n ≤ j → set.contains q.free j ≡ false
+  pub others : (j : ℕ) → (j < from) ⊎ (to ≤ j) → set.contains q.free j ≡ set.contains p.free j
   pub look : (state g u.front).looked (Caller by) ≡ (state g v.front).looked (Caller by)
   pub loses : LosesRows p q
 
--- a slot that can take a timer is found, after looks at some slots; or none is after looks at all
-abbrev pub FindsSlot : ℕ → Part → Part → Option ℕ → List (Option Status) → Type 0
-FindsSlot now p q (Some slot) founds = IsFree q slot
-FindsSlot now p q None founds = (length founds ≡ length p.slots) × AreFull q now 0 founds × ((j : ℕ) → set.contains q.free j ≡ false)
+-- the slots of a round were found so
+pub record FindsRound (by now wheel : ℕ) (q : Part) {slots : ℕ} (round : Round slots) (probes : List Entry) : Type 0 where
+  pub ahead : List (Option Status)
+  pub behind : List (Option Status)
+  pub many_ahead : length ahead ≡ round.ahead
+  pub many_behind : length behind ≡ round.behind
+  pub full_ahead : AreFull q now round.from ahead
+  pub full_behind : AreFull q now 0 behind
+  pub probes_are : probes ≡ probes_from by wheel round.from ahead ++ probes_from by wheel 0 behind
 
--- slots were looked at in order from the first on, and one that can take a timer was found, or none
-pub record TakesSlot (g : Settings) (v : View) (by now : ℕ) (p q : Part) (slot : Option ℕ) (u : View) : Type 0 where
-  pub founds : List (Option Status)
-  pub call : TakesPlace g v (probes_from by p.number 0 founds) u
+-- the slots of a round were looked at, where none was held free
+pub record LooksAround (g : Settings) (v : View) (by now : ℕ) (p q : Part) (u : View) : Type 0 where
+  pub round : Round (length p.slots)
+  pub probes : List Entry
+  pub finds : FindsRound by now p.number q round probes
+  pub call : TakesPlace g v probes u
   pub stands : Stands g u.front q
   pub number : q.number ≡ p.number
   pub slots : q.slots ≡ p.slots
   pub arms : q.arms ≡ p.arms
-  pub finds : FindsSlot now p q slot founds
+  pub rested : (j : ℕ) → set.contains q.free j ≡ true → is_resting (slot_at q.slots j) now ≡ false
+  pub since : (j : ℕ) → (state g u.front).since p.number j ≡ (state g v.front).since p.number j
+  pub look : (state g u.front).looked (Caller by) ≡ (state g v.front).looked (Caller by)
+  pub loses : LosesRows p q
+
+-- no slot is held free after looks at a round
+pub record FindsNone (by now : ℕ) (p q : Part) (probes : List Entry) : Type 0 where
+  pub round : Round (length p.slots)
+  pub finds : FindsRound by now p.number q round probes
+  pub none : (j : ℕ) → set.contains q.free j ≡ false
+
+-- a slot that can take a timer is found, or none is after looks at a round
+abbrev pub FindsSlot : ℕ → ℕ → Part → Part → Option ℕ → List Entry → Type 0
+FindsSlot by now p q (Some slot) probes = IsFree q slot
+FindsSlot by now p q None probes = FindsNone by now p q probes
+
+-- slots were looked at, and one that can take a timer was found, or none
+pub record TakesSlot (g : Settings) (v : View) (by now : ℕ) (p q : Part) (slot : Option ℕ) (u : View) : Type 0 where
+  pub probes : List Entry
+  pub are_probes : AreProbes (Caller by) p.number probes
+  pub call : TakesPlace g v probes u
+  pub stands : Stands g u.front q
+  pub number : q.number ≡ p.number
+  pub slots : q.slots ≡ p.slots
+  pub arms : q.arms ≡ p.arms
+  pub finds : FindsSlot by now p q slot probes
   pub usable : IfSome slot (λ k. is_taken ((state g u.front).status (last_timer q.number q.slots k)) ≡ false)
   pub rested : IfSome slot (λ k. (turned (uses_at (state g u.front) q.number k)).since ≤ now)
   pub look : (state g u.front).looked (Caller by) ≡ (state g v.front).looked (Caller by)

@@ -13,7 +13,7 @@
 //!
 //! **What others do.** Any thread may cancel a timer by one exchange on its word, and tells the part nothing.
 //! So a held timer may be settled already. An advance finds that out when its own exchange misses; a start
-//! finds it out when it runs out of free slots and looks at every slot. Whoever has the part when a timer is
+//! finds it out when it runs out of free slots and looks for some. Whoever has the part when a timer is
 //! cancelled or its message is handed over says so, by `forget` or `reuse`: then the slot is held free at once, and
 //! no start has to look for it.
 //!
@@ -24,9 +24,10 @@
 //! reference ever names two timers. A slot's round is the first exactly where its last generation is below
 //! 2^43, so nothing is kept of when it began.
 //!
-//! A slot that rests isn't held free. Where a start finds no slot held free and looks at every slot, it holds
-//! those free that have rested by the time of its look. It answers `Full` where each slot is taken or rests, or
-//! where the wheel has had 2^53 timers, which bounds all counts.
+//! A slot that rests isn't held free. Where a start finds no slot held free it looks at `MOST_LOOKS` slots, or at all
+//! where there are fewer, from where the last such look stopped, round and round, and holds those free that have rested
+//! by the time of its look. It answers `Full` where each of them is taken or rests, or where the wheel has had 2^53
+//! timers, which bounds all counts.
 //!
 //! How long a slot rests depends on the longest wait of its round. So the slots that are held free stand in a
 //! row, and one that is freed comes last, since nothing of it is read then. A start looks at the last one. Where that
@@ -39,7 +40,7 @@
 //!
 //! | call | what it does | work |
 //! |---|---|---|
-//! | `start` | looks at the time, stores the word of a free slot, asks whether the destination has exited | constant; every slot once where none is held free |
+//! | `start` | looks at the time, stores the word of a free slot, asks whether the destination has exited | constant; `MOST_LOOKS` slots at most where none is held free |
 //! | `advance` | looks at the time, and tries each due timer in order of deadline and then of start | the due timers and the buckets that are visited |
 //! | `sweep` | tries each timer of a process that has exited | those timers, each once |
 //! | `held_for` | finds a timer of a process that is held | constant, amortized: a slot without a timer leaves the chain |
@@ -50,8 +51,8 @@
 //! | `tally` | counts | none |
 //! | `drop_settled` | with a pass that holds every actor, looks at each timer that is held, and drops the rows of those that others cancelled | every slot once |
 //!
-//! A start that looks at every slot knows from then on all that can be used again; so only where all rest or
-//! are taken does each start look at every slot. Where a window of 512 milliseconds begins, an advance also
+//! A start that looks at slots knows from then on those of them that can be used again; so only where these rest or
+//! are taken does the next start look at others. Where a window of 512 milliseconds begins, an advance also
 //! does work for each timer that is due in it. A sweep does work too for the slots whose last timer went to the
 //! process and was settled.
 //!

@@ -43,6 +43,8 @@ pub struct WheelPart {
     /// How many expired, and how many were cancelled because their destination had exited.
     expires: u64,
     orphans: u64,
+    /// From which slot on a start looks that knows of none that is free.
+    next_look: u32,
     /// The due rows of an advance, kept for the next one.
     due: Vec<Row>,
     alloc: Global,
@@ -114,6 +116,7 @@ impl WheelPart {
             arms: 0,
             expires: 0,
             orphans: 0,
+            next_look: 0,
             due,
             alloc,
         })
@@ -153,6 +156,20 @@ impl WheelPart {
         ensures { result ≡ length self.now.slots }
     {
         self.wheel.slots()
+    }
+
+    /// From which slot on a start looks that knows of none that is free; one past the last means the first.
+    pub(crate) fn next_look(&self) -> u32
+        ensures { result ≤ length self.now.slots }
+    {
+        self.next_look.min(self.slot_count())
+    }
+
+    /// Keeps from which slot on the next such start looks.
+    pub(crate) fn set_next_look(&mut self, slot: u32)
+        ensures { self.new ≡ self.old }
+    {
+        self.next_look = slot;
     }
 
     /// The row of a slot; None where the slot has none.

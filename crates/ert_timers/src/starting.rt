@@ -1,12 +1,12 @@
 //! Timers that are started.
-ghost use Rattle.std.specs.Prelude.{◌≡◌};
+ghost use Rattle.std.specs.Prelude.{◌≡◌, ◌+◌, ◌≤◌};
 ghost use Rattle.ert_defs.specs.Timers as timers;
 ghost use Rattle.ert_timers.specs.Starting.{status_shown};
 
 use crate::looking::{Ahead, look_ahead};
 use crate::part::{Use, WheelPart};
 use ert_defs::{Actor, Start, Status, TimerRef};
-use ert_effects::StartErr;
+use ert_effects::{MOST_LOOKS, StartErr};
 use ert_table::{Desk, Pass, Settle, TimerCarry};
 
 /// How many timers a wheel can have.
@@ -24,14 +24,18 @@ impl WheelPart {
     ghost use Rattle.ert_timers.specs.Changes.{IsFree};
     ghost use Rattle.ert_timers.specs.Parts.{HoldsCaller, Stands, slot_at, last_timer};
     ghost use Rattle.ert_timers.specs.Passed.{GainsOne};
-    ghost use Rattle.ert_timers.specs.Starting.{HoldsTimer, IsUseFor, Orphans, Arms, Ends, LooksAt, LooksAtSome, TakesSlot};
+    ghost use Rattle.ert_timers.specs.Starting.{HoldsTimer, IsUseFor, Orphans, Arms, Ends, LooksAt, LooksAtSome, LooksAround, TakesSlot};
 
     /// Starts a timer for a caller (`erlang` module reference, `start_timer`), by the time that the call
     /// itself looks up.
     ///
-    /// Where no slot is known to be free, every slot is looked at, and it is `Full` only where each is taken or
-    /// rests, or where the wheel has had 2^53 timers. A timer for a process that has exited is started, and
-    /// cancelled at once. No memory is taken.
+    /// Where no slot is known to be free, `MOST_LOOKS` slots are looked at, or all where there are fewer, from where the
+    /// last such look stopped, round and round. It is `Full` only where each of them is taken or rests, or where the
+    /// wheel has had 2^53 timers. Known to be free are the slots whose timer a caller cancelled that held the part, or
+    /// was delivered or dropped, and whose round has uses left. So a look finds none but those whose timer somebody
+    /// cancelled that didn't hold the part, and those whose rest has just ended: of these a start of a wheel with more
+    /// slots may see none, and the next ones go on. A timer for a process that has exited is started, and cancelled at
+    /// once. No memory is taken.
     #[inline(always)]
     pub fn start(
         &mut self,
@@ -66,7 +70,7 @@ impl WheelPart {
         Ok(timer)
     }
 
-    /// A slot that can take a timer. Where none is known to be free, every slot is looked at.
+    /// A slot that can take a timer. Where none is known to be free, slots are looked at.
     #[inline(always)]
     fn take_slot(&mut self, desk: &Desk, pass: &mut Pass, by: u32, ahead: Ahead) -> Option<u32>
         requires belongs { Belongs desk.now pass.old }
@@ -79,24 +83,44 @@ impl WheelPart {
         if let Some(slot) = self.pick(ahead.now, ahead.deadline) {
             return Some(slot);
         }
-        self.look_at_all(desk, pass, by, ahead.now);
+        self.look_around(desk, pass, by, ahead.now);
         self.pick(ahead.now, ahead.deadline)
     }
 
-    /// Looks at every slot, where none is held free, and holds those free that can take a timer at a time in
-    /// milliseconds.
+    /// Looks at `MOST_LOOKS` slots, or at all where there are fewer, where none is held free, and holds those free that
+    /// can take a timer at a time in milliseconds.
     #[cold]
     #[inline(never)]
-    fn look_at_all(&mut self, desk: &Desk, pass: &mut Pass, by: u32, now: u64)
+    fn look_around(&mut self, desk: &Desk, pass: &mut Pass, by: u32, now: u64)
         requires belongs { Belongs desk.now pass.old }
         requires holds { HoldsCaller (settings_of desk.now) (view_of pass.old) by self.old.number }
         requires stands { Stands (settings_of desk.now) (front_of pass.old) self.old }
         requires past { now ≤ natural (down (settings_of desk.now) (state_of desk.now pass.old).clock.now) }
         requires none { (slot : ℕ) → set.contains self.old.free slot ≡ false }
         ensures belongs { Belongs desk.now pass.new }
-        ensures call { LooksAtSome (settings_of desk.now) (view_of pass.old) by now self.old self.new (length self.old.slots) (view_of pass.new) }
+        ensures call { LooksAround (settings_of desk.now) (view_of pass.old) by now self.old self.new (view_of pass.new) }
     {
-        for slot in 0..self.slot_count() {
+        let from = self.next_look();
+        let (ahead, behind) = round(self.slot_count(), from);
+        self.look_at_some(desk, pass, by, now, from, from + ahead);
+        self.look_at_some(desk, pass, by, now, 0, behind);
+        self.set_next_look(if behind == 0 { from + ahead } else { behind });
+    }
+
+    /// Looks at the slots from one on, up to another, where none of them is held free, and holds those free that can
+    /// take a timer at a time in milliseconds.
+    fn look_at_some(&mut self, desk: &Desk, pass: &mut Pass, by: u32, now: u64, from: u32, to: u32)
+        requires belongs { Belongs desk.now pass.old }
+        requires holds { HoldsCaller (settings_of desk.now) (view_of pass.old) by self.old.number }
+        requires stands { Stands (settings_of desk.now) (front_of pass.old) self.old }
+        requires past { now ≤ natural (down (settings_of desk.now) (state_of desk.now pass.old).clock.now) }
+        requires order { from ≤ to }
+        requires low { to ≤ length self.old.slots }
+        requires none { (slot : ℕ) → from ≤ slot → slot < to → set.contains self.old.free slot ≡ false }
+        ensures belongs { Belongs desk.now pass.new }
+        ensures call { LooksAtSome (settings_of desk.now) (view_of pass.old) by now self.old self.new from to (view_of pass.new) }
+    {
+        for slot in from..to {
             self.look_at(desk, pass, by, slot, now);
         }
     }
@@ -200,6 +224,27 @@ impl WheelPart {
     {
         let hit = pass.settle(desk, Actor::Caller(by), timer, deadline, Settle::Orphan);
         self.give_back(timer, hit);
+    }
+}
+
+/// How many slots a start looks at from one on, and how many then from the first on: `MOST_LOOKS` in all, or all.
+fn round(slots: u32, from: u32) -> (u32, u32)
+    requires { from ≤ slots }
+    ensures within { from + result.0 ≤ slots }
+    ensures apart { result.1 ≤ from }
+    ensures all { slots ≤ MOST_LOOKS → result.0 + result.1 ≡ slots }
+    ensures many { MOST_LOOKS ≤ slots → result.0 + result.1 ≡ MOST_LOOKS }
+{
+    let looks = if slots <= MOST_LOOKS {
+        slots
+    } else {
+        MOST_LOOKS
+    };
+    let left = slots - from;
+    if looks <= left {
+        (looks, 0)
+    } else {
+        (left, looks - left)
     }
 }
 

@@ -3,7 +3,8 @@
 use Rattle.std.proofs.Common.{◌≡◌, ℕ, zero, suc, ◌<◌, Bool, true, false, List, [], ◌∷◌, ◌++◌, slice_index_or, Option, Some, None, Result, Ok, Err, inl, inr, refl, sym, ap, subst, ◌∙◌, length}
 use Rattle.std.specs.Prelude.{slice_set}
 use Rattle.ert_effects.proofs.Advanced.{IsAdvance, advance_is}
-use Rattle.ert_effects.specs.TimerCalls.{Starts, Closes, AreProbes, AreTaken}
+use Rattle.ert_effects.proofs.Told.{round_probes}
+use Rattle.ert_effects.specs.TimerCalls.{Starts, Closes, AreProbes}
 use Rattle.ert_effects.specs.Chains.{SweepsWheel}
 use Rattle.ert_effects.specs.WheelCalls.{Advances, Sweeps, IsSwept, Try, expires_by, expiry_entries, orphans_by, orphan_entries}
 use Rattle.ert_effects.specs.Ways.{Growth, Way}
@@ -45,10 +46,6 @@ probes_calm : (by : Actor) (w : ℕ) (es : List Entry) → AreProbes by w es →
 probes_calm by w [] are = tt
 probes_calm by w (e ∷ es) are = (ap (λ (x : Entry). is_cancel x.event) are.2, probes_calm by w es are.3)
 
-taken_calm : (by w now : ℕ) (s : State) (slot n : ℕ) (es : List Entry) → AreTaken by w now s slot n es → AreCalm es
-taken_calm by w now s slot zero es are = calm_as es [] are tt
-taken_calm by w now s slot (suc n) es are = calm_as es _ are.2 (refl, taken_calm by w now s (suc slot) n are.1 are.4)
-
 closing_calm : (was : Bool) (by : ℕ) (timer : TimerRef) (es : List Entry) → Closes was by timer es → AreCalm es
 closing_calm false by timer es closes = calm_as es [] closes tt
 closing_calm true by timer es (inl hit) = calm_as es _ hit (refl, tt)
@@ -67,7 +64,7 @@ starts_calm g by w start (Err Full) s es starts =
     calm_as es _ starts.entries (
       refl,
       elim starts.are_taken [
-        | inl taken ↦ taken_calm by w _ s 0 g.slots starts.probes taken
+        | inl found ↦ probes_calm (Caller by) w starts.probes (round_probes by w _ s found.0 starts.probes found.1)
         | inr many ↦ calm_as starts.probes [] many.1 tt
       ],
     )

@@ -107,7 +107,10 @@ static void bad_settings(void) {
     s = plain, s.first.sys = INT64_MIN, refuse(s, ERT_BAD_READING);
     s = plain, s.schedulers = 1025, refuse(s, ERT_BAD_COUNT);
     s = plain, s.processes = 0, refuse(s, ERT_BAD_COUNT);
+    s = plain, s.processes = 524289, refuse(s, ERT_BAD_COUNT);
+    s = plain, s.schedulers = 1024, s.processes = 65537, refuse(s, ERT_BAD_COUNT);
     s = plain, s.slots = 16777217, refuse(s, ERT_BAD_COUNT);
+    s = plain, s.schedulers = 5, s.slots = 16777216, refuse(s, ERT_BAD_COUNT);
     s = plain, s.callers = 1026, refuse(s, ERT_BAD_COUNT);
 }
 

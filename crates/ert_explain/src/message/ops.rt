@@ -82,7 +82,10 @@ pub(super) fn write_excess(page: &mut String, excess: Excess) -> Result<(), Allo
                 "there are {count} lists of callers, and at most {MOST_LISTS} may be"
             )
         }
-        Excess::Turns(turns) => write!(page, "there are {turns} turns, and at most {MOST_TURNS} may be"),
+        Excess::Turns(turns) => write!(
+            page,
+            "there are {turns} turns, and at most {MOST_TURNS} may be"
+        ),
         Excess::Ops => write!(page, "there are more than {MOST_OPS} ops"),
     }
 }

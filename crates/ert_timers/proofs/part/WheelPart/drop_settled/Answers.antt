@@ -1,6 +1,5 @@
-use Rattle.std.proofs.Common.{◌≡◌, List, length, refl, sym, ap, subst, ◌∙◌, arith}
-use Rattle.ert_defs.specs.declared.entry.Entry.{Entry}
-use Rattle.ert_table.specs.Desks.{settings_of, view_of, front_of, actors_of}
+use Rattle.std.proofs.Common.{length, refl, sym, ap, subst, ◌∙◌, arith}
+use Rattle.ert_table.specs.Desks.{settings_of, front_of}
 use Rattle.ert_table.specs.Held.{IsWhole}
 use Rattle.ert_table.specs.declared.view.View.{View}
 use Rattle.ert_timers.specs.Dropping.{DropsRow}

@@ -1,4 +1,4 @@
-use Rattle.std.proofs.Common.{length, sym, ap, subst, ◌∙◌}
+use Rattle.std.proofs.Common.{sym, ap, subst, ◌∙◌}
 use Rattle.std.specs.FinSet as sets
 use Rattle.ert_table.specs.Desks.{settings_of, view_of}
 use Rattle.ert_timers.specs.Parts.{HoldsCaller, Part, Stands}
@@ -11,23 +11,23 @@ returns-in-Some-clause-call c =
     c.requires.now
     c.in-Some.ensures.picked c.in-Some.ensures.usable c.in-Some.ensures.held
 
-pub look_at_all-requires-clause-none : goal.look_at_all-requires-clause-none
-look_at_all-requires-clause-none c = λ slot.
+pub look_around-requires-clause-none : goal.look_around-requires-clause-none
+look_around-requires-clause-none c = λ slot.
     ap (λ (p : Part). sets.contains p.free slot) c.in_default.ensures.unchanged ∙ c.in_default.ensures.none slot
 
-pub look_at_all-requires-clause-holds : goal.look_at_all-requires-clause-holds
-look_at_all-requires-clause-holds c =
+pub look_around-requires-clause-holds : goal.look_around-requires-clause-holds
+look_around-requires-clause-holds c =
     subst (λ (p : Part). HoldsCaller (settings_of c.args.desk.now) (view_of c.args.pass.now) c.args.by p.number) (sym c.in_default.ensures.unchanged)
     c.requires.holds
 
-pub look_at_all-requires-clause-stands : goal.look_at_all-requires-clause-stands
-look_at_all-requires-clause-stands c =
+pub look_around-requires-clause-stands : goal.look_around-requires-clause-stands
+look_around-requires-clause-stands c =
     subst (λ (p : Part). Stands (settings_of c.args.desk.now) (view_of c.args.pass.now).front p) (sym c.in_default.ensures.unchanged)
     c.requires.stands
 
 pub returns-clause-call : goal.returns-clause-call
 returns-clause-call c =
-    takes_then (settings_of c.args.desk.now) (view_of c.args.pass.now) c.args.by c.args.ahead.now c.args.self.now c.pick.new.self c.look_at_all.new.self
-    c.pick-2.new.self (length c.pick.new.self.slots) c.pick-2.result (view_of c.look_at_all.new.pass) c.requires.stands c.requires.now c.in_default.ensures.unchanged
-    (ap (λ (p : Part). length p.slots) c.in_default.ensures.unchanged) c.look_at_all.ensures.call c.pick-2.ensures.none c.pick-2.ensures.unchanged
+    takes_then (settings_of c.args.desk.now) (view_of c.args.pass.now) c.args.by c.args.ahead.now c.args.self.now c.pick.new.self c.look_around.new.self
+    c.pick-2.new.self c.pick-2.result (view_of c.look_around.new.pass) c.requires.stands c.requires.now c.in_default.ensures.unchanged
+    c.look_around.ensures.call c.pick-2.ensures.none c.pick-2.ensures.unchanged
     c.pick-2.ensures.held c.pick-2.ensures.picked c.pick-2.ensures.usable
