@@ -2,7 +2,7 @@ ghost use Rattle.std.specs.Prelude.{◌≡◌};
 ghost use Rattle.ert_audit.specs.Audits.{code_of};
 
 /// How an audit ended.
-#[derive(Clone, Copy, Debug, PartialEq, Eq)]
+#[derive(Clone, Copy)]
 pub enum AuditStatus {
     /// The history is legal; the number of its entries was written.
     Legal,

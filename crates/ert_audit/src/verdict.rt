@@ -9,7 +9,7 @@ use std::alloc::{AllocError, Global};
 use std::fmt::Write;
 
 /// What is said of a text.
-#[derive(Clone, Copy, Debug, PartialEq, Eq)]
+#[derive(Clone, Copy)]
 pub enum Verdict {
     /// It spells a legal history of so many entries.
     Legal { entries: usize },

@@ -5,7 +5,7 @@ ghost use Rattle.ert_locks.specs.Names.{IsDesk};
 ghost use Rattle.ert_world.specs.Parts.{parts_of};
 ghost use Rattle.ert_world.specs.Worlds.{AreFit};
 
-use crate::bench_err::{BenchErr, expect};
+use crate::bench_err::BenchErr;
 use crate::passes::{PASSES, Passes};
 use crate::stopwatch::Stopwatch;
 use ert_calls::{cancel_timer, monotonic_time};
@@ -37,7 +37,7 @@ const TICKS: u32 = 1_000_000;
 const APART: u32 = 16;
 
 /// What the threads of a service do.
-#[derive(Clone, Copy, Debug, PartialEq, Eq)]
+#[derive(Clone, Copy)]
 pub(crate) enum Job {
     /// Each starts and cancels timers on a wheel of its own.
     OwnWheels,
@@ -131,32 +131,31 @@ fn measure_on<L: DeskName + Send + Sync, R: AllocGlobal + Threads + Wait + Sync,
     Ok(passes)
 }
 
-/// What a thread does in a pass of a job, and whether each call did what it has to.
+/// What a thread does in a pass of a job. It gives its seat back where each call did what it has to.
 fn do_job<L: DeskName, R: Wait>(
     rt: &R,
     service: &Service<L>,
     mut seat: CallerSeat<L>,
     job: Job,
     pass: u32,
-) -> (CallerSeat<L>, bool) {
+) -> Option<CallerSeat<L>> {
     let wheel = seat.number;
     let all = match job {
         Job::OwnWheels => start_and_cancel(rt, service, &mut seat, wheel),
         Job::OneWheel => start_and_cancel(rt, service, &mut seat, 0),
         Job::TimeBesideTicks => read_or_tick(rt, service, &mut seat, pass),
     };
-    (seat, all)
+    if all { Some(seat) } else { None }
 }
 
 /// The seats of the threads, where each of these did all its calls.
 fn seats_of<L: DeskName>(
     alloc: Global,
-    done: Vec<(CallerSeat<L>, bool)>,
+    done: Vec<Option<CallerSeat<L>>>,
 ) -> Result<Vec<CallerSeat<L>>, BenchErr> {
     let mut seats = Vec::with_capacity(alloc, done.len())?;
-    for (seat, all) in done {
-        expect(all)?;
-        seats.push(seat)?;
+    for seat in done {
+        seats.push(seat.ok_or(BenchErr::Unexpected)?)?;
     }
     Ok(seats)
 }
