@@ -3,3 +3,4 @@ pub mod Cast
 pub mod Heap
 pub mod Sharing
 pub mod Ways
+mod Placed
