@@ -30,10 +30,14 @@ pub(crate) fn bytes_of_sizes<R: Files + AllocGlobal>(rt: &R) -> Result<Vec<u64>,
 /// The bytes of memory that the process has (Linux, `proc(5)`, the second word of `statm`).
 fn resident<R: Files + AllocGlobal>(rt: &R) -> Result<u64, BenchErr> {
     let text = fs::read_to_string(rt, "/proc/self/statm").map_err(|_| BenchErr::Unexpected)?;
-    let pages = text
-        .split_whitespace()
-        .nth(1)
-        .and_then(|word| word.parse::<u64>().ok())
-        .ok_or(BenchErr::Unexpected)?;
+    let word = text.split_whitespace().nth(1);
+    let pages = number(word.ok_or(BenchErr::Unexpected)?)?;
     Ok(pages.saturating_mul(PAGE_BYTES))
+}
+
+fn number(word: &str) -> Result<u64, BenchErr> {
+    match word.parse() {
+        Ok(number) => Ok(number),
+        Err(_) => Err(BenchErr::Unexpected),
+    }
 }

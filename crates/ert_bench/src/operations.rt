@@ -3,7 +3,7 @@ ghost use Rattle.ert_bench.specs.Names.{name_of};
 ghost use Rattle.ert_bench.specs.declared.operations.Operation.{Operation as TheOperation};
 
 /// What can be measured.
-#[derive(Clone, Copy, Debug, PartialEq, Eq)]
+#[derive(Clone, Copy)]
 pub enum Operation {
     /// Monotonic time is read.
     MonotonicTime,

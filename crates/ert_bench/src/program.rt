@@ -15,7 +15,7 @@ use std::thread::Threads;
 const USAGE: &str = "usage: ert_bench [OPERATION]..\n";
 
 /// How a run of the program ended.
-#[derive(Clone, Copy, Debug, PartialEq, Eq)]
+#[derive(Clone, Copy)]
 pub enum BenchStatus {
     /// The table was written.
     Done,

@@ -14,7 +14,7 @@ const PROCESSES: u32 = 1_024;
 const SLOTS: u32 = 65_536;
 
 /// A timer that is outstanding, and what it was started with.
-#[derive(Clone, Copy, Debug)]
+#[derive(Clone, Copy)]
 pub(crate) struct Outstanding {
     timer: TimerRef,
     wait: u32,

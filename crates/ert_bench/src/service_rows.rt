@@ -37,7 +37,7 @@ const TICKS: u32 = 1_000_000;
 const APART: u32 = 16;
 
 /// What the threads of a service do.
-#[derive(Clone, Copy, Debug, PartialEq, Eq)]
+#[derive(Clone, Copy)]
 pub(crate) enum Job {
     /// Each starts and cancels timers on a wheel of its own.
     OwnWheels,

@@ -2,7 +2,7 @@ use std::alloc::AllocError;
 use std::fmt::Write;
 
 /// A line of the table.
-#[derive(Clone, Copy, Debug)]
+#[derive(Clone, Copy)]
 pub(crate) struct Row {
     /// The name of the operation.
     pub operation: &'static str,
