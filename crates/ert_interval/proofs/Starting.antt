@@ -245,9 +245,12 @@ taken_all : (g : Settings) (s : State) (w : ℕ) (now : ℤ) (probes : List Entr
     → FoundFull g w now s probes → IsFull g s w
 taken_all g s w now probes legal (inl taken) =
     let found : now ≡ s.clock.now = legal.0.found in
-    inl (taken.0, λ k within.
-    full_round g s (next g s (look_entry (Caller 0) now)) (natural (down g s.clock.now)) w taken.0 probes (λ j. refl) legal.1
-    (subst (λ x. IsRoundTaken 0 w (natural (down g x)) s taken.0 probes) found taken.1) k within)
+    inl (
+      taken.0,
+      λ k within.
+          full_round g s (next g s (look_entry (Caller 0) now)) (natural (down g s.clock.now)) w taken.0 probes (λ j. refl) legal.1
+          (subst (λ x. IsRoundTaken 0 w (natural (down g x)) s taken.0 probes) found taken.1) k within,
+    )
 taken_all g s w now probes legal (inr many) = inr many.0
 
 found_still : (g : Settings) (w : ℕ) (now : ℤ) (s : State) (probes : List Entry) → FoundFull g w now s probes → AreStill probes

@@ -132,10 +132,13 @@ many_one g s by with b _ w known still many = absurd cc
 
 full_next : (g : Settings) (s : State) (e : Entry) (w : ℕ) → Known g s e.by e.with e.event → is_still e.event ≡ true → IsFull g s w → IsFull g (next g s e) w
 full_next g s e w known still (inl full) =
-    inl (full.0, λ k within.
-    subst (λ (c : Clock). SlotFull (next g s e).status (natural (down g c.now)) w k (uses_at (next g s e) w k))
-    (sym (clock_one g s.clock (has_actor e Keeper) e.event still))
-    (full_one g (s.looked e.by) s.status (λ v. has_actor e (Wheel v)) (uses_at s w k) e.event (natural (down g s.clock.now)) w k still (full.1 k within)))
+    inl (
+      full.0,
+      λ k within.
+          subst (λ (c : Clock). SlotFull (next g s e).status (natural (down g c.now)) w k (uses_at (next g s e) w k))
+          (sym (clock_one g s.clock (has_actor e Keeper) e.event still))
+          (full_one g (s.looked e.by) s.status (λ v. has_actor e (Wheel v)) (uses_at s w k) e.event (natural (down g s.clock.now)) w k still (full.1 k within)),
+    )
 full_next g s e w known still (inr many) = inr (many_one g s e.by e.with (has_actor e (Wheel w)) e.event w known still many)
 
 -- a full wheel stays so
