@@ -1,17 +1,19 @@
 -- How a call through the handle of a hub or of a shard is shown.
 
-use Rattle.std.proofs.Common.{◌≡◌, ℕ, ◌<◌, ◌≤◌, ◌⊎◌, ◌+◌, ◌-◌, ℤ, Option, Some, None, Ok, inr, refl, ap, ◌∙◌, subst, sym, false, arith}
+use Rattle.std.proofs.Common.{◌≡◌, ℕ, ◌<◌, ◌≤◌, ◌⊎◌, ◌+◌, ◌-◌, ℤ, Option, Some, None, Ok, inl, inr, refl, ap, ◌∙◌, subst, sym, false, arith}
 use Rattle.ert_c.specs.HubCalls.{OpensHub}
 use Rattle.ert_c.specs.Opened.{IsRead}
 use Rattle.ert_c.specs.Places.{is_there}
 use Rattle.ert_c.specs.ShardCalls.{HasShard, HasBack, IsRefused, CutsShard, OpensShard, IfHome}
 use Rattle.ert_c.specs.Through.{Through}
 use Rattle.ert_c.specs.declared.opening.ErtSettings.{ErtSettings}
-use Rattle.ert_c.specs.declared.status.TheConstants.{NO_MEMORY, NO_SHARD}
+use Rattle.ert_c.specs.declared.status.TheConstants.{OK, NO_MEMORY, NO_SHARD}
 use Rattle.ert_defs.specs.declared.settings.Settings.{Settings}
-use Rattle.ert_shard.specs.Hubs.{Rest, GivesShard, TakesBack, IsNext}
+use Rattle.ert_shard.specs.Hubs.{Rest, IsFresh, GivesShard, TakesBack, IsNext}
 use Rattle.ert_shard.specs.Shards.{Share, Owned}
 use Rattle.ert_world.proofs.Given.{longer_same}
+use Rattle.ert_world.specs.Openings.{IsOpened}
+use Rattle.ert_world.specs.Worlds.{Seen}
 
 -- a call is made by what was lent
 pub made_through : {W : Type 0} (kept : Type 0) (call : W → W → Type 0) (old new : Option W) (status : ℤ) (was now : W) → old ≡ Some was
@@ -47,6 +49,19 @@ opens_no_hub c None g h read few = record {
   opens = record { below = λ _. inr (refl, refl); above = λ m. absurd (omega (arith, few, m)) };
 }
 opens_no_hub c (Some r) g h read few = cc
+
+-- and a hub of a service that was opened stands behind it
+pub opens_new_hub : (c : ErtSettings) (o : Option Rest) (g : Settings) (w : Seen) (h : Rest) (new : Option Rest) → is_there o ≡ false → IsRead c (Ok g)
+    → g.schedulers < g.callers → IsOpened g w → IsFresh w h → new ≡ Some h → OpensHub c o OK new
+opens_new_hub c None g w h new closed read few opened fresh is = record {
+  read = Ok g;
+  meant = read;
+  opens = record {
+    below = λ _. inl (record { world = w; hub = h; is = is; opened = opened; fresh = fresh; told = refl });
+    above = λ m. absurd (omega (arith, few, m));
+  };
+}
+opens_new_hub c (Some r) g w h new closed read few opened fresh is = cc
 
 -- what an open hub does for a closed handle of a shard
 pub opens_shard : (processes : ℕ) (hub : Option Rest) (shard : Option Owned) (old : Rest) (status : ℤ) (left : Option Rest)
