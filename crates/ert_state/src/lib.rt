@@ -2,9 +2,10 @@
 //!
 //! The model of `ert_defs` says what the state is after an entry. Here each part of that state has a type,
 //! and goes on by an event by its own rule: the clock, the last looks, the timers of each wheel, the exits,
-//! the mailboxes, the inboxes and the schedulers. A part stands for a list of cells, one for each number in
-//! range, and its `follow` says exactly which list it becomes (`specs/Parts`). Queues are taken off at the
-//! front. A wheel's timers stand in order of arming, and beside them what finds them (`specs/Indexes`): the
+//! the mailboxes, the inboxes and the schedulers. A part has a cell for each number, and its `follow` says exactly
+//! what each becomes (`specs/Parts`). Those of callers and of schedulers, some thousand at most, lie in lists that are
+//! made at the opening; those of slots and of processes in maps, which have what an entry has named. Queues are taken
+//! off at the front. A wheel's timers stand in order of arming, and beside them what finds them (`specs/Indexes`): the
 //! place of each by slot and generation, the uses of each slot, and the armed ones in order of
 //! deadline and then of arming. So an entry takes time that grows with the logarithm of what stands, but for
 //! the at most 64 monitors of a process. It stands on `ert_defs`, on the clock of `ert_clock` and on
