@@ -1,0 +1,138 @@
+/* How long single calls take on a wheel that is full.
+ *
+ *     pauses SLOTS
+ *
+ * As many timers as the wheel has slots are due at random within 200 seconds, all for one process. It prints in
+ * nanoseconds of processor time: a start, the least of some calls of ert_world_ready, of ert_world_next_due and of a
+ * start that is refused, the longest advance by a millisecond, until all have expired, and the exit of a process with
+ * as many timers. */
+#define _POSIX_C_SOURCE 199309L
+
+#include <inttypes.h>
+#include <stdint.h>
+#include <stdio.h>
+#include <stdlib.h>
+#include <time.h>
+
+#include "ertime.h"
+
+enum { SPREAD = 200000, LOOKS = 7 };
+
+static ert_world world = ERT_INIT;
+static ert_reading reading;
+static uint32_t slots;
+
+static double nanoseconds(void) {
+    struct timespec now;
+    clock_gettime(CLOCK_PROCESS_CPUTIME_ID, &now);
+    return (double)now.tv_sec * 1e9 + (double)now.tv_nsec;
+}
+
+static void must(int32_t status) {
+    if (status != ERT_OK) {
+        fprintf(stderr, "status %" PRId32 "\n", status);
+        exit(EXIT_FAILURE);
+    }
+}
+
+static void open_world(void) {
+    ert_settings settings;
+    reading = (ert_reading){0};
+    ert_settings_init(&settings, &reading);
+    settings.slots = slots;
+    must(ert_world_open(&world, &settings));
+}
+
+/* The nanoseconds of a start, where every slot is taken by a timer. */
+static double fill(void) {
+    uint64_t state = 1;
+    ert_timer timer;
+    double begun = nanoseconds();
+    for (uint32_t i = 0; i < slots; i++) {
+        state = state * UINT64_C(6364136223846793005) + UINT64_C(1442695040888963407);
+        ert_start start = {.when = 1 + (int64_t)((state >> 33) % SPREAD)};
+        must(ert_world_start(&world, 0, &start, &timer));
+    }
+    return (nanoseconds() - begun) / slots;
+}
+
+static void ready(void) {
+    uint32_t room;
+    uint64_t at;
+    must(ert_world_ready(&world, 0, &room, &at));
+}
+
+static void next_due(void) {
+    uint64_t due;
+    must(ert_world_next_due(&world, 0, &due));
+}
+
+static void refused(void) {
+    ert_timer timer;
+    ert_start start = {.when = 1};
+    if (ert_world_start(&world, 0, &start, &timer) != ERT_FULL) {
+        fprintf(stderr, "the wheel isn't full\n");
+        exit(EXIT_FAILURE);
+    }
+}
+
+static double least(void (*call)(void)) {
+    double found = 1e18;
+    for (int i = 0; i < LOOKS; i++) {
+        double begun = nanoseconds();
+        call();
+        double took = nanoseconds() - begun;
+        found = took < found ? took : found;
+    }
+    return found;
+}
+
+/* The longest advance by a millisecond, until all timers have expired and their messages were taken. */
+static double longest_advance(void) {
+    double longest = 0;
+    uint64_t taken = 0;
+    for (int i = 0; i < SPREAD; i++) {
+        ert_moved moved;
+        ert_advanced advanced;
+        ert_delivered delivered;
+        ert_mail mail;
+        reading.mono += 1000000;
+        reading.sys += 1000000;
+        must(ert_world_tick(&world, &reading, 0, &moved));
+        double begun = nanoseconds();
+        must(ert_world_advance(&world, 0, &advanced));
+        double took = nanoseconds() - begun;
+        longest = took > longest ? took : longest;
+        must(ert_world_deliver(&world, 0, &delivered));
+        while (ert_world_take(&world, 0, &mail) == ERT_OK) {
+            taken++;
+        }
+    }
+    if (taken != slots) {
+        fprintf(stderr, "%" PRIu64 " of %" PRIu32 " timers expired\n", taken, slots);
+        exit(EXIT_FAILURE);
+    }
+    return longest;
+}
+
+static double leave(void) {
+    uint32_t first;
+    double begun = nanoseconds();
+    must(ert_world_exit(&world, 0, &first));
+    return nanoseconds() - begun;
+}
+
+int main(int count, char **words) {
+    slots = count == 2 ? (uint32_t)strtoul(words[1], NULL, 10) : 0;
+    if (slots == 0) {
+        fprintf(stderr, "usage: pauses SLOTS\n");
+        return 2;
+    }
+    open_world();
+    double start = fill();
+    printf("%.1f %.0f %.0f %.0f", start, least(ready), least(next_due), least(refused));
+    printf(" %.0f", longest_advance());
+    fill();
+    printf(" %.0f\n", leave());
+    must(ert_world_close(&world));
+}
