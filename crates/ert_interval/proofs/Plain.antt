@@ -105,7 +105,7 @@ starts_plain g by w start (Err Full) s es starts =
     plain_as es _ starts.entries (
       refl,
       elim starts.are_taken [
-        | inl found ↦ still_plain starts.probes (probes_still (Caller by) w starts.probes (round_probes by w _ s found.0 starts.probes found.1))
+        | inl found ↦ still_plain starts.probes (probes_still _ w starts.probes (round_probes by w _ s found.0 starts.probes found.1))
         | inr many ↦ plain_as starts.probes [] many.1 tt
       ],
     )
