@@ -319,7 +319,7 @@ typedef struct {
  * Opens a service behind a closed handle.
  *
  * The service has no timer and no message, and its monotonic time is `start`. All memory that timers need
- * is allocated here: some 66 KB for each scheduler, and some 100 bytes for each slot and for each process
+ * is allocated here: some 21 KB for each scheduler, and some 100 bytes for each slot and for each process
  * (docs/EMBEDDING.md has a table). Later only messages, requests, monitors and expired timers that wait take more,
  * and seats.
  *
