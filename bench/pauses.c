@@ -2,8 +2,8 @@
  *
  *     pauses SLOTS
  *
- * As many timers as the wheel has slots are due at random within 200 seconds, all for one process. It prints in
- * nanoseconds of processor time: a start, the least of some calls of ert_world_ready, of ert_world_next_due and of a
+ * As many timers as the wheel has slots are due at random within 200 seconds, all for one process, in which a window of
+ * 262 seconds begins. It prints in nanoseconds of processor time: a start, the least of some calls of ert_world_ready, of ert_world_next_due and of a
  * start that is refused, the longest advance by a millisecond, until all have expired, and the exit of a process with
  * as many timers. */
 #define _POSIX_C_SOURCE 199309L
@@ -41,6 +41,9 @@ static void open_world(void) {
     ert_settings_init(&settings, &reading);
     settings.slots = slots;
     must(ert_world_open(&world, &settings));
+    ert_moved moved;
+    reading.mono = reading.sys = INT64_C(200000000000);
+    must(ert_world_tick(&world, &reading, 0, &moved));
 }
 
 /* The nanoseconds of a start, where every slot is taken by a timer. */

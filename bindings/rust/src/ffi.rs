@@ -145,7 +145,7 @@ pub struct ert_turned_some {
 }
 
 #[repr(C)]
-#[derive(Default)]
+#[derive(Clone, Copy, Default)]
 pub struct ert_mail {
     pub tag: u32,
     pub timer: ert_timer,
