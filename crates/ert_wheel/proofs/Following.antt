@@ -11,16 +11,6 @@ use Rattle.ert_wheel.specs.Marks.{mark_of, newest_node, AreMarked, FirstUsed}
 use Rattle.ert_wheel.specs.Rings.{Rings, IsOnlyOf, HasOthers, Place, AreChains, shape, slot_at, Finds}
 use Rattle.ert_wheel.specs.declared.row.TheConstants.{BUCKETS}
 
--- at first none is marked
-pub opened_marks : (r : Rings) (marks : List ℕ) → r.homes ≡ BUCKETS
-    → ((home : ℕ) → home < BUCKETS → newest_node r home ≡ r.slots + home)
-    → ((bucket : ℕ) → bucket < BUCKETS → mark_of marks bucket ≡ 0) → AreMarked r marks
-opened_marks r marks homes heads none = record {
-  homes = homes;
-  used = λ home low one. absurd (omega (arith, none home low));
-  clear = λ home low zero. omega (arith, heads home low);
-}
-
 -- the head of a bucket before a slot
 record BeforeIsHead (r : Rings) (slot head : ℕ) : Type 0 where
   after_head : next_at r.links head ≡ slot

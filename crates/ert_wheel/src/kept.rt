@@ -1,39 +1,32 @@
 ghost use Rattle.std.specs.Prelude.{◌≡◌, IfOk, map};
 ghost use Rattle.std.specs.List.{range_with_len};
+ghost use Rattle.ert_wheel.specs.Wheels.{no_key};
 
 use crate::row::Key;
 use ert_defs::NoMemory;
 use std::alloc::Global;
 use std::marker::Model;
 
-/// What is read of a slot together: when its row is due, and the value beside it.
+/// What is kept of a slot: the key of its last row, and the value beside it.
 #[derive(Clone, Copy)]
 struct Record<T> {
-    deadline: u64,
+    key: Key,
     value: T,
 }
 
 /// The key of each slot's last row, and a value of each slot.
-///
-/// The orders lie apart: only an advance that gives a row reads them, so a record is smaller by them.
 #[derive(Drop)]
 pub struct Kept<T> {
     records: Vec<Record<T>>,
-    orders: Vec<u64>,
 }
 
 impl<T> Model for Kept<T> {
-    ghost use Rattle.std.specs.Prelude.{◌≡◌, map, length};
-    ghost use Rattle.ert_wheel.specs.Kept.{KeptSlots, keys_by, deadline_in, value_in};
+    ghost use Rattle.std.specs.Prelude.{map};
+    ghost use Rattle.ert_wheel.specs.Kept.{KeptSlots, record_key, record_value};
 
     ghost Value = { KeptSlots T };
 
-    ghost view = { λ k. record {
-      keys = keys_by (map deadline_in k.records.items) k.orders.items;
-      values = map value_in k.records.items;
-    } };
-
-    ghost invariant = { λ k. length k.orders.items ≡ length k.records.items };
+    ghost view = { λ k. record { keys = map record_key k.records.items; values = map record_value k.records.items } };
 }
 
 impl<T: Copy> Kept<T> {
@@ -47,8 +40,7 @@ impl<T: Copy> Kept<T> {
         ensures values { IfOk result (λ kept. kept.values ≡ replicate slots value) }
     {
         let records = same(alloc, slots, value)?;
-        let orders = vec![in alloc; 0; slots as usize]?;
-        Ok(Kept { records, orders })
+        Ok(Kept { records })
     }
 
     /// The deadline of a slot's last row.
@@ -57,7 +49,7 @@ impl<T: Copy> Kept<T> {
         requires { slot < length self.now.keys }
         ensures { result ≡ (slice_index_or self.now.keys slot no_key).deadline }
     {
-        self.records[slot as usize].deadline
+        self.records[slot as usize].key.deadline
     }
 
     /// The key of a slot's last row.
@@ -66,10 +58,7 @@ impl<T: Copy> Kept<T> {
         requires { slot < length self.now.keys }
         ensures { result ≡ slice_index_or self.now.keys slot no_key }
     {
-        Key {
-            deadline: self.records[slot as usize].deadline,
-            order: self.orders[slot as usize],
-        }
+        self.records[slot as usize].key
     }
 
     /// The value of a slot.
@@ -88,16 +77,20 @@ impl<T: Copy> Kept<T> {
         ensures keys { self.new.keys ≡ slice_set self.old.keys slot key }
         ensures values { self.new.values ≡ slice_set self.old.values slot value }
     {
-        let Key { deadline, order } = key;
-        self.records[slot as usize] = Record { deadline, value };
-        self.orders[slot as usize] = order;
+        self.records[slot as usize] = Record { key, value };
     }
 }
 
 /// So many records without a row, each with this value.
 fn same<T: Copy>(alloc: Global, slots: u32, value: T) -> Result<Vec<Record<T>>, NoMemory>
-    ensures { IfOk result (λ records. records.items ≡ map (λ _. record { deadline = 0; value = value }) (range_with_len 0 slots)) }
+    ensures { IfOk result (λ records. records.items ≡ map (λ _. record { key = no_key; value = value }) (range_with_len 0 slots)) }
 {
-    let none = Record { deadline: 0, value };
+    let none = Record {
+        key: Key {
+            deadline: 0,
+            order: 0,
+        },
+        value,
+    };
     Ok((0..slots).map(|_| none).collect(alloc)?)
 }

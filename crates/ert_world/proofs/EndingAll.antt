@@ -23,7 +23,7 @@ use Rattle.ert_wheel.specs.Rows.{key_in}
 use Rattle.ert_wheel.specs.declared.row.Key.{Key}
 use Rattle.ert_world.proofs.Alone.{went}
 use Rattle.ert_world.proofs.Composed.{goes_more, goes_nothing}
-use Rattle.ert_world.specs.Cancelling.{Ended, cancelled, IsOther, AreOnce, CancelsOne, CancelsOn, CancelsAll, numbered, IsHeldAt, HoldsFewer}
+use Rattle.ert_world.specs.Cancelling.{Ended, cancelled, IsOther, AreOnce, CancelsOne, CancelsOn, numbered, IsHeldAt, HoldsFewer}
 use Rattle.ert_world.specs.Stepping.{Stays}
 use Rattle.ert_world.specs.Worlds.{Seen, Goes, By, HasForgotten, LoseRows}
 
@@ -181,15 +181,6 @@ wheels_more a b c process wheels count one some goes =
           (goes_more a b c (λ (g : Settings) (way : Way) (x : ℕ × ℕ). CancelsOn g way process x) (numbered 0 some.counts) (0 + length some.counts, one) some.runs
           (subst (λ x. Goes b (λ way. CancelsOn b.settings way process x) c) at goes));
     }
-
-pub wheels_all : (a b : Seen) (process wheels count : ℕ) → EndsWheels a b process wheels count → wheels ≡ a.settings.schedulers
-    → Goes a (λ way. CancelsAll a.settings way process count) b
-wheels_all a b process wheels count some all =
-    went a b (λ (way : Way). CancelsAll a.settings way process count) (record {
-      piece = some.runs.grows.piece;
-      grown = some.runs.grows.grown;
-      made = record { counts = some.counts; wheels = some.many ∙ all; total = some.total; runs = some.runs.grows.made };
-    }) some.runs.legal some.runs.table some.runs.settings some.runs.clock some.runs.next
 
 -- what a wheel holds and how many rows it has are those of the wheel of the timer
 pub held_same : (b c : Seen) (i : ℕ) (timer : TimerRef) → c ≡ b → timer.wheel ≡ i → ((d : Part) → IsHeld (slice_index_or b.wheels i d) timer)

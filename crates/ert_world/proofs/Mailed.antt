@@ -1,27 +1,23 @@
 -- A process with mail, and takes of several messages.
 
-use Rattle.std.proofs.Common.{◌≡◌, ℕ, ◌<◌, List, [], ◌∷◌, ◌++◌, length, Option, Some, None, slice_index_or, refl, sym, ap, subst, ◌∙◌}
-use Rattle.ert_defs.specs.Legal.{Legal}
+use Rattle.std.proofs.Common.{◌≡◌, ℕ, ◌<◌, List, [], ◌∷◌, ◌++◌, Option, Some, None, slice_index_or, refl, sym, ap, subst, ◌∙◌}
 use Rattle.ert_defs.specs.Mails.{MailState}
 use Rattle.ert_defs.specs.States.{state}
-use Rattle.ert_defs.specs.declared.entry.Entry.{Entry}
 use Rattle.ert_defs.specs.declared.mail.Mail.{Mail}
 use Rattle.ert_defs.specs.declared.settings.Settings.{Settings}
 use Rattle.ert_effects.specs.MailCalls.{Takes}
-use Rattle.ert_effects.specs.Ways.{Growth, Way}
+use Rattle.ert_effects.specs.Ways.{Way}
 use Rattle.ert_effects.specs.declared.answers.Taken.{Taken}
-use Rattle.ert_effects.specs.declared.answers.Taken.TheVariants.{Mail as Took, Empty, Exited}
+use Rattle.ert_effects.specs.declared.answers.Taken.TheVariants.{Mail as Took}
 use Rattle.ert_mail.specs.Lists.{IsNextIn}
 use Rattle.ert_mail.specs.Mailboxes.{Mailbox, seen as box}
 use Rattle.ert_table.specs.Desks.{settings_of, front_of}
 use Rattle.ert_table.specs.declared.desk.Desk.{Desk}
-use Rattle.ert_world.proofs.Alone.{went}
 use Rattle.ert_world.proofs.Calls.{Has, processes_at}
-use Rattle.ert_world.proofs.Composed.{goes_more, goes_nothing, goes_then}
+use Rattle.ert_world.proofs.Composed.{goes_more}
 use Rattle.ert_world.proofs.Listed.{mails_low}
-use Rattle.ert_world.specs.Mailing.{mail_of, IsNextMail, TakesMails, TakesSome}
-use Rattle.ert_world.specs.Worlds.{Seen, Goes, By, way_of}
-use Rattle.ert_world.specs.declared.mailing.TakeEnd.TheVariants.{Most, Empty as FoundEmpty, Exited as HadExited}
+use Rattle.ert_world.specs.Mailing.{mail_of, IsNextMail, TakesMails}
+use Rattle.ert_world.specs.Worlds.{Seen, Goes, By}
 use Rattle.ert_world.specs.declared.world.World.TheInside.{Inside}
 
 -- the messages of a mailbox are those of its process
@@ -48,16 +44,6 @@ next_told before b d mails None has same next =
     let none : Mailbox = box 0 [] [] 0 0 0 in
     λ p low. sym (queue_at before b d p none has low) ∙ mine p none (mails_low before b d p has low)
 
--- what is made by a call is made by another
-goes_as : (a c : Seen) (call other : Way → Growth) → Goes a call c → ((h m : List Entry) → call (way_of a) h m → other (way_of a) h m) → Goes a other c
-goes_as a c call other goes is =
-    went a c other (record { piece = goes.grows.piece; grown = goes.grows.grown; made = is a.history goes.grows.piece goes.grows.made })
-    goes.legal goes.table goes.settings goes.clock goes.next
-
--- none is taken yet
-pub took_none : (a : Seen) (process : ℕ) → Legal a.settings a.history → Goes a (λ way. TakesMails a.settings way process []) a
-took_none a process legal = goes_nothing a (λ (way : Way). TakesMails a.settings way process []) legal refl
-
 -- one more is
 pub took_more : (a b c : Seen) (process : ℕ) (mails : List Mail) (mail : Mail) (answer : Taken) → answer ≡ Took mail
     → Goes a (λ way. TakesMails a.settings way process mails) b → Goes b (By b (λ g. Takes g 0 process answer)) c
@@ -65,27 +51,3 @@ pub took_more : (a b c : Seen) (process : ℕ) (mails : List Mail) (mail : Mail)
 took_more a b c process mails mail answer is one other =
     goes_more a b c (λ (g : Settings) (way : Way) (m : Mail). way [] (Takes g 0 process (Took m))) mails mail one
     (subst (λ (t : Taken). Goes b (By b (λ g. Takes g 0 process t)) c) is other)
-
--- as many as may be
-pub took_most : (a b : Seen) (process most : ℕ) (mails : List Mail) → length mails ≡ most → Goes a (λ way. TakesMails a.settings way process mails) b
-    → Goes a (λ way. TakesSome a.settings way process most mails Most) b
-took_most a b process most mails all goes =
-    goes_as a b (λ (way : Way). TakesMails a.settings way process mails) (λ (way : Way). TakesSome a.settings way process most mails Most) goes (λ h m made. (all, made))
-
--- fewer, and then the mailbox was empty
-pub took_empty : (a b c : Seen) (process most : ℕ) (mails : List Mail) (answer : Taken) → answer ≡ Empty → length mails < most
-    → Goes a (λ way. TakesMails a.settings way process mails) b → Goes b (By b (λ g. Takes g 0 process answer)) c
-    → Goes a (λ way. TakesSome a.settings way process most mails FoundEmpty) c
-took_empty a b c process most mails answer is few one other =
-    goes_as a c _ (λ (way : Way). TakesSome a.settings way process most mails FoundEmpty)
-    (goes_then a b c (λ (way : Way). TakesMails a.settings way process mails) (λ (g : Settings) (way : Way). way [] (Takes g 0 process Empty)) one
-    (subst (λ (t : Taken). Goes b (By b (λ g. Takes g 0 process t)) c) is other)) (λ h m made. (few, made))
-
--- fewer, and then the process had exited
-pub took_exited : (a b c : Seen) (process most : ℕ) (mails : List Mail) (answer : Taken) → answer ≡ Exited → length mails < most
-    → Goes a (λ way. TakesMails a.settings way process mails) b → Goes b (By b (λ g. Takes g 0 process answer)) c
-    → Goes a (λ way. TakesSome a.settings way process most mails HadExited) c
-took_exited a b c process most mails answer is few one other =
-    goes_as a c _ (λ (way : Way). TakesSome a.settings way process most mails HadExited)
-    (goes_then a b c (λ (way : Way). TakesMails a.settings way process mails) (λ (g : Settings) (way : Way). way [] (Takes g 0 process Exited)) one
-    (subst (λ (t : Taken). Goes b (By b (λ g. Takes g 0 process t)) c) is other)) (λ h m made. (few, made))
