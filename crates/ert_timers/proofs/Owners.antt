@@ -144,6 +144,23 @@ joins_anew old taken new places slot process bound stays are may takes puts =
       are = subst (λ (p : ℕ → Option Place). AreChains new p) (λ i j. same j i) all;
     }
 
+-- a slot in no chain gives no place up
+pub takes_none : (owners : Rings) (slot : ℕ) (owned : Bool)
+    → ((places : ℕ → Option Place) → AreChains owners places → IsTrue owned ↔ IsSome (places slot)) → (IsTrue owned → ⊥)
+    → Takes owners owners slot
+takes_none owners slot owned tells not = λ places are.
+    let same : (j : ℕ) → with_place places slot None j ≡ places j =
+    λ j. elim (cases_eq j slot) [
+      | inl e ↦ ap (with_place places slot None) e ∙ with_place_here places slot None
+          ∙ sym (at (places slot) (λ some. not ((tells places are).1 some))) ∙ sym (ap places e)
+      | inr ne ↦ with_place_there places slot None j ne
+    ] in
+    subst (λ (p : ℕ → Option Place). AreChains owners p) (λ i j. sym (same j) i) are
+  where
+    at : (o : Option Place) → (IsSome o → ⊥) → o ≡ None
+    at None out = refl
+    at (Some place) out = absurd (out refl)
+
 -- a slot that was taken out may come in
 pub may_come : (old taken : Rings) (slot process : ℕ) → MayTake old slot → Takes old taken slot → taken.slots ≡ old.slots
     → taken.homes ≡ old.homes → process < old.homes → MayPut taken slot process

@@ -4,7 +4,7 @@ ghost use Rattle.std.specs.Prelude.{◌≡◌, ◌≤◌, ◌<◌, ◌++◌, [],
 ghost use Rattle.ert_defs.specs.Timers as timers;
 ghost use Rattle.ert_timers.specs.Changes as changes;
 ghost use Rattle.ert_timers.specs.Owners.{MayJoin, Joins};
-ghost use Rattle.ert_wheel.specs.Rings.{Place, AreChains, MayTake, StandsIn};
+ghost use Rattle.ert_wheel.specs.Rings.{Place, AreChains, MayTake, Takes, StandsIn};
 ghost use Rattle.ert_words.specs.Free.{free_set};
 
 use super::{Use, WheelPart, is_long};
@@ -249,8 +249,24 @@ fn join(wheel: &mut Wheel<Slot>, slot: u32, process: u32, stays: bool)
     if stays {
         return;
     }
-    wheel.disown(slot);
+    take_out(wheel, slot);
     wheel.own(slot, process);
+}
+
+/// Takes a slot out of its chain, where it is in one. In a slot's first use it isn't, and then nothing is written.
+#[inline]
+fn take_out(wheel: &mut Wheel<Slot>, slot: u32)
+    requires { MayTake wheel.old.owners slot }
+    ensures keys { wheel.new.keys ≡ wheel.old.keys }
+    ensures values { wheel.new.values ≡ wheel.old.values }
+    ensures passed { wheel.new.passed ≡ wheel.old.passed }
+    ensures slots { wheel.new.owners.slots ≡ wheel.old.owners.slots }
+    ensures homes { wheel.new.owners.homes ≡ wheel.old.owners.homes }
+    ensures taken { Takes wheel.old.owners wheel.new.owners slot }
+{
+    if wheel.is_owned(slot) {
+        wheel.disown(slot);
+    }
 }
 
 /// Adds a slot that was taken out again, at the other end than that of the one that is taken instead: the first

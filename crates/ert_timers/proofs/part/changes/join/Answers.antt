@@ -3,8 +3,8 @@ use Rattle.ert_timers.proofs.part.changes.join.Goals as goal
 
 pub own-requires : goal.own-requires
 own-requires c =
-    may_come c.args.wheel.now.owners c.disown.new.self.owners c.args.slot c.args.process c.requires.may c.disown.ensures.disowned
-    c.disown.ensures.slots c.disown.ensures.homes c.requires.process
+    may_come c.args.wheel.now.owners c.take_out.new.wheel.owners c.args.slot c.args.process c.requires.may c.take_out.ensures.taken
+    c.take_out.ensures.slots c.take_out.ensures.homes c.requires.process
 
 pub returns-then-stays-clause-joins : goal.returns-then-stays-clause-joins
 returns-then-stays-clause-joins c = λ places bound are may.
@@ -12,5 +12,5 @@ returns-then-stays-clause-joins c = λ places bound are may.
 
 pub returns-clause-joins : goal.returns-clause-joins
 returns-clause-joins c = λ places bound are may.
-    joins_anew c.args.wheel.now.owners c.disown.new.self.owners c.own.new.self.owners places c.args.slot c.args.process bound c.args.stays
-    are may c.disown.ensures.disowned c.own.ensures.owned
+    joins_anew c.args.wheel.now.owners c.take_out.new.wheel.owners c.own.new.self.owners places c.args.slot c.args.process bound c.args.stays
+    are may c.take_out.ensures.taken c.own.ensures.owned
