@@ -4,6 +4,7 @@ pub mod Laws
 pub mod MailCalls
 pub mod RequestCalls
 pub mod RoomCalls
+pub mod SomeCalls
 pub mod TimerCalls
 pub mod Ways
 pub mod WheelCalls

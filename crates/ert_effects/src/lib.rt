@@ -12,6 +12,7 @@
 //! | that read, cancel and start timers | `specs/TimerCalls` |
 //! | that looks how much room a wheel has | `specs/RoomCalls` |
 //! | over the timers of a wheel, and on exits | `specs/WheelCalls` |
+//! | over so many of them at most | `specs/SomeCalls` |
 //! | on the mailbox and the monitors of a process | `specs/MailCalls` |
 //! | on asynchronous requests | `specs/RequestCalls` |
 //! | of several locked steps: to serve, to deliver, a turn, an exit | `specs/Chains` |
@@ -28,6 +29,7 @@
 mod answers;
 mod laws;
 mod worked;
+mod worked_some;
 
 pub use answers::{Handed, MOST_LOOKS, MonitorErr, Room, SERVED_A_TURN, StartErr, Taken, Turned};
 pub use laws::{answers_are_read, exits_settle_timers, messages_are_read, turns_deliver_all};
@@ -35,3 +37,4 @@ pub use worked::{
     advances_are_judged, cancels_are_judged, exits_are_judged, messages_are_judged,
     monitors_are_judged, refusals_are_judged, starts_are_judged, turns_are_judged,
 };
+pub use worked_some::bounded_advances_are_judged;

@@ -7,6 +7,7 @@ use Rattle.std.proofs.lemmas.Int.{ints}
 use Rattle.std.proofs.lemmas.List.Elements.{All-head, All-tail, All-cons, All-nil}
 use Rattle.std.specs.List.{slice_get}
 use Rattle.ert_defs.specs.Legal.{AllSettled, IsNext}
+use Rattle.ert_defs.specs.Milliseconds.{down}
 use Rattle.ert_defs.specs.States.{State, state}
 use Rattle.ert_defs.specs.Timers.{Row}
 use Rattle.ert_defs.proofs.Lists.{pairs_head, pairs_tail}
@@ -18,7 +19,8 @@ use Rattle.ert_defs.specs.declared.timer.Status.TheVariants.{Armed}
 use Rattle.ert_defs.specs.declared.timer.TimerRef.{TimerRef}
 use Rattle.ert_timers.specs.Changes.{let_go}
 use Rattle.ert_timers.specs.Expiring.{AreDue, IsReady, timer_of}
-use Rattle.ert_timers.specs.Parts.{Part, last_timer}
+use Rattle.ert_timers.specs.Parts.{Part, Stands, last_timer}
+use Rattle.ert_wheel.specs.FirstDue.{NoneDue, IsFirstDue}
 use Rattle.ert_wheel.specs.Rows.{key_in, key_of, times, due_at, comes_before, row_at}
 use Rattle.ert_wheel.specs.declared.row.Key.{Key}
 use Rattle.ert_wheel.specs.declared.row.Row.{Row as WheelRow}
@@ -115,6 +117,38 @@ before_is : (x y : WheelRow) → (x.deadline < y.deadline) ⊎ ((x.deadline ≡ 
 before_is x y (inl low) = grind (arith, nat_tests)
 before_is x y (inr same) = grind (arith, nat_tests)
 
+-- the timer of a row that is held and due is the next to expire where no armed timer comes before it
+pub next_of : (g : Settings) (h : List Entry) (p : Part) (to : ℕ) (r : WheelRow) → Stands g h p
+    → pos to ≡ down g ((state g h).looked (Sched p.number)) → key_in p.keys r.slot ≡ Some (key_of r) → r.deadline ≤ to
+    → ((n : ℕ) (row : Row) → slice_get ((state g h).rows p.number) n ≡ Some row → (state g h).status row.timer ≡ Some Armed
+    → comes_before (row_at row.timer.slot (record { deadline = row.deadline; order = n })) r ≡ true → row.deadline ≤ r.deadline → n ≢ r.order
+    → ⊥)
+    → IsNext g (state g h) (Sched p.number) (last_timer p.number p.slots r.slot)
+next_of g h p to r stands told held due none_before =
+    let s : State = state g h in
+    let rows : List Row = s.rows p.number in
+    let row : Row = timer_of p r in
+    let at : slice_get rows r.order ≡ Some row = stands.holds.rows.each r.slot (key_of r) held in
+    record {
+      before = take r.order rows;
+      row = row;
+      behind = drop (r.order + 1) rows;
+      stands = parted rows r.order row at;
+      named = refl;
+      due = subst (λ (x : ℤ). pos r.deadline ≤ℤ x) told (omega (arith, ints, due));
+      first_before = settled_by s.status (λ d. nat_le d r.deadline) (take r.order rows) (λ n x at test armed.
+          let there = before_at rows r.order n x at in
+          let low : x.deadline ≤ r.deadline = leb-true x.deadline r.deadline test in
+          none_before n x there.1 armed (before_is (row_at x.timer.slot (record { deadline = x.deadline; order = n })) r (order x.deadline n low there.0)) low (omega (arith, there.0)));
+      first_behind = settled_by s.status (λ d. nat_lt d r.deadline) (drop (r.order + 1) rows) (λ n x at test armed.
+          let low : x.deadline < r.deadline = ltb-true x.deadline r.deadline test in
+          none_before ((r.order + 1) + n) x (behind_at rows (r.order + 1) n x at) armed (before_is (row_at x.timer.slot (record { deadline = x.deadline; order = (r.order + 1) + n })) r (inl low)) (omega (arith, low))
+          (omega arith));
+    }
+  where
+    order : (d n : ℕ) → d ≤ r.deadline → n < r.order → (d < r.deadline) ⊎ ((d ≡ r.deadline) × (n < r.order))
+    order d n low high = elim (cases_lt d r.deadline) [ inl less ↦ inl less | inr more ↦ inr (omega (arith, low, more), high) ]
+
 module _ (g : Settings) (h : List Entry) (p : Part) (to : ℕ) (r : WheelRow) (rest : List WheelRow) (ready : IsReady g h p to (r ∷ rest)) where
   pub first_held : key_in p.keys r.slot ≡ Some (key_of r)
   first_held = All-head (λ row. key_in p.keys row.slot ≡ Some (key_of row)) r rest ready.due.held
@@ -155,30 +189,7 @@ module _ (g : Settings) (h : List Entry) (p : Part) (to : ℕ) (r : WheelRow) (r
 
   -- so its timer is the next to expire
   pub is_next : IsNext g (state g h) (Sched p.number) (last_timer p.number p.slots r.slot)
-  is_next =
-      let s : State = state g h in
-      let rows : List Row = s.rows p.number in
-      let row : Row = timer_of p r in
-      let at : slice_get rows r.order ≡ Some row = ready.stands.holds.rows.each r.slot (key_of r) first_held in
-      record {
-        before = take r.order rows;
-        row = row;
-        behind = drop (r.order + 1) rows;
-        stands = parted rows r.order row at;
-        named = refl;
-        due = subst (λ (x : ℤ). pos r.deadline ≤ℤ x) ready.told (omega (arith, ints, first_due));
-        first_before = settled_by s.status (λ d. nat_le d r.deadline) (take r.order rows) (λ n x at test armed.
-            let there = before_at rows r.order n x at in
-            let low : x.deadline ≤ r.deadline = leb-true x.deadline r.deadline test in
-            none_before n x there.1 armed (before_is (row_at x.timer.slot (record { deadline = x.deadline; order = n })) r (order x.deadline n low there.0)) low (omega (arith, there.0)));
-        first_behind = settled_by s.status (λ d. nat_lt d r.deadline) (drop (r.order + 1) rows) (λ n x at test armed.
-            let low : x.deadline < r.deadline = ltb-true x.deadline r.deadline test in
-            none_before ((r.order + 1) + n) x (behind_at rows (r.order + 1) n x at) armed (before_is (row_at x.timer.slot (record { deadline = x.deadline; order = (r.order + 1) + n })) r (inl low)) (omega (arith, low))
-            (omega arith));
-      }
-    where
-      order : (d n : ℕ) → d ≤ r.deadline → n < r.order → (d < r.deadline) ⊎ ((d ≡ r.deadline) × (n < r.order))
-      order d n low high = elim (cases_lt d r.deadline) [ inl less ↦ inl less | inr more ↦ inr (omega (arith, low, more), high) ]
+  is_next = next_of g h p to r ready.stands ready.told first_held first_due none_before
 
   first_once : times r.slot rest ≡ 0
   first_once =
@@ -216,6 +227,27 @@ module _ (g : Settings) (h : List Entry) (p : Part) (to : ℕ) (r : WheelRow) (r
           (get_or-set_other p.keys r.slot y.slot None None other
           ∙ All-head (λ row. key_in p.keys row.slot ≡ Some (key_of row)) y rows held)
           (stay rows (omega (arith, none, times-cons y rows r.slot)) (All-tail (λ row. key_in p.keys row.slot ≡ Some (key_of row)) y rows held))
+
+-- the first row that is due is that of the timer that is the next to expire
+pub first_next : (g : Settings) (h : List Entry) (p : Part) (to : ℕ) (r : WheelRow) → Stands g h p
+    → pos to ≡ down g ((state g h).looked (Sched p.number)) → IsFirstDue p.keys to r
+    → IsNext g (state g h) (Sched p.number) (last_timer p.number p.slots r.slot)
+first_next g h p to r stands told first =
+    next_of g h p to r stands told first.held first.due (λ n row at armed before low other.
+    let held = stands.holds.rows.armed n row at armed in
+    let bad : true ≡ false = sym before ∙ first.first row.timer.slot (record { deadline = row.deadline; order = n }) held in
+    cc)
+
+-- where no row is due no armed timer is
+pub none_armed_due : (g : Settings) (h : List Entry) (p : Part) (to : ℕ) → Stands g h p → NoneDue p.keys to
+    → AllSettled (state g h).status (λ d. nat_le d to) ((state g h).rows p.number)
+none_armed_due g h p to stands none =
+    settled_by (state g h).status (λ d. nat_le d to) ((state g h).rows p.number) (λ n row at test armed.
+    absurd (omega (
+      arith,
+      none row.timer.slot (record { deadline = row.deadline; order = n }) (stands.holds.rows.armed n row at armed),
+      leb-true row.deadline to test,
+    )))
 
 -- where no row is due any more, no armed timer is
 pub none_due : (g : Settings) (h : List Entry) (p : Part) (to : ℕ) → IsReady g h p to []

@@ -11,7 +11,9 @@ pub mod Keeping
 pub mod Openings
 pub mod Tried
 pub mod Dues
+pub mod Trying
 pub mod Trials
+pub mod SomeTried
 pub mod Orphaned
 pub mod NextUses
 pub mod Armings

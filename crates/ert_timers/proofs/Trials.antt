@@ -1,7 +1,6 @@
 -- The loop over the due rows of an advance, and the whole call.
 
-use Rattle.std.proofs.Common.{◌≡◌, ℕ, ◌+◌, ◌≤◌, ℤ, true, false, ◌||◌, nat_eq, List, [], ◌∷◌, ◌++◌, ◌<◌, length, set, All, drop, Option, Some, None, Result, Ok, Err, inr, refl, sym, ap, subst, ◌∙◌, arith, append_assoc, append-nil, length-append}
-use Rattle.std.proofs.lemmas.List.{map-append}
+use Rattle.std.proofs.Common.{◌≡◌, ℕ, ◌+◌, ◌≤◌, true, false, ◌||◌, nat_eq, List, [], ◌∷◌, ◌++◌, length, All, drop, Some, Result, Ok, Err, inr, refl, sym, ap, subst, ◌∙◌, arith}
 use Rattle.std.proofs.lemmas.Bool.Decides.{nat_tests}
 use Rattle.std.proofs.lemmas.List.Sorted.{sorted_far}
 use Rattle.std.specs.Cmp.{IsStrictWeakOrder}
@@ -9,189 +8,63 @@ use Rattle.std.specs.Result.{IsErr}
 use Rattle.std.specs.List.Sorted.{IsSortedBy}
 use Rattle.ert_defs.specs.Entries.{look_entry, advanced_entry}
 use Rattle.ert_defs.specs.Milliseconds.{down}
-use Rattle.ert_defs.specs.States.{look_after, state}
-use Rattle.ert_defs.specs.Timers.{Row, row_of}
 use Rattle.ert_defs.specs.declared.entry.Actor.TheVariants.{Wheel, Sched}
 use Rattle.ert_defs.specs.declared.entry.Entry.{Entry}
 use Rattle.ert_defs.specs.declared.memory.NoMemory.{NoMemory}
 use Rattle.ert_defs.specs.declared.settings.Settings.{Settings}
-use Rattle.ert_defs.specs.declared.timer.Status.{Status}
-use Rattle.ert_defs.specs.declared.timer.TimerRef.{TimerRef}
-use Rattle.ert_effects.specs.WheelCalls.{Try, expires_by, expiry_entries, hit_by, hits, IsSettled, AllSettled, AllDue}
+use Rattle.ert_effects.specs.WheelCalls.{expiry_entries, AllDue}
 use Rattle.ert_calls.proofs.Looks.{look_stepped}
 use Rattle.ert_table.specs.Held.{is_held}
-use Rattle.ert_table.specs.Takes.{Appends, MayStep, TakesPlace}
+use Rattle.ert_table.specs.Takes.{Appends, MayStep}
 use Rattle.ert_table.specs.declared.view.View.{View}
 use Rattle.ert_table.proofs.Calls.{step_takes_place, takes_place_then}
 use Rattle.ert_timers.specs.Changes.{gone_on}
-use Rattle.ert_timers.specs.Expiring.{Expires, ExpiresSome, HasExpired, HasNotExpired, HasTried, HasNotTried, IsTried, IsReady, AreDue, fired_as, fired_in, timer_of}
+use Rattle.ert_timers.specs.Expiring.{Expires, ExpiresSome, HasExpired, HasNotExpired, HasTried, HasNotTried, IsTried, IsReady, AreDue}
 use Rattle.ert_timers.specs.FiredLists.{Queue}
 use Rattle.ert_timers.specs.Looking.{LooksDown}
-use Rattle.ert_timers.specs.Parts.{HoldsSched, Part, Stands, last_timer}
+use Rattle.ert_timers.specs.Parts.{HoldsSched, Part, Stands}
 use Rattle.ert_timers.specs.Passed.{LosesRows}
-use Rattle.ert_timers.proofs.Passing.{due_push, holds_less, loses_none, loses_row, loses_then, none_more, once_more}
+use Rattle.ert_timers.proofs.Passing.{loses_none}
 use Rattle.ert_timers.proofs.Later.{later_step}
-use Rattle.ert_laws.specs.Counts.{is_arm}
 use Rattle.ert_timers.proofs.Dues.{due_left, first_due, first_held, no_row, none_due}
 use Rattle.ert_timers.proofs.Standing.{stands_step}
-use Rattle.ert_timers.proofs.Tried.{held_found, self, waits_by}
+use Rattle.ert_timers.proofs.Tried.{self, waits_by}
+use Rattle.ert_timers.proofs.Trying.{tries_none, tries_more, looked_more, stands_come_to, tries_come_to}
 use Rattle.ert_wheel.specs.Rows.{key_in, key_of, times, due_at, comes_before}
 use Rattle.ert_wheel.specs.declared.row.Row.{Row as WheelRow}
-use Rattle.ert_wheel.proofs.Collect.{key_low}
 
 -- nothing was tried yet
 pub expires_none : (g : Settings) (v : View) (p : Part) (to : ℕ) (due : List WheelRow) (q : Queue) → IsReady g v.front p to due
     → ExpiresSome g v p p to due 0 q q v
-expires_none g v p to due q ready = record {
-  tries = [];
-  gained = [];
-  settled = tt;
-  due = tt;
-  once = tt;
-  none = tt;
-  loses = loses_none p;
-  rows = refl;
-  call = record {
-    actors = refl;
-    legal = ready.stands.legal;
-    later = [];
-    grown = sym (append-nil v.front);
-    ours = refl;
-  };
-  number = refl;
-  ready = ready;
-  count = refl;
-  fired = sym (append-nil q.rows);
-  waits = sym (append-nil (fired_in g v.front p.number));
-  room = omega arith;
-}
-
--- the entry of a try is no look
-no_look : (w : ℕ) (timer : _) (missed : Option (Option Status)) (last : ℤ) → look_after last (expires_by w timer missed).event ≡ last
-no_look w timer None last = refl
-no_look w timer (Some found) last = refl
-
-by_sched : (w : ℕ) (timer : _) (missed : Option (Option Status)) → (expires_by w timer missed).by ≡ Sched w
-by_sched w timer None = refl
-by_sched w timer (Some found) = refl
-
-fired_count : (row : Row) (missed : Option (Option Status)) → length (fired_as row missed) ≡ hit_by missed
-fired_count row None = refl
-fired_count row (Some found) = refl
-
-settled-push : (tries : List Try) (t : Try) → AllSettled tries → IsSettled t.missed → AllSettled (tries ++ t ∷ [])
-settled-push [] t all one = (one, tt)
-settled-push (x ∷ tries) t all one = (all.0, settled-push tries t all.1 one)
-
-hits-push : (tries : List Try) (t : Try) → hits (tries ++ t ∷ []) ≡ hits tries + hit_by t.missed
-hits-push [] t = omega arith
-hits-push (x ∷ tries) t = omega (arith, hits-push tries t)
-
-no_arm : (w : ℕ) (timer : TimerRef) (missed : Option (Option Status)) → is_arm (expires_by w timer missed).event ≡ false
-no_arm w timer None = refl
-no_arm w timer (Some found) = refl
+expires_none g v p to due q ready = record { done = tries_none g v p to q ready.stands.legal; ready = ready; room = omega arith }
 
 -- one more was tried
 pub expires_more : (g : Settings) (v : View) (p q r : Part) (to : ℕ) (due : List WheelRow) (n : ℕ) (row : WheelRow) (old mid new : Queue) (u w : View)
     → ExpiresSome g v p q to due n old mid u → is_held u.actors (Sched q.number) ≡ true → drop n due ≡ row ∷ drop (n + 1) due
     → is_held u.actors (Wheel q.number) ≡ true → Expires g u q r row mid new w → ExpiresSome g v p r to due (n + 1) old new w
 expires_more g v p q r to due n row old mid new u w some held next wheel one =
-    let t : Try = record { timer = last_timer q.number q.slots row.slot; missed = one.missed } in
-    let step : Appends g u (expires_by p.number t.timer t.missed) w =
-    subst (λ k. Appends g u (expires_by k t.timer t.missed) w) some.number one.step in
     let ready : IsReady g u.front q to (row ∷ drop (n + 1) due) = subst (IsReady g u.front q to) next some.ready in
-    let mine : r.number ≡ q.number = ap (λ (x : Part). x.number) one.part in
-    let its : key_in q.keys row.slot ≡ Some (key_of row) = first_held g u.front q to row (drop (n + 1) due) ready in
-    let low : row.slot < length q.keys = key_low q.keys row.slot (key_of row) its in
-    let keys : r.keys ≡ set q.keys row.slot None = ap (λ (x : Part). x.keys) one.part in
-    let slots : r.slots ≡ q.slots = ap (λ (x : Part). x.slots) one.part in
-    let time : r.passed ≡ q.passed = ap (λ (x : Part). x.passed) one.part in
-    let rows : (state g u.front).rows q.number ≡ (state g v.front).rows p.number =
-    ap (state g u.front).rows some.number ∙ some.rows in
-    let e : Entry = expires_by q.number t.timer t.missed in
-    let look : (state g w.front).looked (Sched q.number) ≡ (state g u.front).looked (Sched q.number) =
-    subst (λ a. (state g w.front).looked a ≡ (state g u.front).looked a) (by_sched q.number t.timer t.missed)
-    (look_stepped g u e w one.step (subst (λ a. is_held u.actors a ≡ true) (sym (by_sched q.number t.timer t.missed)) held)
-    ∙ no_look q.number t.timer t.missed ((state g u.front).looked e.by)) in
     record {
-      tries = some.tries ++ t ∷ [];
-      gained = some.gained ++ fired_as (timer_of q row) one.missed;
-      settled = settled-push some.tries t some.settled one.settled;
-      due = due_push ((state g v.front).rows p.number) to some.tries t some.due (record {
-        row = timer_of q row;
-        stands = ap (λ l. row_of l t.timer) (sym rows) ∙ held_found g u.front q row.slot (key_of row) some.ready.stands its;
-        due = first_due g u.front q to row (drop (n + 1) due) ready;
-      });
-      once = once_more q row.slot (key_of row) some.tries t its refl some.none some.once;
-      none = none_more q r row.slot some.tries t low refl mine slots keys time some.none;
-      loses = loses_then p q r some.loses (loses_row q r row.slot low mine slots keys time);
-      rows = (later_step g u (expires_by p.number t.timer t.missed) w p.number step
-          (subst (λ k. is_held u.actors (Wheel k) ≡ true) some.number wheel) (no_arm p.number t.timer t.missed)).rows ∙ some.rows;
-      call = subst (λ es. TakesPlace g v es w) (sym (map-append (λ (x : Try). expires_by p.number x.timer x.missed) some.tries (t ∷ [])))
-          (takes_place_then g v u w (expiry_entries p.number some.tries) (expires_by p.number t.timer t.missed ∷ []) some.call
-          (step_takes_place g u (expires_by p.number t.timer t.missed) w step));
-      number = mine ∙ some.number;
+      done = tries_more g v p q r to n row old mid new u w some.done some.ready.stands (first_held g u.front q to row (drop (n + 1) due) ready)
+          (first_due g u.front q to row (drop (n + 1) due) ready) wheel one;
       ready = record {
         stands = one.stands;
-        told = some.ready.told ∙ (ap (down g) (sym look) ∙ ap (λ k. down g ((state g w.front).looked (Sched k))) (sym mine));
+        told = looked_more g q r to row mid new u w some.ready.told held one;
         due = subst (λ (x : Part). AreDue x to (drop (n + 1) due)) (sym one.part) (due_left g u.front q to row (drop (n + 1) due) ready _);
       };
-      count = length-append some.gained (fired_as (timer_of q row) one.missed)
-          ∙ omega (arith, some.count, fired_count (timer_of q row) one.missed, hits-push some.tries t);
-      fired = one.fired ∙ (ap (λ l. l ++ fired_as (timer_of q row) one.missed) some.fired
-          ∙ append_assoc old.rows some.gained (fired_as (timer_of q row) one.missed));
-      waits = subst (λ k. fired_in g w.front k ≡ fired_in g u.front k ++ fired_as (timer_of q row) one.missed) some.number one.waits
-          ∙ (ap (λ l. l ++ fired_as (timer_of q row) one.missed) some.waits
-          ∙ append_assoc (fired_in g v.front p.number) some.gained (fired_as (timer_of q row) one.missed));
       room = omega (arith, some.room, one.room);
     }
 
--- a part whose wheel has passed a time stands as before
-gone_stands : (g : Settings) (h : List Entry) (p : Part) (to : ℕ) → Stands g h p → Stands g h (gone_on p to)
-gone_stands g h p to stands = record {
-  checked = stands.checked;
-  legal = stands.legal;
-  holds = record {
-    number = stands.holds.number;
-    processes = stands.holds.processes;
-    many = stands.holds.many;
-    wide = stands.holds.wide;
-    rows = stands.holds.rows;
-    lasts = stands.holds.lasts;
-    aboves = stands.holds.aboves;
-    arms = stands.holds.arms;
-    free = stands.holds.free;
-    ready = stands.holds.ready;
-  };
-  counted = record { arms = stands.counted.arms; expires = stands.counted.expires; orphans = stands.counted.orphans };
-}
-
--- it has lost no row
-loses_gone : (p : Part) (to : ℕ) → LosesRows p (gone_on p to)
-loses_gone p to = record { number = refl; slots = refl; left = λ k key is. is; time = omega arith }
-
--- and what was tried before that was tried
+-- and what was tried before a wheel passed a time was tried
 pub expires_gone_on : (g : Settings) (v : View) (p q : Part) (to : ℕ) (due : List WheelRow) (n : ℕ) (old new : Queue) (u : View)
     → ExpiresSome g v p q to due n old new u → ExpiresSome g v p (gone_on q to) to due n old new u
 expires_gone_on g v p q to due n old new u some = record {
-  tries = some.tries;
-  gained = some.gained;
-  settled = some.settled;
-  due = some.due;
-  once = some.once;
-  none = holds_less q (gone_on q to) some.tries (loses_gone q to) some.none;
-  loses = loses_then p q (gone_on q to) some.loses (loses_gone q to);
-  rows = some.rows;
-  call = some.call;
-  number = some.number;
+  done = tries_come_to g v p q to n (gone_on q to).passed old new u some.done (omega arith);
   ready = record {
-    stands = gone_stands g u.front q to some.ready.stands;
+    stands = stands_come_to g u.front q (gone_on q to).passed some.ready.stands;
     told = some.ready.told;
     due = record { each = some.ready.due.each; held = some.ready.due.held; in_order = some.ready.due.in_order };
   };
-  count = some.count;
-  fired = some.fired;
-  waits = some.waits;
   room = some.room;
 }
 
@@ -249,19 +122,19 @@ has_tried g v p p' q q' k to due n old old' new u w number first last rows down 
     let has : (nat_eq p.number p.number || false) ≡ true = ap (λ b. b || false) (self p.number) in
     record {
       now = looks.now;
-      tries = some.tries;
-      gained = some.gained;
-      settled = some.settled;
-      due = subst (λ rows. AllDue rows to some.tries)
-          (later_step g v look u p.number looks.step holds.wheel refl).rows some.due;
-      once = some.once;
-      loses = subst (LosesRows p) (sym last) some.loses;
-      call = takes_place_then g v u w (look ∷ []) (expiry_entries p.number some.tries) (step_takes_place g v look u looks.step) some.call;
-      number = ap (λ (x : Part). x.number) last ∙ some.number;
+      tries = some.done.tries;
+      gained = some.done.gained;
+      settled = some.done.settled;
+      due = subst (λ rows. AllDue rows to some.done.tries)
+          (later_step g v look u p.number looks.step holds.wheel refl).rows some.done.due;
+      once = some.done.once;
+      loses = subst (LosesRows p) (sym last) some.done.loses;
+      call = takes_place_then g v u w (look ∷ []) (expiry_entries p.number some.done.tries) (step_takes_place g v look u looks.step) some.done.call;
+      number = ap (λ (x : Part). x.number) last ∙ some.done.number;
       ready = subst (λ (x : Part). IsReady g w.front x to []) (sym last) (subst (IsReady g w.front q to) (no_row due n high) some.ready);
-      count = some.count;
-      fired = some.fired ∙ ap (λ l. l ++ some.gained) rows;
-      waits = some.waits ∙ ap (λ l. l ++ some.gained) (waits_by g v look u p.number looks.step holds.sched has);
+      count = some.done.count;
+      fired = some.done.fired ∙ ap (λ l. l ++ some.done.gained) rows;
+      waits = some.done.waits ∙ ap (λ l. l ++ some.done.gained) (waits_by g v look u p.number looks.step holds.sched has);
     }
 
 -- the end is recorded after the tries

@@ -27,7 +27,7 @@ use Rattle.ert_table.specs.declared.carry.Settle.TheVariants.{Expire as ToExpire
 use Rattle.ert_table.specs.declared.view.View.{View}
 use Rattle.ert_table.proofs.Parts.{stepped}
 use Rattle.ert_timers.specs.Changes.{let_go}
-use Rattle.ert_timers.specs.Expiring.{Expires, fired_in, timer_of}
+use Rattle.ert_timers.specs.Expiring.{Expires, timer_of}
 use Rattle.ert_timers.specs.FiredLists.{Queue}
 use Rattle.ert_laws.specs.Counts.{entries_of, is_arm, is_expire, is_orphan}
 use Rattle.ert_timers.specs.Parts.{HoldsSched, Part, Stands, last_timer, held_row}
@@ -35,6 +35,7 @@ use Rattle.ert_timers.specs.Slots.{Slot}
 use Rattle.ert_timers.proofs.Later.{later_before, later_step, ends, live_step, count_step}
 use Rattle.ert_timers.proofs.Rows.{key_left, rows_dropped}
 use Rattle.ert_timers.proofs.Standing.{clock_stepped, holds_with, count_same}
+use Rattle.ert_timers.specs.Trying.{fired_in}
 use Rattle.ert_wheel.specs.Rows.{key_in, key_of}
 use Rattle.ert_wheel.specs.declared.row.Key.{Key}
 use Rattle.ert_wheel.specs.declared.row.Row.{Row as WheelRow}

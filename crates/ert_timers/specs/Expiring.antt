@@ -18,13 +18,10 @@ use Rattle.ert_table.specs.declared.view.View.{View}
 use Rattle.ert_timers.specs.Changes.{let_go}
 use Rattle.ert_timers.specs.FiredLists.{Queue}
 use Rattle.ert_timers.specs.Parts.{Part, Stands, last_timer, held_row}
-use Rattle.ert_timers.specs.Passed.{HoldsNone, LosesRows}
+use Rattle.ert_timers.specs.Passed.{LosesRows}
+use Rattle.ert_timers.specs.Trying.{fired_in, TriesRows}
 use Rattle.ert_wheel.specs.Rows.{key_in, key_of, times, due_at, comes_before}
 use Rattle.ert_wheel.specs.declared.row.Row.{Row as WheelRow}
-
--- the expired timers of a scheduler after a history
-abbrev pub fired_in : Settings → List Entry → ℕ → List Row
-fired_in g h w = ((state g h).scheds w).fired
 
 -- the timer of a row
 abbrev pub timer_of : Part → WheelRow → Row
@@ -65,20 +62,8 @@ pub record IsReady (g : Settings) (h : List Entry) (p : Part) (to : ℕ) (rows :
 
 -- so many of the due rows have been tried
 pub record ExpiresSome (g : Settings) (v : View) (p q : Part) (to : ℕ) (due_rows : List WheelRow) (n : ℕ) (old new : Queue) (u : View) : Type 0 where
-  pub tries : List Try
-  pub gained : List Row
-  pub settled : AllSettled tries
-  pub due : AllDue ((state g v.front).rows p.number) to tries
-  pub once : AreOnce tries
-  pub none : HoldsNone q tries
-  pub loses : LosesRows p q
-  pub rows : (state g u.front).rows p.number ≡ (state g v.front).rows p.number
-  pub call : TakesPlace g v (expiry_entries p.number tries) u
-  pub number : q.number ≡ p.number
+  pub done : TriesRows g v p q to n old new u
   pub ready : IsReady g u.front q to (drop n due_rows)
-  pub count : length gained ≡ hits tries
-  pub fired : new.rows ≡ old.rows ++ gained
-  pub waits : fired_in g u.front p.number ≡ fired_in g v.front p.number ++ gained
   pub room : old.room ≤ new.room + n
 
 -- an advance: the timers that expired by it come last in the list, and in the scheduler's

@@ -16,3 +16,4 @@ pub mod Slots
 pub mod Starting
 pub mod Sweeping
 pub mod Tidy
+pub mod Trying

@@ -42,6 +42,7 @@
 //! |---|---|---|
 //! | `start` | looks at the time, stores the word of a free slot, asks whether the destination has exited | constant; `MOST_LOOKS` slots at most where none is held free |
 //! | `advance` | looks at the time, and tries each due timer in order of deadline and then of start | the due timers and the buckets that are visited |
+//! | `advance_some` | does so with so many timers at most, and tells whether more are due | the timers that it tries, one bucket where a window begins, and late timers (`ert_wheel`, `Wheel::first_due`) |
 //! | `sweep` | tries each timer of a process that has exited | those timers, each once |
 //! | `held_for` | finds a timer of a process that is held | constant, amortized: a slot without a timer leaves the chain |
 //! | `forget` | drops the row of a timer that the pass has seen settled, and holds its slot free where its round has uses left | constant |
@@ -70,6 +71,7 @@
 #![tactic(auto)]
 
 mod advancing;
+mod bounded;
 mod dropping;
 mod fired_list;
 mod held_for;

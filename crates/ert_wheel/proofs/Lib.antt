@@ -7,6 +7,7 @@ mod Writes
 pub mod Calls
 pub mod Cascade
 pub mod Cascading
+pub mod Climbing
 pub mod Closer
 pub mod Collect
 pub mod Following
@@ -16,4 +17,5 @@ pub mod Lists
 pub mod MarkBits
 pub mod NextDue
 pub mod Parts
+pub mod Reaching
 pub mod Views

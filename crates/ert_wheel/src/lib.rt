@@ -58,6 +58,12 @@
 //! put in since the next time moved on. A floor below all deadlines tells whether that was so. Those rows are due at once,
 //! or at the next millisecond, so that the next advance takes them.
 //!
+//! **The first due row** (`first_due`) is told one at a time, for whoever may not take all that are due at once. Time moves
+//! on to the least deadline first, where that is due. Then the row is in the bucket of the next time: the oldest that has
+//! that deadline. This is the bucket's oldest row, but where rows were put in late; the floor tells their least deadline
+//! once it was looked for. So a call looks at one row, and at all of that bucket once for each deadline of late rows. A
+//! late row that is older than another and has a later deadline is looked at before that one.
+//!
 //! **Owners.** `own` puts a slot into the chain of an owner as its newest, `disown` takes it out, `is_owned` tells whether
 //! it is in one, and `newest_owned` tells the newest of an owner. This hangs on no row: a slot may have an owner without a row, and a row without an owner.
 //!
@@ -66,7 +72,7 @@
 //! takes memory after that.
 //!
 //! `due` gives the due rows and leaves them, so that the part above can settle and `remove` them one by
-//! one, and then tell by `pass` that nothing is left; `advance` does all three. What they answer is said
+//! one, and then tell by `pass` that nothing is left; `advance` does all three. `first_due` leaves its row too. What they answer is said
 //! of the list of the slots' keys and of the first time that wasn't passed, which leaves values and owners as they are; no
 //! clause of a wheel shows a bucket.
 #![tactic(auto)]
@@ -77,6 +83,7 @@ mod laws;
 mod links;
 mod marked;
 mod marks;
+mod oldest;
 mod row;
 mod walk;
 mod wheel;

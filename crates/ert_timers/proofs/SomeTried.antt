@@ -1,0 +1,142 @@
+-- An advance that tries so many timers at most.
+
+use Rattle.std.proofs.Common.{◌≡◌, ℕ, ◌+◌, ◌≤◌, true, false, ◌||◌, nat_eq, count_by, List, [], ◌∷◌, ◌++◌, set, Some, None, inl, refl, sym, ap, subst, ◌∙◌, append-nil}
+use Rattle.std.specs.Option.{is_some}
+use Rattle.ert_calls.proofs.Looks.{look_stepped}
+use Rattle.ert_defs.specs.Entries.{look_entry, advanced_entry}
+use Rattle.ert_defs.specs.Legal.{Legal}
+use Rattle.ert_defs.specs.Milliseconds.{down}
+use Rattle.ert_defs.specs.States.{state}
+use Rattle.ert_defs.specs.declared.entry.Actor.TheVariants.{Sched}
+use Rattle.ert_defs.specs.declared.entry.Entry.{Entry}
+use Rattle.ert_defs.specs.declared.memory.NoMemory.{NoMemory}
+use Rattle.ert_defs.specs.declared.settings.Settings.{Settings}
+use Rattle.ert_effects.specs.WheelCalls.{AllDue, expiry_entries}
+use Rattle.ert_table.proofs.Calls.{step_takes_place, takes_place_then}
+use Rattle.ert_table.specs.Held.{is_held}
+use Rattle.ert_table.specs.Takes.{Appends, MayStep, TakesPlace}
+use Rattle.ert_table.specs.declared.view.View.{View}
+use Rattle.ert_timers.proofs.Dues.{none_armed_due}
+use Rattle.ert_timers.proofs.Later.{later_step}
+use Rattle.ert_timers.proofs.Tried.{self, waits_by}
+use Rattle.ert_timers.proofs.Trials.{looked_stands}
+use Rattle.ert_timers.proofs.Trying.{no_step, stands_come_to, tries_come_to}
+use Rattle.ert_timers.specs.FiredLists.{Queue}
+use Rattle.ert_timers.specs.Looking.{LooksDown}
+use Rattle.ert_timers.specs.Parts.{HoldsSched, Part, Stands}
+use Rattle.ert_timers.specs.Trying.{HasDue, HasExpiredSome, HasRefusedSome, IsLooked, IsTriedSome, TriesRows, come_to}
+use Rattle.ert_wheel.proofs.Collect.{key_low}
+use Rattle.ert_wheel.proofs.Views.{counts_less}
+use Rattle.ert_wheel.specs.FirstDue.{NoneDue, IsFirstDue}
+use Rattle.ert_wheel.specs.Rows.{key_in, key_of}
+use Rattle.ert_wheel.specs.declared.row.Row.{Row as WheelRow}
+
+-- the look with which it begins
+pub is_looked : (g : Settings) (v : View) (p : Part) (to : ℕ) (u : View) → Stands g v.front p → HoldsSched v p.number
+    → LooksDown g v (Sched p.number) to u → IsLooked g u.front p to
+is_looked g v p to u stands holds looks = record {
+  stands = looked_stands g v p to u stands holds looks;
+  told = looks.told ∙ ap (down g) (sym (look_stepped g v (look_entry (Sched p.number) looks.now) u looks.step holds.sched));
+}
+
+-- a part for which this holds, where the time of its wheel goes on
+pub looked_come_to : (g : Settings) (h : List Entry) (p q : Part) (to passed : ℕ) → q ≡ come_to p passed → IsLooked g h p to → IsLooked g h q to
+looked_come_to g h p q to passed is looked =
+    subst (λ (x : Part). IsLooked g h x to) (sym is) (record { stands = stands_come_to g h p passed looked.stands; told = looked.told })
+
+pub tried_come_to : (g : Settings) (v : View) (p q r : Part) (to n : ℕ) (old new : Queue) (u : View) → r ≡ come_to q r.passed → q.passed ≤ r.passed
+    → TriesRows g v p q to n old new u → TriesRows g v p r to n old new u
+tried_come_to g v p q r to n old new u is up some =
+    subst (λ (x : Part). TriesRows g v p x to n old new u) (sym is) (tries_come_to g v p q to n r.passed old new u some up)
+
+-- a row that is held is counted, and when it has gone there is one less
+pub row_counted : (p q : Part) (row : WheelRow) → key_in p.keys row.slot ≡ Some (key_of row) → q.keys ≡ set p.keys row.slot None
+    → count_by is_some q.keys + 1 ≡ count_by is_some p.keys
+row_counted p q row held keys =
+    ap (λ ks. count_by is_some ks + 1) keys ∙ counts_less p.keys row.slot (key_of row) (key_low p.keys row.slot (key_of row) held) held
+
+-- the first row that is due is one that is
+pub has_due : (p : Part) (to : ℕ) (row : WheelRow) → IsFirstDue p.keys to row → HasDue p to
+has_due p to row first = record { slot = row.slot; key = key_of row; has = first.held; due = first.due }
+
+-- the end may be recorded where no row is due
+pub may_end_some : (g : Settings) (v : View) (p : Part) (to k : ℕ) → IsLooked g v.front p to → NoneDue p.keys to → HoldsSched v p.number
+    → k ≡ p.number → MayStep g v (advanced_entry k to)
+may_end_some g v p to k looked none holds number =
+    subst (λ n. MayStep g v (advanced_entry n to)) (sym number) (record {
+      ours = (holds.sched, holds.wheel);
+      keeps = (refl, refl, looked.stands.holds.number);
+      known = (looked.told, none_armed_due g v.front p to looked.stands none);
+    })
+
+module _ (g : Settings) (v : View) (p q : Part) (k most to : ℕ) (old mid new : Queue) (u w : View) (number : k ≡ p.number) (rows : mid.rows ≡ old.rows)
+    (looks : LooksDown g v (Sched k) to u) (holds : HoldsSched v p.number) where
+  abbrev looked : LooksDown g v (Sched p.number) to u
+  looked = subst (λ m. LooksDown g v (Sched m) to u) number looks
+
+  abbrev look : Entry
+  look = look_entry (Sched p.number) looked.now
+
+  has : (nat_eq p.number p.number || false) ≡ true
+  has = ap (λ b. b || false) (self p.number)
+
+  same_rows : (state g u.front).rows p.number ≡ (state g v.front).rows p.number
+  same_rows = (later_step g v look u p.number looked.step holds.wheel refl).rows
+
+  -- more are due
+  pub stopped_some : IsTriedSome g u p q to most true mid new w → HasExpiredSome g v p.number most to true old new w
+  stopped_some some = record {
+    gained = some.done.gained;
+    call = record {
+      entries = look ∷ (expiry_entries p.number some.done.tries ++ []);
+      allowed = record {
+        now = looked.now;
+        tries = some.done.tries;
+        fired = some.done.count;
+        settled = some.done.settled;
+        due = subst (λ (l : _). AllDue l to some.done.tries) same_rows some.done.due;
+        once = some.done.once;
+        tried = some.done.tried ∙ some.tried;
+        entries = refl;
+      };
+      call = subst (λ es. TakesPlace g v (look ∷ es) w) (sym (append-nil (expiry_entries p.number some.done.tries)))
+          (takes_place_then g v u w (look ∷ []) (expiry_entries p.number some.done.tries) (step_takes_place g v look u looked.step) some.done.call);
+    };
+    fired = some.done.fired ∙ ap (λ l. l ++ some.done.gained) rows;
+    waits = some.done.waits ∙ ap (λ l. l ++ some.done.gained) (waits_by g v look u p.number looked.step holds.sched has);
+  }
+
+  -- none is, and that is recorded
+  pub ended_some : (x : View) → IsTriedSome g u p q to most false mid new w → Appends g w (advanced_entry p.number to) x
+      → HasExpiredSome g v p.number most to false old new x
+  ended_some x some step = record {
+    gained = some.done.gained;
+    call = record {
+      entries = look ∷ (expiry_entries p.number some.done.tries ++ advanced_entry p.number to ∷ []);
+      allowed = record {
+        now = looked.now;
+        tries = some.done.tries;
+        fired = some.done.count;
+        settled = some.done.settled;
+        due = subst (λ (l : _). AllDue l to some.done.tries) same_rows some.done.due;
+        once = some.done.once;
+        tried = subst (λ n. n ≤ most) (sym some.done.tried) some.tried;
+        entries = refl;
+      };
+      call = takes_place_then g v w x (look ∷ expiry_entries p.number some.done.tries) (advanced_entry p.number to ∷ [])
+          (takes_place_then g v u w (look ∷ []) (expiry_entries p.number some.done.tries) (step_takes_place g v look u looked.step) some.done.call)
+          (step_takes_place g w (advanced_entry p.number to) x step);
+    };
+    fired = some.done.fired ∙ ap (λ l. l ++ some.done.gained) rows;
+    waits = waits_by g w (advanced_entry p.number to) x p.number step
+        (subst (λ actors. is_held actors (Sched p.number) ≡ true) (sym (some.done.call.actors ∙ looked.step.actors)) holds.sched) has
+        ∙ (some.done.waits ∙ ap (λ l. l ++ some.done.gained) (waits_by g v look u p.number looked.step holds.sched has));
+  }
+
+-- there was no memory, and nothing was done
+pub refused_some : (g : Settings) (v : View) (w most : ℕ) (e : NoMemory) (old new : Queue) → Legal g v.front → new.rows ≡ old.rows
+    → HasRefusedSome g v w most e old new v
+refused_some g v w most e old new legal rows = record {
+  call = record { entries = []; allowed = inl refl; call = no_step g v legal };
+  fired = rows;
+}

@@ -1,0 +1,179 @@
+-- Timers are tried one after the other, and their rows go.
+
+use Rattle.std.proofs.Common.{◌≡◌, ℕ, ◌+◌, ◌≤◌, ℤ, pos, true, false, List, [], ◌∷◌, ◌++◌, ◌<◌, length, set, Option, Some, None, refl, sym, ap, subst, ◌∙◌, arith, append_assoc, append-nil, length-append}
+use Rattle.std.proofs.lemmas.List.{map-append}
+use Rattle.ert_calls.proofs.Looks.{look_stepped}
+use Rattle.ert_defs.specs.Legal.{Legal}
+use Rattle.ert_defs.specs.Milliseconds.{down}
+use Rattle.ert_defs.specs.States.{look_after, state}
+use Rattle.ert_defs.specs.Timers.{Row, row_of}
+use Rattle.ert_defs.specs.declared.entry.Actor.TheVariants.{Wheel, Sched}
+use Rattle.ert_defs.specs.declared.entry.Entry.{Entry}
+use Rattle.ert_defs.specs.declared.settings.Settings.{Settings}
+use Rattle.ert_defs.specs.declared.timer.Status.{Status}
+use Rattle.ert_defs.specs.declared.timer.TimerRef.{TimerRef}
+use Rattle.ert_effects.specs.WheelCalls.{Try, expires_by, expiry_entries, hit_by, hits, IsSettled, AllSettled}
+use Rattle.ert_laws.specs.Counts.{is_arm}
+use Rattle.ert_table.specs.Held.{is_held}
+use Rattle.ert_table.specs.Takes.{Appends, TakesPlace}
+use Rattle.ert_table.specs.declared.view.View.{View}
+use Rattle.ert_table.proofs.Calls.{step_takes_place, takes_place_then}
+use Rattle.ert_timers.specs.Expiring.{Expires, fired_as, timer_of}
+use Rattle.ert_timers.specs.FiredLists.{Queue}
+use Rattle.ert_timers.specs.Parts.{Part, Stands, last_timer}
+use Rattle.ert_timers.specs.Passed.{LosesRows}
+use Rattle.ert_timers.specs.Trying.{TriesRows, come_to, fired_in}
+use Rattle.ert_timers.proofs.Later.{later_step}
+use Rattle.ert_timers.proofs.Passing.{due_push, holds_less, loses_none, loses_row, loses_then, none_more, once_more}
+use Rattle.ert_timers.proofs.Tried.{held_found}
+use Rattle.ert_wheel.specs.Rows.{key_in, key_of}
+use Rattle.ert_wheel.specs.declared.row.Row.{Row as WheelRow}
+use Rattle.ert_wheel.proofs.Collect.{key_low}
+
+-- no step took place
+pub no_step : (g : Settings) (v : View) → Legal g v.front → TakesPlace g v [] v
+no_step g v legal = record { actors = refl; legal = legal; later = []; grown = sym (append-nil v.front); ours = refl }
+
+-- nothing was tried yet
+pub tries_none : (g : Settings) (v : View) (p : Part) (to : ℕ) (q : Queue) → Legal g v.front → TriesRows g v p p to 0 q q v
+tries_none g v p to q legal = record {
+  tries = [];
+  gained = [];
+  tried = refl;
+  settled = tt;
+  due = tt;
+  once = tt;
+  none = tt;
+  loses = loses_none p;
+  rows = refl;
+  call = no_step g v legal;
+  number = refl;
+  count = refl;
+  fired = sym (append-nil q.rows);
+  waits = sym (append-nil (fired_in g v.front p.number));
+}
+
+-- the entry of a try is no look
+no_look : (w : ℕ) (timer : _) (missed : Option (Option Status)) (last : ℤ) → look_after last (expires_by w timer missed).event ≡ last
+no_look w timer None last = refl
+no_look w timer (Some found) last = refl
+
+by_sched : (w : ℕ) (timer : _) (missed : Option (Option Status)) → (expires_by w timer missed).by ≡ Sched w
+by_sched w timer None = refl
+by_sched w timer (Some found) = refl
+
+fired_count : (row : Row) (missed : Option (Option Status)) → length (fired_as row missed) ≡ hit_by missed
+fired_count row None = refl
+fired_count row (Some found) = refl
+
+settled-push : (tries : List Try) (t : Try) → AllSettled tries → IsSettled t.missed → AllSettled (tries ++ t ∷ [])
+settled-push [] t all one = (one, tt)
+settled-push (x ∷ tries) t all one = (all.0, settled-push tries t all.1 one)
+
+hits-push : (tries : List Try) (t : Try) → hits (tries ++ t ∷ []) ≡ hits tries + hit_by t.missed
+hits-push [] t = omega arith
+hits-push (x ∷ tries) t = omega (arith, hits-push tries t)
+
+no_arm : (w : ℕ) (timer : TimerRef) (missed : Option (Option Status)) → is_arm (expires_by w timer missed).event ≡ false
+no_arm w timer None = refl
+no_arm w timer (Some found) = refl
+
+-- one more was tried
+pub tries_more : (g : Settings) (v : View) (p q r : Part) (to n : ℕ) (row : WheelRow) (old mid new : Queue) (u w : View)
+    → TriesRows g v p q to n old mid u → Stands g u.front q → key_in q.keys row.slot ≡ Some (key_of row) → row.deadline ≤ to
+    → is_held u.actors (Wheel q.number) ≡ true → Expires g u q r row mid new w → TriesRows g v p r to (n + 1) old new w
+tries_more g v p q r to n row old mid new u w some stands its due wheel one =
+    let t : Try = record { timer = last_timer q.number q.slots row.slot; missed = one.missed } in
+    let step : Appends g u (expires_by p.number t.timer t.missed) w =
+    subst (λ k. Appends g u (expires_by k t.timer t.missed) w) some.number one.step in
+    let mine : r.number ≡ q.number = ap (λ (x : Part). x.number) one.part in
+    let low : row.slot < length q.keys = key_low q.keys row.slot (key_of row) its in
+    let keys : r.keys ≡ set q.keys row.slot None = ap (λ (x : Part). x.keys) one.part in
+    let slots : r.slots ≡ q.slots = ap (λ (x : Part). x.slots) one.part in
+    let time : r.passed ≡ q.passed = ap (λ (x : Part). x.passed) one.part in
+    let rows : (state g u.front).rows q.number ≡ (state g v.front).rows p.number =
+    ap (state g u.front).rows some.number ∙ some.rows in
+    record {
+      tries = some.tries ++ t ∷ [];
+      gained = some.gained ++ fired_as (timer_of q row) one.missed;
+      tried = length-append some.tries (t ∷ []) ∙ ap (λ m. m + 1) some.tried;
+      settled = settled-push some.tries t some.settled one.settled;
+      due = due_push ((state g v.front).rows p.number) to some.tries t some.due (record {
+        row = timer_of q row;
+        stands = ap (λ l. row_of l t.timer) (sym rows) ∙ held_found g u.front q row.slot (key_of row) stands its;
+        due = due;
+      });
+      once = once_more q row.slot (key_of row) some.tries t its refl some.none some.once;
+      none = none_more q r row.slot some.tries t low refl mine slots keys time some.none;
+      loses = loses_then p q r some.loses (loses_row q r row.slot low mine slots keys time);
+      rows = (later_step g u (expires_by p.number t.timer t.missed) w p.number step
+          (subst (λ k. is_held u.actors (Wheel k) ≡ true) some.number wheel) (no_arm p.number t.timer t.missed)).rows ∙ some.rows;
+      call = subst (λ es. TakesPlace g v es w) (sym (map-append (λ (x : Try). expires_by p.number x.timer x.missed) some.tries (t ∷ [])))
+          (takes_place_then g v u w (expiry_entries p.number some.tries) (expires_by p.number t.timer t.missed ∷ []) some.call
+          (step_takes_place g u (expires_by p.number t.timer t.missed) w step));
+      number = mine ∙ some.number;
+      count = length-append some.gained (fired_as (timer_of q row) one.missed)
+          ∙ omega (arith, some.count, fired_count (timer_of q row) one.missed, hits-push some.tries t);
+      fired = one.fired ∙ (ap (λ l. l ++ fired_as (timer_of q row) one.missed) some.fired
+          ∙ append_assoc old.rows some.gained (fired_as (timer_of q row) one.missed));
+      waits = subst (λ k. fired_in g w.front k ≡ fired_in g u.front k ++ fired_as (timer_of q row) one.missed) some.number one.waits
+          ∙ (ap (λ l. l ++ fired_as (timer_of q row) one.missed) some.waits
+          ∙ append_assoc (fired_in g v.front p.number) some.gained (fired_as (timer_of q row) one.missed));
+    }
+
+-- the last look of the scheduler is as before
+pub looked_more : (g : Settings) (q r : Part) (to : ℕ) (row : WheelRow) (mid new : Queue) (u w : View)
+    → pos to ≡ down g ((state g u.front).looked (Sched q.number)) → is_held u.actors (Sched q.number) ≡ true
+    → Expires g u q r row mid new w → pos to ≡ down g ((state g w.front).looked (Sched r.number))
+looked_more g q r to row mid new u w told held one =
+    let timer : TimerRef = last_timer q.number q.slots row.slot in
+    let e : Entry = expires_by q.number timer one.missed in
+    let look : (state g w.front).looked (Sched q.number) ≡ (state g u.front).looked (Sched q.number) =
+    subst (λ a. (state g w.front).looked a ≡ (state g u.front).looked a) (by_sched q.number timer one.missed)
+    (look_stepped g u e w one.step (subst (λ a. is_held u.actors a ≡ true) (sym (by_sched q.number timer one.missed)) held)
+    ∙ no_look q.number timer one.missed ((state g u.front).looked e.by)) in
+    told ∙ (ap (down g) (sym look) ∙ ap (λ k. down g ((state g w.front).looked (Sched k))) (sym (ap (λ (x : Part). x.number) one.part)))
+
+-- a part stands as before where the time of its wheel goes on
+pub stands_come_to : (g : Settings) (h : List Entry) (p : Part) (passed : ℕ) → Stands g h p → Stands g h (come_to p passed)
+stands_come_to g h p passed stands = record {
+  checked = stands.checked;
+  legal = stands.legal;
+  holds = record {
+    number = stands.holds.number;
+    processes = stands.holds.processes;
+    many = stands.holds.many;
+    wide = stands.holds.wide;
+    rows = stands.holds.rows;
+    lasts = stands.holds.lasts;
+    aboves = stands.holds.aboves;
+    arms = stands.holds.arms;
+    free = stands.holds.free;
+    ready = stands.holds.ready;
+  };
+  counted = record { arms = stands.counted.arms; expires = stands.counted.expires; orphans = stands.counted.orphans };
+}
+
+-- it has lost no row
+pub loses_come_to : (p : Part) (passed : ℕ) → p.passed ≤ passed → LosesRows p (come_to p passed)
+loses_come_to p passed up = record { number = refl; slots = refl; left = λ k key is. is; time = up }
+
+-- and what was tried before that was tried
+pub tries_come_to : (g : Settings) (v : View) (p q : Part) (to n passed : ℕ) (old new : Queue) (u : View)
+    → TriesRows g v p q to n old new u → q.passed ≤ passed → TriesRows g v p (come_to q passed) to n old new u
+tries_come_to g v p q to n passed old new u some up = record {
+  tries = some.tries;
+  gained = some.gained;
+  tried = some.tried;
+  settled = some.settled;
+  due = some.due;
+  once = some.once;
+  none = holds_less q (come_to q passed) some.tries (loses_come_to q passed up) some.none;
+  loses = loses_then p q (come_to q passed) some.loses (loses_come_to q passed up);
+  rows = some.rows;
+  call = some.call;
+  number = some.number;
+  count = some.count;
+  fired = some.fired;
+  waits = some.waits;
+}

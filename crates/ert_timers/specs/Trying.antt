@@ -1,0 +1,86 @@
+-- Timers that are due are tried, one after the other: so many at most, or all.
+
+use Rattle.std.specs.Prelude.{◌≡◌, ℕ, ◌≤◌, pos, Bool, true, false, List, ◌++◌, length, Some, Result, Ok, Err}
+use Rattle.ert_defs.specs.Milliseconds.{down}
+use Rattle.ert_defs.specs.States.{state}
+use Rattle.ert_defs.specs.Timers.{Row}
+use Rattle.ert_defs.specs.declared.entry.Actor.TheVariants.{Sched}
+use Rattle.ert_defs.specs.declared.entry.Entry.{Entry}
+use Rattle.ert_defs.specs.declared.memory.NoMemory.{NoMemory}
+use Rattle.ert_defs.specs.declared.settings.Settings.{Settings}
+use Rattle.ert_effects.specs.SomeCalls.{AreTried, AdvancesSome}
+use Rattle.ert_effects.specs.WheelCalls.{Try, expiry_entries, hits, AllSettled, AllDue, AreOnce}
+use Rattle.ert_table.specs.Calls.{IsMade}
+use Rattle.ert_table.specs.Takes.{TakesPlace}
+use Rattle.ert_table.specs.declared.view.View.{View}
+use Rattle.ert_timers.specs.FiredLists.{Queue}
+use Rattle.ert_timers.specs.Parts.{Part, Stands}
+use Rattle.ert_timers.specs.Passed.{HoldsNone, LosesRows, HasPassed}
+use Rattle.ert_wheel.specs.Rows.{key_in}
+use Rattle.ert_wheel.specs.declared.row.Key.{Key}
+
+-- the expired timers of a scheduler after a history
+abbrev pub fired_in : Settings → List Entry → ℕ → List Row
+fired_in g h w = ((state g h).scheds w).fired
+
+-- the part stands for a history, and this is the time of the scheduler's last look
+pub record IsLooked (g : Settings) (h : List Entry) (p : Part) (to : ℕ) : Type 0 where
+  pub stands : Stands g h p
+  pub told : pos to ≡ down g ((state g h).looked (Sched p.number))
+
+-- so many timers were tried that are due by a time, and their rows went
+pub record TriesRows (g : Settings) (v : View) (p q : Part) (to n : ℕ) (old new : Queue) (u : View) : Type 0 where
+  pub tries : List Try
+  pub gained : List Row
+  pub tried : length tries ≡ n
+  pub settled : AllSettled tries
+  pub due : AllDue ((state g v.front).rows p.number) to tries
+  pub once : AreOnce tries
+  pub none : HoldsNone q tries
+  pub loses : LosesRows p q
+  pub rows : (state g u.front).rows p.number ≡ (state g v.front).rows p.number
+  pub call : TakesPlace g v (expiry_entries p.number tries) u
+  pub number : q.number ≡ p.number
+  pub count : length gained ≡ hits tries
+  pub fired : new.rows ≡ old.rows ++ gained
+  pub waits : fired_in g u.front p.number ≡ fired_in g v.front p.number ++ gained
+
+-- so many timers at most were tried, for which the part stands: just the most where more are due
+pub record IsTriedSome (g : Settings) (v : View) (p q : Part) (to most : ℕ) (more : Bool) (old new : Queue) (u : View) : Type 0 where
+  pub count : ℕ
+  pub tried : AreTried more most count
+  pub done : TriesRows g v p q to count old new u
+  pub looked : IsLooked g u.front q to
+
+-- the time of a part's wheel goes on
+abbrev pub come_to : Part → ℕ → Part
+come_to p passed = record p { passed = passed }
+
+-- some row is due by a time
+pub record HasDue (p : Part) (to : ℕ) : Type 0 where
+  pub slot : ℕ
+  pub key : Key
+  pub has : key_in p.keys slot ≡ Some key
+  pub due : key.deadline ≤ to
+
+-- whether a row is left that is due by a time; where none is, the wheel has passed it
+abbrev pub IsLeft : Part → ℕ → Bool → Type 0
+IsLeft p to true = HasDue p to
+IsLeft p to false = HasPassed p to
+
+-- an advance with a bound: the timers that expired by it come last in the list, and in the scheduler's
+pub record HasExpiredSome (g : Settings) (v : View) (w most to : ℕ) (more : Bool) (old new : Queue) (u : View) : Type 0 where
+  pub gained : List Row
+  pub call : IsMade g v (AdvancesSome g w most (Ok (to, length gained, more))) u
+  pub fired : new.rows ≡ old.rows ++ gained
+  pub waits : fired_in g u.front w ≡ fired_in g v.front w ++ gained
+
+-- want of memory: nothing was tried
+pub record HasRefusedSome (g : Settings) (v : View) (w most : ℕ) (e : NoMemory) (old new : Queue) (u : View) : Type 0 where
+  pub call : IsMade g v (AdvancesSome g w most (Err e)) u
+  pub fired : new.rows ≡ old.rows
+
+-- what comes of an advance with a bound, by the answer
+abbrev pub IsAdvancedSome : Settings → View → ℕ → ℕ → Result (ℕ × Bool) NoMemory → Queue → Queue → View → Type 0
+IsAdvancedSome g v w most (Ok answer) old new u = HasExpiredSome g v w most answer.0 answer.1 old new u
+IsAdvancedSome g v w most (Err e) old new u = HasRefusedSome g v w most e old new u

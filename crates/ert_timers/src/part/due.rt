@@ -1,0 +1,29 @@
+//! The first row that is due, and how many rows there are at most.
+ghost use Rattle.std.specs.Prelude.{◌≡◌};
+
+use super::WheelPart;
+use ert_wheel::Row;
+
+impl WheelPart {
+    ghost use Rattle.std.specs.Option.{is_some};
+    ghost use Rattle.std.specs.Prelude.{◌≡◌, ◌≤◌, MatchOption, count_by, min};
+    ghost use Rattle.ert_timers.specs.Trying.{come_to};
+    ghost use Rattle.ert_wheel.specs.FirstDue.{NoneDue, IsFirstDue};
+
+    /// The first row, by deadline and then by start, where it is due at `to`; None where none is. The time of the wheel
+    /// goes on with it.
+    pub(crate) fn first_row_due(&mut self, to: u64) -> Option<Row>
+        ensures part { self.new ≡ come_to self.old self.new.passed }
+        ensures time { self.old.passed ≤ self.new.passed }
+        ensures row { MatchOption result (NoneDue self.old.keys to) (IsFirstDue self.old.keys to) }
+    {
+        self.wheel.first_due(to)
+    }
+
+    /// So many rows, or all where there are fewer.
+    pub(crate) fn rows_at_most(&self, most: u32) -> usize
+        ensures { result ≡ min most (count_by is_some self.now.keys) }
+    {
+        (most as usize).min(self.wheel.len())
+    }
+}

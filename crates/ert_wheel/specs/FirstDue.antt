@@ -1,0 +1,36 @@
+-- The first of the rows that are due.
+
+use Rattle.std.specs.Prelude.{◌≡◌, ℕ, ◌<◌, ◌≤◌, false, List, Option, Some}
+use Rattle.ert_wheel.specs.NextDue.{NoneBefore, IsDueAt}
+use Rattle.ert_wheel.specs.Rows.{key_in, key_of, row_at, comes_before}
+use Rattle.ert_wheel.specs.declared.row.Key.{Key}
+use Rattle.ert_wheel.specs.declared.row.Row.{Row}
+
+-- no row is due by a time
+abbrev pub NoneDue : List (Option Key) → ℕ → Type 0
+NoneDue keys to = (slot : ℕ) (key : Key) → key_in keys slot ≡ Some key → to < key.deadline
+
+-- a row is held and due by a time, and no row comes before it
+pub record IsFirstDue (keys : List (Option Key)) (to : ℕ) (row : Row) : Type 0 where
+  pub held : key_in keys row.slot ≡ Some (key_of row)
+  pub due : row.deadline ≤ to
+  pub first : (slot : ℕ) (key : Key) → key_in keys slot ≡ Some key → comes_before (row_at slot key) row ≡ false
+
+-- the least deadline is at most `to`, and it is no later than the first time that wasn't passed
+pub record IsReached (keys : List (Option Key)) (to passed least : ℕ) : Type 0 where
+  pub by : least ≤ to
+  pub on : least ≤ passed
+  pub due : IsDueAt keys least
+  pub none_before : NoneBefore keys least
+
+-- no row of a bucket is due by a time
+abbrev pub NoneDueIn : List (Option Key) → (Key → ℕ) → ℕ → ℕ → Type 0
+NoneDueIn keys home bucket to = (slot : ℕ) (key : Key) → key_in keys slot ≡ Some key → home key ≡ bucket → to < key.deadline
+
+-- of the rows of a bucket that are due by a time this one has the least order
+pub record IsOldestDue (keys : List (Option Key)) (home : Key → ℕ) (bucket to : ℕ) (row : Row) : Type 0 where
+  pub held : key_in keys row.slot ≡ Some (key_of row)
+  pub at_home : home (key_of row) ≡ bucket
+  pub due : row.deadline ≤ to
+  pub oldest : (slot : ℕ) (key : Key) → key_in keys slot ≡ Some key → home key ≡ bucket → key.deadline ≤ to
+      → row.order ≤ key.order

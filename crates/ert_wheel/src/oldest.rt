@@ -1,0 +1,44 @@
+//! The oldest row of a bucket that is due.
+
+ghost use Rattle.std.specs.Prelude.{◌<◌, ℕ, MatchOption};
+ghost use Rattle.ert_wheel.specs.FirstDue.{NoneDueIn, IsOldestDue};
+ghost use Rattle.ert_wheel.specs.NextDue.{MayWalk};
+ghost use Rattle.ert_wheel.specs.Rings.{AreChains};
+ghost use Rattle.ert_wheel.specs.Wheels.{held_keys, places};
+ghost use Rattle.ert_wheel.specs.declared.row.Key.{Key};
+ghost use Rattle.ert_wheel.specs.declared.row.TheConstants.{BUCKETS};
+
+use crate::kept::Kept;
+use crate::marked::MarkedChains;
+use crate::row::{Key, Row};
+
+/// The oldest row of a bucket with a deadline at most `to`; None where it has none.
+///
+/// It looks at the older rows of the bucket, whose deadlines are later.
+pub fn oldest_due<T: Copy>(
+    chains: &MarkedChains,
+    kept: &Kept<T>,
+    bucket: u32,
+    to: u64,
+) -> Option<Row>
+    requires bucket { bucket < BUCKETS }
+    requires may { MayWalk chains.now (held_keys chains.now kept.now.keys) }
+    ensures { (home : Key → ℕ)
+        → AreChains chains.now (places home (held_keys chains.now kept.now.keys))
+        → MatchOption result (NoneDueIn (held_keys chains.now kept.now.keys) home bucket to)
+        (IsOldestDue (held_keys chains.now kept.now.keys) home bucket to) }
+{
+    let mut next = chains.oldest(bucket);
+    while let Some(slot) = next {
+        let Key { deadline, order } = kept.key(slot);
+        if deadline <= to {
+            return Some(Row {
+                deadline,
+                order,
+                slot,
+            });
+        }
+        next = chains.newer(slot);
+    }
+    None
+}

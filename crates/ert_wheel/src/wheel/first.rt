@@ -1,0 +1,76 @@
+//! The first row that is due, one at a time.
+ghost use Rattle.std.specs.Prelude.{◌≡◌};
+
+use super::Wheel;
+use crate::oldest::oldest_due;
+use crate::row::Row;
+use crate::walk::first_bucket;
+
+impl<T: Copy> Wheel<T> {
+    ghost use Rattle.std.specs.Prelude.{◌≡◌, ◌≤◌, MatchOption, max};
+    ghost use Rattle.ert_wheel.specs.FirstDue.{NoneDue, IsFirstDue, IsReached};
+    ghost use Rattle.ert_wheel.specs.NextDue.{NoneBefore};
+
+    /// The first row, by deadline and then by order, where its deadline is at most `to`; None exactly where no row is due
+    /// by then. The row stays in the wheel.
+    ///
+    /// Time moves on to its deadline, where that is later than the next time. Where this comes into another window of the
+    /// lowest level, the rows of one bucket move to levels below; all of them, as in `pass`.
+    ///
+    /// Else the work is constant, but where rows were put in late since time moved on. Then it looks at the rows of the next
+    /// time's bucket that are older than the first, and at all of them where a row is the first with its deadline.
+    pub fn first_due(&mut self, to: u64) -> Option<Row>
+        ensures first { MatchOption result (NoneDue self.old.keys to) (IsFirstDue self.old.keys to) }
+        ensures keys { self.new.keys ≡ self.old.keys }
+        ensures owners { self.new.owners ≡ self.old.owners }
+        ensures values { self.new.values ≡ self.old.values }
+        ensures passed { self.old.passed ≤ self.new.passed }
+        ensures no_further { self.new.passed ≤ max self.old.passed to }
+    {
+        if let Some(row) = self.first_at(self.floor) {
+            if row.deadline > to {
+                return None;
+            }
+            return Some(row);
+        }
+        let least = self.come_to(to)?;
+        self.first_at(least)
+    }
+
+    /// The first row where it is due at a time before which none is; None where none is due at that time, if this is no later
+    /// than the next time.
+    #[inline]
+    fn first_at(&self, time: u64) -> Option<Row>
+        requires { NoneBefore self.now.keys time }
+        ensures { MatchOption result (time ≤ self.now.passed → NoneDue self.now.keys time) (IsFirstDue self.now.keys time) }
+    {
+        oldest_due(
+            &self.buckets,
+            &self.kept,
+            first_bucket(self.next_time),
+            time,
+        )
+    }
+
+    /// Lets time come to the least deadline, where that is at most `to`, and tells it; None exactly where no row is due by
+    /// then.
+    fn come_to(&mut self, to: u64) -> Option<u64>
+        ensures reached { MatchOption result (NoneDue self.old.keys to) (IsReached self.old.keys to self.new.passed) }
+        ensures keys { self.new.keys ≡ self.old.keys }
+        ensures owners { self.new.owners ≡ self.old.owners }
+        ensures values { self.new.values ≡ self.old.values }
+        ensures passed { self.old.passed ≤ self.new.passed }
+        ensures no_further { self.new.passed ≤ max self.old.passed to }
+    {
+        let mut time = self.next_due()?;
+        while time > self.next_time && time <= to {
+            self.pass(time - 1);
+            time = self.next_due()?;
+        }
+        if time > to {
+            return None;
+        }
+        self.floor = self.floor.max(time);
+        Some(time)
+    }
+}
