@@ -5,7 +5,7 @@ use Rattle.std.proofs.lemmas.Bool.{cases_eq, cases_lt, lt-ltb, le-ltb}
 use Rattle.ert_wheel.proofs.Calls.{newest_at}
 use Rattle.ert_wheel.proofs.MarkBits.{IsFirstMark}
 use Rattle.ert_wheel.proofs.Parts.{IsSlot, IsHead, slot_is, head_is, node_is}
-use Rattle.ert_wheel.specs.Chained.{Shape, Unspliced}
+use Rattle.ert_wheel.specs.Chained.{Shape, Spliced, Unspliced}
 use Rattle.ert_wheel.specs.Links.{next_at, prev_at}
 use Rattle.ert_wheel.specs.Marks.{mark_of, newest_node, AreMarked, FirstUsed}
 use Rattle.ert_wheel.specs.Rings.{Rings, IsOnlyOf, HasOthers, Place, AreChains, shape, slot_at, Finds}
@@ -40,6 +40,32 @@ before_is_head r places slot head are low high few is = at (places slot) refl
                     omega (arith, t.at_home, h.at_home, one)
               ];
         }
+
+-- a slot is put in, and its bucket is marked
+pub put_marked : (old new : Rings) (slot home : ℕ) (marks marks' : List ℕ) → AreMarked old marks
+    → new.slots ≡ old.slots → new.homes ≡ old.homes → slot < old.slots
+    → Spliced (next_at old.links) (prev_at old.links) (next_at new.links) (prev_at new.links) (old.slots + home) slot
+    → mark_of marks' home ≡ 1
+    → ((other : ℕ) → other ≢ home → mark_of marks' other ≡ mark_of marks other) → AreMarked new marks'
+put_marked old new slot home marks marks' m same homes low s here others =
+    let at_head : (h : ℕ) → newest_node new h ≡ next_at new.links (old.slots + h) =
+    λ h. ap (λ n. next_at new.links (n + h)) same in
+    let stays : (h : ℕ) → h ≢ home → newest_node new h ≡ newest_node old h =
+    λ h ne. at_head h
+    ∙ s.others_after (old.slots + h) (λ bad. absurd (omega arith)) (λ bad. ne (omega (arith, bad))) in
+    record {
+      homes = homes ∙ m.homes;
+      used = λ h in_range set.
+          elim (cases_eq h home) [
+            | inl is ↦ omega (arith, same, at_head h, ap (λ n. next_at new.links (old.slots + n)) is, s.head_after)
+            | inr ne ↦ omega (arith, same, stays h ne, m.used h in_range (sym (others h ne) ∙ set))
+          ];
+      clear = λ h in_range zero.
+          elim (cases_eq h home) [
+            | inl is ↦ absurd (omega (arith, here, sym (ap (mark_of marks') is) ∙ zero))
+            | inr ne ↦ omega (arith, same, stays h ne, m.clear h in_range (sym (others h ne) ∙ zero))
+          ];
+    }
 
 -- what is told of a slot
 pub is_only : (r : Rings) (slot : ℕ) (told : Option ℕ) (home : ℕ) → told ≡ Some home

@@ -26,6 +26,27 @@ mark-set_other words bucket word within kept other differs =
       | inr apart ↦ ap (λ n. bit_at n (other % 64)) (get_or-set_other words (bucket / 64) (other / 64) word 0 apart)
     ]
 
+-- the word of a bucket with the mark of that
+abbrev pub with_mark : List ℕ → ℕ → ℕ
+with_mark words bucket = bit_or (get_or words (bucket / 64) 0) (1 * 2 ^ (bucket % 64) % 2 ^ 64)
+
+pub marked_here : (words : List ℕ) (bucket : ℕ) → bucket / 64 < length words
+    → mark_of (set words (bucket / 64) (with_mark words bucket)) bucket ≡ 1
+marked_here words bucket within =
+    mark-set_same words bucket (with_mark words bucket) within ∙ bit_at_set_same w64 _ (bucket % 64) (omega arith)
+
+pub marked_others : (words seen : List ℕ) (bucket : ℕ) → words ≡ seen → bucket / 64 < length words
+    → (other : ℕ) → other ≢ bucket → mark_of (set words (bucket / 64) (with_mark words bucket)) other ≡ mark_of seen other
+marked_others words seen bucket is within other differs =
+    mark-set_other words bucket (with_mark words bucket) within
+    (λ i low apart. bit_at_set_other w64 _ (bucket % 64) (omega arith) i apart) other differs
+    ∙ ap (λ (ws : List ℕ). mark_of ws other) is
+
+-- it isn't 0
+pub with_mark-some : (words : List ℕ) (bucket : ℕ) → with_mark words bucket ≢ 0
+with_mark-some words bucket zero =
+    absurd (omega (arith, sym (bit_at_set_same w64 (get_or words (bucket / 64) 0) (bucket % 64) (omega arith)) ∙ (ap (λ n. bit_at n (bucket % 64)) zero ∙ bit_at-zero (bucket % 64))))
+
 -- no bucket is marked in words of 0
 pub no_mark : (bucket : ℕ) → bucket < BUCKETS → mark_of (replicate 40 0) bucket ≡ 0
 no_mark bucket low =
@@ -100,6 +121,23 @@ sums_set words used at word sums low some = record {
       elim (cases_eq i at) [
         | inl same ↦ rw (same, get_or-set_same words at word 0 (omega (arith, low, sums.wide))) some
         | inr apart ↦ rw (get_or-set_other words at i word 0 apart) (sums.some i less (sym (bit_at_set_other w64 used at (omega (arith, low)) i apart) ∙ one))
+      ];
+}
+
+-- a word that has a mark gets another
+pub sums_kept : (words : List ℕ) (used at word : ℕ) → AreSummed words used → at < 40 → get_or words at 0 ≢ 0 → word ≢ 0
+    → AreSummed (set words at word) used
+sums_kept words used at word sums low had some = record {
+  wide = length-set words at word ∙ sums.wide;
+  none = λ i less clear.
+      elim (cases_eq i at) [
+        | inl same ↦ absurd (had (sums.none at low (sym (ap (bit_at used) same) ∙ clear)))
+        | inr apart ↦ get_or-set_other words at i word 0 apart ∙ sums.none i less clear
+      ];
+  some = λ i less one.
+      elim (cases_eq i at) [
+        | inl same ↦ rw (same, get_or-set_same words at word 0 (omega (arith, low, sums.wide))) some
+        | inr apart ↦ rw (get_or-set_other words at i word 0 apart) (sums.some i less one)
       ];
 }
 

@@ -96,15 +96,6 @@ impl Chains {
         next_of(&self.links, slot) == slot
     }
 
-    /// Whether a home has no slot.
-    #[inline]
-    pub fn is_empty(&self, home: u32) -> bool
-        requires { home < self.now.homes }
-        ensures { IsTrue result ↔ (self.now.slots ≤ next_at self.now.links (self.now.slots + home)) }
-    {
-        next_of(&self.links, self.slots + home) >= self.slots
-    }
-
     /// The home whose only slot this is; None where its home has others, or it is in no chain.
     #[inline]
     pub fn only_of(&self, slot: u32) -> Option<u32>

@@ -54,8 +54,9 @@ impl MarkedChains {
         self.chains.slots()
     }
 
-    /// Puts a slot that is in no chain into that of a bucket, as its newest. The mark is written only where the bucket
-    /// was empty.
+    /// Puts a slot that is in no chain into that of a bucket, as its newest.
+    ///
+    /// The mark is written whether it stands or not: where timers come to buckets at random, a branch on it costs more.
     #[inline]
     pub fn put(&mut self, slot: u32, home: u32)
         requires { MayPut self.old slot home }
@@ -64,11 +65,8 @@ impl MarkedChains {
         ensures chains { Puts self.old self.new slot home }
         ensures in_home { PutsInHome self.old self.new slot home }
     {
-        let was_empty = self.chains.is_empty(home);
         self.chains.put(slot, home);
-        if was_empty {
-            self.marks.set(home);
-        }
+        self.marks.set(home);
     }
 
     /// Takes a slot out of its chain, where it is in one.

@@ -46,8 +46,12 @@ impl Marks {
         ensures others { (other : ℕ) → other ≢ bucket → mark_of self.new other ≡ mark_of self.old other }
     {
         let at = bucket / 64;
-        let word = self.words[at as usize] | 1 << (bucket % 64);
-        self.store(at, word);
+        let was = self.words[at as usize];
+        self.words[at as usize] = was | 1 << (bucket % 64);
+        // Few words have no mark, so this is rarely taken, whichever buckets have one.
+        if was == 0 {
+            self.used |= 1 << at;
+        }
     }
 
     /// Takes the mark of a bucket away.

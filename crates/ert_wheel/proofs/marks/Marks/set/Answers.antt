@@ -1,18 +1,30 @@
-use Rattle.std.proofs.Common.{length, get_or, ◌/◌, ◌%◌, List, ℕ, ap, ◌∙◌, w64, arith}
-use Rattle.std.specs.Int.{bit_at}
-use Rattle.std.proofs.lemmas.Nat.Bits.{bit_at_set_same, bit_at_set_other}
-use Rattle.ert_wheel.proofs.MarkBits.{mark-set_same, mark-set_other}
+use Rattle.std.proofs.Common.{◌/◌, arith}
+use Rattle.ert_wheel.proofs.MarkBits.{with_mark, with_mark-some, marked_here, marked_others, sums_set, sums_kept}
 use Rattle.ert_wheel.proofs.marks.Marks.set.Goals as goal
-use Rattle.ert_wheel.specs.Marks.{mark_of}
 
-pub returns-clause-here : goal.returns-clause-here
-returns-clause-here c =
-    ap (λ (ws : List ℕ). mark_of ws c.args.bucket) c.store.ensures
-    ∙ (mark-set_same c.args.self.now c.args.bucket _ (omega (arith, c.self.invariant.wide, ap (λ (ws : List ℕ). length ws) c.self.view_is, c.requires))
-    ∙ bit_at_set_same w64 _ (c.args.bucket % 64) (omega arith))
+pub invariant_of-self : goal.invariant_of-self
+invariant_of-self c =
+    sums_set c.self.inside.words c.self.inside.used (c.args.bucket / 64) (with_mark c.self.inside.words c.args.bucket)
+    c.self.invariant (omega (arith, c.requires)) (with_mark-some c.self.inside.words c.args.bucket)
 
-pub returns-clause-others : goal.returns-clause-others
-returns-clause-others c = λ other differs.
-    ap (λ (ws : List ℕ). mark_of ws other) c.store.ensures
-    ∙ mark-set_other c.args.self.now c.args.bucket _ (omega (arith, c.self.invariant.wide, ap (λ (ws : List ℕ). length ws) c.self.view_is, c.requires))
-    (λ i low apart. bit_at_set_other w64 _ (c.args.bucket % 64) (omega arith) i apart ∙ ap (λ (ws : List ℕ). bit_at (get_or ws (c.args.bucket / 64) 0) i) c.self.view_is) other differs
+pub invariant_of-self-else-was-eq0 : goal.invariant_of-self-else-was-eq0
+invariant_of-self-else-was-eq0 c =
+    sums_kept c.self.inside.words c.self.inside.used (c.args.bucket / 64) (with_mark c.self.inside.words c.args.bucket)
+    c.self.invariant (omega (arith, c.requires)) (λ zero. absurd (omega (arith, zero, c.if-was-eq0.false)))
+    (with_mark-some c.self.inside.words c.args.bucket)
+
+pub returns-then-was-eq0-clause-here : goal.returns-then-was-eq0-clause-here
+returns-then-was-eq0-clause-here c =
+    marked_here c.self.inside.words c.args.bucket (omega (arith, c.self.invariant.wide, c.requires))
+
+pub returns-else-was-eq0-clause-here : goal.returns-else-was-eq0-clause-here
+returns-else-was-eq0-clause-here c =
+    marked_here c.self.inside.words c.args.bucket (omega (arith, c.self.invariant.wide, c.requires))
+
+pub returns-then-was-eq0-clause-others : goal.returns-then-was-eq0-clause-others
+returns-then-was-eq0-clause-others c =
+    marked_others c.self.inside.words c.args.self.now c.args.bucket c.self.view_is (omega (arith, c.self.invariant.wide, c.requires))
+
+pub returns-else-was-eq0-clause-others : goal.returns-else-was-eq0-clause-others
+returns-else-was-eq0-clause-others c =
+    marked_others c.self.inside.words c.args.self.now c.args.bucket c.self.view_is (omega (arith, c.self.invariant.wide, c.requires))
