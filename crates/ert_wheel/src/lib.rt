@@ -15,9 +15,9 @@
 //! why a slot belongs to a home is the wheel's or its user's to know, and a contract speaks of every assignment of
 //! places that fits.
 //!
-//! **Records** (`Kept`). A row's deadline stands beside the value that the wheel's user keeps of its slot, in one
-//! record. So where a row moves to a lower level, what its expiry will read comes into the caches. The orders lie in
-//! a vector of their own, since a move doesn't read them.
+//! **Records** (`Kept`). A row's deadline and order stand beside the value that the wheel's user keeps of its slot, in
+//! one record. So a start writes one place for all of them, and where a row moves to a lower level, what its expiry will
+//! read comes into the caches.
 //!
 //! **Levels** (`Wheel`). A wheel has 2,560 buckets, 512 on each of five levels. A bucket of
 //! the lowest level is a millisecond; one of the next is a window of 512 milliseconds, and so on: a bucket is as
