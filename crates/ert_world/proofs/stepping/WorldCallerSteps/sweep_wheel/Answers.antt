@@ -1,3 +1,4 @@
+use Rattle.ert_world.proofs.Listed.{kept_by}
 use Rattle.std.proofs.Common.{◌≡◌, true, sym, subst}
 use Rattle.ert_effects.specs.Chains.{SweepsWheel}
 use Rattle.ert_effects.specs.Ways.{Grows}
@@ -12,13 +13,12 @@ use Rattle.ert_world.specs.Worlds.{Seen, way_of}
 use Rattle.ert_world.proofs.stepping.WorldCallerSteps.sweep_wheel.Goals as goal
 
 pub invariant_of-self : goal.invariant_of-self
-invariant_of-self c = record {
-  sound =
+invariant_of-self c =
+    let all =
       ((does_at c.deref.ensures (sweep_called c.args.self.now c.self.inside c.deref.result.now c.sweep.new.pass c.args.wheel c.args.process c.index_mut.result.now c.sweep.new.self (has_at c.deref.ensures c.self.view_is c.self.invariant.sound)
       c.sweep.ensures.belongs c.requires.wheel c.index_mut.ensures.value c.sweep.ensures.number c.sweep.ensures.stands c.sweep.ensures.call c.sweep.ensures.swept
-      c.sweep.ensures.loses)).fit);
-  listed = c.self.invariant.listed;
-}
+      c.sweep.ensures.loses))) in
+    kept_by c.self.inside c.self.inside.list c.self.view_is all.fit all.goes.grows c.self.invariant.listed
 
 pub returns-clause-call : goal.returns-clause-call
 returns-clause-call c =
