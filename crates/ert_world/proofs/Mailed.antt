@@ -1,7 +1,6 @@
 -- A process with mail, and takes of several messages.
 
-use Rattle.std.proofs.Common.{◌≡◌, ℕ, ◌<◌, true, false, inl, List, [], ◌∷◌, ◌++◌, length, Option, Some, None, slice_index_or, refl, sym, ap, subst, ◌∙◌}
-use Rattle.std.proofs.Math.Nat.{lt_of_lt_of_le}
+use Rattle.std.proofs.Common.{◌≡◌, ℕ, ◌<◌, true, false, List, [], ◌∷◌, ◌++◌, length, Option, Some, None, slice_index_or, refl, sym, ap, subst, ◌∙◌}
 use Rattle.ert_defs.specs.Legal.{Legal}
 use Rattle.ert_defs.specs.Mails.{MailState}
 use Rattle.ert_defs.specs.States.{State, state}
@@ -13,10 +12,10 @@ use Rattle.ert_effects.specs.MailCalls.{Takes}
 use Rattle.ert_effects.specs.Ways.{Growth, Way}
 use Rattle.ert_effects.specs.declared.answers.Taken.{Taken}
 use Rattle.ert_effects.specs.declared.answers.Taken.TheVariants.{Mail as Took, Empty, Exited}
-use Rattle.ert_mail.specs.Lists.{CanLook, IsNextIn, LooksForMail, exits_seen, life_seen}
+use Rattle.ert_mail.specs.Lists.{IsNextIn, LooksForMail, exits_seen, life_seen}
 use Rattle.ert_mail.specs.Mailboxes.{Mailbox, seen as box}
 use Rattle.ert_table.specs.Calls.{AreOnlyOf, IsMade}
-use Rattle.ert_table.specs.Desks.{settings_of, view_of, front_of, actors_of, state_of, Belongs}
+use Rattle.ert_table.specs.Desks.{settings_of, view_of, front_of, state_of, Belongs}
 use Rattle.ert_table.specs.declared.desk.Desk.{Desk}
 use Rattle.ert_table.specs.declared.desk.Pass.{Pass}
 use Rattle.ert_world.proofs.Alone.{went}
@@ -26,7 +25,7 @@ use Rattle.ert_world.proofs.Calm.{IsQuiet}
 use Rattle.ert_world.proofs.Composed.{goes_more, goes_nothing, goes_then}
 use Rattle.ert_world.proofs.Listed.{mails_low}
 use Rattle.ert_world.specs.Mailing.{mail_of, FindsMail, IsNextMail, TakesMails, TakesSome}
-use Rattle.ert_world.specs.Worlds.{Seen, seen, AreSound, Goes, By, HoldsRest, way_of}
+use Rattle.ert_world.specs.Worlds.{Seen, seen, AreSound, Goes, By, way_of}
 use Rattle.ert_world.specs.declared.mailing.TakeEnd.TheVariants.{Most, Empty as FoundEmpty, Exited as HadExited}
 use Rattle.ert_world.specs.declared.world.World.TheInside.{Inside}
 
@@ -73,7 +72,7 @@ pub mail_found : (before : Seen) (b : Inside) (d e : Desk) (q : Pass) (mails : L
     → AreSound e b.pass b.next (parts_in b) → Belongs d q → IsMade (settings_of d) (view_of b.pass) (LooksForMail 0 answer) (view_of q)
     → mails ≡ b.mails.items → IsNextIn (state_of d q).exited mails answer
     → AreSound e q b.next (parts_in b) × FindsMail before answer (seen e q b.next b.keeper b.wheels.items)
-mail_found before b d e q mails answer same is sound belongs made as next =
+mail_found before b d e q mails answer same is sound belongs made these next =
     let all = alone_called before b d e q (λ g. LooksForMail 0 answer) same is sound belongs made (looks_quiet answer) in
     let now : Inside = record b { pass = q } in
     (
@@ -81,22 +80,10 @@ mail_found before b d e q mails answer same is sound belongs made as next =
       record {
         goes = all.goes;
         wheels = ap (λ (w : Seen). w.wheels) is;
-        next = next_told (seen_at e now) now e mails answer (has_at refl refl all.fit) as
+        next = next_told (seen_at e now) now e mails answer (has_at refl refl all.fit) these
             (subst (λ (x : Desk). IsNextIn (state_of x q).exited mails answer) same next);
       },
     )
-
--- caller 0 can look at each process
-pub can_look : (b : Inside) (d e : Desk) (mails : List Mailbox) → d ≡ e → AreSound e b.pass b.next (parts_in b) → mails ≡ b.mails.items
-    → CanLook (settings_of d) (view_of b.pass) 0 (length mails)
-can_look b d e mails same sound as =
-    let holds = subst (λ (x : Desk). HoldsRest (settings_of x) (actors_of b.pass) b.next) (sym same) sound.fit.holds in
-    let some : 0 < (settings_of d).callers = lt_of_lt_of_le holds.some holds.most in
-    record {
-      held = holds.rest (Caller 0) some (inl refl);
-      below = some;
-      counted = ap (length {A = Mailbox}) as ∙ (sound.fit.stand.mails.counted ∙ ap (λ (x : Desk). (settings_of x).processes) (sym same));
-    }
 
 -- what is made by a call is made by another
 goes_as : (a c : Seen) (call other : Way → Growth) → Goes a call c → ((h m : List Entry) → call (way_of a) h m → other (way_of a) h m) → Goes a other c
