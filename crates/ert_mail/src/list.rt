@@ -75,13 +75,7 @@ impl MailList {
     ///
     /// The caller looks whether the process whose turn it is has exited: then none of its messages can be taken, and it
     /// leaves the row.
-    pub fn next(
-        &mut self,
-        desk: &Desk,
-        pass: &mut Pass,
-        by: u32,
-        mails: &[MailPart],
-    ) -> Option<u32>
+    pub fn next(&mut self, desk: &Desk, pass: &mut Pass, by: u32, mails: &[MailPart]) -> Option<u32>
         requires belongs { Belongs desk.now pass.old }
         requires legal { Legal (settings_of desk.now) (front_of pass.old) }
         requires caller { CanLook (settings_of desk.now) (view_of pass.old) by (length mails.now) }

@@ -74,8 +74,7 @@ pub mail_found : (before : Seen) (b : Inside) (d e : Desk) (q : Pass) (mails : L
     → AreSound e q b.next (parts_in b) × FindsMail before answer (seen e q b.next b.keeper b.wheels.items)
 mail_found before b d e q mails answer same is sound belongs made these next =
     let all = alone_called before b d e q (λ g. LooksForMail 0 answer) same is sound belongs made (looks_quiet answer) in
-    let now : Inside = record b { pass = q } in
-    (
+    let now : Inside = record b { pass = q } in (
       all.fit,
       record {
         goes = all.goes;

@@ -1,5 +1,5 @@
-use Rattle.std.specs.Arc.{arc_value}
 use Rattle.std.proofs.Common.{◌≡◌, true, false, None, Ok, Err, Option, rules, refl, sym, ap, subst, ◌∙◌}
+use Rattle.std.specs.Arc.{arc_value}
 use Rattle.std.specs.Option.{is_some}
 use Rattle.std.specs.Prelude.{slice_set}
 use Rattle.ert_effects.specs.RequestCalls.{Answers}
@@ -52,15 +52,15 @@ answer-requires-clause-stands c =
 pub invariant_of-self : goal.invariant_of-self
 invariant_of-self c =
     let all =
-      (let has : Has c.args.self.now c.self.inside c.deref.result.now = has_at c.deref.ensures c.self.view_is c.self.invariant.sound in
-      let low = asker_low c.args.self.now c.self.inside c.deref.result.now c.args.sched c.args.request.now has c.requires.hand in
-      (does_at c.deref.ensures (step_refused c.args.self.now c.self.inside c.deref.result.now c.answer.new.pass c.args.request.now.reply_to c.index_mut.result.now c.answer.new.self
-      (λ w. By w (λ g. Answers g c.args.sched c.args.request.now (Err c.in_err-left.field-0.0))) has c.answer.ensures.belongs
-      low c.index_mut.ensures.value c.answer.ensures.process c.answer.ensures.stands c.in_err-left.ensures.call.same
-      (λ m grown own. own)))) in
+    (let has : Has c.args.self.now c.self.inside c.deref.result.now = has_at c.deref.ensures c.self.view_is c.self.invariant.sound in
+    let low = asker_low c.args.self.now c.self.inside c.deref.result.now c.args.sched c.args.request.now has c.requires.hand in
+    (does_at c.deref.ensures (step_refused c.args.self.now c.self.inside c.deref.result.now c.answer.new.pass c.args.request.now.reply_to c.index_mut.result.now c.answer.new.self
+    (λ w. By w (λ g. Answers g c.args.sched c.args.request.now (Err c.in_err-left.field-0.0))) has c.answer.ensures.belongs
+    low c.index_mut.ensures.value c.answer.ensures.process c.answer.ensures.stands c.in_err-left.ensures.call.same
+    (λ m grown own. own)))) in
     kept_by c.self.inside c.may_get_mail.new.list c.self.view_is all.fit all.goes.grows
     (listed_now (state_of (arc_value c.self.inside.desk) c.self.inside.pass) c.self.inside.list c.may_get_mail.new.list c.self.inside.mails.items c.args.request.now.reply_to c.answer.new.self c.may_get_mail.ensures c.self.invariant.listed
-      (rw c.self.invariant.sound.fit.stand.mails.counted (asker_low c.args.self.now c.self.inside _ c.args.sched c.args.request.now (has_at refl c.self.view_is c.self.invariant.sound) c.requires.hand)))
+    (rw c.self.invariant.sound.fit.stand.mails.counted (asker_low c.args.self.now c.self.inside _ c.args.sched c.args.request.now (has_at refl c.self.view_is c.self.invariant.sound) c.requires.hand)))
 
 pub returns-in_err-left : goal.returns-in_err-left
 returns-in_err-left c =
@@ -80,18 +80,18 @@ returns-in_err-left c =
 pub invariant_of-self-then-is_none : goal.invariant_of-self-then-is_none
 invariant_of-self-then-is_none c =
     let all =
-      (let has : Has c.args.self.now c.self.inside c.deref.result.now = has_at c.deref.ensures c.self.view_is c.self.invariant.sound in
-      let done = answered_now c.args.self.now c.self.inside c.deref.result.now c.answer.new.pass c.args.sched c.index_mut.result.now c.answer.new.self c.args.request.now c.in_ok-left.left
-      c.index_mut-2.result.now (record { wheel = c.index_mut-2.result.now.wheel; hand = None; fired = c.index_mut-2.result.now.fired })
-      has c.answer.ensures.belongs c.requires.acts c.requires.hand c.index_mut.ensures.value c.answer.ensures.process
-      c.answer.ensures.stands c.in_ok-left.ensures.call c.in_ok-left.ensures.sched c.index_mut-2.ensures.value refl refl refl in
-      (does_cancel_at c.deref.ensures (cancelled_not c.args.self.now c.self.inside c.deref.result.now c.answer.new.pass
-      (record (parts_in c.self.inside) { mails = slice_set c.self.inside.mails.items c.args.request.now.reply_to c.answer.new.self; scheds = slice_set c.self.inside.scheds.items c.args.sched (record { wheel = c.index_mut-2.result.now.wheel; hand = None; fired = c.index_mut-2.result.now.fired }) })
-      c.args.request.now.timer (left_by c.args.request.now.kind c.in_ok-left.left) (λ w. By w (λ g. Answers g c.args.sched c.args.request.now (Ok c.in_ok-left.left)))
-      (subst (λ (x : Option _). is_some x ≡ false) c.cancelled_left.ensures c.if-is_none.ensures) has done))) in
+    (let has : Has c.args.self.now c.self.inside c.deref.result.now = has_at c.deref.ensures c.self.view_is c.self.invariant.sound in
+    let done = answered_now c.args.self.now c.self.inside c.deref.result.now c.answer.new.pass c.args.sched c.index_mut.result.now c.answer.new.self c.args.request.now c.in_ok-left.left
+    c.index_mut-2.result.now (record { wheel = c.index_mut-2.result.now.wheel; hand = None; fired = c.index_mut-2.result.now.fired })
+    has c.answer.ensures.belongs c.requires.acts c.requires.hand c.index_mut.ensures.value c.answer.ensures.process
+    c.answer.ensures.stands c.in_ok-left.ensures.call c.in_ok-left.ensures.sched c.index_mut-2.ensures.value refl refl refl in
+    (does_cancel_at c.deref.ensures (cancelled_not c.args.self.now c.self.inside c.deref.result.now c.answer.new.pass
+    (record (parts_in c.self.inside) { mails = slice_set c.self.inside.mails.items c.args.request.now.reply_to c.answer.new.self; scheds = slice_set c.self.inside.scheds.items c.args.sched (record { wheel = c.index_mut-2.result.now.wheel; hand = None; fired = c.index_mut-2.result.now.fired }) })
+    c.args.request.now.timer (left_by c.args.request.now.kind c.in_ok-left.left) (λ w. By w (λ g. Answers g c.args.sched c.args.request.now (Ok c.in_ok-left.left)))
+    (subst (λ (x : Option _). is_some x ≡ false) c.cancelled_left.ensures c.if-is_none.ensures) has done))) in
     kept_by c.self.inside c.may_get_mail.new.list c.self.view_is all.fit all.goes.grows
     (listed_now (state_of (arc_value c.self.inside.desk) c.self.inside.pass) c.self.inside.list c.may_get_mail.new.list c.self.inside.mails.items c.args.request.now.reply_to c.answer.new.self c.may_get_mail.ensures c.self.invariant.listed
-      (rw c.self.invariant.sound.fit.stand.mails.counted (asker_low c.args.self.now c.self.inside _ c.args.sched c.args.request.now (has_at refl c.self.view_is c.self.invariant.sound) c.requires.hand)))
+    (rw c.self.invariant.sound.fit.stand.mails.counted (asker_low c.args.self.now c.self.inside _ c.args.sched c.args.request.now (has_at refl c.self.view_is c.self.invariant.sound) c.requires.hand)))
 
 pub returns-then-is_none-clause-call : goal.returns-then-is_none-clause-call
 returns-then-is_none-clause-call c =
@@ -157,21 +157,21 @@ forget-requires-clause-settled c =
 pub invariant_of-self-2 : goal.invariant_of-self-2
 invariant_of-self-2 c =
     let all =
-      (let has : Has c.args.self.now c.self.inside c.deref.result.now = has_at c.deref.ensures c.self.view_is c.self.invariant.sound in
-      let done = answered_now c.args.self.now c.self.inside c.deref.result.now c.answer.new.pass c.args.sched c.index_mut.result.now c.answer.new.self c.args.request.now c.in_ok-left.left
-      c.index_mut-2.result.now (record { wheel = c.index_mut-2.result.now.wheel; hand = None; fired = c.index_mut-2.result.now.fired })
-      has c.answer.ensures.belongs c.requires.acts c.requires.hand c.index_mut.ensures.value c.answer.ensures.process
-      c.answer.ensures.stands c.in_ok-left.ensures.call c.in_ok-left.ensures.sched c.index_mut-2.ensures.value refl refl refl in
-      let some : is_some (left_by c.args.request.now.kind c.in_ok-left.left) ≡ true =
-      subst (λ (x : Option _). is_some x ≡ true) c.cancelled_left.ensures c.if-is_none.ensures in
-      (does_cancel_at c.deref.ensures (cancelled_was c.args.self.now c.self.inside c.deref.result.now c.answer.new.pass
-      (record (parts_in c.self.inside) { mails = slice_set c.self.inside.mails.items c.args.request.now.reply_to c.answer.new.self; scheds = slice_set c.self.inside.scheds.items c.args.sched (record { wheel = c.index_mut-2.result.now.wheel; hand = None; fired = c.index_mut-2.result.now.fired }) })
-      c.args.request.now.timer (left_by c.args.request.now.kind c.in_ok-left.left) c.index_mut-3.result.now c.forget.new.self (λ w. By w (λ g. Answers g c.args.sched c.args.request.now (Ok c.in_ok-left.left)))
-      some has done c.index_mut-3.ensures.value c.forget.ensures.number
-      (c.forget.ensures.stands (settings_of c.deref.result.now) done.fit.belongs.named) c.forget.ensures.loses c.forget.ensures.forgotten))) in
+    (let has : Has c.args.self.now c.self.inside c.deref.result.now = has_at c.deref.ensures c.self.view_is c.self.invariant.sound in
+    let done = answered_now c.args.self.now c.self.inside c.deref.result.now c.answer.new.pass c.args.sched c.index_mut.result.now c.answer.new.self c.args.request.now c.in_ok-left.left
+    c.index_mut-2.result.now (record { wheel = c.index_mut-2.result.now.wheel; hand = None; fired = c.index_mut-2.result.now.fired })
+    has c.answer.ensures.belongs c.requires.acts c.requires.hand c.index_mut.ensures.value c.answer.ensures.process
+    c.answer.ensures.stands c.in_ok-left.ensures.call c.in_ok-left.ensures.sched c.index_mut-2.ensures.value refl refl refl in
+    let some : is_some (left_by c.args.request.now.kind c.in_ok-left.left) ≡ true =
+    subst (λ (x : Option _). is_some x ≡ true) c.cancelled_left.ensures c.if-is_none.ensures in
+    (does_cancel_at c.deref.ensures (cancelled_was c.args.self.now c.self.inside c.deref.result.now c.answer.new.pass
+    (record (parts_in c.self.inside) { mails = slice_set c.self.inside.mails.items c.args.request.now.reply_to c.answer.new.self; scheds = slice_set c.self.inside.scheds.items c.args.sched (record { wheel = c.index_mut-2.result.now.wheel; hand = None; fired = c.index_mut-2.result.now.fired }) })
+    c.args.request.now.timer (left_by c.args.request.now.kind c.in_ok-left.left) c.index_mut-3.result.now c.forget.new.self (λ w. By w (λ g. Answers g c.args.sched c.args.request.now (Ok c.in_ok-left.left)))
+    some has done c.index_mut-3.ensures.value c.forget.ensures.number
+    (c.forget.ensures.stands (settings_of c.deref.result.now) done.fit.belongs.named) c.forget.ensures.loses c.forget.ensures.forgotten))) in
     kept_by c.self.inside c.may_get_mail.new.list c.self.view_is all.fit all.goes.grows
     (listed_now (state_of (arc_value c.self.inside.desk) c.self.inside.pass) c.self.inside.list c.may_get_mail.new.list c.self.inside.mails.items c.args.request.now.reply_to c.answer.new.self c.may_get_mail.ensures c.self.invariant.listed
-      (rw c.self.invariant.sound.fit.stand.mails.counted (asker_low c.args.self.now c.self.inside _ c.args.sched c.args.request.now (has_at refl c.self.view_is c.self.invariant.sound) c.requires.hand)))
+    (rw c.self.invariant.sound.fit.stand.mails.counted (asker_low c.args.self.now c.self.inside _ c.args.sched c.args.request.now (has_at refl c.self.view_is c.self.invariant.sound) c.requires.hand)))
 
 pub returns-clause-call : goal.returns-clause-call
 returns-clause-call c =

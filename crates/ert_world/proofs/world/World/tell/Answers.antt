@@ -1,5 +1,5 @@
-use Rattle.std.specs.Arc.{arc_value}
 use Rattle.std.proofs.Common.{refl}
+use Rattle.std.specs.Arc.{arc_value}
 use Rattle.ert_effects.specs.MailCalls.{Tells}
 use Rattle.ert_mail.proofs.LawsHold.{tells_only}
 use Rattle.ert_table.specs.Desks.{settings_of, view_of, state_of}
@@ -16,13 +16,13 @@ may_get_mail-requires c =
 pub invariant_of-self : goal.invariant_of-self
 invariant_of-self c =
     let all =
-      ((mail_called c.args.self.now c.self.inside c.deref.result.now _ c.tell.new.pass c.args.process c.index_mut.result.now c.tell.new.self (λ n g. Tells g 0 n c.tell.result)
-      c.deref.ensures c.self.view_is c.self.invariant.sound c.tell.ensures.belongs c.requires c.index_mut.ensures.value c.tell.ensures.process c.tell.ensures.stands
-      (λ legal. if_ok_made (settings_of c.deref.result.now) (view_of c.self.inside.pass) (Tells (settings_of c.deref.result.now) 0 c.index_mut.result.now.process) c.tell.result (view_of c.tell.new.pass) legal c.tell.ensures.call)
-      (tells_only (settings_of c.deref.result.now) 0 c.index_mut.result.now.process c.tell.result) (tells_calm (settings_of c.deref.result.now) 0 c.index_mut.result.now.process c.tell.result))) in
+    ((mail_called c.args.self.now c.self.inside c.deref.result.now _ c.tell.new.pass c.args.process c.index_mut.result.now c.tell.new.self (λ n g. Tells g 0 n c.tell.result)
+    c.deref.ensures c.self.view_is c.self.invariant.sound c.tell.ensures.belongs c.requires c.index_mut.ensures.value c.tell.ensures.process c.tell.ensures.stands
+    (λ legal. if_ok_made (settings_of c.deref.result.now) (view_of c.self.inside.pass) (Tells (settings_of c.deref.result.now) 0 c.index_mut.result.now.process) c.tell.result (view_of c.tell.new.pass) legal c.tell.ensures.call)
+    (tells_only (settings_of c.deref.result.now) 0 c.index_mut.result.now.process c.tell.result) (tells_calm (settings_of c.deref.result.now) 0 c.index_mut.result.now.process c.tell.result))) in
     kept_by c.self.inside c.may_get_mail.new.list c.self.view_is all.fit all.goes.grows
     (listed_now (state_of (arc_value c.self.inside.desk) c.self.inside.pass) c.self.inside.list c.may_get_mail.new.list c.self.inside.mails.items c.args.process c.tell.new.self c.may_get_mail.ensures c.self.invariant.listed
-      (mails_low c.args.self.now c.self.inside c.deref.result.now c.args.process (has_at c.deref.ensures c.self.view_is c.self.invariant.sound) c.requires))
+    (mails_low c.args.self.now c.self.inside c.deref.result.now c.args.process (has_at c.deref.ensures c.self.view_is c.self.invariant.sound) c.requires))
 
 pub returns : goal.returns
 returns c =
