@@ -143,7 +143,7 @@ class Facts:
         waiting: dict[Timer, int] = {}
         exited: set[int] = set()
         for call in calls:
-            if call.kind == "start" and len(call.answer) > 1 and call.timer not in self.cancelled:
+            if call.kind == "start" and len(call.answer) > 1 and self._expires(call.timer):
                 waiting[call.timer] = call.asked[2]
             elif call.kind == "exit":
                 exited.add(call.asked[0])
@@ -158,6 +158,10 @@ class Facts:
                     self._keep(timer, lambda it: (it <= to) == (count == len(may) or timer in must))
                 for timer in may if count == len(may) else must:
                     del waiting[timer]
+
+    def _expires(self, timer: Timer) -> bool:
+        """Whether a timer that was started expires, unless its process exits: it can be due, and no call cancelled it."""
+        return bool(self.deadlines[timer]) and timer not in self.cancelled
 
     def _keep(self, timer: Timer, test: Callable[[int], bool]) -> None:
         """Keeps those deadlines of a timer that pass, if any does. If none does, the search finds which call is wrong."""

@@ -2,7 +2,6 @@
 from __future__ import annotations
 
 from dataclasses import dataclass
-from typing import Any
 
 from .log import Call, Log
 from .move import Move
@@ -38,7 +37,7 @@ class Search:
         self.state = State(log)
         self.callers = range(log.settings.callers)
         self.trail: list[tuple[Call, Move, list[int]]] = []
-        self.failed: set[Any] = set()
+        self.failed: set[int] = set()
         self.stuck: Call | None = None
 
     def first(self) -> Call | None:
@@ -52,8 +51,8 @@ class Search:
         for by in self.callers:
             call = self.state.call(by)
             if first and call and call.begin < first.end and ("since", by) not in self.state.words:
-                self.state.put(self.state.words, ("since", by), self.state.words["shown"])
-                self.state.put(self.state.places, ("since", by), len(self.trail))
+                self.state.put(("since", by), self.state.words["shown"])
+                self.state.put_place(("since", by), len(self.trail))
 
     def make(self, call: Call, move: Move) -> None:
         """Makes a move of a call."""
@@ -61,18 +60,18 @@ class Search:
         places = [max(state.places["since", by], state.places["shown", number]) for number, _ in move.looks]
         self.trail.append((call, move, places))
         for name, value in move.words:
-            state.put(state.words, name, value)
+            state.put(name, value)
             if name == "shown":
-                state.put(state.places, ("shown", value), len(self.trail))
-        state.put(state.words, ("part", by), move.part)
+                state.put_place(("shown", value), len(self.trail))
+        state.put(("part", by), move.part)
         if move.part is None:
-            state.put(state.words, ("next", by), state.words["next", by] + 1)
-            state.put(state.words, ("since", by), None)
+            state.put(("next", by), state.words["next", by] + 1)
+            state.put(("since", by), None)
             self.open_calls()
 
     def choices(self) -> list[tuple[Call, Move]]:
-        """The moves to try: one that is free alone, as no order is lost by making it at once; else those of the calls that
-        end first, and the clock's last. None from a state that has failed.
+        """The moves to try: one that is free alone, as no order is lost by making it at once; else all, those of the calls
+        that end first before the others. None from a state that has failed.
         """
         open_now = [call for by in self.callers if ("since", by) in self.state.words and (call := self.state.call(by))]
         found = []
@@ -82,10 +81,9 @@ class Search:
                     return [(call, move)]
                 found.append((call, move))
         if found:
-            key = self.state.key()
-            if key in self.failed:
+            if self.state.key in self.failed:
                 return []
-            self.failed.add(key)
+            self.failed.add(self.state.key)
         return found
 
     def run(self, limit: int) -> Found:

@@ -35,7 +35,8 @@ class State:
         ("mail", P)         its messages, and so "monitors" with the offset last told, and "monitor", the next number
         ("put", P)          how many messages it got
 
-    `places` tells since which entry of the order that is so of a call and of what the clock shows.
+    `places` tells by which move of the order that is so of a call and of what the clock shows. `key` is a number by which
+    the words are remembered: two states have hardly ever the same.
     """
 
     def __init__(self, log: Log) -> None:
@@ -46,21 +47,30 @@ class State:
         self.words: dict[Hashable, Any] = {("next", by): 0 for by in range(log.settings.callers)}
         self.words["shown"] = 0
         self.places: dict[Hashable, Any] = {("shown", 0): 0}
+        self.key = 0
         self.noted: list[tuple[dict[Hashable, Any], Hashable, Any]] = []
 
-    def put(self, words: dict[Hashable, Any], name: Hashable, value: Any) -> None:
+    def put(self, name: Hashable, value: Any) -> None:
         """Sets a word, or takes it away if there is no value."""
-        self.noted.append((words, name, words.get(name)))
-        _set(words, name, value)
+        self.noted.append((self.words, name, self.words.get(name)))
+        self._set(self.words, name, value)
+
+    def put_place(self, name: Hashable, value: int) -> None:
+        """Sets a place."""
+        self.noted.append((self.places, name, self.places.get(name)))
+        self._set(self.places, name, value)
 
     def undo(self, mark: int) -> None:
         """Takes back all changes but the first so many."""
         while len(self.noted) > mark:
-            _set(*self.noted.pop())
+            self._set(*self.noted.pop())
 
-    def key(self) -> frozenset[Any]:
-        """The state, to be remembered."""
-        return frozenset(self.words.items())
+    def _set(self, words: dict[Hashable, Any], name: Hashable, value: Any) -> None:
+        before = words.pop(name, None)
+        if value is not None:
+            words[name] = value
+        if words is self.words:
+            self.key ^= hash((name, before)) ^ hash((name, value))
 
     def get(self, *name: Hashable) -> Any:
         """A word that is a list, which is empty at first."""
@@ -96,10 +106,3 @@ class State:
     def may_settle(self, timer: Timer) -> bool:
         """Whether nobody is left who reads the timer while it is armed."""
         return all(self.words["next", by] > number for by, number in self.facts.readers.get(timer, ()))
-
-
-def _set(words: dict[Hashable, Any], name: Hashable, value: Any) -> None:
-    if value is None:
-        words.pop(name, None)
-    else:
-        words[name] = value
