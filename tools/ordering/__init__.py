@@ -1,0 +1,1 @@
+"""What `tools/order` is made of."""

@@ -1,0 +1,122 @@
+"""The moves of starts, cancels and reads, and of what ends a process."""
+from __future__ import annotations
+
+from typing import Any, Hashable, Iterator
+
+from .facts import deadline_of, left, names_timer
+from .log import Call, Timer
+from .move import Move, look, looked, now, spelled
+from .state import Row, State
+
+
+def start(state: State, call: Call) -> Iterator[Move]:
+    """A start, and the cancel of its timer if its process has exited."""
+    if state.words.get(("part", call.by)):
+        yield from orphaned(state, call, [call.timer])
+    elif call.answer == ("bad_time",):
+        for found in looked(state, call, f"c{call.by}", lambda time: deadline_of(state.settings, call, time) is None):
+            yield Move([found], [], [], is_free=True)
+    elif call.answer == ("full",):
+        yield from full(state, call)
+    elif call.timer[0] == call.by - 1 and ("slot", *call.timer[:2]) not in state.words:
+        yield from armed(state, call)
+
+
+def full(state: State, call: Call) -> Iterator[Move]:
+    """A start that found each slot taken."""
+    wheel = call.by - 1
+    probes = []
+    for slot in range(state.settings.slots):
+        timer = state.words.get(("slot", wheel, slot))
+        if timer is None:
+            return
+        probes.append(f"c{call.by} w{wheel} probe {wheel} {slot} {state.words['row', timer].status}")
+    yield Move([now(state, call)], probes, [], is_free=True)
+
+
+def armed(state: State, call: Call) -> Iterator[Move]:
+    """A timer is armed, with each deadline that it can have by what the clock has shown."""
+    timer, (form, milliseconds, dest, msg, kind) = call.timer, call.asked
+    wanted = set(state.facts.deadlines[timer])
+    for number in state.seen(call.by):
+        time = state.shows[number].time
+        deadline = deadline_of(state.settings, call, time)
+        if deadline not in wanted:
+            continue
+        wanted.remove(deadline)
+        has_exited = ("exited", dest) in state.words
+        entries = [
+            f"c{call.by} w{timer[0]} arm {spelled(timer)} {form} {milliseconds} {dest} {msg} {kind}",
+            f"c{call.by} - mark {dest} false {'true' if has_exited else 'false'}",
+        ]
+        words = [
+            (("row", timer), Row("armed", deadline, dest, msg, kind)),
+            (("slot", *timer[:2]), timer),
+            (("armed", timer[0]), (*state.get("armed", timer[0]), timer)),
+        ]
+        yield Move([(number, look(f"c{call.by}", time))], entries, words, part=has_exited or None)
+
+
+def settled(state: State, timer: Timer) -> list[tuple[Hashable, Any]]:
+    """What changes where a timer is cancelled."""
+    others = tuple(it for it in state.get("armed", timer[0]) if it != timer)
+    return [(("row", timer), None), (("slot", *timer[:2]), None), (("armed", timer[0]), others or None)]
+
+
+def orphaned(state: State, call: Call, timers: list[Timer]) -> Iterator[Move]:
+    """One of some timers, whose process has exited, is cancelled for that. The call ends with the last of those that are
+    armed. One that a call cancels is left to that.
+    """
+    waiting = [timer for timer in timers if state.armed(timer)]
+    if not waiting:
+        yield Move([], [], [], is_free=True)
+    for timer in waiting:
+        if timer not in state.facts.cancelled and state.may_settle(timer):
+            entry = f"c{call.by} w{timer[0]} orphan {spelled(timer)}"
+            yield Move([], [entry], settled(state, timer), part=len(waiting) > 1 or None)
+
+
+def unarmed(state: State, call: Call) -> Iterator[Move]:
+    """A cancel or a read that found nothing left."""
+    if not names_timer(state.settings, call.timer):
+        yield Move([now(state, call)], [], [], is_free=True)
+    elif state.armed(call.timer) is None:
+        yield Move([now(state, call)], [f"c{call.by} - peek {spelled(call.timer)} none"], [], is_free=True)
+
+
+def cancel_or_read(state: State, call: Call) -> Iterator[Move]:
+    """A cancel, or a read."""
+    if not call.has_left:
+        yield from unarmed(state, call)
+        return
+    row = state.armed(call.timer)
+    if row is None:
+        return
+    words, rest = spelled(call.timer), call.answer[0]
+    for found in looked(state, call, f"c{call.by}", lambda time: left(state.settings, row.deadline, time) == rest):
+        peek = f"c{call.by} - peek {words} {rest}"
+        if call.kind == "read":
+            yield Move([found], [peek], [], is_free=True)
+        elif state.may_settle(call.timer):
+            yield Move([found], [peek, f"c{call.by} - cancel {words} {rest}"], settled(state, call.timer))
+
+
+def alive(state: State, call: Call) -> Iterator[Move]:
+    """Whether a process is alive."""
+    process, is_alive = call.asked[0], call.answer == ("true",)
+    if is_alive != (("exited", process) in state.words):
+        yield Move([], [f"c{call.by} - mark {process} false {'false' if is_alive else 'true'}"], [], is_free=True)
+
+
+def leave(state: State, call: Call) -> Iterator[Move]:
+    """The exit of a process: it is marked, and then each of its timers is cancelled."""
+    process, is_first = call.asked[0], call.answer == ("true",)
+    mine = [timer for timer in state.get("armed", call.by - 1) if state.words["row", timer].dest == process]
+    if state.words.get(("part", call.by)):
+        yield from orphaned(state, call, mine)
+    elif is_first != (("exited", process) in state.words):
+        entry = f"c{call.by} - mark {process} true {'false' if is_first else 'true'}"
+        if is_first:
+            yield Move([], [entry], [(("exited", process), True)], part=bool(mine) or None)
+        else:
+            yield Move([], [entry], [], is_free=True)
