@@ -20,10 +20,6 @@ use Rattle.ert_mail.proofs.Listing.{listed_on}
 use Rattle.ert_mail.specs.Lists.{AreListed, LooksForMail, exits_seen}
 use Rattle.ert_mail.specs.Mailboxes.{Mailbox}
 
--- no look yet
-pub looked_none : (g : Settings) (v : View) (by : ℕ) → Legal g v.front → IsMade g v (LooksForMail by None) v
-looked_none g v by legal = none_made g v v (LooksForMail by None) legal (record { gone = []; entries = refl }) refl
-
 -- one more is found exited
 pub looked_more : (g : Settings) (v u w : View) (by p : ℕ) → IsMade g v (LooksForMail by None) u → Appends g u (mark_entry (Caller by) p false true) w
     → IsMade g v (LooksForMail by None) w
