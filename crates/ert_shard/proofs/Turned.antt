@@ -20,7 +20,8 @@ use Rattle.ert_table.specs.Held.{is_held}
 use Rattle.ert_table.specs.declared.desk.Desk.{Desk}
 use Rattle.ert_table.specs.declared.desk.Pass.{Pass}
 use Rattle.ert_timers.proofs.LawsHold.{advances_only, sweeps_only}
-use Rattle.ert_timers.specs.Expiring.{fired_in, HasExpired, HasNotExpired}
+use Rattle.ert_timers.specs.Expiring.{HasExpired, HasNotExpired}
+use Rattle.ert_timers.specs.Trying.{fired_in}
 use Rattle.ert_timers.specs.Parts.{Part, Stands as WheelStands}
 use Rattle.ert_timers.specs.Passed.{LosesRows}
 use Rattle.ert_world.proofs.Advances.{advance_hand, advance_still, difference}

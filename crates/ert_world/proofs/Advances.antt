@@ -7,6 +7,7 @@ use Rattle.ert_effects.proofs.Advanced.{IsAdvance, advance_is}
 use Rattle.ert_effects.specs.WheelCalls.{Advances, Try, expires_by, expiry_entries}
 use Rattle.ert_defs.specs.Actors.{has_actor}
 use Rattle.ert_defs.specs.Entries.{look_entry}
+use Rattle.ert_defs.specs.Legal.{Legal}
 use Rattle.ert_defs.specs.Mails.{SchedState, sched_after}
 use Rattle.ert_defs.specs.States.{State, next, run, state}
 use Rattle.ert_defs.specs.Timers.{Row}
@@ -18,17 +19,20 @@ use Rattle.ert_defs.specs.declared.memory.NoMemory.{NoMemory}
 use Rattle.ert_defs.specs.declared.settings.Settings.{Settings}
 use Rattle.ert_laws.proofs.Few.{fired_few}
 use Rattle.ert_table.proofs.Parts.{own_after, sched_own, AreByThemselves}
-use Rattle.ert_table.specs.Calls.{IsMade}
+use Rattle.ert_table.specs.Calls.{AreOnlyOf, IsMade}
 use Rattle.ert_table.specs.Desks.{settings_of, view_of, front_of, Belongs}
 use Rattle.ert_table.specs.Held.{is_held}
+use Rattle.ert_table.specs.Takes.{TakesPlace}
 use Rattle.ert_table.specs.declared.desk.Desk.{Desk}
 use Rattle.ert_table.specs.declared.desk.Pass.{Pass}
 use Rattle.ert_table.specs.declared.view.View.{View}
 use Rattle.ert_timers.proofs.LawsHold.{advances_only}
-use Rattle.ert_timers.specs.Expiring.{fired_in, HasExpired, HasNotExpired}
+use Rattle.ert_timers.specs.Expiring.{HasExpired, HasNotExpired}
+use Rattle.ert_timers.specs.Trying.{fired_in}
 use Rattle.ert_timers.specs.FiredLists.{Queue}
 use Rattle.ert_timers.specs.Parts.{Part, Stands as WheelStands}
 use Rattle.ert_timers.specs.Passed.{LosesRows}
+use Rattle.ert_world.proofs.Armed.{AreCalm}
 use Rattle.ert_world.proofs.Calls.{Has, Does, parts_in, finish, schedulers_at}
 use Rattle.ert_world.proofs.Returned.{wheel_back, sched_back}
 use Rattle.ert_world.proofs.SchedCalls.{Had, had, now_stands}
@@ -98,14 +102,33 @@ leave_run : (g : Settings) (w : ℕ) (s : State) (es : List Entry) → LeaveHand
 leave_run g w s [] leave = refl
 leave_run g w s (e ∷ es) leave = leave_run g w (next g s e) es leave.1 ∙ hand_at s.rows (s.scheds w) e.event (has_actor e (Sched w)) leave.0
 
+-- what is told of the entries of an advance: they are of the scheduler, with its wheel, cancel nothing and leave the hand
+pub record AreOfAdvance (w : ℕ) (es : List Entry) : Type 0 where
+  pub only : AreOnlyOf (Sched w ∷ (Wheel w ∷ [])) es
+  pub calm : AreCalm es
+  pub leave : LeaveHand es
+
+pub advances_are : (g : Settings) (w : ℕ) (answer : Result (ℕ × ℕ) NoMemory) (s : State) (es : List Entry) → Advances g w answer s es
+    → AreOfAdvance w es
+advances_are g w answer s es advances = record {
+  only = advances_only g w answer s es advances;
+  calm = advances_calm g w answer s es advances;
+  leave = advances_leave g w answer s es advances;
+}
+
+-- entries that leave the hand leave it
+hand_stays : (g : Settings) (w : ℕ) (es : List Entry) (v u : View) → is_held v.actors (Sched w) ≡ true → TakesPlace g v es u → LeaveHand es
+    → ((state g u.front).scheds w).hand ≡ ((state g v.front).scheds w).hand
+hand_stays g w es v u held call leave =
+    own_after g v es u (λ (s : State). (s.scheds w).hand)
+    (λ s e not. ap (λ (x : SchedState). x.hand) (sched_own g v.actors w held s e not)) call (leave_by g w es leave)
+    ∙ leave_run g w (state g v.front) es leave
+
 -- an advance leaves the hand
 pub advance_hand : (g : Settings) (w : ℕ) (answer : Result (ℕ × ℕ) NoMemory) (v u : View)
     → is_held v.actors (Sched w) ≡ true → IsMade g v (Advances g w answer) u → ((state g u.front).scheds w).hand ≡ ((state g v.front).scheds w).hand
 advance_hand g w answer v u held made =
-    let leave = advances_leave g w answer (state g v.front) made.entries made.allowed in
-    own_after g v made.entries u (λ (s : State). (s.scheds w).hand)
-    (λ s e not. ap (λ (x : SchedState). x.hand) (sched_own g v.actors w held s e not)) made.call (leave_by g w made.entries leave)
-    ∙ leave_run g w (state g v.front) made.entries leave
+    hand_stays g w made.entries v u held made.call (advances_leave g w answer (state g v.front) made.entries made.allowed)
 
 -- and without memory it leaves the list
 still_by : (g : Settings) (w : ℕ) (e : NoMemory) (s : State) (es : List Entry) → Advances g w (Err e) s es
@@ -127,41 +150,65 @@ advance_still g w e v u held made =
     (λ s e not. ap (λ (x : SchedState). x.fired) (sched_own g v.actors w held s e not)) made.call still.0 ∙ still.1
 
 -- the wheel was advanced, and the scheduler has these expired timers
-advanced : (before : Seen) (b : Inside) (d : Desk) (q : Pass) (i : ℕ) (old new : Part) (part x : SchedPart) (answer : Result (ℕ × ℕ) NoMemory)
+pub advanced : (before : Seen) (b : Inside) (d : Desk) (q : Pass) (i : ℕ) (old new : Part) (part x : SchedPart) (allows : Settings → ℕ → State → List Entry → Type 0)
     → Has before b d → Belongs d q → i < before.settings.schedulers → old ≡ slice_index_or b.wheels.items i old
     → part ≡ slice_index_or b.scheds.items i part → new.number ≡ old.number → WheelStands (settings_of d) (front_of q) new
     → LosesRows old new
-    → IsMade (settings_of d) (view_of b.pass) (Advances (settings_of d) old.number answer) (view_of q)
+    → ((s : State) (es : List Entry) → allows (settings_of d) i s es → AreOfAdvance i es)
+    → IsMade (settings_of d) (view_of b.pass) (allows (settings_of d) old.number) (view_of q)
     → x.wheel ≡ part.wheel → x.hand ≡ part.hand
     → (x.fired.rows ≡ ((state (settings_of d) (front_of q)).scheds old.number).fired)
     → Does before d q b.next (record (parts_in b) { wheels = slice_set b.wheels.items i new; scheds = slice_set b.scheds.items i x })
-    (λ w way. way (Wheel i ∷ []) (Advances w.settings i answer))
-advanced before b d q i old new part x answer has belongs low lent lent_part named stands loses made_w wheel hand rows =
+    (λ w way. way (Wheel i ∷ []) (allows w.settings i))
+advanced before b d q i old new part x allows has belongs low lent lent_part named stands loses are made_w wheel hand rows =
     let g : Settings = settings_of d in
     let s : State = state g (front_of b.pass) in
     let below : i < g.schedulers = schedulers_at has i low in
     let one : old.number ≡ i = wheel_named g (front_of b.pass) [] (parts_in b) i old has.fit.stand below lent in
     let was : Had b d i part = had before b d i part has low lent_part in
     let at : x.wheel ≡ i = wheel ∙ was.wheel in
-    let made : IsMade g (view_of b.pass) (Advances g i answer) (view_of q) =
-    subst (λ n. IsMade g (view_of b.pass) (Advances g n answer) (view_of q)) one made_w in
-    let kept = advance_hand g i answer (view_of b.pass) (view_of q) (has.fit.holds.rest (Sched i) below tt) made in
+    let made : IsMade g (view_of b.pass) (allows g i) (view_of q) =
+    subst (λ n. IsMade g (view_of b.pass) (allows g n) (view_of q)) one made_w in
+    let of_advance : AreOfAdvance i made.entries = are s made.entries made.allowed in
+    let kept = hand_stays g i made.entries (view_of b.pass) (view_of q) (has.fit.holds.rest (Sched i) below tt) made.call of_advance.leave in
     let now : SchedStands g (front_of q) x =
     now_stands before b d q i x ((state g (front_of q)).scheds i) has low at refl (hand ∙ (was.hand ∙ sym kept))
     (rows ∙ ap (λ n. ((state g (front_of q)).scheds n).fired) one) in
     let back : AllParts = record (parts_in b) { scheds = slice_set b.scheds.items i x } in
-    let only = advances_only g i answer s made.entries made.allowed in
     finish before b d q (record back { wheels = slice_set b.wheels.items i new }) made.entries (Sched i ∷ (Wheel i ∷ []))
-    (λ w way. way (Wheel i ∷ []) (Advances w.settings i answer)) has belongs made.call only
-    (advances_calm g i answer s made.entries made.allowed) (refl, (refl, tt))
+    (λ w way. way (Wheel i ∷ []) (allows w.settings i)) has belongs made.call of_advance.only of_advance.calm (refl, (refl, tt))
     (λ stand. wheel_back g (front_of q) [] back i new below (named ∙ one) stands (sched_back g (front_of q) (Wheel i ∷ []) (parts_in b) i x below at now stand))
-    (λ m grown own. subst (Advances g i answer s) (sym own) made.allowed)
+    (λ m grown own. subst (allows g i s) (sym own) made.allowed)
     (λ alone. one_holds (state g (front_of q)) b.wheels.items i old new (rw has.fit.stand.wheels.counted below) lent (lost_hold (state g (front_of q)) old new loses)) refl
 
 pub difference : (a b : ℕ) (xs ys : List Row) → a ≡ length (xs ++ ys) → b ≡ length xs → a - b ≡ length ys
 difference a b xs ys whole first =
     let sum : length (xs ++ ys) ≡ length xs + length ys = length-append xs ys in
     omega (arith, whole, first, sum)
+
+-- one of which so many timers expired, with their count
+pub counted : (before : Seen) (b : Inside) (d : Desk) (q : Pass) (i n m : ℕ) (gained : List Row) (old new : Part) (part x : SchedPart)
+    (allows : ℕ → Settings → ℕ → State → List Entry → Type 0)
+    → Has before b d → Belongs d q → i < before.settings.schedulers → old ≡ slice_index_or b.wheels.items i old
+    → part ≡ slice_index_or b.scheds.items i part → new.number ≡ old.number → WheelStands (settings_of d) (front_of q) new
+    → LosesRows old new
+    → ((s : State) (es : List Entry) → allows (length gained) (settings_of d) i s es → AreOfAdvance i es)
+    → IsMade (settings_of d) (view_of b.pass) (allows (length gained) (settings_of d) old.number) (view_of q)
+    → x.fired.rows ≡ part.fired.rows ++ gained
+    → fired_in (settings_of d) (front_of q) old.number ≡ fired_in (settings_of d) (front_of b.pass) old.number ++ gained
+    → x.wheel ≡ part.wheel → x.hand ≡ part.hand → n ≡ length x.fired.rows → m ≡ length part.fired.rows
+    → Does before d q b.next (record (parts_in b) { wheels = slice_set b.wheels.items i new; scheds = slice_set b.scheds.items i x })
+    (λ w way. way (Wheel i ∷ []) (allows (n - m) w.settings i))
+counted before b d q i n m gained old new part x allows has belongs low lent lent_part named stands loses are call fired waits wheel hand now was =
+    let g : Settings = settings_of d in
+    let one : old.number ≡ i = wheel_named g (front_of b.pass) [] (parts_in b) i old has.fit.stand (schedulers_at has i low) lent in
+    let had_it : Had b d i part = had before b d i part has low lent_part in
+    let count : n - m ≡ length gained = difference n m part.fired.rows gained (now ∙ ap (λ (l : List Row). length l) fired) was in
+    subst (λ k. Does before d q b.next
+    (record (parts_in b) { wheels = slice_set b.wheels.items i new; scheds = slice_set b.scheds.items i x })
+    (λ w way. way (Wheel i ∷ []) (allows k w.settings i))) (sym count)
+    (advanced before b d q i old new part x (allows (length gained)) has belongs low lent lent_part named stands loses are call wheel hand
+    (fired ∙ (ap (λ l. l ++ gained) (had_it.fired ∙ ap (λ n. fired_in g (front_of b.pass) n) (sym one)) ∙ sym waits)))
 
 -- an advance, with its count
 pub advance_ok : (before : Seen) (b : Inside) (d : Desk) (q : Pass) (i to n m : ℕ) (old new : Part) (part x : SchedPart)
@@ -173,28 +220,25 @@ pub advance_ok : (before : Seen) (b : Inside) (d : Desk) (q : Pass) (i to n m : 
     → Does before d q b.next (record (parts_in b) { wheels = slice_set b.wheels.items i new; scheds = slice_set b.scheds.items i x })
     (λ w way. way (Wheel i ∷ []) (Advances w.settings i (Ok (to, n - m))))
 advance_ok before b d q i to n m old new part x has belongs low lent lent_part named stands loses expired wheel hand now was =
-    let g : Settings = settings_of d in
-    let one : old.number ≡ i = wheel_named g (front_of b.pass) [] (parts_in b) i old has.fit.stand (schedulers_at has i low) lent in
-    let had_it : Had b d i part = had before b d i part has low lent_part in
-    let count : n - m ≡ length expired.gained =
-    difference n m part.fired.rows expired.gained (now ∙ ap (λ (l : List Row). length l) expired.fired) was in
-    subst (λ k. Does before d q b.next
-    (record (parts_in b) { wheels = slice_set b.wheels.items i new; scheds = slice_set b.scheds.items i x })
-    (λ w way. way (Wheel i ∷ []) (Advances w.settings i (Ok (to, k))))) (sym count)
-    (advanced before b d q i old new part x (Ok (to, length expired.gained)) has belongs low lent lent_part named stands loses expired.call wheel hand
-    (expired.fired ∙ (ap (λ l. l ++ expired.gained) (had_it.fired ∙ ap (λ n. fired_in g (front_of b.pass) n) (sym one)) ∙ sym expired.waits)))
+    counted before b d q i n m expired.gained old new part x (λ k g i. Advances g i (Ok (to, k))) has belongs low lent lent_part named stands loses
+    (λ s es made. advances_are (settings_of d) i (Ok (to, length expired.gained)) s es made) expired.call expired.fired expired.waits wheel hand now was
 
--- the count of an advance is small, and it is more rows than before
+-- the count of the timers that expired is small, and it is more rows than before
+pub count_fits : (g : Settings) (w n m : ℕ) (gained : List Row) (old new : Queue) (v u : View) → g.slots ≤ MOST_SLOTS → Legal g u.front
+    → new.rows ≡ old.rows ++ gained → fired_in g u.front w ≡ fired_in g v.front w ++ gained
+    → n ≡ length new.rows → m ≡ length old.rows → (m ≤ n) × (n - m ≤ MOST_SLOTS)
+count_fits g w n m gained old new v u high legal fired waits now was =
+    let count : n - m ≡ length gained = difference n m old.rows gained (now ∙ ap (λ (l : List Row). length l) fired) was in
+    let low : length (fired_in g u.front w) ≤ g.slots = fired_few g u.front w legal in
+    let sum : length (fired_in g u.front w) ≡ length (fired_in g v.front w) + length gained =
+    ap (λ (l : List Row). length l) waits ∙ length-append (fired_in g v.front w) gained in
+    let more : length new.rows ≡ length old.rows + length gained =
+    ap (λ (l : List Row). length l) fired ∙ length-append old.rows gained in
+    (omega (arith, now, was, more), omega (arith, count, low, sum, high))
+
 pub advance_fits : (g : Settings) (w to n m : ℕ) (old new : Queue) (v u : View) → g.slots ≤ MOST_SLOTS
     → HasExpired g v w to old new u → n ≡ length new.rows → m ≡ length old.rows → (m ≤ n) × (n - m ≤ MOST_SLOTS)
-advance_fits g w to n m old new v u high is now was =
-    let count : n - m ≡ length is.gained = difference n m old.rows is.gained (now ∙ ap (λ (l : List Row). length l) is.fired) was in
-    let low : length (fired_in g u.front w) ≤ g.slots = fired_few g u.front w is.call.call.legal in
-    let sum : length (fired_in g u.front w) ≡ length (fired_in g v.front w) + length is.gained =
-    ap (λ (l : List Row). length l) is.waits ∙ length-append (fired_in g v.front w) is.gained in
-    let more : length new.rows ≡ length old.rows + length is.gained =
-    ap (λ (l : List Row). length l) is.fired ∙ length-append old.rows is.gained in
-    (omega (arith, now, was, more), omega (arith, count, low, sum, high))
+advance_fits g w to n m old new v u high is now was = count_fits g w n m is.gained old new v u high is.call.call.legal is.fired is.waits now was
 
 -- an advance without memory
 pub advance_refused : (before : Seen) (b : Inside) (d : Desk) (q : Pass) (i : ℕ) (e : NoMemory) (old new : Part) (part x : SchedPart)
@@ -211,6 +255,7 @@ advance_refused before b d q i e old new part x has belongs low lent lent_part n
     let one : old.number ≡ i = wheel_named g (front_of b.pass) [] (parts_in b) i old has.fit.stand below lent in
     let was : Had b d i part = had before b d i part has low lent_part in
     let held = subst (λ n. is_held (view_of b.pass).actors (Sched n) ≡ true) (sym one) (has.fit.holds.rest (Sched i) below tt) in
-    advanced before b d q i old new part x (Err e) has belongs low lent lent_part named stands loses refused.call wheel hand
+    advanced before b d q i old new part x (λ g i. Advances g i (Err e)) has belongs low lent lent_part named stands loses
+    (λ s es made. advances_are g i (Err e) s es made) refused.call wheel hand
     (refused.fired ∙ (was.fired ∙ (ap (λ n. ((state g (front_of b.pass)).scheds n).fired) (sym one)
     ∙ sym (advance_still g old.number e (view_of b.pass) (view_of q) held refused.call))))

@@ -1,6 +1,6 @@
 -- Steps one after the other are a turn with a bound, whatever makes them.
 
-use Rattle.std.proofs.Common.{◌≡◌, ℕ, ◌+◌, ◌<◌, ◌≤◌, Bool, true, false, List, [], ◌∷◌, length, None, Ok, Err, inl, inr, refl, subst, arith}
+use Rattle.std.proofs.Common.{◌≡◌, ℕ, ◌+◌, ◌<◌, ◌≤◌, Bool, true, false, ◌||◌, List, [], ◌∷◌, length, None, Ok, Err, inl, inr, refl, subst, arith}
 use Rattle.std.specs.Option.{is_some}
 use Rattle.ert_defs.specs.Mails.{first_of}
 use Rattle.ert_defs.specs.States.{state}
@@ -8,7 +8,8 @@ use Rattle.ert_defs.specs.Timers.{Row}
 use Rattle.ert_defs.specs.declared.entry.Entry.{Entry}
 use Rattle.ert_defs.specs.declared.memory.NoMemory.{NoMemory}
 use Rattle.ert_defs.specs.declared.settings.Settings.{Settings}
-use Rattle.ert_effects.specs.Chains.{ServesAll, AdvancesWheel, Hands, HandsMany, puts, drops}
+use Rattle.ert_effects.specs.Chains.{ServesAll, Hands, HandsMany, puts, drops}
+use Rattle.ert_effects.specs.SomeCalls.{AdvancesWheelSome}
 use Rattle.ert_effects.specs.Ways.{Way, Then}
 use Rattle.ert_effects.specs.declared.answers.Handed.{Handed}
 use Rattle.ert_effects.specs.declared.answers.Handed.TheVariants.{Put, Dropped}
@@ -78,27 +79,33 @@ module _ {S : Type 0} (settings : S → Settings) (history : S → List Entry) (
         made = record { hows = hows; few = (let all = puts_drops hows in omega (arith, all, put_is, dropped_is, few)); runs = both.made };
       }
 
-  pub turned_some : (most : ℕ) (a b c d : S) (t : Turned) (more : Bool) → Alike a b → Alike b c → Does (λ g way. ServesAll g way w (Ok t.served)) a b
-      → Does (λ g way. AdvancesWheel g way w (Ok (t.to, t.fired))) b c → Does (λ g way. DeliversSome g way w most (Ok (t.put, t.dropped, more))) c d
-      → Does (λ g way. TurnsSome g way w most (Ok (t, more))) a d
-  turned_some most a b c d t more on_b on_c one two three =
-      made_then settings history mark way w (λ g way. ServesAll g way w (Ok t.served))
-      (λ g way. Then (AdvancesWheel g way w (Ok (t.to, t.fired))) (DeliversSome g way w most (Ok (t.put, t.dropped, more)))) a b d on_b one
-      (made_then settings history mark way w (λ g way. AdvancesWheel g way w (Ok (t.to, t.fired)))
-      (λ g way. DeliversSome g way w most (Ok (t.put, t.dropped, more))) b c d on_c two three)
+  pub turned_some : (most : ℕ) (a b c d : S) (t : Turned) (due waits : Bool) → Alike a b → Alike b c → Does (λ g way. ServesAll g way w (Ok t.served)) a b
+      → Does (λ g way. AdvancesWheelSome g way w most (Ok (t.to, t.fired, due))) b c
+      → Does (λ g way. DeliversSome g way w most (Ok (t.put, t.dropped, waits))) c d
+      → Does (λ g way. TurnsSome g way w most (Ok (t, (due || waits)))) a d
+  turned_some most a b c d t due waits on_b on_c one two three =
+      let all = made_then settings history mark way w (λ g way. ServesAll g way w (Ok t.served))
+      (λ g way. Then (AdvancesWheelSome g way w most (Ok (t.to, t.fired, due))) (DeliversSome g way w most (Ok (t.put, t.dropped, waits)))) a b d on_b one
+      (made_then settings history mark way w (λ g way. AdvancesWheelSome g way w most (Ok (t.to, t.fired, due)))
+      (λ g way. DeliversSome g way w most (Ok (t.put, t.dropped, waits))) b c d on_c two three) in
+      record { piece = all.piece; grown = all.grown; made = record { due = due; waits = waits; more_is = refl; runs = all.made } }
+
+  pub turn_some_unserved : (most : ℕ) (a b : S) (e : NoMemory) → Does (λ g way. ServesAll g way w (Err e)) a b
+      → Does (λ g way. TurnsSome g way w most (Err e)) a b
+  turn_some_unserved most a b e one = record { piece = one.piece; grown = one.grown; made = inl one.made }
 
   pub turn_some_unadvanced : (most : ℕ) (a b c : S) (served : ℕ) (e : NoMemory) → Alike a b
-      → Does (λ g way. ServesAll g way w (Ok served)) a b → Does (λ g way. AdvancesWheel g way w (Err e)) b c
+      → Does (λ g way. ServesAll g way w (Ok served)) a b → Does (λ g way. AdvancesWheelSome g way w most (Err e)) b c
       → Does (λ g way. TurnsSome g way w most (Err e)) a c
   turn_some_unadvanced most a b c served e same one two =
-      let both = made_then settings history mark way w (λ g way. ServesAll g way w (Ok served)) (λ g way. AdvancesWheel g way w (Err e)) a b c same one two in
+      let both = made_then settings history mark way w (λ g way. ServesAll g way w (Ok served)) (λ g way. AdvancesWheelSome g way w most (Err e)) a b c same one two in
       record { piece = both.piece; grown = both.grown; made = inr (inl (served, both.made)) }
 
-  pub turn_some_undelivered : (most : ℕ) (a b c d : S) (served : ℕ) (answer : ℕ × ℕ) (e : NoMemory) → Alike a b → Alike b c
-      → Does (λ g way. ServesAll g way w (Ok served)) a b → Does (λ g way. AdvancesWheel g way w (Ok answer)) b c
+  pub turn_some_undelivered : (most : ℕ) (a b c d : S) (served : ℕ) (answer : ℕ × ℕ × Bool) (e : NoMemory) → Alike a b → Alike b c
+      → Does (λ g way. ServesAll g way w (Ok served)) a b → Does (λ g way. AdvancesWheelSome g way w most (Ok answer)) b c
       → Does (λ g way. DeliversSome g way w most (Err e)) c d → Does (λ g way. TurnsSome g way w most (Err e)) a d
   turn_some_undelivered most a b c d served answer e on_b on_c one two three =
       let all = made_then settings history mark way w (λ g way. ServesAll g way w (Ok served))
-      (λ g way. Then (AdvancesWheel g way w (Ok answer)) (DeliversSome g way w most (Err e))) a b d on_b one
-      (made_then settings history mark way w (λ g way. AdvancesWheel g way w (Ok answer)) (λ g way. DeliversSome g way w most (Err e)) b c d on_c two three) in
+      (λ g way. Then (AdvancesWheelSome g way w most (Ok answer)) (DeliversSome g way w most (Err e))) a b d on_b one
+      (made_then settings history mark way w (λ g way. AdvancesWheelSome g way w most (Ok answer)) (λ g way. DeliversSome g way w most (Err e)) b c d on_c two three) in
       record { piece = all.piece; grown = all.grown; made = inr (inr (served, answer, all.made)) }

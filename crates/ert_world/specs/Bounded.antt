@@ -1,15 +1,19 @@
--- The turn of a scheduler that hands over so many expired timers at most.
+-- The turn of a scheduler in which so many timers at most expire, and so many are handed over.
 
-use Rattle.std.specs.Prelude.{◌≡◌, ◌≢◌, ◌⊎◌, ℕ, ◌<◌, ◌≤◌, Bool, true, false, List, [], ◌++◌, length, Result, Ok, Err}
+use Rattle.std.specs.Prelude.{◌≡◌, ◌≢◌, ◌⊎◌, ℕ, ◌<◌, ◌≤◌, Bool, true, false, ◌||◌, List, [], ◌++◌, length, Result, Ok, Err, slice_index_or}
 use Rattle.ert_defs.specs.States.{state}
 use Rattle.ert_defs.specs.Timers.{Row}
 use Rattle.ert_defs.specs.declared.entry.Entry.{Entry}
 use Rattle.ert_defs.specs.declared.memory.NoMemory.{NoMemory}
 use Rattle.ert_defs.specs.declared.settings.Settings.{Settings}
-use Rattle.ert_effects.specs.Chains.{ServesAll, AdvancesWheel, Hands, HandsMany, puts, drops}
+use Rattle.ert_effects.specs.Chains.{ServesAll, Hands, HandsMany, puts, drops}
+use Rattle.ert_effects.specs.SomeCalls.{AdvancesWheelSome}
 use Rattle.ert_effects.specs.Ways.{Growth, Way, Then}
 use Rattle.ert_effects.specs.declared.answers.Handed.{Handed}
 use Rattle.ert_effects.specs.declared.answers.Turned.{Turned}
+use Rattle.ert_timers.specs.Parts.{Part}
+use Rattle.ert_timers.specs.Trying.{IsLeft}
+use Rattle.ert_world.specs.Worlds.{Seen}
 
 -- whether expired timers are left, of which so many were handed over: they are left only after the most
 abbrev pub AreLeft : Bool → ℕ → ℕ → List Row → Type 0
@@ -36,20 +40,28 @@ abbrev pub DeliversSome : Settings → Way → ℕ → ℕ → Result (ℕ × �
 DeliversSome g way w most (Ok answer) h m = HasDeliveredSome g way w most answer h m
 DeliversSome g way w most (Err e) h m = CannotDeliverSome g way w most e h m
 
--- a turn is done: requests are served, the wheel is advanced, and so many expired timers at most are handed over
-abbrev pub HasTurnedSome : Settings → Way → ℕ → ℕ → Turned → Bool → Growth
-HasTurnedSome g way w most t more = Then (ServesAll g way w (Ok t.served))
-    (Then (AdvancesWheel g way w (Ok (t.to, t.fired))) (DeliversSome g way w most (Ok (t.put, t.dropped, more))))
+-- a turn is done: requests are served, the wheel is advanced and expired timers are handed over, so many timers at most in
+-- both; there are more where more are due, or expired ones are left
+pub record HasTurnedSome (g : Settings) (way : Way) (w most : ℕ) (t : Turned) (more : Bool) (h m : List Entry) : Type 0 where
+  pub due : Bool
+  pub waits : Bool
+  pub more_is : more ≡ (due || waits)
+  pub runs : Then (ServesAll g way w (Ok t.served))
+      (Then (AdvancesWheelSome g way w most (Ok (t.to, t.fired, due))) (DeliversSome g way w most (Ok (t.put, t.dropped, waits)))) h m
 
 -- there is no memory to serve, to advance or to deliver; what was done before stays
 abbrev pub CannotTurnSome : Settings → Way → ℕ → ℕ → NoMemory → Growth
 CannotTurnSome g way w most e h m =
     ServesAll g way w (Err e) h m
-    ⊎ ((served : ℕ) × Then (ServesAll g way w (Ok served)) (AdvancesWheel g way w (Err e)) h m)
-    ⊎ ((served : ℕ) × (advanced : ℕ × ℕ)
-    × Then (ServesAll g way w (Ok served)) (Then (AdvancesWheel g way w (Ok advanced)) (DeliversSome g way w most (Err e))) h m)
+    ⊎ ((served : ℕ) × Then (ServesAll g way w (Ok served)) (AdvancesWheelSome g way w most (Err e)) h m)
+    ⊎ ((served : ℕ) × (advanced : ℕ × ℕ × Bool)
+    × Then (ServesAll g way w (Ok served)) (Then (AdvancesWheelSome g way w most (Ok advanced)) (DeliversSome g way w most (Err e))) h m)
 
--- `turn_some`: what it did, and whether expired timers are left
+-- `turn_some`: what it did, and whether there are more
 abbrev pub TurnsSome : Settings → Way → ℕ → ℕ → Result (Turned × Bool) NoMemory → Growth
 TurnsSome g way w most (Ok answer) h m = HasTurnedSome g way w most answer.0 answer.1 h m
 TurnsSome g way w most (Err e) h m = CannotTurnSome g way w most e h m
+
+-- whether a row of a wheel is left that is due by a time
+abbrev pub IsLeftAt : Seen → ℕ → ℕ → Bool → Type 0
+IsLeftAt w i to more = (d : Part) → IsLeft (slice_index_or w.wheels i d) to more

@@ -1,7 +1,6 @@
-//! The turn of a scheduler that hands over so many expired timers at most.
-ghost use Rattle.std.specs.Prelude.{IfOk};
+//! The turn of a scheduler in which so many timers at most expire, and so many are handed over.
 ghost use Rattle.ert_effects.specs.Ways.{Grows};
-ghost use Rattle.ert_world.specs.Bounded.{DeliversSome, TurnsSome};
+ghost use Rattle.ert_world.specs.Bounded.{DeliversSome};
 
 use crate::chains::serve_all;
 use crate::steps::SchedSteps;
@@ -39,49 +38,56 @@ pub fn deliver_some<S: SchedSteps>(
     Ok((put, dropped, more))
 }
 
-/// A turn of a scheduler that hands over so many expired timers at most, and tells whether more wait.
-///
-/// After want of memory what was done stays done.
-pub fn turn_some<S: SchedSteps>(
-    steps: &mut S,
-    sched: u32,
-    most: u32,
-) -> Result<(Turned, bool), NoMemory>
-    requires { S.acts steps.old sched }
-    ensures call { Grows (TurnsSome (S.settings steps.old) (S.way (S.settings steps.old) (S.mark steps.old) sched) sched most result) (S.history steps.old) (S.history steps.new) }
-    ensures legal { S.is_legal steps.new }
-    ensures passed { IfOk result (λ answer. S.passed steps.new sched answer.0.to) }
-    ensures stays { S.stays steps.old steps.new }
-{
-    let served = serve_all(steps, sched)?;
-    let (to, fired) = steps.advance_wheel(sched)?;
-    let (put, dropped, more) = deliver_some(steps, sched, most)?;
-    let turned = Turned {
-        served,
-        to,
-        fired,
-        put,
-        dropped,
-    };
-    Ok((turned, more))
-}
-
 impl World {
-    ghost use Rattle.std.specs.Prelude.{◌<◌, IfOk};
-    ghost use Rattle.ert_world.specs.Bounded.{TurnsSome};
+    ghost use Rattle.std.specs.Prelude.{◌≡◌, ◌<◌, false, IfOk};
+    ghost use Rattle.ert_effects.specs.SomeCalls.{AdvancesWheelSome};
+    ghost use Rattle.ert_world.specs.Bounded.{TurnsSome, IsLeftAt};
     ghost use Rattle.ert_world.specs.Stepping.{Stays};
     ghost use Rattle.ert_world.specs.Worlds.{Goes, HasPassedAt};
 
-    /// A turn of a scheduler (`turn`) that hands over so many expired timers at most, and tells whether more wait: the
-    /// next turn hands them over, before those that expire later.
+    /// Lets so many timers at most of the scheduler's wheel expire that are due, and answers the time, in whole
+    /// milliseconds since the start time, how many expired, and whether more are due.
     ///
-    /// The bound is on messages. Every timer that is due expires in the turn, however many there are.
+    /// Where more are due so many were tried: a timer that another thread cancelled counts too. After want of memory none
+    /// has expired.
+    pub fn advance_some(&mut self, sched: u32, most: u32) -> Result<(u64, u32, bool), NoMemory>
+        requires { sched < self.old.settings.schedulers }
+        ensures call { Goes self.old (λ way. AdvancesWheelSome self.old.settings way sched most result) self.new }
+        ensures left { IfOk result (λ answer. IsLeftAt self.new sched answer.0 answer.2) }
+        ensures stays { Stays self.old self.new }
+    {
+        let part = &mut self.scheds[sched as usize];
+        let before = part.fired.len();
+        let (to, due) = self.wheels[sched as usize].advance_some(
+            &self.desk,
+            &mut self.pass,
+            most,
+            &mut part.fired,
+        )?;
+        Ok((to, (part.fired.len() - before) as u32, due))
+    }
+
+    /// A turn of a scheduler (`turn`) in which so many timers at most expire, and so many messages at most are handed over.
+    /// It tells whether more timers are due, or expired ones wait: the next turn goes on with them, in their order.
+    ///
+    /// Where it tells that there are none, the wheel holds no row that is due by the time of the advance. With 0 at most it
+    /// serves requests and tells what there is. After want of memory what was done stays done.
     pub fn turn_some(&mut self, sched: u32, most: u32) -> Result<(Turned, bool), NoMemory>
         requires { sched < self.old.settings.schedulers }
         ensures call { Goes self.old (λ way. TurnsSome self.old.settings way sched most result) self.new }
-        ensures passed { IfOk result (λ answer. HasPassedAt self.new sched answer.0.to) }
+        ensures passed { IfOk result (λ answer. answer.1 ≡ false → HasPassedAt self.new sched answer.0.to) }
         ensures stays { Stays self.old self.new }
     {
-        turn_some(self, sched, most)
+        let served = serve_all(self, sched)?;
+        let (to, fired, due) = self.advance_some(sched, most)?;
+        let (put, dropped, waits) = deliver_some(self, sched, most)?;
+        let turned = Turned {
+            served,
+            to,
+            fired,
+            put,
+            dropped,
+        };
+        Ok((turned, due || waits))
     }
 }

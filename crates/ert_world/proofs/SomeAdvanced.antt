@@ -1,0 +1,127 @@
+-- A scheduler advances its wheel, but tries so many timers at most.
+
+use Rattle.std.proofs.Common.{◌≡◌, ℕ, ◌-◌, ◌<◌, Bool, true, false, List, [], ◌∷◌, ◌++◌, length, slice_index_or, Result, Ok, Err, refl, sym, ap, ◌∙◌, append-nil}
+use Rattle.std.specs.Prelude.{slice_set}
+use Rattle.ert_defs.specs.Entries.{look_entry, advanced_entry}
+use Rattle.ert_defs.specs.States.{State, state}
+use Rattle.ert_defs.specs.declared.entry.Actor.{Actor}
+use Rattle.ert_defs.specs.declared.entry.Actor.TheVariants.{Wheel, Sched}
+use Rattle.ert_defs.specs.declared.entry.Entry.{Entry}
+use Rattle.ert_defs.specs.declared.memory.NoMemory.{NoMemory}
+use Rattle.ert_defs.specs.declared.settings.Settings.{Settings}
+use Rattle.ert_effects.specs.SomeCalls.{AdvancesSome, HasAdvancedSome}
+use Rattle.ert_effects.specs.WheelCalls.{Advances, HasAdvanced, expiry_entries}
+use Rattle.ert_table.specs.Calls.{AreOnlyOf, IsMade}
+use Rattle.ert_table.specs.Desks.{settings_of, view_of, front_of, Belongs}
+use Rattle.ert_table.specs.Held.{is_held}
+use Rattle.ert_table.specs.declared.desk.Desk.{Desk}
+use Rattle.ert_table.specs.declared.desk.Pass.{Pass}
+use Rattle.ert_timers.specs.Parts.{Part, Stands as WheelStands}
+use Rattle.ert_timers.specs.Passed.{LosesRows}
+use Rattle.ert_timers.specs.Trying.{HasExpiredSome, HasRefusedSome, IsLeft}
+use Rattle.ert_world.proofs.Advances.{AreOfAdvance, LeaveHand, advances_are, advance_still, advanced, counted}
+use Rattle.ert_world.proofs.Armed.{AreCalm}
+use Rattle.ert_world.proofs.Calls.{Has, Does, parts_in, schedulers_at}
+use Rattle.ert_world.proofs.Returned.{at_place}
+use Rattle.ert_world.proofs.SchedCalls.{Had, had}
+use Rattle.ert_world.proofs.WheelCalls.{wheel_named}
+use Rattle.ert_world.specs.Worlds.{Seen}
+use Rattle.ert_world.specs.declared.sched_part.SchedPart.{SchedPart}
+use Rattle.ert_world.specs.declared.world.World.TheInside.{Inside}
+
+-- its entries are the first of an advance: of all, or but for the record
+record IsFront (g : Settings) (w to fired : ℕ) (s : State) (es : List Entry) : Type 0 where
+  rest : List Entry
+  whole : Advances g w (Ok (to, fired)) s (es ++ rest)
+
+is_front : (g : Settings) (w most to fired : ℕ) (more : Bool) (s : State) (es : List Entry) → HasAdvancedSome w most (to, fired, more) s es
+    → IsFront g w to fired s es
+is_front g w most to fired true s es some = record {
+  rest = advanced_entry w to ∷ [];
+  whole = record {
+    now = some.now;
+    tries = some.tries;
+    fired = some.fired;
+    settled = some.settled;
+    due = some.due;
+    once = some.once;
+    entries = ap (λ l. l ++ advanced_entry w to ∷ []) some.entries
+        ∙ ap (λ l. look_entry (Sched w) some.now ∷ (l ++ advanced_entry w to ∷ [])) (append-nil (expiry_entries w some.tries));
+  };
+}
+is_front g w most to fired false s es some = record {
+  rest = [];
+  whole = record {
+    now = some.now;
+    tries = some.tries;
+    fired = some.fired;
+    settled = some.settled;
+    due = some.due;
+    once = some.once;
+    entries = append-nil es ∙ some.entries;
+  };
+}
+
+front_only : (actors : List Actor) (es fs : List Entry) → AreOnlyOf actors (es ++ fs) → AreOnlyOf actors es
+front_only actors [] fs all = tt
+front_only actors (e ∷ es) fs all = (all.0, front_only actors es fs all.1)
+
+front_calm : (es fs : List Entry) → AreCalm (es ++ fs) → AreCalm es
+front_calm [] fs all = tt
+front_calm (e ∷ es) fs all = (all.0, front_calm es fs all.1)
+
+front_leaves : (es fs : List Entry) → LeaveHand (es ++ fs) → LeaveHand es
+front_leaves [] fs all = tt
+front_leaves (e ∷ es) fs all = (all.0, front_leaves es fs all.1)
+
+some_are : (g : Settings) (w most : ℕ) (answer : Result (ℕ × ℕ × Bool) NoMemory) (s : State) (es : List Entry) → AdvancesSome g w most answer s es
+    → AreOfAdvance w es
+some_are g w most (Ok (to, fired, more)) s es some =
+    let front : IsFront g w to fired s es = is_front g w most to fired more s es some in
+    let all = advances_are g w (Ok (to, fired)) s (es ++ front.rest) front.whole in
+    record {
+      only = front_only (Sched w ∷ (Wheel w ∷ [])) es front.rest all.only;
+      calm = front_calm es front.rest all.calm;
+      leave = front_leaves es front.rest all.leave;
+    }
+some_are g w most (Err e) s es some = advances_are g w (Err e) s es some
+
+-- an advance with a bound, with its count
+pub some_ok : (before : Seen) (b : Inside) (d : Desk) (q : Pass) (i most to n m : ℕ) (more : Bool) (old new : Part) (part x : SchedPart)
+    → Has before b d → Belongs d q → i < before.settings.schedulers → old ≡ slice_index_or b.wheels.items i old
+    → part ≡ slice_index_or b.scheds.items i part → new.number ≡ old.number → WheelStands (settings_of d) (front_of q) new
+    → LosesRows old new
+    → HasExpiredSome (settings_of d) (view_of b.pass) old.number most to more part.fired x.fired (view_of q)
+    → x.wheel ≡ part.wheel → x.hand ≡ part.hand → n ≡ length x.fired.rows → m ≡ length part.fired.rows
+    → Does before d q b.next (record (parts_in b) { wheels = slice_set b.wheels.items i new; scheds = slice_set b.scheds.items i x })
+    (λ w way. way (Wheel i ∷ []) (AdvancesSome w.settings i most (Ok (to, n - m, more))))
+some_ok before b d q i most to n m more old new part x has belongs low lent lent_part named stands loses expired wheel hand now was =
+    counted before b d q i n m expired.gained old new part x (λ k g i. AdvancesSome g i most (Ok (to, k, more))) has belongs low lent lent_part named stands loses
+    (λ s es made. some_are (settings_of d) i most (Ok (to, length expired.gained, more)) s es made) expired.call expired.fired expired.waits wheel hand now was
+
+-- one without memory
+pub some_refused : (before : Seen) (b : Inside) (d : Desk) (q : Pass) (i most : ℕ) (e : NoMemory) (old new : Part) (part x : SchedPart)
+    → Has before b d → Belongs d q → i < before.settings.schedulers → old ≡ slice_index_or b.wheels.items i old
+    → part ≡ slice_index_or b.scheds.items i part → new.number ≡ old.number → WheelStands (settings_of d) (front_of q) new
+    → LosesRows old new
+    → HasRefusedSome (settings_of d) (view_of b.pass) old.number most e part.fired x.fired (view_of q)
+    → x.wheel ≡ part.wheel → x.hand ≡ part.hand
+    → Does before d q b.next (record (parts_in b) { wheels = slice_set b.wheels.items i new; scheds = slice_set b.scheds.items i x })
+    (λ w way. way (Wheel i ∷ []) (AdvancesSome w.settings i most (Err e)))
+some_refused before b d q i most e old new part x has belongs low lent lent_part named stands loses refused wheel hand =
+    let g : Settings = settings_of d in
+    let below : i < g.schedulers = schedulers_at has i low in
+    let one : old.number ≡ i = wheel_named g (front_of b.pass) [] (parts_in b) i old has.fit.stand below lent in
+    let was : Had b d i part = had before b d i part has low lent_part in
+    let held : is_held (view_of b.pass).actors (Sched old.number) ≡ true = rw one (has.fit.holds.rest (Sched i) below tt) in
+    advanced before b d q i old new part x (λ g i. AdvancesSome g i most (Err e)) has belongs low lent lent_part named stands loses
+    (λ s es made. some_are g i most (Err e) s es made) refused.call wheel hand
+    (refused.fired ∙ (was.fired ∙ (ap (λ n. ((state g (front_of b.pass)).scheds n).fired) (sym one)
+    ∙ sym (advance_still g old.number e (view_of b.pass) (view_of q) held
+    (record { entries = refused.call.entries; allowed = refused.call.allowed; call = refused.call.call })))))
+
+-- what is left in a wheel that was replaced
+pub replaced_left : {before : Seen} (b : Inside) (d : Desk) (i to : ℕ) (more : Bool) (new : Part) → Has before b d → i < before.settings.schedulers
+    → IsLeft new to more → (x : Part) → IsLeft (slice_index_or (slice_set b.wheels.items i new) i x) to more
+replaced_left b d i to more new has low left x =
+    at_place (λ (y : Part). IsLeft y to more) b.wheels.items i i new x (rw has.fit.stand.wheels.counted (schedulers_at has i low)) (λ one. left) (λ other. absurd (other refl))

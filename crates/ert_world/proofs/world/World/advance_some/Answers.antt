@@ -1,0 +1,79 @@
+use Rattle.std.proofs.Common.{◌≡◌, Err, rules, refl, arith}
+use Rattle.ert_table.specs.Desks.{settings_of, view_of}
+use Rattle.ert_world.proofs.Alone.{stays_by}
+use Rattle.ert_world.proofs.Calls.{has_at, does_at}
+use Rattle.ert_world.proofs.WheelCalls.{lost_rows}
+use Rattle.ert_world.proofs.Advances.{count_fits}
+use Rattle.ert_world.proofs.SomeAdvanced.{some_ok, some_refused, replaced_left}
+use Rattle.ert_world.proofs.world.World.advance_some.Goals as goal
+
+pub invariant_of-self : goal.invariant_of-self
+invariant_of-self c = record {
+  sound =
+      ((does_at c.deref.ensures (some_refused c.args.self.now c.self.inside c.deref.result.now c.advance_some.new.pass c.args.sched c.args.most c.in_err-to.field-0.0 c.index_mut.result.now c.advance_some.new.self
+      c.index_mut-part.result.now (record { wheel = c.index_mut-part.result.now.wheel; hand = c.index_mut-part.result.now.hand; fired = c.advance_some.new.fired })
+      (has_at c.deref.ensures c.self.view_is c.self.invariant.sound) c.advance_some.ensures.belongs c.requires c.index_mut.ensures.value c.index_mut-part.ensures.value c.advance_some.ensures.number
+      c.advance_some.ensures.stands c.advance_some.ensures.loses c.in_err-to.ensures.call refl refl)).fit);
+  listed = c.self.invariant.listed;
+}
+
+pub returns-in_err-to-clause-call : goal.returns-in_err-to-clause-call
+returns-in_err-to-clause-call c =
+    let result : c.from_residual.result ≡ Err c.in_err-to.field-0.0 = search rules in
+    rw result (does_at c.deref.ensures (some_refused c.args.self.now c.self.inside c.deref.result.now c.advance_some.new.pass c.args.sched c.args.most c.in_err-to.field-0.0 c.index_mut.result.now c.advance_some.new.self
+    c.index_mut-part.result.now (record { wheel = c.index_mut-part.result.now.wheel; hand = c.index_mut-part.result.now.hand; fired = c.advance_some.new.fired })
+    (has_at c.deref.ensures c.self.view_is c.self.invariant.sound) c.advance_some.ensures.belongs c.requires c.index_mut.ensures.value c.index_mut-part.ensures.value c.advance_some.ensures.number
+    c.advance_some.ensures.stands c.advance_some.ensures.loses c.in_err-to.ensures.call refl refl)).goes
+
+pub overflow_cast-result : goal.overflow_cast-result
+overflow_cast-result c =
+    let g = settings_of c.deref.result.now in
+    let is = c.in_ok-to.ensures.call in
+    let few = count_fits g c.index_mut.result.now.number c.len.result c.len-before.result is.gained
+    c.index_mut-part.result.now.fired c.advance_some.new.fired (view_of c.self.inside.pass) (view_of c.advance_some.new.pass)
+    c.deref.result.now.checked.counts.slots_high is.call.call.legal is.fired is.waits c.len.ensures c.len-before.ensures in
+    omega (arith, few.1)
+
+pub invariant_of-self-2 : goal.invariant_of-self-2
+invariant_of-self-2 c = record {
+  sound =
+      ((does_at c.deref.ensures (some_ok c.args.self.now c.self.inside c.deref.result.now c.advance_some.new.pass c.args.sched c.args.most c.in_ok-to.to c.len.result c.len-before.result c.in_ok-to.due c.index_mut.result.now
+      c.advance_some.new.self c.index_mut-part.result.now (record { wheel = c.index_mut-part.result.now.wheel; hand = c.index_mut-part.result.now.hand; fired = c.advance_some.new.fired })
+      (has_at c.deref.ensures c.self.view_is c.self.invariant.sound) c.advance_some.ensures.belongs c.requires c.index_mut.ensures.value c.index_mut-part.ensures.value c.advance_some.ensures.number
+      c.advance_some.ensures.stands c.advance_some.ensures.loses c.in_ok-to.ensures.call refl refl c.len.ensures c.len-before.ensures)).fit);
+  listed = c.self.invariant.listed;
+}
+
+pub returns-clause-call : goal.returns-clause-call
+returns-clause-call c =
+    (does_at c.deref.ensures (some_ok c.args.self.now c.self.inside c.deref.result.now c.advance_some.new.pass c.args.sched c.args.most c.in_ok-to.to c.len.result c.len-before.result c.in_ok-to.due c.index_mut.result.now
+    c.advance_some.new.self c.index_mut-part.result.now (record { wheel = c.index_mut-part.result.now.wheel; hand = c.index_mut-part.result.now.hand; fired = c.advance_some.new.fired })
+    (has_at c.deref.ensures c.self.view_is c.self.invariant.sound) c.advance_some.ensures.belongs c.requires c.index_mut.ensures.value c.index_mut-part.ensures.value c.advance_some.ensures.number
+    c.advance_some.ensures.stands c.advance_some.ensures.loses c.in_ok-to.ensures.call refl refl c.len.ensures c.len-before.ensures)).goes
+
+pub returns-clause-stays : goal.returns-clause-stays
+returns-clause-stays c =
+    let done =
+    (does_at c.deref.ensures (some_ok c.args.self.now c.self.inside c.deref.result.now c.advance_some.new.pass c.args.sched c.args.most c.in_ok-to.to c.len.result c.len-before.result c.in_ok-to.due c.index_mut.result.now
+    c.advance_some.new.self c.index_mut-part.result.now (record { wheel = c.index_mut-part.result.now.wheel; hand = c.index_mut-part.result.now.hand; fired = c.advance_some.new.fired })
+    (has_at c.deref.ensures c.self.view_is c.self.invariant.sound) c.advance_some.ensures.belongs c.requires c.index_mut.ensures.value c.index_mut-part.ensures.value c.advance_some.ensures.number
+    c.advance_some.ensures.stands c.advance_some.ensures.loses c.in_ok-to.ensures.call refl refl c.len.ensures c.len-before.ensures)) in
+    stays_by done.goes
+    (lost_rows c.args.self.now c.self.inside c.deref.result.now c.args.sched c.index_mut.result.now c.advance_some.new.self
+    (has_at c.deref.ensures c.self.view_is c.self.invariant.sound) c.requires c.index_mut.ensures.value c.advance_some.ensures.loses) done.forgets
+
+pub returns-in_err-to-clause-stays : goal.returns-in_err-to-clause-stays
+returns-in_err-to-clause-stays c =
+    let done =
+    does_at c.deref.ensures (some_refused c.args.self.now c.self.inside c.deref.result.now c.advance_some.new.pass c.args.sched c.args.most c.in_err-to.field-0.0 c.index_mut.result.now c.advance_some.new.self
+    c.index_mut-part.result.now (record { wheel = c.index_mut-part.result.now.wheel; hand = c.index_mut-part.result.now.hand; fired = c.advance_some.new.fired })
+    (has_at c.deref.ensures c.self.view_is c.self.invariant.sound) c.advance_some.ensures.belongs c.requires c.index_mut.ensures.value c.index_mut-part.ensures.value c.advance_some.ensures.number
+    c.advance_some.ensures.stands c.advance_some.ensures.loses c.in_err-to.ensures.call refl refl) in
+    stays_by done.goes
+    (lost_rows c.args.self.now c.self.inside c.deref.result.now c.args.sched c.index_mut.result.now c.advance_some.new.self
+    (has_at c.deref.ensures c.self.view_is c.self.invariant.sound) c.requires c.index_mut.ensures.value c.advance_some.ensures.loses) done.forgets
+
+pub returns-clause-left : goal.returns-clause-left
+returns-clause-left c =
+    replaced_left c.self.inside c.deref.result.now c.args.sched c.in_ok-to.to c.in_ok-to.due c.advance_some.new.self
+    (has_at c.deref.ensures c.self.view_is c.self.invariant.sound) c.requires c.in_ok-to.ensures.left
