@@ -242,6 +242,47 @@ typedef struct {
     uint32_t dest;     /* the process that gets the message */
 } ert_start;
 
+/*
+ * A timer that repeats at a fixed rate. Its deadlines are `start.when`, one period after that, two periods, .. whatever
+ * the time is when each of its timers is started: so it does not drift. A program starts the first timer with `start`,
+ * and when it takes the message of one it starts the next with ert_interval_next or ert_interval_skip, on a world or on
+ * a shard. With deadlines at 10, 15, 20, .. and turns at 10 and 27:
+ *
+ *     deadlines                10    15    20    25    30
+ *     ert_interval_next        10    27    27    27          each is met, in a turn of its own; then 30 is armed
+ *     ert_interval_skip        10    27                      20 and 25 are left out; then 30 is armed
+ *
+ * Both are in the header, and call nothing. A deadline that no timer can have is refused by the start (ERT_BAD_TIME), and
+ * so is each after the first if the period is below 1. A start that was refused can be made again with `start`.
+ */
+typedef struct {
+    ert_start start; /* what the timer is started with; `absolute` is 1 */
+    int64_t period;  /* milliseconds, 1 or more */
+} ert_interval;
+
+/* Goes on to the next deadline, whether it has passed or not, and returns what a timer is started with for it. */
+static inline const ert_start *ert_interval_next(ert_interval *interval) {
+    int64_t due = interval->start.when;
+    int is_none = interval->period < 1 || due > INT64_MAX - interval->period;
+    interval->start.when = is_none ? INT64_MAX : due + interval->period;
+    return &interval->start;
+}
+
+/*
+ * Goes on to the first deadline after `now`, a monotonic time in milliseconds (`to` of a turn, if the start time is 0), but
+ * by one period at least. Writes how many it left out to `left_out`, and returns what a timer is started with.
+ */
+static inline const ert_start *ert_interval_skip(ert_interval *interval, int64_t now, uint64_t *left_out) {
+    int64_t due = interval->start.when;
+    *left_out = 0;
+    if (now > due && interval->period >= 1) {
+        uint64_t late = (uint64_t)now - (uint64_t)due;
+        *left_out = late / (uint64_t)interval->period;
+        interval->start.when = (int64_t)((uint64_t)now - late % (uint64_t)interval->period);
+    }
+    return ert_interval_next(interval);
+}
+
 /* What a scheduler did. `to` is in milliseconds since the start time. */
 typedef struct {
     uint64_t to;

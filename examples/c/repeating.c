@@ -15,13 +15,6 @@
 
 enum { PROCESS = 0, SCHED = 0, EACH = 1, LATEST = 2, ALARM = 3 };
 
-/* A timer that repeats: it is due each `period` milliseconds, counted from its first deadline. */
-struct repeating {
-    uint64_t name;
-    int64_t due;
-    int64_t period;
-};
-
 static void must(const char *call, int32_t status) {
     if (status != ERT_OK) {
         fprintf(stderr, "%s: %s\n", call, ert_status_text(status));
@@ -35,32 +28,14 @@ static void tick(ert_world *world, int64_t mono, int64_t sys, ert_moved *moved) 
     must("ert_world_tick", ert_world_tick(world, &reading, 1, moved));
 }
 
-/* Starts a timer at a monotonic time in milliseconds. */
-static ert_timer start_at(ert_world *world, int64_t due, uint64_t msg) {
-    ert_start what = {.when = due, .absolute = 1, .msg = msg, .dest = PROCESS};
+static void start(ert_world *world, const ert_start *what) {
     ert_timer timer;
-    must("ert_world_start", ert_world_start(world, SCHED, &what, &timer));
-    return timer;
+    must("ert_world_start", ert_world_start(world, SCHED, what, &timer));
 }
 
-/* Goes on with a repeating timer. A deadline that has passed is due at the next turn: so each one is met, however late
- * the turns come. */
-static void repeat_each(ert_world *world, struct repeating *it) {
-    it->due += it->period;
-    start_at(world, it->due, it->name);
-}
-
-/* Goes on at the next deadline that has not passed, and returns how many were left out. */
-static int64_t repeat_latest(ert_world *world, struct repeating *it, int64_t now) {
-    int64_t late = now - it->due;
-    int64_t left_out = late / it->period;
-    it->due += (left_out + 1) * it->period;
-    start_at(world, it->due, it->name);
-    return left_out;
-}
-
-/* Makes turns until no timer is due, and says what came. */
-static void pass(ert_world *world, struct repeating *each, struct repeating *latest) {
+/* Makes turns until no timer is due, and says what came. A deadline that has passed is due at the next turn. */
+static void pass(ert_world *world, ert_interval *each, ert_interval *latest) {
+    uint64_t left_out;
     ert_turned turned;
     ert_mail mail;
     int64_t now;
@@ -69,11 +44,12 @@ static void pass(ert_world *world, struct repeating *each, struct repeating *lat
         now = (int64_t)turned.to;
         while (ert_world_take(world, PROCESS, &mail) == ERT_OK) {
             if (mail.msg == EACH) {
-                printf("%4" PRId64 " ms: each, due at %" PRId64 "\n", now, each->due);
-                repeat_each(world, each);
+                printf("%4" PRId64 " ms: each, due at %" PRId64 "\n", now, each->start.when);
+                start(world, ert_interval_next(each));
             } else {
-                printf("%4" PRId64 " ms: latest, due at %" PRId64, now, latest->due);
-                printf(", %" PRId64 " left out\n", repeat_latest(world, latest, now));
+                printf("%4" PRId64 " ms: latest, due at %" PRId64, now, latest->start.when);
+                start(world, ert_interval_skip(latest, now, &left_out));
+                printf(", %" PRIu64 " left out\n", left_out);
             }
         }
     } while (turned.fired != 0);
@@ -84,14 +60,14 @@ static void repeating(void) {
     ert_reading first = {0, 0};
     ert_settings settings;
     ert_moved moved;
-    struct repeating each = {EACH, 100, 100};
-    struct repeating latest = {LATEST, 100, 100};
+    ert_interval each = {{.when = 100, .absolute = 1, .msg = EACH, .dest = PROCESS}, 100};
+    ert_interval latest = {{.when = 100, .absolute = 1, .msg = LATEST, .dest = PROCESS}, 100};
     /* The turn at 350 ms comes late: at 200 and at 300 there was none. */
     static const int64_t turns[] = {100, 350, 400};
     ert_settings_init(&settings, &first);
     must("ert_world_open", ert_world_open(&world, &settings));
-    start_at(&world, each.due, each.name);
-    start_at(&world, latest.due, latest.name);
+    start(&world, &each.start);
+    start(&world, &latest.start);
     for (size_t i = 0; i < sizeof turns / sizeof *turns; i++) {
         tick(&world, turns[i] * MILLISECOND, turns[i] * MILLISECOND, &moved);
         pass(&world, &each, &latest);

@@ -257,6 +257,68 @@ impl Start {
     }
 }
 
+/// A timer that repeats at a fixed rate (`ert_interval`): its deadlines are the first, one period after that, two
+/// periods, .. whatever the time is when each of its timers is started.
+///
+/// ```
+/// use ertime::{Interval, Reading, Settings, Start, World};
+///
+/// let mut world = World::open(&Settings::new(Reading { mono: 0, sys: 0 }))?;
+/// let mut beat = Interval::new(Start::at(100, 0, 7), 100)?;
+/// world.start(0, beat.start())?;
+/// // Its message was taken at 350: the deadlines at 200 and 300 are left out.
+/// let left_out = beat.skip(350);
+/// world.start(0, beat.start())?;
+/// assert_eq!(left_out, 2);
+/// # Ok::<(), ertime::Error>(())
+/// ```
+#[derive(Clone, Copy, Debug)]
+pub struct Interval {
+    start: Start,
+    period: i64,
+}
+
+impl Interval {
+    /// Its first timer is started so, at a monotonic time ([`Start::at`]); the period is in milliseconds.
+    ///
+    /// [`Error::BadTime`]: the period is below 1, or `first` counts from the last tick.
+    pub fn new(first: Start, period: i64) -> Result<Interval, Error> {
+        if period < 1 || first.start.absolute == 0 {
+            return Err(Error::BadTime);
+        }
+        Ok(Interval {
+            start: first,
+            period,
+        })
+    }
+
+    /// What the timer is started with for the deadline that it is at.
+    pub fn start(&self) -> &Start {
+        &self.start
+    }
+
+    /// Goes on to the next deadline, whether it has passed or not.
+    pub fn next(&mut self) {
+        self.start.start.when = self.start.start.when.saturating_add(self.period);
+    }
+
+    /// Goes on to the first deadline after `now`, a monotonic time in milliseconds, but by one period at least. Returns how
+    /// many deadlines it left out.
+    pub fn skip(&mut self, now: i64) -> u64 {
+        let period = self.period.unsigned_abs();
+        let late = if now > self.start.start.when {
+            now.abs_diff(self.start.start.when)
+        } else {
+            0
+        };
+        if late > 0 {
+            self.start.start.when = now.wrapping_sub_unsigned(late % period);
+        }
+        self.next();
+        late / period
+    }
+}
+
 /// How many slots the wheel of a scheduler has available.
 #[derive(Clone, Copy, Debug, PartialEq, Eq)]
 pub struct Room {

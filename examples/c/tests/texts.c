@@ -1,4 +1,4 @@
-/* What the header has itself: texts of statuses and messages, the recommended settings, the version. */
+/* What the header has itself: texts of statuses and messages, the recommended settings, intervals, the version. */
 #include <inttypes.h>
 #include <stdio.h>
 #include <stdlib.h>
@@ -60,6 +60,36 @@ static void texts(void) {
 }
 
 /* The recommended settings open a service, and its timers go on whatever happens to the system clock. */
+/* An interval that is due at one time goes on past another: to which deadline, and how many are left out. */
+static void intervals(void) {
+    static const struct {
+        int64_t due, period, now, next, after;
+        uint64_t left_out;
+    } rows[] = {
+        {10, 5, 10, 15, 15, 0},
+        {10, 5, 9, 15, 15, 0},
+        {10, 5, 14, 15, 15, 0},
+        {10, 5, 15, 15, 20, 1},
+        {10, 5, 27, 15, 30, 3},
+        {-7, 5, 4, -2, 8, 2},
+        {10, 1, INT64_MAX - 1, 11, INT64_MAX, UINT64_C(9223372036854775796)},
+        {10, INT64_MAX, 27, INT64_MAX, INT64_MAX, 0},
+        {INT64_MIN, INT64_MAX, INT64_MAX, -1, INT64_MAX, 2},
+        {10, 0, 27, INT64_MAX, INT64_MAX, 0},
+        {10, -5, 27, INT64_MAX, INT64_MAX, 0},
+    };
+    for (size_t i = 0; i < sizeof rows / sizeof *rows; i++) {
+        ert_interval next = {{.when = rows[i].due, .absolute = 1, .msg = 7}, rows[i].period}, skip = next;
+        uint64_t left_out = UINT64_MAX;
+        IS(ert_interval_next(&next), &next.start);
+        IS(next.start.when, rows[i].next);
+        IS(ert_interval_skip(&skip, rows[i].now, &left_out), &skip.start);
+        IS(skip.start.when, rows[i].after);
+        IS(left_out, rows[i].left_out);
+        IS(skip.start.msg, UINT64_C(7));
+    }
+}
+
 static void recommended(void) {
     ert_reading first = {5 * HOUR, 9 * HOUR};
     ert_settings settings;
@@ -124,6 +154,7 @@ static void version(void) {
 
 int main(void) {
     texts();
+    intervals();
     recommended();
     version();
     if (failed != 0) {
