@@ -260,7 +260,10 @@ typedef struct {
     int64_t period;  /* milliseconds, 1 or more */
 } ert_interval;
 
-/* Goes on to the next deadline, whether it has passed or not, and returns what a timer is started with for it. */
+/*
+ * Goes on to the next deadline of an interval, whether it has passed or not, and returns what its next timer is started
+ * with.
+ */
 static inline const ert_start *ert_interval_next(ert_interval *interval) {
     int64_t due = interval->start.when;
     int is_none = interval->period < 1 || due > INT64_MAX - interval->period;
@@ -269,8 +272,9 @@ static inline const ert_start *ert_interval_next(ert_interval *interval) {
 }
 
 /*
- * Goes on to the first deadline after `now`, a monotonic time in milliseconds (`to` of a turn, if the start time is 0), but
- * by one period at least. Writes how many it left out to `left_out`, and returns what a timer is started with.
+ * Goes on to the first deadline of an interval after `now`, a monotonic time in milliseconds (`to` of a turn, if the
+ * start time is 0), but by one period at least. Writes how many deadlines it left out to `left_out`, and returns what
+ * its next timer is started with.
  */
 static inline const ert_start *ert_interval_skip(ert_interval *interval, int64_t now, uint64_t *left_out) {
     int64_t due = interval->start.when;
