@@ -213,14 +213,14 @@ static void take_some(Run *run, uint32_t process) {
     }
 }
 
-/* A process with mail is found exactly if one has mail. */
+/* A process with mail is found exactly if one that hasn't exited has mail. */
 static void next_mail(Run *run) {
     uint32_t process = 99, some = 0;
     for (uint32_t i = 0; i < run->mirror.settings.processes; i++) {
-        some += mirror_has_mail(&run->mirror, i);
+        some += mirror_can_take(&run->mirror, i);
     }
     SAME(ert_world_next_mail(&run->world, &process), some == 0 ? ERT_EMPTY : ERT_OK);
-    SAME(some == 0 ? process == 99 : process < run->mirror.settings.processes && mirror_has_mail(&run->mirror, process), true);
+    SAME(some == 0 ? process == 99 : process < run->mirror.settings.processes && mirror_can_take(&run->mirror, process), true);
 }
 
 static void do_mail(Run *run) {

@@ -307,8 +307,8 @@ ert_turned mirror_turn(Mirror *mirror, uint32_t sched) {
     return turned;
 }
 
-bool mirror_has_mail(const Mirror *mirror, uint32_t process) {
-    return mirror->processes[process].first < mirror->processes[process].last;
+bool mirror_can_take(const Mirror *mirror, uint32_t process) {
+    return !mirror->processes[process].exited && mirror->processes[process].first < mirror->processes[process].last;
 }
 
 int32_t mirror_take(Mirror *mirror, uint32_t process, ert_mail *mail) {

@@ -93,7 +93,7 @@ ert_turned mirror_turn(Mirror *mirror, uint32_t sched);
 
 int32_t mirror_take(Mirror *mirror, uint32_t process, ert_mail *mail);
 /* Whether a process has messages, also one that has exited. */
-bool mirror_has_mail(const Mirror *mirror, uint32_t process);
+bool mirror_can_take(const Mirror *mirror, uint32_t process);
 int32_t mirror_demonitor(Mirror *mirror, uint32_t process, uint32_t number);
 uint32_t mirror_tell(Mirror *mirror, uint32_t process);
 

@@ -562,16 +562,16 @@ int32_t ert_world_take(ert_world *world, uint32_t process, ert_mail *mail);
 int32_t ert_world_take_some(ert_world *world, uint32_t process, ert_mail *mails, size_t room, size_t *count);
 
 /*
- * Finds a process that has messages, and writes its number to `process`.
+ * Finds a process that has messages and hasn't exited, and writes its number to `process`.
  *
- * ERT_EMPTY is returned exactly if all mailboxes are empty. Each process has its turn: the next call finds another one,
- * if another has messages. So after a turn a program asks until ERT_EMPTY, and takes the messages of each process that it
- * is told, without a call for each process that has none. A process that has exited is found too while it has messages,
- * which can no longer be taken: a program that lets processes exit takes their messages first.
+ * ERT_EMPTY is returned exactly if there is none. Each process has its turn: the next call finds another one, if another
+ * has messages. So after a turn a program asks until ERT_EMPTY, and takes the messages of each process that it is told,
+ * without a call for each process that has none. The messages of a process that has exited can't be taken, and it isn't
+ * found: a program that wants them takes them before ert_world_exit.
  *
  * ERT_NO_MEMORY: there was no memory for the first such call of the world, which makes a list of the processes, 5 bytes
  * for each; nothing has changed, and the call can be made again. ERT_CLOSED. Otherwise constant work, amortized: a step
- * for each process whose mailbox got messages since it was found empty; no memory.
+ * for each process whose mailbox got messages since it was found empty or exited; no memory.
  */
 int32_t ert_world_next_mail(ert_world *world, uint32_t *process);
 

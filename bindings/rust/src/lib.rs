@@ -519,7 +519,7 @@ impl World {
         done_or(status, ffi::ERT_EMPTY)
     }
 
-    /// A process that has messages; None if all mailboxes are empty. Each process has its turn.
+    /// A process that has messages and hasn't exited; None if there is none. Each process has its turn.
     pub fn next_mail(&mut self) -> Result<Option<u32>, Error> {
         let mut process = 0;
         let status = unsafe { ffi::ert_world_next_mail(&mut *self.handle, &mut process) };

@@ -1,11 +1,11 @@
 -- What a service does by the calls that find a process with mail, take several messages, and cancel all timers of a
 -- process, and how C is told the answers.
 
-use Rattle.std.specs.Prelude.{◌≡◌, ℕ, ℤ, map, drop, List, ◌++◌, length, Option, Some, None, Result, Ok, Err, IfOk}
+use Rattle.std.specs.Prelude.{◌≡◌, ℕ, ℤ, map, drop, List, ◌++◌, length, Option, Some, None, Result, Ok, Err, IfOk, OnErr}
 use Rattle.ert_defs.specs.declared.mail.Mail.{Mail}
 use Rattle.ert_defs.specs.declared.memory.NoMemory.{NoMemory as WantOfMemory}
 use Rattle.ert_world.specs.Cancelling.{CancelsAll}
-use Rattle.ert_world.specs.Mailing.{IsNextMail, TakesSome}
+use Rattle.ert_world.specs.Mailing.{FindsMail as Finds, TakesSome}
 use Rattle.ert_world.specs.Stepping.{Stays}
 use Rattle.ert_world.specs.Worlds.{Seen}
 use Rattle.ert_world.specs.declared.mailing.TakeEnd.{TakeEnd}
@@ -15,10 +15,10 @@ use Rattle.ert_c.specs.Told.{mail_as}
 use Rattle.ert_c.specs.declared.mail_calls.ErtMail.{ErtMail}
 use Rattle.ert_c.specs.declared.status.TheConstants.{OK, NO_MEMORY, EMPTY, EXITED}
 
--- what is told is a process that has mail, or that none has, or want of memory; nothing has changed
+-- a process that hasn't exited and has mail is told, or that there is none; after want of memory nothing has changed
 pub record FindsMail (answer : Result (Option ℕ) WantOfMemory) (old new : Seen) : Type 0 where
-  pub next : IfOk answer (IsNextMail old)
-  pub unchanged : new ≡ old
+  pub next : IfOk answer (λ found. Finds old found new)
+  pub memory : OnErr answer (new ≡ old)
 
 -- a process with mail, for C
 abbrev pub IsNextTold : Result (Option ℕ) WantOfMemory → ℕ → ℤ → ℕ → Type 0

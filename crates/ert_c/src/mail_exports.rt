@@ -56,7 +56,7 @@ pub extern "C" fn ert_world_take_some(
     tell_end(ended)
 }
 
-/// Tells a process with mail.
+/// Tells a process that hasn't exited and has mail.
 #[unsafe(no_mangle)]
 pub extern "C" fn ert_world_next_mail(world: &mut ErtWorld, process: &mut u32) -> i32
     ensures { AnswersThrough FindsMail IsNextTold process.old process.new world.old.place.value result world.new.place.value }

@@ -6,4 +6,5 @@ pub mod AnswerSteps
 pub mod Counts
 pub mod InboxStanding
 pub mod LawsHold
-mod Listing
+pub mod Listing
+mod Looked

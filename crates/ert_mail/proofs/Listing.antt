@@ -13,6 +13,10 @@ use Rattle.ert_mail.specs.Lists.{IsRow, AreListed, IsNextIn}
 use Rattle.ert_mail.specs.Mailboxes.{Mailbox}
 use Rattle.ert_words.specs.Free.{Free, FreeSet, free_set}
 
+no_length : (queue : List Mail) → length queue ≡ 0 → queue ≡ []
+no_length [] none = refl
+no_length (m ∷ queue) none = absurd cc
+
 -- one place of a list of flags is written
 flag_at : (listed : List Bool) (p q : ℕ) (b : Bool) → p < length listed → (nat_eq q p ≡ true → slice_index_or (slice_set listed p b) q false ≡ b)
     × (nat_eq q p ≡ false → slice_index_or (slice_set listed p b) q false ≡ slice_index_or listed q false)
@@ -74,40 +78,47 @@ fewer_listed listed p is =
     sum_by-set (λ b. cond b 1 0) listed p false false (listed_low listed p is) in
     omega (arith, sum, e)
 
--- a mailbox that is empty needn't be listed
-pub still_listed : (listed : List Bool) (mails : List Mailbox) (p : ℕ) (d : Mailbox) → AreListed listed mails → slice_index_or listed p false ≡ true
-    → (slice_index_or mails p d).held.queue ≡ [] → AreListed (slice_set listed p false) mails
-still_listed listed mails p d are was none = record {
+-- a mailbox of which nothing can be taken needn't be listed
+pub still_listed : (exited : ℕ → Bool) (listed : List Bool) (mails : List Mailbox) (p : ℕ) → AreListed exited listed mails
+    → slice_index_or listed p false ≡ true → ((d : Mailbox) → (slice_index_or mails p d).held.queue ≢ [] → exited p ≡ false → ⊥)
+    → AreListed exited (slice_set listed p false) mails
+still_listed exited listed mails p are was none = record {
   counted = length-set listed p false ∙ are.counted;
-  each = λ q e low some. at q e low some (nat_eq q p) refl;
+  each = λ q e low some lives. at q e low some lives (nat_eq q p) refl;
 }
   where
-    at : (q : ℕ) (e : Mailbox) → q < length mails → (slice_index_or mails q e).held.queue ≢ [] → (b : Bool) → nat_eq q p ≡ b
+    at : (q : ℕ) (e : Mailbox) → q < length mails → (slice_index_or mails q e).held.queue ≢ [] → exited q ≡ false → (b : Bool) → nat_eq q p ≡ b
         → slice_index_or (slice_set listed p false) q false ≡ true
-    at q e low some true same =
+    at q e low some lives true same =
         let one : q ≡ p = eqb-true q p same in
-        absurd (some (ap (λ n. (slice_index_or mails n e).held.queue) one
-        ∙ (ap (λ (m : Mailbox). m.held.queue) (get_or_default mails p e d (subst (λ n. n < length mails) one low)) ∙ none)))
-    at q e low some false apart = (flag_at listed p q false (listed_low listed p was)).1 apart ∙ are.each q e low some
+        absurd (none e (λ no. some (ap (λ n. (slice_index_or mails n e).held.queue) one ∙ no)) (ap exited (sym one) ∙ lives))
+    at q e low some lives false apart =
+        (flag_at listed p q false (listed_low listed p was)).1 apart ∙ are.each q e low some lives
 
--- any may be listed
-pub listed_more : (listed : List Bool) (mails : List Mailbox) (p : ℕ) → AreListed listed mails → p < length listed → AreListed (slice_set listed p true) mails
-listed_more listed mails p are in_range = record {
-  counted = length-set listed p true ∙ are.counted;
-  each = λ q e low some. at q e low some (nat_eq q p) refl;
+-- where a mailbox is empty nothing can be taken
+pub none_waits : (exited : ℕ → Bool) (mails : List Mailbox) (p : ℕ) (m : Mailbox) → p < length mails → m ≡ slice_index_or mails p m → length m.held.queue ≡ 0
+    → (d : Mailbox) → (slice_index_or mails p d).held.queue ≢ [] → exited p ≡ false → ⊥
+none_waits exited mails p m low is empty d some lives =
+    some (ap (λ (x : Mailbox). x.held.queue) (get_or_default mails p d m low) ∙ (ap (λ (x : Mailbox). x.held.queue) (sym is) ∙ no_length m.held.queue empty))
+
+-- more processes may have exited
+pub listed_on : (before after : ℕ → Bool) (listed : List Bool) (mails : List Mailbox) → ((p : ℕ) → before p ≡ true → after p ≡ true)
+    → AreListed before listed mails → AreListed after listed mails
+listed_on before after listed mails on are = record {
+  counted = are.counted;
+  each = λ q e low some lives. are.each q e low some (at q lives (before q) refl);
 }
   where
-    at : (q : ℕ) (e : Mailbox) → q < length mails → (slice_index_or mails q e).held.queue ≢ [] → (b : Bool) → nat_eq q p ≡ b
-        → slice_index_or (slice_set listed p true) q false ≡ true
-    at q e low some true same = (flag_at listed p q true in_range).0 same
-    at q e low some false apart = (flag_at listed p q true in_range).1 apart ∙ are.each q e low some
+    at : (q : ℕ) → after q ≡ false → (b : Bool) → before q ≡ b → before q ≡ false
+    at q lives false is = is
+    at q lives true is = let clash : true ≡ false = sym (on q is) ∙ lives in absurd cc
 
 -- one that was taken out and put again
-pub listed_again : (listed : List Bool) (mails : List Mailbox) (p : ℕ) → AreListed listed mails → slice_index_or listed p false ≡ true
-    → AreListed (slice_set (slice_set listed p false) p true) mails
-listed_again listed mails p are was = record {
+pub listed_again : (exited : ℕ → Bool) (listed : List Bool) (mails : List Mailbox) (p : ℕ) → AreListed exited listed mails
+    → slice_index_or listed p false ≡ true → AreListed exited (slice_set (slice_set listed p false) p true) mails
+listed_again exited listed mails p are was = record {
   counted = length-set (slice_set listed p false) p true ∙ (length-set listed p false ∙ are.counted);
-  each = λ q e low some. at q e low some (nat_eq q p) refl;
+  each = λ q e low some lives. at q e low some lives (nat_eq q p) refl;
 }
   where
     in_range : p < length listed
@@ -116,26 +127,26 @@ listed_again listed mails p are was = record {
     still : p < length (slice_set listed p false)
     still = subst (λ n. p < n) (sym (length-set listed p false)) in_range
 
-    at : (q : ℕ) (e : Mailbox) → q < length mails → (slice_index_or mails q e).held.queue ≢ [] → (b : Bool) → nat_eq q p ≡ b
+    at : (q : ℕ) (e : Mailbox) → q < length mails → (slice_index_or mails q e).held.queue ≢ [] → exited q ≡ false → (b : Bool) → nat_eq q p ≡ b
         → slice_index_or (slice_set (slice_set listed p false) p true) q false ≡ true
-    at q e low some true same = (flag_at (slice_set listed p false) p q true still).0 same
-    at q e low some false apart =
-        (flag_at (slice_set listed p false) p q true still).1 apart ∙ ((flag_at listed p q false in_range).1 apart ∙ are.each q e low some)
+    at q e low some lives true same = (flag_at (slice_set listed p false) p q true still).0 same
+    at q e low some lives false apart =
+        (flag_at (slice_set listed p false) p q true still).1 apart ∙ ((flag_at listed p q false in_range).1 apart ∙ are.each q e low some lives)
 
--- where none is listed all mailboxes are empty
-pub none_next : (listed : List Bool) (mails : List Mailbox) → AreListed listed mails → ((p : ℕ) → slice_index_or listed p false ≡ false) → IsNextIn mails None
-none_next listed mails are none p d low = empty (slice_index_or mails p d).held.queue refl
+-- where none is listed each that has mail has exited
+pub none_next : (exited : ℕ → Bool) (listed : List Bool) (mails : List Mailbox) → AreListed exited listed mails
+    → ((p : ℕ) → slice_index_or listed p false ≡ false) → IsNextIn exited mails None
+none_next exited listed mails are none p d low some = at (exited p) refl
   where
-    empty : (queue : List Mail) → (slice_index_or mails p d).held.queue ≡ queue → (slice_index_or mails p d).held.queue ≡ []
-    empty [] is = is
-    empty (m ∷ queue) is =
-        let some : (slice_index_or mails p d).held.queue ≢ [] = λ no. let clash : m ∷ queue ≡ [] = sym is ∙ no in cc in
-        absurd (let clash : true ≡ false = sym (are.each p d low some) ∙ none p in cc)
+    at : (b : Bool) → exited p ≡ b → exited p ≡ true
+    at true is = is
+    at false is = absurd (let clash : true ≡ false = sym (are.each p d low some is) ∙ none p in cc)
 
 -- a mailbox of which something waits has mail
-pub some_next : (mails : List Mailbox) (p : ℕ) (m : Mailbox) → p < length mails → m ≡ slice_index_or mails p m → 0 < length m.held.queue → IsNextIn mails (Some p)
-some_next mails p m low is some = (
+pub some_next : (exited : ℕ → Bool) (mails : List Mailbox) (p : ℕ) (m : Mailbox) → p < length mails → m ≡ slice_index_or mails p m
+    → length m.held.queue ≢ 0 → exited p ≡ false → IsNextIn exited mails (Some p)
+some_next exited mails p m low is some lives = (
   low,
-  λ d no. (let none : m.held.queue ≡ [] = ap (λ (x : Mailbox). x.held.queue) (is ∙ get_or_default mails p m d low) ∙ no in
-      omega (arith, some, ap (length {A = Mail}) none)),
+  lives,
+  λ d no. some (ap (length {A = Mail}) (ap (λ (x : Mailbox). x.held.queue) (is ∙ get_or_default mails p m d low) ∙ no)),
 )

@@ -1,14 +1,15 @@
 //! The processes whose mailboxes may have mail.
 use crate::part::MailPart;
-use ert_defs::NoMemory;
+use ert_defs::{Actor, NoMemory};
+use ert_table::{Desk, Pass};
 use ert_words::FreeSlots;
 use std::alloc::Global;
 use std::marker::Model;
 
 /// The processes whose mailboxes may have mail, each once, in a row.
 ///
-/// One is put last where its mailbox may get mail, and stays until it is its turn and the mailbox is found empty. So each
-/// put is paid for by one look, and to find the next process takes constant time, amortized.
+/// One is put last where its mailbox may get mail, and stays until it is its turn and the mailbox is found empty, or the
+/// process exited. So each put is paid for by one look, and to find the next process takes constant time, amortized.
 #[derive(Drop)]
 pub struct MailList {
     /// The processes in the row, held as the free slots of a wheel are.
@@ -31,7 +32,10 @@ impl Model for MailList {
 
 impl MailList {
     ghost use Rattle.std.specs.Prelude.{◌≡◌, ◌<◌, ℕ, true, false, IfOk, IfSome, IfNone, length, replicate, slice_set, slice_index_or};
-    ghost use Rattle.ert_mail.specs.Lists.{AreListed, IsNextIn};
+    ghost use Rattle.ert_defs.specs.Legal.{Legal};
+    ghost use Rattle.ert_table.specs.Calls.{IsMade};
+    ghost use Rattle.ert_table.specs.Desks.{settings_of, view_of, front_of, state_of, Belongs};
+    ghost use Rattle.ert_mail.specs.Lists.{AreListed, CanLook, IsNextIn, LooksForMail};
 
     /// A list with every process below a number.
     pub fn all(alloc: Global, processes: u32) -> Result<MailList, NoMemory>
@@ -66,14 +70,26 @@ impl MailList {
         Some(process)
     }
 
-    /// A process whose mailbox has mail; None exactly where all are empty. It is put last, so that each gets its turn.
-    pub fn next(&mut self, mails: &[MailPart]) -> Option<u32>
-        requires listed { AreListed self.old mails.now }
-        ensures listed { AreListed self.new mails.now }
-        ensures next { IsNextIn mails.now result }
+    /// A process that hasn't exited and whose mailbox has mail; None exactly where there is none. It is put last, so that
+    /// each gets its turn.
+    ///
+    /// The caller looks whether the process whose turn it is has exited: then none of its messages can be taken, and it
+    /// leaves the row.
+    pub fn next(&mut self, desk: &Desk, pass: &mut Pass, by: u32, mails: &[MailPart]) -> Option<u32>
+        requires belongs { Belongs desk.now pass.old }
+        requires legal { Legal (settings_of desk.now) (front_of pass.old) }
+        requires caller { CanLook (settings_of desk.now) (view_of pass.old) by (length mails.now) }
+        requires listed { AreListed (state_of desk.now pass.old).exited self.old mails.now }
+        ensures belongs { Belongs desk.now pass.new }
+        ensures call { IsMade (settings_of desk.now) (view_of pass.old) (LooksForMail by result) (view_of pass.new) }
+        ensures listed { AreListed (state_of desk.now pass.new).exited self.new mails.now }
+        ensures next { IsNextIn (state_of desk.now pass.new).exited mails.now result }
     {
         while let Some(process) = self.pick() {
-            if mails[process as usize].waiting() > 0 {
+            if mails[process as usize].waiting() == 0 {
+                continue;
+            }
+            if !pass.mark(desk, Actor::Caller(by), process, false) {
                 self.put(process);
                 return Some(process);
             }

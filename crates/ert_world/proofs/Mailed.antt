@@ -1,9 +1,10 @@
 -- A process with mail, and takes of several messages.
 
-use Rattle.std.proofs.Common.{◌≡◌, ℕ, ◌<◌, List, [], ◌∷◌, ◌++◌, length, Option, Some, None, slice_index_or, refl, sym, ap, subst, ◌∙◌}
+use Rattle.std.proofs.Common.{◌≡◌, ℕ, ◌<◌, true, false, List, [], ◌∷◌, ◌++◌, length, Option, Some, None, slice_index_or, refl, sym, ap, subst, ◌∙◌}
 use Rattle.ert_defs.specs.Legal.{Legal}
 use Rattle.ert_defs.specs.Mails.{MailState}
-use Rattle.ert_defs.specs.States.{state}
+use Rattle.ert_defs.specs.States.{State, state}
+use Rattle.ert_defs.specs.declared.entry.Actor.TheVariants.{Caller}
 use Rattle.ert_defs.specs.declared.entry.Entry.{Entry}
 use Rattle.ert_defs.specs.declared.mail.Mail.{Mail}
 use Rattle.ert_defs.specs.declared.settings.Settings.{Settings}
@@ -11,16 +12,20 @@ use Rattle.ert_effects.specs.MailCalls.{Takes}
 use Rattle.ert_effects.specs.Ways.{Growth, Way}
 use Rattle.ert_effects.specs.declared.answers.Taken.{Taken}
 use Rattle.ert_effects.specs.declared.answers.Taken.TheVariants.{Mail as Took, Empty, Exited}
-use Rattle.ert_mail.specs.Lists.{IsNextIn}
+use Rattle.ert_mail.specs.Lists.{IsNextIn, LooksForMail, exits_seen, life_seen}
 use Rattle.ert_mail.specs.Mailboxes.{Mailbox, seen as box}
-use Rattle.ert_table.specs.Desks.{settings_of, front_of}
+use Rattle.ert_table.specs.Calls.{AreOnlyOf, IsMade}
+use Rattle.ert_table.specs.Desks.{settings_of, view_of, front_of, state_of, Belongs}
 use Rattle.ert_table.specs.declared.desk.Desk.{Desk}
+use Rattle.ert_table.specs.declared.desk.Pass.{Pass}
 use Rattle.ert_world.proofs.Alone.{went}
-use Rattle.ert_world.proofs.Calls.{Has, processes_at}
+use Rattle.ert_world.proofs.Armed.{AreCalm}
+use Rattle.ert_world.proofs.Calls.{Has, has_at, alone_called, parts_in, processes_at, seen_at}
+use Rattle.ert_world.proofs.Calm.{IsQuiet}
 use Rattle.ert_world.proofs.Composed.{goes_more, goes_nothing, goes_then}
 use Rattle.ert_world.proofs.Listed.{mails_low}
-use Rattle.ert_world.specs.Mailing.{mail_of, IsNextMail, TakesMails, TakesSome}
-use Rattle.ert_world.specs.Worlds.{Seen, Goes, By, way_of}
+use Rattle.ert_world.specs.Mailing.{mail_of, FindsMail, IsNextMail, TakesMails, TakesSome}
+use Rattle.ert_world.specs.Worlds.{Seen, seen, AreSound, Goes, By, way_of}
 use Rattle.ert_world.specs.declared.mailing.TakeEnd.TheVariants.{Most, Empty as FoundEmpty, Exited as HadExited}
 use Rattle.ert_world.specs.declared.world.World.TheInside.{Inside}
 
@@ -36,17 +41,48 @@ queue_at before b d i x has low =
     ∙ ap (λ (w : Seen). mail_of w i) has.is
 
 -- what is told of mailboxes is so of a world
-pub next_told : (before : Seen) (b : Inside) (d : Desk) (mails : List Mailbox) (answer : Option ℕ) → Has before b d → mails ≡ b.mails.items
-    → IsNextIn mails answer → IsNextMail before answer
+next_told : (before : Seen) (b : Inside) (d : Desk) (mails : List Mailbox) (answer : Option ℕ) → Has before b d → mails ≡ b.mails.items
+    → IsNextIn (state before.settings before.history).exited mails answer → IsNextMail before answer
 next_told before b d mails (Some p) has same next =
-    let mine = subst (λ (ms : List Mailbox). IsNextIn ms (Some p)) same next in
+    let mine = subst (λ (ms : List Mailbox). IsNextIn (state before.settings before.history).exited ms (Some p)) same next in
     let low : p < before.settings.processes = subst (λ (w : Seen). p < w.settings.processes) has.is (subst (λ n. p < n) has.fit.stand.mails.counted mine.0) in
     let none : Mailbox = box 0 [] [] 0 0 0 in
-    (low, λ empty. mine.1 none (queue_at before b d p none has low ∙ empty))
+    (low, λ gone. (let clash : true ≡ false = sym gone ∙ mine.1 in cc), λ empty. mine.2 none (queue_at before b d p none has low ∙ empty))
 next_told before b d mails None has same next =
-    let mine = subst (λ (ms : List Mailbox). IsNextIn ms None) same next in
+    let mine = subst (λ (ms : List Mailbox). IsNextIn (state before.settings before.history).exited ms None) same next in
     let none : Mailbox = box 0 [] [] 0 0 0 in
-    λ p low. sym (queue_at before b d p none has low) ∙ mine p none (mails_low before b d p has low)
+    λ p low some. mine p none (mails_low before b d p has low) (λ empty. some (sym (queue_at before b d p none has low) ∙ empty))
+
+-- looks are made by their caller alone, and cancel nothing
+looks_quiet : (answer : Option ℕ) (s : State) (es : List Entry) → LooksForMail 0 answer s es → IsQuiet (Caller 0 ∷ []) es
+looks_quiet answer s es looks = subst (IsQuiet (Caller 0 ∷ [])) (sym looks.entries) (record { only = only looks.gone answer; calm = calm looks.gone answer })
+  where
+    only : (gone : List ℕ) (answer : Option ℕ) → AreOnlyOf (Caller 0 ∷ []) (exits_seen 0 gone ++ life_seen 0 answer)
+    only [] (Some p) = (refl, tt)
+    only [] None = tt
+    only (p ∷ gone) answer = (refl, only gone answer)
+
+    calm : (gone : List ℕ) (answer : Option ℕ) → AreCalm (exits_seen 0 gone ++ life_seen 0 answer)
+    calm [] (Some p) = (refl, tt)
+    calm [] None = tt
+    calm (p ∷ gone) answer = (refl, calm gone answer)
+
+-- a process with mail was looked for
+pub mail_found : (before : Seen) (b : Inside) (d e : Desk) (q : Pass) (mails : List Mailbox) (answer : Option ℕ) → d ≡ e → seen_at e b ≡ before
+    → AreSound e b.pass b.next (parts_in b) → Belongs d q → IsMade (settings_of d) (view_of b.pass) (LooksForMail 0 answer) (view_of q)
+    → mails ≡ b.mails.items → IsNextIn (state_of d q).exited mails answer
+    → AreSound e q b.next (parts_in b) × FindsMail before answer (seen e q b.next b.keeper b.wheels.items)
+mail_found before b d e q mails answer same is sound belongs made these next =
+    let all = alone_called before b d e q (λ g. LooksForMail 0 answer) same is sound belongs made (looks_quiet answer) in
+    let now : Inside = record b { pass = q } in (
+      all.fit,
+      record {
+        goes = all.goes;
+        wheels = ap (λ (w : Seen). w.wheels) is;
+        next = next_told (seen_at e now) now e mails answer (has_at refl refl all.fit) these
+            (subst (λ (x : Desk). IsNextIn (state_of x q).exited mails answer) same next);
+      },
+    )
 
 -- what is made by a call is made by another
 goes_as : (a c : Seen) (call other : Way → Growth) → Goes a call c → ((h m : List Entry) → call (way_of a) h m → other (way_of a) h m) → Goes a other c

@@ -82,15 +82,15 @@ pub record AreSound (d : Desk) (p : Pass) (next : ℕ) (parts : AllParts) : Type
   pub fit : AreFit d p next parts
   pub tidy : next ≡ 1 → AreTidy (settings_of d) (front_of p) parts.wheels
 
--- where processes are listed, each whose mailbox has mail is
-abbrev pub ListAll : Option (List Bool) → List Mailbox → Type 0
-ListAll None mails = Unit {0}
-ListAll (Some listed) mails = AreListed listed mails
+-- where processes are listed, each that hasn't exited and whose mailbox has mail is
+abbrev pub ListAll : State → Option (List Bool) → List Mailbox → Type 0
+ListAll s None mails = Unit {0}
+ListAll s (Some listed) mails = AreListed s.exited listed mails
 
 -- what a world keeps: its parts are sound, and the processes with mail are listed where any are
 pub record AreKept (d : Desk) (p : Pass) (next : ℕ) (parts : AllParts) (list : Option (List Bool)) : Type 0 where
   pub sound : AreSound d p next parts
-  pub listed : ListAll list parts.mails
+  pub listed : ListAll (state (settings_of d) (front_of p)) list parts.mails
 
 -- how early the next of the rows that a wheel of a world holds is due, and None where it holds none. It holds the row
 -- of each armed timer, and may hold the row of one that was cancelled until that would have been due

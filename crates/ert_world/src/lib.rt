@@ -26,7 +26,7 @@
 //! | `ask` | caller 0 | puts a request to cancel or to read a timer into the inbox of its wheel | constant |
 //! | `take` | caller 0 | takes the first message of a process | constant |
 //! | `take_some` | caller 0 | takes so many messages of a process at most | those messages |
-//! | `next_mail` | | no entry: finds a process with mail | constant, amortized; the first one each process |
+//! | `next_mail` | caller 0 | finds a process that hasn't exited and has mail | constant, amortized; the first one each process |
 //! | `monitor`, `demonitor`, `tell` | caller 0 | makes, removes and informs monitors of the time offset | the monitors of the process, 64 at most |
 //! | `serve` | a scheduler | answers the request in its hand, or else the first of its inbox | constant |
 //! | `advance` | a scheduler | lets the timers of its wheel expire that are due | those timers and the buckets that are visited |

@@ -27,26 +27,27 @@ pub(crate) fn may_get_mail(list: &mut Option<MailList>, process: u32)
 }
 
 impl World {
-    ghost use Rattle.std.specs.Prelude.{◌≡◌, ◌+◌, ◌<◌, ◌≤◌, IfOk, vec_len};
+    ghost use Rattle.std.specs.Prelude.{◌≡◌, ◌+◌, ◌<◌, ◌≤◌, IfOk, OnErr, vec_len};
     ghost use Rattle.std.specs.Vec.{vec_capacity};
     ghost use Rattle.ert_defs.specs.Legal.{Legal};
-    ghost use Rattle.ert_world.specs.Mailing.{IsNextMail, TakesInto};
+    ghost use Rattle.ert_world.specs.Mailing.{FindsMail, TakesInto};
 
-    /// A process whose mailbox has mail, also one that has exited; None exactly where all mailboxes are empty. Each has
-    /// its turn: the next call tells another, where another has mail. No entry is made.
+    /// A process that hasn't exited and whose mailbox has mail; None exactly where there is none. Each has its turn: the
+    /// next call tells another, where another has mail. The messages of one that has exited can't be taken, and it isn't
+    /// told.
     ///
-    /// The work is constant, amortized: one step for each process whose mailbox got mail since it was found empty. The
-    /// first call of a world makes the list, with a step and 5 bytes for each process; later calls take no memory. After
-    /// want of memory nothing has changed.
+    /// The caller looks whether the process whose turn it is has exited. The work is constant, amortized: one step for
+    /// each process whose mailbox got mail since it was found empty or exited. The first call of a world makes the list,
+    /// with a step and 5 bytes for each process; later calls take no memory. After want of memory nothing has changed.
     pub fn next_mail(&mut self) -> Result<Option<u32>, NoMemory>
-        ensures next { IfOk result (IsNextMail self.old) }
-        ensures same { self.new ≡ self.old }
+        ensures next { IfOk result (λ answer. FindsMail self.old answer self.new) }
+        ensures memory { OnErr result (self.new ≡ self.old) }
     {
         let mut list = match self.list.take() {
             Some(list) => list,
             None => MailList::all(*self.mails.allocator(), self.desk.settings().processes)?,
         };
-        let next = list.next(&self.mails);
+        let next = list.next(&self.desk, &mut self.pass, CALLER, &self.mails);
         self.list = Some(list);
         Ok(next)
     }

@@ -233,7 +233,33 @@ static void mail_is_found(void) {
     IS(ert_world_exit(&world, 1, &process), ERT_OK);
     IS(ert_world_take_some(&world, 1, mails, TIMERS, &taken), ERT_EXITED);
     IS(taken, 0);
-    IS(with_mail(&world), 1);
+    IS(in_mailbox(&world, 1), 1);
+    process = 7;
+    IS(ert_world_next_mail(&world, &process), ERT_EMPTY); /* its message can't be taken, so it isn't found */
+    IS(process, 7);
+    IS(ert_world_close(&world), ERT_OK);
+}
+
+/* A loop that takes until no process is found ends, also where a process exits in it with messages in its mailbox. */
+static void loop_ends(void) {
+    ert_world world = ERT_INIT;
+    ert_mail mail;
+    uint32_t process, cancelled;
+    int rounds = 0, exited = 0;
+    opened(&world, TIMERS);
+    send(&world, 0, 3, 1);
+    send(&world, 1, 3, 2);
+    while (rounds < 20 && ert_world_next_mail(&world, &process) == ERT_OK) {
+        IS(ert_world_take(&world, process, &mail), ERT_OK); /* who is found is alive and has a message */
+        if (mail.msg == 201) {
+            IS(ert_world_exit(&world, 1, &cancelled), ERT_OK);
+            exited += 1;
+        }
+        rounds += 1;
+    }
+    IS(exited, 1);
+    IS(rounds, 5); /* three messages of the one, and two of the other */
+    IS(in_mailbox(&world, 1), 1);
     IS(ert_world_close(&world), ERT_OK);
 }
 
@@ -303,6 +329,7 @@ int main(void) {
     bounded_turns();
     beside_a_seat();
     mail_is_found();
+    loop_ends();
     all_are_cancelled();
     if (failed != 0) {
         return EXIT_FAILURE;

@@ -4,18 +4,18 @@ use Rattle.ert_table.specs.declared.desk.Desk.{Desk}
 use Rattle.ert_timers.specs.Freeing.{IsLast}
 use Rattle.ert_timers.specs.Parts.{Part}
 use Rattle.ert_world.proofs.Calls.{has_at, parts_in}
+use Rattle.ert_world.proofs.Listed.{kept_by}
 use Rattle.ert_world.proofs.CancelCalls.{cancel_called, cancelled_none, cancelled_some, does_cancel_at, gone_set, settled_then, stands_then}
 use Rattle.ert_world.proofs.world.World.cancel_timer.Goals as goal
 
 pub invariant_of-self : goal.invariant_of-self
-invariant_of-self c = record {
-  sound =
-      (let has = has_at c.deref.ensures c.self.view_is c.self.invariant.sound in
-      (does_cancel_at c.deref.ensures (cancelled_none c.args.self.now c.self.inside c.deref.result.now c.cancel_timer.new.pass (parts_in c.self.inside) c.args.timer _ has
-      (cancel_called c.args.self.now c.self.inside c.deref.result.now c.cancel_timer.new.pass c.args.timer None has c.cancel_timer.ensures.belongs
-      ((c.in_err-left.ensures {u = tt}).call.call)))).fit);
-  listed = c.self.invariant.listed;
-}
+invariant_of-self c =
+    let all =
+    (let has = has_at c.deref.ensures c.self.view_is c.self.invariant.sound in
+    (does_cancel_at c.deref.ensures (cancelled_none c.args.self.now c.self.inside c.deref.result.now c.cancel_timer.new.pass (parts_in c.self.inside) c.args.timer _ has
+    (cancel_called c.args.self.now c.self.inside c.deref.result.now c.cancel_timer.new.pass c.args.timer None has c.cancel_timer.ensures.belongs
+    ((c.in_err-left.ensures {u = tt}).call.call))))) in
+    kept_by c.self.inside c.self.inside.list c.self.view_is all.fit all.goes.grows c.self.invariant.listed
 
 pub returns-in_err-left-clause-call : goal.returns-in_err-left-clause-call
 returns-in_err-left-clause-call c =
@@ -56,16 +56,15 @@ forget-requires-clause-settled c =
     settled_then c.deref.result.now c.cancel_timer.new.pass c.args.timer done.fit.belongs done.goes.gone.1
 
 pub invariant_of-self-2 : goal.invariant_of-self-2
-invariant_of-self-2 c = record {
-  sound =
-      (let has = has_at c.deref.ensures c.self.view_is c.self.invariant.sound in
-      let done = cancel_called c.args.self.now c.self.inside c.deref.result.now c.cancel_timer.new.pass c.args.timer (Some c.in_ok-left.left) has
-      c.cancel_timer.ensures.belongs c.in_ok-left.ensures.call.call in
-      (does_cancel_at c.deref.ensures (cancelled_some c.args.self.now c.self.inside c.deref.result.now c.cancel_timer.new.pass (parts_in c.self.inside) c.args.timer
-      c.in_ok-left.left c.index_mut.result.now c.forget.new.self _ has done c.index_mut.ensures.value c.forget.ensures.number
-      (c.forget.ensures.stands (settings_of c.deref.result.now) done.fit.belongs.named) c.forget.ensures.loses c.forget.ensures.forgotten)).fit);
-  listed = c.self.invariant.listed;
-}
+invariant_of-self-2 c =
+    let all =
+    (let has = has_at c.deref.ensures c.self.view_is c.self.invariant.sound in
+    let done = cancel_called c.args.self.now c.self.inside c.deref.result.now c.cancel_timer.new.pass c.args.timer (Some c.in_ok-left.left) has
+    c.cancel_timer.ensures.belongs c.in_ok-left.ensures.call.call in
+    (does_cancel_at c.deref.ensures (cancelled_some c.args.self.now c.self.inside c.deref.result.now c.cancel_timer.new.pass (parts_in c.self.inside) c.args.timer
+    c.in_ok-left.left c.index_mut.result.now c.forget.new.self _ has done c.index_mut.ensures.value c.forget.ensures.number
+    (c.forget.ensures.stands (settings_of c.deref.result.now) done.fit.belongs.named) c.forget.ensures.loses c.forget.ensures.forgotten))) in
+    kept_by c.self.inside c.self.inside.list c.self.view_is all.fit all.goes.grows c.self.invariant.listed
 
 pub returns-clause-call : goal.returns-clause-call
 returns-clause-call c =

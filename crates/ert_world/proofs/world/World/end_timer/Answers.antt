@@ -1,5 +1,6 @@
 use Rattle.ert_table.specs.Desks.{settings_of}
 use Rattle.ert_world.proofs.Calls.{Has, has_at, parts_in, schedulers_at}
+use Rattle.ert_world.proofs.Listed.{kept_by}
 use Rattle.ert_world.proofs.CancelCalls.{cancel_called, does_cancel_at, gone_set, settled_then, stands_then}
 use Rattle.ert_world.proofs.Ending.{ended, ended_over, held_old, rows_fewer}
 use Rattle.ert_world.proofs.world.World.end_timer.Goals as goal
@@ -29,16 +30,15 @@ forget-requires-clause-settled c =
     c.requires.wheel c.index_mut.ensures.value held done c.cancel_timer-left.ensures.call)
 
 pub invariant_of-self : goal.invariant_of-self
-invariant_of-self c = record {
-  sound =
-      (let has = has_at c.deref.ensures c.self.view_is c.self.invariant.sound in
-      let done = cancel_called c.args.self.now c.self.inside c.deref.result.now c.cancel_timer-left.new.pass c.args.timer c.cancel_timer-left.result has
-      c.cancel_timer-left.ensures.belongs c.cancel_timer-left.ensures.call.call in
-      (does_cancel_at c.deref.ensures (ended c.args.self.now c.self.inside c.deref.result.now c.cancel_timer-left.new.pass c.args.timer c.cancel_timer-left.result
-      c.index_mut.result.now c.forget.new.self has done (schedulers_at has c.args.timer.wheel c.requires.wheel) c.index_mut.ensures.value c.forget.ensures.number
-      (c.forget.ensures.stands (settings_of c.deref.result.now) done.fit.belongs.named) c.forget.ensures.loses c.forget.ensures.forgotten)).fit);
-  listed = c.self.invariant.listed;
-}
+invariant_of-self c =
+    let all =
+    (let has = has_at c.deref.ensures c.self.view_is c.self.invariant.sound in
+    let done = cancel_called c.args.self.now c.self.inside c.deref.result.now c.cancel_timer-left.new.pass c.args.timer c.cancel_timer-left.result has
+    c.cancel_timer-left.ensures.belongs c.cancel_timer-left.ensures.call.call in
+    (does_cancel_at c.deref.ensures (ended c.args.self.now c.self.inside c.deref.result.now c.cancel_timer-left.new.pass c.args.timer c.cancel_timer-left.result
+    c.index_mut.result.now c.forget.new.self has done (schedulers_at has c.args.timer.wheel c.requires.wheel) c.index_mut.ensures.value c.forget.ensures.number
+    (c.forget.ensures.stands (settings_of c.deref.result.now) done.fit.belongs.named) c.forget.ensures.loses c.forget.ensures.forgotten))) in
+    kept_by c.self.inside c.self.inside.list c.self.view_is all.fit all.goes.grows c.self.invariant.listed
 
 pub returns-clause-call : goal.returns-clause-call
 returns-clause-call c =

@@ -2,15 +2,15 @@ use Rattle.ert_effects.specs.ClockCalls.{Finalizes}
 use Rattle.ert_table.specs.Desks.{settings_of}
 use Rattle.ert_world.proofs.Calm.{finalizes_quiet}
 use Rattle.ert_world.proofs.Calls.{Has, has_at, keeper_called, reads_by}
+use Rattle.ert_world.proofs.Listed.{kept_by}
 use Rattle.ert_world.proofs.world.World.finalize.Goals as goal
 
 pub invariant_of-self : goal.invariant_of-self
-invariant_of-self c = record {
-  sound =
-      ((keeper_called c.args.self.now c.self.inside c.deref.result.now _ c.finalize.new.pass c.finalize.new.self (λ g. Finalizes g 0 c.args.reading c.finalize.result) c.deref.ensures c.self.view_is c.self.invariant.sound
-      c.finalize.ensures.belongs c.finalize.ensures.stands c.finalize.ensures.call (finalizes_quiet (settings_of c.deref.result.now) 0 c.args.reading c.finalize.result)).fit);
-  listed = c.self.invariant.listed;
-}
+invariant_of-self c =
+    let all =
+    ((keeper_called c.args.self.now c.self.inside c.deref.result.now _ c.finalize.new.pass c.finalize.new.self (λ g. Finalizes g 0 c.args.reading c.finalize.result) c.deref.ensures c.self.view_is c.self.invariant.sound
+    c.finalize.ensures.belongs c.finalize.ensures.stands c.finalize.ensures.call (finalizes_quiet (settings_of c.deref.result.now) 0 c.args.reading c.finalize.result))) in
+    kept_by c.self.inside c.self.inside.list c.self.view_is all.fit all.goes.grows c.self.invariant.listed
 
 pub returns-clause-call : goal.returns-clause-call
 returns-clause-call c =

@@ -1,21 +1,22 @@
 use Rattle.std.proofs.Common.{◌≡◌, Some, Err, rules, refl, ap, sym, subst, ◌∙◌}
+use Rattle.std.specs.Arc.{arc_value}
 use Rattle.ert_effects.specs.Chains.{Hands}
 use Rattle.ert_defs.specs.Mails.{first_of, others_of}
 use Rattle.ert_defs.specs.States.{state}
 use Rattle.ert_mail.specs.Mailboxes.{Stands}
 use Rattle.ert_world.proofs.Alone.{stays_same}
 use Rattle.ert_world.proofs.Calls.{mail_named}
-use Rattle.ert_table.specs.Desks.{settings_of, front_of}
+use Rattle.ert_table.specs.Desks.{settings_of, front_of, state_of}
 use Rattle.ert_table.specs.declared.desk.Desk.{Desk}
 use Rattle.ert_world.proofs.Calls.{Has, has_at, does_at, parts_in, schedulers_at}
-use Rattle.ert_world.proofs.Listed.{list_low, listed_now}
+use Rattle.ert_world.proofs.Listed.{list_low, listed_now, kept_by}
 use Rattle.ert_world.proofs.SchedCalls.{fired_placed, hands_on, handed_in, sched_holds, handed_now, step_refused}
 use Rattle.ert_world.specs.Worlds.{Seen, seen, IsHandedIn, sched_of}
 use Rattle.ert_world.proofs.world.World.hand_over.Goals as goal
 
 pub may_get_mail-requires : goal.may_get_mail-requires
 may_get_mail-requires c =
-    list_low c.self.inside.list c.self.inside.mails.items c.args.fired.now.dest c.self.invariant.listed
+    list_low (state_of (arc_value c.self.inside.desk) c.self.inside.pass) c.self.inside.list c.self.inside.mails.items c.args.fired.now.dest c.self.invariant.listed
     (rw c.self.invariant.sound.fit.stand.mails.counted (fired_placed c.args.self.now c.self.inside _ c.args.sched c.args.fired.now (has_at refl c.self.view_is c.self.invariant.sound) c.requires.first).dest)
 
 pub index_mut-requires : goal.index_mut-requires
@@ -68,34 +69,32 @@ returns-in_err-handed-clause-call c =
     }))).goes
 
 pub invariant_of-self : goal.invariant_of-self
-invariant_of-self c = record {
-  sound =
-      (let has : Has c.args.self.now c.self.inside c.deref.result.now = has_at c.deref.ensures c.self.view_is c.self.invariant.sound in
-      let placed = fired_placed c.args.self.now c.self.inside c.deref.result.now c.args.sched c.args.fired.now has c.requires.first in
-      (does_at c.deref.ensures (step_refused c.args.self.now c.self.inside c.deref.result.now c.deliver.new.pass c.args.fired.now.dest c.index_mut.result.now c.deliver.new.self
-      (λ w way. Hands w.settings way c.args.sched (Err c.in_err-handed.field-0.0)) has c.deliver.ensures.belongs
-      placed.dest c.index_mut.ensures.value c.deliver.ensures.process c.deliver.ensures.stands c.in_err-handed.ensures.call.same
-      (λ m grown own. record {
-        fired = c.args.fired.now;
-        first = subst (λ (w : Seen). first_of (sched_of w c.args.sched).fired ≡ Some c.args.fired.now) (sym has.is) c.requires.first;
-        step = own;
-      }))).fit);
-  listed =
-      listed_now c.self.inside.list c.may_get_mail.new.list c.self.inside.mails.items c.args.fired.now.dest c.deliver.new.self c.may_get_mail.ensures c.self.invariant.listed
-      (rw c.self.invariant.sound.fit.stand.mails.counted (fired_placed c.args.self.now c.self.inside _ c.args.sched c.args.fired.now (has_at refl c.self.view_is c.self.invariant.sound) c.requires.first).dest);
-}
+invariant_of-self c =
+    let all =
+    (let has : Has c.args.self.now c.self.inside c.deref.result.now = has_at c.deref.ensures c.self.view_is c.self.invariant.sound in
+    let placed = fired_placed c.args.self.now c.self.inside c.deref.result.now c.args.sched c.args.fired.now has c.requires.first in
+    (does_at c.deref.ensures (step_refused c.args.self.now c.self.inside c.deref.result.now c.deliver.new.pass c.args.fired.now.dest c.index_mut.result.now c.deliver.new.self
+    (λ w way. Hands w.settings way c.args.sched (Err c.in_err-handed.field-0.0)) has c.deliver.ensures.belongs
+    placed.dest c.index_mut.ensures.value c.deliver.ensures.process c.deliver.ensures.stands c.in_err-handed.ensures.call.same
+    (λ m grown own. record {
+      fired = c.args.fired.now;
+      first = subst (λ (w : Seen). first_of (sched_of w c.args.sched).fired ≡ Some c.args.fired.now) (sym has.is) c.requires.first;
+      step = own;
+    })))) in
+    kept_by c.self.inside c.may_get_mail.new.list c.self.view_is all.fit all.goes.grows
+    (listed_now (state_of (arc_value c.self.inside.desk) c.self.inside.pass) c.self.inside.list c.may_get_mail.new.list c.self.inside.mails.items c.args.fired.now.dest c.deliver.new.self c.may_get_mail.ensures c.self.invariant.listed
+    (rw c.self.invariant.sound.fit.stand.mails.counted (fired_placed c.args.self.now c.self.inside _ c.args.sched c.args.fired.now (has_at refl c.self.view_is c.self.invariant.sound) c.requires.first).dest))
 
 pub invariant_of-self-2 : goal.invariant_of-self-2
-invariant_of-self-2 c = record {
-  sound =
-      ((does_at c.deref.ensures (handed_now c.args.self.now c.self.inside c.deref.result.now c.deliver.new.pass c.args.sched c.index_mut.result.now c.deliver.new.self c.args.fired.now c.in_ok-handed.handed
-      c.index_mut-2.result.now (record { wheel = c.index_mut-2.result.now.wheel; hand = c.index_mut-2.result.now.hand; fired = c.pop.new.self })
-      (has_at c.deref.ensures c.self.view_is c.self.invariant.sound) c.deliver.ensures.belongs c.requires.sched c.requires.first c.index_mut.ensures.value c.deliver.ensures.process
-      c.deliver.ensures.stands c.in_ok-handed.ensures.call c.in_ok-handed.ensures.sched c.index_mut-2.ensures.value refl refl c.pop.ensures.others)).fit);
-  listed =
-      listed_now c.self.inside.list c.may_get_mail.new.list c.self.inside.mails.items c.args.fired.now.dest c.deliver.new.self c.may_get_mail.ensures c.self.invariant.listed
-      (rw c.self.invariant.sound.fit.stand.mails.counted (fired_placed c.args.self.now c.self.inside _ c.args.sched c.args.fired.now (has_at refl c.self.view_is c.self.invariant.sound) c.requires.first).dest);
-}
+invariant_of-self-2 c =
+    let all =
+    ((does_at c.deref.ensures (handed_now c.args.self.now c.self.inside c.deref.result.now c.deliver.new.pass c.args.sched c.index_mut.result.now c.deliver.new.self c.args.fired.now c.in_ok-handed.handed
+    c.index_mut-2.result.now (record { wheel = c.index_mut-2.result.now.wheel; hand = c.index_mut-2.result.now.hand; fired = c.pop.new.self })
+    (has_at c.deref.ensures c.self.view_is c.self.invariant.sound) c.deliver.ensures.belongs c.requires.sched c.requires.first c.index_mut.ensures.value c.deliver.ensures.process
+    c.deliver.ensures.stands c.in_ok-handed.ensures.call c.in_ok-handed.ensures.sched c.index_mut-2.ensures.value refl refl c.pop.ensures.others))) in
+    kept_by c.self.inside c.may_get_mail.new.list c.self.view_is all.fit all.goes.grows
+    (listed_now (state_of (arc_value c.self.inside.desk) c.self.inside.pass) c.self.inside.list c.may_get_mail.new.list c.self.inside.mails.items c.args.fired.now.dest c.deliver.new.self c.may_get_mail.ensures c.self.invariant.listed
+    (rw c.self.invariant.sound.fit.stand.mails.counted (fired_placed c.args.self.now c.self.inside _ c.args.sched c.args.fired.now (has_at refl c.self.view_is c.self.invariant.sound) c.requires.first).dest))
 
 pub returns-clause-call : goal.returns-clause-call
 returns-clause-call c =

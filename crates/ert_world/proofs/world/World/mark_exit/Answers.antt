@@ -8,16 +8,16 @@ use Rattle.ert_world.proofs.Calm.{mark_quiet}
 use Rattle.ert_world.proofs.Alone.{stays_same}
 use Rattle.ert_world.specs.Worlds.{Seen}
 use Rattle.ert_world.proofs.Calls.{alone_called}
+use Rattle.ert_world.proofs.Listed.{kept_by}
 use Rattle.ert_world.proofs.Gone.{marked}
 use Rattle.ert_world.proofs.world.World.mark_exit.Goals as goal
 
 pub invariant_of-self : goal.invariant_of-self
-invariant_of-self c = record {
-  sound =
-      ((alone_called c.args.self.now c.self.inside c.deref.result.now _ c.mark_exit.new.pass (λ g. MarksExit g (Caller 0) c.args.process c.mark_exit.result) c.deref.ensures c.self.view_is c.self.invariant.sound
-      c.mark_exit.ensures.belongs c.mark_exit.ensures.call (mark_quiet (settings_of c.deref.result.now) (Caller 0) c.args.process c.mark_exit.result)).fit);
-  listed = c.self.invariant.listed;
-}
+invariant_of-self c =
+    let all =
+    ((alone_called c.args.self.now c.self.inside c.deref.result.now _ c.mark_exit.new.pass (λ g. MarksExit g (Caller 0) c.args.process c.mark_exit.result) c.deref.ensures c.self.view_is c.self.invariant.sound
+    c.mark_exit.ensures.belongs c.mark_exit.ensures.call (mark_quiet (settings_of c.deref.result.now) (Caller 0) c.args.process c.mark_exit.result))) in
+    kept_by c.self.inside c.self.inside.list c.self.view_is all.fit all.goes.grows c.self.invariant.listed
 
 pub returns-clause-call : goal.returns-clause-call
 returns-clause-call c =

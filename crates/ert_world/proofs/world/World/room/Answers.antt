@@ -2,16 +2,16 @@ use Rattle.ert_effects.specs.RoomCalls.{TellsRoom}
 use Rattle.ert_table.specs.Desks.{settings_of}
 use Rattle.ert_timers.proofs.LawsHold.{rooms_only}
 use Rattle.ert_world.proofs.Rooms.{wheel_looked, room_calm}
+use Rattle.ert_world.proofs.Listed.{kept_by}
 use Rattle.ert_world.proofs.world.World.room.Goals as goal
 
 pub invariant_of-self : goal.invariant_of-self
-invariant_of-self c = record {
-  sound =
-      ((wheel_looked c.args.self.now c.self.inside c.deref.result.now _ c.room.new.pass c.args.wheel c.index.result.now (λ n g. TellsRoom g 0 n c.room.result)
-      c.deref.ensures c.self.view_is c.self.invariant.sound c.room.ensures.belongs c.requires c.index.ensures c.room.ensures.stands c.room.ensures.call
-      (rooms_only (settings_of c.deref.result.now) 0 c.index.result.now.number c.room.result) (room_calm (settings_of c.deref.result.now) 0 c.index.result.now.number c.room.result)).fit);
-  listed = c.self.invariant.listed;
-}
+invariant_of-self c =
+    let all =
+    ((wheel_looked c.args.self.now c.self.inside c.deref.result.now _ c.room.new.pass c.args.wheel c.index.result.now (λ n g. TellsRoom g 0 n c.room.result)
+    c.deref.ensures c.self.view_is c.self.invariant.sound c.room.ensures.belongs c.requires c.index.ensures c.room.ensures.stands c.room.ensures.call
+    (rooms_only (settings_of c.deref.result.now) 0 c.index.result.now.number c.room.result) (room_calm (settings_of c.deref.result.now) 0 c.index.result.now.number c.room.result))) in
+    kept_by c.self.inside c.self.inside.list c.self.view_is all.fit all.goes.grows c.self.invariant.listed
 
 pub returns : goal.returns
 returns c =

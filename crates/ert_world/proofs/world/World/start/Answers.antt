@@ -4,22 +4,22 @@ use Rattle.ert_table.specs.Calls.{IsMade}
 use Rattle.ert_table.specs.Desks.{settings_of, view_of}
 use Rattle.ert_timers.proofs.LawsHold.{starts_only}
 use Rattle.ert_world.proofs.Calls.{has_at}
+use Rattle.ert_world.proofs.Listed.{kept_by}
 use Rattle.ert_world.proofs.Started.{forgotten_start}
 use Rattle.ert_world.proofs.Values.{refused_value}
 use Rattle.ert_world.proofs.WheelCalls.{wheel_stepped, starts_calm, started_hold}
 use Rattle.ert_world.proofs.world.World.start.Goals as goal
 
 pub invariant_of-self : goal.invariant_of-self
-invariant_of-self c = record {
-  sound =
-      ((wheel_stepped c.args.self.now c.self.inside c.deref.result.now _ c.start.new.pass c.args.wheel c.index_mut.result.now c.start.new.self (λ n g. Starts g 0 n c.args.start.now c.start.result)
-      c.deref.ensures c.self.view_is c.self.invariant.sound c.start.ensures.belongs c.requires.wheel c.index_mut.ensures.value c.start.ensures.number c.start.ensures.stands c.start.ensures.call
-      (starts_only (settings_of c.deref.result.now) 0 c.index_mut.result.now.number c.args.start.now c.start.result)
-      (starts_calm (settings_of c.deref.result.now) 0 c.index_mut.result.now.number c.args.start.now c.start.result)
-      (started_hold c.self.inside c.deref.result.now c.start.new.pass c.index_mut.result.now.number c.args.start.now c.start.result c.index_mut.result.now c.start.new.self
-      (has_at c.deref.ensures c.self.view_is c.self.invariant.sound) c.start.ensures.call c.start.ensures.rows)).fit);
-  listed = c.self.invariant.listed;
-}
+invariant_of-self c =
+    let all =
+    ((wheel_stepped c.args.self.now c.self.inside c.deref.result.now _ c.start.new.pass c.args.wheel c.index_mut.result.now c.start.new.self (λ n g. Starts g 0 n c.args.start.now c.start.result)
+    c.deref.ensures c.self.view_is c.self.invariant.sound c.start.ensures.belongs c.requires.wheel c.index_mut.ensures.value c.start.ensures.number c.start.ensures.stands c.start.ensures.call
+    (starts_only (settings_of c.deref.result.now) 0 c.index_mut.result.now.number c.args.start.now c.start.result)
+    (starts_calm (settings_of c.deref.result.now) 0 c.index_mut.result.now.number c.args.start.now c.start.result)
+    (started_hold c.self.inside c.deref.result.now c.start.new.pass c.index_mut.result.now.number c.args.start.now c.start.result c.index_mut.result.now c.start.new.self
+    (has_at c.deref.ensures c.self.view_is c.self.invariant.sound) c.start.ensures.call c.start.ensures.rows))) in
+    kept_by c.self.inside c.self.inside.list c.self.view_is all.fit all.goes.grows c.self.invariant.listed
 
 pub returns-clause-call : goal.returns-clause-call
 returns-clause-call c =

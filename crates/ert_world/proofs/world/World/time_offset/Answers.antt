@@ -3,16 +3,16 @@ use Rattle.ert_defs.specs.declared.entry.Actor.TheVariants.{Caller}
 use Rattle.ert_table.specs.Desks.{settings_of}
 use Rattle.ert_world.proofs.Calm.{offset_quiet}
 use Rattle.ert_world.proofs.Calls.{has_at, alone_called}
+use Rattle.ert_world.proofs.Listed.{kept_by}
 use Rattle.ert_world.proofs.Values.{offset_value}
 use Rattle.ert_world.proofs.world.World.time_offset.Goals as goal
 
 pub invariant_of-self : goal.invariant_of-self
-invariant_of-self c = record {
-  sound =
-      ((alone_called c.args.self.now c.self.inside c.deref.result.now _ c.time_offset.new.pass (λ g. TellsOffset g (Caller 0) c.time_offset.result) c.deref.ensures c.self.view_is c.self.invariant.sound
-      c.time_offset.ensures.belongs c.time_offset.ensures.call (offset_quiet (settings_of c.deref.result.now) (Caller 0) c.time_offset.result)).fit);
-  listed = c.self.invariant.listed;
-}
+invariant_of-self c =
+    let all =
+    ((alone_called c.args.self.now c.self.inside c.deref.result.now _ c.time_offset.new.pass (λ g. TellsOffset g (Caller 0) c.time_offset.result) c.deref.ensures c.self.view_is c.self.invariant.sound
+    c.time_offset.ensures.belongs c.time_offset.ensures.call (offset_quiet (settings_of c.deref.result.now) (Caller 0) c.time_offset.result))) in
+    kept_by c.self.inside c.self.inside.list c.self.view_is all.fit all.goes.grows c.self.invariant.listed
 
 pub returns-clause-call : goal.returns-clause-call
 returns-clause-call c =
