@@ -5,13 +5,11 @@ use Rattle.std.proofs.lemmas.List.{map-append}
 use Rattle.ert_calls.proofs.Looks.{can_step}
 use Rattle.ert_defs.proofs.Runs.{state-append, exit_stays}
 use Rattle.ert_defs.specs.Entries.{mark_entry}
-use Rattle.ert_defs.specs.Legal.{Legal}
 use Rattle.ert_defs.specs.States.{State, state}
 use Rattle.ert_defs.specs.declared.entry.Actor.TheVariants.{Caller}
 use Rattle.ert_defs.specs.declared.entry.Entry.{Entry}
 use Rattle.ert_defs.specs.declared.settings.Settings.{Settings}
 use Rattle.ert_table.proofs.Calls.{step_takes_place, takes_place_then}
-use Rattle.ert_table.proofs.Makings.{none_made}
 use Rattle.ert_table.proofs.Parts.{stepped}
 use Rattle.ert_table.specs.Calls.{IsMade}
 use Rattle.ert_table.specs.Takes.{Appends, TakesPlace}

@@ -1,40 +1,22 @@
 -- A process with mail, and takes of several messages.
 
-<<<<<<< HEAD
-use Rattle.std.proofs.Common.{◌≡◌, ℕ, ◌<◌, List, [], ◌∷◌, ◌++◌, Option, Some, None, slice_index_or, refl, sym, ap, subst, ◌∙◌}
-use Rattle.ert_defs.specs.Mails.{MailState}
-use Rattle.ert_defs.specs.States.{state}
-=======
 use Rattle.std.proofs.Common.{◌≡◌, ℕ, ◌<◌, true, false, List, [], ◌∷◌, ◌++◌, length, Option, Some, None, slice_index_or, refl, sym, ap, subst, ◌∙◌}
 use Rattle.ert_defs.specs.Legal.{Legal}
 use Rattle.ert_defs.specs.Mails.{MailState}
 use Rattle.ert_defs.specs.States.{State, state}
 use Rattle.ert_defs.specs.declared.entry.Actor.TheVariants.{Caller}
 use Rattle.ert_defs.specs.declared.entry.Entry.{Entry}
->>>>>>> 05d4ee49417eb6456f41452c4efd42f469b05b4c
 use Rattle.ert_defs.specs.declared.mail.Mail.{Mail}
 use Rattle.ert_defs.specs.declared.settings.Settings.{Settings}
 use Rattle.ert_effects.specs.MailCalls.{Takes}
-use Rattle.ert_effects.specs.Ways.{Way}
+use Rattle.ert_effects.specs.Ways.{Growth, Way}
 use Rattle.ert_effects.specs.declared.answers.Taken.{Taken}
-<<<<<<< HEAD
-use Rattle.ert_effects.specs.declared.answers.Taken.TheVariants.{Mail as Took}
-use Rattle.ert_mail.specs.Lists.{IsNextIn}
-=======
 use Rattle.ert_effects.specs.declared.answers.Taken.TheVariants.{Mail as Took, Empty, Exited}
 use Rattle.ert_mail.specs.Lists.{IsNextIn, LooksForMail, exits_seen, life_seen}
->>>>>>> 05d4ee49417eb6456f41452c4efd42f469b05b4c
 use Rattle.ert_mail.specs.Mailboxes.{Mailbox, seen as box}
 use Rattle.ert_table.specs.Calls.{AreOnlyOf, IsMade}
 use Rattle.ert_table.specs.Desks.{settings_of, view_of, front_of, state_of, Belongs}
 use Rattle.ert_table.specs.declared.desk.Desk.{Desk}
-<<<<<<< HEAD
-use Rattle.ert_world.proofs.Calls.{Has, processes_at}
-use Rattle.ert_world.proofs.Composed.{goes_more}
-use Rattle.ert_world.proofs.Listed.{mails_low}
-use Rattle.ert_world.specs.Mailing.{mail_of, IsNextMail, TakesMails}
-use Rattle.ert_world.specs.Worlds.{Seen, Goes, By}
-=======
 use Rattle.ert_table.specs.declared.desk.Pass.{Pass}
 use Rattle.ert_world.proofs.Alone.{went}
 use Rattle.ert_world.proofs.Armed.{AreCalm}
@@ -45,7 +27,6 @@ use Rattle.ert_world.proofs.Listed.{mails_low}
 use Rattle.ert_world.specs.Mailing.{mail_of, FindsMail, IsNextMail, TakesMails, TakesSome}
 use Rattle.ert_world.specs.Worlds.{Seen, seen, AreSound, Goes, By, way_of}
 use Rattle.ert_world.specs.declared.mailing.TakeEnd.TheVariants.{Most, Empty as FoundEmpty, Exited as HadExited}
->>>>>>> 05d4ee49417eb6456f41452c4efd42f469b05b4c
 use Rattle.ert_world.specs.declared.world.World.TheInside.{Inside}
 
 -- the messages of a mailbox are those of its process
@@ -103,6 +84,16 @@ mail_found before b d e q mails answer same is sound belongs made these next =
       },
     )
 
+-- what is made by a call is made by another
+goes_as : (a c : Seen) (call other : Way → Growth) → Goes a call c → ((h m : List Entry) → call (way_of a) h m → other (way_of a) h m) → Goes a other c
+goes_as a c call other goes is =
+    went a c other (record { piece = goes.grows.piece; grown = goes.grows.grown; made = is a.history goes.grows.piece goes.grows.made })
+    goes.legal goes.table goes.settings goes.clock goes.next
+
+-- none is taken yet
+pub took_none : (a : Seen) (process : ℕ) → Legal a.settings a.history → Goes a (λ way. TakesMails a.settings way process []) a
+took_none a process legal = goes_nothing a (λ (way : Way). TakesMails a.settings way process []) legal refl
+
 -- one more is
 pub took_more : (a b c : Seen) (process : ℕ) (mails : List Mail) (mail : Mail) (answer : Taken) → answer ≡ Took mail
     → Goes a (λ way. TakesMails a.settings way process mails) b → Goes b (By b (λ g. Takes g 0 process answer)) c
@@ -110,3 +101,27 @@ pub took_more : (a b c : Seen) (process : ℕ) (mails : List Mail) (mail : Mail)
 took_more a b c process mails mail answer is one other =
     goes_more a b c (λ (g : Settings) (way : Way) (m : Mail). way [] (Takes g 0 process (Took m))) mails mail one
     (subst (λ (t : Taken). Goes b (By b (λ g. Takes g 0 process t)) c) is other)
+
+-- as many as may be
+pub took_most : (a b : Seen) (process most : ℕ) (mails : List Mail) → length mails ≡ most → Goes a (λ way. TakesMails a.settings way process mails) b
+    → Goes a (λ way. TakesSome a.settings way process most mails Most) b
+took_most a b process most mails all goes =
+    goes_as a b (λ (way : Way). TakesMails a.settings way process mails) (λ (way : Way). TakesSome a.settings way process most mails Most) goes (λ h m made. (all, made))
+
+-- fewer, and then the mailbox was empty
+pub took_empty : (a b c : Seen) (process most : ℕ) (mails : List Mail) (answer : Taken) → answer ≡ Empty → length mails < most
+    → Goes a (λ way. TakesMails a.settings way process mails) b → Goes b (By b (λ g. Takes g 0 process answer)) c
+    → Goes a (λ way. TakesSome a.settings way process most mails FoundEmpty) c
+took_empty a b c process most mails answer is few one other =
+    goes_as a c _ (λ (way : Way). TakesSome a.settings way process most mails FoundEmpty)
+    (goes_then a b c (λ (way : Way). TakesMails a.settings way process mails) (λ (g : Settings) (way : Way). way [] (Takes g 0 process Empty)) one
+    (subst (λ (t : Taken). Goes b (By b (λ g. Takes g 0 process t)) c) is other)) (λ h m made. (few, made))
+
+-- fewer, and then the process had exited
+pub took_exited : (a b c : Seen) (process most : ℕ) (mails : List Mail) (answer : Taken) → answer ≡ Exited → length mails < most
+    → Goes a (λ way. TakesMails a.settings way process mails) b → Goes b (By b (λ g. Takes g 0 process answer)) c
+    → Goes a (λ way. TakesSome a.settings way process most mails HadExited) c
+took_exited a b c process most mails answer is few one other =
+    goes_as a c _ (λ (way : Way). TakesSome a.settings way process most mails HadExited)
+    (goes_then a b c (λ (way : Way). TakesMails a.settings way process mails) (λ (g : Settings) (way : Way). way [] (Takes g 0 process Exited)) one
+    (subst (λ (t : Taken). Goes b (By b (λ g. Takes g 0 process t)) c) is other)) (λ h m made. (few, made))
