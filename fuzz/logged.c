@@ -6,11 +6,11 @@
  *     cc logged.c noted.c -O2 -pthread -o logged $(pkg-config --cflags --libs ertime)
  *     ./logged [SEED [CALLS]] | tools/order
  *
- * Each thread makes CALLS calls, 150 if none is given. SEED, 1 if none is given, draws all of them, the settings (seed by
- * seed the next time warp mode) and how many threads there are, and not how they meet. A call is noted with what it was
- * asked, what it answered, and two numbers of one counter, from before it and from after it. The log is written once all
- * threads have ended and what was left has been let expire, delivered and taken; the head of tools/ordering/log.py
- * describes it.
+ * Each thread makes CALLS calls, 150 if none is given. SEED, 1 if none is given, draws the settings (seed by seed the
+ * next time warp mode), how many threads there are, and what each does, and not how they meet. A call is noted with what
+ * it was asked, what it answered, and two numbers of one counter, from before it and from after it. The log is written
+ * once all threads have ended and what was left has been let expire, delivered and taken; the head of
+ * tools/ordering/log.py describes the log.
  */
 #define _POSIX_C_SOURCE 200809L
 #include <inttypes.h>
