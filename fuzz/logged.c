@@ -1,24 +1,27 @@
 /*
  * A run of shards that writes down what it did: 2 to 4 threads with a shard each, 2 to 4 with a seat, and one with the
  * hub, which ticks by readings of its own. They make random calls at the same time, most of them on the timers that were
- * started last, whichever thread did.
+ * started last, whichever thread did, and are stopped by signals in the middle of them.
  *
  *     cc logged.c noted.c -O2 -pthread -o logged $(pkg-config --cflags --libs ertime)
  *     ./logged [SEED [CALLS]] | tools/order
  *
- * Each thread makes CALLS calls, 150 if none is given. SEED, 1 if none is given, draws all of them, the settings (seed by
- * seed the next time warp mode) and how many threads there are, and not how they meet. A call is noted with what it was
- * asked, what it answered, and two numbers of one counter, from before it and from after it. The log is written once all
- * threads have ended and what was left has been let expire, delivered and taken; the head of tools/ordering/log.py
- * describes it.
+ * Each thread makes CALLS calls, 150 if none is given. SEED, 1 if none is given, draws the settings (seed by seed the
+ * next time warp mode), how many threads there are, and what each does, and not how they meet. A call is noted with what
+ * it was asked, what it answered, and two numbers of one counter, from before it and from after it. The log is written
+ * once all threads have ended and what was left has been let expire, delivered and taken; the head of
+ * tools/ordering/log.py describes the log.
  */
 #define _POSIX_C_SOURCE 200809L
+#include <errno.h>
 #include <inttypes.h>
 #include <pthread.h>
 #include <sched.h>
+#include <signal.h>
 #include <stdatomic.h>
 #include <stdio.h>
 #include <stdlib.h>
+#include <time.h>
 
 #include "ertime.h"
 #include "noted.h"
@@ -56,7 +59,7 @@ static ert_reading reading; /* the last one, of the hub's thread */
 static actor actors[2 * MOST + 1];
 static int shards, seats, calls;
 static atomic_uint_fast64_t counter;
-static atomic_int ready;
+static atomic_int ready, ended;
 
 static void must(const char *what, int32_t status) {
     if (status != ERT_OK) {
@@ -201,26 +204,28 @@ static kind any_kind(actor *a) {
     return one_in(a, 120) ? EXIT : OF_SHARD[below(&a->random, sizeof OF_SHARD / sizeof *OF_SHARD)];
 }
 
-/* Now and then a thread waits a little, so that others overtake it. */
-static void wait_a_little(actor *a) {
-    if (one_in(a, 40)) {
-        sched_yield();
-    } else if (one_in(a, 4)) {
-        for (volatile uint64_t left = below(&a->random, 400); left > 0; left--) {
-        }
-    }
+/* What a signal does to a thread, wherever it is: it stops, and others overtake it. */
+static void stop_a_while(int number) {
+    (void)number;
+    int before = errno;
+    struct timespec wait = {0, 1000};
+    nanosleep(&wait, NULL);
+    errno = before;
 }
 
 static void *work(void *argument) {
     actor *a = argument;
     atomic_fetch_add(&ready, 1);
-    while (atomic_load(&ready) < shards + seats + 1) {
+    while (atomic_load(&ready) <= shards + seats + 1) {
         sched_yield();
     }
     for (int i = 0; i < calls; i++) {
         do_call(a, any_kind(a));
-        wait_a_little(a);
+        if (one_in(a, 2)) {
+            sched_yield();
+        }
     }
+    atomic_fetch_add(&ended, 1);
     return NULL;
 }
 
@@ -286,12 +291,30 @@ static void close_all(void) {
     must("ert_hub_close", ert_hub_close(&hub));
 }
 
-static void run_threads(void) {
+/* Goes on for some microseconds. */
+static void wait_a_little(uint64_t *random) {
+    struct timespec t;
+    clock_gettime(CLOCK_MONOTONIC, &t);
+    long end = t.tv_nsec + (long)below(random, 5000);
+    for (long begin = t.tv_nsec; begin <= t.tv_nsec && t.tv_nsec < end;) {
+        clock_gettime(CLOCK_MONOTONIC, &t);
+    }
+}
+
+/* Runs the threads, and stops one of them again and again, many times in the middle of a call. */
+static void run_threads(uint64_t *random) {
     int threads = shards + seats + 1;
+    struct sigaction action = {.sa_handler = stop_a_while, .sa_flags = SA_RESTART};
+    sigaction(SIGUSR1, &action, NULL);
     for (int i = 0; i < threads; i++) {
         if (pthread_create(&actors[i].thread, NULL, work, &actors[i]) != 0) {
             must("pthread_create", ERT_NO_MEMORY);
         }
+    }
+    atomic_fetch_add(&ready, 1);
+    while (atomic_load(&ended) < threads) {
+        pthread_kill(actors[below(random, (uint64_t)threads)].thread, SIGUSR1);
+        wait_a_little(random);
     }
     for (int i = 0; i < threads; i++) {
         pthread_join(actors[i].thread, NULL);
@@ -304,7 +327,7 @@ int main(int count, char **words) {
     uint64_t random = seed * UINT64_C(0x9e3779b97f4a7c15) | 1;
     open_all(seed, &random);
     write_settings(&settings);
-    run_threads();
+    run_threads(&random);
     settle();
     for (uint32_t i = 0; i < settings.callers; i++) {
         for (int j = 0; j < actors[i].count; j++) {
