@@ -70,14 +70,6 @@ listed_low [] p is = absurd cc
 listed_low (b ∷ bs) zero is = omega arith
 listed_low (b ∷ bs) (suc p) is = let low = listed_low bs p is in omega (arith, low)
 
--- fewer are listed after one was taken out
-pub fewer_listed : (listed : List Bool) (p : ℕ) → slice_index_or listed p false ≡ true → count_by (λ b. b) (slice_set listed p false) < count_by (λ b. b) listed
-fewer_listed listed p is =
-    let e : ◌≡◌ {A = ℕ} (cond (slice_index_or listed p false) 1 0) 1 = ap (λ (b : Bool). cond b 1 0) is in
-    let sum : count_by (λ b. b) (slice_set listed p false) + cond (slice_index_or listed p false) 1 0 ≡ count_by (λ b. b) listed + 0 =
-    sum_by-set (λ b. cond b 1 0) listed p false false (listed_low listed p is) in
-    omega (arith, sum, e)
-
 -- a mailbox of which nothing can be taken needn't be listed
 pub still_listed : (exited : ℕ → Bool) (listed : List Bool) (mails : List Mailbox) (p : ℕ) → AreListed exited listed mails
     → slice_index_or listed p false ≡ true → ((d : Mailbox) → (slice_index_or mails p d).held.queue ≢ [] → exited p ≡ false → ⊥)
@@ -132,15 +124,6 @@ listed_again exited listed mails p are was = record {
     at q e low some lives true same = (flag_at (slice_set listed p false) p q true still).0 same
     at q e low some lives false apart =
         (flag_at (slice_set listed p false) p q true still).1 apart ∙ ((flag_at listed p q false in_range).1 apart ∙ are.each q e low some lives)
-
--- where none is listed each that has mail has exited
-pub none_next : (exited : ℕ → Bool) (listed : List Bool) (mails : List Mailbox) → AreListed exited listed mails
-    → ((p : ℕ) → slice_index_or listed p false ≡ false) → IsNextIn exited mails None
-none_next exited listed mails are none p d low some = at (exited p) refl
-  where
-    at : (b : Bool) → exited p ≡ b → exited p ≡ true
-    at true is = is
-    at false is = absurd (let clash : true ≡ false = sym (are.each p d low some is) ∙ none p in cc)
 
 -- a mailbox of which something waits has mail
 pub some_next : (exited : ℕ → Bool) (mails : List Mailbox) (p : ℕ) (m : Mailbox) → p < length mails → m ≡ slice_index_or mails p m

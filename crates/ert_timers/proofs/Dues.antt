@@ -20,7 +20,7 @@ use Rattle.ert_defs.specs.declared.timer.TimerRef.{TimerRef}
 use Rattle.ert_timers.specs.Changes.{let_go}
 use Rattle.ert_timers.specs.Expiring.{AreDue, IsReady, timer_of}
 use Rattle.ert_timers.specs.Parts.{Part, Stands, last_timer}
-use Rattle.ert_wheel.specs.FirstDue.{NoneDue, IsFirstDue}
+use Rattle.ert_wheel.specs.FirstDue.{NoRowDue, IsFirstRowDue}
 use Rattle.ert_wheel.specs.Rows.{key_in, key_of, times, due_at, comes_before, row_at}
 use Rattle.ert_wheel.specs.declared.row.Key.{Key}
 use Rattle.ert_wheel.specs.declared.row.Row.{Row as WheelRow}
@@ -230,7 +230,7 @@ module _ (g : Settings) (h : List Entry) (p : Part) (to : ℕ) (r : WheelRow) (r
 
 -- the first row that is due is that of the timer that is the next to expire
 pub first_next : (g : Settings) (h : List Entry) (p : Part) (to : ℕ) (r : WheelRow) → Stands g h p
-    → pos to ≡ down g ((state g h).looked (Sched p.number)) → IsFirstDue p.keys to r
+    → pos to ≡ down g ((state g h).looked (Sched p.number)) → IsFirstRowDue p.keys to r
     → IsNext g (state g h) (Sched p.number) (last_timer p.number p.slots r.slot)
 first_next g h p to r stands told first =
     next_of g h p to r stands told first.held first.due (λ n row at armed before low other.
@@ -239,7 +239,7 @@ first_next g h p to r stands told first =
     cc)
 
 -- where no row is due no armed timer is
-pub none_armed_due : (g : Settings) (h : List Entry) (p : Part) (to : ℕ) → Stands g h p → NoneDue p.keys to
+pub none_armed_due : (g : Settings) (h : List Entry) (p : Part) (to : ℕ) → Stands g h p → NoRowDue p.keys to
     → AllSettled (state g h).status (λ d. nat_le d to) ((state g h).rows p.number)
 none_armed_due g h p to stands none =
     settled_by (state g h).status (λ d. nat_le d to) ((state g h).rows p.number) (λ n row at test armed.

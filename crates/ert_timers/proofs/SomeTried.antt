@@ -27,7 +27,7 @@ use Rattle.ert_timers.specs.Parts.{HoldsSched, Part, Stands}
 use Rattle.ert_timers.specs.Trying.{HasDue, HasExpiredSome, HasRefusedSome, IsLooked, IsTriedSome, TriesRows, come_to}
 use Rattle.ert_wheel.proofs.Collect.{key_low}
 use Rattle.ert_wheel.proofs.Views.{counts_less}
-use Rattle.ert_wheel.specs.FirstDue.{NoneDue, IsFirstDue}
+use Rattle.ert_wheel.specs.FirstDue.{NoRowDue, IsFirstRowDue}
 use Rattle.ert_wheel.specs.Rows.{key_in, key_of}
 use Rattle.ert_wheel.specs.declared.row.Row.{Row as WheelRow}
 
@@ -56,11 +56,11 @@ row_counted p q row held keys =
     ap (λ ks. count_by is_some ks + 1) keys ∙ counts_less p.keys row.slot (key_of row) (key_low p.keys row.slot (key_of row) held) held
 
 -- the first row that is due is one that is
-pub has_due : (p : Part) (to : ℕ) (row : WheelRow) → IsFirstDue p.keys to row → HasDue p to
+pub has_due : (p : Part) (to : ℕ) (row : WheelRow) → IsFirstRowDue p.keys to row → HasDue p to
 has_due p to row first = record { slot = row.slot; key = key_of row; has = first.held; due = first.due }
 
 -- the end may be recorded where no row is due
-pub may_end_some : (g : Settings) (v : View) (p : Part) (to k : ℕ) → IsLooked g v.front p to → NoneDue p.keys to → HoldsSched v p.number
+pub may_end_some : (g : Settings) (v : View) (p : Part) (to k : ℕ) → IsLooked g v.front p to → NoRowDue p.keys to → HoldsSched v p.number
     → k ≡ p.number → MayStep g v (advanced_entry k to)
 may_end_some g v p to k looked none holds number =
     subst (λ n. MayStep g v (advanced_entry n to)) (sym number) (record {
@@ -132,11 +132,3 @@ module _ (g : Settings) (v : View) (p q : Part) (k most to : ℕ) (old mid new :
         (subst (λ actors. is_held actors (Sched p.number) ≡ true) (sym (some.done.call.actors ∙ looked.step.actors)) holds.sched) has
         ∙ (some.done.waits ∙ ap (λ l. l ++ some.done.gained) (waits_by g v look u p.number looked.step holds.sched has));
   }
-
--- there was no memory, and nothing was done
-pub refused_some : (g : Settings) (v : View) (w most : ℕ) (e : NoMemory) (old new : Queue) → Legal g v.front → new.rows ≡ old.rows
-    → HasRefusedSome g v w most e old new v
-refused_some g v w most e old new legal rows = record {
-  call = record { entries = []; allowed = inl refl; call = no_step g v legal };
-  fired = rows;
-}

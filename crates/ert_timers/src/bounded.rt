@@ -15,7 +15,7 @@ impl WheelPart {
     ghost use Rattle.ert_timers.specs.Parts.{HoldsSched, Stands};
     ghost use Rattle.ert_timers.specs.Passed.{LosesRows};
     ghost use Rattle.ert_timers.specs.Trying.{IsLooked, IsLeft, IsAdvancedSome, HasDue, IsTriedSome};
-    ghost use Rattle.ert_wheel.specs.FirstDue.{NoneDue};
+    ghost use Rattle.ert_wheel.specs.FirstDue.{NoRowDue};
 
     /// Advances as `advance` does, but tries so many timers at most, and tells whether more are due.
     ///
@@ -67,7 +67,7 @@ impl WheelPart {
         requires room { min most (count_by is_some self.old.keys) ≤ fired.old.room }
         ensures belongs { Belongs desk.now pass.new }
         ensures call { IsTriedSome (settings_of desk.now) (view_of pass.old) self.old self.new to most result fired.old fired.new (view_of pass.new) }
-        ensures left { MatchBool result (HasDue self.new to) (NoneDue self.new.keys to) }
+        ensures left { MatchBool result (HasDue self.new to) (NoRowDue self.new.keys to) }
     {
         let mut left = most;
         while let Some(row) = self.first_row_due(to) {

@@ -7,11 +7,11 @@ use Rattle.ert_wheel.specs.declared.row.Key.{Key}
 use Rattle.ert_wheel.specs.declared.row.Row.{Row}
 
 -- no row is due by a time
-abbrev pub NoneDue : List (Option Key) → ℕ → Type 0
-NoneDue keys to = (slot : ℕ) (key : Key) → key_in keys slot ≡ Some key → to < key.deadline
+abbrev pub NoRowDue : List (Option Key) → ℕ → Type 0
+NoRowDue keys to = (slot : ℕ) (key : Key) → key_in keys slot ≡ Some key → to < key.deadline
 
 -- a row is held and due by a time, and no row comes before it
-pub record IsFirstDue (keys : List (Option Key)) (to : ℕ) (row : Row) : Type 0 where
+pub record IsFirstRowDue (keys : List (Option Key)) (to : ℕ) (row : Row) : Type 0 where
   pub held : key_in keys row.slot ≡ Some (key_of row)
   pub due : row.deadline ≤ to
   pub first : (slot : ℕ) (key : Key) → key_in keys slot ≡ Some key → comes_before (row_at slot key) row ≡ false

@@ -84,14 +84,6 @@ mail_found before b d e q mails answer same is sound belongs made these next =
       },
     )
 
--- what is made by a call is made by another
-goes_as : (a c : Seen) (call other : Way → Growth) → Goes a call c → ((h m : List Entry) → call (way_of a) h m → other (way_of a) h m) → Goes a other c
-goes_as a c call other goes is =
-    went a c other (record { piece = goes.grows.piece; grown = goes.grows.grown; made = is a.history goes.grows.piece goes.grows.made })
-    goes.legal goes.table goes.settings goes.clock goes.next
-
--- none is taken yet
-pub took_none : (a : Seen) (process : ℕ) → Legal a.settings a.history → Goes a (λ way. TakesMails a.settings way process []) a
 took_none a process legal = goes_nothing a (λ (way : Way). TakesMails a.settings way process []) legal refl
 
 -- one more is
@@ -101,27 +93,3 @@ pub took_more : (a b c : Seen) (process : ℕ) (mails : List Mail) (mail : Mail)
 took_more a b c process mails mail answer is one other =
     goes_more a b c (λ (g : Settings) (way : Way) (m : Mail). way [] (Takes g 0 process (Took m))) mails mail one
     (subst (λ (t : Taken). Goes b (By b (λ g. Takes g 0 process t)) c) is other)
-
--- as many as may be
-pub took_most : (a b : Seen) (process most : ℕ) (mails : List Mail) → length mails ≡ most → Goes a (λ way. TakesMails a.settings way process mails) b
-    → Goes a (λ way. TakesSome a.settings way process most mails Most) b
-took_most a b process most mails all goes =
-    goes_as a b (λ (way : Way). TakesMails a.settings way process mails) (λ (way : Way). TakesSome a.settings way process most mails Most) goes (λ h m made. (all, made))
-
--- fewer, and then the mailbox was empty
-pub took_empty : (a b c : Seen) (process most : ℕ) (mails : List Mail) (answer : Taken) → answer ≡ Empty → length mails < most
-    → Goes a (λ way. TakesMails a.settings way process mails) b → Goes b (By b (λ g. Takes g 0 process answer)) c
-    → Goes a (λ way. TakesSome a.settings way process most mails FoundEmpty) c
-took_empty a b c process most mails answer is few one other =
-    goes_as a c _ (λ (way : Way). TakesSome a.settings way process most mails FoundEmpty)
-    (goes_then a b c (λ (way : Way). TakesMails a.settings way process mails) (λ (g : Settings) (way : Way). way [] (Takes g 0 process Empty)) one
-    (subst (λ (t : Taken). Goes b (By b (λ g. Takes g 0 process t)) c) is other)) (λ h m made. (few, made))
-
--- fewer, and then the process had exited
-pub took_exited : (a b c : Seen) (process most : ℕ) (mails : List Mail) (answer : Taken) → answer ≡ Exited → length mails < most
-    → Goes a (λ way. TakesMails a.settings way process mails) b → Goes b (By b (λ g. Takes g 0 process answer)) c
-    → Goes a (λ way. TakesSome a.settings way process most mails HadExited) c
-took_exited a b c process most mails answer is few one other =
-    goes_as a c _ (λ (way : Way). TakesSome a.settings way process most mails HadExited)
-    (goes_then a b c (λ (way : Way). TakesMails a.settings way process mails) (λ (g : Settings) (way : Way). way [] (Takes g 0 process Exited)) one
-    (subst (λ (t : Taken). Goes b (By b (λ g. Takes g 0 process t)) c) is other)) (λ h m made. (few, made))

@@ -8,14 +8,14 @@ impl WheelPart {
     ghost use Rattle.std.specs.Option.{is_some};
     ghost use Rattle.std.specs.Prelude.{◌≡◌, ◌≤◌, MatchOption, count_by, min};
     ghost use Rattle.ert_timers.specs.Trying.{come_to};
-    ghost use Rattle.ert_wheel.specs.FirstDue.{NoneDue, IsFirstDue};
+    ghost use Rattle.ert_wheel.specs.FirstDue.{NoRowDue, IsFirstRowDue};
 
     /// The first row, by deadline and then by start, where it is due at `to`; None where none is. The time of the wheel
     /// goes on with it.
     pub(crate) fn first_row_due(&mut self, to: u64) -> Option<Row>
         ensures part { self.new ≡ come_to self.old self.new.passed }
         ensures time { self.old.passed ≤ self.new.passed }
-        ensures row { MatchOption result (NoneDue self.old.keys to) (IsFirstDue self.old.keys to) }
+        ensures row { MatchOption result (NoRowDue self.old.keys to) (IsFirstRowDue self.old.keys to) }
     {
         self.wheel.first_due(to)
     }

@@ -8,7 +8,7 @@ use crate::walk::first_bucket;
 
 impl<T: Copy> Wheel<T> {
     ghost use Rattle.std.specs.Prelude.{◌≡◌, ◌≤◌, MatchOption, max};
-    ghost use Rattle.ert_wheel.specs.FirstDue.{NoneDue, IsFirstDue, IsReached};
+    ghost use Rattle.ert_wheel.specs.FirstDue.{NoRowDue, IsFirstRowDue, IsReached};
     ghost use Rattle.ert_wheel.specs.NextDue.{NoneBefore};
 
     /// The first row, by deadline and then by order, where its deadline is at most `to`; None exactly where no row is due
@@ -20,7 +20,7 @@ impl<T: Copy> Wheel<T> {
     /// Else the work is constant, but where rows were put in late since time moved on. Then it looks at the rows of the next
     /// time's bucket that are older than the first, and at all of them where a row is the first with its deadline.
     pub fn first_due(&mut self, to: u64) -> Option<Row>
-        ensures first { MatchOption result (NoneDue self.old.keys to) (IsFirstDue self.old.keys to) }
+        ensures first { MatchOption result (NoRowDue self.old.keys to) (IsFirstRowDue self.old.keys to) }
         ensures keys { self.new.keys ≡ self.old.keys }
         ensures owners { self.new.owners ≡ self.old.owners }
         ensures values { self.new.values ≡ self.old.values }
@@ -42,7 +42,7 @@ impl<T: Copy> Wheel<T> {
     #[inline]
     fn first_at(&self, time: u64) -> Option<Row>
         requires { NoneBefore self.now.keys time }
-        ensures { MatchOption result (time ≤ self.now.passed → NoneDue self.now.keys time) (IsFirstDue self.now.keys time) }
+        ensures { MatchOption result (time ≤ self.now.passed → NoRowDue self.now.keys time) (IsFirstRowDue self.now.keys time) }
     {
         oldest_due(
             &self.buckets,
@@ -55,7 +55,7 @@ impl<T: Copy> Wheel<T> {
     /// Lets time come to the least deadline, where that is at most `to`, and tells it; None exactly where no row is due by
     /// then.
     fn come_to(&mut self, to: u64) -> Option<u64>
-        ensures reached { MatchOption result (NoneDue self.old.keys to) (IsReached self.old.keys to self.new.passed) }
+        ensures reached { MatchOption result (NoRowDue self.old.keys to) (IsReached self.old.keys to self.new.passed) }
         ensures keys { self.new.keys ≡ self.old.keys }
         ensures owners { self.new.owners ≡ self.old.owners }
         ensures values { self.new.values ≡ self.old.values }

@@ -8,7 +8,7 @@ use Rattle.ert_timers.proofs.Dues.{first_next}
 use Rattle.ert_timers.proofs.Trials.{still_held}
 use Rattle.ert_timers.proofs.Trying.{tries_none, tries_more, looked_more}
 use Rattle.ert_timers.proofs.part.WheelPart.try_some.Goals as goal
-use Rattle.ert_wheel.specs.FirstDue.{IsFirstDue}
+use Rattle.ert_wheel.specs.FirstDue.{IsFirstRowDue}
 
 pub loop-row-init : goal.loop-row-init
 loop-row-init c =
@@ -54,7 +54,7 @@ expire-requires-clause-first c =
     looked_come_to (settings_of c.args.desk.now) (view_of c.loop-row.pass).front c.loop-row.self c.first_row_due.new.self c.args.to c.first_row_due.new.self.passed
     c.first_row_due.ensures.part c.loop-row.invariant.looked in
     first_next (settings_of c.args.desk.now) (view_of c.loop-row.pass).front c.first_row_due.new.self c.args.to c.in-Some.row looked.stands looked.told
-    (subst (λ (p : Part). IsFirstDue p.keys c.args.to c.in-Some.row) (sym c.first_row_due.ensures.part) c.in-Some.ensures.row)
+    (subst (λ (p : Part). IsFirstRowDue p.keys c.args.to c.in-Some.row) (sym c.first_row_due.ensures.part) c.in-Some.ensures.row)
 
 pub loop-row-preserved : goal.loop-row-preserved
 loop-row-preserved c =
@@ -64,8 +64,8 @@ loop-row-preserved c =
     let w = view_of c.expire.new.pass in
     let q = c.first_row_due.new.self in
     let part : q ≡ come_to c.loop-row.self q.passed = c.first_row_due.ensures.part in
-    let first : IsFirstDue q.keys c.args.to c.in-Some.row =
-    subst (λ (p : Part). IsFirstDue p.keys c.args.to c.in-Some.row) (sym part) c.in-Some.ensures.row in
+    let first : IsFirstRowDue q.keys c.args.to c.in-Some.row =
+    subst (λ (p : Part). IsFirstRowDue p.keys c.args.to c.in-Some.row) (sym part) c.in-Some.ensures.row in
     let looked = looked_come_to g u.front c.loop-row.self q c.args.to q.passed part c.loop-row.invariant.looked in
     let holds : HoldsSched u q.number = subst (λ (p : Part). HoldsSched u p.number) (sym part) c.loop-row.invariant.holds in
     let one = c.expire.ensures.call in

@@ -3,15 +3,15 @@ use Rattle.ert_wheel.proofs.Reaching.{is_reached, late_due, no_row_due}
 use Rattle.ert_wheel.proofs.Writes.{sees, keys_of, passed_of}
 use Rattle.ert_wheel.proofs.wheel.Wheel.come_to.Goals as goal
 use Rattle.ert_wheel.proofs.wheel.Wheel.come_to.Goals.{then-loop-self-test+else-time-to, else-loop-self-test}
-use Rattle.ert_wheel.specs.FirstDue.{NoneDue, IsReached}
+use Rattle.ert_wheel.specs.FirstDue.{NoRowDue, IsReached}
 use Rattle.ert_wheel.specs.Rows.{key_in}
 use Rattle.ert_wheel.specs.declared.row.Key.{Key}
 
 pub returns-in_err-time-2-clause-reached : goal.returns-in_err-time-2-clause-reached
 returns-in_err-time-2-clause-reached g c =
     let keys = c.args.self.now.keys in
-    subst (λ (o : Option ℕ). MatchOption o (NoneDue keys c.args.to) (IsReached keys c.args.to c.pass.new.self.passed)) (sym c.from_residual-in_err-time-2.ensures)
-    (subst (λ (ks : List (Option Key)). NoneDue ks c.args.to) (c.pass.ensures.keys ∙ c.loop-self.invariant.keys)
+    subst (λ (o : Option ℕ). MatchOption o (NoRowDue keys c.args.to) (IsReached keys c.args.to c.pass.new.self.passed)) (sym c.from_residual-in_err-time-2.ensures)
+    (subst (λ (ks : List (Option Key)). NoRowDue ks c.args.to) (c.pass.ensures.keys ∙ c.loop-self.invariant.keys)
     (no_row_due c.pass.new.self.keys c.args.to c.in_err-time-2.ensures))
 
 pub loop-self-smaller : goal.loop-self-smaller
@@ -30,7 +30,7 @@ loop-self-smaller g c =
 
 pub returns-then-time-to-2-clause-reached : goal.returns-then-time-to-2-clause-reached
 returns-then-time-to-2-clause-reached g c =
-    subst (λ (ks : List (Option Key)). NoneDue ks c.args.to) c.loop-self.invariant.keys
+    subst (λ (ks : List (Option Key)). NoRowDue ks c.args.to) c.loop-self.invariant.keys
     (late_due c.loop-self.self.keys c.loop-self.time c.args.to c.loop-self.invariant.told.none_before c.if-time-to-2.true)
 
 pub invariant_of-self : goal.invariant_of-self
