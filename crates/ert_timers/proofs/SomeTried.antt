@@ -1,15 +1,13 @@
 -- An advance that tries so many timers at most.
 
-use Rattle.std.proofs.Common.{◌≡◌, ℕ, ◌+◌, ◌≤◌, true, false, ◌||◌, nat_eq, count_by, List, [], ◌∷◌, ◌++◌, set, Some, None, inl, refl, sym, ap, subst, ◌∙◌, append-nil}
+use Rattle.std.proofs.Common.{◌≡◌, ℕ, ◌+◌, ◌≤◌, true, false, ◌||◌, nat_eq, count_by, List, [], ◌∷◌, ◌++◌, set, Some, None, refl, sym, ap, subst, ◌∙◌, append-nil}
 use Rattle.std.specs.Option.{is_some}
 use Rattle.ert_calls.proofs.Looks.{look_stepped}
 use Rattle.ert_defs.specs.Entries.{look_entry, advanced_entry}
-use Rattle.ert_defs.specs.Legal.{Legal}
 use Rattle.ert_defs.specs.Milliseconds.{down}
 use Rattle.ert_defs.specs.States.{state}
 use Rattle.ert_defs.specs.declared.entry.Actor.TheVariants.{Sched}
 use Rattle.ert_defs.specs.declared.entry.Entry.{Entry}
-use Rattle.ert_defs.specs.declared.memory.NoMemory.{NoMemory}
 use Rattle.ert_defs.specs.declared.settings.Settings.{Settings}
 use Rattle.ert_effects.specs.WheelCalls.{AllDue, expiry_entries}
 use Rattle.ert_table.proofs.Calls.{step_takes_place, takes_place_then}
@@ -20,11 +18,11 @@ use Rattle.ert_timers.proofs.Dues.{none_armed_due}
 use Rattle.ert_timers.proofs.Later.{later_step}
 use Rattle.ert_timers.proofs.Tried.{self, waits_by}
 use Rattle.ert_timers.proofs.Trials.{looked_stands}
-use Rattle.ert_timers.proofs.Trying.{no_step, stands_come_to, tries_come_to}
+use Rattle.ert_timers.proofs.Trying.{stands_come_to, tries_come_to}
 use Rattle.ert_timers.specs.FiredLists.{Queue}
 use Rattle.ert_timers.specs.Looking.{LooksDown}
 use Rattle.ert_timers.specs.Parts.{HoldsSched, Part, Stands}
-use Rattle.ert_timers.specs.Trying.{HasDue, HasExpiredSome, HasRefusedSome, IsLooked, IsTriedSome, TriesRows, come_to}
+use Rattle.ert_timers.specs.Trying.{HasDue, HasExpiredSome, IsLooked, IsTriedSome, TriesRows, come_to}
 use Rattle.ert_wheel.proofs.Collect.{key_low}
 use Rattle.ert_wheel.proofs.Views.{counts_less}
 use Rattle.ert_wheel.specs.FirstDue.{NoneDue, IsFirstDue}
@@ -132,11 +130,3 @@ module _ (g : Settings) (v : View) (p q : Part) (k most to : ℕ) (old mid new :
         (subst (λ actors. is_held actors (Sched p.number) ≡ true) (sym (some.done.call.actors ∙ looked.step.actors)) holds.sched) has
         ∙ (some.done.waits ∙ ap (λ l. l ++ some.done.gained) (waits_by g v look u p.number looked.step holds.sched has));
   }
-
--- there was no memory, and nothing was done
-pub refused_some : (g : Settings) (v : View) (w most : ℕ) (e : NoMemory) (old new : Queue) → Legal g v.front → new.rows ≡ old.rows
-    → HasRefusedSome g v w most e old new v
-refused_some g v w most e old new legal rows = record {
-  call = record { entries = []; allowed = inl refl; call = no_step g v legal };
-  fired = rows;
-}

@@ -1,12 +1,12 @@
 -- The first due row, and how time comes to its deadline.
 
-use Rattle.std.proofs.Common.{◌≡◌, ℕ, ◌<◌, ◌≤◌, false, max, List, Option, Some, None, IfSome, MatchOption, sym, subst, ◌∙◌, ap, inl, inr, refl, arith}
+use Rattle.std.proofs.Common.{◌≡◌, ℕ, ◌<◌, ◌≤◌, false, max, List, Option, Some, None, MatchOption, sym, subst, ◌∙◌, ap, inl, inr, arith}
 use Rattle.std.proofs.lemmas.Bool.{cases_eq, cases_lt}
 use Rattle.std.proofs.lemmas.Bool.Decides.{nat_tests}
 use Rattle.ert_wheel.specs.FirstDue.{NoneDue, IsFirstDue, IsReached, NoneDueIn, IsOldestDue}
 use Rattle.ert_wheel.specs.NextDue.{NoRow, NoneBefore, IsNextDue}
 use Rattle.ert_wheel.specs.Rings.{Rings, AreChains}
-use Rattle.ert_wheel.specs.Rows.{key_in, key_of, row_at, comes_before}
+use Rattle.ert_wheel.specs.Rows.{key_of, row_at, comes_before}
 use Rattle.ert_wheel.specs.Wheels.{held_keys, bucket_of, home_by, places, IsWheel}
 use Rattle.ert_wheel.specs.declared.row.Key.{Key}
 use Rattle.ert_wheel.specs.declared.row.Row.{Row}
@@ -18,10 +18,6 @@ not_before x y late order =
       | inl e ↦ let more : y.order ≤ x.order = order e in grind (arith, nat_tests)
       | inr ne ↦ let more : y.deadline < x.deadline = omega (arith, ne) in grind (arith, nat_tests)
     ]
-
--- and then it isn't due earlier
-not_earlier : (x y : Row) → comes_before x y ≡ false → y.deadline ≤ x.deadline
-not_earlier x y behind = grind (arith, nat_tests)
 
 -- the oldest row that is due at a time before which none is, is the first of all
 first_found : (next time bucket : ℕ) (keys : List (Option Key)) (row : Row) → NoneBefore keys time
@@ -63,30 +59,7 @@ sees_first {next = next} {bucket = bucket} {keys = keys} {chains = chains} time 
     (subst (λ (ks : List (Option Key)). MatchOption answer (NoneDueIn ks (home_by next) bucket time) (IsOldestDue ks (home_by next) bucket time)) is
     (looks (home_by next) (subst (λ (ks : List (Option Key)). AreChains chains (places (home_by next) ks)) (sym is) w.are)))
 
--- the first row may be due by another time, or not
-pub due_by : (keys : List (Option Key)) (time to : ℕ) (row : Row) → IsFirstDue keys time row → row.deadline ≤ to → IsFirstDue keys to row
-due_by keys time to row f due = record { held = f.held; due = due; first = f.first }
-
-pub none_by : (keys : List (Option Key)) (time to : ℕ) (row : Row) → IsFirstDue keys time row → to < row.deadline → NoneDue keys to
-none_by keys time to row f late = λ slot key has. omega (arith, late, not_earlier (row_at slot key) row (f.first slot key has))
-
--- where time has come to the least deadline there is a first row
-pub reached_first : (keys : List (Option Key)) (to passed least : ℕ) (answer : Option Row) → IsReached keys to passed least
-    → MatchOption answer (least ≤ passed → NoneDue keys least) (IsFirstDue keys least)
-    → MatchOption answer (NoneDue keys to) (IsFirstDue keys to)
-reached_first keys to passed least None r told =
-    absurd (omega (arith, told r.on r.due.slot r.due.key r.due.has, r.due.at))
-reached_first keys to passed least (Some row) r told = due_by keys least to row told (omega (arith, told.due, r.by))
-
--- none is due before a time, so each row is due later than an earlier one
-pub later_each : (keys : List (Option Key)) (time earlier : ℕ) → NoneBefore keys time → earlier < time → (slot : ℕ)
-    → IfSome (key_in keys slot) (λ key. earlier < key.deadline)
-later_each keys time earlier none less slot = at (key_in keys slot) (λ key is. omega (arith, less, none slot key is))
-  where
-    at : (o : Option Key) → ((key : Key) → o ≡ Some key → earlier < key.deadline) → IfSome o (λ key. earlier < key.deadline)
-    at None each = tt
-    at (Some key) each = each key refl
-
+-- without a row none is due, and none is that is due later
 pub no_row_due : (keys : List (Option Key)) (to : ℕ) → NoRow keys → NoneDue keys to
 no_row_due keys to none = λ slot key has. (let bad : None ≡ Some key = sym (none slot) ∙ has in cc)
 
