@@ -313,7 +313,7 @@ typedef struct {
     uint32_t fired;
     uint32_t put;
     uint32_t dropped;
-    uint32_t more; /* 1 if expired timers are left, which the next turn delivers, otherwise 0 */
+    uint32_t more; /* 1 if timers are left that are due or have expired, otherwise 0 */
 } ert_turned_some;
 
 /* The kinds of messages. */
@@ -696,12 +696,18 @@ int32_t ert_world_deliver(ert_world *world, uint32_t sched, ert_delivered *deliv
 int32_t ert_world_turn(ert_world *world, uint32_t sched, ert_turned *turned);
 
 /*
- * Makes a turn of a scheduler that delivers at most `most` expired timers.
+ * Makes a turn of a scheduler in which at most `most` timers expire and at most `most` expired timers are delivered.
  *
- * A loop in which very many timers can be due at once delivers them in several passes, and handles its input between
- * them. Writes what it did to `turned`: `more` is 1 if expired timers are left, and then the loop should not sleep. The
- * next turn delivers them first, in their order. The bound is on deliveries alone: the turn serves up to 64 requests
- * and expires every timer that is due, as ert_world_turn does.
+ * A loop in which very many timers can be due at once takes them in several passes, and handles its input between them.
+ * Writes what it did to `turned`: `more` is 1 if timers are left that are due by `to` or have expired, and then the loop
+ * should not sleep. The next turn goes on with them, in order of deadline and then of start. If `more` is 0, no timer of
+ * the wheel is due by `to`, as after ert_world_turn. The turn serves up to 64 requests, as ert_world_turn does. With
+ * `most` 0 it tells whether timers are due.
+ *
+ * The work is in proportion to `most`, with two exceptions. Where a window begins (of 512 milliseconds, of 512 times
+ * that, and so on), each timer whose deadline is in it is moved, which costs less than an expiry. And timers that were
+ * started when their deadline had passed are all looked at once for each deadline among them, and more often if they
+ * were not started in order of deadline.
  *
  * ERT_NO_MEMORY: as of ert_world_turn. ERT_RANGE: there is no such scheduler. ERT_CLOSED.
  */

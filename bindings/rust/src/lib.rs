@@ -636,8 +636,8 @@ impl World {
         Ok(turned)
     }
 
-    /// Makes a turn of a scheduler that delivers so many expired timers at most, and returns whether more are left: the
-    /// next turn delivers them first. Every timer that is due expires, however many there are.
+    /// Makes a turn of a scheduler in which so many timers at most expire and so many at most are delivered, and returns
+    /// whether more are due or have expired: the next turn goes on with them, in their order.
     pub fn turn_some(&mut self, sched: u32, most: u32) -> Result<(Turned, bool), Error> {
         let mut some = ffi::ert_turned_some::default();
         done(unsafe { ffi::ert_world_turn_some(&mut *self.handle, sched, most, &mut some) })?;

@@ -1,7 +1,7 @@
 -- What a service does by the calls that give a timer a new deadline, tell how much waits, and hand over or take so many
 -- messages at most, and how C is told the answers.
 
-use Rattle.std.specs.Prelude.{◌≡◌, ℕ, ℤ, Bool, length, Result, Ok, Err, IfOk}
+use Rattle.std.specs.Prelude.{◌≡◌, ℕ, ℤ, Bool, false, length, Result, Ok, Err, IfOk}
 use Rattle.ert_defs.specs.States.{state}
 use Rattle.ert_defs.specs.declared.memory.NoMemory.{NoMemory as WantOfMemory}
 use Rattle.ert_defs.specs.declared.timer.Start.{Start}
@@ -51,12 +51,12 @@ pub record TellsMail (process answer : ℕ) (old new : Seen) : Type 0 where
   pub waiting : answer ≡ length ((state old.settings old.history).mails process).queue
   pub unchanged : new ≡ old
 
--- a scheduler makes a turn that hands over so many expired timers at most: what it did and whether more wait, or want of
--- memory
+-- a scheduler makes a turn in which so many timers at most expire and are handed over: what it did and whether there are
+-- more, or want of memory
 pub record TurnsSomeBy (sched most : ℕ) (answer : Result (Turned × Bool) WantOfMemory) (old new : Seen) : Type 0 where
   pub makes : Makes (λ w way. TurnsSome w.settings way sched most answer) old new
   pub stays : Stays old new
-  pub passed : IfOk answer (λ done. HasPassedAt new sched done.0.to)
+  pub passed : IfOk answer (λ done. done.1 ≡ false → HasPassedAt new sched done.0.to)
 
 -- what such a turn did, for C
 abbrev pub turned_some_as : Turned × Bool → ErtTurnedSome

@@ -55,7 +55,7 @@ pub extern "C" fn ert_world_mail_count(world: &mut ErtWorld, process: u32, count
     tell_count(answer, count)
 }
 
-/// Makes a turn of a scheduler that hands over so many expired timers at most.
+/// Makes a turn of a scheduler in which so many timers at most expire, and so many at most are handed over.
 #[unsafe(no_mangle)]
 pub extern "C" fn ert_world_turn_some(
     world: &mut ErtWorld,

@@ -109,7 +109,7 @@ fn a_timer_is_restarted(rt: HostRuntime) -> Result<(), NoMemory> {
     Ok(())
 }
 
-/// A turn hands over so many at most, and the next ones the rest.
+/// A turn lets so many expire at most and hands them over, and the next ones the rest.
 #[test]
 fn a_turn_has_a_bound(rt: HostRuntime) -> Result<(), NoMemory> {
     let mut world = open(&rt, rt.alloc(), &EIGHT_SLOTS)?;
@@ -120,10 +120,10 @@ fn a_turn_has_a_bound(rt: HostRuntime) -> Result<(), NoMemory> {
         Call::Step(Step::Start(soon, 0, 3, Ok(timer(5, 1)))),
         Call::Waiting([3, 0, 0, 0]),
         Call::Step(until(1_000_000)),
-        Call::TurnSome(2, (1, 3, 2), true),
-        Call::Waiting([0, 1, 2, 0]),
+        Call::TurnSome(2, (1, 2, 2), true),
+        Call::Waiting([1, 0, 2, 0]),
         Call::TurnSome(0, (1, 0, 0), true),
-        Call::TurnSome(1, (1, 0, 1), false),
+        Call::TurnSome(1, (1, 1, 1), false),
         Call::Waiting([0, 0, 3, 0]),
     ];
     go(&rt, &mut world, &calls);

@@ -1,12 +1,12 @@
 -- The first due row, and how time comes to its deadline.
 
-use Rattle.std.proofs.Common.{◌≡◌, ℕ, ◌<◌, ◌≤◌, false, max, List, Option, Some, None, IfSome, MatchOption, sym, subst, ◌∙◌, ap, inl, inr, refl, arith}
+use Rattle.std.proofs.Common.{◌≡◌, ℕ, ◌<◌, ◌≤◌, false, max, List, Option, Some, None, MatchOption, sym, subst, ◌∙◌, ap, inl, inr, arith}
 use Rattle.std.proofs.lemmas.Bool.{cases_eq, cases_lt}
 use Rattle.std.proofs.lemmas.Bool.Decides.{nat_tests}
 use Rattle.ert_wheel.specs.FirstDue.{NoRowDue, IsFirstRowDue, IsReached, NoneDueIn, IsOldestDue}
 use Rattle.ert_wheel.specs.NextDue.{NoRow, NoneBefore, IsNextDue}
 use Rattle.ert_wheel.specs.Rings.{Rings, AreChains}
-use Rattle.ert_wheel.specs.Rows.{key_in, key_of, row_at, comes_before}
+use Rattle.ert_wheel.specs.Rows.{key_of, row_at, comes_before}
 use Rattle.ert_wheel.specs.Wheels.{held_keys, bucket_of, home_by, places, IsWheel}
 use Rattle.ert_wheel.specs.declared.row.Key.{Key}
 use Rattle.ert_wheel.specs.declared.row.Row.{Row}
@@ -59,6 +59,7 @@ sees_first {next = next} {bucket = bucket} {keys = keys} {chains = chains} time 
     (subst (λ (ks : List (Option Key)). MatchOption answer (NoneDueIn ks (home_by next) bucket time) (IsOldestDue ks (home_by next) bucket time)) is
     (looks (home_by next) (subst (λ (ks : List (Option Key)). AreChains chains (places (home_by next) ks)) (sym is) w.are)))
 
+-- without a row none is due, and none is that is due later
 pub no_row_due : (keys : List (Option Key)) (to : ℕ) → NoRow keys → NoRowDue keys to
 no_row_due keys to none = λ slot key has. (let bad : None ≡ Some key = sym (none slot) ∙ has in cc)
 

@@ -8,6 +8,8 @@
 
 #define MILLISECOND INT64_C(1000000)
 #define TIMERS 10
+#define MANY 65536
+#define PIECE 256
 
 static int failed;
 
@@ -150,15 +152,15 @@ static void bounded_turns(void) {
     tick(&world, 5);
     IS(ert_world_turn_some(&world, 0, 0, &some), ERT_OK);
     IS(some.to, 5);
-    IS(some.fired, TIMERS - 1);
+    IS(some.fired, 0);
     IS(some.put, 0);
     IS(some.more, 1);
-    IS(held(&world), 0);
     for (uint32_t done = 0; done < TIMERS - 1; done += 3) {
-        IS(expired(&world), TIMERS - 1 - done);
+        IS(held(&world), TIMERS - 1 - done);
         IS(in_mailbox(&world, 0), done);
         IS(ert_world_turn_some(&world, 0, 3, &some), ERT_OK);
-        IS(some.fired, 0);
+        IS(expired(&world), 0);
+        IS(some.fired, 3);
         IS(some.put, 3);
         IS(some.dropped, 0);
         IS(some.more, done + 3 < TIMERS - 1);
@@ -174,6 +176,72 @@ static void bounded_turns(void) {
     IS(in_mailbox(&world, 1), 0);
     IS(ert_world_advance(&world, 0, &advanced), ERT_OK);
     IS(expired(&world), 0);
+    IS(ert_world_close(&world), ERT_OK);
+}
+
+/* Very many timers that are due at once are handed over in pieces, in order, each once. */
+static void many_at_once(void) {
+    ert_world world = ERT_INIT;
+    ert_timer timer;
+    ert_turned_some some;
+    ert_mail mail;
+    uint64_t due = 7;
+    opened(&world, MANY);
+    for (uint32_t it = 0; it < MANY; it += 1) {
+        ert_start start = {.when = 5000, .msg = it, .dest = 0};
+        if (ert_world_start(&world, 0, &start, &timer) != ERT_OK) {
+            IS(it, MANY);
+            break;
+        }
+    }
+    tick(&world, 5000);
+    for (uint32_t done = 0; done < MANY; done += PIECE) {
+        IS(ert_world_turn_some(&world, 0, PIECE, &some), ERT_OK);
+        IS(some.to, 5000);
+        IS(some.fired, PIECE);
+        IS(some.put, PIECE);
+        IS(some.more, done + PIECE < MANY);
+        IS(held(&world), MANY - PIECE - done);
+        for (uint32_t it = 0; it < PIECE; it += 1) {
+            IS(ert_world_take(&world, 0, &mail), ERT_OK);
+            IS(mail.msg, done + it);
+        }
+        IS(in_mailbox(&world, 0), 0);
+    }
+    IS(ert_world_next_due(&world, 0, &due), ERT_EMPTY);
+    IS(ert_world_turn_some(&world, 0, PIECE, &some), ERT_OK);
+    IS(some.fired, 0);
+    IS(some.more, 0);
+    IS(ert_world_close(&world), ERT_OK);
+}
+
+/* Timers whose deadlines had passed when they were started, and others in windows of their own, come in order of deadline,
+ * and those of one deadline in order of start. */
+static void late_ones_in_order(void) {
+    static const int64_t deadlines[] = {9, 3, 600, 7, 3, 10, 300000, 512, 11};
+    static const uint64_t order[] = {1, 4, 3, 0, 5, 8, 7, 2, 6};
+    enum { COUNT = sizeof order / sizeof order[0] };
+    ert_world world = ERT_INIT;
+    ert_timer timer;
+    ert_turned turned;
+    ert_turned_some some;
+    ert_mail mail;
+    opened(&world, COUNT);
+    tick(&world, 10);
+    IS(ert_world_turn(&world, 0, &turned), ERT_OK);
+    for (uint32_t it = 0; it < COUNT; it += 1) {
+        ert_start start = {.when = deadlines[it], .absolute = 1, .msg = it, .dest = 0};
+        IS(ert_world_start(&world, 0, &start, &timer), ERT_OK);
+    }
+    tick(&world, 300000);
+    for (uint32_t done = 0; done < COUNT; done += 1) {
+        IS(ert_world_turn_some(&world, 0, 1, &some), ERT_OK);
+        IS(some.fired, 1);
+        IS(some.put, 1);
+        IS(some.more, done + 1 < COUNT);
+        IS(ert_world_take(&world, 0, &mail), ERT_OK);
+        IS(mail.msg, order[done]);
+    }
     IS(ert_world_close(&world), ERT_OK);
 }
 
@@ -327,6 +395,8 @@ int main(void) {
     refusals();
     restarts();
     bounded_turns();
+    many_at_once();
+    late_ones_in_order();
     beside_a_seat();
     mail_is_found();
     loop_ends();

@@ -1,4 +1,4 @@
-use Rattle.std.proofs.Common.{◌≡◌, ◌≤◌, ℕ, pos, true, false, List, [], ◌∷◌, ◌++◌, length, None, refl, sym, ap, arith, lit≤}
+use Rattle.std.proofs.Common.{◌≡◌, ◌≤◌, pos, true, List, [], ◌∷◌, ◌++◌, length, None, refl, arith, lit≤}
 use Rattle.ert_defs.specs.Entries.{look_entry}
 use Rattle.ert_defs.specs.States.{state}
 use Rattle.ert_defs.specs.Timers.{Row}
