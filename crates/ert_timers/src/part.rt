@@ -13,6 +13,7 @@ use std::marker::Model;
 use std::mem;
 
 mod changes;
+mod renewing;
 
 /// From how many milliseconds on a wait is long, some 70 minutes.
 const LONG_WAIT: u64 = 1 << 22;

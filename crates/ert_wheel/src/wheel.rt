@@ -9,6 +9,8 @@ use ert_defs::NoMemory;
 use std::alloc::Global;
 use std::marker::Model;
 
+mod replacing;
+
 /// A timing wheel of levels: rows by their slots, and the due ones in order of deadline. Beside these it has a value
 /// of each slot, and a chain of slots for each owner.
 ///
