@@ -23,7 +23,7 @@ pub set_none : (keys : List (Option Key)) (k : ℕ) → key_in keys k ≡ None �
 set_none keys k vacant = subst (λ key. set keys k key ≡ keys) vacant (set-get_or keys k None)
 
 -- the row of a slot goes, and the slot stays in its chain
-pub fit_dropped : (processes : ℕ) (slots : List Slot) (keys : List (Option Key)) (free : FreeSet) (owners : Rings) (a x o k : ℕ) (key : Key)
+unfoldable pub fit_dropped : (processes : ℕ) (slots : List Slot) (keys : List (Option Key)) (free : FreeSet) (owners : Rings) (a x o k : ℕ) (key : Key)
     → AreFit processes slots keys free owners a x o → key_in keys k ≡ Some key
     → AreFit processes slots (set keys k None) free owners a x o
 fit_dropped processes slots keys free owners a x o k key fit held =
@@ -56,6 +56,13 @@ fit_dropped processes slots keys free owners a x o k key fit held =
           | inl same ↦ ap (key_in (set keys k None)) same ∙ get_or-set_same keys k None None low
           | inr other ↦ get_or-set_other keys k j None None other ∙ vacant
         ]
+
+-- so the places are as they were
+pub same_places : (processes : ℕ) (slots : List Slot) (keys : List (Option Key)) (free : FreeSet) (owners : Rings) (a x o k : ℕ) (key : Key)
+    (fit : AreFit processes slots keys free owners a x o) (held : key_in keys k ≡ Some key)
+    → fit.chained.places ≡ (fit_dropped processes slots keys free owners a x o k key fit held).chained.places
+unfolding fit_dropped
+same_places processes slots keys free owners a x o k key fit held = refl
 
 -- with other chains
 pub fit_owned : (processes : ℕ) (slots : List Slot) (keys : List (Option Key)) (free : FreeSet) (owners new : Rings) (a x o : ℕ)

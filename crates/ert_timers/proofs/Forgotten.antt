@@ -30,18 +30,25 @@ stands_reused g h p k stands low none = record {
 }
 
 -- and without the row of a timer that isn't armed
-pub forgot : (g : Settings) (h : List Entry) (p : Part) (k : ℕ) (key : Key) → Stands g h p → k < length p.slots → key_in p.keys k ≡ Some key
-    → (state g h).status (last_timer p.number p.slots k) ≢ Some Armed → Stands g h (reused (dropped p k) k)
-forgot g h p k key stands in_range held settled =
+pub stands_dropped : (g : Settings) (h : List Entry) (p : Part) (k : ℕ) (key : Key) → Stands g h p → key_in p.keys k ≡ Some key
+    → (state g h).status (last_timer p.number p.slots k) ≢ Some Armed → Stands g h (dropped p k)
+stands_dropped g h p k key stands held settled =
     let s : State = state g h in
     let low : k < length p.keys = key_low p.keys k key held in
     let later = same_state p.number s in
-    stands_reused g h (dropped p k) k (record {
+    record {
       checked = stands.checked;
       legal = stands.legal;
       holds = holds_with g s s p (set p.keys k None) p.expires p.orphans stands.holds later (omega arith) (length-set p.keys k None)
           (rows_dropped g h p.number p.slots p.keys s stands.legal stands.holds.rows later k low settled
           (λ j seen is. stands.holds.rows.live j seen (key_left p.keys k j seen low is).1));
       counted = record { arms = stands.counted.arms; expires = stands.counted.expires; orphans = stands.counted.orphans };
-    }) in_range (takes_none (s.status (last_timer p.number p.slots k)) settled
+    }
+
+pub forgot : (g : Settings) (h : List Entry) (p : Part) (k : ℕ) (key : Key) → Stands g h p → k < length p.slots → key_in p.keys k ≡ Some key
+    → (state g h).status (last_timer p.number p.slots k) ≢ Some Armed → Stands g h (reused (dropped p k) k)
+forgot g h p k key stands in_range held settled =
+    let s : State = state g h in
+    stands_reused g h (dropped p k) k (stands_dropped g h p k key stands held settled) in_range
+    (takes_none (s.status (last_timer p.number p.slots k)) settled
     (live_unexpired (s.status (last_timer p.number p.slots k)) (stands.holds.rows.live k key held)))

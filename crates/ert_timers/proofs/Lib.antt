@@ -24,6 +24,7 @@ pub mod Roomed
 pub mod Swept
 pub mod Settled
 pub mod Forgotten
+pub mod Anew
 pub mod LawsHold
 pub mod Counted
 pub mod Cancelled

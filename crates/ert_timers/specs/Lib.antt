@@ -11,6 +11,7 @@ pub mod NextDue
 pub mod Owners
 pub mod Parts
 pub mod Passed
+pub mod Restarting
 pub mod Rooms
 pub mod Slots
 pub mod Starting

@@ -41,6 +41,7 @@
 //! | call | what it does | work |
 //! |---|---|---|
 //! | `start` | looks at the time, stores the word of a free slot, asks whether the destination has exited | constant; `MOST_LOOKS` slots at most where none is held free |
+//! | `start_again` | starts a timer in the place of one that was settled just before, whose slot takes it at once | as `start` |
 //! | `advance` | looks at the time, and tries each due timer in order of deadline and then of start | the due timers and the buckets that are visited |
 //! | `advance_some` | does so with so many timers at most, and tells whether more are due | the timers that it tries, one bucket where a window begins, and late timers (`ert_wheel`, `Wheel::first_due`) |
 //! | `sweep` | tries each timer of a process that has exited | those timers, each once |
@@ -78,6 +79,7 @@ mod held_for;
 mod laws;
 mod looking;
 mod part;
+mod restarting;
 mod room;
 mod sleeping;
 mod slot;
@@ -90,4 +92,5 @@ pub use laws::{
     calls_leave_other_parts, cancels_leave_other_timers_tidy, parts_stand_on,
     tidy_parts_hold_what_is_armed,
 };
+pub use looking::{Forecast, foresee};
 pub use part::{Tally, WheelPart};

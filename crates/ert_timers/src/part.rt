@@ -14,6 +14,7 @@ use std::mem;
 
 mod changes;
 mod due;
+mod renewing;
 
 /// From how many milliseconds on a wait is long, some 70 minutes.
 const LONG_WAIT: u64 = 1 << 22;

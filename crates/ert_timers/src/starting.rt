@@ -180,7 +180,7 @@ impl WheelPart {
 
     /// Cancels a timer that has just been armed, where its destination is seen to have exited.
     #[inline(always)]
-    fn end(
+    pub(crate) fn end(
         &mut self,
         desk: &Desk,
         pass: &mut Pass,

@@ -91,7 +91,7 @@ pub with_place_there : (places : ℕ → Option Place) (slot : ℕ) (place : Opt
     → with_place places slot place x ≡ places x
 with_place_there places slot place x ne = ap (λ b. cond b place (places x)) (ne_eqb x slot ne)
 
-changed_at : {A : Type 0} (slots : ℕ) (of_place : Option Place → A) (of_head : ℕ → A)
+pub changed_at : {A : Type 0} (slots : ℕ) (of_place : Option Place → A) (of_head : ℕ → A)
     (places : ℕ → Option Place) (slot : ℕ) (place : Option Place) → slot < slots
     → Changed (by_node slots of_place of_head places) (by_node slots of_place of_head (with_place places slot place)) slot (of_place place)
 changed_at slots of_place of_head places slot place low = record {
@@ -103,7 +103,7 @@ changed_at slots of_place of_head places slot place low = record {
 }
 
 -- who has a place after one was given
-has_place : (places : ℕ → Option Place) (slot : ℕ) (new : Place) (j : ℕ) (p : Place)
+pub has_place : (places : ℕ → Option Place) (slot : ℕ) (new : Place) (j : ℕ) (p : Place)
     → with_place places slot (Some new) j ≡ Some p
     → ((j ≡ slot) × (new ≡ p)) ⊎ ((j ≢ slot) × (places j ≡ Some p))
 has_place places slot new j p h =

@@ -1,6 +1,6 @@
 -- A wheel's keys as they are held, and its chains after a key was written.
 
-use Rattle.std.proofs.Common.{◌≡◌, ◌≢◌, ◌⊎◌, ℕ, ◌+◌, ◌<◌, ◌≤◌, cond, List, Option, Some, None, length, get_or, set, count_by, sym, subst, ◌∙◌, ap, inl, inr, refl, arith, get_or-set_same, get_or-set_other}
+use Rattle.std.proofs.Common.{◌≡◌, ◌≢◌, ◌⊎◌, ℕ, ◌+◌, ◌<◌, ◌≤◌, cond, List, Option, Some, None, length, get_or, set, count_by, true, sym, subst, ◌∙◌, ap, inl, inr, refl, arith, get_or-set_same, get_or-set_other}
 use Rattle.std.proofs.lemmas.Bool.{cases_eq, cases_lt, eq-eqb, ne_eqb}
 use Rattle.std.proofs.lemmas.List.{get_or_default, length-set}
 use Rattle.std.proofs.lemmas.List.FromFn.{fill_by_all, get_or-map-range_with_len, length-map-range_with_len}
@@ -161,3 +161,10 @@ pub counts_less : (keys : List (Option Key)) (slot : ℕ) (key : Key) → slot <
 counts_less keys slot key low held =
     let e : ◌≡◌ {A = ℕ} (cond (is_some (key_in keys slot)) 1 0) 1 = ap (λ (o : Option Key). cond (is_some o) 1 0) held in
     omega (arith, counts_set keys slot None low)
+
+-- as many
+pub counts_same : (keys : List (Option Key)) (slot : ℕ) (key : Key) → slot < length keys → is_some (key_in keys slot) ≡ true
+    → count_by is_some (set keys slot (Some key)) ≡ count_by is_some keys
+counts_same keys slot key low held =
+    let e : ◌≡◌ {A = ℕ} (cond (is_some (key_in keys slot)) 1 0) 1 = ap (λ b. cond b 1 0) held in
+    omega (arith, counts_set keys slot (Some key) low)

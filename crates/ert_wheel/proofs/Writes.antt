@@ -71,7 +71,7 @@ may_put {next = next} {seen = seen} s low vacant in_range = record {
 }
 
 -- the orders that are held are below that of a newest row
-orders_below : (home : Key → ℕ) (keys : List (Option Key)) (order : ℕ)
+pub orders_below : (home : Key → ℕ) (keys : List (Option Key)) (order : ℕ)
     → ((j : ℕ) → IfSome (key_in keys j) (λ key. key.order < order)) → (j : ℕ) (p : Place)
     → places home keys j ≡ Some p → p.order < order
 orders_below home keys order newest j p h =

@@ -92,6 +92,13 @@ PutsInHome old new slot home =
     → ((j : ℕ) (p : Place) → places j ≡ Some p → p.home ≡ home → p.order < order)
     → AreChains new (with_place places slot (Some (record { home = home; order = order })))
 
+-- in every assignment that fits, the slot gets this home, with any order above all, whether it had a place or not
+abbrev pub Moves : Rings → Rings → ℕ → ℕ → Type 0
+Moves old new slot home =
+    (places : ℕ → Option Place) (order : ℕ) → AreChains old places → order < 2 ^ 64
+    → ((j : ℕ) (p : Place) → places j ≡ Some p → p.order < order)
+    → AreChains new (with_place places slot (Some (record { home = home; order = order })))
+
 -- some assignment fits
 pub record MayTake (r : Rings) (slot : ℕ) : Type 0 where
   pub places : ℕ → Option Place

@@ -28,7 +28,7 @@ impl Model for Chains {
 }
 
 impl Chains {
-    ghost use Rattle.std.specs.Prelude.{◌≡◌, ◌↔◌, ◌+◌, ◌<◌, ◌≤◌, ◌^◌, ℕ, Option, None, IfOk, IsTrue, MatchOption};
+    ghost use Rattle.std.specs.Prelude.{◌≡◌, ◌↔◌, ◌+◌, ◌<◌, ◌≤◌, ◌^◌, ℕ, Option, Some, None, IfOk, IsTrue, MatchOption};
     ghost use Rattle.ert_wheel.specs.Chained.{Spliced, Unspliced};
     ghost use Rattle.ert_wheel.specs.Links.{next_at, prev_at};
     ghost use Rattle.ert_wheel.specs.Rings.{Place, AreChains, MayPut, Puts, PutsInHome, MayTake, Takes, Finds, FindsOldest};
@@ -118,6 +118,19 @@ impl Chains {
     {
         let head = self.slots + home;
         self.slot_at(next_of(&self.links, head))
+    }
+
+    /// Whether a slot is the newest of a home.
+    #[inline]
+    pub fn is_newest(&self, slot: u32, home: u32) -> bool
+        requires { home < self.now.homes }
+        ensures { IsTrue result → (places : ℕ → Option Place) → AreChains self.now places
+            → Finds self.now places home (2 ^ 64) (Some slot) }
+    {
+        match self.newest(home) {
+            Some(newest) => newest == slot,
+            None => false,
+        }
     }
 
     /// The oldest slot of a home; None where it has none.

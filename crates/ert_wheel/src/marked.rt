@@ -29,7 +29,7 @@ impl MarkedChains {
     ghost use Rattle.std.specs.Prelude.{◌≡◌, ◌↔◌, ◌+◌, ◌<◌, ◌≤◌, ◌^◌, ℕ, Option, None, IfOk, IsTrue};
     ghost use Rattle.ert_wheel.specs.Links.{next_at};
     ghost use Rattle.ert_wheel.specs.Marks.{FirstUsed};
-    ghost use Rattle.ert_wheel.specs.Rings.{Place, AreChains, MayPut, Puts, PutsInHome, MayTake, Takes, Finds, FindsOldest};
+    ghost use Rattle.ert_wheel.specs.Rings.{Place, AreChains, MayPut, Puts, PutsInHome, MayTake, Takes, Moves, Finds, FindsOldest};
     ghost use Rattle.ert_wheel.specs.declared.row.TheConstants.{BUCKETS};
 
     /// All chains empty. No call takes memory after this.
@@ -82,6 +82,22 @@ impl MarkedChains {
         if let Some(home) = only {
             self.marks.clear(home);
         }
+    }
+
+    /// Makes a slot the newest of a bucket, from whatever chain it is in. Where it is that already nothing is written.
+    #[inline]
+    pub fn renew(&mut self, slot: u32, home: u32)
+        requires slot { MayTake self.old slot }
+        requires home { home < BUCKETS }
+        ensures slots { self.new.slots ≡ self.old.slots }
+        ensures homes { self.new.homes ≡ self.old.homes }
+        ensures chains { Moves self.old self.new slot home }
+    {
+        if self.chains.is_newest(slot, home) {
+            return;
+        }
+        self.take(slot);
+        self.put(slot, home);
     }
 
     /// Whether a slot is alone in its ring: it is in no chain.

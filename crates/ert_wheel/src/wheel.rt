@@ -10,6 +10,7 @@ use std::alloc::Global;
 use std::marker::Model;
 
 mod first;
+mod replacing;
 
 /// A timing wheel of levels: rows by their slots, and the due ones in order of deadline. Beside these it has a value
 /// of each slot, and a chain of slots for each owner.

@@ -1,7 +1,8 @@
 //! The call that gives an armed timer a new deadline.
-use crate::world::World;
-use ert_defs::milliseconds::deadline_of;
-use ert_defs::{Start, TimerRef};
+use crate::world::{CALLER, World};
+use ert_calls::cancel_timer;
+use ert_defs::{Actor, Start, TimerRef};
+use ert_timers::{Forecast, foresee};
 
 /// Why a timer wasn't given a new deadline.
 #[derive(Clone, Copy, Debug, PartialEq, Eq)]
@@ -16,40 +17,47 @@ pub enum RestartErr {
 }
 
 impl World {
-    ghost use Rattle.std.specs.Prelude.{◌≡◌, ◌<◌};
+    ghost use Rattle.std.specs.Prelude.{◌≡◌, ◌↔◌, ◌<◌, IfSome, IsNone};
     ghost use Rattle.ert_defs.specs.Legal.{Legal};
-    ghost use Rattle.ert_defs.specs.Milliseconds.{deadline_of};
-    ghost use Rattle.ert_world.specs.Restarts.{Restarts, Forgets};
+    ghost use Rattle.ert_timers.specs.Restarting.{IsForecast};
+    ghost use Rattle.ert_world.specs.Restarts.{Restarts, Forgets, HasNoDeadline};
     ghost use Rattle.ert_world.specs.Worlds.{Goes};
 
     /// Gives an armed timer a new deadline, and answers its new name (as `uv_timer_again` of libuv): it is
-    /// cancelled, and one is started on its wheel, which can have its slot.
+    /// cancelled, and one is started on its wheel.
     ///
-    /// Whether the start has a deadline is looked at first. So a timer is lost only where the answer is Full. Where one
-    /// was cancelled its wheel holds no row of it. No memory is taken.
+    /// Mostly that has its slot, and takes the place of its row at once (`WheelPart::start_again`). Whether the start has a
+    /// deadline is looked at first. So a timer is lost only where the answer is Full. Where one was cancelled its wheel
+    /// holds no row of it. No memory is taken.
+    #[inline(always)]
     pub fn restart(&mut self, timer: TimerRef, start: &Start) -> Result<TimerRef, RestartErr>
         requires { start.now.dest < self.old.settings.processes }
         ensures call { Goes self.old (Restarts self.old timer start.now result) self.new }
         ensures forgotten { Forgets timer result self.new }
     {
-        let Some(_deadline) = self.deadline_now(start) else {
+        let Some(forecast) = self.foresee(start) else {
             return Err(RestartErr::BadArg);
         };
-        let Some(_left) = self.cancel_timer(timer) else {
+        let desk = &*self.desk;
+        let by = Actor::Caller(CALLER);
+        let Some(_left) = cancel_timer(desk, &mut self.pass, by, timer) else {
             return Err(RestartErr::NotArmed);
         };
-        match self.start(timer.wheel, start) {
+        let wheel = &mut self.wheels[timer.wheel as usize];
+        let answer = wheel.start_again(desk, &mut self.pass, CALLER, timer, start, forecast);
+        match answer {
             Ok(next) => Ok(next),
             // A start that has a deadline is refused only for want of a slot.
             Err(_) => Err(RestartErr::Full),
         }
     }
 
-    /// The deadline of a start that is made now, in milliseconds after the start time.
-    fn deadline_now(&self, start: &Start) -> Option<u64>
-        ensures value { result ≡ deadline_of self.now.settings start.now self.now.clock.face.time }
+    /// What a start would be told that is made now; None exactly where it has no deadline.
+    fn foresee(&self, start: &Start) -> Option<Forecast>
+        ensures some { IfSome result (IsForecast self.now.settings start.now) }
+        ensures none { IsNone result ↔ HasNoDeadline self.now start.now }
         ensures legal { Legal self.now.settings self.now.history }
     {
-        deadline_of(self.desk.settings(), start.when, self.keeper.clock().now())
+        foresee(self.desk.settings(), start, self.keeper.clock().now())
     }
 }

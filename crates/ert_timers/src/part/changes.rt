@@ -21,6 +21,17 @@ impl Slot {
         has_uses(self.generation())
     }
 
+    /// What is kept of it with the timer of a start.
+    #[inline]
+    pub(super) fn used(self, start: &Start, next: Use) -> Slot
+        requires deadline { next.deadline ≤ 8796093022207 }
+        requires dest { start.now.dest < 524288 }
+        ensures { result ≡ changes.slot_for next self.above start.now }
+    {
+        let above = self.above().max(next.deadline + 1);
+        Slot::new(next.generation, above, start.dest, start.msg, start.kind)
+    }
+
     /// Whether it rests at a time in milliseconds after the start time: its round has no use left, and the
     /// deadline of one of its timers hasn't passed.
     fn is_resting(self, now: u64) -> bool
@@ -197,15 +208,13 @@ impl WheelPart {
     {
         let last = self.wheel.value(slot);
         let stays = is_with(&self.wheel, slot, last, start.dest);
-        let above = last.above().max(next.deadline + 1);
-        let kept = Slot::new(next.generation, above, start.dest, start.msg, start.kind);
         let row = Row {
             deadline: next.deadline,
             order: self.arms,
             slot,
         };
         self.arms += 1;
-        self.wheel.insert(row, kept);
+        self.wheel.insert(row, last.used(start, next));
         join(&mut self.wheel, slot, start.dest, stays);
         TimerRef {
             wheel: self.number,
@@ -216,7 +225,7 @@ impl WheelPart {
 }
 
 /// Whether a slot was used less often than a round allows, by the generation of its last timer.
-fn has_uses(generation: u64) -> bool
+pub(super) fn has_uses(generation: u64) -> bool
     ensures { result ≡ nat_lt (timers.use_of generation) 262143 }
 {
     use_of(generation) < USES_OF_ROUND
@@ -235,7 +244,7 @@ fn is_with(wheel: &Wheel<Slot>, slot: u32, last: Slot, process: u32) -> bool
 
 /// Puts a slot into the chain of a process, where it doesn't stay in it.
 #[inline]
-fn join(wheel: &mut Wheel<Slot>, slot: u32, process: u32, stays: bool)
+pub(super) fn join(wheel: &mut Wheel<Slot>, slot: u32, process: u32, stays: bool)
     requires process { process < wheel.old.owners.homes }
     requires may { MayTake wheel.old.owners slot }
     ensures keys { wheel.new.keys ≡ wheel.old.keys }

@@ -1,4 +1,4 @@
-use Rattle.std.proofs.Common.{◌≡◌, ℕ, ◌+◌, ◌<◌, max, List, length, Option, refl, sym, ap, subst, ◌∙◌, set, arith}
+use Rattle.std.proofs.Common.{◌≡◌, ◌+◌, ◌<◌, List, length, Option, refl, sym, ap, subst, ◌∙◌, set, arith}
 use Rattle.ert_timers.specs.Changes.{IsFree, slot_for}
 use Rattle.ert_timers.specs.Owners.{MayJoin, Joins}
 use Rattle.ert_timers.specs.Parts.{Part, AreFit, slot_at, unused}
@@ -45,17 +45,8 @@ invariant_of-self c =
     let dest = subst (λ (q : Part). c.args.start.now.dest < q.processes) (sym c.self.view_is) c.requires.dest in
     let read : slot_at p.wheel.values k ≡ c.value-last.result = get_or_from_slice_get p.wheel.values k c.value-last.result unused c.value-last.ensures in
     let start = c.args.start.now in
-    let kept : ℕ → Slot = λ above. record {
-      generation = c.args.next.generation;
-      above = above;
-      dest = start.dest;
-      msg = start.msg;
-      kind = start.kind;
-    } in
-    let is : c.new-kept.result ≡ slot_for c.args.next (slot_at p.wheel.values k).above start =
-    c.new-kept.ensures
-    ∙ ap kept
-    (c.max-above.ensures ∙ ap (λ n. max n (c.args.next.deadline + 1)) (c.above.ensures.above ∙ ap (λ (slot : Slot). slot.above) (sym read))) in
+    let is : c.used.result ≡ slot_for c.args.next (slot_at p.wheel.values k).above start =
+    c.used.ensures ∙ ap (λ (slot : Slot). slot_for c.args.next slot.above start) (sym read) in
     let same = c.insert.ensures.owners in
     let new = c.join.new.wheel in
     let fit = c.self.invariant in

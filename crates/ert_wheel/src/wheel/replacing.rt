@@ -1,0 +1,36 @@
+//! A slot's row that another takes the place of.
+use super::{Wheel, lower};
+use crate::row::{Key, Row};
+use crate::walk::bucket;
+
+impl<T: Copy> Wheel<T> {
+    ghost use Rattle.std.specs.Prelude.{◌≡◌, ◌<◌, ℕ, Some, IfSome, IsSome, length, slice_set};
+    ghost use Rattle.ert_wheel.specs.Rows.{key_in, key_of};
+    ghost use Rattle.ert_wheel.specs.declared.row.TheConstants.{NEVER};
+
+    /// Puts a row in the place of the one that its slot has, with a value of the slot, as a `remove` and an `insert` do.
+    /// The order is above that of every row that is held.
+    ///
+    /// Where the slot is the newest of the bucket to which the row belongs, no chain is written.
+    #[inline]
+    pub fn replace(&mut self, row: Row, value: T)
+        requires slot { row.slot < length self.old.keys }
+        requires held { IsSome (key_in self.old.keys row.slot) }
+        requires deadline { row.deadline < NEVER }
+        requires newest { (slot : ℕ) → IfSome (key_in self.old.keys slot) (λ key. key.order < row.order) }
+        ensures keys { self.new.keys ≡ slice_set self.old.keys row.slot (Some (key_of row)) }
+        ensures owners { self.new.owners ≡ self.old.owners }
+        ensures values { self.new.values ≡ slice_set self.old.values row.slot value }
+        ensures passed { self.new.passed ≡ self.old.passed }
+    {
+        let Row {
+            deadline,
+            order,
+            slot,
+        } = row;
+        let home = bucket(self.next_time, deadline.max(self.next_time));
+        self.buckets.renew(slot, home);
+        self.kept.set(slot, Key { deadline, order }, value);
+        lower(&mut self.floor, deadline);
+    }
+}
