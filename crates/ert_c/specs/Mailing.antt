@@ -16,7 +16,7 @@ use Rattle.ert_c.specs.declared.mail_calls.ErtMail.{ErtMail}
 use Rattle.ert_c.specs.declared.status.TheConstants.{OK, NO_MEMORY, EMPTY, EXITED}
 
 -- a process that hasn't exited and has mail is told, or that there is none; after want of memory nothing has changed
-pub record FindsMail (answer : Result (Option ℕ) WantOfMemory) (old new : Seen) : Type 0 where
+pub record FindsMailBy (answer : Result (Option ℕ) WantOfMemory) (old new : Seen) : Type 0 where
   pub next : IfOk answer (λ found. Finds old found new)
   pub memory : OnErr answer (new ≡ old)
 

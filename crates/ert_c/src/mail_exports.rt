@@ -2,7 +2,7 @@
 ghost use Rattle.std.specs.Prelude.{⊤, length};
 ghost use Rattle.ert_c.specs.Calls.{AtProcess, AnswersAtProcess, PutsRequest, TakesBy, MonitorsBy, DemonitorsBy, TellsBy};
 ghost use Rattle.ert_c.specs.Told.{IsTaken, IsMonitored, IsDemonitored, IsNumber};
-ghost use Rattle.ert_c.specs.Mailing.{FindsMail, IsNextTold, TakesSomeBy, IsTookSome};
+ghost use Rattle.ert_c.specs.Mailing.{FindsMailBy, IsNextTold, TakesSomeBy, IsTookSome};
 ghost use Rattle.ert_c.specs.Through.{Through, AnswersThrough};
 
 use crate::handle::{ErtWorld, at_process, opened};
@@ -59,7 +59,7 @@ pub extern "C" fn ert_world_take_some(
 /// Tells a process that hasn't exited and has mail.
 #[unsafe(no_mangle)]
 pub extern "C" fn ert_world_next_mail(world: &mut ErtWorld, process: &mut u32) -> i32
-    ensures { AnswersThrough FindsMail IsNextTold process.old process.new world.old.place.value result world.new.place.value }
+    ensures { AnswersThrough FindsMailBy IsNextTold process.old process.new world.old.place.value result world.new.place.value }
 {
     let answer = opened!(world).next_mail();
     tell_next(answer, process)

@@ -248,12 +248,6 @@ moves_none r slot home finds places order are fits above =
           omega (arith, found.greatest j p low has same (are.orders j p has), ap order_of stands.has);
     })
 
--- the newest that is told, where it is this slot
-pub newest_is : (r : Rings) (home slot newest : ℕ) (found : Option ℕ) → ((places : ℕ → Option Place) → AreChains r places → Finds r places home (2 ^ 64) found)
-    → found ≡ Some newest → newest ≡ slot → (places : ℕ → Option Place) → AreChains r places → Finds r places home (2 ^ 64) (Some slot)
-newest_is r home slot newest found finds is same places are =
-    subst (λ (o : Option ℕ). Finds r places home (2 ^ 64) o) (is ∙ ap (λ n. Some n) same) (finds places are)
-
 -- what a row that is put in the place of another needs
 pub record CanReplace (seen : List (Option Key)) (slot : ℕ) (key : Key) : Type 0 where
   pub low : slot < length seen

@@ -83,7 +83,6 @@ mail_found before b d e q mails answer same is sound belongs made these next =
             (subst (λ (x : Desk). IsNextIn (state_of x q).exited mails answer) same next);
       },
     )
-
 took_none a process legal = goes_nothing a (λ (way : Way). TakesMails a.settings way process []) legal refl
 
 -- one more is
