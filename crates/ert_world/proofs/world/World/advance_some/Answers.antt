@@ -2,20 +2,20 @@ use Rattle.std.proofs.Common.{◌≡◌, Err, rules, refl, arith}
 use Rattle.ert_table.specs.Desks.{settings_of, view_of}
 use Rattle.ert_world.proofs.Alone.{stays_by}
 use Rattle.ert_world.proofs.Calls.{has_at, does_at}
+use Rattle.ert_world.proofs.Listed.{kept_by}
 use Rattle.ert_world.proofs.WheelCalls.{lost_rows}
 use Rattle.ert_world.proofs.Advances.{count_fits}
 use Rattle.ert_world.proofs.SomeAdvanced.{some_ok, some_refused, replaced_left}
 use Rattle.ert_world.proofs.world.World.advance_some.Goals as goal
 
 pub invariant_of-self : goal.invariant_of-self
-invariant_of-self c = record {
-  sound =
-      ((does_at c.deref.ensures (some_refused c.args.self.now c.self.inside c.deref.result.now c.advance_some.new.pass c.args.sched c.args.most c.in_err-to.field-0.0 c.index_mut.result.now c.advance_some.new.self
+invariant_of-self c =
+    let all =
+    (does_at c.deref.ensures (some_refused c.args.self.now c.self.inside c.deref.result.now c.advance_some.new.pass c.args.sched c.args.most c.in_err-to.field-0.0 c.index_mut.result.now c.advance_some.new.self
       c.index_mut-part.result.now (record { wheel = c.index_mut-part.result.now.wheel; hand = c.index_mut-part.result.now.hand; fired = c.advance_some.new.fired })
       (has_at c.deref.ensures c.self.view_is c.self.invariant.sound) c.advance_some.ensures.belongs c.requires c.index_mut.ensures.value c.index_mut-part.ensures.value c.advance_some.ensures.number
-      c.advance_some.ensures.stands c.advance_some.ensures.loses c.in_err-to.ensures.call refl refl)).fit);
-  listed = c.self.invariant.listed;
-}
+      c.advance_some.ensures.stands c.advance_some.ensures.loses c.in_err-to.ensures.call refl refl)) in
+    kept_by c.self.inside c.self.inside.list c.self.view_is all.fit all.goes.grows c.self.invariant.listed
 
 pub returns-in_err-to-clause-call : goal.returns-in_err-to-clause-call
 returns-in_err-to-clause-call c =
@@ -35,14 +35,13 @@ overflow_cast-result c =
     omega (arith, few.1)
 
 pub invariant_of-self-2 : goal.invariant_of-self-2
-invariant_of-self-2 c = record {
-  sound =
-      ((does_at c.deref.ensures (some_ok c.args.self.now c.self.inside c.deref.result.now c.advance_some.new.pass c.args.sched c.args.most c.in_ok-to.to c.len.result c.len-before.result c.in_ok-to.due c.index_mut.result.now
+invariant_of-self-2 c =
+    let all =
+    (does_at c.deref.ensures (some_ok c.args.self.now c.self.inside c.deref.result.now c.advance_some.new.pass c.args.sched c.args.most c.in_ok-to.to c.len.result c.len-before.result c.in_ok-to.due c.index_mut.result.now
       c.advance_some.new.self c.index_mut-part.result.now (record { wheel = c.index_mut-part.result.now.wheel; hand = c.index_mut-part.result.now.hand; fired = c.advance_some.new.fired })
       (has_at c.deref.ensures c.self.view_is c.self.invariant.sound) c.advance_some.ensures.belongs c.requires c.index_mut.ensures.value c.index_mut-part.ensures.value c.advance_some.ensures.number
-      c.advance_some.ensures.stands c.advance_some.ensures.loses c.in_ok-to.ensures.call refl refl c.len.ensures c.len-before.ensures)).fit);
-  listed = c.self.invariant.listed;
-}
+      c.advance_some.ensures.stands c.advance_some.ensures.loses c.in_ok-to.ensures.call refl refl c.len.ensures c.len-before.ensures)) in
+    kept_by c.self.inside c.self.inside.list c.self.view_is all.fit all.goes.grows c.self.invariant.listed
 
 pub returns-clause-call : goal.returns-clause-call
 returns-clause-call c =

@@ -7,8 +7,9 @@ use Rattle.ert_timers.specs.Freeing.{IsLast}
 use Rattle.ert_timers.specs.Parts.{Part}
 use Rattle.ert_world.proofs.Calls.{has_at, parts_in}
 use Rattle.ert_world.proofs.CancelCalls.{cancel_called, cancelled_none, does_cancel_at}
+use Rattle.ert_world.proofs.Listed.{kept_by}
 use Rattle.ert_world.proofs.Renewing.{is_none, restarted, restarted_at, part_stands}
-use Rattle.ert_world.proofs.Restarting.{told_of, restarts, forgets}
+use Rattle.ert_world.proofs.Restarting.{told_of, started_anew, restarts, forgets}
 use Rattle.ert_world.proofs.world.World.restart.Goals as goal
 use Rattle.ert_world.proofs.world.World.restart.Goals.{in-Ok, in-Err}
 
@@ -18,10 +19,10 @@ invariant_of-self c =
     let made = subst (λ left. IsMade (settings_of c.deref-desk.result.now) (view_of c.self.inside.pass)
     (Cancels (settings_of c.deref-desk.result.now) (Caller 0) c.args.timer left) (view_of c.cancel_timer.new.pass))
     c.in_default-cancel_timer.is c.cancel_timer.ensures.call.call in
-    let none = does_cancel_at c.deref-desk.ensures (cancelled_none c.args.self.now c.self.inside c.deref-desk.result.now c.cancel_timer.new.pass (parts_in c.self.inside)
+    let all = does_cancel_at c.deref-desk.ensures (cancelled_none c.args.self.now c.self.inside c.deref-desk.result.now c.cancel_timer.new.pass (parts_in c.self.inside)
     c.args.timer _ has (cancel_called c.args.self.now c.self.inside c.deref-desk.result.now c.cancel_timer.new.pass c.args.timer None has
     c.cancel_timer.ensures.belongs made)) in
-    record { sound = none.fit; listed = c.self.invariant.listed }
+    kept_by c.self.inside c.self.inside.list c.self.view_is all.fit all.goes.grows c.self.invariant.listed
 
 pub returns-in_default-cancel_timer-clause-call : goal.returns-in_default-cancel_timer-clause-call
 returns-in_default-cancel_timer-clause-call c =
@@ -65,7 +66,8 @@ invariant_of-self-2 c =
     c.args.timer c.in-Some-cancel_timer._left c.args.start.now c.start_again-answer.result c.index_mut-wheel.result.now c.start_again-answer.new.self has done
     c.index_mut-wheel.ensures.value c.start_again-answer.ensures.belongs c.start_again-answer.ensures.number c.start_again-answer.ensures.stands
     c.start_again-answer.ensures.call c.start_again-answer.ensures.rows) in
-    record { sound = all.fit; listed = c.self.invariant.listed }
+    let both = started_anew c.args.self.now all.mid _ c.args.timer c.args.start.now c.in-Some-cancel_timer._left c.start_again-answer.result all.one all.other in
+    kept_by c.self.inside c.self.inside.list c.self.view_is all.fit both.grows c.self.invariant.listed
 
 pub returns-clause-call : goal.returns-clause-call
 returns-clause-call c =
