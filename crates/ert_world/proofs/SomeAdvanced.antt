@@ -10,8 +10,8 @@ use Rattle.ert_defs.specs.declared.entry.Entry.{Entry}
 use Rattle.ert_defs.specs.declared.memory.NoMemory.{NoMemory}
 use Rattle.ert_defs.specs.declared.settings.Settings.{Settings}
 use Rattle.ert_effects.specs.SomeCalls.{AdvancesSome, HasAdvancedSome}
-use Rattle.ert_effects.specs.WheelCalls.{Advances, HasAdvanced, expiry_entries}
-use Rattle.ert_table.specs.Calls.{AreOnlyOf, IsMade}
+use Rattle.ert_effects.specs.WheelCalls.{Advances, expiry_entries}
+use Rattle.ert_table.specs.Calls.{AreOnlyOf}
 use Rattle.ert_table.specs.Desks.{settings_of, view_of, front_of, Belongs}
 use Rattle.ert_table.specs.Held.{is_held}
 use Rattle.ert_table.specs.declared.desk.Desk.{Desk}
