@@ -12,9 +12,9 @@ pub invariant_of-self : goal.invariant_of-self
 invariant_of-self c =
     let all =
     (does_at c.deref.ensures (some_refused c.args.self.now c.self.inside c.deref.result.now c.advance_some.new.pass c.args.sched c.args.most c.in_err-to.field-0.0 c.index_mut.result.now c.advance_some.new.self
-      c.index_mut-part.result.now (record { wheel = c.index_mut-part.result.now.wheel; hand = c.index_mut-part.result.now.hand; fired = c.advance_some.new.fired })
-      (has_at c.deref.ensures c.self.view_is c.self.invariant.sound) c.advance_some.ensures.belongs c.requires c.index_mut.ensures.value c.index_mut-part.ensures.value c.advance_some.ensures.number
-      c.advance_some.ensures.stands c.advance_some.ensures.loses c.in_err-to.ensures.call refl refl)) in
+    c.index_mut-part.result.now (record { wheel = c.index_mut-part.result.now.wheel; hand = c.index_mut-part.result.now.hand; fired = c.advance_some.new.fired })
+    (has_at c.deref.ensures c.self.view_is c.self.invariant.sound) c.advance_some.ensures.belongs c.requires c.index_mut.ensures.value c.index_mut-part.ensures.value c.advance_some.ensures.number
+    c.advance_some.ensures.stands c.advance_some.ensures.loses c.in_err-to.ensures.call refl refl)) in
     kept_by c.self.inside c.self.inside.list c.self.view_is all.fit all.goes.grows c.self.invariant.listed
 
 pub returns-in_err-to-clause-call : goal.returns-in_err-to-clause-call
@@ -38,9 +38,9 @@ pub invariant_of-self-2 : goal.invariant_of-self-2
 invariant_of-self-2 c =
     let all =
     (does_at c.deref.ensures (some_ok c.args.self.now c.self.inside c.deref.result.now c.advance_some.new.pass c.args.sched c.args.most c.in_ok-to.to c.len.result c.len-before.result c.in_ok-to.due c.index_mut.result.now
-      c.advance_some.new.self c.index_mut-part.result.now (record { wheel = c.index_mut-part.result.now.wheel; hand = c.index_mut-part.result.now.hand; fired = c.advance_some.new.fired })
-      (has_at c.deref.ensures c.self.view_is c.self.invariant.sound) c.advance_some.ensures.belongs c.requires c.index_mut.ensures.value c.index_mut-part.ensures.value c.advance_some.ensures.number
-      c.advance_some.ensures.stands c.advance_some.ensures.loses c.in_ok-to.ensures.call refl refl c.len.ensures c.len-before.ensures)) in
+    c.advance_some.new.self c.index_mut-part.result.now (record { wheel = c.index_mut-part.result.now.wheel; hand = c.index_mut-part.result.now.hand; fired = c.advance_some.new.fired })
+    (has_at c.deref.ensures c.self.view_is c.self.invariant.sound) c.advance_some.ensures.belongs c.requires c.index_mut.ensures.value c.index_mut-part.ensures.value c.advance_some.ensures.number
+    c.advance_some.ensures.stands c.advance_some.ensures.loses c.in_ok-to.ensures.call refl refl c.len.ensures c.len-before.ensures)) in
     kept_by c.self.inside c.self.inside.list c.self.view_is all.fit all.goes.grows c.self.invariant.listed
 
 pub returns-clause-call : goal.returns-clause-call
