@@ -83,9 +83,8 @@ mail_found before b d e q mails answer same is sound belongs made these next =
             (subst (λ (x : Desk). IsNextIn (state_of x q).exited mails answer) same next);
       },
     )
-took_none a process legal = goes_nothing a (λ (way : Way). TakesMails a.settings way process []) legal refl
 
--- one more is
+-- one more message was taken
 pub took_more : (a b c : Seen) (process : ℕ) (mails : List Mail) (mail : Mail) (answer : Taken) → answer ≡ Took mail
     → Goes a (λ way. TakesMails a.settings way process mails) b → Goes b (By b (λ g. Takes g 0 process answer)) c
     → Goes a (λ way. TakesMails a.settings way process (mails ++ mail ∷ [])) c
