@@ -56,7 +56,6 @@ tell_loader = [ -n '$(DESTDIR)' ] || $(LDCONFIG) 2>/dev/null || :
 KIT = $(patsubst %/bin/rt,%,$(realpath $(shell command -v rt 2>/dev/null)))
 ERTIME = crates/ert_cli/out/ert_cli
 ERTAUDIT = crates/ert_audit/out/ert_audit
-ERT_BENCH = crates/ert_bench/out/ert_bench
 ARCHIVE = crates/ert_c/out/$(if $(is_native),,$(TARGET)-unknown-linux-gnu/)libert_c.a
 HEAP = $(if $(is_native),$(KIT)/c/liblibc_c.a,$(B)/heap.o)
 
@@ -69,7 +68,7 @@ VERSION := $(MAJOR).$(MINOR).$(call part,PATCH)
 B = build$(if $(is_native),,/$(TARGET))
 SONAME = libertime.so.$(MAJOR)
 REAL = libertime.so.$(VERSION)
-PROGRAMS = $(if $(is_native),ertime ertaudit ert_bench)
+PROGRAMS = $(if $(is_native),ertime ertaudit)
 PAGES1 = $(addsuffix .1,$(PROGRAMS))
 PAGES3 = ertime.3
 PAGES5 = $(if $(is_native),ertime-scenario.5 ertime-history.5)
@@ -82,13 +81,13 @@ LIBRARIES = $(B)/libertime.a $(B)/$(REAL)
 .PHONY: all prove pages install install-strip uninstall dist deb html release clean
 .DELETE_ON_ERROR:
 
-all: $(if $(is_native),$(ERTIME) $(ERTAUDIT) $(ERT_BENCH)) $(LIBRARIES) pages $(B)/THIRD-PARTY $(addprefix $(B)/doc/,$(DOCUMENTS))
+all: $(if $(is_native),$(ERTIME) $(ERTAUDIT)) $(LIBRARIES) pages $(B)/THIRD-PARTY $(addprefix $(B)/doc/,$(DOCUMENTS))
 pages: $(PAGES)
 
 # What exists is taken as it is: proofs take long, so none begins because a file has a newer date.
-PROVED = crates/ert_cli/out/ert_cli crates/ert_audit/out/ert_audit crates/ert_bench/out/ert_bench crates/ert_c/out/libert_c.a
+PROVED = crates/ert_cli/out/ert_cli crates/ert_audit/out/ert_audit crates/ert_c/out/libert_c.a
 $(PROVED) &:
-	packaging/prove $(filter $(PROVED),$(ERTIME) $(ERTAUDIT) $(ERT_BENCH) $(ARCHIVE))
+	packaging/prove $(filter $(PROVED),$(ERTIME) $(ERTAUDIT) $(ARCHIVE))
 .PRECIOUS: $(PROVED)
 
 # Over what was proved, the library is built for another processor.
@@ -164,7 +163,6 @@ install: all
 ifneq ($(PROGRAMS),)
 	$(INSTALL_PROGRAM) $(ERTIME) "$(DESTDIR)$(bindir)/ertime"
 	$(INSTALL_PROGRAM) $(ERTAUDIT) "$(DESTDIR)$(bindir)/ertaudit"
-	$(INSTALL_PROGRAM) $(ERT_BENCH) "$(DESTDIR)$(bindir)/ert_bench"
 	$(INSTALL_DATA) $(addprefix $(B)/man/,$(PAGES1)) "$(D1)"
 	$(INSTALL_DATA) $(addprefix $(B)/man/,$(PAGES5)) "$(D5)"
 	for it in $(PROGRAMS); do \

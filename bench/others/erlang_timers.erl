@@ -1,4 +1,4 @@
-%% Timers of the Erlang runtime system, by the operations of ert_bench.
+%% Timers of the Erlang runtime system, by the operations of bench/timers.c.
 %%
 %% A start is erlang:start_timer/3 with the process itself as destination, and a cancel erlang:cancel_timer/1, as
 %% in ertime. The runtime has one scheduler (+S 1:1), so that all is done by one thread and no process moves from

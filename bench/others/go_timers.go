@@ -1,4 +1,4 @@
-// Timers of Go's package time, by the operations of ert_bench.
+// Timers of Go's package time, by the operations of bench/timers.c.
 //
 // A start is time.NewTimer, which makes a timer and its channel, and a cancel Timer.Stop. Both are calls of one
 // goroutine, with GOMAXPROCS at 1, so that the collections of memory by the runtime, and all else that it does

@@ -1,5 +1,5 @@
 /*
- * Timers of libev, by the operations of `ert_bench`.
+ * Timers of libev, by the operations of `bench/timers.c`.
  *
  * A timer is an `ev_timer` that the program keeps; a start is `ev_timer_init` with `ev_timer_start`, and a
  * cancel `ev_timer_stop`. Both go by the time that the loop keeps, so neither asks the operating system, as

@@ -1,5 +1,5 @@
 /*
- * Timers of libuv, by the operations of `ert_bench`.
+ * Timers of libuv, by the operations of `bench/timers.c`.
  *
  * A timer is a `uv_timer_t` that the program keeps; a start is `uv_timer_start`, and a cancel `uv_timer_stop`.
  * Both go by the time that the loop keeps, so neither asks the operating system, as in ertime. They make no

@@ -1,6 +1,6 @@
 /*
- * What the C programs of this directory share: the waits and the order that every program here makes from the
- * same seeds, the passes, and the words of the command line. `bench/compare` calls each program as
+ * What bench/timers.c and the C programs of this directory share: the waits and the order that every program makes from
+ * the same seeds, the passes, and the words of the command line. `bench/compare` calls each program as
  *
  *     PROGRAM OPERATION TIMERS CALLS PASSES
  *

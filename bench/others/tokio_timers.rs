@@ -1,4 +1,4 @@
-//! Timers of tokio, by the operations of `ert_bench`.
+//! Timers of tokio, by the operations of `bench/timers.c`.
 //!
 //! A timer is a boxed `Sleep` on a runtime of one thread. A start makes it and polls it once, which enters it
 //! into the runtime's wheel, with a waker that does nothing; a cancel drops it. A start asks the operating system
