@@ -14,7 +14,7 @@ TOO_LARGE = 3
 # The operations of bench/timers.c by calls that an older library may not have.
 NEEDS = {"restart": "ert_world_restart"}
 # How many calls a pass of bench/timers.c makes where they aren't as many as the timers.
-CALLS = {"monotonic_time": 5_000_000, "start_cancel": 300_000, "restart": 300_000, "idle_turn": 300_000, "next_due": 300_000}
+CALLS = {"monotonic_time": 1_000_000, "start_cancel": 100_000, "restart": 100_000, "idle_turn": 100_000, "next_due": 100_000}
 
 
 def compiler():
@@ -51,8 +51,8 @@ def build_timers(archive, program):
 
 
 def passes(timers):
-    """How many passes take a second at most, or two of a million timers."""
-    return 15 if timers < 100_000 else 8 if timers < 250_000 else 5 if timers < 1_000_000 else 2
+    """How many passes take a second at most, or two of a million timers, with the starts before them."""
+    return 60 if timers < 100_000 else 15 if timers < 250_000 else 6 if timers < 1_000_000 else 2
 
 
 def least(program, operation, timers):

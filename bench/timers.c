@@ -12,7 +12,8 @@
  *     start_cancel     `ert_world_start` and `ert_world_cancel` of a timer, beside the others
  *     start            in a new service
  *     start_again      the same after as many were cancelled in random order
- *     cancel           in random order
+ *     cancel           in random order; the names of the timers are at hand
+ *     cancel_found     the same, but each name is looked up too, as the programs of bench/others look up their timers
  *     cancel_start     one of the timers is cancelled, in random order, and another started
  *     restart          `ert_world_restart` of one of the timers, in random order
  *     expire_at_once   one tick, a turn of each scheduler, and `ert_world_take` until there is no message
@@ -90,13 +91,24 @@ static void start_all(const struct measurement *what) {
 
 static void cancel_all(const struct measurement *what) {
     for (size_t i = 0; i < what->timers; i++) {
-        cancel(what->order[i]);
+        cancel(i);
     }
 }
 
 static void open_started(const struct measurement *what) {
     open_service(what);
     start_all(what);
+}
+
+/* The same, and the names of the timers are put into random order. */
+static void open_mixed(const struct measurement *what) {
+    open_started(what);
+    ert_timer *mixed = allocate(what->timers, sizeof *mixed);
+    for (size_t i = 0; i < what->timers; i++) {
+        mixed[i] = timers[what->order[i]];
+    }
+    memcpy(timers, mixed, what->timers * sizeof *mixed);
+    free(mixed);
 }
 
 static void tick(int64_t time) {
@@ -158,7 +170,7 @@ static uint64_t pass_start(const struct measurement *what) {
 }
 
 static uint64_t pass_start_again(const struct measurement *what) {
-    open_started(what);
+    open_mixed(what);
     cancel_all(what);
     uint64_t begun = nanoseconds();
     start_all(what);
@@ -166,30 +178,38 @@ static uint64_t pass_start_again(const struct measurement *what) {
 }
 
 static uint64_t pass_cancel(const struct measurement *what) {
-    open_started(what);
+    open_mixed(what);
     uint64_t begun = nanoseconds();
     cancel_all(what);
     return close_since(begun);
 }
 
-static uint64_t pass_cancel_start(const struct measurement *what) {
+static uint64_t pass_cancel_found(const struct measurement *what) {
     open_started(what);
     uint64_t begun = nanoseconds();
     for (size_t i = 0; i < what->timers; i++) {
-        size_t number = what->order[i];
-        cancel(number);
-        start(number, what->waits[number]);
+        cancel(what->order[i]);
+    }
+    return close_since(begun);
+}
+
+static uint64_t pass_cancel_start(const struct measurement *what) {
+    open_mixed(what);
+    uint64_t begun = nanoseconds();
+    for (size_t i = 0; i < what->timers; i++) {
+        cancel(i);
+        start(i, what->waits[i]);
     }
     return close_since(begun);
 }
 
 #ifndef LACKS_RESTART
 static uint64_t pass_restart(const struct measurement *what) {
-    open_started(what);
+    open_mixed(what);
     uint64_t begun = nanoseconds();
     for (size_t i = 0, at = 0; i < what->calls; i++) {
         ert_start how = {.when = what->waits[at]};
-        must(ert_world_restart(&world, &timers[what->order[at]], &how));
+        must(ert_world_restart(&world, &timers[at], &how));
         at = at + 1 < what->timers ? at + 1 : 0;
     }
     return close_since(begun);
@@ -270,6 +290,7 @@ int main(int argc, char **argv) {
         {"start", pass_start, 0},
         {"start_again", pass_start_again, 0},
         {"cancel", pass_cancel, 0},
+        {"cancel_found", pass_cancel_found, 0},
         {"cancel_start", pass_cancel_start, 0},
 #ifndef LACKS_RESTART
         {"restart", pass_restart, 1},

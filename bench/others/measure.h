@@ -23,7 +23,7 @@
 /* The wait of a timer that is started and cancelled again, in milliseconds. */
 #define TIMEOUT 5000
 /* How many passes are made at most. */
-#define MOST_PASSES 15
+#define MOST_PASSES 100
 /* How many are made where one takes longer than LONG_PASS nanoseconds. */
 #define FEW_PASSES 3
 #define LONG_PASS UINT64_C(2000000000)
