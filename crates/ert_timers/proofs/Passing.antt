@@ -1,6 +1,8 @@
 -- Rows go, and each of their timers is tried once.
 
-use Rattle.std.proofs.Common.{◌≡◌, ◌≢◌, ℕ, ◌<◌, ◌≤◌, List, [], ◌∷◌, ◌++◌, length, Option, Some, None, IfSome, refl, sym, ap, subst, ◌∙◌, set, arith}
+use Rattle.std.proofs.Common.{◌≡◌, ◌≢◌, ℕ, zero, suc, ◌<◌, ◌≤◌, cond, count_by, List, [], ◌∷◌, ◌++◌, length, Option, Some, None, IfSome, refl, sym, ap, subst, ◌∙◌, set, arith}
+use Rattle.std.proofs.lemmas.List.Sums.{sum_by-cons}
+use Rattle.std.specs.Option.{is_some}
 use Rattle.ert_defs.specs.Timers.{Row}
 use Rattle.ert_defs.specs.declared.timer.TimerRef.{TimerRef}
 use Rattle.ert_effects.specs.WheelCalls.{Try, AllDue, AreOnce, IsDueBy, IsUntried}
@@ -30,6 +32,31 @@ loses_row p q k low number slots keys time = record {
   left = λ j key is. (key_left p.keys k j key low (ap (λ ks. key_in ks j) (sym keys) ∙ is)).1;
   time = omega arith;
 }
+
+-- where rows only go there are no more of them
+keys_lost : (ks ls : List (Option Key)) → ((k : ℕ) (key : Key) → key_in ks k ≡ Some key → key_in ls k ≡ Some key) → count_by is_some ks ≤ count_by is_some ls
+keys_lost [] ls left = omega arith
+keys_lost (None ∷ ks) [] left =
+    omega (arith, sum_by-cons (λ (o : Option Key). cond (is_some o) 1 0) None ks, keys_lost ks [] (λ k key is. left (suc k) key is))
+keys_lost (Some key ∷ ks) [] left = let clash : None ≡ Some key = left zero key refl in absurd cc
+keys_lost (None ∷ ks) (l ∷ ls) left =
+    omega (
+      arith,
+      sum_by-cons (λ (o : Option Key). cond (is_some o) 1 0) None ks,
+      sum_by-cons (λ (o : Option Key). cond (is_some o) 1 0) l ls,
+      keys_lost ks ls (λ k key is. left (suc k) key is),
+    )
+keys_lost (Some key ∷ ks) (None ∷ ls) left = let clash : None ≡ Some key = left zero key refl in absurd cc
+keys_lost (Some key ∷ ks) (Some l ∷ ls) left =
+    omega (
+      arith,
+      sum_by-cons (λ (o : Option Key). cond (is_some o) 1 0) (Some key) ks,
+      sum_by-cons (λ (o : Option Key). cond (is_some o) 1 0) (Some l) ls,
+      keys_lost ks ls (λ k key is. left (suc k) key is),
+    )
+
+pub rows_lost : (p q : Part) → LosesRows p q → count_by is_some q.keys ≤ count_by is_some p.keys
+rows_lost p q loses = keys_lost q.keys p.keys loses.left
 
 -- the last timers are the same
 pub same_last : (p q : Part) (k : ℕ) → LosesRows p q → last_timer q.number q.slots k ≡ last_timer p.number p.slots k

@@ -1,6 +1,6 @@
 -- An advance that tries so many timers at most.
 
-use Rattle.std.proofs.Common.{◌≡◌, ℕ, ◌+◌, ◌≤◌, true, false, ◌||◌, nat_eq, count_by, List, [], ◌∷◌, ◌++◌, set, Some, None, refl, sym, ap, subst, ◌∙◌, append-nil}
+use Rattle.std.proofs.Common.{◌≡◌, ℕ, ◌+◌, ◌≤◌, Bool, true, false, ◌||◌, nat_eq, count_by, List, [], ◌∷◌, ◌++◌, refl, sym, ap, subst, ◌∙◌, arith, append-nil}
 use Rattle.std.specs.Option.{is_some}
 use Rattle.ert_calls.proofs.Looks.{look_stepped}
 use Rattle.ert_defs.specs.Entries.{look_entry, advanced_entry}
@@ -22,11 +22,9 @@ use Rattle.ert_timers.proofs.Trying.{stands_come_to, tries_come_to}
 use Rattle.ert_timers.specs.FiredLists.{Queue}
 use Rattle.ert_timers.specs.Looking.{LooksDown}
 use Rattle.ert_timers.specs.Parts.{HoldsSched, Part, Stands}
-use Rattle.ert_timers.specs.Trying.{HasDue, HasExpiredSome, IsLooked, IsTriedSome, TriesRows, come_to}
-use Rattle.ert_wheel.proofs.Collect.{key_low}
-use Rattle.ert_wheel.proofs.Views.{counts_less}
+use Rattle.ert_timers.specs.Trying.{HasDue, HasExpiredSome, IsLooked, IsTriedSome, LosesSome, TriesRows, come_to}
 use Rattle.ert_wheel.specs.FirstDue.{NoRowDue, IsFirstRowDue}
-use Rattle.ert_wheel.specs.Rows.{key_in, key_of}
+use Rattle.ert_wheel.specs.Rows.{key_of}
 use Rattle.ert_wheel.specs.declared.row.Row.{Row as WheelRow}
 
 -- the look with which it begins
@@ -47,11 +45,15 @@ pub tried_come_to : (g : Settings) (v : View) (p q r : Part) (to n : ℕ) (old n
 tried_come_to g v p q r to n old new u is up some =
     subst (λ (x : Part). TriesRows g v p x to n old new u) (sym is) (tries_come_to g v p q to n r.passed old new u some up)
 
--- a row that is held is counted, and when it has gone there is one less
-pub row_counted : (p q : Part) (row : WheelRow) → key_in p.keys row.slot ≡ Some (key_of row) → q.keys ≡ set p.keys row.slot None
-    → count_by is_some q.keys + 1 ≡ count_by is_some p.keys
-row_counted p q row held keys =
-    ap (λ ks. count_by is_some ks + 1) keys ∙ counts_less p.keys row.slot (key_of row) (key_low p.keys row.slot (key_of row) held) held
+-- so many rows fewer are held then
+pub loses_some : (g : Settings) (v : View) (p q r : Part) (to most : ℕ) (more : Bool) (old new : Queue) (u : View) → IsTriedSome g v p q to most more old new u
+    → r.keys ≡ q.keys → LosesSome more most p r
+loses_some g v p q r to most true old new u some keys =
+    let tried : some.count ≡ most = some.tried in
+    omega (arith, tried, some.done.fewer, ap (count_by is_some) keys)
+loses_some g v p q r to most false old new u some keys =
+    let tried : some.count ≤ most = some.tried in
+    omega (arith, tried, some.done.fewer, ap (count_by is_some) keys)
 
 -- the first row that is due is one that is
 pub has_due : (p : Part) (to : ℕ) (row : WheelRow) → IsFirstRowDue p.keys to row → HasDue p to

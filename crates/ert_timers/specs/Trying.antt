@@ -1,6 +1,7 @@
 -- Timers that are due are tried, one after the other: so many at most, or all.
 
-use Rattle.std.specs.Prelude.{◌≡◌, ℕ, ◌≤◌, pos, Bool, true, false, List, ◌++◌, length, Some, Result, Ok, Err}
+use Rattle.std.specs.Prelude.{◌≡◌, ℕ, ◌+◌, ◌≤◌, pos, Bool, true, false, List, ◌++◌, length, count_by, Some, Result, Ok, Err}
+use Rattle.std.specs.Option.{is_some}
 use Rattle.ert_defs.specs.Milliseconds.{down}
 use Rattle.ert_defs.specs.States.{state}
 use Rattle.ert_defs.specs.Timers.{Row}
@@ -38,6 +39,7 @@ pub record TriesRows (g : Settings) (v : View) (p q : Part) (to n : ℕ) (old ne
   pub once : AreOnce tries
   pub none : HoldsNone q tries
   pub loses : LosesRows p q
+  pub fewer : count_by is_some q.keys + n ≡ count_by is_some p.keys
   pub rows : (state g u.front).rows p.number ≡ (state g v.front).rows p.number
   pub call : TakesPlace g v (expiry_entries p.number tries) u
   pub number : q.number ≡ p.number
@@ -67,6 +69,11 @@ pub record HasDue (p : Part) (to : ℕ) : Type 0 where
 abbrev pub IsLeft : Part → ℕ → Bool → Type 0
 IsLeft p to true = HasDue p to
 IsLeft p to false = HasPassed p to
+
+-- so many rows fewer are held: just the most where more are due, and so many at most where none is
+abbrev pub LosesSome : Bool → ℕ → Part → Part → Type 0
+LosesSome true most p q = count_by is_some q.keys + most ≡ count_by is_some p.keys
+LosesSome false most p q = count_by is_some p.keys ≤ count_by is_some q.keys + most
 
 -- an advance with a bound: the timers that expired by it come last in the list, and in the scheduler's
 pub record HasExpiredSome (g : Settings) (v : View) (w most to : ℕ) (more : Bool) (old new : Queue) (u : View) : Type 0 where
