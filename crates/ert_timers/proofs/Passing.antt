@@ -7,8 +7,10 @@ use Rattle.ert_defs.specs.Timers.{Row}
 use Rattle.ert_defs.specs.declared.timer.TimerRef.{TimerRef}
 use Rattle.ert_effects.specs.WheelCalls.{Try, AllDue, AreOnce, IsDueBy, IsUntried}
 use Rattle.ert_timers.specs.Parts.{Part, last_timer}
-use Rattle.ert_timers.specs.Passed.{HasPassed, HoldsNone, LosesRows}
+use Rattle.ert_timers.specs.Freeing.{IsHeld}
+use Rattle.ert_timers.specs.Passed.{HasPassed, HoldsEach, HoldsNone, LosesRows}
 use Rattle.ert_timers.proofs.Rows.{key_left}
+use Rattle.ert_wheel.proofs.Collect.{key_low}
 use Rattle.ert_wheel.specs.Rows.{key_in}
 use Rattle.ert_wheel.specs.declared.row.Key.{Key}
 
@@ -99,6 +101,19 @@ pub none_more : (p q : Part) (k : ℕ) (tries : List Try) (t : Try) → k < leng
 none_more p q k tries t low is number slots keys time none =
     none_push q tries t (holds_less p q tries (loses_row p q k low number slots keys time) none)
     (λ j key held same. (key_left p.keys k j key low (ap (λ ks. key_in ks j) (sym keys) ∙ held)).0 (ap (λ (r : TimerRef). r.slot) (same ∙ is)))
+
+-- a timer whose row is held was held before rows went
+pub was_held : (p q : Part) (k : ℕ) (key : Key) → LosesRows p q → length q.keys ≡ length q.slots → key_in q.keys k ≡ Some key
+    → IsHeld p (last_timer q.number q.slots k)
+was_held p q k key loses wide held = record {
+  low = omega (arith, key_low q.keys k key held, wide, ap (λ slots. length slots) loses.slots);
+  named = same_last p q k loses;
+  row = λ none. (let clash : None ≡ Some key = sym none ∙ loses.left k key held in absurd cc);
+}
+
+pub held_push : (p : Part) (tries : List Try) (t : Try) → HoldsEach p tries → IsHeld p t.timer → HoldsEach p (tries ++ t ∷ [])
+held_push p [] t all one = (one, tt)
+held_push p (x ∷ tries) t all one = (all.0, held_push p tries t all.1 one)
 
 pub due_push : (rows : List Row) (to : ℕ) (tries : List Try) (t : Try) → AllDue rows to tries → IsDueBy rows to t.timer → AllDue rows to (tries ++ t ∷ [])
 due_push rows to [] t all one = (one, tt)

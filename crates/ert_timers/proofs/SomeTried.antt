@@ -1,6 +1,6 @@
 -- An advance that tries so many timers at most.
 
-use Rattle.std.proofs.Common.{◌≡◌, ℕ, ◌+◌, ◌≤◌, Bool, true, false, ◌||◌, nat_eq, count_by, List, [], ◌∷◌, ◌++◌, refl, sym, ap, subst, ◌∙◌, arith, append-nil}
+use Rattle.std.proofs.Common.{◌≡◌, ℕ, ◌≤◌, Bool, true, false, ◌||◌, nat_eq, count_by, List, [], ◌∷◌, ◌++◌, refl, sym, ap, subst, ◌∙◌, arith, append-nil}
 use Rattle.std.specs.Option.{is_some}
 use Rattle.ert_calls.proofs.Looks.{look_stepped}
 use Rattle.ert_defs.specs.Entries.{look_entry, advanced_entry}
@@ -18,10 +18,13 @@ use Rattle.ert_timers.proofs.Dues.{none_armed_due}
 use Rattle.ert_timers.proofs.Later.{later_step}
 use Rattle.ert_timers.proofs.Tried.{self, waits_by}
 use Rattle.ert_timers.proofs.Trials.{looked_stands}
-use Rattle.ert_timers.proofs.Trying.{stands_come_to, tries_come_to}
+use Rattle.ert_timers.proofs.Passing.{holds_less}
+use Rattle.ert_timers.proofs.Trying.{loses_come_to, stands_come_to, tries_come_to}
+use Rattle.ert_timers.specs.Changes.{gone_on}
 use Rattle.ert_timers.specs.FiredLists.{Queue}
 use Rattle.ert_timers.specs.Looking.{LooksDown}
 use Rattle.ert_timers.specs.Parts.{HoldsSched, Part, Stands}
+use Rattle.ert_timers.specs.Passed.{HoldsNone}
 use Rattle.ert_timers.specs.Trying.{HasDue, HasExpiredSome, IsLooked, IsTriedSome, LosesSome, TriesRows, come_to}
 use Rattle.ert_wheel.specs.FirstDue.{NoRowDue, IsFirstRowDue}
 use Rattle.ert_wheel.specs.Rows.{key_of}
@@ -84,7 +87,7 @@ module _ (g : Settings) (v : View) (p q : Part) (k most to : ℕ) (old mid new :
   same_rows = (later_step g v look u p.number looked.step holds.wheel refl).rows
 
   -- more are due
-  pub stopped_some : IsTriedSome g u p q to most true mid new w → HasExpiredSome g v p.number most to true old new w
+  pub stopped_some : IsTriedSome g u p q to most true mid new w → HasExpiredSome g v p q most to true old new w
   stopped_some some = record {
     gained = some.done.gained;
     call = record {
@@ -102,14 +105,16 @@ module _ (g : Settings) (v : View) (p q : Part) (k most to : ℕ) (old mid new :
       call = subst (λ es. TakesPlace g v (look ∷ es) w) (sym (append-nil (expiry_entries p.number some.done.tries)))
           (takes_place_then g v u w (look ∷ []) (expiry_entries p.number some.done.tries) (step_takes_place g v look u looked.step) some.done.call);
     };
+    held = some.done.held;
+    none = some.done.none;
     fired = some.done.fired ∙ ap (λ l. l ++ some.done.gained) rows;
     waits = some.done.waits ∙ ap (λ l. l ++ some.done.gained) (waits_by g v look u p.number looked.step holds.sched has);
   }
 
   -- none is, and that is recorded
-  pub ended_some : (x : View) → IsTriedSome g u p q to most false mid new w → Appends g w (advanced_entry p.number to) x
-      → HasExpiredSome g v p.number most to false old new x
-  ended_some x some step = record {
+  pub ended_some : (r : Part) (x : View) → r ≡ gone_on q to → IsTriedSome g u p q to most false mid new w → Appends g w (advanced_entry p.number to) x
+      → HasExpiredSome g v p r most to false old new x
+  ended_some r x on some step = record {
     gained = some.done.gained;
     call = record {
       entries = look ∷ (expiry_entries p.number some.done.tries ++ advanced_entry p.number to ∷ []);
@@ -127,6 +132,9 @@ module _ (g : Settings) (v : View) (p q : Part) (k most to : ℕ) (old mid new :
           (takes_place_then g v u w (look ∷ []) (expiry_entries p.number some.done.tries) (step_takes_place g v look u looked.step) some.done.call)
           (step_takes_place g w (advanced_entry p.number to) x step);
     };
+    held = some.done.held;
+    none = subst (λ (y : Part). HoldsNone y some.done.tries) (sym on)
+        (holds_less q (gone_on q to) some.done.tries (loses_come_to q (gone_on q to).passed (omega arith)) some.done.none);
     fired = some.done.fired ∙ ap (λ l. l ++ some.done.gained) rows;
     waits = waits_by g w (advanced_entry p.number to) x p.number step
         (subst (λ actors. is_held actors (Sched p.number) ≡ true) (sym (some.done.call.actors ∙ looked.step.actors)) holds.sched) has

@@ -25,7 +25,7 @@ use Rattle.ert_timers.specs.Parts.{Part, Stands, last_timer}
 use Rattle.ert_timers.specs.Passed.{LosesRows}
 use Rattle.ert_timers.specs.Trying.{TriesRows, come_to, fired_in}
 use Rattle.ert_timers.proofs.Later.{later_step}
-use Rattle.ert_timers.proofs.Passing.{due_push, holds_less, loses_none, loses_row, loses_then, none_more, once_more}
+use Rattle.ert_timers.proofs.Passing.{due_push, held_push, holds_less, loses_none, loses_row, loses_then, none_more, once_more, was_held}
 use Rattle.ert_timers.proofs.Tried.{held_found}
 use Rattle.ert_wheel.specs.Rows.{key_in, key_of}
 use Rattle.ert_wheel.specs.declared.row.Row.{Row as WheelRow}
@@ -45,6 +45,7 @@ tries_none g v p to q legal = record {
   settled = tt;
   due = tt;
   once = tt;
+  held = tt;
   none = tt;
   loses = loses_none p;
   fewer = omega arith;
@@ -113,6 +114,7 @@ tries_more g v p q r to n row old mid new u w some stands its due wheel one =
         due = due;
       });
       once = once_more q row.slot (key_of row) some.tries t its refl some.none some.once;
+      held = held_push p some.tries t some.held (was_held p q row.slot (key_of row) some.loses (stands.holds.wide ∙ sym stands.holds.many) its);
       none = none_more q r row.slot some.tries t low refl mine slots keys time some.none;
       loses = loses_then p q r some.loses (loses_row q r row.slot low mine slots keys time);
       fewer = omega (arith, some.fewer, row_counted q r row its keys);
@@ -178,6 +180,7 @@ tries_come_to g v p q to n passed old new u some up = record {
   settled = some.settled;
   due = some.due;
   once = some.once;
+  held = some.held;
   none = holds_less q (come_to q passed) some.tries (loses_come_to q passed up) some.none;
   loses = loses_then p q (come_to q passed) some.loses (loses_come_to q passed up);
   fewer = some.fewer;

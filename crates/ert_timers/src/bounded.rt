@@ -34,7 +34,7 @@ impl WheelPart {
         ensures belongs { Belongs desk.now pass.new }
         ensures number { self.new.number ≡ self.old.number }
         ensures stands { Stands (settings_of desk.now) (front_of pass.new) self.new }
-        ensures call { IsAdvancedSome (settings_of desk.now) (view_of pass.old) self.old.number most result fired.old fired.new (view_of pass.new) }
+        ensures call { IsAdvancedSome (settings_of desk.now) (view_of pass.old) self.old self.new most result fired.old fired.new (view_of pass.new) }
         ensures left { IfOk result (λ answer. IsLeft self.new answer.0 answer.1) }
         ensures fewer { IfOk result (λ answer. LosesSome answer.1 most self.old self.new) }
         ensures loses { LosesRows self.old self.new }

@@ -95,7 +95,7 @@ pub some_ok : (before : Seen) (b : Inside) (d : Desk) (q : Pass) (i most to n m 
     → Has before b d → Belongs d q → i < before.settings.schedulers → old ≡ slice_index_or b.wheels.items i old
     → part ≡ slice_index_or b.scheds.items i part → new.number ≡ old.number → WheelStands (settings_of d) (front_of q) new
     → LosesRows old new
-    → HasExpiredSome (settings_of d) (view_of b.pass) old.number most to more part.fired x.fired (view_of q)
+    → HasExpiredSome (settings_of d) (view_of b.pass) old new most to more part.fired x.fired (view_of q)
     → x.wheel ≡ part.wheel → x.hand ≡ part.hand → n ≡ length x.fired.rows → m ≡ length part.fired.rows
     → Does before d q b.next (record (parts_in b) { wheels = slice_set b.wheels.items i new; scheds = slice_set b.scheds.items i x })
     (λ w way. way (Wheel i ∷ []) (AdvancesSome w.settings i most (Ok (to, n - m, more))))

@@ -59,7 +59,7 @@ returns-clause-call c =
     c.number-2.ensures ∙ (ap (λ (p : Part). p.number) c.go_on.ensures ∙ some.done.number) in
     ended_some g (view_of c.args.pass.now) c.args.self.now c.try_some.new.self c.number.result c.args.most to
     c.args.fired.now c.reserve.new.self c.try_some.new.fired (view_of c.look_down-to.new.pass) w c.number.ensures
-    c.reserve.ensures.rows c.look_down-to.ensures.looks c.requires.holds x some
+    c.reserve.ensures.rows c.look_down-to.ensures.looks c.requires.holds c.go_on.new.self x c.go_on.ensures some
     (subst (λ n. Appends g w (advanced_entry n to) x) number c.load_time.ensures.step)
 
 pub returns-then-try_some-clause-fewer : goal.returns-then-try_some-clause-fewer
