@@ -34,7 +34,7 @@ use Rattle.ert_timers.specs.Passed.{LosesRows}
 use Rattle.ert_timers.proofs.Fit.{taken_was}
 use Rattle.ert_timers.proofs.Later.{later_before, later_step}
 use Rattle.ert_timers.proofs.Resting.{later_awake, rested_by}
-use Rattle.ert_timers.proofs.Standing.{clock_at, clock_rises, clock_stepped, count_same, holds_freed, stands_step}
+use Rattle.ert_timers.proofs.Standing.{clock_at, clock_rises, clock_stepped, count_same, holds_freed, stands_step, stands_with}
 use Rattle.ert_timers.proofs.Passing.{loses_none, loses_row, loses_then}
 use Rattle.ert_timers.proofs.Tried.{stands_gone}
 
@@ -323,23 +323,8 @@ round_are_probes by now w q round probes finds =
 
 -- the part stands when a slot is held free no more
 picked_stands : (g : Settings) (v : View) (p q : Part) (k : ℕ) → Stands g v.front p → q ≡ picked p k → Stands g v.front q
-picked_stands g v p q k stands is = subst (λ (x : Part). Stands g v.front x) (sym is) (record {
-  checked = stands.checked;
-  legal = stands.legal;
-  holds = record {
-    number = stands.holds.number;
-    processes = stands.holds.processes;
-    many = stands.holds.many;
-    wide = stands.holds.wide;
-    rows = stands.holds.rows;
-    lasts = stands.holds.lasts;
-    aboves = stands.holds.aboves;
-    arms = stands.holds.arms;
-    free = λ j held. stands.holds.free j (taken_was p.free k j held);
-    ready = λ j held. stands.holds.ready j (taken_was p.free k j held);
-  };
-  counted = record { arms = stands.counted.arms; expires = stands.counted.expires; orphans = stands.counted.orphans };
-})
+picked_stands g v p q k stands is =
+    subst (λ (x : Part). Stands g v.front x) (sym is) (stands_with g v.front p (picked p k).free p.passed stands (λ j held. taken_was p.free k j held))
 
 -- it has lost no row
 loses_picked : (p : Part) (k : ℕ) → LosesRows p (picked p k)

@@ -26,6 +26,7 @@ use Rattle.ert_timers.specs.Passed.{LosesRows}
 use Rattle.ert_timers.specs.Trying.{TriesRows, come_to, fired_in}
 use Rattle.ert_timers.proofs.Later.{later_step}
 use Rattle.ert_timers.proofs.Passing.{due_push, held_push, holds_less, loses_none, loses_row, loses_then, none_more, once_more, was_held}
+use Rattle.ert_timers.proofs.Standing.{stands_with}
 use Rattle.ert_timers.proofs.Tried.{held_found}
 use Rattle.ert_wheel.specs.Rows.{key_in, key_of}
 use Rattle.ert_wheel.specs.declared.row.Row.{Row as WheelRow}
@@ -148,23 +149,7 @@ looked_more g q r to row mid new u w told held one =
 
 -- a part stands as before where the time of its wheel goes on
 pub stands_come_to : (g : Settings) (h : List Entry) (p : Part) (passed : ℕ) → Stands g h p → Stands g h (come_to p passed)
-stands_come_to g h p passed stands = record {
-  checked = stands.checked;
-  legal = stands.legal;
-  holds = record {
-    number = stands.holds.number;
-    processes = stands.holds.processes;
-    many = stands.holds.many;
-    wide = stands.holds.wide;
-    rows = stands.holds.rows;
-    lasts = stands.holds.lasts;
-    aboves = stands.holds.aboves;
-    arms = stands.holds.arms;
-    free = stands.holds.free;
-    ready = stands.holds.ready;
-  };
-  counted = record { arms = stands.counted.arms; expires = stands.counted.expires; orphans = stands.counted.orphans };
-}
+stands_come_to g h p passed stands = stands_with g h p p.free passed stands (λ k held. held)
 
 -- it has lost no row
 pub loses_come_to : (p : Part) (passed : ℕ) → p.passed ≤ passed → LosesRows p (come_to p passed)
