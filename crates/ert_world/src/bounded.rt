@@ -77,7 +77,7 @@ impl World {
         requires { sched < self.old.settings.schedulers }
         ensures call { Goes self.old (λ way. TurnsSome self.old.settings way sched most result) self.new }
         ensures passed { IfOk result (λ answer. answer.1 ≡ false → HasPassedAt self.new sched answer.0.to) }
-        ensures most { IfOk result (λ answer. answer.1 ≡ true → HasDoneMost self.old self.new sched most answer.0) }
+        ensures done { IfOk result (λ answer. answer.1 ≡ true → HasDoneMost self.old self.new sched most answer.0) }
         ensures stays { Stays self.old self.new }
     {
         let served = serve_all(self, sched)?;
