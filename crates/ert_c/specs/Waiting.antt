@@ -1,13 +1,13 @@
 -- What a service does by the calls that give a timer a new deadline, tell how much waits, and hand over or take so many
 -- messages at most, and how C is told the answers.
 
-use Rattle.std.specs.Prelude.{◌≡◌, ℕ, ℤ, Bool, false, length, Result, Ok, Err, IfOk}
+use Rattle.std.specs.Prelude.{◌≡◌, ℕ, ℤ, Bool, true, false, length, Result, Ok, Err, IfOk}
 use Rattle.ert_defs.specs.States.{state}
 use Rattle.ert_defs.specs.declared.memory.NoMemory.{NoMemory as WantOfMemory}
 use Rattle.ert_defs.specs.declared.timer.Start.{Start}
 use Rattle.ert_defs.specs.declared.timer.TimerRef.{TimerRef}
 use Rattle.ert_effects.specs.declared.answers.Turned.{Turned}
-use Rattle.ert_world.specs.Bounded.{TurnsSome}
+use Rattle.ert_world.specs.Bounded.{HasDoneMost, TurnsSome}
 use Rattle.ert_world.specs.Held.{HoldsRows, AreArmed}
 use Rattle.ert_world.specs.Restarts.{Restarts}
 use Rattle.ert_world.specs.Stepping.{Stays}
@@ -57,6 +57,7 @@ pub record TurnsSomeBy (sched most : ℕ) (answer : Result (Turned × Bool) Want
   pub makes : Makes (λ w way. TurnsSome w.settings way sched most answer) old new
   pub stays : Stays old new
   pub passed : IfOk answer (λ done. done.1 ≡ false → HasPassedAt new sched done.0.to)
+  pub done : IfOk answer (λ turned. turned.1 ≡ true → HasDoneMost old new sched most turned.0)
 
 -- what such a turn did, for C
 abbrev pub turned_some_as : Turned × Bool → ErtTurnedSome

@@ -18,6 +18,8 @@ pub mod Orphaned
 pub mod NextUses
 pub mod Armings
 pub mod Lookings
+pub mod Rounds
+pub mod Takings
 pub mod Dropped
 pub mod Starts
 pub mod Roomed

@@ -1,12 +1,16 @@
 -- Rows go, and each of their timers is tried once.
 
-use Rattle.std.proofs.Common.{◌≡◌, ◌≢◌, ℕ, ◌<◌, ◌≤◌, List, [], ◌∷◌, ◌++◌, length, Option, Some, None, IfSome, refl, sym, ap, subst, ◌∙◌, set, arith}
+use Rattle.std.proofs.Common.{◌≡◌, ◌≢◌, ℕ, zero, suc, ◌<◌, ◌≤◌, cond, count_by, List, [], ◌∷◌, ◌++◌, length, Option, Some, None, IfSome, refl, sym, ap, subst, ◌∙◌, set, arith}
+use Rattle.std.proofs.lemmas.List.Sums.{sum_by-cons}
+use Rattle.std.specs.Option.{is_some}
 use Rattle.ert_defs.specs.Timers.{Row}
 use Rattle.ert_defs.specs.declared.timer.TimerRef.{TimerRef}
 use Rattle.ert_effects.specs.WheelCalls.{Try, AllDue, AreOnce, IsDueBy, IsUntried}
 use Rattle.ert_timers.specs.Parts.{Part, last_timer}
-use Rattle.ert_timers.specs.Passed.{HasPassed, HoldsNone, LosesRows}
+use Rattle.ert_timers.specs.Freeing.{IsHeld}
+use Rattle.ert_timers.specs.Passed.{HasPassed, HoldsEach, HoldsNone, LosesRows}
 use Rattle.ert_timers.proofs.Rows.{key_left}
+use Rattle.ert_wheel.proofs.Collect.{key_low}
 use Rattle.ert_wheel.specs.Rows.{key_in}
 use Rattle.ert_wheel.specs.declared.row.Key.{Key}
 
@@ -30,6 +34,31 @@ loses_row p q k low number slots keys time = record {
   left = λ j key is. (key_left p.keys k j key low (ap (λ ks. key_in ks j) (sym keys) ∙ is)).1;
   time = omega arith;
 }
+
+-- where rows only go there are no more of them
+keys_lost : (ks ls : List (Option Key)) → ((k : ℕ) (key : Key) → key_in ks k ≡ Some key → key_in ls k ≡ Some key) → count_by is_some ks ≤ count_by is_some ls
+keys_lost [] ls left = omega arith
+keys_lost (None ∷ ks) [] left =
+    omega (arith, sum_by-cons (λ (o : Option Key). cond (is_some o) 1 0) None ks, keys_lost ks [] (λ k key is. left (suc k) key is))
+keys_lost (Some key ∷ ks) [] left = let clash : None ≡ Some key = left zero key refl in absurd cc
+keys_lost (None ∷ ks) (l ∷ ls) left =
+    omega (
+      arith,
+      sum_by-cons (λ (o : Option Key). cond (is_some o) 1 0) None ks,
+      sum_by-cons (λ (o : Option Key). cond (is_some o) 1 0) l ls,
+      keys_lost ks ls (λ k key is. left (suc k) key is),
+    )
+keys_lost (Some key ∷ ks) (None ∷ ls) left = let clash : None ≡ Some key = left zero key refl in absurd cc
+keys_lost (Some key ∷ ks) (Some l ∷ ls) left =
+    omega (
+      arith,
+      sum_by-cons (λ (o : Option Key). cond (is_some o) 1 0) (Some key) ks,
+      sum_by-cons (λ (o : Option Key). cond (is_some o) 1 0) (Some l) ls,
+      keys_lost ks ls (λ k key is. left (suc k) key is),
+    )
+
+pub rows_lost : (p q : Part) → LosesRows p q → count_by is_some q.keys ≤ count_by is_some p.keys
+rows_lost p q loses = keys_lost q.keys p.keys loses.left
 
 -- the last timers are the same
 pub same_last : (p q : Part) (k : ℕ) → LosesRows p q → last_timer q.number q.slots k ≡ last_timer p.number p.slots k
@@ -72,6 +101,19 @@ pub none_more : (p q : Part) (k : ℕ) (tries : List Try) (t : Try) → k < leng
 none_more p q k tries t low is number slots keys time none =
     none_push q tries t (holds_less p q tries (loses_row p q k low number slots keys time) none)
     (λ j key held same. (key_left p.keys k j key low (ap (λ ks. key_in ks j) (sym keys) ∙ held)).0 (ap (λ (r : TimerRef). r.slot) (same ∙ is)))
+
+-- a timer whose row is held was held before rows went
+pub was_held : (p q : Part) (k : ℕ) (key : Key) → LosesRows p q → length q.keys ≡ length q.slots → key_in q.keys k ≡ Some key
+    → IsHeld p (last_timer q.number q.slots k)
+was_held p q k key loses wide held = record {
+  low = omega (arith, key_low q.keys k key held, wide, ap (λ slots. length slots) loses.slots);
+  named = same_last p q k loses;
+  row = λ none. (let clash : None ≡ Some key = sym none ∙ loses.left k key held in absurd cc);
+}
+
+pub held_push : (p : Part) (tries : List Try) (t : Try) → HoldsEach p tries → IsHeld p t.timer → HoldsEach p (tries ++ t ∷ [])
+held_push p [] t all one = (one, tt)
+held_push p (x ∷ tries) t all one = (all.0, held_push p tries t all.1 one)
 
 pub due_push : (rows : List Row) (to : ℕ) (tries : List Try) (t : Try) → AllDue rows to tries → IsDueBy rows to t.timer → AllDue rows to (tries ++ t ∷ [])
 due_push rows to [] t all one = (one, tt)

@@ -26,7 +26,7 @@ use Rattle.ert_timers.specs.Parts.{HoldsCaller, Part, Stands, slot_at}
 use Rattle.ert_timers.specs.Rooms.{SeesSlot, SeesSome, SeesAll, room_after}
 use Rattle.ert_timers.specs.Starting.{probes_from}
 use Rattle.ert_timers.specs.Slots.{Slot}
-use Rattle.ert_timers.proofs.Lookings.{probes-push}
+use Rattle.ert_timers.proofs.Rounds.{probes-push}
 use Rattle.ert_timers.proofs.Resting.{rested_by, resting_since}
 use Rattle.ert_timers.proofs.Standing.{clock_at, clock_rises, stands_step}
 

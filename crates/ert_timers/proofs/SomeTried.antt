@@ -1,6 +1,6 @@
 -- An advance that tries so many timers at most.
 
-use Rattle.std.proofs.Common.{◌≡◌, ℕ, ◌+◌, ◌≤◌, true, false, ◌||◌, nat_eq, count_by, List, [], ◌∷◌, ◌++◌, set, Some, None, refl, sym, ap, subst, ◌∙◌, append-nil}
+use Rattle.std.proofs.Common.{◌≡◌, ℕ, ◌≤◌, Bool, true, false, ◌||◌, nat_eq, count_by, List, [], ◌∷◌, ◌++◌, refl, sym, ap, subst, ◌∙◌, arith, append-nil}
 use Rattle.std.specs.Option.{is_some}
 use Rattle.ert_calls.proofs.Looks.{look_stepped}
 use Rattle.ert_defs.specs.Entries.{look_entry, advanced_entry}
@@ -18,15 +18,16 @@ use Rattle.ert_timers.proofs.Dues.{none_armed_due}
 use Rattle.ert_timers.proofs.Later.{later_step}
 use Rattle.ert_timers.proofs.Tried.{self, waits_by}
 use Rattle.ert_timers.proofs.Trials.{looked_stands}
-use Rattle.ert_timers.proofs.Trying.{stands_come_to, tries_come_to}
+use Rattle.ert_timers.proofs.Passing.{holds_less}
+use Rattle.ert_timers.proofs.Trying.{loses_come_to, stands_come_to, tries_come_to}
+use Rattle.ert_timers.specs.Changes.{gone_on}
 use Rattle.ert_timers.specs.FiredLists.{Queue}
 use Rattle.ert_timers.specs.Looking.{LooksDown}
 use Rattle.ert_timers.specs.Parts.{HoldsSched, Part, Stands}
-use Rattle.ert_timers.specs.Trying.{HasDue, HasExpiredSome, IsLooked, IsTriedSome, TriesRows, come_to}
-use Rattle.ert_wheel.proofs.Collect.{key_low}
-use Rattle.ert_wheel.proofs.Views.{counts_less}
+use Rattle.ert_timers.specs.Passed.{HoldsNone}
+use Rattle.ert_timers.specs.Trying.{HasDue, HasExpiredSome, IsLooked, IsTriedSome, LosesSome, TriesRows, come_to}
 use Rattle.ert_wheel.specs.FirstDue.{NoRowDue, IsFirstRowDue}
-use Rattle.ert_wheel.specs.Rows.{key_in, key_of}
+use Rattle.ert_wheel.specs.Rows.{key_of}
 use Rattle.ert_wheel.specs.declared.row.Row.{Row as WheelRow}
 
 -- the look with which it begins
@@ -47,11 +48,15 @@ pub tried_come_to : (g : Settings) (v : View) (p q r : Part) (to n : ℕ) (old n
 tried_come_to g v p q r to n old new u is up some =
     subst (λ (x : Part). TriesRows g v p x to n old new u) (sym is) (tries_come_to g v p q to n r.passed old new u some up)
 
--- a row that is held is counted, and when it has gone there is one less
-pub row_counted : (p q : Part) (row : WheelRow) → key_in p.keys row.slot ≡ Some (key_of row) → q.keys ≡ set p.keys row.slot None
-    → count_by is_some q.keys + 1 ≡ count_by is_some p.keys
-row_counted p q row held keys =
-    ap (λ ks. count_by is_some ks + 1) keys ∙ counts_less p.keys row.slot (key_of row) (key_low p.keys row.slot (key_of row) held) held
+-- so many rows fewer are held then
+pub loses_some : (g : Settings) (v : View) (p q r : Part) (to most : ℕ) (more : Bool) (old new : Queue) (u : View) → IsTriedSome g v p q to most more old new u
+    → r.keys ≡ q.keys → LosesSome more most p r
+loses_some g v p q r to most true old new u some keys =
+    let tried : some.count ≡ most = some.tried in
+    omega (arith, tried, some.done.fewer, ap (count_by is_some) keys)
+loses_some g v p q r to most false old new u some keys =
+    let tried : some.count ≤ most = some.tried in
+    omega (arith, tried, some.done.fewer, ap (count_by is_some) keys)
 
 -- the first row that is due is one that is
 pub has_due : (p : Part) (to : ℕ) (row : WheelRow) → IsFirstRowDue p.keys to row → HasDue p to
@@ -82,7 +87,7 @@ module _ (g : Settings) (v : View) (p q : Part) (k most to : ℕ) (old mid new :
   same_rows = (later_step g v look u p.number looked.step holds.wheel refl).rows
 
   -- more are due
-  pub stopped_some : IsTriedSome g u p q to most true mid new w → HasExpiredSome g v p.number most to true old new w
+  pub stopped_some : IsTriedSome g u p q to most true mid new w → HasExpiredSome g v p q most to true old new w
   stopped_some some = record {
     gained = some.done.gained;
     call = record {
@@ -100,14 +105,16 @@ module _ (g : Settings) (v : View) (p q : Part) (k most to : ℕ) (old mid new :
       call = subst (λ es. TakesPlace g v (look ∷ es) w) (sym (append-nil (expiry_entries p.number some.done.tries)))
           (takes_place_then g v u w (look ∷ []) (expiry_entries p.number some.done.tries) (step_takes_place g v look u looked.step) some.done.call);
     };
+    held = some.done.held;
+    none = some.done.none;
     fired = some.done.fired ∙ ap (λ l. l ++ some.done.gained) rows;
     waits = some.done.waits ∙ ap (λ l. l ++ some.done.gained) (waits_by g v look u p.number looked.step holds.sched has);
   }
 
   -- none is, and that is recorded
-  pub ended_some : (x : View) → IsTriedSome g u p q to most false mid new w → Appends g w (advanced_entry p.number to) x
-      → HasExpiredSome g v p.number most to false old new x
-  ended_some x some step = record {
+  pub ended_some : (r : Part) (x : View) → r ≡ gone_on q to → IsTriedSome g u p q to most false mid new w → Appends g w (advanced_entry p.number to) x
+      → HasExpiredSome g v p r most to false old new x
+  ended_some r x on some step = record {
     gained = some.done.gained;
     call = record {
       entries = look ∷ (expiry_entries p.number some.done.tries ++ advanced_entry p.number to ∷ []);
@@ -125,6 +132,9 @@ module _ (g : Settings) (v : View) (p q : Part) (k most to : ℕ) (old mid new :
           (takes_place_then g v u w (look ∷ []) (expiry_entries p.number some.done.tries) (step_takes_place g v look u looked.step) some.done.call)
           (step_takes_place g w (advanced_entry p.number to) x step);
     };
+    held = some.done.held;
+    none = subst (λ (y : Part). HoldsNone y some.done.tries) (sym on)
+        (holds_less q (gone_on q to) some.done.tries (loses_come_to q (gone_on q to).passed (omega arith)) some.done.none);
     fired = some.done.fired ∙ ap (λ l. l ++ some.done.gained) rows;
     waits = waits_by g w (advanced_entry p.number to) x p.number step
         (subst (λ actors. is_held actors (Sched p.number) ≡ true) (sym (some.done.call.actors ∙ looked.step.actors)) holds.sched) has

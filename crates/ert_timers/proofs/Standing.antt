@@ -31,6 +31,27 @@ use Rattle.ert_timers.proofs.Resting.{rested_by, used_less}
 use Rattle.ert_timers.proofs.Rows.{rows_later}
 use Rattle.ert_wheel.specs.declared.row.Key.{Key}
 
+-- a part stands as before where it holds fewer slots free, and where the time of its wheel goes on
+pub stands_with : (g : Settings) (h : List Entry) (p : Part) (free : sets.FinSet nat_cmp) (passed : ℕ) → Stands g h p
+    → ((k : ℕ) → sets.contains free k ≡ true → sets.contains p.free k ≡ true) → Stands g h (record p { free = free; passed = passed })
+stands_with g h p free passed stands held = record {
+  checked = stands.checked;
+  legal = stands.legal;
+  holds = record {
+    number = stands.holds.number;
+    processes = stands.holds.processes;
+    many = stands.holds.many;
+    wide = stands.holds.wide;
+    rows = stands.holds.rows;
+    lasts = stands.holds.lasts;
+    aboves = stands.holds.aboves;
+    arms = stands.holds.arms;
+    free = λ k is. stands.holds.free k (held k is);
+    ready = λ k is. stands.holds.ready k (held k is);
+  };
+  counted = record { arms = stands.counted.arms; expires = stands.counted.expires; orphans = stands.counted.orphans };
+}
+
 -- the whole milliseconds of the clock
 abbrev pub clock_at : Settings → State → ℕ
 clock_at g s = natural (down g s.clock.now)

@@ -1,7 +1,8 @@
 -- Timers are tried one after the other, and their rows go.
 
-use Rattle.std.proofs.Common.{◌≡◌, ℕ, ◌+◌, ◌≤◌, ℤ, pos, true, false, List, [], ◌∷◌, ◌++◌, ◌<◌, length, set, Option, Some, None, refl, sym, ap, subst, ◌∙◌, arith, append_assoc, append-nil, length-append}
+use Rattle.std.proofs.Common.{◌≡◌, ℕ, ◌+◌, ◌≤◌, ℤ, pos, true, false, List, [], ◌∷◌, ◌++◌, ◌<◌, length, set, count_by, Option, Some, None, refl, sym, ap, subst, ◌∙◌, arith, append_assoc, append-nil, length-append}
 use Rattle.std.proofs.lemmas.List.{map-append}
+use Rattle.std.specs.Option.{is_some}
 use Rattle.ert_calls.proofs.Looks.{look_stepped}
 use Rattle.ert_defs.specs.Legal.{Legal}
 use Rattle.ert_defs.specs.Milliseconds.{down}
@@ -24,11 +25,13 @@ use Rattle.ert_timers.specs.Parts.{Part, Stands, last_timer}
 use Rattle.ert_timers.specs.Passed.{LosesRows}
 use Rattle.ert_timers.specs.Trying.{TriesRows, come_to, fired_in}
 use Rattle.ert_timers.proofs.Later.{later_step}
-use Rattle.ert_timers.proofs.Passing.{due_push, holds_less, loses_none, loses_row, loses_then, none_more, once_more}
+use Rattle.ert_timers.proofs.Passing.{due_push, held_push, holds_less, loses_none, loses_row, loses_then, none_more, once_more, was_held}
+use Rattle.ert_timers.proofs.Standing.{stands_with}
 use Rattle.ert_timers.proofs.Tried.{held_found}
 use Rattle.ert_wheel.specs.Rows.{key_in, key_of}
 use Rattle.ert_wheel.specs.declared.row.Row.{Row as WheelRow}
 use Rattle.ert_wheel.proofs.Collect.{key_low}
+use Rattle.ert_wheel.proofs.Views.{counts_less}
 
 -- no step took place
 pub no_step : (g : Settings) (v : View) → Legal g v.front → TakesPlace g v [] v
@@ -43,8 +46,10 @@ tries_none g v p to q legal = record {
   settled = tt;
   due = tt;
   once = tt;
+  held = tt;
   none = tt;
   loses = loses_none p;
+  fewer = omega arith;
   rows = refl;
   call = no_step g v legal;
   number = refl;
@@ -78,6 +83,12 @@ no_arm : (w : ℕ) (timer : TimerRef) (missed : Option (Option Status)) → is_a
 no_arm w timer None = refl
 no_arm w timer (Some found) = refl
 
+-- a row that is held is counted, and when it has gone there is one less
+pub row_counted : (p q : Part) (row : WheelRow) → key_in p.keys row.slot ≡ Some (key_of row) → q.keys ≡ set p.keys row.slot None
+    → count_by is_some q.keys + 1 ≡ count_by is_some p.keys
+row_counted p q row held keys =
+    ap (λ ks. count_by is_some ks + 1) keys ∙ counts_less p.keys row.slot (key_of row) (key_low p.keys row.slot (key_of row) held) held
+
 -- one more was tried
 pub tries_more : (g : Settings) (v : View) (p q r : Part) (to n : ℕ) (row : WheelRow) (old mid new : Queue) (u w : View)
     → TriesRows g v p q to n old mid u → Stands g u.front q → key_in q.keys row.slot ≡ Some (key_of row) → row.deadline ≤ to
@@ -104,8 +115,10 @@ tries_more g v p q r to n row old mid new u w some stands its due wheel one =
         due = due;
       });
       once = once_more q row.slot (key_of row) some.tries t its refl some.none some.once;
+      held = held_push p some.tries t some.held (was_held p q row.slot (key_of row) some.loses (stands.holds.wide ∙ sym stands.holds.many) its);
       none = none_more q r row.slot some.tries t low refl mine slots keys time some.none;
       loses = loses_then p q r some.loses (loses_row q r row.slot low mine slots keys time);
+      fewer = omega (arith, some.fewer, row_counted q r row its keys);
       rows = (later_step g u (expires_by p.number t.timer t.missed) w p.number step
           (subst (λ k. is_held u.actors (Wheel k) ≡ true) some.number wheel) (no_arm p.number t.timer t.missed)).rows ∙ some.rows;
       call = subst (λ es. TakesPlace g v es w) (sym (map-append (λ (x : Try). expires_by p.number x.timer x.missed) some.tries (t ∷ [])))
@@ -136,23 +149,7 @@ looked_more g q r to row mid new u w told held one =
 
 -- a part stands as before where the time of its wheel goes on
 pub stands_come_to : (g : Settings) (h : List Entry) (p : Part) (passed : ℕ) → Stands g h p → Stands g h (come_to p passed)
-stands_come_to g h p passed stands = record {
-  checked = stands.checked;
-  legal = stands.legal;
-  holds = record {
-    number = stands.holds.number;
-    processes = stands.holds.processes;
-    many = stands.holds.many;
-    wide = stands.holds.wide;
-    rows = stands.holds.rows;
-    lasts = stands.holds.lasts;
-    aboves = stands.holds.aboves;
-    arms = stands.holds.arms;
-    free = stands.holds.free;
-    ready = stands.holds.ready;
-  };
-  counted = record { arms = stands.counted.arms; expires = stands.counted.expires; orphans = stands.counted.orphans };
-}
+stands_come_to g h p passed stands = stands_with g h p p.free passed stands (λ k held. held)
 
 -- it has lost no row
 pub loses_come_to : (p : Part) (passed : ℕ) → p.passed ≤ passed → LosesRows p (come_to p passed)
@@ -168,8 +165,10 @@ tries_come_to g v p q to n passed old new u some up = record {
   settled = some.settled;
   due = some.due;
   once = some.once;
+  held = some.held;
   none = holds_less q (come_to q passed) some.tries (loses_come_to q passed up) some.none;
   loses = loses_then p q (come_to q passed) some.loses (loses_come_to q passed up);
+  fewer = some.fewer;
   rows = some.rows;
   call = some.call;
   number = some.number;

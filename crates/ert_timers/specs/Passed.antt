@@ -1,9 +1,10 @@
--- How the rows of a part go, and what it holds no row of.
+-- How the rows of a part go, and of what it holds rows or none.
 
 use Rattle.std.specs.Prelude.{◌≡◌, ◌≢◌, ◌⊎◌, ℕ, ◌<◌, ◌≤◌, List, [], ◌∷◌, Some, Result, Ok}
 use Rattle.ert_defs.specs.declared.timer.TimerRef.{TimerRef}
 use Rattle.ert_effects.specs.WheelCalls.{Try}
 use Rattle.ert_effects.specs.declared.answers.StartErr.{StartErr}
+use Rattle.ert_timers.specs.Freeing.{IsHeld}
 use Rattle.ert_timers.specs.Parts.{Part, last_timer}
 use Rattle.ert_wheel.specs.Rows.{key_in}
 use Rattle.ert_wheel.specs.declared.row.Key.{Key}
@@ -32,3 +33,8 @@ GainsOne p q answer = (k : ℕ) (key : Key) → key_in q.keys k ≡ Some key →
 abbrev pub HoldsNone : Part → List Try → Type 0
 HoldsNone p [] = Unit {0}
 HoldsNone p (t ∷ tries) = ((k : ℕ) (key : Key) → key_in p.keys k ≡ Some key → last_timer p.number p.slots k ≢ t.timer) × HoldsNone p tries
+
+-- the row of each of these tries' timers is held
+abbrev pub HoldsEach : Part → List Try → Type 0
+HoldsEach p [] = Unit {0}
+HoldsEach p (t ∷ tries) = IsHeld p t.timer × HoldsEach p tries

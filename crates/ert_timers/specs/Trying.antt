@@ -1,6 +1,7 @@
 -- Timers that are due are tried, one after the other: so many at most, or all.
 
-use Rattle.std.specs.Prelude.{◌≡◌, ℕ, ◌≤◌, pos, Bool, true, false, List, ◌++◌, length, Some, Result, Ok, Err}
+use Rattle.std.specs.Prelude.{◌≡◌, ℕ, ◌+◌, ◌≤◌, pos, Bool, true, false, List, ◌++◌, length, count_by, Some, Result, Ok, Err}
+use Rattle.std.specs.Option.{is_some}
 use Rattle.ert_defs.specs.Milliseconds.{down}
 use Rattle.ert_defs.specs.States.{state}
 use Rattle.ert_defs.specs.Timers.{Row}
@@ -15,7 +16,7 @@ use Rattle.ert_table.specs.Takes.{TakesPlace}
 use Rattle.ert_table.specs.declared.view.View.{View}
 use Rattle.ert_timers.specs.FiredLists.{Queue}
 use Rattle.ert_timers.specs.Parts.{Part, Stands}
-use Rattle.ert_timers.specs.Passed.{HoldsNone, LosesRows, HasPassed}
+use Rattle.ert_timers.specs.Passed.{HoldsEach, HoldsNone, LosesRows, HasPassed}
 use Rattle.ert_wheel.specs.Rows.{key_in}
 use Rattle.ert_wheel.specs.declared.row.Key.{Key}
 
@@ -36,8 +37,10 @@ pub record TriesRows (g : Settings) (v : View) (p q : Part) (to n : ℕ) (old ne
   pub settled : AllSettled tries
   pub due : AllDue ((state g v.front).rows p.number) to tries
   pub once : AreOnce tries
+  pub held : HoldsEach p tries
   pub none : HoldsNone q tries
   pub loses : LosesRows p q
+  pub fewer : count_by is_some q.keys + n ≡ count_by is_some p.keys
   pub rows : (state g u.front).rows p.number ≡ (state g v.front).rows p.number
   pub call : TakesPlace g v (expiry_entries p.number tries) u
   pub number : q.number ≡ p.number
@@ -68,12 +71,20 @@ abbrev pub IsLeft : Part → ℕ → Bool → Type 0
 IsLeft p to true = HasDue p to
 IsLeft p to false = HasPassed p to
 
--- an advance with a bound: the timers that expired by it come last in the list, and in the scheduler's
-pub record HasExpiredSome (g : Settings) (v : View) (w most to : ℕ) (more : Bool) (old new : Queue) (u : View) : Type 0 where
+-- so many rows fewer are held: just the most where more are due, and so many at most where none is
+abbrev pub LosesSome : Bool → ℕ → Part → Part → Type 0
+LosesSome true most p q = count_by is_some q.keys + most ≡ count_by is_some p.keys
+LosesSome false most p q = count_by is_some p.keys ≤ count_by is_some q.keys + most
+
+-- an advance with a bound: the timers that were tried had a row before it and have none after it, and those that expired
+-- come last in the list, and in the scheduler's
+pub record HasExpiredSome (g : Settings) (v : View) (p q : Part) (most to : ℕ) (more : Bool) (old new : Queue) (u : View) : Type 0 where
   pub gained : List Row
-  pub call : IsMade g v (AdvancesSome g w most (Ok (to, length gained, more))) u
+  pub call : IsMade g v (AdvancesSome g p.number most (Ok (to, length gained, more))) u
+  pub held : HoldsEach p call.allowed.tries
+  pub none : HoldsNone q call.allowed.tries
   pub fired : new.rows ≡ old.rows ++ gained
-  pub waits : fired_in g u.front w ≡ fired_in g v.front w ++ gained
+  pub waits : fired_in g u.front p.number ≡ fired_in g v.front p.number ++ gained
 
 -- want of memory: nothing was tried
 pub record HasRefusedSome (g : Settings) (v : View) (w most : ℕ) (e : NoMemory) (old new : Queue) (u : View) : Type 0 where
@@ -81,6 +92,6 @@ pub record HasRefusedSome (g : Settings) (v : View) (w most : ℕ) (e : NoMemory
   pub fired : new.rows ≡ old.rows
 
 -- what comes of an advance with a bound, by the answer
-abbrev pub IsAdvancedSome : Settings → View → ℕ → ℕ → Result (ℕ × Bool) NoMemory → Queue → Queue → View → Type 0
-IsAdvancedSome g v w most (Ok answer) old new u = HasExpiredSome g v w most answer.0 answer.1 old new u
-IsAdvancedSome g v w most (Err e) old new u = HasRefusedSome g v w most e old new u
+abbrev pub IsAdvancedSome : Settings → View → Part → Part → ℕ → Result (ℕ × Bool) NoMemory → Queue → Queue → View → Type 0
+IsAdvancedSome g v p q most (Ok answer) old new u = HasExpiredSome g v p q most answer.0 answer.1 old new u
+IsAdvancedSome g v p q most (Err e) old new u = HasRefusedSome g v p.number most e old new u

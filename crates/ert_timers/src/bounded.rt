@@ -14,7 +14,7 @@ impl WheelPart {
     ghost use Rattle.ert_table.specs.Desks.{settings_of, view_of, front_of, Belongs};
     ghost use Rattle.ert_timers.specs.Parts.{HoldsSched, Stands};
     ghost use Rattle.ert_timers.specs.Passed.{LosesRows};
-    ghost use Rattle.ert_timers.specs.Trying.{IsLooked, IsLeft, IsAdvancedSome, HasDue, IsTriedSome};
+    ghost use Rattle.ert_timers.specs.Trying.{IsLooked, IsLeft, IsAdvancedSome, HasDue, IsTriedSome, LosesSome};
     ghost use Rattle.ert_wheel.specs.FirstDue.{NoRowDue};
 
     /// Advances as `advance` does, but tries so many timers at most, and tells whether more are due.
@@ -34,8 +34,9 @@ impl WheelPart {
         ensures belongs { Belongs desk.now pass.new }
         ensures number { self.new.number ≡ self.old.number }
         ensures stands { Stands (settings_of desk.now) (front_of pass.new) self.new }
-        ensures call { IsAdvancedSome (settings_of desk.now) (view_of pass.old) self.old.number most result fired.old fired.new (view_of pass.new) }
+        ensures call { IsAdvancedSome (settings_of desk.now) (view_of pass.old) self.old self.new most result fired.old fired.new (view_of pass.new) }
         ensures left { IfOk result (λ answer. IsLeft self.new answer.0 answer.1) }
+        ensures fewer { IfOk result (λ answer. LosesSome answer.1 most self.old self.new) }
         ensures loses { LosesRows self.old self.new }
     {
         fired.reserve(self.rows_at_most(most))?;

@@ -16,6 +16,7 @@ pub mod LevelBits
 pub mod Levels
 pub mod Lists
 pub mod MarkBits
+pub mod Least
 pub mod NextDue
 pub mod Parts
 pub mod Reaching

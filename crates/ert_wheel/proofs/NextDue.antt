@@ -1,179 +1,20 @@
--- The least deadline of a bucket, and of the first bucket that has a row.
+-- When the next row of a wheel may be due: that of the first bucket that has one.
 
-use Rattle.std.proofs.Common.{◌≡◌, ◌≢◌, ℕ, ◌+◌, ◌-◌, ◌*◌, ◌/◌, ◌%◌, ◌<◌, ◌≤◌, ◌^◌, ◌⊎◌, max, min, zero, suc, cond, count_by, List, [], ◌∷◌, Option, Some, None, IfSome, MatchOption, length, get_or, sym, subst, ◌∙◌, ap, inl, inr, refl, arith}
+use Rattle.std.proofs.Common.{◌≡◌, ℕ, ◌-◌, ◌*◌, ◌/◌, ◌%◌, ◌<◌, ◌≤◌, ◌^◌, ◌⊎◌, max, suc, List, Option, Some, None, MatchOption, sym, ◌∙◌, ap, inl, inr, arith}
 use Rattle.std.proofs.Math.Nat.{div-mul-le_self, lt-div-mul-add, suc-mul, mul-le-mul_right}
 use Rattle.std.proofs.lemmas.Bool.{cases_eq, cases_lt}
-use Rattle.std.proofs.lemmas.List.Sums.{sum_by-cons}
-use Rattle.std.specs.Option.{is_some}
-use Rattle.ert_wheel.proofs.Collect.{InBucket, Steps, key_low, found, at_key}
+use Rattle.ert_wheel.proofs.Collect.{key_low}
 use Rattle.ert_wheel.proofs.LevelBits.{bucket_low, pos512}
 use Rattle.ert_wheel.proofs.Levels.{home_up, home_next, home_near, window_of, one_window, later_window}
-use Rattle.ert_wheel.proofs.Views.{place_is, held_in}
+use Rattle.ert_wheel.proofs.Views.{place_is}
 use Rattle.ert_wheel.specs.Marks.{FirstUsed}
-use Rattle.ert_wheel.specs.NextDue.{MayWalk, NoRow, HasRow, NoneBefore, IsDueAt, Begins, IsNextDue, IsDueIn, IsLeastIn, BeginsIn, IsEarlyIn}
-use Rattle.ert_wheel.specs.Rings.{Rings, Place, AreChains, bound_of, order_of, Finds}
+use Rattle.ert_wheel.specs.NextDue.{NoRow, HasRow, NoneBefore, IsDueAt, Begins, IsNextDue, IsDueIn, IsLeastIn, BeginsIn, IsEarlyIn}
+use Rattle.ert_wheel.specs.Rings.{Rings, Place, AreChains}
 use Rattle.ert_wheel.specs.Rows.{key_in}
-use Rattle.ert_wheel.specs.Wheels.{held_keys, bucket_of, home_by, place_of, places, IsWheel}
+use Rattle.ert_wheel.specs.Wheels.{bucket_of, home_by, places, IsWheel}
 use Rattle.ert_wheel.specs.declared.row.Key.{Key}
 use Rattle.ert_wheel.specs.declared.row.TheConstants.{BUCKETS}
-
--- where none is counted there is no row, and else there is one
-pub no_row : (keys : List (Option Key)) → count_by is_some keys ≡ 0 → NoRow keys
-no_row [] none slot = refl
-no_row (Some key ∷ keys) none slot =
-    absurd (omega (arith, sum_by-cons (λ (o : Option Key). cond (is_some o) 1 0) (Some key) keys))
-no_row (None ∷ keys) none zero = refl
-no_row (None ∷ keys) none (suc slot) =
-    no_row keys (omega (arith, sum_by-cons (λ (o : Option Key). cond (is_some o) 1 0) None keys)) slot
-
-pub has_row : (keys : List (Option Key)) → count_by is_some keys ≢ 0 → HasRow keys
-has_row [] some = absurd (some refl)
-has_row (Some key ∷ keys) some = record { slot = 0; key = key; has = refl }
-has_row (None ∷ keys) some =
-    let row : HasRow keys =
-    has_row keys (λ none. some (omega (arith, sum_by-cons (λ (o : Option Key). cond (is_some o) 1 0) None keys))) in
-    record { slot = suc row.slot; key = row.key; has = row.has }
-
--- the chain was walked down to the slot that comes next
-pub record IsPassed (keys : List (Option Key)) (home : Key → ℕ) (bucket bound : ℕ) (next : Option ℕ) (least : ℕ) : Type 0 where
-  pub low : least ≤ bound
-  pub passed : (j : ℕ) (key : Key) → key_in keys j ≡ Some key → home key ≡ bucket
-      → bound_of (places home keys) next ≤ key.order → least ≤ key.deadline
-  pub near : IsDueIn keys home bucket least ⊎ (least ≡ bound)
-  pub stands : IfSome next (InBucket keys home bucket)
-
--- the slot of a key has this place
-at_place : (keys : List (Option Key)) (home : Key → ℕ) (j : ℕ) (key : Key) → key_in keys j ≡ Some key
-    → places home keys j ≡ Some (record { home = home key; order = key.order })
-at_place keys home j key has = ap (place_of home) has
-
--- the walk begins at the newest
-pub passes_none : (chains : Rings) (keys : List (Option Key)) (home : Key → ℕ) (bucket bound : ℕ) (next : Option ℕ)
-    → length keys ≡ chains.slots → AreChains chains (places home keys)
-    → Finds chains (places home keys) bucket (2 ^ 64) next → IsPassed keys home bucket bound next bound
-passes_none chains keys home bucket bound next slots are f = record {
-  low = omega arith;
-  passed = λ j key has same high.
-      let low : j < chains.slots = omega (arith, slots, key_low keys j key has) in
-      let place : Place = record { home = home key; order = key.order } in
-      absurd (omega (
-        arith,
-        f.greatest j place low (at_place keys home j key has) same (are.orders j place (at_place keys home j key has)),
-      ));
-  near = inr refl;
-  stands = found chains keys home bucket (2 ^ 64) next f;
-}
-
--- a step of the walk
-passes_key : (chains : Rings) (keys : List (Option Key)) (home : Key → ℕ) (bucket bound slot least : ℕ) (key : Key) (next : Option ℕ)
-    → length keys ≡ chains.slots → AreChains chains (places home keys)
-    → IsPassed keys home bucket bound (Some slot) least → key_in keys slot ≡ Some key → home key ≡ bucket
-    → Finds chains (places home keys) bucket key.order next
-    → IsPassed keys home bucket bound next (min least key.deadline)
-passes_key chains keys home bucket bound slot least key next slots are p has at_home f =
-    let here : bound_of (places home keys) (Some slot) ≡ key.order + 1 =
-    ap (λ (o : Option Key). order_of (place_of home o) + 1) has in
-    record {
-      low = omega (arith, p.low);
-      passed = λ j other is same high.
-          let low : j < chains.slots = omega (arith, slots, key_low keys j other is) in
-          elim (cases_lt other.order key.order) [
-            | inl less ↦
-                absurd (omega (arith, f.greatest j (record { home = home other; order = other.order }) low (at_place keys home j other is) same less))
-            | inr more ↦
-                elim (cases_eq other.order key.order) [
-                  | inl e ↦
-                      let one : j ≡ slot =
-                      are.once j slot (record { home = home other; order = other.order }) (record { home = home key; order = key.order })
-                      (at_place keys home j other is) (at_place keys home slot key has) e in
-                      let some : Some other ≡ Some key = sym is ∙ ap (key_in keys) one ∙ has in
-                      let same_key : other ≡ key = cc in
-                      let it : other.deadline ≡ key.deadline = ap (λ (k : Key). k.deadline) same_key in
-                      omega arith
-                  | inr ne ↦ omega (arith, p.passed j other is same (omega (arith, here)))
-                ]
-          ];
-      near = elim (cases_lt key.deadline least) [
-        | inl less ↦ inl (record { slot = slot; key = key; has = has; at_home = at_home; at = omega arith })
-        | inr more ↦
-            let e : least ≡ min least key.deadline = omega arith in
-            subst (λ n. IsDueIn keys home bucket n ⊎ (n ≡ bound)) e p.near
-      ];
-      stands = found chains keys home bucket key.order next f;
-    }
-
--- the key that is read there passes
-pub steps_on : (chains : Rings) (stored : List Key) (home : Key → ℕ) (bucket bound slot : ℕ) (here next : Option ℕ) (least : ℕ) (d : Key)
-    → Steps chains stored home bucket slot here next → IsPassed (held_keys chains stored) home bucket bound here least
-    → IsPassed (held_keys chains stored) home bucket bound next (min least (get_or stored slot d).deadline)
-steps_on chains stored home bucket bound slot here next least d t p =
-    let a = at_key chains stored home bucket slot here next d t in
-    passes_key chains (held_keys chains stored) home bucket bound slot least (get_or stored slot d) next t.slots t.are
-    (subst (λ (o : Option ℕ). IsPassed (held_keys chains stored) home bucket bound o least) t.is p) a.has a.at_home a.follows
-
--- the walk ends where nothing comes next
-pub passes_all : (keys : List (Option Key)) (home : Key → ℕ) (bucket bound : ℕ) (here : Option ℕ) (least : ℕ) → here ≡ None
-    → IsPassed keys home bucket bound here least → IsLeastIn keys home bucket bound least
-passes_all keys home bucket bound here least is passed =
-    let p : IsPassed keys home bucket bound None least =
-    subst (λ (o : Option ℕ). IsPassed keys home bucket bound o least) is passed in
-    record {
-      low = p.low;
-      below = λ j key has same. p.passed j key has same (omega arith);
-      near = p.near;
-    }
-
--- the chains may be walked: `lent` is the stored keys as they are lent
-pub may_walk : {next count : ℕ} {keys : List (Option Key)} {chains : Rings} (lent : List Key) → IsWheel next count keys chains
-    → held_keys chains lent ≡ keys → MayWalk chains (held_keys chains lent)
-may_walk {next = next} {chains = chains} lent w is =
-    subst (λ (ks : List (Option Key)). MayWalk chains ks) (sym is) (record { slots = w.slots; home = home_by next; are = w.are })
-
--- what a bucket has
-pub visits_bucket : {next count bucket : ℕ} {keys : List (Option Key)} {chains : Rings} {least new : ℕ} (lent : List Key)
-    → IsWheel next count keys chains → held_keys chains lent ≡ keys
-    → ((home : Key → ℕ) → AreChains chains (places home (held_keys chains lent))
-    → IsLeastIn (held_keys chains lent) home bucket least new)
-    → IsLeastIn keys (home_by next) bucket least new
-visits_bucket {next = next} {bucket = bucket} {chains = chains} {least = least} {new = new} lent w is looks =
-    subst (λ (ks : List (Option Key)). IsLeastIn ks (home_by next) bucket least new) is
-    (looks (home_by next) (subst (λ (ks : List (Option Key)). AreChains chains (places (home_by next) ks)) (sym is) w.are))
-
--- and how early one of its rows may be due
-pub sees_early : {next count : ℕ} {keys : List (Option Key)} {chains : Rings} (bucket : ℕ) (answer : Option ℕ) (lent : List Key)
-    → IsWheel next count keys chains → held_keys chains lent ≡ keys
-    → ((home : Key → ℕ) → AreChains chains (places home (held_keys chains lent)) → IsEarlyIn (held_keys chains lent) home bucket answer)
-    → IsEarlyIn keys (home_by next) bucket answer
-sees_early {next = next} {chains = chains} bucket answer lent w is looks =
-    subst (λ (ks : List (Option Key)). IsEarlyIn ks (home_by next) bucket answer) is
-    (looks (home_by next) (subst (λ (ks : List (Option Key)). AreChains chains (places (home_by next) ks)) (sym is) w.are))
-
--- a bucket in which no slot is found has no row
-pub none_in : (chains : Rings) (keys : List (Option Key)) (home : Key → ℕ) (bucket : ℕ)
-    → length keys ≡ chains.slots → AreChains chains (places home keys)
-    → Finds chains (places home keys) bucket (2 ^ 64) None → IsEarlyIn keys home bucket None
-none_in chains keys home bucket slots are f = λ j key has same.
-    let place : Place = record { home = home key; order = key.order } in
-    let at : places home keys j ≡ Some place = at_place keys home j key has in
-    absurd (omega (arith, f.greatest j place (omega (arith, slots, key_low keys j key has)) at same (are.orders j place at)))
-
--- the slot that is found there tells the begin of its window
-pub begins_in : (chains : Rings) (stored : List Key) (home : Key → ℕ) (bucket slot : ℕ) (d : Key)
-    → Finds chains (places home (held_keys chains stored)) bucket (2 ^ 64) (Some slot)
-    → (slot < length stored)
-    × BeginsIn (held_keys chains stored) home bucket ((get_or stored slot d).deadline / 512 ^ (bucket / 512) * 512 ^ (bucket / 512))
-begins_in chains stored home bucket slot d f =
-    let s : InBucket (held_keys chains stored) home bucket slot = found chains (held_keys chains stored) home bucket (2 ^ 64) (Some slot) f in
-    let h : (slot < length stored) × (s.key ≡ get_or stored slot d) = held_in chains stored slot d s.key s.has in (
-      h.0,
-      record {
-        slot = slot;
-        key = s.key;
-        has = s.has;
-        at_home = s.at_home;
-        begin = ap (λ (k : Key). k.deadline / 512 ^ (bucket / 512) * 512 ^ (bucket / 512)) (sym h.1);
-      },
-    )
+use Rattle.ert_wheel.proofs.Least.{at_place}
 
 -- the first bucket that has a row
 pub record IsFirst (next count from home : ℕ) (keys : List (Option Key)) (chains : Rings) : Type 0 where

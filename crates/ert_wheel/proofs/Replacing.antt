@@ -1,18 +1,13 @@
--- A slot becomes the newest of a home, from whatever chain it is in, and its row has another key.
+-- A slot becomes the newest of a home, from whatever chain it is in.
 
-use Rattle.std.proofs.Common.{◌≡◌, ◌≢◌, ℕ, ◌+◌, ◌-◌, ◌<◌, ◌≤◌, ◌^◌, true, min, nat_lt, List, Option, Some, None, IfSome, length, set, sym, subst, ◌∙◌, ap, inl, inr, refl, arith}
+use Rattle.std.proofs.Common.{◌≡◌, ◌≢◌, ℕ, ◌+◌, ◌-◌, ◌<◌, ◌≤◌, ◌^◌, true, nat_lt, Option, Some, None, sym, subst, ◌∙◌, ap, inl, inr, arith}
 use Rattle.std.proofs.lemmas.Bool.{cases_eq}
-use Rattle.std.proofs.lemmas.List.{length-set}
-use Rattle.std.specs.Option.{is_some, IsSome}
-use Rattle.ert_wheel.proofs.Parts.{IsSlot, changed_at, slot_is, node_is, has_place, kept_place, placed_apart, with_place_here, with_place_there}
-use Rattle.ert_wheel.proofs.Views.{key_set, stored_set, chains_set, counts_same}
-use Rattle.ert_wheel.proofs.Writes.{Sees, orders_below}
+use Rattle.std.specs.Option.{is_some}
+use Rattle.ert_wheel.proofs.Parts.{IsSlot, changed_at, slot_is, node_is, has_place, kept_place, with_place_here, with_place_there}
 use Rattle.ert_wheel.specs.Chained.{Shape, Chained}
 use Rattle.ert_wheel.specs.Links.{next_at, prev_at}
 use Rattle.ert_wheel.specs.Rings.{Rings, Place, shape, home_of, order_of, AreChains, with_place, MayTake, MayPut, Takes, Puts, Moves, Finds}
-use Rattle.ert_wheel.specs.Rows.{key_in}
-use Rattle.ert_wheel.specs.Wheels.{home_by, places}
-use Rattle.ert_wheel.specs.declared.row.Key.{Key}
+use Rattle.ert_wheel.specs.Wheels.{places}
 
 -- a place that is given twice
 with_twice : (places : ℕ → Option Place) (slot : ℕ) (x y : Option Place) (j : ℕ)
@@ -247,40 +242,3 @@ moves_none r slot home finds places order are fits above =
       greatest = λ j p low has same.
           omega (arith, found.greatest j p low has same (are.orders j p has), ap order_of stands.has);
     })
-
--- what a row that is put in the place of another needs
-pub record CanReplace (seen : List (Option Key)) (slot : ℕ) (key : Key) : Type 0 where
-  pub low : slot < length seen
-  pub held : IsSome (key_in seen slot)
-  pub deadline : key.deadline < 2 ^ 45 - 1
-  pub order : key.order < 2 ^ 64
-  pub newest : (j : ℕ) → IfSome (key_in seen j) (λ k. k.order < key.order)
-
--- the wheel with another row of a slot
-pub replaced : {next count floor floor' : ℕ} {stored : List Key} {seen : List (Option Key)} {chains new : Rings} {slot : ℕ} {key : Key} {home : ℕ}
-    → Sees next count floor stored seen chains → CanReplace seen slot key → home ≡ home_by next key
-    → new.slots ≡ chains.slots → new.homes ≡ chains.homes → Moves chains new slot home → floor' ≡ min floor key.deadline
-    → Sees next count floor' (set stored slot key) (set seen slot (Some key)) new
-replaced {next = next} {stored = stored} {seen = seen} {chains = chains} {new = new} {slot = slot} {key = key} s can e slots homes moves low' =
-    let h : Key → ℕ = home_by next in
-    let moves_key : Moves chains new slot (h key) = subst (λ (n : ℕ). Moves chains new slot n) e moves in
-    record {
-      are_stored = stored_set stored seen slot key s.are_stored can.low;
-      above = λ j k has. elim (key_set seen slot (Some key) j k can.low has) [
-        | inl (here, some) ↦ let same : key ≡ k = cc in omega (arith, ap (λ (x : Key). x.deadline) same)
-        | inr (ne, was) ↦ omega (arith, s.above j k was)
-      ];
-      wheel = record {
-        slots = length-set seen slot (Some key) ∙ s.wheel.slots ∙ sym slots;
-        few = omega (arith, length-set seen slot (Some key), s.wheel.few);
-        homes = homes ∙ s.wheel.homes;
-        time = s.wheel.time;
-        counts = s.wheel.counts ∙ sym (counts_same seen slot key can.low can.held);
-        low = λ j k has. elim (key_set seen slot (Some key) j k can.low has) [
-          | inl (here, some) ↦ let same : key ≡ k = cc in subst (λ (x : Key). x.deadline < 2 ^ 45 - 1) same can.deadline
-          | inr (ne, was) ↦ s.wheel.low j k was
-        ];
-        are = chains_set new h seen slot (Some key) can.low
-            (moves_key (places h seen) key.order s.wheel.are can.order (orders_below h seen key.order can.newest));
-      };
-    }

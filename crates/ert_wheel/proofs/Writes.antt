@@ -1,15 +1,15 @@
 -- What each call that changes a wheel does, in the form in which the calls meet it.
 
-use Rattle.std.proofs.Common.{◌≡◌, ◌≢◌, ◌↔◌, ℕ, ◌+◌, ◌-◌, ◌<◌, ◌≤◌, ◌^◌, cond, true, false, nat_le, max, min, List, Option, Some, None, IfSome, map, length, get_or, set, sym, subst, ◌∙◌, ap, inl, inr, refl, arith}
+use Rattle.std.proofs.Common.{◌≡◌, ◌≢◌, ◌↔◌, ℕ, ◌+◌, ◌-◌, ◌<◌, ◌≤◌, ◌^◌, cond, count_by, true, false, nat_le, max, min, List, Option, Some, None, IfSome, map, length, get_or, set, sym, subst, ◌∙◌, ap, inl, inr, refl, arith}
 use Rattle.std.proofs.lemmas.Bool.{true≢false}
 use Rattle.std.proofs.lemmas.Bool.Decides.{leb_tells}
 use Rattle.std.proofs.lemmas.List.{ext_get_or, get_or-map, length-map, length-set, set-get_or}
 use Rattle.std.proofs.lemmas.List.Sums.{count_by-le-length}
 use Rattle.std.specs.Bool.{IsTrue}
 use Rattle.std.specs.Option.{is_some, IsSome}
-use Rattle.ert_wheel.proofs.Views.{AreStored, held_at, key_alone, key_apart, held_is, key_set, stored_held, stored_set, stored_less, chains_set, counts_more, counts_less, place_is}
+use Rattle.ert_wheel.proofs.Views.{AreStored, held_at, key_alone, key_apart, held_is, key_set, stored_held, stored_set, stored_less, chains_set, counts_more, counts_less, counts_same, place_is}
 use Rattle.ert_wheel.specs.Links.{next_at}
-use Rattle.ert_wheel.specs.Rings.{Rings, Place, AreChains, MayPut, Puts, MayTake, Takes}
+use Rattle.ert_wheel.specs.Rings.{Rings, Place, AreChains, with_place, MayPut, Puts, MayTake, Takes, Moves}
 use Rattle.ert_wheel.specs.Rows.{Held, key_in, times, due_at, left_at}
 use Rattle.ert_wheel.specs.Walks.{MayMove}
 use Rattle.ert_wheel.specs.Wheels.{no_key, held_keys, home_by, place_of, places, IsWheel, IsKept}
@@ -93,42 +93,60 @@ count_fits {seen = seen} slot key s low vacant = omega (
   count_by-le-length is_some (set seen slot (Some key)),
 )
 
--- what a row that is put in needs
-pub record CanInsert (seen : List (Option Key)) (slot : ℕ) (key : Key) : Type 0 where
+-- what a row that is stored needs
+pub record CanStore (seen : List (Option Key)) (slot : ℕ) (key : Key) : Type 0 where
   pub low : slot < length seen
-  pub vacant : key_in seen slot ≡ None
   pub deadline : key.deadline < 2 ^ 45 - 1
   pub order : key.order < 2 ^ 64
   pub newest : (j : ℕ) → IfSome (key_in seen j) (λ k. k.order < key.order)
 
+-- the wheel with another row of a slot, or its first
+pub stored_row : {next count count' floor floor' : ℕ} {stored : List Key} {seen : List (Option Key)} {chains new : Rings} {slot : ℕ} {key : Key}
+    → Sees next count floor stored seen chains → CanStore seen slot key → new.slots ≡ chains.slots → new.homes ≡ chains.homes
+    → floor' ≡ min floor key.deadline → count' ≡ count_by is_some (set seen slot (Some key))
+    → AreChains new (with_place (places (home_by next) seen) slot (Some (record { home = home_by next key; order = key.order })))
+    → Sees next count' floor' (set stored slot key) (set seen slot (Some key)) new
+stored_row {next = next} {stored = stored} {seen = seen} {new = new} {slot = slot} {key = key} s can slots homes low' counts are = record {
+  are_stored = stored_set stored seen slot key s.are_stored can.low;
+  above = λ j k has. elim (key_set seen slot (Some key) j k can.low has) [
+    | inl (here, some) ↦ let same : key ≡ k = cc in omega (arith, ap (λ (x : Key). x.deadline) same)
+    | inr (ne, was) ↦ omega (arith, s.above j k was)
+  ];
+  wheel = record {
+    slots = length-set seen slot (Some key) ∙ s.wheel.slots ∙ sym slots;
+    few = omega (arith, length-set seen slot (Some key), s.wheel.few);
+    homes = homes ∙ s.wheel.homes;
+    time = s.wheel.time;
+    counts = counts;
+    low = λ j k has. elim (key_set seen slot (Some key) j k can.low has) [
+      | inl (here, some) ↦ let same : key ≡ k = cc in subst (λ (x : Key). x.deadline < 2 ^ 45 - 1) same can.deadline
+      | inr (ne, was) ↦ s.wheel.low j k was
+    ];
+    are = chains_set new (home_by next) seen slot (Some key) can.low are;
+  };
+}
+
 -- the wheel with a row put in
 pub inserted : {next count floor floor' : ℕ} {stored : List Key} {seen : List (Option Key)} {chains new : Rings} {slot : ℕ} {key : Key} {home : ℕ}
-    → Sees next count floor stored seen chains → CanInsert seen slot key → home ≡ home_by next key
+    → Sees next count floor stored seen chains → CanStore seen slot key → key_in seen slot ≡ None → home ≡ home_by next key
     → new.slots ≡ chains.slots → new.homes ≡ chains.homes → Puts chains new slot home → floor' ≡ min floor key.deadline
     → Sees next (count + 1) floor' (set stored slot key) (set seen slot (Some key)) new
-inserted {next = next} {stored = stored} {seen = seen} {chains = chains} {new = new} {slot = slot} {key = key} s can e slots homes puts low' =
+inserted {next = next} {seen = seen} {chains = chains} {new = new} {slot = slot} {key = key} s can vacant e slots homes puts low' =
     let h : Key → ℕ = home_by next in
     let puts_key : Puts chains new slot (h key) = subst (λ (n : ℕ). Puts chains new slot n) e puts in
-    record {
-      are_stored = stored_set stored seen slot key s.are_stored can.low;
-      above = λ j k has. elim (key_set seen slot (Some key) j k can.low has) [
-        | inl (here, some) ↦ let same : key ≡ k = cc in omega (arith, ap (λ (x : Key). x.deadline) same)
-        | inr (ne, was) ↦ omega (arith, s.above j k was)
-      ];
-      wheel = record {
-        slots = length-set seen slot (Some key) ∙ s.wheel.slots ∙ sym slots;
-        few = omega (arith, length-set seen slot (Some key), s.wheel.few);
-        homes = homes ∙ s.wheel.homes;
-        time = s.wheel.time;
-        counts = ap (λ n. n + 1) s.wheel.counts ∙ sym (counts_more seen slot key can.low can.vacant);
-        low = λ j k has. elim (key_set seen slot (Some key) j k can.low has) [
-          | inl (here, some) ↦ let same : key ≡ k = cc in subst (λ (x : Key). x.deadline < 2 ^ 45 - 1) same can.deadline
-          | inr (ne, was) ↦ s.wheel.low j k was
-        ];
-        are = chains_set new h seen slot (Some key) can.low
-            (puts_key (places h seen) key.order s.wheel.are (ap (place_of h) can.vacant) can.order (orders_below h seen key.order can.newest));
-      };
-    }
+    stored_row s can slots homes low' (ap (λ n. n + 1) s.wheel.counts ∙ sym (counts_more seen slot key can.low vacant))
+    (puts_key (places h seen) key.order s.wheel.are (ap (place_of h) vacant) can.order (orders_below h seen key.order can.newest))
+
+-- the wheel with another row of a slot
+pub replaced : {next count floor floor' : ℕ} {stored : List Key} {seen : List (Option Key)} {chains new : Rings} {slot : ℕ} {key : Key} {home : ℕ}
+    → Sees next count floor stored seen chains → CanStore seen slot key → IsSome (key_in seen slot) → home ≡ home_by next key
+    → new.slots ≡ chains.slots → new.homes ≡ chains.homes → Moves chains new slot home → floor' ≡ min floor key.deadline
+    → Sees next count floor' (set stored slot key) (set seen slot (Some key)) new
+replaced {next = next} {seen = seen} {chains = chains} {new = new} {slot = slot} {key = key} s can held e slots homes moves low' =
+    let h : Key → ℕ = home_by next in
+    let moves_key : Moves chains new slot (h key) = subst (λ (n : ℕ). Moves chains new slot n) e moves in
+    stored_row s can slots homes low' (s.wheel.counts ∙ sym (counts_same seen slot key can.low held))
+    (moves_key (places h seen) key.order s.wheel.are can.order (orders_below h seen key.order can.newest))
 
 -- where a slot is alone it has no row, and else the one that is stored
 pub looks_alone : {next count floor : ℕ} {stored : List Key} {seen : List (Option Key)} {chains : Rings} {slot : ℕ}

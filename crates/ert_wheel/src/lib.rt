@@ -19,6 +19,9 @@
 //! one record. So a start writes one place for all of them, and where a row moves to a lower level, what its expiry will
 //! read comes into the caches.
 //!
+//! **Another row of a slot** (`replace`) takes the place of the one before it. Where the slot is the newest of the bucket
+//! to which the new row belongs, as where a timer is moved on again and again, no link is written.
+//!
 //! **Levels** (`Wheel`). A wheel has 2,560 buckets, 512 on each of five levels. A bucket of
 //! the lowest level is a millisecond; one of the next is a window of 512 milliseconds, and so on: a bucket is as
 //! wide as all of the level below. A row's home is told by its deadline and by the next time, the first that

@@ -1,6 +1,6 @@
 -- Steps one after the other are a turn with a bound, whatever makes them.
 
-use Rattle.std.proofs.Common.{◌≡◌, ℕ, ◌+◌, ◌<◌, ◌≤◌, Bool, true, false, ◌||◌, List, [], ◌∷◌, length, None, Ok, Err, inl, inr, refl, subst, arith}
+use Rattle.std.proofs.Common.{◌≡◌, ℕ, ◌+◌, ◌<◌, ◌≤◌, Bool, true, false, ◌||◌, List, [], ◌∷◌, ◌++◌, length, None, Ok, Err, inl, inr, refl, subst, arith}
 use Rattle.std.specs.Option.{is_some}
 use Rattle.ert_defs.specs.Mails.{first_of}
 use Rattle.ert_defs.specs.States.{state}
@@ -39,6 +39,14 @@ are_left true most count [] all is = absurd cc
 are_left true most count (row ∷ fired) all is = (all, λ none. absurd cc)
 are_left false most count [] all is = refl
 are_left false most count (row ∷ fired) all is = absurd cc
+
+-- and where the list is told to have more, all that may be were handed over
+pub delivered_most : (g : Settings) (way : Way) (w most : ℕ) (answer : ℕ × ℕ × Bool) (h m : List Entry) → DeliversSome g way w most (Ok answer) h m
+    → answer.2 ≡ true → answer.0 + answer.1 ≡ most
+delivered_most g way w most answer h m done more =
+    let rest : AreLeft true most (length done.hows) ((state g (h ++ m)).scheds w).fired =
+    subst (λ b. AreLeft b most (length done.hows) ((state g (h ++ m)).scheds w).fired) more done.rest in
+    omega (arith, rest.0, puts_drops done.hows, done.put_is, done.dropped_is)
 
 -- over what tells settings, history and mark of whatever makes the steps, and how these come about for one actor
 module _ {S : Type 0} (settings : S → Settings) (history : S → List Entry) (mark : S → ℕ) (way : Settings → ℕ → ℕ → Way) (w : ℕ) where

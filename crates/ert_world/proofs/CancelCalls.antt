@@ -1,6 +1,6 @@
 -- The calls that cancel timers, and the rows that they forget.
 
-use Rattle.std.proofs.Common.{◌≡◌, ◌≢◌, ℕ, ◌<◌, true, false, List, [], ◌∷◌, filter, length, append-nil, slice_index_or, Option, Some, None, refl, sym, ap, subst, ◌∙◌, arith}
+use Rattle.std.proofs.Common.{◌≡◌, ◌≢◌, ℕ, ◌<◌, true, false, List, [], ◌∷◌, filter, length, slice_index_or, Option, Some, None, refl, sym, ap, subst, ◌∙◌, arith}
 use Rattle.std.specs.Option.{is_some}
 use Rattle.std.specs.Prelude.{slice_set}
 use Rattle.ert_effects.specs.TimerCalls.{Cancels}
@@ -20,7 +20,6 @@ use Rattle.ert_table.specs.Takes.{TakesPlace}
 use Rattle.ert_table.specs.declared.desk.Desk.{Desk}
 use Rattle.ert_table.specs.declared.desk.Pass.{Pass}
 use Rattle.ert_timers.specs.Parts.{Part, last_timer, Stands as WheelStands}
-use Rattle.ert_timers.specs.Changes.{reused}
 use Rattle.ert_timers.specs.Freeing.{IsHeld}
 use Rattle.ert_timers.specs.Passed.{LosesRows}
 use Rattle.ert_timers.proofs.Passing.{same_last}
@@ -113,7 +112,7 @@ cancel_called before b d q timer left has belongs made =
     refl (cancel_cancels g (Caller 0) timer left s made.entries made.allowed)
 
 -- a wheel that changed without an entry comes back
-put_back : (d : Desk) (q : Pass) (next : ℕ) (parts : AllParts) (i : ℕ) (old new : Part) → AreFit d q next parts → i < (settings_of d).schedulers
+pub put_back : (d : Desk) (q : Pass) (next : ℕ) (parts : AllParts) (i : ℕ) (old new : Part) → AreFit d q next parts → i < (settings_of d).schedulers
     → old ≡ slice_index_or parts.wheels i old → new.number ≡ old.number → WheelStands (settings_of d) (front_of q) new
     → AreFit d q next (record parts { wheels = slice_set parts.wheels i new })
 put_back d q next parts i old new fit low lent named stands =
@@ -173,43 +172,6 @@ pub record DoesCancel (before : Seen) (d : Desk) (q : Pass) (next : ℕ) (parts 
 pub does_cancel_at : {before : Seen} {d e : Desk} {q : Pass} {next : ℕ} {parts : AllParts} {call : Seen → Way → Growth} → d ≡ e
     → DoesCancel before d q next parts call → DoesCancel before e q next parts call
 does_cancel_at {before} {d} {e} {q} {next} {parts} {call} same done = subst (λ x. DoesCancel before x q next parts call) same done
-
--- where a slot is held free again no row has come
-pub loses_reused : (p q : Part) (k : ℕ) → q ≡ reused p k → LosesRows p q
-loses_reused p q k is = subst (LosesRows p) (sym is) (record { number = refl; slots = refl; left = λ j key held. held; time = omega arith })
-
--- so a tidy part stays so where rows go
-loses_tidy : (s : State) (p q : Part) → LosesRows p q → IsTidy s p → IsTidy s q
-loses_tidy s p q loses tidy k key held = ap s.status (same_last p q k loses) ∙ tidy k key (loses.left k key held)
-
--- a world whose wheel holds a slot free again
-pub record Freed (before : Seen) (b : Inside) (d : Desk) (new : List Part) : Type 0 where
-  pub fit : AreSound d b.pass b.next (record (parts_in b) { wheels = new })
-  pub stays : Stays before (seen d b.pass b.next b.keeper new)
-
--- the wheel at a place holds a slot free again
-pub freed : (before : Seen) (b : Inside) (d : Desk) (i : ℕ) (old new : Part) → Has before b d → i < before.settings.schedulers
-    → old ≡ slice_index_or b.wheels.items i old → new.number ≡ old.number → WheelStands (settings_of d) (front_of b.pass) new
-    → LosesRows old new → Freed before b d (slice_set b.wheels.items i new)
-freed before b d i old new has low lent named stands loses =
-    let s : State = state (settings_of d) (front_of b.pass) in
-    let ws : List Part = b.wheels.items in
-    let below : i < (settings_of d).schedulers = schedulers_at has i low in
-    let lost = rows_set ws i old new (rw has.fit.stand.wheels.counted below) lent loses in
-    record {
-      fit = record {
-        fit = put_back d b.pass b.next (parts_in b) i old new has.fit below lent named stands;
-        tidy = λ alone j x in_range. loses_tidy s (slice_index_or ws j x) (slice_index_or (slice_set ws i new) j x) (lost j x) (has.tidy alone j x in_range);
-      };
-      stays = subst (λ w. Stays w (seen d b.pass b.next b.keeper (slice_set ws i new))) has.is (record {
-        table = refl;
-        settings = refl;
-        next = refl;
-        clock = refl;
-        rows = lost;
-        forgotten = record { piece = []; grown = sym (append-nil (front_of b.pass)); forgotten = tt };
-      });
-    }
 
 -- a call that cancelled a timer, whose row then went
 pub goes_forgetting : (timer : TimerRef) (left : ℕ) (old mid new : Seen) (call : Way → Growth) → GoesBut timer (Some left) old call mid → Forgets timer mid new

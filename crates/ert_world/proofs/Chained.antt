@@ -1,11 +1,12 @@
 -- Steps one after the other are a call, whatever makes them.
 
-use Rattle.std.proofs.Common.{◌≡◌, ◌⊎◌, ℕ, zero, suc, ◌+◌, ◌≤◌, true, List, [], ◌∷◌, ◌++◌, length, Some, Ok, Err, inl, inr, refl, sym, ap, subst, ◌∙◌, arith, append-nil, append_assoc}
+use Rattle.std.proofs.Common.{◌≡◌, ◌⊎◌, ℕ, zero, suc, ◌+◌, ◌≤◌, true, List, [], ◌∷◌, ◌++◌, length, Some, Ok, Err, inl, inr, refl, sym, ap, subst, ◌∙◌, arith, append-nil, append_assoc, add-zero}
 use Rattle.ert_effects.proofs.Growing.{grows_then, grows_more}
 use Rattle.ert_effects.specs.Chains.{Serves, ServesMany, ServesAll, times, AdvancesWheel, Hands, HandsMany, Delivers, puts, put_by, drops, dropped_by, Turns, SweepsWheel, SweepsWheels, Exits}
 use Rattle.ert_effects.specs.WheelCalls.{MarksExit}
 use Rattle.ert_effects.specs.Ways.{Growth, Way, Grows, Then, Many}
 use Rattle.ert_effects.specs.declared.answers.Handed.{Handed}
+use Rattle.ert_effects.specs.declared.answers.Handed.TheVariants.{Put, Dropped}
 use Rattle.ert_effects.specs.declared.answers.Turned.{Turned}
 use Rattle.ert_defs.specs.Mails.{first_of, others_of}
 use Rattle.ert_defs.specs.declared.entry.Actor.TheVariants.{Caller}
@@ -109,10 +110,34 @@ module _ {S : Type 0} (settings : S → Settings) (history : S → List Entry) (
       (subst (λ l. Made (λ g way. Many (λ (one : Unit {0}). Serves g way w (Ok true)) l) a c) (times_more n)
       (made_more (λ g way (one : Unit {0}). Serves g way w (Ok true)) (times n) tt a b c same one other))
 
-  -- one timer more is handed over
-  pub handed_more : (a b c : S) (hows : List Handed) (how : Handed) → Same a b → Made (λ g way. HandsMany g way w hows) a b
-      → Made (λ g way. Hands g way w (Ok how)) b c → Made (λ g way. HandsMany g way w (hows ++ how ∷ [])) a c
-  handed_more a b c hows how same one other = made_more (λ g way how. Hands g way w (Ok how)) hows how a b c same one other
+  -- timers are handed over: so many are put, and so many thrown away
+  pub record HasHanded (put dropped : ℕ) (a b : S) : Type 0 where
+    pub hows : List Handed
+    pub made : Made (λ g way. HandsMany g way w hows) a b
+    pub put_is : put ≡ puts hows
+    pub dropped_is : dropped ≡ drops hows
+
+  -- one more is
+  handed_more : (put dropped : ℕ) (how : Handed) (a b c : S) → Same a b → HasHanded put dropped a b → Made (λ g way. Hands g way w (Ok how)) b c
+      → HasHanded (put + put_by how) (dropped + dropped_by how) a c
+  handed_more put dropped how a b c same one other = record {
+    hows = one.hows ++ how ∷ [];
+    made = made_more (λ g way how. Hands g way w (Ok how)) one.hows how a b c same one.made other;
+    put_is = ap (λ n. n + put_by how) one.put_is ∙ sym (puts_more one.hows how);
+    dropped_is = ap (λ n. n + dropped_by how) one.dropped_is ∙ sym (drops_more one.hows how);
+  }
+
+  pub handed_put : (put dropped : ℕ) (how : Handed) (a b c : S) → Same a b → HasHanded put dropped a b → Made (λ g way. Hands g way w (Ok how)) b c
+      → how ≡ Put → HasHanded (put + 1) dropped a c
+  handed_put put dropped how a b c same one other is =
+      subst (λ n. HasHanded (put + 1) n a c) (add-zero dropped)
+      (handed_more put dropped Put a b c same one (subst (λ x. Made (λ g way. Hands g way w (Ok x)) b c) is other))
+
+  pub handed_dropped : (put dropped : ℕ) (how : Handed) (a b c : S) → Same a b → HasHanded put dropped a b → Made (λ g way. Hands g way w (Ok how)) b c
+      → how ≡ Dropped → HasHanded put (dropped + 1) a c
+  handed_dropped put dropped how a b c same one other is =
+      subst (λ n. HasHanded n (dropped + 1) a c) (add-zero put)
+      (handed_more put dropped Dropped a b c same one (subst (λ x. Made (λ g way. Hands g way w (Ok x)) b c) is other))
 
   -- a turn is done, or stops for want of memory
   pub turned : (a b c d : S) (t : Turned) → Same a b → Same b c → Made (λ g way. ServesAll g way w (Ok t.served)) a b

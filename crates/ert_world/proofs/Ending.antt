@@ -184,16 +184,16 @@ rows_few before b d i has low x =
 -- it holds fewer after one went
 pub rows_fewer : (before : Seen) (b : Inside) (d : Desk) (timer : TimerRef) (old new : Part) → Has before b d → timer.wheel < before.settings.schedulers
     → old ≡ slice_index_or b.wheels.items timer.wheel old → IsHeld old timer → new ≡ given_back old timer.slot false
-    → (x : Part) → count_by is_some (slice_index_or (slice_set b.wheels.items timer.wheel new) timer.wheel x).keys
-    < count_by is_some (slice_index_or before.wheels timer.wheel x).keys
+    → (x : Part) → count_by is_some (slice_index_or (slice_set b.wheels.items timer.wheel new) timer.wheel x).keys + 1
+    ≤ count_by is_some (slice_index_or before.wheels timer.wheel x).keys
 rows_fewer before b d timer old new has low lent held back x =
     let i : ℕ = timer.wheel in
     let key = held_key old timer held in
     let less = counts_less old.keys timer.slot key.0 (key_low old.keys timer.slot key.0 key.1) key.1 in
     let count : count_by is_some new.keys + 1 ≡ count_by is_some old.keys = ap (λ (p : Part). count_by is_some p.keys + 1) back ∙ less in
     let here : old ≡ slice_index_or b.wheels.items i x = part_at before b d i old has low lent x in
-    subst (λ (w : Seen). count_by is_some (slice_index_or (slice_set b.wheels.items i new) i x).keys < count_by is_some (slice_index_or w.wheels i x).keys) has.is
-    (at_place (λ (y : Part). count_by is_some y.keys < count_by is_some (slice_index_or b.wheels.items i x).keys) b.wheels.items i i new x
+    subst (λ (w : Seen). count_by is_some (slice_index_or (slice_set b.wheels.items i new) i x).keys + 1 ≤ count_by is_some (slice_index_or w.wheels i x).keys) has.is
+    (at_place (λ (y : Part). count_by is_some y.keys + 1 ≤ count_by is_some (slice_index_or b.wheels.items i x).keys) b.wheels.items i i new x
     (rw has.fit.stand.wheels.counted (schedulers_at has i low))
     (λ one. omega (arith, count, ap (λ (p : Part). count_by is_some p.keys) here)) (λ other. absurd (other refl)))
 

@@ -23,7 +23,8 @@ use Rattle.ert_wheel.specs.Rows.{key_in}
 use Rattle.ert_wheel.specs.declared.row.Key.{Key}
 use Rattle.ert_world.proofs.Alone.{went}
 use Rattle.ert_world.proofs.Composed.{goes_more, goes_nothing}
-use Rattle.ert_world.specs.Cancelling.{Ended, cancelled, IsOther, AreOnce, CancelsOne, CancelsOn, numbered, IsHeldAt, HoldsFewer}
+use Rattle.ert_world.specs.Cancelling.{Ended, cancelled, IsOther, AreOnce, CancelsOne, CancelsOn, numbered, IsHeldAt}
+use Rattle.ert_world.specs.Held.{HoldsFewer}
 use Rattle.ert_world.specs.Stepping.{Stays}
 use Rattle.ert_world.specs.Worlds.{Seen, Goes, By, HasForgotten, LoseRows}
 
@@ -189,8 +190,10 @@ held_same b c i timer same wheel held d =
     subst (λ (w : Seen). IsHeld (slice_index_or w.wheels timer.wheel d) timer) (sym same)
     (subst (λ n. IsHeld (slice_index_or b.wheels n d) timer) (sym wheel) (held d))
 
-pub fewer_at : (b c : Seen) (i j : ℕ) → j ≡ i → HoldsFewer b c j → rows_at c i < rows_at b i
-fewer_at b c i j same fewer = subst (λ n. rows_at c n < rows_at b n) same (fewer no_part)
+pub fewer_at : (b c : Seen) (i j : ℕ) → j ≡ i → HoldsFewer b c j 1 → rows_at c i < rows_at b i
+fewer_at b c i j same fewer =
+    let less : rows_at c i + 1 ≤ rows_at b i = subst (λ n. rows_at c n + 1 ≤ rows_at b n) same (fewer no_part) in
+    omega (arith, less)
 
 -- a flag as a number
 pub byte_is : (b : Bool) → bool_byte b ≡ cond b 1 0

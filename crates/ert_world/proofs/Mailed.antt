@@ -1,7 +1,6 @@
 -- A process with mail, and takes of several messages.
 
-use Rattle.std.proofs.Common.{◌≡◌, ℕ, ◌<◌, true, false, List, [], ◌∷◌, ◌++◌, length, Option, Some, None, slice_index_or, refl, sym, ap, subst, ◌∙◌}
-use Rattle.ert_defs.specs.Legal.{Legal}
+use Rattle.std.proofs.Common.{◌≡◌, ℕ, ◌<◌, true, false, List, [], ◌∷◌, ◌++◌, Option, Some, None, slice_index_or, refl, sym, ap, subst, ◌∙◌}
 use Rattle.ert_defs.specs.Mails.{MailState}
 use Rattle.ert_defs.specs.States.{State, state}
 use Rattle.ert_defs.specs.declared.entry.Actor.TheVariants.{Caller}
@@ -9,24 +8,22 @@ use Rattle.ert_defs.specs.declared.entry.Entry.{Entry}
 use Rattle.ert_defs.specs.declared.mail.Mail.{Mail}
 use Rattle.ert_defs.specs.declared.settings.Settings.{Settings}
 use Rattle.ert_effects.specs.MailCalls.{Takes}
-use Rattle.ert_effects.specs.Ways.{Growth, Way}
+use Rattle.ert_effects.specs.Ways.{Way}
 use Rattle.ert_effects.specs.declared.answers.Taken.{Taken}
-use Rattle.ert_effects.specs.declared.answers.Taken.TheVariants.{Mail as Took, Empty, Exited}
+use Rattle.ert_effects.specs.declared.answers.Taken.TheVariants.{Mail as Took}
 use Rattle.ert_mail.specs.Lists.{IsNextIn, LooksForMail, exits_seen, life_seen}
 use Rattle.ert_mail.specs.Mailboxes.{Mailbox, seen as box}
 use Rattle.ert_table.specs.Calls.{AreOnlyOf, IsMade}
 use Rattle.ert_table.specs.Desks.{settings_of, view_of, front_of, state_of, Belongs}
 use Rattle.ert_table.specs.declared.desk.Desk.{Desk}
 use Rattle.ert_table.specs.declared.desk.Pass.{Pass}
-use Rattle.ert_world.proofs.Alone.{went}
 use Rattle.ert_world.proofs.Armed.{AreCalm}
 use Rattle.ert_world.proofs.Calls.{Has, has_at, alone_called, parts_in, processes_at, seen_at}
 use Rattle.ert_world.proofs.Calm.{IsQuiet}
-use Rattle.ert_world.proofs.Composed.{goes_more, goes_nothing, goes_then}
+use Rattle.ert_world.proofs.Composed.{goes_more}
 use Rattle.ert_world.proofs.Listed.{mails_low}
-use Rattle.ert_world.specs.Mailing.{mail_of, FindsMail, IsNextMail, TakesMails, TakesSome}
-use Rattle.ert_world.specs.Worlds.{Seen, seen, AreSound, Goes, By, way_of}
-use Rattle.ert_world.specs.declared.mailing.TakeEnd.TheVariants.{Most, Empty as FoundEmpty, Exited as HadExited}
+use Rattle.ert_world.specs.Mailing.{mail_of, FindsMail, IsNextMail, TakesMails}
+use Rattle.ert_world.specs.Worlds.{Seen, seen, AreSound, Goes, By}
 use Rattle.ert_world.specs.declared.world.World.TheInside.{Inside}
 
 -- the messages of a mailbox are those of its process

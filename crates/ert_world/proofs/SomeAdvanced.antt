@@ -1,6 +1,6 @@
 -- A scheduler advances its wheel, but tries so many timers at most.
 
-use Rattle.std.proofs.Common.{◌≡◌, ℕ, ◌-◌, ◌<◌, Bool, true, false, List, [], ◌∷◌, ◌++◌, length, slice_index_or, Result, Ok, Err, refl, sym, ap, ◌∙◌, append-nil}
+use Rattle.std.proofs.Common.{◌≡◌, ℕ, ◌-◌, ◌<◌, Bool, true, false, List, [], ◌∷◌, ◌++◌, length, slice_index_or, Result, Ok, Err, refl, sym, ap, subst, ◌∙◌, arith, append-nil}
 use Rattle.std.specs.Prelude.{slice_set}
 use Rattle.ert_defs.specs.Entries.{look_entry, advanced_entry}
 use Rattle.ert_defs.specs.States.{State, state}
@@ -16,16 +16,20 @@ use Rattle.ert_table.specs.Desks.{settings_of, view_of, front_of, Belongs}
 use Rattle.ert_table.specs.Held.{is_held}
 use Rattle.ert_table.specs.declared.desk.Desk.{Desk}
 use Rattle.ert_table.specs.declared.desk.Pass.{Pass}
+use Rattle.ert_timers.proofs.Passing.{rows_lost}
 use Rattle.ert_timers.specs.Parts.{Part, Stands as WheelStands}
 use Rattle.ert_timers.specs.Passed.{LosesRows}
-use Rattle.ert_timers.specs.Trying.{HasExpiredSome, HasRefusedSome, IsLeft}
+use Rattle.ert_timers.specs.Trying.{HasExpiredSome, HasRefusedSome, IsLeft, LosesSome}
 use Rattle.ert_world.proofs.Advances.{AreOfAdvance, LeaveHand, advances_are, advance_still, advanced, counted}
 use Rattle.ert_world.proofs.Armed.{AreCalm}
 use Rattle.ert_world.proofs.Calls.{Has, Does, parts_in, schedulers_at}
+use Rattle.ert_world.proofs.NextDue.{part_at}
 use Rattle.ert_world.proofs.Returned.{at_place}
 use Rattle.ert_world.proofs.SchedCalls.{Had, had}
 use Rattle.ert_world.proofs.WheelCalls.{wheel_named}
-use Rattle.ert_world.specs.Worlds.{Seen}
+use Rattle.ert_world.specs.Bounded.{LosesSomeAt}
+use Rattle.ert_world.specs.Held.{HoldsFewer}
+use Rattle.ert_world.specs.Worlds.{Seen, LoseRows}
 use Rattle.ert_world.specs.declared.sched_part.SchedPart.{SchedPart}
 use Rattle.ert_world.specs.declared.world.World.TheInside.{Inside}
 
@@ -91,7 +95,7 @@ pub some_ok : (before : Seen) (b : Inside) (d : Desk) (q : Pass) (i most to n m 
     → Has before b d → Belongs d q → i < before.settings.schedulers → old ≡ slice_index_or b.wheels.items i old
     → part ≡ slice_index_or b.scheds.items i part → new.number ≡ old.number → WheelStands (settings_of d) (front_of q) new
     → LosesRows old new
-    → HasExpiredSome (settings_of d) (view_of b.pass) old.number most to more part.fired x.fired (view_of q)
+    → HasExpiredSome (settings_of d) (view_of b.pass) old new most to more part.fired x.fired (view_of q)
     → x.wheel ≡ part.wheel → x.hand ≡ part.hand → n ≡ length x.fired.rows → m ≡ length part.fired.rows
     → Does before d q b.next (record (parts_in b) { wheels = slice_set b.wheels.items i new; scheds = slice_set b.scheds.items i x })
     (λ w way. way (Wheel i ∷ []) (AdvancesSome w.settings i most (Ok (to, n - m, more))))
@@ -125,3 +129,23 @@ pub replaced_left : {before : Seen} (b : Inside) (d : Desk) (i to : ℕ) (more :
     → IsLeft new to more → (x : Part) → IsLeft (slice_index_or (slice_set b.wheels.items i new) i x) to more
 replaced_left b d i to more new has low left x =
     at_place (λ (y : Part). IsLeft y to more) b.wheels.items i i new x (rw has.fit.stand.wheels.counted (schedulers_at has i low)) (λ one. left) (λ other. absurd (other refl))
+
+-- it has lost as many rows as the part that was put back
+pub replaced_loses : (before : Seen) (b : Inside) (d : Desk) (i most : ℕ) (more : Bool) (old new : Part) → Has before b d → i < before.settings.schedulers
+    → old ≡ slice_index_or b.wheels.items i old → LosesSome more most old new
+    → (x : Part) → LosesSome more most (slice_index_or before.wheels i x) (slice_index_or (slice_set b.wheels.items i new) i x)
+replaced_loses before b d i most more old new has low lent loses x =
+    subst (λ (w : Seen). LosesSome more most (slice_index_or w.wheels i x) (slice_index_or (slice_set b.wheels.items i new) i x)) has.is
+    (at_place (λ (y : Part). LosesSome more most (slice_index_or b.wheels.items i x) y) b.wheels.items i i new x
+    (rw has.fit.stand.wheels.counted (schedulers_at has i low))
+    (λ one. subst (λ (p : Part). LosesSome more most p new) (part_at before b d i old has low lent x) loses) (λ other. absurd (other refl)))
+
+-- and where rows go before it and after it, it holds at least so many fewer
+pub fewer_through : (a b c d : Seen) (i most : ℕ) → LoseRows a b → LosesSomeAt b c i true most → LoseRows c d → HoldsFewer a d i most
+fewer_through a b c d i most before loses after x =
+    omega (
+      arith,
+      rows_lost (slice_index_or a.wheels i x) (slice_index_or b.wheels i x) (before i x),
+      loses x,
+      rows_lost (slice_index_or c.wheels i x) (slice_index_or d.wheels i x) (after i x),
+    )

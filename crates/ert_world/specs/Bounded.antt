@@ -1,6 +1,6 @@
 -- The turn of a scheduler in which so many timers at most expire, and so many are handed over.
 
-use Rattle.std.specs.Prelude.{◌≡◌, ◌≢◌, ◌⊎◌, ℕ, ◌<◌, ◌≤◌, Bool, true, false, ◌||◌, List, [], ◌++◌, length, Result, Ok, Err, slice_index_or}
+use Rattle.std.specs.Prelude.{◌≡◌, ◌≢◌, ◌⊎◌, ℕ, ◌+◌, ◌<◌, ◌≤◌, Bool, true, false, ◌||◌, List, [], ◌++◌, length, Result, Ok, Err, slice_index_or}
 use Rattle.ert_defs.specs.States.{state}
 use Rattle.ert_defs.specs.Timers.{Row}
 use Rattle.ert_defs.specs.declared.entry.Entry.{Entry}
@@ -12,7 +12,8 @@ use Rattle.ert_effects.specs.Ways.{Growth, Way, Then}
 use Rattle.ert_effects.specs.declared.answers.Handed.{Handed}
 use Rattle.ert_effects.specs.declared.answers.Turned.{Turned}
 use Rattle.ert_timers.specs.Parts.{Part}
-use Rattle.ert_timers.specs.Trying.{IsLeft}
+use Rattle.ert_timers.specs.Trying.{IsLeft, LosesSome}
+use Rattle.ert_world.specs.Held.{HoldsFewer}
 use Rattle.ert_world.specs.Worlds.{Seen}
 
 -- whether expired timers are left, of which so many were handed over: they are left only after the most
@@ -65,3 +66,11 @@ TurnsSome g way w most (Err e) h m = CannotTurnSome g way w most e h m
 -- whether a row of a wheel is left that is due by a time
 abbrev pub IsLeftAt : Seen → ℕ → ℕ → Bool → Type 0
 IsLeftAt w i to more = (d : Part) → IsLeft (slice_index_or w.wheels i d) to more
+
+-- how many rows fewer a wheel holds after an advance with a bound
+abbrev pub LosesSomeAt : Seen → Seen → ℕ → Bool → ℕ → Type 0
+LosesSomeAt old new i more most = (d : Part) → LosesSome more most (slice_index_or old.wheels i d) (slice_index_or new.wheels i d)
+
+-- a turn with a bound did as much as it may: so many messages were handed over, or so many rows went at least
+abbrev pub HasDoneMost : Seen → Seen → ℕ → ℕ → Turned → Type 0
+HasDoneMost old new i most t = (t.put + t.dropped ≡ most) ⊎ HoldsFewer old new i most

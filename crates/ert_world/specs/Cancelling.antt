@@ -1,6 +1,6 @@
 -- What the call that cancels all timers of a process records and answers.
 
-use Rattle.std.specs.Prelude.{◌≡◌, ◌≢◌, ℕ, suc, ◌+◌, ◌<◌, cond, sum, count_by, List, [], ◌∷◌, ◌++◌, length, slice_index_or, Option, Some, None}
+use Rattle.std.specs.Prelude.{◌≡◌, ◌≢◌, ℕ, suc, ◌+◌, cond, sum, List, [], ◌∷◌, ◌++◌, length, slice_index_or, Option, Some, None}
 use Rattle.std.specs.Option.{is_some}
 use Rattle.ert_defs.specs.States.{state}
 use Rattle.ert_defs.specs.declared.entry.Actor.TheVariants.{Caller}
@@ -64,8 +64,3 @@ abbrev pub IsHeldAt : Seen → ℕ → ℕ → Option TimerRef → Type 0
 IsHeldAt w i process (Some timer) =
     (timer.wheel ≡ i) × ((d : Part) → IsHeld (slice_index_or w.wheels i d) timer) × IsFor ((state w.settings w.history).rows i) process timer
 IsHeldAt w i process None = IsSwept (state w.settings w.history) i process
-
--- a wheel holds fewer rows than before
-abbrev pub HoldsFewer : Seen → Seen → ℕ → Type 0
-HoldsFewer old new i =
-    (d : Part) → count_by is_some (slice_index_or new.wheels i d).keys < count_by is_some (slice_index_or old.wheels i d).keys

@@ -1,6 +1,6 @@
--- How many rows a wheel of a world holds.
+-- How many rows a wheel of a world holds, and that it holds fewer.
 
-use Rattle.std.specs.Prelude.{◌≡◌, ℕ, count_by, slice_index_or}
+use Rattle.std.specs.Prelude.{◌≡◌, ℕ, ◌+◌, ◌≤◌, count_by, slice_index_or}
 use Rattle.std.specs.Option.{is_some}
 use Rattle.ert_defs.specs.States.{state}
 use Rattle.ert_defs.specs.declared.timer.Status.TheVariants.{Armed}
@@ -15,3 +15,8 @@ HoldsRows w i n = (d : Part) → n ≡ count_by is_some (slice_index_or w.wheels
 -- where no seat was given out, so many timers of a wheel are armed
 abbrev pub AreArmed : Seen → ℕ → ℕ → Type 0
 AreArmed w i n = w.next ≡ 1 → n ≡ count_at (state w.settings w.history) Armed i
+
+-- a wheel holds at least so many rows fewer than before
+abbrev pub HoldsFewer : Seen → Seen → ℕ → ℕ → Type 0
+HoldsFewer old new i n =
+    (d : Part) → count_by is_some (slice_index_or new.wheels i d).keys + n ≤ count_by is_some (slice_index_or old.wheels i d).keys

@@ -39,9 +39,9 @@ pub fn deliver_some<S: SchedSteps>(
 }
 
 impl World {
-    ghost use Rattle.std.specs.Prelude.{◌≡◌, ◌<◌, false, IfOk};
+    ghost use Rattle.std.specs.Prelude.{◌≡◌, ◌<◌, true, false, IfOk};
     ghost use Rattle.ert_effects.specs.SomeCalls.{AdvancesWheelSome};
-    ghost use Rattle.ert_world.specs.Bounded.{TurnsSome, IsLeftAt};
+    ghost use Rattle.ert_world.specs.Bounded.{TurnsSome, IsLeftAt, LosesSomeAt, HasDoneMost};
     ghost use Rattle.ert_world.specs.Stepping.{Stays};
     ghost use Rattle.ert_world.specs.Worlds.{Goes, HasPassedAt};
 
@@ -54,6 +54,7 @@ impl World {
         requires { sched < self.old.settings.schedulers }
         ensures call { Goes self.old (λ way. AdvancesWheelSome self.old.settings way sched most result) self.new }
         ensures left { IfOk result (λ answer. IsLeftAt self.new sched answer.0 answer.2) }
+        ensures fewer { IfOk result (λ answer. LosesSomeAt self.old self.new sched answer.2 most) }
         ensures stays { Stays self.old self.new }
     {
         let part = &mut self.scheds[sched as usize];
@@ -76,6 +77,7 @@ impl World {
         requires { sched < self.old.settings.schedulers }
         ensures call { Goes self.old (λ way. TurnsSome self.old.settings way sched most result) self.new }
         ensures passed { IfOk result (λ answer. answer.1 ≡ false → HasPassedAt self.new sched answer.0.to) }
+        ensures done { IfOk result (λ answer. answer.1 ≡ true → HasDoneMost self.old self.new sched most answer.0) }
         ensures stays { Stays self.old self.new }
     {
         let served = serve_all(self, sched)?;

@@ -12,7 +12,8 @@ impl World {
     ghost use Rattle.ert_effects.specs.TimerCalls.{Cancels};
     ghost use Rattle.ert_timers.specs.Freeing.{IsHeld};
     ghost use Rattle.ert_timers.specs.Parts.{Part};
-    ghost use Rattle.ert_world.specs.Cancelling.{CancelsAll, CancelsOn, IsHeldAt, HoldsFewer};
+    ghost use Rattle.ert_world.specs.Cancelling.{CancelsAll, CancelsOn, IsHeldAt};
+    ghost use Rattle.ert_world.specs.Held.{HoldsFewer};
     ghost use Rattle.ert_world.specs.Stepping.{Stays};
     ghost use Rattle.ert_world.specs.Worlds.{Goes, HasForgotten, By};
 
@@ -75,7 +76,7 @@ impl World {
         ensures call { Goes self.old (By self.old (λ g. Cancels g (Caller 0) timer result)) self.new }
         ensures stays { Stays self.old self.new }
         ensures forgotten { HasForgotten self.new timer }
-        ensures fewer { HoldsFewer self.old self.new timer.wheel }
+        ensures fewer { HoldsFewer self.old self.new timer.wheel 1 }
     {
         let by = Actor::Caller(CALLER);
         let left = cancel_timer(&self.desk, &mut self.pass, by, timer);

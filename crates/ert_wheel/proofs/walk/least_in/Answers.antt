@@ -1,6 +1,6 @@
 use Rattle.std.proofs.Common.{ℕ, min, ap, ◌∙◌, subst, sym}
 use Rattle.ert_wheel.proofs.Collect.{at_key, steps_fall}
-use Rattle.ert_wheel.proofs.NextDue.{IsPassed, passes_none, steps_on, passes_all}
+use Rattle.ert_wheel.proofs.Least.{IsPassed, passes_none, steps_on, passes_all}
 use Rattle.ert_wheel.proofs.walk.least_in.Goals as goal
 use Rattle.ert_wheel.specs.Wheels.{no_key, held_keys, places}
 use Rattle.ert_wheel.specs.declared.row.TheConstants.{NEVER}

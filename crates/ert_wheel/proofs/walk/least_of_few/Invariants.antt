@@ -1,5 +1,5 @@
 use Rattle.std.proofs.Common.{ℕ}
-use Rattle.ert_wheel.proofs.NextDue.{IsPassed}
+use Rattle.ert_wheel.proofs.Least.{IsPassed}
 use Rattle.ert_wheel.proofs.walk.least_of_few.Given as goal
 use Rattle.ert_wheel.specs.Rings.{AreChains, bound_of}
 use Rattle.ert_wheel.specs.Wheels.{held_keys, places}

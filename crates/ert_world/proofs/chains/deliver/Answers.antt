@@ -1,7 +1,5 @@
-use Rattle.std.proofs.Common.{◌+◌, [], ◌∷◌, ◌++◌, Ok, inr, sym, ap, subst, ◌∙◌, add-zero}
-use Rattle.ert_effects.specs.Chains.{Hands, puts, drops}
-use Rattle.ert_effects.specs.declared.answers.Handed.TheVariants.{Put, Dropped}
-use Rattle.ert_world.proofs.Chained.{Made, puts_more, drops_more, one_less, few_put, few_dropped, handed_more}
+use Rattle.std.proofs.Common.{inr, sym}
+use Rattle.ert_world.proofs.Chained.{one_less, few_put, few_dropped, handed_put, handed_dropped}
 use Rattle.ert_world.proofs.chains.deliver.Goals as goal
 
 pub loop-fired-preserved-in-Put : goal.loop-fired-preserved-in-Put
@@ -11,12 +9,9 @@ loop-fired-preserved-in-Put g c =
     let i = c.loop-fired.invariant in
     let less = one_less _ _ c.in-Some.fired (sym c.in-Some.ensures.first) c.in_ok-hand_first.ensures.fired in
     record {
-      hows = i.hows ++ Put ∷ [];
-      made = handed_more s.settings s.history s.mark s.way c.args.sched c.args.steps.now b c.hand_first.new.self i.hows Put
-          (g.met.S.SchedSteps.same_settings c.args.steps.now b i.stays, g.met.S.SchedSteps.same_mark c.args.steps.now b i.stays) i.made
-          (subst (λ how. Made s.settings s.history s.mark s.way c.args.sched (λ g way. Hands g way c.args.sched (Ok how)) b c.hand_first.new.self) c.in-Put.is c.in_ok-hand_first.ensures.call);
-      put_is = ap (λ n. n + 1) i.put_is ∙ sym (puts_more i.hows Put);
-      dropped_is = i.dropped_is ∙ sym (drops_more i.hows Put ∙ add-zero (drops i.hows));
+      handed = handed_put s.settings s.history s.mark s.way c.args.sched c.loop-fired.put c.loop-fired.dropped _ c.args.steps.now b c.hand_first.new.self
+          (g.met.S.SchedSteps.same_settings c.args.steps.now b i.stays, g.met.S.SchedSteps.same_mark c.args.steps.now b i.stays) i.handed
+          c.in_ok-hand_first.ensures.call c.in-Put.is;
       few = inr (few_put c.loop-fired.put c.loop-fired.dropped _ _ i.few c.in-Some.ensures.few less);
       stays = g.met.S.SchedSteps.stay c.args.steps.now b c.hand_first.new.self i.stays c.hand_first.ensures.stays;
     }
@@ -28,12 +23,9 @@ loop-fired-preserved g c =
     let i = c.loop-fired.invariant in
     let less = one_less _ _ c.in-Some.fired (sym c.in-Some.ensures.first) c.in_ok-hand_first.ensures.fired in
     record {
-      hows = i.hows ++ Dropped ∷ [];
-      made = handed_more s.settings s.history s.mark s.way c.args.sched c.args.steps.now b c.hand_first.new.self i.hows Dropped
-          (g.met.S.SchedSteps.same_settings c.args.steps.now b i.stays, g.met.S.SchedSteps.same_mark c.args.steps.now b i.stays) i.made
-          (subst (λ how. Made s.settings s.history s.mark s.way c.args.sched (λ g way. Hands g way c.args.sched (Ok how)) b c.hand_first.new.self) c.in-Dropped.is c.in_ok-hand_first.ensures.call);
-      put_is = i.put_is ∙ sym (puts_more i.hows Dropped ∙ add-zero (puts i.hows));
-      dropped_is = ap (λ n. n + 1) i.dropped_is ∙ sym (drops_more i.hows Dropped);
+      handed = handed_dropped s.settings s.history s.mark s.way c.args.sched c.loop-fired.put c.loop-fired.dropped _ c.args.steps.now b c.hand_first.new.self
+          (g.met.S.SchedSteps.same_settings c.args.steps.now b i.stays, g.met.S.SchedSteps.same_mark c.args.steps.now b i.stays) i.handed
+          c.in_ok-hand_first.ensures.call c.in-Dropped.is;
       few = inr (few_dropped c.loop-fired.put c.loop-fired.dropped _ _ i.few c.in-Some.ensures.few less);
       stays = g.met.S.SchedSteps.stay c.args.steps.now b c.hand_first.new.self i.stays c.hand_first.ensures.stays;
     }

@@ -1,8 +1,6 @@
-use Rattle.std.proofs.Common.{◌≡◌, ◌⊎◌, ◌≤◌, ◌+◌, List, length}
-use Rattle.ert_effects.specs.Chains.{HandsMany, puts, drops}
-use Rattle.ert_effects.specs.declared.answers.Handed.{Handed}
+use Rattle.std.proofs.Common.{◌≡◌, ◌⊎◌, ◌≤◌, ◌+◌, length}
 use Rattle.ert_defs.specs.States.{state}
-use Rattle.ert_world.proofs.Chained.{Made}
+use Rattle.ert_world.proofs.Chained.{HasHanded}
 use Rattle.ert_world.proofs.chains.deliver.Given as goal
 use Rattle.ert_defs.specs.declared.settings.TheConstants.{MOST_SLOTS}
 
@@ -10,10 +8,7 @@ abbrev pub invariant-loop-fired : goal.invariant-loop-fired
 invariant-loop-fired g l =
     let s = g.S.SchedSteps in
     record {
-      hows : List Handed;
-      made : Made s.settings s.history s.mark s.way l.fn.sched (λ g way. HandsMany g way l.fn.sched hows) l.fn.steps l.steps;
-      put_is : l.put ≡ puts hows;
-      dropped_is : l.dropped ≡ drops hows;
+      handed : HasHanded s.settings s.history s.mark s.way l.fn.sched l.put l.dropped l.fn.steps l.steps;
       few : (l.put + l.dropped ≡ 0) ⊎ ((l.put + l.dropped) + length ((state (s.settings l.steps) (s.history l.steps)).scheds l.fn.sched).fired ≤ MOST_SLOTS);
       stays : s.stays l.fn.steps l.steps;
     }

@@ -11,7 +11,7 @@ use Rattle.ert_shard.specs.Turning.{fired_of}
 use Rattle.ert_shard.specs.Shards.{Owned, share_of, parts_of}
 use Rattle.ert_table.specs.Desks.{settings_of, front_of}
 use Rattle.ert_table.specs.declared.desk.Desk.{Desk}
-use Rattle.ert_world.proofs.CancelCalls.{loses_reused}
+use Rattle.ert_world.proofs.Reusing.{loses_reused}
 use Rattle.ert_world.specs.declared.sched_part.SchedPart.{SchedPart}
 use Rattle.ert_shard.proofs.shard.Shard.hand_first.Goals as goal
 

@@ -1,4 +1,4 @@
-use Rattle.std.proofs.Common.{◌≡◌, ap, subst, sym, ◌∙◌}
+use Rattle.std.proofs.Common.{◌≡◌, true, false, ap, refl, subst, sym, ◌∙◌}
 use Rattle.ert_defs.specs.Entries.{advanced_entry}
 use Rattle.ert_defs.specs.declared.entry.Actor.TheVariants.{Sched}
 use Rattle.ert_table.specs.Desks.{settings_of, view_of}
@@ -6,7 +6,7 @@ use Rattle.ert_table.specs.Takes.{Appends}
 use Rattle.ert_timers.specs.Changes.{gone_on}
 use Rattle.ert_timers.specs.Looking.{LooksDown}
 use Rattle.ert_timers.specs.Parts.{Part}
-use Rattle.ert_timers.proofs.SomeTried.{is_looked, may_end_some, stopped_some, ended_some}
+use Rattle.ert_timers.proofs.SomeTried.{is_looked, loses_some, may_end_some, stopped_some, ended_some}
 use Rattle.ert_timers.proofs.Trials.{still_held, stands_ended}
 use Rattle.ert_timers.proofs.Trying.{stands_come_to}
 use Rattle.ert_timers.proofs.part.WheelPart.advance_some.Goals as goal
@@ -59,5 +59,15 @@ returns-clause-call c =
     c.number-2.ensures ∙ (ap (λ (p : Part). p.number) c.go_on.ensures ∙ some.done.number) in
     ended_some g (view_of c.args.pass.now) c.args.self.now c.try_some.new.self c.number.result c.args.most to
     c.args.fired.now c.reserve.new.self c.try_some.new.fired (view_of c.look_down-to.new.pass) w c.number.ensures
-    c.reserve.ensures.rows c.look_down-to.ensures.looks c.requires.holds x some
+    c.reserve.ensures.rows c.look_down-to.ensures.looks c.requires.holds c.go_on.new.self x c.go_on.ensures some
     (subst (λ n. Appends g w (advanced_entry n to) x) number c.load_time.ensures.step)
+
+pub returns-then-try_some-clause-fewer : goal.returns-then-try_some-clause-fewer
+returns-then-try_some-clause-fewer c =
+    loses_some (settings_of c.args.desk.now) (view_of c.look_down-to.new.pass) c.args.self.now c.try_some.new.self c.try_some.new.self c.look_down-to.result c.args.most true
+    c.reserve.new.self c.try_some.new.fired (view_of c.try_some.new.pass) c.if-try_some.ensures.call refl
+
+pub returns-clause-fewer : goal.returns-clause-fewer
+returns-clause-fewer c =
+    loses_some (settings_of c.args.desk.now) (view_of c.look_down-to.new.pass) c.args.self.now c.try_some.new.self c.go_on.new.self c.look_down-to.result c.args.most false
+    c.reserve.new.self c.try_some.new.fired (view_of c.try_some.new.pass) c.if-try_some.ensures.call (ap (λ (p : Part). p.keys) c.go_on.ensures)

@@ -3,7 +3,7 @@ use Rattle.ert_effects.specs.TimerCalls.{Round}
 use Rattle.ert_table.specs.Desks.{settings_of, view_of}
 use Rattle.ert_timers.specs.Parts.{Part}
 use Rattle.ert_timers.specs.Starting.{LooksAround}
-use Rattle.ert_timers.proofs.Lookings.{looks_around, clock_taken}
+use Rattle.ert_timers.proofs.Rounds.{looks_around, clock_taken}
 use Rattle.ert_timers.proofs.part.WheelPart.look_around.Goals as goal
 
 pub look_at_some-requires-2-clause-past : goal.look_at_some-requires-2-clause-past

@@ -2,7 +2,7 @@ use Rattle.std.proofs.Common.{sym, ap, subst, ◌∙◌}
 use Rattle.std.specs.FinSet as sets
 use Rattle.ert_table.specs.Desks.{settings_of, view_of}
 use Rattle.ert_timers.specs.Parts.{HoldsCaller, Part, Stands}
-use Rattle.ert_timers.proofs.Lookings.{takes_first, takes_then}
+use Rattle.ert_timers.proofs.Takings.{takes_first, takes_then}
 use Rattle.ert_timers.proofs.part.WheelPart.take_slot.Goals as goal
 
 pub returns-in-Some-clause-call : goal.returns-in-Some-clause-call

@@ -3,10 +3,10 @@ use Rattle.std.specs.Option.{is_some}
 use Rattle.ert_table.specs.Desks.{settings_of, view_of}
 use Rattle.ert_timers.specs.Parts.{HoldsSched, Part}
 use Rattle.ert_timers.specs.Trying.{HasDue, TriesRows, come_to}
-use Rattle.ert_timers.proofs.SomeTried.{looked_come_to, row_counted, has_due, tried_come_to}
+use Rattle.ert_timers.proofs.SomeTried.{looked_come_to, has_due, tried_come_to}
 use Rattle.ert_timers.proofs.Dues.{first_next}
 use Rattle.ert_timers.proofs.Trials.{still_held}
-use Rattle.ert_timers.proofs.Trying.{tries_none, tries_more, looked_more}
+use Rattle.ert_timers.proofs.Trying.{row_counted, tries_none, tries_more, looked_more}
 use Rattle.ert_timers.proofs.part.WheelPart.try_some.Goals as goal
 use Rattle.ert_wheel.specs.FirstDue.{IsFirstRowDue}
 

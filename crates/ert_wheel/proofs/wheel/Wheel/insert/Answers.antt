@@ -22,21 +22,19 @@ invariant_of-self g c =
     is_kept (stored_as c.set.ensures.keys (inserted (sees c.self.invariant c.self.view_is)
     (record {
       low = c.requires.slot;
-      vacant = c.requires.vacant;
       deadline = c.requires.deadline;
       order = omega arith;
       newest = c.requires.newest;
     })
-    (c.bucket-home.ensures.is ∙ ap (bucket_of c.self.inside.next_time) c.max.ensures) c.put.ensures.slots c.put.ensures.homes c.put.ensures.chains c.lower.ensures))
+    c.requires.vacant (c.bucket-home.ensures.is ∙ ap (bucket_of c.self.inside.next_time) c.max.ensures) c.put.ensures.slots c.put.ensures.homes c.put.ensures.chains c.lower.ensures))
 
 pub returns-clause-keys : goal.returns-clause-keys
 returns-clause-keys g c =
     is_held (stored_as c.set.ensures.keys (inserted (sees c.self.invariant c.self.view_is)
     (record {
       low = c.requires.slot;
-      vacant = c.requires.vacant;
       deadline = c.requires.deadline;
       order = omega arith;
       newest = c.requires.newest;
     })
-    (c.bucket-home.ensures.is ∙ ap (bucket_of c.self.inside.next_time) c.max.ensures) c.put.ensures.slots c.put.ensures.homes c.put.ensures.chains c.lower.ensures))
+    c.requires.vacant (c.bucket-home.ensures.is ∙ ap (bucket_of c.self.inside.next_time) c.max.ensures) c.put.ensures.slots c.put.ensures.homes c.put.ensures.chains c.lower.ensures))

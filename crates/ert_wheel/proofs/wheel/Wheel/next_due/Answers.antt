@@ -1,6 +1,7 @@
 use Rattle.std.proofs.Common.{◌≢◌, ◌<◌, ◌≡◌, ℕ, MatchOption, count_by, ap, subst, inl, rules, arith}
 use Rattle.std.specs.Option.{is_some}
-use Rattle.ert_wheel.proofs.NextDue.{no_row, has_row, first_is, home_low, may_walk, visits_bucket, sees_early, early_due, due_next, least_due, none_before_least, due_at_of}
+use Rattle.ert_wheel.proofs.Least.{no_row, has_row, may_walk, visits_bucket, sees_early}
+use Rattle.ert_wheel.proofs.NextDue.{first_is, home_low, early_due, due_next, least_due, none_before_least, due_at_of}
 use Rattle.ert_wheel.proofs.Writes.{sees, keys_of, passed_of}
 use Rattle.ert_wheel.proofs.wheel.Wheel.next_due.Goals as goal
 use Rattle.ert_wheel.specs.NextDue.{NoRow, HasRow, IsNextDue}

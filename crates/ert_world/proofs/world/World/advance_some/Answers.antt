@@ -5,7 +5,7 @@ use Rattle.ert_world.proofs.Calls.{has_at, does_at}
 use Rattle.ert_world.proofs.Listed.{kept_by}
 use Rattle.ert_world.proofs.WheelCalls.{lost_rows}
 use Rattle.ert_world.proofs.Advances.{count_fits}
-use Rattle.ert_world.proofs.SomeAdvanced.{some_ok, some_refused, replaced_left}
+use Rattle.ert_world.proofs.SomeAdvanced.{some_ok, some_refused, replaced_left, replaced_loses}
 use Rattle.ert_world.proofs.world.World.advance_some.Goals as goal
 
 pub invariant_of-self : goal.invariant_of-self
@@ -76,3 +76,8 @@ pub returns-clause-left : goal.returns-clause-left
 returns-clause-left c =
     replaced_left c.self.inside c.deref.result.now c.args.sched c.in_ok-to.to c.in_ok-to.due c.advance_some.new.self
     (has_at c.deref.ensures c.self.view_is c.self.invariant.sound) c.requires c.in_ok-to.ensures.left
+
+pub returns-clause-fewer : goal.returns-clause-fewer
+returns-clause-fewer c =
+    replaced_loses c.args.self.now c.self.inside c.deref.result.now c.args.sched c.args.most c.in_ok-to.due c.index_mut.result.now c.advance_some.new.self
+    (has_at c.deref.ensures c.self.view_is c.self.invariant.sound) c.requires c.index_mut.ensures.value c.in_ok-to.ensures.fewer

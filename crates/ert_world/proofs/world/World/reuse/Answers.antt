@@ -4,7 +4,7 @@ use Rattle.ert_table.specs.Desks.{settings_of}
 use Rattle.ert_timers.specs.Freeing.{IsLetGo}
 use Rattle.ert_timers.specs.Parts.{Part}
 use Rattle.ert_world.proofs.Calls.{has_at}
-use Rattle.ert_world.proofs.CancelCalls.{freed, loses_reused}
+use Rattle.ert_world.proofs.Reusing.{freed, loses_reused}
 use Rattle.ert_world.specs.Worlds.{Seen}
 use Rattle.ert_world.proofs.world.World.reuse.Goals as goal
 

@@ -1,10 +1,11 @@
-use Rattle.std.proofs.Common.{◌≡◌, ◌||◌, ℕ, Bool, Ok, Err, rules, ap, subst, sym, ◌∙◌}
+use Rattle.std.proofs.Common.{◌≡◌, ◌||◌, ℕ, Bool, Ok, Err, inl, inr, rules, ap, subst, sym, ◌∙◌}
 use Rattle.ert_defs.specs.declared.settings.Settings.{Settings}
 use Rattle.ert_effects.specs.Ways.{Way}
 use Rattle.ert_effects.specs.declared.answers.Turned.{Turned}
 use Rattle.ert_world.proofs.Alone.{goes_on}
-use Rattle.ert_world.proofs.Bounding.{turned_some, turn_some_unserved, turn_some_unadvanced, turn_some_undelivered}
-use Rattle.ert_world.specs.Bounded.{IsLeftAt, TurnsSome}
+use Rattle.ert_world.proofs.Bounding.{delivered_most, turned_some, turn_some_unserved, turn_some_unadvanced, turn_some_undelivered}
+use Rattle.ert_world.proofs.SomeAdvanced.{fewer_through}
+use Rattle.ert_world.specs.Bounded.{IsLeftAt, LosesSomeAt, TurnsSome}
 use Rattle.ert_world.specs.Stepping.{stay, still_passed}
 use Rattle.ert_world.specs.Ways.{beside_seats}
 use Rattle.ert_world.specs.Worlds.{Goes, Seen}
@@ -113,3 +114,14 @@ pub returns-else-due-clause-passed : goal.returns-else-due-clause-passed
 returns-else-due-clause-passed c = λ none.
     still_passed c.advance_some.new.self c.deliver_some.new.steps c.args.sched c.in_ok-to.to c.deliver_some.ensures.stays
     (subst (λ (more : Bool). IsLeftAt c.advance_some.new.self c.args.sched c.in_ok-to.to more) c.if-due.false c.in_ok-to.ensures.left)
+
+pub returns-then-due-clause-done : goal.returns-then-due-clause-done
+returns-then-due-clause-done c = λ more.
+    inr (fewer_through c.args.self.now c.serve_all.new.steps c.advance_some.new.self c.deliver_some.new.steps c.args.sched c.args.most c.serve_all.ensures.stays.rows
+    (subst (λ (due : Bool). LosesSomeAt c.serve_all.new.steps c.advance_some.new.self c.args.sched due c.args.most) c.if-due.true c.in_ok-to.ensures.fewer)
+    c.deliver_some.ensures.stays.rows)
+
+pub returns-else-due-clause-done : goal.returns-else-due-clause-done
+returns-else-due-clause-done c = λ more.
+    inl (delivered_most c.advance_some.new.self.settings (the_way c.advance_some.new.self.settings c.advance_some.new.self.next c.args.sched) c.args.sched c.args.most
+    (c.in_ok-put.put, c.in_ok-put.dropped, c.in_ok-put.waits) c.advance_some.new.self.history c.in_ok-put.ensures.call.piece c.in_ok-put.ensures.call.made more)

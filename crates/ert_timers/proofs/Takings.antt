@@ -1,0 +1,104 @@
+-- A slot is taken: one that is held free, or one that is found by looks at the slots of a round.
+
+use Rattle.std.proofs.Common.{◌≡◌, ℕ, ◌<◌, ◌≤◌, true, false, [], length, Option, Some, None, IfNone, IfSome, refl, sym, ap, subst, ◌∙◌, arith, append-nil}
+use Rattle.std.specs.FinSet as sets
+use Rattle.ert_defs.specs.States.{uses_at, state}
+use Rattle.ert_defs.specs.Timers.{turned, is_taken}
+use Rattle.ert_defs.specs.declared.settings.Settings.{Settings}
+use Rattle.ert_table.specs.declared.view.View.{View}
+use Rattle.ert_timers.specs.Changes.{IsFree, picked}
+use Rattle.ert_laws.proofs.Since.{rounds_begun}
+use Rattle.ert_timers.specs.Parts.{Part, Stands, slot_at, last_timer}
+use Rattle.ert_timers.specs.Starting.{FindsRound, LooksAround, TakesSlot}
+use Rattle.ert_timers.specs.Passed.{LosesRows}
+use Rattle.ert_timers.proofs.Fit.{taken_was}
+use Rattle.ert_timers.proofs.Resting.{rested_by}
+use Rattle.ert_timers.proofs.Standing.{clock_at, stands_with}
+use Rattle.ert_timers.proofs.Passing.{loses_then}
+use Rattle.ert_timers.proofs.Rounds.{round_are_probes}
+
+-- the part stands when a slot is held free no more
+picked_stands : (g : Settings) (v : View) (p q : Part) (k : ℕ) → Stands g v.front p → q ≡ picked p k → Stands g v.front q
+picked_stands g v p q k stands is =
+    subst (λ (x : Part). Stands g v.front x) (sym is) (stands_with g v.front p (picked p k).free p.passed stands (λ j held. taken_was p.free k j held))
+
+-- it has lost no row
+loses_picked : (p : Part) (k : ℕ) → LosesRows p (picked p k)
+loses_picked p k = record { number = refl; slots = refl; left = λ j key is. is; time = omega arith }
+
+-- a slot was held free
+pub takes_first : (g : Settings) (v : View) (by now : ℕ) (p q : Part) (k : ℕ) → Stands g v.front p → now ≡ clock_at g (state g v.front)
+    → q ≡ picked p k → IsFree q k → sets.contains p.free k ≡ true → TakesSlot g v by now p q (Some k) v
+takes_first g v by now p q k stands told is free held = record {
+  probes = [];
+  are_probes = tt;
+  call = record { actors = refl; legal = stands.legal; later = []; grown = sym (append-nil v.front); ours = refl };
+  stands = picked_stands g v p q k stands is;
+  number = ap (λ (x : Part). x.number) is;
+  slots = ap (λ (x : Part). x.slots) is;
+  arms = ap (λ (x : Part). x.arms) is;
+  finds = free;
+  usable = ap (λ (x : Part). is_taken ((state g v.front).status (last_timer x.number x.slots k))) is ∙ stands.holds.free k held;
+  rested = subst (λ (x : Part). (turned (uses_at (state g v.front) x.number k)).since ≤ now) (sym is)
+      (subst (λ n. (turned (uses_at (state g v.front) p.number k)).since ≤ n) (sym told) (stands.holds.ready k held));
+  look = refl;
+  loses = subst (LosesRows p) (sym is) (loses_picked p k);
+}
+
+-- a slot that is held free after the looks doesn't rest
+rested_then : (g : Settings) (v : View) (by now : ℕ) (p q : Part) (k : ℕ) (u : View) → Stands g v.front p → now ≡ clock_at g (state g v.front)
+    → LooksAround g v by now p q u → k < g.slots → sets.contains q.free k ≡ true → (turned (uses_at (state g u.front) q.number k)).since ≤ now
+rested_then g v by now p q k u stands told some low held =
+    rested_by (state g u.front) q.number k now (slot_at q.slots k) (some.stands.holds.lasts k low) (some.stands.holds.aboves k low)
+    (begun q.number some.number) (some.rested k held)
+  where
+    begun : (w : ℕ) → w ≡ p.number → (state g u.front).since w k ≤ now
+    begun w same =
+        subst (λ m. (state g u.front).since m k ≤ now) (sym same)
+        (omega (arith, told, some.since k, rounds_begun g v.front p.number k stands.checked stands.legal))
+
+-- none was, and those of a round were looked at
+pub takes_then : (g : Settings) (v : View) (by now : ℕ) (p p' q r : Part) (slot : Option ℕ) (u : View) → Stands g v.front p
+    → now ≡ clock_at g (state g v.front) → p' ≡ p → LooksAround g v by now p' q u
+    → IfNone slot ((k : ℕ) → sets.contains q.free k ≡ false) → IfNone slot (r ≡ q)
+    → IfSome slot (λ k. sets.contains q.free k ≡ true) → IfSome slot (λ k. r ≡ picked q k) → IfSome slot (IsFree r)
+    → TakesSlot g v by now p r slot u
+takes_then g v by now p p' q r None u stands told same some none left held is free =
+    let here = subst (λ (x : Part). LooksAround g v by now x q u) same some in
+    record {
+      probes = here.probes;
+      are_probes = round_are_probes by now p.number q here.round here.probes here.finds;
+      call = here.call;
+      stands = subst (λ (x : Part). Stands g u.front x) (sym left) here.stands;
+      number = ap (λ (x : Part). x.number) left ∙ here.number;
+      slots = ap (λ (x : Part). x.slots) left ∙ here.slots;
+      arms = ap (λ (x : Part). x.arms) left ∙ here.arms;
+      finds = record {
+        round = here.round;
+        finds = subst (λ (x : Part). FindsRound by now p.number x here.round here.probes) (sym left) here.finds;
+        none = λ j. ap (λ (x : Part). sets.contains x.free j) left ∙ none j;
+      };
+      usable = tt;
+      rested = tt;
+      look = here.look;
+      loses = subst (LosesRows p) (sym left) here.loses;
+    }
+takes_then g v by now p p' q r (Some k) u stands told same some none left held is free =
+    let here = subst (λ (x : Part). LooksAround g v by now x q u) same some in
+    let low : k < g.slots =
+    omega (arith, free.low, ap (λ (x : Part). length x.slots) is, here.stands.holds.many) in
+    record {
+      probes = here.probes;
+      are_probes = round_are_probes by now p.number q here.round here.probes here.finds;
+      call = here.call;
+      stands = picked_stands g u q r k here.stands is;
+      number = ap (λ (x : Part). x.number) is ∙ here.number;
+      slots = ap (λ (x : Part). x.slots) is ∙ here.slots;
+      arms = ap (λ (x : Part). x.arms) is ∙ here.arms;
+      finds = free;
+      usable = ap (λ (x : Part). is_taken ((state g u.front).status (last_timer x.number x.slots k))) is ∙ here.stands.holds.free k held;
+      rested = subst (λ (x : Part). (turned (uses_at (state g u.front) x.number k)).since ≤ now) (sym is)
+          (rested_then g v by now p q k u stands told here low held);
+      look = here.look;
+      loses = loses_then p q r here.loses (subst (LosesRows q) (sym is) (loses_picked q k));
+    }

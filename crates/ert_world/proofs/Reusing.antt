@@ -1,0 +1,55 @@
+-- A wheel of a world holds a slot free again.
+
+use Rattle.std.proofs.Common.{◌≡◌, ℕ, ◌<◌, List, [], append-nil, slice_index_or, refl, sym, ap, subst, ◌∙◌, arith}
+use Rattle.std.specs.Prelude.{slice_set}
+use Rattle.ert_defs.specs.States.{State, state}
+use Rattle.ert_table.specs.Desks.{settings_of, front_of}
+use Rattle.ert_table.specs.declared.desk.Desk.{Desk}
+use Rattle.ert_timers.specs.Parts.{Part, Stands as WheelStands}
+use Rattle.ert_timers.specs.Changes.{reused}
+use Rattle.ert_timers.specs.Passed.{LosesRows}
+use Rattle.ert_timers.proofs.Passing.{same_last}
+use Rattle.ert_timers.specs.Tidy.{IsTidy}
+use Rattle.ert_world.proofs.Calls.{Has, parts_in, schedulers_at}
+use Rattle.ert_world.proofs.WheelCalls.{rows_set}
+use Rattle.ert_world.specs.Stepping.{Stays}
+use Rattle.ert_world.specs.Worlds.{Seen, seen, AreSound}
+use Rattle.ert_world.specs.declared.world.World.TheInside.{Inside}
+use Rattle.ert_world.proofs.CancelCalls.{put_back}
+
+-- where a slot is held free again no row has come
+pub loses_reused : (p q : Part) (k : ℕ) → q ≡ reused p k → LosesRows p q
+loses_reused p q k is = subst (LosesRows p) (sym is) (record { number = refl; slots = refl; left = λ j key held. held; time = omega arith })
+
+-- so a tidy part stays so where rows go
+loses_tidy : (s : State) (p q : Part) → LosesRows p q → IsTidy s p → IsTidy s q
+loses_tidy s p q loses tidy k key held = ap s.status (same_last p q k loses) ∙ tidy k key (loses.left k key held)
+
+-- a world whose wheel holds a slot free again
+pub record Freed (before : Seen) (b : Inside) (d : Desk) (new : List Part) : Type 0 where
+  pub fit : AreSound d b.pass b.next (record (parts_in b) { wheels = new })
+  pub stays : Stays before (seen d b.pass b.next b.keeper new)
+
+-- the wheel at a place holds a slot free again
+pub freed : (before : Seen) (b : Inside) (d : Desk) (i : ℕ) (old new : Part) → Has before b d → i < before.settings.schedulers
+    → old ≡ slice_index_or b.wheels.items i old → new.number ≡ old.number → WheelStands (settings_of d) (front_of b.pass) new
+    → LosesRows old new → Freed before b d (slice_set b.wheels.items i new)
+freed before b d i old new has low lent named stands loses =
+    let s : State = state (settings_of d) (front_of b.pass) in
+    let ws : List Part = b.wheels.items in
+    let below : i < (settings_of d).schedulers = schedulers_at has i low in
+    let lost = rows_set ws i old new (rw has.fit.stand.wheels.counted below) lent loses in
+    record {
+      fit = record {
+        fit = put_back d b.pass b.next (parts_in b) i old new has.fit below lent named stands;
+        tidy = λ alone j x in_range. loses_tidy s (slice_index_or ws j x) (slice_index_or (slice_set ws i new) j x) (lost j x) (has.tidy alone j x in_range);
+      };
+      stays = subst (λ w. Stays w (seen d b.pass b.next b.keeper (slice_set ws i new))) has.is (record {
+        table = refl;
+        settings = refl;
+        next = refl;
+        clock = refl;
+        rows = lost;
+        forgotten = record { piece = []; grown = sym (append-nil (front_of b.pass)); forgotten = tt };
+      });
+    }
