@@ -163,7 +163,7 @@ static uint64_t read_time(soaker *s) {
     return (uint64_t)time / 1000000;
 }
 
-/* Starts a timer; false where the wheel is full. */
+/* Starts a timer, now and then in the place of a recent one of any shard, which is cancelled; false where the wheel is full. */
 static bool start_one(soaker *s) {
     int number = atomic_load(&s->started);
     record *r = &s->timers[number];
@@ -172,11 +172,22 @@ static bool start_one(soaker *s) {
     r->due = read_time(s) + after;
     r->is_bare = below(&s->random, 4) == 0;
     ert_start how = {.when = (int64_t)after, .msg = (uint64_t)number, .dest = r->dest, .bare = r->is_bare};
-    int32_t status = ert_shard_start(&s->shard, &how, &r->name);
+    record *old = below(&s->random, 8) == 0 ? any_timer(&s->random) : NULL;
+    int32_t status;
+    if (old == NULL) {
+        status = ert_shard_start(&s->shard, &how, &r->name);
+    } else {
+        r->name = old->name;
+        status = ert_shard_restart(&s->shard, &r->name, &how);
+        if (status == ERT_NO_TIMER) {
+            return true;
+        }
+        note_cancelled(old, ERT_OK, &s->cancelled); /* it was cancelled, whether there is room for the other or not */
+    }
     if (status == ERT_FULL) {
         return false;
     }
-    must("ert_shard_start", status);
+    must("start", status);
     atomic_store(&s->started, number + 1);
     return true;
 }
@@ -222,12 +233,30 @@ static void turn_by_parts(soaker *s, ert_turned *turned) {
     *turned = both;
 }
 
+/* A turn in pieces, until there are no more. */
+static void turn_by_pieces(soaker *s, ert_turned *turned) {
+    uint32_t most = 1 + (uint32_t)below(&s->random, 16);
+    ert_turned all = {0, 0, 0, 0, 0};
+    ert_turned_some piece;
+    do {
+        must("ert_shard_turn_some", ert_shard_turn_some(&s->shard, most, &piece));
+        if (piece.fired > most || piece.put + piece.dropped > most || piece.to < all.to) {
+            wrong("a piece of a turn is told wrong", NULL);
+        }
+        all.to = piece.to;
+        all.fired += piece.fired;
+        all.put += piece.put;
+        all.dropped += piece.dropped;
+    } while (piece.more);
+    *turned = all;
+}
+
 static void turn_and_take(soaker *s) {
     ert_turned turned;
-    if (below(&s->random, 2) == 0) {
-        turn_by_parts(s, &turned);
-    } else {
-        must("ert_shard_turn", ert_shard_turn(&s->shard, &turned));
+    switch (below(&s->random, 3)) {
+    case 0: turn_by_parts(s, &turned); break;
+    case 1: turn_by_pieces(s, &turned); break;
+    default: must("ert_shard_turn", ert_shard_turn(&s->shard, &turned));
     }
     s->fired += turned.fired;
     s->put += turned.put;

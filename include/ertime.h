@@ -1030,6 +1030,22 @@ int32_t ert_shard_time_offset(ert_shard *shard, ert_offset *offset);
 int32_t ert_shard_start(ert_shard *shard, const ert_start *start, ert_timer *timer);
 
 /*
+ * Restarts a timer that is armed, whichever shard started it: it gets a new deadline and a new name, as of
+ * ert_world_restart.
+ *
+ * The timer is cancelled, and one is started on the wheel of this shard with all that `start` says. If the timer is of this
+ * shard its slot can be used again at once; if it is of another one, that keeps the slot as after ert_shard_cancel. Writes
+ * the new name over the old one in `timer`.
+ *
+ * ERT_RANGE: the process `dest` is not of the shard. ERT_BAD_TIME: as of ert_shard_start; nothing has changed.
+ * ERT_NO_TIMER: the timer is not armed: it has expired, was cancelled, or never existed; none is started. ERT_FULL: the
+ * timer is cancelled, and none is started: no slot of the wheel is available, as of ert_shard_start, or the hub ticked
+ * during the call, and the deadline is outside the limits since. After each of them `timer` is as it was. ERT_CLOSED. Work
+ * as of ert_shard_cancel and ert_shard_start; no memory.
+ */
+int32_t ert_shard_restart(ert_shard *shard, ert_timer *timer, const ert_start *start);
+
+/*
  * Cancels a timer, whichever shard started it.
  *
  * After it the timer's message never comes. Writes the milliseconds that were left to `left`: 0 if it was due and had not
@@ -1049,6 +1065,32 @@ int32_t ert_shard_cancel(ert_shard *shard, const ert_timer *timer, uint64_t *lef
  * ERT_NO_TIMER: the timer is not armed, and `left` is as it was. ERT_CLOSED. Constant work: two loads; no memory.
  */
 int32_t ert_shard_read(ert_shard *shard, const ert_timer *timer, uint64_t *left);
+
+/*
+ * Reports how many timers the wheel of the shard holds: writes it to `held`.
+ *
+ * They are the timers that are armed, and those that another thread cancelled, until they would have been due.
+ *
+ * ERT_CLOSED. It changes nothing. Constant work; no memory.
+ */
+int32_t ert_shard_held(ert_shard *shard, uint64_t *held);
+
+/*
+ * Reports how many expired timers of the shard wait to be delivered: writes it to `expired`.
+ *
+ * After ert_shard_turn or ert_shard_deliver that returned ERT_OK it is 0.
+ *
+ * ERT_CLOSED. It changes nothing. Constant work; no memory.
+ */
+int32_t ert_shard_expired(ert_shard *shard, uint64_t *expired);
+
+/*
+ * Reports how many messages are in the mailbox of a process of the shard: writes it to `count`. Messages of a process that
+ * has exited count too.
+ *
+ * ERT_RANGE: the process is not of the shard. ERT_CLOSED. It changes nothing. Constant work; no memory.
+ */
+int32_t ert_shard_mail_count(ert_shard *shard, uint32_t process, uint64_t *count);
 
 /*
  * Reports whether a process of whatever shard is alive: writes 1 or 0 to `alive`. 0 is final.
@@ -1123,6 +1165,19 @@ int32_t ert_shard_deliver(ert_shard *shard, ert_delivered *delivered);
  * is not reported, and the next turn goes on. ERT_CLOSED.
  */
 int32_t ert_shard_turn(ert_shard *shard, ert_turned *turned);
+
+/*
+ * Makes a turn of the shard in which at most `most` timers expire and at most `most` expired timers are delivered, as
+ * ert_world_turn_some does.
+ *
+ * Writes what it did to `turned`: `more` is 1 if timers are left that are due by `to` or have expired, and then the thread
+ * should not sleep. The next turn goes on with them. If `more` is 0, no timer of the shard is due by `to`. With `most` 0 it
+ * tells whether timers are due. `served` is 0, since a shard has no requests. A timer that another thread cancelled counts
+ * as one of the `most` if it would be due.
+ *
+ * ERT_NO_MEMORY: as of ert_shard_turn. ERT_CLOSED. Work as of ert_world_turn_some.
+ */
+int32_t ert_shard_turn_some(ert_shard *shard, uint32_t most, ert_turned_some *turned);
 
 /*
  * Returns the earliest time at which a timer of the shard can be due, in milliseconds since the start time, as `to` of a

@@ -278,8 +278,16 @@ unsafe extern "C" {
         start: *const ert_start,
         timer: *mut ert_timer,
     ) -> i32;
+    pub fn ert_shard_restart(
+        shard: *mut ert_shard,
+        timer: *mut ert_timer,
+        start: *const ert_start,
+    ) -> i32;
     pub fn ert_shard_cancel(shard: *mut ert_shard, timer: *const ert_timer, left: *mut u64) -> i32;
     pub fn ert_shard_read(shard: *mut ert_shard, timer: *const ert_timer, left: *mut u64) -> i32;
+    pub fn ert_shard_held(shard: *mut ert_shard, held: *mut u64) -> i32;
+    pub fn ert_shard_expired(shard: *mut ert_shard, expired: *mut u64) -> i32;
+    pub fn ert_shard_mail_count(shard: *mut ert_shard, process: u32, count: *mut u64) -> i32;
     pub fn ert_shard_is_alive(shard: *mut ert_shard, process: u32, alive: *mut u32) -> i32;
     pub fn ert_shard_exit(shard: *mut ert_shard, process: u32, first: *mut u32) -> i32;
     pub fn ert_shard_take(shard: *mut ert_shard, process: u32, mail: *mut ert_mail) -> i32;
@@ -289,5 +297,10 @@ unsafe extern "C" {
     pub fn ert_shard_advance(shard: *mut ert_shard, advanced: *mut ert_advanced) -> i32;
     pub fn ert_shard_deliver(shard: *mut ert_shard, delivered: *mut ert_delivered) -> i32;
     pub fn ert_shard_turn(shard: *mut ert_shard, turned: *mut ert_turned) -> i32;
+    pub fn ert_shard_turn_some(
+        shard: *mut ert_shard,
+        most: u32,
+        turned: *mut ert_turned_some,
+    ) -> i32;
     pub fn ert_shard_next_due(shard: *mut ert_shard, due: *mut u64) -> i32;
 }

@@ -355,6 +355,17 @@ pub enum Mail {
     },
 }
 
+/// What a turn with a bound did, but for whether there is more.
+fn turned_of(some: &ffi::ert_turned_some) -> Turned {
+    Turned {
+        to: some.to,
+        served: some.served,
+        fired: some.fired,
+        put: some.put,
+        dropped: some.dropped,
+    }
+}
+
 fn mail(m: ffi::ert_mail) -> Mail {
     let left = (m.has_left != 0).then_some(m.left);
     match m.tag {
@@ -641,14 +652,7 @@ impl World {
     pub fn turn_some(&mut self, sched: u32, most: u32) -> Result<(Turned, bool), Error> {
         let mut some = ffi::ert_turned_some::default();
         done(unsafe { ffi::ert_world_turn_some(&mut *self.handle, sched, most, &mut some) })?;
-        let turned = Turned {
-            to: some.to,
-            served: some.served,
-            fired: some.fired,
-            put: some.put,
-            dropped: some.dropped,
-        };
-        Ok((turned, some.more != 0))
+        Ok(turned_of(&some))
     }
 
     /// How early a timer of a scheduler may be due, in milliseconds since the start time; None where none is

@@ -5,7 +5,7 @@ use std::ptr;
 
 use crate::{
     Advanced, Delivered, Error, Mail, Moved, OffsetState, Reading, Seat, Settings, Start, Timer,
-    Turned, done, done_or, ffi, mail, state,
+    Turned, done, done_or, ffi, mail, state, turned_of,
 };
 
 /// The clock of a service that is divided among threads, and what was given to no shard. It is closed when it is dropped.
@@ -104,6 +104,16 @@ impl Hub {
         (offset.offset, state(offset.state))
     }
 
+    /// Gives an armed timer of whatever shard a new deadline, with all that the start says, and returns its new name: it is
+    /// of this shard then. None if it is not armed.
+    ///
+    /// After `Full` the timer is cancelled and none is started; after any other error nothing has changed.
+    pub fn restart(&mut self, timer: &Timer, start: &Start) -> Result<Option<Timer>, Error> {
+        let mut next = *timer;
+        let status = unsafe { ffi::ert_shard_restart(&mut *self.handle, &mut next, &start.start) };
+        Ok(done_or(status, ffi::ERT_NO_TIMER)?.then_some(next))
+    }
+
     /// Cancels a timer of whatever shard, and returns the milliseconds that were left; None if it is not armed.
     pub fn cancel(&mut self, timer: &Timer) -> Option<u64> {
         let mut left = 0;
@@ -191,6 +201,28 @@ impl Shard {
         (status == ffi::ERT_OK).then_some(left)
     }
 
+    /// How many timers the wheel of the shard holds: those that are armed, and those that other threads cancelled and
+    /// that would not be due yet.
+    pub fn held(&mut self) -> u64 {
+        let mut held = 0;
+        let _open = unsafe { ffi::ert_shard_held(&mut *self.handle, &mut held) };
+        held
+    }
+
+    /// How many expired timers of the shard wait to be delivered.
+    pub fn expired(&mut self) -> u64 {
+        let mut expired = 0;
+        let _open = unsafe { ffi::ert_shard_expired(&mut *self.handle, &mut expired) };
+        expired
+    }
+
+    /// How many messages are in the mailbox of a process of the shard, also of one that has exited.
+    pub fn mail_count(&mut self, process: u32) -> Result<u64, Error> {
+        let mut count = 0;
+        done(unsafe { ffi::ert_shard_mail_count(&mut *self.handle, process, &mut count) })?;
+        Ok(count)
+    }
+
     /// Whether a process of whatever shard is alive.
     pub fn is_alive(&mut self, process: u32) -> Result<bool, Error> {
         let mut alive = 0;
@@ -251,6 +283,14 @@ impl Shard {
         let mut turned = Turned::default();
         done(unsafe { ffi::ert_shard_turn(&mut *self.handle, &mut turned) })?;
         Ok(turned)
+    }
+
+    /// Makes a turn of the shard in which so many timers at most expire and so many at most are delivered, and returns
+    /// whether more are due or have expired: the next turn goes on with them, in their order.
+    pub fn turn_some(&mut self, most: u32) -> Result<(Turned, bool), Error> {
+        let mut some = ffi::ert_turned_some::default();
+        done(unsafe { ffi::ert_shard_turn_some(&mut *self.handle, most, &mut some) })?;
+        Ok(turned_of(&some))
     }
 
     /// How early a timer of the shard may be due, in milliseconds since the start time, as `World::next_due` returns

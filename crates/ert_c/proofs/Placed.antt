@@ -1,6 +1,6 @@
 -- Messages that are written into places, one after the other.
 
-use Rattle.std.proofs.Common.{◌≡◌, ℕ, zero, suc, ◌+◌, ◌<◌, List, [], ◌∷◌, ◌++◌, map, drop, length, refl, ap, arith}
+use Rattle.std.proofs.Common.{◌≡◌, ◌<◌, List, [], ◌∷◌, ◌++◌, map, drop, length, refl, ap, arith}
 use Rattle.std.specs.Prelude.{slice_set}
 
 -- one more is written

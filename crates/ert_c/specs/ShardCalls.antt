@@ -1,6 +1,7 @@
 -- What C is told of a shard.
 
-use Rattle.std.specs.Prelude.{◌≡◌, ◌≢◌, ◌⊎◌, ℕ, ◌+◌, ◌<◌, ◌≤◌, ℤ, Bool, Option, Some, None, Result, Err, IfOk, OnSome, ⊤}
+use Rattle.std.specs.Prelude.{◌≡◌, ◌≢◌, ◌⊎◌, ℕ, ◌+◌, ◌<◌, ◌≤◌, ℤ, Bool, false, length, count_by, Option, Some, None, Result, Err, IfOk, OnSome, ⊤}
+use Rattle.std.specs.Option.{is_some}
 use Rattle.ert_effects.specs.Chains.{AdvancesWheel, Delivers}
 use Rattle.ert_effects.specs.ClockCalls.{TellsTime, TellsOffset, TellsSystemTime}
 use Rattle.ert_effects.specs.MailCalls.{Takes, Monitors, Demonitors, Tells}
@@ -12,12 +13,14 @@ use Rattle.ert_effects.specs.declared.answers.StartErr.TheVariants.{NoMemory}
 use Rattle.ert_effects.specs.declared.answers.Taken.{Taken}
 use Rattle.ert_c.specs.ClockCalls.{state_as}
 use Rattle.ert_c.specs.Through.{Through, Answers, IfBelow, IsOutOfRange}
-use Rattle.ert_c.specs.Told.{start_of, IsStarted, IsFlag, IsGiven, IsDemonitored}
+use Rattle.ert_c.specs.Told.{flag, start_of, timer_of, IsStarted, IsFlag, IsGiven, IsDemonitored}
+use Rattle.ert_c.specs.Waiting.{IsRestarted}
 use Rattle.ert_c.specs.declared.clock_calls.ErtOffset.{ErtOffset}
 use Rattle.ert_c.specs.declared.status.TheConstants.{OK, CLOSED, OPEN, NO_MEMORY, RANGE, NO_SHARD}
 use Rattle.ert_c.specs.declared.timer_calls.ErtStart.{ErtStart}
 use Rattle.ert_c.specs.declared.timer_calls.ErtTimer.{ErtTimer}
 use Rattle.ert_c.specs.declared.turn_calls.ErtTurned.{ErtTurned}
+use Rattle.ert_c.specs.declared.waiting_calls.ErtTurnedSome.{ErtTurnedSome}
 use Rattle.ert_defs.specs.States.{state}
 use Rattle.ert_defs.specs.declared.entry.Actor.TheVariants.{Caller}
 use Rattle.ert_defs.specs.declared.memory.NoMemory.{NoMemory as WantOfMemory}
@@ -25,11 +28,13 @@ use Rattle.ert_defs.specs.declared.settings.OffsetState.{OffsetState}
 use Rattle.ert_defs.specs.declared.timer.Start.{Start}
 use Rattle.ert_defs.specs.declared.timer.TimerRef.{TimerRef}
 use Rattle.ert_shard.specs.Hubs.{Rest, GivesShard}
+use Rattle.ert_shard.specs.Renewing.{RestartsOn, LetsGo}
 use Rattle.ert_shard.specs.Shards.{Share, IsHome, Owned, Goes, Steps, By, HasForgotten}
-use Rattle.ert_shard.specs.Turning.{Turns, Exits}
+use Rattle.ert_shard.specs.Turning.{fired_of, Turns, TurnsUpTo, Exits}
 use Rattle.ert_shard.specs.declared.turns.Turn.{Turn}
 use Rattle.ert_timers.specs.NextDue.{NoneArmedBefore, IsNextHeld}
 use Rattle.ert_timers.specs.Passed.{HasPassed}
+use Rattle.ert_world.specs.declared.restart.RestartErr.{RestartErr}
 
 -- a hub gave a shard, and this one stands behind the shard's handle
 pub record HasShard (processes : ℕ) (old : Rest) (status : ℤ) (hub : Option Rest) (shard : Option Owned) : Type 0 where
@@ -116,6 +121,16 @@ pub record ShardStartsBy (start : Start) (answer : Result TimerRef StartErr) (ol
 abbrev pub ShardStarts : ErtStart → ErtTimer → ErtTimer → Option Owned → ℤ → Option Owned → Type 0
 ShardStarts start = AnswersAtHome start.dest (ShardStartsBy (start_of start)) IsStarted
 
+-- a shard gives an armed timer a new deadline as its caller: the name of the next, or why there is none; where it was
+-- cancelled, the shard's wheel holds no row of it
+pub record ShardRestartsBy (timer : TimerRef) (start : Start) (answer : Result TimerRef RestartErr) (old new : Owned) : Type 0 where
+  pub goes : Goes old (λ way. RestartsOn old.settings way old.share.number timer start answer) new
+  pub forgotten : LetsGo timer answer new
+
+-- C gives a timer a new deadline; where the process isn't of the shard, nothing has changed
+abbrev pub ShardRestarts : ErtStart → ErtTimer → ErtTimer → Option Owned → ℤ → Option Owned → Type 0
+ShardRestarts start timer = AnswersAtHome start.dest (ShardRestartsBy (timer_of timer) (start_of start)) IsRestarted timer
+
 -- a shard cancels a timer as its caller: what was left of it, where it was armed, and then its own wheel holds no row of it
 pub record ShardCancelsBy (timer : TimerRef) (answer : Option ℕ) (old new : Owned) : Type 0 where
   pub steps : Steps old (By old (λ g. Cancels g (Caller (old.share.number + 1)) timer answer)) new
@@ -176,6 +191,31 @@ pub record ShardTurnsBy (answer : Result Turn WantOfMemory) (old new : Owned) : 
 -- what a turn of a shard did, which serves no requests, or want of memory
 abbrev pub IsTurnTold : Result Turn WantOfMemory → ErtTurned → ℤ → ErtTurned → Type 0
 IsTurnTold = IsGiven (λ t. record { to = t.to; served = 0; fired = t.fired; put = t.put; dropped = t.dropped })
+
+-- a shard makes a turn in which so many timers at most expire and are handed over: what it did and whether there are more,
+-- or want of memory. Where there are no more each row of its wheel is due later than the time of the advance
+pub record ShardTurnsSomeBy (most : ℕ) (answer : Result (Turn × Bool) WantOfMemory) (old new : Owned) : Type 0 where
+  pub steps : Steps old (λ way. TurnsUpTo old.settings way old.share.number most answer) new
+  pub passed : IfOk answer (λ done. done.1 ≡ false → HasPassed new.wheel done.0.to)
+
+-- what such a turn of a shard did, or want of memory
+abbrev pub IsTurnSomeTold : Result (Turn × Bool) WantOfMemory → ErtTurnedSome → ℤ → ErtTurnedSome → Type 0
+IsTurnSomeTold = IsGiven (λ p. record { to = p.0.to; served = 0; fired = p.0.fired; put = p.0.put; dropped = p.0.dropped; more = flag p.1 })
+
+-- what is told is how many rows the wheel of a shard holds, and nothing has changed
+pub record ShardTellsHeld (answer : ℕ) (old new : Owned) : Type 0 where
+  pub rows : answer ≡ count_by is_some old.wheel.keys
+  pub unchanged : new ≡ old
+
+-- what is told is how many expired timers of a shard wait, and nothing has changed
+pub record ShardTellsExpired (answer : ℕ) (old new : Owned) : Type 0 where
+  pub waiting : answer ≡ length (fired_of old)
+  pub unchanged : new ≡ old
+
+-- what is told is how many messages wait in a mailbox of a shard, and nothing has changed
+pub record ShardTellsMail (process answer : ℕ) (old new : Owned) : Type 0 where
+  pub waiting : answer ≡ length ((state old.settings old.history).mails process).queue
+  pub unchanged : new ≡ old
 
 -- what is told is how early a row of the shard's wheel is due, or where the window begins in which it is; no armed timer of
 -- the wheel is due before it, and nothing has changed

@@ -1,16 +1,17 @@
 -- The steps by which a shard's scheduler hands over its expired timers to processes of its share.
 
-use Rattle.std.proofs.Common.{◌≡◌, ℕ, ◌-◌, ◌<◌, true, false, arith, List, [], ◌∷◌, ◌++◌, slice_index_or, Some, None, Ok, refl, sym, ap, subst, ◌∙◌, append-nil}
+use Rattle.std.proofs.Common.{◌≡◌, ℕ, ◌+◌, ◌-◌, ◌<◌, ◌≤◌, Bool, true, false, arith, length, List, [], ◌∷◌, ◌++◌, slice_index_or, Some, None, Ok, Err, refl, sym, ap, subst, ◌∙◌, append-nil}
 use Rattle.std.specs.Prelude.{slice_set}
-use Rattle.ert_defs.specs.Mails.{SchedState, first_of, others_of}
+use Rattle.ert_defs.specs.Mails.{MailState, SchedState, first_of, others_of}
 use Rattle.ert_defs.specs.Legal.{Legal}
 use Rattle.ert_defs.specs.States.{State, state, sched_of}
 use Rattle.ert_defs.specs.Timers.{Row}
 use Rattle.ert_defs.specs.declared.entry.Actor.{Actor}
 use Rattle.ert_defs.specs.declared.entry.Actor.TheVariants.{Wheel, Sched, MailOf}
 use Rattle.ert_defs.specs.declared.entry.Entry.{Entry}
+use Rattle.ert_defs.specs.declared.memory.NoMemory.{NoMemory}
 use Rattle.ert_defs.specs.declared.settings.Settings.{Settings}
-use Rattle.ert_effects.proofs.Growing.{grows_more}
+use Rattle.ert_effects.proofs.Growing.{grows_more, grows_then}
 use Rattle.ert_effects.specs.Chains.{Hands, HandsMany, Delivers, puts, drops}
 use Rattle.ert_effects.specs.MailCalls.{HandsOver}
 use Rattle.ert_effects.specs.Ways.{Growth, Way, Grows}
@@ -36,7 +37,9 @@ use Rattle.ert_table.specs.declared.desk.Desk.{Desk}
 use Rattle.ert_table.specs.declared.desk.Pass.{Pass}
 use Rattle.ert_timers.proofs.Settled.{fired_let_go, handed_free}
 use Rattle.ert_timers.specs.Freeing.{IsLetGo}
+use Rattle.ert_world.proofs.Bounding.{puts_drops}
 use Rattle.ert_world.proofs.Standing.{free_kept}
+use Rattle.ert_world.specs.Bounded.{AreLeft, DeliversSome}
 use Rattle.ert_timers.specs.Parts.{Part}
 use Rattle.ert_timers.specs.Passed.{LosesRows}
 use Rattle.ert_world.proofs.SchedCalls.{sched_stands}
@@ -122,6 +125,15 @@ pub mail_stands : (d : Desk) (p : Pass) (s : Share) (parts : ShardParts) (proces
     → x ≡ slice_index_or parts.mails (process - s.from) x → MailStands (settings_of d) (front_of p) x
 mail_stands d p s parts process x fit home is =
     subst (MailStands (settings_of d) (front_of p)) (sym is) (fit.stand.mails.stand (process - s.from) x (place_low fit process home) refl)
+
+-- its messages are those of the history that the shard knows
+pub mail_waits : (before : Owned) (d : Desk) (p : Pass) (s : Share) (parts : ShardParts) (process : ℕ) (x : Mailbox) → Has before d p s parts → IsHome s process
+    → x ≡ slice_index_or parts.mails (process - s.from) x → length x.held.queue ≡ length ((state before.settings before.history).mails process).queue
+mail_waits before d p s parts process x has home is =
+    let g : Settings = settings_of d in
+    let stands : MailStands g (front_of p) x = mail_stands d p s parts process x has.fit home is in
+    ap (λ (m : MailState). length m.queue) (stands.held ∙ ap (λ n. (state g (front_of p)).mails n) (mail_named has.fit process x home is))
+    ∙ ap (λ (o : Owned). length ((state o.settings o.history).mails process).queue) has.is
 
 -- what its scheduler has after its first expired timer was handed over
 pub hands_on : (before : Owned) (d : Desk) (p q : Pass) (s : Share) (parts : ShardParts) (fired : Row) (how : Handed) → Has before d p s parts
@@ -252,5 +264,58 @@ all_handed old new hows put dropped handing legal put_is dropped_is none =
         table = handing.table;
         settings = handing.settings;
         share = handing.share;
+      };
+    }
+
+-- how so many timers at most were handed over
+pub some_handed : (old new : Owned) (most put dropped : ℕ) (more : Bool) (hows : List Handed) → Handing old hows new → Legal new.settings new.history
+    → put ≡ puts hows → dropped ≡ drops hows → put + dropped ≤ most → AreLeft more most (length hows) (fired_of new)
+    → Steps old (λ way. DeliversSome old.settings way old.share.number most (Ok (put, dropped, more))) new
+some_handed old new most put dropped more hows handing legal put_is dropped_is few left =
+    let made = handing.made in
+    let at : AreLeft more most (length hows) ((state old.settings new.history).scheds old.share.number).fired =
+    subst (λ s. AreLeft more most (length hows) ((state old.settings new.history).scheds s.number).fired) handing.share
+    (subst (λ g. AreLeft more most (length hows) ((state g new.history).scheds new.share.number).fired) handing.settings left) in
+    record {
+      rows = handing.rows;
+      goes = record {
+        grows = record {
+          piece = made.piece;
+          grown = made.grown;
+          made = record {
+            hows = hows;
+            runs = made.made;
+            few = (let all = puts_drops hows in omega (arith, all, put_is, dropped_is, few));
+            put_is = put_is;
+            dropped_is = dropped_is;
+            rest = subst (λ h. AreLeft more most (length hows) ((state old.settings h).scheds old.share.number).fired) made.grown at;
+          };
+        };
+        legal = legal;
+        table = handing.table;
+        settings = handing.settings;
+        share = handing.share;
+      };
+    }
+
+-- fewer were handed over, and there was no memory for the next
+pub some_unhanded : (old mid new : Owned) (most put dropped : ℕ) (e : NoMemory) (hows : List Handed) → Handing old hows mid
+    → put ≡ puts hows → dropped ≡ drops hows → put + dropped < most → Steps mid (λ way. Hands mid.settings way mid.share.number (Err e)) new
+    → Steps old (λ way. DeliversSome old.settings way old.share.number most (Err e)) new
+some_unhanded old mid new most put dropped e hows handing put_is dropped_is few steps =
+    let both = grows_then (HandsMany old.settings (way_of old) old.share.number hows) (Hands old.settings (way_of old) old.share.number (Err e)) old.history mid.history new.history
+    handing.made (since old mid new (λ g n way. Hands g way n (Err e)) handing.settings handing.share steps.goes.grows) in
+    record {
+      rows = rows_then old.wheel mid.wheel new.wheel handing.rows steps.rows;
+      goes = record {
+        grows = record {
+          piece = both.piece;
+          grown = both.grown;
+          made = record { hows = hows; few = (let all = puts_drops hows in omega (arith, all, put_is, dropped_is, few)); runs = both.made };
+        };
+        legal = steps.goes.legal;
+        table = steps.goes.table ∙ handing.table;
+        settings = steps.goes.settings ∙ handing.settings;
+        share = steps.goes.share ∙ handing.share;
       };
     }

@@ -1,3 +1,4 @@
+pub mod Advancing
 pub mod Called
 pub mod Cut
 pub mod Deliveries
@@ -5,8 +6,10 @@ pub mod Given
 pub mod Gone
 pub mod Home
 pub mod Kept
+pub mod Lived
 pub mod Parted
 pub mod Rejoined
+pub mod Renewed
 pub mod Returned
 pub mod Seats
 pub mod StandOn

@@ -1,6 +1,6 @@
 -- A turn of a shard, by its steps, and how long nothing can be due.
 
-use Rattle.std.proofs.Common.{◌≡◌, ℕ, List, Option, Ok, Err, inl, inr, refl, subst, ◌∙◌}
+use Rattle.std.proofs.Common.{◌≡◌, ℕ, Bool, ◌||◌, List, Option, Ok, Err, inl, inr, refl, subst, ◌∙◌}
 use Rattle.std.proofs.Math.Nat.{lt_of_lt_of_le}
 use Rattle.ert_defs.specs.States.{state}
 use Rattle.ert_defs.specs.declared.entry.Entry.{Entry}
@@ -8,9 +8,10 @@ use Rattle.ert_defs.specs.declared.memory.NoMemory.{NoMemory}
 use Rattle.ert_defs.specs.declared.settings.Settings.{Settings}
 use Rattle.ert_effects.proofs.Growing.{grows_then}
 use Rattle.ert_effects.specs.Chains.{AdvancesWheel, Delivers}
+use Rattle.ert_effects.specs.SomeCalls.{AdvancesWheelSome}
 use Rattle.ert_effects.specs.Ways.{Growth, Way, Grows, Then}
-use Rattle.ert_shard.specs.Shards.{Share, Owned, owned, way_of, as_share, Steps, ShardParts, AreFit}
-use Rattle.ert_shard.specs.Turning.{Turns}
+use Rattle.ert_shard.specs.Shards.{Share, Owned, owned, way_of, as_share, Goes, Steps, ShardParts, AreFit}
+use Rattle.ert_shard.specs.Turning.{Turns, TurnsUpTo}
 use Rattle.ert_shard.specs.declared.turns.Turn.{Turn}
 use Rattle.ert_shard.proofs.Called.{rows_then}
 use Rattle.ert_table.specs.Desks.{settings_of, front_of}
@@ -19,6 +20,7 @@ use Rattle.ert_table.specs.declared.desk.Pass.{Pass}
 use Rattle.ert_timers.specs.NextDue.{NoneArmedBefore}
 use Rattle.ert_timers.specs.Parts.{Part, Stands as WheelStands}
 use Rattle.ert_timers.specs.Passed.{HasPassed, LosesRows}
+use Rattle.ert_world.specs.Bounded.{DeliversSome}
 
 -- a step of a later shard is one of its settings and its share at the start
 pub since : (old mid new : Owned) (call : Settings → ℕ → Way → Growth) → mid.settings ≡ old.settings → mid.share ≡ old.share
@@ -28,35 +30,42 @@ since old mid new call settings share grows =
     subst (λ s. Grows (call old.settings s.number (as_share old.settings s)) mid.history new.history) share
     (subst (λ g. Grows (call g mid.share.number (as_share g mid.share)) mid.history new.history) settings grows)
 
+-- two calls, one after the other
+pub goes_then : (old mid new : Owned) (one other : Settings → ℕ → Way → Growth) → Goes old (one old.settings old.share.number) mid
+    → Goes mid (other mid.settings mid.share.number) new
+    → Goes old (λ way. Then (one old.settings old.share.number way) (other old.settings old.share.number way)) new
+goes_then old mid new one other first second = record {
+  grows = grows_then (one old.settings old.share.number (way_of old)) (other old.settings old.share.number (way_of old)) old.history mid.history new.history
+      first.grows (since old mid new other first.settings first.share second.grows);
+  legal = second.legal;
+  table = second.table ∙ first.table;
+  settings = second.settings ∙ first.settings;
+  share = second.share ∙ first.share;
+}
+
 -- two steps, one after the other
 pub steps_then : (old mid new : Owned) (one other : Settings → ℕ → Way → Growth) → Steps old (one old.settings old.share.number) mid
     → Steps mid (other mid.settings mid.share.number) new
     → Steps old (λ way. Then (one old.settings old.share.number way) (other old.settings old.share.number way)) new
 steps_then old mid new one other first second = record {
-  goes = record {
-    grows = grows_then (one old.settings old.share.number (way_of old)) (other old.settings old.share.number (way_of old)) old.history mid.history new.history
-        first.goes.grows (since old mid new other first.goes.settings first.goes.share second.goes.grows);
-    legal = second.goes.legal;
-    table = second.goes.table ∙ first.goes.table;
-    settings = second.goes.settings ∙ first.goes.settings;
-    share = second.goes.share ∙ first.goes.share;
-  };
+  goes = goes_then old mid new one other first.goes second.goes;
   rows = rows_then old.wheel mid.wheel new.wheel first.rows second.rows;
 }
 
 -- a call that is one of another kind
+pub goes_as : (old new : Owned) (call other : Way → Growth) → ((m : List Entry) → call (way_of old) old.history m → other (way_of old) old.history m)
+    → Goes old call new → Goes old other new
+goes_as old new call other so goes = record {
+  grows = record { piece = goes.grows.piece; grown = goes.grows.grown; made = so goes.grows.piece goes.grows.made };
+  legal = goes.legal;
+  table = goes.table;
+  settings = goes.settings;
+  share = goes.share;
+}
+
 pub steps_as : (old new : Owned) (call other : Way → Growth) → ((m : List Entry) → call (way_of old) old.history m → other (way_of old) old.history m)
     → Steps old call new → Steps old other new
-steps_as old new call other so steps = record {
-  goes = record {
-    grows = record { piece = steps.goes.grows.piece; grown = steps.goes.grows.grown; made = so steps.goes.grows.piece steps.goes.grows.made };
-    legal = steps.goes.legal;
-    table = steps.goes.table;
-    settings = steps.goes.settings;
-    share = steps.goes.share;
-  };
-  rows = steps.rows;
-}
+steps_as old new call other so steps = record { goes = goes_as old new call other so steps.goes; rows = steps.rows }
 
 pub turned : (old mid new : Owned) (t : Turn) → Steps old (λ way. AdvancesWheel old.settings way old.share.number (Ok (t.to, t.fired))) mid
     → Steps mid (λ way. Delivers mid.settings way mid.share.number (Ok (t.put, t.dropped))) new
@@ -79,6 +88,31 @@ turn_undelivered old mid new advanced e advances delivers =
     steps_as old new (λ way. Then (AdvancesWheel old.settings way old.share.number (Ok advanced)) (Delivers old.settings way old.share.number (Err e)))
     (λ way. Turns old.settings way old.share.number (Err e)) (λ m made. inr (advanced, made))
     (steps_then old mid new (λ g n way. AdvancesWheel g way n (Ok advanced)) (λ g n way. Delivers g way n (Err e)) advances delivers)
+
+pub turned_up_to : (most : ℕ) (old mid new : Owned) (t : Turn) (due waits : Bool)
+    → Steps old (λ way. AdvancesWheelSome old.settings way old.share.number most (Ok (t.to, t.fired, due))) mid
+    → Steps mid (λ way. DeliversSome mid.settings way mid.share.number most (Ok (t.put, t.dropped, waits))) new
+    → Steps old (λ way. TurnsUpTo old.settings way old.share.number most (Ok (t, (due || waits)))) new
+turned_up_to most old mid new t due waits advances delivers =
+    steps_as old new
+    (λ way. Then (AdvancesWheelSome old.settings way old.share.number most (Ok (t.to, t.fired, due))) (DeliversSome old.settings way old.share.number most (Ok (t.put, t.dropped, waits))))
+    (λ way. TurnsUpTo old.settings way old.share.number most (Ok (t, (due || waits)))) (λ m made. record { due = due; waits = waits; more_is = refl; runs = made })
+    (steps_then old mid new (λ g n way. AdvancesWheelSome g way n most (Ok (t.to, t.fired, due))) (λ g n way. DeliversSome g way n most (Ok (t.put, t.dropped, waits))) advances delivers)
+
+pub some_unadvanced : (most : ℕ) (old new : Owned) (e : NoMemory) → Steps old (λ way. AdvancesWheelSome old.settings way old.share.number most (Err e)) new
+    → Steps old (λ way. TurnsUpTo old.settings way old.share.number most (Err e)) new
+some_unadvanced most old new e advances =
+    steps_as old new (λ way. AdvancesWheelSome old.settings way old.share.number most (Err e)) (λ way. TurnsUpTo old.settings way old.share.number most (Err e))
+    (λ m made. inl made) advances
+
+pub some_undelivered : (most : ℕ) (old mid new : Owned) (advanced : ℕ × ℕ × Bool) (e : NoMemory)
+    → Steps old (λ way. AdvancesWheelSome old.settings way old.share.number most (Ok advanced)) mid
+    → Steps mid (λ way. DeliversSome mid.settings way mid.share.number most (Err e)) new
+    → Steps old (λ way. TurnsUpTo old.settings way old.share.number most (Err e)) new
+some_undelivered most old mid new advanced e advances delivers =
+    steps_as old new (λ way. Then (AdvancesWheelSome old.settings way old.share.number most (Ok advanced)) (DeliversSome old.settings way old.share.number most (Err e)))
+    (λ way. TurnsUpTo old.settings way old.share.number most (Err e)) (λ m made. inr (advanced, made))
+    (steps_then old mid new (λ g n way. AdvancesWheelSome g way n most (Ok advanced)) (λ g n way. DeliversSome g way n most (Err e)) advances delivers)
 
 -- a wheel that has lost rows has passed the time still
 pub passed_on : (p q : Part) (to : ℕ) → LosesRows p q → HasPassed p to → HasPassed q to

@@ -1,17 +1,20 @@
 -- The steps of a shard's scheduler on its wheel: an advance, and a sweep.
 
-use Rattle.std.proofs.Common.{◌≡◌, ℕ, ◌+◌, ◌-◌, ◌<◌, ◌≤◌, true, arith, List, [], ◌∷◌, ◌++◌, length, Result, Ok, Err, refl, sym, ap, subst, ◌∙◌}
+use Rattle.std.proofs.Common.{◌≡◌, ℕ, ◌+◌, ◌-◌, ◌<◌, ◌≤◌, Bool, true, arith, List, [], ◌∷◌, ◌++◌, length, Ok, Err, refl, sym, ap, subst, ◌∙◌}
 use Rattle.ert_defs.specs.States.{State, state}
 use Rattle.ert_defs.specs.Timers.{Row}
 use Rattle.ert_defs.specs.declared.entry.Actor.TheVariants.{Wheel, Sched, Caller}
+use Rattle.ert_defs.specs.declared.entry.Entry.{Entry}
 use Rattle.ert_defs.specs.declared.memory.NoMemory.{NoMemory}
 use Rattle.ert_defs.specs.declared.settings.Settings.{Settings}
 use Rattle.ert_effects.specs.Chains.{AdvancesWheel, SweepsWheel}
+use Rattle.ert_effects.specs.SomeCalls.{AdvancesSome, AdvancesWheelSome}
 use Rattle.ert_effects.specs.WheelCalls.{Advances, Sweeps, IsSwept}
 use Rattle.ert_laws.proofs.Few.{fired_few}
 use Rattle.ert_shard.specs.Turning.{fired_of}
 use Rattle.ert_shard.specs.Shards.{Share, Owned, ShardParts}
-use Rattle.ert_shard.proofs.Home.{home_on, advances_home, sweeps_home}
+use Rattle.ert_shard.proofs.Advancing.{AreOfTurn, all_are, some_are, hand_kept}
+use Rattle.ert_shard.proofs.Home.{home_on, sweeps_home}
 use Rattle.ert_shard.proofs.Kept.{self_own}
 use Rattle.ert_shard.proofs.Called.{Did, Has, finish, losing}
 use Rattle.ert_table.specs.Calls.{IsMade}
@@ -19,12 +22,12 @@ use Rattle.ert_table.specs.Desks.{settings_of, view_of, front_of, actors_of, Bel
 use Rattle.ert_table.specs.Held.{is_held}
 use Rattle.ert_table.specs.declared.desk.Desk.{Desk}
 use Rattle.ert_table.specs.declared.desk.Pass.{Pass}
-use Rattle.ert_timers.proofs.LawsHold.{advances_only, sweeps_only}
+use Rattle.ert_timers.proofs.LawsHold.{sweeps_only}
 use Rattle.ert_timers.specs.Expiring.{HasExpired, HasNotExpired}
-use Rattle.ert_timers.specs.Trying.{fired_in}
+use Rattle.ert_timers.specs.Trying.{HasExpiredSome, HasRefusedSome, fired_in}
 use Rattle.ert_timers.specs.Parts.{Part, Stands as WheelStands}
 use Rattle.ert_timers.specs.Passed.{LosesRows}
-use Rattle.ert_world.proofs.Advances.{advance_hand, advance_still, difference}
+use Rattle.ert_world.proofs.Advances.{advance_still, difference}
 use Rattle.ert_world.proofs.SchedCalls.{sched_stands}
 use Rattle.ert_world.specs.Parts.{SchedStands}
 use Rattle.ert_world.specs.declared.sched_part.SchedPart.{SchedPart}
@@ -48,30 +51,31 @@ had {before} {d} {p} {s} {parts} has =
     }
 
 -- the wheel was advanced, and the scheduler has these expired timers
-advanced : (before : Owned) (d : Desk) (p q : Pass) (s : Share) (parts : ShardParts) (new : Part) (x : SchedPart) (answer : Result (ℕ × ℕ) NoMemory)
+advanced : (before : Owned) (d : Desk) (p q : Pass) (s : Share) (parts : ShardParts) (new : Part) (x : SchedPart) (allows : Settings → ℕ → State → List Entry → Type 0)
     → Has before d p s parts → Belongs d q → new.number ≡ parts.wheel.number → WheelStands (settings_of d) (front_of q) new → LosesRows parts.wheel new
-    → IsMade (settings_of d) (view_of p) (Advances (settings_of d) parts.wheel.number answer) (view_of q)
+    → ((st : State) (es : List Entry) → allows (settings_of d) s.number st es → AreOfTurn s es)
+    → IsMade (settings_of d) (view_of p) (allows (settings_of d) parts.wheel.number) (view_of q)
     → x.wheel ≡ parts.sched.wheel → x.hand ≡ parts.sched.hand
     → x.fired.rows ≡ ((state (settings_of d) (front_of q)).scheds parts.wheel.number).fired
-    → Did before d q s (record parts { wheel = new; sched = x }) (λ o way. AdvancesWheel o.settings way o.share.number answer)
-advanced before d p q s parts new x answer has belongs named stands loses made_w wheel hand rows =
+    → Did before d q s (record parts { wheel = new; sched = x }) (λ o way. way (Wheel o.share.number ∷ []) (allows o.settings o.share.number))
+advanced before d p q s parts new x allows has belongs named stands loses are made_w wheel hand rows =
     let g : Settings = settings_of d in
     let i : ℕ = s.number in
     let st : State = state g (front_of p) in
     let one : parts.wheel.number ≡ i = has.fit.stand.wheel_is in
     let was : Had d p s parts.sched = had has in
     let at : x.wheel ≡ i = wheel ∙ was.wheel in
-    let made : IsMade g (view_of p) (Advances g i answer) (view_of q) = subst (λ n. IsMade g (view_of p) (Advances g n answer) (view_of q)) one made_w in
+    let made : IsMade g (view_of p) (allows g i) (view_of q) = subst (λ n. IsMade g (view_of p) (allows g n) (view_of q)) one made_w in
     let held : is_held (actors_of p) (Sched i) ≡ true = has.fit.holds.own (Sched i) has.fit.holds.low ∙ self_own i in
-    let kept = advance_hand g i answer (view_of p) (view_of q) held made in
+    let of_turn : AreOfTurn s made.entries = are st made.entries made.allowed in
+    let kept = hand_kept g i made.entries (view_of p) (view_of q) held made.call of_turn.leave in
     let below : x.wheel < g.schedulers = rw at has.fit.holds.low in
     let now : SchedStands g (front_of q) x =
     sched_stands g (front_of q) x ((state g (front_of q)).scheds i) below (ap (λ n. (state g (front_of q)).scheds n) at)
     (hand ∙ (was.hand ∙ sym kept)) (rows ∙ ap (λ n. ((state g (front_of q)).scheds n).fired) one) in
-    let only = advances_only g i answer st made.entries made.allowed in
     losing has loses (finish before d p q s parts (record parts { wheel = new; sched = x }) made.entries (Sched i ∷ (Wheel i ∷ []))
-    (λ o way. AdvancesWheel o.settings way o.share.number answer) has belongs made.call only (self_own i, (self_own i, tt))
-    (home_on g (view_of p) made.entries (view_of q) s made.call has.fit.holds has.fit.home (advances_home s g i answer st made.entries made.allowed))
+    (λ o way. way (Wheel o.share.number ∷ []) (allows o.settings o.share.number)) has belongs made.call of_turn.only (self_own i, (self_own i, tt))
+    (home_on g (view_of p) made.entries (view_of q) s made.call has.fit.holds has.fit.home of_turn.home)
     (λ stand. record {
       legal = stand.legal;
       wheel_is = named ∙ one;
@@ -82,7 +86,26 @@ advanced before d p q s parts new x answer has belongs named stands loses made_w
       sched = λ apart. now;
       mails = record { counted = stand.mails.counted; named = stand.mails.named; stand = λ j d low apart. stand.mails.stand j d low refl };
     })
-    (λ m grown own. subst (Advances g i answer st) (sym own) made.allowed))
+    (λ m grown own. subst (allows g i st) (sym own) made.allowed))
+
+-- one of which so many timers expired, with their count
+counted : (before : Owned) (d : Desk) (p q : Pass) (s : Share) (n m : ℕ) (gained : List Row) (parts : ShardParts) (new : Part) (x : SchedPart)
+    (allows : ℕ → Settings → ℕ → State → List Entry → Type 0)
+    → Has before d p s parts → Belongs d q → new.number ≡ parts.wheel.number → WheelStands (settings_of d) (front_of q) new → LosesRows parts.wheel new
+    → ((st : State) (es : List Entry) → allows (length gained) (settings_of d) s.number st es → AreOfTurn s es)
+    → IsMade (settings_of d) (view_of p) (allows (length gained) (settings_of d) parts.wheel.number) (view_of q)
+    → x.fired.rows ≡ parts.sched.fired.rows ++ gained
+    → fired_in (settings_of d) (front_of q) parts.wheel.number ≡ fired_in (settings_of d) (front_of p) parts.wheel.number ++ gained
+    → x.wheel ≡ parts.sched.wheel → x.hand ≡ parts.sched.hand → n ≡ length x.fired.rows → m ≡ length parts.sched.fired.rows
+    → Did before d q s (record parts { wheel = new; sched = x }) (λ o way. way (Wheel o.share.number ∷ []) (allows (n - m) o.settings o.share.number))
+counted before d p q s n m gained parts new x allows has belongs named stands loses are call fired waits wheel hand now was =
+    let g : Settings = settings_of d in
+    let one : parts.wheel.number ≡ s.number = has.fit.stand.wheel_is in
+    let had_it : Had d p s parts.sched = had has in
+    let count : n - m ≡ length gained = difference n m parts.sched.fired.rows gained (now ∙ ap (λ (l : List Row). length l) fired) was in
+    subst (λ k. Did before d q s (record parts { wheel = new; sched = x }) (λ o way. way (Wheel o.share.number ∷ []) (allows k o.settings o.share.number))) (sym count)
+    (advanced before d p q s parts new x (allows (length gained)) has belongs named stands loses are call wheel hand
+    (fired ∙ (ap (λ l. l ++ gained) (had_it.fired ∙ ap (λ n. fired_in g (front_of p) n) (sym one)) ∙ sym waits)))
 
 -- an advance, with its count
 pub advance_ok : (before : Owned) (d : Desk) (p q : Pass) (s : Share) (to n m : ℕ) (parts : ShardParts) (new : Part) (x : SchedPart)
@@ -91,14 +114,30 @@ pub advance_ok : (before : Owned) (d : Desk) (p q : Pass) (s : Share) (to n m : 
     → x.wheel ≡ parts.sched.wheel → x.hand ≡ parts.sched.hand → n ≡ length x.fired.rows → m ≡ length parts.sched.fired.rows
     → Did before d q s (record parts { wheel = new; sched = x }) (λ o way. AdvancesWheel o.settings way o.share.number (Ok (to, n - m)))
 advance_ok before d p q s to n m parts new x has belongs named stands loses expired wheel hand now was =
+    counted before d p q s n m expired.gained parts new x (λ k g i. Advances g i (Ok (to, k))) has belongs named stands loses
+    (λ st es made. all_are s (settings_of d) (Ok (to, length expired.gained)) st es made) expired.call expired.fired expired.waits wheel hand now was
+
+-- one with a bound
+pub some_ok : (before : Owned) (d : Desk) (p q : Pass) (s : Share) (most to n m : ℕ) (more : Bool) (parts : ShardParts) (new : Part) (x : SchedPart)
+    → Has before d p s parts → Belongs d q → new.number ≡ parts.wheel.number → WheelStands (settings_of d) (front_of q) new → LosesRows parts.wheel new
+    → HasExpiredSome (settings_of d) (view_of p) parts.wheel.number most to more parts.sched.fired x.fired (view_of q)
+    → x.wheel ≡ parts.sched.wheel → x.hand ≡ parts.sched.hand → n ≡ length x.fired.rows → m ≡ length parts.sched.fired.rows
+    → Did before d q s (record parts { wheel = new; sched = x }) (λ o way. AdvancesWheelSome o.settings way o.share.number most (Ok (to, n - m, more)))
+some_ok before d p q s most to n m more parts new x has belongs named stands loses expired wheel hand now was =
+    counted before d p q s n m expired.gained parts new x (λ k g i. AdvancesSome g i most (Ok (to, k, more))) has belongs named stands loses
+    (λ st es made. some_are s (settings_of d) most (Ok (to, length expired.gained, more)) st es made) expired.call expired.fired expired.waits wheel hand now was
+
+-- one without memory leaves the list
+unmoved : (before : Owned) (d : Desk) (p q : Pass) (s : Share) (e : NoMemory) (parts : ShardParts) (x : SchedPart) → Has before d p s parts
+    → IsMade (settings_of d) (view_of p) (Advances (settings_of d) parts.wheel.number (Err e)) (view_of q) → x.fired.rows ≡ parts.sched.fired.rows
+    → x.fired.rows ≡ ((state (settings_of d) (front_of q)).scheds parts.wheel.number).fired
+unmoved before d p q s e parts x has call fired =
     let g : Settings = settings_of d in
     let one : parts.wheel.number ≡ s.number = has.fit.stand.wheel_is in
-    let had_it : Had d p s parts.sched = had has in
-    let count : n - m ≡ length expired.gained =
-    difference n m parts.sched.fired.rows expired.gained (now ∙ ap (λ (l : List Row). length l) expired.fired) was in
-    subst (λ k. Did before d q s (record parts { wheel = new; sched = x }) (λ o way. AdvancesWheel o.settings way o.share.number (Ok (to, k)))) (sym count)
-    (advanced before d p q s parts new x (Ok (to, length expired.gained)) has belongs named stands loses expired.call wheel hand
-    (expired.fired ∙ (ap (λ l. l ++ expired.gained) (had_it.fired ∙ ap (λ n. fired_in g (front_of p) n) (sym one)) ∙ sym expired.waits)))
+    let was : Had d p s parts.sched = had has in
+    let held : is_held (actors_of p) (Sched s.number) ≡ true = has.fit.holds.own (Sched s.number) has.fit.holds.low ∙ self_own s.number in
+    fired ∙ (was.fired ∙ (ap (λ n. ((state g (front_of p)).scheds n).fired) (sym one)
+    ∙ sym (advance_still g parts.wheel.number e (view_of p) (view_of q) (subst (λ n. is_held (view_of p).actors (Sched n) ≡ true) (sym one) held) call)))
 
 -- an advance without memory
 pub advance_refused : (before : Owned) (d : Desk) (p q : Pass) (s : Share) (e : NoMemory) (parts : ShardParts) (new : Part) (x : SchedPart)
@@ -107,15 +146,19 @@ pub advance_refused : (before : Owned) (d : Desk) (p q : Pass) (s : Share) (e : 
     → x.wheel ≡ parts.sched.wheel → x.hand ≡ parts.sched.hand
     → Did before d q s (record parts { wheel = new; sched = x }) (λ o way. AdvancesWheel o.settings way o.share.number (Err e))
 advance_refused before d p q s e parts new x has belongs named stands loses refused wheel hand =
-    let g : Settings = settings_of d in
-    let i : ℕ = s.number in
-    let one : parts.wheel.number ≡ i = has.fit.stand.wheel_is in
-    let was : Had d p s parts.sched = had has in
-    let held : is_held (actors_of p) (Sched i) ≡ true = has.fit.holds.own (Sched i) has.fit.holds.low ∙ self_own i in
-    advanced before d p q s parts new x (Err e) has belongs named stands loses refused.call wheel hand
-    (refused.fired ∙ (was.fired ∙ (ap (λ n. ((state g (front_of p)).scheds n).fired) (sym one)
-    ∙ sym (advance_still g parts.wheel.number e (view_of p) (view_of q)
-    (subst (λ n. is_held (view_of p).actors (Sched n) ≡ true) (sym one) held) refused.call))))
+    advanced before d p q s parts new x (λ g i. Advances g i (Err e)) has belongs named stands loses
+    (λ st es made. all_are s (settings_of d) (Err e) st es made) refused.call wheel hand (unmoved before d p q s e parts x has refused.call refused.fired)
+
+-- one with a bound
+pub some_refused : (before : Owned) (d : Desk) (p q : Pass) (s : Share) (most : ℕ) (e : NoMemory) (parts : ShardParts) (new : Part) (x : SchedPart)
+    → Has before d p s parts → Belongs d q → new.number ≡ parts.wheel.number → WheelStands (settings_of d) (front_of q) new → LosesRows parts.wheel new
+    → HasRefusedSome (settings_of d) (view_of p) parts.wheel.number most e parts.sched.fired x.fired (view_of q)
+    → x.wheel ≡ parts.sched.wheel → x.hand ≡ parts.sched.hand
+    → Did before d q s (record parts { wheel = new; sched = x }) (λ o way. AdvancesWheelSome o.settings way o.share.number most (Err e))
+some_refused before d p q s most e parts new x has belongs named stands loses refused wheel hand =
+    advanced before d p q s parts new x (λ g i. AdvancesSome g i most (Err e)) has belongs named stands loses
+    (λ st es made. some_are s (settings_of d) most (Err e) st es made) refused.call wheel hand
+    (unmoved before d p q s e parts x has (record { entries = refused.call.entries; allowed = refused.call.allowed; call = refused.call.call }) refused.fired)
 
 -- the expired timers of a shard are few
 pub few : (before : Owned) (d : Desk) (p : Pass) (s : Share) (parts : ShardParts) → Has before d p s parts → length (fired_of before) ≤ MOST_SLOTS

@@ -1,3 +1,4 @@
 pub mod Hubs
+pub mod Renewing
 pub mod Shards
 pub mod Turning

@@ -1,16 +1,19 @@
 -- What a shard's scheduler has, its turns, and the exit of one of its processes.
 
-use Rattle.std.specs.Prelude.{ℕ, ◌+◌, ◌⊎◌, Bool, true, false, List, [], Result, Ok, Err}
+use Rattle.std.specs.Prelude.{◌≡◌, ℕ, ◌+◌, ◌⊎◌, Bool, true, false, ◌||◌, List, [], Result, Ok, Err}
 use Rattle.ert_defs.specs.States.{sched_of}
 use Rattle.ert_defs.specs.Timers.{Row}
 use Rattle.ert_defs.specs.declared.entry.Actor.TheVariants.{Caller}
+use Rattle.ert_defs.specs.declared.entry.Entry.{Entry}
 use Rattle.ert_defs.specs.declared.memory.NoMemory.{NoMemory}
 use Rattle.ert_defs.specs.declared.settings.Settings.{Settings}
 use Rattle.ert_effects.specs.Chains.{AdvancesWheel, Delivers, SweepsWheel}
+use Rattle.ert_effects.specs.SomeCalls.{AdvancesWheelSome}
 use Rattle.ert_effects.specs.WheelCalls.{MarksExit}
 use Rattle.ert_effects.specs.Ways.{Growth, Way, Then}
 use Rattle.ert_shard.specs.Shards.{Owned}
 use Rattle.ert_shard.specs.declared.turns.Turn.{Turn}
+use Rattle.ert_world.specs.Bounded.{DeliversSome}
 
 -- the expired timers of a shard
 abbrev pub fired_of : Owned → List Row
@@ -23,6 +26,21 @@ Turns g way n (Ok t) h m = Then (AdvancesWheel g way n (Ok (t.to, t.fired))) (De
 Turns g way n (Err e) h m =
     AdvancesWheel g way n (Err e) h m
     ⊎ ((advanced : ℕ × ℕ) × Then (AdvancesWheel g way n (Ok advanced)) (Delivers g way n (Err e)) h m)
+
+-- a turn in which so many timers at most expire, and so many are handed over; there are more where more are due, or expired
+-- ones are left
+pub record HasTurnedUpTo (g : Settings) (way : Way) (n most : ℕ) (t : Turn) (more : Bool) (h m : List Entry) : Type 0 where
+  pub due : Bool
+  pub waits : Bool
+  pub more_is : more ≡ (due || waits)
+  pub runs : Then (AdvancesWheelSome g way n most (Ok (t.to, t.fired, due))) (DeliversSome g way n most (Ok (t.put, t.dropped, waits))) h m
+
+-- `turn_some` of a shard. There may be no memory to advance or to deliver, and what was done before stays
+abbrev pub TurnsUpTo : Settings → Way → ℕ → ℕ → Result (Turn × Bool) NoMemory → Growth
+TurnsUpTo g way n most (Ok answer) h m = HasTurnedUpTo g way n most answer.0 answer.1 h m
+TurnsUpTo g way n most (Err e) h m =
+    AdvancesWheelSome g way n most (Err e) h m
+    ⊎ ((advanced : ℕ × ℕ × Bool) × Then (AdvancesWheelSome g way n most (Ok advanced)) (DeliversSome g way n most (Err e)) h m)
 
 -- the process exits, and where it hadn't before, the shard's wheel is swept, which has all its timers
 abbrev pub Exits : Settings → Way → ℕ → ℕ → Bool → Growth

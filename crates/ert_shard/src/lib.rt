@@ -18,9 +18,12 @@
 //! | `monotonic_time`, `time_offset`, `system_time` | caller 0 or the shard's | reads the clock | constant |
 //! | `cancel_timer`, `read_timer`, `is_alive` | caller 0 or the shard's | cancels or reads a timer of any wheel; looks whether a process has exited | constant |
 //! | `Shard::start` | the shard's caller | starts a timer for a process of the shard | constant where a slot is known to be free, else 131,072 slots of the wheel at most |
+//! | `Shard::restart` | the shard's caller | gives an armed timer of any wheel a new deadline, on the shard's wheel | as a cancel and a start |
 //! | `Shard::exit` | the shard's caller | lets a process exit, and cancels its timers | those timers |
 //! | `Shard::take`, `monitor`, `demonitor`, `tell` | the shard's caller | calls on the mailbox of a process of the shard | constant, or the monitors of the process |
 //! | `Shard::advance`, `deliver`, `turn` | the shard's scheduler | lets due timers expire; hands them over; both | as in `ert_world` |
+//! | `Shard::advance_some`, `deliver_some`, `turn_some` | the shard's scheduler | the same, of so many timers at most | as in `ert_world` |
+//! | `Shard::held`, `expired`, `mail_count` | | no entry: how much waits | constant |
 //! | `Shard::next_due`, `Hub::published` | | no entry: how early a timer may be due; the last published time | as in `ert_world` |
 //!
 //! **What it promises.** Users see of a shard its desk, its settings, the history that it knows, its share and its wheel
@@ -40,21 +43,24 @@
 //! **What it hasn't.** A shard starts no timer for a process of another shard, and has no asynchronous requests (`ask`
 //! and `serve` of `ert_world`). A timer that another shard cancelled keeps its row and its slot until it would be due.
 //!
-//! **Memory.** `start`, `cancel_timer`, `read_timer`, `take`, `exit`, the calls on the clock, `join` and `join_all` take
+//! **Memory.** `start`, `restart`, `cancel_timer`, `read_timer`, `take`, `exit`, the calls on the clock, `join` and `join_all` take
 //! none. Where there is none, `monitor` and `tell` change nothing, `advance` lets no timer expire, `deliver` keeps what
-//! wasn't handed over, `shard` and `seat` leave everything as it was.
+//! wasn't handed over, and so do `advance_some` and `deliver_some`, `shard` and `seat` leave everything as it was.
 //!
 //! It stands on `ert_defs`, `ert_clock`, `ert_effects`, `ert_table`, `ert_calls`, `ert_keeper`, `ert_timers`, `ert_mail`
 //! and `ert_world`, and its proofs on the laws of `ert_laws`.
 #![tactic(auto)]
 
+mod bounded;
 mod dividing;
 mod exits;
+mod held;
 mod hub;
 mod hub_calls;
 mod joining;
 mod laws;
 mod mail_calls;
+mod restart;
 mod seating;
 mod shard;
 mod turns;

@@ -57,7 +57,7 @@ impl Shard {
     }
 
     /// The shard's first expired timer.
-    fn first_of_fired(&self) -> Option<Fired>
+    pub(crate) fn first_of_fired(&self) -> Option<Fired>
         ensures first { result ≡ first_of (fired_of self.now) }
         ensures few { length (fired_of self.now) ≤ MOST_SLOTS }
         ensures legal { Legal self.now.settings self.now.history }
@@ -66,7 +66,7 @@ impl Shard {
     }
 
     /// Hands over the shard's first expired timer to a process of its own.
-    fn hand_first(&mut self, fired: &Fired) -> Result<Handed, NoMemory>
+    pub(crate) fn hand_first(&mut self, fired: &Fired) -> Result<Handed, NoMemory>
         requires { first_of (fired_of self.old) ≡ Some fired.now }
         ensures call { Steps self.old (λ way. Hands self.old.settings way self.old.share.number result) self.new }
         ensures fired { OnOk result (fired_of self.new ≡ others_of (fired_of self.old)) }

@@ -50,6 +50,7 @@ static void closed_handles(void) {
     ert_advanced advanced;
     ert_delivered delivered;
     ert_turned turned;
+    ert_turned_some some;
     int64_t time = 7;
     uint64_t left = 7;
     uint32_t n = 7;
@@ -71,8 +72,12 @@ static void closed_handles(void) {
     IS(ert_shard_system_time(&s, &time), ERT_CLOSED);
     IS(ert_shard_time_offset(&s, &offset), ERT_CLOSED);
     IS(ert_shard_start(&s, &start, &timer), ERT_CLOSED);
+    IS(ert_shard_restart(&s, &timer, &start), ERT_CLOSED);
     IS(ert_shard_cancel(&s, &timer, &left), ERT_CLOSED);
     IS(ert_shard_read(&s, &timer, &left), ERT_CLOSED);
+    IS(ert_shard_held(&s, &left), ERT_CLOSED);
+    IS(ert_shard_expired(&s, &left), ERT_CLOSED);
+    IS(ert_shard_mail_count(&s, 9, &left), ERT_CLOSED);
     IS(ert_shard_is_alive(&s, 9, &n), ERT_CLOSED);
     IS(ert_shard_exit(&s, 9, &n), ERT_CLOSED);
     IS(ert_shard_take(&s, 9, &mail), ERT_CLOSED);
@@ -82,6 +87,7 @@ static void closed_handles(void) {
     IS(ert_shard_advance(&s, &advanced), ERT_CLOSED);
     IS(ert_shard_deliver(&s, &delivered), ERT_CLOSED);
     IS(ert_shard_turn(&s, &turned), ERT_CLOSED);
+    IS(ert_shard_turn_some(&s, 1, &some), ERT_CLOSED);
     IS(ert_shard_next_due(&s, &left), ERT_CLOSED);
     IS(ert_shard_close(&s), ERT_CLOSED);
     IS(time, 7);
@@ -246,6 +252,141 @@ static void timers_of_both(void) {
     close_divided(&d);
 }
 
+static int64_t is_same(ert_timer a, ert_timer b) {
+    return a.wheel == b.wheel && a.slot == b.slot && a.generation == b.generation;
+}
+
+static int64_t held(ert_shard *s) {
+    uint64_t count = 99;
+    IS(ert_shard_held(s, &count), ERT_OK);
+    return (int64_t)count;
+}
+
+static int64_t expired(ert_shard *s) {
+    uint64_t count = 99;
+    IS(ert_shard_expired(s, &count), ERT_OK);
+    return (int64_t)count;
+}
+
+static int64_t mail_count(ert_shard *s, uint32_t process) {
+    uint64_t count = 99;
+    IS(ert_shard_mail_count(s, process, &count), ERT_OK);
+    return (int64_t)count;
+}
+
+/* A restart of a timer of the shard's own wheel, of one of another's, and of one that isn't armed; and what is refused. */
+static void restarts(void) {
+    divided d;
+    open_divided(&d);
+    ert_start how = {.when = 50, .msg = 3, .dest = 2};
+    ert_timer own = start(&d.high, 50, 3, 1);
+    ert_timer other = start(&d.high, 60, 4, 2); /* so that the wheel is full, and a restart has its own slot alone */
+    ert_timer old = own;
+    ert_timer before = other;
+    ert_turned turned;
+    ert_mail mail;
+    uint64_t left = 7;
+    tick(&d.hub, 30);
+    IS(ert_shard_restart(&d.high, &own, &how), ERT_RANGE);
+    how.dest = 5;
+    IS(ert_shard_restart(&d.high, &own, &how), ERT_RANGE);
+    how.dest = 4;
+    how.when = -1;
+    IS(ert_shard_restart(&d.high, &own, &how), ERT_BAD_TIME);
+    IS(is_same(own, old), 1);
+    IS(ert_shard_read(&d.high, &own, &left), ERT_OK);
+    IS(left, 20);
+    how.when = 50;
+    IS(ert_shard_restart(&d.high, &own, &how), ERT_OK);
+    IS(own.wheel, 1);
+    IS(is_same(own, old), 0);
+    IS(ert_shard_read(&d.low, &old, &left), ERT_NO_TIMER);
+    IS(ert_shard_read(&d.low, &own, &left), ERT_OK);
+    IS(left, 50);
+    IS(held(&d.high), 2);
+    IS(ert_shard_restart(&d.high, &old, &how), ERT_NO_TIMER);
+    /* The timer of another shard ends, and one of this shard is started. */
+    how.dest = 1;
+    how.when = 40;
+    how.msg = 4;
+    IS(ert_shard_restart(&d.low, &other, &how), ERT_OK);
+    IS(other.wheel, 0);
+    IS(held(&d.low), 1);
+    IS(held(&d.high), 2); /* the row of the one that ended stays until it would be due */
+    IS(ert_shard_read(&d.high, &before, &left), ERT_NO_TIMER);
+    tick(&d.hub, 70);
+    IS(ert_shard_turn(&d.high, &turned), ERT_OK);
+    IS(turned.fired, 0);
+    IS(ert_shard_turn(&d.low, &turned), ERT_OK);
+    IS(turned.put, 1);
+    IS(ert_shard_take(&d.low, 1, &mail), ERT_OK);
+    IS(mail.msg, 4);
+    IS(is_same(mail.timer, other), 1);
+    tick(&d.hub, 80);
+    IS(ert_shard_turn(&d.high, &turned), ERT_OK);
+    IS(turned.put, 1);
+    IS(ert_shard_take(&d.high, 3, &mail), ERT_EMPTY);
+    IS(ert_shard_take(&d.high, 4, &mail), ERT_OK);
+    IS(mail.msg, 3);
+    IS(is_same(mail.timer, own), 1);
+    /* Where the wheel is full the timer is cancelled all the same. */
+    own = start(&d.high, 9, 3, 5);
+    old = own;
+    start(&d.low, 9, 1, 6);
+    start(&d.low, 9, 2, 7);
+    IS(ert_shard_restart(&d.low, &own, &how), ERT_FULL);
+    IS(is_same(own, old), 1);
+    IS(ert_shard_read(&d.high, &own, &left), ERT_NO_TIMER);
+    close_divided(&d);
+}
+
+static void bounded_turns(void) {
+    divided d;
+    open_divided(&d);
+    ert_turned_some some;
+    ert_advanced advanced;
+    start(&d.high, 10, 3, 1);
+    start(&d.high, 11, 4, 2);
+    IS(ert_shard_turn_some(&d.high, 9, &some), ERT_OK);
+    IS(some.more, 0);
+    tick(&d.hub, 15);
+    IS(ert_shard_turn_some(&d.high, 0, &some), ERT_OK);
+    IS(some.fired, 0);
+    IS(some.more, 1);
+    for (uint32_t it = 0; it < 2; it += 1) {
+        ert_mail mail;
+        IS(ert_shard_turn_some(&d.high, 1, &some), ERT_OK);
+        IS(some.to, 15);
+        IS(some.served, 0);
+        IS(some.fired, 1);
+        IS(some.put, 1);
+        IS(some.dropped, 0);
+        IS(some.more, it == 0);
+        IS(ert_shard_take(&d.high, 3 + it, &mail), ERT_OK);
+        IS(mail.msg, 1 + it);
+    }
+    /* One that has expired waits for its turn. */
+    start(&d.low, 0, 1, 3);
+    start(&d.low, 0, 2, 4);
+    IS(ert_shard_advance(&d.low, &advanced), ERT_OK);
+    IS(advanced.fired, 2);
+    IS(expired(&d.low), 2);
+    IS(ert_shard_turn_some(&d.low, 1, &some), ERT_OK);
+    IS(some.fired, 0);
+    IS(some.put, 1);
+    IS(some.more, 1);
+    IS(expired(&d.low), 1);
+    IS(mail_count(&d.low, 1), 1);
+    IS(mail_count(&d.low, 2), 0);
+    uint64_t count = 7;
+    IS(ert_shard_mail_count(&d.low, 3, &count), ERT_RANGE);
+    IS(count, 7);
+    IS(ert_shard_turn_some(&d.low, 1, &some), ERT_OK);
+    IS(some.put, 1);
+    IS(some.more, 0);
+    close_divided(&d);
+}
+
 static void turns(void) {
     divided d;
     open_divided(&d);
@@ -352,6 +493,8 @@ int main(void) {
     seat_of_a_hub();
     clock_of_all();
     timers_of_both();
+    restarts();
+    bounded_turns();
     turns();
     exits();
     monitors();

@@ -1,0 +1,41 @@
+use Rattle.std.proofs.Common.{◌≡◌, Bool, ◌||◌, Ok, Err, rules, sym, ap, subst, ◌∙◌}
+use Rattle.ert_shard.proofs.Stepped.{turned_up_to, some_unadvanced, some_undelivered, passed_on}
+use Rattle.ert_shard.specs.Shards.{Steps}
+use Rattle.ert_shard.specs.Turning.{TurnsUpTo}
+use Rattle.ert_shard.specs.declared.turns.Turn.{Turn}
+use Rattle.ert_timers.specs.Trying.{IsLeft}
+use Rattle.ert_shard.proofs.shard.Shard.turn_some.Goals as goal
+
+pub returns-in_err-to-clause-call : goal.returns-in_err-to-clause-call
+returns-in_err-to-clause-call c =
+    let result : c.from_residual.result ≡ Err c.in_err-to.field-0.0 = search rules in
+    rw result (some_unadvanced c.args.most c.args.self.now c.advance_some.new.self c.in_err-to.field-0.0 c.in_err-to.ensures.call)
+
+pub returns-in_err-put-clause-call : goal.returns-in_err-put-clause-call
+returns-in_err-put-clause-call c =
+    let result : c.from_residual-in_err-put.result ≡ Err c.in_err-put.field-0.0 = search rules in
+    rw result (some_undelivered c.args.most c.args.self.now c.advance_some.new.self c.deliver_some.new.self (c.in_ok-to.to, c.in_ok-to.fired, c.in_ok-to.due) c.in_err-put.field-0.0
+    c.in_ok-to.ensures.call c.in_err-put.ensures)
+
+pub returns-then-due-clause-call : goal.returns-then-due-clause-call
+returns-then-due-clause-call c =
+    let a = c.args.self.now in
+    let e = c.deliver_some.new.self in
+    let t : Turn = record { to = c.in_ok-to.to; fired = c.in_ok-to.fired; put = c.in_ok-put.put; dropped = c.in_ok-put.dropped } in
+    subst (λ (more : Bool). Steps a (λ way. TurnsUpTo a.settings way a.share.number c.args.most (Ok (t, more))) e)
+    (ap (λ (due : Bool). due || c.in_ok-put.waits) c.if-due.true ∙ sym c.if-due.true)
+    (turned_up_to c.args.most a c.advance_some.new.self e t c.in_ok-to.due c.in_ok-put.waits c.in_ok-to.ensures.call c.in_ok-put.ensures)
+
+pub returns-else-due-clause-call : goal.returns-else-due-clause-call
+returns-else-due-clause-call c =
+    let a = c.args.self.now in
+    let e = c.deliver_some.new.self in
+    let t : Turn = record { to = c.in_ok-to.to; fired = c.in_ok-to.fired; put = c.in_ok-put.put; dropped = c.in_ok-put.dropped } in
+    subst (λ (more : Bool). Steps a (λ way. TurnsUpTo a.settings way a.share.number c.args.most (Ok (t, more))) e)
+    (ap (λ (due : Bool). due || c.in_ok-put.waits) c.if-due.false)
+    (turned_up_to c.args.most a c.advance_some.new.self e t c.in_ok-to.due c.in_ok-put.waits c.in_ok-to.ensures.call c.in_ok-put.ensures)
+
+pub returns-else-due-clause-passed : goal.returns-else-due-clause-passed
+returns-else-due-clause-passed c = λ none.
+    passed_on c.advance_some.new.self.wheel c.deliver_some.new.self.wheel c.in_ok-to.to c.in_ok-put.ensures.rows
+    (subst (λ (more : Bool). IsLeft c.advance_some.new.self.wheel c.in_ok-to.to more) c.if-due.false c.in_ok-to.ensures.left)
