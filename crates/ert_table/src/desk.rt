@@ -1,6 +1,6 @@
-ghost use Rattle.std.specs.Prelude.{◌≡◌, []};
+ghost use Rattle.std.specs.Prelude.{◌≡◌, ◌+◌, []};
 ghost use Rattle.ert_defs.specs.Settings.{IsChecked};
-ghost use Rattle.ert_defs.specs.Words.{word_count};
+ghost use Rattle.ert_defs.specs.Words.{word_count, wheel_width, wheels_width};
 ghost use Rattle.ert_table.specs.Rule.{IsLegalBy};
 
 use crate::view::{HistoryRule, View};
@@ -13,10 +13,15 @@ use std::alloc::Global;
 pub struct Desk {
     pub(crate) table: Table<(), View, Settings, HistoryRule, Global>,
     pub(crate) settings: Settings,
+    // How many words a wheel takes, and the place of the first process: so no step computes them.
+    pub(crate) width: usize,
+    pub(crate) first_process: usize,
     ghost keyed: { table.shared.key ≡ settings },
     ghost checked: { IsChecked settings },
     ghost counted: { table.shared.table_id.words ≡ word_count settings },
     ghost no_slots: { table.shared.table_id.slots ≡ 0 },
+    ghost wide: { width ≡ wheel_width settings },
+    ghost behind: { first_process ≡ 16 + wheels_width settings },
 }
 
 /// The right of a thread to step as some actors, and what it knows of the history. It has no bytes.

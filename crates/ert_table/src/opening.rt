@@ -13,7 +13,9 @@ ghost use Rattle.ert_table.specs.Places as places;
 ghost use Rattle.ert_table.specs.Places.{AreWords};
 
 use crate::desk::{Desk, Pass, Words};
-use crate::places::{OFFSET, TIME, process_place, slot_place, word_count};
+use crate::places::{
+    OFFSET, TIME, first_process, process_place, slot_place, wheel_width, word_count,
+};
 use atomic_table::{Closed, Table};
 use ert_defs::{Mode, NoMemory, Settings};
 use ert_words::offset_word;
@@ -33,6 +35,8 @@ impl Desk {
         let desk = Desk {
             table,
             settings: *settings,
+            width: wheel_width(settings),
+            first_process: first_process(settings),
         };
         Ok((desk, Pass { seat }))
     }
@@ -53,7 +57,11 @@ impl Desk {
         let slots = self.settings.schedulers as usize * self.settings.slots as usize;
         let mut timers = zeros(alloc, slots)?;
         let mut processes = zeros(alloc, self.settings.processes as usize)?;
-        let Desk { table, settings } = self;
+        let Desk {
+            table,
+            settings,
+            ..
+        } = self;
         let Pass { seat } = pass;
         let closed = table.close_with(seat);
         read_timers(&closed, &settings, &mut timers);

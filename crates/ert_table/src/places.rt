@@ -1,10 +1,11 @@
 //! The places of the words in the table.
-ghost use Rattle.std.specs.Prelude.{◌≡◌, ◌<◌};
+ghost use Rattle.std.specs.Prelude.{◌≡◌, ◌+◌, ◌<◌};
 ghost use Rattle.ert_defs.specs.Legal.{IsSlot};
 ghost use Rattle.ert_defs.specs.Settings.{IsChecked};
 ghost use Rattle.ert_defs.specs.Words as words;
 ghost use Rattle.ert_table.specs.Places as places;
 
+use crate::desk::Desk;
 use ert_defs::Settings;
 
 /// How many unused words stand between two groups of words: with one word of a group they fill a cache
@@ -35,7 +36,15 @@ pub(crate) fn process_place(settings: &Settings, process: usize) -> usize
     requires process { process < settings.now.processes }
     ensures { result ≡ places.process_place settings.now process }
 {
-    SLOTS + wheels_width(settings) + process
+    first_process(settings) + process
+}
+
+/// The place of the first process.
+pub(crate) fn first_process(settings: &Settings) -> usize
+    requires { IsChecked settings.now }
+    ensures { result ≡ 16 + words.wheels_width settings.now }
+{
+    SLOTS + wheels_width(settings)
 }
 
 /// How many words a desk has.
@@ -43,7 +52,7 @@ pub(crate) fn word_count(settings: &Settings) -> usize
     requires { IsChecked settings.now }
     ensures { result ≡ words.word_count settings.now }
 {
-    SLOTS + wheels_width(settings) + settings.processes as usize
+    first_process(settings) + settings.processes as usize
 }
 
 /// How many words the wheels take.
@@ -55,9 +64,34 @@ fn wheels_width(settings: &Settings) -> usize
 }
 
 /// How many words a wheel takes: its slots, and the gap behind them.
-fn wheel_width(settings: &Settings) -> usize
+pub(crate) fn wheel_width(settings: &Settings) -> usize
     requires { IsChecked settings.now }
     ensures { result ≡ words.wheel_width settings.now }
 {
     settings.slots as usize + GAP
+}
+
+impl Desk {
+    ghost use Rattle.std.specs.Prelude.{◌≡◌, ◌<◌};
+    ghost use Rattle.ert_defs.specs.Legal.{IsSlot};
+    ghost use Rattle.ert_table.specs.Desks.{settings_of};
+    ghost use Rattle.ert_table.specs.Places as places;
+
+    /// The place of a slot of a wheel, as `slot_place` tells it of the settings.
+    #[inline]
+    pub(crate) fn slot_place(&self, wheel: usize, slot: usize) -> usize
+        requires { IsSlot (settings_of self.now) wheel slot }
+        ensures { result ≡ places.slot_place (settings_of self.now) wheel slot }
+    {
+        SLOTS + wheel * self.width + slot
+    }
+
+    /// The place of a process, as `process_place` tells it of the settings.
+    #[inline]
+    pub(crate) fn process_place(&self, process: usize) -> usize
+        requires { process < (settings_of self.now).processes }
+        ensures { result ≡ places.process_place (settings_of self.now) process }
+    {
+        self.first_process + process
+    }
 }

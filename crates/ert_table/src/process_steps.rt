@@ -4,7 +4,6 @@ ghost use Rattle.ert_table.specs.Desks.{settings_of, Belongs, Makes, MayMark};
 ghost use Rattle.ert_defs.specs.Entries.{mark_entry};
 
 use crate::desk::{Desk, Pass};
-use crate::places::process_place;
 use crate::plays::{Adds, Carried};
 use ert_defs::Actor;
 use std::marker::Brand;
@@ -34,7 +33,7 @@ impl Pass {
         ensures belongs { Belongs desk.now self.new }
         ensures step { Makes desk.now self.old (mark_entry by process true (nat_eq result 1)) self.new }
     {
-        let place = process_place(&desk.settings, process as usize);
+        let place = desk.process_place(process as usize);
         desk.table
             .shared
             .fetch_or::<Adds<C>>(&mut self.seat, place, 1)
@@ -48,7 +47,7 @@ impl Pass {
         ensures belongs { Belongs desk.now self.new }
         ensures step { Makes desk.now self.old (mark_entry by process false (nat_eq result 1)) self.new }
     {
-        let place = process_place(&desk.settings, process as usize);
+        let place = desk.process_place(process as usize);
         desk.table.shared.load::<Adds<C>>(&mut self.seat, place)
     }
 }

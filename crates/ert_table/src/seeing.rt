@@ -7,7 +7,6 @@ ghost use Rattle.ert_table.specs.Held.{IsWhole};
 ghost use Rattle.ert_table.specs.Settlings.{shown_in};
 
 use crate::desk::{Desk, Pass};
-use crate::places::slot_place;
 use crate::plays::{Named, Shows};
 use ert_defs::Status;
 use ert_words::timer_of;
@@ -40,7 +39,7 @@ impl Pass {
         ensures legal { Legal (settings_of desk.now) (front_of self.old) }
         ensures word { word_of_slot (state_of desk.now self.old) wheel slot ≡ result }
     {
-        let place = slot_place(&desk.settings, wheel as usize, slot as usize);
+        let place = desk.slot_place(wheel as usize, slot as usize);
         desk.table.shared.load::<Shows<C>>(&mut self.seat, place)
     }
 }

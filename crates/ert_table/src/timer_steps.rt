@@ -9,7 +9,6 @@ ghost use Rattle.ert_defs.specs.Entries.{arm_entry};
 
 use crate::carry::{Settle, TimerCarry};
 use crate::desk::{Desk, Pass};
-use crate::places::slot_place;
 use crate::plays::{Adds, Carried, Compares, Loads};
 use ert_defs::{Actor, Start, Status, TimerRef};
 use ert_words::{timer_of, timer_word};
@@ -47,7 +46,7 @@ impl Desk {
     pub fn touch(&self, wheel: u32, slot: u32)
         requires { IsSlot (settings_of self.now) wheel slot }
     {
-        let place = slot_place(&self.settings, wheel as usize, slot as usize);
+        let place = self.slot_place(wheel as usize, slot as usize);
         self.table.shared.peek(place);
     }
 }
@@ -82,7 +81,7 @@ impl Pass {
         ensures belongs { Belongs desk.now self.new }
         ensures step { Makes desk.now self.old (arm_entry by timer start.now) self.new }
     {
-        let place = slot_place(&desk.settings, timer.wheel as usize, timer.slot as usize);
+        let place = desk.slot_place(timer.wheel as usize, timer.slot as usize);
         let word = timer_word(Status::Armed, deadline, timer.generation);
         desk.table
             .shared
@@ -128,7 +127,7 @@ impl Pass {
         ensures step { SettlesOrMisses desk.now self.old by timer deadline how result self.new }
         ensures settled { (state_of desk.now self.new).status timer ≢ Some Armed }
     {
-        let place = slot_place(&desk.settings, timer.wheel as usize, timer.slot as usize);
+        let place = desk.slot_place(timer.wheel as usize, timer.slot as usize);
         let old = timer_word(how.status_before(), deadline, timer.generation);
         let new = timer_word(how.status_after(), deadline, timer.generation);
         let found = desk
@@ -169,7 +168,7 @@ impl Pass {
         ensures word { word_of_slot (state_of desk.now self.new) (wheel_in carry.now) (slot_in carry.now) ≡ result }
     {
         let (wheel, slot) = carry.slot();
-        let place = slot_place(&desk.settings, wheel as usize, slot as usize);
+        let place = desk.slot_place(wheel as usize, slot as usize);
         desk.table.shared.load::<Loads<C>>(&mut self.seat, place)
     }
 }

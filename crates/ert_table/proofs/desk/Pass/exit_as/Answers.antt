@@ -8,7 +8,7 @@ use Rattle.ert_table.proofs.WordPlaces.{process_place-high}
 use Rattle.ert_table.proofs.desk.Pass.exit_as.Goals as goal
 
 pub process_place-place-requires : goal.process_place-place-requires
-process_place-place-requires g c = record { checked = c.args.desk.now.checked; process = (c.requires.may false).keeps.2 }
+process_place-place-requires g c = (c.requires.may false).keeps.2
 
 pub fetch_or-requires : goal.fetch_or-requires
 fetch_or-requires g c =

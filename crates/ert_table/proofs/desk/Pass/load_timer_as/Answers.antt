@@ -12,8 +12,8 @@ use Rattle.ert_table.proofs.ReadActs.{read_slot, read_acts}
 use Rattle.ert_table.proofs.WordPlaces.{slot_place-high, word_of-slot}
 use Rattle.ert_table.proofs.desk.Pass.load_timer_as.Goals as goal
 
-pub slot_place-place-requires-clause-slot : goal.slot_place-place-requires-clause-slot
-slot_place-place-requires-clause-slot g c =
+pub slot_place-place-requires : goal.slot_place-place-requires
+slot_place-place-requires g c =
     let desk = c.args.desk.now in
     let look = (state desk.settings c.args.self.now.seat.me.0.front).looked c.args.by in
     subst (λ (x : ℕ × ℕ). IsSlot desk.settings x.0 x.1) (sym c.slot-wheel.ensures)
