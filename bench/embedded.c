@@ -11,6 +11,7 @@ enum {
     RUNS = 7,
     CALLS = 1000000,
     LOOKS = 2000,
+    USES = 200000,
     SLOTS = 65536,
     MILLION = 1000000,
     PROCESSES = 1024,
@@ -338,7 +339,8 @@ static void measure_million(void) {
     for (int64_t i = 0; i < MILLION; i++) {
         timer_in(HOUR + i * HOUR / MILLION);
     }
-    measure("ert_world_start and ert_world_cancel, 1000000 timers", start_and_cancel, CALLS);
+    /* The one free slot rests after 262,143 uses. */
+    measure("ert_world_start and ert_world_cancel, 1000000 timers", start_and_cancel, USES / RUNS);
     measure("ert_world_turn with nothing to do, 1000000 timers", turn, CALLS);
     measure("ert_world_next_due, 1000000 timers", next_due, LOOKS);
     timer_in(HOUR);
