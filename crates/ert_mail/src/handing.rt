@@ -11,6 +11,7 @@ use ert_table::{Desk, Pass, Settle};
 
 /// Looks whether the destination of its scheduler's first expired timer has exited, and then records that
 /// its message is put, or that it is thrown away.
+#[inline(always)]
 pub(crate) fn hand_over(desk: &Desk, pass: &mut Pass, fired: &Fired) -> Handed
     requires belongs { Belongs desk.now pass.old }
     requires holds { IsScheds (settings_of desk.now) (view_of pass.old) fired.now.timer.wheel fired.now.dest }

@@ -116,6 +116,7 @@ impl MailPart {
     /// is put last, or thrown away where the process is seen to have exited.
     ///
     /// Want of memory comes only where there was no room. Then no step was taken and nothing has changed.
+    #[inline(always)]
     pub fn deliver(
         &mut self,
         desk: &Desk,

@@ -98,6 +98,7 @@ impl WheelPart {
     }
 
     /// Tries to let a timer expire, and drops its row.
+    #[inline(always)]
     pub(crate) fn expire(&mut self, desk: &Desk, pass: &mut Pass, row: Row, fired: &mut FiredList)
         requires belongs { Belongs desk.now pass.old }
         requires holds { HoldsSched (view_of pass.old) self.old.number }

@@ -60,6 +60,7 @@ impl SchedSteps for World {
         self.scheds[sched as usize].fired.first()
     }
 
+    #[inline(always)]
     fn hand_first(&mut self, sched: u32, fired: &Fired) -> Result<Handed, NoMemory> {
         let handed = self.hand_over(sched, fired)?;
         self.reuse(fired.timer);

@@ -98,6 +98,7 @@ impl World {
     }
 
     /// Hands over the scheduler's first expired timer.
+    #[inline(always)]
     pub(crate) fn hand_over(&mut self, sched: u32, fired: &Fired) -> Result<Handed, NoMemory>
         requires sched { sched < self.old.settings.schedulers }
         requires first { first_of (sched_of self.old sched).fired ≡ Some fired.now }
