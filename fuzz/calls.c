@@ -117,23 +117,33 @@ static void do_read(Run *run) {
     SAME(left, wanted);
 }
 
-/* The OS clocks go on, apart by up to a hundredth, and now and then system time leaps. */
+/* Whether the library takes it: the header's limits of a reading. */
+static bool is_valid(const ert_reading *reading) {
+    return reading->mono >= 0 && reading->mono < INT64_C(1) << 62 && reading->sys > -(INT64_C(1) << 61) && reading->sys < INT64_C(1) << 61;
+}
+
+/* The OS clocks go on, apart by up to a hundredth, and now and then system time leaps. They stay where a reading isn't
+ * valid. */
 static ert_reading read_clocks(Run *run) {
     uint32_t how = byte(&run->input);
     int64_t passed = wait(&run->input) * MILLISECOND + (int64_t)number(&run->input, 1) * 4000;
-    run->mono += passed;
-    run->sys += passed + (how & 1 ? passed / 200 : 0) - (how & 2 ? passed / 300 : 0);
+    ert_reading reading = {run->mono + passed, run->sys + passed + (how & 1 ? passed / 200 : 0) - (how & 2 ? passed / 300 : 0)};
     if (how >= 240) {
-        run->sys += ((int64_t)number(&run->input, 2) - 32768) * (how & 4 ? 1000 : 1) * MILLISECOND;
+        reading.sys += ((int64_t)number(&run->input, 2) - 32768) * (how & 4 ? 1000 : 1) * MILLISECOND;
     }
-    return (ert_reading){how == 239 ? run->mono - 1 : run->mono, run->sys};
+    if (is_valid(&reading)) {
+        run->mono = reading.mono;
+        run->sys = reading.sys;
+    }
+    reading.mono -= how == 239;
+    return reading;
 }
 
 static void do_tick(Run *run) {
     ert_reading reading = read_clocks(run);
     ert_moved moved;
     uint32_t force = byte(&run->input) & 1;
-    if (reading.mono < 0) {
+    if (!is_valid(&reading)) {
         SAME(ert_world_tick(&run->world, &reading, force, &moved), ERT_BAD_READING);
         return;
     }
@@ -145,7 +155,9 @@ static void do_finalize(Run *run) {
     ert_reading reading = read_clocks(run);
     ert_moved moved;
     uint32_t before = 9;
-    if (reading.mono < 0) {
+    if (!is_valid(&reading)) {
+        SAME(ert_world_finalize(&run->world, &reading, &before, &moved), ERT_BAD_READING);
+        SAME(before, 9);
         return;
     }
     SAME(ert_world_finalize(&run->world, &reading, &before, &moved), ERT_OK);
