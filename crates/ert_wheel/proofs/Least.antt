@@ -1,9 +1,9 @@
 -- The least deadline of a bucket, and how early one of its rows may be due.
 
-use Rattle.std.proofs.Common.{◌≡◌, ◌≢◌, ℕ, ◌+◌, ◌*◌, ◌/◌, ◌<◌, ◌≤◌, ◌^◌, ◌⊎◌, min, zero, suc, cond, count_by, List, [], ◌∷◌, Option, Some, None, IfSome, length, get_or, sym, subst, ◌∙◌, ap, inl, inr, refl, arith}
+use Rattle.std.proofs.Common.{◌≡◌, ◌≢◌, ℕ, ◌+◌, ◌*◌, ◌/◌, ◌<◌, ◌≤◌, ◌^◌, ◌⊎◌, min, zero, suc, cond, count_by, List, [], ◌∷◌, Bool, true, false, Option, Some, None, IfNone, IfSome, MatchOption, length, get_or, sym, subst, ◌∙◌, ap, inl, inr, refl, arith}
 use Rattle.std.proofs.lemmas.Bool.{cases_eq, cases_lt}
 use Rattle.std.proofs.lemmas.List.Sums.{sum_by-cons}
-use Rattle.std.specs.Option.{is_some}
+use Rattle.std.specs.Option.{is_some, IsSome}
 use Rattle.ert_wheel.proofs.Collect.{InBucket, Steps, key_low, found, at_key}
 use Rattle.ert_wheel.proofs.Views.{held_in}
 use Rattle.ert_wheel.specs.NextDue.{MayWalk, NoRow, HasRow, IsDueIn, IsLeastIn, BeginsIn, IsEarlyIn}
@@ -117,6 +117,19 @@ passes_all keys home bucket bound here least is passed =
       below = λ j key has same. p.passed j key has same (omega arith);
       near = p.near;
     }
+
+-- a walk without a bound isn't given up, and so it has an answer
+pub never_over : (most : Option ℕ) (over : Bool) → IfNone most (over ≡ false) → over ≡ true → IfNone most (IsSome (let none : Option ℕ = None in none))
+never_over None over never is = (let clash : true ≡ false = sym is ∙ never in absurd cc)
+never_over (Some n) over never is = tt
+
+pub is_answered : (most : Option ℕ) (least : ℕ) → IfNone most (IsSome (Some least))
+is_answered None least = refl
+is_answered (Some n) least = tt
+
+pub answer_is : (P : Type 0) {X Q : ℕ → Type 0} (answer : Option ℕ) → IsSome answer → IfSome answer X → ((n : ℕ) → X n → Q n) → MatchOption answer P Q
+answer_is P None some least f = (let clash : false ≡ true = some in absurd cc)
+answer_is P (Some n) some least f = f n least
 
 -- the chains may be walked: `lent` is the stored keys as they are lent
 pub may_walk : {next count : ℕ} {keys : List (Option Key)} {chains : Rings} (lent : List Key) → IsWheel next count keys chains

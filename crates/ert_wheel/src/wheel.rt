@@ -270,7 +270,7 @@ impl<T: Copy> Wheel<T> {
         if self.floor >= self.next_time {
             return Some(self.next_time);
         }
-        Some(least_in(&self.buckets, &self.kept, home))
+        least_in(&self.buckets, &self.kept, home, None)
     }
 
     /// Tells that nothing is left up to `to`: no later call looks at a time up to it again. Where this comes into

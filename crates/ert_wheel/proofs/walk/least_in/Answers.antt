@@ -1,6 +1,6 @@
 use Rattle.std.proofs.Common.{ℕ, min, ap, ◌∙◌, subst, sym}
 use Rattle.ert_wheel.proofs.Collect.{at_key, steps_fall}
-use Rattle.ert_wheel.proofs.Least.{IsPassed, passes_none, steps_on, passes_all}
+use Rattle.ert_wheel.proofs.Least.{IsPassed, never_over, is_answered, passes_none, steps_on, passes_all}
 use Rattle.ert_wheel.proofs.walk.least_in.Goals as goal
 use Rattle.ert_wheel.specs.Wheels.{no_key, held_keys, places}
 use Rattle.ert_wheel.specs.declared.row.TheConstants.{NEVER}
@@ -23,8 +23,8 @@ loop-next-preserved g c = λ home are.
     (record { slots = c.requires.may.slots; are = are; stands = (c.loop-next.invariant home are).stands; is = c.in-Some.is; older = c.older-next.ensures })
     (c.loop-next.invariant home are))
 
-pub returns : goal.returns
-returns g c = λ home are.
+pub returns-clause-least : goal.returns-clause-least
+returns-clause-least g c = λ home are.
     passes_all (held_keys c.args.chains.now c.args.kept.now.keys) home c.args.bucket NEVER c.loop-next.next c.loop-next.least c.in_default.is (c.loop-next.invariant home are)
 
 pub deadline-requires : goal.deadline-requires
@@ -32,3 +32,9 @@ deadline-requires g c =
     let may = c.requires.may in
     (at_key c.args.chains.now c.args.kept.now.keys may.home c.args.bucket c.in-Some.slot c.loop-next.next c.older-next.result no_key
     (record { slots = may.slots; are = may.are; stands = (c.loop-next.invariant may.home may.are).stands; is = c.in-Some.is; older = c.older-next.ensures })).low
+
+pub returns-then-has_seen-clause-all : goal.returns-then-has_seen-clause-all
+returns-then-has_seen-clause-all g c = never_over c.args.most c.has_seen.result c.has_seen.ensures c.if-has_seen.true
+
+pub returns-clause-all : goal.returns-clause-all
+returns-clause-all g c = is_answered c.args.most c.loop-next.least

@@ -1,6 +1,6 @@
 use Rattle.std.proofs.Common.{◌≢◌, ◌<◌, ◌≡◌, ℕ, MatchOption, count_by, ap, subst, inl, rules, arith}
 use Rattle.std.specs.Option.{is_some}
-use Rattle.ert_wheel.proofs.Least.{no_row, has_row, may_walk, visits_bucket, sees_early}
+use Rattle.ert_wheel.proofs.Least.{answer_is, no_row, has_row, may_walk, visits_bucket, sees_early}
 use Rattle.ert_wheel.proofs.NextDue.{first_is, home_low, early_due, due_next, least_due, none_before_least, due_at_of}
 use Rattle.ert_wheel.proofs.Writes.{sees, keys_of, passed_of}
 use Rattle.ert_wheel.proofs.wheel.Wheel.next_due.Goals as goal
@@ -59,10 +59,11 @@ returns g c =
     let row : HasRow keys = has_row keys some in
     let w = (sees c.self.invariant c.self.view_is).wheel in
     let f = first_is w c.first_bucket-first.ensures.is c.first_used-home.ensures.first in
-    let looks = visits_bucket c.self.inside.kept.keys w (ap keys_of c.self.view_is) c.least_in.ensures in
+    answer_is (NoRow keys) c.least_in.result c.least_in.ensures.all c.least_in.ensures.least (λ least looked.
+    let looks = visits_bucket c.self.inside.kept.keys w (ap keys_of c.self.view_is) looked in
     let due = least_due f (home_low f row) looks in
     record {
       some = row;
       none_before = none_before_least f looks due;
       near = inl (due_at_of due);
-    }
+    })
