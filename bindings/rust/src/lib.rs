@@ -355,15 +355,16 @@ pub enum Mail {
     },
 }
 
-/// What a turn with a bound did, but for whether there is more.
-fn turned_of(some: &ffi::ert_turned_some) -> Turned {
-    Turned {
+/// What a turn with a bound did, and whether there is more.
+fn turned_some(some: &ffi::ert_turned_some) -> (Turned, bool) {
+    let turned = Turned {
         to: some.to,
         served: some.served,
         fired: some.fired,
         put: some.put,
         dropped: some.dropped,
-    }
+    };
+    (turned, some.more != 0)
 }
 
 fn mail(m: ffi::ert_mail) -> Mail {
@@ -652,7 +653,7 @@ impl World {
     pub fn turn_some(&mut self, sched: u32, most: u32) -> Result<(Turned, bool), Error> {
         let mut some = ffi::ert_turned_some::default();
         done(unsafe { ffi::ert_world_turn_some(&mut *self.handle, sched, most, &mut some) })?;
-        Ok(turned_of(&some))
+        Ok(turned_some(&some))
     }
 
     /// How early a timer of a scheduler may be due, in milliseconds since the start time; None where none is

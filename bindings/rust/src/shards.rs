@@ -5,7 +5,7 @@ use std::ptr;
 
 use crate::{
     Advanced, Delivered, Error, Mail, Moved, OffsetState, Reading, Seat, Settings, Start, Timer,
-    Turned, done, done_or, ffi, mail, state, turned_of,
+    Turned, done, done_or, ffi, mail, state, turned_some,
 };
 
 /// The clock of a service that is divided among threads, and what was given to no shard. It is closed when it is dropped.
@@ -104,16 +104,6 @@ impl Hub {
         (offset.offset, state(offset.state))
     }
 
-    /// Gives an armed timer of whatever shard a new deadline, with all that the start says, and returns its new name: it is
-    /// of this shard then. None if it is not armed.
-    ///
-    /// After `Full` the timer is cancelled and none is started; after any other error nothing has changed.
-    pub fn restart(&mut self, timer: &Timer, start: &Start) -> Result<Option<Timer>, Error> {
-        let mut next = *timer;
-        let status = unsafe { ffi::ert_shard_restart(&mut *self.handle, &mut next, &start.start) };
-        Ok(done_or(status, ffi::ERT_NO_TIMER)?.then_some(next))
-    }
-
     /// Cancels a timer of whatever shard, and returns the milliseconds that were left; None if it is not armed.
     pub fn cancel(&mut self, timer: &Timer) -> Option<u64> {
         let mut left = 0;
@@ -185,6 +175,16 @@ impl Shard {
         let mut timer = Timer::default();
         done(unsafe { ffi::ert_shard_start(&mut *self.handle, &start.start, &mut timer) })?;
         Ok(timer)
+    }
+
+    /// Gives an armed timer of whatever shard a new deadline, with all that the start says, and returns its new name: it is
+    /// of this shard then. None if it is not armed.
+    ///
+    /// After `Full` the timer is cancelled and none is started; after any other error nothing has changed.
+    pub fn restart(&mut self, timer: &Timer, start: &Start) -> Result<Option<Timer>, Error> {
+        let mut next = *timer;
+        let status = unsafe { ffi::ert_shard_restart(&mut *self.handle, &mut next, &start.start) };
+        Ok(done_or(status, ffi::ERT_NO_TIMER)?.then_some(next))
     }
 
     /// Cancels a timer of whatever shard, and returns the milliseconds that were left; None if it is not armed.
@@ -290,7 +290,7 @@ impl Shard {
     pub fn turn_some(&mut self, most: u32) -> Result<(Turned, bool), Error> {
         let mut some = ffi::ert_turned_some::default();
         done(unsafe { ffi::ert_shard_turn_some(&mut *self.handle, most, &mut some) })?;
-        Ok(turned_of(&some))
+        Ok(turned_some(&some))
     }
 
     /// How early a timer of the shard may be due, in milliseconds since the start time, as `World::next_due` returns

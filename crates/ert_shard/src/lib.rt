@@ -33,19 +33,19 @@
 //! beginnings of the desk's one legal history, in which each timer settles once, whoever cancels it: a cancel is one
 //! exchange on the timer's word. The calls of a hub are said in the same way (`specs/Hubs`, `Rest`).
 //!
-//! Each timer of a shard's wheel is for a process of the shard, since `start` asks for that and no other has entries of
-//! the wheel (`AreHome`). So a timer that expires finds its mailbox, and an exit has to sweep the shard's own wheel alone:
-//! no other wheel has timers for the process. For a wheel that comes back keeps its timers, and the hub remembers which
-//! processes its shard had: it goes to another shard with these, or with more, but with none that a wheel that stays has
-//! timers for. And a world whose wheels had timers before it was divided gives no shard (`ShardErr::Used`), since of those
-//! nothing is known: divide a world that was just opened.
+//! Each timer of a shard's wheel is for a process of the shard, since `start` and `restart` ask for that and no other
+//! has entries of the wheel (`AreHome`). So a timer that expires finds its mailbox, and an exit has to sweep the
+//! shard's own wheel alone: no other wheel has timers for the process. For a wheel that comes back keeps its timers,
+//! and the hub remembers which processes its shard had: it goes to another shard with these, or with more, but with
+//! none that a wheel that stays has timers for. And a world whose wheels had timers before it was divided gives no
+//! shard (`ShardErr::Used`), since of those nothing is known: divide a world that was just opened.
 //!
 //! **What it hasn't.** A shard starts no timer for a process of another shard, and has no asynchronous requests (`ask`
 //! and `serve` of `ert_world`). A timer that another shard cancelled keeps its row and its slot until it would be due.
 //!
-//! **Memory.** `start`, `restart`, `cancel_timer`, `read_timer`, `take`, `exit`, the calls on the clock, `join` and `join_all` take
-//! none. Where there is none, `monitor` and `tell` change nothing, `advance` lets no timer expire, `deliver` keeps what
-//! wasn't handed over, and so do `advance_some` and `deliver_some`, `shard` and `seat` leave everything as it was.
+//! **Memory.** `start`, `restart`, `cancel_timer`, `read_timer`, `take`, `exit`, the calls on the clock, `join` and
+//! `join_all` take none. Where there is none, `monitor` and `tell` change nothing, `advance` and `advance_some` let no
+//! timer expire, `deliver` and `deliver_some` keep what wasn't handed over, `shard` and `seat` leave everything as it was.
 //!
 //! It stands on `ert_defs`, `ert_clock`, `ert_effects`, `ert_table`, `ert_calls`, `ert_keeper`, `ert_timers`, `ert_mail`
 //! and `ert_world`, and its proofs on the laws of `ert_laws`.
