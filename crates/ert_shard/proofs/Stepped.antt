@@ -1,7 +1,8 @@
 -- A turn of a shard, by its steps, and how long nothing can be due.
 
-use Rattle.std.proofs.Common.{◌≡◌, ℕ, Bool, ◌||◌, List, Option, Ok, Err, inl, inr, refl, subst, ◌∙◌}
+use Rattle.std.proofs.Common.{◌≡◌, ℕ, ◌+◌, ◌≤◌, Bool, true, ◌||◌, List, count_by, Option, Ok, Err, inl, inr, refl, subst, ◌∙◌, arith}
 use Rattle.std.proofs.Math.Nat.{lt_of_lt_of_le}
+use Rattle.std.specs.Option.{is_some}
 use Rattle.ert_defs.specs.States.{state}
 use Rattle.ert_defs.specs.declared.entry.Entry.{Entry}
 use Rattle.ert_defs.specs.declared.memory.NoMemory.{NoMemory}
@@ -20,6 +21,8 @@ use Rattle.ert_table.specs.declared.desk.Pass.{Pass}
 use Rattle.ert_timers.specs.NextDue.{NoneArmedBefore}
 use Rattle.ert_timers.specs.Parts.{Part, Stands as WheelStands}
 use Rattle.ert_timers.specs.Passed.{HasPassed, LosesRows}
+use Rattle.ert_timers.specs.Trying.{LosesSome}
+use Rattle.ert_timers.proofs.Passing.{rows_lost}
 use Rattle.ert_world.specs.Bounded.{DeliversSome}
 
 -- a step of a later shard is one of its settings and its share at the start
@@ -120,6 +123,10 @@ passed_on p q to loses passed = record {
   left = λ k key is. passed.left k key (loses.left k key is);
   on = lt_of_lt_of_le passed.on loses.time;
 }
+
+-- so many rows that went in an advance are gone after what follows
+pub fewer_after : (p q r : Part) (most : ℕ) → LosesSome true most p q → LosesRows q r → count_by is_some r.keys + most ≤ count_by is_some p.keys
+fewer_after p q r most fewer loses = omega (arith, fewer, rows_lost q r loses)
 
 -- what the wheel tells of its armed timers holds of the shard
 pub none_armed_in : (before : Owned) (d : Desk) (p : Pass) (s : Share) (parts : ShardParts) (answer : Option ℕ) → owned d p s parts.wheel ≡ before

@@ -120,7 +120,7 @@ advance_ok before d p q s to n m parts new x has belongs named stands loses expi
 -- one with a bound
 pub some_ok : (before : Owned) (d : Desk) (p q : Pass) (s : Share) (most to n m : ℕ) (more : Bool) (parts : ShardParts) (new : Part) (x : SchedPart)
     → Has before d p s parts → Belongs d q → new.number ≡ parts.wheel.number → WheelStands (settings_of d) (front_of q) new → LosesRows parts.wheel new
-    → HasExpiredSome (settings_of d) (view_of p) parts.wheel.number most to more parts.sched.fired x.fired (view_of q)
+    → HasExpiredSome (settings_of d) (view_of p) parts.wheel new most to more parts.sched.fired x.fired (view_of q)
     → x.wheel ≡ parts.sched.wheel → x.hand ≡ parts.sched.hand → n ≡ length x.fired.rows → m ≡ length parts.sched.fired.rows
     → Did before d q s (record parts { wheel = new; sched = x }) (λ o way. AdvancesWheelSome o.settings way o.share.number most (Ok (to, n - m, more)))
 some_ok before d p q s most to n m more parts new x has belongs named stands loses expired wheel hand now was =

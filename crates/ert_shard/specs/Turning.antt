@@ -1,6 +1,7 @@
 -- What a shard's scheduler has, its turns, and the exit of one of its processes.
 
-use Rattle.std.specs.Prelude.{◌≡◌, ℕ, ◌+◌, ◌⊎◌, Bool, true, false, ◌||◌, List, [], Result, Ok, Err}
+use Rattle.std.specs.Option.{is_some}
+use Rattle.std.specs.Prelude.{◌≡◌, ℕ, ◌+◌, ◌≤◌, ◌⊎◌, Bool, true, false, ◌||◌, List, [], count_by, Result, Ok, Err}
 use Rattle.ert_defs.specs.States.{sched_of}
 use Rattle.ert_defs.specs.Timers.{Row}
 use Rattle.ert_defs.specs.declared.entry.Actor.TheVariants.{Caller}
@@ -13,6 +14,7 @@ use Rattle.ert_effects.specs.WheelCalls.{MarksExit}
 use Rattle.ert_effects.specs.Ways.{Growth, Way, Then}
 use Rattle.ert_shard.specs.Shards.{Owned}
 use Rattle.ert_shard.specs.declared.turns.Turn.{Turn}
+use Rattle.ert_timers.specs.Parts.{Part}
 use Rattle.ert_world.specs.Bounded.{DeliversSome}
 
 -- the expired timers of a shard
@@ -26,6 +28,10 @@ Turns g way n (Ok t) h m = Then (AdvancesWheel g way n (Ok (t.to, t.fired))) (De
 Turns g way n (Err e) h m =
     AdvancesWheel g way n (Err e) h m
     ⊎ ((advanced : ℕ × ℕ) × Then (AdvancesWheel g way n (Ok advanced)) (Delivers g way n (Err e)) h m)
+
+-- a turn with a bound did as much as it may: so many messages were handed over, or so many rows went at least
+abbrev pub HasTurnedMost : Part → Part → ℕ → Turn → Type 0
+HasTurnedMost old new most t = (t.put + t.dropped ≡ most) ⊎ (count_by is_some new.keys + most ≤ count_by is_some old.keys)
 
 -- a turn in which so many timers at most expire, and so many are handed over; there are more where more are due, or expired
 -- ones are left

@@ -5,12 +5,12 @@ use ert_defs::NoMemory;
 use ert_mail::Handed;
 
 impl Shard {
-    ghost use Rattle.std.specs.Prelude.{◌≡◌, false, IfOk};
+    ghost use Rattle.std.specs.Prelude.{◌≡◌, false, true, IfOk};
     ghost use Rattle.ert_effects.specs.SomeCalls.{AdvancesWheelSome};
     ghost use Rattle.ert_shard.specs.Shards.{Steps};
-    ghost use Rattle.ert_shard.specs.Turning.{TurnsUpTo};
+    ghost use Rattle.ert_shard.specs.Turning.{HasTurnedMost, TurnsUpTo};
     ghost use Rattle.ert_timers.specs.Passed.{HasPassed};
-    ghost use Rattle.ert_timers.specs.Trying.{IsLeft};
+    ghost use Rattle.ert_timers.specs.Trying.{IsLeft, LosesSome};
     ghost use Rattle.ert_world.specs.Bounded.{DeliversSome};
 
     /// Lets so many timers at most of the shard's wheel expire that are due, and answers the time, in whole
@@ -21,6 +21,7 @@ impl Shard {
     pub fn advance_some(&mut self, most: u32) -> Result<(u64, u32, bool), NoMemory>
         ensures call { Steps self.old (λ way. AdvancesWheelSome self.old.settings way self.old.share.number most result) self.new }
         ensures left { IfOk result (λ answer. IsLeft self.new.wheel answer.0 answer.2) }
+        ensures fewer { IfOk result (λ answer. LosesSome answer.2 most self.old.wheel self.new.wheel) }
     {
         let before = self.sched.fired.len();
         let (to, due) = self
@@ -59,6 +60,7 @@ impl Shard {
     pub fn turn_some(&mut self, most: u32) -> Result<(Turn, bool), NoMemory>
         ensures call { Steps self.old (λ way. TurnsUpTo self.old.settings way self.old.share.number most result) self.new }
         ensures passed { IfOk result (λ answer. answer.1 ≡ false → HasPassed self.new.wheel answer.0.to) }
+        ensures done { IfOk result (λ answer. answer.1 ≡ true → HasTurnedMost self.old.wheel self.new.wheel most answer.0) }
     {
         let (to, fired, due) = self.advance_some(most)?;
         let (put, dropped, waits) = self.deliver_some(most)?;

@@ -1,9 +1,10 @@
-use Rattle.std.proofs.Common.{◌≡◌, Bool, ◌||◌, Ok, Err, rules, sym, ap, subst, ◌∙◌}
-use Rattle.ert_shard.proofs.Stepped.{turned_up_to, some_unadvanced, some_undelivered, passed_on}
-use Rattle.ert_shard.specs.Shards.{Steps}
+use Rattle.std.proofs.Common.{◌≡◌, Bool, ◌||◌, Ok, Err, inl, inr, rules, sym, ap, subst, ◌∙◌}
+use Rattle.ert_shard.proofs.Stepped.{turned_up_to, some_unadvanced, some_undelivered, passed_on, fewer_after}
+use Rattle.ert_shard.specs.Shards.{Steps, way_of}
 use Rattle.ert_shard.specs.Turning.{TurnsUpTo}
 use Rattle.ert_shard.specs.declared.turns.Turn.{Turn}
-use Rattle.ert_timers.specs.Trying.{IsLeft}
+use Rattle.ert_timers.specs.Trying.{IsLeft, LosesSome}
+use Rattle.ert_world.proofs.Bounding.{delivered_most}
 use Rattle.ert_shard.proofs.shard.Shard.turn_some.Goals as goal
 
 pub returns-in_err-to-clause-call : goal.returns-in_err-to-clause-call
@@ -39,3 +40,15 @@ pub returns-else-due-clause-passed : goal.returns-else-due-clause-passed
 returns-else-due-clause-passed c = λ none.
     passed_on c.advance_some.new.self.wheel c.deliver_some.new.self.wheel c.in_ok-to.to c.in_ok-put.ensures.rows
     (subst (λ (more : Bool). IsLeft c.advance_some.new.self.wheel c.in_ok-to.to more) c.if-due.false c.in_ok-to.ensures.left)
+
+pub returns-then-due-clause-done : goal.returns-then-due-clause-done
+returns-then-due-clause-done c = λ more.
+    inr (fewer_after c.args.self.now.wheel c.advance_some.new.self.wheel c.deliver_some.new.self.wheel c.args.most
+    (subst (λ (due : Bool). LosesSome due c.args.most c.args.self.now.wheel c.advance_some.new.self.wheel) c.if-due.true c.in_ok-to.ensures.fewer)
+    c.in_ok-put.ensures.rows)
+
+pub returns-else-due-clause-done : goal.returns-else-due-clause-done
+returns-else-due-clause-done c = λ more.
+    let b = c.advance_some.new.self in
+    let grows = c.in_ok-put.ensures.goes.grows in
+    inl (delivered_most b.settings (way_of b) b.share.number c.args.most (c.in_ok-put.put, c.in_ok-put.dropped, c.in_ok-put.waits) b.history grows.piece grows.made more)
