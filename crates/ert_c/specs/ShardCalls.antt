@@ -1,6 +1,6 @@
 -- What C is told of a shard.
 
-use Rattle.std.specs.Prelude.{◌≡◌, ◌≢◌, ◌⊎◌, ℕ, ◌+◌, ◌<◌, ◌≤◌, ℤ, Bool, false, length, count_by, Option, Some, None, Result, Err, IfOk, OnSome, ⊤}
+use Rattle.std.specs.Prelude.{◌≡◌, ◌≢◌, ◌⊎◌, ℕ, ◌+◌, ◌<◌, ◌≤◌, ℤ, Bool, true, false, length, count_by, Option, Some, None, Result, Err, IfOk, OnSome, ⊤}
 use Rattle.std.specs.Option.{is_some}
 use Rattle.ert_effects.specs.Chains.{AdvancesWheel, Delivers}
 use Rattle.ert_effects.specs.ClockCalls.{TellsTime, TellsOffset, TellsSystemTime}
@@ -30,7 +30,7 @@ use Rattle.ert_defs.specs.declared.timer.TimerRef.{TimerRef}
 use Rattle.ert_shard.specs.Hubs.{Rest, GivesShard}
 use Rattle.ert_shard.specs.Renewing.{RestartsOn, LetsGo}
 use Rattle.ert_shard.specs.Shards.{Share, IsHome, Owned, Goes, Steps, By, HasForgotten}
-use Rattle.ert_shard.specs.Turning.{fired_of, Turns, TurnsUpTo, Exits}
+use Rattle.ert_shard.specs.Turning.{fired_of, HasTurnedMost, Turns, TurnsUpTo, Exits}
 use Rattle.ert_shard.specs.declared.turns.Turn.{Turn}
 use Rattle.ert_timers.specs.NextDue.{NoneArmedBefore, IsNextHeld}
 use Rattle.ert_timers.specs.Passed.{HasPassed}
@@ -193,10 +193,12 @@ abbrev pub IsTurnTold : Result Turn WantOfMemory → ErtTurned → ℤ → ErtTu
 IsTurnTold = IsGiven (λ t. record { to = t.to; served = 0; fired = t.fired; put = t.put; dropped = t.dropped })
 
 -- a shard makes a turn in which so many timers at most expire and are handed over: what it did and whether there are more,
--- or want of memory. Where there are no more each row of its wheel is due later than the time of the advance
+-- or want of memory. Where there are no more each row of its wheel is due later than the time of the advance; where there
+-- are, it has done as much as it may
 pub record ShardTurnsSomeBy (most : ℕ) (answer : Result (Turn × Bool) WantOfMemory) (old new : Owned) : Type 0 where
   pub steps : Steps old (λ way. TurnsUpTo old.settings way old.share.number most answer) new
   pub passed : IfOk answer (λ done. done.1 ≡ false → HasPassed new.wheel done.0.to)
+  pub done : IfOk answer (λ turned. turned.1 ≡ true → HasTurnedMost old.wheel new.wheel most turned.0)
 
 -- what such a turn of a shard did, or want of memory
 abbrev pub IsTurnSomeTold : Result (Turn × Bool) WantOfMemory → ErtTurnedSome → ℤ → ErtTurnedSome → Type 0
