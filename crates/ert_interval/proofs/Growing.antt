@@ -10,7 +10,7 @@ use Rattle.ert_defs.specs.declared.settings.Settings.{Settings}
 use Rattle.ert_defs.specs.declared.timer.TimerRef.{TimerRef}
 use Rattle.ert_defs.proofs.Runs.{legal_first, legal_then, state-append, exit_stays}
 use Rattle.ert_defs.proofs.Slots.{IsOrdered, ordered}
-use Rattle.ert_interval.specs.Intervals.{IsFiring, IsTold, IsAfter, AreFirings, HasFired, IsAtEnd, IsIn, IsKept, row_for}
+use Rattle.ert_interval.specs.Intervals.{IsFiring, HasToldDeadline, IsAfter, AreFirings, HasFired, CannotGoOn, IsInState, IsIntervalOf, row_for}
 use Rattle.ert_interval.specs.declared.interval.Interval.{Interval}
 use Rattle.ert_interval.specs.declared.interval.IntervalState.{IntervalState}
 use Rattle.ert_interval.specs.declared.interval.IntervalState.TheVariants.{Running, Waiting, Stopped, Ended}
@@ -24,14 +24,14 @@ with_state i st = record i { state = st }
 abbrev pub with_timers : Interval → Interval → IntervalState → Interval
 with_timers i k st = record i { state = st; firings = k.firings }
 
-in_timers : (s : State) (i k : Interval) (st : IntervalState) → IsIn s i st → IsIn s (with_timers i k st) st
+in_timers : (s : State) (i k : Interval) (st : IntervalState) → IsInState s i st → IsInState s (with_timers i k st) st
 in_timers s i k Running is = is
 in_timers s i k Waiting is = is
 in_timers s i k Stopped is = is
 in_timers s i k Ended is = is
 
 -- the start of a timer stays
-told_grows : (g : Settings) (h m : List Entry) (r : TimerRef) (wanted : ℕ) → IsTold g h r wanted → IsTold g (h ++ m) r wanted
+told_grows : (g : Settings) (h m : List Entry) (r : TimerRef) (wanted : ℕ) → HasToldDeadline g h r wanted → HasToldDeadline g (h ++ m) r wanted
 told_grows g h m r wanted one = record {
   before = one.before;
   start = one.start;
@@ -73,8 +73,8 @@ firings_grow g h m i st legal f =
     }
 
 -- an interval is in order after more entries, in a state that fits those
-pub kept_with : (g : Settings) (h m : List Entry) (i : Interval) (st : IntervalState) → Legal g (h ++ m) → IsKept g h i
-    → IsIn (run g (state g h) m) i st → IsKept g (h ++ m) (with_state i st)
+pub kept_with : (g : Settings) (h m : List Entry) (i : Interval) (st : IntervalState) → Legal g (h ++ m) → IsIntervalOf g h i
+    → IsInState (run g (state g h) m) i st → IsIntervalOf g (h ++ m) (with_state i st)
 kept_with g h m i st legal kept is_in =
     let s : State = state g h in
     let legal_h = legal_first g _ h m legal in
@@ -92,16 +92,16 @@ kept_with g h m i st legal kept is_in =
       on = kept.on;
       row = subst (λ (t : State). row_of (t.rows i.last.wheel) i.last ≡ Some (row_for i i.last i.deadline)) grown
           (row_stays g s m i.last (row_for i i.last i.deadline) kept.row);
-      is_in = subst (λ (t : State). IsIn t (with_state i st) st) grown (in_timers (run g s m) i i st is_in);
+      is_in = subst (λ (t : State). IsInState t (with_state i st) st) grown (in_timers (run g s m) i i st is_in);
     }
 
-pub at_end_stays : (g : Settings) (s : State) (m : List Entry) (i : Interval) → IsAtEnd s i → IsAtEnd (run g s m) i
+pub at_end_stays : (g : Settings) (s : State) (m : List Entry) (i : Interval) → CannotGoOn s i → CannotGoOn (run g s m) i
 at_end_stays g s m i (inl exited) = inl (exit_stays g i.dest s m exited)
 at_end_stays g s m i (inr high) = inr high
 
 -- the last timer stays as the state of its interval says, while it isn't cancelled
 pub in_stays : (g : Settings) (s : State) (m : List Entry) (i : Interval) (st : IntervalState) → IsOrdered s → LegalFrom g s m → AllSpare i.last m
-    → s.status i.last ≢ None → row_of (s.rows i.last.wheel) i.last ≡ Some (row_for i i.last i.deadline) → IsIn s i st → IsIn (run g s m) i st
+    → s.status i.last ≢ None → row_of (s.rows i.last.wheel) i.last ≡ Some (row_for i i.last i.deadline) → IsInState s i st → IsInState (run g s m) i st
 in_stays g s m i Running ordered legal spare used row is = going_stays g s m i.last (row_for i i.last i.deadline) legal spare row is
 in_stays g s m i Waiting ordered legal spare used row is =
     (going_stays g s m i.last (row_for i i.last i.deadline) legal spare row is.0, (done_stays g s m i.last ordered legal (used, is.1)).1)
@@ -110,13 +110,13 @@ in_stays g s m i Ended ordered legal spare used row is =
     ((done_stays g s m i.last ordered legal (used, is.0)).1, at_end_stays g s m i is.1)
 
 -- an interval stays in order while its last timer isn't cancelled
-pub kept_grows : (g : Settings) (h m : List Entry) (i : Interval) → Legal g (h ++ m) → AllSpare i.last m → IsKept g h i → IsKept g (h ++ m) i
+pub kept_grows : (g : Settings) (h m : List Entry) (i : Interval) → Legal g (h ++ m) → AllSpare i.last m → IsIntervalOf g h i → IsIntervalOf g (h ++ m) i
 kept_grows g h m i legal spare kept =
     kept_with g h m i i.state legal kept
     (in_stays g (state g h) m i i.state (ordered g h (legal_first g _ h m legal)) (legal_then g _ h m legal) spare kept.used kept.row kept.is_in)
 
 -- an interval whose timers were moved to other memory
-pub kept_moved : (g : Settings) (h : List Entry) (i k : Interval) → k.firings.items ≡ i.firings.items → IsKept g h i → IsKept g h (with_timers i k i.state)
+pub kept_moved : (g : Settings) (h : List Entry) (i k : Interval) → k.firings.items ≡ i.firings.items → IsIntervalOf g h i → IsIntervalOf g h (with_timers i k i.state)
 kept_moved g h i k same kept =
     let s : State = state g h in
     let f = kept.firings in

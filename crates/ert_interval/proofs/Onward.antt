@@ -10,8 +10,8 @@ use Rattle.ert_defs.specs.declared.timer.Status.TheVariants.{Armed}
 use Rattle.ert_defs.specs.declared.timer.TimerRef.{TimerRef}
 use Rattle.ert_defs.proofs.Slots.{IsOrdered, ordered}
 use Rattle.ert_interval.specs.Calls.{Still, AreStill, EndsAs}
-use Rattle.ert_interval.specs.Deadlines.{base, start_at, time_of}
-use Rattle.ert_interval.specs.Intervals.{IsOpen, IsGoing, IsIn, IsAtEnd, IsKept}
+use Rattle.ert_interval.specs.Deadlines.{base, start_at, time_of_deadline}
+use Rattle.ert_interval.specs.Intervals.{IsOpen, IsGoing, IsInState, CannotGoOn, IsIntervalOf}
 use Rattle.ert_interval.specs.declared.interval.Interval.{Interval}
 use Rattle.ert_interval.specs.declared.interval.IntervalState.{IntervalState}
 use Rattle.ert_interval.specs.declared.interval.IntervalState.TheVariants.{Running, Waiting, Stopped, Ended}
@@ -35,31 +35,31 @@ still_then a b c one other = record {
 
 -- an interval stays in order over entries that don't cancel its last timer
 pub spare_kept : (a b : Seen) (piece : List Entry) (i : Interval) → b.settings ≡ a.settings → b.history ≡ a.history ++ piece → AllSpare i.last piece
-    → Legal b.settings b.history → IsKept a.settings a.history i → IsKept b.settings b.history i
+    → Legal b.settings b.history → IsIntervalOf a.settings a.history i → IsIntervalOf b.settings b.history i
 spare_kept a b piece i settings grown spare legal kept =
-    subst (λ x. IsKept x b.history i) (sym settings)
-    (subst (λ l. IsKept a.settings l i) (sym grown) (kept_grows a.settings a.history piece i (grown_legal a b piece settings grown legal) spare kept))
+    subst (λ x. IsIntervalOf x b.history i) (sym settings)
+    (subst (λ l. IsIntervalOf a.settings l i) (sym grown) (kept_grows a.settings a.history piece i (grown_legal a b piece settings grown legal) spare kept))
 
-pub still_kept : (a b : Seen) (i : Interval) → Still a b → Legal b.settings b.history → IsKept a.settings a.history i → IsKept b.settings b.history i
+pub still_kept : (a b : Seen) (i : Interval) → Still a b → Legal b.settings b.history → IsIntervalOf a.settings a.history i → IsIntervalOf b.settings b.history i
 still_kept a b i still legal kept =
     spare_kept a b still.piece i still.settings still.grown (plain_spares i.last still.piece (still_plain still.piece still.still)) legal kept
 
 -- and takes another state that fits
-pub in_other : (g : Settings) (h : List Entry) (i : Interval) (st : IntervalState) → Legal g h → IsKept g h i → IsIn (state g h) i st
-    → IsKept g h (with_state i st)
+pub in_other : (g : Settings) (h : List Entry) (i : Interval) (st : IntervalState) → Legal g h → IsIntervalOf g h i → IsInState (state g h) i st
+    → IsIntervalOf g h (with_state i st)
 in_other g h i st legal kept is_in =
-    subst (λ l. IsKept g l (with_state i st)) (append-nil h)
+    subst (λ l. IsIntervalOf g l (with_state i st)) (append-nil h)
     (kept_with g h [] i st (subst (Legal g) (sym (append-nil h)) legal) kept is_in)
 
 -- an open interval goes on
-pub open_going : (s : State) (i : Interval) (st : IntervalState) → IsOpen st → IsIn s i st → IsGoing (s.status i.last) (s.exited i.dest)
+pub open_going : (s : State) (i : Interval) (st : IntervalState) → IsOpen st → IsInState s i st → IsGoing (s.status i.last) (s.exited i.dest)
 open_going s i Running is_open is_in = is_in
 open_going s i Waiting is_open is_in = is_in.0
 open_going s i Stopped is_open is_in = absurd is_open
 open_going s i Ended is_open is_in = absurd is_open
 
 -- an open interval whose last timer is armed runs
-pub armed_runs : (g : Settings) (s : State) (i : Interval) (st : IntervalState) → IsOpen st → IsIn s i st → s.status i.last ≡ Some Armed → EndsAs g s i st
+pub armed_runs : (g : Settings) (s : State) (i : Interval) (st : IntervalState) → IsOpen st → IsInState s i st → s.status i.last ≡ Some Armed → EndsAs g s i st
 armed_runs g s i Running is_open is_in armed = armed
 armed_runs g s i Waiting is_open is_in armed = absurd (is_in.1 armed)
 armed_runs g s i Stopped is_open is_in armed = absurd is_open
@@ -84,7 +84,7 @@ ends_stay a b i st still legal_a legal used ends =
     over g s m order legal still used Ended ends = ((done_stays g s m i.last order legal (used, ends.0)).1, at_end_stays g s m i ends.1)
 
 -- a deadline within its limits is that of a start at its time
-pub due_at : (g : Settings) (d dest msg : ℕ) → d ≤ 8796093022207 → (look : ℤ) → deadline_of g (start_at (time_of g d) dest msg) look ≡ Some d
+pub due_at : (g : Settings) (d dest msg : ℕ) → d ≤ 8796093022207 → (look : ℤ) → deadline_of g (start_at (time_of_deadline g d) dest msg) look ≡ Some d
 due_at g d dest msg low look = deadline_back d (base g) low
 
 pub lives_still : (a b : Seen) (p : ℕ) → Still a b → (state a.settings a.history).exited p ≡ false → (state b.settings b.history).exited p ≡ false
@@ -93,12 +93,12 @@ lives_still a b p still lives =
     (still_lives a.settings (state a.settings a.history) still.piece p still.still lives)
 
 -- an interval that isn't armed waits
-pub waits : (a b : Seen) (i k : Interval) → Still a b → Legal a.settings a.history → Legal b.settings b.history → IsKept a.settings a.history i
+pub waits : (a b : Seen) (i k : Interval) → Still a b → Legal a.settings a.history → Legal b.settings b.history → IsIntervalOf a.settings a.history i
     → IsOpen i.state → (state a.settings a.history).status i.last ≢ Some Armed → k.firings.items ≡ i.firings.items
-    → IsKept b.settings b.history (with_timers i k Waiting)
+    → IsIntervalOf b.settings b.history (with_timers i k Waiting)
 waits a b i k still legal_a legal kept is_open other same =
     let g : Settings = a.settings in
-    let before : IsKept g a.history (with_state i Waiting) =
+    let before : IsIntervalOf g a.history (with_state i Waiting) =
     in_other g a.history i Waiting legal_a kept (open_going (state g a.history) i i.state is_open kept.is_in, other) in
     kept_moved b.settings b.history (with_state i Waiting) k same (still_kept a b (with_state i Waiting) still legal before)
 
@@ -112,13 +112,13 @@ new_before a b r still legal_a legal none =
     (sym (ap (λ (t : State). t.status r) (piece_state a b still.piece still.settings still.grown)) ∙ none))
 
 -- an interval ends
-pub ended : (a b : Seen) (i : Interval) → Still a b → Legal b.settings b.history → IsKept a.settings a.history i
-    → (state b.settings b.history).status i.last ≢ Some Armed → IsAtEnd (state b.settings b.history) i → IsKept b.settings b.history (with_state i Ended)
+pub ended : (a b : Seen) (i : Interval) → Still a b → Legal b.settings b.history → IsIntervalOf a.settings a.history i
+    → (state b.settings b.history).status i.last ≢ Some Armed → CannotGoOn (state b.settings b.history) i → IsIntervalOf b.settings b.history (with_state i Ended)
 ended a b i still legal kept other at_end =
     in_other b.settings b.history i Ended legal (still_kept a b i still legal kept) (other, at_end)
 
 -- a timer that isn't armed isn't armed later
-pub other_later : (a b : Seen) (i : Interval) → Still a b → Legal a.settings a.history → Legal b.settings b.history → IsKept a.settings a.history i
+pub other_later : (a b : Seen) (i : Interval) → Still a b → Legal a.settings a.history → Legal b.settings b.history → IsIntervalOf a.settings a.history i
     → (state a.settings a.history).status i.last ≢ Some Armed → (state b.settings b.history).status i.last ≢ Some Armed
 other_later a b i still legal_a legal kept other =
     let g : Settings = a.settings in

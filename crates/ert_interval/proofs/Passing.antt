@@ -5,9 +5,9 @@ use Rattle.std.proofs.lemmas.Bool.{cases_eq}
 use Rattle.ert_interval.proofs.Tables.{either}
 use Rattle.ert_defs.specs.Legal.{Legal}
 use Rattle.ert_defs.specs.declared.memory.NoMemory.{NoMemory}
-use Rattle.ert_interval.specs.Calls.{Still, IsOf, Passed, PassedBy, PassesOne, PassesSome, Unmoved, timers, Counts}
+use Rattle.ert_interval.specs.Calls.{Still, IsTurnedBy, Passed, PassedBy, PassesOne, PassesSome, Unmoved, timers, CountsTimers}
 use Rattle.ert_interval.specs.Going.{one_if}
-use Rattle.ert_interval.specs.Intervals.{IsKept, AreKept}
+use Rattle.ert_interval.specs.Intervals.{IsIntervalOf, AreKept}
 use Rattle.ert_interval.specs.declared.interval.Interval.{Interval}
 use Rattle.ert_interval.proofs.Onward.{ends_stay}
 use Rattle.ert_world.specs.Worlds.{Seen}
@@ -16,13 +16,13 @@ use Rattle.ert_world.specs.Worlds.{Seen}
 pub record PassesTo (w upto : ℕ) (new : Seen) (is js : List Interval) (armed : ℕ) : Type 0 where
   pub counted : length js ≡ length is
   pub started : timers js ≡ timers is + armed
-  pub passed : (m : ℕ) (d : Interval) → m < upto → m < length is → IsOf w (slice_index_or is m d)
+  pub passed : (m : ℕ) (d : Interval) → m < upto → m < length is → IsTurnedBy w (slice_index_or is m d)
       → (b : Bool) × Passed new (slice_index_or is m d) (slice_index_or js m d) b
   pub untouched : (m : ℕ) (d : Interval) → upto ≤ m → slice_index_or js m d ≡ slice_index_or is m d
-  pub others : (m : ℕ) (d : Interval) → m < length is → (IsOf w (slice_index_or is m d) → ⊥) → slice_index_or js m d ≡ slice_index_or is m d
+  pub others : (m : ℕ) (d : Interval) → m < length is → (IsTurnedBy w (slice_index_or is m d) → ⊥) → slice_index_or js m d ≡ slice_index_or is m d
 
 passed_stays : (a b : Seen) (i j : Interval) (armed : Bool) → Still a b → Legal a.settings a.history → Legal b.settings b.history
-    → IsKept a.settings a.history j → Passed a i j armed → Passed b i j armed
+    → IsIntervalOf a.settings a.history j → Passed a i j armed → Passed b i j armed
 passed_stays a b i j armed still legal_a legal kept passed = record {
   same = passed.same;
   fires = passed.fires;
@@ -32,7 +32,7 @@ passed_stays a b i j armed still legal_a legal kept passed = record {
 -- those that were passed have been so still after a step of another, and those of other wheels have not moved
 passed_before : (answer : Result Bool NoMemory) (w n : ℕ) (a b : Seen) (is js ks : List Interval) (armed : ℕ) → PassesTo w n a is js armed
     → PassesOne answer n w b js ks → Still a b → AreKept a js → Legal b.settings b.history → (m : ℕ) (d : Interval) → m < n → m < length is
-    → IsOf w (slice_index_or is m d) → (o : Bool) × Passed b (slice_index_or is m d) (slice_index_or ks m d) o
+    → IsTurnedBy w (slice_index_or is m d) → (o : Bool) × Passed b (slice_index_or is m d) (slice_index_or ks m d) o
 passed_before answer w n a b is js ks armed to step still kept legal m d low high of_wheel =
     let p = to.passed m d low high of_wheel in
     let j : Interval = slice_index_or js m d in (
@@ -42,14 +42,14 @@ passed_before answer w n a b is js ks armed to step still kept legal m d low hig
     )
 
 others_stay : (answer : Result Bool NoMemory) (w n : ℕ) (a b : Seen) (is js ks : List Interval) (armed : ℕ) → PassesTo w n a is js armed
-    → PassesOne answer n w b js ks → (m : ℕ) (d : Interval) → m < length is → (IsOf w (slice_index_or is m d) → ⊥)
+    → PassesOne answer n w b js ks → (m : ℕ) (d : Interval) → m < length is → (IsTurnedBy w (slice_index_or is m d) → ⊥)
     → slice_index_or ks m d ≡ slice_index_or is m d
 others_stay answer w n a b is js ks armed to step m d high other =
     let at : slice_index_or js m d ≡ slice_index_or is m d = to.others m d high other in
     elim (cases_eq m n) [
       | inl same ↦
           subst (λ x. slice_index_or ks x d ≡ slice_index_or js x d) (sym same)
-          (step.other d (λ of_n. other (subst (IsOf w) (ap (λ x. slice_index_or js x d) (sym same) ∙ at) of_n))).1 ∙ at
+          (step.other d (λ of_n. other (subst (IsTurnedBy w) (ap (λ x. slice_index_or js x d) (sym same) ∙ at) of_n))).1 ∙ at
       | inr not ↦ step.others m d not ∙ at
     ]
 
@@ -61,10 +61,10 @@ passes_more w n a b is js ks armed next one to step still kept legal count sum =
   counted = step.counted ∙ to.counted;
   started = omega (arith, count, to.started, sum);
   passed = λ m d low high of_wheel. elim (cases_eq m n) [
-    | inl same ↦ subst (λ x. IsOf w (slice_index_or is x d) → (o : Bool) × Passed b (slice_index_or is x d) (slice_index_or ks x d) o) (sym same)
+    | inl same ↦ subst (λ x. IsTurnedBy w (slice_index_or is x d) → (o : Bool) × Passed b (slice_index_or is x d) (slice_index_or ks x d) o) (sym same)
         (λ of_n.
         let at : slice_index_or js n d ≡ slice_index_or is n d = to.untouched n d (omega arith) in
-        (one, subst (λ i. Passed b i (slice_index_or ks n d) one) at (step.one d (subst (IsOf w) (sym at) of_n))))
+        (one, subst (λ i. Passed b i (slice_index_or ks n d) one) at (step.one d (subst (IsTurnedBy w) (sym at) of_n))))
         of_wheel
     | inr not ↦ passed_before (Ok one) w n a b is js ks armed to step still kept legal m d (omega (arith, low, not)) high of_wheel
   ];
@@ -78,11 +78,11 @@ pub passes_some : (w n : ℕ) (a b : Seen) (is js ks : List Interval) (armed : �
 passes_some w n a b is js ks armed e to step still kept legal = record {
   counted = step.counted ∙ to.counted;
   passed = λ m d high of_wheel. elim (cases_eq m n) [
-    | inl same ↦ subst (λ x. IsOf w (slice_index_or is x d) → Unmoved (slice_index_or is x d) (slice_index_or ks x d)
+    | inl same ↦ subst (λ x. IsTurnedBy w (slice_index_or is x d) → Unmoved (slice_index_or is x d) (slice_index_or ks x d)
         ⊎ ((o : Bool) × Passed b (slice_index_or is x d) (slice_index_or ks x d) o)) (sym same)
         (λ of_n.
         let at : slice_index_or js n d ≡ slice_index_or is n d = to.untouched n d (omega arith) in
-        inl (subst (λ i. Unmoved i (slice_index_or ks n d)) at (step.one d (subst (IsOf w) (sym at) of_n))))
+        inl (subst (λ i. Unmoved i (slice_index_or ks n d)) at (step.one d (subst (IsTurnedBy w) (sym at) of_n))))
         of_wheel
     | inr not ↦ elim (either m n not) [
       | inl low ↦ inr (passed_before (Err e) w n a b is js ks armed to step still kept legal m d low high of_wheel)
@@ -111,7 +111,7 @@ timers_set (x ∷ xs) zero j d low = omega arith
 timers_set (x ∷ xs) (suc n) j d low = let more = timers_set xs n j d (omega (arith, low)) in omega (arith, more)
 
 pub counts_by : (answer : Result Bool NoMemory) (w : Seen) (is : List Interval) (n : ℕ) (i j : Interval) → n < length is → i ≡ slice_index_or is n i
-    → PassedBy answer w i j → Counts answer is (set is n j)
+    → PassedBy answer w i j → CountsTimers answer is (set is n j)
 counts_by (Ok true) w is n i j low at passed =
     let both = timers_set is n j i low in
     let more : length j.firings.items ≡ length i.firings.items + 1 = ap length passed.fires.1 ∙ length-append i.firings.items (passed.fires.0 ∷ []) in
@@ -128,6 +128,6 @@ counts_by (Err e) w is n i j low at unmoved =
     let here : length i.firings.items ≡ length (slice_index_or is n i).firings.items = ap (λ (x : Interval). length x.firings.items) at in
     omega (arith, both, more, here)
 
-pub count_is : (one : Bool) (is js : List Interval) → Counts (Ok one) is js → timers js ≡ timers is + one_if one
+pub count_is : (one : Bool) (is js : List Interval) → CountsTimers (Ok one) is js → timers js ≡ timers is + one_if one
 count_is true is js counts = counts
 count_is false is js counts = omega (arith, counts)

@@ -15,8 +15,8 @@ use Rattle.ert_defs.specs.declared.timer.Status.TheVariants.{Armed, Expired, Del
 use Rattle.ert_defs.specs.declared.timer.TimerRef.{TimerRef}
 use Rattle.ert_defs.proofs.Runs.{legal_first, legal_then, state-append}
 use Rattle.ert_defs.proofs.Slots.{ordered}
-use Rattle.ert_interval.specs.Deadlines.{base, start_at, time_of}
-use Rattle.ert_interval.specs.Intervals.{IsFiring, IsAfter, AreFirings, HasFired, IsGoing, IsIn, IsKept}
+use Rattle.ert_interval.specs.Deadlines.{base, start_at, time_of_deadline}
+use Rattle.ert_interval.specs.Intervals.{IsFiring, IsAfter, AreFirings, HasFired, IsGoing, IsInState, IsIntervalOf}
 use Rattle.ert_interval.specs.declared.interval.Interval.{Interval}
 use Rattle.ert_interval.specs.declared.interval.IntervalState.TheVariants.{Running}
 use Rattle.ert_interval.proofs.Deadlines.{deadline_more}
@@ -108,11 +108,11 @@ firings_push g h i k timer d before push ends f new fired behind =
 
 -- an interval whose next timer was started is in order
 pub pushed : (a b : Seen) (piece : List Entry) (i k : Interval) (timer : TimerRef) (d : ℕ) → b.settings ≡ a.settings → b.history ≡ a.history ++ piece
-    → Legal b.settings b.history → IsKept a.settings a.history i
+    → Legal b.settings b.history → IsIntervalOf a.settings a.history i
     → IsGoing ((state a.settings a.history).status i.last) ((state a.settings a.history).exited i.dest)
-    → HasStarted a b i.wheel (start_at (time_of a.settings d) i.dest i.msg) timer d
+    → HasStarted a b i.wheel (start_at (time_of_deadline a.settings d) i.dest i.msg) timer d
     → (state a.settings a.history).exited i.dest ≡ false → (state a.settings a.history).status i.last ≢ Some Armed
-    → d ≡ i.deadline + i.period → d ≤ 8796093022207 → IsNext i k timer → IsKept b.settings b.history (next_of i k timer d)
+    → d ≡ i.deadline + i.period → d ≤ 8796093022207 → IsNext i k timer → IsIntervalOf b.settings b.history (next_of i k timer d)
 pushed a b piece i k timer d settings grown legal_b kept going start lives other next low push =
     let g : Settings = a.settings in
     let h : List Entry = a.history in
@@ -127,7 +127,7 @@ pushed a b piece i k timer d settings grown legal_b kept going start lives other
     let firings : AreFirings g h' i = subst (λ l. AreFirings g l i) (sym grown) (firings_grow g h piece i i.state legal kept.firings) in
     let due : deadline_at ((i.first +ℤ pos ((length kept.before + 1) * i.period)) -ℤ base g) ≡ Some d =
     deadline_more i.first (base g) (length kept.before) i.period i.deadline kept.due (subst (λ x. x ≤ 8796093022207) next low) ∙ ap Some (sym next) in
-    subst (λ x. IsKept x h' (next_of i k timer d)) (sym settings) (record {
+    subst (λ x. IsIntervalOf x h' (next_of i k timer d)) (sym settings) (record {
       wheel = kept.wheel;
       dest = kept.dest;
       before = kept.before ++ i.last ∷ [];
@@ -147,13 +147,13 @@ pushed a b piece i k timer d settings grown legal_b kept going start lives other
 pub begun : (a b : Seen) (j : Interval) (time : ℤ) → b.settings ≡ a.settings → j.firings.items ≡ j.last ∷ [] → j.state ≡ Running → time ≡ j.first
     → deadline_at (j.first -ℤ base a.settings) ≡ Some j.deadline
     → j.wheel < a.settings.schedulers → j.dest < a.settings.processes
-    → HasStarted a b j.wheel (start_at time j.dest j.msg) j.last j.deadline → IsKept b.settings b.history j
+    → HasStarted a b j.wheel (start_at time j.dest j.msg) j.last j.deadline → IsIntervalOf b.settings b.history j
 begun a b j time settings firings running same due wheel dest start =
     let g : Settings = a.settings in
     let h' : List Entry = b.history in
     let one : length j.firings.items ≡ 1 = ap length firings in
     let due0 : deadline_at ((j.first +ℤ pos (0 * j.period)) -ℤ base g) ≡ Some j.deadline = ap (λ z. deadline_at (z -ℤ base g)) (nothing j.first) ∙ due in
-    subst (λ x. IsKept x h' j) (sym settings) (record {
+    subst (λ x. IsIntervalOf x h' j) (sym settings) (record {
       wheel = wheel;
       dest = dest;
       before = [];
@@ -173,7 +173,7 @@ begun a b j time settings firings running same due wheel dest start =
       named = start.named;
       on = start.on;
       row = start.row;
-      is_in = subst (IsIn (state g h') j) (sym running) start.going;
+      is_in = subst (IsInState (state g h') j) (sym running) start.going;
     })
   where
     nothing : (x : ℤ) → (x +ℤ pos (0 * j.period)) ≡ x

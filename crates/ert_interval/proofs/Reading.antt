@@ -15,7 +15,7 @@ use Rattle.ert_defs.specs.declared.timer.Status.{Status}
 use Rattle.ert_defs.specs.declared.timer.Status.TheVariants.{Armed, Expired, Delivered, Cancelled, Orphaned, Dropped}
 use Rattle.ert_defs.specs.declared.timer.TimerRef.{TimerRef}
 use Rattle.ert_defs.proofs.Runs.{legal_then, state-append}
-use Rattle.ert_interval.specs.Intervals.{IsKept, row_for}
+use Rattle.ert_interval.specs.Intervals.{IsIntervalOf, row_for}
 use Rattle.ert_interval.specs.declared.interval.Interval.{Interval}
 use Rattle.ert_world.specs.Worlds.{Seen, Goes, By}
 
@@ -73,7 +73,7 @@ read_at g s timer row now answer es legal is =
     (λ none. both.0 (sym found ∙ none), λ no. found ∙ both.1 no)
 
 pub read_tells : (a b : Seen) (i : Interval) (answer : Option ℕ) → Goes a (By a (λ g. Reads g (Caller 0) i.last answer)) b → a.next ≡ 1
-    → Legal b.settings b.history → Legal a.settings a.history → IsKept a.settings a.history i
+    → Legal b.settings b.history → Legal a.settings a.history → IsIntervalOf a.settings a.history i
     → (answer ≡ None) ↔ ((state b.settings b.history).status i.last ≢ Some Armed)
 read_tells a b i answer goes lone legal before kept =
     let g : Settings = a.settings in

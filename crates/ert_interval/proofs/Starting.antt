@@ -27,7 +27,7 @@ use Rattle.ert_defs.proofs.Slots.{IsOrdered, ordered, ordered_next}
 use Rattle.ert_defs.proofs.Standing.{of_row}
 use Rattle.ert_defs.proofs.Uses.{IsBefore, Use, used, fresh, before_self, told_is}
 use Rattle.ert_interval.specs.Calls.{Still, AreStill, IsFull}
-use Rattle.ert_interval.specs.Intervals.{HasFired, IsGoing, IsToldAt, IsTold}
+use Rattle.ert_interval.specs.Intervals.{HasFired, IsGoing, IsToldAt, HasToldDeadline}
 use Rattle.ert_interval.proofs.Plain.{ArePlain, plain_spares, starts_plain}
 use Rattle.ert_interval.proofs.Reading.{piece_legal, piece_state}
 use Rattle.ert_interval.proofs.Steps.{row_stays, fired_stays, used_stays, going_stays, none_from}
@@ -146,7 +146,7 @@ pub record HasStarted (a b : Seen) (w : ℕ) (start : Start) (timer : TimerRef) 
   pub unarmed : (state a.settings before).status timer ≡ None
   pub new : (state a.settings a.history).status timer ≡ None
   pub row : row_of ((state a.settings b.history).rows timer.wheel) timer ≡ Some (row_at timer start deadline)
-  pub told : IsTold a.settings b.history timer deadline
+  pub told : HasToldDeadline a.settings b.history timer deadline
   pub going : IsGoing ((state a.settings b.history).status timer) ((state a.settings b.history).exited start.dest)
   pub used : (state a.settings b.history).status timer ≢ None
   pub lives : (state a.settings a.history).exited start.dest ≡ false → ((state a.settings b.history).status timer ≡ Some Armed) × Still a b

@@ -7,8 +7,8 @@ use Rattle.ert_effects.specs.WheelCalls.{TellsAlive}
 use Rattle.ert_defs.specs.declared.entry.Actor.TheVariants.{Caller}
 use Rattle.ert_defs.specs.declared.memory.NoMemory.{NoMemory}
 use Rattle.ert_defs.specs.declared.settings.Settings.{Settings}
-use Rattle.ert_interval.specs.Calls.{IsOf}
-use Rattle.ert_interval.specs.Going.{Stays, IsPut, StartsNext, StartsWhere, GoesWhere, ReadsLast, GoesOn, StepsOne, StepsTo, one_if}
+use Rattle.ert_interval.specs.Calls.{IsTurnedBy}
+use Rattle.ert_interval.specs.Going.{KeepsSeats, IsPut, StartsNext, StartsWhere, GoesWhere, ReadsLast, GoesOn, StepsOne, StepsTo, one_if}
 use Rattle.ert_interval.specs.declared.interval.Interval.{Interval}
 use Rattle.ert_interval.specs.declared.interval.IntervalState.{IntervalState}
 use Rattle.ert_interval.specs.declared.interval.IntervalState.TheVariants.{Ended}
@@ -69,33 +69,33 @@ pub goes_start : (a r l n : Seen) (i j : Interval) (b lives : Bool) (answer : Re
 goes_start a r l n i j b lives answer reads is low look alive starts =
     goes_low a r l n i j b lives answer reads is low look (subst (λ x. StartsWhere x answer l i n j) (sym alive) starts)
 
-pub stays_none : (a : Seen) → Stays a a
+pub stays_none : (a : Seen) → KeepsSeats a a
 stays_none a = record { settings = refl; next = refl }
 
-pub stays_then : (a b c : Seen) → Stays a b → Stays b c → Stays a c
+pub stays_then : (a b c : Seen) → KeepsSeats a b → KeepsSeats b c → KeepsSeats a c
 stays_then a b c one other = record {
   settings = other.settings ∙ one.settings;
   next = other.next ∙ one.next;
 }
 
-pub goes_stays : (a b : Seen) (call : Way → Growth) → Goes a call b → Stays a b
+pub goes_stays : (a b : Seen) (call : Way → Growth) → Goes a call b → KeepsSeats a b
 goes_stays a b call goes = record { settings = goes.settings; next = goes.next }
 
-same_stays : (a b : Seen) → b ≡ a → Stays a b
-same_stays a b same = subst (Stays a) (sym same) (stays_none a)
+same_stays : (a b : Seen) → b ≡ a → KeepsSeats a b
+same_stays a b same = subst (KeepsSeats a) (sym same) (stays_none a)
 
-starts_stays : (answer : Result Bool NoMemory) (a : Seen) (i : Interval) (b : Seen) (j : Interval) → StartsNext answer a i b j → Stays a b
+starts_stays : (answer : Result Bool NoMemory) (a : Seen) (i : Interval) (b : Seen) (j : Interval) → StartsNext answer a i b j → KeepsSeats a b
 starts_stays (Ok true) a i b j starts = goes_stays a b _ starts.1
 starts_stays (Ok false) a i b j starts = goes_stays a b _ starts.0
 starts_stays (Err e) a i b j starts = same_stays a b starts.0
 
 alive_stays : (lives : Bool) (answer : Result Bool NoMemory) (a : Seen) (i : Interval) (b : Seen) (j : Interval) → StartsWhere lives answer a i b j
-    → Stays a b
+    → KeepsSeats a b
 alive_stays true answer a i b j starts = starts_stays answer a i b j starts
 alive_stays false answer a i b j ends = same_stays a b ends.1
 
 armed_stays : (armed : Bool) (answer : Result Bool NoMemory) (a : Seen) (i : Interval) (b : Seen) (j : Interval) → GoesWhere armed answer a i b j
-    → Stays a b
+    → KeepsSeats a b
 armed_stays true answer a i b j goes = same_stays a b goes.1
 armed_stays false answer a i b j (inl high) = same_stays a b high.1.1
 armed_stays false answer a i b j (inr low) =
@@ -103,18 +103,18 @@ armed_stays false answer a i b j (inr low) =
     stays_then a first.looked b (goes_stays a first.looked _ first.look) (alive_stays first.lives answer first.looked i b j first.starts)
 
 -- what stays while an interval goes on
-pub on_stays : (answer : Result Bool NoMemory) (a : Seen) (i : Interval) (b : Seen) (j : Interval) → GoesOn answer a i b j → Stays a b
+pub on_stays : (answer : Result Bool NoMemory) (a : Seen) (i : Interval) (b : Seen) (j : Interval) → GoesOn answer a i b j → KeepsSeats a b
 on_stays answer a i b j goes =
     stays_then a goes.read b (goes_stays a goes.read _ goes.reads.call) (armed_stays goes.armed answer goes.read i b j goes.goes)
 
 -- the step of an interval that goes on
 pub step_on : (answer : Result Bool NoMemory) (w n : ℕ) (a b : Seen) (is : List Interval) (i j : Interval) → n < length is → i ≡ slice_index_or is n i
-    → IsOf w i → GoesOn answer a i b j → StepsOne answer w n a is b (set is n j)
+    → IsTurnedBy w i → GoesOn answer a i b j → StepsOne answer w n a is b (set is n j)
 step_on answer w n a b is i j low here is_of goes = record {
   goes = λ d _.
       subst (λ x. GoesOn answer a (slice_index_or is n d) b x) (sym (get_or-set_same is n j d low))
       (subst (λ x. GoesOn answer a x b j) (here ∙ any_default is n i d low) goes);
-  passed = λ d other. absurd (other (subst (IsOf w) (here ∙ any_default is n i d low) is_of));
+  passed = λ d other. absurd (other (subst (IsTurnedBy w) (here ∙ any_default is n i d low) is_of));
   counted = length-set is n j;
   others = λ m d not. get_or-set_other is n m j d not;
 }

@@ -13,7 +13,7 @@ use Rattle.ert_defs.specs.declared.timer.Status.{Status}
 use Rattle.ert_defs.specs.declared.timer.Status.TheVariants.{Armed, Expired, Delivered, Cancelled, Orphaned, Dropped}
 use Rattle.ert_defs.specs.declared.timer.TimerRef.{TimerRef}
 use Rattle.ert_defs.proofs.FiredTimers.{same_timer_self, same_timer-false}
-use Rattle.ert_interval.specs.Intervals.{IsKept, IsOpen, row_for}
+use Rattle.ert_interval.specs.Intervals.{IsIntervalOf, IsOpen, row_for}
 use Rattle.ert_interval.specs.declared.interval.Interval.{Interval}
 use Rattle.ert_interval.specs.declared.interval.IntervalState.{IntervalState}
 use Rattle.ert_interval.specs.declared.interval.IntervalState.TheVariants.{Running, Waiting, Stopped, Ended}
@@ -63,7 +63,7 @@ cancels_at g s timer row now (Some n) left es is quiet legal stands =
       after = subst (λ l. (run g s l).status timer ≢ Some Armed) (sym is) left_none;
     }
 
-pub cancelled : (a b : Seen) (i : Interval) (left : Option ℕ) → Legal b.settings b.history → IsKept a.settings a.history i
+pub cancelled : (a b : Seen) (i : Interval) (left : Option ℕ) → Legal b.settings b.history → IsIntervalOf a.settings a.history i
     → (goes : Goes a (By a (λ g. Cancels g (Caller 0) i.last left)) b) (lone : a.next ≡ 1)
     → IsCancelled a.settings (state a.settings a.history) i.last left (goes.lone lone).piece
 cancelled a b i left legal kept goes lone =
@@ -73,12 +73,12 @@ cancelled a b i left legal kept goes lone =
     (c.entries ∙ ap (λ x. look_entry (Caller 0) c.now ∷ cancel_entries x (Caller 0) i.last c.found left) kept.named) c.quiet
     (piece_legal a b grows.piece goes.settings grows.grown legal) kept.row
 
-pub stopped_kept : (a b : Seen) (i : Interval) (left : Option ℕ) → Legal b.settings b.history → IsKept a.settings a.history i
-    → Goes a (By a (λ g. Cancels g (Caller 0) i.last left)) b → a.next ≡ 1 → IsKept b.settings b.history (with_state i Stopped)
+pub stopped_kept : (a b : Seen) (i : Interval) (left : Option ℕ) → Legal b.settings b.history → IsIntervalOf a.settings a.history i
+    → Goes a (By a (λ g. Cancels g (Caller 0) i.last left)) b → a.next ≡ 1 → IsIntervalOf b.settings b.history (with_state i Stopped)
 stopped_kept a b i left legal kept goes lone =
     let grows = goes.lone lone in
-    subst (λ x. IsKept x b.history (with_state i Stopped)) (sym goes.settings)
-    (subst (λ l. IsKept a.settings l (with_state i Stopped)) (sym grows.grown)
+    subst (λ x. IsIntervalOf x b.history (with_state i Stopped)) (sym goes.settings)
+    (subst (λ l. IsIntervalOf a.settings l (with_state i Stopped)) (sym grows.grown)
     (kept_with a.settings a.history grows.piece i Stopped (grown_legal a b grows.piece goes.settings grows.grown legal) kept
     (cancelled a b i left legal kept goes lone).after))
 

@@ -13,7 +13,7 @@ use Rattle.ert_defs.specs.declared.settings.Settings.{Settings}
 use Rattle.ert_defs.specs.declared.timer.TimerRef.{TimerRef}
 use Rattle.ert_defs.proofs.Runs.{state-append}
 use Rattle.ert_interval.specs.Calls.{Still, IsNewOrSame}
-use Rattle.ert_interval.specs.Intervals.{HasNoRequests, IsKept, AreKept}
+use Rattle.ert_interval.specs.Intervals.{HasNoRequests, IsIntervalOf, AreKept}
 use Rattle.ert_interval.specs.declared.interval.Interval.{Interval}
 use Rattle.ert_interval.specs.Spared.{Spares}
 use Rattle.ert_interval.proofs.Stopping.{cancel_spares, cancel_asks}
@@ -57,8 +57,8 @@ either x y differ = lt_or x y differ (cases_eq (x - y) 0)
 -- a list with another interval at one place
 module _ (a b : Seen) (is : List Interval) (n : ℕ) (j : Interval) (kept : AreKept a is) (low : n < length is) (next : b.next ≡ a.next)
     (legal : Legal b.settings b.history) (idle : HasNoRequests (state b.settings b.history))
-    (others : (m : ℕ) (d : Interval) → m ≢ n → m < length is → IsKept b.settings b.history (slice_index_or is m d))
-    (one : IsKept b.settings b.history j) (last : (d : Interval) → IsNewOrSame (state a.settings a.history) (slice_index_or is n d) j) where
+    (others : (m : ℕ) (d : Interval) → m ≢ n → m < length is → IsIntervalOf b.settings b.history (slice_index_or is m d))
+    (one : IsIntervalOf b.settings b.history j) (last : (d : Interval) → IsNewOrSame (state a.settings a.history) (slice_index_or is n d) j) where
   here : (d : Interval) → slice_index_or (set is n j) n d ≡ j
   here d = get_or-set_same is n j d low
 
@@ -84,9 +84,9 @@ module _ (a b : Seen) (is : List Interval) (n : ℕ) (j : Interval) (kept : AreK
     legal = legal;
     idle = idle;
     each = λ m d high. elim (cases_eq m n) [
-      | inl same ↦ subst (IsKept b.settings b.history) (sym (ap (λ x. slice_index_or (set is n j) x d) same ∙ here d)) one
+      | inl same ↦ subst (IsIntervalOf b.settings b.history) (sym (ap (λ x. slice_index_or (set is n j) x d) same ∙ here d)) one
       | inr not ↦
-          subst (IsKept b.settings b.history) (sym (there m d not)) (others m d not (subst (λ x. m < x) (length-set is n j) high))
+          subst (IsIntervalOf b.settings b.history) (sym (there m d not)) (others m d not (subst (λ x. m < x) (length-set is n j) high))
     ];
     few = subst (λ x. x ≤ 4294967295) (sym (length-set is n j)) kept.few;
     apart = λ m k d less high.
@@ -121,7 +121,7 @@ any_default (x ∷ xs) (suc n) d e low = any_default xs n d e (omega (arith, low
 -- all but one stay in order where only the timer of that may be cancelled
 pub spared_kept : (a b : Seen) (is : List Interval) (n : ℕ) (i : Interval) → AreKept a is → n < length is → i ≡ slice_index_or is n i
     → Spares i.last a b → Legal b.settings b.history → (m : ℕ) (d : Interval) → m ≢ n → m < length is
-    → IsKept b.settings b.history (slice_index_or is m d)
+    → IsIntervalOf b.settings b.history (slice_index_or is m d)
 spared_kept a b is n i kept low here spares legal m d not high =
     let k : Interval = slice_index_or is m d in
     let same : i ≡ slice_index_or is n d = here ∙ any_default is n i d low in
@@ -140,7 +140,7 @@ spared_idle a b r spares idle = idle_then a b spares.piece spares.settings spare
 
 -- one interval more
 pub pushed_kept : (a b : Seen) (call : Way → Growth) (is : List Interval) (j : Interval) (goes : Goes a call b) (kept : AreKept a is)
-    → ArePlain (goes.lone kept.lone).piece → Legal b.settings b.history → length is < 4294967295 → IsKept b.settings b.history j
+    → ArePlain (goes.lone kept.lone).piece → Legal b.settings b.history → length is < 4294967295 → IsIntervalOf b.settings b.history j
     → (state a.settings a.history).status j.last ≡ None → AreKept b (is ++ j ∷ [])
 pushed_kept a b call is j goes kept plain legal few one new =
     let all = all_kept a b call is goes kept plain legal in
@@ -150,10 +150,10 @@ pushed_kept a b call is j goes kept plain legal few one new =
       legal = legal;
       idle = all.idle;
       each = λ n d low. elim (cases_eq n (length is)) [
-        | inl same ↦ subst (IsKept b.settings b.history) (sym (ap (λ x. slice_index_or (is ++ j ∷ []) x d) same ∙ get_or-append_seam is j [] d)) one
+        | inl same ↦ subst (IsIntervalOf b.settings b.history) (sym (ap (λ x. slice_index_or (is ++ j ∷ []) x d) same ∙ get_or-append_seam is j [] d)) one
         | inr not ↦
             let below : n < length is = omega (arith, low, size, not) in
-            subst (IsKept b.settings b.history) (sym (get_or-append is (j ∷ []) d n below)) (all.each n d below)
+            subst (IsIntervalOf b.settings b.history) (sym (get_or-append is (j ∷ []) d n below)) (all.each n d below)
       ];
       few = omega (arith, few, size);
       apart = λ m n d less low.

@@ -15,7 +15,7 @@ use Rattle.ert_defs.specs.declared.settings.Settings.{Settings}
 use Rattle.ert_defs.specs.declared.timer.Status.TheVariants.{Armed}
 use Rattle.ert_defs.specs.declared.timer.TimerRef.{TimerRef}
 use Rattle.ert_interval.specs.Deadlines.{base, start_at}
-use Rattle.ert_interval.specs.Intervals.{IsOpen, IsAtEnd}
+use Rattle.ert_interval.specs.Intervals.{IsOpen, CannotGoOn}
 use Rattle.ert_interval.specs.declared.interval.Interval.{Interval}
 use Rattle.ert_interval.specs.declared.interval.IntervalState.{IntervalState}
 use Rattle.ert_interval.specs.declared.interval.IntervalState.TheVariants.{Running, Waiting, Stopped, Ended}
@@ -46,7 +46,7 @@ pub record Still (old new : Seen) : Type 0 where
   pub next : new.next ≡ old.next
 
 -- what was asked for stays
-pub record IsSame (old new : Interval) : Type 0 where
+pub record AsksSame (old new : Interval) : Type 0 where
   pub wheel : new.wheel ≡ old.wheel
   pub first : new.first ≡ old.first
   pub period : new.period ≡ old.period
@@ -55,7 +55,7 @@ pub record IsSame (old new : Interval) : Type 0 where
 
 -- nothing of an interval has moved
 pub record Unmoved (old new : Interval) : Type 0 where
-  pub same : IsSame old new
+  pub same : AsksSame old new
   pub state : new.state ≡ old.state
   pub last : new.last ≡ old.last
   pub deadline : new.deadline ≡ old.deadline
@@ -71,7 +71,7 @@ IsFull g s w =
 abbrev pub EndsAs : Settings → State → Interval → IntervalState → Type 0
 EndsAs g s i Running = s.status i.last ≡ Some Armed
 EndsAs g s i Waiting = IsFull g s i.wheel × (s.exited i.dest ≡ false) × (i.deadline + i.period ≤ 8796093022207)
-EndsAs g s i Ended = (s.status i.last ≢ Some Armed) × IsAtEnd s i
+EndsAs g s i Ended = (s.status i.last ≢ Some Armed) × CannotGoOn s i
 EndsAs g s i Stopped = ⊥
 
 -- one timer more was started, or none
@@ -81,7 +81,7 @@ Fires false old new = new.firings.items ≡ old.firings.items
 
 -- a turn has gone on with an interval
 pub record Passed (w : Seen) (old new : Interval) (armed : Bool) : Type 0 where
-  pub same : IsSame old new
+  pub same : AsksSame old new
   pub fires : Fires armed old new
   pub ends : EndsAs w.settings (state w.settings w.history) new new.state
 
@@ -95,8 +95,8 @@ abbrev pub IsNewOrSame : State → Interval → Interval → Type 0
 IsNewOrSame s old new = (new.last ≡ old.last) ⊎ (s.status new.last ≡ None)
 
 -- a turn of this wheel goes on with an interval
-abbrev pub IsOf : ℕ → Interval → Type 0
-IsOf w i = (i.wheel ≡ w) × IsOpen i.state
+abbrev pub IsTurnedBy : ℕ → Interval → Type 0
+IsTurnedBy w i = (i.wheel ≡ w) × IsOpen i.state
 
 -- how many timers the intervals have
 abbrev pub timers : List Interval → ℕ
@@ -104,33 +104,33 @@ timers [] = 0
 timers (i ∷ is) = length i.firings.items + timers is
 
 -- one timer more, if an interval started one
-abbrev pub Counts : Result Bool WantOfMemory → List Interval → List Interval → Type 0
-Counts (Ok true) is js = timers js ≡ timers is + 1
-Counts (Ok false) is js = timers js ≡ timers is
-Counts (Err e) is js = timers js ≡ timers is
+abbrev pub CountsTimers : Result Bool WantOfMemory → List Interval → List Interval → Type 0
+CountsTimers (Ok true) is js = timers js ≡ timers is + 1
+CountsTimers (Ok false) is js = timers js ≡ timers is
+CountsTimers (Err e) is js = timers js ≡ timers is
 
 -- a turn has gone once through the intervals of its wheel, and started so many timers
 pub record PassesAll (w : ℕ) (new : Seen) (is js : List Interval) (armed : ℕ) : Type 0 where
   pub counted : length js ≡ length is
   pub started : timers js ≡ timers is + armed
-  pub passed : (n : ℕ) (d : Interval) → n < length is → IsOf w (slice_index_or is n d)
+  pub passed : (n : ℕ) (d : Interval) → n < length is → IsTurnedBy w (slice_index_or is n d)
       → (b : Bool) × Passed new (slice_index_or is n d) (slice_index_or js n d) b
-  pub others : (n : ℕ) (d : Interval) → n < length is → (IsOf w (slice_index_or is n d) → ⊥) → slice_index_or js n d ≡ slice_index_or is n d
+  pub others : (n : ℕ) (d : Interval) → n < length is → (IsTurnedBy w (slice_index_or is n d) → ⊥) → slice_index_or js n d ≡ slice_index_or is n d
 
 -- it has gone on with one interval, if that is of its wheel
 pub record PassesOne (answer : Result Bool WantOfMemory) (n w : ℕ) (new : Seen) (is js : List Interval) : Type 0 where
   pub counted : length js ≡ length is
-  pub one : (d : Interval) → IsOf w (slice_index_or is n d) → PassedBy answer new (slice_index_or is n d) (slice_index_or js n d)
-  pub other : (d : Interval) → (IsOf w (slice_index_or is n d) → ⊥) → (answer ≡ Ok false) × (slice_index_or js n d ≡ slice_index_or is n d)
+  pub one : (d : Interval) → IsTurnedBy w (slice_index_or is n d) → PassedBy answer new (slice_index_or is n d) (slice_index_or js n d)
+  pub other : (d : Interval) → (IsTurnedBy w (slice_index_or is n d) → ⊥) → (answer ≡ Ok false) × (slice_index_or js n d ≡ slice_index_or is n d)
   pub others : (m : ℕ) (d : Interval) → m ≢ n → slice_index_or js m d ≡ slice_index_or is m d
 
 -- or only through some, for want of memory
 pub record PassesSome (w : ℕ) (new : Seen) (is js : List Interval) : Type 0 where
   pub counted : length js ≡ length is
-  pub passed : (n : ℕ) (d : Interval) → n < length is → IsOf w (slice_index_or is n d)
+  pub passed : (n : ℕ) (d : Interval) → n < length is → IsTurnedBy w (slice_index_or is n d)
       → Unmoved (slice_index_or is n d) (slice_index_or js n d)
       ⊎ ((b : Bool) × Passed new (slice_index_or is n d) (slice_index_or js n d) b)
-  pub others : (n : ℕ) (d : Interval) → n < length is → (IsOf w (slice_index_or is n d) → ⊥) → slice_index_or js n d ≡ slice_index_or is n d
+  pub others : (n : ℕ) (d : Interval) → n < length is → (IsTurnedBy w (slice_index_or is n d) → ⊥) → slice_index_or js n d ≡ slice_index_or is n d
 
 -- a turn has gone once through the intervals of its wheel, or only through some for want of memory
 abbrev pub PassesBy : Result ℕ WantOfMemory → ℕ → Seen → List Interval → List Interval → Type 0
@@ -138,7 +138,7 @@ PassesBy (Ok armed) w new is js = PassesAll w new is js armed
 PassesBy (Err e) w new is js = PassesSome w new is js
 
 -- an interval has just been made, with one timer
-pub record IsMade (w : ℕ) (time : ℤ) (each to what : ℕ) (r : TimerRef) (i : Interval) : Type 0 where
+pub record IsJustMade (w : ℕ) (time : ℤ) (each to what : ℕ) (r : TimerRef) (i : Interval) : Type 0 where
   pub wheel : i.wheel ≡ w
   pub first : i.first ≡ time
   pub period : i.period ≡ each
@@ -149,32 +149,32 @@ pub record IsMade (w : ℕ) (time : ℤ) (each to what : ℕ) (r : TimerRef) (i 
   pub firings : i.firings.items ≡ r ∷ []
 
 -- an interval's arguments are refused
-abbrev pub IsRefused : Settings → ℤ → ℕ → Type 0
-IsRefused g first period = (period ≡ 0) ⊎ (deadline_at (first -ℤ base g) ≡ None)
+abbrev pub HasBadArguments : Settings → ℤ → ℕ → Type 0
+HasBadArguments g first period = (period ≡ 0) ⊎ (deadline_at (first -ℤ base g) ≡ None)
 
 -- `every` has made an interval
 pub record HasMade (wheel : ℕ) (first : ℤ) (period dest msg n : ℕ) (old : Seen) (is : List Interval) (new : Seen) (js : List Interval) : Type 0 where
   pub timer : TimerRef
   pub call : Goes old (By old (λ g. Starts g 0 wheel (start_at first dest msg) (Ok timer))) new
   pub interval : Interval
-  pub made : IsMade wheel first period dest msg timer interval
+  pub made : IsJustMade wheel first period dest msg timer interval
   pub last : js ≡ is ++ interval ∷ []
   pub number : n ≡ length is
 
 -- `every`
 abbrev pub Every : ℕ → ℤ → ℕ → ℕ → ℕ → Seen → List Interval → Result ℕ IntervalErr → Seen → List Interval → Type 0
 Every wheel first period dest msg old is (Ok n) new js =
-    (IsRefused old.settings first period → ⊥) × HasMade wheel first period dest msg n old is new js
-Every wheel first period dest msg old is (Err BadArg) new js = IsRefused old.settings first period × (new ≡ old) × (js ≡ is)
+    (HasBadArguments old.settings first period → ⊥) × HasMade wheel first period dest msg n old is new js
+Every wheel first period dest msg old is (Err BadArg) new js = HasBadArguments old.settings first period × (new ≡ old) × (js ≡ is)
 Every wheel first period dest msg old is (Err Full) new js =
-    (IsRefused old.settings first period → ⊥)
+    (HasBadArguments old.settings first period → ⊥)
     × Goes old (By old (λ g. Starts g 0 wheel (start_at first dest msg) (Err WheelIsFull))) new × (js ≡ is)
-Every wheel first period dest msg old is (Err NoMemory) new js = (IsRefused old.settings first period → ⊥) × (new ≡ old) × (js ≡ is)
+Every wheel first period dest msg old is (Err NoMemory) new js = (HasBadArguments old.settings first period → ⊥) × (new ≡ old) × (js ≡ is)
 
 -- `stop`, of one interval that is Running or Waiting
 pub record StopsOpen (old : Seen) (i : Interval) (left : Option ℕ) (new : Seen) (j : Interval) : Type 0 where
   pub call : Goes old (By old (λ g. Cancels g (Caller 0) i.last left)) new
-  pub same : IsSame i j
+  pub same : AsksSame i j
   pub firings : j.firings.items ≡ i.firings.items
   pub state : j.state ≡ Stopped
 

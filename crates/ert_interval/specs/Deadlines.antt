@@ -12,8 +12,8 @@ abbrev pub base : Settings → ℤ
 base g = int_div_euclid g.start (pos 1000000)
 
 -- the monotonic time in milliseconds of a deadline
-abbrev pub time_of : Settings → ℕ → ℤ
-time_of g deadline = pos deadline +ℤ base g
+abbrev pub time_of_deadline : Settings → ℕ → ℤ
+time_of_deadline g deadline = pos deadline +ℤ base g
 
 -- the start of a timer of an interval, at a monotonic time in milliseconds
 abbrev pub start_at : ℤ → ℕ → ℕ → Start

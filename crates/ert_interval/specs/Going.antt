@@ -10,25 +10,25 @@ use Rattle.ert_defs.specs.declared.memory.NoMemory.{NoMemory}
 use Rattle.ert_defs.specs.declared.settings.Settings.{Settings}
 use Rattle.ert_defs.specs.declared.timer.Start.{Start}
 use Rattle.ert_defs.specs.declared.timer.TimerRef.{TimerRef}
-use Rattle.ert_interval.specs.Calls.{IsSame, IsOf, Unmoved}
-use Rattle.ert_interval.specs.Deadlines.{start_at, time_of}
+use Rattle.ert_interval.specs.Calls.{AsksSame, IsTurnedBy, Unmoved}
+use Rattle.ert_interval.specs.Deadlines.{start_at, time_of_deadline}
 use Rattle.ert_interval.specs.declared.interval.Interval.{Interval}
 use Rattle.ert_interval.specs.declared.interval.IntervalState.{IntervalState}
 use Rattle.ert_interval.specs.declared.interval.IntervalState.TheVariants.{Running, Waiting, Ended}
 use Rattle.ert_world.specs.Worlds.{Seen, Goes, By}
 
 -- the settings and the seats of a world stay
-pub record Stays (old new : Seen) : Type 0 where
+pub record KeepsSeats (old new : Seen) : Type 0 where
   pub settings : new.settings ≡ old.settings
   pub next : new.next ≡ old.next
 
 -- the start of the next timer of an interval
 abbrev pub next_start : Settings → Interval → Start
-next_start g i = start_at (time_of g (i.deadline + i.period)) i.dest i.msg
+next_start g i = start_at (time_of_deadline g (i.deadline + i.period)) i.dest i.msg
 
 -- only the state of an interval becomes another
 pub record IsPut (state : IntervalState) (old new : Interval) : Type 0 where
-  pub same : IsSame old new
+  pub same : AsksSame old new
   pub state_is : new.state ≡ state
   pub last : new.last ≡ old.last
   pub deadline : new.deadline ≡ old.deadline
@@ -36,7 +36,7 @@ pub record IsPut (state : IntervalState) (old new : Interval) : Type 0 where
 
 -- an interval has this timer as its next
 pub record HasNext (timer : TimerRef) (old new : Interval) : Type 0 where
-  pub same : IsSame old new
+  pub same : AsksSame old new
   pub state_is : new.state ≡ Running
   pub last : new.last ≡ timer
   pub deadline : new.deadline ≡ old.deadline + old.period
@@ -52,13 +52,13 @@ StartsNext (Ok false) old i new j =
 StartsNext (Err e) old i new j = (new ≡ old) × Unmoved i j
 
 -- nothing is done, and the interval ends
-abbrev pub Ends : Result Bool NoMemory → Seen → Interval → Seen → Interval → Type 0
-Ends answer old i new j = (answer ≡ Ok false) × (new ≡ old) × IsPut Ended i j
+abbrev pub EndsQuietly : Result Bool NoMemory → Seen → Interval → Seen → Interval → Type 0
+EndsQuietly answer old i new j = (answer ≡ Ok false) × (new ≡ old) × IsPut Ended i j
 
 -- the next timer is started where the destination lives; else the interval ends
 abbrev pub StartsWhere : Bool → Result Bool NoMemory → Seen → Interval → Seen → Interval → Type 0
 StartsWhere true answer old i new j = StartsNext answer old i new j
-StartsWhere false answer old i new j = Ends answer old i new j
+StartsWhere false answer old i new j = EndsQuietly answer old i new j
 
 -- whether the destination lives is looked at first
 pub record LooksFirst (answer : Result Bool NoMemory) (old : Seen) (i : Interval) (new : Seen) (j : Interval) : Type 0 where
@@ -72,7 +72,7 @@ pub record LooksFirst (answer : Result Bool NoMemory) (old : Seen) (i : Interval
 abbrev pub GoesWhere : Bool → Result Bool NoMemory → Seen → Interval → Seen → Interval → Type 0
 GoesWhere true answer old i new j = (answer ≡ Ok false) × (new ≡ old) × (j ≡ i)
 GoesWhere false answer old i new j =
-    ((8796093022207 < i.deadline + i.period) × Ends answer old i new j)
+    ((8796093022207 < i.deadline + i.period) × EndsQuietly answer old i new j)
     ⊎ ((i.deadline + i.period ≤ 8796093022207) × LooksFirst answer old i new j)
 
 -- the last timer of an interval is read: it is armed where something is left
@@ -91,8 +91,8 @@ pub record GoesOn (answer : Result Bool NoMemory) (old : Seen) (i : Interval) (n
 -- the interval of this number goes on where it is of the wheel and is Running or Waiting; else nothing is
 -- done; no other interval moves
 pub record StepsOne (answer : Result Bool NoMemory) (w n : ℕ) (old : Seen) (is : List Interval) (new : Seen) (js : List Interval) : Type 0 where
-  pub goes : (d : Interval) → IsOf w (slice_index_or is n d) → GoesOn answer old (slice_index_or is n d) new (slice_index_or js n d)
-  pub passed : (d : Interval) → (IsOf w (slice_index_or is n d) → ⊥) → (answer ≡ Ok false) × (new ≡ old) × (js ≡ is)
+  pub goes : (d : Interval) → IsTurnedBy w (slice_index_or is n d) → GoesOn answer old (slice_index_or is n d) new (slice_index_or js n d)
+  pub passed : (d : Interval) → (IsTurnedBy w (slice_index_or is n d) → ⊥) → (answer ≡ Ok false) × (new ≡ old) × (js ≡ is)
   pub counted : length js ≡ length is
   pub others : (m : ℕ) (d : Interval) → m ≢ n → slice_index_or js m d ≡ slice_index_or is m d
 

@@ -46,7 +46,7 @@ IsToldAt g s r wanted =
 
 -- the start of a timer: its deadline is the wanted one, but one that had passed at the look of the start may
 -- count as the time of that look (in a later round of its slot)
-pub record IsTold (g : Settings) (h : List Entry) (r : TimerRef) (wanted : ℕ) : Type 0 where
+pub record HasToldDeadline (g : Settings) (h : List Entry) (r : TimerRef) (wanted : ℕ) : Type 0 where
   pub before : List Entry
   pub start : Start
   pub behind : List Entry
@@ -59,7 +59,7 @@ pub record IsFiring (g : Settings) (h : List Entry) (i : Interval) (j : ℕ) (r 
   pub deadline : ℕ
   pub due : deadline_at ((i.first +ℤ pos (j * i.period)) -ℤ base g) ≡ Some deadline
   pub row : row_of ((state g h).rows r.wheel) r ≡ Some (row_for i r deadline)
-  pub told : IsTold g h r deadline
+  pub told : HasToldDeadline g h r deadline
 
 -- a timer was armed after another had expired
 pub record IsAfter (g : Settings) (h : List Entry) (r next : TimerRef) : Type 0 where
@@ -87,18 +87,18 @@ IsGoing (Some Delivered) exited = Unit {0}
 IsGoing (Some Dropped) exited = Unit {0}
 
 -- an interval is at its end: its destination has exited, or its next deadline is above the greatest
-abbrev pub IsAtEnd : State → Interval → Type 0
-IsAtEnd s i = (s.exited i.dest ≡ true) ⊎ (8796093022207 < i.deadline + i.period)
+abbrev pub CannotGoOn : State → Interval → Type 0
+CannotGoOn s i = (s.exited i.dest ≡ true) ⊎ (8796093022207 < i.deadline + i.period)
 
 -- what is so of an interval in each state
-abbrev pub IsIn : State → Interval → IntervalState → Type 0
-IsIn s i Running = IsGoing (s.status i.last) (s.exited i.dest)
-IsIn s i Waiting = IsGoing (s.status i.last) (s.exited i.dest) × (s.status i.last ≢ Some Armed)
-IsIn s i Stopped = s.status i.last ≢ Some Armed
-IsIn s i Ended = (s.status i.last ≢ Some Armed) × IsAtEnd s i
+abbrev pub IsInState : State → Interval → IntervalState → Type 0
+IsInState s i Running = IsGoing (s.status i.last) (s.exited i.dest)
+IsInState s i Waiting = IsGoing (s.status i.last) (s.exited i.dest) × (s.status i.last ≢ Some Armed)
+IsInState s i Stopped = s.status i.last ≢ Some Armed
+IsInState s i Ended = (s.status i.last ≢ Some Armed) × CannotGoOn s i
 
 -- an interval of a history
-pub record IsKept (g : Settings) (h : List Entry) (i : Interval) : Type 0 where
+pub record IsIntervalOf (g : Settings) (h : List Entry) (i : Interval) : Type 0 where
   pub wheel : i.wheel < g.schedulers
   pub dest : i.dest < g.processes
   pub before : List TimerRef
@@ -109,7 +109,7 @@ pub record IsKept (g : Settings) (h : List Entry) (i : Interval) : Type 0 where
   pub named : names_timer g i.last ≡ true
   pub on : i.last.wheel ≡ i.wheel
   pub row : row_of ((state g h).rows i.last.wheel) i.last ≡ Some (row_for i i.last i.deadline)
-  pub is_in : IsIn (state g h) i i.state
+  pub is_in : IsInState (state g h) i i.state
 
 -- no request waits or is in a hand
 abbrev pub HasNoRequests : State → Type 0
@@ -120,7 +120,7 @@ pub record AreKept (w : Seen) (is : List Interval) : Type 0 where
   pub lone : w.next ≡ 1
   pub legal : Legal w.settings w.history
   pub idle : HasNoRequests (state w.settings w.history)
-  pub each : (n : ℕ) (d : Interval) → n < length is → IsKept w.settings w.history (slice_index_or is n d)
+  pub each : (n : ℕ) (d : Interval) → n < length is → IsIntervalOf w.settings w.history (slice_index_or is n d)
   pub few : length is ≤ 4294967295
   -- no two have one timer
   pub apart : (m n : ℕ) (d : Interval) → m < n → n < length is → (slice_index_or is m d).last ≢ (slice_index_or is n d).last

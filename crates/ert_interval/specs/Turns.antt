@@ -25,6 +25,6 @@ HasStopped w e old is new js =
     ⊎ (((turned : Turned) × TurnsTo w turned (Err e) old is new js) × PassesSome w new is js)
 
 -- `turn`
-abbrev pub TurnsBy : ℕ → Result IntervalTurn NoMemory → Seen → List Interval → Seen → List Interval → Type 0
-TurnsBy w (Ok t) old is new js = TurnsTo w t.turned (Ok t.armed) old is new js × PassesAll w new is js t.armed
-TurnsBy w (Err e) old is new js = HasStopped w e old is new js
+abbrev pub TurnsIntervals : ℕ → Result IntervalTurn NoMemory → Seen → List Interval → Seen → List Interval → Type 0
+TurnsIntervals w (Ok t) old is new js = TurnsTo w t.turned (Ok t.armed) old is new js × PassesAll w new is js t.armed
+TurnsIntervals w (Err e) old is new js = HasStopped w e old is new js

@@ -2,7 +2,7 @@
 ghost use Rattle.std.specs.Prelude.{◌≡◌, ◌≢◌, ◌<◌, ◌≤◌, Some, false, IsTrue, ◌↔◌, ◌+◌, not};
 ghost use Rattle.ert_defs.specs.Legal.{Legal};
 ghost use Rattle.ert_defs.specs.States.{state};
-ghost use Rattle.ert_interval.specs.Intervals.{IsOpen, IsKept};
+ghost use Rattle.ert_interval.specs.Intervals.{IsOpen, IsIntervalOf};
 ghost use Rattle.ert_interval.specs.Calls.{Still, PassedBy, StopsOne, IsNewOrSame};
 ghost use Rattle.ert_interval.specs.Going.{GoesOn, ReadsLast, StartsNext};
 ghost use Rattle.ert_interval.specs.Spared.{Spares};
@@ -21,11 +21,11 @@ use ert_world::World;
 pub(crate) fn go_on(world: &mut World, interval: &mut Interval) -> Result<bool, NoMemory>
     requires legal { Legal world.old.settings world.old.history }
     requires lone { world.old.next ≡ 1 }
-    requires kept { IsKept world.old.settings world.old.history interval.old }
+    requires kept { IsIntervalOf world.old.settings world.old.history interval.old }
     requires is_open { IsOpen interval.old.state }
     ensures still { Still world.old world.new }
     ensures legal { Legal world.new.settings world.new.history }
-    ensures kept { IsKept world.new.settings world.new.history interval.new }
+    ensures kept { IsIntervalOf world.new.settings world.new.history interval.new }
     ensures timer { IsNewOrSame (state world.old.settings world.old.history) interval.old interval.new }
     ensures passed { PassedBy result world.new interval.old interval.new }
     ensures goes { GoesOn result world.old interval.old world.new interval.new }
@@ -48,7 +48,7 @@ pub(crate) fn go_on(world: &mut World, interval: &mut Interval) -> Result<bool, 
 fn is_armed(world: &mut World, interval: &Interval) -> bool
     requires legal { Legal world.old.settings world.old.history }
     requires lone { world.old.next ≡ 1 }
-    requires kept { IsKept world.old.settings world.old.history interval.now }
+    requires kept { IsIntervalOf world.old.settings world.old.history interval.now }
     ensures still { Still world.old world.new }
     ensures legal { Legal world.new.settings world.new.history }
     ensures reads { ReadsLast interval.now result world.old world.new }
@@ -76,7 +76,7 @@ fn lives(world: &mut World, process: u32) -> bool
 fn start_next(world: &mut World, interval: &mut Interval, deadline: u64) -> Result<bool, NoMemory>
     requires legal { Legal world.old.settings world.old.history }
     requires lone { world.old.next ≡ 1 }
-    requires kept { IsKept world.old.settings world.old.history interval.old }
+    requires kept { IsIntervalOf world.old.settings world.old.history interval.old }
     requires is_open { IsOpen interval.old.state }
     requires unarmed { (state world.old.settings world.old.history).status interval.old.last ≢ Some Armed }
     requires lives { (state world.old.settings world.old.history).exited interval.old.dest ≡ false }
@@ -84,7 +84,7 @@ fn start_next(world: &mut World, interval: &mut Interval, deadline: u64) -> Resu
     requires high { deadline ≤ 8796093022207 }
     ensures still { Still world.old world.new }
     ensures legal { Legal world.new.settings world.new.history }
-    ensures kept { IsKept world.new.settings world.new.history interval.new }
+    ensures kept { IsIntervalOf world.new.settings world.new.history interval.new }
     ensures timer { IsNewOrSame (state world.old.settings world.old.history) interval.old interval.new }
     ensures passed { PassedBy result world.new interval.old interval.new }
     ensures starts { StartsNext result world.old interval.old world.new interval.new }
@@ -108,9 +108,9 @@ fn start_next(world: &mut World, interval: &mut Interval, deadline: u64) -> Resu
 pub(crate) fn stop(world: &mut World, interval: &mut Interval) -> Option<u64>
     requires legal { Legal world.old.settings world.old.history }
     requires lone { world.old.next ≡ 1 }
-    requires kept { IsKept world.old.settings world.old.history interval.old }
+    requires kept { IsIntervalOf world.old.settings world.old.history interval.old }
     ensures legal { Legal world.new.settings world.new.history }
-    ensures kept { IsKept world.new.settings world.new.history interval.new }
+    ensures kept { IsIntervalOf world.new.settings world.new.history interval.new }
     ensures stops { StopsOne world.old interval.old result world.new interval.new }
     ensures last { interval.new.last ≡ interval.old.last }
     ensures spared { Spares interval.old.last world.old world.new }

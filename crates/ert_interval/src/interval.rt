@@ -1,6 +1,6 @@
 //! One interval, and its fixed deadlines.
 ghost use Rattle.std.specs.Prelude.{◌≡◌, ◌+◌, ◌≤◌, ◌↔◌, IsTrue};
-ghost use Rattle.ert_interval.specs.Deadlines.{NextIs, start_at, time_of};
+ghost use Rattle.ert_interval.specs.Deadlines.{NextIs, start_at, time_of_deadline};
 ghost use Rattle.ert_defs.specs.Settings.{IsStart};
 
 use ert_defs::milliseconds::{LAST_DEADLINE, NANOSECONDS_PER_MILLISECOND};
@@ -67,7 +67,7 @@ pub(crate) fn next_deadline(deadline: u64, period: u64) -> Option<u64>
 fn time_of(deadline: u64, settings: &Settings) -> i64
     requires start { IsStart settings.now.start }
     requires high { deadline ≤ 8796093022207 }
-    ensures { result ≡ time_of settings.now deadline }
+    ensures { result ≡ time_of_deadline settings.now deadline }
 {
     deadline as i64 + settings.start.div_euclid(NANOSECONDS_PER_MILLISECOND)
 }
@@ -88,7 +88,7 @@ pub(crate) fn start_at(time: i64, dest: u32, msg: u64) -> Start
 pub(crate) fn start_for(deadline: u64, settings: &Settings, dest: u32, msg: u64) -> Start
     requires start { IsStart settings.now.start }
     requires high { deadline ≤ 8796093022207 }
-    ensures { result ≡ start_at (time_of settings.now deadline) dest msg }
+    ensures { result ≡ start_at (time_of_deadline settings.now deadline) dest msg }
 {
     start_at(time_of(deadline, settings), dest, msg)
 }

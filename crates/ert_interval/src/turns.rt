@@ -16,10 +16,10 @@ pub struct IntervalTurn {
 impl IntervalWorld {
     ghost use Rattle.std.specs.Prelude.{◌≡◌, ◌<◌, length};
     ghost use Rattle.ert_effects.specs.Chains.{Turns};
-    ghost use Rattle.ert_interval.specs.Calls.{Still, PassesBy, PassesOne, Counts};
-    ghost use Rattle.ert_interval.specs.Going.{Stays, StepsAll, StepsOne};
+    ghost use Rattle.ert_interval.specs.Calls.{Still, PassesBy, PassesOne, CountsTimers};
+    ghost use Rattle.ert_interval.specs.Going.{KeepsSeats, StepsAll, StepsOne};
     ghost use Rattle.ert_interval.specs.Intervals.{AreKept};
-    ghost use Rattle.ert_interval.specs.Turns.{TurnsBy};
+    ghost use Rattle.ert_interval.specs.Turns.{TurnsIntervals};
     ghost use Rattle.ert_world.specs.Worlds.{Goes};
 
     /// A turn of a scheduler (`World::turn`), and then one step of each interval of its wheel, in order of
@@ -31,7 +31,7 @@ impl IntervalWorld {
         requires kept { AreKept self.old.world self.old.intervals.items }
         requires sched { sched < self.old.world.settings.schedulers }
         ensures kept { AreKept self.new.world self.new.intervals.items }
-        ensures turns { TurnsBy sched result self.old.world self.old.intervals.items self.new.world self.new.intervals.items }
+        ensures turns { TurnsIntervals sched result self.old.world self.old.intervals.items self.new.world self.new.intervals.items }
     {
         let turned = self.turn_world(sched)?;
         let armed = self.go_on_all(sched)?;
@@ -54,7 +54,7 @@ impl IntervalWorld {
         requires kept { AreKept self.old.world self.old.intervals.items }
         ensures kept { AreKept self.new.world self.new.intervals.items }
         ensures still { Still self.old.world self.new.world }
-        ensures stays { Stays self.old.world self.new.world }
+        ensures stays { KeepsSeats self.old.world self.new.world }
         ensures steps { StepsAll sched result self.old.world self.old.intervals.items self.new.world self.new.intervals.items }
         ensures passed { PassesBy result sched self.new.world self.old.intervals.items self.new.intervals.items }
     {
@@ -73,9 +73,9 @@ impl IntervalWorld {
         requires number { number < length self.old.intervals.items }
         ensures kept { AreKept self.new.world self.new.intervals.items }
         ensures still { Still self.old.world self.new.world }
-        ensures stays { Stays self.old.world self.new.world }
+        ensures stays { KeepsSeats self.old.world self.new.world }
         ensures step { StepsOne result sched number self.old.world self.old.intervals.items self.new.world self.new.intervals.items }
-        ensures count { Counts result self.old.intervals.items self.new.intervals.items }
+        ensures count { CountsTimers result self.old.intervals.items self.new.intervals.items }
         ensures one { PassesOne result number sched self.new.world self.old.intervals.items self.new.intervals.items }
     {
         let interval = &mut self.intervals[number];

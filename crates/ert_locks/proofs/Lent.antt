@@ -10,8 +10,8 @@ use Rattle.ert_defs.specs.States.{State, state}
 use Rattle.ert_defs.specs.declared.entry.Actor.{Actor}
 use Rattle.ert_defs.specs.declared.entry.Entry.{Entry}
 use Rattle.ert_defs.specs.declared.settings.Settings.{Settings}
-use Rattle.ert_locks.specs.Names.{IsDesk, IsOf}
-use Rattle.ert_locks.specs.Passes.{Meets}
+use Rattle.ert_locks.specs.Names.{IsDesk, IsPassFor}
+use Rattle.ert_locks.specs.Passes.{PartMeets}
 use Rattle.ert_table.proofs.Holders.{or_left, or_right, same_actor_self}
 use Rattle.ert_table.proofs.Parts.{free_later}
 use Rattle.ert_table.specs.Calls.{IsMade}
@@ -44,18 +44,18 @@ pub holds_self : (a : Actor) → is_held (a ∷ []) a ≡ true
 holds_self a = or_left (same_actor a a) false (same_actor_self a)
 
 -- the new pass holds both actors
-pub has_part : {g : Settings} {part a : Actor} {k v j : View} → Meets g part a k v j → is_held j.actors part ≡ true
+pub has_part : {g : Settings} {part a : Actor} {k v j : View} → PartMeets g part a k v j → is_held j.actors part ≡ true
 has_part {part = part} {a = a} meets = rw meets.actors (or_left (same_actor part part) (is_held (a ∷ []) part) (same_actor_self part))
 
-pub has_user : {g : Settings} {part a : Actor} {k v j : View} → Meets g part a k v j → is_held j.actors a ≡ true
+pub has_user : {g : Settings} {part a : Actor} {k v j : View} → PartMeets g part a k v j → is_held j.actors a ≡ true
 has_user {part = part} {a = a} meets = rw meets.actors (or_right (same_actor part a) (is_held (a ∷ []) a) (holds_self a))
 
 -- the actor has no more entries in the new front than in its own
-user_same : {g : Settings} {part a : Actor} {k v j : View} → Meets g part a k v j → of j.front a ≡ of v.front a
+user_same : {g : Settings} {part a : Actor} {k v j : View} → PartMeets g part a k v j → of j.front a ≡ of v.front a
 user_same {a = a} meets = meets.joined.other_own a (rw meets.user_alone (holds_self a))
 
 -- a call of both stands whole in what the actor's front gains
-lent : {g : Settings} {part a : Actor} {k v j w : View} (allows : Step) → Meets g part a k v j → (made : IsMade g j allows w) → AllHave a made.entries
+lent : {g : Settings} {part a : Actor} {k v j w : View} (allows : Step) → PartMeets g part a k v j → (made : IsMade g j allows w) → AllHave a made.entries
     → Grows (beside g a (part ∷ []) allows) v.front w.front
 lent {g} {part} {a} {k} {v} {j} {w} allows meets made have =
     let longer : Begins v.front j.front = meets.joined.other_begins in
@@ -77,7 +77,7 @@ lent {g} {part} {a} {k} {v} {j} {w} allows meets made have =
 
 -- so does a call at the desk by a part with a number, whose front the actor's pass then has
 pub lent_out : {g t : Settings} {a : Actor} {m n : ℕ} {k v j w : View} {h : List Entry} (sort : ℕ → Actor) (allows : Settings → ℕ → Step) → t ≡ g → m ≡ n
-    → Meets g (sort m) a k v j → IsMade t j (allows t m) w → ((s : State) (es : List Entry) → allows g m s es → AllHave a es) → h ≡ w.front
+    → PartMeets g (sort m) a k v j → IsMade t j (allows t m) w → ((s : State) (es : List Entry) → allows g m s es → AllHave a es) → h ≡ w.front
     → Grows (beside g a (sort n ∷ []) (allows g n)) v.front h
 lent_out {g} {t} {a} {m} {n} {k} {v} {j} {w} {h} sort allows is at meets made have front =
     let made_g : IsMade g j (allows g m) w = subst (λ t. IsMade t j (allows t m) w) is made in
@@ -107,7 +107,7 @@ steps_alone g a v allows w actors made =
     }
 
 -- a pass of the named desk with one actor
-pub is_of : (table : TableId) (g : Settings) (a : Actor) (d : Desk) (p : Pass) → IsDesk table g d → Belongs d p → actors_of p ≡ a ∷ [] → IsOf table g a p
+pub is_of : (table : TableId) (g : Settings) (a : Actor) (d : Desk) (p : Pass) → IsDesk table g d → Belongs d p → actors_of p ≡ a ∷ [] → IsPassFor table g a p
 is_of table g a d p desk belongs actors = record {
   table_is = belongs.table ∙ desk.table_is;
   named = belongs.named ∙ ap (λ s. Some s) desk.settings_is;

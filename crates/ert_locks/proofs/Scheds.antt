@@ -22,9 +22,9 @@ use Rattle.ert_defs.specs.declared.settings.Settings.{Settings}
 use Rattle.ert_laws.proofs.RowRanges.{first_placed}
 use Rattle.ert_locks.proofs.Lent.{is_of}
 use Rattle.ert_locks.specs.Hands.{hand_left, rows_left, counted}
-use Rattle.ert_locks.specs.Kinds.{Fits, scheds}
+use Rattle.ert_locks.specs.Kinds.{PartFits, scheds}
 use Rattle.ert_locks.specs.Names.{IsDesk}
-use Rattle.ert_locks.specs.Passes.{Meets}
+use Rattle.ert_locks.specs.Passes.{PartMeets}
 use Rattle.ert_mail.specs.Mailboxes.{handed, answered}
 use Rattle.ert_world.proofs.Advances.{advance_hand, advance_still, advance_fits, difference}
 use Rattle.ert_world.proofs.SchedCalls.{sched_stands}
@@ -42,7 +42,7 @@ use Rattle.ert_defs.specs.declared.settings.TheConstants.{MOST_SLOTS}
 -- after a step the part and its pass make a seat again, where the part has what the history has
 pub seat_after : {table : TableId} {g : Settings} {x : SchedPart} {p : Pass} {h : List Entry} (d : Desk) (after : SchedState) → IsDesk table g d → Belongs d p
     → actors_of p ≡ Sched x.wheel ∷ [] → front_of p ≡ h → x.wheel < g.schedulers → (state (settings_of d) h).scheds x.wheel ≡ after
-    → x.hand ≡ after.hand → x.fired.rows ≡ after.fired → Fits table g scheds x p
+    → x.hand ≡ after.hand → x.fired.rows ≡ after.fired → PartFits table g scheds x p
 seat_after {table} {g} {x} {p} {h} d after desk belongs actors front low made hand fired =
     record {
       sits = is_of table g (Sched x.wheel) d p desk belongs actors;
@@ -94,7 +94,7 @@ advanced g n m (Err e) p x j u high held has is now was = record {
 }
 
 -- a process that has exited stays so
-pub exited_in : {g t : Settings} {part a : Actor} {k v j : View} (process : ℕ) → t ≡ g → Meets g part a k v j → (state g v.front).exited process ≡ true
+pub exited_in : {g t : Settings} {part a : Actor} {k v j : View} (process : ℕ) → t ≡ g → PartMeets g part a k v j → (state g v.front).exited process ≡ true
     → (state t j.front).exited process ≡ true
 exited_in {g} {t} {part} {a} {k} {v} {j} process is meets exited =
     let on : state g j.front ≡ run g (state g v.front) meets.joined.other_begins.later =

@@ -10,7 +10,7 @@ use Rattle.ert_defs.specs.declared.entry.Actor.TheVariants.{Keeper, Wheel, Inbox
 use Rattle.ert_defs.specs.declared.entry.Entry.{Entry}
 use Rattle.ert_defs.specs.declared.settings.Settings.{Settings}
 use Rattle.ert_mail.specs.Inboxes.{Waiting, Stands as InboxStands}
-use Rattle.ert_locks.specs.Names.{IsOf}
+use Rattle.ert_locks.specs.Names.{IsPassFor}
 use Rattle.ert_mail.specs.Mailboxes.{Mailbox, Stands as MailStands}
 use Rattle.ert_world.specs.Parts.{SchedStands}
 use Rattle.ert_world.specs.declared.sched_part.SchedPart.{SchedPart}
@@ -54,6 +54,6 @@ pub record IsKind {X : Type 0} (k : Kind X) : Type 0 where
   pub apart : (g : Settings) (m n : ℕ) → m < k.count g → n < k.count g → nat_eq m n ≡ false → same_actor (k.actor m) (k.actor n) ≡ false
 
 -- a part stands for the front of a pass of the named desk that has its actor alone
-pub record Fits {X : Type 0} (table : TableId) (g : Settings) (k : Kind X) (part : X) (p : Pass) : Type 0 where
-  pub sits : IsOf table g (k.actor (k.number part)) p
+pub record PartFits {X : Type 0} (table : TableId) (g : Settings) (k : Kind X) (part : X) (p : Pass) : Type 0 where
+  pub sits : IsPassFor table g (k.actor (k.number part)) p
   pub stands : k.stands g (front_of p) part

@@ -18,7 +18,7 @@ pub record IsDesk (table : TableId) (g : Settings) (d : Desk) : Type 0 where
   pub settings_is : settings_of d ≡ g
 
 -- a pass of the named desk with one actor
-pub record IsOf (table : TableId) (g : Settings) (a : Actor) (p : Pass) : Type 0 where
+pub record IsPassFor (table : TableId) (g : Settings) (a : Actor) (p : Pass) : Type 0 where
   pub table_is : p.seat.table_id ≡ table
   pub named : p.seat.me.0.settings ≡ Some g
   pub actors : p.seat.me.0.actors ≡ a ∷ []

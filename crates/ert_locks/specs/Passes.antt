@@ -19,7 +19,7 @@ abbrev pub StepsWith : Settings → Actor → Actor → Step → Pass → Pass �
 StepsWith g a part allows p q = FrontGrows (beside g a (part ∷ []) allows) p q
 
 -- the pass of a part, which knew k, has met that of an actor, which knew v, and knows j
-pub record Meets (g : Settings) (part a : Actor) (k v j : View) : Type 0 where
+pub record PartMeets (g : Settings) (part a : Actor) (k v j : View) : Type 0 where
   pub part_alone : k.actors ≡ part ∷ []
   pub user_alone : v.actors ≡ a ∷ []
   pub actors : j.actors ≡ part ∷ (a ∷ [])

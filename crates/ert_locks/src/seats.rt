@@ -1,8 +1,8 @@
 //! What a thread holds: the seat of a caller or of a scheduler.
 ghost use Rattle.std.specs.Prelude.{◌≡◌, ◌<◌};
 ghost use Rattle.ert_defs.specs.declared.entry.Actor.TheVariants.{Caller};
-ghost use Rattle.ert_locks.specs.Kinds.{Fits, scheds};
-ghost use Rattle.ert_locks.specs.Names.{IsOf};
+ghost use Rattle.ert_locks.specs.Kinds.{PartFits, scheds};
+ghost use Rattle.ert_locks.specs.Names.{IsPassFor};
 
 use crate::names::DeskName;
 use ert_table::Pass;
@@ -16,7 +16,7 @@ pub struct CallerSeat<L: DeskName> {
     pub number: u32,
     pub pass: Pass,
     pub of: PhantomData<L>,
-    pub ghost sits: { IsOf L.table L.settings (Caller number) pass },
+    pub ghost sits: { IsPassFor L.table L.settings (Caller number) pass },
     pub ghost below: { number < L.settings.callers },
 }
 
@@ -27,13 +27,13 @@ pub struct SchedSeat<L: DeskName> {
     pub part: SchedPart,
     pub pass: Pass,
     pub of: PhantomData<L>,
-    pub ghost fits: { Fits L.table L.settings scheds part pass },
+    pub ghost fits: { PartFits L.table L.settings scheds part pass },
 }
 
 impl<L: DeskName> CallerSeat<L> {
     /// The seat of the caller with this number, which the pass has alone.
     pub fn new(number: u32, pass: Pass) -> CallerSeat<L>
-        requires sits { IsOf L.table L.settings (Caller number) pass }
+        requires sits { IsPassFor L.table L.settings (Caller number) pass }
         requires below { number < L.settings.callers }
         ensures number { result.number ≡ number }
         ensures pass { result.pass ≡ pass }
@@ -49,7 +49,7 @@ impl<L: DeskName> CallerSeat<L> {
 impl<L: DeskName> SchedSeat<L> {
     /// The seat of the scheduler with this part, which stands for the front of the pass.
     pub fn new(part: SchedPart, pass: Pass) -> SchedSeat<L>
-        requires fits { Fits L.table L.settings scheds part pass }
+        requires fits { PartFits L.table L.settings scheds part pass }
         ensures part { result.part ≡ part }
         ensures pass { result.pass ≡ pass }
     {

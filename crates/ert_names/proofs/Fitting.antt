@@ -39,7 +39,7 @@ use Rattle.ert_defs.specs.declared.timer.Kind.TheVariants.{Wrapped}
 use Rattle.ert_defs.specs.declared.timer.Start.{Start}
 use Rattle.ert_defs.specs.declared.timer.Status.{Status}
 use Rattle.ert_defs.specs.declared.timer.TimerRef.{TimerRef}
-use Rattle.ert_names.specs.Fits.{Fits, AllFit, FitsRows}
+use Rattle.ert_names.specs.Fits.{EventFits, AllFit, FitsRows}
 use Rattle.ert_world.specs.Worlds.{Seen, Goes, By}
 
 pub fit_as : (n q : ℕ) (es fs : List Entry) → es ≡ fs → AllFit n q fs → AllFit n q es
@@ -50,7 +50,7 @@ fit_append n q [] fs one other = other
 fit_append n q (e ∷ es) fs one other = (one.0, fit_append n q es fs one.1 other)
 
 -- more rows
-event_more : (n m q : ℕ) (event : Event) → n ≤ m → Fits n q event → Fits m q event
+event_more : (n m q : ℕ) (event : Event) → n ≤ m → EventFits n q event → EventFits m q event
 event_more n m q (Arm timer start) more fits = λ dest. (let is = fits dest in (is.0, (let low = is.1 in omega (arith, low, more))))
 event_more n m q (Mark process exits was) more fits = fits
 event_more n m q (Ask wheel request) more fits = fits
@@ -122,7 +122,7 @@ cancels_fit n q g by timer answer s es cancels =
 probes_fit : (n q : ℕ) (by : Actor) (wheel : ℕ) (es : List Entry) → AreProbes by wheel es → AllFit n q es
 probes_fit n q by wheel [] are = tt
 probes_fit n q by wheel (e ∷ es) are =
-    (subst (λ (e : Entry). Fits n q e.event) (sym are.2) tt, probes_fit n q by wheel es are.3)
+    (subst (λ (e : Entry). EventFits n q e.event) (sym are.2) tt, probes_fit n q by wheel es are.3)
 
 closes_fit : (n q : ℕ) (was : Bool) (by : ℕ) (timer : TimerRef) (es : List Entry) → Closes was by timer es → AllFit n q es
 closes_fit n q false by timer es closes = fit_as n q es [] closes tt
@@ -159,7 +159,7 @@ orphans_fit : (n q by w : ℕ) (tries : List Try) → AllFit n q (orphan_entries
 orphans_fit n q by w [] = tt
 orphans_fit n q by w (t ∷ tries) = (one t.timer t.missed, orphans_fit n q by w tries)
   where
-    one : (timer : TimerRef) (missed : Option (Option Status)) → Fits n q (orphans_by by w timer missed).event
+    one : (timer : TimerRef) (missed : Option (Option Status)) → EventFits n q (orphans_by by w timer missed).event
     one timer None = tt
     one timer (Some found) = tt
 
@@ -224,7 +224,7 @@ expiries_fit : (n q w : ℕ) (tries : List Try) (es : List Entry) → AllFit n q
 expiries_fit n q w [] es fit = fit
 expiries_fit n q w (t ∷ tries) es fit = (one t.timer t.missed, expiries_fit n q w tries es fit)
   where
-    one : (timer : TimerRef) (missed : Option (Option Status)) → Fits n q (expires_by w timer missed).event
+    one : (timer : TimerRef) (missed : Option (Option Status)) → EventFits n q (expires_by w timer missed).event
     one timer None = tt
     one timer (Some found) = tt
 

@@ -16,17 +16,17 @@ use Rattle.ert_defs.specs.declared.memory.NoMemory.{NoMemory}
 use Rattle.ert_defs.specs.declared.settings.Settings.{Settings}
 use Rattle.ert_defs.specs.declared.timer.When.{When}
 use Rattle.ert_defs.specs.declared.timer.TimerRef.{TimerRef}
-use Rattle.ert_names.specs.Calls.{HandsOver, AreCounted, Message, TakesFirst, TakesMany, FindsNone, GoesAlone, HasTurned, HasStopped, StartsAt, StartsNamed, posted, posted_by, row_at, mail_of, ArePast, first_for, others_for}
-use Rattle.ert_names.specs.Handing.{waiting, HasNext, HandsOne, HandsNone, HandsThem, HandsSome}
+use Rattle.ert_names.specs.Calls.{HandsMessagesOver, AreCounted, Message, TakesFirst, TakesMany, FindsNoMessage, GoesAlone, HasTurnedAndHanded, HasTurnedInPart, StartsAt, StartsNamed, posted, posted_by, row_at_place, named_mail_of, ArePast, first_for, others_for}
+use Rattle.ert_names.specs.Handing.{waiting, HasTakenFirst, HandsOne, HandsNone, HandsThem, HandsSome}
 use Rattle.ert_names.specs.Names.{Names}
-use Rattle.ert_names.specs.Registered.{Registered, Row, row_of}
+use Rattle.ert_names.specs.Registered.{Registered, RowSeen, row_seen}
 use Rattle.ert_names.specs.declared.named.NamedMail.{NamedMail}
 use Rattle.ert_names.specs.declared.named.NamedRow.{NamedRow}
 use Rattle.ert_world.proofs.Composed.{goes_then, goes_more, goes_nothing}
 use Rattle.ert_world.specs.Worlds.{Goes}
 
 -- the row at a place
-row_found : (items : List NamedRow) (place : ℕ) (d : NamedRow) → place < length items → row_at (map row_of items) place ≡ Some (row_of (slice_index_or items place d))
+row_found : (items : List NamedRow) (place : ℕ) (d : NamedRow) → place < length items → row_at_place (map row_seen items) place ≡ Some (row_seen (slice_index_or items place d))
 row_found [] place d low = absurd (omega (arith, low))
 row_found (r ∷ items) zero d low = refl
 row_found (r ∷ items) (suc place) d low = row_found items place d (omega (arith, low))
@@ -34,17 +34,17 @@ row_found (r ∷ items) (suc place) d low = row_found items place d (omega (arit
 -- where the message of a row goes
 pub posted_row : (names : Names) (items : List NamedRow) (timer : TimerRef) (place : ℕ) (r : NamedRow) (text : List ℕ) (found : Option ℕ)
     → place < length items → r ≡ slice_index_or items place r → text ≡ string_bytes r.name → found ≡ finite.get names text
-    → posted names (map row_of items) (timer, place) ≡ option_map (λ process. (process, mail_of timer (row_of r))) found
+    → posted names (map row_seen items) (timer, place) ≡ option_map (λ process. (process, named_mail_of timer (row_seen r))) found
 posted_row names items timer place r text found low is text_is found_is =
-    ap (posted_by names timer) (row_found items place r low ∙ ap (λ x. Some (row_of x)) (sym is))
-    ∙ (ap (λ t. option_map (λ process. (process, mail_of timer (row_of r))) (finite.get names t)) (sym text_is)
-    ∙ ap (option_map (λ process. (process, mail_of timer (row_of r)))) (sym found_is))
+    ap (posted_by names timer) (row_found items place r low ∙ ap (λ x. Some (row_seen x)) (sym is))
+    ∙ (ap (λ t. option_map (λ process. (process, named_mail_of timer (row_seen r))) (finite.get names t)) (sym text_is)
+    ∙ ap (option_map (λ process. (process, named_mail_of timer (row_seen r)))) (sym found_is))
 
 suc_is : (n : ℕ) → suc n ≡ n + 1
 suc_is n = omega arith
 
 -- one message goes to a process, or to none
-pub hands_one : (a b : Registered) (n : ℕ) (m : Message) (mail : Option (ℕ × NamedMail)) → n ≡ length a.rows → HasNext n a.world m b.world → b.names ≡ a.names
+pub hands_one : (a b : Registered) (n : ℕ) (m : Message) (mail : Option (ℕ × NamedMail)) → n ≡ length a.rows → HasTakenFirst n a.world m b.world → b.names ≡ a.names
     → b.rows ≡ a.rows → posted a.names a.rows m ≡ mail → b.mail ≡ a.mail ++ cons_option mail [] → HandsOne a (is_some mail) b
 hands_one a b n m mail rows next names_same rows_same goes_to put = record {
   message = m;
@@ -55,8 +55,8 @@ hands_one a b n m mail rows next names_same rows_same goes_to put = record {
 }
 
 -- one more than some
-pub hands_more : (a b c : Registered) (messages : List Message) (m : Message) → HandsOver a messages (TakesMany a.world.settings messages) b
-    → HandsOver b (m ∷ []) (TakesFirst b.world.settings m) c → HandsOver a (messages ++ m ∷ []) (TakesMany a.world.settings (messages ++ m ∷ [])) c
+pub hands_more : (a b c : Registered) (messages : List Message) (m : Message) → HandsMessagesOver a messages (TakesMany a.world.settings messages) b
+    → HandsMessagesOver b (m ∷ []) (TakesFirst b.world.settings m) c → HandsMessagesOver a (messages ++ m ∷ []) (TakesMany a.world.settings (messages ++ m ∷ [])) c
 hands_more a b c messages m some one = record {
   goes = record {
     goes = goes_more a.world b.world c.world (λ g way message. TakesFirst g message way) messages m some.goes.goes one.goes.goes;
@@ -72,7 +72,7 @@ hands_more a b c messages m some one = record {
       ∙ ap (λ l. a.mail ++ l) (sym (filter_map-append (posted a.names a.rows) messages (m ∷ [])))))));
 }
 
-pub hands_none : (a : Registered) → a.world.next ≡ 1 → Legal a.world.settings a.world.history → HandsOver a [] (TakesMany a.world.settings []) a
+pub hands_none : (a : Registered) → a.world.next ≡ 1 → Legal a.world.settings a.world.history → HandsMessagesOver a [] (TakesMany a.world.settings []) a
 hands_none a lone legal = record {
   goes = record { goes = goes_nothing a.world (TakesMany a.world.settings []) legal refl; lone = lone };
   names = refl;
@@ -83,7 +83,7 @@ hands_none a lone legal = record {
 pub counted_none : (a : Registered) → AreCounted a [] 0 0
 counted_none a = record { handed_is = refl; taken_are = refl; known = All-nil (λ (message : Message). message.1 < length a.rows) }
 
-posted_more : (names : Names) (rows : List Row) (messages : List Message) (m : Message)
+posted_more : (names : Names) (rows : List RowSeen) (messages : List Message) (m : Message)
     → length (filter_map (posted names rows) (messages ++ m ∷ [])) ≡ length (filter_map (posted names rows) messages) + cond (is_some (posted names rows m)) 1 0
 posted_more names rows messages m =
     ap length (filter_map-append (posted names rows) messages (m ∷ [])) ∙ at (posted names rows m) refl
@@ -112,13 +112,13 @@ counted_more a messages m handed lost b counted is known = record {
     sum false = let is = counted.taken_are in omega (arith, is)
 
 -- all are handed over
-pub hands_all : (a b c : Registered) (messages : List Message) (handed lost : ℕ) → HandsOver a messages (TakesMany a.world.settings messages) b
+pub hands_all : (a b c : Registered) (messages : List Message) (handed lost : ℕ) → HandsMessagesOver a messages (TakesMany a.world.settings messages) b
     → AreCounted a messages handed lost → HandsNone b c → HandsThem a (handed, lost) c
 hands_all a b c messages handed lost some counted none = record {
   messages = messages;
   hands = record {
     goes = record {
-      goes = goes_then a.world b.world c.world (TakesMany a.world.settings messages) FindsNone some.goes.goes none.alone.goes.goes;
+      goes = goes_then a.world b.world c.world (TakesMany a.world.settings messages) FindsNoMessage some.goes.goes none.alone.goes.goes;
       lone = some.goes.lone;
     };
     names = none.alone.names ∙ some.names;
@@ -159,7 +159,7 @@ none_others process zero (m ∷ ms) past all = absurd (omega (arith, all))
 none_others process (suc k) (m ∷ ms) past all = rw past.0 (ap (λ l. m ∷ l) (none_others process k ms past.1 (omega (arith, all))))
 
 -- a start that the world refuses, and not for want of memory
-pub refused_named : (a b : Registered) (wheel : ℕ) (when : When) (row : Row) (e : StartErr)
+pub refused_named : (a b : Registered) (wheel : ℕ) (when : When) (row : RowSeen) (e : StartErr)
     → ◌≢◌ {A = Result TimerRef StartErr} (Err e) (Err starts.NoMemory)
     → GoesAlone a (StartsAt a wheel when (Err e)) b → StartsNamed a wheel when row (Err e) b
 refused_named a b wheel when row starts.BadArg other goes = goes
@@ -170,8 +170,8 @@ refused_named a b wheel when row starts.NoMemory other goes = absurd (other refl
 pub place_of : (len : ℕ) (rows items : List NamedRow) → len ≡ length rows → rows ≡ items → len ≡ length items
 place_of len rows items is same = is ∙ ap length same
 
-pub place_is : (len : ℕ) (rows items : List NamedRow) → len ≡ length rows → rows ≡ items → len ≡ length (map row_of items)
-place_is len rows items is same = place_of len rows items is same ∙ sym (length-map items row_of)
+pub place_is : (len : ℕ) (rows items : List NamedRow) → len ≡ length rows → rows ≡ items → len ≡ length (map row_seen items)
+place_is len rows items is same = place_of len rows items is same ∙ sym (length-map items row_seen)
 
 pub longer_by : (rows items : List NamedRow) (r : NamedRow) → rows ≡ items ++ r ∷ [] → length rows ≡ length items + 1
 longer_by rows items r is = ap length is ∙ length_push items r
@@ -193,7 +193,7 @@ counted_in : (a b : Registered) (messages : List Message) (m : Message) (handed 
 counted_in a b messages m handed lost x counted names rows is known =
     counted_more a messages m handed lost x counted
     (is ∙ (ap (λ n. is_some (posted n b.rows m)) names ∙ ap (λ r. is_some (posted a.names r m)) rows))
-    (subst (λ (r : List Row). m.1 < length r) rows known)
+    (subst (λ (r : List RowSeen). m.1 < length r) rows known)
 
 none_more : (n : ℕ) → n + 0 ≡ n
 none_more n = omega arith
@@ -213,8 +213,8 @@ counted_false a b messages m handed lost counted names rows is known =
 -- messages that are handed over after a turn of the scheduler
 hands_after : (a b c : Registered) (sched : ℕ) (t : Turned) (answer : Result Turned NoMemory) (messages : List Message) (call : Settings → Way → Growth)
     → answer ≡ Ok t → Goes a.world (λ way. Turns a.world.settings way sched answer) b.world → a.world.next ≡ 1 → b.names ≡ a.names → b.rows ≡ a.rows
-    → b.mail ≡ a.mail → HandsOver b messages (call b.world.settings) c
-    → HandsOver a messages (λ way. Then (Turns a.world.settings way sched (Ok t)) (call a.world.settings way)) c
+    → b.mail ≡ a.mail → HandsMessagesOver b messages (call b.world.settings) c
+    → HandsMessagesOver a messages (λ way. Then (Turns a.world.settings way sched (Ok t)) (call a.world.settings way)) c
 hands_after a b c sched t answer messages call is goes lone names rows mail hands = record {
   goes = record {
     goes = goes_then a.world b.world c.world (λ way. Turns a.world.settings way sched (Ok t)) call
@@ -230,22 +230,22 @@ hands_after a b c sched t answer messages call is goes lone names rows mail hand
 
 pub turned : (a b c : Registered) (sched : ℕ) (t : Turned) (turn : Result Turned NoMemory) (answer : ℕ × ℕ) → turn ≡ Ok t
     → Goes a.world (λ way. Turns a.world.settings way sched turn) b.world → a.world.next ≡ 1 → b.names ≡ a.names → b.rows ≡ a.rows → b.mail ≡ a.mail
-    → HandsThem b answer c → HasTurned a sched (record { turned = t; handed = answer.0; lost = answer.1 }) c
+    → HandsThem b answer c → HasTurnedAndHanded a sched (record { turned = t; handed = answer.0; lost = answer.1 }) c
 turned a b c sched t turn answer is goes lone names rows mail hands = record {
   messages = hands.messages;
-  hands = hands_after a b c sched t turn hands.messages (λ g way. Then (TakesMany g hands.messages way) (FindsNone g way)) is goes lone names rows mail hands.hands;
+  hands = hands_after a b c sched t turn hands.messages (λ g way. Then (TakesMany g hands.messages way) (FindsNoMessage g way)) is goes lone names rows mail hands.hands;
   counted = record {
     handed_is = hands.counted.handed_is
         ∙ (ap (λ n. length (filter_map (posted n b.rows) hands.messages)) names ∙ ap (λ r. length (filter_map (posted a.names r) hands.messages)) rows);
     taken_are = hands.counted.taken_are;
-    known = subst (λ (r : List Row). All (λ (message : Message). message.1 < length r) hands.messages) rows hands.counted.known;
+    known = subst (λ (r : List RowSeen). All (λ (message : Message). message.1 < length r) hands.messages) rows hands.counted.known;
   };
   empty = hands.empty;
 }
 
 pub stopped : (a b c : Registered) (sched : ℕ) (t : Turned) (turn : Result Turned NoMemory) → turn ≡ Ok t
     → Goes a.world (λ way. Turns a.world.settings way sched turn) b.world → a.world.next ≡ 1 → b.names ≡ a.names → b.rows ≡ a.rows → b.mail ≡ a.mail
-    → HandsSome b c → HasStopped a sched c
+    → HandsSome b c → HasTurnedInPart a sched c
 stopped a b c sched t turn is goes lone names rows mail hands = record {
   turned = t;
   messages = hands.messages;

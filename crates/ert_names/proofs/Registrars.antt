@@ -21,7 +21,7 @@ use Rattle.ert_defs.specs.declared.timer.Kind.{Kind}
 use Rattle.ert_defs.specs.declared.timer.Kind.TheVariants.{Wrapped}
 use Rattle.ert_defs.specs.declared.timer.Start.{Start}
 use Rattle.ert_defs.specs.declared.timer.TimerRef.{TimerRef}
-use Rattle.ert_names.specs.Fits.{Fits, AllFit}
+use Rattle.ert_names.specs.Fits.{EventFits, AllFit}
 use Rattle.ert_names.specs.Promised.{IsForName, IsNamed}
 
 -- what a state has whose history fits so many rows
@@ -37,7 +37,7 @@ others_all : {X : Type 0} (P : X → Type 0) (xs : List X) → All P xs → All 
 others_all P [] h = h
 others_all P (x ∷ xs) h = All-tail P x xs h
 
-pub lives_event : (n q : ℕ) (event : Event) (was : Bool) → Fits n q event → was ≡ false → exited_after q was event ≡ false
+pub lives_event : (n q : ℕ) (event : Event) (was : Bool) → EventFits n q event → was ≡ false → exited_after q was event ≡ false
 lives_event n q (Mark process exits seen) was fits lives = rw lives (at (nat_eq process q) refl)
   where
     at : (b : Bool) → nat_eq process q ≡ b → (b && exits) ≡ false
@@ -45,7 +45,7 @@ lives_event n q (Mark process exits seen) was fits lives = rw lives (at (nat_eq 
     at false is = refl
 lives_event n q _ was fits lives = lives
 
-inbox_event : (n : ℕ) (event : Event) (qs : List Request) → Fits n 0 event → qs ≡ [] → inbox_after qs event ≡ []
+inbox_event : (n : ℕ) (event : Event) (qs : List Request) → EventFits n 0 event → qs ≡ [] → inbox_after qs event ≡ []
 inbox_event n (Ask wheel request) qs fits none = absurd fits
 inbox_event n (Pick wheel got) qs fits none = rw none refl
 inbox_event n _ qs fits none = none
@@ -63,7 +63,7 @@ rows_armed n rows timer start (Some d) fits h =
     let row : Row = record { timer = timer; deadline = deadline_told timer.generation d; dest = start.dest; msg = start.msg; kind = start.kind } in
     All-push (IsForName n) rows row h fits
 
-wheel_event : (g : Settings) (n : ℕ) (s : State) (by : Actor) (w : ℕ) (event : Event) (rows : List Row) → Fits n 0 event → All (IsForName n) rows
+wheel_event : (g : Settings) (n : ℕ) (s : State) (by : Actor) (w : ℕ) (event : Event) (rows : List Row) → EventFits n 0 event → All (IsForName n) rows
     → All (IsForName n) (rows_after g (s.looked by) w rows event)
 wheel_event g n s by w (Arm timer start) rows fits h =
     cond_both (nat_eq timer.wheel w) (rows ++ row_from timer start (deadline_of g start (s.looked by))) rows (All (IsForName n))
@@ -105,7 +105,7 @@ goes_to by with event wheel dest sched mail has =
     eqb-true dest 0 in_all
 
 queue_event : (g : Settings) (n : ℕ) (s : State) (by : Actor) (with : Option Actor) (event : Event) (x : MailState) → IsKept n s → Keeps g by with event
-    → Known g s by with event → Fits n 0 event → has_actor (record { by = by; with = with; event = event }) (MailOf 0) ≡ true
+    → Known g s by with event → EventFits n 0 event → has_actor (record { by = by; with = with; event = event }) (MailOf 0) ≡ true
     → All (IsNamed n) x.queue → All (IsNamed n) (mail_after s.scheds x event).queue
 queue_event g n s by with (Deliver timer) x kept keeps known fits has h =
     All-append (IsNamed n) x.queue (message_in (s.scheds timer.wheel).fired) h
@@ -117,7 +117,7 @@ queue_event g n s by with (Take process got) x kept keeps known fits has h = oth
 queue_event g n s by with (Tell process offset) x kept keeps known fits has h = absurd fits
 queue_event g n s by with _ x kept keeps known fits has h = h
 
-pub kept_next : (g : Settings) (n : ℕ) (s : State) (e : Entry) → IsKept n s → Can g s e → Fits n 0 e.event → IsKept n (next g s e)
+pub kept_next : (g : Settings) (n : ℕ) (s : State) (e : Entry) → IsKept n s → Can g s e → EventFits n 0 e.event → IsKept n (next g s e)
 kept_next g n s e kept can fits = record {
   lives = lives_event n 0 e.event (s.exited 0) fits kept.lives;
   inboxes = λ w. cond_both (has_actor e (Inbox w)) (inbox_after (s.inboxes w) e.event) (s.inboxes w) (λ qs. qs ≡ [])

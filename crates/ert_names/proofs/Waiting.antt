@@ -15,7 +15,7 @@ use Rattle.ert_defs.specs.declared.entry.Event.TheVariants.{Deliver, Answer, Tak
 use Rattle.ert_defs.specs.declared.settings.Settings.{Settings}
 use Rattle.ert_laws.specs.Counts.{delivers_to, deliveries}
 use Rattle.ert_names.proofs.Registrars.{IsKept, kept_next, kept_opening}
-use Rattle.ert_names.specs.Fits.{Fits, AllFit, FitsRows}
+use Rattle.ert_names.specs.Fits.{EventFits, AllFit, FitsRows}
 use Rattle.ert_names.specs.Handing.{waiting}
 use Rattle.ert_world.proofs.Totals.{delivered_few}
 use Rattle.ert_world.specs.Worlds.{Seen, StandsFor}
@@ -43,7 +43,7 @@ counts_one by with timer wheel sched has =
     rw in_with refl
 
 queue_grows : (g : Settings) (n : ℕ) (s : State) (by : Actor) (with : Option Actor) (event : Event) (x : MailState) → IsKept n s → Keeps g by with event
-    → Fits n 0 event → has_actor (record { by = by; with = with; event = event }) (MailOf 0) ≡ true
+    → EventFits n 0 event → has_actor (record { by = by; with = with; event = event }) (MailOf 0) ≡ true
     → length (mail_after s.scheds x event).queue ≤ length x.queue + counts 0 (record { by = by; with = with; event = event })
 queue_grows g n s by with (Deliver timer) x kept keeps fits has =
     let one = message_one (s.scheds timer.wheel).fired in
@@ -56,7 +56,7 @@ queue_grows g n s by with (Take process got) x kept keeps fits has =
 queue_grows g n s by with (Tell process offset) x kept keeps fits has = absurd fits
 queue_grows g n s by with _ x kept keeps fits has = same_or (length x.queue) _
 
-next_grows : (g : Settings) (n : ℕ) (s : State) (e : Entry) → IsKept n s → Can g s e → Fits n 0 e.event
+next_grows : (g : Settings) (n : ℕ) (s : State) (e : Entry) → IsKept n s → Can g s e → EventFits n 0 e.event
     → length ((next g s e).mails 0).queue ≤ length (s.mails 0).queue + counts 0 e
 next_grows g n s e kept can fits = at (has_actor e (MailOf 0)) refl
   where

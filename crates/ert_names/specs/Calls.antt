@@ -22,7 +22,7 @@ use Rattle.ert_defs.specs.declared.timer.Start.{Start}
 use Rattle.ert_defs.specs.declared.timer.TimerRef.{TimerRef}
 use Rattle.ert_defs.specs.declared.timer.When.{When}
 use Rattle.ert_names.specs.Names.{Names, IsWithout, Unnamed}
-use Rattle.ert_names.specs.Registered.{Registered, Row}
+use Rattle.ert_names.specs.Registered.{Registered, RowSeen}
 use Rattle.ert_names.specs.declared.named.NameErr.{NameErr}
 use Rattle.ert_names.specs.declared.named.NameErr.TheVariants.{BadArg, NoMemory}
 use Rattle.ert_names.specs.declared.named.NamedMail.{NamedMail}
@@ -44,23 +44,23 @@ pub record GoesAlone (old : Registered) (call : Way → Growth) (new : Registere
   pub mail : new.mail ≡ old.mail
 
 -- the same of a call that may move the clock
-abbrev pub GoesOnClock : Registered → (Way → Growth) → Registered → Type 0
-GoesOnClock old call new =
+abbrev pub GoesAloneOnClock : Registered → (Way → Growth) → Registered → Type 0
+GoesAloneOnClock old call new =
     let world : Seen = record old.world { clock = new.world.clock } in GoesAlone (record old { world = world }) call new
 
 -- it is seen whether a process has exited: `alive` where it hasn't
-abbrev pub LooksAt : Registered → ℕ → Bool → Registered → Type 0
-LooksAt old process alive new = GoesAlone old (By old.world (λ g. TellsAlive g (Caller 0) process alive)) new
+abbrev pub SeesAlive : Registered → ℕ → Bool → Registered → Type 0
+SeesAlive old process alive new = GoesAlone old (By old.world (λ g. TellsAlive g (Caller 0) process alive)) new
 
 -- a text that may be a name: 1 to 255 bytes, and not `undefined`
-pub record IsName (name : List ℕ) : Type 0 where
+pub record IsValidName (name : List ℕ) : Type 0 where
   pub some : 1 ≤ length name
   pub few : length name ≤ 255
   pub defined : name ≢ codes "undefined"
 
 -- a name and a process that may be put together, if the process hasn't exited
 pub record AreFree (names : Names) (name : List ℕ) (process : ℕ) : Type 0 where
-  pub may : IsName name
+  pub may : IsValidName name
   pub unused : map.get names name ≡ None
   pub not_registrar : process ≢ 0
   pub unnamed : Unnamed names process
@@ -77,13 +77,13 @@ pub record HasRegistered (old : Registered) (name : List ℕ) (process : ℕ) (n
 -- to have exited
 abbrev pub IsBadName : Registered → List ℕ → ℕ → Registered → Type 0
 IsBadName old name process new =
-    ((AreFree old.names name process → ⊥) × (new ≡ old)) ⊎ (AreFree old.names name process × LooksAt old process false new)
+    ((AreFree old.names name process → ⊥) × (new ≡ old)) ⊎ (AreFree old.names name process × SeesAlive old process false new)
 
 -- `register`: want of memory comes only where the name could have been given
 abbrev pub Registers : Registered → List ℕ → ℕ → Result (Unit {0}) NameErr → Registered → Type 0
 Registers old name process (Ok _) new = HasRegistered old name process new
 Registers old name process (Err BadArg) new = IsBadName old name process new
-Registers old name process (Err NoMemory) new = AreFree old.names name process × LooksAt old process true new
+Registers old name process (Err NoMemory) new = AreFree old.names name process × SeesAlive old process true new
 
 -- where a process hadn't exited before, its name goes when it exits
 abbrev pub DropsName : Bool → Names → ℕ → Names → Type 0
@@ -91,55 +91,55 @@ DropsName true old process new = IsWithout old process new
 DropsName false old process new = new ≡ old
 
 -- `exit`: the world makes this call, the names change so, and the rows and the named mail stay
-pub record HasExited (old : Registered) (process : ℕ) (answer : Bool) (call : Way → Growth) (new : Registered) : Type 0 where
+pub record ExitDropsName (old : Registered) (process : ℕ) (answer : Bool) (call : Way → Growth) (new : Registered) : Type 0 where
   pub goes : GoesLone old.world call new.world
   pub names : DropsName answer old.names process new.names
   pub rows : new.rows ≡ old.rows
   pub mail : new.mail ≡ old.mail
 
 -- what the world starts for a name: a wrapped timer for the registrar, whose message is the place of its row
-abbrev pub start_at : When → ℕ → Start
-start_at when place = record { when = when; dest = 0; msg = place; kind = Wrapped }
+abbrev pub start_for_name : When → ℕ → Start
+start_for_name when place = record { when = when; dest = 0; msg = place; kind = Wrapped }
 
 -- the world's start of such a timer by caller 0, whose row comes next
 abbrev pub StartsAt : Registered → ℕ → When → Result TimerRef StartErr → Way → Growth
-StartsAt old wheel when answer = By old.world (λ g. Starts g 0 wheel (start_at when (length old.rows)) answer)
+StartsAt old wheel when answer = By old.world (λ g. Starts g 0 wheel (start_for_name when (length old.rows)) answer)
 
 -- a timer was started for a name: its row is the last
-pub record HasStarted (old : Registered) (row : Row) (call : Way → Growth) (new : Registered) : Type 0 where
+pub record HasStartedForName (old : Registered) (row : RowSeen) (call : Way → Growth) (new : Registered) : Type 0 where
   pub goes : GoesLone old.world call new.world
   pub names : new.names ≡ old.names
   pub rows : new.rows ≡ old.rows ++ row ∷ []
   pub mail : new.mail ≡ old.mail
 
 -- `start_named`: a refusal leaves no row, and want of memory changes nothing
-abbrev pub StartsNamed : Registered → ℕ → When → Row → Result TimerRef StartErr → Registered → Type 0
-StartsNamed old wheel when row (Ok timer) new = HasStarted old row (StartsAt old wheel when (Ok timer)) new
+abbrev pub StartsNamed : Registered → ℕ → When → RowSeen → Result TimerRef StartErr → Registered → Type 0
+StartsNamed old wheel when row (Ok timer) new = HasStartedForName old row (StartsAt old wheel when (Ok timer)) new
 StartsNamed old wheel when row (Err starts.NoMemory) new = new ≡ old
 StartsNamed old wheel when row (Err e) new = GoesAlone old (StartsAt old wheel when (Err e)) new
 
 -- the row at a place
-abbrev pub row_at : List Row → ℕ → Option Row
-row_at [] place = None
-row_at (r ∷ rows) zero = Some r
-row_at (r ∷ rows) (suc place) = row_at rows place
+abbrev pub row_at_place : List RowSeen → ℕ → Option RowSeen
+row_at_place [] place = None
+row_at_place (r ∷ rows) zero = Some r
+row_at_place (r ∷ rows) (suc place) = row_at_place rows place
 
 -- the message of a named timer, as the registrar has it: the timer and the place of its row
 abbrev pub Message : Type 0
 Message = TimerRef × ℕ
 
 -- the mail of a row's timer
-abbrev pub mail_of : TimerRef → Row → NamedMail
-mail_of timer row = record { timer = timer; msg = row.msg; kind = row.kind }
+abbrev pub named_mail_of : TimerRef → RowSeen → NamedMail
+named_mail_of timer row = record { timer = timer; msg = row.msg; kind = row.kind }
 
 -- the mail of a timer's row and its process: the one that has the name of the row
-abbrev pub posted_by : Names → TimerRef → Option Row → Option (ℕ × NamedMail)
+abbrev pub posted_by : Names → TimerRef → Option RowSeen → Option (ℕ × NamedMail)
 posted_by names timer None = None
-posted_by names timer (Some row) = option_map (λ process. (process, mail_of timer row)) (map.get names row.name)
+posted_by names timer (Some row) = option_map (λ process. (process, named_mail_of timer row)) (map.get names row.name)
 
 -- the mail of a message of the registrar and its process; None where there is no such row, or no such process
-abbrev pub posted : Names → List Row → Message → Option (ℕ × NamedMail)
-posted names rows message = posted_by names message.0 (row_at rows message.1)
+abbrev pub posted : Names → List RowSeen → Message → Option (ℕ × NamedMail)
+posted names rows message = posted_by names message.0 (row_at_place rows message.1)
 
 -- this message is taken from the registrar, as its first
 abbrev pub TakesFirst : Settings → Message → Way → Growth
@@ -150,11 +150,11 @@ abbrev pub TakesMany : Settings → List Message → Way → Growth
 TakesMany g messages way = Many (λ message. TakesFirst g message way) messages
 
 -- the registrar is found to have no message
-abbrev pub FindsNone : Settings → Way → Growth
-FindsNone g way = way [] (Takes g 0 0 NoMail)
+abbrev pub FindsNoMessage : Settings → Way → Growth
+FindsNoMessage g way = way [] (Takes g 0 0 NoMail)
 
 -- messages are handed over: each becomes the last of the named mail, where a process has its name now
-pub record HandsOver (old : Registered) (messages : List Message) (call : Way → Growth) (new : Registered) : Type 0 where
+pub record HandsMessagesOver (old : Registered) (messages : List Message) (call : Way → Growth) (new : Registered) : Type 0 where
   pub goes : GoesLone old.world call new.world
   pub names : new.names ≡ old.names
   pub rows : new.rows ≡ old.rows
@@ -168,27 +168,27 @@ pub record AreCounted (old : Registered) (messages : List Message) (handed lost 
   pub known : All (λ message. message.1 < length old.rows) messages
 
 -- a turn is done: the scheduler's, and then all messages of the registrar are handed over
-pub record HasTurned (old : Registered) (sched : ℕ) (t : NamedTurn) (new : Registered) : Type 0 where
+pub record HasTurnedAndHanded (old : Registered) (sched : ℕ) (t : NamedTurn) (new : Registered) : Type 0 where
   pub messages : List Message
-  pub hands : HandsOver old messages
+  pub hands : HandsMessagesOver old messages
       (λ way. Then (Turns old.world.settings way sched (Ok t.turned))
-      (Then (TakesMany old.world.settings messages way) (FindsNone old.world.settings way))) new
+      (Then (TakesMany old.world.settings messages way) (FindsNoMessage old.world.settings way))) new
   pub counted : AreCounted old messages t.handed t.lost
   pub empty : ((state new.world.settings new.world.history).mails 0).queue ≡ []
 
 -- there is no memory for the scheduler's turn
 -- or for the next message: those before it were handed over, and it and the others wait
-pub record HasStopped (old : Registered) (sched : ℕ) (new : Registered) : Type 0 where
+pub record HasTurnedInPart (old : Registered) (sched : ℕ) (new : Registered) : Type 0 where
   pub turned : Turned
   pub messages : List Message
-  pub hands : HandsOver old messages
+  pub hands : HandsMessagesOver old messages
       (λ way. Then (Turns old.world.settings way sched (Ok turned)) (TakesMany old.world.settings messages way)) new
 
 -- `turn`
 abbrev pub TurnsNamed : Registered → ℕ → Result NamedTurn WantOfMemory → Registered → Type 0
-TurnsNamed old sched (Ok t) new = HasTurned old sched t new
+TurnsNamed old sched (Ok t) new = HasTurnedAndHanded old sched t new
 TurnsNamed old sched (Err e) new =
-    GoesAlone old (λ way. Turns old.world.settings way sched (Err e)) new ⊎ HasStopped old sched new
+    GoesAlone old (λ way. Turns old.world.settings way sched (Err e)) new ⊎ HasTurnedInPart old sched new
 
 -- the first mail of a process among all that waits
 abbrev pub first_for : ℕ → List (ℕ × NamedMail) → Option NamedMail
@@ -221,5 +221,5 @@ pub record HasTaken (old : Registered) (process : ℕ) (new : Registered) : Type
 -- `take_named`
 abbrev pub TakesNamed : Registered → ℕ → NamedTaken → Registered → Type 0
 TakesNamed old process (Mail mail) new = (first_for process old.mail ≡ Some mail) × HasTaken old process new
-TakesNamed old process Empty new = (first_for process old.mail ≡ None) × LooksAt old process true new
-TakesNamed old process Exited new = LooksAt old process false new
+TakesNamed old process Empty new = (first_for process old.mail ≡ None) × SeesAlive old process true new
+TakesNamed old process Exited new = SeesAlive old process false new

@@ -12,18 +12,18 @@ use Rattle.ert_world.specs.Worlds.{Seen}
 
 -- an event where so many rows were made, and by which a process doesn't exit: a timer for the registrar is wrapped
 -- and has the place of a row as its message, and nobody asks a scheduler for anything or watches the offset
-abbrev pub Fits : ℕ → ℕ → Event → Type 0
-Fits rows spared (Arm timer start) = start.dest ≡ 0 → (start.kind ≡ Wrapped) × (start.msg < rows)
-Fits rows spared (Mark process exits was) = process ≡ spared → exits ≡ false
-Fits rows spared (Ask wheel request) = ⊥
-Fits rows spared (Watch process monitor offset) = ⊥
-Fits rows spared (Tell process offset) = ⊥
-Fits rows spared _ = Unit {0}
+abbrev pub EventFits : ℕ → ℕ → Event → Type 0
+EventFits rows spared (Arm timer start) = start.dest ≡ 0 → (start.kind ≡ Wrapped) × (start.msg < rows)
+EventFits rows spared (Mark process exits was) = process ≡ spared → exits ≡ false
+EventFits rows spared (Ask wheel request) = ⊥
+EventFits rows spared (Watch process monitor offset) = ⊥
+EventFits rows spared (Tell process offset) = ⊥
+EventFits rows spared _ = Unit {0}
 
 -- each of these entries has such an event, where so many rows were made, and spares the process
 abbrev pub AllFit : ℕ → ℕ → List Entry → Type 0
 AllFit rows spared [] = Unit {0}
-AllFit rows spared (e ∷ es) = Fits rows spared e.event × AllFit rows spared es
+AllFit rows spared (e ∷ es) = EventFits rows spared e.event × AllFit rows spared es
 
 -- a world gave out no seat and fits so many rows, and its registrar doesn't exit
 pub record FitsRows (rows : ℕ) (w : Seen) : Type 0 where

@@ -1,6 +1,6 @@
 //! The names of processes (`erlang` module reference, `register`, `unregister` and `whereis`).
 ghost use Rattle.std.specs.Prelude.{◌≡◌, true, false};
-ghost use Rattle.ert_names.specs.Calls.{IsName};
+ghost use Rattle.ert_names.specs.Calls.{IsValidName};
 
 use crate::named::NameErr;
 use crate::world::{NameWorld, REGISTRAR};
@@ -69,8 +69,8 @@ impl NameWorld {
 
 /// Whether a text may be a name: it has 1 to 255 bytes and isn't `undefined`.
 fn is_name(name: &str) -> bool
-    ensures name { result ≡ true → IsName name.now }
-    ensures other { result ≡ false → IsName name.now → ⊥ }
+    ensures name { result ≡ true → IsValidName name.now }
+    ensures other { result ≡ false → IsValidName name.now → ⊥ }
 {
     1 <= name.len() && name.len() <= LONGEST_NAME && name != "undefined"
 }

@@ -27,14 +27,14 @@ impl Model for NameWorld {
     ghost use Rattle.std.specs.Ordering.{nat_cmp};
     ghost use Rattle.std.specs.Prelude.{length};
     ghost use Rattle.ert_names.specs.Fits.{FitsNames};
-    ghost use Rattle.ert_names.specs.Registered.{Registered, seen};
+    ghost use Rattle.ert_names.specs.Registered.{Registered, seen_with_names};
     ghost use Rattle.ert_timers.specs.Parts.{part_code};
 
     ghost Value = { Registered };
 
     ghost coded = { Prim.hlevel (codes, part_code, map.code {R = slice_cmp nat_cmp} (coded_list coded_ℕ) coded_ℕ) };
 
-    ghost view = { λ w. seen w.world w.registry w.rows.items w.mail.items };
+    ghost view = { λ w. seen_with_names w.world w.registry w.rows.items w.mail.items };
 
     ghost invariant = { λ w. FitsNames (length w.rows.items) w.registry w.world };
 }
@@ -44,14 +44,14 @@ impl NameWorld {
     ghost use Rattle.std.specs.FinMap as map;
     ghost use Rattle.ert_defs.specs.Settings.{IsChecked};
     ghost use Rattle.ert_names.specs.Living.{AreLiving};
-    ghost use Rattle.ert_names.specs.Openings.{IsOpened};
+    ghost use Rattle.ert_names.specs.Openings.{IsOpenedWithoutNames};
     ghost use Rattle.ert_names.specs.Promised.{IsPromised};
 
     /// Opens a service without names.
     pub fn open(alloc: Global, settings: &Settings) -> Result<NameWorld, NoMemory>
         requires checked { IsChecked settings.now }
         requires processes { 2 ≤ settings.now.processes }
-        ensures { IfOk result (IsOpened settings.now) }
+        ensures { IfOk result (IsOpenedWithoutNames settings.now) }
     {
         Ok(NameWorld {
             alloc,

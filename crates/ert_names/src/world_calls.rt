@@ -14,14 +14,14 @@ impl NameWorld {
     ghost use Rattle.ert_effects.specs.declared.answers.StartErr.TheVariants.{NoMemory};
     ghost use Rattle.ert_clock.specs.Ticks.{act_of, Gives};
     ghost use Rattle.ert_defs.specs.declared.entry.Actor.TheVariants.{Caller};
-    ghost use Rattle.ert_names.specs.Calls.{GoesAlone, GoesOnClock, HasExited};
+    ghost use Rattle.ert_names.specs.Calls.{GoesAlone, GoesAloneOnClock, ExitDropsName};
     ghost use Rattle.ert_names.specs.Names.{Unnamed};
     ghost use Rattle.ert_world.specs.Worlds.{By};
 
     /// Takes one reading of the OS clocks, as `World::tick`.
     pub fn tick(&mut self, reading: Reading, force: bool) -> Result<Moved, ClockErr>
         ensures gives { Gives self.old.world.clock reading (act_of force) result self.new.world.clock }
-        ensures call { GoesOnClock self.old (By self.old.world (λ g. Ticks g 0 reading force result)) self.new }
+        ensures call { GoesAloneOnClock self.old (By self.old.world (λ g. Ticks g 0 reading force result)) self.new }
     {
         self.world.tick(reading, force)
     }
@@ -66,7 +66,7 @@ impl NameWorld {
     pub fn exit(&mut self, process: u32) -> bool
         requires in_range { process < self.old.world.settings.processes }
         requires not_registrar { process ≢ 0 }
-        ensures call { HasExited self.old process result (λ way. Exits self.old.world.settings way 0 process result) self.new }
+        ensures call { ExitDropsName self.old process result (λ way. Exits self.old.world.settings way 0 process result) self.new }
         ensures unnamed { Unnamed self.new.names process }
     {
         if !self.world.exit(process) {

@@ -9,7 +9,7 @@ use Rattle.ert_defs.specs.declared.entry.Actor.TheVariants.{Keeper, Wheel, Inbox
 use Rattle.ert_defs.specs.declared.settings.Settings.{Settings}
 use Rattle.ert_locks.proofs.Lent.{holds_self}
 use Rattle.ert_locks.specs.KindLaws.{keepers_are}
-use Rattle.ert_locks.specs.Kinds.{Fits, keepers, wheels, inboxes, scheds, mails}
+use Rattle.ert_locks.specs.Kinds.{PartFits, keepers, wheels, inboxes, scheds, mails}
 use Rattle.ert_locks.specs.Names.{IsDesk}
 use Rattle.ert_world.proofs.Alone.{holds_all}
 use Rattle.ert_world.specs.Parts.{AllParts, Stand}
@@ -43,7 +43,7 @@ empty_more n places are = record {
 -- the parts once all passes were joined
 pub record AreJoined (table : TableId) (g : Settings) (own p : Pass) (parts : AllParts) : Type 0 where
   pub legal : Legal g (front_of p)
-  pub keeper_fits : Fits table g keepers parts.keeper own
+  pub keeper_fits : PartFits table g keepers parts.keeper own
   pub keeper : IsSeen (view_of own) (view_of p)
   pub wheels : AreIn wheels g g.schedulers (view_of p) parts.wheels
   pub inboxes : AreIn inboxes g g.schedulers (view_of p) parts.inboxes

@@ -8,7 +8,7 @@ use Rattle.ert_defs.specs.declared.entry.Actor.{Actor}
 use Rattle.ert_locks.proofs.Lent.{holds_self}
 use Rattle.ert_service.proofs.Gathered.{seen_then, seen_left, seen_right}
 use Rattle.ert_service.specs.Gathering.{IsSeen}
-use Rattle.ert_service.specs.Joining.{Joins}
+use Rattle.ert_service.specs.Joining.{JoinsSeats}
 use Rattle.ert_table.specs.Held.{is_held}
 use Rattle.ert_table.specs.Views.{Joined, meeting}
 use Rattle.ert_table.specs.declared.view.View.{View}
@@ -25,7 +25,7 @@ all_more P xs x all one = All-append P xs (x ∷ []) all (all_one P x one)
 
 pub joins_next : {S : Type 0} {number : S → ℕ} {view : S → View} {sort : ℕ → Actor} {count : ℕ} {v : View} {joined items left seats : List S} {x : S} (j : View)
     → items ≡ x ∷ left → j.actors ≡ v.actors ++ (view x).actors → Joined (meeting v (view x)) j.front → (view x).actors ≡ sort (number x) ∷ []
-    → Joins number view sort count v joined items seats → Joins number view sort count j (joined ++ x ∷ []) left seats
+    → JoinsSeats number view sort count v joined items seats → JoinsSeats number view sort count j (joined ++ x ∷ []) left seats
 joins_next {S} {number} {view} {sort} {count} {v} {joined} {items} {left} {seats} {x} j is actors met own joins = record {
   all = append_assoc joined (x ∷ []) left ∙ now.all;
   sum = let s : length joined + suc (length left) ≡ count = now.sum in omega (arith, s, longer);
@@ -38,8 +38,8 @@ joins_next {S} {number} {view} {sort} {count} {v} {joined} {items} {left} {seats
       (subst (λ n. i < n) longer low);
 }
   where
-    now : Joins number view sort count v joined (x ∷ left) seats
-    now = subst (λ l. Joins number view sort count v joined l seats) is joins
+    now : JoinsSeats number view sort count v joined (x ∷ left) seats
+    now = subst (λ l. JoinsSeats number view sort count v joined l seats) is joins
 
     longer : length (joined ++ x ∷ []) ≡ length joined + 1
     longer = length-append joined (x ∷ [])
@@ -62,9 +62,9 @@ joins_next {S} {number} {view} {sort} {count} {v} {joined} {items} {left} {seats
 
 -- the next seat: its number
 pub next_named : {S : Type 0} {number : S → ℕ} {view : S → View} {sort : ℕ → Actor} {count : ℕ} {v : View} {joined items left seats : List S} {x : S}
-    → items ≡ x ∷ left → Joins number view sort count v joined items seats → (number x ≡ length joined) × (length joined < count)
+    → items ≡ x ∷ left → JoinsSeats number view sort count v joined items seats → (number x ≡ length joined) × (length joined < count)
 next_named {number = number} {view = view} {sort = sort} {count = count} {v = v} {joined = joined} {left = left} {seats = seats} {x = x} is joins =
-    let now : Joins number view sort count v joined (x ∷ left) seats = subst (λ l. Joins number view sort count v joined l seats) is joins in
+    let now : JoinsSeats number view sort count v joined (x ∷ left) seats = subst (λ l. JoinsSeats number view sort count v joined l seats) is joins in
     let one = now.each 0 x (omega arith) in
     let sum : length joined + suc (length left) ≡ count = now.sum in
     (plain (number x) (length joined) one, omega (arith, sum))

@@ -36,7 +36,7 @@ use Rattle.ert_defs.proofs.Settlings.{rows_stay_settled, settled_timers_stay}
 use Rattle.ert_defs.proofs.FiredTimers.{same_timer_self}
 use Rattle.ert_defs.proofs.Slots.{ordered}
 use Rattle.ert_defs.proofs.Uses.{Use, before_self}
-use Rattle.ert_service.specs.Settled.{LawOfAdvances, LawOfExits, LawOfStarts, LawOfTurns, NoneDue, NoneFor, NoneWaits, WasSettled}
+use Rattle.ert_service.specs.Settled.{LawOfSettledByAdvance, LawOfSettledByExit, LawOfSettledByStart, LawOfNoneWaiting, NoneDue, NoneFor, NoneWaits, WasSettled}
 use Rattle.ert_table.proofs.Holders.{or_left}
 use Rattle.ert_table.proofs.OneStep.{legal_by}
 use Rattle.ert_table.specs.Desks.{front_of}
@@ -238,26 +238,26 @@ start_settled g a by wheel start timer f m after legal step was =
 grown_on : (f h m after : List Entry) → h ≡ f ++ m → h ++ after ≡ f ++ (m ++ after)
 grown_on f h m after grown = ap (λ l. l ++ after) grown ∙ append_assoc f m after
 
-pub advances_settle : LawOfAdvances
+pub advances_settle : LawOfSettledByAdvance
 advances_settle g a wheel to fired row f h after legal call among due =
     let on = grown_on f h call.piece after call.grown in
     subst (λ l. (state g l).status row.timer ≢ Some Armed) (sym on)
     (due_settled g a wheel to fired row f call.piece after (subst (Legal g) on legal) call.made
     (subst (λ l. Contains ((state g l).rows wheel) row) call.grown among) due)
 
-pub exits_settle : LawOfExits
+pub exits_settle : LawOfSettledByExit
 exits_settle g a by process wheel row f h after legal call low among dest =
     let on = grown_on f h call.piece after call.grown in
     subst (λ l. (state g l).status row.timer ≢ Some Armed) (sym on)
     ((exits_settle_timers g).1 a by process wheel row f call.piece after (subst (Legal g) on legal) call.made low among dest)
 
-pub starts_settle : LawOfStarts
+pub starts_settle : LawOfSettledByStart
 starts_settle g a by wheel start timer f h after legal call was =
     let on = grown_on f h call.piece after call.grown in
     subst (λ l. WasSettled (state g l) timer) (sym on)
     (start_settled g a by wheel start timer f call.piece after (subst (Legal g) on legal) call.made was)
 
-pub turns_leave_none : LawOfTurns
+pub turns_leave_none : LawOfNoneWaiting
 turns_leave_none g a wheel t f h call =
     subst (λ l. NoneWaits (state g l) wheel) (sym call.grown) ((turns_end g).1 a wheel t f call.piece call.made).1
 

@@ -20,7 +20,7 @@ pub record HasOwn (a : Actor) (front h : List Entry) : Type 0 where
   pub own : of h a ≡ of front a
 
 -- some seats were joined, and those that are left follow
-pub record Joins {S : Type 0} (number : S → ℕ) (view : S → View) (sort : ℕ → Actor) (count : ℕ) (now : View) (joined left seats : List S) : Type 0 where
+pub record JoinsSeats {S : Type 0} (number : S → ℕ) (view : S → View) (sort : ℕ → Actor) (count : ℕ) (now : View) (joined left seats : List S) : Type 0 where
   pub all : joined ++ left ≡ seats
   pub sum : length joined + length left ≡ count
   pub seen : All (λ s. IsSeen (view s) now) joined

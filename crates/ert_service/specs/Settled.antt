@@ -36,27 +36,27 @@ WasSettled s timer = has_settled (s.status timer) ≡ true
 
 -- after an advance to a time, no timer is armed that the wheel has by then and that is due, whatever comes
 -- after the call
-abbrev pub LawOfAdvances : Type 0
-LawOfAdvances = (g : Settings) (a : Actor) (wheel to fired : ℕ) (row : Row) (f h after : List Entry) → Legal g (h ++ after)
+abbrev pub LawOfSettledByAdvance : Type 0
+LawOfSettledByAdvance = (g : Settings) (a : Actor) (wheel to fired : ℕ) (row : Row) (f h after : List Entry) → Legal g (h ++ after)
     → Grows (AdvancesWheel g (beside g a) wheel (Ok (to, fired))) f h
     → Contains ((state g h).rows wheel) row → row.deadline ≤ to
     → (state g (h ++ after)).status row.timer ≢ Some Armed
 
 -- after an exit, no timer is armed that stood for the process at its Mark, with which the first step of the
 -- call ends
-abbrev pub LawOfExits : Type 0
-LawOfExits = (g : Settings) (a : Actor) (by process wheel : ℕ) (row : Row) (f h after : List Entry) → Legal g (h ++ after)
+abbrev pub LawOfSettledByExit : Type 0
+LawOfSettledByExit = (g : Settings) (a : Actor) (by process wheel : ℕ) (row : Row) (f h after : List Entry) → Legal g (h ++ after)
     → (call : Grows (Exits g (beside g a) by process true) f h) → wheel < g.schedulers
     → Contains ((state g (f ++ call.made.before)).rows wheel) row → row.dest ≡ process
     → (state g (h ++ after)).status row.timer ≢ Some Armed
 
 -- after a start that found its destination to have exited, its timer is settled
-abbrev pub LawOfStarts : Type 0
-LawOfStarts = (g : Settings) (a : Actor) (by wheel : ℕ) (start : Start) (timer : TimerRef) (f h after : List Entry) → Legal g (h ++ after)
+abbrev pub LawOfSettledByStart : Type 0
+LawOfSettledByStart = (g : Settings) (a : Actor) (by wheel : ℕ) (start : Start) (timer : TimerRef) (f h after : List Entry) → Legal g (h ++ after)
     → (call : Grows (beside g a (Wheel wheel ∷ []) (Starts g by wheel start (Ok timer))) f h) → call.made.allowed.was ≡ true
     → WasSettled (state g (h ++ after)) timer
 
 -- after a turn no expired timer waits at the scheduler
-abbrev pub LawOfTurns : Type 0
-LawOfTurns = (g : Settings) (a : Actor) (wheel : ℕ) (t : Turned) (f h : List Entry) → Grows (Turns g (beside g a) wheel (Ok t)) f h
+abbrev pub LawOfNoneWaiting : Type 0
+LawOfNoneWaiting = (g : Settings) (a : Actor) (wheel : ℕ) (t : Turned) (f h : List Entry) → Grows (Turns g (beside g a) wheel (Ok t)) f h
     → NoneWaits (state g h) wheel

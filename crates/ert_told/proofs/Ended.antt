@@ -20,7 +20,7 @@ use Rattle.ert_defs.specs.declared.timer.Status.{Status}
 use Rattle.ert_defs.specs.declared.timer.TimerRef.{TimerRef}
 use Rattle.ert_told.proofs.Sums.{sum-cons, IsSum, alone_sum, beside_sum, step_sum, then_sum, none_sum}
 use Rattle.ert_told.proofs.Turning.{Weighs, advance_sum, serve_sum, delivers_sum, turn_sum}
-use Rattle.ert_told.specs.Told.{by_answer, by_expiry, by_delivery, by_drop, by_advance, by_exit, by_ask, sum_of, served_by, turn_in, LawOfServes, LawOfDeliveries, LawOfTurns, LawOfExits, LawOfAsks}
+use Rattle.ert_told.specs.Told.{by_answer, by_expiry, by_delivery, by_drop, by_advance, by_exit, by_ask, sum_of, served_by, turn_in, LawOfToldServes, LawOfToldDeliveries, LawOfToldTurns, LawOfToldExits, LawOfToldAsks}
 
 answers_weigh : Weighs by_answer 1 0 0 0 (λ _. 0)
 answers_weigh (Answer wheel left) = refl
@@ -93,19 +93,19 @@ module _ (g : Settings) (w : ℕ) (way : Way) (own : List Entry → List Entry)
       (omega (arith, sum_in_turn by_delivery 0 0 1 0 (λ _. 0) deliveries_weigh t h m made))
       (omega (arith, sum_in_turn by_drop 0 0 0 1 (λ _. 0) drops_weigh t h m made))
 
-pub serves_tell : LawOfServes
+pub serves_tell : LawOfToldServes
 serves_tell w g r h m = (
   serve_tells g w (alone g) (λ m. m) (λ f. alone_sum f g) r h m,
   λ a. serve_tells g w (beside g a) (filter (is_ours (a ∷ []))) (λ f. beside_sum f g a) r h m,
 )
 
-pub deliveries_tell : LawOfDeliveries
+pub deliveries_tell : LawOfToldDeliveries
 deliveries_tell w g answer h m = (
   deliver_tells g w (alone g) (λ m. m) (λ f. alone_sum f g) answer h m,
   λ a. deliver_tells g w (beside g a) (filter (is_ours (a ∷ []))) (λ f. beside_sum f g a) answer h m,
 )
 
-pub turns_tell : LawOfTurns
+pub turns_tell : LawOfToldTurns
 turns_tell w g t h m = (
   turn_tells g w (alone g) (λ m. m) (λ f. alone_sum f g) t h m,
   λ a. turn_tells g w (beside g a) (filter (is_ours (a ∷ []))) (λ f. beside_sum f g a) t h m,
@@ -146,7 +146,7 @@ module _ (g : Settings) (by process : ℕ) (way : Way) (count : List Entry → �
       (λ h m marks. marks_sum true h m marks) (λ h m sweeps. sweeps_none 0 g.schedulers h m sweeps) made
   exit_sum false h m made = marks_sum false h m made
 
-pub exits_tell : LawOfExits
+pub exits_tell : LawOfToldExits
 exits_tell by process g answer h m = (
   λ made. sym (exit_sum g by process (alone g) (sum_of by_exit) (alone_sum by_exit g) answer h m made),
   λ a made.
@@ -161,7 +161,7 @@ ask_sum way count sums g by w request (Ok one) h m made =
 ask_sum way count sums g by w request (Err e) h m made =
     step_sum by_ask way count sums (Inbox w ∷ []) (Asks g by w request (Err e)) h m 0 (λ s es none. ap (λ (l : List Entry). sum_of by_ask l) none) made
 
-pub asks_tell : LawOfAsks
+pub asks_tell : LawOfToldAsks
 asks_tell by w request g answer h m = (
   λ made. sym (ask_sum (alone g) (sum_of by_ask) (alone_sum by_ask g) g by w request answer h m made),
   λ a made.

@@ -66,8 +66,8 @@ turn_in es = record {
 }
 
 -- what a call answers is told by its entries, alone and beside others: `told` has what is seen of the answer
-abbrev pub Tells : (A B : Type 0) → (Settings → Way → A → Growth) → (A → B) → (List Entry → B) → Type 0
-Tells A B call seen told = (g : Settings) (answer : A) (h m : List Entry)
+abbrev pub EntriesTell : (A B : Type 0) → (Settings → Way → A → Growth) → (A → B) → (List Entry → B) → Type 0
+EntriesTell A B call seen told = (g : Settings) (answer : A) (h m : List Entry)
     → (call g (alone g) answer h m → seen answer ≡ told m)
     × ((a : Actor) → call g (beside g a) answer h m → seen answer ≡ told (filter (is_ours (a ∷ [])) m))
 
@@ -78,23 +78,23 @@ served_by (Ok false) = 0
 served_by (Err e) = 0
 
 -- as many entries of `serve` answer a request
-abbrev pub LawOfServes : Type 0
-LawOfServes = (w : ℕ) → Tells (Result Bool NoMemory) ℕ (λ g way answer. Serves g way w answer) served_by (sum_of by_answer)
+abbrev pub LawOfToldServes : Type 0
+LawOfToldServes = (w : ℕ) → EntriesTell (Result Bool NoMemory) ℕ (λ g way answer. Serves g way w answer) served_by (sum_of by_answer)
 
 -- the answer of `deliver` is how many of its entries put a message, and how many throw one away
-abbrev pub LawOfDeliveries : Type 0
-LawOfDeliveries = (w : ℕ) → Tells (ℕ × ℕ) (ℕ × ℕ) (λ g way answer. Delivers g way w (Ok answer)) (λ answer. answer)
+abbrev pub LawOfToldDeliveries : Type 0
+LawOfToldDeliveries = (w : ℕ) → EntriesTell (ℕ × ℕ) (ℕ × ℕ) (λ g way answer. Delivers g way w (Ok answer)) (λ answer. answer)
     (λ es. (sum_of by_delivery es, sum_of by_drop es))
 
 -- that of `turn` is what its entries tell
-abbrev pub LawOfTurns : Type 0
-LawOfTurns = (w : ℕ) → Tells Turned Turned (λ g way t. Turns g way w (Ok t)) (λ t. t) turn_in
+abbrev pub LawOfToldTurns : Type 0
+LawOfToldTurns = (w : ℕ) → EntriesTell Turned Turned (λ g way t. Turns g way w (Ok t)) (λ t. t) turn_in
 
 -- `exit` answers whether one of its entries marks an exit of a process that hadn't exited before
-abbrev pub LawOfExits : Type 0
-LawOfExits = (by process : ℕ) → Tells Bool ℕ (λ g way answer. Exits g way by process answer) (λ answer. cond answer 1 0) (sum_of by_exit)
+abbrev pub LawOfToldExits : Type 0
+LawOfToldExits = (by process : ℕ) → EntriesTell Bool ℕ (λ g way answer. Exits g way by process answer) (λ answer. cond answer 1 0) (sum_of by_exit)
 
 -- `ask` answers whether one of its entries puts a request into an inbox
-abbrev pub LawOfAsks : Type 0
-LawOfAsks = (by w : ℕ) (request : Request)
-    → Tells (Result (Unit {0}) NoMemory) ℕ (λ g way answer. way (Inbox w ∷ []) (Asks g by w request answer)) (λ answer. cond (is_ok answer) 1 0) (sum_of by_ask)
+abbrev pub LawOfToldAsks : Type 0
+LawOfToldAsks = (by w : ℕ) (request : Request)
+    → EntriesTell (Result (Unit {0}) NoMemory) ℕ (λ g way answer. way (Inbox w ∷ []) (Asks g by w request answer)) (λ answer. cond (is_ok answer) 1 0) (sum_of by_ask)

@@ -5,14 +5,14 @@ use Rattle.std.proofs.lemmas.Bool.Decides.{nat_tests}
 use Rattle.std.proofs.lemmas.List.Elements.{All-nil}
 use mathlib.Core.Option.{some, some-injective, some-ne-none}
 use lib.ListN.{get_elem?}
-use Rattle.ert_unique.specs.Numbers.{times, within, AllDiffer}
+use Rattle.ert_unique.specs.Numbers.{occurrences, within, AllDiffer}
 use Rattle.ert_unique.specs.Passes.{below}
-use Rattle.ert_unique.specs.Rule.{Fits, Holds}
-use Rattle.ert_unique.specs.Views.{first_view}
+use Rattle.ert_unique.specs.Rule.{DrawsFit, AreUniqueDraws}
+use Rattle.ert_unique.specs.Views.{first_share}
 use Rattle.ert_unique.proofs.Totals.{times_adds}
 use Rattle.ert_unique.specs.declared.view.View.{View}
 
-first_fits : (passes : ℕ) → Fits passes 0 (first_view passes)
+first_fits : (passes : ℕ) → DrawsFit passes 0 (first_share passes)
 first_fits passes = record { short = omega arith; seen = omega arith; greatest = All-nil (λ n. n ≤ 0); opened = inl refl }
 
 one_view : (x : View) (k : ℕ) (v : View) → get_elem? (x ∷ []) k ≡ some v → x ≡ v
@@ -22,17 +22,17 @@ one_view x (suc k) v is = absurd (some-ne-none v (sym is))
 none_drawn : (x : ℕ) → 0 ≡ within x 0
 none_drawn x = grind (arith, nat_tests)
 
-pub opens : (passes : ℕ) → Holds passes (0 ∷ []) (first_view passes ∷ [])
+pub opens : (passes : ℕ) → AreUniqueDraws passes (0 ∷ []) (first_share passes ∷ [])
 opens passes = record {
   word = 0;
   alone = refl;
   numbers = record { count = refl; once = none_drawn };
   shares = omega arith;
-  fits = λ k v at. subst (Fits passes 0) (one_view (first_view passes) k v at) (first_fits passes);
+  fits = λ k v at. subst (DrawsFit passes 0) (one_view (first_share passes) k v at) (first_fits passes);
 }
 
 -- a number stands below another once or not at all
-times_below : (x n : ℕ) → times x (below n) ≡ cond (nat_lt x n) 1 0
+times_below : (x n : ℕ) → occurrences x (below n) ≡ cond (nat_lt x n) 1 0
 times_below x zero = grind (arith, nat_tests)
 times_below x (suc n) = grind (arith, nat_tests, (times_adds x).parts (below n) (n ∷ []), times_below x n)
 

@@ -3,7 +3,7 @@
 use Rattle.std.proofs.Common.{◌≡◌, ℕ, zero, suc, ◌+◌, arith, List, [], ◌∷◌, ◌++◌, length, length-append, slice_index, refl, sym, ap, ◌∙◌}
 use mathlib.Core.Option.{some, some-injective, some-ne-none}
 use lib.ListN.{get_elem?}
-use Rattle.ert_unique.specs.Numbers.{times, IsOneTo, IsRearranged}
+use Rattle.ert_unique.specs.Numbers.{occurrences, IsOneTo, IsRearranged}
 use Rattle.ert_unique.specs.Passes.{draws_of, draws_together, below}
 use Rattle.ert_unique.proofs.Totals.{Adds, times_adds, length_adds}
 use Rattle.ert_unique.specs.declared.uniques.UniquePass.{UniquePass}
@@ -18,7 +18,7 @@ together_last m adds (q ∷ passes) p =
 rearranged : (xs ys zs : List ℕ) → IsRearranged xs ys → ((m : List ℕ → ℕ) → Adds m → m zs ≡ m ys) → IsRearranged xs zs
 rearranged xs ys zs is same = record {
   count = same (λ l. length l) length_adds ∙ is.count;
-  as_often = λ x. same (times x) (times_adds x) ∙ is.as_often x;
+  as_often = λ x. same (occurrences x) (times_adds x) ∙ is.as_often x;
 }
 
 -- the last pass is taken off, and its draws go behind those that are together

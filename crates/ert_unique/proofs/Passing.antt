@@ -5,16 +5,16 @@ use mathlib.Core.Option.{some}
 use lib.ListN.{get_elem?}
 use Rattle.atomic_table.specs.Table.{State}
 use Rattle.atomic_table.proofs.Lists.{at_set, at_snoc}
-use Rattle.ert_unique.specs.Rule.{Fits, Holds}
+use Rattle.ert_unique.specs.Rule.{DrawsFit, AreUniqueDraws}
 use Rattle.ert_unique.specs.declared.view.View.{View}
 
 -- the rule, of a table for so many passes
 abbrev pub Ruled : ℕ → State (Unit {0}) View → Type 0
-Ruled passes s = Holds passes s.words s.views
+Ruled passes s = AreUniqueDraws passes s.words s.views
 
 -- each pass fits
 abbrev pub AllFit : ℕ → ℕ → List View → Type 0
-AllFit passes word views = (k : ℕ) (v : View) → get_elem? views k ≡ some v → Fits passes word v
+AllFit passes word views = (k : ℕ) (v : View) → get_elem? views k ≡ some v → DrawsFit passes word v
 
 -- each pass but the first fits
 pub fits_rest : (passes word : ℕ) (v : View) (views : List View) → AllFit passes word (v ∷ views) → AllFit passes word views
@@ -25,7 +25,7 @@ pub all_at_most : (xs : List ℕ) (a b : ℕ) → a ≤ b → All (λ n. n ≤ a
 all_at_most xs a b le all k d lt = omega (arith, all k d lt)
 
 -- a pass fits after others drew
-pub fits_on : (passes a b : ℕ) (v : View) → a ≤ b → Fits passes a v → Fits passes b v
+pub fits_on : (passes a b : ℕ) (v : View) → a ≤ b → DrawsFit passes a v → DrawsFit passes b v
 fits_on passes a b v le fit = record {
   short = fit.short;
   seen = omega (arith, fit.seen);
@@ -33,16 +33,16 @@ fits_on passes a b v le fit = record {
   opened = fit.opened;
 }
 
-pub fits_set : (passes word : ℕ) (views : List View) (id : ℕ) (w : View) → AllFit passes word views → Fits passes word w
+pub fits_set : (passes word : ℕ) (views : List View) (id : ℕ) (w : View) → AllFit passes word views → DrawsFit passes word w
     → AllFit passes word (set views id w)
 fits_set passes word views id w fits fit k u at =
-    ⊎_elim (λ (here : (k ≡ id) × (w ≡ u)). subst (Fits passes word) here.1 fit)
+    ⊎_elim (λ (here : (k ≡ id) × (w ≡ u)). subst (DrawsFit passes word) here.1 fit)
     (λ (there : (k ≢ id) × (get_elem? views k ≡ some u)). fits k u there.1)
     (at_set views id k w u at)
 
-pub fits_last : (passes word : ℕ) (views : List View) (w : View) → AllFit passes word views → Fits passes word w
+pub fits_last : (passes word : ℕ) (views : List View) (w : View) → AllFit passes word views → DrawsFit passes word w
     → AllFit passes word (views ++ w ∷ [])
 fits_last passes word views w fits fit k u at =
     ⊎_elim (λ (there : get_elem? views k ≡ some u). fits k u there)
-    (λ (here : w ≡ u). subst (Fits passes word) here fit)
+    (λ (here : w ≡ u). subst (DrawsFit passes word) here fit)
     (at_snoc views w u k at)

@@ -5,8 +5,8 @@ use Rattle.std.proofs.lemmas.Bool.Decides.{nat_tests}
 use Rattle.std.proofs.lemmas.List.Sums.{sum_by-append, sum_by-cons}
 use mathlib.Core.Option.{some, some-injective, some-ne-none}
 use lib.ListN.{get_elem?}
-use Rattle.ert_unique.specs.Numbers.{times, within, IsOneTo}
-use Rattle.ert_unique.specs.Rule.{drawn}
+use Rattle.ert_unique.specs.Numbers.{occurrences, within, IsOneTo}
+use Rattle.ert_unique.specs.Rule.{all_draws}
 use Rattle.ert_unique.specs.declared.view.View.{View}
 
 -- a measure of lists that adds up
@@ -14,7 +14,7 @@ pub record Adds (m : List ℕ → ℕ) : Type 0 where
   pub none : m [] ≡ 0
   pub parts : (xs ys : List ℕ) → m (xs ++ ys) ≡ m xs + m ys
 
-pub times_adds : (x : ℕ) → Adds (times x)
+pub times_adds : (x : ℕ) → Adds (occurrences x)
 times_adds x = record { none = refl; parts = λ xs ys. sum_by-append (λ y. cond (y == x) 1 0) xs ys }
 
 pub length_adds : Adds (λ (xs : List ℕ). length xs)
@@ -33,19 +33,19 @@ pub total_last : (f : View → ℕ) (views : List View) (w : View) → sum_by f 
 total_last f views w = omega (arith, sum_by-append f views (w ∷ []), sum_by-cons f w [])
 
 -- a measure of all draws is the total of that of each pass
-pub drawn_total : (m : List ℕ → ℕ) → Adds m → (views : List View) → m (drawn views) ≡ sum_by (λ v. m v.draws) views
+pub drawn_total : (m : List ℕ → ℕ) → Adds m → (views : List View) → m (all_draws views) ≡ sum_by (λ v. m v.draws) views
 drawn_total m adds [] = adds.none
 drawn_total m adds (v ∷ views) =
-    omega (arith, adds.parts v.draws (drawn views), sum_by-cons (λ (u : View). m u.draws) v views, drawn_total m adds views)
+    omega (arith, adds.parts v.draws (all_draws views), sum_by-cons (λ (u : View). m u.draws) v views, drawn_total m adds views)
 
 -- lists that each measure finds the same
 pub one_to_same : (n : ℕ) (xs ys : List ℕ) → IsOneTo n xs → ((m : List ℕ → ℕ) → Adds m → m ys ≡ m xs) → IsOneTo n ys
 one_to_same n xs ys is same = record {
   count = same (λ l. length l) length_adds ∙ is.count;
-  once = λ x. same (times x) (times_adds x) ∙ is.once x;
+  once = λ x. same (occurrences x) (times_adds x) ∙ is.once x;
 }
 
-within_more : (x n : ℕ) → within x (n + 1) ≡ within x n + times x ((n + 1) ∷ [])
+within_more : (x n : ℕ) → within x (n + 1) ≡ within x n + occurrences x ((n + 1) ∷ [])
 within_more x n = grind (arith, nat_tests)
 
 -- a list with the next number more
@@ -53,5 +53,5 @@ pub one_to_more : (n : ℕ) (xs ys : List ℕ) → IsOneTo n xs → ((m : List �
     → IsOneTo (n + 1) ys
 one_to_more n xs ys is more = record {
   count = more (λ l. length l) length_adds ∙ ap (λ k. k + 1) is.count;
-  once = λ x. more (times x) (times_adds x) ∙ (ap (λ k. k + times x ((n + 1) ∷ [])) (is.once x) ∙ sym (within_more x n));
+  once = λ x. more (occurrences x) (times_adds x) ∙ (ap (λ k. k + occurrences x ((n + 1) ∷ [])) (is.once x) ∙ sym (within_more x n));
 }

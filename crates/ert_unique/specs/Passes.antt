@@ -36,7 +36,7 @@ pub record IsNew (p : UniquePass) : Type 0 where
   pub plains : plains_of p ≡ 0
 
 -- a pass is the same one as before, with the same draws and as many plain answers
-pub record IsStill (before after : UniquePass) : Type 0 where
+pub record IsSamePass (before after : UniquePass) : Type 0 where
   pub number : number_of after ≡ number_of before
   pub draws : draws_of after ≡ draws_of before
   pub plains : plains_of after ≡ plains_of before

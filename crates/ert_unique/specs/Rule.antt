@@ -4,26 +4,26 @@ use Rattle.std.specs.Prelude.{◌≡◌, ◌⊎◌, ℕ, ◌*◌, ◌^◌, ◌�
 use mathlib.Core.Option.{some}
 use lib.ListN.{get_elem?}
 use Rattle.ert_unique.specs.Numbers.{IsOneTo}
-use Rattle.ert_unique.specs.Views.{spent}
+use Rattle.ert_unique.specs.Views.{emptied}
 use Rattle.ert_unique.specs.declared.view.View.{View}
 
 -- the numbers that all passes drew
-abbrev pub drawn : List View → List ℕ
-drawn [] = []
-drawn (v ∷ views) = v.draws ++ drawn views
+abbrev pub all_draws : List View → List ℕ
+all_draws [] = []
+all_draws (v ∷ views) = v.draws ++ all_draws views
 
 -- what is so of each pass, where so many were opened and the word is this
-pub record Fits (passes word : ℕ) (v : View) : Type 0 where
+pub record DrawsFit (passes word : ℕ) (v : View) : Type 0 where
   pub short : length v.draws ≤ 2 ^ 40 * v.share
   pub seen : v.seen ≤ word
   pub greatest : All (λ n. n ≤ v.seen) v.draws
-  pub opened : (v.passes ≡ passes) ⊎ (v ≡ spent)
+  pub opened : (v.passes ≡ passes) ⊎ (v ≡ emptied)
 
 -- there is one word, the draws of all passes together are the numbers from 1 to it, the shares add up to
 -- the number of passes that were opened, and each pass fits
-pub record Holds (passes : ℕ) (words : List ℕ) (views : List View) : Type 0 where
+pub record AreUniqueDraws (passes : ℕ) (words : List ℕ) (views : List View) : Type 0 where
   pub word : ℕ
   pub alone : words ≡ word ∷ []
-  pub numbers : IsOneTo word (drawn views)
+  pub numbers : IsOneTo word (all_draws views)
   pub shares : sum_by (λ v. v.share) views ≡ passes
-  pub fits : (k : ℕ) (v : View) → get_elem? views k ≡ some v → Fits passes word v
+  pub fits : (k : ℕ) (v : View) → get_elem? views k ≡ some v → DrawsFit passes word v

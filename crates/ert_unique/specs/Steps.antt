@@ -12,9 +12,9 @@ pub record Draws (v : View) (n : ℕ) (w : View) : Type 0 where
   pub range : n ≤ 2 ^ 40 * v.passes
 
 -- a pass as its seat has it
-abbrev pub Sitter : Type 0
-Sitter = Me (Unit {0}) View
+abbrev pub UniqueSitter : Type 0
+UniqueSitter = Me (Unit {0}) View
 
 -- the pass found a number in the word, and drew the next one
-abbrev pub Told : Sitter → ℕ → Sitter → Type 0
-Told me found now = (now.1 ≡ []) × Draws me.0 (found + 1) now.0
+abbrev pub DrawsNext : UniqueSitter → ℕ → UniqueSitter → Type 0
+DrawsNext me found now = (now.1 ≡ []) × Draws me.0 (found + 1) now.0

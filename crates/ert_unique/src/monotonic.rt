@@ -1,6 +1,6 @@
 //! Monotonic unique integers, and what passes tell each other of them.
 ghost use Rattle.std.specs.Prelude.{◌≡◌, ◌*◌, ◌^◌, ◌<◌, ◌≤◌, max, [], ◌∷◌, ◌++◌, length, IfOk, OnErr, OnOk};
-ghost use Rattle.ert_unique.specs.Passes.{passes_of, draws_of, seen_of, number_of, plains_of, Belongs, IsStill};
+ghost use Rattle.ert_unique.specs.Passes.{passes_of, draws_of, seen_of, number_of, plains_of, Belongs, IsSamePass};
 
 use crate::plays::{Draws, Notes, Unites};
 use crate::uniques::{MOST, Spent, UniquePass, Uniques};
@@ -37,8 +37,8 @@ impl Uniques {
         ensures belongs { Belongs self.now pass.new }
         ensures other_belongs { Belongs self.now other.new }
         ensures seen { seen_of pass.new ≡ max (seen_of pass.old) (seen_of other.old) }
-        ensures still { IsStill pass.old pass.new }
-        ensures other_still { IsStill other.old other.new }
+        ensures still { IsSamePass pass.old pass.new }
+        ensures other_still { IsSamePass other.old other.new }
         ensures other_seen { seen_of other.new ≡ seen_of other.old }
     {
         let note = self.table.shared.split_seat::<Notes>(&mut other.seat);

@@ -2,7 +2,7 @@
 ghost use Rattle.std.specs.Prelude.{◌≡◌, ◌≤◌, ◌-◌, [], length, vec_len, map, All, IfOk};
 ghost use Rattle.ert_unique.specs.Numbers.{AllDiffer, IsOneTo, IsRearranged};
 ghost use Rattle.ert_unique.specs.Passes.{passes_of, number_of, Belongs, IsNew, AreAll, below, draws_together};
-ghost use Rattle.ert_unique.specs.Views.{first_view};
+ghost use Rattle.ert_unique.specs.Views.{first_share};
 
 use crate::plays::{Opens, Unites};
 use crate::uniques::{UniquePass, Uniques};
@@ -37,7 +37,7 @@ impl Uniques {
     ) -> Result<Vec<UniquePass>, AllocError>
         requires count { count ≡ passes_of self.now }
         requires table { seat.table_id ≡ self.now.table.shared.table_id }
-        requires first { seat.me ≡ (first_view count, []) }
+        requires first { seat.me ≡ (first_share count, []) }
         ensures all { IfOk result (λ passes. AreAll self.now passes.items) }
         ensures new { IfOk result (λ passes. All IsNew passes.items) }
         ensures numbers { IfOk result (λ passes. map number_of passes.items ≡ below count) }

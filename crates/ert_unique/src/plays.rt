@@ -1,7 +1,7 @@
 //! What a step on the table tells a pass, and how passes are divided and put together.
 ghost use Rattle.std.specs.Prelude.{◌-◌};
-ghost use Rattle.ert_unique.specs.Steps.{Told};
-ghost use Rattle.ert_unique.specs.Views.{keeping, part_of, both, spent};
+ghost use Rattle.ert_unique.specs.Steps.{DrawsNext};
+ghost use Rattle.ert_unique.specs.Views.{keeping, part_of, taking_in, emptied};
 
 use crate::view::View;
 use atomic_table::{Join, Play, Split};
@@ -10,7 +10,7 @@ use atomic_table::{Join, Play, Split};
 pub(crate) struct Draws;
 
 impl Play<(), View> for Draws {
-    ghost then = { λ step me n now. Told me n now };
+    ghost then = { λ step me n now. DrawsNext me n now };
 }
 
 /// A new pass is made: a share goes to it.
@@ -35,7 +35,7 @@ impl Split<View> for Notes {
 pub(crate) struct Unites;
 
 impl Join<View> for Unites {
-    ghost both = { both };
+    ghost both = { taking_in };
 
-    ghost spent = { spent };
+    ghost spent = { emptied };
 }

@@ -1,5 +1,5 @@
-ghost use Rattle.ert_unique.specs.Rule.{Holds};
-ghost use Rattle.ert_unique.specs.Views.{first_view};
+ghost use Rattle.ert_unique.specs.Rule.{AreUniqueDraws};
+ghost use Rattle.ert_unique.specs.Views.{first_share};
 
 use atomic_table::TableRule;
 use std::collections::LinkedList;
@@ -20,7 +20,7 @@ pub struct View {
 pub struct UniqueRule;
 
 impl TableRule<(), View, u32> for UniqueRule {
-    ghost holds = { λ passes s. Holds passes s.words s.views };
+    ghost holds = { λ passes s. AreUniqueDraws passes s.words s.views };
 
-    ghost first = { first_view };
+    ghost first = { first_share };
 }

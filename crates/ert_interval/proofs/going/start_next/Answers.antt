@@ -5,7 +5,7 @@ use Rattle.ert_defs.specs.States.{state}
 use Rattle.ert_defs.specs.declared.settings.Settings.{Settings}
 use Rattle.ert_defs.specs.declared.timer.Start.{Start}
 use Rattle.ert_defs.specs.declared.timer.Status.TheVariants.{Armed}
-use Rattle.ert_interval.specs.Deadlines.{start_at, time_of}
+use Rattle.ert_interval.specs.Deadlines.{start_at, time_of_deadline}
 use Rattle.ert_interval.specs.Going.{next_start}
 use Rattle.ert_interval.specs.declared.interval.Interval.{Interval}
 use Rattle.ert_interval.specs.declared.interval.IntervalState.TheVariants.{Running}
@@ -17,14 +17,14 @@ use Rattle.ert_interval.proofs.going.start_next.Goals as goal
 
 -- the start that is asked for is that of the next deadline
 record Asked (a : Seen) (i : Interval) (deadline : ℕ) (start : Start) : Type 0 where
-  time : start ≡ start_at (time_of a.settings deadline) i.dest i.msg
-  next : start_at (time_of a.settings deadline) i.dest i.msg ≡ next_start a.settings i
+  time : start ≡ start_at (time_of_deadline a.settings deadline) i.dest i.msg
+  next : start_at (time_of_deadline a.settings deadline) i.dest i.msg ≡ next_start a.settings i
 
-is_asked : (a : Seen) (i : Interval) (g : Settings) (deadline : ℕ) (start : Start) → start ≡ start_at (time_of g deadline) i.dest i.msg
+is_asked : (a : Seen) (i : Interval) (g : Settings) (deadline : ℕ) (start : Start) → start ≡ start_at (time_of_deadline g deadline) i.dest i.msg
     → g ≡ a.settings → deadline ≡ i.deadline + i.period → Asked a i deadline start
 is_asked a i g deadline start told same next = record {
-  time = told ∙ ap (λ g. start_at (time_of g deadline) i.dest i.msg) same;
-  next = ap (λ d. start_at (time_of a.settings d) i.dest i.msg) next;
+  time = told ∙ ap (λ g. start_at (time_of_deadline g deadline) i.dest i.msg) same;
+  next = ap (λ d. start_at (time_of_deadline a.settings d) i.dest i.msg) next;
 }
 
 pub returns-in_default : goal.returns-in_default
@@ -33,7 +33,7 @@ returns-in_default c =
     let b = c.start-started.new.self in
     let i = c.args.interval.now in
     let legal = c.in_default.ensures.call.legal in
-    let start : Start = start_at (time_of a.settings c.args.deadline) i.dest i.msg in
+    let start : Start = start_at (time_of_deadline a.settings c.args.deadline) i.dest i.msg in
     let asked = is_asked a i _ c.args.deadline c.start_for-start.result c.start_for-start.ensures c.settings.ensures.value c.requires.next in
     let call : Goes a (By a (λ g. Starts g 0 i.wheel start (Err c.in_default.field-0))) b =
     subst (λ x. Goes a (By a (λ g. Starts g 0 i.wheel x (Err c.in_default.field-0))) b) asked.time c.in_default.ensures.call in
@@ -68,7 +68,7 @@ returns c =
     let a = c.args.world.now in
     let b = c.start-started.new.self in
     let i = c.args.interval.now in
-    let start : Start = start_at (time_of a.settings c.args.deadline) i.dest i.msg in
+    let start : Start = start_at (time_of_deadline a.settings c.args.deadline) i.dest i.msg in
     let asked = is_asked a i _ c.args.deadline c.start_for-start.result c.start_for-start.ensures c.settings.ensures.value c.requires.next in
     let call : Goes a (By a (λ g. Starts g 0 i.wheel start (Ok c.in-Ok.timer))) b =
     subst (λ x. Goes a (By a (λ g. Starts g 0 i.wheel x (Ok c.in-Ok.timer))) b) asked.time c.in-Ok.ensures.call in

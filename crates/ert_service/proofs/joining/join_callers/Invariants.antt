@@ -3,7 +3,7 @@ use Rattle.std.specs.Vec.Iter.{into_iter_items, into_iter_len}
 use Rattle.ert_defs.specs.Legal.{Legal}
 use Rattle.ert_defs.specs.declared.entry.Actor.TheVariants.{Caller}
 use Rattle.ert_service.specs.Gathering.{IsSeen}
-use Rattle.ert_service.specs.Joining.{Joins}
+use Rattle.ert_service.specs.Joining.{JoinsSeats}
 use Rattle.ert_table.specs.Desks.{front_of, view_of, Belongs}
 use Rattle.ert_service.proofs.joining.join_callers.Given as goal
 
@@ -12,6 +12,6 @@ invariant-loop-seat g l = record {
   belongs : Belongs l.desk l.pass;
   legal : Legal g.L.DeskName.settings (front_of l.pass);
   seen : IsSeen (view_of l.fn.pass) (view_of l.pass);
-  joins : Joins (λ s. s.number) (λ s. view_of s.pass) Caller g.L.DeskName.settings.callers (view_of l.pass) l.yielded (into_iter_items l.seat-iterator) l.fn.seats.items;
+  joins : JoinsSeats (λ s. s.number) (λ s. view_of s.pass) Caller g.L.DeskName.settings.callers (view_of l.pass) l.yielded (into_iter_items l.seat-iterator) l.fn.seats.items;
   remaining : into_iter_len l.seat-iterator ≡ length (into_iter_items l.seat-iterator);
 }

@@ -4,7 +4,7 @@ use Rattle.ert_defs.specs.Legal.{Legal}
 use Rattle.ert_defs.specs.declared.entry.Actor.TheVariants.{Sched}
 use Rattle.ert_locks.specs.Kinds.{scheds}
 use Rattle.ert_service.specs.Gathering.{IsSeen, AreIn}
-use Rattle.ert_service.specs.Joining.{Joins}
+use Rattle.ert_service.specs.Joining.{JoinsSeats}
 use Rattle.ert_table.specs.Desks.{front_of, view_of, Belongs}
 use Rattle.ert_service.proofs.joining.join_scheds.Given as goal
 
@@ -13,7 +13,7 @@ invariant-loop-seat g l = record {
   belongs : Belongs l.desk l.pass;
   legal : Legal g.L.DeskName.settings (front_of l.pass);
   seen : IsSeen (view_of l.fn.pass) (view_of l.pass);
-  joins : Joins (λ s. s.part.wheel) (λ s. view_of s.pass) Sched g.L.DeskName.settings.schedulers (view_of l.pass) l.yielded (into_iter_items l.seat-iterator) l.fn.seats.items;
+  joins : JoinsSeats (λ s. s.part.wheel) (λ s. view_of s.pass) Sched g.L.DeskName.settings.schedulers (view_of l.pass) l.yielded (into_iter_items l.seat-iterator) l.fn.seats.items;
   remaining : into_iter_len l.seat-iterator ≡ length (into_iter_items l.seat-iterator);
   inside : AreIn scheds g.L.DeskName.settings (length l.yielded) (view_of l.pass) l.parts.items;
   len : l.parts.len ≡ length l.yielded;

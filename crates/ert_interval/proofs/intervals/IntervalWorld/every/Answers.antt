@@ -2,7 +2,7 @@ use Rattle.std.proofs.Common.{◌≡◌, ℕ, ◌∷◌, ◌++◌, [], ℤ, ◌-
 use Rattle.ert_defs.specs.States.{state}
 use Rattle.ert_defs.specs.Milliseconds.{deadline_at}
 use Rattle.ert_defs.specs.declared.settings.Settings.{Settings}
-use Rattle.ert_interval.specs.Calls.{IsRefused}
+use Rattle.ert_interval.specs.Calls.{HasBadArguments}
 use Rattle.ert_interval.specs.Deadlines.{start_at, base}
 use Rattle.ert_effects.specs.TimerCalls.{Starts}
 use Rattle.ert_interval.specs.Intervals.{AreKept}
@@ -31,7 +31,7 @@ due_of : (g s : Settings) (first time : ℤ) (d : ℕ) → time ≡ first → s 
 due_of g s first time d same settings found =
     sym (found ∙ (ap (λ x. deadline_at (x -ℤ base s)) same ∙ ap (λ x. deadline_at (first -ℤ base x)) settings))
 
-accepted : (g : Settings) (first : ℤ) (period d : ℕ) → (period ≡ 0 → ⊥) → deadline_at (first -ℤ base g) ≡ Some d → IsRefused g first period → ⊥
+accepted : (g : Settings) (first : ℤ) (period d : ℕ) → (period ≡ 0 → ⊥) → deadline_at (first -ℤ base g) ≡ Some d → HasBadArguments g first period → ⊥
 accepted g first period d some due refused =
     elim refused [ inl none ↦ some none | inr out ↦ (let clash : Some d ≡ None = sym due ∙ out in absurd cc) ]
 

@@ -1,5 +1,5 @@
 use Rattle.std.proofs.Common.{◌≤◌}
-use Rattle.ert_interval.specs.Going.{Stays, StepsTo}
+use Rattle.ert_interval.specs.Going.{KeepsSeats, StepsTo}
 use Rattle.ert_interval.specs.Calls.{Still}
 use Rattle.ert_interval.specs.Intervals.{AreKept}
 use Rattle.ert_interval.proofs.Passing.{PassesTo}
@@ -9,7 +9,7 @@ abbrev pub invariant-loop-number : goal.invariant-loop-number
 invariant-loop-number l = record {
   kept : AreKept l.self.world l.self.intervals.items;
   still : Still l.fn.self.world l.self.world;
-  stays : Stays l.fn.self.world l.self.world;
+  stays : KeepsSeats l.fn.self.world l.self.world;
   few : l.armed ≤ l.number;
   steps : StepsTo l.fn.sched l.number l.fn.self.world l.fn.self.intervals.items l.armed l.self.world l.self.intervals.items;
   to : PassesTo l.fn.sched l.number l.self.world l.fn.self.intervals.items l.self.intervals.items l.armed;

@@ -2,8 +2,8 @@ use Rattle.std.proofs.Common.{true, false, refl, subst}
 use Rattle.std.specs.Prelude.{length}
 use Rattle.ert_effects.specs.Chains.{Exits}
 use Rattle.ert_effects.specs.Ways.{Way}
-use Rattle.ert_names.specs.Calls.{HasExited}
-use Rattle.ert_names.specs.Registered.{Registered, seen}
+use Rattle.ert_names.specs.Calls.{ExitDropsName}
+use Rattle.ert_names.specs.Registered.{Registered, seen_with_names}
 use Rattle.ert_world.specs.Worlds.{Goes}
 use Rattle.ert_names.proofs.Living.{exited_old, exited_new, exited_unnamed, without_unnamed}
 use Rattle.ert_names.proofs.world.NameWorld.exit.Goals as goal
@@ -18,10 +18,10 @@ invariant_of-self c =
 
 pub returns-then-not-exit-clause-call : goal.returns-then-not-exit-clause-call
 returns-then-not-exit-clause-call c =
-    let before = seen c.self.inside.world c.self.inside.registry c.self.inside.rows.items c.self.inside.mail.items in
-    let after = seen c.exit.new.self c.self.inside.registry c.self.inside.rows.items c.self.inside.mail.items in
+    let before = seen_with_names c.self.inside.world c.self.inside.registry c.self.inside.rows.items c.self.inside.mail.items in
+    let after = seen_with_names c.exit.new.self c.self.inside.registry c.self.inside.rows.items c.self.inside.mail.items in
     let call = λ (w : Registered) (way : Way). Exits w.world.settings way 0 c.args.process false in
-    subst (λ (w : Registered). HasExited w c.args.process false (call w) after) c.self.view_is
+    subst (λ (w : Registered). ExitDropsName w c.args.process false (call w) after) c.self.view_is
     (record {
       goes = record {
         goes = subst (λ b. Goes before.world (λ way. Exits before.world.settings way 0 c.args.process b) c.exit.new.self) c.if-not-exit.true c.exit.ensures.call;
@@ -52,10 +52,10 @@ returns-clause-unnamed c = without_unnamed c.self.inside.registry c.remove_proce
 
 pub returns-clause-call : goal.returns-clause-call
 returns-clause-call c =
-    let before = seen c.self.inside.world c.self.inside.registry c.self.inside.rows.items c.self.inside.mail.items in
-    let after = seen c.exit.new.self c.remove_process.new.self c.self.inside.rows.items c.self.inside.mail.items in
+    let before = seen_with_names c.self.inside.world c.self.inside.registry c.self.inside.rows.items c.self.inside.mail.items in
+    let after = seen_with_names c.exit.new.self c.remove_process.new.self c.self.inside.rows.items c.self.inside.mail.items in
     let call = λ (w : Registered) (way : Way). Exits w.world.settings way 0 c.args.process true in
-    subst (λ (w : Registered). HasExited w c.args.process true (call w) after) c.self.view_is
+    subst (λ (w : Registered). ExitDropsName w c.args.process true (call w) after) c.self.view_is
     (record {
       goes = record {
         goes = subst (λ b. Goes before.world (λ way. Exits before.world.settings way 0 c.args.process b) c.exit.new.self) c.if-not-exit.false c.exit.ensures.call;

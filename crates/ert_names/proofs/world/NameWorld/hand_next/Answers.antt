@@ -1,9 +1,9 @@
 use Rattle.std.proofs.Common.{◌≡◌, ℕ, ◌<◌, length, true, false, [], ◌∷◌, ◌++◌, Some, None, rules, refl, sym, ap, subst, ◌∙◌, arith, append-nil}
 use Rattle.std.proofs.lemmas.List.{length-map}
-use Rattle.ert_names.specs.Calls.{mail_of}
+use Rattle.ert_names.specs.Calls.{named_mail_of}
 use Rattle.ert_names.specs.Handing.{TakesNext, HandsNone, HandsOne}
 use Rattle.ert_names.specs.declared.named.NamedMail.{NamedMail}
-use Rattle.ert_names.specs.Registered.{Registered, seen, row_of}
+use Rattle.ert_names.specs.Registered.{Registered, seen_with_names, row_seen}
 use Rattle.ert_names.proofs.Handing.{posted_row, hands_one}
 use Rattle.ert_names.proofs.Living.{names_next}
 use Rattle.ert_names.proofs.world.NameWorld.hand_next.Goals as goal
@@ -22,7 +22,7 @@ returns-in_default c =
     let n = length c.self.inside.rows.items in
     let result : c.take_message.result ≡ None = search rules in
     let none = (subst (λ m. TakesNext n c.self.inside.world m c.take_message.new.world) result (c.take_message.ensures.call n c.self.invariant.fits)).0 in
-    let after = seen c.take_message.new.world c.self.inside.registry c.self.inside.rows.items c.reserve.new.self.items in
+    let after = seen_with_names c.take_message.new.world c.self.inside.registry c.self.inside.rows.items c.reserve.new.self.items in
     record {
       call =
           subst (λ (w : Registered). HandsNone w after) c.self.view_is
@@ -50,14 +50,14 @@ returns-in_default-process c =
     let result : c.take_message.result ≡ Some (c.in-Some.timer, c.in-Some.place) = search rules in
     let next = (subst (λ m. TakesNext n c.self.inside.world m c.take_message.new.world) result (c.take_message.ensures.call n c.self.invariant.fits)).0 in
     let found : c.process.result ≡ None = search rules in
-    let before = seen c.self.inside.world c.self.inside.registry c.self.inside.rows.items c.self.inside.mail.items in
-    let after = seen c.take_message.new.world c.self.inside.registry c.self.inside.rows.items c.reserve.new.self.items in
+    let before = seen_with_names c.self.inside.world c.self.inside.registry c.self.inside.rows.items c.self.inside.mail.items in
+    let after = seen_with_names c.take_message.new.world c.self.inside.registry c.self.inside.rows.items c.reserve.new.self.items in
     let goes_to = posted_row c.self.inside.registry c.self.inside.rows.items c.in-Some.timer c.in-Some.place c.index-row.result.now c.as_str.result.now None
     next.known c.index-row.ensures c.as_str.ensures.value (sym found ∙ c.process.ensures) in
     record {
       call =
           subst (λ (w : Registered). HandsOne w false after) c.self.view_is
-          (hands_one before after n (c.in-Some.timer, c.in-Some.place) None (sym (length-map c.self.inside.rows.items row_of)) next refl refl goes_to
+          (hands_one before after n (c.in-Some.timer, c.in-Some.place) None (sym (length-map c.self.inside.rows.items row_seen)) next refl refl goes_to
           (c.reserve.ensures.items ∙ sym (append-nil c.self.inside.mail.items)));
     }
 
@@ -73,14 +73,14 @@ returns c =
     let result : c.take_message.result ≡ Some (c.in-Some.timer, c.in-Some.place) = search rules in
     let next = (subst (λ m. TakesNext n c.self.inside.world m c.take_message.new.world) result (c.take_message.ensures.call n c.self.invariant.fits)).0 in
     let found : c.process.result ≡ Some c.in-Some-process.process = search rules in
-    let before = seen c.self.inside.world c.self.inside.registry c.self.inside.rows.items c.self.inside.mail.items in
-    let after = seen c.take_message.new.world c.self.inside.registry c.self.inside.rows.items c.push_reserved.new.self.items in
-    let mail : ℕ × NamedMail = (c.in-Some-process.process, mail_of c.in-Some.timer (row_of c.index-row.result.now)) in
+    let before = seen_with_names c.self.inside.world c.self.inside.registry c.self.inside.rows.items c.self.inside.mail.items in
+    let after = seen_with_names c.take_message.new.world c.self.inside.registry c.self.inside.rows.items c.push_reserved.new.self.items in
+    let mail : ℕ × NamedMail = (c.in-Some-process.process, named_mail_of c.in-Some.timer (row_seen c.index-row.result.now)) in
     let goes_to = posted_row c.self.inside.registry c.self.inside.rows.items c.in-Some.timer c.in-Some.place c.index-row.result.now c.as_str.result.now
     (Some c.in-Some-process.process) next.known c.index-row.ensures c.as_str.ensures.value (sym found ∙ c.process.ensures) in
     let put = c.push_reserved.ensures.items ∙ ap (λ l. l ++ mail ∷ []) c.reserve.ensures.items in
     record {
       call =
           subst (λ (w : Registered). HandsOne w true after) c.self.view_is
-          (hands_one before after n (c.in-Some.timer, c.in-Some.place) (Some mail) (sym (length-map c.self.inside.rows.items row_of)) next refl refl goes_to put);
+          (hands_one before after n (c.in-Some.timer, c.in-Some.place) (Some mail) (sym (length-map c.self.inside.rows.items row_seen)) next refl refl goes_to put);
     }

@@ -1,8 +1,8 @@
 use Rattle.std.proofs.Common.{true, inr, length, rules, refl, subst}
 use Rattle.ert_effects.specs.WheelCalls.{TellsAlive}
 use Rattle.ert_defs.specs.declared.entry.Actor.TheVariants.{Caller}
-use Rattle.ert_names.specs.Calls.{GoesLone, IsBadName, AreFree, HasRegistered, LooksAt}
-use Rattle.ert_names.specs.Registered.{Registered, seen}
+use Rattle.ert_names.specs.Calls.{GoesLone, IsBadName, AreFree, HasRegistered, SeesAlive}
+use Rattle.ert_names.specs.Registered.{Registered, seen_with_names}
 use Rattle.ert_names.proofs.Living.{names_looked, registered_if, seen_living}
 use Rattle.ert_world.specs.Worlds.{Goes, By}
 use Rattle.ert_names.proofs.world.NameWorld.register.Goals as goal
@@ -26,7 +26,7 @@ invariant_of-self-2 c =
 pub returns-then-not-is_alive : goal.returns-then-not-is_alive
 returns-then-not-is_alive c =
     let w = c.self.inside.world in
-    let after = seen c.is_alive.new.self c.self.inside.registry c.self.inside.rows.items c.self.inside.mail.items in
+    let after = seen_with_names c.is_alive.new.self c.self.inside.registry c.self.inside.rows.items c.self.inside.mail.items in
     let free : AreFree c.self.inside.registry c.args.name.now c.args.process = search rules in
     record {
       call =
@@ -53,7 +53,7 @@ returns c =
       goes = subst (λ b. Goes w (By w (λ g. TellsAlive g (Caller 0) c.args.process b)) c.is_alive.new.self) c.if-not-is_alive.false c.is_alive.ensures.call;
       lone = c.self.invariant.fits.lone;
     } in
-    let after = seen c.is_alive.new.self c.insert.new.self c.self.inside.rows.items c.self.inside.mail.items in
+    let after = seen_with_names c.is_alive.new.self c.insert.new.self c.self.inside.rows.items c.self.inside.mail.items in
     record {
       call =
           elim c.match-insert.branch [
@@ -61,7 +61,7 @@ returns c =
                 (subst (λ (w : Registered). HasRegistered w c.args.name.now c.args.process after) c.self.view_is
                 (record { free = free; lives = lives; names = m.in-Ok.ensures.ok; rows = refl; mail = refl }))
             | in-Err m ↦ rw m.result-is
-                (subst (λ (w : Registered). AreFree w.names c.args.name.now c.args.process × LooksAt w c.args.process true after) c.self.view_is
+                (subst (λ (w : Registered). AreFree w.names c.args.name.now c.args.process × SeesAlive w c.args.process true after) c.self.view_is
                 (free, record { goes = lives; names = m.in-Err.ensures.err; rows = refl; mail = refl }))
           ];
     }

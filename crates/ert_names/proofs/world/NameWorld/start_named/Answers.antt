@@ -4,9 +4,9 @@ use Rattle.ert_effects.specs.TimerCalls.{Starts}
 use Rattle.ert_effects.specs.declared.answers.StartErr.{StartErr}
 use Rattle.ert_effects.specs.declared.answers.StartErr.TheVariants.{NoMemory}
 use Rattle.ert_defs.specs.declared.timer.TimerRef.{TimerRef}
-use Rattle.ert_names.specs.Calls.{HasStarted, StartsAt, StartsNamed, start_at}
+use Rattle.ert_names.specs.Calls.{HasStartedForName, StartsAt, StartsNamed, start_for_name}
 use Rattle.ert_names.specs.Fits.{FitsNames}
-use Rattle.ert_names.specs.Registered.{Registered, Row, seen, row_of}
+use Rattle.ert_names.specs.Registered.{Registered, RowSeen, seen_with_names, row_seen}
 use Rattle.ert_names.proofs.Fitting.{starts_fit, refused_start_fits}
 use Rattle.ert_names.proofs.Handing.{refused_named, place_is, place_of, longer_by}
 use Rattle.ert_names.proofs.Living.{names_by, names_more}
@@ -17,7 +17,7 @@ pub invariant_of-self-in_err-timer : goal.invariant_of-self-in_err-timer
 invariant_of-self-in_err-timer c =
     let n = length c.self.inside.rows.items in
     let w = c.self.inside.world in
-    let start = start_at c.args.when c.len.result in
+    let start = start_for_name c.args.when c.len.result in
     let e : StartErr = c.in_err-timer.field-0.0 in
     let result : c.start.result ≡ Err e = search rules in
     let goes : Goes w (By w (λ g. Starts g 0 c.args.wheel start (Err e))) c.start.new.self =
@@ -29,13 +29,13 @@ invariant_of-self-in_err-timer c =
 pub returns-in_err-timer : goal.returns-in_err-timer
 returns-in_err-timer c =
     let w = c.self.inside.world in
-    let start = start_at c.args.when c.len.result in
+    let start = start_for_name c.args.when c.len.result in
     let e : StartErr = c.in_err-timer.field-0.0 in
     let result : c.start.result ≡ Err e = search rules in
     let answer : c.from_residual.result ≡ Err e = search rules in
-    let before = seen c.self.inside.world c.self.inside.registry c.self.inside.rows.items c.self.inside.mail.items in
-    let after = seen c.start.new.self c.self.inside.registry c.reserve.new.self.items c.self.inside.mail.items in
-    let row : Row = record { name = c.args.name.now; msg = c.args.msg; kind = c.args.kind } in
+    let before = seen_with_names c.self.inside.world c.self.inside.registry c.self.inside.rows.items c.self.inside.mail.items in
+    let after = seen_with_names c.start.new.self c.self.inside.registry c.reserve.new.self.items c.self.inside.mail.items in
+    let row : RowSeen = record { name = c.args.name.now; msg = c.args.msg; kind = c.args.kind } in
     let place : c.len.result ≡ length before.rows = place_is c.len.result c.reserve.new.self.items c.self.inside.rows.items (c.len.ensures ∙ c.reserve.new.self.ok.0) c.reserve.ensures.items in
     let goes : Goes w (By w (λ g. Starts g 0 c.args.wheel start (Err e))) c.start.new.self =
     subst (λ r. Goes w (By w (λ g. Starts g 0 c.args.wheel start r)) c.start.new.self) result c.start.ensures.call in
@@ -46,11 +46,11 @@ returns-in_err-timer c =
           (refused_named before after c.args.wheel c.args.when row e (subst (λ (r : Result TimerRef StartErr). r ≢ Err NoMemory) result c.start.ensures.memory)
           (record {
             goes = record {
-              goes = subst (λ k. Goes w (By w (λ g. Starts g 0 c.args.wheel (start_at c.args.when k) (Err e))) c.start.new.self) place goes;
+              goes = subst (λ k. Goes w (By w (λ g. Starts g 0 c.args.wheel (start_for_name c.args.when k) (Err e))) c.start.new.self) place goes;
               lone = c.self.invariant.fits.lone;
             };
             names = refl;
-            rows = ap (map row_of) c.reserve.ensures.items;
+            rows = ap (map row_seen) c.reserve.ensures.items;
             mail = refl;
           })));
     }
@@ -59,7 +59,7 @@ pub invariant_of-self-2 : goal.invariant_of-self-2
 invariant_of-self-2 c =
     let n = length c.self.inside.rows.items in
     let w = c.self.inside.world in
-    let start = start_at c.args.when c.len.result in
+    let start = start_for_name c.args.when c.len.result in
     let place : c.len.result ≡ n = place_of c.len.result c.reserve.new.self.items c.self.inside.rows.items (c.len.ensures ∙ c.reserve.new.self.ok.0) c.reserve.ensures.items in
     let longer : length c.push_reserved.new.self.items ≡ n + 1 =
     longer_by c.push_reserved.new.self.items c.self.inside.rows.items (record { name = c.in-Ok.name; msg = c.args.msg; kind = c.args.kind })
@@ -73,28 +73,28 @@ invariant_of-self-2 c =
 pub returns : goal.returns
 returns c =
     let w = c.self.inside.world in
-    let start = start_at c.args.when c.len.result in
+    let start = start_for_name c.args.when c.len.result in
     let timer = c.in_ok-timer.timer in
     let result : c.start.result ≡ Ok timer = search rules in
-    let before = seen c.self.inside.world c.self.inside.registry c.self.inside.rows.items c.self.inside.mail.items in
-    let after = seen c.start.new.self c.self.inside.registry c.push_reserved.new.self.items c.self.inside.mail.items in
-    let row : Row = record { name = c.args.name.now; msg = c.args.msg; kind = c.args.kind } in
+    let before = seen_with_names c.self.inside.world c.self.inside.registry c.self.inside.rows.items c.self.inside.mail.items in
+    let after = seen_with_names c.start.new.self c.self.inside.registry c.push_reserved.new.self.items c.self.inside.mail.items in
+    let row : RowSeen = record { name = c.args.name.now; msg = c.args.msg; kind = c.args.kind } in
     let place : c.len.result ≡ length before.rows = place_is c.len.result c.reserve.new.self.items c.self.inside.rows.items (c.len.ensures ∙ c.reserve.new.self.ok.0) c.reserve.ensures.items in
     let goes : Goes w (By w (λ g. Starts g 0 c.args.wheel start (Ok timer))) c.start.new.self =
     subst (λ r. Goes w (By w (λ g. Starts g 0 c.args.wheel start r)) c.start.new.self) result c.start.ensures.call in
     let text : string_bytes c.in-Ok.name ≡ c.args.name.now = c.in-Ok.ensures.ok in
     record {
       call =
-          subst (λ (w : Registered). HasStarted w row (StartsAt w c.args.wheel c.args.when (Ok timer)) after) c.self.view_is
+          subst (λ (w : Registered). HasStartedForName w row (StartsAt w c.args.wheel c.args.when (Ok timer)) after) c.self.view_is
           (record {
             goes = record {
-              goes = subst (λ k. Goes w (By w (λ g. Starts g 0 c.args.wheel (start_at c.args.when k) (Ok timer))) c.start.new.self) place goes;
+              goes = subst (λ k. Goes w (By w (λ g. Starts g 0 c.args.wheel (start_for_name c.args.when k) (Ok timer))) c.start.new.self) place goes;
               lone = c.self.invariant.fits.lone;
             };
             names = refl;
-            rows = ap (map row_of) (c.push_reserved.ensures.items ∙ ap (λ l. l ++ (record { name = c.in-Ok.name; msg = c.args.msg; kind = c.args.kind }) ∷ []) c.reserve.ensures.items)
-                ∙ (map_push row_of c.self.inside.rows.items (record { name = c.in-Ok.name; msg = c.args.msg; kind = c.args.kind })
-                ∙ ap (λ t. map row_of c.self.inside.rows.items ++ (record { name = t; msg = c.args.msg; kind = c.args.kind }) ∷ []) text);
+            rows = ap (map row_seen) (c.push_reserved.ensures.items ∙ ap (λ l. l ++ (record { name = c.in-Ok.name; msg = c.args.msg; kind = c.args.kind }) ∷ []) c.reserve.ensures.items)
+                ∙ (map_push row_seen c.self.inside.rows.items (record { name = c.in-Ok.name; msg = c.args.msg; kind = c.args.kind })
+                ∙ ap (λ t. map row_seen c.self.inside.rows.items ++ (record { name = t; msg = c.args.msg; kind = c.args.kind }) ∷ []) text);
             mail = refl;
           });
     }

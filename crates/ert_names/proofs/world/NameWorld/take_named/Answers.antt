@@ -1,6 +1,6 @@
 use Rattle.std.proofs.Common.{◌≡◌, true, None, rules, refl, sym, subst, ◌∙◌}
-use Rattle.ert_names.specs.Calls.{LooksAt, first_for, others_for}
-use Rattle.ert_names.specs.Registered.{Registered, seen}
+use Rattle.ert_names.specs.Calls.{SeesAlive, first_for, others_for}
+use Rattle.ert_names.specs.Registered.{Registered, seen_with_names}
 use Rattle.ert_names.proofs.Handing.{none_goes}
 use Rattle.ert_world.specs.Worlds.{Goes, By}
 use Rattle.std.specs.Prelude.{length}
@@ -25,12 +25,12 @@ returns-in-None c =
     let none : first_for c.args.process ms ≡ None = sym c.first_mail.ensures.value ∙ result in
     let lives : Goes w (By w (λ g. TellsAlive g (Caller 0) c.args.process true)) c.is_alive.new.self =
     subst (λ b. Goes w (By w (λ g. TellsAlive g (Caller 0) c.args.process b)) c.is_alive.new.self) c.if-not-is_alive.false c.is_alive.ensures.call in
-    let between = seen c.is_alive.new.self c.self.inside.registry c.self.inside.rows.items ms in
+    let between = seen_with_names c.is_alive.new.self c.self.inside.registry c.self.inside.rows.items ms in
     let after = none_goes c.args.process ms none in
     record {
       call =
           rw c.first_mail.ensures.mail
-          (subst (λ (w : Registered). (first_for c.args.process w.mail ≡ None) × LooksAt w c.args.process true (record between { mail = others_for c.args.process ms }))
+          (subst (λ (w : Registered). (first_for c.args.process w.mail ≡ None) × SeesAlive w c.args.process true (record between { mail = others_for c.args.process ms }))
           c.self.view_is
           (none, record { goes = record { goes = lives; lone = c.self.invariant.fits.lone }; names = refl; rows = refl; mail = after }));
     }

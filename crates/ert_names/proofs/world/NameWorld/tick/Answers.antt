@@ -1,9 +1,9 @@
 use Rattle.std.proofs.Common.{length, refl, subst}
 use Rattle.ert_effects.specs.ClockCalls.{Ticks}
 use Rattle.ert_clock.specs.Ticks.{act_of}
-use Rattle.ert_names.specs.Calls.{GoesOnClock}
+use Rattle.ert_names.specs.Calls.{GoesAloneOnClock}
 use Rattle.ert_names.specs.Fits.{FitsRows}
-use Rattle.ert_names.specs.Registered.{Registered, seen}
+use Rattle.ert_names.specs.Registered.{Registered, seen_with_names}
 use Rattle.ert_names.proofs.Fitting.{acts_fit}
 use Rattle.ert_names.proofs.Living.{names_by}
 use Rattle.ert_world.specs.Worlds.{Seen, By}
@@ -20,6 +20,6 @@ invariant_of-self c =
 
 pub returns-clause-call : goal.returns-clause-call
 returns-clause-call c =
-    let after = seen c.tick.new.self c.self.inside.registry c.self.inside.rows.items c.self.inside.mail.items in
-    subst (λ (w : Registered). GoesOnClock w (By w.world (λ g. Ticks g 0 c.args.reading c.args.force c.tick.result)) after) c.self.view_is
+    let after = seen_with_names c.tick.new.self c.self.inside.registry c.self.inside.rows.items c.self.inside.mail.items in
+    subst (λ (w : Registered). GoesAloneOnClock w (By w.world (λ g. Ticks g 0 c.args.reading c.args.force c.tick.result)) after) c.self.view_is
     (record { goes = record { goes = c.tick.ensures.call; lone = c.self.invariant.fits.lone }; names = refl; rows = refl; mail = refl })

@@ -1,9 +1,9 @@
 use Rattle.std.proofs.Common.{◌≡◌, Ok, Err, inl, inr, length, rules, refl, subst}
 use Rattle.ert_effects.specs.Chains.{Turns}
 use Rattle.ert_defs.specs.declared.memory.NoMemory.{NoMemory}
-use Rattle.ert_names.specs.Calls.{TurnsNamed, HasTurned}
+use Rattle.ert_names.specs.Calls.{TurnsNamed, HasTurnedAndHanded}
 use Rattle.ert_names.specs.Handing.{HandsAll, HandsThem, HandsSome}
-use Rattle.ert_names.specs.Registered.{Registered, seen}
+use Rattle.ert_names.specs.Registered.{Registered, seen_with_names}
 use Rattle.ert_names.proofs.Fitting.{turns_fit}
 use Rattle.ert_names.proofs.Handing.{turned, stopped}
 use Rattle.ert_names.proofs.Living.{names_on}
@@ -24,7 +24,7 @@ returns-in_err-turned c =
     let w = c.self.inside.world in
     let result : c.turn.result ≡ Err e = search rules in
     let answer : c.from_residual.result ≡ Err e = search rules in
-    let after = seen c.turn.new.self c.self.inside.registry c.self.inside.rows.items c.self.inside.mail.items in
+    let after = seen_with_names c.turn.new.self c.self.inside.registry c.self.inside.rows.items c.self.inside.mail.items in
     let goes : Goes w (λ way. Turns w.settings way c.args.sched (Err e)) c.turn.new.self =
     subst (λ r. Goes w (λ way. Turns w.settings way c.args.sched r) c.turn.new.self) result c.turn.ensures.call in
     record {
@@ -50,8 +50,8 @@ returns-in_err-handed c =
     let result : c.turn.result ≡ Ok t = search rules in
     let answer : c.from_residual-in_err-handed.result ≡ Err e = search rules in
     let handed : c.hand_all.result ≡ Err e = search rules in
-    let before = seen w c.self.inside.registry c.self.inside.rows.items c.self.inside.mail.items in
-    let between = seen c.turn.new.self c.self.inside.registry c.self.inside.rows.items c.self.inside.mail.items in
+    let before = seen_with_names w c.self.inside.registry c.self.inside.rows.items c.self.inside.mail.items in
+    let between = seen_with_names c.turn.new.self c.self.inside.registry c.self.inside.rows.items c.self.inside.mail.items in
     let hands : HandsSome between c.hand_all.new.self = subst (λ r. HandsAll between r c.hand_all.new.self) handed c.hand_all.ensures.call in
     record {
       call =
@@ -66,13 +66,13 @@ returns c =
     let t = c.in_ok-turned.turned in
     let result : c.turn.result ≡ Ok t = search rules in
     let handed : c.hand_all.result ≡ Ok (c.in_ok-handed.handed, c.in_ok-handed.lost) = search rules in
-    let before = seen w c.self.inside.registry c.self.inside.rows.items c.self.inside.mail.items in
-    let between = seen c.turn.new.self c.self.inside.registry c.self.inside.rows.items c.self.inside.mail.items in
+    let before = seen_with_names w c.self.inside.registry c.self.inside.rows.items c.self.inside.mail.items in
+    let between = seen_with_names c.turn.new.self c.self.inside.registry c.self.inside.rows.items c.self.inside.mail.items in
     let hands : HandsThem between (c.in_ok-handed.handed, c.in_ok-handed.lost) c.hand_all.new.self =
     subst (λ r. HandsAll between r c.hand_all.new.self) handed c.hand_all.ensures.call in
     record {
       call =
-          subst (λ (w : Registered). HasTurned w c.args.sched (record { turned = t; handed = c.in_ok-handed.handed; lost = c.in_ok-handed.lost }) c.hand_all.new.self)
+          subst (λ (w : Registered). HasTurnedAndHanded w c.args.sched (record { turned = t; handed = c.in_ok-handed.handed; lost = c.in_ok-handed.lost }) c.hand_all.new.self)
           c.self.view_is
           (turned before between c.hand_all.new.self c.args.sched t c.turn.result (c.in_ok-handed.handed, c.in_ok-handed.lost) result c.turn.ensures.call c.self.invariant.fits.lone
           refl refl refl hands);

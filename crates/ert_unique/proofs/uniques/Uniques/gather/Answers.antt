@@ -2,7 +2,7 @@ use Rattle.std.proofs.Common.{◌∙◌, arith, ap}
 use Rattle.std.proofs.lemmas.List.Elements.{All-pop}
 use Rattle.std.specs.Prelude.{Some}
 use Rattle.ert_unique.specs.Passes.{Belongs, draws_together}
-use Rattle.ert_unique.specs.Steps.{Sitter}
+use Rattle.ert_unique.specs.Steps.{UniqueSitter}
 use Rattle.ert_unique.proofs.Dividing.{unites}
 use Rattle.ert_unique.proofs.Gathering.{gathers_first, gathers_one}
 use Rattle.ert_unique.proofs.uniques.Uniques.gather.Goals as goal
@@ -47,9 +47,9 @@ loop-pass-preserved c =
     let me = c.join_seat.ensures.2 in
     record {
       table = c.join_seat.ensures.0 ∙ kept.table;
-      bare = ap (λ (x : Sitter). x.1) me ∙ kept.bare;
-      opened = ap (λ (x : Sitter). x.0.passes) me ∙ kept.opened;
-      share = omega (arith, ap (λ (x : Sitter). x.0.share) me, pass.share, kept.share, c.in-Some-pop.ensures.len);
+      bare = ap (λ (x : UniqueSitter). x.1) me ∙ kept.bare;
+      opened = ap (λ (x : UniqueSitter). x.0.passes) me ∙ kept.opened;
+      share = omega (arith, ap (λ (x : UniqueSitter). x.0.share) me, pass.share, kept.share, c.in-Some-pop.ensures.len);
       belong = parts.0;
       draws = rw me
           (gathers_one (draws_together c.args.passes.items) seat.me.0.draws c.loop-pass.passes.items left pass c.in-Some-pop.ensures.items kept.draws);

@@ -1,5 +1,5 @@
 use Rattle.std.proofs.Common.{arith, ap, ◌∙◌}
-use Rattle.ert_unique.specs.Steps.{Sitter}
+use Rattle.ert_unique.specs.Steps.{UniqueSitter}
 use Rattle.ert_unique.proofs.Dividing.{divides, unites}
 use Rattle.ert_unique.proofs.uniques.Uniques.meet.Goals as goal
 
@@ -20,7 +20,7 @@ join_seat-requires c =
     let note = c.split_seat-note.result in (
       c.requires.belongs.table,
       c.split_seat-note.ensures.3 ∙ c.requires.other_belongs.table,
-      ap (λ (x : Sitter). x.1) c.split_seat-note.ensures.4,
+      ap (λ (x : UniqueSitter). x.1) c.split_seat-note.ensures.4,
       omega (arith, c.args.self.now.one_word),
       unites table.shared.key pass.seat.id pass.seat.me.0 note.id note.me.0 c.requires.belongs.opened,
     )
