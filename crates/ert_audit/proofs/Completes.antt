@@ -3,7 +3,7 @@
 use Rattle.std.proofs.Common.{◌≡◌, ◌⊎◌, inl, inr, ◌++◌, ℕ, sym, ap, ◌∙◌, subst, List, Option, Some, None}
 use Rattle.std.proofs.lemmas.List.{append-nil}
 use Rattle.ert_io.specs.Known.{before, IsAtEnd}
-use Rattle.ert_audit.specs.Audits.{status_of}
+use Rattle.ert_audit.specs.Audits.{status_telling}
 use Rattle.ert_audit.specs.Verdicts.{HasVerdict}
 use Rattle.ert_audit.specs.declared.status.AuditStatus.{AuditStatus}
 use Rattle.ert_audit.specs.declared.status.AuditStatus.TheVariants.{WriteFault, NoMemory}
@@ -26,10 +26,10 @@ all_read old None read text taken end whole = absurd (none_some text (sym taken 
 pub told_so : (read text : List ℕ) (found wanted : Verdict) (status : AuditStatus)
     → ((t : List ℕ) (v w : Verdict) → HasVerdict t v → HasVerdict t w → v ≡ w) → read ≡ text
     → HasVerdict read found → HasVerdict text wanted → (status ≡ WriteFault → ⊥)
-    → (status ≡ status_of found) ⊎ (status ≡ WriteFault) ⊎ (status ≡ NoMemory)
-    → (status ≡ status_of wanted) ⊎ (status ≡ NoMemory)
+    → (status ≡ status_telling found) ⊎ (status ≡ WriteFault) ⊎ (status ≡ NoMemory)
+    → (status ≡ status_telling wanted) ⊎ (status ≡ NoMemory)
 told_so read text found wanted status one same has wants sure which = elim which [
-  | inl is ↦ inl (is ∙ ap status_of (one text found wanted (subst (λ (t : List ℕ). HasVerdict t found) same has) wants))
+  | inl is ↦ inl (is ∙ ap status_telling (one text found wanted (subst (λ (t : List ℕ). HasVerdict t found) same has) wants))
   | inr other ↦ elim other [
     | inl fault ↦ absurd (sure fault)
     | inr memory ↦ inr memory

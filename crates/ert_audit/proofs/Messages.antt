@@ -7,10 +7,10 @@ use Rattle.ert_defs.specs.States.{state}
 use Rattle.ert_defs.specs.declared.entry.Entry.{Entry}
 use Rattle.ert_defs.specs.declared.settings.Settings.{Settings}
 use Rattle.ert_judge.specs.Verdicts.{IsFirstIllegal}
-use Rattle.ert_judge.specs.Reasons.{Holds}
+use Rattle.ert_judge.specs.Reasons.{IsFirstReason}
 use Rattle.ert_judge.specs.declared.reasons.Reason.{Reason}
 use Rattle.ert_spelling.specs.Spelling.{Spells}
-use Rattle.ert_audit.specs.Messages.{after_at, line_end, lines_on, hex_digit, is_plain, shown_byte, line_after, illegal_message, IsIllegalMessage}
+use Rattle.ert_audit.specs.Messages.{after_at, line_end, lines_on, hex_digit, is_shown_as_is, shown_byte, line_after, illegal_message, IsIllegalMessage}
 
 -- a call that may fail, and what follows where it doesn't
 pub ok_map : {T E P Q : Type 0} (r : Result T E) → (P → Q) → OnOk r P → OnOk r Q
@@ -34,18 +34,18 @@ line_more text rest after n so_far more =
     rw add-one (more ∙ ap (λ (t : List ℕ). after_at t (line_end t)) so_far)
 
 -- a byte as it is shown
-pub shown_plain : (b : ℕ) → is_plain b ≡ true → shown_byte b ≡ b ∷ []
+pub shown_plain : (b : ℕ) → is_shown_as_is b ≡ true → shown_byte b ≡ b ∷ []
 unfolding shown_byte
 shown_plain b is = rw is refl
 
-pub shown_hex : (b : ℕ) → is_plain b ≡ false → shown_byte b ≡ 92 ∷ 120 ∷ hex_digit (b / 16) ∷ hex_digit (b % 16) ∷ []
+pub shown_hex : (b : ℕ) → is_shown_as_is b ≡ false → shown_byte b ≡ 92 ∷ 120 ∷ hex_digit (b / 16) ∷ hex_digit (b % 16) ∷ []
 unfolding shown_byte
 shown_hex b is = rw is refl
 
 -- a message on an entry that isn't legal
 pub illegal_text : (text message : List ℕ) (g : Settings) (h : List Entry) (place : ℕ) (e : Entry) (r : Reason)
     → Spells g h text × IsChecked g → IsFirstIllegal g h place → slice_get h place ≡ Some e
-    → Holds g (state g (take place h)) e r → message ≡ illegal_message (place + 2) (line_after text (place + 1)) r
+    → IsFirstReason g (state g (take place h)) e r → message ≡ illegal_message (place + 2) (line_after text (place + 1)) r
     → IsIllegalMessage text message
 illegal_text text message g h place e r is first stands holds same = record {
   history = record { settings = g; entries = h; spelled = is.0; checked = is.1 };

@@ -10,20 +10,20 @@ use Rattle.ert_audit.specs.declared.verdict.Verdict.{Verdict}
 use Rattle.ert_audit.specs.declared.verdict.Verdict.TheVariants.{Legal as IsLegal, Illegal as IsIllegal, Refused as IsRefused}
 
 -- the number of a status
-abbrev pub code_of : AuditStatus → ℕ
-code_of Legal = 0
-code_of Illegal = 1
-code_of Refused = 3
-code_of ReadFault = 4
-code_of WriteFault = 5
-code_of NoMemory = 7
-code_of TooLong = 8
+abbrev pub exit_code : AuditStatus → ℕ
+exit_code Legal = 0
+exit_code Illegal = 1
+exit_code Refused = 3
+exit_code ReadFault = 4
+exit_code WriteFault = 5
+exit_code NoMemory = 7
+exit_code TooLong = 8
 
 -- the status that tells a verdict
-abbrev pub status_of : Verdict → AuditStatus
-status_of (IsLegal count) = Legal
-status_of (IsIllegal line) = Illegal
-status_of (IsRefused line) = Refused
+abbrev pub status_telling : Verdict → AuditStatus
+status_telling (IsLegal count) = Legal
+status_telling (IsIllegal line) = Illegal
+status_telling (IsRefused line) = Refused
 
 -- whether a status tells a verdict
 abbrev pub IsVerdict : AuditStatus → Type 0
@@ -43,11 +43,11 @@ pub record HasAll (text : List ℕ) (left left_new : Option (List ℕ)) (verdict
 pub record Judges (status : AuditStatus) (text : List ℕ) (left left_new taken taken_new : Option (List ℕ)) : Type 0 where
   pub verdict : Verdict
   pub has : HasAll text left left_new verdict
-  pub tells : status ≡ status_of verdict
+  pub tells : status ≡ status_telling verdict
   pub writes : taken_new ≡ then taken (verdict_line verdict)
 
 -- all bytes were read, and the first part of the line of their verdict was written
-pub record Stops (left left_new taken taken_new : Option (List ℕ)) : Type 0 where
+pub record StopsInLine (left left_new taken taken_new : Option (List ℕ)) : Type 0 where
   pub text : List ℕ
   pub verdict : Verdict
   pub has : HasAll text left left_new verdict

@@ -6,7 +6,7 @@ use Rattle.std.specs.List.{flat_map}
 use Rattle.ert_defs.specs.States.{state}
 use Rattle.ert_defs.specs.declared.entry.Entry.{Entry}
 use Rattle.ert_judge.specs.Verdicts.{IsFirstIllegal}
-use Rattle.ert_judge.specs.Reasons.{Holds}
+use Rattle.ert_judge.specs.Reasons.{IsFirstReason}
 use Rattle.ert_judge.specs.Texts.{◌⋅◌, reason_text}
 use Rattle.ert_judge.specs.declared.reasons.Reason.{Reason}
 use Rattle.ert_audit.specs.Verdicts.{IsHistory}
@@ -39,24 +39,24 @@ abbrev pub hex_digit : ℕ → ℕ
 hex_digit n = if nat_lt n 10 then 48 + n else 87 + n
 
 -- whether a byte is shown as it is: a letter, a digit, a sign or a blank, and no backslash
-abbrev pub is_plain : ℕ → Bool
-is_plain b = nat_le 32 b && nat_lt b 127 && not (b == 92)
+abbrev pub is_shown_as_is : ℕ → Bool
+is_shown_as_is b = nat_le 32 b && nat_lt b 127 && not (b == 92)
 
 -- a byte as it is shown
 unfoldable pub shown_byte : ℕ → List ℕ
-shown_byte b = if is_plain b then b ∷ [] else 92 ∷ 120 ∷ hex_digit (b / 16) ∷ hex_digit (b % 16) ∷ []
+shown_byte b = if is_shown_as_is b then b ∷ [] else 92 ∷ 120 ∷ hex_digit (b / 16) ∷ hex_digit (b % 16) ∷ []
 
 -- what is shown of bytes: the first 60, and a mark where there are more
-abbrev pub shown : List ℕ → List ℕ
-shown bytes = flat_map shown_byte (take 60 bytes) ++ (if nat_lt 60 (length bytes) then codes ".." else [])
+abbrev pub shortened : List ℕ → List ℕ
+shortened bytes = flat_map shown_byte (take 60 bytes) ++ (if nat_lt 60 (length bytes) then codes ".." else [])
 
 -- the front of a message: the line that it is about
-abbrev pub head_text : ℕ → List ℕ
-head_text line = codes "history:" ⋅ decimal line ⋅ codes ": "
+abbrev pub line_front : ℕ → List ℕ
+line_front line = codes "history:" ⋅ decimal line ⋅ codes ": "
 
 -- the message on an entry that isn't legal, by its line and the reason
 abbrev pub illegal_message : ℕ → List ℕ → Reason → List ℕ
-illegal_message line bytes reason = head_text line ⋅ shown bytes ⋅ codes ": " ⋅ reason_text reason ⋅ codes "\n"
+illegal_message line bytes reason = line_front line ⋅ shortened bytes ⋅ codes ": " ⋅ reason_text reason ⋅ codes "\n"
 
 -- the message on a text tells the first entry that isn't legal, its line and a reason that holds of it
 pub record IsIllegalMessage (text message : List ℕ) : Type 0 where
@@ -66,5 +66,5 @@ pub record IsIllegalMessage (text message : List ℕ) : Type 0 where
   pub entry : Entry
   pub stands : slice_get history.entries place ≡ Some entry
   pub reason : Reason
-  pub holds : Holds history.settings (state history.settings (take place history.entries)) entry reason
+  pub holds : IsFirstReason history.settings (state history.settings (take place history.entries)) entry reason
   pub is : message ≡ illegal_message (place + 2) (line_after text (place + 1)) reason

@@ -5,25 +5,25 @@ use Rattle.std.specs.Fmt.{decimal}
 use Rattle.ert_defs.specs.declared.settings.SettingsFault.{SettingsFault}
 use Rattle.ert_defs.specs.declared.settings.SettingsFault.TheVariants.{Start, First, Count}
 use Rattle.ert_judge.specs.Texts.{◌⋅◌}
-use Rattle.ert_spelling.specs.Faults.{word_in, fault_of, IsUnfit}
+use Rattle.ert_spelling.specs.Faults.{word_in, line_fault, IsUnfit}
 use Rattle.ert_spelling.specs.Spelling.{MisspelledAt}
 use Rattle.ert_spelling.specs.declared.wanted.Wanted.{Wanted}
 use Rattle.ert_spelling.specs.declared.wanted.Wanted.TheVariants.{SettingsWord, Mode, Truth, Integer, Small, Natural, Act, State, Found, Kind, When, Actor, Partner, Event, RequestKind, Picked, Taken, Left, End}
-use Rattle.ert_audit.specs.Messages.{line_after, line_end, lines_on, shown, head_text}
+use Rattle.ert_audit.specs.Messages.{line_after, line_end, lines_on, shortened, line_front}
 use Rattle.ert_audit.specs.declared.refusing.Refusal.{Refusal}
 use Rattle.ert_audit.specs.declared.refusing.Refusal.TheVariants.{At, Unfit, NoNewline, Misspelled}
 
 -- why a line is misspelled, the first of these that holds: it stops being spelled at a word; no newline ends it; no
 -- service can be opened with its settings
 abbrev pub IsRefusal : List ℕ → ℕ → Refusal → Type 0
-IsRefusal text line (At fault) = fault_of (line == 1) (line_after text (line - 1)) ≡ Some fault
+IsRefusal text line (At fault) = line_fault (line == 1) (line_after text (line - 1)) ≡ Some fault
 IsRefusal text line NoNewline =
-    (fault_of (line == 1) (line_after text (line - 1)) ≡ None) × (line_end (lines_on (line - 1) text) ≡ None)
+    (line_fault (line == 1) (line_after text (line - 1)) ≡ None) × (line_end (lines_on (line - 1) text) ≡ None)
 IsRefusal text line (Unfit fault) =
-    (fault_of (line == 1) (line_after text (line - 1)) ≡ None) × (line_end (lines_on (line - 1) text) ≢ None)
+    (line_fault (line == 1) (line_after text (line - 1)) ≡ None) × (line_end (lines_on (line - 1) text) ≢ None)
     × IsUnfit (line_after text (line - 1)) fault
 IsRefusal text line Misspelled =
-    (fault_of (line == 1) (line_after text (line - 1)) ≡ None) × (line_end (lines_on (line - 1) text) ≢ None)
+    (line_fault (line == 1) (line_after text (line - 1)) ≡ None) × (line_end (lines_on (line - 1) text) ≢ None)
     × ((fault : SettingsFault) → IsUnfit (line_after text (line - 1)) fault → ⊥)
 
 -- a fault lies in the bytes
@@ -60,17 +60,17 @@ unfit_text First = codes "the first reading isn't valid"
 unfit_text Count = codes "a number of schedulers, processes, slots or callers is outside its limits"
 
 -- the front of a message: the line and the column, from 1
-abbrev pub place_text : ℕ → ℕ → List ℕ
-place_text line before = codes "history:" ⋅ decimal line ⋅ codes ":" ⋅ decimal (before + 1) ⋅ codes ": \""
+abbrev pub word_front : ℕ → ℕ → List ℕ
+word_front line before = codes "history:" ⋅ decimal line ⋅ codes ":" ⋅ decimal (before + 1) ⋅ codes ": \""
 
 -- the message on a misspelled line
 abbrev pub refusal_message : List ℕ → ℕ → Refusal → List ℕ
 refusal_message bytes line (At fault) =
-    place_text line fault.before
-    ⋅ shown (word_in (drop fault.before bytes)) ⋅ codes "\": expected " ⋅ wanted_text fault.wanted ⋅ codes "\n"
-refusal_message bytes line (Unfit fault) = head_text line ⋅ unfit_text fault ⋅ codes "\n"
-refusal_message bytes line NoNewline = head_text line ⋅ codes "the line has no newline at its end" ⋅ codes "\n"
-refusal_message bytes line Misspelled = head_text line ⋅ codes "the line is misspelled" ⋅ codes "\n"
+    word_front line fault.before
+    ⋅ shortened (word_in (drop fault.before bytes)) ⋅ codes "\": expected " ⋅ wanted_text fault.wanted ⋅ codes "\n"
+refusal_message bytes line (Unfit fault) = line_front line ⋅ unfit_text fault ⋅ codes "\n"
+refusal_message bytes line NoNewline = line_front line ⋅ codes "the line has no newline at its end" ⋅ codes "\n"
+refusal_message bytes line Misspelled = line_front line ⋅ codes "the line is misspelled" ⋅ codes "\n"
 
 -- the message on a text tells the first line that is misspelled, and why it is
 pub record IsRefusalMessage (text message : List ℕ) : Type 0 where

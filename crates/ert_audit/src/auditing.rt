@@ -2,7 +2,7 @@ ghost use Rattle.std.specs.Prelude.{◌≡◌, ◌⊎◌, ◌≤◌, ℕ, List, 
 ghost use Rattle.ert_io.specs.Faults.{Rose};
 ghost use Rattle.ert_io.specs.Known.{then, before, TakesUpTo};
 ghost use Rattle.ert_io.specs.Writing.{WritesFront};
-ghost use Rattle.ert_audit.specs.Audits.{IsVerdict, Judges, Stops, status_of};
+ghost use Rattle.ert_audit.specs.Audits.{IsVerdict, Judges, StopsInLine, status_telling};
 ghost use Rattle.ert_audit.specs.Verdicts.{HasVerdict, verdict_line};
 ghost use Rattle.ert_audit.specs.declared.verdict.Verdict as verdicts;
 
@@ -36,12 +36,12 @@ pub fn audit<R: AllocGlobal, I: Source, O: Sink>(rt: &R, input: &mut I, output: 
 
     // After a failed write, or without memory, the first part of the line stands.
     ensures stops { (result.status ≡ AuditStatus.WriteFault) ⊎ (result.status ≡ AuditStatus.NoMemory)
-        → (output.new ≡ output.old) ⊎ Stops (I.left input.old) (I.left input.new) (O.taken output.old) (O.taken output.new) }
+        → (output.new ≡ output.old) ⊎ StopsInLine (I.left input.old) (I.left input.new) (O.taken output.old) (O.taken output.new) }
 
     // Where nothing fails, only want of memory keeps a text from its verdict.
     ensures complete { (Rose (I.faults input.old) (I.faults input.new) → ⊥) → (Rose (O.faults output.old) (O.faults output.new) → ⊥)
         → (text : List ℕ) (verdict : verdicts.Verdict) → I.left input.old ≡ Some text → length text ≤ 16777216 → HasVerdict text verdict
-        → (result.status ≡ status_of verdict) ⊎ (result.status ≡ AuditStatus.NoMemory) }
+        → (result.status ≡ status_telling verdict) ⊎ (result.status ≡ AuditStatus.NoMemory) }
     ensures later { I.faults input.old ≤ I.faults input.new }
     ensures later_out { O.faults output.old ≤ O.faults output.new }
 {
@@ -73,8 +73,8 @@ fn without_text(alloc: Global, status: AuditStatus) -> Audited
 /// Writes the line of a verdict.
 fn tell<O: Sink>(alloc: Global, verdict: Verdict, output: &mut O) -> AuditStatus
     requires { O.room output.old ≡ None }
-    ensures which { (result ≡ status_of verdict) ⊎ (result ≡ AuditStatus.WriteFault) ⊎ (result ≡ AuditStatus.NoMemory) }
-    ensures told { result ≡ status_of verdict → O.taken output.new ≡ then (O.taken output.old) (verdict_line verdict) }
+    ensures which { (result ≡ status_telling verdict) ⊎ (result ≡ AuditStatus.WriteFault) ⊎ (result ≡ AuditStatus.NoMemory) }
+    ensures told { result ≡ status_telling verdict → O.taken output.new ≡ then (O.taken output.old) (verdict_line verdict) }
     ensures front { WritesFront (O.taken output.old) (O.taken output.new) (verdict_line verdict) }
     ensures later { O.faults output.old ≤ O.faults output.new }
     ensures cause { result ≡ AuditStatus.WriteFault → Rose (O.faults output.old) (O.faults output.new) }
@@ -103,7 +103,7 @@ fn write_line<O: Sink>(output: &mut O, line: &[u8]) -> bool
 
 /// The status that tells a verdict.
 fn status_of(verdict: Verdict) -> AuditStatus
-    ensures { result ≡ status_of verdict }
+    ensures { result ≡ status_telling verdict }
 {
     match verdict {
         Verdict::Legal { .. } => AuditStatus::Legal,

@@ -1,8 +1,8 @@
 //! Why a text has its verdict, for a person. No contract of the audit speaks of it.
 
 ghost use Rattle.std.specs.Prelude.{◌≡◌, ◌⊎◌, ◌≤◌, ◌++◌, codes, IfSome, OnOk, None, string_bytes};
-ghost use Rattle.ert_audit.specs.Explained.{IsMessage, Tells};
-ghost use Rattle.ert_audit.specs.Messages.{head_text, shown, illegal_message, IsIllegalMessage};
+ghost use Rattle.ert_audit.specs.Explained.{IsMessage, TellsPart};
+ghost use Rattle.ert_audit.specs.Messages.{line_front, shortened, illegal_message, IsIllegalMessage};
 ghost use Rattle.ert_audit.specs.Refusals.{IsRefusalMessage};
 ghost use Rattle.ert_io.specs.Writing.{WritesFront};
 ghost use Rattle.ert_judge.specs.Texts.{◌⋅◌, reason_text};
@@ -26,7 +26,7 @@ pub fn explain<E: Sink>(alloc: Global, audited: &Audited, errors: &mut E)
 
     // Of the message only a first part may stand there. Without memory for it there is none.
     ensures explained { (errors.new ≡ errors.old)
-        ⊎ Tells audited.now.status audited.now.text.items (E.taken errors.old) (E.taken errors.new) }
+        ⊎ TellsPart audited.now.status audited.now.text.items (E.taken errors.old) (E.taken errors.new) }
     ensures later { E.faults errors.old ≤ E.faults errors.new }
 {
     if let Some(message) = message_on(alloc, audited.status, &audited.text) {
@@ -105,7 +105,7 @@ fn write_illegal(
 
 /// Appends its line, and why it isn't.
 fn write_entry(page: &mut String, bytes: &[u8], reason: Reason) -> Result<(), AllocError>
-    ensures { OnOk result (string_bytes page.new ≡ string_bytes page.old ++ (shown bytes.now ⋅ codes ": " ⋅ reason_text reason ⋅ codes "\n")) }
+    ensures { OnOk result (string_bytes page.new ≡ string_bytes page.old ++ (shortened bytes.now ⋅ codes ": " ⋅ reason_text reason ⋅ codes "\n")) }
 {
     write_shown(page, bytes)?;
     write_why(page, reason)

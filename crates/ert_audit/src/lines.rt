@@ -2,7 +2,7 @@
 
 ghost use Rattle.std.specs.Prelude.{◌≡◌, ◌++◌, ◌∷◌, [], ◌<◌, length, codes, is_some, IfSome, OnOk, string_bytes, if◌then◌else◌};
 ghost use Rattle.std.specs.List.{flat_map};
-ghost use Rattle.ert_audit.specs.Messages.{after_at, line_end, lines_on, line_after, hex_digit, is_plain, shown_byte, shown};
+ghost use Rattle.ert_audit.specs.Messages.{after_at, line_end, lines_on, line_after, hex_digit, is_shown_as_is, shown_byte, shortened};
 
 use std::alloc::AllocError;
 
@@ -58,7 +58,7 @@ fn line_end(bytes: &[u8]) -> Option<usize>
 
 /// Appends bytes as they are shown.
 pub fn write_shown(page: &mut String, bytes: &[u8]) -> Result<(), AllocError>
-    ensures { OnOk result (string_bytes page.new ≡ string_bytes page.old ++ shown bytes.now) }
+    ensures { OnOk result (string_bytes page.new ≡ string_bytes page.old ++ shortened bytes.now) }
 {
     write_bytes(page, &bytes[..SHOWN.min(bytes.len())])?;
     write_more(page, bytes.len() > SHOWN)
@@ -114,7 +114,7 @@ fn push(page: &mut String, byte: u8) -> Result<(), AllocError>
 
 /// Whether a byte is shown as it is.
 fn is_plain(byte: u8) -> bool
-    ensures { result ≡ is_plain byte }
+    ensures { result ≡ is_shown_as_is byte }
 {
     32 <= byte && byte < 127 && byte != b'\\'
 }

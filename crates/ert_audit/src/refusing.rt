@@ -1,8 +1,8 @@
 //! Why a line is misspelled, for a person.
 
 ghost use Rattle.std.specs.Prelude.{◌≡◌, ◌++◌, ◌-◌, ◌≤◌, ◌+◌, codes, drop, length, IfSome, OnOk, string_bytes};
-ghost use Rattle.ert_audit.specs.Messages.{line_after, head_text, shown};
-ghost use Rattle.ert_audit.specs.Refusals.{IsRefusal, LiesIn, wanted_text, unfit_text, place_text, refusal_message};
+ghost use Rattle.ert_audit.specs.Messages.{line_after, line_front, shortened};
+ghost use Rattle.ert_audit.specs.Refusals.{IsRefusal, LiesIn, wanted_text, unfit_text, word_front, refusal_message};
 ghost use Rattle.ert_judge.specs.Texts.{◌⋅◌};
 ghost use Rattle.ert_spelling.specs.Faults.{word_in};
 
@@ -64,7 +64,7 @@ pub fn write_refusal(
 
 /// Appends the message on a line.
 fn write_text(page: &mut String, line: usize, text: &str) -> Result<(), AllocError>
-    ensures { OnOk result (string_bytes page.new ≡ string_bytes page.old ++ (head_text line ⋅ text.now ⋅ codes "\n")) }
+    ensures { OnOk result (string_bytes page.new ≡ string_bytes page.old ++ (line_front line ⋅ text.now ⋅ codes "\n")) }
 {
     write!(page, "history:{line}: {text}\n")
 }
@@ -79,13 +79,13 @@ fn write_fault(page: &mut String, bytes: &[u8], line: usize, fault: Fault) -> Re
 }
 
 fn write_place(page: &mut String, line: usize, before: usize) -> Result<(), AllocError>
-    ensures { OnOk result (string_bytes page.new ≡ string_bytes page.old ++ place_text line before) }
+    ensures { OnOk result (string_bytes page.new ≡ string_bytes page.old ++ word_front line before) }
 {
     write!(page, "history:{line}:{}: \"", before as u128 + 1)
 }
 
 fn write_word(page: &mut String, word: &[u8], wanted: Wanted) -> Result<(), AllocError>
-    ensures { OnOk result (string_bytes page.new ≡ string_bytes page.old ++ (shown word.now ⋅ codes "\": expected " ⋅ wanted_text wanted ⋅ codes "\n")) }
+    ensures { OnOk result (string_bytes page.new ≡ string_bytes page.old ++ (shortened word.now ⋅ codes "\": expected " ⋅ wanted_text wanted ⋅ codes "\n")) }
 {
     write_shown(page, word)?;
     write!(page, "\": expected {}\n", wanted_text(wanted))

@@ -1,5 +1,5 @@
 ghost use Rattle.std.specs.Prelude.{◌≡◌};
-ghost use Rattle.ert_audit.specs.Audits.{code_of};
+ghost use Rattle.ert_audit.specs.Audits.{exit_code};
 
 /// How an audit ended.
 #[derive(Clone, Copy)]
@@ -23,7 +23,7 @@ pub enum AuditStatus {
 impl AuditStatus {
     /// The number that the process ends with.
     pub fn code(self) -> u8
-        ensures { result ≡ code_of self }
+        ensures { result ≡ exit_code self }
     {
         match self {
             AuditStatus::Legal => 0,

@@ -22,7 +22,7 @@ use Rattle.clap.specs.declared.error.kind.ErrorKind.TheVariants as kind
 use Rattle.ert_command.specs.declared.command.Command.{Command}
 use Rattle.ert_command.specs.declared.command.Command.TheVariants.{Run, Race, Live, Stress}
 use Rattle.ert_command.specs.Apps.{app}
-use Rattle.ert_command.specs.Commands.{alone, command_of, form_of, is_number_in, is_plain_word, live_of, stress_of}
+use Rattle.ert_command.specs.Commands.{without_words, command_of, form_of, is_number_in, is_plain_word, live_of, stress_of}
 use Rattle.ert_command.specs.Matches.{command_in, command_named}
 use Rattle.ert_command.proofs.Plain.{IsWord}
 use Rattle.ert_command.proofs.Words.{number_is, parsed_is, plain_is_word}
@@ -68,11 +68,11 @@ tail_plain word words h = (and_parts (is_plain_word word) (list_all is_plain_wor
 head_word : (word : Text) (words : List Text) → ArePlain (word ∷ words) → IsWord word
 head_word word words h = plain_is_word word (head_plain word words h)
 
-run_judged : (rest : List Text) → ArePlain rest → Judged (codes "run" ∷ rest) (alone Run rest)
+run_judged : (rest : List Text) → ArePlain rest → Judged (codes "run" ∷ rest) (without_words Run rest)
 run_judged [] h = taken (codes "run") run [] (Some Run) named_run run_alone refl
 run_judged (word ∷ rest) h = refused (codes "run") run (word ∷ rest) kind.UnknownArgument None named_run (run_more word rest (head_word word rest h)) refl
 
-race_judged : (rest : List Text) → ArePlain rest → Judged (codes "race" ∷ rest) (alone Race rest)
+race_judged : (rest : List Text) → ArePlain rest → Judged (codes "race" ∷ rest) (without_words Race rest)
 race_judged [] h = taken (codes "race") race [] (Some Race) named_race race_alone refl
 race_judged (word ∷ rest) h = refused (codes "race") race (word ∷ rest) kind.UnknownArgument None named_race (race_more word rest (head_word word rest h)) refl
 
@@ -145,12 +145,12 @@ same : (name word : Text) → bytes_eq name word ≡ true → name ≡ word
 same name word e = (bytes_eq-Decides name word).0 e
 
 abbrev chosen : Bool → Bool → Bool → Bool → List Text → Option Command
-chosen a b c d rest = cond a (alone Run rest) (cond b (alone Race rest) (cond c (live_of rest) (cond d (stress_of rest) None)))
+chosen a b c d rest = cond a (without_words Run rest) (cond b (without_words Race rest) (cond c (live_of rest) (cond d (stress_of rest) None)))
 
 first_judged : (word : Text) (rest : List Text) (a b c d : Bool) → is_plain_word word ≡ true → ArePlain rest → bytes_eq (codes "run") word ≡ a
     → bytes_eq (codes "race") word ≡ b → bytes_eq (codes "live") word ≡ c → bytes_eq (codes "stress") word ≡ d → Judged (word ∷ rest) (chosen a b c d rest)
-first_judged word rest true b c d plain h a_is b_is c_is d_is = subst (λ w. Judged (w ∷ rest) (alone Run rest)) (same (codes "run") word a_is) (run_judged rest h)
-first_judged word rest false true c d plain h a_is b_is c_is d_is = subst (λ w. Judged (w ∷ rest) (alone Race rest)) (same (codes "race") word b_is) (race_judged rest h)
+first_judged word rest true b c d plain h a_is b_is c_is d_is = subst (λ w. Judged (w ∷ rest) (without_words Run rest)) (same (codes "run") word a_is) (run_judged rest h)
+first_judged word rest false true c d plain h a_is b_is c_is d_is = subst (λ w. Judged (w ∷ rest) (without_words Race rest)) (same (codes "race") word b_is) (race_judged rest h)
 first_judged word rest false false true d plain h a_is b_is c_is d_is = subst (λ w. Judged (w ∷ rest) (live_of rest)) (same (codes "live") word c_is) (live_judged rest h)
 first_judged word rest false false false true plain h a_is b_is c_is d_is =
     subst (λ w. Judged (w ∷ rest) (stress_of rest)) (same (codes "stress") word d_is) (stress_judged rest h)

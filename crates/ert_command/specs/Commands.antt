@@ -25,9 +25,9 @@ abbrev pub is_number_in : ℕ → ℕ → List ℕ → Bool
 is_number_in low high word = is_number word && (nat_le low (digits_value 10 word) && nat_le (digits_value 10 word) high)
 
 -- no word follows
-abbrev pub alone : Command → List (List ℕ) → Option Command
-alone command [] = Some command
-alone command (word ∷ words) = None
+abbrev pub without_words : Command → List (List ℕ) → Option Command
+without_words command [] = Some command
+without_words command (word ∷ words) = None
 
 -- what follows `live`: how many readings, 1 to 1,000
 abbrev pub live_of : List (List ℕ) → Option Command
@@ -44,8 +44,8 @@ stress_of _ = None
 abbrev pub form_of : List (List ℕ) → Option Command
 form_of [] = None
 form_of (word ∷ words) =
-    if bytes_eq (codes "run") word then alone Run words
-    else (if bytes_eq (codes "race") word then alone Race words
+    if bytes_eq (codes "run") word then without_words Run words
+    else (if bytes_eq (codes "race") word then without_words Race words
     else (if bytes_eq (codes "live") word then live_of words
     else (if bytes_eq (codes "stress") word then stress_of words
     else None)))

@@ -4,7 +4,7 @@ use Rattle.std.specs.Prelude.{ℕ, ℤ, pos, int_lt, nat_lt, List, length, codes
 use Rattle.serde_json.specs.Data.{Data}
 use Rattle.serde_json.specs.Find.{get}
 use Rattle.ert_scenario.specs.declared.limits.TheConstants.{MOST_LISTS, MOST_TURNS}
-use Rattle.ert_explain.specs.FieldRanges.{number_at}
+use Rattle.ert_explain.specs.FieldRanges.{field_number}
 use Rattle.ert_explain.specs.Places.{items_at}
 use Rattle.ert_explain.specs.declared.excess.Excess.{Excess}
 use Rattle.ert_explain.specs.declared.excess.Excess.TheVariants.{Callers, Turns, Ops}
@@ -17,7 +17,7 @@ race_excess callers turns = if nat_lt MOST_LISTS callers then Callers callers el
 -- that of the race that this is, where it is there and wanted
 abbrev pub excess_by : Bool → Option Data → Excess
 excess_by race None = Ops
-excess_by race (Some it) = if race then race_excess (length (items_at (codes "callers") it)) (number_at fields.Turns (pos 0) it) else Ops
+excess_by race (Some it) = if race then race_excess (length (items_at (codes "callers") it)) (field_number fields.Turns (pos 0) it) else Ops
 
 -- of what a scenario with such a fault has too many
 unfoldable pub excess_of : Bool → Data → Excess

@@ -7,7 +7,7 @@ use Rattle.ert_scenario.specs.Scenarios.{IsValue}
 use Rattle.ert_scenario.specs.declared.scenario.ScenarioErr.{ScenarioErr}
 use Rattle.ert_scenario.specs.declared.scenario.ScenarioErr.TheVariants as refusals
 use Rattle.ert_explain.specs.Excesses.{excess_of}
-use Rattle.ert_explain.specs.FieldRanges.{fields_range, number_at, counts_of}
+use Rattle.ert_explain.specs.FieldRanges.{fields_range, field_number, counts_given}
 use Rattle.ert_explain.specs.FieldShapes.{fields_shape}
 use Rattle.ert_explain.specs.Labels.{IsSameLabel, IsNewLabel}
 use Rattle.ert_explain.specs.OpRanges.{op_range}
@@ -26,7 +26,7 @@ use Rattle.ert_explain.specs.declared.op_range.OutOfRange.{OutOfRange}
 
 -- whether the format is 1
 abbrev pub is_one : Data → Bool
-is_one d = int_eq (number_at Format (pos 0) d) (pos 1)
+is_one d = int_eq (field_number Format (pos 0) d) (pos 1)
 
 -- the cause that is a fault of the fields' shape, where there is one
 abbrev pub of_shape : Option FieldShape → Cause
@@ -49,7 +49,7 @@ shape_cause race d number = of_op (is_one d) (op_at race d number)
 
 -- the first argument of the op of this number that is out of its range
 abbrev pub argument_out : Bool → Data → ℕ → Option OutOfRange
-argument_out race d number = option_and_then (λ p. op_range (is_one d) (counts_of d) p.op) (op_at race d number)
+argument_out race d number = option_and_then (λ p. op_range (is_one d) (counts_given d) p.op) (op_at race d number)
 
 -- the cause is an earlier start with the label of the op of this number; another cause only where there is none
 abbrev pub IsLabelCause : Bool → Data → ℕ → Cause → Type 0
@@ -101,8 +101,8 @@ part_at bytes offset n =
     take (min n (length rest)) rest
 
 -- the bytes that an explanation shows
-abbrev pub part_of : List ℕ → Explanation → List ℕ
-part_of bytes e = part_at bytes e.position.offset e.length
+abbrev pub shown_bytes : List ℕ → Explanation → List ℕ
+shown_bytes bytes e = part_at bytes e.position.offset e.length
 
 -- what an explanation shows is the own text of what the cause is about, or nothing
 abbrev pub IsShownOf : Bool → Data → ScenarioErr → Cause → ℕ → List ℕ → Type 0
@@ -118,11 +118,11 @@ pub record IsExplained (race : Bool) (bytes : List ℕ) (refusal : ScenarioErr) 
   pub same : e.refusal ≡ refusal
   pub cause : IsCause race bytes refusal e.cause
   pub position : IsPosition bytes e.position
-  pub shown : IsShown race bytes refusal e.cause e.length (part_of bytes e)
+  pub shown : IsShown race bytes refusal e.cause e.length (shown_bytes bytes e)
 
 -- the same, of bytes that are this value
 pub record IsExplainedBy (race : Bool) (d : Data) (bytes : List ℕ) (refusal : ScenarioErr) (e : Explanation) : Type 0 where
   pub same : e.refusal ≡ refusal
   pub cause : IsCauseIn race d refusal e.cause
   pub position : IsPosition bytes e.position
-  pub shown : IsShownOf race d refusal e.cause e.length (part_of bytes e)
+  pub shown : IsShownOf race d refusal e.cause e.length (shown_bytes bytes e)

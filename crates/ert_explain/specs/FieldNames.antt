@@ -9,20 +9,20 @@ use Rattle.ert_explain.specs.declared.field.Field.{Field}
 use Rattle.ert_explain.specs.declared.field.Field.TheVariants.{Format, Mode, Correction, Start, Schedulers, Processes, Slots, First, Ops, Race, Turns, Keeper, Callers}
 
 -- the name of its member
-unfoldable pub name_of : Field → List ℕ
-name_of Format = codes "format"
-name_of Mode = codes "mode"
-name_of Correction = codes "correction"
-name_of Start = codes "start"
-name_of Schedulers = codes "schedulers"
-name_of Processes = codes "processes"
-name_of Slots = codes "slots"
-name_of First = codes "first"
-name_of Ops = codes "ops"
-name_of Race = codes "race"
-name_of Turns = codes "turns"
-name_of Keeper = codes "keeper"
-name_of Callers = codes "callers"
+unfoldable pub member_name : Field → List ℕ
+member_name Format = codes "format"
+member_name Mode = codes "mode"
+member_name Correction = codes "correction"
+member_name Start = codes "start"
+member_name Schedulers = codes "schedulers"
+member_name Processes = codes "processes"
+member_name Slots = codes "slots"
+member_name First = codes "first"
+member_name Ops = codes "ops"
+member_name Race = codes "race"
+member_name Turns = codes "turns"
+member_name Keeper = codes "keeper"
+member_name Callers = codes "callers"
 
 -- whether it may not be absent
 abbrev pub is_needed : Field → Bool

@@ -7,7 +7,7 @@ use Rattle.std.specs.Ordering.{int_eq}
 use Rattle.serde_json.specs.Data.{Data}
 use Rattle.serde_json.specs.Find.{get, as_number, as_i64}
 use Rattle.ert_scenario.specs.declared.limits.TheConstants.{MOST_SCHEDULERS, MOST_PROCESSES, MOST_SLOTS, MOST_SLOTS_IN_ALL, MOST_TURNS}
-use Rattle.ert_explain.specs.FieldNames.{name_of}
+use Rattle.ert_explain.specs.FieldNames.{member_name}
 use Rattle.ert_explain.specs.OpRanges.{is_out}
 use Rattle.ert_explain.specs.Places.{items_at}
 use Rattle.ert_explain.specs.declared.field.Field.{Field}
@@ -30,7 +30,7 @@ value_outside field limits (Some d) = if is_out limits d then Some (Outside fiel
 
 -- the number of a field, where it isn't within limits
 unfoldable pub outside : Field → ℤ → ℤ → Data → Option FieldRange
-outside field least greatest d = value_outside field (from_to least greatest) (get (name_of field) d)
+outside field least greatest d = value_outside field (from_to least greatest) (get (member_name field) d)
 
 -- an integer, or 0 where there is none
 abbrev pub or_zero : Option ℤ → ℤ
@@ -43,12 +43,12 @@ number_by absent None = absent
 number_by absent (Some d) = or_zero (option_and_then as_i64 (as_number d))
 
 -- the integer that a field is
-unfoldable pub number_at : Field → ℤ → Data → ℤ
-number_at field absent d = number_by absent (get (name_of field) d)
+unfoldable pub field_number : Field → ℤ → Data → ℤ
+field_number field absent d = number_by absent (get (member_name field) d)
 
 -- how many schedulers and processes a value says
-abbrev pub counts_of : Data → Counts
-counts_of d = record { schedulers = number_at Schedulers (pos 1) d; processes = number_at Processes (pos 1) d }
+abbrev pub counts_given : Data → Counts
+counts_given d = record { schedulers = field_number Schedulers (pos 1) d; processes = field_number Processes (pos 1) d }
 
 -- the slots of all wheels together, where their count fits 64 bits
 unfoldable pub slots_range : ℤ → ℤ → Option FieldRange
@@ -59,7 +59,7 @@ slots_range schedulers slots =
 unfoldable pub sizes_range : Data → Option FieldRange
 sizes_range d =
     option_or (option_or (option_or (outside Schedulers (pos 1) (pos MOST_SCHEDULERS) d) (outside Processes (pos 1) (pos MOST_PROCESSES) d)) (outside Slots (pos 1) (pos MOST_SLOTS) d))
-    (slots_range (number_at Schedulers (pos 1) d) (number_at Slots (pos 1024) d))
+    (slots_range (field_number Schedulers (pos 1) d) (field_number Slots (pos 1024) d))
 
 -- a time that is no multiple of 1,000,000
 abbrev pub is_part : ℤ → Option FieldRange
@@ -68,7 +68,7 @@ is_part start = if int_eq (int_rem_euclid start (pos 1000000)) (pos 0) then None
 -- the start time
 unfoldable pub start_range : Data → Option FieldRange
 start_range d =
-    option_or (outside Start (negsuc 288230376151711743) (pos 288230376151711744) d) (is_part (number_at Start (pos 0) d))
+    option_or (outside Start (negsuc 288230376151711743) (pos 288230376151711744) d) (is_part (field_number Start (pos 0) d))
 
 -- a number of a reading, where it isn't within limits
 abbrev pub item_range : Param → ℤ → ℤ → Data → Option FieldRange

@@ -5,7 +5,7 @@ use Rattle.std.specs.Option.{option_or}
 use Rattle.serde_json.specs.Data.{Data, Members}
 use Rattle.serde_json.specs.Find.{get, as_array, as_object}
 use Rattle.ert_scenario.specs.Fields.{is_field, is_among, race_fields, are_named}
-use Rattle.ert_explain.specs.FieldNames.{name_of, is_needed, is_wrong_value}
+use Rattle.ert_explain.specs.FieldNames.{member_name, is_needed, is_wrong_value}
 use Rattle.ert_explain.specs.Places.{items_at}
 use Rattle.ert_explain.specs.declared.field.Field.{Field}
 use Rattle.ert_explain.specs.declared.field.Field.TheVariants.{Format, Mode, Correction, Start, Schedulers, Processes, Slots, First, Ops, Race, Turns, Keeper, Callers}
@@ -24,7 +24,7 @@ value_shape field (Some d) = fault_if (is_wrong_value field d) (Kind field)
 
 -- one field of an object
 unfoldable pub field_shape : Field → Data → Option FieldShape
-field_shape field d = value_shape field (get (name_of field) d)
+field_shape field d = value_shape field (get (member_name field) d)
 
 -- the names of an object's members, where it is one
 abbrev pub names_by : Option Members → Option FieldShape

@@ -26,12 +26,12 @@ items_label (name ∷ []) = None
 items_label (name ∷ label ∷ others) = start_label name label
 
 -- the label of an op, where it is a start
-abbrev pub label_in : Data → Option ℤ
-label_in op = items_label (items_in op)
+abbrev pub label_of_start : Data → Option ℤ
+label_of_start op = items_label (items_in op)
 
 -- the label of the op of this number, where it is a start
 abbrev pub label_at : Bool → Data → ℕ → Option ℤ
-label_at race d number = option_and_then (λ p. label_in p.op) (op_at race d number)
+label_at race d number = option_and_then (λ p. label_of_start p.op) (op_at race d number)
 
 -- an op before the op of this number has this place, from 1, and both are starts with one label
 pub record IsSameLabel (race : Bool) (d : Data) (place number : ℕ) : Type 0 where

@@ -5,9 +5,9 @@ use Rattle.std.specs.Fmt.{decimal, signed_decimal}
 use Rattle.ert_scenario.specs.declared.limits.TheConstants.{MOST_SLOTS_IN_ALL, MOST_LISTS, MOST_TURNS, MOST_OPS}
 use Rattle.ert_scenario.specs.declared.scenario.ScenarioErr.{ScenarioErr}
 use Rattle.ert_scenario.specs.declared.scenario.ScenarioErr.TheVariants as refusals
-use Rattle.ert_explain.specs.Explained.{part_of}
-use Rattle.ert_explain.specs.FieldNames.{name_of}
-use Rattle.ert_explain.specs.Shown.{shown}
+use Rattle.ert_explain.specs.Explained.{shown_bytes}
+use Rattle.ert_explain.specs.FieldNames.{member_name}
+use Rattle.ert_explain.specs.Shown.{shown_value}
 use Rattle.ert_explain.specs.Words.{op_word, param_word, param_kind, expected_text, signature_text, field_kind, list_text}
 use Rattle.ert_explain.specs.declared.cause.Cause.{Cause}
 use Rattle.ert_explain.specs.declared.cause.Cause.TheVariants.{Json, Fields, FieldRange, Op, Argument, Label, Excess, Other}
@@ -52,7 +52,7 @@ head_text e = (codes "scenario:" ⋅ decimal e.position.line ⋅ codes ":" ⋅ d
 
 -- a field that isn't there
 abbrev pub missing_text : Field → List ℕ
-missing_text field = codes "the field \"" ⋅ name_of field ⋅ codes "\" is missing"
+missing_text field = codes "the field \"" ⋅ member_name field ⋅ codes "\" is missing"
 
 -- a caller's list that is no array
 abbrev pub caller_text : ℕ → List ℕ
@@ -64,13 +64,13 @@ fields_front shapes.NoObject = codes "a scenario has to be an object"
 fields_front shapes.OtherField = codes "there is no field "
 fields_front shapes.RaceGiven = codes "the field \"race\" is for the command race alone"
 fields_front (shapes.Missing field) = missing_text field
-fields_front (shapes.Kind field) = codes "\"" ⋅ name_of field ⋅ codes "\" is "
+fields_front (shapes.Kind field) = codes "\"" ⋅ member_name field ⋅ codes "\" is "
 fields_front shapes.OtherRaceField = codes "a race has no field "
 fields_front (shapes.Caller number) = caller_text number
 
 -- of the range of a field
 abbrev pub range_front : RangeOfField → List ℕ
-range_front (ranges.Outside field limits) = codes "\"" ⋅ name_of field ⋅ codes "\" is "
+range_front (ranges.Outside field limits) = codes "\"" ⋅ member_name field ⋅ codes "\" is "
 range_front ranges.ManySlots = codes "all schedulers together have more than " ⋅ decimal MOST_SLOTS_IN_ALL ⋅ codes " slots"
 range_front ranges.PartOfMillisecond = codes "\"start\" is "
 range_front (ranges.Reading param limits) = param_word param ⋅ codes " is "
@@ -148,7 +148,7 @@ is_showing Other = false
 
 -- the part, where it is shown
 abbrev pub middle_text : Cause → List ℕ → List ℕ
-middle_text cause part = if is_showing cause then shown part else []
+middle_text cause part = if is_showing cause then shown_value part else []
 
 -- ---- what stands behind it
 
@@ -184,7 +184,7 @@ hint_text name = codes "; did you mean \"" ⋅ name ⋅ codes "\"?"
 abbrev pub near_text : Option Near → List ℕ
 near_text None = []
 near_text (Some (nears.Op op)) = hint_text (op_word op)
-near_text (Some (nears.Field field)) = hint_text (name_of field)
+near_text (Some (nears.Field field)) = hint_text (member_name field)
 
 -- of the shape of the fields
 abbrev pub fields_back : FieldShape → Option Near → List ℕ
@@ -219,4 +219,4 @@ back_text Other near = []
 
 -- the line of an explanation of these bytes
 unfoldable pub message : List ℕ → Explanation → List ℕ
-message bytes e = (((head_text e ++ front_text e.cause) ++ middle_text e.cause (part_of bytes e)) ++ back_text e.cause e.near) ++ codes "\n"
+message bytes e = (((head_text e ++ front_text e.cause) ++ middle_text e.cause (shown_bytes bytes e)) ++ back_text e.cause e.near) ++ codes "\n"

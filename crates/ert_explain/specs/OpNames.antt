@@ -14,31 +14,31 @@ looked_up name [] = None
 looked_up name (row ∷ rows) = if bytes_eq name row.0 then Some row.1 else looked_up name rows
 
 -- a table of ops by their names
-abbrev pub Names : Type 0
-Names = List (List ℕ × OpName)
+abbrev pub NamedOps : Type 0
+NamedOps = List (List ℕ × OpName)
 
 -- the ops that the clock's thread may do
-unfoldable pub keeper_names : Names
+unfoldable pub keeper_names : NamedOps
 keeper_names = (codes "tick", Tick) ∷ (codes "check", Check) ∷ (codes "finalize", Finalize) ∷ (codes "notify", Notify) ∷ []
 
 -- the ops that a scheduler does
-unfoldable pub sched_names : Names
+unfoldable pub sched_names : NamedOps
 sched_names = (codes "serve", Serve) ∷ (codes "advance", Advance) ∷ (codes "deliver", Deliver) ∷ (codes "turn", Turn) ∷ []
 
 -- the ops that ask the clock
-unfoldable pub clock_names : Names
+unfoldable pub clock_names : NamedOps
 clock_names = (codes "time", Time) ∷ (codes "system", System) ∷ (codes "offset", Offset) ∷ (codes "info", Info) ∷ (codes "convert", Convert) ∷ []
 
 -- the ops that a process does
-unfoldable pub process_names : Names
+unfoldable pub process_names : NamedOps
 process_names = (codes "receive", Receive) ∷ (codes "exit", Exit) ∷ (codes "alive", Alive) ∷ (codes "monitor", Monitor) ∷ (codes "demonitor", Demonitor) ∷ []
 
 -- the ops on a timer that are in both formats
-unfoldable pub timer_names : Names
+unfoldable pub timer_names : NamedOps
 timer_names = (codes "start", Start) ∷ (codes "cancel", Cancel) ∷ (codes "read", Read) ∷ (codes "cancel_async", CancelAsync) ∷ (codes "read_async", ReadAsync) ∷ []
 
 -- the ops that are in format 2 only
-unfoldable pub late_names : Names
+unfoldable pub late_names : NamedOps
 late_names = (codes "send_after", SendAfter) ∷ (codes "cancel_quiet", CancelQuiet) ∷ []
 
 -- the op of this name, in whichever format and list

@@ -13,8 +13,8 @@ use Rattle.ert_explain.specs.declared.cause.Cause.TheVariants.{Fields}
 use Rattle.ert_explain.specs.declared.field_shape.FieldShape.TheVariants.{OtherField, OtherRaceField}
 
 -- whether there are bytes, of which neither the first nor the last is a blank
-abbrev pub is_bare : List ℕ → Bool
-is_bare part = nat_lt 0 (length part) && (nat_lt 32 (slice_index part 0) && nat_lt 32 (slice_index part (length part - 1)))
+abbrev pub is_trimmed : List ℕ → Bool
+is_trimmed part = nat_lt 0 (length part) && (nat_lt 32 (slice_index part 0) && nat_lt 32 (slice_index part (length part - 1)))
 
 -- two numbers are the same: both are integers, or neither is
 pub record IsSameNumber (m n : Num) : Type 0 where
@@ -22,27 +22,27 @@ pub record IsSameNumber (m n : Num) : Type 0 where
   pub value : eq (to_float m) (to_float n) ≡ true
 
 -- two values that are neither arrays nor objects are the same
-abbrev pub IsSame : Data → Data → Type 0
-IsSame null null = Unit {0}
-IsSame (boolean b) (boolean c) = b ≡ c
-IsSame (number m) (number n) = IsSameNumber m n
-IsSame (string s) (string t) = s ≡ t
-IsSame c d = ⊥
+abbrev pub IsSameScalar : Data → Data → Type 0
+IsSameScalar null null = Unit {0}
+IsSameScalar (boolean b) (boolean c) = b ≡ c
+IsSameScalar (number m) (number n) = IsSameNumber m n
+IsSameScalar (string s) (string t) = s ≡ t
+IsSameScalar c d = ⊥
 
 -- the bytes are the bracket or the brace that opens the value
-abbrev pub IsOpening : List ℕ → Data → Type 0
-IsOpening part (array _) = part ≡ codes "["
-IsOpening part (object _) = part ≡ codes "{"
-IsOpening part d = ⊥
+abbrev pub OpensValue : List ℕ → Data → Type 0
+OpensValue part (array _) = part ≡ codes "["
+OpensValue part (object _) = part ≡ codes "{"
+OpensValue part d = ⊥
 
 -- the bytes are the text of a value: of one that is neither an array nor an object
 abbrev pub IsScalarText : List ℕ → Data → Type 0
-IsScalarText part d = (read : Data) × IsValue part read × IsSame read d
+IsScalarText part d = (read : Data) × IsValue part read × IsSameScalar read d
 
 -- the bytes are the text of this value, or open it where it is an array or an object
 abbrev pub IsTextOf : List ℕ → Option Data → Type 0
 IsTextOf part None = ⊥
-IsTextOf part (Some d) = IsOpening part d ⊎ IsScalarText part d
+IsTextOf part (Some d) = OpensValue part d ⊎ IsScalarText part d
 
 -- whether it is the name of a field of a scenario, or of a race
 abbrev pub is_known : Bool → List ℕ → Bool
@@ -66,5 +66,5 @@ IsTextOfName d cause part = ⊥
 
 -- the bytes are the text of the value or of the name that a cause is about, without blanks around it
 pub record IsOwnText (race : Bool) (d : Data) (refusal : ScenarioErr) (cause : Cause) (part : List ℕ) : Type 0 where
-  pub bare : is_bare part ≡ true
+  pub bare : is_trimmed part ≡ true
   pub text : IsTextOf part (refused_value race d refusal cause) ⊎ IsTextOfName d cause part

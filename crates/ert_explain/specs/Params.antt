@@ -50,30 +50,30 @@ arity_of signatures.OfProcess = 1
 arity_of signatures.OfMonitor = 2
 
 -- the argument of this index, of one
-abbrev pub first_of : ℕ → Param → Option Param
-first_of index first = if index == 0 then Some first else None
+abbrev pub first_param : ℕ → Param → Option Param
+first_param index first = if index == 0 then Some first else None
 
 -- the same, of two
-abbrev pub second_of : ℕ → Param → Param → Option Param
-second_of index first second = if index == 1 then Some second else first_of index first
+abbrev pub second_param : ℕ → Param → Param → Option Param
+second_param index first second = if index == 1 then Some second else first_param index first
 
 -- the same, of three
-abbrev pub third_of : ℕ → Param → Param → Param → Option Param
-third_of index first second third = if index == 2 then Some third else second_of index first second
+abbrev pub third_param : ℕ → Param → Param → Param → Option Param
+third_param index first second third = if index == 2 then Some third else second_param index first second
 
 -- the same, of the six of a start
-abbrev pub start_at : ℕ → Option Param
-start_at index = if index == 3 then Some params.Milliseconds else (if index == 4 then Some params.Process else (if index == 5 then Some params.Message else third_of index params.Label params.Scheduler params.Origin))
+abbrev pub start_param : ℕ → Option Param
+start_param index = if index == 3 then Some params.Milliseconds else (if index == 4 then Some params.Process else (if index == 5 then Some params.Message else third_param index params.Label params.Scheduler params.Origin))
 
 -- the argument of this index
 abbrev pub param_at : Signature → ℕ → Option Param
 param_at signatures.Nothing index = None
-param_at signatures.Reading index = second_of index params.Mono params.Sys
-param_at signatures.Conversion index = third_of index params.Time params.From params.To
-param_at signatures.Start index = start_at index
-param_at signatures.OfTimer index = first_of index params.Label
-param_at signatures.Ask index = second_of index params.Label params.Process
-param_at signatures.AskTold index = third_of index params.Label params.Process params.Told
-param_at signatures.OfScheduler index = first_of index params.Scheduler
-param_at signatures.OfProcess index = first_of index params.Process
-param_at signatures.OfMonitor index = second_of index params.Process params.Monitor
+param_at signatures.Reading index = second_param index params.Mono params.Sys
+param_at signatures.Conversion index = third_param index params.Time params.From params.To
+param_at signatures.Start index = start_param index
+param_at signatures.OfTimer index = first_param index params.Label
+param_at signatures.Ask index = second_param index params.Label params.Process
+param_at signatures.AskTold index = third_param index params.Label params.Process params.Told
+param_at signatures.OfScheduler index = first_param index params.Scheduler
+param_at signatures.OfProcess index = first_param index params.Process
+param_at signatures.OfMonitor index = second_param index params.Process params.Monitor

@@ -16,8 +16,8 @@ pub record OpSeen : Type 0 where
   pub op : Data
 
 -- an op that the code found
-abbrev pub seen : PlacedOp → OpSeen
-seen p = record { list = p.list; index = p.index; op = view p.value.now }
+abbrev pub op_seen : PlacedOp → OpSeen
+op_seen p = record { list = p.list; index = p.index; op = view p.value.now }
 
 -- the item of a list that has this index
 abbrev pub item_at : ListName → List Data → ℕ → Option OpSeen

@@ -7,7 +7,7 @@ use Rattle.serde_json.specs.Find.{get}
 use Rattle.ert_scenario.specs.Kinds.{items_in}
 use Rattle.ert_scenario.specs.declared.scenario.ScenarioErr.{ScenarioErr}
 use Rattle.ert_scenario.specs.declared.scenario.ScenarioErr.TheVariants as refusals
-use Rattle.ert_explain.specs.FieldNames.{name_of}
+use Rattle.ert_explain.specs.FieldNames.{member_name}
 use Rattle.ert_explain.specs.Places.{OpSeen, items_at, op_at}
 use Rattle.ert_explain.specs.declared.cause.Cause.{Cause}
 use Rattle.ert_explain.specs.declared.cause.Cause.TheVariants.{Fields, FieldRange, Op, Argument, Label}
@@ -24,14 +24,14 @@ use Rattle.ert_explain.specs.declared.param.Param.TheVariants.{Mono}
 
 -- the value of a field of a race
 abbrev pub race_value : Field → Data → Option Data
-race_value field d = option_and_then (get (name_of field)) (get (codes "race") d)
+race_value field d = option_and_then (get (member_name field)) (get (codes "race") d)
 
 -- the value of a field
 abbrev pub field_value : Field → Data → Option Data
 field_value Turns d = race_value Turns d
 field_value Keeper d = race_value Keeper d
 field_value Callers d = race_value Callers d
-field_value field d = get (name_of field) d
+field_value field d = get (member_name field) d
 
 -- which item of the first reading it is
 abbrev pub reading_index : Param → ℕ
@@ -47,7 +47,7 @@ shape_value shape d = None
 abbrev pub range_value : RangeOfField → Data → Option Data
 range_value (ranges.Outside field limits) d = field_value field d
 range_value ranges.PartOfMillisecond d = field_value Start d
-range_value (ranges.Reading param limits) d = slice_get (items_at (name_of First) d) (reading_index param)
+range_value (ranges.Reading param limits) d = slice_get (items_at (member_name First) d) (reading_index param)
 range_value ranges.ManySlots d = None
 
 -- the value of the field that a cause is about

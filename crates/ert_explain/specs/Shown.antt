@@ -20,6 +20,6 @@ abbrev pub shown_part : List ℕ → List ℕ
 shown_part bytes = if nat_le (length bytes) 60 then escaped bytes else escaped (take (min 60 (length bytes)) bytes) ++ codes ".."
 
 -- a value or a name of the input: what an array or an object is, and else its bytes
-abbrev pub shown : List ℕ → List ℕ
-shown [] = []
-shown (b ∷ bs) = if b == 91 then codes "an array" else (if b == 123 then codes "an object" else shown_part (b ∷ bs))
+abbrev pub shown_value : List ℕ → List ℕ
+shown_value [] = []
+shown_value (b ∷ bs) = if b == 91 then codes "an array" else (if b == 123 then codes "an object" else shown_part (b ∷ bs))

@@ -4,15 +4,15 @@ use Rattle.std.specs.Prelude.{◌≡◌, ◌⊎◌, ℕ, Bool, List}
 use Rattle.ert_explain.specs.Explained.{IsExplained}
 use Rattle.ert_explain.specs.Messages.{message}
 use Rattle.ert_explain.specs.declared.explanation.Explanation.{Explanation}
-use Rattle.ert_io.specs.Told.{Told, TakesFront}
+use Rattle.ert_io.specs.Told.{SinkTold, TakesFront}
 use Rattle.ert_scenario.specs.declared.scenario.ScenarioErr.{ScenarioErr}
 
 -- the line of a true explanation of the refusal of bytes was written, or a first part of it
-pub record TellsWhy (race : Bool) (bytes : List ℕ) (why : ScenarioErr) (old new : Told) : Type 0 where
+pub record TellsWhy (race : Bool) (bytes : List ℕ) (why : ScenarioErr) (old new : SinkTold) : Type 0 where
   pub explanation : Explanation
   pub is : IsExplained race bytes why explanation
   pub writes : TakesFront old new (message bytes explanation)
 
 -- the same, or nothing was written for want of memory
-abbrev pub Tells : Bool → List ℕ → ScenarioErr → Told → Told → Type 0
-Tells race bytes why old new = (new ≡ old) ⊎ TellsWhy race bytes why old new
+abbrev pub TellsWhyOrNothing : Bool → List ℕ → ScenarioErr → SinkTold → SinkTold → Type 0
+TellsWhyOrNothing race bytes why old new = (new ≡ old) ⊎ TellsWhy race bytes why old new

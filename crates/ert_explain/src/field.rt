@@ -1,7 +1,7 @@
 //! The fields of a scenario.
 ghost use Rattle.std.specs.Prelude.{◌≡◌, map};
 ghost use Rattle.serde_json.specs.View.{view};
-ghost use Rattle.ert_explain.specs.FieldNames.{name_of, is_needed, is_wrong_value, is_no_reading, is_no_pair, no_array, no_object, no_mode};
+ghost use Rattle.ert_explain.specs.FieldNames.{member_name, is_needed, is_wrong_value, is_no_reading, is_no_pair, no_array, no_object, no_mode};
 
 use crate::value_kind::{no_boolean, no_integer};
 use serde_json::Value;
@@ -29,9 +29,9 @@ pub enum Field {
 
 impl Field {
     /// The name of its member.
-    #[tactic(auto, unfolding(crate::specs::FieldNames::name_of))]
+    #[tactic(auto, unfolding(crate::specs::FieldNames::member_name))]
     pub(crate) fn name(self) -> &'static str
-        ensures { result.now ≡ name_of self }
+        ensures { result.now ≡ member_name self }
     {
         match self {
             Field::Format => "format",

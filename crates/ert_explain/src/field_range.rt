@@ -1,7 +1,7 @@
 //! Which field of a scenario is out of its range.
 ghost use Rattle.std.specs.Prelude.{◌≡◌, map, pos, negsuc};
 ghost use Rattle.serde_json.specs.View.{view};
-ghost use Rattle.ert_explain.specs.FieldRanges.{outside, number_at, counts_of, is_part};
+ghost use Rattle.ert_explain.specs.FieldRanges.{outside, field_number, counts_given, is_part};
 ghost use Rattle.ert_explain.specs.FieldRanges.{fields_range, sizes_range, slots_range, start_range, reading_range, item_range, turns_range};
 
 use crate::field::Field;
@@ -79,9 +79,9 @@ fn slots_range(schedulers: i64, slots: i64) -> Option<FieldRange>
 }
 
 /// The integer that a field is; this one where it is absent, and 0 where it is no integer.
-#[tactic(auto, unfolding(crate::specs::FieldRanges::number_at))]
+#[tactic(auto, unfolding(crate::specs::FieldRanges::field_number))]
 pub(crate) fn number_at(value: &Value, field: Field, absent: i64) -> i64
-    ensures { result ≡ number_at field absent (view value.now) }
+    ensures { result ≡ field_number field absent (view value.now) }
 {
     match value.get(field.name()) {
         Some(it) => it.as_i64().unwrap_or(0),
@@ -91,7 +91,7 @@ pub(crate) fn number_at(value: &Value, field: Field, absent: i64) -> i64
 
 /// How many schedulers and processes a value says.
 pub(crate) fn counts_of(value: &Value) -> Counts
-    ensures { result ≡ counts_of (view value.now) }
+    ensures { result ≡ counts_given (view value.now) }
 {
     Counts {
         schedulers: number_at(value, Field::Schedulers, 1),

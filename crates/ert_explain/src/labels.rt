@@ -1,7 +1,7 @@
 //! The labels of starts.
 ghost use Rattle.std.specs.Prelude.{◌≡◌, None, map, IfSome};
 ghost use Rattle.serde_json.specs.View.{view};
-ghost use Rattle.ert_explain.specs.Labels.{label_in, items_label, start_label, label_at, IsSameLabel, IsNewLabel};
+ghost use Rattle.ert_explain.specs.Labels.{label_of_start, items_label, start_label, label_at, IsSameLabel, IsNewLabel};
 
 use crate::op_name::{OpName, op_called};
 use crate::place::{items_of, op_at};
@@ -31,7 +31,7 @@ fn label_at(value: &Value, race: bool, number: usize) -> Option<i64>
 
 /// The label of an op, where it is a start.
 fn label_in(op: &Value) -> Option<i64>
-    ensures { result ≡ label_in (view op.now) }
+    ensures { result ≡ label_of_start (view op.now) }
 {
     items_label(items_of(Some(op)))
 }

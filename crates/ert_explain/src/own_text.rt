@@ -1,7 +1,7 @@
 //! Whether bytes are the text of what a refusal is about.
 ghost use Rattle.std.specs.Prelude.{◌≡◌, Some, IsTrue, option_map};
 ghost use Rattle.serde_json.specs.View.{view, number_view};
-ghost use Rattle.ert_explain.specs.OwnTexts.{is_bare, IsSameNumber, IsSame, IsScalarText, IsTextOf};
+ghost use Rattle.ert_explain.specs.OwnTexts.{is_trimmed, IsSameNumber, IsSameScalar, IsScalarText, IsTextOf};
 ghost use Rattle.ert_explain.specs.OwnTexts.{is_known, IsOtherName, IsTextOfOther, IsTextOfName, IsOwnText};
 
 use crate::cause::Cause;
@@ -32,7 +32,7 @@ pub(crate) fn is_own_text(
 
 /// Whether there are bytes, of which neither the first nor the last is a blank.
 fn is_bare(part: &[u8]) -> bool
-    ensures { result ≡ is_bare part.now }
+    ensures { result ≡ is_trimmed part.now }
 {
     !part.is_empty() && part[0] > b' ' && part[part.len() - 1] > b' '
 }
@@ -60,7 +60,7 @@ fn is_scalar_text(alloc: Global, part: &[u8], value: &Value) -> bool
 
 /// Whether two values that are neither arrays nor objects are the same.
 fn is_same(read: &Value, value: &Value) -> bool
-    ensures { IsTrue result → IsSame (view read.now) (view value.now) }
+    ensures { IsTrue result → IsSameScalar (view read.now) (view value.now) }
 {
     match (read, value) {
         (Value::Null, Value::Null) => true,

@@ -1,6 +1,6 @@
 //! The arguments of ops.
 ghost use Rattle.std.specs.Prelude.{◌≡◌, Some, None};
-ghost use Rattle.ert_explain.specs.Params.{signature_of, arity_of, param_at, first_of, second_of, third_of, start_at};
+ghost use Rattle.ert_explain.specs.Params.{signature_of, arity_of, param_at, first_param, second_param, third_param, start_param};
 
 use crate::op_name::OpName;
 
@@ -114,14 +114,14 @@ impl Signature {
 
 /// The argument of this index, of one.
 fn first_of(index: usize, first: Param) -> Option<Param>
-    ensures { result ≡ first_of index first }
+    ensures { result ≡ first_param index first }
 {
     if index == 0 { Some(first) } else { None }
 }
 
 /// The same, of two.
 fn second_of(index: usize, first: Param, second: Param) -> Option<Param>
-    ensures { result ≡ second_of index first second }
+    ensures { result ≡ second_param index first second }
 {
     if index == 1 {
         Some(second)
@@ -132,7 +132,7 @@ fn second_of(index: usize, first: Param, second: Param) -> Option<Param>
 
 /// The same, of three.
 fn third_of(index: usize, first: Param, second: Param, third: Param) -> Option<Param>
-    ensures { result ≡ third_of index first second third }
+    ensures { result ≡ third_param index first second third }
 {
     if index == 2 {
         Some(third)
@@ -143,7 +143,7 @@ fn third_of(index: usize, first: Param, second: Param, third: Param) -> Option<P
 
 /// The argument of this index, of a start.
 fn start_at(index: usize) -> Option<Param>
-    ensures { result ≡ start_at index }
+    ensures { result ≡ start_param index }
 {
     if index == 3 {
         return Some(Param::Milliseconds);

@@ -2,7 +2,7 @@
 ghost use Rattle.std.specs.Prelude.{◌≡◌, map, option_map};
 ghost use Rattle.serde_json.specs.View.{view};
 ghost use Rattle.ert_scenario.specs.Kinds.{listed, or_empty};
-ghost use Rattle.ert_explain.specs.Places.{seen, item_at, caller_op_at, race_op_at, op_at};
+ghost use Rattle.ert_explain.specs.Places.{op_seen, item_at, caller_op_at, race_op_at, op_at};
 
 use serde_json::Value;
 
@@ -29,7 +29,7 @@ pub(crate) struct PlacedOp<'a> {
 /// The op of this number, from 0, in all lists together, with those of a race where one is wanted.
 #[tactic(auto, unfolding(crate::specs::Places::op_at))]
 pub(crate) fn op_at(value: &Value, race: bool, number: usize) -> Option<PlacedOp<'_>>
-    ensures { option_map seen result ≡ op_at race (view value.now) number }
+    ensures { option_map op_seen result ≡ op_at race (view value.now) number }
 {
     let ops = items_of(value.get("ops"));
     if number < ops.len() {
@@ -44,7 +44,7 @@ pub(crate) fn op_at(value: &Value, race: bool, number: usize) -> Option<PlacedOp
 /// The op of this number in the lists of a race.
 #[tactic(auto, unfolding(crate::specs::Places::race_op_at))]
 fn race_op_at(race: &Value, number: usize) -> Option<PlacedOp<'_>>
-    ensures { option_map seen result ≡ race_op_at (view race.now) number }
+    ensures { option_map op_seen result ≡ race_op_at (view race.now) number }
 {
     let keeper = items_of(race.get("keeper"));
     if number < keeper.len() {
@@ -55,7 +55,7 @@ fn race_op_at(race: &Value, number: usize) -> Option<PlacedOp<'_>>
 
 /// The op of this number in the lists of callers.
 fn caller_op_at(lists: &[Value], number: usize) -> Option<PlacedOp<'_>>
-    ensures { option_map seen result ≡ caller_op_at 0 (map view lists.now) number }
+    ensures { option_map op_seen result ≡ caller_op_at 0 (map view lists.now) number }
 {
     let mut rest = number;
     for (caller, list) in lists.iter().enumerate() {
@@ -70,7 +70,7 @@ fn caller_op_at(lists: &[Value], number: usize) -> Option<PlacedOp<'_>>
 
 /// The item of a list that has this index.
 fn item_at(list: ListName, items: &[Value], index: usize) -> Option<PlacedOp<'_>>
-    ensures { option_map seen result ≡ item_at list (map view items.now) index }
+    ensures { option_map op_seen result ≡ item_at list (map view items.now) index }
 {
     let value = items.get(index)?;
     Some(PlacedOp { list, index, value })

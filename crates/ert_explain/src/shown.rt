@@ -1,13 +1,13 @@
 //! What a message shows of the input.
 ghost use Rattle.std.specs.Prelude.{◌≡◌, ◌<◌, ◌++◌, OnOk, length, min, take, string_bytes};
-ghost use Rattle.ert_explain.specs.Shown.{nibble, escaped_byte, escaped, shown, shown_part};
+ghost use Rattle.ert_explain.specs.Shown.{nibble, escaped_byte, escaped, shown_value, shown_part};
 
 use std::alloc::AllocError;
 
 /// Appends a value or a name of the input: what an array or an object is, or the bytes, of which each that isn't
 /// a printable one of ASCII is escaped. At most 60 of them are shown.
 pub(crate) fn write_shown(page: &mut String, part: &[u8]) -> Result<(), AllocError>
-    ensures { OnOk result (string_bytes page.new ≡ string_bytes page.old ++ shown part.now) }
+    ensures { OnOk result (string_bytes page.new ≡ string_bytes page.old ++ shown_value part.now) }
 {
     match part.first().copied() {
         Some(b'[') => page.push_str("an array"),

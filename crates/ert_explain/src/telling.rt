@@ -1,7 +1,7 @@
 //! An explanation, written to a sink.
 ghost use Rattle.std.specs.Prelude.{◌≡◌, ◌≤◌, None};
-ghost use Rattle.ert_explain.specs.Telling.{Tells};
-ghost use Rattle.ert_io.specs.Told.{told};
+ghost use Rattle.ert_explain.specs.Telling.{TellsWhyOrNothing};
+ghost use Rattle.ert_io.specs.Told.{sink_told};
 ghost use Rattle.ert_scenario.specs.Scenarios.{HasRefusal};
 
 use crate::explanation::explanation_of;
@@ -21,7 +21,7 @@ pub fn explain<E: Sink>(
 )
     requires room { E.room errors.old ≡ None }
     requires why { HasRefusal race bytes.now refusal.now }
-    ensures told { Tells race bytes.now refusal.now (told (E.taken errors.old) (E.room errors.old)) (told (E.taken errors.new) (E.room errors.new)) }
+    ensures told { TellsWhyOrNothing race bytes.now refusal.now (sink_told (E.taken errors.old) (E.room errors.old)) (sink_told (E.taken errors.new) (E.room errors.new)) }
     ensures later { E.faults errors.old ≤ E.faults errors.new }
 {
     let Ok(explanation) = explanation_of(alloc, bytes, race, refusal) else {

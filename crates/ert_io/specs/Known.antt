@@ -19,8 +19,8 @@ abbrev pub IsAtEnd : Option (List ℕ) → Type 0
 IsAtEnd left = IfSome left (λ xs. xs ≡ [])
 
 -- there is room for n bytes, where that is known
-abbrev pub HasRoom : Option ℕ → ℕ → Type 0
-HasRoom room n = IfSome room (λ r. n ≤ r)
+abbrev pub HasRoomFor : Option ℕ → ℕ → Type 0
+HasRoomFor room n = IfSome room (λ r. n ≤ r)
 
 -- at most n bytes were taken of those that were left
 pub record TakesUpTo (n : ℕ) (left left_new : Option (List ℕ)) : Type 0 where

@@ -7,8 +7,8 @@ use Rattle.ert_io.specs.declared.sure_source.SureSource.{SureSource}
 use Rattle.ert_io.specs.declared.sure_sink.SureSink.{SureSink}
 
 -- the bytes that a source has left
-abbrev pub left_of : MemSource → List ℕ
-left_of s = drop s.next s.bytes.items
+abbrev pub bytes_left : MemSource → List ℕ
+bytes_left s = drop s.next s.bytes.items
 
 -- how many reads were made
 abbrev pub reads_of : MemSource → ℕ

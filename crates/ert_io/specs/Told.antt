@@ -4,24 +4,24 @@ use Rattle.std.specs.Prelude.{◌≡◌, ℕ, ◌-◌, List, ◌++◌, length, O
 use Rattle.ert_io.specs.Known.{then}
 
 -- the bytes that a sink took and the room that it has, each where it tells them
-pub record Told : Type 0 where
+pub record SinkTold : Type 0 where
   pub taken : Option (List ℕ)
   pub room : Option ℕ
 
 -- a sink tells that it took these bytes and has this room, each where it tells it
-abbrev pub told : Option (List ℕ) → Option ℕ → Told
-told taken room = record { taken = taken; room = room }
+abbrev pub sink_told : Option (List ℕ) → Option ℕ → SinkTold
+sink_told taken room = record { taken = taken; room = room }
 
 -- the room that is left after so many bytes
-abbrev pub room_after : ℕ → Option ℕ → Option ℕ
-room_after n room = option_map (λ r. r - n) room
+abbrev pub room_left : ℕ → Option ℕ → Option ℕ
+room_left n room = option_map (λ r. r - n) room
 
 -- it took a text: its bytes are there, and its room is less by as many
-abbrev pub took : Told → List ℕ → Told
-took t text = told (then t.taken text) (room_after (length text) t.room)
+abbrev pub took : SinkTold → List ℕ → SinkTold
+took t text = sink_told (then t.taken text) (room_left (length text) t.room)
 
 -- it took the first part of a text
-pub record TakesFront (old new : Told) (text : List ℕ) : Type 0 where
+pub record TakesFront (old new : SinkTold) (text : List ℕ) : Type 0 where
   pub front : List ℕ
   pub others : List ℕ
   pub took : new ≡ took old front

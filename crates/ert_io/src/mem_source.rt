@@ -35,19 +35,19 @@ impl MemSource {
 }
 
 impl Source for MemSource {
-    ghost use Rattle.ert_io.specs.Memory.{left_of, reads_of, failing_reads};
+    ghost use Rattle.ert_io.specs.Memory.{bytes_left, reads_of, failing_reads};
 
     ghost faults = { λ s. s.calls.faults };
 
-    ghost left = { λ s. Some (left_of s) };
+    ghost left = { λ s. Some (bytes_left s) };
 
     fn read(&mut self, buf: &mut [u8]) -> Result<usize, Failed>
         requires { 0 < length buf.old }
         ensures fails { IsErr result ↔ Contains (failing_reads self.old) (reads_of self.new) }
-        ensures count { IfOk result (λ n. n ≡ min (length (left_of self.old)) (length buf.new)) }
-        ensures bytes { IfOk result (λ n. left_of self.old ≡ take n buf.new ++ left_of self.new) }
-        ensures end { IfOk result (λ n. n ≡ 0 → left_of self.new ≡ []) }
-        ensures kept { OnErr result (left_of self.new ≡ left_of self.old) }
+        ensures count { IfOk result (λ n. n ≡ min (length (bytes_left self.old)) (length buf.new)) }
+        ensures bytes { IfOk result (λ n. bytes_left self.old ≡ take n buf.new ++ bytes_left self.new) }
+        ensures end { IfOk result (λ n. n ≡ 0 → bytes_left self.new ≡ []) }
+        ensures kept { OnErr result (bytes_left self.new ≡ bytes_left self.old) }
         ensures ok { OnOk result (⟦<Self as Source>⟧.faults self.new ≡ ⟦<Self as Source>⟧.faults self.old) }
         ensures err { OnErr result (⟦<Self as Source>⟧.faults self.new ≡ one_more (⟦<Self as Source>⟧.faults self.old)) }
         ensures later { ⟦<Self as Source>⟧.faults self.old ≤ ⟦<Self as Source>⟧.faults self.new }

@@ -1,6 +1,6 @@
 ghost use Rattle.std.specs.Prelude.{◌≡◌, ℕ, ◌<◌, ◌≤◌, List, Option, None, length, take, IfOk, OnErr};
 ghost use Rattle.ert_io.specs.Faults.{Rose};
-ghost use Rattle.ert_io.specs.Known.{then, more_by, HasRoom};
+ghost use Rattle.ert_io.specs.Known.{then, more_by, HasRoomFor};
 
 use crate::failed::Failed;
 
@@ -18,7 +18,7 @@ pub trait Sink {
     /// Appends the first of `bytes`, which isn't empty: at least one, and it tells how many.
     fn write(&mut self, bytes: &[u8]) -> Result<usize, Failed>
         requires some { 0 < length bytes.now }
-        requires fits { HasRoom (room self.old) (length bytes.now) }
+        requires fits { HasRoomFor (room self.old) (length bytes.now) }
         ensures least { IfOk result (λ n. 0 < n) }
         ensures most { IfOk result (λ n. n ≤ length bytes.now) }
         ensures bytes { IfOk result (λ n. taken self.new ≡ then (taken self.old) (take n bytes.now)) }

@@ -1,6 +1,6 @@
 ghost use Rattle.std.specs.Prelude.{◌≡◌, ◌<◌, ◌≤◌, length, take, IfErr, OnOk, OnErr};
 ghost use Rattle.ert_io.specs.Faults.{Rose};
-ghost use Rattle.ert_io.specs.Known.{then, more_by, HasRoom};
+ghost use Rattle.ert_io.specs.Known.{then, more_by, HasRoomFor};
 ghost use Rattle.ert_io.specs.Writing.{written_of};
 
 use crate::sink::Sink;
@@ -16,7 +16,7 @@ pub enum WriteErr {
 
 /// Appends all of `bytes`, which fit the room of the sink. It takes no memory.
 pub fn write_all<K: Sink>(sink: &mut K, bytes: &[u8]) -> Result<(), WriteErr>
-    requires { HasRoom (K.room sink.old) (length bytes.now) }
+    requires { HasRoomFor (K.room sink.old) (length bytes.now) }
     ensures ok { OnOk result (K.taken sink.new ≡ then (K.taken sink.old) bytes.now) }
     ensures err { IfErr result (λ e. K.taken sink.new ≡ then (K.taken sink.old) (take (written_of e) bytes.now)) }
     ensures written { IfErr result (λ e. written_of e < length bytes.now) }

@@ -25,9 +25,9 @@ use Rattle.ert_defs.specs.declared.timer.Start.{Start}
 use Rattle.ert_defs.specs.declared.timer.Status.{Status}
 use Rattle.ert_defs.specs.declared.timer.Status.TheVariants.{Armed}
 use Rattle.ert_defs.specs.declared.timer.TimerRef.{TimerRef}
-use Rattle.ert_judge.specs.Breaks.{Differs, IsBehind, IsAnswered, last_status_of, UseBreaks, TickBreaks, ShiftBreaks, LookBreaks, OffBreaks, ArmBreaks, ProbeBreaks, LeftBreaks, ExpireBreaks, OrphanBreaks, DeliverBreaks, DropBreaks, MarkBreaks, AdvancedBreaks, PickBreaks, AnswerBreaks, TakeBreaks, UnwatchBreaks, WatchBreaks, TellBreaks, Breaks}
-use Rattle.ert_judge.specs.Reasons.{Holds}
-use Rattle.ert_judge.specs.Reasons.Holds.{out_of_range, breaks, other}
+use Rattle.ert_judge.specs.Breaks.{Differs, IsBehind, AnswersAsker, last_status_of, UseBreaks, TickBreaks, ShiftBreaks, LookBreaks, OffBreaks, ArmBreaks, ProbeBreaks, LeftBreaks, ExpireBreaks, OrphanBreaks, DeliverBreaks, DropBreaks, MarkBreaks, AdvancedBreaks, PickBreaks, AnswerBreaks, TakeBreaks, UnwatchBreaks, WatchBreaks, TellBreaks, Breaks}
+use Rattle.ert_judge.specs.Reasons.{IsFirstReason}
+use Rattle.ert_judge.specs.Reasons.IsFirstReason.{out_of_range, breaks, other}
 use Rattle.ert_judge.specs.declared.reasons.Reason.{Reason}
 use Rattle.ert_judge.specs.declared.reasons.Reason.TheVariants.{ShiftFirst, BadReading, NotPreliminary, OtherTick, OffsetPast, OtherShift, OtherTime, OtherOffset, OtherState, SlotTaken, OtherGeneration, Rests, NoDeadline, WheelUsed, OtherStatus, OtherLeft, NotArmed, NotDue, Later, NotNext, NotExited, NoneWaits, OtherWaits, OtherDest, OtherMilliseconds, StillArmed, OtherExit, HandFull, OtherRequest, HandEmpty, OtherAsker, OtherOutcome, NothingLeft, OtherMail, OtherMonitor, OtherNumber, TooMany}
 use Rattle.ert_judge.proofs.RangesExclude.{range_excludes}
@@ -199,7 +199,7 @@ pick_excludes sched inbox got (OtherRequest first) h empty same = differs_not go
 pick_excludes sched inbox got _ h empty same = absurd h
 
 -- what an answer says of the request in the hand
-result_in_hand : (g : Settings) (sched : SchedState) (with : Option Actor) (names : Bool) (request : Request) (left : Option ℕ) → IsAnswered g sched with names
+result_in_hand : (g : Settings) (sched : SchedState) (with : Option Actor) (names : Bool) (request : Request) (left : Option ℕ) → AnswersAsker g sched with names
     → sched.hand ≡ Some request → IsResult (names_timer g request.timer) sched.result left → IsResult names sched.result left
 result_in_hand g sched with names request left is hand result =
     let same : request ≡ is.request = some_same sched.hand request is.request hand is.hand in
@@ -271,7 +271,7 @@ event_excludes g s by with (Watch process monitor offset) r h known found =
 event_excludes g s by with (Tell process offset) r h known found = tell_excludes s.clock.offset offset r h found
 
 -- a reason that holds excludes the entry
-pub excludes : (g : Settings) (s : State) (e : Entry) (r : Reason) → Holds g s e r → Can g s e → ⊥
+pub excludes : (g : Settings) (s : State) (e : Entry) (r : Reason) → IsFirstReason g s e r → Can g s e → ⊥
 excludes g s e r (out_of_range h) can = range_excludes g e r h can.keeps
 excludes g s e r (breaks in_range h) can = event_excludes g s e.by e.with e.event r h can.known can.found
 excludes g s e r (other is in_range known found never) can = never can

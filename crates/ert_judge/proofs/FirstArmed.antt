@@ -13,7 +13,7 @@ use Rattle.ert_defs.specs.declared.timer.Status.TheVariants.{Armed}
 use Rattle.ert_defs.specs.declared.timer.TimerRef.{TimerRef}
 use Rattle.ert_state.proofs.ArmedLaws.{settled_if, settled_each}
 use Rattle.ert_state.proofs.WheelLaws.{row_of_rows}
-use Rattle.ert_state.specs.Indexes.{IsFirstArmed as IsFirstKept}
+use Rattle.ert_state.specs.Indexes.{IsFirstArmed}
 use Rattle.ert_state.specs.Parts.{looks_in, look_of, status_at}
 use Rattle.ert_state.specs.Wheels.{timers_at, timer_in, rows_of, is_settled, IsFirstDue, IsOwnOf}
 use Rattle.ert_state.specs.declared.wheels.Timer.{Timer}
@@ -21,7 +21,7 @@ use Rattle.ert_judge.proofs.EventsExclude.{settled_row}
 use Rattle.ert_judge.proofs.Knows.{shown_all}
 use Rattle.ert_judge.proofs.Seen.{never_next}
 use Rattle.ert_judge.proofs.WheelTests.{settled_all}
-use Rattle.ert_judge.specs.Breaks.{IsArmedTill, IsFirstArmed, IsKeptBack, IsLater, IsSecond}
+use Rattle.ert_judge.specs.Breaks.{IsArmedTill, IsEarliestArmed, IsKeptBack, IsLater, IsSecond}
 use Rattle.ert_judge.specs.Shown.{shown, OwnTimers}
 use Rattle.ert_judge.specs.declared.judge.Judge.{Judge}
 
@@ -46,7 +46,7 @@ found_armed c j timer t found armed = record {
 }
 
 -- so is the first of those of a wheel
-kept_armed : (c : Clock) (j : Judge) (w : ℕ) (t : Timer) → OwnTimers j → IsFirstKept (timers_at j.timers w) t
+kept_armed : (c : Clock) (j : Judge) (w : ℕ) (t : Timer) → OwnTimers j → IsFirstArmed (timers_at j.timers w) t
     → IsArmedTill (shown c j) w t.row.timer t.row.deadline
 kept_armed c j w t own is =
     let ts : List Timer = timers_at j.timers w in
@@ -55,8 +55,8 @@ kept_armed c j w t own is =
     subst (λ n. IsArmedTill (shown c j) n t.row.timer t.row.deadline) mine.wheel
     (found_armed c j t.row.timer t (ap (λ n. timer_in (timers_at j.timers n) t.row.timer) mine.wheel ∙ is.named) is.armed)
 
-pub first_seen : (c : Clock) (j : Judge) (w : ℕ) (t : Timer) → OwnTimers j → IsFirstKept (timers_at j.timers w) t
-    → IsFirstArmed (shown c j) w t.row.timer t.row.deadline
+pub first_seen : (c : Clock) (j : Judge) (w : ℕ) (t : Timer) → OwnTimers j → IsFirstArmed (timers_at j.timers w) t
+    → IsEarliestArmed (shown c j) w t.row.timer t.row.deadline
 first_seen c j w t own is = record {
   till = kept_armed c j w t own is;
   least = (settled_all (status_at j.timers) (λ d. nat_lt d t.row.deadline) (timers_at j.timers w) (shown_all j w own)).0 is.least;
@@ -70,7 +70,7 @@ none_seen j w to own none =
     (settled_if (λ d. nat_le d to) (timers_at j.timers w) (λ p t stands armed.
     let wrong : true ≡ false = settled_each (λ d. true) (timers_at j.timers w) none p t stands armed in absurd cc))
 
-pub later_seen : (j : Judge) (w to : ℕ) (first : Timer) → OwnTimers j → IsFirstKept (timers_at j.timers w) first → to < first.row.deadline
+pub later_seen : (j : Judge) (w to : ℕ) (first : Timer) → OwnTimers j → IsFirstArmed (timers_at j.timers w) first → to < first.row.deadline
     → AllSettled (status_at j.timers) (λ d. nat_le d to) (rows_of (timers_at j.timers w))
 later_seen j w to first own is late =
     (settled_all (status_at j.timers) (λ d. nat_le d to) (timers_at j.timers w) (shown_all j w own)).0
@@ -97,14 +97,14 @@ kept_back c j by timer t own found armed due never = record {
 -- by one with an earlier deadline
 pub later_first : (c : Clock) (j : Judge) (by : Actor) (timer : TimerRef) (t first : Timer) → OwnTimers j
     → IsKeptBack j.settings (shown c j) by timer t.row.deadline
-    → IsFirstKept (timers_at j.timers timer.wheel) first → first.row.deadline < t.row.deadline
+    → IsFirstArmed (timers_at j.timers timer.wheel) first → first.row.deadline < t.row.deadline
     → IsLater j.settings (shown c j) by timer first.row.timer first.row.deadline
 later_first c j by timer t first own kept is sooner =
     record { own = t.row.deadline; kept = kept; before = first_seen c j timer.wheel first own is; sooner = sooner }
 
 -- a timer is armed no earlier than the first
 no_sooner : (c : Clock) (j : Judge) (timer : TimerRef) (d : ℕ) (first : Timer) → OwnTimers j
-    → IsArmedTill (shown c j) timer.wheel timer d → IsFirstKept (timers_at j.timers timer.wheel) first → first.row.deadline ≤ d
+    → IsArmedTill (shown c j) timer.wheel timer d → IsFirstArmed (timers_at j.timers timer.wheel) first → first.row.deadline ≤ d
 no_sooner c j timer d first own armed is = elim (cases_lt d first.row.deadline) [
   | inl low ↦
       absurd (settled_row (status_at j.timers) (λ e. nat_lt e first.row.deadline) (rows_of (timers_at j.timers timer.wheel)) timer
@@ -117,7 +117,7 @@ no_sooner c j timer d first own armed is = elim (cases_lt d first.row.deadline) 
 pub second_first : (c : Clock) (j : Judge) (by : Actor) (timer : TimerRef) (t first : Timer) → OwnTimers j
     → IsKeptBack j.settings (shown c j) by timer t.row.deadline
     → (IsFirstDue (timers_at j.timers timer.wheel) timer (looked j by) → ⊥)
-    → IsFirstKept (timers_at j.timers timer.wheel) first → t.row.deadline ≤ first.row.deadline
+    → IsFirstArmed (timers_at j.timers timer.wheel) first → t.row.deadline ≤ first.row.deadline
     → IsSecond j.settings (shown c j) by timer
 second_first c j by timer t first own kept never is late =
     let low = no_sooner c j timer t.row.deadline first own kept.armed is in
@@ -126,7 +126,7 @@ second_first c j by timer t first own kept never is late =
       own = t.row.deadline;
       kept = kept;
       first = first.row.timer;
-      before = subst (λ d. IsFirstArmed (shown c j) timer.wheel first.row.timer d) same (first_seen c j timer.wheel first own is);
+      before = subst (λ d. IsEarliestArmed (shown c j) timer.wheel first.row.timer d) same (first_seen c j timer.wheel first own is);
       other = λ e. never (record {
         place = is.place;
         within = slice_get_within (timers_at j.timers timer.wheel) is.place first is.stands;

@@ -17,7 +17,7 @@ use Rattle.ert_defs.specs.declared.timer.TimerRef.{TimerRef}
 use Rattle.ert_defs.proofs.Runs.{state-append, legal_more}
 use Rattle.ert_defs.proofs.Slots.{uses_after}
 use Rattle.ert_state.specs.Parts.{LastLooks, looks_in, look_of, rows_in, status_at, inbox_at, sched_at}
-use Rattle.ert_judge.specs.Shown.{shown, ClockIs, ClockFollows, Follows, StandsFor}
+use Rattle.ert_judge.specs.Shown.{shown, ClockIs, ClockFollows, Follows, HasFollowed}
 use Rattle.ert_state.specs.Uses.{uses_in}
 use Rattle.ert_state.specs.Wheels.{timers_at, IsOwn}
 use Rattle.ert_judge.specs.declared.judge.Judge.{Judge}
@@ -72,9 +72,9 @@ goes g c old new e keeps callers lookers inboxes schedulers timers follows =
     (λ v. sched_below g e.by (length old.schedulers) v m.maker schedulers) w)))
 
 -- so a judge stands for the history with one more entry
-pub stands_on : (g : Settings) (h : List Entry) (old new : Judge) (e : Entry) → StandsFor g h old → Can g (state g h) e
+pub stands_on : (g : Settings) (h : List Entry) (old new : Judge) (e : Entry) → HasFollowed g h old → Can g (state g h) e
     → TimersGo g (look_of (looks_in old.looks) e.by) e.with e.event old.timers new.timers
-    → Follows old e new → StandsFor g (h ++ e ∷ []) new
+    → Follows old e new → HasFollowed g (h ++ e ∷ []) new
 stands_on g h old new e stands can timers follows =
     let c : Clock = (state g h).clock in
     let P : State → Type 0 = λ s. s ≡ shown s.clock new in

@@ -8,8 +8,8 @@ use Rattle.ert_defs.specs.Milliseconds.{down}
 use Rattle.ert_defs.specs.declared.entry.Actor.{Actor}
 use Rattle.ert_defs.specs.declared.timer.TimerRef.{TimerRef}
 use Rattle.ert_state.specs.Parts.{looks_in, look_of, status_at}
-use Rattle.ert_judge.specs.Shown.{shown, OwnTimers, HasAdvanced}
-use Rattle.ert_state.specs.Wheels.{timers_at, status_in, AreShown, IsFirstDue}
+use Rattle.ert_judge.specs.Shown.{shown, OwnTimers, HasSettledDue}
+use Rattle.ert_state.specs.Wheels.{timers_at, status_among, AreShown, IsFirstDue}
 use Rattle.ert_judge.specs.declared.judge.Judge.{Judge}
 use Rattle.ert_state.proofs.WheelLaws.{own_shown}
 use Rattle.ert_judge.proofs.WheelTests.{settled_all, first_is_next}
@@ -19,7 +19,7 @@ pub shown_all : (j : Judge) (w : ℕ) → OwnTimers j → AreShown (status_at j.
 shown_all j w own =
     own_shown w (timers_at j.timers w) (status_at j.timers) (λ r same. status_where j r w same) (own w)
   where
-    status_where : (j : Judge) (r : TimerRef) (w : ℕ) → r.wheel ≡ w → status_at j.timers r ≡ status_in (timers_at j.timers w) r
+    status_where : (j : Judge) (r : TimerRef) (w : ℕ) → r.wheel ≡ w → status_at j.timers r ≡ status_among (timers_at j.timers w) r
     status_where j r w same = rw same refl
 
 -- a timer is due and the first of its wheel
@@ -33,7 +33,7 @@ next_known c j by timer b own is =
 
 -- a wheel has settled all that was due
 pub advanced_known : (c : Clock) (j : Judge) (by : Actor) (w to : ℕ) (b : Bool) → OwnTimers j
-    → IsTrue b ↔ HasAdvanced j by w to
+    → IsTrue b ↔ HasSettledDue j by w to
     → IsTrue b ↔ ((pos to ≡ down j.settings ((shown c j).looked by))
     × AllSettled (shown c j).status (λ d. nat_le d to) ((shown c j).rows w))
 advanced_known c j by w to b own is =

@@ -21,10 +21,10 @@ use Rattle.ert_defs.specs.declared.settings.Settings.{Settings}
 use Rattle.ert_defs.specs.declared.timer.TimerRef.{TimerRef}
 use Rattle.ert_state.specs.Parts.{looks_in, look_of}
 use Rattle.ert_state.specs.Uses.{uses_in, IsNewUse}
-use Rattle.ert_state.specs.Wheels.{timers_at, rows_of, status_in, IsOwnOf, IsOwn}
+use Rattle.ert_state.specs.Wheels.{timers_at, rows_of, status_among, IsOwnOf, IsOwn}
 use Rattle.ert_state.specs.declared.wheels.Timer.{Timer}
 use Rattle.ert_judge.specs.Breaks.{IsUse}
-use Rattle.ert_judge.specs.Shown.{shown, last_status, IsFreeFor, StandsFor}
+use Rattle.ert_judge.specs.Shown.{shown, last_status, IsFreeFor, HasFollowed}
 use Rattle.ert_judge.specs.declared.judge.Judge.{Judge}
 use Rattle.ert_judge.proofs.TimerLaws.{ArmsNext}
 
@@ -73,18 +73,18 @@ use_known c j by timer deadline u now count free uses look is counts few =
     }
 
 -- a reference without a status in its wheel is a new use of its slot
-own_new : (w : ℕ) (ts : List Timer) (r : TimerRef) → IsOwn w ts → r.wheel ≡ w → status_in ts r ≡ None
+own_new : (w : ℕ) (ts : List Timer) (r : TimerRef) → IsOwn w ts → r.wheel ≡ w → status_among ts r ≡ None
     → IsNewUse ts r.slot r.generation
 own_new w ts r own wheel none p t stands slot generation =
     let is : IsOwnOf w ts t = subst (IsOwnOf w ts) (get_or_from_slice_get ts p t t stands)
     (All-get_or (IsOwnOf w ts) ts p t (slice_get_within ts p t stands) own) in
     let test : same_timer t.row.timer r ≡ true =
     rw (eq-eqb t.row.timer.wheel r.wheel (is.wheel ∙ sym wheel), eq-eqb t.row.timer.slot r.slot slot, eq-eqb t.row.timer.generation r.generation generation) refl in
-    let e : Some t.status ≡ None = sym is.shown ∙ (ap (status_in ts) (same_timer-true t.row.timer r test) ∙ none) in
+    let e : Some t.status ≡ None = sym is.shown ∙ (ap (status_among ts) (same_timer-true t.row.timer r test) ∙ none) in
     cc
 
 -- a legal entry arms no timer but a new one
-pub arms_next : (g : Settings) (h : List Entry) (j : Judge) (e : Entry) → StandsFor g h j → Can g (state g h) e
+pub arms_next : (g : Settings) (h : List Entry) (j : Judge) (e : Entry) → HasFollowed g h j → Can g (state g h) e
     → ArmsNext j.timers g ((state g h).looked e.by) e.event
 arms_next g h j e stands can = of_event e.event can.known
   where

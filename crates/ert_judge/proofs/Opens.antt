@@ -10,9 +10,9 @@ use Rattle.ert_defs.specs.declared.entry.Actor.{Actor}
 use Rattle.ert_defs.specs.declared.entry.Actor.TheVariants.{Keeper, Wheel, Inbox, Sched, MailOf, Caller}
 use Rattle.ert_defs.specs.declared.settings.Settings.{Settings}
 use Rattle.ert_state.specs.Parts.{LastLooks, no_looks, look_of, inbox_at, sched_at}
-use Rattle.ert_judge.specs.Shown.{shown, IsOpening, StandsFor}
+use Rattle.ert_judge.specs.Shown.{shown, IsOpening, HasFollowed}
 use Rattle.ert_state.specs.Uses.{uses_in}
-use Rattle.ert_state.specs.Wheels.{timers_at, rows_of, status_in, IsOwn}
+use Rattle.ert_state.specs.Wheels.{timers_at, rows_of, status_among, IsOwn}
 use Rattle.ert_judge.specs.declared.judge.Judge.{Judge}
 use Rattle.ert_state.specs.declared.wheels.Timer.{Timer}
 use Rattle.ert_judge.proofs.Stands.{same_states}
@@ -39,7 +39,7 @@ own_none : (w : ℕ) (ts : List Timer) → ts ≡ [] → IsOwn w ts
 own_none w ts e = rw e (λ k d low. absurd (omega arith))
 
 -- so a judge stands for it
-pub stands_open : (g : Settings) (j : Judge) → IsOpening g j → StandsFor g [] j
+pub stands_open : (g : Settings) (j : Judge) → IsOpening g j → HasFollowed g [] j
 stands_open g j is = record {
   settings = is.settings;
   legal = tt;
@@ -48,7 +48,7 @@ stands_open g j is = record {
       (λ a. sym (ap (λ l. look_of l a) is.looks ∙ look_opening g a))
       (λ w. sym (ap rows_of (none_at g j w is)))
       (λ w k. sym (ap (λ ts. uses_in ts k) (none_at g j w is)))
-      (λ r. sym (ap (λ ts. status_in ts r) (none_at g j r.wheel is)))
+      (λ r. sym (ap (λ ts. status_among ts r) (none_at g j r.wheel is)))
       (λ p. sym (is.exits p))
       (λ p. sym (is.mailboxes p))
       (λ w. sym (ap (λ xs. inbox_at xs w) is.inboxes ∙ cell_opening g.schedulers w []))

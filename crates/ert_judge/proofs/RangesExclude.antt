@@ -11,8 +11,8 @@ use Rattle.ert_defs.specs.declared.entry.Event.TheVariants.{Tick, Shift, Look, O
 use Rattle.ert_defs.specs.declared.settings.Settings.{Settings}
 use Rattle.ert_judge.proofs.Highs.{Names, first_named}
 use Rattle.ert_judge.proofs.Makers.{IsPartner, made}
-use Rattle.ert_judge.specs.Ranges.{maker_of, partner_of, reads_with, wheel_of, slot_of, process_of, count_of, IsMadeBy, IsMadeWith}
-use Rattle.ert_judge.specs.Reasons.{IsOutOfRange}
+use Rattle.ert_judge.specs.Ranges.{maker_of, partner_of, reads_with, wheel_of_event, slot_of_event, process_of, count_of_kind, IsMadeBy, IsMadeWith}
+use Rattle.ert_judge.specs.Reasons.{BreaksRange}
 use Rattle.ert_judge.specs.declared.reasons.Counted.{Counted}
 use Rattle.ert_judge.specs.declared.reasons.Counted.TheVariants.{Callers, Schedulers, Processes, Slots}
 use Rattle.ert_judge.specs.declared.reasons.Maker.{Maker}
@@ -142,7 +142,7 @@ none_named : (n count : ℕ) → None ≡ Some n → n < count
 none_named n count e = absurd cc
 
 wheel_below : (g : Settings) (by : Actor) (with : Option Actor) (event : Event) (n : ℕ) → Keeps g by with event
-    → wheel_of event ≡ Some n → n < g.schedulers
+    → wheel_of_event event ≡ Some n → n < g.schedulers
 wheel_below g by with (Arm timer start) n k e = below timer.wheel n g.schedulers e k.2.wheel_high
 wheel_below g by with (Probe wheel slot found) n k e = below wheel n g.schedulers e k.2.wheel_high
 wheel_below g by with (Peek timer left) n k e = below timer.wheel n g.schedulers e k.2.wheel_high
@@ -158,7 +158,7 @@ wheel_below g by with (Answer wheel left) n k e = below wheel n g.schedulers e k
 wheel_below g by with _ n k e = none_named n g.schedulers e
 
 slot_below : (g : Settings) (by : Actor) (with : Option Actor) (event : Event) (n : ℕ) → Keeps g by with event
-    → slot_of event ≡ Some n → n < g.slots
+    → slot_of_event event ≡ Some n → n < g.slots
 slot_below g by with (Arm timer start) n k e = below timer.slot n g.slots e k.2.slot_high
 slot_below g by with (Probe wheel slot found) n k e = below slot n g.slots e k.2.slot_high
 slot_below g by with (Peek timer left) n k e = below timer.slot n g.slots e k.2.slot_high
@@ -182,7 +182,7 @@ process_below g by with _ n k e = none_named n g.processes e
 
 -- an entry in range names nothing past its count
 names_below : (g : Settings) (e : Entry) (thing : Counted) (n : ℕ) → Keeps g e.by e.with e.event → Names e thing n
-    → n < count_of g thing
+    → n < count_of_kind g thing
 names_below g e Callers n k (inl by) = subst (IsMaker g) by (made g e.by e.with e.event k).maker
 names_below g e Callers n k (inr with) = subst (IsPartner g) with (made g e.by e.with e.event k).partner
 names_below g e Schedulers n k (inl by) = subst (IsMaker g) by (made g e.by e.with e.event k).maker
@@ -195,12 +195,12 @@ too_high : (n count wanted : ℕ) → count ≡ wanted → count ≤ n → n < w
 too_high n count wanted is high low = omega arith
 
 -- a reason of the range excludes an entry in range
-pub range_excludes : (g : Settings) (e : Entry) (r : Reason) → IsOutOfRange g e r → Keeps g e.by e.with e.event → ⊥
+pub range_excludes : (g : Settings) (e : Entry) (r : Reason) → BreaksRange g e r → Keeps g e.by e.with e.event → ⊥
 range_excludes g e (NotBy maker) h k =
     h.1 (subst (λ (m : Maker). IsMadeBy m e.by) (sym h.0) (keeps_maker g e.by e.with e.event k))
 range_excludes g e (NotWith partner) h k =
     h.2 (subst (λ (p : Partner). IsMadeWith p e.with) (sym h.1) (keeps_partner g e.by e.with e.event k))
 range_excludes g e (TooHigh thing n count) h k =
     let first = first_named g e thing n count h.2 in
-    too_high n count (count_of g thing) first.counted first.high (names_below g e thing n k first.names)
+    too_high n count (count_of_kind g thing) first.counted first.high (names_below g e thing n k first.names)
 range_excludes g e _ h k = absurd h

@@ -17,12 +17,12 @@ use Rattle.ert_defs.specs.declared.settings.Reading.{Reading}
 use Rattle.ert_defs.specs.declared.settings.Settings.{Settings}
 use Rattle.ert_defs.specs.declared.timer.TimerRef.{TimerRef}
 use Rattle.ert_judge.proofs.Knows.{next_known}
-use Rattle.ert_judge.specs.Shown.{ClockIs, OwnTimers, StandsFor, shown}
+use Rattle.ert_judge.specs.Shown.{ClockIs, OwnTimers, HasFollowed, shown}
 use Rattle.ert_judge.specs.declared.judge.Judge.{Judge}
 use Rattle.ert_judge.specs.Breaks.{Breaks, TickBreaks, ShiftBreaks, LookBreaks, OffBreaks, WatchBreaks, TellBreaks}
 use Rattle.ert_judge.specs.Ranges.{MayBeInRange}
-use Rattle.ert_judge.specs.Reasons.{Holds, IsOutOfRange}
-use Rattle.ert_judge.specs.Reasons.Holds.{out_of_range, breaks, other}
+use Rattle.ert_judge.specs.Reasons.{IsFirstReason, BreaksRange}
+use Rattle.ert_judge.specs.Reasons.IsFirstReason.{out_of_range, breaks, other}
 use Rattle.ert_judge.specs.declared.reasons.Reason.{Reason}
 use Rattle.ert_judge.specs.declared.reasons.Reason.TheVariants.{Other}
 use Rattle.ert_state.specs.Parts.{looks_in, look_of}
@@ -77,7 +77,7 @@ tell_seen g c k told o is h =
 -- what a judge sees broken is broken in the state that it stands for
 pub broken_in : (g : Settings) (h : List Entry) (j : Judge) (e : Entry) (r : Reason) → MayBeInRange j.settings e
     → ((c : Clock) → ClockIs j.settings c j.clock → OwnTimers j → Breaks j.settings (shown c j) e.by e.with e.event r)
-    → StandsFor g h j → Holds g (state g h) e r
+    → HasFollowed g h j → IsFirstReason g (state g h) e r
 broken_in g h j e r in_range is stands =
     let clock : ClockIs j.settings (state g h).clock j.clock =
     subst (λ (x : Settings). ClockIs x (state g h).clock j.clock) (sym stands.settings) stands.clock in
@@ -87,15 +87,15 @@ broken_in g h j e r in_range is stands =
     (subst (λ (x : Settings). Breaks x (shown (state g h).clock j) e.by e.with e.event r) stands.settings here))
 
 -- an entry that isn't in range isn't in that state either
-pub outside : (g : Settings) (h : List Entry) (j : Judge) (e : Entry) (r : Reason) → IsOutOfRange j.settings e r
-    → StandsFor g h j → Holds g (state g h) e r
-outside g h j e r is stands = out_of_range (subst (λ (x : Settings). IsOutOfRange x e r) stands.settings is)
+pub outside : (g : Settings) (h : List Entry) (j : Judge) (e : Entry) (r : Reason) → BreaksRange j.settings e r
+    → HasFollowed g h j → IsFirstReason g (state g h) e r
+outside g h j e r is stands = out_of_range (subst (λ (x : Settings). BreaksRange x e r) stands.settings is)
 
 -- what a judge sees met is met in that state
 met_in : (g : Settings) (h : List Entry) (j : Judge) (e : Entry)
     → ((c : Clock) → ClockIs j.settings c j.clock → OwnTimers j
     → Known j.settings (shown c j) e.by e.with e.event × Found j.settings (shown c j) e.by e.event)
-    → StandsFor g h j → Known g (state g h) e.by e.with e.event × Found g (state g h) e.by e.event
+    → HasFollowed g h j → Known g (state g h) e.by e.with e.event × Found g (state g h) e.by e.event
 met_in g h j e met stands =
     let clock : ClockIs j.settings (state g h).clock j.clock =
     subst (λ (x : Settings). ClockIs x (state g h).clock j.clock) (sym stands.settings) stands.clock in
@@ -107,7 +107,7 @@ met_in g h j e met stands =
 pub refused : (g : Settings) (h : List Entry) (j : Judge) (e : Entry) → MayBeInRange j.settings e
     → ((c : Clock) → ClockIs j.settings c j.clock → OwnTimers j
     → Known j.settings (shown c j) e.by e.with e.event × Found j.settings (shown c j) e.by e.event)
-    → StandsFor g h j → (Can g (state g h) e → ⊥) → Holds g (state g h) e Other
+    → HasFollowed g h j → (Can g (state g h) e → ⊥) → IsFirstReason g (state g h) e Other
 refused g h j e in_range met stands never =
     let all = met_in g h j e met stands in
     other refl (subst (λ (x : Settings). MayBeInRange x e) stands.settings in_range) all.0 all.1 never
@@ -123,6 +123,6 @@ tick_met g c k r act now is h = (is.due ∙ h.0, subst (λ (f : Face). CanTick g
 
 -- a judge that refuses an entry tells that it can't follow
 pub not_can : (j : Judge) (e : Entry) (b : Bool)
-    → ((g : Settings) (h : List Entry) → StandsFor g h j → IsTrue b ↔ Can g (state g h) e) → b ≡ false
-    → (g : Settings) (h : List Entry) → StandsFor g h j → Can g (state g h) e → ⊥
+    → ((g : Settings) (h : List Entry) → HasFollowed g h j → IsTrue b ↔ Can g (state g h) e) → b ≡ false
+    → (g : Settings) (h : List Entry) → HasFollowed g h j → Can g (state g h) e → ⊥
 not_can j e b tells fails g h stands = refuted (Can g (state g h) e) b (tells g h stands) fails

@@ -19,10 +19,10 @@ use Rattle.ert_defs.specs.declared.timer.Start.{Start}
 use Rattle.ert_defs.specs.declared.timer.Status.{Status}
 use Rattle.ert_defs.specs.declared.timer.Status.TheVariants.{Armed, Expired, Delivered, Cancelled, Orphaned, Dropped}
 use Rattle.ert_defs.specs.declared.timer.TimerRef.{TimerRef}
-use Rattle.ert_state.specs.Parts.{rows_in, status_at, with_moved, armed, with_armed, timers_after, ArmsNew}
+use Rattle.ert_state.specs.Parts.{rows_in, status_at, with_moved, armed_timer, with_armed, timers_after, ArmsNew}
 use Rattle.ert_judge.specs.Shown.{deadline_by}
 use Rattle.ert_state.specs.Uses.{uses_of, none_kept, used_by, uses_in, IsNewUse}
-use Rattle.ert_state.specs.Wheels.{timers_at, timer_in, rows_of, status_in, moved, IsOwn}
+use Rattle.ert_state.specs.Wheels.{timers_at, timer_in, rows_of, status_among, moved, IsOwn}
 use Rattle.ert_state.specs.declared.wheels.Timer.{Timer}
 use Rattle.ert_judge.proofs.CellLaws.{cell_after}
 use Rattle.ert_state.proofs.UseLaws.{uses_push, uses_moved}
@@ -86,14 +86,14 @@ uses_kept r from to ws w k b low =
 settled_at : (r q : TimerRef) (to : Status) (ws : List (List Timer)) → r.wheel < length ws
     → status_at (with_moved r Armed to ws) q ≡ cond (same_timer r q) (settled_as to (status_at ws q)) (status_at ws q)
 settled_at r q to ws low =
-    after_move (λ ts. status_in ts q ≡ cond (same_timer r q) (settled_as to (status_at ws q)) (status_at ws q))
+    after_move (λ ts. status_among ts q ≡ cond (same_timer r q) (settled_as to (status_at ws q)) (status_at ws q))
     r Armed to ws q.wheel low (status_settled (timers_at ws q.wheel) r q to) (λ other. rw (other_wheel r q other) refl)
 
 -- a move from expired hands over
 handed_at : (r q : TimerRef) (to : Status) (ws : List (List Timer)) → r.wheel < length ws
     → status_at (with_moved r Expired to ws) q ≡ cond (same_timer r q) (handed_as to (status_at ws q)) (status_at ws q)
 handed_at r q to ws low =
-    after_move (λ ts. status_in ts q ≡ cond (same_timer r q) (handed_as to (status_at ws q)) (status_at ws q))
+    after_move (λ ts. status_among ts q ≡ cond (same_timer r q) (handed_as to (status_at ws q)) (status_at ws q))
     r Expired to ws q.wheel low (status_handed (timers_at ws q.wheel) r q to) (λ other. rw (other_wheel r q other) refl)
 
 -- a move keeps the timers of each wheel its own
@@ -105,15 +105,15 @@ own_kept r from to ws w low own =
 -- what holds of a wheel after an arming there and without one holds after the arming
 after_arming : (P : List Timer → Type 0) (r : TimerRef) (start : Start) (deadline : Option ℕ) (ws : List (List Timer)) (w : ℕ)
     → r.wheel < length ws
-    → (nat_eq r.wheel w ≡ true → P (timers_at ws w ++ map armed (row_from r start deadline)))
+    → (nat_eq r.wheel w ≡ true → P (timers_at ws w ++ map armed_timer (row_from r start deadline)))
     → (nat_eq r.wheel w ≡ false → P (timers_at ws w))
     → P (timers_at (with_armed r start deadline ws) w)
 after_arming P r start deadline ws w low here there =
-    let more : List Timer = map armed (row_from r start deadline) in
+    let more : List Timer = map armed_timer (row_from r start deadline) in
     subst P (sym (cell_after (λ (ts : List Timer). ts ++ more) ws r.wheel w [] low))
     (cond_both (nat_eq r.wheel w) (timers_at ws w ++ more) (timers_at ws w) P here there)
 
-rows_from : (r : TimerRef) (start : Start) (deadline : Option ℕ) → rows_of (map armed (row_from r start deadline)) ≡ row_from r start deadline
+rows_from : (r : TimerRef) (start : Start) (deadline : Option ℕ) → rows_of (map armed_timer (row_from r start deadline)) ≡ row_from r start deadline
 rows_from r start None = refl
 rows_from r start (Some d) = refl
 
@@ -126,7 +126,7 @@ rows_at r start deadline ws w low =
     (λ ts. rows_of ts
     ≡ cond (nat_eq r.wheel w) (cond (nat_eq r.wheel w) (rows_in ws w ++ row_from r start deadline) (rows_in ws w)) (rows_in ws w))
     r start deadline ws w low
-    (λ is. rw is (map-append (λ (t : Timer). t.row) (timers_at ws w) (map armed (row_from r start deadline))
+    (λ is. rw is (map-append (λ (t : Timer). t.row) (timers_at ws w) (map armed_timer (row_from r start deadline))
     ∙ ap (λ rows. rows_in ws w ++ rows) (rows_from r start deadline)))
     (λ other. rw other refl)
 
@@ -158,7 +158,7 @@ uses_more r start (Some d) ws w k low new =
     after_arming
     (λ ts. uses_in ts k ≡ uses_armed (nat_eq r.wheel w) (nat_eq r.slot k) r.generation (Some d) (uses_in (timers_at ws w) k))
     r start (Some d) ws w low
-    (λ is. rw is (uses_push (uses_of none_kept) (timers_at ws w) (armed (row_at r start d)) k
+    (λ is. rw is (uses_push (uses_of none_kept) (timers_at ws w) (armed_timer (row_at r start d)) k
     ∙ by_slot (nat_eq r.slot k) r start d (uses_in (timers_at ws w) k)))
     (λ other. rw other refl)
 
@@ -185,9 +185,9 @@ armed_at : (r q : TimerRef) (start : Start) (deadline : Option ℕ) (ws : List (
     ≡ cond (nat_eq r.wheel q.wheel && same_timer r q) (Some Armed) (status_at ws q)
 armed_at r q start None ws low new = absurd (new.due refl)
 armed_at r q start (Some d) ws low new =
-    after_arming (λ ts. status_in ts q ≡ cond (nat_eq r.wheel q.wheel && same_timer r q) (Some Armed) (status_at ws q))
+    after_arming (λ ts. status_among ts q ≡ cond (nat_eq r.wheel q.wheel && same_timer r q) (Some Armed) (status_at ws q))
     r start (Some d) ws q.wheel low
-    (λ is. status_armed (timers_at ws q.wheel) (armed (row_at r start d)) q
+    (λ is. status_armed (timers_at ws q.wheel) (armed_timer (row_at r start d)) q
     (unknown r (Some d) ws q.wheel new (eqb-true r.wheel q.wheel is))
     ∙ ap (λ b. cond (b && same_timer r q) (Some Armed) (status_at ws q)) (sym is))
     (λ other. rw other refl)
@@ -199,7 +199,7 @@ own_at r start None ws w low new own = absurd (new.due refl)
 own_at r start (Some d) ws w low new own =
     after_arming (IsOwn w) r start (Some d) ws w low
     (λ is. let wheel : r.wheel ≡ w = eqb-true r.wheel w is in
-    own_armed w (timers_at ws w) (armed (row_at r start d)) own wheel (unknown r (Some d) ws w new wheel))
+    own_armed w (timers_at ws w) (armed_timer (row_at r start d)) own wheel (unknown r (Some d) ws w new wheel))
     (λ other. own)
 
 -- the rows of each wheel go on as those of the model

@@ -7,7 +7,7 @@ use Rattle.ert_defs.specs.States.{State, state}
 use Rattle.ert_defs.specs.declared.entry.Entry.{Entry}
 use Rattle.ert_defs.specs.declared.settings.Settings.{Settings}
 use Rattle.ert_state.specs.Parts.{looks_in, look_of, timers_after}
-use Rattle.ert_judge.specs.Shown.{StandsFor, Follows, deadline_by}
+use Rattle.ert_judge.specs.Shown.{HasFollowed, Follows, deadline_by}
 use Rattle.ert_judge.specs.declared.judge.Judge.{Judge}
 use Rattle.ert_state.specs.declared.wheels.Timer.{Timer}
 use Rattle.ert_judge.proofs.Goes.{TimersGo}
@@ -15,7 +15,7 @@ use Rattle.ert_judge.proofs.NewTimers.{arms_next}
 use Rattle.ert_judge.proofs.TimerLaws.{ArmsNext, rows_follow, uses_follow, status_follows, own_follows, length_follows}
 
 -- a judge that stands for a history has gone on so by a legal entry
-pub timers_go : (g : Settings) (h : List Entry) (old new : Judge) (e : Entry) → StandsFor g h old → Can g (state g h) e
+pub timers_go : (g : Settings) (h : List Entry) (old new : Judge) (e : Entry) → HasFollowed g h old → Can g (state g h) e
     → Follows old e new → TimersGo g (look_of (looks_in old.looks) e.by) e.with e.event old.timers new.timers
 timers_go g h old new e stands can follows =
     let look : ℤ = look_of (looks_in old.looks) e.by in

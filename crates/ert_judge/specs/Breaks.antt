@@ -41,7 +41,7 @@ pub record IsArmedTill (s : State) (wheel : ℕ) (timer : TimerRef) (deadline : 
   pub till : deadline ≡ row.deadline
 
 -- it is the first of the armed ones of its wheel: none is armed with an earlier deadline
-pub record IsFirstArmed (s : State) (wheel : ℕ) (timer : TimerRef) (deadline : ℕ) : Type 0 where
+pub record IsEarliestArmed (s : State) (wheel : ℕ) (timer : TimerRef) (deadline : ℕ) : Type 0 where
   pub till : IsArmedTill s wheel timer deadline
   pub least : AllSettled s.status (λ d. nat_lt d deadline) (s.rows wheel)
 
@@ -63,7 +63,7 @@ pub record IsKeptBack (g : Settings) (s : State) (by : Actor) (timer : TimerRef)
 pub record IsLater (g : Settings) (s : State) (by : Actor) (timer first : TimerRef) (deadline : ℕ) : Type 0 where
   pub own : ℕ
   pub kept : IsKeptBack g s by timer own
-  pub before : IsFirstArmed s timer.wheel first deadline
+  pub before : IsEarliestArmed s timer.wheel first deadline
   pub sooner : deadline < own
 
 -- and one where that is another with the same deadline
@@ -71,7 +71,7 @@ pub record IsSecond (g : Settings) (s : State) (by : Actor) (timer : TimerRef) :
   pub own : ℕ
   pub kept : IsKeptBack g s by timer own
   pub first : TimerRef
-  pub before : IsFirstArmed s timer.wheel first own
+  pub before : IsEarliestArmed s timer.wheel first own
   pub other : first ≢ timer
 
 -- the row of a timer stands, and goes to a process
@@ -102,7 +102,7 @@ pub record IsAskedFor (sched : SchedState) (process : ℕ) : Type 0 where
 
 -- an answer is made with the mailbox for which the request in the hand is asked, which names a timer or not, by its
 -- numbers
-pub record IsAnswered (g : Settings) (sched : SchedState) (with : Option Actor) (names : Bool) : Type 0 where
+pub record AnswersAsker (g : Settings) (sched : SchedState) (with : Option Actor) (names : Bool) : Type 0 where
   pub request : Request
   pub hand : sched.hand ≡ Some request
   pub asker : with ≡ Some (MailOf request.reply_to)
@@ -161,7 +161,7 @@ looked_at g s by = natural (down g (s.looked by))
 
 -- where a start has a deadline, it is past the limit in the round of its slot, which doesn't rest, and of which the
 -- generation is the next where it is the first round
-pub record IsRefused (u : Uses) (now : ℕ) (deadline : Option ℕ) (told : ℕ) : Type 0 where
+pub record IsPastLimit (u : Uses) (now : ℕ) (deadline : Option ℕ) (told : ℕ) : Type 0 where
   pub rested : (turned u).since ≤ now
   pub next : (turned u).since ≡ 0 → told ≡ use_of (turned u).last + 1
   pub past : (wanted : ℕ) → deadline ≡ Some wanted → 8796093022207 < deadline_in (turned u).since now wanted
@@ -176,7 +176,7 @@ pub record IsUse (u : Uses) (now : ℕ) (deadline : Option ℕ) (told : ℕ) : T
 abbrev pub UseBreaks : Uses → ℕ → Option ℕ → ℕ → Reason → Type 0
 UseBreaks u now deadline told (Rests until) = IsResting u now until
 UseBreaks u now deadline told (OtherGeneration next) = IsNotNext u now deadline told next
-UseBreaks u now deadline told NoDeadline = IsRefused u now deadline told
+UseBreaks u now deadline told NoDeadline = IsPastLimit u now deadline told
 UseBreaks u now deadline told _ = ⊥
 
 -- of the start of a timer
@@ -240,7 +240,7 @@ MarkBreaks exited was _ = ⊥
 abbrev pub AdvancedBreaks : Settings → State → Actor → ℕ → ℕ → Reason → Type 0
 AdvancedBreaks g s by wheel to (OtherMilliseconds looked) = Differs (pos to) looked (down g (s.looked by))
 AdvancedBreaks g s by wheel to (StillArmed timer deadline) =
-    (pos to ≡ down g (s.looked by)) × IsFirstArmed s wheel timer deadline × (deadline ≤ to)
+    (pos to ≡ down g (s.looked by)) × IsEarliestArmed s wheel timer deadline × (deadline ≤ to)
 AdvancedBreaks g s by wheel to _ = ⊥
 
 -- of a pick
@@ -253,8 +253,8 @@ PickBreaks sched inbox got _ = ⊥
 abbrev pub AnswerBreaks : Settings → SchedState → Option Actor → Option ℕ → Reason → Type 0
 AnswerBreaks g sched with left HandEmpty = sched.hand ≡ None
 AnswerBreaks g sched with left (OtherAsker process) = IsAskedFor sched process × (with ≢ Some (MailOf process))
-AnswerBreaks g sched with left (OtherOutcome outcome) = IsAnswered g sched with true × (outcome ≡ sched.result) × (outcome ≢ Some left)
-AnswerBreaks g sched with left NothingLeft = IsAnswered g sched with false × (left ≢ None)
+AnswerBreaks g sched with left (OtherOutcome outcome) = AnswersAsker g sched with true × (outcome ≡ sched.result) × (outcome ≢ Some left)
+AnswerBreaks g sched with left NothingLeft = AnswersAsker g sched with false × (left ≢ None)
 AnswerBreaks g sched with left _ = ⊥
 
 -- of a take

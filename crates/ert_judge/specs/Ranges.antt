@@ -42,9 +42,9 @@ maker_of (Watch process monitor offset) = AnyCaller
 maker_of (Tell process offset) = AnyCaller
 
 -- only a scheduler makes it
-abbrev pub IsScheduler : Maker → Type 0
-IsScheduler (Scheduler w) = Unit {0}
-IsScheduler _ = ⊥
+abbrev pub NeedsScheduler : Maker → Type 0
+NeedsScheduler (Scheduler w) = Unit {0}
+NeedsScheduler _ = ⊥
 
 -- an actor may make such an event, whatever the count of its kind
 abbrev pub IsMadeBy : Maker → Actor → Type 0
@@ -102,32 +102,32 @@ IsMadeWith SomeMailbox (Some (MailOf p)) = Unit {0}
 IsMadeWith SomeMailbox _ = ⊥
 
 -- the scheduler whose timers or inbox an event is about
-abbrev pub wheel_of : Event → Option ℕ
-wheel_of (Arm timer start) = Some timer.wheel
-wheel_of (Probe wheel slot found) = Some wheel
-wheel_of (Peek timer left) = Some timer.wheel
-wheel_of (Cancel timer left) = Some timer.wheel
-wheel_of (Expire timer) = Some timer.wheel
-wheel_of (Orphan timer) = Some timer.wheel
-wheel_of (Deliver timer) = Some timer.wheel
-wheel_of (Drop timer) = Some timer.wheel
-wheel_of (Advanced wheel to) = Some wheel
-wheel_of (Ask wheel request) = Some wheel
-wheel_of (Pick wheel got) = Some wheel
-wheel_of (Answer wheel left) = Some wheel
-wheel_of _ = None
+abbrev pub wheel_of_event : Event → Option ℕ
+wheel_of_event (Arm timer start) = Some timer.wheel
+wheel_of_event (Probe wheel slot found) = Some wheel
+wheel_of_event (Peek timer left) = Some timer.wheel
+wheel_of_event (Cancel timer left) = Some timer.wheel
+wheel_of_event (Expire timer) = Some timer.wheel
+wheel_of_event (Orphan timer) = Some timer.wheel
+wheel_of_event (Deliver timer) = Some timer.wheel
+wheel_of_event (Drop timer) = Some timer.wheel
+wheel_of_event (Advanced wheel to) = Some wheel
+wheel_of_event (Ask wheel request) = Some wheel
+wheel_of_event (Pick wheel got) = Some wheel
+wheel_of_event (Answer wheel left) = Some wheel
+wheel_of_event _ = None
 
 -- the slot that it is about
-abbrev pub slot_of : Event → Option ℕ
-slot_of (Arm timer start) = Some timer.slot
-slot_of (Probe wheel slot found) = Some slot
-slot_of (Peek timer left) = Some timer.slot
-slot_of (Cancel timer left) = Some timer.slot
-slot_of (Expire timer) = Some timer.slot
-slot_of (Orphan timer) = Some timer.slot
-slot_of (Deliver timer) = Some timer.slot
-slot_of (Drop timer) = Some timer.slot
-slot_of _ = None
+abbrev pub slot_of_event : Event → Option ℕ
+slot_of_event (Arm timer start) = Some timer.slot
+slot_of_event (Probe wheel slot found) = Some slot
+slot_of_event (Peek timer left) = Some timer.slot
+slot_of_event (Cancel timer left) = Some timer.slot
+slot_of_event (Expire timer) = Some timer.slot
+slot_of_event (Orphan timer) = Some timer.slot
+slot_of_event (Deliver timer) = Some timer.slot
+slot_of_event (Drop timer) = Some timer.slot
+slot_of_event _ = None
 
 -- the process that it names
 abbrev pub process_of : Event → Option ℕ
@@ -141,16 +141,16 @@ process_of (Tell process offset) = Some process
 process_of _ = None
 
 -- how many there are of a kind
-abbrev pub count_of : Settings → Counted → ℕ
-count_of g Callers = g.callers
-count_of g Schedulers = g.schedulers
-count_of g Processes = g.processes
-count_of g Slots = g.slots
+abbrev pub count_of_kind : Settings → Counted → ℕ
+count_of_kind g Callers = g.callers
+count_of_kind g Schedulers = g.schedulers
+count_of_kind g Processes = g.processes
+count_of_kind g Slots = g.slots
 
 -- a number, where there is one and it isn't below the count of its kind
 abbrev pub high : Settings → Counted → Option ℕ → Option Reason
 high g thing None = None
-high g thing (Some n) = if nat_le (count_of g thing) n then Some (TooHigh thing n (count_of g thing)) else None
+high g thing (Some n) = if nat_le (count_of_kind g thing) n then Some (TooHigh thing n (count_of_kind g thing)) else None
 
 -- the number of who made an entry
 abbrev pub high_by : Settings → Actor → Option Reason
@@ -169,7 +169,7 @@ high_with g _ = None
 abbrev pub too_high : Settings → Entry → Option Reason
 too_high g e =
     option_or (option_or (option_or (option_or (high_by g e.by) (high_with g e.with))
-    (high g Schedulers (wheel_of e.event))) (high g Slots (slot_of e.event))) (high g Processes (process_of e.event))
+    (high g Schedulers (wheel_of_event e.event))) (high g Slots (slot_of_event e.event))) (high g Processes (process_of e.event))
 
 -- an entry is made by and with the actors of its event, and no number of it is too high
 pub record MayBeInRange (g : Settings) (e : Entry) : Type 0 where

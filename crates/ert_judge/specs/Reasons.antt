@@ -11,19 +11,19 @@ use Rattle.ert_judge.specs.declared.reasons.Reason.{Reason}
 use Rattle.ert_judge.specs.declared.reasons.Reason.TheVariants.{NotBy, NotWith, TooHigh, Other}
 
 -- the entry isn't in range: its event is made by others, or with others, or one of its numbers is too high, in this order
-abbrev pub IsOutOfRange : Settings → Entry → Reason → Type 0
-IsOutOfRange g e (NotBy maker) = (maker ≡ maker_of e.event) × (IsMadeBy maker e.by → ⊥)
-IsOutOfRange g e (NotWith partner) =
+abbrev pub BreaksRange : Settings → Entry → Reason → Type 0
+BreaksRange g e (NotBy maker) = (maker ≡ maker_of e.event) × (IsMadeBy maker e.by → ⊥)
+BreaksRange g e (NotWith partner) =
     IsMadeBy (maker_of e.event) e.by × (partner ≡ partner_of e.by e.event) × (IsMadeWith partner e.with → ⊥)
-IsOutOfRange g e (TooHigh thing number count) =
+BreaksRange g e (TooHigh thing number count) =
     IsMadeBy (maker_of e.event) e.by × IsMadeWith (partner_of e.by e.event) e.with
     × (too_high g e ≡ Some (TooHigh thing number count))
-IsOutOfRange g e _ = ⊥
+BreaksRange g e _ = ⊥
 
 -- a reason holds of an entry in a state, and none before it in the order in which they are looked for: the entry isn't
 -- in range; else it breaks the named condition of its event; else no more is said than that it can't follow
-pub data Holds (g : Settings) (s : State) (e : Entry) (r : Reason) : Type 0 where
-  out_of_range : IsOutOfRange g e r → Holds g s e r
-  breaks : MayBeInRange g e → Breaks g s e.by e.with e.event r → Holds g s e r
+pub data IsFirstReason (g : Settings) (s : State) (e : Entry) (r : Reason) : Type 0 where
+  out_of_range : BreaksRange g e r → IsFirstReason g s e r
+  breaks : MayBeInRange g e → Breaks g s e.by e.with e.event r → IsFirstReason g s e r
   other : r ≡ Other → MayBeInRange g e → Known g s e.by e.with e.event → Found g s e.by e.event → (Can g s e → ⊥)
-      → Holds g s e r
+      → IsFirstReason g s e r

@@ -74,7 +74,7 @@ pub record IsFreeFor (j : Judge) (timer : TimerRef) (now wanted : ℕ) : Type 0 
   pub few : length (timers_at j.timers timer.wheel) < 9007199254740992
 
 -- a wheel has settled all that was due at the last look of an actor
-pub record HasAdvanced (j : Judge) (by : Actor) (w to : ℕ) : Type 0 where
+pub record HasSettledDue (j : Judge) (by : Actor) (w to : ℕ) : Type 0 where
   pub told : pos to ≡ down j.settings (last_look j by)
   pub settled : is_settled (λ d. nat_le d to) (timers_at j.timers w) ≡ true
 
@@ -119,7 +119,7 @@ pub record Follows (old : Judge) (e : Entry) (new : Judge) : Type 0 where
   pub schedulers : new.schedulers ≡ scheds_after (rows_in old.timers) e.by e.event old.schedulers
 
 -- a judge stands for a legal history: it keeps the state after that
-pub record StandsFor (g : Settings) (h : List Entry) (j : Judge) : Type 0 where
+pub record HasFollowed (g : Settings) (h : List Entry) (j : Judge) : Type 0 where
   pub settings : j.settings ≡ g
   pub legal : Legal g h
   pub clock : ClockIs g (state g h).clock j.clock

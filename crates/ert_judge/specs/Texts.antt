@@ -29,19 +29,19 @@ abbrev pub ◌⋅◌ : List ℕ → List ℕ → List ℕ
 xs ⋅ ys = xs ++ ys
 
 -- the word for a state of the offset
-unfoldable pub state_word : OffsetState → List ℕ
-state_word Preliminary = codes "preliminary"
-state_word Final = codes "final"
-state_word Volatile = codes "volatile"
+unfoldable pub offset_state_word : OffsetState → List ℕ
+offset_state_word Preliminary = codes "preliminary"
+offset_state_word Final = codes "final"
+offset_state_word Volatile = codes "volatile"
 
 -- the word for where a timer stands
-unfoldable pub status_word : Status → List ℕ
-status_word Armed = codes "armed"
-status_word Expired = codes "expired"
-status_word Delivered = codes "delivered"
-status_word Cancelled = codes "cancelled"
-status_word Orphaned = codes "orphaned"
-status_word Dropped = codes "dropped"
+unfoldable pub standing_word : Status → List ℕ
+standing_word Armed = codes "armed"
+standing_word Expired = codes "expired"
+standing_word Delivered = codes "delivered"
+standing_word Cancelled = codes "cancelled"
+standing_word Orphaned = codes "orphaned"
+standing_word Dropped = codes "dropped"
 
 -- the word for one of what is counted
 unfoldable pub thing_word : Counted → List ℕ
@@ -51,14 +51,14 @@ thing_word Processes = codes "process"
 thing_word Slots = codes "slot"
 
 -- the word for what a request asks for
-unfoldable pub kind_word : RequestKind → List ℕ
-kind_word Cancel = codes "cancel"
-kind_word Read = codes "read"
+unfoldable pub asked_word : RequestKind → List ℕ
+asked_word Cancel = codes "cancel"
+asked_word Read = codes "read"
 
 -- the word for whether something is so
-unfoldable pub bool_word : Bool → List ℕ
-bool_word true = codes "true"
-bool_word false = codes "false"
+unfoldable pub truth_word : Bool → List ℕ
+truth_word true = codes "true"
+truth_word false = codes "false"
 
 -- the text for who makes an event
 abbrev pub maker_text : Maker → List ℕ
@@ -92,30 +92,30 @@ timer_then t rest = decimal t.wheel ⋅ codes " " ⋅ decimal t.slot ⋅ codes "
 -- a request, spelled as in a history
 abbrev pub request_text : Request → List ℕ
 request_text r =
-    kind_word r.kind ⋅ codes " " ⋅ timer_then r.timer (codes " " ⋅ decimal r.reply_to ⋅ codes " " ⋅ bool_word r.info)
+    asked_word r.kind ⋅ codes " " ⋅ timer_then r.timer (codes " " ⋅ decimal r.reply_to ⋅ codes " " ⋅ truth_word r.info)
 
 -- what an answer tells to be left
-abbrev pub left_text : Option ℕ → List ℕ
-left_text None = codes " none"
-left_text (Some n) = codes " " ⋅ decimal n
+abbrev pub answer_text : Option ℕ → List ℕ
+answer_text None = codes " none"
+answer_text (Some n) = codes " " ⋅ decimal n
 
 -- a message, spelled so
 abbrev pub mail_text : Mail → List ℕ
 mail_text (Timeout timer msg) = codes "timeout " ⋅ timer_then timer (codes " " ⋅ decimal msg)
 mail_text (Bare msg) = codes "bare " ⋅ decimal msg
-mail_text (CancelDone timer left) = codes "cancel_done " ⋅ timer_then timer (left_text left)
-mail_text (ReadDone timer left) = codes "read_done " ⋅ timer_then timer (left_text left)
+mail_text (CancelDone timer left) = codes "cancel_done " ⋅ timer_then timer (answer_text left)
+mail_text (ReadDone timer left) = codes "read_done " ⋅ timer_then timer (answer_text left)
 mail_text (Change monitor offset) = codes "change " ⋅ decimal monitor ⋅ codes " " ⋅ signed_decimal offset
 
 -- the shift that is due
 abbrev pub due_text : Option (ℤ × OffsetState) → List ℕ
 due_text None = codes "no shift is due"
-due_text (Some d) = codes "the shift that is due is " ⋅ signed_decimal d.0 ⋅ codes " " ⋅ state_word d.1
+due_text (Some d) = codes "the shift that is due is " ⋅ signed_decimal d.0 ⋅ codes " " ⋅ offset_state_word d.1
 
 -- where the last timer of a slot stands
 abbrev pub slot_text : Option Status → List ℕ
 slot_text None = codes "the slot had no timer"
-slot_text (Some status) = codes "the last timer of the slot is " ⋅ status_word status
+slot_text (Some status) = codes "the last timer of the slot is " ⋅ standing_word status
 
 -- how much is left of a timer
 abbrev pub ms_text : Option ℕ → List ℕ
@@ -125,7 +125,7 @@ ms_text (Some n) = decimal n ⋅ codes " ms are left"
 -- where a timer that isn't armed stands
 abbrev pub unarmed_text : Option Status → List ℕ
 unarmed_text None = codes "the timer was never armed"
-unarmed_text (Some status) = codes "the timer is " ⋅ status_word status ⋅ codes ", not armed"
+unarmed_text (Some status) = codes "the timer is " ⋅ standing_word status ⋅ codes ", not armed"
 
 -- what waits first in an inbox
 abbrev pub waiting_text : Option Request → List ℕ
@@ -135,7 +135,7 @@ waiting_text (Some request) = codes "the first request that waits is " ⋅ reque
 -- what the step on a request told
 abbrev pub outcome_text : Option (Option ℕ) → List ℕ
 outcome_text None = codes "the scheduler has made no step on the request"
-outcome_text (Some left) = codes "the scheduler's last step on the request told" ⋅ left_text left
+outcome_text (Some left) = codes "the scheduler's last step on the request told" ⋅ answer_text left
 
 -- what is first in a mailbox
 abbrev pub first_text : Option Mail → List ℕ
@@ -158,16 +158,16 @@ reason_text (NotBy maker) = maker_text maker
 reason_text (NotWith partner) = partner_text partner
 reason_text (TooHigh thing number count) =
     codes "there is no " ⋅ thing_word thing ⋅ codes " " ⋅ decimal number ⋅ codes ": the settings have " ⋅ decimal count
-reason_text (ShiftFirst offset state) = codes "a shift is due first: " ⋅ signed_decimal offset ⋅ codes " " ⋅ state_word state
+reason_text (ShiftFirst offset state) = codes "a shift is due first: " ⋅ signed_decimal offset ⋅ codes " " ⋅ offset_state_word state
 reason_text BadReading = codes "its reading isn't valid"
-reason_text (NotPreliminary state) = codes "only a preliminary offset can be finalized, and the state is " ⋅ state_word state
+reason_text (NotPreliminary state) = codes "only a preliminary offset can be finalized, and the state is " ⋅ offset_state_word state
 reason_text (OtherTick time) = codes "with this reading the clock comes to " ⋅ signed_decimal time
 reason_text (OffsetPast offset state) = codes "the shift that it makes due takes the offset past its limits, to " ⋅ signed_decimal offset
 reason_text (OtherShift due) = due_text due
 reason_text (OtherTime now) = codes "the clock's time is " ⋅ signed_decimal now
 reason_text (OtherOffset offset) = codes "the offset is " ⋅ signed_decimal offset
-reason_text (OtherState state) = codes "the state of the offset is " ⋅ state_word state
-reason_text (SlotTaken status) = codes "the slot is taken: its last timer is " ⋅ status_word status
+reason_text (OtherState state) = codes "the state of the offset is " ⋅ offset_state_word state
+reason_text (SlotTaken status) = codes "the slot is taken: its last timer is " ⋅ standing_word status
 reason_text (OtherGeneration next) = codes "the next generation of the slot is " ⋅ decimal next
 reason_text (Rests until) = codes "the slot rests until " ⋅ decimal until ⋅ codes " ms"
 reason_text WheelUsed = codes "the wheel has had 2^53 timers"

@@ -4,9 +4,9 @@ ghost use Rattle.ert_defs.specs.Legal.{Can, Known, Found};
 ghost use Rattle.ert_defs.specs.States.{state};
 ghost use Rattle.ert_defs.specs.declared.entry.Entry as entries;
 ghost use Rattle.ert_defs.specs.declared.settings.Settings as settings;
-ghost use Rattle.ert_judge.specs.Shown.{ClockIs, OwnTimers, StandsFor, shown};
+ghost use Rattle.ert_judge.specs.Shown.{ClockIs, OwnTimers, HasFollowed, shown};
 ghost use Rattle.ert_judge.specs.Breaks.{Breaks};
-ghost use Rattle.ert_judge.specs.Reasons.{Holds};
+ghost use Rattle.ert_judge.specs.Reasons.{IsFirstReason};
 
 use crate::clocks::{of_look, of_off, of_shift, of_tell, of_tick};
 use crate::hands::{of_answer, of_deliver, of_drop, of_pick};
@@ -19,9 +19,9 @@ use ert_defs::{Entry, Event};
 
 /// Why an entry can't follow the history that a judge stands for; None exactly where it can.
 pub fn reason(judge: &Judge, entry: &Entry) -> Option<Reason>
-    ensures why { (g : settings.Settings) (h : List entries.Entry) → StandsFor g h judge.now
-        → IfSome result (Holds g (state g h) entry.now) }
-    ensures none { (g : settings.Settings) (h : List entries.Entry) → StandsFor g h judge.now
+    ensures why { (g : settings.Settings) (h : List entries.Entry) → HasFollowed g h judge.now
+        → IfSome result (IsFirstReason g (state g h) entry.now) }
+    ensures none { (g : settings.Settings) (h : List entries.Entry) → HasFollowed g h judge.now
         → IfNone result (Can g (state g h) entry.now) }
 {
     if judge.can(entry) {
@@ -33,8 +33,8 @@ pub fn reason(judge: &Judge, entry: &Entry) -> Option<Reason>
 
 /// Why an entry can't follow, where it can't.
 fn cause(judge: &Judge, entry: &Entry) -> Reason
-    requires { (g : settings.Settings) (h : List entries.Entry) → StandsFor g h judge.now → Can g (state g h) entry.now → ⊥ }
-    ensures { (g : settings.Settings) (h : List entries.Entry) → StandsFor g h judge.now → Holds g (state g h) entry.now result }
+    requires { (g : settings.Settings) (h : List entries.Entry) → HasFollowed g h judge.now → Can g (state g h) entry.now → ⊥ }
+    ensures { (g : settings.Settings) (h : List entries.Entry) → HasFollowed g h judge.now → IsFirstReason g (state g h) entry.now result }
 {
     if let Some(reason) = out_of_range(&judge.settings, entry) {
         return reason;

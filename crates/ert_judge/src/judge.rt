@@ -28,7 +28,7 @@ impl Judge {
     ghost use Rattle.ert_defs.specs.declared.settings.Settings as settings;
     ghost use Rattle.ert_clock.specs.Faces.{face_of};
     ghost use Rattle.ert_state.specs.Parts.{ArmsNew};
-    ghost use Rattle.ert_judge.specs.Shown.{IsOpening, MayFollow, ClockFollows, deadline_by, Follows, StandsFor, last_look};
+    ghost use Rattle.ert_judge.specs.Shown.{IsOpening, MayFollow, ClockFollows, deadline_by, Follows, HasFollowed, last_look};
 
     /// The state at the opening.
     pub(crate) fn open(alloc: Global, settings: &Settings) -> Result<Judge, NoMemory>
@@ -93,7 +93,7 @@ impl Judge {
 
     /// Whether an entry is legal.
     pub fn can(&self, entry: &Entry) -> bool
-        ensures { (g : settings.Settings) (h : List entries.Entry) → StandsFor g h self.now → IsTrue result ↔ Can g (state g h) entry.now }
+        ensures { (g : settings.Settings) (h : List entries.Entry) → HasFollowed g h self.now → IsTrue result ↔ Can g (state g h) entry.now }
     {
         is_in_range(&self.settings, entry) && self.is_known(entry) && self.is_found(entry)
     }

@@ -1,7 +1,7 @@
 ghost use Rattle.std.specs.Prelude.{◌≡◌, ◌↔◌, ◌<◌, IsTrue};
 ghost use Rattle.ert_defs.specs.Actors.{IsCaller, IsUser};
 ghost use Rattle.ert_defs.specs.Legal.{IsSlot, IsWithCaller, IsWithMail, IsProber, IsReader, Keeps};
-ghost use Rattle.ert_judge.specs.Ranges.{IsScheduler, maker_of};
+ghost use Rattle.ert_judge.specs.Ranges.{NeedsScheduler, maker_of};
 
 use ert_defs::{Actor, Entry, Event, Settings, TimerRef};
 
@@ -49,7 +49,7 @@ pub fn is_in_range(settings: &Settings, entry: &Entry) -> bool
 
 /// Whether an entry with an event that a scheduler makes is in range.
 fn is_scheduled_in_range(settings: &Settings, entry: &Entry) -> bool
-    requires { IsScheduler (maker_of entry.now.event) }
+    requires { NeedsScheduler (maker_of entry.now.event) }
     ensures { IsTrue result ↔ Keeps settings.now entry.now.by entry.now.with entry.now.event }
 {
     let by = entry.by;

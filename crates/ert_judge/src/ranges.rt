@@ -2,16 +2,16 @@
 //! number isn't below their count.
 
 ghost use Rattle.std.specs.Prelude.{◌≡◌, ◌↔◌, IsTrue, IfSome, IfNone};
-ghost use Rattle.ert_judge.specs.Ranges.{maker_of, partner_of, reads_with, wheel_of, slot_of, process_of, count_of, high, high_by, high_with, too_high};
+ghost use Rattle.ert_judge.specs.Ranges.{maker_of, partner_of, reads_with, wheel_of_event, slot_of_event, process_of, count_of_kind, high, high_by, high_with, too_high};
 ghost use Rattle.ert_judge.specs.Ranges.{IsMadeBy, IsMadeWith, MayBeInRange};
-ghost use Rattle.ert_judge.specs.Reasons.{IsOutOfRange};
+ghost use Rattle.ert_judge.specs.Reasons.{BreaksRange};
 
 use crate::reasons::{Counted, Maker, Partner, Reason};
 use ert_defs::{Actor, Entry, Event, Settings};
 
 /// Why an entry isn't in range, where it isn't.
 pub fn out_of_range(settings: &Settings, entry: &Entry) -> Option<Reason>
-    ensures some { IfSome result (IsOutOfRange settings.now entry.now) }
+    ensures some { IfSome result (BreaksRange settings.now entry.now) }
     ensures none { IfNone result (MayBeInRange settings.now entry.now) }
 {
     let maker = maker_of(&entry.event);
@@ -181,7 +181,7 @@ fn high(settings: &Settings, thing: Counted, number: Option<u32>) -> Option<Reas
 
 /// How many there are of a kind.
 fn count_of(settings: &Settings, thing: Counted) -> u32
-    ensures { result ≡ count_of settings.now thing }
+    ensures { result ≡ count_of_kind settings.now thing }
 {
     match thing {
         Counted::Callers => settings.callers,
@@ -193,8 +193,8 @@ fn count_of(settings: &Settings, thing: Counted) -> u32
 
 /// The scheduler whose timers or inbox an event is about, and the slot that it is about.
 fn place_of(event: &Event) -> (Option<u32>, Option<u32>)
-    ensures wheel { result.0 ≡ wheel_of event.now }
-    ensures slot { result.1 ≡ slot_of event.now }
+    ensures wheel { result.0 ≡ wheel_of_event event.now }
+    ensures slot { result.1 ≡ slot_of_event event.now }
 {
     match *event {
         Event::Arm { timer, .. }

@@ -23,7 +23,7 @@ impl Judge {
     ghost use Rattle.ert_defs.specs.Milliseconds as milliseconds;
     ghost use Rattle.ert_defs.specs.declared.entry.Actor.TheVariants.{MailOf};
     ghost use Rattle.ert_state.specs.Parts.{sched_at, exited_at};
-    ghost use Rattle.ert_judge.specs.Shown.{ClockIs, shown, OwnTimers, last_look, last_status, IsFreeFor, HasAdvanced};
+    ghost use Rattle.ert_judge.specs.Shown.{ClockIs, shown, OwnTimers, last_look, last_status, IsFreeFor, HasSettledDue};
     ghost use Rattle.ert_state.specs.Wheels.{timers_at, IsFirstDue};
 
     /// Whether an entry in range is legal, by what its maker must know.
@@ -175,7 +175,7 @@ impl Judge {
 
     /// Whether this many milliseconds are those of the last look, and no timer that was due then is armed.
     fn has_advanced(&self, by: Actor, wheel: u32, to: u64) -> bool
-        ensures { IsTrue result ↔ HasAdvanced self.now by wheel to }
+        ensures { IsTrue result ↔ HasSettledDue self.now by wheel to }
     {
         to as i128 == down(&self.settings, self.looks.of(by))
             && self.timers.is_settled_to(wheel, to)

@@ -3,7 +3,7 @@
 ghost use Rattle.std.specs.Prelude.{◌≡◌, ℕ, IfOk, IfSome, Ok, Some, None};
 ghost use Rattle.ert_defs.specs.Legal.{Legal};
 ghost use Rattle.ert_defs.specs.Settings.{IsChecked};
-ghost use Rattle.ert_judge.specs.Verdicts.{IsFirstIllegal, StopsAt};
+ghost use Rattle.ert_judge.specs.Verdicts.{IsFirstIllegal, StopsAtIllegal};
 
 use crate::judge::Judge;
 use ert_defs::{Entry, NoMemory, Settings};
@@ -26,7 +26,7 @@ pub fn first_stop(
 ) -> Result<Option<Stop>, NoMemory>
     requires { IsChecked settings.now }
     ensures legal { result ≡ Ok None → Legal settings.now entries.now }
-    ensures stops { IfOk result (λ found. IfSome found (StopsAt settings.now entries.now)) }
+    ensures stops { IfOk result (λ found. IfSome found (StopsAtIllegal settings.now entries.now)) }
 {
     let mut judge = Judge::open(alloc, settings)?;
     for i in 0..entries.len() {

@@ -1,16 +1,16 @@
 //! The words and the parts of texts.
 
 ghost use Rattle.std.specs.Prelude.{◌≡◌, ◌++◌, OnOk, string_bytes};
-ghost use Rattle.ert_judge.specs.Texts.{state_word, status_word, thing_word, kind_word, bool_word, request_text, left_text, mail_text};
+ghost use Rattle.ert_judge.specs.Texts.{offset_state_word, standing_word, thing_word, asked_word, truth_word, request_text, answer_text, mail_text};
 
 use crate::reasons::Counted;
 use ert_defs::{Mail, OffsetState, Request, RequestKind, Status, TimerRef};
 use std::alloc::AllocError;
 use std::fmt::Write;
 
-#[tactic(auto, unfolding(crate::specs::Texts::state_word))]
+#[tactic(auto, unfolding(crate::specs::Texts::offset_state_word))]
 pub fn state_word(state: OffsetState) -> &'static str
-    ensures { result.now ≡ state_word state }
+    ensures { result.now ≡ offset_state_word state }
 {
     match state {
         OffsetState::Preliminary => "preliminary",
@@ -19,9 +19,9 @@ pub fn state_word(state: OffsetState) -> &'static str
     }
 }
 
-#[tactic(auto, unfolding(crate::specs::Texts::status_word))]
+#[tactic(auto, unfolding(crate::specs::Texts::standing_word))]
 pub fn status_word(status: Status) -> &'static str
-    ensures { result.now ≡ status_word status }
+    ensures { result.now ≡ standing_word status }
 {
     match status {
         Status::Armed => "armed",
@@ -45,9 +45,9 @@ pub fn thing_word(thing: Counted) -> &'static str
     }
 }
 
-#[tactic(auto, unfolding(crate::specs::Texts::kind_word))]
+#[tactic(auto, unfolding(crate::specs::Texts::asked_word))]
 fn kind_word(kind: RequestKind) -> &'static str
-    ensures { result.now ≡ kind_word kind }
+    ensures { result.now ≡ asked_word kind }
 {
     match kind {
         RequestKind::Cancel => "cancel",
@@ -55,9 +55,9 @@ fn kind_word(kind: RequestKind) -> &'static str
     }
 }
 
-#[tactic(auto, unfolding(crate::specs::Texts::bool_word))]
+#[tactic(auto, unfolding(crate::specs::Texts::truth_word))]
 fn bool_word(is_so: bool) -> &'static str
-    ensures { result.now ≡ bool_word is_so }
+    ensures { result.now ≡ truth_word is_so }
 {
     if is_so { "true" } else { "false" }
 }
@@ -81,7 +81,7 @@ pub fn write_request(page: &mut String, request: Request) -> Result<(), AllocErr
 
 /// What an answer tells to be left.
 pub fn write_left(page: &mut String, left: Option<u64>) -> Result<(), AllocError>
-    ensures { OnOk result (string_bytes page.new ≡ string_bytes page.old ++ left_text left) }
+    ensures { OnOk result (string_bytes page.new ≡ string_bytes page.old ++ answer_text left) }
 {
     match left {
         None => write!(page, " none"),

@@ -47,6 +47,6 @@ IsOpInRange g (Monitor process) = IsProcess g process
 IsOpInRange g (Demonitor process monitor) = IsProcess g process × (monitor ≤ 4294967295)
 
 -- the arguments of all ops are
-abbrev pub IsInRange : Settings → List Op → Type 0
-IsInRange g [] = Unit {0}
-IsInRange g (op ∷ ops) = IsOpInRange g op × IsInRange g ops
+abbrev pub AreOpsInRange : Settings → List Op → Type 0
+AreOpsInRange g [] = Unit {0}
+AreOpsInRange g (op ∷ ops) = IsOpInRange g op × AreOpsInRange g ops

@@ -29,7 +29,7 @@ use Rattle.ert_plain.proofs.Meets.{IsKept, Meets, meets_next, meets_probed}
 use Rattle.ert_plain.proofs.Shown.{Pairs, SameRow}
 use Rattle.ert_plain.proofs.Steps.{as_look, as_expire, as_advanced}
 use Rattle.ert_transcript.specs.Labels.{Labels}
-use Rattle.ert_plain.specs.PlainTurns.{due_rows, expiries, advancing}
+use Rattle.ert_plain.specs.PlainTurns.{due_rows, expiries, advance_now}
 
 -- the milliseconds of the record are those of the look
 
@@ -190,9 +190,9 @@ all_tried g n ls w to (t ∷ tries) z c ys h legal is same =
 
 -- an advance of both
 pub record AreAdvanced (g : Settings) (n : ℕ) (ls : Labels) (w to fired : ℕ) (s c : State) (es : List Entry) : Type 0 where
-  pub to_is : to ≡ (advancing g c w).to
-  pub fired_is : fired ≡ (advancing g c w).fired
-  pub meets : Meets g n ls (run g s es) (run g c (advancing g c w).entries)
+  pub to_is : to ≡ (advance_now g c w).to
+  pub fired_is : fired ≡ (advance_now g c w).fired
+  pub meets : Meets g n ls (run g s es) (run g c (advance_now g c w).entries)
 
 pub advance_meets : (g : Settings) (n : ℕ) (ls : Labels) (w to fired : ℕ) (s c : State) (es : List Entry) → Meets g n ls s c → LegalFrom g s es
     → HasAdvanced w (to, fired) s es → AreAdvanced g n ls w to fired s c es
@@ -214,7 +214,7 @@ advance_meets g n ls w to fired s c es h legal does =
     record {
       to_is = same;
       fired_is = does.fired ∙ tried.fired ∙ ap (λ (k : ℕ). length (due_rows c.status k (c.rows w))) same;
-      meets = subst (λ (x : List Entry). Meets g n ls (run g s x) (run g c (advancing g c w).entries)) (sym does.entries)
+      meets = subst (λ (x : List Entry). Meets g n ls (run g s x) (run g c (advance_now g c w).entries)) (sym does.entries)
           (subst (λ (k : ℕ). P (due_rows c.status k (c.rows w)) k c.clock.now) same
           (subst (λ (now : ℤ). P (due_rows c.status to (c.rows w)) to now) time tried.meets));
     }

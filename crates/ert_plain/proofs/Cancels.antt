@@ -26,7 +26,7 @@ use Rattle.ert_plain.proofs.Steps.{as_look, as_peek, as_cancel}
 use Rattle.ert_transcript.specs.Labels.{Labels, label_of}
 use Rattle.ert_transcript.specs.Lines.{line_of}
 use Rattle.ert_plain.specs.Plain.{slot_of}
-use Rattle.ert_plain.specs.PlainTimers.{is_bound, left_now, left_if, cancelling, reading}
+use Rattle.ert_plain.specs.PlainTimers.{is_bound, left_now, left_if, cancel_now, read_now}
 use Rattle.ert_transcript.specs.declared.reply.Reply.{Reply}
 use Rattle.ert_transcript.specs.declared.reply.Reply.TheVariants.{Read}
 
@@ -176,13 +176,13 @@ reads_meet g n ls by s c t m answer es is h legal does =
 pub cancel_done : (g : Settings) (n : ℕ) (ls : Labels) (s c : State) (t m : TimerRef) (answer : Option ℕ) (reply : Option ℕ → Reply) (es : List Entry)
     → IsName g ls t m → ((x : Option ℕ) → line_of (label_of ls) (reply x) ≡ line_of slot_of (reply x))
     → Meets g n ls s c → LegalFrom g s es → Cancels g (Caller 0) t answer s es
-    → IsDone g n ls s c (reply answer) es (cancelling g c m reply)
+    → IsDone g n ls s c (reply answer) es (cancel_now g c m reply)
 cancel_done g n ls s c t m answer reply es is plain h legal does =
     let done = cancels_meet g n ls (Caller 0) s c t m answer es is h legal does in
     record { line = plain answer ∙ ap (λ (x : Option ℕ). line_of slot_of (reply x)) done.answers; meets = done.meets }
 
 pub read_done : (g : Settings) (n : ℕ) (ls : Labels) (s c : State) (t m : TimerRef) (answer : Option ℕ) (es : List Entry) → IsName g ls t m
-    → Meets g n ls s c → LegalFrom g s es → Reads g (Caller 0) t answer s es → IsDone g n ls s c (Read answer) es (reading g c m)
+    → Meets g n ls s c → LegalFrom g s es → Reads g (Caller 0) t answer s es → IsDone g n ls s c (Read answer) es (read_now g c m)
 read_done g n ls s c t m answer es is h legal does =
     let done = reads_meet g n ls (Caller 0) s c t m answer es is h legal does in
     record { line = ap (λ (x : Option ℕ). line_of slot_of (Read x)) done.answers; meets = done.meets }

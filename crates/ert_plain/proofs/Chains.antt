@@ -24,7 +24,7 @@ use Rattle.ert_transcript.specs.Labels.{Labels, label_of}
 use Rattle.ert_transcript.specs.Lines.{line_of, turn_line}
 use Rattle.ert_plain.specs.Plain.{slot_of}
 use Rattle.ert_plain.specs.PlainMail.{orphans, sweeps, exit_piece}
-use Rattle.ert_plain.specs.PlainTurns.{Served, serving, has_served, serve_many, advancing, handing, hows_of, serve_op, advance_op, deliver_op, turn_op}
+use Rattle.ert_plain.specs.PlainTurns.{Served, serve_one, has_served, serve_many, advance_now, handing, hows_of, serve_op, advance_op, deliver_op, turn_op}
 use Rattle.ert_transcript.specs.declared.reply.Reply.TheVariants.{Serve, Advance, Deliver, Turn, Exit}
 
 serve_prints : (ls : Labels) (a b : Bool) → a ≡ b → line_of (label_of ls) (Serve a) ≡ line_of slot_of (Serve b)
@@ -35,15 +35,15 @@ pub serve_done : (g : Settings) (n : ℕ) (ls : Labels) (w : ℕ) (served : Bool
     → LegalFrom g (state g h) m → Serves g (alone g) w (Ok served) h m → IsDone g n ls (state g h) c (Serve served) m (serve_op g c w)
 serve_done g n ls w served h m c meets legal does =
     let one = serves_meet g n ls w served h m c meets legal does in
-    let told : has_served (serving g c w) ≡ served = tells_served served (serving g c w) one.counts in
-    record { line = serve_prints ls served (has_served (serving g c w)) (sym told); meets = one.meets }
+    let told : has_served (serve_one g c w) ≡ served = tells_served served (serve_one g c w) one.counts in
+    record { line = serve_prints ls served (has_served (serve_one g c w)) (sym told); meets = one.meets }
 
 pub advance_done : (g : Settings) (n : ℕ) (ls : Labels) (w to fired : ℕ) (s c : State) (es : List Entry) → Meets g n ls s c → LegalFrom g s es
     → HasAdvanced w (to, fired) s es → IsDone g n ls s c (Advance to fired) es (advance_op g c w)
 advance_done g n ls w to fired s c es meets legal does =
     let one = advance_meets g n ls w to fired s c es meets legal does in
     record {
-      line = ap (λ (x : ℕ). line_of slot_of (Advance x fired)) one.to_is ∙ ap (λ (x : ℕ). line_of slot_of (Advance (advancing g c w).to x)) one.fired_is;
+      line = ap (λ (x : ℕ). line_of slot_of (Advance x fired)) one.to_is ∙ ap (λ (x : ℕ). line_of slot_of (Advance (advance_now g c w).to x)) one.fired_is;
       meets = one.meets;
     }
 
@@ -88,15 +88,15 @@ turn_done g n ls w t h m c meets legal does =
     let lawful = legal_after g h m does.before does.after does.joined legal in
     let rest = does.other in
     let advanced = advance_meets g n ls w t.to t.fired (state g later) d rest.before here (legal_before g later does.after rest.before rest.after rest.joined lawful) rest.one in
-    let last : State = run g d (advancing g d w).entries in
+    let last : State = run g d (advance_now g d w).entries in
     let there = meets_after g n ls later rest.before last advanced.meets in
     let delivered = deliver_meets g n ls w t.put t.dropped (later ++ rest.before) rest.after last there
     (legal_after g later does.after rest.before rest.after rest.joined lawful) rest.other in
-    let tail = joined_meets g n ls later does.after rest.before rest.after d (advancing g d w).entries (handing last w) rest.joined delivered.meets in
+    let tail = joined_meets g n ls later does.after rest.before rest.after d (advance_now g d w).entries (handing last w) rest.joined delivered.meets in
     record {
-      line = ap (λ (x : Turned). turn_line x) (turned_same t more.count (advancing g d w).to (advancing g d w).fired
+      line = ap (λ (x : Turned). turn_line x) (turned_same t more.count (advance_now g d w).to (advance_now g d w).fired
           (puts (hows_of last.exited (last.scheds w).fired)) (drops (hows_of last.exited (last.scheds w).fired)) (sym served.counts) advanced.to_is advanced.fired_is delivered.put_is delivered.dropped_is);
-      meets = joined_meets g n ls h m does.before does.after c more.entries ((advancing g d w).entries ++ handing last w) does.joined tail;
+      meets = joined_meets g n ls h m does.before does.after c more.entries ((advance_now g d w).entries ++ handing last w) does.joined tail;
     }
 
 -- exits

@@ -14,7 +14,7 @@ use Rattle.ert_plain.specs.PlainCounts.{plain_after}
 use Rattle.ert_transcript.specs.Labels.{Labels}
 use Rattle.ert_plain.specs.Laws.{LawOfFronts}
 use Rattle.ert_transcript.specs.Lines.{line_of}
-use Rattle.ert_plain.specs.Plain.{piece_of, slot_of, plain_lines}
+use Rattle.ert_plain.specs.Plain.{op_piece, slot_of, plain_lines}
 use Rattle.ert_transcript.specs.Scripts.{labels_after, lines_of}
 use Rattle.ert_transcript.specs.Texts.{end_line}
 
@@ -29,9 +29,9 @@ has_front : (g : Settings) (s : State) (ls : Labels) (list : List Op) (n : ℕ) 
 has_front g s ls list zero = record { front = []; rest = plain_lines g s ls list; some = refl; all = refl }
 has_front g s ls [] (suc n) = record { front = []; rest = end_line s.clock.now; some = refl; all = refl }
 has_front g s ls (op ∷ list) (suc n) =
-    let line : List ℕ = line_of slot_of (piece_of g s ls op).reply in
-    let d : State = run g s (piece_of g s ls op).entries in
-    let labels : Labels = labels_after ls op (piece_of g s ls op).reply in
+    let line : List ℕ = line_of slot_of (op_piece g s ls op).reply in
+    let d : State = run g s (op_piece g s ls op).entries in
+    let labels : Labels = labels_after ls op (op_piece g s ls op).reply in
     let later : HasFront g d labels list n = has_front g d labels list n in
     record {
       front = line ++ later.front;

@@ -25,7 +25,7 @@ use Rattle.ert_plain.proofs.Steps.{as_off, as_mark, as_ask, as_take, as_unwatch,
 use Rattle.ert_transcript.specs.Labels.{Labels, label_of}
 use Rattle.ert_transcript.specs.Lines.{line_of, mail_line}
 use Rattle.ert_plain.specs.Plain.{slot_of}
-use Rattle.ert_plain.specs.PlainMail.{received, receive_piece, alive_piece, may_watch, monitor_piece, demonitor_piece, notify_piece}
+use Rattle.ert_plain.specs.PlainMail.{receive_reply, receive_piece, alive_piece, may_watch, monitor_piece, demonitor_piece, notify_piece}
 use Rattle.ert_plain.specs.PlainTurns.{ask_piece}
 use Rattle.ert_transcript.specs.declared.reply.Reply.{Reply}
 use Rattle.ert_transcript.specs.declared.reply.Reply.TheVariants.{ReceivedExited, Alive, Monitor as Monitored, MonitorFull, Demonitor, Notify}
@@ -52,7 +52,7 @@ mail_prints g ls (Change m x) (Change n y) h = let number : m ≡ n = h.0 in let
 mail_prints g ls _ _ h = absurd h
 
 received_prints : (g : Settings) (ls : Labels) (a b : Option Mail) → Both (SameMail (IsName g ls)) a b
-    → line_of (label_of ls) (received a) ≡ line_of slot_of (received b)
+    → line_of (label_of ls) (receive_reply a) ≡ line_of slot_of (receive_reply b)
 received_prints g ls None None h = refl
 received_prints g ls (Some a) (Some b) h = mail_prints g ls a b h
 received_prints g ls None (Some b) h = absurd h
@@ -69,7 +69,7 @@ exited_done g n ls s c p es h legal is =
 
 pub receive_done : (g : Settings) (n : ℕ) (ls : Labels) (s c : State) (p : ℕ) (got : Option Mail) (es : List Entry) → Meets g n ls s c
     → LegalFrom g s es → es ≡ mark_entry (Caller 0) p false false ∷ take_entry 0 p got ∷ []
-    → IsDone g n ls s c (received got) es (receive_piece c p (c.exited p))
+    → IsDone g n ls s c (receive_reply got) es (receive_piece c p (c.exited p))
 receive_done g n ls s c p got es h legal is =
     let lawful = subst (λ (x : List Entry). LegalFrom g s x) is legal in
     let alive : c.exited p ≡ false = sym (h.shows.exited p) ∙ sym lawful.0.found in
@@ -77,7 +77,7 @@ receive_done g n ls s c p got es h legal is =
     let same : Both (SameMail (IsName g ls)) got (first_of (c.mails p).queue) =
     subst (λ (x : Option Mail). Both (SameMail (IsName g ls)) x (first_of (c.mails p).queue)) (sym lawful.1.0.known)
     (pairs_first (SameMail (IsName g ls)) (s.mails p).queue (c.mails p).queue (h.shows.mails p).queue) in
-    done_as g n ls s c (received got) es (mark_entry (Caller 0) p false false ∷ take_entry 0 p got ∷ []) (receive_piece c p (c.exited p)) _ is
+    done_as g n ls s c (receive_reply got) es (mark_entry (Caller 0) p false false ∷ take_entry 0 p got ∷ []) (receive_piece c p (c.exited p)) _ is
     (ap (λ (b : Bool). receive_piece c p b) alive)
     (record {
       line = received_prints g ls got (first_of (c.mails p).queue) same;

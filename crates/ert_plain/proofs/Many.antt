@@ -12,7 +12,7 @@ use Rattle.ert_defs.specs.declared.settings.Settings.{Settings}
 use Rattle.ert_plain.proofs.Meets.{Meets}
 use Rattle.ert_plain.proofs.Serves.{AreServed, serves_meet, tells_served}
 use Rattle.ert_transcript.specs.Labels.{Labels}
-use Rattle.ert_plain.specs.PlainTurns.{Served, serving, has_served, and_then, serve_many}
+use Rattle.ert_plain.specs.PlainTurns.{Served, serve_one, has_served, and_then, serve_many}
 
 -- n requests are served of at most so many, and where there could be more, none waits
 abbrev ServesUpTo : Settings → ℕ → ℕ → ℕ → List Entry → List Entry → Type 0
@@ -70,12 +70,12 @@ up_to g w false (suc n) (suc most) h m is le does = record {
 abbrev goes_on : Bool → Served → Served → Served
 goes_on b first rest = elim b [ true ↦ and_then first rest | false ↦ first ]
 
-many_more : (g : Settings) (c : State) (w n : ℕ) → has_served (serving g c w) ≡ true
-    → serve_many g c w (suc n) ≡ and_then (serving g c w) (serve_many g (run g c (serving g c w).entries) w n)
-many_more g c w n is = ap (λ (b : Bool). goes_on b (serving g c w) (serve_many g (run g c (serving g c w).entries) w n)) is
+many_more : (g : Settings) (c : State) (w n : ℕ) → has_served (serve_one g c w) ≡ true
+    → serve_many g c w (suc n) ≡ and_then (serve_one g c w) (serve_many g (run g c (serve_one g c w).entries) w n)
+many_more g c w n is = ap (λ (b : Bool). goes_on b (serve_one g c w) (serve_many g (run g c (serve_one g c w).entries) w n)) is
 
-many_last : (g : Settings) (c : State) (w n : ℕ) → has_served (serving g c w) ≡ false → serve_many g c w (suc n) ≡ serving g c w
-many_last g c w n is = ap (λ (b : Bool). goes_on b (serving g c w) (serve_many g (run g c (serving g c w).entries) w n)) is
+many_last : (g : Settings) (c : State) (w n : ℕ) → has_served (serve_one g c w) ≡ false → serve_many g c w (suc n) ≡ serve_one g c w
+many_last g c w n is = ap (λ (b : Bool). goes_on b (serve_one g c w) (serve_many g (run g c (serve_one g c w).entries) w n)) is
 
 served_as : (g : Settings) (n : ℕ) (ls : Labels) (s c : State) (es : List Entry) (count : ℕ) (a b : Served) → a ≡ b → AreServed g n ls s c es count b
     → AreServed g n ls s c es count a
@@ -112,18 +112,18 @@ many_meet g k ls w zero zero h m c meets legal does =
     subst (λ (x : List Entry). AreServed g k ls (state g h) c x 0 (serve_many g c w 0)) (sym does) (record { counts = refl; meets = meets })
 many_meet g k ls w zero (suc most) h m c meets legal does =
     let one = serves_meet g k ls w false h m c meets legal does in
-    served_as g k ls (state g h) c m 0 (serve_many g c w (suc most)) (serving g c w)
-    (many_last g c w most (tells_served false (serving g c w) one.counts)) one
+    served_as g k ls (state g h) c m 0 (serve_many g c w (suc most)) (serve_one g c w)
+    (many_last g c w most (tells_served false (serve_one g c w) one.counts)) one
 many_meet g k ls w (suc n) zero h m c meets legal does = absurd does
 many_meet g k ls w (suc n) (suc most) h m c meets legal does =
     let one = serves_meet g k ls w true h does.before c meets (legal_before g h m does.before does.after does.joined legal) does.one in
-    let d : State = run g c (serving g c w).entries in
+    let d : State = run g c (serve_one g c w).entries in
     let rest = many_meet g k ls w n most (h ++ does.before) does.after d (meets_after g k ls h does.before d one.meets)
     (legal_after g h m does.before does.after does.joined legal) does.other in
-    served_as g k ls (state g h) c m (suc n) (serve_many g c w (suc most)) (and_then (serving g c w) (serve_many g d w most))
-    (many_more g c w most (tells_served true (serving g c w) one.counts))
-    (subst (λ (x : List Entry). AreServed g k ls (state g h) c x (suc n) (and_then (serving g c w) (serve_many g d w most))) (sym does.joined)
-    (both_served g k ls n h does.before does.after c (serving g c w) (serve_many g d w most) one rest))
+    served_as g k ls (state g h) c m (suc n) (serve_many g c w (suc most)) (and_then (serve_one g c w) (serve_many g d w most))
+    (many_more g c w most (tells_served true (serve_one g c w) one.counts))
+    (subst (λ (x : List Entry). AreServed g k ls (state g h) c x (suc n) (and_then (serve_one g c w) (serve_many g d w most))) (sym does.joined)
+    (both_served g k ls n h does.before does.after c (serve_one g c w) (serve_many g d w most) one rest))
 
 pub all_served : (g : Settings) (k : ℕ) (ls : Labels) (w n : ℕ) (h m : List Entry) (c : State) → Meets g k ls (state g h) c → LegalFrom g (state g h) m
     → ServesAll g (alone g) w (Ok n) h m → AreServed g k ls (state g h) c m n (serve_many g c w 64)

@@ -15,11 +15,11 @@ use Rattle.ert_plain.proofs.Clocks.{IsDone, moves_done, refuses_done}
 use Rattle.ert_plain.proofs.Mailing.{notify_done, exited_done, receive_done, alive_done, monitor_done, no_monitor_done, demonitor_done, ask_done}
 use Rattle.ert_plain.proofs.Meets.{Meets}
 use Rattle.ert_plain.proofs.Readings.{finalizes_done, final_refused, time_done, offset_done, system_done, info_done}
-use Rattle.ert_transcript.specs.Calls.{Calls, reading_of, request_of}
+use Rattle.ert_transcript.specs.Calls.{Calls, reading_of, request_for_op}
 use Rattle.ert_transcript.specs.Labels.{Labels, ref_of}
 use Rattle.ert_plain.specs.PlainClock.{tick_piece, check_piece, finalize_piece, time_piece, system_piece, offset_piece, info_piece}
 use Rattle.ert_plain.specs.PlainMail.{receive_piece, alive_piece, exit_piece, may_watch, monitor_piece, demonitor_piece, notify_piece}
-use Rattle.ert_plain.specs.PlainTimers.{cancelling, reading}
+use Rattle.ert_plain.specs.PlainTimers.{cancel_now, read_now}
 use Rattle.ert_plain.specs.PlainTurns.{ask_piece, serve_op, advance_op, deliver_op, turn_op}
 use Rattle.ert_ops.specs.declared.op.Op.TheVariants as ops
 use Rattle.ert_transcript.specs.declared.reply.Reply.{Reply}
@@ -80,39 +80,39 @@ info_op g n ls h m c _ meets legal does = absurd does
 
 pub cancel_op : (g : Settings) (n : ℕ) (ls cl : Labels) (h m : List Entry) (c : State) (l : ℕ) (reply : Reply) → IsName g ls (ref_of ls l) (ref_of cl l)
     → Meets g n ls (state g h) c → LegalFrom g (state g h) m → Calls g (alone g) 0 ls (ops.Cancel l) reply h m
-    → IsDone g n ls (state g h) c reply m (cancelling g c (ref_of cl l) Cancel)
+    → IsDone g n ls (state g h) c reply m (cancel_now g c (ref_of cl l) Cancel)
 cancel_op g n ls cl h m c l (Cancel left) named meets legal does =
     cancel_done g n ls (state g h) c (ref_of ls l) (ref_of cl l) left Cancel m named (λ _. refl) meets legal does
 cancel_op g n ls cl h m c l _ named meets legal does = absurd does
 
 pub cancel_quiet_op : (g : Settings) (n : ℕ) (ls cl : Labels) (h m : List Entry) (c : State) (l : ℕ) (reply : Reply) → IsName g ls (ref_of ls l) (ref_of cl l)
     → Meets g n ls (state g h) c → LegalFrom g (state g h) m → Calls g (alone g) 0 ls (ops.CancelQuiet l) reply h m
-    → IsDone g n ls (state g h) c reply m (cancelling g c (ref_of cl l) (λ left. CancelQuiet))
+    → IsDone g n ls (state g h) c reply m (cancel_now g c (ref_of cl l) (λ left. CancelQuiet))
 cancel_quiet_op g n ls cl h m c l CancelQuiet named meets legal does =
     cancel_done g n ls (state g h) c (ref_of ls l) (ref_of cl l) does.0 (λ left. CancelQuiet) m named (λ _. refl) meets legal does.1
 cancel_quiet_op g n ls cl h m c l _ named meets legal does = absurd does
 
 pub read_op : (g : Settings) (n : ℕ) (ls cl : Labels) (h m : List Entry) (c : State) (l : ℕ) (reply : Reply) → IsName g ls (ref_of ls l) (ref_of cl l)
     → Meets g n ls (state g h) c → LegalFrom g (state g h) m → Calls g (alone g) 0 ls (ops.Read l) reply h m
-    → IsDone g n ls (state g h) c reply m (reading g c (ref_of cl l))
+    → IsDone g n ls (state g h) c reply m (read_now g c (ref_of cl l))
 read_op g n ls cl h m c l (Read left) named meets legal does = read_done g n ls (state g h) c (ref_of ls l) (ref_of cl l) left m named meets legal does
 read_op g n ls cl h m c l _ named meets legal does = absurd does
 
 pub cancel_async_op : (g : Settings) (n : ℕ) (ls cl : Labels) (h m : List Entry) (c : State) (l p : ℕ) (info : Bool) (reply : Reply)
     → IsName g ls (ref_of ls l) (ref_of cl l) → Meets g n ls (state g h) c → LegalFrom g (state g h) m
     → Calls g (alone g) 0 ls (ops.CancelAsync l p info) reply h m
-    → IsDone g n ls (state g h) c reply m (ask_piece g (request_of ToCancel cl l p info) CancelAsync)
+    → IsDone g n ls (state g h) c reply m (ask_piece g (request_for_op ToCancel cl l p info) CancelAsync)
 cancel_async_op g n ls cl h m c l p info CancelAsync named meets legal does =
-    ask_done g n ls (state g h) c (request_of ToCancel ls l p info) (request_of ToCancel cl l p info) CancelAsync m meets
+    ask_done g n ls (state g h) c (request_for_op ToCancel ls l p info) (request_for_op ToCancel cl l p info) CancelAsync m meets
     (record { kind = refl; timer = named; reply_to = refl; info = refl }) legal does refl
 cancel_async_op g n ls cl h m c l p info _ named meets legal does = absurd does
 
 pub read_async_op : (g : Settings) (n : ℕ) (ls cl : Labels) (h m : List Entry) (c : State) (l p : ℕ) (info : Bool) (reply : Reply)
     → IsName g ls (ref_of ls l) (ref_of cl l) → Meets g n ls (state g h) c → LegalFrom g (state g h) m
     → Calls g (alone g) 0 ls (ops.ReadAsync l p info) reply h m
-    → IsDone g n ls (state g h) c reply m (ask_piece g (request_of ToRead cl l p info) ReadAsync)
+    → IsDone g n ls (state g h) c reply m (ask_piece g (request_for_op ToRead cl l p info) ReadAsync)
 read_async_op g n ls cl h m c l p info ReadAsync named meets legal does =
-    ask_done g n ls (state g h) c (request_of ToRead ls l p info) (request_of ToRead cl l p info) ReadAsync m meets
+    ask_done g n ls (state g h) c (request_for_op ToRead ls l p info) (request_for_op ToRead cl l p info) ReadAsync m meets
     (record { kind = refl; timer = named; reply_to = refl; info = refl }) legal does refl
 read_async_op g n ls cl h m c l p info _ named meets legal does = absurd does
 

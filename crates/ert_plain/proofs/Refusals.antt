@@ -32,7 +32,7 @@ use Rattle.ert_transcript.specs.Labels.{Labels, label_of}
 use Rattle.ert_transcript.specs.Lines.{line_of}
 use Rattle.ert_plain.specs.Pieces.{Piece}
 use Rattle.ert_plain.specs.Plain.{slot_of}
-use Rattle.ert_plain.specs.PlainTimers.{taken_of, started, bad_arg, full, looks, arm_entries, start_piece, starting}
+use Rattle.ert_plain.specs.PlainTimers.{taken_slots, start_reply, bad_arg, full, looks, arm_entries, start_piece, start_now}
 use Rattle.ert_transcript.specs.declared.reply.Reply.{Reply}
 
 -- the plain service finds no deadline, or no room
@@ -41,24 +41,24 @@ bad_arg_piece : (g : Settings) (c : State) (l w : ℕ) (start : Start) (d : Opti
     → start_piece g c l w start d ≡ record { entries = looks c ∷ []; reply = bad_arg start.kind }
 bad_arg_piece g c l w start d is = ap (λ (x : Option ℕ). start_piece g c l w start x) is
 
-full_piece : (g : Settings) (c : State) (l w : ℕ) (start : Start) (d : Option ℕ) → d ≢ None → taken_of c.status (c.rows w) ≡ g.slots
+full_piece : (g : Settings) (c : State) (l w : ℕ) (start : Start) (d : Option ℕ) → d ≢ None → taken_slots c.status (c.rows w) ≡ g.slots
     → start_piece g c l w start d ≡ record { entries = looks c ∷ []; reply = full start.kind }
 full_piece g c l w start None some all = absurd (some refl)
 full_piece g c l w start (Some d) some all =
-    let taken : nat_le g.slots (taken_of c.status (c.rows w)) ≡ true = grind (arith, nat_tests) in
+    let taken : nat_le g.slots (taken_slots c.status (c.rows w)) ≡ true = grind (arith, nat_tests) in
     ap (λ (b : Bool). cond b (let x : Piece = record { entries = looks c ∷ []; reply = full start.kind } in x)
-    (record { entries = looks c ∷ arm_entries (timer_at w l 1) start (c.exited start.dest); reply = started start.kind (timer_at w l 1) })) taken
+    (record { entries = looks c ∷ arm_entries (timer_at w l 1) start (c.exited start.dest); reply = start_reply start.kind (timer_at w l 1) })) taken
 
 refused_as : (g : Settings) (n : ℕ) (ls : Labels) (l w : ℕ) (start : Start) (s c : State) (now : ℤ) (reply : Reply) → now ≡ c.clock.now
-    → starting g c l w start ≡ record { entries = looks c ∷ []; reply = reply }
-    → starting g c l w start ≡ record { entries = look_entry (Caller 0) now ∷ []; reply = reply }
+    → start_now g c l w start ≡ record { entries = looks c ∷ []; reply = reply }
+    → start_now g c l w start ≡ record { entries = look_entry (Caller 0) now ∷ []; reply = reply }
 refused_as g n ls l w start s c now reply time is =
     is ∙ ap (λ (x : ℤ). record { entries = look_entry (Caller 0) x ∷ []; reply = reply }) (sym time)
 
 -- a start that is refused: the plain service answers so, and does the same
 pub record IsRefused (g : Settings) (n : ℕ) (ls : Labels) (l w : ℕ) (start : Start) (s c : State) (reply : Reply) (es : List Entry) : Type 0 where
-  pub replies : (starting g c l w start).reply ≡ reply
-  pub done : IsDone g n ls s c reply es (starting g c l w start)
+  pub replies : (start_now g c l w start).reply ≡ reply
+  pub done : IsDone g n ls s c reply es (start_now g c l w start)
 
 pub bad_arg_done : (g : Settings) (n : ℕ) (ls : Labels) (l w : ℕ) (start : Start) (s c : State) (es : List Entry) → Meets g n ls s c → LegalFrom g s es
     → IsBadArg g 0 start es → line_of (label_of ls) (bad_arg start.kind) ≡ line_of slot_of (bad_arg start.kind)
@@ -70,7 +70,7 @@ bad_arg_done g n ls l w start s c es h legal does plain =
     let piece = refused_as g n ls l w start s c does.now (bad_arg start.kind) time (bad_arg_piece g c l w start (deadline_of g start c.clock.now) refused) in
     record {
       replies = ap (λ (p : Piece). p.reply) piece;
-      done = done_as g n ls s c (bad_arg start.kind) es (look_entry (Caller 0) does.now ∷ []) (starting g c l w start) _ does.entries piece
+      done = done_as g n ls s c (bad_arg start.kind) es (look_entry (Caller 0) does.now ∷ []) (start_now g c l w start) _ does.entries piece
           (record { line = plain; meets = meets_next g n ls (as_look does.now) (Caller 0) None s c h lawful.0 });
     }
 
@@ -175,15 +175,15 @@ full_done g n ls l w start s c es few h legal does plain =
     not_resting (uses_at s w i) (first_round (uses_at s w i) (h.kept.ordered w i).sound (omega (arith, h.lasts w i))) in
     let seen : (j : ℕ) → IsInRound are.0 j → is_taken (s.status (timer_at w j (s.last w j))) ≡ true =
     round_taken g w (natural (down g does.now)) s looked are.0 does.probes (record { status = λ r. refl; last = λ i. refl }) first lawful.1 are.1 in
-    let taken : taken_of s.status (s.rows w) ≡ g.slots =
+    let taken : taken_slots s.status (s.rows w) ≡ g.slots =
     all_taken g ls s c w h.kept h.shows (λ j lt. seen j (has_all g s w n are.0 h.kept (h.few w) few seen j lt)) in
-    let all : taken_of c.status (c.rows w) ≡ g.slots =
+    let all : taken_slots c.status (c.rows w) ≡ g.slots =
     sym (count_pairs is_taken (IsName g ls) s.status c.status h.shows.status (s.rows w) (c.rows w) (h.shows.rows w)) ∙ taken in
     let look = meets_next g n ls (as_look does.now) (Caller 0) None s c h lawful.0 in
     let piece = refused_as g n ls l w start s c does.now (full start.kind) time (full_piece g c l w start (deadline_of g start c.clock.now) due all) in
     record {
       replies = ap (λ (p : Piece). p.reply) piece;
-      done = done_as g n ls s c (full start.kind) es (look_entry (Caller 0) does.now ∷ does.probes) (starting g c l w start) _ does.entries piece
+      done = done_as g n ls s c (full start.kind) es (look_entry (Caller 0) does.now ∷ does.probes) (start_now g c l w start) _ does.entries piece
           (record {
             line = plain;
             meets = meets_probes g n ls (Caller 0) w does.probes looked _ (round_probes 0 w (natural (down g does.now)) s are.0 does.probes are.1) lawful.1 look;

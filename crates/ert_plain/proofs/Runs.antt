@@ -30,10 +30,10 @@ use Rattle.ert_transcript.specs.Labels.{Labels, label_of, bind}
 use Rattle.ert_laws.specs.Counts.{count_of, has_status, count_in, counts_of}
 use Rattle.ert_ops.specs.Labels.{labels_in, AreOps}
 use Rattle.ert_plain.specs.PlainCounts.{plain_after}
-use Rattle.ert_plain.specs.Laws.{LawOfOneText, LawOfOneTranscript, LawOfCounts}
+use Rattle.ert_plain.specs.Laws.{LawOfOneText, LawOfOneTranscript, LawOfPlainCounts}
 use Rattle.ert_transcript.specs.Lines.{line_of}
 use Rattle.ert_transcript.specs.Texts.{end_line}
-use Rattle.ert_plain.specs.Plain.{piece_of, plain_lines}
+use Rattle.ert_plain.specs.Plain.{op_piece, plain_lines}
 use Rattle.ert_transcript.specs.Scripts.{labels_after, Script, lines_of, IsTranscript}
 use Rattle.ert_ops.specs.declared.op.Op.{Op}
 use Rattle.ert_ops.specs.declared.op.Op.TheVariants as ops
@@ -176,19 +176,19 @@ lines_agree g n ls cl (op ∷ list) rs after h m c few apart free other agrees l
     let one = op_agrees g n ls cl h piece c op reply (omega arith) (free_first op list ls free) (free_first op list cl other) agrees
     (legal_before g h m piece later joined legal) runs.6 in
     let labels : Labels = labels_after ls op reply in
-    let d : State = run g c (piece_of g c cl op).entries in
-    let here = subst (λ (z : State). Agrees g (suc n) labels (labels_after cl op (piece_of g c cl op).reply) z d) (sym (state-append g h piece)) one.agrees in
-    let rest = lines_agree g (suc n) labels (labels_after cl op (piece_of g c cl op).reply) list others after (h ++ piece) later d
-    (omega arith) (apart_later op list apart) (free_later op reply list ls apart free) (free_later op (piece_of g c cl op).reply list cl apart other)
+    let d : State = run g c (op_piece g c cl op).entries in
+    let here = subst (λ (z : State). Agrees g (suc n) labels (labels_after cl op (op_piece g c cl op).reply) z d) (sym (state-append g h piece)) one.agrees in
+    let rest = lines_agree g (suc n) labels (labels_after cl op (op_piece g c cl op).reply) list others after (h ++ piece) later d
+    (omega arith) (apart_later op list apart) (free_later op reply list ls apart free) (free_later op (op_piece g c cl op).reply list cl apart other)
     here (legal_after g h m piece later joined legal) runs.7 in
     let whole : (h ++ piece) ++ later ≡ h ++ m = append_assoc h piece later ∙ ap (λ (e : List Entry). h ++ e) (sym joined) in
-    let all = subst (λ (e : List Entry). AreDone g labels (labels_after cl op (piece_of g c cl op).reply) list others after (state g e) d) whole rest in
+    let all = subst (λ (e : List Entry). AreDone g labels (labels_after cl op (op_piece g c cl op).reply) list others after (state g e) d) whole rest in
     let first : List ℕ = line_of (label_of labels) reply in
     record {
       text = ap (λ (x : List Reply). lines_of ls (op ∷ list) x ++ end_line (state g (h ++ m)).clock.now) runs.5
           ∙ append_assoc first (lines_of labels list others) (end_line (state g (h ++ m)).clock.now)
           ∙ ap (λ (x : List ℕ). first ++ x) all.text
-          ∙ ap (λ (x : List ℕ). x ++ plain_lines g d (labels_after cl op (piece_of g c cl op).reply) list) one.line;
+          ∙ ap (λ (x : List ℕ). x ++ plain_lines g d (labels_after cl op (op_piece g c cl op).reply) list) one.line;
       shows = all.shows;
     }
 
@@ -252,6 +252,6 @@ same_counts R g s c h =
     let orphaned : count_in s Orphaned g.schedulers ≡ count_in c Orphaned g.schedulers = same_count R s c Orphaned g.schedulers h in
     cc
 
-pub counts_agree : LawOfCounts
+pub counts_agree : LawOfPlainCounts
 counts_agree g list text are t =
     same_counts (IsName g t.labels) g (state g t.entries) (plain_after g (opening g) [] list) (done g list text are t).shows

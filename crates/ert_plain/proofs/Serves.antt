@@ -23,7 +23,7 @@ use Rattle.ert_plain.proofs.Shown.{Both, SameRequest, pairs_first}
 use Rattle.ert_plain.proofs.Steps.{as_pick, as_answer}
 use Rattle.ert_transcript.specs.Labels.{Labels}
 use Rattle.ert_plain.specs.PlainTimers.{is_bound, left_now, left_if}
-use Rattle.ert_plain.specs.PlainTurns.{request_entries, answer_entries, Served, pick_piece, serve_piece, serving, has_served}
+use Rattle.ert_plain.specs.PlainTurns.{request_entries, answer_entries, Served, pick_piece, serve_piece, serve_one, has_served}
 
 -- one request is answered
 
@@ -106,7 +106,7 @@ served_by g n ls w h m before c q None (Some k) meets legal holds does same = ab
 served_by g n ls w h m before c q (Some p) None meets legal holds does same = absurd same
 
 serve_meets : (g : Settings) (n : ℕ) (ls : Labels) (w : ℕ) (h m : List Entry) (c : State) → Meets g n ls (state g h) c → LegalFrom g (state g h) m
-    → HasServed g (alone g) w h m → AreServed g n ls (state g h) c m 1 (serving g c w)
+    → HasServed g (alone g) w h m → AreServed g n ls (state g h) c m 1 (serve_one g c w)
 serve_meets g n ls w h m c meets legal does =
     served_by g n ls w h m does.steps.before c does.request ((state g h).scheds w).hand (c.scheds w).hand meets legal does.steps.one
     (record {
@@ -143,7 +143,7 @@ unserved_by g n ls w h m c None None meets legal holds same =
 unserved_by g n ls w h m c None (Some k) meets legal holds same = absurd same
 
 unserved_meets : (g : Settings) (n : ℕ) (ls : Labels) (w : ℕ) (h m : List Entry) (c : State) → Meets g n ls (state g h) c → LegalFrom g (state g h) m
-    → Serves g (alone g) w (Ok false) h m → AreServed g n ls (state g h) c m 0 (serving g c w)
+    → Serves g (alone g) w (Ok false) h m → AreServed g n ls (state g h) c m 0 (serve_one g c w)
 unserved_meets g n ls w h m c meets legal does =
     unserved_by g n ls w h m c ((state g h).scheds w).hand (c.scheds w).hand meets legal does (meets.shows.scheds w).hand
 
@@ -152,7 +152,7 @@ abbrev one_served : Bool → ℕ
 one_served b = cond b 1 0
 
 pub serves_meet : (g : Settings) (n : ℕ) (ls : Labels) (w : ℕ) (b : Bool) (h m : List Entry) (c : State) → Meets g n ls (state g h) c
-    → LegalFrom g (state g h) m → Serves g (alone g) w (Ok b) h m → AreServed g n ls (state g h) c m (one_served b) (serving g c w)
+    → LegalFrom g (state g h) m → Serves g (alone g) w (Ok b) h m → AreServed g n ls (state g h) c m (one_served b) (serve_one g c w)
 serves_meet g n ls w true h m c meets legal does = serve_meets g n ls w h m c meets legal does
 serves_meet g n ls w false h m c meets legal does = unserved_meets g n ls w h m c meets legal does
 

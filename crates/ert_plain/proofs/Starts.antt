@@ -23,18 +23,18 @@ use Rattle.ert_plain.proofs.Steps.{as_look, as_mark, as_orphan}
 use Rattle.ert_plain.proofs.Taken.{one_free, count_pairs}
 use Rattle.ert_transcript.specs.Labels.{Labels, bind}
 use Rattle.ert_plain.specs.Pieces.{Piece}
-use Rattle.ert_plain.specs.PlainTimers.{taken_of, started, full, looks, arm_entries, start_piece, starting}
+use Rattle.ert_plain.specs.PlainTimers.{taken_slots, start_reply, full, looks, arm_entries, start_piece, start_now}
 
 -- what the plain service does, by the deadline and the count of what is taken
 
-started_piece : (g : Settings) (c : State) (l w : ℕ) (start : Start) (d : Option ℕ) → d ≢ None → taken_of c.status (c.rows w) < g.slots
+started_piece : (g : Settings) (c : State) (l w : ℕ) (start : Start) (d : Option ℕ) → d ≢ None → taken_slots c.status (c.rows w) < g.slots
     → start_piece g c l w start d
-    ≡ record { entries = looks c ∷ arm_entries (timer_at w l 1) start (c.exited start.dest); reply = started start.kind (timer_at w l 1) }
+    ≡ record { entries = looks c ∷ arm_entries (timer_at w l 1) start (c.exited start.dest); reply = start_reply start.kind (timer_at w l 1) }
 started_piece g c l w start None some lt = absurd (some refl)
 started_piece g c l w start (Some d) some lt =
-    let free : nat_le g.slots (taken_of c.status (c.rows w)) ≡ false = grind (arith, nat_tests) in
+    let free : nat_le g.slots (taken_slots c.status (c.rows w)) ≡ false = grind (arith, nat_tests) in
     ap (λ (b : Bool). cond b (let x : Piece = record { entries = looks c ∷ []; reply = full start.kind } in x)
-    (record { entries = looks c ∷ arm_entries (timer_at w l 1) start (c.exited start.dest); reply = started start.kind (timer_at w l 1) })) free
+    (record { entries = looks c ∷ arm_entries (timer_at w l 1) start (c.exited start.dest); reply = start_reply start.kind (timer_at w l 1) })) free
 
 -- what closes a start
 
@@ -51,8 +51,8 @@ closes_meet g n ls t m true es s c (inr missed) named armed legal h =
 
 -- a start that armed a timer: what the plain service does, and that both meet
 pub record AreStarted (g : Settings) (n : ℕ) (ls : Labels) (l w : ℕ) (start : Start) (t : TimerRef) (s c : State) (es : List Entry) : Type 0 where
-  pub piece : starting g c l w start
-      ≡ record { entries = looks c ∷ arm_entries (timer_at w l 1) start (c.exited start.dest); reply = started start.kind (timer_at w l 1) }
+  pub piece : start_now g c l w start
+      ≡ record { entries = looks c ∷ arm_entries (timer_at w l 1) start (c.exited start.dest); reply = start_reply start.kind (timer_at w l 1) }
   pub new : IsNew g ls l t
   pub wheel : t.wheel ≡ w
   pub meets : Meets g (suc n) (bind ls l t) (run g s es) (run g c (looks c ∷ arm_entries (timer_at w l 1) start (c.exited start.dest)))
@@ -94,7 +94,7 @@ started_here g n ls l start t now probes closing was s c few free h are closes l
     let clash : Some can.known.wanted ≡ None =
     sym can.known.due ∙ (ap (λ (x : ℤ). deadline_of g start x) (after.shows.looked (Caller 0) ∙ time) ∙ none) in
     cc in
-    let room : taken_of c.status (c.rows w) < g.slots =
+    let room : taken_slots c.status (c.rows w) < g.slots =
     subst (λ (k : ℕ). k < g.slots) (count_pairs is_taken (IsName g ls) probed.status c.status after.shows.status (probed.rows w) (c.rows w) (after.shows.rows w))
     (one_free g ls probed _ w t.slot after.kept after.shows can.keeps.2.slot_high can.known.free) in
     let armed = armed_meet g n ls l t start was closing probed _ few free closes lawful after in

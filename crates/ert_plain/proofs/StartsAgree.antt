@@ -17,12 +17,12 @@ use Rattle.ert_plain.proofs.Clocks.{IsDone}
 use Rattle.ert_plain.proofs.Meets.{Agrees, meets_later}
 use Rattle.ert_plain.proofs.Refusals.{bad_arg_done, full_done}
 use Rattle.ert_plain.proofs.Starts.{AreStarted, start_done}
-use Rattle.ert_transcript.specs.Calls.{Calls, start_of}
+use Rattle.ert_transcript.specs.Calls.{Calls, start_for_op}
 use Rattle.ert_transcript.specs.Labels.{Labels, ref_of, label_of, bind}
 use Rattle.ert_transcript.specs.Lines.{line_of}
 use Rattle.ert_plain.specs.Pieces.{Piece}
-use Rattle.ert_plain.specs.Plain.{slot_of, piece_of}
-use Rattle.ert_plain.specs.PlainTimers.{looks, arm_entries, starting}
+use Rattle.ert_plain.specs.Plain.{slot_of, op_piece}
+use Rattle.ert_plain.specs.PlainTimers.{looks, arm_entries, start_now}
 use Rattle.ert_transcript.specs.Scripts.{labels_after}
 use Rattle.ert_ops.specs.declared.op.Op.{Op}
 use Rattle.ert_ops.specs.declared.op.Op.TheVariants as ops
@@ -31,17 +31,17 @@ use Rattle.ert_transcript.specs.declared.reply.Reply.TheVariants.{StartOk, Start
 
 -- an op of both: it prints the same, and both agree afterwards
 pub record IsAgreed (g : Settings) (n : ℕ) (ls cl : Labels) (s c : State) (op : Op) (reply : Reply) (es : List Entry) : Type 0 where
-  pub line : line_of (label_of (labels_after ls op reply)) reply ≡ line_of slot_of (piece_of g c cl op).reply
-  pub agrees : Agrees g (suc n) (labels_after ls op reply) (labels_after cl op (piece_of g c cl op).reply) (run g s es) (run g c (piece_of g c cl op).entries)
+  pub line : line_of (label_of (labels_after ls op reply)) reply ≡ line_of slot_of (op_piece g c cl op).reply
+  pub agrees : Agrees g (suc n) (labels_after ls op reply) (labels_after cl op (op_piece g c cl op).reply) (run g s es) (run g c (op_piece g c cl op).entries)
 
 -- an op that binds no label
 pub agreed : (g : Settings) (n : ℕ) (ls cl : Labels) (s c : State) (op : Op) (reply : Reply) (es : List Entry)
-    → labels_after ls op reply ≡ ls → labels_after cl op (piece_of g c cl op).reply ≡ cl
-    → ((x : ℕ) → IsName g ls (ref_of ls x) (ref_of cl x)) → IsDone g n ls s c reply es (piece_of g c cl op) → IsAgreed g n ls cl s c op reply es
+    → labels_after ls op reply ≡ ls → labels_after cl op (op_piece g c cl op).reply ≡ cl
+    → ((x : ℕ) → IsName g ls (ref_of ls x) (ref_of cl x)) → IsDone g n ls s c reply es (op_piece g c cl op) → IsAgreed g n ls cl s c op reply es
 agreed g n ls cl s c op reply es one other names done = record {
   line = ap (λ (x : Labels). line_of (label_of x) reply) one ∙ done.line;
-  agrees = subst (λ (x : Labels). Agrees g (suc n) x (labels_after cl op (piece_of g c cl op).reply) (run g s es) (run g c (piece_of g c cl op).entries)) (sym one)
-      (subst (λ (y : Labels). Agrees g (suc n) ls y (run g s es) (run g c (piece_of g c cl op).entries)) (sym other)
+  agrees = subst (λ (x : Labels). Agrees g (suc n) x (labels_after cl op (op_piece g c cl op).reply) (run g s es) (run g c (op_piece g c cl op).entries)) (sym one)
+      (subst (λ (y : Labels). Agrees g (suc n) ls y (run g s es) (run g c (op_piece g c cl op).entries)) (sym other)
       (record { meets = meets_later g n (suc n) ls _ _ (omega arith) done.meets; names = names }));
 }
 
@@ -72,20 +72,20 @@ pub start_op : (g : Settings) (n : ℕ) (ls cl : Labels) (h m : List Entry) (c :
     → IsFreeLabel l ls → IsFreeLabel l cl → Agrees g n ls cl (state g h) c → LegalFrom g (state g h) m
     → Calls g (alone g) 0 ls (ops.Start l w when p msg) reply h m → IsAgreed g n ls cl (state g h) c (ops.Start l w when p msg) reply m
 start_op g n ls cl h m c l w when p msg (StartOk t) few free other agrees legal does =
-    let start : Start = start_of when p msg Wrapped in
+    let start : Start = start_for_op when p msg Wrapped in
     let one = start_done g n ls l w start t (state g h) c m few free agrees.meets legal does in
     let P : Piece → Type 0 = λ x.
     Agrees g (suc n) (bind ls l t) (labels_after cl (ops.Start l w when p msg) x.reply) (run g (state g h) m) (run g c x.entries) in
     record {
       line = ap (λ (x : Piece). line_of slot_of x.reply) (sym one.piece);
-      agrees = subst P (sym one.piece) (started_agrees g n ls cl l w start t (state g h) c m (starting g c l w start) free other agrees.names one);
+      agrees = subst P (sym one.piece) (started_agrees g n ls cl l w start t (state g h) c m (start_now g c l w start) free other agrees.names one);
     }
 start_op g n ls cl h m c l w when p msg StartBadArg few free other agrees legal does =
-    let one = bad_arg_done g n ls l w (start_of when p msg Wrapped) (state g h) c m agrees.meets legal does refl in
+    let one = bad_arg_done g n ls l w (start_for_op when p msg Wrapped) (state g h) c m agrees.meets legal does refl in
     agreed g n ls cl (state g h) c (ops.Start l w when p msg) StartBadArg m refl
     (ap (λ (r : Reply). labels_after cl (ops.Start l w when p msg) r) one.replies) agrees.names one.done
 start_op g n ls cl h m c l w when p msg StartFull few free other agrees legal does =
-    let one = full_done g n ls l w (start_of when p msg Wrapped) (state g h) c m few agrees.meets legal does refl in
+    let one = full_done g n ls l w (start_for_op when p msg Wrapped) (state g h) c m few agrees.meets legal does refl in
     agreed g n ls cl (state g h) c (ops.Start l w when p msg) StartFull m refl
     (ap (λ (r : Reply). labels_after cl (ops.Start l w when p msg) r) one.replies) agrees.names one.done
 start_op g n ls cl h m c l w when p msg _ few free other agrees legal does = absurd does
@@ -94,20 +94,20 @@ pub send_after_op : (g : Settings) (n : ℕ) (ls cl : Labels) (h m : List Entry)
     → IsFreeLabel l ls → IsFreeLabel l cl → Agrees g n ls cl (state g h) c → LegalFrom g (state g h) m
     → Calls g (alone g) 0 ls (ops.SendAfter l w when p msg) reply h m → IsAgreed g n ls cl (state g h) c (ops.SendAfter l w when p msg) reply m
 send_after_op g n ls cl h m c l w when p msg (SendAfterOk t) few free other agrees legal does =
-    let start : Start = start_of when p msg Bare in
+    let start : Start = start_for_op when p msg Bare in
     let one = start_done g n ls l w start t (state g h) c m few free agrees.meets legal does in
     let P : Piece → Type 0 = λ x.
     Agrees g (suc n) (bind ls l t) (labels_after cl (ops.SendAfter l w when p msg) x.reply) (run g (state g h) m) (run g c x.entries) in
     record {
       line = ap (λ (x : Piece). line_of slot_of x.reply) (sym one.piece);
-      agrees = subst P (sym one.piece) (started_agrees g n ls cl l w start t (state g h) c m (starting g c l w start) free other agrees.names one);
+      agrees = subst P (sym one.piece) (started_agrees g n ls cl l w start t (state g h) c m (start_now g c l w start) free other agrees.names one);
     }
 send_after_op g n ls cl h m c l w when p msg SendAfterBadArg few free other agrees legal does =
-    let one = bad_arg_done g n ls l w (start_of when p msg Bare) (state g h) c m agrees.meets legal does refl in
+    let one = bad_arg_done g n ls l w (start_for_op when p msg Bare) (state g h) c m agrees.meets legal does refl in
     agreed g n ls cl (state g h) c (ops.SendAfter l w when p msg) SendAfterBadArg m refl
     (ap (λ (r : Reply). labels_after cl (ops.SendAfter l w when p msg) r) one.replies) agrees.names one.done
 send_after_op g n ls cl h m c l w when p msg SendAfterFull few free other agrees legal does =
-    let one = full_done g n ls l w (start_of when p msg Bare) (state g h) c m few agrees.meets legal does refl in
+    let one = full_done g n ls l w (start_for_op when p msg Bare) (state g h) c m few agrees.meets legal does refl in
     agreed g n ls cl (state g h) c (ops.SendAfter l w when p msg) SendAfterFull m refl
     (ap (λ (r : Reply). labels_after cl (ops.SendAfter l w when p msg) r) one.replies) agrees.names one.done
 send_after_op g n ls cl h m c l w when p msg _ few free other agrees legal does = absurd does

@@ -21,7 +21,7 @@ use Rattle.ert_plain.proofs.Meets.{IsKept}
 use Rattle.ert_plain.proofs.Shown.{Names, SameRow, Pairs, Shows}
 use Rattle.ert_transcript.specs.Labels.{Labels}
 use Rattle.ert_laws.specs.Counts.{count_of}
-use Rattle.ert_plain.specs.PlainTimers.{taken_of}
+use Rattle.ert_plain.specs.PlainTimers.{taken_slots}
 
 -- 1 where a test passes
 abbrev one_if : Bool → ℕ
@@ -249,7 +249,7 @@ below_all : (b : Bool) (k n : ℕ) → k < n → one_if b ≡ one_if (b && nat_l
 below_all true k n lt = grind (arith, nat_tests)
 below_all false k n lt = refl
 
-taken_below : (status : TimerRef → Option Status) (n : ℕ) (rows : List Row) → AreIn n rows → taken_of status rows ≡ count_rows (is_below status n) rows
+taken_below : (status : TimerRef → Option Status) (n : ℕ) (rows : List Row) → AreIn n rows → taken_slots status rows ≡ count_rows (is_below status n) rows
 taken_below status n [] are = refl
 taken_below status n (r ∷ rows) are =
     omega (arith, taken_below status n rows are.1, below_all (is_taken (status r.timer)) r.timer.slot n are.0)
@@ -267,13 +267,13 @@ count_pairs test R status other same [] (y ∷ ys) h = absurd h
 count_pairs test R status other same (x ∷ xs) [] h = absurd h
 
 pub all_taken : (g : Settings) (ls : Labels) (s c : State) (w : ℕ) → IsKept s → Shows (IsName g ls) s c
-    → ((k : ℕ) → k < g.slots → is_taken (s.status (last_timer s w k)) ≡ true) → taken_of s.status (s.rows w) ≡ g.slots
+    → ((k : ℕ) → k < g.slots → is_taken (s.status (last_timer s w k)) ≡ true) → taken_slots s.status (s.rows w) ≡ g.slots
 all_taken g ls s c w kept shows taken =
     taken_below s.status g.slots (s.rows w) (rows_in g ls w (uses_at s w) (s.rows w) (c.rows w) (shows.rows w) (kept.rows w).each)
     ∙ all_below s w g.slots kept taken
 
 pub one_free : (g : Settings) (ls : Labels) (s c : State) (w k : ℕ) → IsKept s → Shows (IsName g ls) s c → k < g.slots
-    → is_taken (s.status (last_timer s w k)) ≡ false → taken_of s.status (s.rows w) < g.slots
+    → is_taken (s.status (last_timer s w k)) ≡ false → taken_slots s.status (s.rows w) < g.slots
 one_free g ls s c w k kept shows lt free =
     omega (
       arith,

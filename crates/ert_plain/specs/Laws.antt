@@ -25,8 +25,8 @@ LawOfOneTranscript = (g : Settings) (ops : List Op) (text other : List ℕ) → 
     → IsTranscript g ops text → IsTranscript g ops other → text ≡ other
 
 -- the timers that a script run leaves have the statuses that the plain service tells
-abbrev pub LawOfCounts : Type 0
-LawOfCounts = (g : Settings) (ops : List Op) (text : List ℕ) → AreOps ops → (t : IsTranscript g ops text)
+abbrev pub LawOfPlainCounts : Type 0
+LawOfPlainCounts = (g : Settings) (ops : List Op) (text : List ℕ) → AreOps ops → (t : IsTranscript g ops text)
     → counts_of g (state g t.entries) ≡ plain_counts g ops
 
 -- a text is the first part of another

@@ -18,16 +18,16 @@ use Rattle.ert_transcript.specs.declared.reply.Reply.{Reply}
 use Rattle.ert_transcript.specs.declared.reply.Reply.TheVariants.{Received, ReceivedEmpty, ReceivedExited, Exit, Alive, Monitor as Monitored, MonitorFull, Demonitor, Notify}
 
 -- the reply to a receive, by the first message of the mailbox
-abbrev pub received : Option Mail → Reply
-received None = ReceivedEmpty
-received (Some mail) = Received mail
+abbrev pub receive_reply : Option Mail → Reply
+receive_reply None = ReceivedEmpty
+receive_reply (Some mail) = Received mail
 
 -- a receive, of a process that has exited or not
 abbrev pub receive_piece : State → ℕ → Bool → Piece
 receive_piece s p true = record { entries = mark_entry (Caller 0) p false true ∷ []; reply = ReceivedExited }
 receive_piece s p false = record {
   entries = mark_entry (Caller 0) p false false ∷ take_entry 0 p (first_of (s.mails p).queue) ∷ [];
-  reply = received (first_of (s.mails p).queue);
+  reply = receive_reply (first_of (s.mails p).queue);
 }
 
 -- it is seen whether a process is alive

@@ -21,13 +21,13 @@ use Rattle.ert_transcript.specs.declared.reply.Reply.{Reply}
 use Rattle.ert_transcript.specs.declared.reply.Reply.TheVariants.{StartOk, StartBadArg, StartFull, SendAfterOk, SendAfterBadArg, SendAfterFull, Read}
 
 -- how many take a slot: those that are armed, and those that have expired and aren't handed over
-abbrev pub taken_of : (TimerRef → Option Status) → List Row → ℕ
-taken_of status rows = count_of is_taken status rows
+abbrev pub taken_slots : (TimerRef → Option Status) → List Row → ℕ
+taken_slots status rows = count_of is_taken status rows
 
 -- the reply to a start of each kind, whose timer was started
-abbrev pub started : Kind → TimerRef → Reply
-started Wrapped timer = StartOk timer
-started Bare timer = SendAfterOk timer
+abbrev pub start_reply : Kind → TimerRef → Reply
+start_reply Wrapped timer = StartOk timer
+start_reply Bare timer = SendAfterOk timer
 
 -- the reply to a start of each kind that is refused for its time
 abbrev pub bad_arg : Kind → Reply
@@ -53,16 +53,16 @@ arm_entries timer start was = arm_entry 0 timer start
 -- take a slot as there are slots
 abbrev pub start_piece : Settings → State → ℕ → ℕ → Start → Option ℕ → Piece
 start_piece g s label w start None = record { entries = looks s ∷ []; reply = bad_arg start.kind }
-start_piece g s label w start (Some deadline) = cond (nat_le g.slots (taken_of s.status (s.rows w)))
+start_piece g s label w start (Some deadline) = cond (nat_le g.slots (taken_slots s.status (s.rows w)))
     (record { entries = looks s ∷ []; reply = full start.kind })
     (record {
       entries = looks s ∷ arm_entries (timer_at w label 1) start (s.exited start.dest);
-      reply = started start.kind (timer_at w label 1);
+      reply = start_reply start.kind (timer_at w label 1);
     })
 
 -- a start by the time as it is
-abbrev pub starting : Settings → State → ℕ → ℕ → Start → Piece
-starting g s label w start = start_piece g s label w start (deadline_of g start s.clock.now)
+abbrev pub start_now : Settings → State → ℕ → ℕ → Start → Piece
+start_now g s label w start = start_piece g s label w start (deadline_of g start s.clock.now)
 
 -- whether a reference is that of a timer: every other one has generation 0
 abbrev pub is_bound : TimerRef → Bool
@@ -78,15 +78,15 @@ left_if true left = left
 left_if false left = None
 
 -- a cancel by the time as it is, and the reply that tells what was left
-abbrev pub cancelling : Settings → State → TimerRef → (Option ℕ → Reply) → Piece
-cancelling g s r reply = record {
+abbrev pub cancel_now : Settings → State → TimerRef → (Option ℕ → Reply) → Piece
+cancel_now g s r reply = record {
   entries = looks s ∷ cancel_entries (is_bound r) (Caller 0) r (left_now g s r) (left_now g s r);
   reply = reply (left_if (is_bound r) (left_now g s r));
 }
 
 -- a read by the time as it is
-abbrev pub reading : Settings → State → TimerRef → Piece
-reading g s r = record {
+abbrev pub read_now : Settings → State → TimerRef → Piece
+read_now g s r = record {
   entries = looks s ∷ read_entries (is_bound r) (Caller 0) r (left_now g s r);
   reply = Read (left_if (is_bound r) (left_now g s r));
 }

@@ -63,8 +63,8 @@ serve_piece g s w (Some q) = record { entries = answer_entries g s w q; count = 
 serve_piece g s w None = pick_piece g s w (first_of (s.inboxes w))
 
 -- a scheduler serves one request, if it has any
-abbrev pub serving : Settings → State → ℕ → Served
-serving g s w = serve_piece g s w (s.scheds w).hand
+abbrev pub serve_one : Settings → State → ℕ → Served
+serve_one g s w = serve_piece g s w (s.scheds w).hand
 
 -- whether a request was served
 abbrev pub has_served : Served → Bool
@@ -77,9 +77,9 @@ and_then a b = record { entries = a.entries ++ b.entries; count = a.count + b.co
 -- requests are served until none waits, and so many at most
 abbrev pub serve_many : Settings → State → ℕ → ℕ → Served
 serve_many g s w zero = record { entries = []; count = 0 }
-serve_many g s w (suc n) = elim (has_served (serving g s w)) [
-  | true ↦ and_then (serving g s w) (serve_many g (run g s (serving g s w).entries) w n)
-  | false ↦ serving g s w
+serve_many g s w (suc n) = elim (has_served (serve_one g s w)) [
+  | true ↦ and_then (serve_one g s w) (serve_many g (run g s (serve_one g s w).entries) w n)
+  | false ↦ serve_one g s w
 ]
 
 -- whether a row is of an armed timer that is due at so many milliseconds
@@ -111,8 +111,8 @@ abbrev pub expiries : ℕ → List Row → List Entry
 expiries w rows = map (λ (r : Row). expire_entry w r.timer) rows
 
 -- a scheduler advances its wheel to the time as it is
-abbrev pub advancing : Settings → State → ℕ → Advancing
-advancing g s w =
+abbrev pub advance_now : Settings → State → ℕ → Advancing
+advance_now g s w =
     let to = natural (down g s.clock.now) in
     let due = due_rows s.status to (s.rows w) in
     record {
@@ -142,11 +142,11 @@ handing s w = hand_entries s.exited w (s.scheds w).fired
 
 -- one request is served, if there is any; the reply tells whether
 abbrev pub serve_op : Settings → State → ℕ → Piece
-serve_op g s w = record { entries = (serving g s w).entries; reply = Serve (has_served (serving g s w)) }
+serve_op g s w = record { entries = (serve_one g s w).entries; reply = Serve (has_served (serve_one g s w)) }
 
 -- a wheel is advanced; the reply tells to which millisecond, and how many timers expired
 abbrev pub advance_op : Settings → State → ℕ → Piece
-advance_op g s w = let a = advancing g s w in record { entries = a.entries; reply = Advance a.to a.fired }
+advance_op g s w = let a = advance_now g s w in record { entries = a.entries; reply = Advance a.to a.fired }
 
 -- all expired timers are handed over; the reply tells how many messages were put and how many dropped
 abbrev pub deliver_op : State → ℕ → Piece
@@ -160,7 +160,7 @@ abbrev pub turn_op : Settings → State → ℕ → Piece
 turn_op g s w =
     let served = serve_many g s w 64 in
     let then = run g s served.entries in
-    let advanced = advancing g then w in
+    let advanced = advance_now g then w in
     let last = run g then advanced.entries in
     record {
       entries = served.entries ++ (advanced.entries ++ handing last w);

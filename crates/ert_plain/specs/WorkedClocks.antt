@@ -37,8 +37,8 @@ fallen = record {
 }
 
 -- in single time warp mode the offset is finalized once
-abbrev pub finalized : Scenario
-finalized = record {
+abbrev pub finalized_once : Scenario
+finalized_once = record {
   settings = record corrected { mode = Single };
   ops = Tick (pos 5000000000) (pos 1005000000000)
       ∷ System

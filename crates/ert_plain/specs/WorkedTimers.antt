@@ -26,8 +26,8 @@ rounding = record {
 }
 
 -- a cancelled timer can't be cancelled again, nor an expired one, nor what no label names
-abbrev pub cancelling : Scenario
-cancelling = record {
+abbrev pub cancelled_again : Scenario
+cancelled_again = record {
   settings = plain;
   ops = Start 1 0 (After (pos 5)) 0 7
       ∷ Cancel 1
@@ -60,8 +60,8 @@ deadlines = record {
 }
 
 -- absolute times before 0, by a start time before 0
-abbrev pub below_zero : Scenario
-below_zero = record {
+abbrev pub times_below_zero : Scenario
+times_below_zero = record {
   settings = record plain { start = negsuc 999999999 };
   ops = Time ∷ Start 1 0 (At (negsuc 1000)) 0 0 ∷ Start 2 0 (At (negsuc 999)) 0 0 ∷ Advance 0 ∷ [];
 }

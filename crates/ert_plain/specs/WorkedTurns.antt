@@ -40,15 +40,15 @@ too_late = record {
 }
 
 -- an op so many times
-abbrev pub times : ℕ → Op → List Op
-times zero op = []
-times (suc n) op = op ∷ times n op
+abbrev pub op_repeated : ℕ → Op → List Op
+op_repeated zero op = []
+op_repeated (suc n) op = op ∷ op_repeated n op
 
 -- a turn serves 64 requests of 65
 abbrev pub many_requests : Scenario
 many_requests = record {
   settings = corrected;
-  ops = times 65 (ReadAsync 1 0 false) ++ Turn 0 ∷ Serve 0 ∷ Serve 0 ∷ [];
+  ops = op_repeated 65 (ReadAsync 1 0 false) ++ Turn 0 ∷ Serve 0 ∷ Serve 0 ∷ [];
 }
 
 -- a bare timer, a request with no answer, and a cancel that tells nothing
@@ -86,7 +86,7 @@ monitors = record {
 
 -- 64 monitors stand at most
 abbrev pub many_monitors : Scenario
-many_monitors = record { settings = corrected; ops = times 65 (Monitor 0) }
+many_monitors = record { settings = corrected; ops = op_repeated 65 (Monitor 0) }
 
 -- a day of a service with two schedulers and three processes, in multi time warp mode
 abbrev pub one_day : Scenario
@@ -136,5 +136,5 @@ abbrev pub orphaned_once : Scenario
 orphaned_once = record { settings = record plain { processes = 2 }; ops = Exit 1 ∷ Start 1 0 (After (pos 5)) 1 0 ∷ Read 1 ∷ [] }
 
 -- a turn of a service without timers
-abbrev pub idle : Scenario
-idle = record { settings = record plain { mode = Multi; schedulers = 4; processes = 8; slots = 4096 }; ops = Turn 2 ∷ [] }
+abbrev pub idle_turn : Scenario
+idle_turn = record { settings = record plain { mode = Multi; schedulers = 4; processes = 8; slots = 4096 }; ops = Turn 2 ∷ [] }

@@ -1,7 +1,7 @@
 //! Laws of transcripts, each the contract of a function that does nothing, so that it is proved wherever
 //! this crate is.
 
-ghost use Rattle.ert_plain.specs.Laws.{LawOfOneText, LawOfOneTranscript, LawOfCounts, LawOfFronts};
+ghost use Rattle.ert_plain.specs.Laws.{LawOfOneText, LawOfOneTranscript, LawOfPlainCounts, LawOfFronts};
 
 /// What a script run of a list of ops prints is what the plain service prints, whatever slots its starts
 /// took and whatever was looked at in between. So settings and ops have one transcript, and each script run
@@ -9,7 +9,7 @@ ghost use Rattle.ert_plain.specs.Laws.{LawOfOneText, LawOfOneTranscript, LawOfCo
 pub fn one_transcript()
     ensures text { LawOfOneText }
     ensures one { LawOfOneTranscript }
-    ensures counts { LawOfCounts }
+    ensures counts { LawOfPlainCounts }
 {}
 
 /// What a script run of some first ops prints is the first part of what all ops print.

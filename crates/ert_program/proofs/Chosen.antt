@@ -5,19 +5,19 @@ use Rattle.std.proofs.lemmas.Bool.Decides.{nat_tests}
 use Rattle.ert_ops.specs.declared.op.Op.{Op}
 use Rattle.ert_ops.specs.declared.op.Op.TheVariants.{Tick}
 use Rattle.ert_program.specs.Draws.{after, draw}
-use Rattle.ert_program.specs.Steps.{op_for, step_of, fall_of, ticked, started, received, next_op, next_ops}
+use Rattle.ert_program.specs.Steps.{op_for, step_of, fall_of, made_tick, made_start, made_receive, next_op, next_ops}
 use Rattle.ert_program.specs.declared.generator.Generator.{Generator}
 
-pub for_tick : (d : ℕ) (m : Generator) → d < 2 → op_for d m ≡ ticked m
+pub for_tick : (d : ℕ) (m : Generator) → d < 2 → op_for d m ≡ made_tick m
 for_tick d m h = let below : nat_lt d 2 ≡ true = grind (arith, nat_tests) in rw below
 
-pub for_start : (d : ℕ) (m : Generator) → 2 ≤ d → d < 4 → op_for d m ≡ started m
+pub for_start : (d : ℕ) (m : Generator) → 2 ≤ d → d < 4 → op_for d m ≡ made_start m
 for_start d m low h =
     let above : nat_lt d 2 ≡ false = grind (arith, nat_tests) in
     let below : nat_lt d 4 ≡ true = grind (arith, nat_tests) in
     rw (above, below)
 
-pub for_receive : (d : ℕ) (m : Generator) → 7 ≤ d → op_for d m ≡ received m
+pub for_receive : (d : ℕ) (m : Generator) → 7 ≤ d → op_for d m ≡ made_receive m
 for_receive d m low =
     let two : nat_lt d 2 ≡ false = grind (arith, nat_tests) in
     let four : nat_lt d 4 ≡ false = grind (arith, nat_tests) in
@@ -44,12 +44,12 @@ same_numbers g x next mono sys x_is mono_is sys_is next_is =
 pub ticked_later : (m stepped fallen later : Generator) (step fall : ℤ) → step ≡ step_of m.x → stepped ≡ record m { x = after m.x }
     → fall ≡ fall_of stepped.x → fallen ≡ record stepped { x = after stepped.x }
     → later.mono ≡ fallen.mono +ℤ step → later.sys ≡ (fallen.sys +ℤ step) -ℤ fall → later.x ≡ fallen.x → later.next ≡ fallen.next
-    → later ≡ (ticked m).later
+    → later ≡ (made_tick m).later
 ticked_later m stepped fallen later step fall step_is stepped_is fall_is fallen_is mono sys x next =
     same_numbers later fallen.x fallen.next (fallen.mono +ℤ step) ((fallen.sys +ℤ step) -ℤ fall) x mono sys next
     ∙ rw (fallen_is, fall_is, step_is, stepped_is)
 
-pub ticked_op : (m later : Generator) → later ≡ (ticked m).later → Tick later.mono later.sys ≡ (ticked m).op
+pub ticked_op : (m later : Generator) → later ≡ (made_tick m).later → Tick later.mono later.sys ≡ (made_tick m).op
 ticked_op m later e = ap (λ (g : Generator). Tick g.mono g.sys) e
 
 -- one more op, and those that are left

@@ -10,7 +10,7 @@ use Rattle.ert_scenario.specs.declared.scenario.ScenarioErr.{ScenarioErr}
 use Rattle.ert_script.specs.declared.output.RunErr.{RunErr}
 use Rattle.ert_script.specs.declared.output.RunErr.TheVariants.{WriteFault as OutputFailed, NoMemory as OutOfMemory}
 use Rattle.ert_program.specs.Endings.{end_of, without_desk}
-use Rattle.ert_program.specs.Inputs.{Doing, TakesAll, HasRead, RanOn, WritesPart, InputEnds}
+use Rattle.ert_program.specs.Inputs.{Doing, ReadsAll, HasRead, RanOn, WritesPart, InputEnds}
 use Rattle.ert_program.specs.Streams.{Input, Output}
 use Rattle.ert_program.specs.Unread.{EndsUnread}
 use Rattle.ert_program.specs.declared.ending.EndStatus.TheVariants.{NoMemory}
@@ -21,7 +21,7 @@ abbrev pub NeverBoth : Type 0
 NeverBoth = (race : Bool) (bytes : List ℕ) (plan : Plan) (e : ScenarioErr) → IsScenario race bytes plan → HasRefusal race bytes e → ⊥
 
 -- the bytes that were read are all that there were
-pub all_taken : (text bytes : List ℕ) (rest : Option (List ℕ)) → TakesAll (Some text) rest bytes → bytes ≡ text
+pub all_taken : (text bytes : List ℕ) (rest : Option (List ℕ)) → ReadsAll (Some text) rest bytes → bytes ≡ text
 all_taken text bytes None takes = let same : Some text ≡ None = takes.taken in cc
 all_taken text bytes (Some later) takes =
     let both : Some text ≡ Some (bytes ++ later) = takes.taken in

@@ -6,7 +6,7 @@ use Rattle.ert_defs.specs.declared.settings.Reading.{Reading}
 use Rattle.ert_io.specs.Faults.{Rose}
 use Rattle.ert_io.specs.Told.{took}
 use Rattle.ert_program.specs.Lives.{AreValid, LiveRefused, Watched, LiveEnds}
-use Rattle.ert_program.specs.Streams.{Clock, Output}
+use Rattle.ert_program.specs.Streams.{ClockStream, Output}
 use Rattle.ert_program.specs.declared.ending.Ended.{Ended}
 use Rattle.ert_program.specs.declared.ending.EndStatus.TheVariants.{Done, NoMemory}
 
@@ -30,7 +30,7 @@ none_refused n left (Some rest) text readings later refused told many all =
     let fewer = refused.count in
     refused.not_valid (among refused.readings readings later rest refused.bad same (omega arith) all)
 
-completes : (n : ℕ) (c d : Clock) (e : Ended) (text : List ℕ) → Watched n c d e text → (Rose c.faults d.faults → ⊥) → (readings later : List Reading)
+completes : (n : ℕ) (c d : ClockStream) (e : Ended) (text : List ℕ) → Watched n c d e text → (Rose c.faults d.faults → ⊥) → (readings later : List Reading)
     → c.left ≡ Some (readings ++ later) → length readings ≡ n → AreValid readings → (e.status ≡ Done) ⊎ (e.status ≡ NoMemory)
 completes n c d e text made sound readings later told many all =
     elim made.only [
@@ -42,7 +42,7 @@ completes n c d e text made sound readings later told many all =
     ]
 
 -- the text was written
-pub written : (n : ℕ) (c d : Clock) (o p : Output) (e : Ended) (text : List ℕ) → Watched n c d e text → p.told ≡ took o.told text → LiveEnds n c d o p e
+pub written : (n : ℕ) (c d : ClockStream) (o p : Output) (e : Ended) (text : List ℕ) → Watched n c d e text → p.told ≡ took o.told text → LiveEnds n c d o p e
 written n c d o p e text made writes = record {
   done = λ how. (text, writes, made.done how);
   no_desk = made.no_desk;

@@ -28,8 +28,8 @@ use Rattle.ert_transcript.specs.declared.reply.Reply.TheVariants as replies
 use Rattle.ert_program.proofs.Transcripts.{stands_for}
 use Rattle.ert_race.proofs.Written.{script_of}
 use Rattle.ert_program.specs.Endings.{without_desk}
-use Rattle.ert_program.specs.Lives.{AreValid, live_settings, live_ops, live_part, live_lines, refused_reading, IsLive, readings_before, TakesReadings, LiveDone, LiveRefused, LiveStopped, Watched, Lived, Tells}
-use Rattle.ert_program.specs.Streams.{Clock}
+use Rattle.ert_program.specs.Lives.{AreValid, live_settings, live_ops, live_part, live_lines, refused_reading, IsLiveText, readings_before, TakesReadings, LiveDone, LiveRefused, LiveStopped, Watched, Lived, TellsTimes}
+use Rattle.ert_program.specs.Streams.{ClockStream}
 use Rattle.ert_program.specs.declared.ending.EndStatus.TheVariants.{Done, Refused, ClockFault}
 
 -- lines and ops, with one more behind
@@ -62,7 +62,7 @@ three_more rs x t s none =
     ∙ append_assoc (live_lines rs) (live_part t) (live_part s)
 
 -- the first reading
-pub lived_first : (first : Reading) (start w : Seen) (text : List ℕ) → IsOpened (live_settings first) start → Tells start w [] text → Lived first [] w text
+pub lived_first : (first : Reading) (start w : Seen) (text : List ℕ) → IsOpened (live_settings first) start → TellsTimes start w [] text → Lived first [] w text
 lived_first first start w text opened tells = record {
   start = start;
   opened = opened;
@@ -75,7 +75,7 @@ lived_first first start w text opened tells = record {
 
 -- one more
 pub lived_more : (first : Reading) (others : List Reading) (r : Reading) (w v u : Seen) (reply : Reply) (text text_new : List ℕ)
-    → Lived first others w text → Does w (ops.Tick r.mono r.sys) reply v → Tells v u text text_new → Lived first (others ++ r ∷ []) u text_new
+    → Lived first others w text → Does w (ops.Tick r.mono r.sys) reply v → TellsTimes v u text text_new → Lived first (others ++ r ∷ []) u text_new
 lived_more first others r w v u reply text text_new lived ticked tells =
     let list : List Op = ops.Time ∷ ops.System ∷ live_ops others in
     let rs : List Reply = lived.replies in
@@ -99,7 +99,7 @@ lived_more first others r w v u reply text text_new lived ticked tells =
     }
 
 -- its history is a script run of their ops
-abbrev pub is_live : (first : Reading) (others : List Reading) (w : Seen) (text : List ℕ) → Lived first others w text → IsLive first others text
+abbrev pub is_live : (first : Reading) (others : List Reading) (w : Seen) (text : List ℕ) → Lived first others w text → IsLiveText first others text
 is_live first others w text lived = record {
   entries = lived.runs.grows.piece;
   replies = lived.replies;
@@ -152,7 +152,7 @@ watched_more count left mid now w u text text_new r far valid given lived =
 
 -- what was made, at each end
 
-stopped_with : (n : ℕ) (c d : Clock) (text : List ℕ) → Rose c.faults d.faults → LiveStopped n c.left d.left text → Watched n c d (without_desk ClockFault) text
+stopped_with : (n : ℕ) (c d : ClockStream) (text : List ℕ) → Rose c.faults d.faults → LiveStopped n c.left d.left text → Watched n c d (without_desk ClockFault) text
 stopped_with n c d text rose stopped = record {
   done = λ e. cc;
   refused = λ e. cc;
@@ -161,7 +161,7 @@ stopped_with n c d text rose stopped = record {
   no_desk = λ e. refl;
 }
 
-refused_with : (n : ℕ) (c d : Clock) (text : List ℕ) → LiveRefused n c.left d.left text → Watched n c d (without_desk Refused) text
+refused_with : (n : ℕ) (c d : ClockStream) (text : List ℕ) → LiveRefused n c.left d.left text → Watched n c d (without_desk Refused) text
 refused_with n c d text refused = record {
   done = λ e. cc;
   refused = λ e. refused;
@@ -170,7 +170,7 @@ refused_with n c d text refused = record {
   no_desk = λ e. refl;
 }
 
-pub stopped_later : (n : ℕ) (c d : Clock) (count : ℕ) (now : Option (List Reading)) (w : Seen) (text : List ℕ) → count < n
+pub stopped_later : (n : ℕ) (c d : ClockStream) (count : ℕ) (now : Option (List Reading)) (w : Seen) (text : List ℕ) → count < n
     → IsWatched count c.left now w text → d.left ≡ now → Rose c.faults d.faults → Watched n c d (without_desk ClockFault) text
 stopped_later n c d count now w text below far kept rose =
     let before = far.counted in
@@ -183,13 +183,13 @@ stopped_later n c d count now w text below far kept rose =
       are = is_live far.first far.others w text far.lived;
     })
 
-pub refused_first : (n : ℕ) (c d : Clock) (text : List ℕ) (bad : Reading) → 0 < n → c.left ≡ reading_before bad d.left → (IsValid bad → ⊥)
+pub refused_first : (n : ℕ) (c d : ClockStream) (text : List ℕ) (bad : Reading) → 0 < n → c.left ≡ reading_before bad d.left → (IsValid bad → ⊥)
     → text ≡ refused_reading 1 → Watched n c d (without_desk Refused) text
 refused_first n c d text bad some given not whole =
     refused_with n c d text
     (record { readings = []; bad = bad; lines = []; count = some; given = given; valid = tt; not_valid = not; are = refl; whole = whole })
 
-pub refused_later : (n : ℕ) (c d : Clock) (count : ℕ) (now : Option (List Reading)) (w : Seen) (lines text : List ℕ) (bad : Reading)
+pub refused_later : (n : ℕ) (c d : ClockStream) (count : ℕ) (now : Option (List Reading)) (w : Seen) (lines text : List ℕ) (bad : Reading)
     → count < n → IsWatched count c.left now w lines → now ≡ reading_before bad d.left → (IsValid bad → ⊥)
     → text ≡ lines ++ refused_reading (count + 1) → Watched n c d (without_desk Refused) text
 refused_later n c d count now w lines text bad below far given not whole =
@@ -208,7 +208,7 @@ refused_later n c d count now w lines text bad below far given not whole =
       whole = whole ∙ ap (λ (k : ℕ). lines ++ refused_reading (k + 1)) (sym before);
     })
 
-pub watched_all : (n : ℕ) (c d : Clock) (count : ℕ) (w : Seen) (lines text : List ℕ) (r : Returned) → count ≡ n
+pub watched_all : (n : ℕ) (c d : ClockStream) (count : ℕ) (w : Seen) (lines text : List ℕ) (r : Returned) → count ≡ n
     → IsWatched count c.left d.left w lines → text ≡ lines ++ end_line w.clock.face.time
     → settings_of (arc_value r.0) ≡ w.settings → KnowsAll (arc_value r.0) r.1 w.history → KeepsLaws w.settings w.history
     → Watched n c d (record { status = Done; desk = Some r; refusal = None }) text

@@ -8,7 +8,7 @@ use Rattle.ert_defs.specs.States.{state}
 use Rattle.ert_defs.specs.declared.entry.Entry.{Entry}
 use Rattle.ert_defs.specs.declared.settings.Settings.{Settings}
 use Rattle.ert_io.specs.Faults.{Rose}
-use Rattle.ert_io.specs.Told.{Told, took, TakesFront}
+use Rattle.ert_io.specs.Told.{SinkTold, took, TakesFront}
 use Rattle.ert_laws.specs.Counts.{counts_of}
 use Rattle.ert_laws.specs.KeptLaws.{KeepsLaws}
 use Rattle.ert_race.proofs.Written.{has_history}
@@ -50,7 +50,7 @@ summary_is plan w ran = record {
 }
 
 -- the summary was written, and the desk was given out
-pub counts_on : (plan : Plan) (w : Seen) (old new : Told) (r : Returned) → HasRun plan w
+pub counts_on : (plan : Plan) (w : Seen) (old new : SinkTold) (r : Returned) → HasRun plan w
     → new ≡ took old (summary_of (counts_of w.settings (state w.settings w.history)) w.clock.face.time)
     → settings_of (arc_value r.0) ≡ w.settings → KnowsAll (arc_value r.0) r.1 w.history → KeepsLaws w.settings w.history → RanOn SummaryOf plan old new r
 counts_on plan w old new r ran written named all laws = record {
@@ -62,7 +62,7 @@ counts_on plan w old new r ran written named all laws = record {
 }
 
 -- the first part of the summary was written
-pub summary_stops : (plan : Plan) (w : Seen) (old new : Told) → HasRun plan w
+pub summary_stops : (plan : Plan) (w : Seen) (old new : SinkTold) → HasRun plan w
     → TakesFront old new (summary_of (counts_of w.settings (state w.settings w.history)) w.clock.face.time) → StopsSummary plan old new
 summary_stops plan w old new ran part = record {
   history = ran.history;

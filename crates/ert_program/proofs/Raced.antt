@@ -2,7 +2,7 @@
 
 use Rattle.std.proofs.Common.{◌≡◌, Some, inl, inr}
 use Rattle.std.specs.Prelude.{Result, Ok, Err, IfOk, OnErr}
-use Rattle.ert_io.specs.Told.{Told}
+use Rattle.ert_io.specs.Told.{SinkTold}
 use Rattle.ert_ops.specs.Races.{Race}
 use Rattle.ert_race.specs.Written.{Returned, RacesOn, StopsRace}
 use Rattle.ert_scenario.specs.Scenarios.{Plan}
@@ -11,7 +11,7 @@ use Rattle.ert_program.specs.Inputs.{RanOn, WritesPart}
 use Rattle.ert_program.specs.Races.{RaceOf}
 
 -- it was run
-pub raced : (plan : Plan) (race : Race) (old new : Told) (ran : Result Returned RunErr) → plan.race ≡ Some race
+pub raced : (plan : Plan) (race : Race) (old new : SinkTold) (ran : Result Returned RunErr) → plan.race ≡ Some race
     → IfOk ran (RacesOn plan.settings plan.ops race old new) → IfOk ran (RanOn RaceOf plan old new)
 raced plan race old new (Ok r) has on = record {
   history = on.history;
@@ -23,7 +23,7 @@ raced plan race old new (Ok r) has on = record {
 raced plan race old new (Err e) has on = tt
 
 -- the first part of what it may write was written
-pub race_stops : (plan : Plan) (race : Race) (old new : Told) (ran : Result Returned RunErr) → plan.race ≡ Some race
+pub race_stops : (plan : Plan) (race : Race) (old new : SinkTold) (ran : Result Returned RunErr) → plan.race ≡ Some race
     → OnErr ran (StopsRace plan.settings plan.ops race old new) → OnErr ran (WritesPart RaceOf plan old new)
 race_stops plan race old new (Ok r) has on = tt
 race_stops plan race old new (Err e) has on = record {

@@ -6,7 +6,7 @@ use Rattle.std.specs.List.{list_all}
 use Rattle.std.specs.Str.{bytes_eq}
 use Rattle.std.specs.Str.Parse.{digits_value}
 use Rattle.std.proofs.lemmas.Grind.{common_steps}
-use Rattle.ert_command.specs.Commands.{is_plain_word, is_number, is_number_in, alone, live_of, stress_of, form_of, command_of}
+use Rattle.ert_command.specs.Commands.{is_plain_word, is_number, is_number_in, without_words, live_of, stress_of, form_of, command_of}
 use Rattle.ert_command.specs.declared.command.Command.{Command}
 use Rattle.ert_command.specs.declared.command.Command.TheVariants.{Run, Race, Live, Stress}
 
@@ -52,19 +52,19 @@ of_stress (seed ∷ n ∷ []) =
     (λ e. high_of 1 100000 n (both (is_number_in 0 999999999 seed) (is_number_in 1 100000 n) e).1) tt
 of_stress (seed ∷ n ∷ word ∷ words) = tt
 
-of_run : (words : List (List ℕ)) → IfSome (alone Run words) IsInLimits
+of_run : (words : List (List ℕ)) → IfSome (without_words Run words) IsInLimits
 of_run [] = tt
 of_run (word ∷ words) = tt
 
-of_race : (words : List (List ℕ)) → IfSome (alone Race words) IsInLimits
+of_race : (words : List (List ℕ)) → IfSome (without_words Race words) IsInLimits
 of_race [] = tt
 of_race (word ∷ words) = tt
 
 of_form : (words : List (List ℕ)) → IfSome (form_of words) IsInLimits
 of_form [] = tt
 of_form (word ∷ words) =
-    chosen (bytes_eq (codes "run") word) (alone Run words) _ (λ e. of_run words)
-    (chosen (bytes_eq (codes "race") word) (alone Race words) _ (λ e. of_race words)
+    chosen (bytes_eq (codes "run") word) (without_words Run words) _ (λ e. of_run words)
+    (chosen (bytes_eq (codes "race") word) (without_words Race words) _ (λ e. of_race words)
     (chosen (bytes_eq (codes "live") word) (live_of words) _ (λ e. of_live words)
     (chosen (bytes_eq (codes "stress") word) (stress_of words) None (λ e. of_stress words) tt)))
 

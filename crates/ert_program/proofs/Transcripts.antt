@@ -3,8 +3,8 @@
 use Rattle.std.specs.Arc.{arc_value}
 use Rattle.std.proofs.Common.{inl, inr, ◌≡◌, ℕ, List, [], ◌++◌, length, take, Option, refl, sym, ap, subst, ◌∙◌}
 use Rattle.ert_io.proofs.Takes.{took-took, front_after, fits_after}
-use Rattle.ert_io.specs.Known.{HasRoom}
-use Rattle.ert_io.specs.Told.{Told, took, TakesFront}
+use Rattle.ert_io.specs.Known.{HasRoomFor}
+use Rattle.ert_io.specs.Told.{SinkTold, took, TakesFront}
 use Rattle.ert_defs.specs.Lines.{Face}
 use Rattle.ert_defs.specs.declared.entry.Entry.{Entry}
 use Rattle.ert_defs.specs.declared.settings.Settings.{Settings}
@@ -55,7 +55,7 @@ is_run plan start w rs after opened ran stands =
     }
 
 -- all ops were run, the end line was written, and the desk was given out
-pub ends : (plan : Plan) (start w : Seen) (after : Labels) (old now new : Told) (r : Returned) → IsOpened plan.settings start
+pub ends : (plan : Plan) (start w : Seen) (after : Labels) (old now new : SinkTold) (r : Returned) → IsOpened plan.settings start
     → WritesRun start [] plan.ops w after old now → new ≡ took now (end_line w.clock.face.time)
     → settings_of (arc_value r.0) ≡ w.settings → KnowsAll (arc_value r.0) r.1 w.history → KeepsLaws w.settings w.history → RanOn RunOf plan old new r
 ends plan start w after old now new r opened ran written named all laws =
@@ -64,13 +64,13 @@ ends plan start w after old now new r opened ran written named all laws =
       history = ran.runs.grows.piece;
       text = text_of plan.ops ran.replies w;
       is = is_run plan start w ran.replies after opened ran.runs ran.stands;
-      writes = written ∙ ap (λ (k : Told). took k (end_line w.clock.face.time)) ran.writes
+      writes = written ∙ ap (λ (k : SinkTold). took k (end_line w.clock.face.time)) ran.writes
           ∙ took-took old (lines_of [] plan.ops ran.replies) (end_line w.clock.face.time);
       desk = has_history plan.settings ran.runs.grows.piece w r there.settings there.history named all laws;
     }
 
 -- all ops were run, and the output stopped at the end line
-pub breaks_last : (plan : Plan) (start w : Seen) (after : Labels) (old now new : Told) → IsOpened plan.settings start
+pub breaks_last : (plan : Plan) (start w : Seen) (after : Labels) (old now new : SinkTold) → IsOpened plan.settings start
     → WritesRun start [] plan.ops w after old now → TakesFront now new (end_line w.clock.face.time) → WritesPart RunOf plan old new
 breaks_last plan start w after old now new opened ran part = record {
   text = text_of plan.ops ran.replies w;
@@ -79,7 +79,7 @@ breaks_last plan start w after old now new opened ran part = record {
 }
 
 -- the run stopped after some first ops
-pub breaks : (plan : Plan) (start w : Seen) (after : Labels) (why : RunErr) (old new : Told) → IsOpened plan.settings start
+pub breaks : (plan : Plan) (start w : Seen) (after : Labels) (why : RunErr) (old new : SinkTold) → IsOpened plan.settings start
     → WritesSome start [] plan.ops w after why old new → WritesPart RunOf plan old new
 breaks plan start w after why old new opened some = record {
   text = lines_of [] (take some.done plan.ops) some.replies;
@@ -93,10 +93,10 @@ lines_fit plan start room opened fits = λ done rs v after ran stands.
     fits (lines_of [] (take done plan.ops) rs) (inl (beginning_of plan.settings plan.ops start v done rs after opened ran stands))
 
 -- and the end line after all
-pub end_fits : (plan : Plan) (start w : Seen) (after : Labels) (old now : Told) → IsOpened plan.settings start
-    → WritesRun start [] plan.ops w after old now → PlanFits plan old.room → HasRoom now.room (length (end_line w.clock.face.time))
+pub end_fits : (plan : Plan) (start w : Seen) (after : Labels) (old now : SinkTold) → IsOpened plan.settings start
+    → WritesRun start [] plan.ops w after old now → PlanFits plan old.room → HasRoomFor now.room (length (end_line w.clock.face.time))
 end_fits plan start w after old now opened ran fits =
     let last : List ℕ = end_line w.clock.face.time in
-    subst (λ (k : Told). HasRoom k.room (length last)) (sym ran.writes)
+    subst (λ (k : SinkTold). HasRoomFor k.room (length last)) (sym ran.writes)
     (fits_after old.room (lines_of [] plan.ops ran.replies) last
     (fits (text_of plan.ops ran.replies w) (inr (ran.runs.grows.piece, is_run plan start w ran.replies after opened ran.runs ran.stands))))

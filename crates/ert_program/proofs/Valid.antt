@@ -4,18 +4,18 @@ use Rattle.std.proofs.Common.{◌≡◌, ◌≢◌, ℕ, zero, suc, ◌+◌, ◌
 use Rattle.std.proofs.lemmas.Int.{ints}
 use Rattle.ert_defs.specs.Readings.{IsValid}
 use Rattle.ert_ops.specs.Labels.{labels_in, AreOps}
-use Rattle.ert_ops.specs.Ranges.{IsOpInRange, IsInRange}
+use Rattle.ert_ops.specs.Ranges.{IsOpInRange, AreOpsInRange}
 use Rattle.ert_ops.specs.declared.op.Op.{Op}
 use Rattle.ert_program.specs.Draws.{after, draw}
 use Rattle.ert_program.specs.Generated.{generated_settings}
-use Rattle.ert_program.specs.Steps.{Made, HasRoom, first, ticked, next_op, next_ops}
+use Rattle.ert_program.specs.Steps.{Made, IsBounded, first, made_tick, next_op, next_ops}
 use Rattle.ert_program.specs.declared.generator.Generator.{Generator}
 use Rattle.ert_program.proofs.Draws.{draw_low}
 use Rattle.ert_program.proofs.Within.{IsWithin, room, drawn_within, ticked_within, first_within, next_within, by_choice}
 
 -- ---- the ranges
 
-valid : (m : Generator) → HasRoom m → IsValid (record { mono = m.mono; sys = m.sys })
+valid : (m : Generator) → IsBounded m → IsValid (record { mono = m.mono; sys = m.sys })
 valid m h = record { mono_low = h.mono_low; mono_high = omega (arith, ints); sys_low = omega (arith, ints); sys_high = omega (arith, ints) }
 
 label_low : (m : Generator) (k x : ℕ) → k ≤ 100000 → IsWithin k m → draw (m.next + 1) x ≤ 999999
@@ -27,19 +27,19 @@ next_in_range k m few h =
     let g : Generator = record m { x = after m.x } in
     let w : IsWithin k g = drawn_within k (after m.x) m h in
     by_choice (λ made. IsOpInRange generated_settings made.op) (draw 8 m.x) g
-    (valid (ticked g).later (room (k + 1) (ticked g).later (omega arith) (ticked_within k g w)))
+    (valid (made_tick g).later (room (k + 1) (made_tick g).later (omega arith) (ticked_within k g w)))
     (omega arith, draw_low 4 g.x (omega arith), draw_low 8 (after (after g.x)) (omega arith))
     (label_low g k g.x (omega arith) w)
     (label_low g k g.x (omega arith) w)
     (draw_low 4 g.x (omega arith))
     (draw_low 8 g.x (omega arith))
 
-in_range_from : (n k : ℕ) (m : Generator) → k + n ≤ 100000 → IsWithin k m → IsInRange generated_settings (next_ops n m)
+in_range_from : (n k : ℕ) (m : Generator) → k + n ≤ 100000 → IsWithin k m → AreOpsInRange generated_settings (next_ops n m)
 in_range_from zero k m few h = tt
 in_range_from (suc n) k m few h =
     (next_in_range k m (omega arith) h, in_range_from n (k + 1) (next_op m).later (omega arith) (next_within k m h))
 
-pub ops_in_range : (seed n : ℕ) → n ≤ 100000 → IsInRange generated_settings (next_ops n (first seed))
+pub ops_in_range : (seed n : ℕ) → n ≤ 100000 → AreOpsInRange generated_settings (next_ops n (first seed))
 ops_in_range seed n few = in_range_from n 0 (first seed) (omega arith) (first_within seed)
 
 -- ---- how many

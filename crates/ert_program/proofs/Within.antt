@@ -3,7 +3,7 @@
 use Rattle.std.proofs.Common.{ℕ, ℤ, pos, ◌+◌, ◌*◌, ◌<◌, ◌≤◌, ◌+ℤ◌, ◌-ℤ◌, ◌≤ℤ◌, Bool, true, false, cond, nat_eq, nat_lt, arith}
 use Rattle.std.proofs.lemmas.Int.{ints}
 use Rattle.ert_program.specs.Draws.{after, draw}
-use Rattle.ert_program.specs.Steps.{Made, HasRoom, first, step_of, fall_of, ticked, started, cancelled, read, turned, received, op_for, next_op}
+use Rattle.ert_program.specs.Steps.{Made, IsBounded, first, step_of, fall_of, made_tick, made_start, made_cancel, made_read, made_turn, made_receive, op_for, next_op}
 use Rattle.ert_program.specs.declared.generator.Generator.{Generator}
 use Rattle.ert_program.proofs.Draws.{draw_low}
 
@@ -24,7 +24,7 @@ first_within seed = record {
   labels = omega arith;
 }
 
-pub room : (k : ℕ) (m : Generator) → k ≤ 100000 → IsWithin k m → HasRoom m
+pub room : (k : ℕ) (m : Generator) → k ≤ 100000 → IsWithin k m → IsBounded m
 room k m few h = record {
   mono_low = h.mono_low;
   mono_high = omega (arith, ints);
@@ -81,7 +81,7 @@ either P true x y p q = p
 either P false x y p q = q
 
 -- what holds of each kind of op holds of the one that a draw chooses
-pub by_choice : (P : Made → Type 0) (d : ℕ) (m : Generator) → P (ticked m) → P (started m) → P (cancelled m) → P (read m) → P (turned m) → P (received m)
+pub by_choice : (P : Made → Type 0) (d : ℕ) (m : Generator) → P (made_tick m) → P (made_start m) → P (made_cancel m) → P (made_read m) → P (made_turn m) → P (made_receive m)
     → P (op_for d m)
 by_choice P d m tick start cancel reading turn receive =
     either P (nat_lt d 2) _ _ tick
@@ -90,7 +90,7 @@ by_choice P d m tick start cancel reading turn receive =
     (either P (nat_eq d 5) _ _ reading
     (either P (nat_eq d 6) _ _ turn receive))))
 
-pub ticked_within : (k : ℕ) (m : Generator) → IsWithin k m → IsWithin (k + 1) (ticked m).later
+pub ticked_within : (k : ℕ) (m : Generator) → IsWithin k m → IsWithin (k + 1) (made_tick m).later
 ticked_within k m h =
     reading_within k (after (after m.x)) (step_of m.x) (fall_of (after m.x)) m (step_low m.x) (step_high m.x) (fall_low (after m.x)) (fall_high (after m.x)) h
 

@@ -39,8 +39,8 @@ end_of (Err OutputFailed) = without_desk WriteFault
 end_of (Err OutOfMemory) = without_desk NoMemory
 
 -- the command that the words of a command line are
-abbrev pub asked : List (String Global) → Option Command
-asked words = command_of (map string_bytes words)
+abbrev pub command_asked : List (String Global) → Option Command
+command_asked words = command_of (map string_bytes words)
 
 -- whether a command reads the input
 abbrev pub reads_input : Option Command → Bool

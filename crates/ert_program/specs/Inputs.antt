@@ -4,7 +4,7 @@ use Rattle.std.specs.Prelude.{◌≡◌, ◌≢◌, ◌≤◌, ◌⊎◌, ℕ, B
 use Rattle.ert_defs.specs.declared.entry.Entry.{Entry}
 use Rattle.ert_io.specs.Faults.{Rose}
 use Rattle.ert_io.specs.Known.{before, IsAtEnd, TakesUpTo}
-use Rattle.ert_io.specs.Told.{Told, took, TakesFront}
+use Rattle.ert_io.specs.Told.{SinkTold, took, TakesFront}
 use Rattle.ert_race.specs.Written.{Returned, HasHistory}
 use Rattle.ert_scenario.specs.Scenarios.{Plan, IsScenario, HasRefusal}
 use Rattle.ert_scenario.specs.declared.scenario.ScenarioErr.{ScenarioErr}
@@ -20,7 +20,7 @@ abbrev pub Doing : Type 1
 Doing = Plan → List Entry → List ℕ → Type 0
 
 -- these bytes were read, they are all that there were, and no more than an input may have
-pub record TakesAll (old new : Option (List ℕ)) (bytes : List ℕ) : Type 0 where
+pub record ReadsAll (old new : Option (List ℕ)) (bytes : List ℕ) : Type 0 where
   pub taken : old ≡ before bytes new
   pub short : length bytes ≤ 16777216
   pub end : IsAtEnd new
@@ -34,11 +34,11 @@ pub record TakesMore (left left_new : Option (List ℕ)) : Type 0 where
 -- all bytes were read, and they are a scenario with this plan, with a race or without as is wanted
 pub record HasRead (race : Bool) (left left_new : Option (List ℕ)) (plan : Plan) : Type 0 where
   pub bytes : List ℕ
-  pub takes : TakesAll left left_new bytes
+  pub takes : ReadsAll left left_new bytes
   pub is : IsScenario race bytes plan
 
 -- all bytes were read, they are a scenario, and the text of what was done with it was written
-pub record DidAll (race : Bool) (does : Doing) (left left_new : Option (List ℕ)) (old new : Told) : Type 0 where
+pub record DidAll (race : Bool) (does : Doing) (left left_new : Option (List ℕ)) (old new : SinkTold) : Type 0 where
   pub plan : Plan
   pub read : HasRead race left left_new plan
   pub history : List Entry
@@ -47,7 +47,7 @@ pub record DidAll (race : Bool) (does : Doing) (left left_new : Option (List ℕ
   pub writes : new ≡ took old text
 
 -- a plan was done on a desk: its text was written, and the desk that is returned has the very history of that text
-pub record RanOn (does : Doing) (plan : Plan) (old new : Told) (r : Returned) : Type 0 where
+pub record RanOn (does : Doing) (plan : Plan) (old new : SinkTold) (r : Returned) : Type 0 where
   pub history : List Entry
   pub text : List ℕ
   pub is : does plan history text
@@ -55,55 +55,55 @@ pub record RanOn (does : Doing) (plan : Plan) (old new : Told) (r : Returned) : 
   pub desk : HasHistory plan.settings history r
 
 -- all bytes were read, they are a scenario, and it was done on a desk
-pub record DidOn (race : Bool) (does : Doing) (left left_new : Option (List ℕ)) (old new : Told) (r : Returned) : Type 0 where
+pub record DidOn (race : Bool) (does : Doing) (left left_new : Option (List ℕ)) (old new : SinkTold) (r : Returned) : Type 0 where
   pub plan : Plan
   pub read : HasRead race left left_new plan
   pub ran : RanOn does plan old new r
 
 -- all bytes were read, the refusal that is returned has them, they have that refusal, and its line was written
-pub record Refuses (race : Bool) (left left_new : Option (List ℕ)) (old new : Told) (refusal : Refusal) : Type 0 where
+pub record RefusesInput (race : Bool) (left left_new : Option (List ℕ)) (old new : SinkTold) (refusal : Refusal) : Type 0 where
   pub wanted : refusal.race ≡ race
-  pub takes : TakesAll left left_new refusal.bytes.items
+  pub takes : ReadsAll left left_new refusal.bytes.items
   pub is : HasRefusal race refusal.bytes.items refusal.why
   pub writes : new ≡ took old (refusal_line refusal.why)
 
 -- what may be written of a plan: the text of what is done, or the lines of some first ops where it came no further
-abbrev pub MayWrite : Doing → Plan → List ℕ → Type 0
-MayWrite does plan text = IsBeginning plan.settings plan.ops text ⊎ ((h : List Entry) × does plan h text)
+abbrev pub MayWriteOfPlan : Doing → Plan → List ℕ → Type 0
+MayWriteOfPlan does plan text = IsBeginning plan.settings plan.ops text ⊎ ((h : List Entry) × does plan h text)
 
 -- the first part of that was written
-pub record WritesPart (does : Doing) (plan : Plan) (old new : Told) : Type 0 where
+pub record WritesPart (does : Doing) (plan : Plan) (old new : SinkTold) : Type 0 where
   pub text : List ℕ
-  pub may : MayWrite does plan text
+  pub may : MayWriteOfPlan does plan text
   pub writes : TakesFront old new text
 
 -- a scenario was read, and the first part of what it asks for was written
-pub record PartDone (race : Bool) (does : Doing) (left left_new : Option (List ℕ)) (old new : Told) : Type 0 where
+pub record PartDone (race : Bool) (does : Doing) (left left_new : Option (List ℕ)) (old new : SinkTold) : Type 0 where
   pub plan : Plan
   pub read : HasRead race left left_new plan
   pub part : WritesPart does plan old new
 
 -- all bytes were read, they have a refusal, and the first part of its line was written
-pub record PartRefused (race : Bool) (left left_new : Option (List ℕ)) (old new : Told) : Type 0 where
+pub record PartRefused (race : Bool) (left left_new : Option (List ℕ)) (old new : SinkTold) : Type 0 where
   pub bytes : List ℕ
-  pub takes : TakesAll left left_new bytes
+  pub takes : ReadsAll left left_new bytes
   pub why : ScenarioErr
   pub is : HasRefusal race bytes why
   pub writes : TakesFront old new (refusal_line why)
 
 -- the first part of what the input asks for was written
-abbrev pub StopsAt : Bool → Doing → Option (List ℕ) → Option (List ℕ) → Told → Told → Type 0
-StopsAt race does left left_new old new = PartDone race does left left_new old new ⊎ PartRefused race left left_new old new
+abbrev pub StopsShort : Bool → Doing → Option (List ℕ) → Option (List ℕ) → SinkTold → SinkTold → Type 0
+StopsShort race does left left_new old new = PartDone race does left left_new old new ⊎ PartRefused race left left_new old new
 
 -- the command came to an end, between two moments of the input and of the output
 pub record InputEnds (race : Bool) (does : Doing) (i j : Input) (o p : Output) (e : Ended) : Type 0 where
   pub done : e.status ≡ Done → DidAll race does i.left j.left o.told p.told
-  pub refused : e.status ≡ Refused → IsSomeAnd e.refusal (Refuses race i.left j.left o.told p.told)
+  pub refused : e.status ≡ Refused → IsSomeAnd e.refusal (RefusesInput race i.left j.left o.told p.told)
   pub read_fault : e.status ≡ ReadFault → Rose i.faults j.faults × TakesUpTo 16777216 i.left j.left × (p ≡ o)
   pub too_long : e.status ≡ TooLong → TakesMore i.left j.left × (p ≡ o)
   -- after a failed write, or without memory, the first part of what would have been written stands
-  pub write_fault : e.status ≡ WriteFault → Rose o.faults p.faults × StopsAt race does i.left j.left o.told p.told
-  pub no_memory : e.status ≡ NoMemory → TakesUpTo 16777217 i.left j.left × ((p ≡ o) ⊎ StopsAt race does i.left j.left o.told p.told)
+  pub write_fault : e.status ≡ WriteFault → Rose o.faults p.faults × StopsShort race does i.left j.left o.told p.told
+  pub no_memory : e.status ≡ NoMemory → TakesUpTo 16777217 i.left j.left × ((p ≡ o) ⊎ StopsShort race does i.left j.left o.told p.told)
   pub others : (e.status ≢ Usage) × (e.status ≢ ClockFault)
   -- where nothing fails and the input is a scenario, only want of memory keeps it from being done
   pub complete : (Rose i.faults j.faults → ⊥) → (Rose o.faults p.faults → ⊥)

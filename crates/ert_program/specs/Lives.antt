@@ -23,7 +23,7 @@ use Rattle.ert_transcript.specs.Scripts.{Script}
 use Rattle.ert_transcript.specs.Texts.{◌⋅◌, end_line}
 use Rattle.ert_transcript.specs.declared.reply.Reply.{Reply}
 use Rattle.ert_transcript.specs.declared.reply.Reply.TheVariants as replies
-use Rattle.ert_program.specs.Streams.{Clock, Output}
+use Rattle.ert_program.specs.Streams.{ClockStream, Output}
 use Rattle.ert_program.specs.declared.ending.Ended.{Ended}
 use Rattle.ert_program.specs.declared.ending.EndStatus.TheVariants.{Done, Refused, WriteFault, ClockFault, NoMemory}
 
@@ -58,7 +58,7 @@ refused_reading number = codes "refused reading " ⋅ decimal number ⋅ codes "
 
 -- a legal history of one thread is a script run of the ops for some readings, of which the first opened the
 -- service; the text is the lines of its replies
-pub record IsLive (first : Reading) (others : List Reading) (text : List ℕ) : Type 0 where
+pub record IsLiveText (first : Reading) (others : List Reading) (text : List ℕ) : Type 0 where
   pub entries : List Entry
   pub replies : List Reply
   pub labels : Labels
@@ -69,7 +69,7 @@ pub record IsLive (first : Reading) (others : List Reading) (text : List ℕ) : 
 -- the same of any readings: before the first there is no service and no line
 abbrev pub AreLive : List Reading → List ℕ → Type 0
 AreLive [] text = text ≡ []
-AreLive (first ∷ others) text = IsLive first others text
+AreLive (first ∷ others) text = IsLiveText first others text
 
 -- these readings, and then the known ones
 abbrev pub readings_before : List Reading → Option (List Reading) → Option (List Reading)
@@ -90,7 +90,7 @@ pub record LiveDone (n : ℕ) (left left_new : Option (List Reading)) (text : Li
   pub count : length (first ∷ others) ≡ n
   pub given : left ≡ readings_before (first ∷ others) left_new
   pub valid : AreValid (first ∷ others)
-  pub is : IsLive first others lines
+  pub is : IsLiveText first others lines
   pub whole : text ≡ lines ⋅ end_line (state (live_settings first) is.entries).clock.now
   pub desk : HasHistory (live_settings first) is.entries r
 
@@ -116,7 +116,7 @@ pub record LiveStopped (n : ℕ) (left left_new : Option (List Reading)) (text :
   pub are : AreLive readings text
 
 -- what the readings made: an end, and the text that it writes
-pub record Watched (n : ℕ) (c d : Clock) (e : Ended) (text : List ℕ) : Type 0 where
+pub record Watched (n : ℕ) (c d : ClockStream) (e : Ended) (text : List ℕ) : Type 0 where
   pub done : e.status ≡ Done → IsSomeAnd e.desk (LiveDone n c.left d.left text)
   pub refused : e.status ≡ Refused → LiveRefused n c.left d.left text
   pub clock_fault : e.status ≡ ClockFault → Rose c.faults d.faults × LiveStopped n c.left d.left text
@@ -128,19 +128,19 @@ abbrev pub Writes : Output → Output → (List ℕ → Type 0) → Type 0
 Writes o p is = (text : List ℕ) × (p.told ≡ took o.told text) × is text
 
 -- a first part of the text that the readings made was written
-pub record BreaksOff (n : ℕ) (c d : Clock) (o p : Output) : Type 0 where
+pub record WatchBreaksOff (n : ℕ) (c d : ClockStream) (o p : Output) : Type 0 where
   pub made : Ended
   pub text : List ℕ
   pub watched : Watched n c d made text
   pub writes : TakesFront o.told p.told text
 
 -- `live` with so many readings came to an end, between two moments of the clock and of the output
-pub record LiveEnds (n : ℕ) (c d : Clock) (o p : Output) (e : Ended) : Type 0 where
+pub record LiveEnds (n : ℕ) (c d : ClockStream) (o p : Output) (e : Ended) : Type 0 where
   pub done : e.status ≡ Done → Writes o p (λ text. IsSomeAnd e.desk (LiveDone n c.left d.left text))
   pub no_desk : e.status ≢ Done → e.desk ≡ None
   pub refused : e.status ≡ Refused → Writes o p (LiveRefused n c.left d.left)
   pub clock_fault : e.status ≡ ClockFault → Rose c.faults d.faults × Writes o p (LiveStopped n c.left d.left)
-  pub write_fault : e.status ≡ WriteFault → Rose o.faults p.faults × BreaksOff n c d o p
+  pub write_fault : e.status ≡ WriteFault → Rose o.faults p.faults × WatchBreaksOff n c d o p
   pub no_memory : e.status ≡ NoMemory → TakesReadings n c.left d.left × (p ≡ o)
   pub only : (e.status ≡ Done) ⊎ (e.status ≡ Refused) ⊎ (e.status ≡ ClockFault) ⊎ (e.status ≡ WriteFault) ⊎ (e.status ≡ NoMemory)
   -- where nothing fails and the readings are valid, only want of memory keeps it from being done
@@ -158,7 +158,7 @@ pub record Lived (first : Reading) (others : List Reading) (w : Seen) (text : Li
   pub reads : text ≡ live_lines replies
 
 -- both times were looked up and their line was appended
-pub record Tells (old new : Seen) (text text_new : List ℕ) : Type 0 where
+pub record TellsTimes (old new : Seen) (text text_new : List ℕ) : Type 0 where
   pub now : ℤ
   pub time : ℤ
   pub mid : Seen

@@ -2,7 +2,7 @@
 
 use Rattle.std.specs.Prelude.{◌≡◌, ℕ, true, List, Option, Some}
 use Rattle.ert_defs.specs.declared.entry.Entry.{Entry}
-use Rattle.ert_io.specs.Told.{Told}
+use Rattle.ert_io.specs.Told.{SinkTold}
 use Rattle.ert_ops.specs.Races.{Race}
 use Rattle.ert_race.specs.Outcomes.{IsOutcome}
 use Rattle.ert_race.specs.Written.{Returned}
@@ -22,5 +22,5 @@ abbrev pub RaceEnds : Input → Input → Output → Output → Ended → Type 0
 RaceEnds = InputEnds true RaceOf
 
 -- `race` was done, and returned this desk
-abbrev pub RaceOn : Option (List ℕ) → Option (List ℕ) → Told → Told → Returned → Type 0
+abbrev pub RaceOn : Option (List ℕ) → Option (List ℕ) → SinkTold → SinkTold → Returned → Type 0
 RaceOn = DidOn true RaceOf

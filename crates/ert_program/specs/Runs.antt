@@ -4,13 +4,13 @@ use Rattle.std.specs.Prelude.{◌≡◌, ℕ, false, List, Option, Some, length,
 use Rattle.ert_command.specs.declared.command.Command.{Command}
 use Rattle.ert_command.specs.declared.command.Command.TheVariants.{Run}
 use Rattle.ert_defs.specs.declared.entry.Entry.{Entry}
-use Rattle.ert_io.specs.Known.{HasRoom}
-use Rattle.ert_io.specs.Told.{Told}
+use Rattle.ert_io.specs.Known.{HasRoomFor}
+use Rattle.ert_io.specs.Told.{SinkTold}
 use Rattle.ert_race.specs.Written.{Returned}
 use Rattle.ert_scenario.specs.Scenarios.{Plan, HasRefusal}
 use Rattle.ert_scenario.specs.declared.scenario.ScenarioErr.{ScenarioErr}
 use Rattle.ert_transcript.specs.Scripts.{IsTranscript}
-use Rattle.ert_program.specs.Inputs.{TakesAll, HasRead, DidOn, MayWrite, InputEnds}
+use Rattle.ert_program.specs.Inputs.{ReadsAll, HasRead, DidOn, MayWriteOfPlan, InputEnds}
 use Rattle.ert_program.specs.Refusals.{refusal_line}
 use Rattle.ert_program.specs.Streams.{Input, Output}
 use Rattle.ert_program.specs.declared.ending.Ended.{Ended}
@@ -25,18 +25,18 @@ abbrev pub RunEnds : Input → Input → Output → Output → Ended → Type 0
 RunEnds = InputEnds false RunOf
 
 -- `run` was done, and returned this desk
-abbrev pub RunOn : Option (List ℕ) → Option (List ℕ) → Told → Told → Returned → Type 0
+abbrev pub RunOn : Option (List ℕ) → Option (List ℕ) → SinkTold → SinkTold → Returned → Type 0
 RunOn = DidOn false RunOf
 
 -- where the output tells its room, what `run` may write of a plan fits it: a transcript, or the beginning of one
 abbrev pub PlanFits : Plan → Option ℕ → Type 0
-PlanFits plan room = (text : List ℕ) → MayWrite RunOf plan text → HasRoom room (length text)
+PlanFits plan room = (text : List ℕ) → MayWriteOfPlan RunOf plan text → HasRoomFor room (length text)
 
 -- and so does what it may write of the input
 pub record InputFits (left : Option (List ℕ)) (room : Option ℕ) : Type 0 where
   pub done : (rest : Option (List ℕ)) (plan : Plan) → HasRead false left rest plan → PlanFits plan room
-  pub refused : (rest : Option (List ℕ)) (bytes : List ℕ) (why : ScenarioErr) → TakesAll left rest bytes → HasRefusal false bytes why
-      → HasRoom room (length (refusal_line why))
+  pub refused : (rest : Option (List ℕ)) (bytes : List ℕ) (why : ScenarioErr) → ReadsAll left rest bytes → HasRefusal false bytes why
+      → HasRoomFor room (length (refusal_line why))
 
 -- where the output tells its room, the command is `run`, and all that it may write fits
 pub record AllFits (command : Option Command) (left : Option (List ℕ)) (room : Option ℕ) : Type 0 where

@@ -2,7 +2,7 @@
 
 use Rattle.std.specs.Prelude.{ℕ, List, Option}
 use Rattle.ert_defs.specs.declared.settings.Reading.{Reading}
-use Rattle.ert_io.specs.Told.{Told, told}
+use Rattle.ert_io.specs.Told.{SinkTold, sink_told}
 
 -- of the input: the bytes that it has left, and how many reads failed
 pub record Input : Type 0 where
@@ -11,17 +11,17 @@ pub record Input : Type 0 where
 
 -- of the output: the bytes that it took and its room, and how many writes failed
 pub record Output : Type 0 where
-  pub told : Told
+  pub told : SinkTold
   pub faults : ℕ
 
 -- of the clock: the readings that it has left, and how many failed
-pub record Clock : Type 0 where
+pub record ClockStream : Type 0 where
   pub left : Option (List Reading)
   pub faults : ℕ
 
 -- what a sink tells of its bytes and of its room
-abbrev pub told_of : {S : Type 0} → (S → Option (List ℕ)) → (S → Option ℕ) → S → Told
-told_of taken room sink = told (taken sink) (room sink)
+abbrev pub told_by_sink : {S : Type 0} → (S → Option (List ℕ)) → (S → Option ℕ) → S → SinkTold
+told_by_sink taken room sink = sink_told (taken sink) (room sink)
 
 -- the input that a source is, by the bytes that it has left and its failed reads
 abbrev pub input_of : {S : Type 0} → (S → Option (List ℕ)) → (S → ℕ) → S → Input
@@ -29,8 +29,8 @@ input_of left faults source = record { left = left source; faults = faults sourc
 
 -- the output that a sink is, by the bytes that it took, its room and its failed writes
 abbrev pub output_of : {S : Type 0} → (S → Option (List ℕ)) → (S → Option ℕ) → (S → ℕ) → S → Output
-output_of taken room faults sink = record { told = told_of taken room sink; faults = faults sink }
+output_of taken room faults sink = record { told = told_by_sink taken room sink; faults = faults sink }
 
 -- the clock, by the readings that it has left and the failed ones
-abbrev pub clock_of : {C : Type 0} → (C → Option (List Reading)) → (C → ℕ) → C → Clock
-clock_of left faults clock = record { left = left clock; faults = faults clock }
+abbrev pub clock_stream_of : {C : Type 0} → (C → Option (List Reading)) → (C → ℕ) → C → ClockStream
+clock_stream_of left faults clock = record { left = left clock; faults = faults clock }

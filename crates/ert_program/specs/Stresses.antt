@@ -5,7 +5,7 @@ use Rattle.ert_defs.specs.States.{state}
 use Rattle.ert_defs.specs.declared.entry.Entry.{Entry}
 use Rattle.ert_program.specs.Generated.{generated}
 use Rattle.ert_io.specs.Faults.{Rose}
-use Rattle.ert_io.specs.Told.{Told, TakesFront}
+use Rattle.ert_io.specs.Told.{SinkTold, TakesFront}
 use Rattle.ert_laws.specs.Counts.{Counts, counts_of}
 use Rattle.ert_scenario.specs.Scenarios.{Plan}
 use Rattle.ert_world.specs.Worlds.{Seen, StandsFor}
@@ -28,7 +28,7 @@ pub record SummaryOf (plan : Plan) (h : List Entry) (text : List ℕ) : Type 0 w
   pub reads : text ≡ summary_of (counts_of plan.settings (state plan.settings h)) (state plan.settings h).clock.now
 
 -- the first part of the summary of a run was written
-pub record StopsSummary (plan : Plan) (old new : Told) : Type 0 where
+pub record StopsSummary (plan : Plan) (old new : SinkTold) : Type 0 where
   pub history : List Entry
   pub text : List ℕ
   pub is : SummaryOf plan history text

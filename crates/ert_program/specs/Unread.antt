@@ -4,7 +4,7 @@ use Rattle.std.specs.Prelude.{◌≡◌, ◌≢◌, ◌≤◌, ℕ, Bool, List, 
 use Rattle.ert_io.specs.Faults.{Rose}
 use Rattle.ert_io.specs.Known.{TakesUpTo}
 use Rattle.ert_scenario.specs.Scenarios.{Plan, IsScenario}
-use Rattle.ert_program.specs.Inputs.{TakesMore, Refuses, PartRefused}
+use Rattle.ert_program.specs.Inputs.{TakesMore, RefusesInput, PartRefused}
 use Rattle.ert_program.specs.Streams.{Input, Output}
 use Rattle.ert_program.specs.declared.ending.Ended.{Ended}
 use Rattle.ert_program.specs.declared.ending.EndStatus.TheVariants.{Done, Usage, Refused, ReadFault, WriteFault, ClockFault, NoMemory, TooLong}
@@ -12,7 +12,7 @@ use Rattle.ert_program.specs.declared.ending.EndStatus.TheVariants.{Done, Usage,
 -- it ended with no scenario: the input failed or was too long, or it was refused, or memory ran out
 pub record EndsUnread (race : Bool) (i j : Input) (o p : Output) (e : Ended) : Type 0 where
   pub not_done : e.status ≢ Done
-  pub refused : e.status ≡ Refused → IsSomeAnd e.refusal (Refuses race i.left j.left o.told p.told)
+  pub refused : e.status ≡ Refused → IsSomeAnd e.refusal (RefusesInput race i.left j.left o.told p.told)
   pub read_fault : e.status ≡ ReadFault → Rose i.faults j.faults × TakesUpTo 16777216 i.left j.left × (p ≡ o)
   pub too_long : e.status ≡ TooLong → TakesMore i.left j.left × (p ≡ o)
   pub write_fault : e.status ≡ WriteFault → Rose o.faults p.faults × PartRefused race i.left j.left o.told p.told

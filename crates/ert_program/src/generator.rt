@@ -21,7 +21,7 @@ pub(crate) struct Generator {
 impl Generator {
     ghost use Rattle.std.specs.Prelude.{◌≡◌, ◌<◌, ◌+◌, ◌+ℤ◌, ◌-ℤ◌, ◌≤ℤ◌, pos};
     ghost use Rattle.ert_program.specs.Draws.{after, draw};
-    ghost use Rattle.ert_program.specs.Steps.{HasRoom, first, step_of, fall_of, ticked, started, op_for, next_op};
+    ghost use Rattle.ert_program.specs.Steps.{IsBounded, first, step_of, fall_of, made_tick, made_start, op_for, next_op};
 
     /// Before the first op.
     pub(crate) fn new(seed: u64) -> Generator
@@ -37,7 +37,7 @@ impl Generator {
 
     /// Makes the next op.
     pub(crate) fn next_op(&mut self) -> Op
-        requires { HasRoom self.old }
+        requires { IsBounded self.old }
         ensures op { result ≡ (next_op self.old).op }
         ensures later { self.new ≡ (next_op self.old).later }
     {
@@ -46,7 +46,7 @@ impl Generator {
     }
 
     fn op_for(&mut self, choice: u64) -> Op
-        requires { HasRoom self.old }
+        requires { IsBounded self.old }
         ensures op { result ≡ (op_for choice self.old).op }
         ensures later { self.new ≡ (op_for choice self.old).later }
     {
@@ -80,9 +80,9 @@ impl Generator {
     }
 
     fn tick(&mut self) -> Op
-        requires { HasRoom self.old }
-        ensures op { result ≡ (ticked self.old).op }
-        ensures later { self.new ≡ (ticked self.old).later }
+        requires { IsBounded self.old }
+        ensures op { result ≡ (made_tick self.old).op }
+        ensures later { self.new ≡ (made_tick self.old).later }
     {
         let step = self.step();
         let fall = self.fall();
@@ -90,7 +90,7 @@ impl Generator {
     }
 
     fn go_on(&mut self, step: i64, fall: i64) -> Op
-        requires room { HasRoom self.old }
+        requires room { IsBounded self.old }
         requires step_low { pos 0 ≤ℤ step }
         requires step_high { step ≤ℤ pos 50000000 }
         requires fall_low { pos 0 ≤ℤ fall }
@@ -133,9 +133,9 @@ impl Generator {
     }
 
     fn start(&mut self) -> Op
-        requires { HasRoom self.old }
-        ensures op { result ≡ (started self.old).op }
-        ensures later { self.new ≡ (started self.old).later }
+        requires { IsBounded self.old }
+        ensures op { result ≡ (made_start self.old).op }
+        ensures later { self.new ≡ (made_start self.old).later }
     {
         let label = self.next;
         let wheel = self.draw(4) as u32;
@@ -153,7 +153,7 @@ impl Generator {
 
     /// The label of a start that was made, or of the next one.
     fn label(&mut self) -> u32
-        requires { HasRoom self.old }
+        requires { IsBounded self.old }
         ensures label { result ≡ draw (self.old.next + 1) self.old.x }
         ensures later { self.new ≡ record self.old { x = after self.old.x } }
     {

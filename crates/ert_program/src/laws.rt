@@ -4,7 +4,7 @@
 ghost use Rattle.std.specs.Prelude.{◌≡◌, ◌≤◌, ◌%◌, ℕ, [], ◌∷◌, length};
 ghost use Rattle.ert_defs.specs.Settings.{IsChecked};
 ghost use Rattle.ert_ops.specs.Labels.{AreOps};
-ghost use Rattle.ert_ops.specs.Ranges.{IsInRange};
+ghost use Rattle.ert_ops.specs.Ranges.{AreOpsInRange};
 ghost use Rattle.ert_ops.specs.declared.op.Op.TheVariants.{Turn, Receive};
 ghost use Rattle.ert_program.specs.Draws.{after, drawn};
 ghost use Rattle.ert_program.specs.Generated.{generated};
@@ -15,7 +15,7 @@ ghost use Rattle.ert_program.specs.Generated.{generated};
 pub fn generated_scenarios_are_valid()
     ensures settings { (seed n : ℕ) → IsChecked (generated seed n).settings }
     ensures ops { (seed n : ℕ) → n ≤ 100000
-        → IsInRange (generated seed n).settings (generated seed n).ops }
+        → AreOpsInRange (generated seed n).settings (generated seed n).ops }
     ensures labels { (seed n : ℕ) → n ≤ 100000 → AreOps (generated seed n).ops }
     ensures count { (seed n : ℕ) → length (generated seed n).ops ≡ n }
 {}

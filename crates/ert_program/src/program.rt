@@ -2,12 +2,12 @@ ghost use Rattle.std.specs.Prelude.{◌≡◌, ◌≢◌, ◌≤◌, ◌⊎◌, 
 ghost use Rattle.ert_command.specs.declared.command.Command.TheVariants.{Run, Race, Live, Stress};
 ghost use Rattle.ert_io.specs.Faults.{Rose};
 ghost use Rattle.ert_io.specs.Told.{took, TakesFront};
-ghost use Rattle.ert_program.specs.Endings.{asked, reads_input, reads_clock, HasItsRefusal, UsageEnds};
+ghost use Rattle.ert_program.specs.Endings.{command_asked, reads_input, reads_clock, HasItsRefusal, UsageEnds};
 ghost use Rattle.ert_program.specs.Lives.{LiveEnds};
 ghost use Rattle.ert_program.specs.Races.{RaceEnds, RaceOn};
 ghost use Rattle.ert_program.specs.Refusals.{usage_line};
 ghost use Rattle.ert_program.specs.Runs.{AllFits, RunEnds, RunOn};
-ghost use Rattle.ert_program.specs.Streams.{told_of, input_of, output_of, clock_of};
+ghost use Rattle.ert_program.specs.Streams.{told_by_sink, input_of, output_of, clock_stream_of};
 ghost use Rattle.ert_program.specs.Stresses.{StressEnds};
 
 use crate::ending::{EndStatus, Ended};
@@ -38,34 +38,34 @@ pub fn ertime<
     C: OsClock,
     G: Gate + Sync,
 >(rt: &R, words: &[String], input: &mut I, output: &mut O, clock: &mut C, gate: &G) -> Ended
-    requires fits { AllFits (asked words.now) (I.left input.old) (O.room output.old) }
-    ensures run { asked words.now ≡ Some Run
+    requires fits { AllFits (command_asked words.now) (I.left input.old) (O.room output.old) }
+    ensures run { command_asked words.now ≡ Some Run
         → RunEnds (input_of I.left I.faults input.old) (input_of I.left I.faults input.new)
         (output_of O.taken O.room O.faults output.old) (output_of O.taken O.room O.faults output.new) result }
-    ensures race { asked words.now ≡ Some Race
+    ensures race { command_asked words.now ≡ Some Race
         → RaceEnds (input_of I.left I.faults input.old) (input_of I.left I.faults input.new)
         (output_of O.taken O.room O.faults output.old) (output_of O.taken O.room O.faults output.new) result }
-    ensures live { (n : ℕ) → asked words.now ≡ Some (Live n)
-        → LiveEnds n (clock_of C.left C.faults clock.old) (clock_of C.left C.faults clock.new)
+    ensures live { (n : ℕ) → command_asked words.now ≡ Some (Live n)
+        → LiveEnds n (clock_stream_of C.left C.faults clock.old) (clock_stream_of C.left C.faults clock.new)
         (output_of O.taken O.room O.faults output.old) (output_of O.taken O.room O.faults output.new) result }
-    ensures stress { (seed n : ℕ) → asked words.now ≡ Some (Stress seed n)
+    ensures stress { (seed n : ℕ) → command_asked words.now ≡ Some (Stress seed n)
         → StressEnds seed n (output_of O.taken O.room O.faults output.old) (output_of O.taken O.room O.faults output.new) result }
-    ensures usage { asked words.now ≡ None
+    ensures usage { command_asked words.now ≡ None
         → UsageEnds (output_of O.taken O.room O.faults output.old) (output_of O.taken O.room O.faults output.new) result }
 
     // The desk that `run` and `race` return has the very history of what was written; `live` and `stress` say it themselves.
-    ensures run_desk { asked words.now ≡ Some Run → result.status ≡ EndStatus.Done
-        → IsSomeAnd result.desk (RunOn (I.left input.old) (I.left input.new) (told_of O.taken O.room output.old) (told_of O.taken O.room output.new)) }
-    ensures race_desk { asked words.now ≡ Some Race → result.status ≡ EndStatus.Done
-        → IsSomeAnd result.desk (RaceOn (I.left input.old) (I.left input.new) (told_of O.taken O.room output.old) (told_of O.taken O.room output.new)) }
+    ensures run_desk { command_asked words.now ≡ Some Run → result.status ≡ EndStatus.Done
+        → IsSomeAnd result.desk (RunOn (I.left input.old) (I.left input.new) (told_by_sink O.taken O.room output.old) (told_by_sink O.taken O.room output.new)) }
+    ensures race_desk { command_asked words.now ≡ Some Race → result.status ≡ EndStatus.Done
+        → IsSomeAnd result.desk (RaceOn (I.left input.old) (I.left input.new) (told_by_sink O.taken O.room output.old) (told_by_sink O.taken O.room output.new)) }
     ensures no_desk { result.status ≢ EndStatus.Done → result.desk ≡ None }
     ensures refusal { HasItsRefusal result }
     ensures no_refusal { result.status ≢ EndStatus.Refused → result.refusal ≡ None }
-    ensures unrefused { reads_input (asked words.now) ≡ false → result.refusal ≡ None }
+    ensures unrefused { reads_input (command_asked words.now) ≡ false → result.refusal ≡ None }
 
     // Only `run` and `race` read the input, and only `live` the clock.
-    ensures unread { reads_input (asked words.now) ≡ false → input.new ≡ input.old }
-    ensures untaken { reads_clock (asked words.now) ≡ false → clock.new ≡ clock.old }
+    ensures unread { reads_input (command_asked words.now) ≡ false → input.new ≡ input.old }
+    ensures untaken { reads_clock (command_asked words.now) ≡ false → clock.new ≡ clock.old }
     ensures later { I.faults input.old ≤ I.faults input.new }
     ensures later_out { O.faults output.old ≤ O.faults output.new }
     ensures later_clock { C.faults clock.old ≤ C.faults clock.new }
@@ -86,8 +86,8 @@ pub fn ertime<
 fn usage<O: Sink>(output: &mut O) -> EndStatus
     requires { O.room output.old ≡ None }
     ensures which { (result ≡ EndStatus.Usage) ⊎ (result ≡ EndStatus.WriteFault) }
-    ensures usage { result ≡ EndStatus.Usage → told_of O.taken O.room output.new ≡ took (told_of O.taken O.room output.old) usage_line }
-    ensures write_fault { result ≡ EndStatus.WriteFault → TakesFront (told_of O.taken O.room output.old) (told_of O.taken O.room output.new) usage_line }
+    ensures usage { result ≡ EndStatus.Usage → told_by_sink O.taken O.room output.new ≡ took (told_by_sink O.taken O.room output.old) usage_line }
+    ensures write_fault { result ≡ EndStatus.WriteFault → TakesFront (told_by_sink O.taken O.room output.old) (told_by_sink O.taken O.room output.new) usage_line }
     ensures later { O.faults output.old ≤ O.faults output.new }
     ensures cause { result ≡ EndStatus.WriteFault → Rose (O.faults output.old) (O.faults output.new) }
 {

@@ -3,12 +3,12 @@ ghost use Rattle.std.specs.Prelude.{◌≡◌, ◌≢◌, ◌≤◌, None, true,
 ghost use Rattle.ert_defs.specs.Settings.{IsChecked};
 ghost use Rattle.ert_io.specs.Faults.{Rose};
 ghost use Rattle.ert_ops.specs.Races.{IsRace, race_of};
-ghost use Rattle.ert_ops.specs.Ranges.{IsInRange};
+ghost use Rattle.ert_ops.specs.Ranges.{AreOpsInRange};
 ghost use Rattle.ert_scenario.specs.Scenarios.{plan_of};
 ghost use Rattle.ert_program.specs.Endings.{HasItsRefusal};
 ghost use Rattle.ert_program.specs.Inputs.{RanOn, WritesPart};
 ghost use Rattle.ert_program.specs.Races.{RaceOf, RaceOn, RaceEnds};
-ghost use Rattle.ert_program.specs.Streams.{told_of, input_of, output_of};
+ghost use Rattle.ert_program.specs.Streams.{told_by_sink, input_of, output_of};
 
 use crate::ending::{EndStatus, Ended};
 use crate::reading::read_input;
@@ -35,7 +35,7 @@ pub fn race<R: Threads + Wait + Sync, G: Gate + Sync, I: Source, O: Sink>(
     ensures ends { RaceEnds (input_of I.left I.faults input.old) (input_of I.left I.faults input.new)
         (output_of O.taken O.room O.faults output.old) (output_of O.taken O.room O.faults output.new) result }
     ensures desk { result.status ≡ EndStatus.Done
-        → IsSomeAnd result.desk (RaceOn (I.left input.old) (I.left input.new) (told_of O.taken O.room output.old) (told_of O.taken O.room output.new)) }
+        → IsSomeAnd result.desk (RaceOn (I.left input.old) (I.left input.new) (told_by_sink O.taken O.room output.old) (told_by_sink O.taken O.room output.new)) }
     ensures no_desk { result.status ≢ EndStatus.Done → result.desk ≡ None }
     ensures refusal { HasItsRefusal result }
     ensures no_refusal { result.status ≢ EndStatus.Refused → result.refusal ≡ None }
@@ -61,11 +61,11 @@ fn race_scenario<R: Threads + Wait + Sync, G: Gate + Sync, O: Sink>(
 ) -> Result<(Arc<Desk>, Pass), RunErr>
     requires room { O.room output.old ≡ None }
     requires checked { IsChecked scenario.now.settings }
-    requires ranges { IsInRange scenario.now.settings scenario.now.ops.items }
+    requires ranges { AreOpsInRange scenario.now.settings scenario.now.ops.items }
     requires wanted { is_some scenario.now.race ≡ true }
     requires race { IfSome (option_map race_of scenario.now.race) (λ r. IsRace scenario.now.settings scenario.now.ops.items r) }
-    ensures ok { IfOk result (λ r. RanOn RaceOf (plan_of scenario.now) (told_of O.taken O.room output.old) (told_of O.taken O.room output.new) r) }
-    ensures err { OnErr result (WritesPart RaceOf (plan_of scenario.now) (told_of O.taken O.room output.old) (told_of O.taken O.room output.new)) }
+    ensures ok { IfOk result (λ r. RanOn RaceOf (plan_of scenario.now) (told_by_sink O.taken O.room output.old) (told_by_sink O.taken O.room output.new) r) }
+    ensures err { OnErr result (WritesPart RaceOf (plan_of scenario.now) (told_by_sink O.taken O.room output.old) (told_by_sink O.taken O.room output.new)) }
     ensures later { O.faults output.old ≤ O.faults output.new }
     ensures cause { IsErrOf result RunErr.WriteFault → Rose (O.faults output.old) (O.faults output.new) }
 {

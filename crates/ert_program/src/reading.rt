@@ -1,10 +1,10 @@
 //! The first part of `run` and of `race`: a scenario is read, or the input is refused.
 ghost use Rattle.std.specs.Prelude.{◌≡◌, ◌≤◌, ℕ, List, Option, length, IfOk, IfErr, OnOk};
-ghost use Rattle.ert_io.specs.Known.{HasRoom};
+ghost use Rattle.ert_io.specs.Known.{HasRoomFor};
 ghost use Rattle.ert_scenario.specs.Scenarios.{HasRefusal, plan_of};
 ghost use Rattle.ert_scenario.specs.declared.scenario.ScenarioErr.{ScenarioErr as Why};
 ghost use Rattle.ert_program.specs.Endings.{HasItsRefusal};
-ghost use Rattle.ert_program.specs.Inputs.{TakesAll, HasRead};
+ghost use Rattle.ert_program.specs.Inputs.{ReadsAll, HasRead};
 ghost use Rattle.ert_program.specs.Refusals.{refusal_line};
 ghost use Rattle.ert_program.specs.Streams.{input_of, output_of};
 ghost use Rattle.ert_program.specs.Unread.{EndsUnread};
@@ -23,8 +23,8 @@ pub(crate) fn read_input<I: Source, O: Sink>(
     input: &mut I,
     output: &mut O,
 ) -> Result<Scenario, Ended>
-    requires fits { (rest : Option (List ℕ)) (bytes : List ℕ) (why : Why) → TakesAll (I.left input.old) rest bytes → HasRefusal race bytes why
-        → HasRoom (O.room output.old) (length (refusal_line why)) }
+    requires fits { (rest : Option (List ℕ)) (bytes : List ℕ) (why : Why) → ReadsAll (I.left input.old) rest bytes → HasRefusal race bytes why
+        → HasRoomFor (O.room output.old) (length (refusal_line why)) }
     ensures ok { IfOk result (λ s. HasRead race (I.left input.old) (I.left input.new) (plan_of s)) }
     ensures unwritten { OnOk result (output.new ≡ output.old) }
     ensures err { IfErr result (λ e. EndsUnread race (input_of I.left I.faults input.old) (input_of I.left I.faults input.new)

@@ -1,11 +1,11 @@
 //! The line of a refusal.
 ghost use Rattle.std.specs.Prelude.{◌≡◌, ◌≢◌, ◌≤◌, ◌⊎◌, ◌++◌, length, Some, None, OnOk, string_bytes};
 ghost use Rattle.ert_io.specs.Faults.{Rose};
-ghost use Rattle.ert_io.specs.Known.{HasRoom};
+ghost use Rattle.ert_io.specs.Known.{HasRoomFor};
 ghost use Rattle.ert_io.specs.Told.{took, TakesFront};
 ghost use Rattle.ert_scenario.specs.declared.scenario.ScenarioErr.TheVariants.{NoMemory};
 ghost use Rattle.ert_program.specs.Refusals.{refusal_line};
-ghost use Rattle.ert_program.specs.Streams.{told_of};
+ghost use Rattle.ert_program.specs.Streams.{told_by_sink};
 
 use crate::ending::{EndStatus, Ended, Refusal};
 use ert_io::Sink;
@@ -17,15 +17,15 @@ use std::fmt::Write;
 /// Writes the line of a refusal, which isn't want of memory. Where that was written, the refusal is returned with the
 /// end.
 pub(crate) fn refuse<O: Sink>(alloc: Global, refusal: Refusal, output: &mut O) -> Ended
-    requires fits { HasRoom (O.room output.old) (length (refusal_line refusal.why)) }
+    requires fits { HasRoomFor (O.room output.old) (length (refusal_line refusal.why)) }
     requires other { refusal.why ≢ NoMemory }
     ensures which { (result.status ≡ EndStatus.Refused) ⊎ (result.status ≡ EndStatus.WriteFault) ⊎ (result.status ≡ EndStatus.NoMemory) }
     ensures refused { result.status ≡ EndStatus.Refused
-        → told_of O.taken O.room output.new ≡ took (told_of O.taken O.room output.old) (refusal_line refusal.why) }
+        → told_by_sink O.taken O.room output.new ≡ took (told_by_sink O.taken O.room output.old) (refusal_line refusal.why) }
     ensures returned { result.status ≡ EndStatus.Refused → result.refusal ≡ Some refusal }
     ensures not_returned { result.status ≢ EndStatus.Refused → result.refusal ≡ None }
     ensures write_fault { result.status ≡ EndStatus.WriteFault
-        → TakesFront (told_of O.taken O.room output.old) (told_of O.taken O.room output.new) (refusal_line refusal.why) }
+        → TakesFront (told_by_sink O.taken O.room output.old) (told_by_sink O.taken O.room output.new) (refusal_line refusal.why) }
     ensures no_memory { result.status ≡ EndStatus.NoMemory → output.new ≡ output.old }
     ensures no_desk { result.desk ≡ None }
     ensures later { O.faults output.old ≤ O.faults output.new }

@@ -2,15 +2,15 @@
 ghost use Rattle.std.specs.Prelude.{◌≡◌, ◌≢◌, ◌≤◌, None, length, IfOk, OnOk, OnErr, IsErrOf, IsSomeAnd};
 ghost use Rattle.ert_defs.specs.Settings.{IsChecked};
 ghost use Rattle.ert_io.specs.Faults.{Rose};
-ghost use Rattle.ert_io.specs.Known.{HasRoom};
+ghost use Rattle.ert_io.specs.Known.{HasRoomFor};
 ghost use Rattle.ert_io.specs.Told.{took, TakesFront};
-ghost use Rattle.ert_ops.specs.Ranges.{IsInRange};
+ghost use Rattle.ert_ops.specs.Ranges.{AreOpsInRange};
 ghost use Rattle.ert_scenario.specs.Scenarios.{plan_of};
 ghost use Rattle.ert_transcript.specs.Texts.{end_line};
 ghost use Rattle.ert_program.specs.Endings.{HasItsRefusal};
 ghost use Rattle.ert_program.specs.Inputs.{RanOn, WritesPart};
 ghost use Rattle.ert_program.specs.Runs.{RunOf, RunOn, RunEnds, InputFits, PlanFits};
-ghost use Rattle.ert_program.specs.Streams.{told_of, input_of, output_of};
+ghost use Rattle.ert_program.specs.Streams.{told_by_sink, input_of, output_of};
 
 use crate::ending::{EndStatus, Ended};
 use crate::reading::read_input;
@@ -29,7 +29,7 @@ pub fn run<I: Source, O: Sink>(alloc: Global, input: &mut I, output: &mut O) -> 
     ensures ends { RunEnds (input_of I.left I.faults input.old) (input_of I.left I.faults input.new)
         (output_of O.taken O.room O.faults output.old) (output_of O.taken O.room O.faults output.new) result }
     ensures desk { result.status ≡ EndStatus.Done
-        → IsSomeAnd result.desk (RunOn (I.left input.old) (I.left input.new) (told_of O.taken O.room output.old) (told_of O.taken O.room output.new)) }
+        → IsSomeAnd result.desk (RunOn (I.left input.old) (I.left input.new) (told_by_sink O.taken O.room output.old) (told_by_sink O.taken O.room output.new)) }
     ensures no_desk { result.status ≢ EndStatus.Done → result.desk ≡ None }
     ensures refusal { HasItsRefusal result }
     ensures no_refusal { result.status ≢ EndStatus.Refused → result.refusal ≡ None }
@@ -53,9 +53,9 @@ fn run_scenario<O: Sink>(
 ) -> Result<(Arc<Desk>, Pass), RunErr>
     requires fits { PlanFits (plan_of scenario.now) (O.room output.old) }
     requires checked { IsChecked scenario.now.settings }
-    requires ranges { IsInRange scenario.now.settings scenario.now.ops.items }
-    ensures ok { IfOk result (λ r. RanOn RunOf (plan_of scenario.now) (told_of O.taken O.room output.old) (told_of O.taken O.room output.new) r) }
-    ensures err { OnErr result (WritesPart RunOf (plan_of scenario.now) (told_of O.taken O.room output.old) (told_of O.taken O.room output.new)) }
+    requires ranges { AreOpsInRange scenario.now.settings scenario.now.ops.items }
+    ensures ok { IfOk result (λ r. RanOn RunOf (plan_of scenario.now) (told_by_sink O.taken O.room output.old) (told_by_sink O.taken O.room output.new) r) }
+    ensures err { OnErr result (WritesPart RunOf (plan_of scenario.now) (told_by_sink O.taken O.room output.old) (told_by_sink O.taken O.room output.new)) }
     ensures later { O.faults output.old ≤ O.faults output.new }
     ensures cause { IsErrOf result RunErr.WriteFault → Rose (O.faults output.old) (O.faults output.new) }
 {
@@ -70,9 +70,9 @@ fn run_scenario<O: Sink>(
 
 /// Writes the last line of a transcript.
 fn finish<O: Sink>(alloc: Global, now: i64, output: &mut O) -> Result<(), RunErr>
-    requires { HasRoom (O.room output.old) (length (end_line now)) }
-    ensures ok { OnOk result (told_of O.taken O.room output.new ≡ took (told_of O.taken O.room output.old) (end_line now)) }
-    ensures err { OnErr result (TakesFront (told_of O.taken O.room output.old) (told_of O.taken O.room output.new) (end_line now)) }
+    requires { HasRoomFor (O.room output.old) (length (end_line now)) }
+    ensures ok { OnOk result (told_by_sink O.taken O.room output.new ≡ took (told_by_sink O.taken O.room output.old) (end_line now)) }
+    ensures err { OnErr result (TakesFront (told_by_sink O.taken O.room output.old) (told_by_sink O.taken O.room output.new) (end_line now)) }
     ensures later { O.faults output.old ≤ O.faults output.new }
     ensures cause { IsErrOf result RunErr.WriteFault → Rose (O.faults output.old) (O.faults output.new) }
 {

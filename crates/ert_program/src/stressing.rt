@@ -5,7 +5,7 @@ ghost use Rattle.ert_program.specs.Generated.{generated};
 ghost use Rattle.ert_program.specs.Inputs.{RanOn};
 ghost use Rattle.ert_io.specs.Faults.{Rose};
 ghost use Rattle.ert_laws.specs.Counts.{counts_of};
-ghost use Rattle.ert_program.specs.Streams.{told_of};
+ghost use Rattle.ert_program.specs.Streams.{told_by_sink};
 ghost use Rattle.ert_program.specs.Stresses.{SummaryOf, StopsSummary, summary_of, HasRun};
 
 use crate::generation::generate;
@@ -28,9 +28,9 @@ pub fn stress<O: Sink>(
 ) -> Result<(Arc<Desk>, Pass), RunErr>
     requires room { O.room output.old ≡ None }
     requires count { n ≤ 100000 }
-    ensures ok { IfOk result (λ r. RanOn SummaryOf (generated seed n) (told_of O.taken O.room output.old) (told_of O.taken O.room output.new) r) }
+    ensures ok { IfOk result (λ r. RanOn SummaryOf (generated seed n) (told_by_sink O.taken O.room output.old) (told_by_sink O.taken O.room output.new) r) }
     ensures write_fault { IsErrOf result RunErr.WriteFault
-        → StopsSummary (generated seed n) (told_of O.taken O.room output.old) (told_of O.taken O.room output.new) }
+        → StopsSummary (generated seed n) (told_by_sink O.taken O.room output.old) (told_by_sink O.taken O.room output.new) }
     ensures no_memory { IsErrOf result RunErr.NoMemory → output.new ≡ output.old }
     ensures later { O.faults output.old ≤ O.faults output.new }
     ensures cause { IsErrOf result RunErr.WriteFault → Rose (O.faults output.old) (O.faults output.new) }

@@ -29,8 +29,8 @@ use Rattle.ert_defs.specs.declared.settings.Settings.{Settings}
 use Rattle.ert_defs.specs.declared.timer.Status.{Status}
 use Rattle.ert_defs.specs.declared.timer.TimerRef.{TimerRef}
 use Rattle.ert_race.proofs.Kept.{in_pieces}
-use Rattle.ert_race.specs.Laws.{is_advance, advances, LawOfAdvances, LawOfRounds}
-use Rattle.ert_race.specs.Made.{Round}
+use Rattle.ert_race.specs.Laws.{is_advance, advances, LawOfAdvancesInTurns, LawOfAdvancesInRound}
+use Rattle.ert_race.specs.Made.{RoundOfTurns}
 
 advances-append : (a b : List Entry) → advances (a ++ b) ≡ advances a + advances b
 advances-append a b =
@@ -178,19 +178,19 @@ alone_count g = record {
   step = λ parts allows h m made. (state g h, m, made, refl);
 }
 
-pub turns_advance : LawOfAdvances
+pub turns_advance : LawOfAdvancesInTurns
 turns_advance g w count h stretch turns =
     ap (λ (l : List Entry). advances l) (in_pieces (Sched w) _ h stretch turns.makes ∙ sym (own_of (Sched w) turns.makes.pieces))
     ∙ (turns_count g w (beside g (Sched w)) (λ m. advances (filter (is_ours (Sched w ∷ [])) m)) (beside_count g w) turns.turns h turns.makes.pieces turns.makes.made
     ∙ turns.counted)
 
-round_count : (g : Settings) (w : ℕ) (turns : List Turned) (h m : List Entry) → Round g w turns h m → advances m ≡ length turns
+round_count : (g : Settings) (w : ℕ) (turns : List Turned) (h m : List Entry) → RoundOfTurns g w turns h m → advances m ≡ length turns
 round_count g w [] h m made = ap (λ (l : List Entry). advances l) made
 round_count g w (t ∷ turns) h m made =
     let both : advances m ≡ 1 + length turns =
-    then_count (alone g) (λ m. advances m) (alone_count g) (Turns g (alone g) w (Ok t)) (Round g (suc w) turns) h m 1 (length turns)
+    then_count (alone g) (λ m. advances m) (alone_count g) (Turns g (alone g) w (Ok t)) (RoundOfTurns g (suc w) turns) h m 1 (length turns)
     (λ h m one. turn_count g w (alone g) (λ m. advances m) (alone_count g) t h m one) (λ h m rest. round_count g (suc w) turns h m rest) made in
     omega (arith, both)
 
-pub rounds_advance : LawOfRounds
+pub rounds_advance : LawOfAdvancesInRound
 rounds_advance g count h m round = round_count g 0 round.turns h m round.made ∙ round.counted

@@ -12,7 +12,7 @@ use Rattle.ert_ops.specs.Races.{Race, lists_of, race_of}
 use Rattle.ert_ops.specs.declared.race.RaceLists.{RaceLists}
 use Rattle.ert_ops.specs.declared.op.Op.{Op}
 use Rattle.ert_race.proofs.Makings.{made, makers}
-use Rattle.ert_race.specs.Made.{Makes, MakesTurns}
+use Rattle.ert_race.specs.Made.{MakesInStretch, MakesTurns}
 use Rattle.ert_race.specs.Outcomes.{DoesList, DoLists, ActAtOnce}
 use Rattle.ert_race.proofs.Worked.{at_low, length_mapped}
 use Rattle.ert_race.specs.Lists.{did_of, dids_of}
@@ -24,7 +24,7 @@ use Rattle.ert_transcript.specs.Labels.{Labels}
 use Rattle.ert_race.specs.declared.list.ListDone.{ListDone}
 
 -- a call that an actor's seat tells is made in the history
-own_made : (a : Actor) (call : Growth) (f front h : List Entry) (longer : Begins f h) → Grows call f front → HasOwn a front h → Makes a call f longer.later
+own_made : (a : Actor) (call : Growth) (f front h : List Entry) (longer : Begins f h) → Grows call f front → HasOwn a front h → MakesInStretch a call f longer.later
 own_made a call f front h longer grows own =
     made a call f front h longer.later own.begins.later grows own.begins.grown (free_later a front h own.begins own.own) longer.grown
 

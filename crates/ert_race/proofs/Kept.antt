@@ -9,13 +9,13 @@ use Rattle.ert_defs.specs.declared.entry.Actor.TheVariants.{Sched, Caller}
 use Rattle.ert_defs.specs.declared.entry.Entry.{Entry}
 use Rattle.ert_defs.specs.declared.settings.Settings.{Settings}
 use Rattle.ert_ops.specs.declared.op.Op.{Op}
-use Rattle.ert_race.specs.Laws.{LawOfPieces, LawOfTurns, LawOfReplies}
-use Rattle.ert_race.specs.Made.{Makes}
+use Rattle.ert_race.specs.Laws.{LawOfPieces, LawOfTurnPieces, LawOfReplies}
+use Rattle.ert_race.specs.Made.{MakesInStretch}
 use Rattle.ert_transcript.specs.Labels.{Labels}
 use Rattle.ert_transcript.specs.Scripts.{Script, labels_after}
 use Rattle.ert_transcript.specs.declared.reply.Reply.{Reply}
 
-pub in_pieces : (a : Actor) (call : Growth) (h stretch : List Entry) (makes : Makes a call h stretch) → of stretch a ≡ of makes.pieces a
+pub in_pieces : (a : Actor) (call : Growth) (h stretch : List Entry) (makes : MakesInStretch a call h stretch) → of stretch a ≡ of makes.pieces a
 in_pieces a call h stretch makes =
     ap (λ (l : List Entry). of l a) makes.parted
     ∙ (filter-append (λ e. has_actor e a) makes.pieces makes.after
@@ -24,7 +24,7 @@ in_pieces a call h stretch makes =
 pub lists_in_pieces : LawOfPieces
 lists_in_pieces g labels k ops d h stretch does = in_pieces (Caller k) _ h stretch does
 
-pub turns_in_pieces : LawOfTurns
+pub turns_in_pieces : LawOfTurnPieces
 turns_in_pieces g w count h stretch turns = in_pieces (Sched w) _ h stretch turns.makes
 
 as_many : (g : Settings) (way : Way) (n : ℕ) (labels : Labels) (ops : List Op) (replies : List Reply) (after : Labels) (h m : List Entry)

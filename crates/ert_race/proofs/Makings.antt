@@ -14,12 +14,12 @@ use Rattle.ert_defs.specs.declared.entry.Entry.{Entry}
 use Rattle.ert_defs.specs.declared.entry.Event.{Event}
 use Rattle.ert_defs.specs.declared.entry.Event.TheVariants.{Tick, Shift, Look, Off, Arm, Probe, Peek, Cancel, Expire, Orphan, Deliver, Drop, Mark, Advanced, Ask, Pick, Answer, Take, Unwatch, Watch, Tell}
 use Rattle.ert_defs.specs.declared.settings.Settings.{Settings}
-use Rattle.ert_race.specs.Made.{Makes}
+use Rattle.ert_race.specs.Made.{MakesInStretch}
 
 -- a call that an actor's front has grown by is made in the history, where what comes after the front is free
 -- of the actor
 pub made : (a : Actor) (call : Growth) (f front h stretch later : List Entry) → Grows call f front → h ≡ front ++ later → IsFree later a
-    → h ≡ f ++ stretch → Makes a call f stretch
+    → h ≡ f ++ stretch → MakesInStretch a call f stretch
 made a call f front h stretch later grows longer free grown = record {
   pieces = grows.piece;
   after = later;

@@ -6,7 +6,7 @@ use Rattle.ert_effects.specs.Ways.{Grows, alone}
 use Rattle.ert_effects.specs.declared.answers.Turned.{Turned}
 use Rattle.ert_defs.specs.declared.entry.Entry.{Entry}
 use Rattle.ert_defs.specs.declared.settings.Settings.{Settings}
-use Rattle.ert_race.specs.Made.{Round, MakesRound}
+use Rattle.ert_race.specs.Made.{RoundOfTurns, MakesRound}
 use Rattle.ert_effects.proofs.Growing.{grows_then}
 use Rattle.ert_race.specs.Outcomes.{ActAtOnce}
 use Rattle.ert_race.specs.Reports.{Did}
@@ -22,8 +22,8 @@ at_first w = omega arith
 at_next : (w n : ℕ) → w + suc n ≡ suc w + n
 at_next w n = omega arith
 
-round_more : (g : Settings) (w : ℕ) (turns : List Turned) (t : Turned) (h m n : List Entry) → Round g w turns h m
-    → Turns g (alone g) (w + length turns) (Ok t) (h ++ m) n → Round g w (turns ++ t ∷ []) h (m ++ n)
+round_more : (g : Settings) (w : ℕ) (turns : List Turned) (t : Turned) (h m n : List Entry) → RoundOfTurns g w turns h m
+    → Turns g (alone g) (w + length turns) (Ok t) (h ++ m) n → RoundOfTurns g w (turns ++ t ∷ []) h (m ++ n)
 round_more g w [] t h m n none one = record {
   before = n;
   after = [];

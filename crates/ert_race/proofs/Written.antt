@@ -10,8 +10,8 @@ use Rattle.ert_defs.specs.States.{state}
 use Rattle.ert_defs.specs.declared.entry.Entry.{Entry}
 use Rattle.ert_defs.specs.declared.settings.Settings.{Settings}
 use Rattle.ert_io.proofs.Takes.{took-took, front_after}
-use Rattle.ert_io.specs.Known.{HasRoom}
-use Rattle.ert_io.specs.Told.{Told, took, room_after, TakesFront}
+use Rattle.ert_io.specs.Known.{HasRoomFor}
+use Rattle.ert_io.specs.Told.{SinkTold, took, room_left, TakesFront}
 use Rattle.ert_laws.specs.Counts.{counts_of}
 use Rattle.ert_laws.specs.KeptLaws.{KeepsLaws}
 use Rattle.ert_ops.specs.Races.{Race}
@@ -84,7 +84,7 @@ outcome_of g list race start v w rs after dids opened ran raced stands = record 
     named = raced.settings ∙ (ran.settings ∙ opened.stands.settings)
 
 -- the race stopped behind the lines of the ops
-pub stops_behind : (g : Settings) (list : List Op) (race : Race) (start v : Seen) (after : Labels) (old new : Told) → IsOpened g start
+pub stops_behind : (g : Settings) (list : List Op) (race : Race) (start v : Seen) (after : Labels) (old new : SinkTold) → IsOpened g start
     → WritesRun start [] list v after old new → StopsRace g list race old new
 stops_behind g list race start v after old new opened ran =
     let all : take (length list) list ≡ list = take_all (length list) list (omega arith) in
@@ -110,7 +110,7 @@ has_history g h w r of_settings of_history named all laws = record {
 }
 
 -- all was written: it is an outcome, and the desk is given out
-pub ends : (g : Settings) (list : List Op) (race : Race) (start v w : Seen) (after : Labels) (dids : List Did) (page : List ℕ) (old mid new : Told) (r : Returned)
+pub ends : (g : Settings) (list : List Op) (race : Race) (start v w : Seen) (after : Labels) (dids : List Did) (page : List ℕ) (old mid new : SinkTold) (r : Returned)
     → IsOpened g start → WritesRun start [] list v after old mid → RacesTo v after race dids w → StandsFor w.settings w.history w
     → page ≡ behind after dids (counts_of w.settings (state w.settings w.history)) w.clock.face.time → new ≡ took mid page
     → settings_of (arc_value r.0) ≡ w.settings → KnowsAll (arc_value r.0) r.1 w.history → KeepsLaws w.settings w.history → RacesOn g list race old new r
@@ -119,7 +119,7 @@ ends g list race start v w after dids page old mid new r opened ran raced stands
   text = lines_of [] list ran.replies ++ page;
   is = subst (λ (t : List ℕ). IsOutcome g list race w.history (lines_of [] list ran.replies ++ t)) (sym told_all)
       (outcome_of g list race start v w ran.replies after dids opened ran.runs raced stands);
-  writes = written ∙ (ap (λ (t : Told). took t page) ran.writes ∙ took-took old (lines_of [] list ran.replies) page);
+  writes = written ∙ (ap (λ (t : SinkTold). took t page) ran.writes ∙ took-took old (lines_of [] list ran.replies) page);
   desk = has_history g w.history w r settings_are refl named all laws;
 }
   where
@@ -127,7 +127,7 @@ ends g list race start v w after dids page old mid new r opened ran raced stands
     settings_are = raced.settings ∙ (ran.runs.settings ∙ opened.stands.settings)
 
 -- the output stopped at the page behind the lines of the ops
-pub breaks : (g : Settings) (list : List Op) (race : Race) (start v w : Seen) (after : Labels) (dids : List Did) (page : List ℕ) (old mid new : Told)
+pub breaks : (g : Settings) (list : List Op) (race : Race) (start v w : Seen) (after : Labels) (dids : List Did) (page : List ℕ) (old mid new : SinkTold)
     → IsOpened g start → WritesRun start [] list v after old mid → RacesTo v after race dids w → StandsFor w.settings w.history w
     → page ≡ behind after dids (counts_of w.settings (state w.settings w.history)) w.clock.face.time → TakesFront mid new page
     → StopsRace g list race old new
@@ -144,13 +144,13 @@ breaks g list race start v w after dids page old mid new opened ran raced stands
 -- all fits where no room is told
 pub lines_fit : (start : Seen) (ls : Labels) (list : List Op) (room : Option ℕ) → room ≡ None → LinesFit start ls list room
 lines_fit start ls list room untold n rs v after ran stands =
-    subst (λ (r : Option ℕ). HasRoom r (length (lines_of ls (take n list) rs))) (sym untold) tt
+    subst (λ (r : Option ℕ). HasRoomFor r (length (lines_of ls (take n list) rs))) (sym untold) tt
 
 -- and no room is told after the lines of the ops
-pub page_fits : (start v : Seen) (ls after : Labels) (list : List Op) (page : List ℕ) (old mid : Told) → WritesRun start ls list v after old mid
-    → old.room ≡ None → HasRoom mid.room (length page)
+pub page_fits : (start v : Seen) (ls after : Labels) (list : List Op) (page : List ℕ) (old mid : SinkTold) → WritesRun start ls list v after old mid
+    → old.room ≡ None → HasRoomFor mid.room (length page)
 page_fits start v ls after list page old mid ran untold =
     let text : List ℕ = lines_of ls list ran.replies in
-    let left : mid.room ≡ room_after (length text) None =
-    ap (λ (t : Told). t.room) ran.writes ∙ ap (λ (r : Option ℕ). room_after (length text) r) untold in
-    subst (λ (r : Option ℕ). HasRoom r (length page)) (sym left) tt
+    let left : mid.room ≡ room_left (length text) None =
+    ap (λ (t : SinkTold). t.room) ran.writes ∙ ap (λ (r : Option ℕ). room_left (length text) r) untold in
+    subst (λ (r : Option ℕ). HasRoomFor r (length page)) (sym left) tt

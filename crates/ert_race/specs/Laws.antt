@@ -19,8 +19,8 @@ LawOfPieces = (g : Settings) (labels : Labels) (k : ℕ) (ops : List Op) (d : Di
     → (does : DoesList g labels k ops d h stretch) → of stretch (Caller k) ≡ of does.pieces (Caller k)
 
 -- and those of a scheduler in the pieces of its turns
-abbrev pub LawOfTurns : Type 0
-LawOfTurns = (g : Settings) (w count : ℕ) (h stretch : List Entry) → (turns : MakesTurns g w count h stretch)
+abbrev pub LawOfTurnPieces : Type 0
+LawOfTurnPieces = (g : Settings) (w count : ℕ) (h stretch : List Entry) → (turns : MakesTurns g w count h stretch)
     → of stretch (Sched w) ≡ of turns.makes.pieces (Sched w)
 
 -- each op of a list has one reply, and so one line
@@ -38,9 +38,9 @@ abbrev pub advances : List Entry → ℕ
 advances es = length (filter (λ (e : Entry). is_advance e.event) es)
 
 -- a scheduler advances its wheel once in each of its turns
-abbrev pub LawOfAdvances : Type 0
-LawOfAdvances = (g : Settings) (w count : ℕ) (h stretch : List Entry) → MakesTurns g w count h stretch → advances (of stretch (Sched w)) ≡ count
+abbrev pub LawOfAdvancesInTurns : Type 0
+LawOfAdvancesInTurns = (g : Settings) (w count : ℕ) (h stretch : List Entry) → MakesTurns g w count h stretch → advances (of stretch (Sched w)) ≡ count
 
 -- and each scheduler does once in the round of last turns
-abbrev pub LawOfRounds : Type 0
-LawOfRounds = (g : Settings) (count : ℕ) (h m : List Entry) → MakesRound g count h m → advances m ≡ count
+abbrev pub LawOfAdvancesInRound : Type 0
+LawOfAdvancesInRound = (g : Settings) (count : ℕ) (h m : List Entry) → MakesRound g count h m → advances m ≡ count

@@ -11,7 +11,7 @@ use Rattle.ert_defs.specs.declared.entry.Entry.{Entry}
 use Rattle.ert_defs.specs.declared.settings.Settings.{Settings}
 
 -- an actor makes a call in a stretch that comes after a history, and has no entry in the stretch after it
-pub record Makes (a : Actor) (call : Growth) (h stretch : List Entry) : Type 0 where
+pub record MakesInStretch (a : Actor) (call : Growth) (h stretch : List Entry) : Type 0 where
   pub pieces : List Entry
   pub after : List Entry
   pub parted : stretch ≡ pieces ++ after
@@ -22,15 +22,15 @@ pub record Makes (a : Actor) (call : Growth) (h stretch : List Entry) : Type 0 w
 pub record MakesTurns (g : Settings) (w count : ℕ) (h stretch : List Entry) : Type 0 where
   pub turns : List Turned
   pub counted : length turns ≡ count
-  pub makes : Makes (Sched w) (Many (λ t. Turns g (beside g (Sched w)) w (Ok t)) turns) h stretch
+  pub makes : MakesInStretch (Sched w) (Many (λ t. Turns g (beside g (Sched w)) w (Ok t)) turns) h stretch
 
 -- a turn of each scheduler from one on, alone, in order of number
-abbrev pub Round : Settings → ℕ → List Turned → Growth
-Round g w [] h m = m ≡ []
-Round g w (t ∷ turns) h m = Then (Turns g (alone g) w (Ok t)) (Round g (suc w) turns) h m
+abbrev pub RoundOfTurns : Settings → ℕ → List Turned → Growth
+RoundOfTurns g w [] h m = m ≡ []
+RoundOfTurns g w (t ∷ turns) h m = Then (Turns g (alone g) w (Ok t)) (RoundOfTurns g (suc w) turns) h m
 
 -- each of the first so many schedulers makes a turn, alone
 pub record MakesRound (g : Settings) (count : ℕ) (h m : List Entry) : Type 0 where
   pub turns : List Turned
   pub counted : length turns ≡ count
-  pub made : Round g 0 turns h m
+  pub made : RoundOfTurns g 0 turns h m

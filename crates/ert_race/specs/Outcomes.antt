@@ -12,7 +12,7 @@ use Rattle.ert_defs.specs.declared.settings.Settings.{Settings}
 use Rattle.ert_laws.specs.Counts.{counts_of}
 use Rattle.ert_ops.specs.Races.{Race, lists_of}
 use Rattle.ert_ops.specs.declared.op.Op.{Op}
-use Rattle.ert_race.specs.Made.{Makes, MakesTurns, MakesRound}
+use Rattle.ert_race.specs.Made.{MakesInStretch, MakesTurns, MakesRound}
 use Rattle.ert_race.specs.Reports.{Did, report}
 use Rattle.ert_transcript.specs.Labels.{Labels}
 use Rattle.ert_transcript.specs.Scripts.{Script}
@@ -21,7 +21,7 @@ use Rattle.ert_transcript.specs.declared.reply.Reply.{Reply}
 -- a caller does a list beside others: it knows the labels of the ops, and those that it binds itself
 abbrev pub DoesList : Settings → Labels → ℕ → List Op → Did → List Entry → List Entry → Type 0
 DoesList g labels k ops d h stretch =
-    Makes (Caller k) (Script g (beside g (Caller k)) k labels ops d.replies (labels ++ d.own)) h stretch
+    MakesInStretch (Caller k) (Script g (beside g (Caller k)) k labels ops d.replies (labels ++ d.own)) h stretch
 
 -- each caller from one on does its list
 abbrev pub DoLists : Settings → Labels → ℕ → List (List Op) → List Did → List Entry → List Entry → Type 0

@@ -13,7 +13,7 @@ use Rattle.ert_defs.specs.declared.timer.When.TheVariants.{After}
 use Rattle.ert_ops.specs.Races.{Race}
 use Rattle.ert_ops.specs.declared.op.Op.{Op}
 use Rattle.ert_ops.specs.declared.op.Op.TheVariants as ops
-use Rattle.ert_transcript.specs.Calls.{start_of}
+use Rattle.ert_transcript.specs.Calls.{start_for_op}
 use Rattle.ert_transcript.specs.Worked.{plain}
 
 -- the settings: there are two callers
@@ -29,13 +29,13 @@ abbrev pub two_cancels : Race
 two_cancels = record { turns = 0; keeper = ops.Cancel 1 ∷ []; callers = (ops.Cancel 1 ∷ []) ∷ [] }
 
 -- a service may take any free slot for the timer, as slot 3
-abbrev pub timer : TimerRef
-timer = timer_at 0 3 1
+abbrev pub contested_timer : TimerRef
+contested_timer = timer_at 0 3 1
 
 -- the start
-abbrev pub started : List Entry
-started = look_entry (Caller 0) (pos 0)
-    ∷ arm_entry 0 timer (start_of (After (pos 5)) 0 7 Wrapped)
+abbrev pub contest_start : List Entry
+contest_start = look_entry (Caller 0) (pos 0)
+    ∷ arm_entry 0 contested_timer (start_for_op (After (pos 5)) 0 7 Wrapped)
     ∷ mark_entry (Caller 0) 0 false false
     ∷ []
 
@@ -43,10 +43,10 @@ started = look_entry (Caller 0) (pos 0)
 abbrev pub contested : List Entry
 contested = look_entry (Caller 0) (pos 0)
     ∷ look_entry (Caller 1) (pos 0)
-    ∷ peek_entry (Caller 0) timer (Some 5)
-    ∷ peek_entry (Caller 1) timer (Some 5)
-    ∷ cancel_entry (Caller 1) timer (Some 5)
-    ∷ cancel_entry (Caller 0) timer None
+    ∷ peek_entry (Caller 0) contested_timer (Some 5)
+    ∷ peek_entry (Caller 1) contested_timer (Some 5)
+    ∷ cancel_entry (Caller 1) contested_timer (Some 5)
+    ∷ cancel_entry (Caller 0) contested_timer None
     ∷ []
 
 -- the scheduler's turn after the race, in which nothing is due
@@ -55,4 +55,4 @@ closing_turn = pick_entry 0 None ∷ look_entry (Sched 0) (pos 0) ∷ advanced_e
 
 -- all of it
 abbrev pub contest : List Entry
-contest = started ++ (contested ++ closing_turn)
+contest = contest_start ++ (contested ++ closing_turn)

@@ -7,7 +7,7 @@ use Rattle.std.specs.declared.sync.Arc.{Arc}
 use Rattle.ert_defs.specs.States.{state}
 use Rattle.ert_defs.specs.declared.entry.Entry.{Entry}
 use Rattle.ert_defs.specs.declared.settings.Settings.{Settings}
-use Rattle.ert_io.specs.Told.{Told, took, TakesFront}
+use Rattle.ert_io.specs.Told.{SinkTold, took, TakesFront}
 use Rattle.ert_laws.specs.Counts.{counts_of}
 use Rattle.ert_laws.specs.KeptLaws.{KeepsLaws}
 use Rattle.ert_ops.specs.Races.{Race}
@@ -42,7 +42,7 @@ abbrev pub report_behind : Seen → Labels → List Did → List ℕ
 report_behind w labels dids = behind labels dids (counts_of w.settings (state w.settings w.history)) w.clock.face.time
 
 -- a race was run on a desk: the report of an outcome was written, and what is returned has the outcome's history
-pub record RacesOn (g : Settings) (ops : List Op) (race : Race) (old new : Told) (r : Returned) : Type 0 where
+pub record RacesOn (g : Settings) (ops : List Op) (race : Race) (old new : SinkTold) (r : Returned) : Type 0 where
   pub history : List Entry
   pub text : List ℕ
   pub is : IsOutcome g ops race history text
@@ -50,7 +50,7 @@ pub record RacesOn (g : Settings) (ops : List Op) (race : Race) (old new : Told)
   pub desk : HasHistory g history r
 
 -- a race has stopped: the first part of what it may write was written
-pub record StopsRace (g : Settings) (ops : List Op) (race : Race) (old new : Told) : Type 0 where
+pub record StopsRace (g : Settings) (ops : List Op) (race : Race) (old new : SinkTold) : Type 0 where
   pub text : List ℕ
   pub may : MayWrite g ops race text
   pub writes : TakesFront old new text

@@ -2,9 +2,9 @@
 ghost use Rattle.std.specs.Prelude.{◌≡◌, ◌≤◌, None, IfOk, OnErr, IsErrOf, string_bytes};
 ghost use Rattle.ert_defs.specs.Settings.{IsChecked};
 ghost use Rattle.ert_io.specs.Faults.{Rose};
-ghost use Rattle.ert_io.specs.Told.{told};
+ghost use Rattle.ert_io.specs.Told.{sink_told};
 ghost use Rattle.ert_ops.specs.Races.{IsRace, race_of};
-ghost use Rattle.ert_ops.specs.Ranges.{IsInRange};
+ghost use Rattle.ert_ops.specs.Ranges.{AreOpsInRange};
 ghost use Rattle.ert_race.specs.Lists.{dids_of};
 ghost use Rattle.ert_race.specs.Written.{RacesOn, StopsRace, report_behind};
 
@@ -36,12 +36,12 @@ pub fn run_race<R: Threads + Wait + Sync, G: Gate + Sync, O: Sink>(
 ) -> Result<(Arc<Desk>, Pass), RunErr>
     requires room { O.room output.old ≡ None }
     requires checked { IsChecked settings.now }
-    requires ranges { IsInRange settings.now ops.now }
+    requires ranges { AreOpsInRange settings.now ops.now }
     requires race { IsRace settings.now ops.now (race_of race.now) }
     ensures ok { IfOk result (λ r. RacesOn settings.now ops.now (race_of race.now)
-        (told (O.taken output.old) (O.room output.old)) (told (O.taken output.new) (O.room output.new)) r) }
+        (sink_told (O.taken output.old) (O.room output.old)) (sink_told (O.taken output.new) (O.room output.new)) r) }
     ensures err { OnErr result (StopsRace settings.now ops.now (race_of race.now)
-        (told (O.taken output.old) (O.room output.old)) (told (O.taken output.new) (O.room output.new))) }
+        (sink_told (O.taken output.old) (O.room output.old)) (sink_told (O.taken output.new) (O.room output.new))) }
     ensures later { O.faults output.old ≤ O.faults output.new }
     ensures cause { IsErrOf result RunErr.WriteFault → Rose (O.faults output.old) (O.faults output.new) }
 {

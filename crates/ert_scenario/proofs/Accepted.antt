@@ -2,7 +2,7 @@
 
 use Rattle.std.proofs.Common.{◌≡◌, ◌≤◌, ℕ, List, length, Bool, true, false, ◌||◌, Option, Some, None, Ok, Err, cond, ltb, sym, arith, refl}
 use Rattle.std.proofs.lemmas.Bool.Decides.{nat_tests}
-use Rattle.ert_scenario.specs.Kinds.{Found}
+use Rattle.ert_scenario.specs.Kinds.{FoundOrFault}
 use Rattle.ert_scenario.specs.Lists.{OpValues, list_count}
 use Rattle.ert_scenario.specs.Scenarios.{Plan, Verdict, refused, is_over, over, planned, judged, judged_all}
 use Rattle.ert_scenario.specs.Walks.{all_raws, founds_of, first_shape, first_range}
@@ -20,7 +20,7 @@ pub record AreFew (n lists turns : ℕ) : Type 0 where
   pub few_turns : turns ≤ 10000
 
 -- the findings have no fault, and make this plan
-pub record Accepts (format : Format) (lists : OpValues) (found : Found Top) (founds : List (Found Op)) (plan : Plan) : Type 0 where
+pub record Accepts (format : Format) (lists : OpValues) (found : FoundOrFault Top) (founds : List (FoundOrFault Op)) (plan : Plan) : Type 0 where
   pub top : Top
   pub opens : found ≡ Ok top
   pub shape : first_shape 1 founds ≡ None
@@ -53,7 +53,7 @@ not_over false h = refl
 pub few_of : (ops lists turns : ℕ) → cond {A = Option ℕ} (is_over ops lists turns) (Some 0) None ≡ None → AreFew ops lists turns
 few_of ops lists turns h = few_from ops lists turns (not_over (is_over ops lists turns) h)
 
-pub accepts : (format : Format) (lists : OpValues) (found : Found Top) (founds : List (Found Op)) (plan : Plan) → judged format lists found founds ≡ Ok plan
+pub accepts : (format : Format) (lists : OpValues) (found : FoundOrFault Top) (founds : List (FoundOrFault Op)) (plan : Plan) → judged format lists found founds ≡ Ok plan
     → Accepts format lists found founds plan
 accepts format lists (Err faults.Shape) founds plan h = absurd (cc)
 accepts format lists (Err faults.Range) founds plan h =
@@ -74,12 +74,12 @@ accepts format lists (Ok top) founds plan h =
     }
 
 -- the lists were arrays
-pub record AcceptsAll (format : Format) (found_lists : Found OpValues) (found : Found Top) (plan : Plan) : Type 0 where
+pub record AcceptsAll (format : Format) (found_lists : FoundOrFault OpValues) (found : FoundOrFault Top) (plan : Plan) : Type 0 where
   pub lists : OpValues
   pub listed : found_lists ≡ Ok lists
   pub accepted : Accepts format lists found (founds_of found (all_raws format lists)) plan
 
-pub accepts_all : (format : Format) (found_lists : Found OpValues) (found : Found Top) (plan : Plan) → judged_all format found_lists found ≡ Ok plan
+pub accepts_all : (format : Format) (found_lists : FoundOrFault OpValues) (found : FoundOrFault Top) (plan : Plan) → judged_all format found_lists found ≡ Ok plan
     → AcceptsAll format found_lists found plan
 accepts_all format (Ok lists) found plan h = record { lists = lists; listed = refl; accepted = accepts format lists found (founds_of found (all_raws format lists)) plan h }
 accepts_all format (Err fault) found plan h = absurd (cc)

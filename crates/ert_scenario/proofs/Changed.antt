@@ -10,7 +10,7 @@ use Rattle.serde_json.specs.Data.{Data, array, object, Members, no_members, memb
 use Rattle.serde_json.specs.Find.{get, get_member}
 use Rattle.serde_json.proofs.Views.{get_member-put, get_member-put_other}
 use Rattle.ert_scenario.specs.Fields.{are_named, only_named}
-use Rattle.ert_scenario.specs.Kinds.{Found, found_map, ◌>>=◌, of_kind, listed, list_of, is_array, arrays}
+use Rattle.ert_scenario.specs.Kinds.{FoundOrFault, found_map, ◌>>=◌, of_kind, listed, list_of, is_array, arrays}
 use Rattle.ert_scenario.specs.Migration.{migrated_op, each, migrated_list, with_field, changed_to, changed}
 use Rattle.ert_scenario.specs.declared.fault.Fault.TheVariants.{Shape}
 use Rattle.ert_scenario.proofs.Listed.{list_of_items}
@@ -113,7 +113,7 @@ all_arrays_each : (ds : List Data) → list_all is_array (map migrated_list ds) 
 all_arrays_each [] = refl
 all_arrays_each (d ∷ ds) = ap (λ b. b && list_all is_array (map migrated_list ds)) (array_each migrated_op d) ∙ ap (λ rest. is_array d && rest) (all_arrays_each ds)
 
-arrays_from : (found : Found (List Data)) → (found_map (map migrated_list) found >>= (λ lists. cond (list_all is_array lists) (Ok lists) (Err Shape)))
+arrays_from : (found : FoundOrFault (List Data)) → (found_map (map migrated_list) found >>= (λ lists. cond (list_all is_array lists) (Ok lists) (Err Shape)))
     ≡ found_map (map migrated_list) (found >>= (λ lists. cond (list_all is_array lists) (Ok lists) (Err Shape)))
 arrays_from (Ok ds) = ap (λ b. cond b (Ok (map migrated_list ds)) (Err Shape)) (all_arrays_each ds) ∙ moved_if (list_all is_array ds) ds
   where
@@ -125,4 +125,4 @@ arrays_from (Err fault) = refl
 pub each_arrays : (o : Option Data) → arrays (option_map (each migrated_list) o) ≡ found_map (map migrated_list) (arrays o)
 unfolding arrays
 each_arrays o =
-    ap (λ (found : Found (List Data)). found >>= (λ lists. cond (list_all is_array lists) (Ok lists) (Err Shape))) (each_listed migrated_list o) ∙ arrays_from (listed o)
+    ap (λ (found : FoundOrFault (List Data)). found >>= (λ lists. cond (list_all is_array lists) (Ok lists) (Err Shape))) (each_listed migrated_list o) ∙ arrays_from (listed o)

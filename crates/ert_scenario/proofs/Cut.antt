@@ -6,7 +6,7 @@ use Rattle.serde_json.specs.Data.{Data}
 use Rattle.ert_ops.specs.Races.{Race, lists_of as race_parts, ops_in}
 use Rattle.ert_ops.specs.declared.op.Op.{Op}
 use Rattle.ert_scenario.specs.Cuts.{cut_callers, cut_race, cut_plan}
-use Rattle.ert_scenario.specs.Kinds.{Found, items_in}
+use Rattle.ert_scenario.specs.Kinds.{FoundOrFault, items_in}
 use Rattle.ert_scenario.specs.Lists.{RaceValues, OpValues, list_count}
 use Rattle.ert_scenario.specs.Rows.{op_of}
 use Rattle.ert_scenario.specs.Scenarios.{Plan, with_callers, planned_race, planned}
@@ -19,12 +19,12 @@ use Rattle.ert_scenario.specs.declared.format.Format.{Format}
 
 -- ---- a list of two parts
 
-pub record Splits (xs ys : List (Found Op)) (ops : List Op) : Type 0 where
+pub record Splits (xs ys : List (FoundOrFault Op)) (ops : List Op) : Type 0 where
   pub first : xs ≡ without_fault (take (length xs) ops)
   pub front : ops_of xs ≡ take (length xs) ops
   pub back : ys ≡ without_fault (drop (length xs) ops)
 
-pub splits : (xs ys : List (Found Op)) (ops : List Op) → xs ++ ys ≡ without_fault ops → Splits xs ys ops
+pub splits : (xs ys : List (FoundOrFault Op)) (ops : List Op) → xs ++ ys ≡ without_fault ops → Splits xs ys ops
 splits [] ys ops h = record { first = refl; front = refl; back = h }
 splits (Ok op ∷ xs) ys [] h = absurd (cc)
 splits (Err fault ∷ xs) ys [] h = absurd (cc)
@@ -41,11 +41,11 @@ length-raws : (format : Format) (doer : Doer) (items : List Data) → length (ra
 length-raws format doer items = length-map items (op_of format doer)
 
 -- of the raw ops of a list, and others after them
-record SplitsList (format : Format) (doer : Doer) (items : List Data) (ys : List (Found Op)) (ops : List Op) : Type 0 where
+record SplitsList (format : Format) (doer : Doer) (items : List Data) (ys : List (FoundOrFault Op)) (ops : List Op) : Type 0 where
   pub front : take (length items) ops ≡ ops_of (raws_of format doer items)
   pub back : ys ≡ without_fault (drop (length items) ops)
 
-splits_list : (format : Format) (doer : Doer) (items : List Data) (ys : List (Found Op)) (ops : List Op) → raws_of format doer items ++ ys ≡ without_fault ops
+splits_list : (format : Format) (doer : Doer) (items : List Data) (ys : List (FoundOrFault Op)) (ops : List Op) → raws_of format doer items ++ ys ≡ without_fault ops
     → SplitsList format doer items ys ops
 splits_list format doer items ys ops h =
     let s = splits (raws_of format doer items) ys ops h in
@@ -97,7 +97,7 @@ cut_plan_same format lists top ops h =
 
 -- ---- ops one list after the other
 
-pub ops_of-append : (xs ys : List (Found Op)) → ops_of (xs ++ ys) ≡ ops_of xs ++ ops_of ys
+pub ops_of-append : (xs ys : List (FoundOrFault Op)) → ops_of (xs ++ ys) ≡ ops_of xs ++ ops_of ys
 ops_of-append [] ys = refl
 ops_of-append (Ok op ∷ xs) ys = ap (λ (ops : List Op). op ∷ ops) (ops_of-append xs ys)
 ops_of-append (Err fault ∷ xs) ys = ops_of-append xs ys

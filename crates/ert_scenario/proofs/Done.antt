@@ -7,8 +7,8 @@ use Rattle.ert_ops.specs.Races.{IsCallersOp}
 use Rattle.ert_ops.specs.declared.op.Op.{Op}
 use Rattle.ert_ops.specs.declared.op.Op.TheVariants.{Tick, Check, Finalize, Notify, Time, System, Offset, Info, Convert, Start, SendAfter, Cancel, CancelQuiet, Read, CancelAsync, ReadAsync, Receive, Exit, Alive, Monitor, Demonitor}
 use Rattle.ert_scenario.specs.Doers.{IsKeepersOp, IsCallersAlone, IsDoneBy}
-use Rattle.ert_scenario.specs.Kinds.{Found, ◌>>=◌, ◌▹◌, integer, one_word, two_words, reading_from, listed, text, head, tail, end}
-use Rattle.ert_scenario.specs.Rows.{Row, keeper_rows, shared_rows, convert_row, clock_rows, process_rows, start_args, timer_rows, asked, rows_of_one, rows_of_two, rows_of, caller_groups, groups_of, row_in, or_next, named, op_of}
+use Rattle.ert_scenario.specs.Kinds.{FoundOrFault, ◌>>=◌, ◌▹◌, integer, one_word, two_words, reading_from, listed, text, head, tail, end}
+use Rattle.ert_scenario.specs.Rows.{OpRow, keeper_rows, shared_rows, convert_row, clock_rows, process_rows, start_args, timer_rows, request_args, rows_of_one, rows_of_two, rows_of_format, caller_groups, groups_of, row_in, or_next, op_named, op_of}
 use Rattle.ert_scenario.specs.Units.{time_unit}
 use Rattle.ert_scenario.specs.Walks.{raws_of, ops_of}
 use Rattle.ert_scenario.specs.declared.doer.Doer.{Doer}
@@ -19,40 +19,40 @@ use Rattle.ert_scenario.proofs.Founds.{follows}
 
 -- ---- rows all of whose ops have the property
 
-Reads : (Op → Type 0) → (List Data → Found Op) → Type 0
+Reads : (Op → Type 0) → (List Data → FoundOrFault Op) → Type 0
 Reads P row = (args : List Data) (op : Op) → row args ≡ Ok op → P op
 
-abbrev AreRows : (Op → Type 0) → List Row → Type 0
+abbrev AreRows : (Op → Type 0) → List OpRow → Type 0
 AreRows P [] = Unit {0}
 AreRows P (row ∷ rows) = Reads P row.1 × AreRows P rows
 
-abbrev AreGroups : (Op → Type 0) → List (List Row) → Type 0
+abbrev AreGroups : (Op → Type 0) → List (List OpRow) → Type 0
 AreGroups P [] = Unit {0}
 AreGroups P (rows ∷ groups) = AreRows P rows × AreGroups P groups
 
-by_name : (P : Op → Type 0) (is : Bool) (first : Found Op) (rest : Option (Found Op)) (op : Op) → (first ≡ Ok op → P op) → (rest ≡ Some (Ok op) → P op)
+by_name : (P : Op → Type 0) (is : Bool) (first : FoundOrFault Op) (rest : Option (FoundOrFault Op)) (op : Op) → (first ≡ Ok op → P op) → (rest ≡ Some (Ok op) → P op)
     → cond is (Some first) rest ≡ Some (Ok op) → P op
 by_name P true first rest op here later h = here (cc)
 by_name P false first rest op here later h = later h
 
-in_rows : (P : Op → Type 0) (name : List ℕ) (rows : List Row) (args : List Data) (op : Op) → AreRows P rows → row_in name rows args ≡ Some (Ok op) → P op
+in_rows : (P : Op → Type 0) (name : List ℕ) (rows : List OpRow) (args : List Data) (op : Op) → AreRows P rows → row_in name rows args ≡ Some (Ok op) → P op
 unfolding Reads
 in_rows P name [] args op all h = absurd (cc)
 in_rows P name (row ∷ rows) args op all h =
     by_name P (bytes_eq name row.0) (row.1 args) (row_in name rows args) op (all.0 args op) (in_rows P name rows args op all.1) h
 
-by_group : (P : Op → Type 0) (first : Option (Found Op)) (rest : Found Op) (op : Op) → (first ≡ Some (Ok op) → P op) → (rest ≡ Ok op → P op) → or_next first rest ≡ Ok op → P op
+by_group : (P : Op → Type 0) (first : Option (FoundOrFault Op)) (rest : FoundOrFault Op) (op : Op) → (first ≡ Some (Ok op) → P op) → (rest ≡ Ok op → P op) → or_next first rest ≡ Ok op → P op
 by_group P None rest op here later h = later h
 by_group P (Some found) rest op here later h = here (ap Some h)
 
-in_groups : (P : Op → Type 0) (name : List ℕ) (groups : List (List Row)) (args : List Data) (op : Op) → AreGroups P groups → named name groups args ≡ Ok op → P op
+in_groups : (P : Op → Type 0) (name : List ℕ) (groups : List (List OpRow)) (args : List Data) (op : Op) → AreGroups P groups → op_named name groups args ≡ Ok op → P op
 in_groups P name [] args op all h = absurd (cc)
 in_groups P name (rows ∷ groups) args op all h =
-    by_group P (row_in name rows args) (named name groups args) op (in_rows P name rows args op all.0) (in_groups P name groups args op all.1) h
+    by_group P (row_in name rows args) (op_named name groups args) op (in_rows P name rows args op all.0) (in_groups P name groups args op all.1) h
 
 -- ---- each row
 
-makes : {A : Type 0} (P : Op → Type 0) (make : A → Op) (found : Found A) → ((a : A) → P (make a)) → (op : Op) → (found >>= (λ a. Ok (make a))) ≡ Ok op → P op
+makes : {A : Type 0} (P : Op → Type 0) (make : A → Op) (found : FoundOrFault A) → ((a : A) → P (make a)) → (op : Op) → (found >>= (λ a. Ok (make a))) ≡ Ok op → P op
 makes P make (Ok a) all op h = let same : make a ≡ op = cc in subst P same (all a)
 makes P make (Err fault) all op h = absurd (cc)
 
@@ -111,16 +111,16 @@ callers_timer = (
   ),
 )
 
-callers_of_format : (format : Format) → AreRows IsCallersAlone (rows_of format)
+callers_of_format : (format : Format) → AreRows IsCallersAlone (rows_of_format format)
 unfolding rows_of_one rows_of_two Reads
 callers_of_format One = (
   λ args op h. makes IsCallersAlone (λ p. CancelAsync p.0 p.1 true) (two_words args) (λ p. (tt, tt)) op h,
   (λ args op h. makes IsCallersAlone (λ p. ReadAsync p.0 p.1 true) (two_words args) (λ p. (tt, tt)) op h, tt),
 )
 callers_of_format Two = (
-  λ args op h. makes IsCallersAlone (λ p. CancelAsync p.0 p.1 p.2) (asked args) (λ p. (tt, tt)) op h,
+  λ args op h. makes IsCallersAlone (λ p. CancelAsync p.0 p.1 p.2) (request_args args) (λ p. (tt, tt)) op h,
   (
-    λ args op h. makes IsCallersAlone (λ p. ReadAsync p.0 p.1 p.2) (asked args) (λ p. (tt, tt)) op h,
+    λ args op h. makes IsCallersAlone (λ p. ReadAsync p.0 p.1 p.2) (request_args args) (λ p. (tt, tt)) op h,
     (
       λ args op h. makes IsCallersAlone (λ s. SendAfter s.label s.wheel s.when s.dest s.msg) (start_args args) (λ s. (tt, tt)) op h,
       (λ args op h. makes IsCallersAlone CancelQuiet (one_word args) (λ p. (tt, tt)) op h, tt),
@@ -128,7 +128,7 @@ callers_of_format Two = (
   ),
 )
 
-by_doer : (format : Format) (doer : Doer) (name : List ℕ) (args : List Data) (op : Op) → named name (groups_of doer format) args ≡ Ok op → IsDoneBy doer op
+by_doer : (format : Format) (doer : Doer) (name : List ℕ) (args : List Data) (op : Op) → op_named name (groups_of doer format) args ≡ Ok op → IsDoneBy doer op
 by_doer format Everyone name args op h = tt
 by_doer format Keeper name args op h = in_groups IsKeepersOp name (groups_of Keeper format) args op (keepers, (keepers_shared, tt)) h
 by_doer format Caller name args op h =
@@ -144,7 +144,7 @@ op_done format doer d op h =
     let name = follows (text (head items.read)) _ op items.then in
     by_doer format doer name.read (tail items.read) op name.then
 
-one_more : (doer : Doer) (found : Found Op) (rest : List (Found Op)) → ((op : Op) → found ≡ Ok op → IsDoneBy doer op) → All (IsDoneBy doer) (ops_of rest)
+one_more : (doer : Doer) (found : FoundOrFault Op) (rest : List (FoundOrFault Op)) → ((op : Op) → found ≡ Ok op → IsDoneBy doer op) → All (IsDoneBy doer) (ops_of rest)
     → All (IsDoneBy doer) (ops_of (found ∷ rest))
 one_more doer (Ok op) rest here others = All-cons (IsDoneBy doer) op (ops_of rest) (here op refl) others
 one_more doer (Err fault) rest here others = others

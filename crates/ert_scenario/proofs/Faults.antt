@@ -8,9 +8,9 @@ use Rattle.ert_ops.specs.Ranges.{IsOpInRange}
 use Rattle.ert_ops.specs.declared.op.Op.{Op}
 use Rattle.ert_ops.specs.declared.op.Op.TheVariants.{Tick, Check, Finalize, Notify, Time, System, Offset, Info, Convert, Start, SendAfter, Cancel, CancelQuiet, Read, CancelAsync, ReadAsync, Serve, Advance, Deliver, Turn, Receive, Exit, Alive, Monitor, Demonitor}
 use Rattle.ert_scenario.specs.Fields.{top_of, format_of}
-use Rattle.ert_scenario.specs.Kinds.{Found, ◌>>=◌, in_range}
+use Rattle.ert_scenario.specs.Kinds.{FoundOrFault, ◌>>=◌, if_in_range}
 use Rattle.ert_scenario.specs.Labels.{started_label, has, is_new, with_label, tested}
-use Rattle.ert_scenario.specs.Places.{fault_of, fault_in, op_founds, founds_in, HasRangeFault, raw_at, settings_in, IsRead, IsStartAt}
+use Rattle.ert_scenario.specs.Places.{fault_of, fault_in, op_founds, founds_in, HasRangeFault, raw_at, settings_in, GivesRawOps, IsStartAt}
 use Rattle.ert_scenario.specs.Ranges.{is_label, is_process, is_started, is_op}
 use Rattle.ert_scenario.specs.Lists.{OpValues, lists_found}
 use Rattle.ert_scenario.specs.Walks.{all_raws, founds_of}
@@ -72,17 +72,17 @@ passes_test g (Demonitor process monitor) h = both_true _ _ (below_test process 
 -- ---- the labels before an index
 
 -- the labels of the starts before an index, and those given
-abbrev labels_before : List ℕ → List (Found Op) → ℕ → List ℕ
+abbrev labels_before : List ℕ → List (FoundOrFault Op) → ℕ → List ℕ
 labels_before labels [] i = labels
 labels_before labels (raw ∷ raws) zero = labels
 labels_before labels (Ok op ∷ raws) (suc i) = labels_before (with_label labels (started_label op)) raws i
 labels_before labels (Err fault ∷ raws) (suc i) = labels_before labels raws i
 
 -- the fault at an index, where the op was read
-at_tested : (g : Settings) (labels : List ℕ) (raws : List (Found Op)) (i : ℕ) (op : Op) → raw_at raws i ≡ Some (Ok op)
-    → fault_in (tested g labels raws) i ≡ fault_of (in_range (is_op g op && is_new (labels_before labels raws i) (started_label op)) op)
+at_tested : (g : Settings) (labels : List ℕ) (raws : List (FoundOrFault Op)) (i : ℕ) (op : Op) → raw_at raws i ≡ Some (Ok op)
+    → fault_in (tested g labels raws) i ≡ fault_of (if_in_range (is_op g op && is_new (labels_before labels raws i) (started_label op)) op)
 at_tested g labels [] i op h = absurd (cc)
-at_tested g labels (Ok first ∷ raws) zero op h = let same : first ≡ op = cc in ap (λ o. fault_of (in_range (is_op g o && is_new labels (started_label o)) o)) same
+at_tested g labels (Ok first ∷ raws) zero op h = let same : first ≡ op = cc in ap (λ o. fault_of (if_in_range (is_op g o && is_new labels (started_label o)) o)) same
 at_tested g labels (Err fault ∷ raws) zero op h = absurd (cc)
 at_tested g labels (Ok first ∷ raws) (suc i) op h = at_tested g (with_label labels (started_label first)) raws i op h
 at_tested g labels (Err fault ∷ raws) (suc i) op h = at_tested g labels raws i op h
@@ -102,14 +102,14 @@ has_with labels None label h = h
 has_with labels (Some one) label h = has_other labels one label h
 
 -- labels given stay
-has_given : (labels : List ℕ) (raws : List (Found Op)) (i label : ℕ) → has labels label ≡ true → has (labels_before labels raws i) label ≡ true
+has_given : (labels : List ℕ) (raws : List (FoundOrFault Op)) (i label : ℕ) → has labels label ≡ true → has (labels_before labels raws i) label ≡ true
 has_given labels [] i label h = h
 has_given labels (raw ∷ raws) zero label h = h
 has_given labels (Ok op ∷ raws) (suc i) label h = has_given (with_label labels (started_label op)) raws i label (has_with labels (started_label op) label h)
 has_given labels (Err fault ∷ raws) (suc i) label h = has_given labels raws i label h
 
 -- and that of an earlier start is there
-has_earlier : (labels : List ℕ) (raws : List (Found Op)) (i j label : ℕ) (op : Op) → j < i → raw_at raws j ≡ Some (Ok op) → started_label op ≡ Some label
+has_earlier : (labels : List ℕ) (raws : List (FoundOrFault Op)) (i j label : ℕ) (op : Op) → j < i → raw_at raws j ≡ Some (Ok op) → started_label op ≡ Some label
     → has (labels_before labels raws i) label ≡ true
 has_earlier labels [] i j label op low here is = absurd (cc)
 has_earlier labels (raw ∷ raws) zero j label op low here is = absurd (omega arith)
@@ -133,14 +133,14 @@ with_has labels None label h = inr h
 with_has labels (Some one) label h =
     elim (or_parts (eqb label one) (has labels label) h) [ inl e ↦ inl (ap Some (same_label label one e)) | inr later ↦ inr later ]
 
-later_start : (raw : Found Op) (raws : List (Found Op)) (j label : ℕ) → IsStartAt raws j label → IsStartAt (raw ∷ raws) (suc j) label
+later_start : (raw : FoundOrFault Op) (raws : List (FoundOrFault Op)) (j label : ℕ) → IsStartAt raws j label → IsStartAt (raw ∷ raws) (suc j) label
 later_start raw raws j label s = record { op = s.op; here = s.here; has = s.has }
 
-first_start : (op : Op) (raws : List (Found Op)) (label : ℕ) → started_label op ≡ Some label → IsStartAt (Ok op ∷ raws) 0 label
+first_start : (op : Op) (raws : List (FoundOrFault Op)) (label : ℕ) → started_label op ≡ Some label → IsStartAt (Ok op ∷ raws) 0 label
 first_start op raws label h = record { op = op; here = refl; has = h }
 
 -- a label before an index is given, or that of an earlier start
-has_from : (labels : List ℕ) (raws : List (Found Op)) (i label : ℕ) → has (labels_before labels raws i) label ≡ true → (has labels label ≡ true → ⊥)
+has_from : (labels : List ℕ) (raws : List (FoundOrFault Op)) (i label : ℕ) → has (labels_before labels raws i) label ≡ true → (has labels label ≡ true → ⊥)
     → ((j : ℕ) → j < i → IsStartAt raws j label → ⊥) → ⊥
 has_from labels [] i label h given none = given h
 has_from labels (raw ∷ raws) zero label h given none = given h
@@ -153,7 +153,7 @@ has_from labels (Err fault ∷ raws) (suc i) label h given none =
 
 -- ---- the laws
 
-founds_read : (lists : Found OpValues) (found : Found Top) (g : Settings) (make : OpValues → List (Found Op)) (raws : List (Found Op)) → settings_in found ≡ Ok g
+founds_read : (lists : FoundOrFault OpValues) (found : FoundOrFault Top) (g : Settings) (make : OpValues → List (FoundOrFault Op)) (raws : List (FoundOrFault Op)) → settings_in found ≡ Ok g
     → (lists >>= (λ l. Ok (make l))) ≡ Ok raws → founds_in (lists >>= (λ l. Ok (founds_of found (make l)))) ≡ tested g [] raws
 founds_read (Ok l) (Ok top) g make raws opens h =
     let same : make l ≡ raws = cc in
@@ -163,35 +163,35 @@ founds_read (Ok l) (Err fault) g make raws opens h = absurd (cc)
 founds_read (Err fault) found g make raws opens h = absurd (cc)
 
 -- the fault at a place, where the op was read
-fault_at : (race : Bool) (d : Data) (g : Settings) (raws : List (Found Op)) (i : ℕ) (op : Op) → IsRead race d g raws → raw_at raws i ≡ Some (Ok op)
-    → fault_in (founds_in (op_founds race d)) i ≡ fault_of (in_range (is_op g op && is_new (labels_before [] raws i) (started_label op)) op)
+fault_at : (race : Bool) (d : Data) (g : Settings) (raws : List (FoundOrFault Op)) (i : ℕ) (op : Op) → GivesRawOps race d g raws → raw_at raws i ≡ Some (Ok op)
+    → fault_in (founds_in (op_founds race d)) i ≡ fault_of (if_in_range (is_op g op && is_new (labels_before [] raws i) (started_label op)) op)
 fault_at race d g raws i op read here =
-    ap (λ (xs : List (Found Op)). fault_in xs i) (founds_read (lists_found race d) (top_of race d) g (all_raws (format_of d)) raws read.opens read.ops)
+    ap (λ (xs : List (FoundOrFault Op)). fault_in xs i) (founds_read (lists_found race d) (top_of race d) g (all_raws (format_of d)) raws read.opens read.ops)
     ∙ at_tested g [] raws i op here
 
-fails_left : (a b : Bool) (op : Op) → (a ≡ true → ⊥) → fault_of (in_range (a && b) op) ≡ Some faults.Range
-unfolding in_range
+fails_left : (a b : Bool) (op : Op) → (a ≡ true → ⊥) → fault_of (if_in_range (a && b) op) ≡ Some faults.Range
+unfolding if_in_range
 fails_left true b op h = absurd (h refl)
 fails_left false b op h = refl
 
-fails_right : (a b : Bool) (op : Op) → b ≡ false → fault_of (in_range (a && b) op) ≡ Some faults.Range
-unfolding in_range
+fails_right : (a b : Bool) (op : Op) → b ≡ false → fault_of (if_in_range (a && b) op) ≡ Some faults.Range
+unfolding if_in_range
 fails_right true true op h = absurd (true≢false h)
 fails_right true false op h = refl
 fails_right false b op h = refl
 
-no_fault : (a b : Bool) (op : Op) → a ≡ true → b ≡ true → fault_of (in_range (a && b) op) ≡ Some faults.Range → ⊥
-unfolding in_range
+no_fault : (a b : Bool) (op : Op) → a ≡ true → b ≡ true → fault_of (if_in_range (a && b) op) ≡ Some faults.Range → ⊥
+unfolding if_in_range
 no_fault true true op e f h = cc
 no_fault true false op e f h = true≢false (sym f)
 no_fault false b op e f h = true≢false (sym e)
 
-pub out_of_range : (race : Bool) (d : Data) (g : Settings) (raws : List (Found Op)) (i : ℕ) (op : Op) → IsRead race d g raws → raw_at raws i ≡ Some (Ok op) → (IsOpInRange g op → ⊥)
+pub out_of_range : (race : Bool) (d : Data) (g : Settings) (raws : List (FoundOrFault Op)) (i : ℕ) (op : Op) → GivesRawOps race d g raws → raw_at raws i ≡ Some (Ok op) → (IsOpInRange g op → ⊥)
     → HasRangeFault race d (suc i)
 out_of_range race d g raws i op read here not =
     fault_at race d g raws i op read here ∙ fails_left (is_op g op) (is_new (labels_before [] raws i) (started_label op)) op (λ h. not (in_range_tested g op h))
 
-pub label_again : (race : Bool) (d : Data) (g : Settings) (raws : List (Found Op)) (i j label : ℕ) → IsRead race d g raws → j < i → IsStartAt raws j label → IsStartAt raws i label
+pub label_again : (race : Bool) (d : Data) (g : Settings) (raws : List (FoundOrFault Op)) (i j label : ℕ) → GivesRawOps race d g raws → j < i → IsStartAt raws j label → IsStartAt raws i label
     → HasRangeFault race d (suc i)
 label_again race d g raws i j label read low earlier later =
     let taken : has (labels_before [] raws i) label ≡ true = has_earlier [] raws i j label earlier.op low earlier.here earlier.has in
@@ -206,7 +206,7 @@ new_unless labels (Some label) h = unless (has labels label) (h label refl)
     unless true h = absurd (h refl)
     unless false h = refl
 
-pub no_other : (race : Bool) (d : Data) (g : Settings) (raws : List (Found Op)) (i : ℕ) (op : Op) → IsRead race d g raws → raw_at raws i ≡ Some (Ok op) → IsOpInRange g op
+pub no_other : (race : Bool) (d : Data) (g : Settings) (raws : List (FoundOrFault Op)) (i : ℕ) (op : Op) → GivesRawOps race d g raws → raw_at raws i ≡ Some (Ok op) → IsOpInRange g op
     → ((j label : ℕ) → j < i → IsStartAt raws j label → IsStartAt raws i label → ⊥) → HasRangeFault race d (suc i) → ⊥
 no_other race d g raws i op read here fits none h =
     let new : is_new (labels_before [] raws i) (started_label op) ≡ true =

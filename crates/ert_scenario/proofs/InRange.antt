@@ -4,10 +4,10 @@ use Rattle.std.proofs.Common.{◌≡◌, ◌+◌, ◌≤◌, ◌<◌, ℕ, List,
 use Rattle.std.proofs.lemmas.Bool.{and_parts}
 use Rattle.std.proofs.lemmas.Bool.Decides.{nat_tests}
 use Rattle.ert_defs.specs.declared.settings.Settings.{Settings}
-use Rattle.ert_ops.specs.Ranges.{IsOpInRange, IsInRange}
+use Rattle.ert_ops.specs.Ranges.{IsOpInRange, AreOpsInRange}
 use Rattle.ert_ops.specs.declared.op.Op.{Op}
 use Rattle.ert_ops.specs.declared.op.Op.TheVariants.{Tick, Check, Finalize, Notify, Start, SendAfter, Cancel, CancelQuiet, Read, CancelAsync, ReadAsync, Serve, Advance, Deliver, Turn, Receive, Exit, Alive, Monitor, Demonitor}
-use Rattle.ert_scenario.specs.Kinds.{Found, in_range}
+use Rattle.ert_scenario.specs.Kinds.{FoundOrFault, if_in_range}
 use Rattle.ert_scenario.specs.Labels.{started_label, is_new, with_label, tested}
 use Rattle.ert_scenario.specs.Ranges.{is_label, is_sched, is_process, is_started, is_op}
 use Rattle.ert_scenario.specs.Scenarios.{with_callers}
@@ -64,13 +64,13 @@ in_range_tested g _ h = tt
 
 -- ---- all ops
 
-with_one : (g : Settings) (fits : Bool) (op : Op) (rest : List (Found Op)) → (fits ≡ true → IsOpInRange g op) → IsInRange g (ops_of rest)
-    → IsInRange g (ops_of (in_range fits op ∷ rest))
-unfolding in_range
+with_one : (g : Settings) (fits : Bool) (op : Op) (rest : List (FoundOrFault Op)) → (fits ≡ true → IsOpInRange g op) → AreOpsInRange g (ops_of rest)
+    → AreOpsInRange g (ops_of (if_in_range fits op ∷ rest))
+unfolding if_in_range
 with_one g true op rest one others = (one refl, others)
 with_one g false op rest one others = others
 
-pub ops_in_range : (g : Settings) (labels : List ℕ) (raws : List (Found Op)) → IsInRange g (ops_of (tested g labels raws))
+pub ops_in_range : (g : Settings) (labels : List ℕ) (raws : List (FoundOrFault Op)) → AreOpsInRange g (ops_of (tested g labels raws))
 ops_in_range g labels [] = tt
 ops_in_range g labels (Ok op ∷ raws) =
     with_one g (is_op g op && is_new labels (started_label op)) op (tested g (with_label labels (started_label op)) raws)
@@ -78,7 +78,7 @@ ops_in_range g labels (Ok op ∷ raws) =
     (ops_in_range g (with_label labels (started_label op)) raws)
 ops_in_range g labels (Err fault ∷ raws) = ops_in_range g labels raws
 
-pub length-ops_of : (founds : List (Found Op)) → length (ops_of founds) ≤ length founds
+pub length-ops_of : (founds : List (FoundOrFault Op)) → length (ops_of founds) ≤ length founds
 length-ops_of [] = omega arith
 length-ops_of (Ok op ∷ rest) = let h : length (ops_of rest) ≤ length rest = length-ops_of rest in omega arith
 length-ops_of (Err fault ∷ rest) = let h : length (ops_of rest) ≤ length rest = length-ops_of rest in omega arith
@@ -90,14 +90,14 @@ pub still_in_range : (g : Settings) (n : ℕ) (op : Op) → IsOpInRange g op →
 still_in_range g n (Tick mono sys) h = h
 still_in_range g n _ h = h
 
-pub all_in_range : (g : Settings) (n : ℕ) (ops : List Op) → IsInRange g ops → IsInRange (with_callers n g) ops
+pub all_in_range : (g : Settings) (n : ℕ) (ops : List Op) → AreOpsInRange g ops → AreOpsInRange (with_callers n g) ops
 all_in_range g n [] h = tt
 all_in_range g n (op ∷ ops) h = (still_in_range g n op h.0, all_in_range g n ops h.1)
 
-pub range_front : (g : Settings) (a b : List Op) → IsInRange g (a ++ b) → IsInRange g a
+pub range_front : (g : Settings) (a b : List Op) → AreOpsInRange g (a ++ b) → AreOpsInRange g a
 range_front g [] b h = tt
 range_front g (op ∷ a) b h = (h.0, range_front g a b h.1)
 
-pub range_back : (g : Settings) (a b : List Op) → IsInRange g (a ++ b) → IsInRange g b
+pub range_back : (g : Settings) (a b : List Op) → AreOpsInRange g (a ++ b) → AreOpsInRange g b
 range_back g [] b h = h
 range_back g (op ∷ a) b h = range_back g a b h.1

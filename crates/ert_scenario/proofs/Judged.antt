@@ -3,7 +3,7 @@
 use Rattle.std.proofs.Common.{◌≡◌, ◌≢◌, ℕ, List, [], length, true, false, Option, Some, None, Ok, Err, cond, sym, ap, ◌∙◌, refl}
 use Rattle.std.proofs.lemmas.List.{length-map}
 use Rattle.ert_ops.specs.declared.op.Op.{Op}
-use Rattle.ert_scenario.specs.Kinds.{Found}
+use Rattle.ert_scenario.specs.Kinds.{FoundOrFault}
 use Rattle.ert_scenario.specs.Labels.{tested}
 use Rattle.ert_scenario.specs.Lists.{OpValues, list_count}
 use Rattle.ert_scenario.specs.Scenarios.{Plan, is_over, over, planned, judged}
@@ -16,7 +16,7 @@ use Rattle.ert_scenario.specs.declared.scenario.ScenarioErr.TheVariants.{Json, S
 use Rattle.ert_scenario.proofs.Tested.{first_shape-tested, length-tested, whole_walk}
 
 -- what ends the walk is the verdict
-pub ends_walk : (format : Format) (lists : OpValues) (top : Top) (raws : List (Found Op)) (e : ScenarioErr) → IsShapeAt e (first_shape 1 raws) → e ≢ NoMemory
+pub ends_walk : (format : Format) (lists : OpValues) (top : Top) (raws : List (FoundOrFault Op)) (e : ScenarioErr) → IsShapeAt e (first_shape 1 raws) → e ≢ NoMemory
     → judged format lists (Ok top) (tested top.settings [] raws) ≡ Err e
 ends_walk format lists top raws Json h other = absurd h
 ends_walk format lists top raws (Shape place) h other =
@@ -27,7 +27,7 @@ ends_walk format lists top raws (Limit place) h other = absurd h
 ends_walk format lists top raws NoMemory h other = absurd (other refl)
 
 -- a range fault of an op
-pub judged_range : (format : Format) (lists : OpValues) (top : Top) (raws : List (Found Op)) (place : ℕ) → first_shape 1 raws ≡ None
+pub judged_range : (format : Format) (lists : OpValues) (top : Top) (raws : List (FoundOrFault Op)) (place : ℕ) → first_shape 1 raws ≡ None
     → Some place ≡ first_range 1 (tested top.settings [] raws) → judged format lists (Ok top) (tested top.settings [] raws) ≡ Err (Range place)
 judged_range format lists top raws place shape range =
     let same : first_shape 1 (tested top.settings [] raws) ≡ None = first_shape-tested top.settings [] raws 1 ∙ shape in
@@ -35,17 +35,17 @@ judged_range format lists top raws place shape range =
     rw (same, found) refl
 
 -- as many ops as the walk kept, where there is no range fault
-length_kept : (top : Top) (ops : List Op) (range : Option ℕ) (raws : List (Found Op)) → IsOver ops range raws → first_range 1 (tested top.settings [] raws) ≡ None
+length_kept : (top : Top) (ops : List Op) (range : Option ℕ) (raws : List (FoundOrFault Op)) → IsOver ops range raws → first_range 1 (tested top.settings [] raws) ≡ None
     → length (tested top.settings [] raws) ≡ length ops
 length_kept top ops range raws walk none =
     length-tested top.settings [] raws ∙ ap length (whole_walk top.settings ops range raws walk none) ∙ length-map ops Ok
 
-over_at : (top : Top) (lists : OpValues) (ops : List Op) (founds : List (Found Op)) → length founds ≡ length ops
+over_at : (top : Top) (lists : OpValues) (ops : List Op) (founds : List (FoundOrFault Op)) → length founds ≡ length ops
     → over top lists.race founds ≡ cond (is_over (length ops) (list_count lists.race) top.turns) (Some 0) None
 over_at top lists ops founds n = ap (λ k. cond (is_over k (list_count lists.race) top.turns) (Some 0) None) n
 
 -- too much of something
-pub judged_limit : (format : Format) (lists : OpValues) (top : Top) (ops : List Op) (range : Option ℕ) (raws : List (Found Op)) → IsOver ops range raws
+pub judged_limit : (format : Format) (lists : OpValues) (top : Top) (ops : List Op) (range : Option ℕ) (raws : List (FoundOrFault Op)) → IsOver ops range raws
     → first_range 1 (tested top.settings [] raws) ≡ None → is_over (length ops) (list_count lists.race) top.turns ≡ true
     → judged format lists (Ok top) (tested top.settings [] raws) ≡ Err (Limit 0)
 judged_limit format lists top ops range raws walk none many =
@@ -55,7 +55,7 @@ judged_limit format lists top ops range raws walk none many =
     rw (same, none, limit) refl
 
 -- a scenario
-pub judged_ok : (format : Format) (lists : OpValues) (top : Top) (ops : List Op) (range : Option ℕ) (raws : List (Found Op)) (plan : Plan) → IsOver ops range raws
+pub judged_ok : (format : Format) (lists : OpValues) (top : Top) (ops : List Op) (range : Option ℕ) (raws : List (FoundOrFault Op)) (plan : Plan) → IsOver ops range raws
     → first_range 1 (tested top.settings [] raws) ≡ None → is_over (length ops) (list_count lists.race) top.turns ≡ false → plan ≡ planned format lists top
     → judged format lists (Ok top) (tested top.settings [] raws) ≡ Ok plan
 judged_ok format lists top ops range raws plan walk none few made =

@@ -7,8 +7,8 @@ use Rattle.serde_json.specs.Find.{get, get_member}
 use Rattle.serde_json.proofs.Views.{get_member-put, get_member-put_other}
 use Rattle.ert_ops.specs.Races.{Race}
 use Rattle.ert_ops.specs.declared.op.Op.{Op}
-use Rattle.ert_scenario.specs.Fields.{is_among, race_fields, is_field, are_named, only_named, field, times, modes, clock_of, sizes_of, one_or_two, settings_of, race_turns, top_of, format_of}
-use Rattle.ert_scenario.specs.Kinds.{Found, found_map, ◌>>=◌, both, of_kind, in_range, integer, listed, arrays}
+use Rattle.ert_scenario.specs.Fields.{is_among, race_fields, is_field, are_named, only_named, field, start_and_first, modes, clock_fields_of, sizes_of, one_or_two, settings_from, race_turns, top_of, format_of}
+use Rattle.ert_scenario.specs.Kinds.{FoundOrFault, found_map, ◌>>=◌, read_both, of_kind, if_in_range, integer, listed, arrays}
 use Rattle.ert_scenario.specs.Lists.{RaceValues, OpValues, race_lists, lists_in, lists_found, list_count}
 use Rattle.ert_scenario.specs.Migration.{IsOfFormat, migrated_op, each, migrated_list, with_field, changed_to, changed, migrated_race, migrated}
 use Rattle.ert_scenario.specs.Scenarios.{Plan, IsValue, IsScenario, with_callers, planned_race, planned, judged, judged_all, verdict_of}
@@ -62,7 +62,7 @@ race_with p = record { keeper = p.0; callers = p.1 }
 abbrev both_moved : List Data × List Data → List Data × List Data
 both_moved p = (map migrated_op p.0, map migrated_list p.1)
 
-then_race : (found : Found (List Data × List Data)) → (found_map both_moved found >>= (λ p. Ok (race_with p))) ≡ found_map moved_race (found >>= (λ p. Ok (race_with p)))
+then_race : (found : FoundOrFault (List Data × List Data)) → (found_map both_moved found >>= (λ p. Ok (race_with p))) ≡ found_map moved_race (found >>= (λ p. Ok (race_with p)))
 then_race (Ok p) = refl
 then_race (Err fault) = refl
 
@@ -70,11 +70,11 @@ lists_in_moved : (race : Data) → lists_in (migrated_race race) ≡ found_map m
 lists_in_moved race =
     let keeper : listed (get KEEPER (migrated_race race)) ≡ found_map (map migrated_op) (listed (get KEEPER race)) = ap listed (keeper_moved race) ∙ each_listed migrated_op (get KEEPER race) in
     let callers : arrays (get CALLERS (migrated_race race)) ≡ found_map (map migrated_list) (arrays (get CALLERS race)) = ap arrays (callers_moved race) ∙ each_arrays (get CALLERS race) in
-    ap (λ (found : Found (List Data)). both found (arrays (get CALLERS (migrated_race race))) >>= (λ p. Ok (race_with p))) keeper
-    ∙ ap (λ (found : Found (List Data)). both (found_map (map migrated_op) (listed (get KEEPER race))) found >>= (λ p. Ok (race_with p))) callers
-    ∙ ap (λ (found : Found (List Data × List Data)). found >>= (λ p. Ok (race_with p)))
+    ap (λ (found : FoundOrFault (List Data)). read_both found (arrays (get CALLERS (migrated_race race))) >>= (λ p. Ok (race_with p))) keeper
+    ∙ ap (λ (found : FoundOrFault (List Data)). read_both (found_map (map migrated_op) (listed (get KEEPER race))) found >>= (λ p. Ok (race_with p))) callers
+    ∙ ap (λ (found : FoundOrFault (List Data × List Data)). found >>= (λ p. Ok (race_with p)))
     (sym (both_seen (map migrated_op) (map migrated_list) (listed (get KEEPER race)) (arrays (get CALLERS race))))
-    ∙ then_race (both (listed (get KEEPER race)) (arrays (get CALLERS race)))
+    ∙ then_race (read_both (listed (get KEEPER race)) (arrays (get CALLERS race)))
 
 race_lists_moved : (o : Option Data) → race_lists (option_map migrated_race o) ≡ found_map moved_race (race_lists o)
 unfolding race_lists of_kind
@@ -122,16 +122,16 @@ unfolding migrated with_field
 moved_object ms =
     let first = stays_object OPS migrated_list ms in
     let then = stays_object RACE migrated_race first.0 in
-    let both : with_lists (object ms) ≡ object then.0 = ap (changed RACE migrated_race) first.1 ∙ then.1 in
-    record { members = then.0; lists = both; is = ap (with_field FORMAT (number (unsigned 2))) both }
+    let lists_moved : with_lists (object ms) ≡ object then.0 = ap (changed RACE migrated_race) first.1 ∙ then.1 in
+    record { members = then.0; lists = lists_moved; is = ap (with_field FORMAT (number (unsigned 2))) lists_moved }
 
 has_format : (d : Data) → IsOfFormat 1 d → IsMoved d
 unfolding integer of_kind
 has_format (object ms) h = moved_object ms
 has_format _ h = absurd (cc)
 
-no_ops : {X : Type 0} (rest : Found RaceValues) (make : List Data × RaceValues → Found X) (x : X) → (both (Err Shape) rest >>= make) ≡ Ok x → ⊥
-unfolding both
+no_ops : {X : Type 0} (rest : FoundOrFault RaceValues) (make : List Data × RaceValues → FoundOrFault X) (x : X) → (read_both (Err Shape) rest >>= make) ≡ Ok x → ⊥
+unfolding read_both
 no_ops rest make x h = cc
 
 -- a value that has lists is an object
@@ -167,8 +167,8 @@ fields_moved race d m =
     ap (only_named (is_field race)) m.is ∙ rw same refl ∙ ap (only_named (is_field race)) (sym m.lists)
     ∙ same_names (is_field race) RACE migrated_race (changed OPS migrated_list d) ∙ same_names (is_field race) OPS migrated_list d
 
-clock_moved : (d : Data) → IsMoved d → clock_of (migrated d) ≡ clock_of d
-unfolding clock_of times modes
+clock_moved : (d : Data) → IsMoved d → clock_fields_of (migrated d) ≡ clock_fields_of d
+unfolding clock_fields_of start_and_first modes
 clock_moved d m =
     rw (other_kept d (codes "start") m refl refl refl, other_kept d (codes "first") m refl refl refl, other_kept d (codes "mode") m refl refl refl, other_kept d (codes "correction") m refl refl refl)
     refl
@@ -179,15 +179,15 @@ sizes_moved d m =
     rw (other_kept d (codes "schedulers") m refl refl refl, other_kept d (codes "processes") m refl refl refl, other_kept d (codes "slots") m refl refl refl) refl
 
 one_of_format : (d : Data) → IsOfFormat 1 d → field FORMAT one_or_two d ≡ Ok tt
-unfolding one_or_two in_range
+unfolding one_or_two if_in_range
 one_of_format d h = rw h refl
 
 two_moved : (d : Data) → IsMoved d → field FORMAT one_or_two (migrated d) ≡ Ok tt
-unfolding one_or_two in_range integer of_kind
+unfolding one_or_two if_in_range integer of_kind
 two_moved d m = rw (format_moved d m) refl
 
-settings_moved : (race : Bool) (d : Data) → IsOfFormat 1 d → IsMoved d → settings_of race (migrated d) ≡ settings_of race d
-unfolding settings_of
+settings_moved : (race : Bool) (d : Data) → IsOfFormat 1 d → IsMoved d → settings_from race (migrated d) ≡ settings_from race d
+unfolding settings_from
 settings_moved race d h m =
     let formats : field FORMAT one_or_two (migrated d) ≡ field FORMAT one_or_two d = two_moved d m ∙ sym (one_of_format d h) in
     rw (fields_moved race d m, formats, clock_moved d m, sizes_moved d m) refl
@@ -214,14 +214,14 @@ reads_one d h = rw h refl
 abbrev alone : List Data → OpValues
 alone ops = record { ops = ops; race = None }
 
-then_alone : (found : Found (List Data)) → (found_map (map migrated_op) found >>= (λ ops. Ok (alone ops))) ≡ found_map moved_lists (found >>= (λ ops. Ok (alone ops)))
+then_alone : (found : FoundOrFault (List Data)) → (found_map (map migrated_op) found >>= (λ ops. Ok (alone ops))) ≡ found_map moved_lists (found >>= (λ ops. Ok (alone ops)))
 then_alone (Ok ops) = refl
 then_alone (Err fault) = refl
 
 abbrev together : List Data × RaceValues → OpValues
 together p = record { ops = p.0; race = Some p.1 }
 
-then_together : (found : Found (List Data × RaceValues))
+then_together : (found : FoundOrFault (List Data × RaceValues))
     → (found_map (λ p. (map migrated_op p.0, moved_race p.1)) found >>= (λ p. Ok (together p))) ≡ found_map moved_lists (found >>= (λ p. Ok (together p)))
 then_together (Ok p) = refl
 then_together (Err fault) = refl
@@ -229,14 +229,14 @@ then_together (Err fault) = refl
 lists_moved : (race : Bool) (d : Data) → IsMoved d → lists_found race (migrated d) ≡ found_map moved_lists (lists_found race d)
 unfolding lists_found
 lists_moved false d m =
-    ap (λ (found : Found (List Data)). found >>= (λ ops. Ok (alone ops))) (ap listed (ops_moved d m) ∙ each_listed migrated_op (get OPS d)) ∙ then_alone (listed (get OPS d))
+    ap (λ (found : FoundOrFault (List Data)). found >>= (λ ops. Ok (alone ops))) (ap listed (ops_moved d m) ∙ each_listed migrated_op (get OPS d)) ∙ then_alone (listed (get OPS d))
 lists_moved true d m =
     let ops : listed (get OPS (migrated d)) ≡ found_map (map migrated_op) (listed (get OPS d)) = ap listed (ops_moved d m) ∙ each_listed migrated_op (get OPS d) in
     let race : race_lists (get RACE (migrated d)) ≡ found_map moved_race (race_lists (get RACE d)) = ap race_lists (race_moved d m) ∙ race_lists_moved (get RACE d) in
-    ap (λ (found : Found (List Data)). both found (race_lists (get RACE (migrated d))) >>= (λ p. Ok (together p))) ops
-    ∙ ap (λ (found : Found RaceValues). both (found_map (map migrated_op) (listed (get OPS d))) found >>= (λ p. Ok (together p))) race
-    ∙ ap (λ (found : Found (List Data × RaceValues)). found >>= (λ p. Ok (together p))) (sym (both_seen (map migrated_op) moved_race (listed (get OPS d)) (race_lists (get RACE d))))
-    ∙ then_together (both (listed (get OPS d)) (race_lists (get RACE d)))
+    ap (λ (found : FoundOrFault (List Data)). read_both found (race_lists (get RACE (migrated d))) >>= (λ p. Ok (together p))) ops
+    ∙ ap (λ (found : FoundOrFault RaceValues). read_both (found_map (map migrated_op) (listed (get OPS d))) found >>= (λ p. Ok (together p))) race
+    ∙ ap (λ (found : FoundOrFault (List Data × RaceValues)). found >>= (λ p. Ok (together p))) (sym (both_seen (map migrated_op) moved_race (listed (get OPS d)) (race_lists (get RACE d))))
+    ∙ then_together (read_both (listed (get OPS d)) (race_lists (get RACE d)))
 
 -- ---- the verdict
 
@@ -258,7 +258,7 @@ same_judged lists top ops h =
     ap (λ n. plan_with n top (ops_of (raws_of Two Everyone (map migrated_op lists.ops))) (option_map (planned_race Two top.turns) (option_map moved_race lists.race))) (same_count lists.race)
     ∙ ap (λ (xs : List Op). plan_with (list_count lists.race) top xs (option_map (planned_race Two top.turns) (option_map moved_race lists.race))) k.ops
     ∙ ap (plan_with (list_count lists.race) top (ops_of (raws_of One Everyone lists.ops))) k.race in
-    ap (λ (raws : List (Found Op)). judged Two (moved_lists lists) (Ok top) (tested top.settings [] raws)) k.raws ∙ rw (plans, same_count lists.race) refl
+    ap (λ (raws : List (FoundOrFault Op)). judged Two (moved_lists lists) (Ok top) (tested top.settings [] raws)) k.raws ∙ rw (plans, same_count lists.race) refl
 
 -- a value of format 1 that is a scenario is the same one when it is migrated
 pub migrated_same : (race : Bool) (d : Data) (plan : Plan) → IsOfFormat 1 d → verdict_of race d ≡ Ok plan → verdict_of race (migrated d) ≡ Ok plan
@@ -274,12 +274,12 @@ migrated_same race d plan one h =
     let before : judged_all One (Ok t.lists) (Ok t.top) ≡ Ok plan = verdict_parts (format_of d) (lists_found race d) (top_of race d) t.lists t.top plan reads t.listed t.opens h in
     rw (two, ours, top) (same_judged t.lists t.top _ clean ∙ before)
   where
-    verdict_parts : (format : Format) (found : Found OpValues) (opened : Found Top) (lists : OpValues) (top : Top) (plan : Plan) → format ≡ One → found ≡ Ok lists → opened ≡ Ok top
+    verdict_parts : (format : Format) (found : FoundOrFault OpValues) (opened : FoundOrFault Top) (lists : OpValues) (top : Top) (plan : Plan) → format ≡ One → found ≡ Ok lists → opened ≡ Ok top
         → judged_all format found opened ≡ Ok plan → judged_all One (Ok lists) (Ok top) ≡ Ok plan
     verdict_parts format found opened lists top plan e f g h =
         let p = subst (λ o. judged_all o found opened ≡ Ok plan) e h in
-        let q = subst (λ (l : Found OpValues). judged_all One l opened ≡ Ok plan) f p in
-        subst (λ (t : Found Top). judged_all One (Ok lists) t ≡ Ok plan) g q
+        let q = subst (λ (l : FoundOrFault OpValues). judged_all One l opened ≡ Ok plan) f p in
+        subst (λ (t : FoundOrFault Top). judged_all One (Ok lists) t ≡ Ok plan) g q
 
 -- and its format is 2
 pub migrated_two : (race : Bool) (d : Data) (plan : Plan) → verdict_of race d ≡ Ok plan → IsOfFormat 2 (migrated d)

@@ -4,10 +4,10 @@ use Rattle.std.proofs.Common.{◌≡◌, ◌+◌, ◌<◌, ◌≤◌, ◌⊎◌,
 use Rattle.std.proofs.lemmas.Bool.Decides.{nat_tests}
 use Rattle.serde_json.specs.Data.{Data}
 use Rattle.ert_scenario.specs.Fields.{top_of, format_of}
-use Rattle.ert_scenario.specs.Kinds.{Found, ◌>>=◌, both, of_kind, listed, arrays}
+use Rattle.ert_scenario.specs.Kinds.{FoundOrFault, ◌>>=◌, read_both, of_kind, listed, arrays}
 use Rattle.ert_scenario.specs.Lists.{OpValues, lists_in, race_lists, lists_found, list_count}
-use Rattle.ert_scenario.specs.Places.{fault_in, founds_in, op_founds, fault_by, HasShapeFault, count_in, turns_in, IsLeast, IsNowhere}
-use Rattle.ert_scenario.specs.Scenarios.{Plan, Verdict, IsValue, Judges, IsScenario, HasRefusal, refused, is_over, over, planned, judged, judged_all, verdict_of}
+use Rattle.ert_scenario.specs.Places.{fault_in, founds_in, op_founds, fault_by, HasShapeFault, caller_list_count, turns_in, IsLeast, IsNowhere}
+use Rattle.ert_scenario.specs.Scenarios.{Plan, Verdict, IsValue, IsValueWith, IsScenario, HasRefusal, refused, is_over, over, planned, judged, judged_all, verdict_of}
 use Rattle.ert_scenario.specs.Walks.{first_shape, first_range, all_raws, founds_of}
 use Rattle.ert_scenario.specs.declared.fault.Fault.{Fault}
 use Rattle.ert_scenario.specs.declared.fault.Fault.TheVariants as faults
@@ -22,10 +22,10 @@ use Rattle.ert_scenario.proofs.LeastFrom.{LeastFrom, Lacks, shape_from, lacks_sh
 
 -- ---- the places of a value
 
-abbrev pub Has : Found Top → Found (List (Found Op)) → Fault → ℕ → Type 0
+abbrev pub Has : FoundOrFault Top → FoundOrFault (List (FoundOrFault Op)) → Fault → ℕ → Type 0
 Has settings items fault place = fault_by settings items place ≡ Some fault
 
-from_ops : (settings : Found Top) (values : List (Found Op)) (fault : Fault) (place : ℕ) → (Has settings (Ok values) fault 0 → ⊥)
+from_ops : (settings : FoundOrFault Top) (values : List (FoundOrFault Op)) (fault : Fault) (place : ℕ) → (Has settings (Ok values) fault 0 → ⊥)
     → LeastFrom 1 place fault values → IsLeast (Has settings (Ok values) fault) place
 from_ops settings values fault place not h =
     let at : suc h.index ≡ place = let e : place ≡ 1 + h.index = h.at in omega arith in
@@ -34,18 +34,18 @@ from_ops settings values fault place not h =
       least = below settings values fault h.index not h.least;
     })
   where
-    below : (settings : Found Top) (values : List (Found Op)) (fault : Fault) (index : ℕ) → (Has settings (Ok values) fault 0 → ⊥)
+    below : (settings : FoundOrFault Top) (values : List (FoundOrFault Op)) (fault : Fault) (index : ℕ) → (Has settings (Ok values) fault 0 → ⊥)
         → ((i : ℕ) → i < index → fault_in values i ≡ Some fault → ⊥)
         → (lesser : ℕ) → lesser < suc index → Has settings (Ok values) fault lesser → ⊥
     below settings values fault index not others zero low h = not h
     below settings values fault index not others (suc i) low h = others i (omega arith) h
 
-nowhere : (settings : Found Top) (values : List (Found Op)) (fault : Fault) → (Has settings (Ok values) fault 0 → ⊥)
+nowhere : (settings : FoundOrFault Top) (values : List (FoundOrFault Op)) (fault : Fault) → (Has settings (Ok values) fault 0 → ⊥)
     → Lacks fault values → IsNowhere (Has settings (Ok values) fault)
 nowhere settings values fault not lacks zero h = not h
 nowhere settings values fault not lacks (suc i) h = lacks i h
 
-at_zero : (settings : Found Top) (items : Found (List (Found Op))) (fault : Fault) (place : ℕ) → Has settings items fault 0 → 0 ≡ place
+at_zero : (settings : FoundOrFault Top) (items : FoundOrFault (List (FoundOrFault Op))) (fault : Fault) (place : ℕ) → Has settings items fault 0 → 0 ≡ place
     → IsLeast (Has settings items fault) place
 at_zero settings items fault place h e =
     subst (IsLeast (Has settings items fault)) e (record { here = h; least = λ lesser low h. absurd (omega arith) })
@@ -72,29 +72,29 @@ found_at why None otherwise place same not h = absurd (not h)
 found_at why (Some other) otherwise place same not h = ap Some (same other h)
 
 -- where settings are accepted, the ops alone can have faults
-clean_at_zero : (s : Top) (values : List (Found Op)) (fault : Fault) → Has (Ok s) (Ok values) fault 0 → ⊥
-unfolding both
+clean_at_zero : (s : Top) (values : List (FoundOrFault Op)) (fault : Fault) → Has (Ok s) (Ok values) fault 0 → ⊥
+unfolding read_both
 clean_at_zero s values fault h = cc
 
-ranged_at_zero : (values : List (Found Op)) → Has (Err faults.Range) (Ok values) faults.Shape 0 → ⊥
-unfolding both
+ranged_at_zero : (values : List (FoundOrFault Op)) → Has (Err faults.Range) (Ok values) faults.Shape 0 → ⊥
+unfolding read_both
 ranged_at_zero values h = cc
 
-range_at_zero : (values : List (Found Op)) → Has (Err faults.Range) (Ok values) faults.Range 0
-unfolding both
+range_at_zero : (values : List (FoundOrFault Op)) → Has (Err faults.Range) (Ok values) faults.Range 0
+unfolding read_both
 range_at_zero values = refl
 
-shape_at_zero : (items : Found (List (Found Op))) → Has (Err faults.Shape) items faults.Shape 0
-unfolding both
+shape_at_zero : (items : FoundOrFault (List (FoundOrFault Op))) → Has (Err faults.Shape) items faults.Shape 0
+unfolding read_both
 shape_at_zero items = refl
 
-items_at_zero : (settings : Found Top) → Has settings (Err faults.Shape) faults.Shape 0
-unfolding both
+items_at_zero : (settings : FoundOrFault Top) → Has settings (Err faults.Shape) faults.Shape 0
+unfolding read_both
 items_at_zero (Ok s) = refl
 items_at_zero (Err faults.Shape) = refl
 items_at_zero (Err faults.Range) = refl
 
-shape_places : (format : Format) (lists : OpValues) (settings : Found Top) (values : List (Found Op)) (place : ℕ)
+shape_places : (format : Format) (lists : OpValues) (settings : FoundOrFault Top) (values : List (FoundOrFault Op)) (place : ℕ)
     → judged format lists settings values ≡ Err (Shape place) → IsLeast (Has settings (Ok values) faults.Shape) place
 shape_places format lists (Err faults.Shape) values place h = at_zero _ _ _ place (shape_at_zero (Ok values)) (cc)
 shape_places format lists (Err faults.Range) values place h =
@@ -104,7 +104,7 @@ shape_places format lists (Ok s) values place h =
     from_ops _ values faults.Shape place (clean_at_zero s values faults.Shape) (shape_from 1 place values
     (found_at Shape (first_shape 1 values) _ place (λ other e. cc) (not_shape format lists s values place) h))
   where
-    not_shape : (format : Format) (lists : OpValues) (s : Top) (values : List (Found Op)) (place : ℕ)
+    not_shape : (format : Format) (lists : OpValues) (s : Top) (values : List (FoundOrFault Op)) (place : ℕ)
         → refused Range (first_range 1 values) (refused Limit (over s lists.race values) (accepted format lists s)) ≡ Err (Shape place) → ⊥
     not_shape format lists s values place e =
         let range = not_for Range (first_range 1 values) _ _ (λ other e. cc) e in
@@ -113,11 +113,11 @@ shape_places format lists (Ok s) values place h =
         cc
 
 -- no place has a shape fault, and this is the least with a range fault
-pub record RangeAt (settings : Found Top) (items : Found (List (Found Op))) (place : ℕ) : Type 0 where
+pub record RangeAt (settings : FoundOrFault Top) (items : FoundOrFault (List (FoundOrFault Op))) (place : ℕ) : Type 0 where
   pub shape : IsNowhere (Has settings items faults.Shape)
   pub range : IsLeast (Has settings items faults.Range) place
 
-range_places : (format : Format) (lists : OpValues) (settings : Found Top) (values : List (Found Op)) (place : ℕ)
+range_places : (format : Format) (lists : OpValues) (settings : FoundOrFault Top) (values : List (FoundOrFault Op)) (place : ℕ)
     → judged format lists settings values ≡ Err (Range place) → RangeAt settings (Ok values) place
 range_places format lists (Err faults.Shape) values place h = absurd (cc)
 range_places format lists (Err faults.Range) values place h =
@@ -136,7 +136,7 @@ range_places format lists (Ok s) values place h =
       range = from_ops _ values faults.Range place (clean_at_zero s values faults.Range) (range_from 1 place values lacks found);
     }
   where
-    not_range : (format : Format) (lists : OpValues) (s : Top) (values : List (Found Op)) (place : ℕ)
+    not_range : (format : Format) (lists : OpValues) (s : Top) (values : List (FoundOrFault Op)) (place : ℕ)
         → refused Limit (over s lists.race values) (accepted format lists s) ≡ Err (Range place) → ⊥
     not_range format lists s values place e =
         let limit = not_for Limit (over s lists.race values) _ _ (λ other e. cc) e in
@@ -144,11 +144,11 @@ range_places format lists (Ok s) values place h =
         cc
 
 -- no place has a fault
-pub record IsFaultless (settings : Found Top) (items : Found (List (Found Op))) : Type 0 where
+pub record IsFaultless (settings : FoundOrFault Top) (items : FoundOrFault (List (FoundOrFault Op))) : Type 0 where
   pub shape : IsNowhere (Has settings items faults.Shape)
   pub range : IsNowhere (Has settings items faults.Range)
 
-faultless : (s : Top) (values : List (Found Op)) → first_shape 1 values ≡ None → first_range 1 values ≡ None → IsFaultless (Ok s) (Ok values)
+faultless : (s : Top) (values : List (FoundOrFault Op)) → first_shape 1 values ≡ None → first_range 1 values ≡ None → IsFaultless (Ok s) (Ok values)
 faultless s values shape range = record {
   shape = nowhere _ values faults.Shape (clean_at_zero s values faults.Shape) (lacks_shape 1 values shape);
   range = nowhere _ values faults.Range (clean_at_zero s values faults.Range) (lacks_range 1 values range);
@@ -159,7 +159,7 @@ abbrev pub Exceeds : ℕ → ℕ → ℕ → Type 0
 Exceeds ops lists turns = (100000 < ops) ⊎ ((16 < lists) ⊎ (10000 < turns))
 
 -- the same of a value without a fault
-pub record TooMany (settings : Found Top) (items : Found (List (Found Op))) (lists place : ℕ) : Type 0 where
+pub record TooMany (settings : FoundOrFault Top) (items : FoundOrFault (List (FoundOrFault Op))) (lists place : ℕ) : Type 0 where
   pub at : place ≡ 0
   pub faultless : IsFaultless settings items
   pub many : Exceeds (length (founds_in items)) lists (turns_in settings)
@@ -188,7 +188,7 @@ over_at ops lists turns place h =
     exceeds ops lists turns (inl h) = inl (above 100000 ops h)
     exceeds ops lists turns (inr h) = inr (exceeds_later lists turns (either (ltb 16 lists) (ltb 10000 turns) h))
 
-limit_places : (format : Format) (lists : OpValues) (settings : Found Top) (values : List (Found Op)) (place : ℕ)
+limit_places : (format : Format) (lists : OpValues) (settings : FoundOrFault Top) (values : List (FoundOrFault Op)) (place : ℕ)
     → judged format lists settings values ≡ Err (Limit place) → TooMany settings (Ok values) (list_count lists.race) place
 limit_places format lists (Err faults.Shape) values place h = absurd (cc)
 limit_places format lists (Err faults.Range) values place h =
@@ -209,15 +209,15 @@ few_exceed ops lists turns few (inr (inl h)) = let most : lists ≤ 16 = few.few
 few_exceed ops lists turns few (inr (inr h)) = let most : turns ≤ 10000 = few.few_turns in omega arith
 
 -- no place has a fault, and there is not too much of anything
-pub record IsClean (settings : Found Top) (items : Found (List (Found Op))) (lists : ℕ) : Type 0 where
+pub record IsClean (settings : FoundOrFault Top) (items : FoundOrFault (List (FoundOrFault Op))) (lists : ℕ) : Type 0 where
   pub faultless : IsFaultless settings items
   pub few : Exceeds (length (founds_in items)) lists (turns_in settings) → ⊥
 
-accepted_places : (format : Format) (lists : OpValues) (settings : Found Top) (values : List (Found Op)) (plan : Plan)
+accepted_places : (format : Format) (lists : OpValues) (settings : FoundOrFault Top) (values : List (FoundOrFault Op)) (plan : Plan)
     → judged format lists settings values ≡ Ok plan → IsClean settings (Ok values) (list_count lists.race)
 accepted_places format lists settings values plan h =
     let a = accepts format lists settings values plan h in
-    subst (λ (found : Found Top). IsClean found (Ok values) (list_count lists.race)) (sym a.opens) (record {
+    subst (λ (found : FoundOrFault Top). IsClean found (Ok values) (list_count lists.race)) (sym a.opens) (record {
       faultless = faultless a.top values a.shape a.range;
       few = few_exceed (length values) (list_count lists.race) a.top.turns a.few;
     })
@@ -225,27 +225,27 @@ accepted_places format lists settings values plan h =
 -- ---- the lists
 
 -- what the ops of lists are, with what stands at place 0
-abbrev items_by : Format → Found OpValues → Found Top → Found (List (Found Op))
+abbrev items_by : Format → FoundOrFault OpValues → FoundOrFault Top → FoundOrFault (List (FoundOrFault Op))
 items_by format found top = found >>= (λ lists. Ok (founds_of top (all_raws format lists)))
 
-shape_all : (format : Format) (found : Found OpValues) (top : Found Top) (place : ℕ) → (found ≡ Err faults.Range → ⊥)
+shape_all : (format : Format) (found : FoundOrFault OpValues) (top : FoundOrFault Top) (place : ℕ) → (found ≡ Err faults.Range → ⊥)
     → judged_all format found top ≡ Err (Shape place) → IsLeast (Has top (items_by format found top) faults.Shape) place
 shape_all format (Ok lists) top place not h = shape_places format lists top (founds_of top (all_raws format lists)) place h
 shape_all format (Err faults.Shape) top place not h = at_zero top _ _ place (items_at_zero top) (cc)
 shape_all format (Err faults.Range) top place not h = absurd (not refl)
 
-range_all : (format : Format) (found : Found OpValues) (top : Found Top) (place : ℕ) → judged_all format found top ≡ Err (Range place)
+range_all : (format : Format) (found : FoundOrFault OpValues) (top : FoundOrFault Top) (place : ℕ) → judged_all format found top ≡ Err (Range place)
     → RangeAt top (items_by format found top) place
 range_all format (Ok lists) top place h = range_places format lists top (founds_of top (all_raws format lists)) place h
 range_all format (Err fault) top place h = absurd (cc)
 
-limit_all : (format : Format) (found : Found OpValues) (top : Found Top) (place : ℕ) → judged_all format found top ≡ Err (Limit place)
-    → TooMany top (items_by format found top) (count_in found) place
+limit_all : (format : Format) (found : FoundOrFault OpValues) (top : FoundOrFault Top) (place : ℕ) → judged_all format found top ≡ Err (Limit place)
+    → TooMany top (items_by format found top) (caller_list_count found) place
 limit_all format (Ok lists) top place h = limit_places format lists top (founds_of top (all_raws format lists)) place h
 limit_all format (Err fault) top place h = absurd (cc)
 
-accepted_all : (format : Format) (found : Found OpValues) (top : Found Top) (plan : Plan) → judged_all format found top ≡ Ok plan
-    → IsClean top (items_by format found top) (count_in found)
+accepted_all : (format : Format) (found : FoundOrFault OpValues) (top : FoundOrFault Top) (plan : Plan) → judged_all format found top ≡ Ok plan
+    → IsClean top (items_by format found top) (caller_list_count found)
 accepted_all format (Ok lists) top plan h = accepted_places format lists top (founds_of top (all_raws format lists)) plan h
 accepted_all format (Err fault) top plan h = absurd (cc)
 
@@ -254,7 +254,7 @@ unfolding of_kind
 kind_not_range None h = cc
 kind_not_range (Some x) h = cc
 
-next_not_range : {A B : Type 0} (found : Found A) (next : A → Found B) → (found ≡ Err faults.Range → ⊥) → ((a : A) → next a ≡ Err faults.Range → ⊥)
+next_not_range : {A B : Type 0} (found : FoundOrFault A) (next : A → FoundOrFault B) → (found ≡ Err faults.Range → ⊥) → ((a : A) → next a ≡ Err faults.Range → ⊥)
     → (found >>= next) ≡ Err faults.Range → ⊥
 next_not_range (Ok a) next not later h = later a h
 next_not_range (Err faults.Shape) next not later h = cc
@@ -276,19 +276,19 @@ race_not_range : (value : Option Data) → race_lists value ≡ Err faults.Range
 unfolding race_lists
 race_not_range value h =
     next_not_range (of_kind value) lists_in (kind_not_range value)
-    (λ race. next_not_range (both _ _) _ (both_err _ _ (listed_not_range _) (arrays_not_range _)) (λ p e. cc)) h
+    (λ race. next_not_range (read_both _ _) _ (both_err _ _ (listed_not_range _) (arrays_not_range _)) (λ p e. cc)) h
 
 lists_not_range : (race : Bool) (d : Data) → lists_found race d ≡ Err faults.Range → ⊥
 unfolding lists_found
 lists_not_range false d h = next_not_range (listed _) _ (listed_not_range _) (λ ops e. cc) h
-lists_not_range true d h = next_not_range (both _ _) _ (both_err _ _ (listed_not_range _) (race_not_range _)) (λ p e. cc) h
+lists_not_range true d h = next_not_range (read_both _ _) _ (both_err _ _ (listed_not_range _) (race_not_range _)) (λ p e. cc) h
 
 -- ---- the bytes
 
 same_value : (bytes : List ℕ) (d other : Data) → IsValue bytes d → IsValue bytes other → d ≡ other
 same_value bytes d other v w = let e : Some d ≡ Some other = sym v.reads ∙ w.reads in cc
 
-pub verdict_at : (race : Bool) (bytes : List ℕ) (d : Data) (verdict : Verdict) → IsValue bytes d → Judges race bytes verdict → verdict_of race d ≡ verdict
+pub verdict_at : (race : Bool) (bytes : List ℕ) (d : Data) (verdict : Verdict) → IsValue bytes d → IsValueWith race bytes verdict → verdict_of race d ≡ verdict
 verdict_at race bytes d verdict v judges = ap (verdict_of race) (same_value bytes d judges.0 v judges.1) ∙ judges.2
 
 pub least_shape : (race : Bool) (bytes : List ℕ) (d : Data) (place : ℕ) → IsValue bytes d → HasRefusal race bytes (Shape place) → IsLeast (HasShapeFault race d) place
@@ -301,11 +301,11 @@ unfolding verdict_of
 least_range race bytes d place v h = range_all (format_of d) (lists_found race d) (top_of race d) place (verdict_at race bytes d _ v h)
 
 pub no_place_limit : (race : Bool) (bytes : List ℕ) (d : Data) (place : ℕ) → IsValue bytes d → HasRefusal race bytes (Limit place)
-    → TooMany (top_of race d) (op_founds race d) (count_in (lists_found race d)) place
+    → TooMany (top_of race d) (op_founds race d) (caller_list_count (lists_found race d)) place
 unfolding verdict_of
 no_place_limit race bytes d place v h = limit_all (format_of d) (lists_found race d) (top_of race d) place (verdict_at race bytes d _ v h)
 
 pub no_place_scenario : (race : Bool) (bytes : List ℕ) (d : Data) (plan : Plan) → IsValue bytes d → IsScenario race bytes plan
-    → IsClean (top_of race d) (op_founds race d) (count_in (lists_found race d))
+    → IsClean (top_of race d) (op_founds race d) (caller_list_count (lists_found race d))
 unfolding verdict_of
 no_place_scenario race bytes d plan v h = accepted_all (format_of d) (lists_found race d) (top_of race d) plan (verdict_at race bytes d _ v h)

@@ -8,9 +8,9 @@ use Rattle.serde_json.specs.declared.value.Value.{Value, Array}
 use Rattle.serde_json.proofs.Views.{view-Array}
 use Rattle.ert_ops.specs.declared.op.Op.{Op}
 use Rattle.ert_ops.specs.declared.op.Op.TheVariants.{CancelAsync, ReadAsync}
-use Rattle.ert_scenario.specs.Kinds.{Found, ◌>>=◌, both, of_kind, integer, word, boolean as boolean_of, two_words, list_of, listed, items_in, text, head, tail, end}
+use Rattle.ert_scenario.specs.Kinds.{FoundOrFault, ◌>>=◌, read_both, of_kind, integer, word, boolean as boolean_of, two_words, list_of, listed, items_in, text, head, tail, end}
 use Rattle.ert_scenario.specs.Migration.{is_ask, migrated_items, migrated_op, each, migrated_list}
-use Rattle.ert_scenario.specs.Rows.{keeper_rows, shared_rows, sched_rows, clock_rows, process_rows, timer_rows, asked, rows_of_one, rows_of_two, caller_groups, groups_of, row_in, or_next, named, op_from, op_of}
+use Rattle.ert_scenario.specs.Rows.{keeper_rows, shared_rows, sched_rows, clock_rows, process_rows, timer_rows, request_args, rows_of_one, rows_of_two, caller_groups, groups_of, row_in, or_next, op_named, op_from, op_of}
 use Rattle.ert_scenario.specs.Walked.{without_fault}
 use Rattle.ert_scenario.specs.Walks.{raws_of, caller_raws, race_raws, all_raws, ops_of}
 use Rattle.ert_scenario.specs.Lists.{RaceValues, OpValues}
@@ -46,32 +46,32 @@ each_of_array change d old new is items =
 -- ---- an op that asks a scheduler
 
 -- two arguments, and then the end
-abbrev two : Found ℕ → Found ℕ → Found (Unit {0}) → Found (ℕ × ℕ)
-two label process rest = both label (both process rest) >>= (λ p. Ok (p.0, p.1.0))
+abbrev two : FoundOrFault ℕ → FoundOrFault ℕ → FoundOrFault (Unit {0}) → FoundOrFault (ℕ × ℕ)
+two label process rest = read_both label (read_both process rest) >>= (λ p. Ok (p.0, p.1.0))
 
 -- two arguments, and then a third
-abbrev three : Found ℕ → Found ℕ → Found (Bool × Unit {0}) → Found (ℕ × ℕ × Bool)
-three label process rest = both label (both process rest) >>= (λ p. Ok (p.0, p.1.0, p.1.1.0))
+abbrev three : FoundOrFault ℕ → FoundOrFault ℕ → FoundOrFault (Bool × Unit {0}) → FoundOrFault (ℕ × ℕ × Bool)
+three label process rest = read_both label (read_both process rest) >>= (λ p. Ok (p.0, p.1.0, p.1.1.0))
 
 -- the op that is made of two arguments, and of three
-abbrev from_two : (ℕ → ℕ → Bool → Op) → Found (ℕ × ℕ) → Found Op
+abbrev from_two : (ℕ → ℕ → Bool → Op) → FoundOrFault (ℕ × ℕ) → FoundOrFault Op
 from_two make found = found >>= (λ p. Ok (make p.0 p.1 true))
 
-abbrev from_three : (ℕ → ℕ → Bool → Op) → Found (ℕ × ℕ × Bool) → Found Op
+abbrev from_three : (ℕ → ℕ → Bool → Op) → FoundOrFault (ℕ × ℕ × Bool) → FoundOrFault Op
 from_three make found = found >>= (λ p. Ok (make p.0 p.1 p.2))
 
-no_first : (make : ℕ → ℕ → Bool → Op) (op : Op) (process : Found ℕ) (rest : Found (Unit {0})) → from_two make (two (Err faults.Shape) process rest) ≡ Ok op → ⊥
-unfolding both
+no_first : (make : ℕ → ℕ → Bool → Op) (op : Op) (process : FoundOrFault ℕ) (rest : FoundOrFault (Unit {0})) → from_two make (two (Err faults.Shape) process rest) ≡ Ok op → ⊥
+unfolding read_both
 no_first make op process rest h = cc
 
-no_second : (make : ℕ → ℕ → Bool → Op) (op : Op) (label : Found ℕ) (rest : Found (Unit {0})) → from_two make (two label (Err faults.Shape) rest) ≡ Ok op → ⊥
-unfolding both
+no_second : (make : ℕ → ℕ → Bool → Op) (op : Op) (label : FoundOrFault ℕ) (rest : FoundOrFault (Unit {0})) → from_two make (two label (Err faults.Shape) rest) ≡ Ok op → ⊥
+unfolding read_both
 no_second make op (Ok a) rest h = cc
 no_second make op (Err faults.Shape) rest h = cc
 no_second make op (Err faults.Range) rest h = cc
 
-no_end : (make : ℕ → ℕ → Bool → Op) (op : Op) (label process : Found ℕ) → from_two make (two label process (Err faults.Shape)) ≡ Ok op → ⊥
-unfolding both
+no_end : (make : ℕ → ℕ → Bool → Op) (op : Op) (label process : FoundOrFault ℕ) → from_two make (two label process (Err faults.Shape)) ≡ Ok op → ⊥
+unfolding read_both
 no_end make op (Ok a) (Ok b) h = cc
 no_end make op (Ok a) (Err faults.Shape) h = cc
 no_end make op (Ok a) (Err faults.Range) h = cc
@@ -81,9 +81,9 @@ no_end make op (Err faults.Range) (Err faults.Shape) h = cc
 no_end make op (Err faults.Range) (Err faults.Range) h = cc
 
 -- where two arguments make an op, the same with `true` after them do
-made : (make : ℕ → ℕ → Bool → Op) (op : Op) (label process : Found ℕ) → from_two make (two label process (Ok tt)) ≡ Ok op
-    → from_three make (three label process (both (Ok true) (Ok tt))) ≡ Ok op
-unfolding both
+made : (make : ℕ → ℕ → Bool → Op) (op : Op) (label process : FoundOrFault ℕ) → from_two make (two label process (Ok tt)) ≡ Ok op
+    → from_three make (three label process (read_both (Ok true) (Ok tt))) ≡ Ok op
+unfolding read_both
 made make op (Ok label) (Ok process) h = h
 made make op (Ok label) (Err faults.Shape) h = absurd (cc)
 made make op (Ok label) (Err faults.Range) h = absurd (cc)
@@ -94,8 +94,8 @@ made make op (Err faults.Range) (Err faults.Range) h = absurd (cc)
 
 -- an op of format 1 with two arguments, and the op of format 2 with `true` after them
 told : (make : ℕ → ℕ → Bool → Op) (op : Op) (args : List Data) → from_two make (two_words args) ≡ Ok op
-    → from_three make (asked (args ++ boolean true ∷ [])) ≡ Ok op
-unfolding asked head tail end boolean_of word integer of_kind
+    → from_three make (request_args (args ++ boolean true ∷ [])) ≡ Ok op
+unfolding request_args head tail end boolean_of word integer of_kind
 told make op [] h = absurd (no_first make op _ _ h)
 told make op (a ∷ []) h = absurd (no_second make op _ _ h)
 told make op (a ∷ b ∷ []) h = made make op (word (Some a)) (word (Some b)) h
@@ -104,17 +104,17 @@ told make op (a ∷ b ∷ c ∷ rest) h = absurd (no_end make op _ _ h)
 -- ---- the other ops
 
 -- where what comes next keeps an op, so does the whole
-next_kept : (op : Op) (first : Option (Found Op)) (one two : Found Op) → (one ≡ Ok op → two ≡ Ok op) → or_next first one ≡ Ok op → or_next first two ≡ Ok op
+next_kept : (op : Op) (first : Option (FoundOrFault Op)) (one two : FoundOrFault Op) → (one ≡ Ok op → two ≡ Ok op) → or_next first one ≡ Ok op → or_next first two ≡ Ok op
 next_kept op None one two next h = next h
 next_kept op (Some found) one two next h = h
 
-no_row : (op : Op) (one two : Bool) (x y : Found Op) → one ≡ false → two ≡ false → or_next (cond one (Some x) (cond two (Some y) None)) (Err faults.Shape) ≡ Ok op → ⊥
+no_row : (op : Op) (one two : Bool) (x y : FoundOrFault Op) → one ≡ false → two ≡ false → or_next (cond one (Some x) (cond two (Some y) None)) (Err faults.Shape) ≡ Ok op → ⊥
 no_row op true two x y e f h = true≢false e
 no_row op false true x y e f h = true≢false f
 no_row op false false x y e f h = cc
 
 callers_kept : (op : Op) (name : List ℕ) (args : List Data) → bytes_eq name (codes "cancel_async") ≡ false → bytes_eq name (codes "read_async") ≡ false
-    → named name (caller_groups One) args ≡ Ok op → named name (caller_groups Two) args ≡ Ok op
+    → op_named name (caller_groups One) args ≡ Ok op → op_named name (caller_groups Two) args ≡ Ok op
 unfolding rows_of_one
 callers_kept op name args e f h =
     next_kept op (row_in name shared_rows args) _ _
@@ -124,7 +124,7 @@ callers_kept op name args e f h =
     (λ last. absurd (no_row op _ _ _ _ e f last))))) h
 
 other_kept : (doer : Doer) (op : Op) (name : List ℕ) (args : List Data) → bytes_eq name (codes "cancel_async") ≡ false → bytes_eq name (codes "read_async") ≡ false
-    → named name (groups_of doer One) args ≡ Ok op → named name (groups_of doer Two) args ≡ Ok op
+    → op_named name (groups_of doer One) args ≡ Ok op → op_named name (groups_of doer Two) args ≡ Ok op
 other_kept Everyone op name args e f h =
     next_kept op (row_in name keeper_rows args) _ _ (next_kept op (row_in name sched_rows args) _ _ (callers_kept op name args e f)) h
 other_kept Keeper op name args e f h = h
@@ -139,15 +139,15 @@ migrated_args asks args = cond asks (args ++ boolean true ∷ []) args
 abbrev asks : List ℕ → Bool
 asks name = bytes_eq name (codes "cancel_async") || bytes_eq name (codes "read_async")
 
-cancel_kept : (doer : Doer) (op : Op) (args : List Data) → named (codes "cancel_async") (groups_of doer One) args ≡ Ok op
-    → named (codes "cancel_async") (groups_of doer Two) (migrated_args (asks (codes "cancel_async")) args) ≡ Ok op
+cancel_kept : (doer : Doer) (op : Op) (args : List Data) → op_named (codes "cancel_async") (groups_of doer One) args ≡ Ok op
+    → op_named (codes "cancel_async") (groups_of doer Two) (migrated_args (asks (codes "cancel_async")) args) ≡ Ok op
 unfolding keeper_rows shared_rows sched_rows clock_rows process_rows timer_rows rows_of_one rows_of_two
 cancel_kept Everyone op args h = told CancelAsync op args h
 cancel_kept Keeper op args h = absurd (cc)
 cancel_kept Caller op args h = told CancelAsync op args h
 
-read_kept : (doer : Doer) (op : Op) (args : List Data) → named (codes "read_async") (groups_of doer One) args ≡ Ok op
-    → named (codes "read_async") (groups_of doer Two) (migrated_args (asks (codes "read_async")) args) ≡ Ok op
+read_kept : (doer : Doer) (op : Op) (args : List Data) → op_named (codes "read_async") (groups_of doer One) args ≡ Ok op
+    → op_named (codes "read_async") (groups_of doer Two) (migrated_args (asks (codes "read_async")) args) ≡ Ok op
 unfolding keeper_rows shared_rows sched_rows clock_rows process_rows timer_rows rows_of_one rows_of_two
 read_kept Everyone op args h = told ReadAsync op args h
 read_kept Keeper op args h = absurd (cc)
@@ -155,7 +155,7 @@ read_kept Caller op args h = told ReadAsync op args h
 
 -- the op of this name is kept
 IsKept : Doer → Op → List ℕ → List Data → Type 0
-IsKept doer op name args = named name (groups_of doer One) args ≡ Ok op → named name (groups_of doer Two) (migrated_args (asks name) args) ≡ Ok op
+IsKept doer op name args = op_named name (groups_of doer One) args ≡ Ok op → op_named name (groups_of doer Two) (migrated_args (asks name) args) ≡ Ok op
 
 name_kept : (doer : Doer) (op : Op) (name : List ℕ) (args : List Data) (cancel read : Bool) → bytes_eq name (codes "cancel_async") ≡ cancel
     → bytes_eq name (codes "read_async") ≡ read → IsKept doer op name args
@@ -166,16 +166,16 @@ name_kept doer op name args false true e f =
     subst (λ (n : List ℕ). IsKept doer op n args) (sym ((bytes_eq-Decides name (codes "read_async")).0 f)) (read_kept doer op args)
 name_kept doer op name args false false e f = λ h.
     let none : asks name ≡ false = rw (e, f) refl in
-    subst (λ (b : Bool). named name (groups_of doer Two) (migrated_args b args) ≡ Ok op) (sym none) (other_kept doer op name args e f h)
+    subst (λ (b : Bool). op_named name (groups_of doer Two) (migrated_args b args) ≡ Ok op) (sym none) (other_kept doer op name args e f h)
 
-named_items : (doer : Doer) (op : Op) (asked : Bool) (x : Data) (args : List Data) (name : List ℕ) → text (Some x) ≡ Ok name
-    → named name (groups_of doer Two) (migrated_args asked args) ≡ Ok op → op_from Two doer (cond asked ((x ∷ args) ++ boolean true ∷ []) (x ∷ args)) ≡ Ok op
+named_items : (doer : Doer) (op : Op) (info : Bool) (x : Data) (args : List Data) (name : List ℕ) → text (Some x) ≡ Ok name
+    → op_named name (groups_of doer Two) (migrated_args info args) ≡ Ok op → op_from Two doer (cond info ((x ∷ args) ++ boolean true ∷ []) (x ∷ args)) ≡ Ok op
 unfolding head tail
 named_items doer op true x args name is h = rw is h
 named_items doer op false x args name is h = rw is h
 
-items_found : (doer : Doer) (op : Op) (x : Data) (args : List Data) (found : Found (List ℕ)) → text (Some x) ≡ found
-    → (found >>= (λ name. named name (groups_of doer One) args)) ≡ Ok op → op_from Two doer (cond (is_ask found) ((x ∷ args) ++ boolean true ∷ []) (x ∷ args)) ≡ Ok op
+items_found : (doer : Doer) (op : Op) (x : Data) (args : List Data) (found : FoundOrFault (List ℕ)) → text (Some x) ≡ found
+    → (found >>= (λ name. op_named name (groups_of doer One) args)) ≡ Ok op → op_from Two doer (cond (is_ask found) ((x ∷ args) ++ boolean true ∷ []) (x ∷ args)) ≡ Ok op
 unfolding IsKept
 items_found doer op x args (Ok name) is h = named_items doer op (asks name) x args name is (name_kept doer op name args _ _ refl refl h)
 items_found doer op x args (Err fault) is h = absurd (cc)
@@ -212,12 +212,12 @@ ops_kept doer (op ∷ ops) (d ∷ ds) h =
 -- ---- all lists
 
 -- the raw ops of a list and others, all without a fault
-record KeepsList (doer : Doer) (items : List Data) (ys : List (Found Op)) : Type 0 where
+record KeepsList (doer : Doer) (items : List Data) (ys : List (FoundOrFault Op)) : Type 0 where
   pub same : raws_of Two doer (map migrated_op items) ≡ raws_of One doer items
   pub rest : List Op
   pub whole : ys ≡ without_fault rest
 
-list_kept : (doer : Doer) (items : List Data) (ys : List (Found Op)) (ops : List Op) → raws_of One doer items ++ ys ≡ without_fault ops → KeepsList doer items ys
+list_kept : (doer : Doer) (items : List Data) (ys : List (FoundOrFault Op)) (ops : List Op) → raws_of One doer items ++ ys ≡ without_fault ops → KeepsList doer items ys
 list_kept doer items ys ops h =
     let s = splits (raws_of One doer items) ys ops h in
     record { same = ops_kept doer _ items s.first ∙ sym s.first; rest = _; whole = s.back }
@@ -243,9 +243,9 @@ callers_same (list ∷ lists) ops h =
     let later = callers_same lists k.rest k.whole in
     let first : raws_of Two Caller (items_in (migrated_list list)) ≡ raws_of One Caller (items_in list) = ap (raws_of Two Caller) (items_in_list list) ∙ k.same in
     record {
-      raws = ap (λ (xs : List (Found Op)). xs ++ caller_raws Two (map migrated_list lists)) first
-          ∙ ap (λ (xs : List (Found Op)). raws_of One Caller (items_in list) ++ xs) later.raws;
-      ops = ap (λ (xs : List (Found Op)). ops_of xs ∷ callers_ops Two (map migrated_list lists)) first
+      raws = ap (λ (xs : List (FoundOrFault Op)). xs ++ caller_raws Two (map migrated_list lists)) first
+          ∙ ap (λ (xs : List (FoundOrFault Op)). raws_of One Caller (items_in list) ++ xs) later.raws;
+      ops = ap (λ (xs : List (FoundOrFault Op)). ops_of xs ∷ callers_ops Two (map migrated_list lists)) first
           ∙ ap (λ (xs : List (List Op)). ops_of (raws_of One Caller (items_in list)) ∷ xs) later.ops;
     }
 
@@ -267,9 +267,9 @@ race_same turns (Some race) ops h =
     let later = callers_same race.callers k.rest k.whole in
     let make : List Op → List (List Op) → Option Race = λ keeper callers. Some (record { turns = turns; keeper = keeper; callers = callers }) in
     record {
-      raws = ap (λ (xs : List (Found Op)). xs ++ caller_raws Two (map migrated_list race.callers)) k.same
-          ∙ ap (λ (xs : List (Found Op)). raws_of One Keeper race.keeper ++ xs) later.raws;
-      plan = ap (λ (xs : List (Found Op)). make (ops_of xs) (callers_ops Two (map migrated_list race.callers))) k.same
+      raws = ap (λ (xs : List (FoundOrFault Op)). xs ++ caller_raws Two (map migrated_list race.callers)) k.same
+          ∙ ap (λ (xs : List (FoundOrFault Op)). raws_of One Keeper race.keeper ++ xs) later.raws;
+      plan = ap (λ (xs : List (FoundOrFault Op)). make (ops_of xs) (callers_ops Two (map migrated_list race.callers))) k.same
           ∙ ap (make (ops_of (raws_of One Keeper race.keeper))) later.ops;
     }
 
@@ -284,8 +284,8 @@ all_kept turns lists ops h =
     let k = list_kept Everyone lists.ops (race_raws One lists.race) ops h in
     let later = race_same turns lists.race k.rest k.whole in
     record {
-      raws = ap (λ (xs : List (Found Op)). xs ++ race_raws Two (option_map moved_race lists.race)) k.same
-          ∙ ap (λ (xs : List (Found Op)). raws_of One Everyone lists.ops ++ xs) later.raws;
+      raws = ap (λ (xs : List (FoundOrFault Op)). xs ++ race_raws Two (option_map moved_race lists.race)) k.same
+          ∙ ap (λ (xs : List (FoundOrFault Op)). raws_of One Everyone lists.ops ++ xs) later.raws;
       ops = ap ops_of k.same;
       race = later.plan;
     }

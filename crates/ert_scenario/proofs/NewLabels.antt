@@ -12,7 +12,7 @@ use Rattle.ert_defs.specs.declared.settings.Settings.{Settings}
 use Rattle.ert_ops.specs.Labels.{labels_in, AreOps}
 use Rattle.ert_ops.specs.declared.op.Op.{Op}
 use Rattle.ert_ops.specs.declared.op.Op.TheVariants.{Start, SendAfter}
-use Rattle.ert_scenario.specs.Kinds.{Found, in_range}
+use Rattle.ert_scenario.specs.Kinds.{FoundOrFault, if_in_range}
 use Rattle.ert_scenario.specs.Labels.{started_label, has, is_new, with_label, tested}
 use Rattle.ert_scenario.specs.Ranges.{is_op}
 use Rattle.ert_scenario.specs.Walks.{ops_of}
@@ -67,9 +67,9 @@ not_false : (b : Bool) → not b ≡ true → b ≡ false
 not_false true h = cc
 not_false false h = refl
 
-new_step : (earlier : List ℕ) (op : Op) (fits : Bool) (rest : List (Found Op)) → (fits ≡ true → is_new earlier (started_label op) ≡ true)
-    → AreNew (with_label earlier (started_label op)) (labels_in (ops_of rest)) → AreNew earlier (labels_in (ops_of (in_range fits op ∷ rest)))
-unfolding in_range
+new_step : (earlier : List ℕ) (op : Op) (fits : Bool) (rest : List (FoundOrFault Op)) → (fits ≡ true → is_new earlier (started_label op) ≡ true)
+    → AreNew (with_label earlier (started_label op)) (labels_in (ops_of rest)) → AreNew earlier (labels_in (ops_of (if_in_range fits op ∷ rest)))
+unfolding if_in_range
 new_step earlier op false rest new others = fewer_earlier earlier (started_label op) (labels_in (ops_of rest)) others
 new_step earlier op true rest new others =
     labels_one op (ops_of rest) (AreNew earlier)
@@ -79,7 +79,7 @@ new_step earlier op true rest new others =
     one_more earlier l (labels_in (ops_of rest)) (not_false (has earlier l) fresh) later)
     (λ e. subst (λ (o : Option ℕ). AreNew (with_label earlier o) (labels_in (ops_of rest))) e others)
 
-pub all_new : (g : Settings) (earlier : List ℕ) (raws : List (Found Op)) → AreNew earlier (labels_in (ops_of (tested g earlier raws)))
+pub all_new : (g : Settings) (earlier : List ℕ) (raws : List (FoundOrFault Op)) → AreNew earlier (labels_in (ops_of (tested g earlier raws)))
 all_new g earlier [] = no_new earlier
 all_new g earlier (Ok op ∷ raws) =
     new_step earlier op (is_op g op && is_new earlier (started_label op)) (tested g (with_label earlier (started_label op)) raws)

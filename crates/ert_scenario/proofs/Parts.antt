@@ -6,7 +6,7 @@ use Rattle.std.specs.Bool.{Decides}
 use Rattle.std.specs.Option.{ok_or}
 use Rattle.std.proofs.lemmas.Bool.Decides.{Decides-and, Decides-like, Decides-ltb, same_from_decides}
 use Rattle.ert_ops.specs.Units.{IsParts}
-use Rattle.ert_scenario.specs.Kinds.{in_range}
+use Rattle.ert_scenario.specs.Kinds.{if_in_range}
 use Rattle.ert_scenario.specs.Units.{is_parts, unit_of}
 use Rattle.ert_scenario.specs.declared.fault.Fault.TheVariants.{Range}
 use Rattle.ert_scenario.proofs.Checked.{Decides-nat_le}
@@ -18,10 +18,10 @@ Decides-parts n =
 
 -- a unit that is there exactly where its parts are in range is what the test gives
 pub unit_where_parts : (unit : Option ℕ) (n : ℕ) → (IsSome unit ↔ IsParts n) → IfSome unit (λ u. u ≡ n) → ok_or unit Range ≡ unit_of n
-unfolding in_range unit_of
+unfolding if_in_range unit_of
 unit_where_parts None n there same =
-    ap (λ fits. in_range fits n)
+    ap (λ fits. if_in_range fits n)
     (same_from_decides false (is_parts n) (λ h. absurd (false≢true h), λ h. absurd (false≢true (there.1 h))) (Decides-parts n))
 unit_where_parts (Some u) n there same =
     ap (λ u. Ok u) same
-    ∙ ap (λ fits. in_range fits n) (same_from_decides true (is_parts n) (λ _. there.0 refl, λ _. refl) (Decides-parts n))
+    ∙ ap (λ fits. if_in_range fits n) (same_from_decides true (is_parts n) (λ _. there.0 refl, λ _. refl) (Decides-parts n))

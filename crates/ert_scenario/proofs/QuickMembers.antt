@@ -14,12 +14,12 @@ use Rattle.serde_json.specs.View.{items_of, members_view}
 use Rattle.ert_scenario.proofs.Reading.{converted-object, member_read, members_over}
 use Rattle.serde_json.proofs.Views.{get_member-put, get_member-put_other}
 use Rattle.ert_ops.specs.declared.op.Op.{Op}
-use Rattle.ert_scenario.specs.Fields.{is_field, are_named, only_named, times, modes, clock_of, sizes_of, settings_of, top_of, format_of}
-use Rattle.ert_scenario.specs.Kinds.{Found, of_kind, listed}
+use Rattle.ert_scenario.specs.Fields.{is_field, are_named, only_named, start_and_first, modes, clock_fields_of, sizes_of, settings_from, top_of, format_of}
+use Rattle.ert_scenario.specs.Kinds.{FoundOrFault, of_kind, listed}
 use Rattle.ert_scenario.specs.Labels.{tested}
 use Rattle.ert_scenario.specs.Lists.{lists_found}
 use Rattle.ert_scenario.specs.Quick.{ReadsOps}
-use Rattle.ert_scenario.specs.QuickMembers.{alone, IsOpsField, IsSeen, IsSeenAs, ReadsMember, IsPlanWith, plain}
+use Rattle.ert_scenario.specs.QuickMembers.{without_race, IsOpsField, HasSeenMembers, IsSeenAs, ReadsMember, IsPlanWith, plan_for_one}
 use Rattle.ert_scenario.specs.Scenarios.{Plan, is_over, with_callers, judged, verdict_of}
 use Rattle.ert_scenario.specs.Walked.{without_fault, IsOver}
 use Rattle.ert_scenario.specs.Walks.{raws_of, all_raws, first_shape, first_range, ops_of}
@@ -50,7 +50,7 @@ swapped a b h e = apart a b h (sym e)
 
 -- a field, which is seen as it is
 pub sees_field : (format : Option Format) (ops : List Op) (name : List ℕ) (d : Data) (seen all : Members) → bytes_eq name (codes "ops") ≡ false
-    → IsSeen format ops seen all → IsSeen format ops (put name d seen) (put name d all)
+    → HasSeenMembers format ops seen all → HasSeenMembers format ops (put name d seen) (put name d all)
 sees_field format ops name d seen all other s = record {
   others = λ k h. same_put_at (bytes_eq k name) k name d seen all refl (s.others k h);
   named = put_named (is_field false) name d all ∙ ap (λ rest. is_field false name && rest) s.named ∙ sym (put_named (is_field false) name d seen);
@@ -59,7 +59,7 @@ sees_field format ops name d seen all other s = record {
 
 -- the ops
 pub sees_ops : (was format : Option Format) (read : Format) (before ops : List Op) (values : List Data) (seen all : Members) → format ≡ Some read
-    → raws_of read Everyone values ≡ without_fault ops → IsSeen was before seen all → IsSeen format ops seen (put (codes "ops") (array (items_of values)) all)
+    → raws_of read Everyone values ≡ without_fault ops → HasSeenMembers was before seen all → HasSeenMembers format ops seen (put (codes "ops") (array (items_of values)) all)
 sees_ops was format read before ops values seen all is are s = record {
   others = λ k h. get_member-put_other k (codes "ops") (array (items_of values)) all (apart k (codes "ops") h) ∙ s.others k h;
   named = put_named (is_field false) (codes "ops") (array (items_of values)) all ∙ s.named;
@@ -74,7 +74,7 @@ member_ops old new format was is r same read = record {
   value_is = array (items_of r.values);
   reads = r.reads;
   sees = λ all s.
-      subst (λ fields. IsSeen is.format is.ops.items (members_view fields.entries) (put (codes "ops") (array (items_of r.values)) all)) (sym same)
+      subst (λ fields. HasSeenMembers is.format is.ops.items (members_view fields.entries) (put (codes "ops") (array (items_of r.values)) all)) (sym same)
       (sees_ops was.format is.format format was.ops.items is.ops.items r.values (members_view was.fields.entries) all read r.are s);
 }
 
@@ -86,9 +86,9 @@ member_field name old new d was is other reads at format ops = record {
   value_is = d;
   reads = λ depth. reads (suc depth);
   sees = λ all s.
-      subst (λ f. IsSeen f is.ops.items (members_view is.fields.entries) (put name d all)) (sym format)
-      (subst (λ v. IsSeen was.format v.items (members_view is.fields.entries) (put name d all)) (sym ops)
-      (subst (λ ms. IsSeen was.format was.ops.items ms (put name d all)) (sym at) (sees_field was.format was.ops.items name d (members_view was.fields.entries) all other s)));
+      subst (λ f. HasSeenMembers f is.ops.items (members_view is.fields.entries) (put name d all)) (sym format)
+      (subst (λ v. HasSeenMembers was.format v.items (members_view is.fields.entries) (put name d all)) (sym ops)
+      (subst (λ ms. HasSeenMembers was.format was.ops.items ms (put name d all)) (sym at) (sees_field was.format was.ops.items name d (members_view was.fields.entries) all other s)));
 }
 
 -- ---- the members one after another
@@ -150,9 +150,9 @@ object_read ts r all reads =
 
 -- ---- the verdict
 
-module _ (format : Option Format) (ops : List Op) (seen all : Members) (s : IsSeen format ops seen all) where
-  same_clock : clock_of (object all) ≡ clock_of (object seen)
-  unfolding clock_of times modes
+module _ (format : Option Format) (ops : List Op) (seen all : Members) (s : HasSeenMembers format ops seen all) where
+  same_clock : clock_fields_of (object all) ≡ clock_fields_of (object seen)
+  unfolding clock_fields_of start_and_first modes
   same_clock = rw (s.others (codes "start") refl, s.others (codes "first") refl, s.others (codes "mode") refl, s.others (codes "correction") refl) refl
 
   same_sizes : sizes_of (object all) ≡ sizes_of (object seen)
@@ -163,8 +163,8 @@ module _ (format : Option Format) (ops : List Op) (seen all : Members) (s : IsSe
   unfolding only_named of_kind
   same_names = let same = s.named in rw same refl
 
-  same_settings : settings_of false (object all) ≡ settings_of false (object seen)
-  unfolding settings_of
+  same_settings : settings_from false (object all) ≡ settings_from false (object seen)
+  unfolding settings_from
   same_settings = rw (same_names, s.others (codes "format") refl, same_clock, same_sizes) refl
 
   same_top : top_of false (object all) ≡ top_of false (object seen)
@@ -175,19 +175,19 @@ module _ (format : Option Format) (ops : List Op) (seen all : Members) (s : IsSe
   unfolding format_of
   same_format = rw (s.others (codes "format") refl) refl
 
-  same_lists : (values : List Data) → get_member (codes "ops") all ≡ Some (array (items_of values)) → lists_found false (object all) ≡ Ok (alone values)
+  same_lists : (values : List Data) → get_member (codes "ops") all ≡ Some (array (items_of values)) → lists_found false (object all) ≡ Ok (without_race values)
   unfolding lists_found listed of_kind
   same_lists values h = rw (h, list_of_items values) refl
 
 -- the verdict on an object whose members were seen so
 pub verdict_seen : (read : Option Format) (format : Format) (ops : List Op) (top : Top) (plan : Plan) (seen all : Members) (d : Data) → d ≡ object seen → read ≡ Some format
-    → format_of d ≡ format → top_of false d ≡ Ok top → IsPlanWith top ops plan → IsSeen read ops seen all → verdict_of false (object all) ≡ Ok plan
+    → format_of d ≡ format → top_of false d ≡ Ok top → IsPlanWith top ops plan → HasSeenMembers read ops seen all → verdict_of false (object all) ≡ Ok plan
 unfolding verdict_of
 verdict_seen read format ops top plan seen all d at by is opens judges sees =
-    let s : IsSeen (Some format) ops seen all = subst (λ o. IsSeen o ops seen all) by sees in
+    let s : HasSeenMembers (Some format) ops seen all = subst (λ o. HasSeenMembers o ops seen all) by sees in
     let values = s.listed.0 in
     let reads : format_of (object all) ≡ format = same_format (Some format) ops seen all s ∙ ap format_of (sym at) ∙ is in
-    let lists : lists_found false (object all) ≡ Ok (alone values) = same_lists (Some format) ops seen all s values s.listed.1 in
+    let lists : lists_found false (object all) ≡ Ok (without_race values) = same_lists (Some format) ops seen all s values s.listed.1 in
     let tops : top_of false (object all) ≡ Ok top = same_top (Some format) ops seen all s ∙ ap (top_of false) (sym at) ∙ opens in
     rw (reads, lists, tops) (judges format values (append-nil (raws_of format Everyone values) ∙ s.listed.2))
 
@@ -197,28 +197,28 @@ no_shape : (ops : List Op) (k : ℕ) → first_shape k (without_fault ops) ≡ N
 no_shape [] k = refl
 no_shape (op ∷ ops) k = no_shape ops (k + 1)
 
-over_of : (ops : List Op) (all : List (Found Op)) → all ≡ without_fault ops → IsOver ops None all
+over_of : (ops : List Op) (all : List (FoundOrFault Op)) → all ≡ without_fault ops → IsOver ops None all
 over_of ops all h = record {
   shape = ap (first_shape 1) h ∙ no_shape ops 1;
   faulty = λ place never. absurd (cc);
   faultless = λ none. h;
 }
 
-plain_made : (top : Top) (raws : List (Found Op)) (kept : List Op) → raws ≡ without_fault kept
-    → plain top.settings kept ≡ record { settings = with_callers 1 top.settings; ops = ops_of raws; race = None }
-plain_made top raws kept h = ap (plain top.settings) (sym (ap ops_of h ∙ ops_of-without kept))
+plain_made : (top : Top) (raws : List (FoundOrFault Op)) (kept : List Op) → raws ≡ without_fault kept
+    → plan_for_one top.settings kept ≡ record { settings = with_callers 1 top.settings; ops = ops_of raws; race = None }
+plain_made top raws kept h = ap (plan_for_one top.settings) (sym (ap ops_of h ∙ ops_of-without kept))
 
 -- of these the first range fault is none
 pub plain_judged : (format : Format) (values : List Data) (top : Top) (ops : List Op) (range : Option ℕ)
-    → all_raws format (alone values) ≡ without_fault ops
-    → ((all : List (Found Op)) → IsOver ops None all → range ≡ first_range 1 (tested top.settings [] all)) → is_some range ≡ false
+    → all_raws format (without_race values) ≡ without_fault ops
+    → ((all : List (FoundOrFault Op)) → IsOver ops None all → range ≡ first_range 1 (tested top.settings [] all)) → is_some range ≡ false
     → is_over (length ops) 0 top.turns ≡ false
-    → judged format (alone values) (Ok top) (tested top.settings [] (all_raws format (alone values))) ≡ Ok (plain top.settings ops)
+    → judged format (without_race values) (Ok top) (tested top.settings [] (all_raws format (without_race values))) ≡ Ok (plan_for_one top.settings ops)
 plain_judged format values top ops None h found none few =
-    let all = all_raws format (alone values) in
+    let all = all_raws format (without_race values) in
     let over = over_of ops all h in
     let raws : raws_of format Everyone values ≡ without_fault ops = sym (append-nil (raws_of format Everyone values)) ∙ h in
-    judged_ok format (alone values) top ops None all (plain top.settings ops) over (sym (found all over)) few
+    judged_ok format (without_race values) top ops None all (plan_for_one top.settings ops) over (sym (found all over)) few
     (plain_made top (raws_of format Everyone values) ops raws)
 plain_judged format values top ops (Some place) h found none few = absurd (cc)
 

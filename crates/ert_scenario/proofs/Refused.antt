@@ -6,7 +6,7 @@ use Rattle.std.specs.Str.{IsUtf8, is_utf8}
 use Rattle.serde_json.specs.Data.{Data}
 use Rattle.serde_json.specs.Read.{read}
 use Rattle.ert_scenario.specs.Fields.{top_of, format_of}
-use Rattle.ert_scenario.specs.Kinds.{Found}
+use Rattle.ert_scenario.specs.Kinds.{FoundOrFault}
 use Rattle.ert_scenario.specs.Lists.{OpValues, lists_found}
 use Rattle.ert_scenario.specs.Scenarios.{Plan, Verdict, IsValue, IsScenario, HasRefusal, refused, over, judged, judged_all, verdict_of}
 use Rattle.ert_scenario.specs.Walks.{all_raws, founds_of, first_shape, first_range}
@@ -35,7 +35,7 @@ NamesPlace-refused : (why : ℕ → ScenarioErr) (found : Option ℕ) (otherwise
 NamesPlace-refused why None otherwise names h = h
 NamesPlace-refused why (Some place) otherwise names h = names place
 
-NamesPlace-judged : (format : Format) (lists : OpValues) (found : Found Top) (founds : List (Found Op)) → NamesPlace (judged format lists found founds)
+NamesPlace-judged : (format : Format) (lists : OpValues) (found : FoundOrFault Top) (founds : List (FoundOrFault Op)) → NamesPlace (judged format lists found founds)
 NamesPlace-judged format lists (Err faults.Shape) founds = tt
 NamesPlace-judged format lists (Err faults.Range) founds = NamesPlace-refused Shape (first_shape 1 founds) _ (λ _. tt) tt
 NamesPlace-judged format lists (Ok top) founds =
@@ -43,7 +43,7 @@ NamesPlace-judged format lists (Ok top) founds =
     (NamesPlace-refused Range (first_range 1 founds) _ (λ _. tt)
     (NamesPlace-refused Limit (over top lists.race founds) _ (λ _. tt) tt))
 
-NamesPlace-judged_all : (format : Format) (lists : Found OpValues) (found : Found Top) → NamesPlace (judged_all format lists found)
+NamesPlace-judged_all : (format : Format) (lists : FoundOrFault OpValues) (found : FoundOrFault Top) → NamesPlace (judged_all format lists found)
 NamesPlace-judged_all format (Ok lists) found = NamesPlace-judged format lists found (founds_of found (all_raws format lists))
 NamesPlace-judged_all format (Err fault) found = tt
 

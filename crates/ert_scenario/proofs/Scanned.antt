@@ -8,9 +8,9 @@ use Rattle.serde_json.specs.Data.{Data}
 use Rattle.serde_json.specs.View.{view}
 use Rattle.serde_json.specs.declared.value.Value.{Value}
 use Rattle.ert_ops.specs.declared.op.Op.{Op}
-use Rattle.ert_scenario.specs.Kinds.{Found, items_in}
+use Rattle.ert_scenario.specs.Kinds.{FoundOrFault, items_in}
 use Rattle.ert_scenario.specs.Rows.{op_of}
-use Rattle.ert_scenario.specs.Walked.{without_fault, StandsAt, IsOver}
+use Rattle.ert_scenario.specs.Walked.{without_fault, WalkIsAt, IsOver}
 use Rattle.ert_scenario.specs.Walks.{raws_of, caller_raws, first_shape}
 use Rattle.ert_scenario.specs.declared.walk.Walk.{Walk}
 use Rattle.ert_scenario.specs.declared.doer.Doer.{Doer}
@@ -21,15 +21,15 @@ next_value : (items : List Value) (i : ℕ) (x : Value) → i < length items →
 next_value items i x low is = rw (add-one, drop-cons items i x low) (ap (λ v. v ∷ drop (suc i) items) (sym is))
 
 -- the next op of a list
-pub next_raw : (format : Format) (doer : Doer) (items : List Value) (i : ℕ) (x : Value) (found : Found Op) (rest : List (Found Op)) → i < length items → x ≡ get_or items i x
+pub next_raw : (format : Format) (doer : Doer) (items : List Value) (i : ℕ) (x : Value) (found : FoundOrFault Op) (rest : List (FoundOrFault Op)) → i < length items → x ≡ get_or items i x
     → found ≡ op_of format doer (view x)
     → raws_of format doer (map view (drop i items)) ++ rest ≡ found ∷ (raws_of format doer (map view (drop (i + 1) items)) ++ rest)
 next_raw format doer items i x found rest low is made =
     ap (λ (vs : List Value). raws_of format doer (map view vs) ++ rest) (next_value items i x low is)
-    ∙ ap (λ (f : Found Op). f ∷ (raws_of format doer (map view (drop (i + 1) items)) ++ rest)) (sym made)
+    ∙ ap (λ (f : FoundOrFault Op). f ∷ (raws_of format doer (map view (drop (i + 1) items)) ++ rest)) (sym made)
 
 -- the end of a list
-pub last_raw : (format : Format) (doer : Doer) (items : List Value) (i : ℕ) (rest : List (Found Op)) → length items ≤ i → raws_of format doer (map view (drop i items)) ++ rest ≡ rest
+pub last_raw : (format : Format) (doer : Doer) (items : List Value) (i : ℕ) (rest : List (FoundOrFault Op)) → length items ≤ i → raws_of format doer (map view (drop i items)) ++ rest ≡ rest
 last_raw format doer items i rest high = ap (λ (vs : List Value). raws_of format doer (map view vs) ++ rest) (drop_of_length-le items high)
 
 -- the next list of callers
@@ -44,7 +44,7 @@ pub last_list : (format : Format) (lists : List Value) (i : ℕ) → length list
 last_list format lists i high = ap (λ (vs : List Value). caller_raws format (map view vs)) (drop_of_length-le lists high)
 
 -- the walk at its beginning
-pub stands_first : (walk : Walk) (all : List (Found Op)) → walk.ops.items ≡ [] → walk.range ≡ None → walk.place ≡ 1 → StandsAt walk all all
+pub stands_first : (walk : Walk) (all : List (FoundOrFault Op)) → walk.ops.items ≡ [] → walk.range ≡ None → walk.place ≡ 1 → WalkIsAt walk all all
 stands_first walk all ops range place = record {
   shape = ap (λ k. first_shape k all) (sym place);
   faulty = λ at e. let other : None ≡ Some at = sym range ∙ e in absurd (cc);
@@ -52,7 +52,7 @@ stands_first walk all ops range place = record {
 }
 
 -- and at its end
-pub over_at_end : (walk : Walk) (all : List (Found Op)) → StandsAt walk [] all → IsOver walk.ops.items walk.range all
+pub over_at_end : (walk : Walk) (all : List (FoundOrFault Op)) → WalkIsAt walk [] all → IsOver walk.ops.items walk.range all
 over_at_end walk all stands = record {
   shape = stands.shape;
   faulty = stands.faulty;

@@ -8,11 +8,11 @@ use Rattle.ert_defs.specs.Settings.{IsChecked}
 use Rattle.ert_defs.specs.declared.settings.Settings.{Settings}
 use Rattle.ert_ops.specs.Labels.{AreOps}
 use Rattle.ert_ops.specs.Races.{Race, IsRace, MayDo, MayDoAll, IsCallersOp, lists_of as race_parts, ops_in}
-use Rattle.ert_ops.specs.Ranges.{IsInRange}
+use Rattle.ert_ops.specs.Ranges.{AreOpsInRange}
 use Rattle.ert_ops.specs.declared.op.Op.{Op}
 use Rattle.ert_scenario.specs.Doers.{IsKeepersOp, IsCallersAlone, AreCallersAlone}
-use Rattle.ert_scenario.specs.Fields.{head_of, settings_with, settings_of, race_turns, field, top_of, format_of}
-use Rattle.ert_scenario.specs.Kinds.{Found, both, in_range, listed, items_in}
+use Rattle.ert_scenario.specs.Fields.{head_of, settings_with, settings_from, race_turns, field, top_of, format_of}
+use Rattle.ert_scenario.specs.Kinds.{FoundOrFault, read_both, if_in_range, listed, items_in}
 use Rattle.ert_scenario.specs.Labels.{started_label, is_new, with_label, tested}
 use Rattle.ert_scenario.specs.Ranges.{is_checked, is_op}
 use Rattle.ert_scenario.specs.Lists.{RaceValues, OpValues, race_lists, lists_found, list_count}
@@ -32,14 +32,14 @@ use Rattle.ert_scenario.proofs.NewLabels.{all_new, ops_front}
 
 -- ---- where there is no fault
 
-whole_step : (fits : Bool) (op : Op) (raws rest : List (Found Op)) (k : ℕ) → first_range k (in_range fits op ∷ rest) ≡ None
-    → (first_range (k + 1) rest ≡ None → raws ≡ without_fault (ops_of rest)) → Ok op ∷ raws ≡ without_fault (ops_of (in_range fits op ∷ rest))
-unfolding in_range
-whole_step true op raws rest k h later = ap (λ (xs : List (Found Op)). Ok op ∷ xs) (later h)
+whole_step : (fits : Bool) (op : Op) (raws rest : List (FoundOrFault Op)) (k : ℕ) → first_range k (if_in_range fits op ∷ rest) ≡ None
+    → (first_range (k + 1) rest ≡ None → raws ≡ without_fault (ops_of rest)) → Ok op ∷ raws ≡ without_fault (ops_of (if_in_range fits op ∷ rest))
+unfolding if_in_range
+whole_step true op raws rest k h later = ap (λ (xs : List (FoundOrFault Op)). Ok op ∷ xs) (later h)
 whole_step false op raws rest k h later = absurd (cc)
 
 -- where no test fails, the raw ops have no fault
-pub whole : (g : Settings) (labels : List ℕ) (raws : List (Found Op)) (k : ℕ) → first_range k (tested g labels raws) ≡ None → raws ≡ without_fault (ops_of (tested g labels raws))
+pub whole : (g : Settings) (labels : List ℕ) (raws : List (FoundOrFault Op)) (k : ℕ) → first_range k (tested g labels raws) ≡ None → raws ≡ without_fault (ops_of (tested g labels raws))
 whole g labels [] k h = refl
 whole g labels (Ok op ∷ raws) k h =
     whole_step (is_op g op && is_new labels (started_label op)) op raws (tested g (with_label labels (started_label op)) raws) k h (whole g (with_label labels (started_label op)) raws (k + 1))
@@ -47,8 +47,8 @@ whole g labels (Err fault ∷ raws) k h = absurd (cc)
 
 -- ---- the settings
 
-valid_settings : (race : Bool) (d : Data) (g : Settings) → settings_of race d ≡ Ok g → IsChecked g
-unfolding settings_of
+valid_settings : (race : Bool) (d : Data) (g : Settings) → settings_from race d ≡ Ok g → IsChecked g
+unfolding settings_from
 valid_settings race d g h =
     let f = follows (head_of race d) _ g h in
     let fits = in_range_parts (is_checked (settings_with f.read)) (settings_with f.read) g f.then in
@@ -57,13 +57,13 @@ valid_settings race d g h =
 valid_top : (race : Bool) (d : Data) (top : Top) → top_of race d ≡ Ok top → IsChecked top.settings
 unfolding top_of
 valid_top false d top h =
-    let f = follows (settings_of false d) _ top h in
+    let f = follows (settings_from false d) _ top h in
     let made : Ok (record { settings = f.read; turns = 0 }) ≡ Ok top = f.then in
     let same : record { settings = f.read; turns = 0 } ≡ top = cc in
     subst IsChecked (ap (λ (t : Top). t.settings) same) (valid_settings false d f.read f.was)
 valid_top true d top h =
-    let f = follows (both (settings_of true d) (field (codes "race") race_turns d)) _ top h in
-    let parts = both_ok (settings_of true d) (field (codes "race") race_turns d) f.read f.was in
+    let f = follows (read_both (settings_from true d) (field (codes "race") race_turns d)) _ top h in
+    let parts = both_ok (settings_from true d) (field (codes "race") race_turns d) f.read f.was in
     let made : Ok (record { settings = f.read.0; turns = f.read.1 }) ≡ Ok top = f.then in
     let same : record { settings = f.read.0; turns = f.read.1 } ≡ top = cc in
     subst IsChecked (ap (λ (t : Top). t.settings) same) (valid_settings true d f.read.0 parts.first)
@@ -88,12 +88,12 @@ with_more g lists few h = record {
 
 -- ---- a race
 
-may_do : (g : Settings) (n : ℕ) (ops : List Op) → IsInRange g ops → All IsCallersOp ops → MayDo (with_callers n g) ops
+may_do : (g : Settings) (n : ℕ) (ops : List Op) → AreOpsInRange g ops → All IsCallersOp ops → MayDo (with_callers n g) ops
 may_do g n [] fits own = tt
 may_do g n (op ∷ ops) fits own =
     (All-head IsCallersOp op ops own, still_in_range g n op fits.0, may_do g n ops fits.1 (All-tail IsCallersOp op ops own))
 
-callers_do : (g : Settings) (n : ℕ) (format : Format) (lists : List Data) → IsInRange g (ops_in (callers_ops format lists)) → MayDoAll (with_callers n g) (callers_ops format lists)
+callers_do : (g : Settings) (n : ℕ) (format : Format) (lists : List Data) → AreOpsInRange g (ops_in (callers_ops format lists)) → MayDoAll (with_callers n g) (callers_ops format lists)
 callers_do g n format [] fits = tt
 callers_do g n format (list ∷ lists) fits =
     let ours = ops_of (raws_of format Caller (items_in list)) in
@@ -115,7 +115,7 @@ pub record IsValidRace (g : Settings) (ops : List Op) (race : Race) : Type 0 whe
   pub callers : AreCallersAlone race.callers
 
 race_valid : (g : Settings) (ops : List Op) (format : Format) (turns : ℕ) (race : RaceValues) → turns ≤ 10000
-    → IsInRange g (ops_in (race_parts (planned_race format turns race))) → AreOps (ops ++ ops_in (race_parts (planned_race format turns race)))
+    → AreOpsInRange g (ops_in (race_parts (planned_race format turns race))) → AreOps (ops ++ ops_in (race_parts (planned_race format turns race)))
     → IsValidRace (with_callers (1 + length race.callers) g) ops (planned_race format turns race)
 race_valid g ops format turns race few fits labels =
     let keeper = ops_of (raws_of format Keeper race.keeper) in
@@ -136,7 +136,7 @@ race_valid g ops format turns race few fits labels =
     }
 
 maybe_race : (g : Settings) (ops : List Op) (format : Format) (turns : ℕ) (race : Option RaceValues) → turns ≤ 10000
-    → IsInRange g (race_ops (option_map (planned_race format turns) race)) → AreOps (ops ++ race_ops (option_map (planned_race format turns) race))
+    → AreOpsInRange g (race_ops (option_map (planned_race format turns) race)) → AreOps (ops ++ race_ops (option_map (planned_race format turns) race))
     → IfSome (option_map (planned_race format turns) race) (IsValidRace (with_callers (1 + list_count race) g) ops)
 maybe_race g ops format turns None few fits labels = tt
 maybe_race g ops format turns (Some race) few fits labels = race_valid g ops format turns race few fits labels
@@ -146,7 +146,7 @@ maybe_race g ops format turns (Some race) few fits labels = race_valid g ops for
 -- what holds of settings, ops and race
 pub record IsValidPlan (plan : Plan) : Type 0 where
   pub settings : IsChecked plan.settings
-  pub ops : IsInRange plan.settings plan.ops
+  pub ops : AreOpsInRange plan.settings plan.ops
   pub labels : AreOps plan.ops
   pub race : IfSome plan.race (IsValidRace plan.settings plan.ops)
 
@@ -166,7 +166,7 @@ tested_plan race d plan h =
     let all = accepts_all (format_of d) (lists_found race d) (top_of race d) plan h in
     let a = all.accepted in
     let raws = all_raws (format_of d) all.lists in
-    let opened : founds_of (top_of race d) raws ≡ tested a.top.settings [] raws = ap (λ (t : Found Top). founds_of t raws) a.opens in
+    let opened : founds_of (top_of race d) raws ≡ tested a.top.settings [] raws = ap (λ (t : FoundOrFault Top). founds_of t raws) a.opens in
     record {
       lists = all.lists;
       listed = all.listed;
@@ -174,16 +174,16 @@ tested_plan race d plan h =
       opens = a.opens;
       made = a.made;
       range = ap (first_range 1) (sym opened) ∙ a.range;
-      few = subst (λ (xs : List (Found Op)). AreFew (length xs) (list_count all.lists.race) a.top.turns) opened a.few;
+      few = subst (λ (xs : List (FoundOrFault Op)). AreFew (length xs) (list_count all.lists.race) a.top.turns) opened a.few;
     }
 
 valid_parts : (g : Settings) (format : Format) (lists : OpValues) (top : Top) (flat : List Op) → IsChecked top.settings → list_count lists.race ≤ 16 → top.turns ≤ 10000
-    → flat ≡ (planned format lists top).ops ++ race_ops (planned format lists top).race → IsInRange top.settings flat → AreOps flat
+    → flat ≡ (planned format lists top).ops ++ race_ops (planned format lists top).race → AreOpsInRange top.settings flat → AreOps flat
     → IsValidPlan (planned format lists top)
 valid_parts g format lists top flat checked few turns is fits labels =
     let ops = (planned format lists top).ops in
     let race = race_ops (planned format lists top).race in
-    let in_all : IsInRange top.settings (ops ++ race) = subst (IsInRange top.settings) is fits in
+    let in_all : AreOpsInRange top.settings (ops ++ race) = subst (AreOpsInRange top.settings) is fits in
     let labels_in_all : AreOps (ops ++ race) = subst AreOps is labels in
     record {
       settings = with_more top.settings (list_count lists.race) few checked;
@@ -215,7 +215,7 @@ has_race false d lists h =
     let same : record { ops = f.read; race = None } ≡ lists = cc in
     ap (λ (l : OpValues). is_some l.race) (sym same)
 has_race true d lists h =
-    let f = follows (both (field (codes "ops") listed d) (field (codes "race") race_lists d)) _ lists h in
+    let f = follows (read_both (field (codes "ops") listed d) (field (codes "race") race_lists d)) _ lists h in
     let made : Ok (record { ops = f.read.0; race = Some f.read.1 }) ≡ Ok lists = f.then in
     let same : record { ops = f.read.0; race = Some f.read.1 } ≡ lists = cc in
     ap (λ (l : OpValues). is_some l.race) (sym same)

@@ -9,7 +9,7 @@ use Rattle.ert_defs.specs.declared.settings.Mode.{Mode}
 use Rattle.ert_defs.specs.declared.settings.Mode.TheVariants.{No, Single, Multi}
 use Rattle.ert_defs.specs.declared.settings.Reading.{Reading}
 use Rattle.ert_defs.specs.declared.settings.Settings.{Settings}
-use Rattle.ert_scenario.specs.Kinds.{Found, ◌>>=◌, both, of_kind, in_range, integer, word, count_of, boolean, text, called, or_absent, reading}
+use Rattle.ert_scenario.specs.Kinds.{FoundOrFault, ◌>>=◌, read_both, of_kind, if_in_range, integer, word, non_negative, boolean, text, called, or_absent, listed_reading}
 use Rattle.ert_scenario.specs.Ranges.{is_checked}
 use Rattle.ert_scenario.specs.declared.fault.Fault.TheVariants.{Shape}
 use Rattle.ert_scenario.specs.declared.fields.Sizes.{Sizes}
@@ -42,59 +42,59 @@ are_named is no_members = true
 are_named is (member name d members) = is name && are_named is members
 
 -- an object that has no members with other names
-unfoldable pub only_named : (List ℕ → Bool) → Data → Found (Unit {0})
+unfoldable pub only_named : (List ℕ → Bool) → Data → FoundOrFault (Unit {0})
 only_named is d = of_kind (as_object d) >>= (λ members. if are_named is members then Ok tt else Err Shape)
 
 -- the value of a field, as this kind
-abbrev pub field : {X : Type 0} → List ℕ → (Option Data → Found X) → Data → Found X
+abbrev pub field : {X : Type 0} → List ℕ → (Option Data → FoundOrFault X) → Data → FoundOrFault X
 field name kind d = kind (get name d)
 
 -- the start time, which is 0 where it is absent
-unfoldable pub start_time : Option Data → Found ℤ
+unfoldable pub start_time : Option Data → FoundOrFault ℤ
 start_time value = or_absent (pos 0) integer value
 
 -- the name of each time warp mode
-abbrev pub mode_names : List (List ℕ × Mode)
-mode_names = (codes "no", No) ∷ (codes "single", Single) ∷ (codes "multi", Multi) ∷ []
+abbrev pub modes_by_name : List (List ℕ × Mode)
+modes_by_name = (codes "no", No) ∷ (codes "single", Single) ∷ (codes "multi", Multi) ∷ []
 
 -- the time warp mode, which is no where it is absent
-unfoldable pub time_warp_mode : Option Data → Found Mode
-time_warp_mode value = or_absent No (λ name. text name >>= (λ bytes. called bytes mode_names)) value
+unfoldable pub time_warp_mode : Option Data → FoundOrFault Mode
+time_warp_mode value = or_absent No (λ name. text name >>= (λ bytes. called bytes modes_by_name)) value
 
 -- whether time correction is on, as it is where this is absent
-unfoldable pub time_correction : Option Data → Found Bool
+unfoldable pub time_correction : Option Data → FoundOrFault Bool
 time_correction value = or_absent true boolean value
 
 -- the start time and the first reading
-unfoldable pub times : Data → Found (ℤ × Reading)
-times d = both (field (codes "start") start_time d) (field (codes "first") reading d)
+unfoldable pub start_and_first : Data → FoundOrFault (ℤ × Reading)
+start_and_first d = read_both (field (codes "start") start_time d) (field (codes "first") listed_reading d)
 
 -- the time warp mode and the time correction
-unfoldable pub modes : Data → Found (Mode × Bool)
-modes d = both (field (codes "mode") time_warp_mode d) (field (codes "correction") time_correction d)
+unfoldable pub modes : Data → FoundOrFault (Mode × Bool)
+modes d = read_both (field (codes "mode") time_warp_mode d) (field (codes "correction") time_correction d)
 
 -- the fields of the clock
-unfoldable pub clock_of : Data → Found ClockFields
-clock_of d = both (times d) (modes d) >>= (λ p. Ok (record { start = p.0.0; first = p.0.1; mode = p.1.0; correction = p.1.1 }))
+unfoldable pub clock_fields_of : Data → FoundOrFault ClockFields
+clock_fields_of d = read_both (start_and_first d) (modes d) >>= (λ p. Ok (record { start = p.0.0; first = p.0.1; mode = p.1.0; correction = p.1.1 }))
 
 -- a count, which is this one where it is absent
-unfoldable pub count : ℕ → Option Data → Found ℕ
+unfoldable pub count : ℕ → Option Data → FoundOrFault ℕ
 count absent value = or_absent absent word value
 
 -- how many schedulers, processes, and timer slots of each scheduler there are
-unfoldable pub sizes_of : Data → Found Sizes
+unfoldable pub sizes_of : Data → FoundOrFault Sizes
 sizes_of d =
-    both (field (codes "schedulers") (count 1) d) (both (field (codes "processes") (count 1) d) (field (codes "slots") (count 1024) d))
+    read_both (field (codes "schedulers") (count 1) d) (read_both (field (codes "processes") (count 1) d) (field (codes "slots") (count 1024) d))
     >>= (λ p. Ok (record { schedulers = p.0; processes = p.1.0; slots = p.1.1 }))
 
 -- the format, which is 1 or 2
-unfoldable pub one_or_two : Option Data → Found (Unit {0})
-one_or_two value = integer value >>= (λ format. in_range (int_eq format (pos 1) || int_eq format (pos 2)) tt)
+unfoldable pub one_or_two : Option Data → FoundOrFault (Unit {0})
+one_or_two value = integer value >>= (λ format. if_in_range (int_eq format (pos 1) || int_eq format (pos 2)) tt)
 
 -- the fields that settings are made of, not yet tested for their ranges
-abbrev pub head_of : Bool → Data → Found Head
+abbrev pub head_of : Bool → Data → FoundOrFault Head
 head_of race d =
-    both (both (only_named (is_field race) d) (field (codes "format") one_or_two d)) (both (clock_of d) (sizes_of d))
+    read_both (read_both (only_named (is_field race) d) (field (codes "format") one_or_two d)) (read_both (clock_fields_of d) (sizes_of d))
     >>= (λ p. Ok (record { clock = p.1.0; sizes = p.1.1 }))
 
 -- the settings that the fields give, for one caller
@@ -111,24 +111,24 @@ settings_with head = record {
 }
 
 -- the settings, for one caller
-unfoldable pub settings_of : Bool → Data → Found Settings
-settings_of race d = head_of race d >>= (λ head. in_range (is_checked (settings_with head)) (settings_with head))
+unfoldable pub settings_from : Bool → Data → FoundOrFault Settings
+settings_from race d = head_of race d >>= (λ head. if_in_range (is_checked (settings_with head)) (settings_with head))
 
 -- the name of each field of a race
 abbrev pub race_fields : List (List ℕ)
 race_fields = codes "turns" ∷ codes "keeper" ∷ codes "callers" ∷ []
 
 -- how many turns each scheduler makes in a race, which has no other fields
-unfoldable pub race_turns : Option Data → Found ℕ
-race_turns value = of_kind value >>= (λ race. both (only_named (is_among race_fields) race) (field (codes "turns") count_of race) >>= (λ p. Ok p.1))
+unfoldable pub race_turns : Option Data → FoundOrFault ℕ
+race_turns value = of_kind value >>= (λ race. read_both (only_named (is_among race_fields) race) (field (codes "turns") non_negative race) >>= (λ p. Ok p.1))
 
 -- what stands at place 0 beside the lists of ops, with the turns of a race where one is wanted
-unfoldable pub top_of : Bool → Data → Found Top
-top_of false d = settings_of false d >>= (λ settings. Ok (record { settings = settings; turns = 0 }))
-top_of true d = both (settings_of true d) (field (codes "race") race_turns d) >>= (λ p. Ok (record { settings = p.0; turns = p.1 }))
+unfoldable pub top_of : Bool → Data → FoundOrFault Top
+top_of false d = settings_from false d >>= (λ settings. Ok (record { settings = settings; turns = 0 }))
+top_of true d = read_both (settings_from true d) (field (codes "race") race_turns d) >>= (λ p. Ok (record { settings = p.0; turns = p.1 }))
 
 -- the format that this integer names; other integers are read as 2
-abbrev pub format_by : Found ℤ → Format
+abbrev pub format_by : FoundOrFault ℤ → Format
 format_by (Ok format) = if int_eq format (pos 1) then One else Two
 format_by (Err fault) = Two
 

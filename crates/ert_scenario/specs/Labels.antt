@@ -4,7 +4,7 @@ use Rattle.std.specs.Prelude.{◌≡◌, ◌<◌, ◌+◌, ℕ, List, [], ◌∷
 use Rattle.ert_defs.specs.declared.settings.Settings.{Settings}
 use Rattle.ert_ops.specs.declared.op.Op.{Op}
 use Rattle.ert_ops.specs.declared.op.Op.TheVariants.{Start, SendAfter}
-use Rattle.ert_scenario.specs.Kinds.{Found, in_range}
+use Rattle.ert_scenario.specs.Kinds.{FoundOrFault, if_in_range}
 use Rattle.ert_scenario.specs.Ranges.{is_op}
 
 -- the label of an op that starts a timer
@@ -30,15 +30,15 @@ with_label labels (Some label) = label ∷ labels
 
 -- the ops one after another, where starts at earlier places have these labels: an op whose arguments are
 -- out of range, or a start whose label is not new, is a range fault
-abbrev pub tested : Settings → List ℕ → List (Found Op) → List (Found Op)
+abbrev pub tested : Settings → List ℕ → List (FoundOrFault Op) → List (FoundOrFault Op)
 tested g labels [] = []
-tested g labels (Ok op ∷ rest) = in_range (is_op g op && is_new labels (started_label op)) op ∷ tested g (with_label labels (started_label op)) rest
+tested g labels (Ok op ∷ rest) = if_in_range (is_op g op && is_new labels (started_label op)) op ∷ tested g (with_label labels (started_label op)) rest
 tested g labels (Err fault ∷ rest) = Err fault ∷ tested g labels rest
 
 -- ---- labels by a flag for each
 
 -- so many flags, none of them set
-pub record AreFree (count : ℕ) (taken : List Bool) : Type 0 where
+pub record AreUnset (count : ℕ) (taken : List Bool) : Type 0 where
   pub many : length taken ≡ count
   pub free : (label : ℕ) → label < count → slice_index_or taken label true ≡ false
 

@@ -3,7 +3,7 @@
 use Rattle.std.specs.Prelude.{ℕ, List, map, length, codes, Bool, true, false, Option, Some, None, Ok, option_map}
 use Rattle.serde_json.specs.Data.{Data}
 use Rattle.serde_json.specs.View.{view}
-use Rattle.ert_scenario.specs.Kinds.{Found, ◌>>=◌, both, of_kind, listed, arrays}
+use Rattle.ert_scenario.specs.Kinds.{FoundOrFault, ◌>>=◌, read_both, of_kind, listed, arrays}
 use Rattle.ert_scenario.specs.Fields.{field}
 use Rattle.ert_scenario.specs.declared.lists.Lists.{Lists}
 use Rattle.ert_scenario.specs.declared.lists.RaceItems.{RaceItems}
@@ -19,23 +19,23 @@ pub record OpValues : Type 0 where
   pub race : Option RaceValues
 
 -- the lists of a race
-abbrev pub lists_in : Data → Found RaceValues
-lists_in race = both (field (codes "keeper") listed race) (field (codes "callers") arrays race) >>= (λ p. Ok (record { keeper = p.0; callers = p.1 }))
+abbrev pub lists_in : Data → FoundOrFault RaceValues
+lists_in race = read_both (field (codes "keeper") listed race) (field (codes "callers") arrays race) >>= (λ p. Ok (record { keeper = p.0; callers = p.1 }))
 
 -- the lists of the value of the field `race`
-unfoldable pub race_lists : Option Data → Found RaceValues
+unfoldable pub race_lists : Option Data → FoundOrFault RaceValues
 race_lists value = of_kind value >>= lists_in
 
 -- the list `ops` alone
-abbrev pub lists_alone : Data → Found OpValues
+abbrev pub lists_alone : Data → FoundOrFault OpValues
 lists_alone d = field (codes "ops") listed d >>= (λ ops. Ok (record { ops = ops; race = None }))
 
 -- the list `ops`, and those of the race
-abbrev pub lists_with_race : Data → Found OpValues
-lists_with_race d = both (field (codes "ops") listed d) (field (codes "race") race_lists d) >>= (λ p. Ok (record { ops = p.0; race = Some p.1 }))
+abbrev pub lists_with_race : Data → FoundOrFault OpValues
+lists_with_race d = read_both (field (codes "ops") listed d) (field (codes "race") race_lists d) >>= (λ p. Ok (record { ops = p.0; race = Some p.1 }))
 
 -- the lists of a value, with those of a race where one is wanted
-unfoldable pub lists_found : Bool → Data → Found OpValues
+unfoldable pub lists_found : Bool → Data → FoundOrFault OpValues
 lists_found false d = lists_alone d
 lists_found true d = lists_with_race d
 

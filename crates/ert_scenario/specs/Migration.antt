@@ -6,10 +6,10 @@ use Rattle.serde_json.specs.Data.{Data, null, boolean, number, string, array, ob
 use Rattle.serde_json.specs.Find.{get}
 use Rattle.serde_json.specs.View.{items_of}
 use Rattle.ert_scenario.specs.Fields.{field}
-use Rattle.ert_scenario.specs.Kinds.{Found, integer, list_of, text, head}
+use Rattle.ert_scenario.specs.Kinds.{FoundOrFault, integer, list_of, text, head}
 
 -- whether it is the name of an op that asks a scheduler
-abbrev pub is_ask : Found (List ℕ) → Bool
+abbrev pub is_ask : FoundOrFault (List ℕ) → Bool
 is_ask (Ok name) = bytes_eq name (codes "cancel_async") || bytes_eq name (codes "read_async")
 is_ask (Err fault) = false
 

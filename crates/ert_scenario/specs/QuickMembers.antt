@@ -22,8 +22,8 @@ use Rattle.ert_scenario.specs.declared.format.Format.{Format}
 use Rattle.ert_scenario.specs.declared.quick.members.Seen.{Seen}
 
 -- the values of ops, without a race
-abbrev pub alone : List Data → OpValues
-alone values = record { ops = values; race = None }
+abbrev pub without_race : List Data → OpValues
+without_race values = record { ops = values; race = None }
 
 -- once the ops were read, the value of the field is an array of them
 abbrev pub IsOpsField : Option Format → List Op → Option Data → Type 0
@@ -31,14 +31,14 @@ IsOpsField None ops found = Unit {0}
 IsOpsField (Some format) ops found = (values : List Data) × (found ≡ Some (array (items_of values))) × (raws_of format Everyone values ≡ without_fault ops)
 
 -- of all members, these were seen as they are, and the field `ops` as these ops
-pub record IsSeen (format : Option Format) (ops : List Op) (seen all : Members) : Type 0 where
+pub record HasSeenMembers (format : Option Format) (ops : List Op) (seen all : Members) : Type 0 where
   pub others : (k : List ℕ) → bytes_eq k (codes "ops") ≡ false → get_member k all ≡ get_member k seen
   pub named : are_named (is_field false) all ≡ are_named (is_field false) seen
   pub listed : IsOpsField format ops (get_member (codes "ops") all)
 
 -- of all members these were seen, by what a pass keeps of them
 abbrev pub IsSeenAs : Seen → Members → Type 0
-IsSeenAs s all = IsSeen s.format s.ops.items (members_view s.fields.entries) all
+IsSeenAs s all = HasSeenMembers s.format s.ops.items (members_view s.fields.entries) all
 
 -- of the tokens `old` the first are the value of a member of this name, which is put to those seen before
 pub record ReadsMember (name : List ℕ) (old new : List Token) (was is : Seen) : Type 0 where
@@ -53,9 +53,9 @@ IsPlanOf seen plan = (all : Members) → IsSeenAs seen all → verdict_of false 
 -- the verdict is this plan on each list of values that are these ops
 abbrev pub IsPlanWith : Top → List Op → Plan → Type 0
 IsPlanWith top ops plan =
-    (format : Format) (values : List Data) → all_raws format (alone values) ≡ without_fault ops
-    → judged format (alone values) (Ok top) (tested top.settings [] (all_raws format (alone values))) ≡ Ok plan
+    (format : Format) (values : List Data) → all_raws format (without_race values) ≡ without_fault ops
+    → judged format (without_race values) (Ok top) (tested top.settings [] (all_raws format (without_race values))) ≡ Ok plan
 
 -- the plan of these settings and ops, for one caller
-abbrev pub plain : Settings → List Op → Plan
-plain g ops = record { settings = with_callers 1 g; ops = ops; race = None }
+abbrev pub plan_for_one : Settings → List Op → Plan
+plan_for_one g ops = record { settings = with_callers 1 g; ops = ops; race = None }

@@ -8,7 +8,7 @@ use Rattle.ert_defs.specs.declared.settings.Settings.{Settings}
 use Rattle.ert_ops.specs.Races.{Race, race_of}
 use Rattle.ert_ops.specs.declared.op.Op.{Op}
 use Rattle.ert_scenario.specs.Fields.{top_of, format_of}
-use Rattle.ert_scenario.specs.Kinds.{Found, items_in}
+use Rattle.ert_scenario.specs.Kinds.{FoundOrFault, items_in}
 use Rattle.ert_scenario.specs.Lists.{RaceValues, OpValues, lists_found, list_count}
 use Rattle.ert_scenario.specs.Walks.{raws_of, all_raws, founds_of, first_shape, first_range, ops_of}
 use Rattle.ert_scenario.specs.declared.doer.Doer.TheVariants.{Everyone, Keeper, Caller}
@@ -44,7 +44,7 @@ abbrev pub is_over : ℕ → ℕ → ℕ → Bool
 is_over ops lists turns = nat_lt MOST_OPS ops || (nat_lt MOST_LISTS lists || nat_lt MOST_TURNS turns)
 
 -- place 0, where there are too many of something
-abbrev pub over : Top → Option RaceValues → List (Found Op) → Option ℕ
+abbrev pub over : Top → Option RaceValues → List (FoundOrFault Op) → Option ℕ
 over top race founds = if is_over (length founds) (list_count race) top.turns then Some 0 else None
 
 -- the settings for so many callers
@@ -68,7 +68,7 @@ planned format lists top = record {
 }
 
 -- the verdict on what was found at place 0 and at the ops of these lists
-abbrev pub judged : Format → OpValues → Found Top → List (Found Op) → Verdict
+abbrev pub judged : Format → OpValues → FoundOrFault Top → List (FoundOrFault Op) → Verdict
 judged format lists (Err faults.Shape) founds = Err (Shape 0)
 judged format lists (Err faults.Range) founds = refused Shape (first_shape 1 founds) (Err (Range 0))
 judged format lists (Ok top) founds =
@@ -78,7 +78,7 @@ judged format lists (Ok top) founds =
     (Ok (planned format lists top))))
 
 -- the same, where the lists are arrays
-abbrev pub judged_all : Format → Found OpValues → Found Top → Verdict
+abbrev pub judged_all : Format → FoundOrFault OpValues → FoundOrFault Top → Verdict
 judged_all format (Ok lists) top = judged format lists top (founds_of top (all_raws format lists))
 judged_all format (Err fault) top = Err (Shape 0)
 
@@ -92,17 +92,17 @@ pub record IsValue (bytes : List ℕ) (d : Data) : Type 0 where
   pub reads : read bytes ≡ Some d
 
 -- the bytes are a value with this verdict
-abbrev pub Judges : Bool → List ℕ → Verdict → Type 0
-Judges race bytes verdict = (d : Data) × IsValue bytes d × (verdict_of race d ≡ verdict)
+abbrev pub IsValueWith : Bool → List ℕ → Verdict → Type 0
+IsValueWith race bytes verdict = (d : Data) × IsValue bytes d × (verdict_of race d ≡ verdict)
 
 -- the bytes are this scenario, which has a race where one is wanted, and else none
 abbrev pub IsScenario : Bool → List ℕ → Plan → Type 0
-IsScenario race bytes plan = Judges race bytes (Ok plan)
+IsScenario race bytes plan = IsValueWith race bytes (Ok plan)
 
 -- the bytes are refused for this reason; want of memory is never one
 abbrev pub HasRefusal : Bool → List ℕ → ScenarioErr → Type 0
 HasRefusal race bytes Json = (d : Data) → IsValue bytes d → ⊥
-HasRefusal race bytes (Shape place) = Judges race bytes (Err (Shape place))
-HasRefusal race bytes (Range place) = Judges race bytes (Err (Range place))
-HasRefusal race bytes (Limit place) = Judges race bytes (Err (Limit place))
+HasRefusal race bytes (Shape place) = IsValueWith race bytes (Err (Shape place))
+HasRefusal race bytes (Range place) = IsValueWith race bytes (Err (Range place))
+HasRefusal race bytes (Limit place) = IsValueWith race bytes (Err (Limit place))
 HasRefusal race bytes NoMemory = ⊥

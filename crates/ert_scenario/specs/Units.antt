@@ -3,7 +3,7 @@
 
 use Rattle.std.specs.Prelude.{ℕ, List, [], ◌∷◌, codes, Bool, ◌&&◌, nat_le, nat_lt, Option, Ok, Err}
 use Rattle.serde_json.specs.Data.{Data}
-use Rattle.ert_scenario.specs.Kinds.{Found, ◌>>=◌, in_range, natural, text, called}
+use Rattle.ert_scenario.specs.Kinds.{FoundOrFault, ◌>>=◌, if_in_range, unsigned_integer, text, called}
 
 -- the units that have a name; native is the nanosecond
 abbrev pub unit_names : List (List ℕ × ℕ)
@@ -20,14 +20,14 @@ unfoldable pub is_parts : ℕ → Bool
 is_parts n = nat_le 1 n && nat_lt n 9223372036854775808
 
 -- the unit of which a second has so many
-unfoldable pub unit_of : ℕ → Found ℕ
-unit_of n = in_range (is_parts n) n
+unfoldable pub unit_of : ℕ → FoundOrFault ℕ
+unit_of n = if_in_range (is_parts n) n
 
 -- a unit by its name, where there is one, and else by its parts
-abbrev pub named_or_counted : Found (List ℕ) → Found ℕ → Found ℕ
+abbrev pub named_or_counted : FoundOrFault (List ℕ) → FoundOrFault ℕ → FoundOrFault ℕ
 named_or_counted (Ok name) parts = called name unit_names
 named_or_counted (Err fault) parts = parts >>= unit_of
 
 -- a unit: a string that is its name, or a natural that is its parts
-unfoldable pub time_unit : Option Data → Found ℕ
-time_unit value = named_or_counted (text value) (natural value)
+unfoldable pub time_unit : Option Data → FoundOrFault ℕ
+time_unit value = named_or_counted (text value) (unsigned_integer value)

@@ -4,9 +4,9 @@ ghost use Rattle.std.specs.Prelude.{◌≡◌, option_map, string_bytes};
 ghost use Rattle.std.specs.BTreeMap.{keys};
 ghost use Rattle.std.specs.List.{list_all};
 ghost use Rattle.serde_json.specs.View.{view};
-ghost use Rattle.ert_scenario.specs.Fields.{clock_fields, other_fields, race_fields, is_field, is_among, only_named, mode_names};
-ghost use Rattle.ert_scenario.specs.Fields.{start_time, time_warp_mode, time_correction, count, times, modes, one_or_two};
-ghost use Rattle.ert_scenario.specs.Fields.{clock_of, sizes_of, head_of, settings_with, settings_of, race_turns, top_of};
+ghost use Rattle.ert_scenario.specs.Fields.{clock_fields, other_fields, race_fields, is_field, is_among, only_named, modes_by_name};
+ghost use Rattle.ert_scenario.specs.Fields.{start_time, time_warp_mode, time_correction, count, start_and_first, modes, one_or_two};
+ghost use Rattle.ert_scenario.specs.Fields.{clock_fields_of, sizes_of, head_of, settings_with, settings_from, race_turns, top_of};
 ghost use Rattle.ert_scenario.specs.Kinds.{called};
 ghost use Rattle.ert_scenario.specs.Ranges.{has_counts, is_checked};
 
@@ -63,9 +63,9 @@ pub(crate) fn top_of(value: &Value, race: bool) -> Result<Top, Fault>
 }
 
 /// The settings that a value gives, for one caller.
-#[tactic(auto, unfolding(crate::specs::Fields::settings_of))]
+#[tactic(auto, unfolding(crate::specs::Fields::settings_from))]
 fn settings_of(value: &Value, race: bool) -> Result<Settings, Fault>
-    ensures { result ≡ settings_of race (view value.now) }
+    ensures { result ≡ settings_from race (view value.now) }
 {
     let head = head_of(value, race)?;
     let settings = settings_with(head);
@@ -102,9 +102,9 @@ fn one_or_two(value: Option<&Value>) -> Result<(), Fault>
 }
 
 /// The fields of the clock.
-#[tactic(auto, unfolding(crate::specs::Fields::clock_of))]
+#[tactic(auto, unfolding(crate::specs::Fields::clock_fields_of))]
 fn clock_of(value: &Value) -> Result<ClockFields, Fault>
-    ensures { result ≡ clock_of (view value.now) }
+    ensures { result ≡ clock_fields_of (view value.now) }
 {
     let ((start, first), (mode, correction)) = both(times(value), modes(value))?;
     Ok(ClockFields {
@@ -116,9 +116,9 @@ fn clock_of(value: &Value) -> Result<ClockFields, Fault>
 }
 
 /// The start time and the first reading.
-#[tactic(auto, unfolding(crate::specs::Fields::times))]
+#[tactic(auto, unfolding(crate::specs::Fields::start_and_first))]
 fn times(value: &Value) -> Result<(i64, Reading), Fault>
-    ensures { result ≡ times (view value.now) }
+    ensures { result ≡ start_and_first (view value.now) }
 {
     both(start_time(value.get("start")), reading(value.get("first")))
 }
@@ -185,7 +185,7 @@ fn time_warp_mode(value: Option<&Value>) -> Result<Mode, Fault>
 
 /// The time warp mode of this name.
 fn mode_called(name: &str) -> Result<Mode, Fault>
-    ensures { result ≡ called name.now mode_names }
+    ensures { result ≡ called name.now modes_by_name }
 {
     match name {
         "no" => Ok(Mode::No),

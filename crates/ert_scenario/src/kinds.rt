@@ -3,20 +3,20 @@
 ghost use Rattle.std.specs.Prelude.{◌≡◌, map, option_map};
 ghost use Rattle.std.specs.List.{list_all};
 ghost use Rattle.serde_json.specs.View.{view};
-ghost use Rattle.ert_scenario.specs.Kinds.{found_map, both, of_kind, in_range, integer, word_of, word, natural_of, count_of, natural, boolean, text};
-ghost use Rattle.ert_scenario.specs.Kinds.{listed, items_in, is_array, arrays, head, tail, end, one_word, two_words, reading_from, reading};
+ghost use Rattle.ert_scenario.specs.Kinds.{found_map, read_both, of_kind, if_in_range, integer, word_from, word, non_negative_from, non_negative, unsigned_integer, boolean, text};
+ghost use Rattle.ert_scenario.specs.Kinds.{listed, items_in, is_array, arrays, head, tail, end, one_word, two_words, reading_from, listed_reading};
 
 use crate::fault::Fault;
 use ert_defs::Reading;
 use serde_json::Value;
 
 /// Two readings together: a shape fault of either counts before a range fault of the other.
-#[tactic(auto, unfolding(crate::specs::Kinds::both))]
+#[tactic(auto, unfolding(crate::specs::Kinds::read_both))]
 pub(crate) fn both<A: Drop, B: Drop>(
     first: Result<A, Fault>,
     second: Result<B, Fault>,
 ) -> Result<(A, B), Fault>
-    ensures { result ≡ both first second }
+    ensures { result ≡ read_both first second }
 {
     match first {
         Ok(a) => second.map(|b| (a, b)),
@@ -34,9 +34,9 @@ fn of_kind<T: Drop>(value: Option<T>) -> Result<T, Fault>
 }
 
 /// A value outside its range is a range fault.
-#[tactic(auto, unfolding(crate::specs::Kinds::in_range))]
+#[tactic(auto, unfolding(crate::specs::Kinds::if_in_range))]
 pub(crate) fn in_range<T: Drop>(fits: bool, value: T) -> Result<T, Fault>
-    ensures { result ≡ in_range fits value }
+    ensures { result ≡ if_in_range fits value }
 {
     if fits { Ok(value) } else { Err(Fault::Range) }
 }
@@ -60,7 +60,7 @@ pub(crate) fn word(value: Option<&Value>) -> Result<u32, Fault>
 /// The same of an integer.
 #[tactic(auto, using(crate::proofs::Wholes::word_fits, crate::proofs::Wholes::word_misses))]
 fn word_of(number: i64) -> Result<u32, Fault>
-    ensures { result ≡ word_of number }
+    ensures { result ≡ word_from number }
 {
     let Ok(word) = u32::try_from(number) else {
         return Err(Fault::Range);
@@ -69,9 +69,9 @@ fn word_of(number: i64) -> Result<u32, Fault>
 }
 
 /// A natural below 2^64. A number with a fraction or an exponent is none.
-#[tactic(auto, unfolding(crate::specs::Kinds::natural))]
+#[tactic(auto, unfolding(crate::specs::Kinds::unsigned_integer))]
 pub(crate) fn natural(value: Option<&Value>) -> Result<u64, Fault>
-    ensures { result ≡ natural (option_map (λ v. view v.now) value.entry) }
+    ensures { result ≡ unsigned_integer (option_map (λ v. view v.now) value.entry) }
 {
     of_kind(value.and_then(Value::as_u64))
 }
@@ -88,16 +88,16 @@ pub(crate) fn present(value: Option<&Value>) -> Result<&Value, Fault>
 }
 
 /// An integer that counts something: a negative one is a range fault.
-#[tactic(auto, unfolding(crate::specs::Kinds::count_of))]
+#[tactic(auto, unfolding(crate::specs::Kinds::non_negative))]
 pub(crate) fn count_of(value: Option<&Value>) -> Result<u64, Fault>
-    ensures { result ≡ count_of (option_map (λ v. view v.now) value.entry) }
+    ensures { result ≡ non_negative (option_map (λ v. view v.now) value.entry) }
 {
     natural_of(integer(value)?)
 }
 
 /// The same of an integer.
 fn natural_of(number: i64) -> Result<u64, Fault>
-    ensures { result ≡ natural_of number }
+    ensures { result ≡ non_negative_from number }
 {
     let Ok(natural) = u64::try_from(number) else {
         return Err(Fault::Range);
@@ -209,7 +209,7 @@ pub(crate) fn end(args: &[Value]) -> Result<(), Fault>
 
 /// An array of two integers, as a reading that may be out of range.
 pub(crate) fn reading(value: Option<&Value>) -> Result<Reading, Fault>
-    ensures { result ≡ reading (option_map (λ v. view v.now) value.entry) }
+    ensures { result ≡ listed_reading (option_map (λ v. view v.now) value.entry) }
 {
     reading_from(listed(value)?)
 }

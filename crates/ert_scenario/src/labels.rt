@@ -1,7 +1,7 @@
 //! The labels of starts.
 
 ghost use Rattle.std.specs.Prelude.{◌≡◌, IsTrue, IfOk, IfErr};
-ghost use Rattle.ert_scenario.specs.Labels.{started_label, AreFree, is_free, with_flag, first_out};
+ghost use Rattle.ert_scenario.specs.Labels.{started_label, AreUnset, is_free, with_flag, first_out};
 
 use crate::ranges::is_op;
 use crate::scenario::ScenarioErr;
@@ -22,7 +22,7 @@ pub(crate) struct Labels {
 impl Labels {
     /// No label is taken.
     pub(crate) fn new(alloc: Global) -> Result<Labels, AllocError>
-        ensures { IfOk result (λ l. AreFree 1000000 l.taken.items) }
+        ensures { IfOk result (λ l. AreUnset 1000000 l.taken.items) }
     {
         Ok(Labels {
             taken: flags(alloc, LABELS)?,
@@ -50,7 +50,7 @@ impl Labels {
 /// So many flags, none of them set.
 #[tactic(auto, using(crate::proofs::Tested::are_free))]
 fn flags(alloc: Global, count: usize) -> Result<Vec<bool>, AllocError>
-    ensures { IfOk result (λ taken. AreFree count taken.items) }
+    ensures { IfOk result (λ taken. AreUnset count taken.items) }
 {
     vec![in alloc; false; count]
 }

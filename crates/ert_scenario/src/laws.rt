@@ -6,13 +6,13 @@ ghost use Rattle.ert_defs.specs.Settings.{IsChecked};
 ghost use Rattle.ert_defs.specs.declared.settings.Settings.{Settings};
 ghost use Rattle.ert_ops.specs.Labels.{AreOps};
 ghost use Rattle.ert_ops.specs.Races.{IsRace};
-ghost use Rattle.ert_ops.specs.Ranges.{IsOpInRange, IsInRange};
+ghost use Rattle.ert_ops.specs.Ranges.{IsOpInRange, AreOpsInRange};
 ghost use Rattle.serde_json.specs.Data.{Data};
 ghost use Rattle.ert_ops.specs.declared.op.Op.{Op as AnOp};
 ghost use Rattle.ert_scenario.specs.Doers.{IsKeepersOp, AreCallersAlone};
-ghost use Rattle.ert_scenario.specs.Kinds.{Found};
+ghost use Rattle.ert_scenario.specs.Kinds.{FoundOrFault};
 ghost use Rattle.ert_scenario.specs.Migration.{IsOfFormat, migrated};
-ghost use Rattle.ert_scenario.specs.Places.{HasShapeFault, HasRangeFault, IsTooMuch, IsLeast, IsNowhere, raw_at, IsRead, IsStartAt};
+ghost use Rattle.ert_scenario.specs.Places.{HasShapeFault, HasRangeFault, IsTooMuch, IsLeast, IsNowhere, raw_at, GivesRawOps, IsStartAt};
 ghost use Rattle.ert_scenario.specs.Scenarios.{Plan, IsValue, IsScenario, HasRefusal, verdict_of};
 ghost use Rattle.ert_scenario.specs.declared.scenario.ScenarioErr.{ScenarioErr as Refusal};
 
@@ -43,7 +43,7 @@ pub fn scenarios_are_valid()
     ensures settings { (race : Bool) (bytes : List ℕ) (plan : Plan)
         → IsScenario race bytes plan → IsChecked plan.settings }
     ensures ops { (race : Bool) (bytes : List ℕ) (plan : Plan)
-        → IsScenario race bytes plan → IsInRange plan.settings plan.ops }
+        → IsScenario race bytes plan → AreOpsInRange plan.settings plan.ops }
     ensures labels { (race : Bool) (bytes : List ℕ) (plan : Plan)
         → IsScenario race bytes plan → AreOps plan.ops }
     ensures wanted { (race : Bool) (bytes : List ℕ) (plan : Plan)
@@ -97,14 +97,14 @@ pub fn migrated_is_the_same()
 /// where one of them is out of range, or where it is a start with the label of an earlier one, in whichever
 /// list that stands.
 pub fn range_faults_of_ops()
-    ensures out_of_range { (race : Bool) (d : Data) (g : Settings) (raws : List (Found AnOp)) (i : ℕ) (op : AnOp)
-        → IsRead race d g raws → raw_at raws i ≡ Some (Ok op) → (IsOpInRange g op → ⊥)
+    ensures out_of_range { (race : Bool) (d : Data) (g : Settings) (raws : List (FoundOrFault AnOp)) (i : ℕ) (op : AnOp)
+        → GivesRawOps race d g raws → raw_at raws i ≡ Some (Ok op) → (IsOpInRange g op → ⊥)
         → HasRangeFault race d (suc i) }
-    ensures label_again { (race : Bool) (d : Data) (g : Settings) (raws : List (Found AnOp)) (i j label : ℕ)
-        → IsRead race d g raws → j < i → IsStartAt raws j label → IsStartAt raws i label
+    ensures label_again { (race : Bool) (d : Data) (g : Settings) (raws : List (FoundOrFault AnOp)) (i j label : ℕ)
+        → GivesRawOps race d g raws → j < i → IsStartAt raws j label → IsStartAt raws i label
         → HasRangeFault race d (suc i) }
-    ensures no_other { (race : Bool) (d : Data) (g : Settings) (raws : List (Found AnOp)) (i : ℕ) (op : AnOp)
-        → IsRead race d g raws → raw_at raws i ≡ Some (Ok op) → IsOpInRange g op
+    ensures no_other { (race : Bool) (d : Data) (g : Settings) (raws : List (FoundOrFault AnOp)) (i : ℕ) (op : AnOp)
+        → GivesRawOps race d g raws → raw_at raws i ≡ Some (Ok op) → IsOpInRange g op
         → ((j label : ℕ) → j < i → IsStartAt raws j label → IsStartAt raws i label → ⊥)
         → HasRangeFault race d (suc i) → ⊥ }
 {}

@@ -4,7 +4,7 @@
 ghost use Rattle.std.specs.Prelude.{◌≡◌, false, Some, IsTrue, IfOk, IfErr, IfSome};
 ghost use Rattle.serde_json.specs.Data.{Members, object};
 ghost use Rattle.serde_json.specs.Read.{read as read_text};
-ghost use Rattle.ert_scenario.specs.QuickMembers.{IsSeenAs, IsPlanOf, IsPlanWith, plain};
+ghost use Rattle.ert_scenario.specs.QuickMembers.{IsSeenAs, IsPlanOf, IsPlanWith, plan_for_one};
 ghost use Rattle.ert_scenario.specs.Scenarios.{plan_of, IsScenario};
 
 mod members;
@@ -108,7 +108,7 @@ fn scenario_with(alloc: Global, top: Top, ops: Vec<Op>) -> Result<Option<Scenari
 
 /// The scenario with these settings, for one caller.
 fn scenario_without_race(top: Top, ops: Vec<Op>) -> Scenario
-    ensures { plan_of result ≡ plain top.settings ops.items }
+    ensures { plan_of result ≡ plan_for_one top.settings ops.items }
 {
     Scenario {
         settings: Settings {

@@ -2,7 +2,7 @@
 
 ghost use Rattle.std.specs.Prelude.{◌≡◌, map};
 ghost use Rattle.serde_json.specs.View.{view};
-ghost use Rattle.ert_scenario.specs.Rows.{plain, caller_groups, groups_of, named, op_from, op_of};
+ghost use Rattle.ert_scenario.specs.Rows.{without_args, caller_groups, groups_of, op_named, op_from, op_of};
 
 mod clock;
 mod formats;
@@ -36,7 +36,7 @@ pub(crate) fn op_from(format: Format, doer: Doer, items: &[Value]) -> Result<Op,
 
 /// The op of this name in the list of a doer.
 fn named(format: Format, doer: Doer, name: &str, args: &[Value]) -> Result<Op, Fault>
-    ensures { result ≡ named name.now (groups_of doer format) (map view args.now) }
+    ensures { result ≡ op_named name.now (groups_of doer format) (map view args.now) }
 {
     match doer {
         Doer::Everyone => anyones_op(format, name, args),
@@ -47,7 +47,7 @@ fn named(format: Format, doer: Doer, name: &str, args: &[Value]) -> Result<Op, F
 
 /// The op of this name, whoever does it.
 fn anyones_op(format: Format, name: &str, args: &[Value]) -> Result<Op, Fault>
-    ensures { result ≡ named name.now (groups_of Doer.Everyone format) (map view args.now) }
+    ensures { result ≡ op_named name.now (groups_of Doer.Everyone format) (map view args.now) }
 {
     if let Some(found) = keeper::op(name, args) {
         return found;
@@ -60,7 +60,7 @@ fn anyones_op(format: Format, name: &str, args: &[Value]) -> Result<Op, Fault>
 
 /// The op of this name, where the clock's thread may do it.
 fn keepers_op(name: &str, args: &[Value]) -> Result<Op, Fault>
-    ensures { result ≡ named name.now (groups_of Doer.Keeper Format.Two) (map view args.now) }
+    ensures { result ≡ op_named name.now (groups_of Doer.Keeper Format.Two) (map view args.now) }
 {
     if let Some(found) = keeper::op(name, args) {
         return found;
@@ -70,7 +70,7 @@ fn keepers_op(name: &str, args: &[Value]) -> Result<Op, Fault>
 
 /// The op of this name, where a caller may do it.
 fn callers_op(format: Format, name: &str, args: &[Value]) -> Result<Op, Fault>
-    ensures { result ≡ named name.now (caller_groups format) (map view args.now) }
+    ensures { result ≡ op_named name.now (caller_groups format) (map view args.now) }
 {
     if let Some(found) = keeper::shared_op(name, args) {
         return found;
@@ -89,7 +89,7 @@ fn callers_op(format: Format, name: &str, args: &[Value]) -> Result<Op, Fault>
 
 /// An op without arguments.
 fn plain(op: Op, args: &[Value]) -> Result<Op, Fault>
-    ensures { result ≡ plain op (map view args.now) }
+    ensures { result ≡ without_args op (map view args.now) }
 {
     end(args)?;
     Ok(op)

@@ -1,9 +1,9 @@
 ghost use Rattle.std.specs.Prelude.{◌++◌, [], List, map, OnOk, IfOk, IfErr};
 ghost use Rattle.serde_json.specs.View.{view};
 ghost use Rattle.ert_ops.specs.declared.op.Op.{Op as AnOp};
-ghost use Rattle.ert_scenario.specs.Kinds.{Found};
+ghost use Rattle.ert_scenario.specs.Kinds.{FoundOrFault};
 ghost use Rattle.ert_scenario.specs.Lists.{lists_seen, race_seen};
-ghost use Rattle.ert_scenario.specs.Walked.{StandsAt, IsOver, IsShapeAt};
+ghost use Rattle.ert_scenario.specs.Walked.{WalkIsAt, IsOver, IsShapeAt};
 ghost use Rattle.ert_scenario.specs.Walks.{raws_of, caller_raws, race_raws, all_raws, first_shape};
 
 use crate::doer::Doer;
@@ -30,10 +30,10 @@ pub(crate) fn scan(alloc: Global, format: Format, lists: &Lists) -> Result<Walk,
 
 /// Walks over the ops of a race, where there is one.
 fn scan_others(walk: &mut Walk, format: Format, lists: &Lists) -> Result<(), ScenarioErr>
-    ensures goes_on { OnOk result ((all : List (Found AnOp))
-        → StandsAt walk.old (race_raws format (lists_seen lists.now).race) all → StandsAt walk.new [] all) }
-    ensures stops { IfErr result (λ e. (all : List (Found AnOp))
-        → StandsAt walk.old (race_raws format (lists_seen lists.now).race) all → IsShapeAt e (first_shape 1 all)) }
+    ensures goes_on { OnOk result ((all : List (FoundOrFault AnOp))
+        → WalkIsAt walk.old (race_raws format (lists_seen lists.now).race) all → WalkIsAt walk.new [] all) }
+    ensures stops { IfErr result (λ e. (all : List (FoundOrFault AnOp))
+        → WalkIsAt walk.old (race_raws format (lists_seen lists.now).race) all → IsShapeAt e (first_shape 1 all)) }
 {
     match &lists.race {
         Some(race) => scan_race(walk, format, race),
@@ -43,10 +43,10 @@ fn scan_others(walk: &mut Walk, format: Format, lists: &Lists) -> Result<(), Sce
 
 /// Walks over the ops of a race, which are the last.
 fn scan_race(walk: &mut Walk, format: Format, race: &RaceItems) -> Result<(), ScenarioErr>
-    ensures goes_on { OnOk result ((all : List (Found AnOp))
-        → StandsAt walk.old (race_raws format (Some (race_seen race.now))) all → StandsAt walk.new [] all) }
-    ensures stops { IfErr result (λ e. (all : List (Found AnOp))
-        → StandsAt walk.old (race_raws format (Some (race_seen race.now))) all → IsShapeAt e (first_shape 1 all)) }
+    ensures goes_on { OnOk result ((all : List (FoundOrFault AnOp))
+        → WalkIsAt walk.old (race_raws format (Some (race_seen race.now))) all → WalkIsAt walk.new [] all) }
+    ensures stops { IfErr result (λ e. (all : List (FoundOrFault AnOp))
+        → WalkIsAt walk.old (race_raws format (Some (race_seen race.now))) all → IsShapeAt e (first_shape 1 all)) }
 {
     scan_list(walk, format, Doer::Keeper, race.keeper)?;
     for list in race.callers {
@@ -62,10 +62,10 @@ fn scan_list(
     doer: Doer,
     items: &[Value],
 ) -> Result<(), ScenarioErr>
-    ensures goes_on { OnOk result ((rest all : List (Found AnOp))
-        → StandsAt walk.old (raws_of format doer (map view items.now) ++ rest) all → StandsAt walk.new rest all) }
-    ensures stops { IfErr result (λ e. (rest all : List (Found AnOp))
-        → StandsAt walk.old (raws_of format doer (map view items.now) ++ rest) all → IsShapeAt e (first_shape 1 all)) }
+    ensures goes_on { OnOk result ((rest all : List (FoundOrFault AnOp))
+        → WalkIsAt walk.old (raws_of format doer (map view items.now) ++ rest) all → WalkIsAt walk.new rest all) }
+    ensures stops { IfErr result (λ e. (rest all : List (FoundOrFault AnOp))
+        → WalkIsAt walk.old (raws_of format doer (map view items.now) ++ rest) all → IsShapeAt e (first_shape 1 all)) }
 {
     for value in items {
         walk.step(op_of(format, doer, value))?;

@@ -2,7 +2,7 @@ ghost use Rattle.std.specs.Prelude.{◌≡◌, ◌≢◌, [], List, IfOk, IfErr}
 ghost use Rattle.serde_json.specs.View.{view};
 ghost use Rattle.ert_scenario.specs.Scenarios.{plan_of, is_over, judged, verdict_of, IsScenario, HasRefusal};
 ghost use Rattle.ert_ops.specs.declared.op.Op.{Op as AnOp};
-ghost use Rattle.ert_scenario.specs.Kinds.{Found};
+ghost use Rattle.ert_scenario.specs.Kinds.{FoundOrFault};
 ghost use Rattle.ert_scenario.specs.Labels.{tested};
 ghost use Rattle.ert_scenario.specs.Lists.{lists_seen};
 ghost use Rattle.ert_scenario.specs.Walked.{IsOver};
@@ -188,7 +188,7 @@ pub(crate) fn first_range(
     settings: &Settings,
     walk: &Walk,
 ) -> Result<Option<u32>, ScenarioErr>
-    ensures ok { IfOk result (λ place. (all : List (Found AnOp)) → IsOver walk.now.ops.items walk.now.range all
+    ensures ok { IfOk result (λ place. (all : List (FoundOrFault AnOp)) → IsOver walk.now.ops.items walk.now.range all
         → place ≡ first_range 1 (tested settings.now [] all)) }
     ensures err { IfErr result (λ e. e ≡ ScenarioErr.NoMemory) }
 {

@@ -1,7 +1,7 @@
 ghost use Rattle.std.specs.Prelude.{◌≡◌, ◌∷◌, [], List, None, OnOk, IfOk, IfErr};
-ghost use Rattle.ert_scenario.specs.Kinds.{Found};
+ghost use Rattle.ert_scenario.specs.Kinds.{FoundOrFault};
 ghost use Rattle.ert_scenario.specs.Walks.{first_shape};
-ghost use Rattle.ert_scenario.specs.Walked.{StandsAt, IsShapeAt};
+ghost use Rattle.ert_scenario.specs.Walked.{WalkIsAt, IsShapeAt};
 ghost use Rattle.ert_ops.specs.declared.op.Op.{Op as AnOp};
 
 use crate::fault::Fault;
@@ -42,10 +42,10 @@ impl Walk {
 
     /// Takes what was found at the next place.
     pub(crate) fn step(&mut self, found: Result<Op, Fault>) -> Result<(), ScenarioErr>
-        ensures goes_on { OnOk result ((rest all : List (Found AnOp))
-            → StandsAt self.old (found ∷ rest) all → StandsAt self.new rest all) }
-        ensures stops { IfErr result (λ e. (rest all : List (Found AnOp))
-            → StandsAt self.old (found ∷ rest) all → IsShapeAt e (first_shape 1 all)) }
+        ensures goes_on { OnOk result ((rest all : List (FoundOrFault AnOp))
+            → WalkIsAt self.old (found ∷ rest) all → WalkIsAt self.new rest all) }
+        ensures stops { IfErr result (λ e. (rest all : List (FoundOrFault AnOp))
+            → WalkIsAt self.old (found ∷ rest) all → IsShapeAt e (first_shape 1 all)) }
     {
         let place = self.place;
         // No input within the limit of its length has so many ops.

@@ -27,8 +27,8 @@ use Rattle.ert_ops.specs.declared.op.Op.{Op}
 use Rattle.ert_ops.specs.declared.op.Op.TheVariants as ops
 use Rattle.ert_effects.proofs.Growing.{grows_as}
 use Rattle.ert_script.specs.Doing.{IsAnswered, HasStarted, BreaksOff}
-use Rattle.ert_script.specs.Replies.{ticked, checked, finalized, settings_told, start_told, taken}
-use Rattle.ert_transcript.specs.Calls.{reading_of, start_of, request_of, AsksFor, Calls, Converts}
+use Rattle.ert_script.specs.Replies.{tick_told, check_told, finalize_told, settings_told, start_told, take_told}
+use Rattle.ert_transcript.specs.Calls.{reading_of, start_for_op, request_for_op, AsksFor, Calls, Converts}
 use Rattle.ert_transcript.specs.Labels.{Labels, ref_of}
 use Rattle.ert_transcript.specs.declared.reply.Reply.{Reply}
 use Rattle.ert_transcript.specs.declared.reply.Reply.TheVariants as replies
@@ -39,23 +39,23 @@ module _ (g : Settings) (way : Way) (n : ℕ) (timer : TimerRef) (f h : List Ent
   done op reply grows = record { does = λ ls of. grows ls; fails = λ ls of. tt }
 
   pub tick_grows : (mono sys : ℤ) (r : Result Moved ClockErr) → r ≢ Err BadReading → Grows (way (Keeper ∷ []) (Ticks g n (reading_of mono sys) false r)) f h
-      → (ls : Labels) → Grows (Calls g way n ls (ops.Tick mono sys) (ticked r)) f h
+      → (ls : Labels) → Grows (Calls g way n ls (ops.Tick mono sys) (tick_told r)) f h
   tick_grows mono sys (Ok m) good grows ls = grows
   tick_grows mono sys (Err (OffsetWide value)) good grows ls = grows
   tick_grows mono sys (Err BadReading) good grows ls = absurd (good refl)
 
   pub tick_answered : (mono sys : ℤ) (r : Result Moved ClockErr) → r ≢ Err BadReading → Grows (way (Keeper ∷ []) (Ticks g n (reading_of mono sys) false r)) f h
-      → IsAnswered g way n (ops.Tick mono sys) timer (Ok (ticked r)) f h
+      → IsAnswered g way n (ops.Tick mono sys) timer (Ok (tick_told r)) f h
   tick_answered mono sys r good grows = done _ _ (tick_grows mono sys r good grows)
 
   pub check_answered : (mono sys : ℤ) (r : Result Moved ClockErr) → r ≢ Err BadReading → Grows (way (Keeper ∷ []) (Ticks g n (reading_of mono sys) true r)) f h
-      → IsAnswered g way n (ops.Check mono sys) timer (Ok (checked r)) f h
+      → IsAnswered g way n (ops.Check mono sys) timer (Ok (check_told r)) f h
   check_answered mono sys (Ok m) good grows = done _ _ (λ ls. grows)
   check_answered mono sys (Err (OffsetWide value)) good grows = done _ _ (λ ls. grows)
   check_answered mono sys (Err BadReading) good grows = absurd (good refl)
 
   pub finalize_answered : (mono sys : ℤ) (r : Result (OffsetState × Moved) ClockErr) → r ≢ Err BadReading
-      → Grows (way (Keeper ∷ []) (Finalizes g n (reading_of mono sys) r)) f h → IsAnswered g way n (ops.Finalize mono sys) timer (Ok (finalized r)) f h
+      → Grows (way (Keeper ∷ []) (Finalizes g n (reading_of mono sys) r)) f h → IsAnswered g way n (ops.Finalize mono sys) timer (Ok (finalize_told r)) f h
   finalize_answered mono sys (Ok p) good grows = done _ _ (λ ls. grows)
   finalize_answered mono sys (Err (OffsetWide value)) good grows = done _ _ (λ ls. grows)
   finalize_answered mono sys (Err BadReading) good grows = absurd (good refl)
@@ -66,7 +66,7 @@ module _ (g : Settings) (way : Way) (n : ℕ) (timer : TimerRef) (f h : List Ent
       done _ _ (λ ls. record { piece = grows.piece; grown = grows.grown; made = (record { starts = refl; ends = refl; of_mode = refl; corrects = refl }, grows.made) })
 
   pub start_answered : (label wheel : ℕ) (when : When) (dest msg : ℕ) (r : Result TimerRef StartErr) → r ≢ Err WantOfMemory
-      → Grows (way (Wheel wheel ∷ []) (Starts g n wheel (start_of when dest msg Wrapped) r)) f h
+      → Grows (way (Wheel wheel ∷ []) (Starts g n wheel (start_for_op when dest msg Wrapped) r)) f h
       → IsAnswered g way n (ops.Start label wheel when dest msg) timer (Ok (start_told Wrapped r)) f h
   start_answered label wheel when dest msg (Ok t) some grows = done _ _ (λ ls. grows)
   start_answered label wheel when dest msg (Err BadArg) some grows = done _ _ (λ ls. grows)
@@ -74,14 +74,14 @@ module _ (g : Settings) (way : Way) (n : ℕ) (timer : TimerRef) (f h : List Ent
   start_answered label wheel when dest msg (Err WantOfMemory) some grows = absurd (some refl)
 
   pub send_after_answered : (label wheel : ℕ) (when : When) (dest msg : ℕ) (r : Result TimerRef StartErr) → r ≢ Err WantOfMemory
-      → Grows (way (Wheel wheel ∷ []) (Starts g n wheel (start_of when dest msg Bare) r)) f h
+      → Grows (way (Wheel wheel ∷ []) (Starts g n wheel (start_for_op when dest msg Bare) r)) f h
       → IsAnswered g way n (ops.SendAfter label wheel when dest msg) timer (Ok (start_told Bare r)) f h
   send_after_answered label wheel when dest msg (Ok t) some grows = done _ _ (λ ls. grows)
   send_after_answered label wheel when dest msg (Err BadArg) some grows = done _ _ (λ ls. grows)
   send_after_answered label wheel when dest msg (Err Full) some grows = done _ _ (λ ls. grows)
   send_after_answered label wheel when dest msg (Err WantOfMemory) some grows = absurd (some refl)
 
-  pub take_answered : (p : ℕ) (r : Taken) → Grows (way (MailOf p ∷ []) (Takes g n p r)) f h → IsAnswered g way n (ops.Receive p) timer (Ok (taken r)) f h
+  pub take_answered : (p : ℕ) (r : Taken) → Grows (way (MailOf p ∷ []) (Takes g n p r)) f h → IsAnswered g way n (ops.Receive p) timer (Ok (take_told r)) f h
   take_answered p (Taking mail) grows = done _ _ (λ ls. grows)
   take_answered p Empty grows = done _ _ (λ ls. grows)
   take_answered p Exited grows = done _ _ (λ ls. grows)
@@ -114,7 +114,7 @@ module _ (g : Settings) (way : Way) (n : ℕ) (timer : TimerRef) (f h : List Ent
   -- a request was put, for the timer of a label
   pub asked_for : (kind : RequestKind) (ls : Labels) (label p : ℕ) (info : Bool) (request : Request) → request ≡ record { kind = kind; timer = timer; reply_to = p; info = info }
       → ref_of ls label ≡ timer → Grows (way (Inbox (inbox_for g request) ∷ []) (Asks g n (inbox_for g request) request (Ok tt))) f h
-      → Grows (AsksFor g way n (request_of kind ls label p info)) f h
+      → Grows (AsksFor g way n (request_for_op kind ls label p info)) f h
   asked_for kind ls label p info request is of grows =
       subst (λ (q : Request). Grows (AsksFor g way n q) f h)
       (is ∙ ap (λ (t : TimerRef). record { kind = kind; timer = t; reply_to = p; info = info }) (sym of)) grows

@@ -7,7 +7,7 @@ use Rattle.std.specs.Ordering.{nat_cmp, eq_by_cmp}
 use Rattle.ert_defs.specs.Timers.{same_timer, timer_at}
 use Rattle.ert_defs.specs.declared.timer.TimerRef.{TimerRef}
 use Rattle.ert_script.specs.LabelMaps.{AreFound, first_ref, first_label}
-use Rattle.ert_script.specs.Keys.{key_of, key_cmp}
+use Rattle.ert_script.specs.Keys.{key_of_timer, key_cmp}
 use Rattle.ert_transcript.specs.Labels.{Labels, bind, ref_of, label_in, label_of}
 
 -- the first of a list, or what stands for none
@@ -47,26 +47,26 @@ found_ref ls now refs labels l o found seen is =
 
 -- the label of a timer, as it is found
 pub found_label : (ls now : Labels) (refs : ℕ → Option TimerRef) (labels : ℕ × ℕ × ℕ → Option ℕ) (r : TimerRef) (o : Option ℕ) → AreFound ls refs labels → ls ≡ now
-    → nat_eq r.generation 0 ≡ false → o ≡ labels (key_of r) → unwrap_or o r.slot ≡ label_of now r
+    → nat_eq r.generation 0 ≡ false → o ≡ labels (key_of_timer r) → unwrap_or o r.slot ≡ label_of now r
 found_label ls now refs labels r o found seen named is =
     ap (λ (x : Option ℕ). unwrap_or x r.slot) (is ∙ found.of_timer r) ∙ sym (label_first ls r) ∙ ap (λ (x : Labels). label_in x r) seen
     ∙ ap (λ (b : Bool). cond b r.slot (label_in now r)) (sym named)
 
 -- equal keys are those of one reference
-key_ties : (t r : TimerRef) → same_timer t r ≡ eq_by_cmp key_cmp (key_of t) (key_of r)
+key_ties : (t r : TimerRef) → same_timer t r ≡ eq_by_cmp key_cmp (key_of_timer t) (key_of_timer r)
 key_ties t r =
     both_tied _ _ _ _ (both_tied _ _ _ _ (unsigned_ties t.wheel r.wheel) (unsigned_ties t.slot r.slot)) (unsigned_ties t.generation r.generation)
 
 -- a label was put into both maps
 pub found_bound : (ls : Labels) (refs refs_new : ℕ → Option TimerRef) (labels labels_new : ℕ × ℕ × ℕ → Option ℕ) (l : ℕ) (t : TimerRef)
     → ((q : ℕ) → refs_new q ≡ option_or (refs q) (cond (eq_by_cmp nat_cmp l q) (Some t) None))
-    → ((q : ℕ × ℕ × ℕ) → labels_new q ≡ option_or (labels q) (cond (eq_by_cmp key_cmp (key_of t) q) (Some l) None))
+    → ((q : ℕ × ℕ × ℕ) → labels_new q ≡ option_or (labels q) (cond (eq_by_cmp key_cmp (key_of_timer t) q) (Some l) None))
     → AreFound ls refs labels → AreFound (bind ls l t) refs_new labels_new
 found_bound ls refs refs_new labels labels_new l t put_ref put_label found = record {
   of_label = λ q. put_ref q
       ∙ (λ j. option_or (found.of_label q j) (cond (sym (unsigned_ties l q) j) (Some t) None))
       ∙ sym (ref_bound ls l t q);
-  of_timer = λ r. put_label (key_of r)
+  of_timer = λ r. put_label (key_of_timer r)
       ∙ (λ j. option_or (found.of_timer r j) (cond (sym (key_ties t r) j) (Some l) None))
       ∙ sym (label_bound ls l t r);
 }

@@ -6,14 +6,14 @@ use Rattle.std.proofs.Math.Seq.{drop-cons}
 use Rattle.std.proofs.lemmas.List.{take_more, take_all}
 use Rattle.ert_effects.specs.Ways.{Way, alone}
 use Rattle.ert_io.proofs.Takes.{took-took, took-none, fits_after}
-use Rattle.ert_io.specs.Known.{HasRoom}
-use Rattle.ert_io.specs.Told.{Told, told, took, room_after, TakesFront}
+use Rattle.ert_io.specs.Known.{HasRoomFor}
+use Rattle.ert_io.specs.Told.{SinkTold, sink_told, took, room_left, TakesFront}
 use Rattle.ert_defs.specs.declared.entry.Entry.{Entry}
 use Rattle.ert_defs.specs.declared.settings.Settings.{Settings}
-use Rattle.ert_script.specs.Pages.{Moves}
+use Rattle.ert_script.specs.Pages.{WritesWaiting}
 use Rattle.ert_script.specs.declared.output.RunErr.{RunErr}
 use Rattle.ert_script.specs.declared.output.RunErr.TheVariants.{NoMemory}
-use Rattle.ert_ops.specs.Ranges.{IsOpInRange, IsInRange}
+use Rattle.ert_ops.specs.Ranges.{IsOpInRange, AreOpsInRange}
 use Rattle.ert_ops.specs.declared.op.Op.{Op}
 use Rattle.ert_world.specs.Worlds.{Seen, StandsFor}
 use Rattle.ert_script.specs.Scripts.{DoesWith, Fails, Runs}
@@ -96,7 +96,7 @@ runs_more start v w ls before after list rs op r ran done =
 
 -- the ops of a list were done, and came to a world and labels; a first part of their lines was written, and this
 -- page waits
-pub record IsSoFar (start : Seen) (ls : Labels) (list : List Op) (v : Seen) (after : Labels) (old now : Told) (page : List ℕ) : Type 0 where
+pub record IsSoFar (start : Seen) (ls : Labels) (list : List Op) (v : Seen) (after : Labels) (old now : SinkTold) (page : List ℕ) : Type 0 where
   pub replies : List Reply
   pub front : List ℕ
   pub runs : Runs start ls list replies v after
@@ -106,12 +106,12 @@ pub record IsSoFar (start : Seen) (ls : Labels) (list : List Op) (v : Seen) (aft
 
 -- before the first op nothing was done and nothing written
 pub so_far_first : (w : Seen) (ls : Labels) (taken : Option (List ℕ)) (room : Option ℕ) → StandsFor w.settings w.history w
-    → IsSoFar w ls [] w ls (told taken room) (told taken room) []
+    → IsSoFar w ls [] w ls (sink_told taken room) (sink_told taken room) []
 so_far_first w ls taken room stands = record { replies = []; front = []; runs = runs_none w ls; stands = stands; took = took-none taken room; whole = refl }
 
 -- what is written of what waits, at the end of what was written
-joined : (old now new : Told) (front part : List ℕ) → now ≡ took old front → new ≡ took now part → new ≡ took old (front ++ part)
-joined old now new front part e f = f ∙ ap (λ (k : Told). took k part) e ∙ took-took old front part
+joined : (old now new : SinkTold) (front part : List ℕ) → now ≡ took old front → new ≡ took now part → new ≡ took old (front ++ part)
+joined old now new front part e f = f ∙ ap (λ (k : SinkTold). took k part) e ∙ took-took old front part
 
 -- the written, the waiting and one more line
 lined : (front page line part rest lines : List ℕ) → front ++ page ≡ lines → part ++ rest ≡ page ++ line → (front ++ part) ++ rest ≡ lines ++ line
@@ -131,20 +131,20 @@ at_index : (list : List Op) (i : ℕ) (d : Op) → i < length list → take (i +
 at_index list i d below = take_more list i d below
 
 -- an op of a list whose ops are in range is in range
-op_in_range : (g : Settings) (list : List Op) (i : ℕ) (d : Op) → IsInRange g list → i < length list → IsOpInRange g (get_or list i d)
+op_in_range : (g : Settings) (list : List Op) (i : ℕ) (d : Op) → AreOpsInRange g list → i < length list → IsOpInRange g (get_or list i d)
 op_in_range g [] i d all below = absurd (omega arith)
 op_in_range g (op ∷ list) zero d all below = all.0
 op_in_range g (op ∷ list) (suc i) d all below = op_in_range g list i d all.1 (omega arith)
 
-pub op_may : (g : Settings) (v : Seen) (list : List Op) (i : ℕ) (d : Op) → i < length list → v.settings ≡ g → IsInRange g list
+pub op_may : (g : Settings) (v : Seen) (list : List Op) (i : ℕ) (d : Op) → i < length list → v.settings ≡ g → AreOpsInRange g list
     → IsOpInRange v.settings (get_or list i d)
 op_may g v list i d below same all =
     subst (λ (x : Settings). IsOpInRange x (get_or list i d)) (sym same) (op_in_range g list i d all below)
 
 -- one more op was done and its line put
-pub goes_on_at : (start v w : Seen) (ls before after : Labels) (list : List Op) (i : ℕ) (d : Op) (old now new : Told) (page rest : List ℕ) (r : Reply)
+pub goes_on_at : (start v w : Seen) (ls before after : Labels) (list : List Op) (i : ℕ) (d : Op) (old now new : SinkTold) (page rest : List ℕ) (r : Reply)
     → i < length list → IsSoFar start ls (take i list) v before old now page
-    → DoesWith v before (get_or list i d) r w after → StandsFor w.settings w.history w → Moves now new (page ++ line_of (label_of after) r) rest
+    → DoesWith v before (get_or list i d) r w after → StandsFor w.settings w.history w → WritesWaiting now new (page ++ line_of (label_of after) r) rest
     → IsSoFar start ls (take (i + 1) list) w after old new rest
 goes_on_at start v w ls before after list i d old now new page rest r below far done stands moves =
     subst (λ (os : List Op). IsSoFar start ls os w after old new rest) (sym (at_index list i d below))
@@ -168,7 +168,7 @@ stops_in : (v w : Seen) (ls : Labels) (list : List Op) (i : ℕ) (d : Op) → i 
 stops_in v w ls list i d below failed = subst (λ (rest : List Op). StopsAt v ls rest w) (sym (drop-cons list i d below)) (inr failed)
 
 -- there was no memory for one more op
-pub fails_at : (start v w : Seen) (ls after : Labels) (list : List Op) (i : ℕ) (d : Op) (old now : Told) (page : List ℕ) → i < length list
+pub fails_at : (start v w : Seen) (ls after : Labels) (list : List Op) (i : ℕ) (d : Op) (old now : SinkTold) (page : List ℕ) → i < length list
     → IsSoFar start ls (take i list) v after old now page → Fails v after (get_or list i d) w → WritesSome start ls list w after NoMemory old now
 fails_at start v w ls after list i d old now page below far failed = record {
   done = i;
@@ -182,7 +182,7 @@ fails_at start v w ls after list i d old now page below far failed = record {
 }
 
 -- the output stopped while the line of one more op was put, or there was no memory for it
-pub breaks_at : (start v w : Seen) (ls before after : Labels) (list : List Op) (i : ℕ) (d : Op) (old now new : Told) (page : List ℕ) (r : Reply) (why : RunErr)
+pub breaks_at : (start v w : Seen) (ls before after : Labels) (list : List Op) (i : ℕ) (d : Op) (old now new : SinkTold) (page : List ℕ) (r : Reply) (why : RunErr)
     → i < length list → IsSoFar start ls (take i list) v before old now page
     → DoesWith v before (get_or list i d) r w after → StandsFor w.settings w.history w → TakesFront now new (page ++ line_of (label_of after) r)
     → WritesSome start ls list w after why old new
@@ -202,7 +202,7 @@ breaks_at start v w ls before after list i d old now new page r why below far do
     }
 
 -- all ops were done, and the page was written
-pub ends : (start v : Seen) (ls after : Labels) (list : List Op) (i : ℕ) (old now new : Told) (page : List ℕ)
+pub ends : (start v : Seen) (ls after : Labels) (list : List Op) (i : ℕ) (old now new : SinkTold) (page : List ℕ)
     → length list ≤ i → IsSoFar start ls (take i list) v after old now page → new ≡ took now page → WritesRun start ls list v after old new
 ends start v ls after list i old now new page over far taken =
     let all : IsSoFar start ls list v after old now page =
@@ -215,7 +215,7 @@ ends start v ls after list i old now new page over far taken =
     }
 
 -- the output stopped at the last page
-pub breaks_last : (start v : Seen) (ls after : Labels) (list : List Op) (i : ℕ) (old now new : Told) (page : List ℕ) (why : RunErr)
+pub breaks_last : (start v : Seen) (ls after : Labels) (list : List Op) (i : ℕ) (old now new : SinkTold) (page : List ℕ) (why : RunErr)
     → IsSoFar start ls (take i list) v after old now page → TakesFront now new page → WritesSome start ls list v after why old new
 breaks_last start v ls after list i old now new page why far w = record {
   done = i;
@@ -239,17 +239,17 @@ err_map Q (Ok x) f p = tt
 err_map Q (Err e) f p = f e p
 
 -- the room that is left, where the first part of some lines was written and these lines fit, holds the rest
-waiting_fits : (old now : Told) (front rest lines : List ℕ) → now ≡ took old front → front ++ rest ≡ lines → HasRoom old.room (length lines)
-    → HasRoom now.room (length rest)
+waiting_fits : (old now : SinkTold) (front rest lines : List ℕ) → now ≡ took old front → front ++ rest ≡ lines → HasRoomFor old.room (length lines)
+    → HasRoomFor now.room (length rest)
 waiting_fits old now front rest lines took whole fits =
-    let room : now.room ≡ room_after (length front) old.room = ap (λ (t : Told). t.room) took in
-    subst (λ (r : Option ℕ). HasRoom r (length rest)) (sym room)
-    (fits_after old.room front rest (subst (λ (t : List ℕ). HasRoom old.room (length t)) (sym whole) fits))
+    let room : now.room ≡ room_left (length front) old.room = ap (λ (t : SinkTold). t.room) took in
+    subst (λ (r : Option ℕ). HasRoomFor r (length rest)) (sym room)
+    (fits_after old.room front rest (subst (λ (t : List ℕ). HasRoomFor old.room (length t)) (sym whole) fits))
 
 -- so the page and one more line fit
-pub line_fits : (start v w : Seen) (ls before after : Labels) (list : List Op) (i : ℕ) (d : Op) (old now : Told) (page : List ℕ) (r : Reply)
+pub line_fits : (start v w : Seen) (ls before after : Labels) (list : List Op) (i : ℕ) (d : Op) (old now : SinkTold) (page : List ℕ) (r : Reply)
     → i < length list → LinesFit start ls list old.room → IsSoFar start ls (take i list) v before old now page
-    → DoesWith v before (get_or list i d) r w after → StandsFor w.settings w.history w → HasRoom now.room (length (page ++ line_of (label_of after) r))
+    → DoesWith v before (get_or list i d) r w after → StandsFor w.settings w.history w → HasRoomFor now.room (length (page ++ line_of (label_of after) r))
 line_fits start v w ls before after list i d old now page r below fit far done stands =
     let op : Op = get_or list i d in
     let line : List ℕ = line_of (label_of after) r in
@@ -257,13 +257,13 @@ line_fits start v w ls before after list i d old now page r below fit far done s
     let ran : Runs start ls (some ++ op ∷ []) (far.replies ++ r ∷ []) w after = runs_more start v w ls before after some far.replies op r far.runs done in
     waiting_fits old now far.front (page ++ line) (lines_of ls (some ++ op ∷ []) (far.replies ++ r ∷ [])) far.took
     (sym (append_assoc far.front page line) ∙ ap (λ (t : List ℕ). t ++ line) far.whole ∙ line_put start v w ls before after some far.replies op r far.runs done)
-    (subst (λ (os : List Op). HasRoom old.room (length (lines_of ls os (far.replies ++ r ∷ [])))) (at_index list i d below)
+    (subst (λ (os : List Op). HasRoomFor old.room (length (lines_of ls os (far.replies ++ r ∷ [])))) (at_index list i d below)
     (fit (i + 1) (far.replies ++ r ∷ []) w after
     (subst (λ (os : List Op). Runs start ls os (far.replies ++ r ∷ []) w after) (sym (at_index list i d below)) ran) stands))
 
 -- and so does the page
-pub page_fits : (start v : Seen) (ls after : Labels) (list : List Op) (i : ℕ) (old now : Told) (page : List ℕ) → LinesFit start ls list old.room
-    → IsSoFar start ls (take i list) v after old now page → HasRoom now.room (length page)
+pub page_fits : (start v : Seen) (ls after : Labels) (list : List Op) (i : ℕ) (old now : SinkTold) (page : List ℕ) → LinesFit start ls list old.room
+    → IsSoFar start ls (take i list) v after old now page → HasRoomFor now.room (length page)
 page_fits start v ls after list i old now page fit far =
     waiting_fits old now far.front page (lines_of ls (take i list) far.replies) far.took far.whole (fit i far.replies v after far.runs far.stands)
 

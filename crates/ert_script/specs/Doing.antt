@@ -18,7 +18,7 @@ use Rattle.ert_effects.specs.Ways.{Growth, Grows, Way}
 use Rattle.ert_effects.specs.declared.answers.MonitorErr.TheVariants.{NoMemory as WantOfMemory}
 use Rattle.ert_ops.specs.declared.op.Op.{Op}
 use Rattle.ert_ops.specs.declared.op.Op.TheVariants as ops
-use Rattle.ert_transcript.specs.Calls.{Calls, start_of, request_of}
+use Rattle.ert_transcript.specs.Calls.{Calls, start_for_op, request_for_op}
 use Rattle.ert_transcript.specs.Labels.{Labels, ref_of}
 use Rattle.ert_transcript.specs.declared.reply.Reply.{Reply}
 use Rattle.ert_transcript.specs.declared.reply.Reply.TheVariants as replies
@@ -80,8 +80,8 @@ HasStarted (ops.SendAfter label wheel when dest msg) (replies.SendAfterOk timer)
 HasStarted op reply = ⊥
 
 -- a timer of a wheel is started by a caller
-abbrev pub StartsTimer : Settings → Way → ℕ → ℕ → Start → Growth
-StartsTimer g way n wheel start h m = (timer : TimerRef) × way (Wheel wheel ∷ []) (Starts g n wheel start (Ok timer)) h m
+abbrev pub StartsOnWheel : Settings → Way → ℕ → ℕ → Start → Growth
+StartsOnWheel g way n wheel start h m = (timer : TimerRef) × way (Wheel wheel ∷ []) (Starts g n wheel start (Ok timer)) h m
 
 -- a request isn't put into the inbox of its scheduler, for want of memory
 abbrev pub CannotAsk : Settings → Way → ℕ → Request → Growth
@@ -92,10 +92,10 @@ CannotAsk g way n request = way (Inbox (inbox_for g request) ∷ []) (Asks g n (
 -- entry; and no other op ends so
 abbrev pub BreaksOff : Settings → Way → ℕ → Labels → Op → Growth
 BreaksOff g way n ls (ops.Notify process) h m = way (MailOf process ∷ []) (Tells g n process (Err (record {}))) h m
-BreaksOff g way n ls (ops.Start label wheel when dest msg) h m = StartsTimer g way n wheel (start_of when dest msg Wrapped) h m
-BreaksOff g way n ls (ops.SendAfter label wheel when dest msg) h m = StartsTimer g way n wheel (start_of when dest msg Bare) h m
-BreaksOff g way n ls (ops.CancelAsync label process info) h m = CannotAsk g way n (request_of ToCancel ls label process info) h m
-BreaksOff g way n ls (ops.ReadAsync label process info) h m = CannotAsk g way n (request_of ToRead ls label process info) h m
+BreaksOff g way n ls (ops.Start label wheel when dest msg) h m = StartsOnWheel g way n wheel (start_for_op when dest msg Wrapped) h m
+BreaksOff g way n ls (ops.SendAfter label wheel when dest msg) h m = StartsOnWheel g way n wheel (start_for_op when dest msg Bare) h m
+BreaksOff g way n ls (ops.CancelAsync label process info) h m = CannotAsk g way n (request_for_op ToCancel ls label process info) h m
+BreaksOff g way n ls (ops.ReadAsync label process info) h m = CannotAsk g way n (request_for_op ToRead ls label process info) h m
 BreaksOff g way n ls (ops.Serve sched) h m = Serves g way sched (Err (record {})) h m
 BreaksOff g way n ls (ops.Advance sched) h m = AdvancesWheel g way sched (Err (record {})) h m
 BreaksOff g way n ls (ops.Deliver sched) h m = Delivers g way sched (Err (record {})) h m

@@ -6,8 +6,8 @@ use Rattle.std.specs.declared.cmp.Ordering.{Ordering}
 use Rattle.ert_defs.specs.declared.timer.TimerRef.{TimerRef}
 
 -- the key of a reference: its wheel, slot and generation
-abbrev pub key_of : TimerRef → ℕ × ℕ × ℕ
-key_of r = (r.wheel, r.slot, r.generation)
+abbrev pub key_of_timer : TimerRef → ℕ × ℕ × ℕ
+key_of_timer r = (r.wheel, r.slot, r.generation)
 
 -- the order of keys: by wheel, then by slot, then by generation
 abbrev pub key_cmp : ℕ × ℕ × ℕ → ℕ × ℕ × ℕ → Ordering

@@ -1,7 +1,7 @@
 -- What is found of labels and of timers.
 
 use Rattle.std.specs.Prelude.{◌≡◌, ℕ, cond, nat_eq, [], ◌∷◌, Option, Some, None}
-use Rattle.ert_script.specs.Keys.{key_of}
+use Rattle.ert_script.specs.Keys.{key_of_timer}
 use Rattle.ert_defs.specs.Timers.{same_timer}
 use Rattle.ert_defs.specs.declared.timer.TimerRef.{TimerRef}
 use Rattle.ert_transcript.specs.Labels.{Labels}
@@ -19,4 +19,4 @@ first_label (p ∷ ps) r = cond (same_timer p.1 r) (Some p.0) (first_label ps r)
 -- what is found at a label, and what at the key of a reference, is of a list of labels: of each the first pair
 pub record AreFound (ls : Labels) (references : ℕ → Option TimerRef) (labels : ℕ × ℕ × ℕ → Option ℕ) : Type 0 where
   pub of_label : (l : ℕ) → references l ≡ first_ref ls l
-  pub of_timer : (r : TimerRef) → labels (key_of r) ≡ first_label ls r
+  pub of_timer : (r : TimerRef) → labels (key_of_timer r) ≡ first_label ls r

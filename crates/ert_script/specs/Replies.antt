@@ -18,22 +18,22 @@ use Rattle.ert_transcript.specs.declared.reply.Reply.{Reply}
 use Rattle.ert_transcript.specs.declared.reply.Reply.TheVariants.{Tick, TickWide, Check, CheckWide, Finalize, FinalizeWide, Info, StartOk, StartBadArg, StartFull, SendAfterOk, SendAfterBadArg, SendAfterFull, Received, ReceivedEmpty, ReceivedExited}
 
 -- of a tick of a valid reading
-abbrev pub ticked : Result Moved ClockErr → Reply
-ticked (Ok m) = Tick m.now m.shift
-ticked (Err (OffsetWide value)) = TickWide value
-ticked (Err _) = TickWide (pos 0)
+abbrev pub tick_told : Result Moved ClockErr → Reply
+tick_told (Ok m) = Tick m.now m.shift
+tick_told (Err (OffsetWide value)) = TickWide value
+tick_told (Err _) = TickWide (pos 0)
 
 -- of a forced one
-abbrev pub checked : Result Moved ClockErr → Reply
-checked (Ok m) = Check m.now m.shift
-checked (Err (OffsetWide value)) = CheckWide value
-checked (Err _) = CheckWide (pos 0)
+abbrev pub check_told : Result Moved ClockErr → Reply
+check_told (Ok m) = Check m.now m.shift
+check_told (Err (OffsetWide value)) = CheckWide value
+check_told (Err _) = CheckWide (pos 0)
 
 -- of a finalization with a valid reading
-abbrev pub finalized : Result (OffsetState × Moved) ClockErr → Reply
-finalized (Ok p) = Finalize p.0 p.1.now p.1.shift
-finalized (Err (OffsetWide value)) = FinalizeWide value
-finalized (Err _) = FinalizeWide (pos 0)
+abbrev pub finalize_told : Result (OffsetState × Moved) ClockErr → Reply
+finalize_told (Ok p) = Finalize p.0 p.1.now p.1.shift
+finalize_told (Err (OffsetWide value)) = FinalizeWide value
+finalize_told (Err _) = FinalizeWide (pos 0)
 
 -- the settings, with the offset as it was read
 abbrev pub settings_told : Settings → ℤ → OffsetState → Reply
@@ -50,7 +50,7 @@ start_told Bare (Err BadArg) = SendAfterBadArg
 start_told Bare (Err _) = SendAfterFull
 
 -- of a take
-abbrev pub taken : Taken → Reply
-taken (Taking mail) = Received mail
-taken Empty = ReceivedEmpty
-taken Exited = ReceivedExited
+abbrev pub take_told : Taken → Reply
+take_told (Taking mail) = Received mail
+take_told Empty = ReceivedEmpty
+take_told Exited = ReceivedExited

@@ -1,8 +1,8 @@
 -- What a run of ops did, and what it wrote.
 
 use Rattle.std.specs.Prelude.{◌≡◌, ◌⊎◌, ℕ, List, [], ◌∷◌, length, take, drop, Option}
-use Rattle.ert_io.specs.Known.{HasRoom}
-use Rattle.ert_io.specs.Told.{Told, took, TakesFront}
+use Rattle.ert_io.specs.Known.{HasRoomFor}
+use Rattle.ert_io.specs.Told.{SinkTold, took, TakesFront}
 use Rattle.ert_script.specs.declared.output.RunErr.{RunErr}
 use Rattle.ert_script.specs.declared.output.RunErr.TheVariants.{WriteFault}
 use Rattle.ert_ops.specs.declared.op.Op.{Op}
@@ -19,7 +19,7 @@ pub record RunsAll (old : Seen) (ls : Labels) (ops : List Op) (new : Seen) (afte
   pub stands : StandsFor new.settings new.history new
 
 -- the world did a list of ops, and came to a service that stands for its history; their lines were written
-pub record WritesRun (old : Seen) (ls : Labels) (ops : List Op) (new : Seen) (after : Labels) (told told_new : Told) : Type 0 where
+pub record WritesRun (old : Seen) (ls : Labels) (ops : List Op) (new : Seen) (after : Labels) (told told_new : SinkTold) : Type 0 where
   pub replies : List Reply
   pub runs : Runs old ls ops replies new after
   pub stands : StandsFor new.settings new.history new
@@ -43,7 +43,7 @@ pub record RunsSome (old : Seen) (ls : Labels) (ops : List Op) (new : Seen) (aft
 -- the world did some first ops of a list, came to a service that stands for its history, and stopped there; the
 -- labels are as those ops left them, and the first part of their lines was written. Where the output failed, no op
 -- had begun after them
-pub record WritesSome (old : Seen) (ls : Labels) (ops : List Op) (new : Seen) (after : Labels) (why : RunErr) (told told_new : Told) : Type 0 where
+pub record WritesSome (old : Seen) (ls : Labels) (ops : List Op) (new : Seen) (after : Labels) (why : RunErr) (told told_new : SinkTold) : Type 0 where
   pub done : ℕ
   pub replies : List Reply
   pub reached : Seen
@@ -56,4 +56,4 @@ pub record WritesSome (old : Seen) (ls : Labels) (ops : List Op) (new : Seen) (a
 -- whatever a world answers to some first ops of a list, their lines fit the room
 abbrev pub LinesFit : Seen → Labels → List Op → Option ℕ → Type 0
 LinesFit old ls ops room = (done : ℕ) (replies : List Reply) (reached : Seen) (after : Labels) → Runs old ls (take done ops) replies reached after
-    → StandsFor reached.settings reached.history reached → HasRoom room (length (lines_of ls (take done ops) replies))
+    → StandsFor reached.settings reached.history reached → HasRoomFor room (length (lines_of ls (take done ops) replies))

@@ -1,9 +1,9 @@
 //! The lines that tell times and the offset.
 ghost use Rattle.std.specs.Prelude.{◌≡◌, ℕ, ◌++◌, codes, OnOk, string_bytes};
 ghost use Rattle.ert_defs.specs.declared.timer.TimerRef.{TimerRef};
-ghost use Rattle.ert_script.specs.Told.{TellsSettings};
+ghost use Rattle.ert_script.specs.Told.{IsInfoReply};
 ghost use Rattle.ert_transcript.specs.Lines.{line_of};
-ghost use Rattle.ert_transcript.specs.Texts.{◌⋅◌, moved_text, state_word, info_front, info_middle, info_back, offset_text};
+ghost use Rattle.ert_transcript.specs.Texts.{◌⋅◌, moved_text, state_text, info_front, info_middle, info_back, offset_text};
 
 use crate::words::{bool_word, mode_word, state_word};
 use ert_defs::{Mode, OffsetState};
@@ -35,7 +35,7 @@ pub fn write_finalize(
     shift: Option<i64>,
 ) -> Result<(), AllocError>
     ensures { OnOk result (string_bytes page.new
-        ≡ string_bytes page.old ++ (codes "finalize " ⋅ state_word old ⋅ codes " " ⋅ moved_text now shift)) }
+        ≡ string_bytes page.old ++ (codes "finalize " ⋅ state_text old ⋅ codes " " ⋅ moved_text now shift)) }
 {
     write!(page, "finalize {}", state_word(old))?;
     write_moved(page, " ", now, shift)
@@ -51,7 +51,7 @@ pub fn write_offset(page: &mut String, offset: i64, state: OffsetState) -> Resul
 /// The line of the settings.
 #[tactic(auto, using(crate::proofs::Texts::joined))]
 pub fn write_info(page: &mut String, reply: &Reply) -> Result<(), AllocError>
-    requires { TellsSettings reply.now }
+    requires { IsInfoReply reply.now }
     ensures { (name : TimerRef → ℕ) → OnOk result (string_bytes page.new ≡ string_bytes page.old ++ line_of name reply.now) }
 {
     let Reply::Info {

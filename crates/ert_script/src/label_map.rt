@@ -1,6 +1,6 @@
 ghost use Rattle.std.specs.Prelude.{◌≡◌};
 ghost use Rattle.ert_script.specs.Doing.{label_asked};
-ghost use Rattle.ert_script.specs.Keys.{key_of};
+ghost use Rattle.ert_script.specs.Keys.{key_of_timer};
 
 use crate::first::put_first;
 use ert_defs::{NoMemory, TimerRef};
@@ -161,7 +161,7 @@ impl LabelMap {
 
 // The key of a reference.
 fn key_of(timer: &TimerRef) -> (u32, u32, u64)
-    ensures { result ≡ key_of timer.now }
+    ensures { result ≡ key_of_timer timer.now }
 {
     (timer.wheel, timer.slot, timer.generation)
 }

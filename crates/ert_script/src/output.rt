@@ -1,8 +1,8 @@
 ghost use Rattle.std.specs.Prelude.{◌≡◌, ◌≤◌, ◌++◌, OnOk, OnErr, IsErrOf, Err, length, string_bytes, codes};
 ghost use Rattle.ert_io.specs.Faults.{Rose};
-ghost use Rattle.ert_io.specs.Known.{HasRoom};
-ghost use Rattle.ert_io.specs.Told.{told, took, TakesFront};
-ghost use Rattle.ert_script.specs.Pages.{Moves};
+ghost use Rattle.ert_io.specs.Known.{HasRoomFor};
+ghost use Rattle.ert_io.specs.Told.{sink_told, took, TakesFront};
+ghost use Rattle.ert_script.specs.Pages.{WritesWaiting};
 ghost use Rattle.ert_transcript.specs.Labels.{label_of};
 ghost use Rattle.ert_transcript.specs.Lines.{line_of};
 
@@ -31,12 +31,12 @@ pub fn put<O: Sink>(
     reply: &Reply,
     labels: &LabelMap,
 ) -> Result<(), RunErr>
-    requires { HasRoom (O.room output.old) (length (string_bytes page.old ++ line_of (label_of labels.now) reply.now)) }
+    requires { HasRoomFor (O.room output.old) (length (string_bytes page.old ++ line_of (label_of labels.now) reply.now)) }
     ensures ok { OnOk result
-        (Moves (told (O.taken output.old) (O.room output.old)) (told (O.taken output.new) (O.room output.new))
+        (WritesWaiting (sink_told (O.taken output.old) (O.room output.old)) (sink_told (O.taken output.new) (O.room output.new))
         (string_bytes page.old ++ line_of (label_of labels.now) reply.now) (string_bytes page.new)) }
     ensures err { OnErr result
-        (TakesFront (told (O.taken output.old) (O.room output.old)) (told (O.taken output.new) (O.room output.new))
+        (TakesFront (sink_told (O.taken output.old) (O.room output.old)) (sink_told (O.taken output.new) (O.room output.new))
         (string_bytes page.old ++ line_of (label_of labels.now) reply.now)) }
     ensures later { O.faults output.old ≤ O.faults output.new }
     ensures cause { IsErrOf result RunErr.WriteFault → Rose (O.faults output.old) (O.faults output.new) }
@@ -52,11 +52,11 @@ pub fn put<O: Sink>(
 
 /// Writes the page out, and leaves it empty. A sink that tells its room has room for it.
 pub fn write_page<O: Sink>(output: &mut O, page: &mut String) -> Result<(), RunErr>
-    requires { HasRoom (O.room output.old) (length (string_bytes page.old)) }
-    ensures ok { OnOk result (told (O.taken output.new) (O.room output.new) ≡ took (told (O.taken output.old) (O.room output.old)) (string_bytes page.old)) }
+    requires { HasRoomFor (O.room output.old) (length (string_bytes page.old)) }
+    ensures ok { OnOk result (sink_told (O.taken output.new) (O.room output.new) ≡ took (sink_told (O.taken output.old) (O.room output.old)) (string_bytes page.old)) }
     ensures empty { OnOk result (string_bytes page.new ≡ codes "") }
     ensures err { OnErr result
-        (TakesFront (told (O.taken output.old) (O.room output.old)) (told (O.taken output.new) (O.room output.new)) (string_bytes page.old)) }
+        (TakesFront (sink_told (O.taken output.old) (O.room output.old)) (sink_told (O.taken output.new) (O.room output.new)) (string_bytes page.old)) }
     ensures only { OnErr result (result ≡ Err RunErr.WriteFault) }
     ensures later { O.faults output.old ≤ O.faults output.new }
     ensures cause { OnErr result (Rose (O.faults output.old) (O.faults output.new)) }

@@ -3,7 +3,7 @@ ghost use Rattle.std.specs.Prelude.{◌≡◌, ◌≢◌, [], Err};
 ghost use Rattle.ert_clock.specs.declared.clock.ClockErr.TheVariants.{BadReading};
 ghost use Rattle.ert_defs.specs.Settings.{IsChecked};
 ghost use Rattle.ert_effects.specs.declared.answers.StartErr.TheVariants.{NoMemory as WantOfMemory};
-ghost use Rattle.ert_script.specs.Replies.{ticked, checked, finalized, settings_told, start_told, taken};
+ghost use Rattle.ert_script.specs.Replies.{tick_told, check_told, finalize_told, settings_told, start_told, take_told};
 ghost use Rattle.ert_transcript.specs.Calls.{Converts};
 
 use ert_clock::{ClockErr, Moved};
@@ -15,7 +15,7 @@ use ert_transcript::Reply;
 /// The reply of a tick. The reading was valid.
 pub fn ticked(moved: Result<Moved, ClockErr>) -> Reply
     requires { moved ≢ Err BadReading }
-    ensures { result ≡ ticked moved }
+    ensures { result ≡ tick_told moved }
 {
     match moved {
         Ok(Moved { now, shift }) => Reply::Tick { now, shift },
@@ -27,7 +27,7 @@ pub fn ticked(moved: Result<Moved, ClockErr>) -> Reply
 /// The reply of a forced tick. The reading was valid.
 pub(crate) fn checked(moved: Result<Moved, ClockErr>) -> Reply
     requires { moved ≢ Err BadReading }
-    ensures { result ≡ checked moved }
+    ensures { result ≡ check_told moved }
 {
     match moved {
         Ok(Moved { now, shift }) => Reply::Check { now, shift },
@@ -39,7 +39,7 @@ pub(crate) fn checked(moved: Result<Moved, ClockErr>) -> Reply
 /// The reply of a finalization. The reading was valid.
 pub(crate) fn finalized(moved: Result<(OffsetState, Moved), ClockErr>) -> Reply
     requires { moved ≢ Err BadReading }
-    ensures { result ≡ finalized moved }
+    ensures { result ≡ finalize_told moved }
 {
     match moved {
         Ok((old, Moved { now, shift })) => Reply::Finalize { old, now, shift },
@@ -91,7 +91,7 @@ pub(crate) fn start_told(kind: Kind, answer: Result<TimerRef, StartErr>) -> Repl
 
 /// The reply of a take.
 pub(crate) fn taken(answer: Taken) -> Reply
-    ensures { result ≡ taken answer }
+    ensures { result ≡ take_told answer }
 {
     match answer {
         Taken::Mail(mail) => Reply::Received { mail },

@@ -1,7 +1,7 @@
 ghost use Rattle.std.specs.Prelude.{◌≡◌, ◌≤◌, OnOk, OnErr, IfErr, IsErrOf};
 ghost use Rattle.ert_io.specs.Faults.{Rose};
-ghost use Rattle.ert_io.specs.Told.{told};
-ghost use Rattle.ert_ops.specs.Ranges.{IsInRange};
+ghost use Rattle.ert_io.specs.Told.{sink_told};
+ghost use Rattle.ert_ops.specs.Ranges.{AreOpsInRange};
 ghost use Rattle.ert_world.specs.Worlds.{StandsFor};
 ghost use Rattle.ert_script.specs.Written.{RunsAll, RunsSome, WritesRun, WritesSome, LinesFit};
 
@@ -27,12 +27,12 @@ pub fn run_ops<K: Sink>(
     sink: &mut K,
 ) -> Result<(), RunErr>
     requires fits { LinesFit world.old labels.old ops.now (K.room sink.old) }
-    requires ranges { IsInRange world.old.settings ops.now }
+    requires ranges { AreOpsInRange world.old.settings ops.now }
     requires lone { world.old.next ≡ 1 }
     ensures ok { OnOk result (WritesRun world.old labels.old ops.now world.new labels.new
-        (told (K.taken sink.old) (K.room sink.old)) (told (K.taken sink.new) (K.room sink.new))) }
+        (sink_told (K.taken sink.old) (K.room sink.old)) (sink_told (K.taken sink.new) (K.room sink.new))) }
     ensures err { IfErr result (λ why. WritesSome world.old labels.old ops.now world.new labels.new why
-        (told (K.taken sink.old) (K.room sink.old)) (told (K.taken sink.new) (K.room sink.new))) }
+        (sink_told (K.taken sink.old) (K.room sink.old)) (sink_told (K.taken sink.new) (K.room sink.new))) }
     ensures later { K.faults sink.old ≤ K.faults sink.new }
     ensures cause { IsErrOf result RunErr.WriteFault → Rose (K.faults sink.old) (K.faults sink.new) }
 {
@@ -54,7 +54,7 @@ pub fn run_ops<K: Sink>(
 ///
 /// Where memory fails, some first ops were done, and maybe a part of the next.
 pub fn do_ops(world: &mut World, labels: &mut LabelMap, ops: &[Op]) -> Result<(), NoMemory>
-    requires ranges { IsInRange world.old.settings ops.now }
+    requires ranges { AreOpsInRange world.old.settings ops.now }
     requires lone { world.old.next ≡ 1 }
     ensures ok { OnOk result (RunsAll world.old labels.old ops.now world.new labels.new) }
     ensures err { OnErr result (RunsSome world.old labels.old ops.now world.new labels.new) }

@@ -1,12 +1,12 @@
 ghost use Rattle.std.specs.Prelude.{◌≡◌};
-ghost use Rattle.ert_transcript.specs.Texts.{state_word, mode_word, bool_word};
+ghost use Rattle.ert_transcript.specs.Texts.{state_text, mode_text, bool_text};
 
 use ert_defs::{Mode, OffsetState};
 
 /// The word for a state of the offset.
-#[tactic(auto, unfolding(ert_transcript::specs::Texts::state_word))]
+#[tactic(auto, unfolding(ert_transcript::specs::Texts::state_text))]
 pub fn state_word(state: OffsetState) -> &'static str
-    ensures { result.now ≡ state_word state }
+    ensures { result.now ≡ state_text state }
 {
     match state {
         OffsetState::Preliminary => "preliminary",
@@ -16,9 +16,9 @@ pub fn state_word(state: OffsetState) -> &'static str
 }
 
 /// The word for a time warp mode.
-#[tactic(auto, unfolding(ert_transcript::specs::Texts::mode_word))]
+#[tactic(auto, unfolding(ert_transcript::specs::Texts::mode_text))]
 pub fn mode_word(mode: Mode) -> &'static str
-    ensures { result.now ≡ mode_word mode }
+    ensures { result.now ≡ mode_text mode }
 {
     match mode {
         Mode::No => "no",
@@ -28,9 +28,9 @@ pub fn mode_word(mode: Mode) -> &'static str
 }
 
 /// The word for whether something is on.
-#[tactic(auto, unfolding(ert_transcript::specs::Texts::bool_word))]
+#[tactic(auto, unfolding(ert_transcript::specs::Texts::bool_text))]
 pub fn bool_word(is_on: bool) -> &'static str
-    ensures { result.now ≡ bool_word is_on }
+    ensures { result.now ≡ bool_text is_on }
 {
     if is_on { "true" } else { "false" }
 }

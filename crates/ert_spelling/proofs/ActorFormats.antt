@@ -11,7 +11,7 @@ use Rattle.ert_defs.specs.declared.entry.Actor.TheVariants.{Keeper, Wheel, Inbox
 use Rattle.ert_spelling.specs.Fits.{Fits32, FitsActor}
 use Rattle.ert_spelling.specs.Parts.{Word, actor_word, with_word}
 use Rattle.ert_spelling.specs.Readers.{small_of}
-use Rattle.ert_spelling.specs.Reading.{keeper_of, lettered, actor_of, actor_at, with_of, with_at}
+use Rattle.ert_spelling.specs.Reading.{keeper_of, lettered, actor_of, read_actor, with_of, read_with}
 use Rattle.ert_spelling.proofs.Formats.{is_ink, IsFormat, map_some}
 use Rattle.ert_spelling.proofs.Integers.{small-takes, small-again, small-ink}
 use Rattle.ert_spelling.proofs.Tables.{chosen, same_word, meant-format}
@@ -81,8 +81,8 @@ actor-ink (Sched n) fits = small-ink n fits
 actor-ink (MailOf n) fits = small-ink n fits
 actor-ink (Caller n) fits = small-ink n fits
 
-pub actor : IsFormat (λ a. actor_word a ∷ []) FitsActor actor_at
-unfolding actor_at
+pub actor : IsFormat (λ a. actor_word a ∷ []) FitsActor read_actor
+unfolding read_actor
 actor = meant-format actor_word FitsActor actor_of actor-takes actor-again actor-ink
 
 with-takes : (word : Word) (o : Option Actor) → with_of word ≡ Some o → (word ≡ with_word o) × IfSome o FitsActor
@@ -115,6 +115,6 @@ with-ink : (o : Option Actor) → IfSome o FitsActor → is_ink (with_word o) �
 with-ink None fits = refl
 with-ink (Some a) fits = actor-ink a fits
 
-pub with : IsFormat (λ o. with_word o ∷ []) (λ o. IfSome o FitsActor) with_at
-unfolding with_at
+pub with : IsFormat (λ o. with_word o ∷ []) (λ o. IfSome o FitsActor) read_with
+unfolding read_with
 with = meant-format with_word (λ o. IfSome o FitsActor) with_of with-takes with-again with-ink

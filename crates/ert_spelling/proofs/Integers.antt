@@ -7,7 +7,7 @@ use Rattle.std.proofs.lemmas.Bool.{ltb-true, lt-ltb, eqb-true}
 use Rattle.std.proofs.lemmas.Option.{cond_some}
 use Rattle.ert_spelling.specs.Fits.{Fits32, FitsInt}
 use Rattle.ert_spelling.specs.Parts.{Word}
-use Rattle.ert_spelling.specs.Readers.{natural_of, small_of, integer_of, below_zero, from_zero}
+use Rattle.ert_spelling.specs.Readers.{natural_of, small_of, integer_of, negative_by, from_zero}
 use Rattle.ert_spelling.proofs.Digits.{natural-takes, natural-again, natural-ink, decimal_first}
 use Rattle.ert_spelling.proofs.Formats.{is_ink, and_then_some}
 use Rattle.ert_spelling.proofs.Tables.{chosen}
@@ -31,7 +31,7 @@ pub small-ink : (n : ℕ) → Fits32 n → is_ink (decimal n) ≡ true
 small-ink n fits = natural-ink n (omega arith)
 
 -- the sides of 0
-below-takes : (n : ℕ) (z : ℤ) → below_zero n ≡ Some z → (signed_decimal z ≡ 45 ∷ decimal n) × FitsInt z
+below-takes : (n : ℕ) (z : ℤ) → negative_by n ≡ Some z → (signed_decimal z ≡ 45 ∷ decimal n) × FitsInt z
 below-takes zero z e = absurd cc
 below-takes (suc n) z e =
     let p = cond_some (ltb n 9223372036854775808) (negsuc n) z e in
@@ -53,9 +53,9 @@ first_is (d ∷ ds) e = ap (λ (c : ℕ). c ∷ ds) (eqb-true d 45 e)
 pub integer-takes : (word : Word) (z : ℤ) → integer_of word ≡ Some z → (word ≡ signed_decimal z) × FitsInt z
 unfolding integer_of
 integer-takes word z e =
-    elim (chosen (eqb (get_or word 0 0) 45) (option_and_then below_zero (natural_of (drop 1 word))) (option_and_then from_zero (natural_of word)) (Some z) e) [
+    elim (chosen (eqb (get_or word 0 0) 45) (option_and_then negative_by (natural_of (drop 1 word))) (option_and_then from_zero (natural_of word)) (Some z) e) [
       | inl minus ↦
-          let p = and_then_some (natural_of (drop 1 word)) below_zero z minus.1 in
+          let p = and_then_some (natural_of (drop 1 word)) negative_by z minus.1 in
           let t = natural-takes (drop 1 word) p.0 p.1 in
           let b = below-takes p.0 z p.2 in
           (first_is word minus.0 ∙ ap (λ (ds : List ℕ). 45 ∷ ds) t.0 ∙ sym b.0, b.1)

@@ -4,16 +4,16 @@ use Rattle.std.proofs.Common.{◌≡◌, ◌≤◌, ◌<◌, ◌+◌, ◌-◌, �
 use Rattle.std.proofs.lemmas.Bool.{le-leb, lt-leb}
 use Rattle.std.proofs.lemmas.List.{drop-drop}
 use Rattle.std.proofs.Math.Seq.{drop-append-add, take-length}
-use Rattle.ert_spelling.specs.Cuts.{IsFree, IsCut, words_in}
+use Rattle.ert_spelling.specs.Cuts.{IsNowhereIn, IsCutAt, words_in}
 use Rattle.ert_spelling.specs.Faults.{word_in, words_from}
 use Rattle.ert_spelling.specs.Parts.{Word}
 use Rattle.ert_spelling.proofs.Splits.{cut_words, free_words}
 
 -- the first word of bytes that have a blank, and the one word of others
-pub cut_word : (bytes front rest : List ℕ) → IsCut 32 bytes front rest → front ≡ word_in bytes
+pub cut_word : (bytes front rest : List ℕ) → IsCutAt 32 bytes front rest → front ≡ word_in bytes
 cut_word bytes front rest h = ap (λ (ws : List Word). get_or ws 0 []) (sym (cut_words bytes front rest h))
 
-pub free_word : (bytes : List ℕ) → IsFree 32 bytes → bytes ≡ word_in bytes
+pub free_word : (bytes : List ℕ) → IsNowhereIn 32 bytes → bytes ≡ word_in bytes
 free_word bytes h = ap (λ (ws : List Word). get_or ws 0 []) (sym (free_words bytes h))
 
 -- in the line there are words, and behind it none
@@ -28,7 +28,7 @@ pub all_from : {A : Type 0} (line : List A) (at : ℕ) → take (length line - a
 all_from line at = ap (λ n. take n (drop at line)) (sym (length-drop at line)) ∙ take-length (drop at line)
 
 -- behind a word and its blank stand the others
-pub cut_more : (line : List ℕ) (at : ℕ) (front rest : List ℕ) → at ≤ length line → IsCut 32 (drop at line) front rest
+pub cut_more : (line : List ℕ) (at : ℕ) (front rest : List ℕ) → at ≤ length line → IsCutAt 32 (drop at line) front rest
     → words_from line at ≡ front ∷ words_from line (at + length front + 1)
 cut_more line at front rest within h =
     let behind : drop (at + (length front + 1)) line ≡ rest =
@@ -41,7 +41,7 @@ cut_more line at front rest within h =
     ∙ ap (λ (ws : List Word). front ∷ ws)
     (sym (words_within line (at + length front + 1) low ∙ ap words_in (ap (λ n. drop n line) same ∙ behind)))
 
-pub free_more : (line : List ℕ) (at : ℕ) → at ≤ length line → IsFree 32 (drop at line)
+pub free_more : (line : List ℕ) (at : ℕ) → at ≤ length line → IsNowhereIn 32 (drop at line)
     → words_from line at ≡ drop at line ∷ words_from line (at + length (drop at line) + 1)
 free_more line at within h =
     let high : length line < at + length (drop at line) + 1 = omega (arith, length-drop at line) in

@@ -8,14 +8,14 @@ use Rattle.std.proofs.lemmas.List.{drop_at}
 use Rattle.std.proofs.lemmas.List.Elements.{All-nil, All-cons, All-head, All-drop, All-append, All-same}
 use Rattle.std.proofs.lemmas.List.Splits.{slice_split_at, slice_split_none, join_with_byte-slice_split}
 use Rattle.std.proofs.lemmas.Option.{none-some, same_Some}
-use Rattle.ert_spelling.specs.Cuts.{IsFree, IsCut, words_in}
+use Rattle.ert_spelling.specs.Cuts.{IsNowhereIn, IsCutAt, words_in}
 use Rattle.ert_spelling.specs.Parts.{Word}
 use Rattle.ert_spelling.specs.Readers.{Reader, whole}
-use Rattle.ert_spelling.specs.Spelling.{line_of}
+use Rattle.ert_spelling.specs.Spelling.{line_of_words}
 use Rattle.ert_spelling.proofs.Formats.{is_ink, AreInk, IsFormat, written_ink, whole-again, whole-takes}
 
 -- ink has no blank and no newline
-ink_free : (c : ℕ) → c < 33 → (word : Word) → is_ink word ≡ true → IsFree c word
+ink_free : (c : ℕ) → c < 33 → (word : Word) → is_ink word ≡ true → IsNowhereIn c word
 ink_free c low [] ink = All-nil (λ b. eqb b c ≡ false)
 ink_free c low (b ∷ bs) ink =
     let p = and_parts (ltb 32 b && ltb b 128) (is_ink bs) ink in
@@ -31,7 +31,7 @@ words-join w (v ∷ ws) ink =
     ∙ ap (λ (vs : List Word). w ∷ vs) (words-join v ws ink.1)
 
 -- and have no newline
-join_free : (ws : List Word) → AreInk ws → IsFree 10 (join_with_byte 32 ws)
+join_free : (ws : List Word) → AreInk ws → IsNowhereIn 10 (join_with_byte 32 ws)
 join_free [] ink = All-nil (λ b. eqb b 10 ≡ false)
 join_free (w ∷ []) ink = ink_free 10 (omega arith) w ink.0
 join_free (w ∷ v ∷ ws) ink =
@@ -41,12 +41,12 @@ join_free (w ∷ v ∷ ws) ink =
 abbrev lines_in : List ℕ → List (List ℕ)
 lines_in text = slice_split (λ b. eqb b 10) text
 
-lines-line : (ws : List Word) (rest : List ℕ) → AreInk ws → lines_in (line_of ws ++ rest) ≡ join_with_byte 32 ws ∷ lines_in rest
+lines-line : (ws : List Word) (rest : List ℕ) → AreInk ws → lines_in (line_of_words ws ++ rest) ≡ join_with_byte 32 ws ∷ lines_in rest
 lines-line ws rest ink =
     ap lines_in (append_assoc (join_with_byte 32 ws) (10 ∷ []) rest)
     ∙ slice_split_at (λ b. eqb b 10) (join_with_byte 32 ws) 10 rest (join_free ws ink) refl
 
-lines-cut : (text line rest : List ℕ) → IsCut 10 text line rest → lines_in text ≡ line ∷ lines_in rest
+lines-cut : (text line rest : List ℕ) → IsCutAt 10 text line rest → lines_in text ≡ line ∷ lines_in rest
 lines-cut text line rest h = ap lines_in h.parts ∙ slice_split_at (λ b. eqb b 10) line 10 rest h.first refl
 
 same_text : (r s : List ℕ) → lines_in r ≡ lines_in s → r ≡ s
@@ -60,7 +60,7 @@ tail_is x y xs ys e = cc
 
 -- two lines that begin the same bytes are one
 pub front_line : (w : Word) (ws : List Word) (v : Word) (vs : List Word) (r s : List ℕ) → AreInk (w ∷ ws) → AreInk (v ∷ vs)
-    → line_of (w ∷ ws) ++ r ≡ line_of (v ∷ vs) ++ s → (w ∷ ws ≡ v ∷ vs) × (r ≡ s)
+    → line_of_words (w ∷ ws) ++ r ≡ line_of_words (v ∷ vs) ++ s → (w ∷ ws ≡ v ∷ vs) × (r ≡ s)
 front_line w ws v vs r s ink_w ink_v e =
     let cut : join_with_byte 32 (w ∷ ws) ∷ lines_in r ≡ join_with_byte 32 (v ∷ vs) ∷ lines_in s =
     sym (lines-line (w ∷ ws) r ink_w) ∙ ap lines_in e ∙ lines-line (v ∷ vs) s ink_v in
@@ -70,13 +70,13 @@ front_line w ws v vs r s ink_w ink_v e =
     )
 
 -- a line ends in a newline, so that it isn't empty
-pub line_some : (ws : List Word) (rest : List ℕ) → line_of ws ++ rest ≢ []
+pub line_some : (ws : List Word) (rest : List ℕ) → line_of_words ws ++ rest ≢ []
 line_some ws rest e =
-    let long : length (line_of ws ++ rest) ≡ 0 = ap length e in
-    omega (arith, length-append (line_of ws) rest, length-append (join_with_byte 32 ws) (10 ∷ []))
+    let long : length (line_of_words ws ++ rest) ≡ 0 = ap length e in
+    omega (arith, length-append (line_of_words ws) rest, length-append (join_with_byte 32 ws) (10 ∷ []))
 
 -- bytes with no newline begin with no line
-pub free_line : (text : List ℕ) (ws : List Word) (rest : List ℕ) → IsFree 10 text → text ≡ line_of ws ++ rest → ⊥
+pub free_line : (text : List ℕ) (ws : List Word) (rest : List ℕ) → IsNowhereIn 10 text → text ≡ line_of_words ws ++ rest → ⊥
 free_line text ws rest free e =
     let P : ℕ → Type 0 = λ b. eqb b 10 ≡ false in
     let joined : List ℕ = join_with_byte 32 ws in
@@ -88,8 +88,8 @@ free_line text ws rest free e =
 
 -- the first line of bytes, as a reader of all of its words reads it
 pub line_read : {A : Type 0} {write : A → List Word} {Fits : A → Type 0} {read : Reader A} → IsFormat write Fits read
-    → (text line rest : List ℕ) (a : A) → IsCut 10 text line rest → whole read (words_in line) ≡ Some a
-    → (text ≡ line_of (write a) ++ rest) × Fits a
+    → (text line rest : List ℕ) (a : A) → IsCutAt 10 text line rest → whole read (words_in line) ≡ Some a
+    → (text ≡ line_of_words (write a) ++ rest) × Fits a
 line_read {write = write} format text line rest a cut e =
     let t = whole-takes format (words_in line) a e in
     let joined : line ≡ join_with_byte 32 (write a) = sym (join_with_byte-slice_split 32 line) ∙ ap (join_with_byte 32) t.0 in
@@ -101,8 +101,8 @@ HasWords {A} write = (a : A) → (w : Word) × (ws : List Word) × (write a ≡ 
 
 -- where it reads nothing, the bytes begin with no line of a value
 pub line_none : {A : Type 0} {write : A → List Word} {Fits : A → Type 0} {read : Reader A} → IsFormat write Fits read → HasWords write
-    → (text line rest : List ℕ) → IsCut 10 text line rest → whole read (words_in line) ≡ None
-    → (a : A) (after : List ℕ) → Fits a → text ≡ line_of (write a) ++ after → ⊥
+    → (text line rest : List ℕ) → IsCutAt 10 text line rest → whole read (words_in line) ≡ None
+    → (a : A) (after : List ℕ) → Fits a → text ≡ line_of_words (write a) ++ after → ⊥
 line_none {A} {write} {Fits} {read} format some text line rest cut e a after fits begins =
     let ink = written_ink format a fits in
     let s = some a in
@@ -116,13 +116,13 @@ line_none {A} {write} {Fits} {read} format some text line rest cut e a after fit
 
 -- bytes begin with the line of one value at most
 pub front_line_of : {A : Type 0} {write : A → List Word} {Fits : A → Type 0} {read : Reader A} → IsFormat write Fits read → HasWords write
-    → (a b : A) (r s : List ℕ) → Fits a → Fits b → line_of (write a) ++ r ≡ line_of (write b) ++ s → (a ≡ b) × (r ≡ s)
+    → (a b : A) (r s : List ℕ) → Fits a → Fits b → line_of_words (write a) ++ r ≡ line_of_words (write b) ++ s → (a ≡ b) × (r ≡ s)
 front_line_of {A} {write} {Fits} {read} format some a b r s fits_a fits_b e =
     let x = some a in
     let y = some b in
     let there : List Word → Type 0 = AreInk in
-    let lines : line_of (x.0 ∷ x.1) ++ r ≡ line_of (y.0 ∷ y.1) ++ s =
-    ap (λ (ws : List Word). line_of ws ++ r) (sym x.2) ∙ e ∙ ap (λ (ws : List Word). line_of ws ++ s) y.2 in
+    let lines : line_of_words (x.0 ∷ x.1) ++ r ≡ line_of_words (y.0 ∷ y.1) ++ s =
+    ap (λ (ws : List Word). line_of_words ws ++ r) (sym x.2) ∙ e ∙ ap (λ (ws : List Word). line_of_words ws ++ s) y.2 in
     let f = front_line x.0 x.1 y.0 y.1 r s (subst there x.2 (written_ink format a fits_a)) (subst there y.2 (written_ink format b fits_b)) lines in
     let words : write a ≡ write b = x.2 ∙ f.0 ∙ sym y.2 in
     (same_Some a b (sym (whole-again format a fits_a) ∙ ap (whole read) words ∙ whole-again format b fits_b), f.1)

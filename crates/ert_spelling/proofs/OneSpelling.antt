@@ -8,7 +8,7 @@ use Rattle.ert_defs.specs.declared.entry.Entry.{Entry}
 use Rattle.ert_defs.specs.declared.settings.Settings.{Settings}
 use Rattle.ert_spelling.specs.Entries.{entry_words, settings_words}
 use Rattle.ert_spelling.specs.Fits.{FitsEntry}
-use Rattle.ert_spelling.specs.Spelling.{line_of, entry_line, Spells, IsEntryLine, BeginsWithEntry, AreEntryLines, MisspelledAt}
+use Rattle.ert_spelling.specs.Spelling.{line_of_words, entry_line, Spells, IsEntryLine, BeginsWithEntry, AreEntryLines, MisspelledAt}
 use Rattle.ert_spelling.specs.Spelling.MisspelledAt.{in_settings, in_entries}
 use Rattle.ert_spelling.proofs.EntryFormats.{entry, settings}
 use Rattle.ert_spelling.proofs.FirstLines.{entry_some, settings_some}
@@ -42,8 +42,8 @@ same_lines (e ∷ es) (f ∷ fs) r s fit_es fit_fs stops_r stops_s same =
     (ap (λ (x : Entry). x ∷ es) p.0 ∙ ap (λ (xs : List Entry). f ∷ xs) q.0, q.1)
 
 -- what is spelled begins with its settings
-settings_first : (g : Settings) (h : List Entry) (bytes : List ℕ) → Spells g h bytes → bytes ≡ line_of (settings_words g) ++ text_of h []
-settings_first g h bytes spelled = spelled.text ∙ ap (λ (t : List ℕ). line_of (settings_words g) ++ t) (sym (append-nil (flat_map entry_line h)))
+settings_first : (g : Settings) (h : List Entry) (bytes : List ℕ) → Spells g h bytes → bytes ≡ line_of_words (settings_words g) ++ text_of h []
+settings_first g h bytes spelled = spelled.text ∙ ap (λ (t : List ℕ). line_of_words (settings_words g) ++ t) (sym (append-nil (flat_map entry_line h)))
 
 pub unique : (g other : Settings) (h others : List Entry) (bytes : List ℕ) → Spells g h bytes → Spells other others bytes → (g ≡ other) × (h ≡ others)
 unique g other h others bytes p q =
@@ -100,7 +100,7 @@ never_neither bytes unspelled faultless =
     (λ es lines. unspelled begins.settings es (record {
       settings = begins.line.fits;
       entries = lines.fit;
-      text = begins.line.text ∙ ap (λ (t : List ℕ). line_of (settings_words begins.settings) ++ t) (lines.text ∙ append-nil (flat_map entry_line es));
+      text = begins.line.text ∙ ap (λ (t : List ℕ). line_of_words (settings_words begins.settings) ++ t) (lines.text ∙ append-nil (flat_map entry_line es));
     }) begins.line.checked)
     (λ es r lines more stops. faultless (length es + 2) (in_entries begins.settings begins.rest begins.line (record {
       before = es;

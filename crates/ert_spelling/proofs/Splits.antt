@@ -6,27 +6,27 @@ use Rattle.std.specs.Str.{IsUtf8, is_utf8}
 use Rattle.std.proofs.lemmas.Bool.{false_from_ne_true}
 use Rattle.std.proofs.lemmas.List.Splits.{slice_split_at, slice_split_none}
 use Rattle.std.proofs.lemmas.Str.{IsUtf8-from_is_utf8, is_utf8-from_IsUtf8}
-use Rattle.ert_spelling.specs.Cuts.{IsFree, IsCut, words_in}
+use Rattle.ert_spelling.specs.Cuts.{IsNowhereIn, IsCutAt, words_in}
 use Rattle.ert_spelling.specs.Parts.{Word}
-use Rattle.ert_spelling.specs.Readers.{text_at, all_read}
+use Rattle.ert_spelling.specs.Readers.{read_text, all_read}
 
 -- the words of a line that has a blank
-pub cut_words : (line front rest : List ℕ) → IsCut 32 line front rest → words_in line ≡ front ∷ words_in rest
+pub cut_words : (line front rest : List ℕ) → IsCutAt 32 line front rest → words_in line ≡ front ∷ words_in rest
 cut_words line front rest h =
     ap words_in h.parts ∙ slice_split_at (λ b. eqb b 32) front 32 rest h.first refl
 
 -- the one word of a line that has none
-pub free_words : (line : List ℕ) → IsFree 32 line → words_in line ≡ line ∷ []
+pub free_words : (line : List ℕ) → IsNowhereIn 32 line → words_in line ≡ line ∷ []
 free_words line h = slice_split_none (λ b. eqb b 32) line h
 
 -- a word that is text
-pub text : (word : Word) (words : List Word) → IsUtf8 word → text_at (word ∷ words) ≡ Some (word, words)
-unfolding text_at
+pub text : (word : Word) (words : List Word) → IsUtf8 word → read_text (word ∷ words) ≡ Some (word, words)
+unfolding read_text
 text word words h = rw (is_utf8-from_IsUtf8 word h) refl
 
 -- a word that is none
-pub no_text : (word : Word) (words : List Word) → (IsUtf8 word → ⊥) → text_at (word ∷ words) ≡ None
-unfolding text_at
+pub no_text : (word : Word) (words : List Word) → (IsUtf8 word → ⊥) → read_text (word ∷ words) ≡ None
+unfolding read_text
 no_text word words h = rw (false_from_ne_true (is_utf8 word) (λ e. h (IsUtf8-from_is_utf8 word e))) refl
 
 onto_some : {A : Type 0} (a : A) (b : ℕ) (words : List Word) → all_read (a, onto_first b words) ≡ None

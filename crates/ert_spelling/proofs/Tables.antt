@@ -10,7 +10,7 @@ use Rattle.std.proofs.lemmas.Slice.Eq.{bytes_eq-Decides}
 use Rattle.std.proofs.lemmas.Str.{IsUtf8-from_ascii, is_utf8-from_IsUtf8}
 use Rattle.std.proofs.lemmas.Str.Ascii.{IsAscii-nil, IsAscii-cons}
 use Rattle.ert_spelling.specs.Parts.{Word, option_words}
-use Rattle.ert_spelling.specs.Readers.{Reader, word_at, meant, text_at, called, keyword, named, choice, none_at, absent_or, optional}
+use Rattle.ert_spelling.specs.Readers.{Reader, read_word, meant, read_text, meant_by, keyword, read_named, choice, none_at, absent_or, optional}
 use Rattle.ert_spelling.proofs.Formats.{is_ink, Reads, Gives, IsFormat, and_then_some, map_some}
 
 ink-ascii : (word : Word) → is_ink word ≡ true → IsAscii word
@@ -21,8 +21,8 @@ ink-ascii (b ∷ bs) h =
     IsAscii-cons b bs (ltb-true b 128 q.1) (ink-ascii bs p.1)
 
 -- a name is text
-pub text-ink : (name : Word) (words : List Word) → is_ink name ≡ true → text_at (name ∷ words) ≡ Some (name, words)
-unfolding text_at
+pub text-ink : (name : Word) (words : List Word) → is_ink name ≡ true → read_text (name ∷ words) ≡ Some (name, words)
+unfolding read_text
 text-ink name words h = rw (is_utf8-from_IsUtf8 name (IsUtf8-from_ascii name (ink-ascii name h))) refl
 
 guarded : {A : Type 0} (b : Bool) (x y : A) → cond b (Some x) None ≡ Some y → x ≡ y
@@ -30,8 +30,8 @@ guarded true x y e = cc
 guarded false x y e = absurd cc
 
 -- what is read as text stands first
-pub text-takes : (words : List Word) (name : Word) (rest : List Word) → text_at words ≡ Some (name, rest) → words ≡ name ∷ rest
-unfolding text_at
+pub text-takes : (words : List Word) (name : Word) (rest : List Word) → read_text words ≡ Some (name, rest) → words ≡ name ∷ rest
+unfolding read_text
 text-takes [] name rest e = absurd cc
 text-takes (word ∷ words) name rest e =
     ap (λ (x : Word × List Word). x.0 ∷ x.1) (guarded (is_utf8 word) (word, words) (name, rest) e)
@@ -49,10 +49,10 @@ abbrev pub IsTable : {A : Type 0} → (A → Word) → List (Word × A) → Type
 IsTable word_of rows = AllByRecursion (λ row. (row.0 ≡ word_of row.1) × (is_ink row.0 ≡ true)) rows
 
 called-takes : {A : Type 0} (word_of : A → Word) (rows : List (Word × A)) (name : Word) (a : A)
-    → IsTable word_of rows → called name rows ≡ Some a → (name ≡ word_of a) × (is_ink name ≡ true)
+    → IsTable word_of rows → meant_by name rows ≡ Some a → (name ≡ word_of a) × (is_ink name ≡ true)
 called-takes word_of [] name a table e = absurd cc
 called-takes {A} word_of (row ∷ rows) name a table e =
-    elim (chosen (bytes_eq name row.0) (Some row.1) (called name rows) (Some a) e) [
+    elim (chosen (bytes_eq name row.0) (Some row.1) (meant_by name rows) (Some a) e) [
       | inl this ↦
           let same : name ≡ row.0 = same_word name row.0 this.0 in
           let value : row.1 ≡ a = same_Some row.1 a this.1 in
@@ -61,12 +61,12 @@ called-takes {A} word_of (row ∷ rows) name a table e =
     ]
 
 pub keyword-format : {A : Type 0} (word_of : A → Word) (rows : List (Word × A)) → IsTable word_of rows
-    → ((a : A) → called (word_of a) rows ≡ Some a) → IsFormat (λ a. word_of a ∷ []) (λ _. Unit {0}) (keyword rows)
+    → ((a : A) → meant_by (word_of a) rows ≡ Some a) → IsFormat (λ a. word_of a ∷ []) (λ _. Unit {0}) (keyword rows)
 keyword-format {A} word_of rows table all = record {
   gives = record {
     takes = λ words a rest e.
-        let p = and_then_some (text_at words) (λ x. option_map (λ a. (a, x.1)) (called x.0 rows)) (a, rest) e in
-        let q = map_some (called p.0.0 rows) (λ a. (a, p.0.1)) (a, rest) p.2 in
+        let p = and_then_some (read_text words) (λ x. option_map (λ a. (a, x.1)) (meant_by x.0 rows)) (a, rest) e in
+        let q = map_some (meant_by p.0.0 rows) (λ a. (a, p.0.1)) (a, rest) p.2 in
         let name = called-takes word_of rows p.0.0 q.0 table q.1 in
         let there : A × List Word → Type 0 = λ x. Reads (λ a. word_of a ∷ []) (λ _. Unit {0}) [] words x.0 x.1 in
         subst there q.2 (record {
@@ -77,14 +77,14 @@ keyword-format {A} word_of rows table all = record {
   };
   again = λ a rest fits.
       let ink = (called-takes word_of rows (word_of a) a table (all a)).1 in
-      ap (λ o. option_and_then (λ x. option_map (λ a. (a, x.1)) (called x.0 rows)) o) (text-ink (word_of a) rest ink)
+      ap (λ o. option_and_then (λ x. option_map (λ a. (a, x.1)) (meant_by x.0 rows)) o) (text-ink (word_of a) rest ink)
       ∙ ap (λ o. option_map (λ a. (a, rest)) o) (all a);
 }
 
 -- a name that isn't in the table
-pub keyword-none : {A : Type 0} (rows : List (Word × A)) (name : Word) (words : List Word) → is_ink name ≡ true → called name rows ≡ None → keyword rows (name ∷ words) ≡ None
+pub keyword-none : {A : Type 0} (rows : List (Word × A)) (name : Word) (words : List Word) → is_ink name ≡ true → meant_by name rows ≡ None → keyword rows (name ∷ words) ≡ None
 keyword-none rows name words ink absent =
-    ap (λ o. option_and_then (λ x. option_map (λ a. (a, x.1)) (called x.0 rows)) o) (text-ink name words ink)
+    ap (λ o. option_and_then (λ x. option_map (λ a. (a, x.1)) (meant_by x.0 rows)) o) (text-ink name words ink)
     ∙ ap (λ o. option_map (λ a. (a, words)) o) absent
 
 -- the readers of a table: each reads what is written after its name
@@ -92,10 +92,10 @@ abbrev pub AreRows : {A : Type 0} → (A → List Word) → (A → Type 0) → L
 AreRows write Fits rows = AllByRecursion (λ row. (is_ink row.0 ≡ true) × Gives (row.0 ∷ []) write Fits row.1) rows
 
 named-takes : {A : Type 0} (write : A → List Word) (Fits : A → Type 0) (rows : List (Word × Reader A)) (name : Word) (words : List Word) (a : A) (rest : List Word)
-    → AreRows write Fits rows → named name rows words ≡ Some (a, rest) → Reads write Fits (name ∷ []) words a rest × (is_ink name ≡ true)
+    → AreRows write Fits rows → read_named name rows words ≡ Some (a, rest) → Reads write Fits (name ∷ []) words a rest × (is_ink name ≡ true)
 named-takes write Fits [] name words a rest rows e = absurd cc
 named-takes {A} write Fits (row ∷ rows) name words a rest are e =
-    elim (chosen (bytes_eq name row.0) (row.1 words) (named name rows words) (Some (a, rest)) e) [
+    elim (chosen (bytes_eq name row.0) (row.1 words) (read_named name rows words) (Some (a, rest)) e) [
       | inl this ↦
           let same : row.0 ≡ name = sym (same_word name row.0 this.0) in
           let there : Word → Type 0 = λ w. Reads write Fits (w ∷ []) words a rest × (is_ink w ≡ true) in
@@ -106,7 +106,7 @@ named-takes {A} write Fits (row ∷ rows) name words a rest are e =
 pub choice-gives : {A : Type 0} (write : A → List Word) (Fits : A → Type 0) (rows : List (Word × Reader A)) → AreRows write Fits rows → Gives [] write Fits (choice rows)
 choice-gives {A} write Fits rows are = record {
   takes = λ words a rest e.
-      let p = and_then_some (text_at words) (λ x. named x.0 rows x.1) (a, rest) e in
+      let p = and_then_some (read_text words) (λ x. read_named x.0 rows x.1) (a, rest) e in
       let r = named-takes write Fits rows p.0.0 p.0.1 a rest are p.2 in
       record {
         text = text-takes words p.0.0 p.0.1 p.1 ∙ r.0.text;
@@ -116,9 +116,9 @@ choice-gives {A} write Fits rows are = record {
 }
 
 pub choice-again : {A : Type 0} (rows : List (Word × Reader A)) (name : Word) (words : List Word) (out : Option (A × List Word))
-    → is_ink name ≡ true → named name rows words ≡ out → choice rows (name ∷ words) ≡ out
+    → is_ink name ≡ true → read_named name rows words ≡ out → choice rows (name ∷ words) ≡ out
 choice-again rows name words out ink e =
-    ap (λ o. option_and_then (λ x. named x.0 rows x.1) o) (text-ink name words ink) ∙ e
+    ap (λ o. option_and_then (λ x. read_named x.0 rows x.1) o) (text-ink name words ink) ∙ e
 
 none-takes : (words rest : List Word) → none_at words ≡ Some rest → words ≡ codes "none" ∷ rest
 unfolding none_at
@@ -176,7 +176,7 @@ pub meant-format : {A : Type 0} (word_of : A → Word) (Fits : A → Type 0) (me
     → ((word : Word) (a : A) → meaning word ≡ Some a → (word ≡ word_of a) × Fits a)
     → ((a : A) → Fits a → meaning (word_of a) ≡ Some a)
     → ((a : A) → Fits a → is_ink (word_of a) ≡ true) → IsFormat (λ a. word_of a ∷ []) Fits (meant meaning)
-unfolding word_at
+unfolding read_word
 meant-format {A} word_of Fits meaning takes again ink = record {
   gives = record { takes = meant-takes };
   again = meant-again;

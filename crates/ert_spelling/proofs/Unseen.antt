@@ -8,12 +8,12 @@ use Rattle.ert_spelling.specs.Cuts.{words_in}
 use Rattle.ert_spelling.specs.Events.{event_rows}
 use Rattle.ert_spelling.specs.Faults.{meaning, turn_rows, mail_turn_rows}
 use Rattle.ert_spelling.specs.Parts.{Word}
-use Rattle.ert_spelling.specs.Readers.{seen, called, text_at}
+use Rattle.ert_spelling.specs.Readers.{value_and_rest, meant_by, read_text}
 use Rattle.ert_spelling.specs.Reading.{mail_rows}
 use Rattle.ert_spelling.specs.declared.wanted.Wanted.{Wanted}
 
 -- a reader reads where the function gave something
-pub same_some : {A : Type 0} (r : Option (A × Option (Bor (List ℕ)))) (x : Option (A × List Word)) → seen r ≡ x → is_some r ≡ is_some x
+pub same_some : {A : Type 0} (r : Option (A × Option (Bor (List ℕ)))) (x : Option (A × List Word)) → value_and_rest r ≡ x → is_some r ≡ is_some x
 same_some None x e = ap is_some e
 same_some (Some a) x e = ap is_some e
 
@@ -29,28 +29,28 @@ either : {A : Type 0} (b : Bool) (a : A) (o : Option A) (c : Bool) → is_some o
 either true a o c e = refl
 either false a o c e = e
 
-is_called : {A : Type 0} (rows : List (Word × A)) (word : Word) → is_some (called word rows) ≡ is_in (names_of rows) word
+is_called : {A : Type 0} (rows : List (Word × A)) (word : Word) → is_some (meant_by word rows) ≡ is_in (names_of rows) word
 is_called [] word = refl
-is_called (row ∷ rows) word = either (bytes_eq word row.0) row.1 (called word rows) (is_in (names_of rows) word) (is_called rows word)
+is_called (row ∷ rows) word = either (bytes_eq word row.0) row.1 (meant_by word rows) (is_in (names_of rows) word) (is_called rows word)
 
 meant_some : {A : Type 0} (o : Option A) (words : List Word) → is_some (option_map (λ (x : A × List Word). x.0) (option_map (λ a. (a, words)) o)) ≡ is_some o
 meant_some None words = refl
 meant_some (Some a) words = refl
 
 -- two tables with one list of names
-same_names : {A B : Type 0} (xs : List (Word × A)) (ys : List (Word × B)) → names_of xs ≡ names_of ys → (word : Word) → is_some (called word xs) ≡ is_some (called word ys)
+same_names : {A B : Type 0} (xs : List (Word × A)) (ys : List (Word × B)) → names_of xs ≡ names_of ys → (word : Word) → is_some (meant_by word xs) ≡ is_some (meant_by word ys)
 same_names xs ys same word = is_called xs word ∙ ap (λ (names : List Word). is_in names word) same ∙ sym (is_called ys word)
 
 by_text : {A B : Type 0} (xs : List (Word × A)) (ys : List (Word × B)) → names_of xs ≡ names_of ys
     → (text : Option (Word × List Word))
-    → is_some (option_map (λ (x : A × List Word). x.0) (option_and_then (λ (x : Word × List Word). option_map (λ a. (a, x.1)) (called x.0 xs)) text))
-    ≡ is_some (option_map (λ (x : B × List Word). x.0) (option_and_then (λ (x : Word × List Word). option_map (λ a. (a, x.1)) (called x.0 ys)) text))
+    → is_some (option_map (λ (x : A × List Word). x.0) (option_and_then (λ (x : Word × List Word). option_map (λ a. (a, x.1)) (meant_by x.0 xs)) text))
+    ≡ is_some (option_map (λ (x : B × List Word). x.0) (option_and_then (λ (x : Word × List Word). option_map (λ a. (a, x.1)) (meant_by x.0 ys)) text))
 by_text xs ys same None = refl
 by_text xs ys same (Some x) =
-    meant_some (called x.0 xs) x.1 ∙ same_names xs ys same x.0 ∙ sym (meant_some (called x.0 ys) x.1)
+    meant_some (meant_by x.0 xs) x.1 ∙ same_names xs ys same x.0 ∙ sym (meant_some (meant_by x.0 ys) x.1)
 
 same_meaning : {A B : Type 0} (xs : List (Word × A)) (ys : List (Word × B)) → names_of xs ≡ names_of ys → (word : Word) → is_some (meaning xs word) ≡ is_some (meaning ys word)
-same_meaning xs ys same word = by_text xs ys same (text_at (words_in word))
+same_meaning xs ys same word = by_text xs ys same (read_text (words_in word))
 
 map_some : {A B : Type 0} (f : A → B) (o : Option A) (x : Option B) → option_map f o ≡ x → is_some o ≡ is_some x
 map_some f None x e = ap is_some e

@@ -6,13 +6,13 @@ use Rattle.std.specs.Borrow.{Bor}
 use Rattle.ert_spelling.specs.Parts.{Word}
 
 -- a separator stands nowhere in the bytes
-abbrev pub IsFree : ℕ → List ℕ → Type 0
-IsFree separator bytes = All (λ b. (b == separator) ≡ false) bytes
+abbrev pub IsNowhereIn : ℕ → List ℕ → Type 0
+IsNowhereIn separator bytes = All (λ b. (b == separator) ≡ false) bytes
 
 -- the bytes up to the first separator, and those after it
-pub record IsCut (separator : ℕ) (bytes front rest : List ℕ) : Type 0 where
+pub record IsCutAt (separator : ℕ) (bytes front rest : List ℕ) : Type 0 where
   pub parts : bytes ≡ front ++ separator ∷ rest
-  pub first : IsFree separator front
+  pub first : IsNowhereIn separator front
 
 -- the words of a line
 abbrev pub words_in : List ℕ → List Word

@@ -7,204 +7,204 @@ use Rattle.ert_defs.specs.declared.entry.Event.TheVariants.{Tick, Shift, Look, O
 use Rattle.ert_defs.specs.declared.settings.Settings.{Settings}
 use Rattle.ert_spelling.specs.Parts.{Word}
 use Rattle.ert_spelling.specs.Readers.{Reader, ◌>>=◌, done, choice, optional}
-use Rattle.ert_spelling.specs.Reading.{small_at, natural_at, integer_at, bool_at, mode_at, state_at, act_at, status_at, actor_at, with_at, reading_at, timer_at, start_at, request_at, left_at, mail_at}
+use Rattle.ert_spelling.specs.Reading.{read_small, read_natural, read_integer, read_bool, read_mode, read_state, read_act, read_status, read_actor, read_with, read_reading, read_timer, read_start, read_request, read_left, read_mail}
 
 -- the fields of `tick`
-unfoldable pub tick_at : Reader Event
-tick_at = do
-  reading ← reading_at
-  act ← act_at
-  now ← integer_at
+unfoldable pub read_tick : Reader Event
+read_tick = do
+  reading ← read_reading
+  act ← read_act
+  now ← read_integer
   done (Tick reading act now)
 
 -- the fields of `shift`
-unfoldable pub shift_at : Reader Event
-shift_at = do
-  offset ← integer_at
-  state ← state_at
+unfoldable pub read_shift : Reader Event
+read_shift = do
+  offset ← read_integer
+  state ← read_state
   done (Shift offset state)
 
 -- the fields of `look`
-unfoldable pub look_at : Reader Event
-look_at = do
-  now ← integer_at
+unfoldable pub read_look : Reader Event
+read_look = do
+  now ← read_integer
   done (Look now)
 
 -- the fields of `off`
-unfoldable pub off_at : Reader Event
-off_at = do
-  offset ← integer_at
-  state ← state_at
+unfoldable pub read_off : Reader Event
+read_off = do
+  offset ← read_integer
+  state ← read_state
   done (Off offset state)
 
 -- the fields of `arm`
-unfoldable pub arm_at : Reader Event
-arm_at = do
-  timer ← timer_at
-  start ← start_at
+unfoldable pub read_arm : Reader Event
+read_arm = do
+  timer ← read_timer
+  start ← read_start
   done (Arm timer start)
 
 -- the fields of `probe`
-unfoldable pub probe_at : Reader Event
-probe_at = do
-  wheel ← small_at
-  slot ← small_at
-  found ← optional status_at
+unfoldable pub read_probe : Reader Event
+read_probe = do
+  wheel ← read_small
+  slot ← read_small
+  found ← optional read_status
   done (Probe wheel slot found)
 
 -- the fields of `peek`
-unfoldable pub peek_at : Reader Event
-peek_at = do
-  timer ← timer_at
-  left ← left_at
+unfoldable pub read_peek : Reader Event
+read_peek = do
+  timer ← read_timer
+  left ← read_left
   done (Peek timer left)
 
 -- the fields of `cancel`
-unfoldable pub cancel_at : Reader Event
-cancel_at = do
-  timer ← timer_at
-  left ← left_at
+unfoldable pub read_cancel : Reader Event
+read_cancel = do
+  timer ← read_timer
+  left ← read_left
   done (Cancel timer left)
 
 -- the fields of `expire`
-unfoldable pub expire_at : Reader Event
-expire_at = do
-  timer ← timer_at
+unfoldable pub read_expire : Reader Event
+read_expire = do
+  timer ← read_timer
   done (Expire timer)
 
 -- the fields of `orphan`
-unfoldable pub orphan_at : Reader Event
-orphan_at = do
-  timer ← timer_at
+unfoldable pub read_orphan : Reader Event
+read_orphan = do
+  timer ← read_timer
   done (Orphan timer)
 
 -- the fields of `deliver`
-unfoldable pub deliver_at : Reader Event
-deliver_at = do
-  timer ← timer_at
+unfoldable pub read_deliver : Reader Event
+read_deliver = do
+  timer ← read_timer
   done (Deliver timer)
 
 -- the fields of `drop`
-unfoldable pub drop_at : Reader Event
-drop_at = do
-  timer ← timer_at
+unfoldable pub read_drop : Reader Event
+read_drop = do
+  timer ← read_timer
   done (Drop timer)
 
 -- the fields of `mark`
-unfoldable pub mark_at : Reader Event
-mark_at = do
-  process ← small_at
-  exits ← bool_at
-  was ← bool_at
+unfoldable pub read_mark : Reader Event
+read_mark = do
+  process ← read_small
+  exits ← read_bool
+  was ← read_bool
   done (Mark process exits was)
 
 -- the fields of `advanced`
-unfoldable pub advanced_at : Reader Event
-advanced_at = do
-  wheel ← small_at
-  to ← natural_at
+unfoldable pub read_advanced : Reader Event
+read_advanced = do
+  wheel ← read_small
+  to ← read_natural
   done (Advanced wheel to)
 
 -- the fields of `ask`
-unfoldable pub ask_at : Reader Event
-ask_at = do
-  wheel ← small_at
-  request ← request_at
+unfoldable pub read_ask : Reader Event
+read_ask = do
+  wheel ← read_small
+  request ← read_request
   done (Ask wheel request)
 
 -- the fields of `pick`
-unfoldable pub pick_at : Reader Event
-pick_at = do
-  wheel ← small_at
-  got ← optional request_at
+unfoldable pub read_pick : Reader Event
+read_pick = do
+  wheel ← read_small
+  got ← optional read_request
   done (Pick wheel got)
 
 -- the fields of `answer`
-unfoldable pub answer_at : Reader Event
-answer_at = do
-  wheel ← small_at
-  left ← left_at
+unfoldable pub read_answer : Reader Event
+read_answer = do
+  wheel ← read_small
+  left ← read_left
   done (Answer wheel left)
 
 -- the fields of `take`
-unfoldable pub take_at : Reader Event
-take_at = do
-  process ← small_at
-  got ← optional mail_at
+unfoldable pub read_take : Reader Event
+read_take = do
+  process ← read_small
+  got ← optional read_mail
   done (Take process got)
 
 -- the fields of `unwatch`
-unfoldable pub unwatch_at : Reader Event
-unwatch_at = do
-  process ← small_at
-  monitor ← small_at
-  was ← bool_at
+unfoldable pub read_unwatch : Reader Event
+read_unwatch = do
+  process ← read_small
+  monitor ← read_small
+  was ← read_bool
   done (Unwatch process monitor was)
 
 -- the fields of `watch`
-unfoldable pub watch_at : Reader Event
-watch_at = do
-  process ← small_at
-  monitor ← small_at
-  offset ← integer_at
+unfoldable pub read_watch : Reader Event
+read_watch = do
+  process ← read_small
+  monitor ← read_small
+  offset ← read_integer
   done (Watch process monitor offset)
 
 -- the fields of `tell`
-unfoldable pub tell_at : Reader Event
-tell_at = do
-  process ← small_at
-  offset ← integer_at
+unfoldable pub read_tell : Reader Event
+read_tell = do
+  process ← read_small
+  offset ← read_integer
   done (Tell process offset)
 
 -- the name of each event, and how its fields are read
 abbrev pub event_rows : List (Word × Reader Event)
 event_rows =
-    (codes "tick", tick_at)
-    ∷ (codes "shift", shift_at)
-    ∷ (codes "look", look_at)
-    ∷ (codes "off", off_at)
-    ∷ (codes "arm", arm_at)
-    ∷ (codes "probe", probe_at)
-    ∷ (codes "peek", peek_at)
-    ∷ (codes "cancel", cancel_at)
-    ∷ (codes "expire", expire_at)
-    ∷ (codes "orphan", orphan_at)
-    ∷ (codes "deliver", deliver_at)
-    ∷ (codes "drop", drop_at)
-    ∷ (codes "mark", mark_at)
-    ∷ (codes "advanced", advanced_at)
-    ∷ (codes "ask", ask_at)
-    ∷ (codes "pick", pick_at)
-    ∷ (codes "answer", answer_at)
-    ∷ (codes "take", take_at)
-    ∷ (codes "unwatch", unwatch_at)
-    ∷ (codes "watch", watch_at)
-    ∷ (codes "tell", tell_at)
+    (codes "tick", read_tick)
+    ∷ (codes "shift", read_shift)
+    ∷ (codes "look", read_look)
+    ∷ (codes "off", read_off)
+    ∷ (codes "arm", read_arm)
+    ∷ (codes "probe", read_probe)
+    ∷ (codes "peek", read_peek)
+    ∷ (codes "cancel", read_cancel)
+    ∷ (codes "expire", read_expire)
+    ∷ (codes "orphan", read_orphan)
+    ∷ (codes "deliver", read_deliver)
+    ∷ (codes "drop", read_drop)
+    ∷ (codes "mark", read_mark)
+    ∷ (codes "advanced", read_advanced)
+    ∷ (codes "ask", read_ask)
+    ∷ (codes "pick", read_pick)
+    ∷ (codes "answer", read_answer)
+    ∷ (codes "take", read_take)
+    ∷ (codes "unwatch", read_unwatch)
+    ∷ (codes "watch", read_watch)
+    ∷ (codes "tell", read_tell)
     ∷ []
 
 -- an event
-unfoldable pub event_at : Reader Event
-event_at = choice event_rows
+unfoldable pub read_event : Reader Event
+read_event = choice event_rows
 
 -- an entry
-unfoldable pub entry_at : Reader Entry
-entry_at = do
-  by ← actor_at
-  with ← with_at
-  event ← event_at
+unfoldable pub read_one_entry : Reader Entry
+read_one_entry = do
+  by ← read_actor
+  with ← read_with
+  event ← read_event
   done (record { by = by; with = with; event = event })
 
 -- the fields of settings
-unfoldable pub fields_at : Reader Settings
-fields_at = do
-  mode ← mode_at
-  correction ← bool_at
-  start ← integer_at
-  schedulers ← small_at
-  processes ← small_at
-  slots ← small_at
-  callers ← small_at
-  first ← reading_at
+unfoldable pub read_fields : Reader Settings
+read_fields = do
+  mode ← read_mode
+  correction ← read_bool
+  start ← read_integer
+  schedulers ← read_small
+  processes ← read_small
+  slots ← read_small
+  callers ← read_small
+  first ← read_reading
   done (record {
     mode = mode;
     correction = correction;
@@ -218,8 +218,8 @@ fields_at = do
 
 -- the word before the fields of settings
 abbrev pub settings_rows : List (Word × Reader Settings)
-settings_rows = (codes "settings", fields_at) ∷ []
+settings_rows = (codes "settings", read_fields) ∷ []
 
 -- settings
-unfoldable pub settings_at : Reader Settings
-settings_at = choice settings_rows
+unfoldable pub read_settings : Reader Settings
+read_settings = choice settings_rows

@@ -7,10 +7,10 @@ use Rattle.ert_defs.specs.declared.settings.Settings.{Settings}
 use Rattle.ert_defs.specs.declared.settings.SettingsFault.{SettingsFault}
 use Rattle.std.specs.Prelude.{Err}
 use Rattle.ert_spelling.specs.Cuts.{words_in}
-use Rattle.ert_spelling.specs.Events.{event_rows, settings_at}
+use Rattle.ert_spelling.specs.Events.{event_rows, read_settings}
 use Rattle.ert_spelling.specs.Parts.{Word}
-use Rattle.ert_spelling.specs.Readers.{optional, called, keyword, whole}
-use Rattle.ert_spelling.specs.Reading.{small_at, natural_at, integer_at, bool_at, mode_at, state_at, act_at, status_at, kind_at, request_kind_at, actor_at, with_at, left_at, when_rows, mail_rows}
+use Rattle.ert_spelling.specs.Readers.{optional, meant_by, keyword, whole}
+use Rattle.ert_spelling.specs.Reading.{read_small, read_natural, read_integer, read_bool, read_mode, read_state, read_act, read_status, read_kind, read_request_kind, read_actor, read_with, read_left, when_rows, mail_rows}
 use Rattle.ert_spelling.specs.declared.wanted.Fault.{Fault}
 use Rattle.ert_spelling.specs.declared.wanted.Wanted.{Wanted}
 use Rattle.ert_spelling.specs.declared.wanted.Wanted.TheVariants.{SettingsWord, Mode, Truth, Integer, Small, Natural, Act, State, Found, Kind, When, Actor, Partner, Event, RequestKind, Picked, Taken, Left, End}
@@ -30,23 +30,23 @@ meaning rows word = option_map (λ x. x.0) (keyword rows (words_in word))
 -- whether a word is read by the reader of what could stand there
 unfoldable pub is_read : Wanted → Word → Bool
 is_read SettingsWord word = bytes_eq word (codes "settings")
-is_read Mode word = is_some (mode_at (words_in word))
-is_read Truth word = is_some (bool_at (words_in word))
-is_read Integer word = is_some (integer_at (words_in word))
-is_read Small word = is_some (small_at (words_in word))
-is_read Natural word = is_some (natural_at (words_in word))
-is_read Act word = is_some (act_at (words_in word))
-is_read State word = is_some (state_at (words_in word))
-is_read Found word = is_some (optional status_at (words_in word))
-is_read Kind word = is_some (kind_at (words_in word))
-is_read When word = is_some (called word when_rows)
-is_read Actor word = is_some (actor_at (words_in word))
-is_read Partner word = is_some (with_at (words_in word))
+is_read Mode word = is_some (read_mode (words_in word))
+is_read Truth word = is_some (read_bool (words_in word))
+is_read Integer word = is_some (read_integer (words_in word))
+is_read Small word = is_some (read_small (words_in word))
+is_read Natural word = is_some (read_natural (words_in word))
+is_read Act word = is_some (read_act (words_in word))
+is_read State word = is_some (read_state (words_in word))
+is_read Found word = is_some (optional read_status (words_in word))
+is_read Kind word = is_some (read_kind (words_in word))
+is_read When word = is_some (meant_by word when_rows)
+is_read Actor word = is_some (read_actor (words_in word))
+is_read Partner word = is_some (read_with (words_in word))
 is_read Event word = is_some (meaning event_rows word)
-is_read RequestKind word = is_some (request_kind_at (words_in word))
-is_read Picked word = bytes_eq word (codes "none") || is_some (request_kind_at (words_in word))
+is_read RequestKind word = is_some (read_request_kind (words_in word))
+is_read Picked word = bytes_eq word (codes "none") || is_some (read_request_kind (words_in word))
 is_read Taken word = bytes_eq word (codes "none") || is_some (meaning mail_rows word)
-is_read Left word = is_some (left_at (words_in word))
+is_read Left word = is_some (read_left (words_in word))
 is_read End word = false
 
 -- whose turn it is to read the words of a line, one after the other: of that of settings
@@ -130,11 +130,11 @@ first_turns true = settings_turns
 first_turns false = entry_turns
 
 -- where the first line of a history or another stops being spelled
-abbrev pub fault_of : Bool → List ℕ → Option Fault
-fault_of is_first line = fault_from (first_turns is_first) (words_in line) 0
+abbrev pub line_fault : Bool → List ℕ → Option Fault
+line_fault is_first line = fault_from (first_turns is_first) (words_in line) 0
 
 -- a line has settings that no service can be opened with
 pub record IsUnfit (line : List ℕ) (fault : SettingsFault) : Type 0 where
   pub settings : Settings
-  pub read : whole settings_at (words_in line) ≡ Some settings
+  pub read : whole read_settings (words_in line) ≡ Some settings
   pub checks : Checks settings (Err fault)

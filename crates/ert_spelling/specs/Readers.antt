@@ -12,8 +12,8 @@ abbrev pub Reader : Type 0 → Type 0
 Reader A = List Word → Option (A × List Word)
 
 -- what a function gave, with the words after it
-abbrev pub seen : {A : Type 0} → Option (A × Option (Bor (List ℕ))) → Option (A × List Word)
-seen given = option_map (λ x. (x.0, words_of x.1)) given
+abbrev pub value_and_rest : {A : Type 0} → Option (A × Option (Bor (List ℕ))) → Option (A × List Word)
+value_and_rest given = option_map (λ x. (x.0, words_of x.1)) given
 
 -- a value that takes no word
 abbrev pub done : {A : Type 0} → A → Reader A
@@ -25,36 +25,36 @@ abbrev pub ◌>>=◌ : {A B : Type 0} → Reader A → (A → Reader B) → Read
 (read >>= next) words = option_and_then (λ x. next x.0 x.1) (read words)
 
 -- any word
-unfoldable pub word_at : Reader Word
-word_at [] = None
-word_at (word ∷ words) = Some (word, words)
+unfoldable pub read_word : Reader Word
+read_word [] = None
+read_word (word ∷ words) = Some (word, words)
 
 -- a word in UTF-8
-unfoldable pub text_at : Reader Word
-text_at [] = None
-text_at (word ∷ words) = if is_utf8 word then Some (word, words) else None
+unfoldable pub read_text : Reader Word
+read_text [] = None
+read_text (word ∷ words) = if is_utf8 word then Some (word, words) else None
 
 -- a word, where it means something
 abbrev pub meant : {A : Type 0} → (Word → Option A) → Reader A
-meant meaning = word_at >>= (λ word words. option_map (λ a. (a, words)) (meaning word))
+meant meaning = read_word >>= (λ word words. option_map (λ a. (a, words)) (meaning word))
 
 -- what has this name in a table
-abbrev pub called : {A : Type 0} → Word → List (Word × A) → Option A
-called name [] = None
-called name (row ∷ rows) = if bytes_eq name row.0 then Some row.1 else called name rows
+abbrev pub meant_by : {A : Type 0} → Word → List (Word × A) → Option A
+meant_by name [] = None
+meant_by name (row ∷ rows) = if bytes_eq name row.0 then Some row.1 else meant_by name rows
 
 -- a word that is a name in a table
 abbrev pub keyword : {A : Type 0} → List (Word × A) → Reader A
-keyword rows = text_at >>= (λ name words. option_map (λ a. (a, words)) (called name rows))
+keyword rows = read_text >>= (λ name words. option_map (λ a. (a, words)) (meant_by name rows))
 
 -- the reader of this name in a table
-abbrev pub named : {A : Type 0} → Word → List (Word × Reader A) → Reader A
-named name [] words = None
-named name (row ∷ rows) words = if bytes_eq name row.0 then row.1 words else named name rows words
+abbrev pub read_named : {A : Type 0} → Word → List (Word × Reader A) → Reader A
+read_named name [] words = None
+read_named name (row ∷ rows) words = if bytes_eq name row.0 then row.1 words else read_named name rows words
 
 -- a name in a table, and what its reader reads
 abbrev pub choice : {A : Type 0} → List (Word × Reader A) → Reader A
-choice rows = text_at >>= (λ name. named name rows)
+choice rows = read_text >>= (λ name. read_named name rows)
 
 -- the words after the word none
 unfoldable pub none_at : List Word → Option (List Word)
@@ -97,9 +97,9 @@ unfoldable pub small_of : Word → Option ℕ
 small_of word = option_and_then (λ n. if nat_lt n 4294967296 then Some n else None) (natural_of word)
 
 -- a number below 0, by how far below it is
-abbrev pub below_zero : ℕ → Option ℤ
-below_zero zero = None
-below_zero (suc n) = if nat_lt n 9223372036854775808 then Some (negsuc n) else None
+abbrev pub negative_by : ℕ → Option ℤ
+negative_by zero = None
+negative_by (suc n) = if nat_lt n 9223372036854775808 then Some (negsuc n) else None
 
 -- a number from 0 on
 abbrev pub from_zero : ℕ → Option ℤ
@@ -108,5 +108,5 @@ from_zero n = if nat_lt n 9223372036854775808 then Some (pos n) else None
 -- a number of 64 bits with a leading minus where it is below 0
 unfoldable pub integer_of : Word → Option ℤ
 integer_of word =
-    if slice_index word 0 == 45 then option_and_then below_zero (natural_of (drop 1 word))
+    if slice_index word 0 == 45 then option_and_then negative_by (natural_of (drop 1 word))
     else option_and_then from_zero (natural_of word)

@@ -10,16 +10,16 @@ use Rattle.ert_spelling.specs.Fits.{FitsEntry, FitsSettings}
 use Rattle.ert_spelling.specs.Parts.{Word}
 
 -- a line: the words with a blank between each two, and a newline
-abbrev pub line_of : List Word → List ℕ
-line_of words = join_with_byte 32 words ++ 10 ∷ []
+abbrev pub line_of_words : List Word → List ℕ
+line_of_words words = join_with_byte 32 words ++ 10 ∷ []
 
 -- the line of an entry
 abbrev pub entry_line : Entry → List ℕ
-entry_line e = line_of (entry_words e)
+entry_line e = line_of_words (entry_words e)
 
 -- the spelling of a history: the line of its settings, and a line for each entry
 abbrev pub spelling : Settings → List Entry → List ℕ
-spelling g h = line_of (settings_words g) ++ flat_map entry_line h
+spelling g h = line_of_words (settings_words g) ++ flat_map entry_line h
 
 -- the bytes spell a history whose numbers fit their types
 pub record Spells (g : Settings) (h : List Entry) (bytes : List ℕ) : Type 0 where
@@ -31,7 +31,7 @@ pub record Spells (g : Settings) (h : List Entry) (bytes : List ℕ) : Type 0 wh
 pub record IsSettingsLine (bytes : List ℕ) (g : Settings) (rest : List ℕ) : Type 0 where
   pub checked : IsChecked g
   pub fits : FitsSettings g
-  pub text : bytes ≡ line_of (settings_words g) ++ rest
+  pub text : bytes ≡ line_of_words (settings_words g) ++ rest
 
 -- bytes that begin with the line of settings that a service can be opened with
 pub record BeginsWithSettings (bytes : List ℕ) : Type 0 where

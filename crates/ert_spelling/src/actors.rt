@@ -2,26 +2,26 @@
 
 ghost use Rattle.std.specs.Prelude.{◌≡◌};
 ghost use Rattle.ert_spelling.specs.Cuts.{words_of};
-ghost use Rattle.ert_spelling.specs.Readers.{seen};
-ghost use Rattle.ert_spelling.specs.Reading.{actor_of, with_of, actor_at, with_at};
+ghost use Rattle.ert_spelling.specs.Readers.{value_and_rest};
+ghost use Rattle.ert_spelling.specs.Reading.{actor_of, with_of, read_actor, read_with};
 
 use crate::numbers::small_of;
 use crate::words::{Words, next_word};
 use ert_defs::Actor;
 
 /// The actor that made an entry.
-#[tactic(auto, unfolding(crate::specs::Reading::actor_at))]
+#[tactic(auto, unfolding(crate::specs::Reading::read_actor))]
 pub(crate) fn actor(words: Words) -> Option<(Actor, Words)>
-    ensures { seen result ≡ actor_at (words_of words.entry) }
+    ensures { value_and_rest result ≡ read_actor (words_of words.entry) }
 {
     let (word, words) = next_word(words)?;
     Some((actor_of(word)?, words))
 }
 
 /// The second actor that made an entry, where there is one.
-#[tactic(auto, unfolding(crate::specs::Reading::with_at))]
+#[tactic(auto, unfolding(crate::specs::Reading::read_with))]
 pub(crate) fn with(words: Words) -> Option<(Option<Actor>, Words)>
-    ensures { seen result ≡ with_at (words_of words.entry) }
+    ensures { value_and_rest result ≡ read_with (words_of words.entry) }
 {
     let (word, words) = next_word(words)?;
     Some((with_of(word)?, words))

@@ -2,8 +2,8 @@
 
 ghost use Rattle.std.specs.Prelude.{◌≡◌};
 ghost use Rattle.ert_spelling.specs.Cuts.{words_of, words_in};
-ghost use Rattle.ert_spelling.specs.Readers.{seen, whole};
-ghost use Rattle.ert_spelling.specs.Events.{entry_at};
+ghost use Rattle.ert_spelling.specs.Readers.{value_and_rest, whole};
+ghost use Rattle.ert_spelling.specs.Events.{read_one_entry};
 
 use crate::actors::{actor, with};
 use crate::events::event;
@@ -13,7 +13,7 @@ use ert_defs::Entry;
 /// The entry that a line is.
 #[tactic(auto, using(crate::proofs::Splits::something_left))]
 pub(crate) fn entry_of(line: &[u8]) -> Option<Entry>
-    ensures { result ≡ whole entry_at (words_in line.now) }
+    ensures { result ≡ whole read_one_entry (words_in line.now) }
 {
     match entry(Some(line))? {
         (entry, None) => Some(entry),
@@ -22,9 +22,9 @@ pub(crate) fn entry_of(line: &[u8]) -> Option<Entry>
 }
 
 /// An entry: its actors, and its event.
-#[tactic(auto, unfolding(crate::specs::Events::entry_at))]
+#[tactic(auto, unfolding(crate::specs::Events::read_one_entry))]
 fn entry(words: Words) -> Option<(Entry, Words)>
-    ensures { seen result ≡ entry_at (words_of words.entry) }
+    ensures { value_and_rest result ≡ read_one_entry (words_of words.entry) }
 {
     let (by, words) = actor(words)?;
     let (with, words) = with(words)?;

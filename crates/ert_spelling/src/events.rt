@@ -2,10 +2,10 @@
 
 ghost use Rattle.std.specs.Prelude.{◌≡◌};
 ghost use Rattle.ert_spelling.specs.Cuts.{words_of};
-ghost use Rattle.ert_spelling.specs.Readers.{seen, named};
-ghost use Rattle.ert_spelling.specs.Events.{tick_at, shift_at, look_at, off_at, arm_at, probe_at, peek_at, cancel_at, expire_at, orphan_at};
-ghost use Rattle.ert_spelling.specs.Events.{deliver_at, drop_at, mark_at, advanced_at, ask_at, pick_at, answer_at, take_at};
-ghost use Rattle.ert_spelling.specs.Events.{unwatch_at, watch_at, tell_at, event_rows, event_at};
+ghost use Rattle.ert_spelling.specs.Readers.{value_and_rest, read_named};
+ghost use Rattle.ert_spelling.specs.Events.{read_tick, read_shift, read_look, read_off, read_arm, read_probe, read_peek, read_cancel, read_expire, read_orphan};
+ghost use Rattle.ert_spelling.specs.Events.{read_deliver, read_drop, read_mark, read_advanced, read_ask, read_pick, read_answer, read_take};
+ghost use Rattle.ert_spelling.specs.Events.{read_unwatch, read_watch, read_tell, event_rows, read_event};
 
 use crate::mails::{picked, request, taken};
 use crate::numbers::{integer, natural, small};
@@ -15,9 +15,9 @@ use crate::words::{Words, next_text, truth};
 use ert_defs::Event;
 
 /// An event: its name, and its fields.
-#[tactic(auto, unfolding(crate::specs::Events::event_at))]
+#[tactic(auto, unfolding(crate::specs::Events::read_event))]
 pub(crate) fn event(words: Words) -> Option<(Event, Words)>
-    ensures { seen result ≡ event_at (words_of words.entry) }
+    ensures { value_and_rest result ≡ read_event (words_of words.entry) }
 {
     let (name, words) = next_text(words)?;
     named(name, words)
@@ -25,7 +25,7 @@ pub(crate) fn event(words: Words) -> Option<(Event, Words)>
 
 /// The event of this name.
 fn named<'a>(name: &str, words: Words<'a>) -> Option<(Event, Words<'a>)>
-    ensures { seen result ≡ named name.now event_rows (words_of words.entry) }
+    ensures { value_and_rest result ≡ read_named name.now event_rows (words_of words.entry) }
 {
     match name {
         "tick" => tick(words),
@@ -54,9 +54,9 @@ fn named<'a>(name: &str, words: Words<'a>) -> Option<(Event, Words<'a>)>
 }
 
 /// An OS reading was taken.
-#[tactic(auto, unfolding(crate::specs::Events::tick_at))]
+#[tactic(auto, unfolding(crate::specs::Events::read_tick))]
 fn tick(words: Words) -> Option<(Event, Words)>
-    ensures { seen result ≡ tick_at (words_of words.entry) }
+    ensures { value_and_rest result ≡ read_tick (words_of words.entry) }
 {
     let (reading, words) = reading(words)?;
     let (act, words) = act(words)?;
@@ -65,9 +65,9 @@ fn tick(words: Words) -> Option<(Event, Words)>
 }
 
 /// The offset and its state were set.
-#[tactic(auto, unfolding(crate::specs::Events::shift_at))]
+#[tactic(auto, unfolding(crate::specs::Events::read_shift))]
 fn shift(words: Words) -> Option<(Event, Words)>
-    ensures { seen result ≡ shift_at (words_of words.entry) }
+    ensures { value_and_rest result ≡ read_shift (words_of words.entry) }
 {
     let (offset, words) = integer(words)?;
     let (state, words) = state(words)?;
@@ -75,18 +75,18 @@ fn shift(words: Words) -> Option<(Event, Words)>
 }
 
 /// The time was read.
-#[tactic(auto, unfolding(crate::specs::Events::look_at))]
+#[tactic(auto, unfolding(crate::specs::Events::read_look))]
 fn look(words: Words) -> Option<(Event, Words)>
-    ensures { seen result ≡ look_at (words_of words.entry) }
+    ensures { value_and_rest result ≡ read_look (words_of words.entry) }
 {
     let (now, words) = integer(words)?;
     Some((Event::Look { now }, words))
 }
 
 /// The offset was read.
-#[tactic(auto, unfolding(crate::specs::Events::off_at))]
+#[tactic(auto, unfolding(crate::specs::Events::read_off))]
 fn off(words: Words) -> Option<(Event, Words)>
-    ensures { seen result ≡ off_at (words_of words.entry) }
+    ensures { value_and_rest result ≡ read_off (words_of words.entry) }
 {
     let (offset, words) = integer(words)?;
     let (state, words) = state(words)?;
@@ -94,9 +94,9 @@ fn off(words: Words) -> Option<(Event, Words)>
 }
 
 /// A timer was started.
-#[tactic(auto, unfolding(crate::specs::Events::arm_at))]
+#[tactic(auto, unfolding(crate::specs::Events::read_arm))]
 fn arm(words: Words) -> Option<(Event, Words)>
-    ensures { seen result ≡ arm_at (words_of words.entry) }
+    ensures { value_and_rest result ≡ read_arm (words_of words.entry) }
 {
     let (timer, words) = timer(words)?;
     let (start, words) = start(words)?;
@@ -104,9 +104,9 @@ fn arm(words: Words) -> Option<(Event, Words)>
 }
 
 /// The last timer of a slot was looked at.
-#[tactic(auto, unfolding(crate::specs::Events::probe_at))]
+#[tactic(auto, unfolding(crate::specs::Events::read_probe))]
 fn probe(words: Words) -> Option<(Event, Words)>
-    ensures { seen result ≡ probe_at (words_of words.entry) }
+    ensures { value_and_rest result ≡ read_probe (words_of words.entry) }
 {
     let (wheel, words) = small(words)?;
     let (slot, words) = small(words)?;
@@ -115,9 +115,9 @@ fn probe(words: Words) -> Option<(Event, Words)>
 }
 
 /// A timer was read.
-#[tactic(auto, unfolding(crate::specs::Events::peek_at))]
+#[tactic(auto, unfolding(crate::specs::Events::read_peek))]
 fn peek(words: Words) -> Option<(Event, Words)>
-    ensures { seen result ≡ peek_at (words_of words.entry) }
+    ensures { value_and_rest result ≡ read_peek (words_of words.entry) }
 {
     let (timer, words) = timer(words)?;
     let (left, words) = left(words)?;
@@ -125,9 +125,9 @@ fn peek(words: Words) -> Option<(Event, Words)>
 }
 
 /// A timer was cancelled.
-#[tactic(auto, unfolding(crate::specs::Events::cancel_at))]
+#[tactic(auto, unfolding(crate::specs::Events::read_cancel))]
 fn cancel(words: Words) -> Option<(Event, Words)>
-    ensures { seen result ≡ cancel_at (words_of words.entry) }
+    ensures { value_and_rest result ≡ read_cancel (words_of words.entry) }
 {
     let (timer, words) = timer(words)?;
     let (left, words) = left(words)?;
@@ -135,45 +135,45 @@ fn cancel(words: Words) -> Option<(Event, Words)>
 }
 
 /// A timer expired.
-#[tactic(auto, unfolding(crate::specs::Events::expire_at))]
+#[tactic(auto, unfolding(crate::specs::Events::read_expire))]
 fn expire(words: Words) -> Option<(Event, Words)>
-    ensures { seen result ≡ expire_at (words_of words.entry) }
+    ensures { value_and_rest result ≡ read_expire (words_of words.entry) }
 {
     let (timer, words) = timer(words)?;
     Some((Event::Expire { timer }, words))
 }
 
 /// A timer whose destination has exited was cancelled.
-#[tactic(auto, unfolding(crate::specs::Events::orphan_at))]
+#[tactic(auto, unfolding(crate::specs::Events::read_orphan))]
 fn orphan(words: Words) -> Option<(Event, Words)>
-    ensures { seen result ≡ orphan_at (words_of words.entry) }
+    ensures { value_and_rest result ≡ read_orphan (words_of words.entry) }
 {
     let (timer, words) = timer(words)?;
     Some((Event::Orphan { timer }, words))
 }
 
 /// A message was put into its mailbox.
-#[tactic(auto, unfolding(crate::specs::Events::deliver_at))]
+#[tactic(auto, unfolding(crate::specs::Events::read_deliver))]
 fn deliver(words: Words) -> Option<(Event, Words)>
-    ensures { seen result ≡ deliver_at (words_of words.entry) }
+    ensures { value_and_rest result ≡ read_deliver (words_of words.entry) }
 {
     let (timer, words) = timer(words)?;
     Some((Event::Deliver { timer }, words))
 }
 
 /// A message was thrown away.
-#[tactic(auto, unfolding(crate::specs::Events::drop_at))]
+#[tactic(auto, unfolding(crate::specs::Events::read_drop))]
 fn drop(words: Words) -> Option<(Event, Words)>
-    ensures { seen result ≡ drop_at (words_of words.entry) }
+    ensures { value_and_rest result ≡ read_drop (words_of words.entry) }
 {
     let (timer, words) = timer(words)?;
     Some((Event::Drop { timer }, words))
 }
 
 /// It was seen whether a process had exited.
-#[tactic(auto, unfolding(crate::specs::Events::mark_at))]
+#[tactic(auto, unfolding(crate::specs::Events::read_mark))]
 fn mark(words: Words) -> Option<(Event, Words)>
-    ensures { seen result ≡ mark_at (words_of words.entry) }
+    ensures { value_and_rest result ≡ read_mark (words_of words.entry) }
 {
     let (process, words) = small(words)?;
     let (exits, words) = truth(words)?;
@@ -189,9 +189,9 @@ fn mark(words: Words) -> Option<(Event, Words)>
 }
 
 /// The timers of a wheel that were due have been settled.
-#[tactic(auto, unfolding(crate::specs::Events::advanced_at))]
+#[tactic(auto, unfolding(crate::specs::Events::read_advanced))]
 fn advanced(words: Words) -> Option<(Event, Words)>
-    ensures { seen result ≡ advanced_at (words_of words.entry) }
+    ensures { value_and_rest result ≡ read_advanced (words_of words.entry) }
 {
     let (wheel, words) = small(words)?;
     let (to, words) = natural(words)?;
@@ -199,9 +199,9 @@ fn advanced(words: Words) -> Option<(Event, Words)>
 }
 
 /// A request was put into an inbox.
-#[tactic(auto, unfolding(crate::specs::Events::ask_at))]
+#[tactic(auto, unfolding(crate::specs::Events::read_ask))]
 fn ask(words: Words) -> Option<(Event, Words)>
-    ensures { seen result ≡ ask_at (words_of words.entry) }
+    ensures { value_and_rest result ≡ read_ask (words_of words.entry) }
 {
     let (wheel, words) = small(words)?;
     let (request, words) = request(words)?;
@@ -209,9 +209,9 @@ fn ask(words: Words) -> Option<(Event, Words)>
 }
 
 /// The first request of an inbox was taken.
-#[tactic(auto, unfolding(crate::specs::Events::pick_at))]
+#[tactic(auto, unfolding(crate::specs::Events::read_pick))]
 fn pick(words: Words) -> Option<(Event, Words)>
-    ensures { seen result ≡ pick_at (words_of words.entry) }
+    ensures { value_and_rest result ≡ read_pick (words_of words.entry) }
 {
     let (wheel, words) = small(words)?;
     let (got, words) = picked(words)?;
@@ -219,9 +219,9 @@ fn pick(words: Words) -> Option<(Event, Words)>
 }
 
 /// The request in the hand was answered.
-#[tactic(auto, unfolding(crate::specs::Events::answer_at))]
+#[tactic(auto, unfolding(crate::specs::Events::read_answer))]
 fn answer(words: Words) -> Option<(Event, Words)>
-    ensures { seen result ≡ answer_at (words_of words.entry) }
+    ensures { value_and_rest result ≡ read_answer (words_of words.entry) }
 {
     let (wheel, words) = small(words)?;
     let (left, words) = left(words)?;
@@ -229,9 +229,9 @@ fn answer(words: Words) -> Option<(Event, Words)>
 }
 
 /// The first message of a mailbox was taken.
-#[tactic(auto, unfolding(crate::specs::Events::take_at))]
+#[tactic(auto, unfolding(crate::specs::Events::read_take))]
 fn take(words: Words) -> Option<(Event, Words)>
-    ensures { seen result ≡ take_at (words_of words.entry) }
+    ensures { value_and_rest result ≡ read_take (words_of words.entry) }
 {
     let (process, words) = small(words)?;
     let (got, words) = taken(words)?;
@@ -239,9 +239,9 @@ fn take(words: Words) -> Option<(Event, Words)>
 }
 
 /// A monitor was removed.
-#[tactic(auto, unfolding(crate::specs::Events::unwatch_at))]
+#[tactic(auto, unfolding(crate::specs::Events::read_unwatch))]
 fn unwatch(words: Words) -> Option<(Event, Words)>
-    ensures { seen result ≡ unwatch_at (words_of words.entry) }
+    ensures { value_and_rest result ≡ read_unwatch (words_of words.entry) }
 {
     let (process, words) = small(words)?;
     let (monitor, words) = small(words)?;
@@ -257,9 +257,9 @@ fn unwatch(words: Words) -> Option<(Event, Words)>
 }
 
 /// A monitor of the time offset was made.
-#[tactic(auto, unfolding(crate::specs::Events::watch_at))]
+#[tactic(auto, unfolding(crate::specs::Events::read_watch))]
 fn watch(words: Words) -> Option<(Event, Words)>
-    ensures { seen result ≡ watch_at (words_of words.entry) }
+    ensures { value_and_rest result ≡ read_watch (words_of words.entry) }
 {
     let (process, words) = small(words)?;
     let (monitor, words) = small(words)?;
@@ -275,9 +275,9 @@ fn watch(words: Words) -> Option<(Event, Words)>
 }
 
 /// A process was told the offset.
-#[tactic(auto, unfolding(crate::specs::Events::tell_at))]
+#[tactic(auto, unfolding(crate::specs::Events::read_tell))]
 fn tell(words: Words) -> Option<(Event, Words)>
-    ensures { seen result ≡ tell_at (words_of words.entry) }
+    ensures { value_and_rest result ≡ read_tell (words_of words.entry) }
 {
     let (process, words) = small(words)?;
     let (offset, words) = integer(words)?;

@@ -3,8 +3,8 @@
 ghost use Rattle.std.specs.Prelude.{◌≡◌, ◌≤◌, ◌+◌, ◌∷◌, length, drop, is_some, IfSome, IfNone};
 ghost use Rattle.ert_defs.specs.declared.settings.SettingsFault as settings;
 ghost use Rattle.ert_spelling.specs.Cuts.{words_in};
-ghost use Rattle.ert_spelling.specs.Faults.{word_in, words_from, is_read, fault_from, fault_of, first_turns, turns_after, IsUnfit};
-ghost use Rattle.ert_spelling.specs.Readers.{called};
+ghost use Rattle.ert_spelling.specs.Faults.{word_in, words_from, is_read, fault_from, line_fault, first_turns, turns_after, IsUnfit};
+ghost use Rattle.ert_spelling.specs.Readers.{meant_by};
 ghost use Rattle.ert_spelling.specs.Reading.{when_rows};
 
 use crate::actors::{actor, with};
@@ -20,7 +20,7 @@ use ert_defs::SettingsFault;
 
 /// Where the line of settings, or of an entry, stops being spelled; None where it is spelled to its end.
 pub fn fault_in(line: &[u8], is_first: bool) -> Option<Fault>
-    ensures fault { result ≡ fault_of is_first line.now }
+    ensures fault { result ≡ line_fault is_first line.now }
     ensures within { IfSome result (λ fault. fault.before ≤ length line.now) }
 {
     let mut turns = first_turns(is_first);
@@ -106,7 +106,7 @@ fn is_read(wanted: Wanted, word: &[u8]) -> bool
 
 /// Whether a word stands before the time of a timer.
 fn is_when(word: &[u8]) -> bool
-    ensures { result ≡ is_some (called word.now when_rows) }
+    ensures { result ≡ is_some (meant_by word.now when_rows) }
 {
     matches!(word, b"after" | b"at")
 }

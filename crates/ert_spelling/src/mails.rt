@@ -2,8 +2,8 @@
 
 ghost use Rattle.std.specs.Prelude.{◌≡◌};
 ghost use Rattle.ert_spelling.specs.Cuts.{words_of};
-ghost use Rattle.ert_spelling.specs.Readers.{seen, optional};
-ghost use Rattle.ert_spelling.specs.Reading.{request_kind_at, request_at, mail_at};
+ghost use Rattle.ert_spelling.specs.Readers.{value_and_rest, optional};
+ghost use Rattle.ert_spelling.specs.Reading.{read_request_kind, read_request, read_mail};
 
 use crate::numbers::{integer, natural, small};
 use crate::timers::{left, timer};
@@ -11,9 +11,9 @@ use crate::words::{Words, next_text, none, truth};
 use ert_defs::{Mail, Request, RequestKind};
 
 /// A request.
-#[tactic(auto, unfolding(crate::specs::Reading::request_at))]
+#[tactic(auto, unfolding(crate::specs::Reading::read_request))]
 pub(crate) fn request(words: Words) -> Option<(Request, Words)>
-    ensures { seen result ≡ request_at (words_of words.entry) }
+    ensures { value_and_rest result ≡ read_request (words_of words.entry) }
 {
     let (kind, words) = request_kind(words)?;
     let (timer, words) = timer(words)?;
@@ -31,9 +31,9 @@ pub(crate) fn request(words: Words) -> Option<(Request, Words)>
 }
 
 /// What a request asks for.
-#[tactic(auto, unfolding(crate::specs::Reading::request_kind_at))]
+#[tactic(auto, unfolding(crate::specs::Reading::read_request_kind))]
 pub(crate) fn request_kind(words: Words) -> Option<(RequestKind, Words)>
-    ensures { seen result ≡ request_kind_at (words_of words.entry) }
+    ensures { value_and_rest result ≡ read_request_kind (words_of words.entry) }
 {
     let (name, words) = next_text(words)?;
     match name {
@@ -45,7 +45,7 @@ pub(crate) fn request_kind(words: Words) -> Option<(RequestKind, Words)>
 
 /// A request, or that there was none.
 pub(crate) fn picked(words: Words) -> Option<(Option<Request>, Words)>
-    ensures { seen result ≡ optional request_at (words_of words.entry) }
+    ensures { value_and_rest result ≡ optional read_request (words_of words.entry) }
 {
     if let Some(rest) = none(words) {
         return Some((None, rest));
@@ -56,7 +56,7 @@ pub(crate) fn picked(words: Words) -> Option<(Option<Request>, Words)>
 
 /// A message, or that there was none.
 pub(crate) fn taken(words: Words) -> Option<(Option<Mail>, Words)>
-    ensures { seen result ≡ optional mail_at (words_of words.entry) }
+    ensures { value_and_rest result ≡ optional read_mail (words_of words.entry) }
 {
     if let Some(rest) = none(words) {
         return Some((None, rest));
@@ -66,9 +66,9 @@ pub(crate) fn taken(words: Words) -> Option<(Option<Mail>, Words)>
 }
 
 /// A message in a mailbox.
-#[tactic(auto, unfolding(crate::specs::Reading::mail_at))]
+#[tactic(auto, unfolding(crate::specs::Reading::read_mail))]
 fn mail(words: Words) -> Option<(Mail, Words)>
-    ensures { seen result ≡ mail_at (words_of words.entry) }
+    ensures { value_and_rest result ≡ read_mail (words_of words.entry) }
 {
     let (name, words) = next_text(words)?;
     match name {

@@ -2,34 +2,34 @@
 
 ghost use Rattle.std.specs.Prelude.{◌≡◌};
 ghost use Rattle.ert_spelling.specs.Cuts.{words_of};
-ghost use Rattle.ert_spelling.specs.Readers.{seen, is_plain, natural_of, small_of, integer_of, below_zero};
-ghost use Rattle.ert_spelling.specs.Reading.{small_at, natural_at, integer_at};
+ghost use Rattle.ert_spelling.specs.Readers.{value_and_rest, is_plain, natural_of, small_of, integer_of, negative_by};
+ghost use Rattle.ert_spelling.specs.Reading.{read_small, read_natural, read_integer};
 
 use crate::words::{Words, next_word};
 use std::str;
 
 /// A number of 32 bits.
-#[tactic(auto, unfolding(crate::specs::Reading::small_at))]
+#[tactic(auto, unfolding(crate::specs::Reading::read_small))]
 pub(crate) fn small(words: Words) -> Option<(u32, Words)>
-    ensures { seen result ≡ small_at (words_of words.entry) }
+    ensures { value_and_rest result ≡ read_small (words_of words.entry) }
 {
     let (word, words) = next_word(words)?;
     Some((small_of(word)?, words))
 }
 
 /// A number of 64 bits.
-#[tactic(auto, unfolding(crate::specs::Reading::natural_at))]
+#[tactic(auto, unfolding(crate::specs::Reading::read_natural))]
 pub(crate) fn natural(words: Words) -> Option<(u64, Words)>
-    ensures { seen result ≡ natural_at (words_of words.entry) }
+    ensures { value_and_rest result ≡ read_natural (words_of words.entry) }
 {
     let (word, words) = next_word(words)?;
     Some((natural_of(word)?, words))
 }
 
 /// A number of 64 bits that may be negative.
-#[tactic(auto, unfolding(crate::specs::Reading::integer_at))]
+#[tactic(auto, unfolding(crate::specs::Reading::read_integer))]
 pub(crate) fn integer(words: Words) -> Option<(i64, Words)>
-    ensures { seen result ≡ integer_at (words_of words.entry) }
+    ensures { value_and_rest result ≡ read_integer (words_of words.entry) }
 {
     let (word, words) = next_word(words)?;
     Some((integer_of(word)?, words))
@@ -77,7 +77,7 @@ fn integer_of(word: &[u8]) -> Option<i64>
 
 /// The number that is so far below 0, and not 0.
 fn below_zero(distance: u64) -> Option<i64>
-    ensures { result ≡ below_zero distance }
+    ensures { result ≡ negative_by distance }
 {
     if distance == 0 {
         return None;

@@ -2,18 +2,18 @@
 
 ghost use Rattle.std.specs.Prelude.{◌≡◌};
 ghost use Rattle.ert_spelling.specs.Cuts.{words_of, words_in};
-ghost use Rattle.ert_spelling.specs.Readers.{seen, whole};
-ghost use Rattle.ert_spelling.specs.Reading.{mode_at, state_at, act_at, reading_at};
-ghost use Rattle.ert_spelling.specs.Events.{fields_at, settings_at};
+ghost use Rattle.ert_spelling.specs.Readers.{value_and_rest, whole};
+ghost use Rattle.ert_spelling.specs.Reading.{read_mode, read_state, read_act, read_reading};
+ghost use Rattle.ert_spelling.specs.Events.{read_fields, read_settings};
 
 use crate::numbers::{integer, small};
 use crate::words::{Words, next_text, truth};
 use ert_defs::{Act, Mode, OffsetState, Reading, Settings};
 
 /// The settings that a line is.
-#[tactic(auto, using(crate::proofs::Splits::something_left), unfolding(crate::specs::Events::settings_at))]
+#[tactic(auto, using(crate::proofs::Splits::something_left), unfolding(crate::specs::Events::read_settings))]
 pub(crate) fn settings_of(line: &[u8]) -> Option<Settings>
-    ensures { result ≡ whole settings_at (words_in line.now) }
+    ensures { result ≡ whole read_settings (words_in line.now) }
 {
     let (name, words) = next_text(Some(line))?;
     if name != "settings" {
@@ -26,9 +26,9 @@ pub(crate) fn settings_of(line: &[u8]) -> Option<Settings>
 }
 
 /// The fields of settings.
-#[tactic(auto, unfolding(crate::specs::Events::fields_at))]
+#[tactic(auto, unfolding(crate::specs::Events::read_fields))]
 fn fields(words: Words) -> Option<(Settings, Words)>
-    ensures { seen result ≡ fields_at (words_of words.entry) }
+    ensures { value_and_rest result ≡ read_fields (words_of words.entry) }
 {
     let (mode, words) = mode(words)?;
     let (correction, words) = truth(words)?;
@@ -54,9 +54,9 @@ fn fields(words: Words) -> Option<(Settings, Words)>
 }
 
 /// A time warp mode.
-#[tactic(auto, unfolding(crate::specs::Reading::mode_at))]
+#[tactic(auto, unfolding(crate::specs::Reading::read_mode))]
 pub(crate) fn mode(words: Words) -> Option<(Mode, Words)>
-    ensures { seen result ≡ mode_at (words_of words.entry) }
+    ensures { value_and_rest result ≡ read_mode (words_of words.entry) }
 {
     let (name, words) = next_text(words)?;
     match name {
@@ -68,9 +68,9 @@ pub(crate) fn mode(words: Words) -> Option<(Mode, Words)>
 }
 
 /// A reading of the clocks of the operating system.
-#[tactic(auto, unfolding(crate::specs::Reading::reading_at))]
+#[tactic(auto, unfolding(crate::specs::Reading::read_reading))]
 pub(crate) fn reading(words: Words) -> Option<(Reading, Words)>
-    ensures { seen result ≡ reading_at (words_of words.entry) }
+    ensures { value_and_rest result ≡ read_reading (words_of words.entry) }
 {
     let (mono, words) = integer(words)?;
     let (sys, words) = integer(words)?;
@@ -78,9 +78,9 @@ pub(crate) fn reading(words: Words) -> Option<(Reading, Words)>
 }
 
 /// What a tick is for.
-#[tactic(auto, unfolding(crate::specs::Reading::act_at))]
+#[tactic(auto, unfolding(crate::specs::Reading::read_act))]
 pub(crate) fn act(words: Words) -> Option<(Act, Words)>
-    ensures { seen result ≡ act_at (words_of words.entry) }
+    ensures { value_and_rest result ≡ read_act (words_of words.entry) }
 {
     let (name, words) = next_text(words)?;
     match name {
@@ -92,9 +92,9 @@ pub(crate) fn act(words: Words) -> Option<(Act, Words)>
 }
 
 /// A state of the offset.
-#[tactic(auto, unfolding(crate::specs::Reading::state_at))]
+#[tactic(auto, unfolding(crate::specs::Reading::read_state))]
 pub(crate) fn state(words: Words) -> Option<(OffsetState, Words)>
-    ensures { seen result ≡ state_at (words_of words.entry) }
+    ensures { value_and_rest result ≡ read_state (words_of words.entry) }
 {
     let (name, words) = next_text(words)?;
     match name {

@@ -2,17 +2,17 @@
 
 ghost use Rattle.std.specs.Prelude.{◌≡◌};
 ghost use Rattle.ert_spelling.specs.Cuts.{words_of};
-ghost use Rattle.ert_spelling.specs.Readers.{seen, optional};
-ghost use Rattle.ert_spelling.specs.Reading.{timer_at, when_at, kind_at, start_at, status_at, left_at};
+ghost use Rattle.ert_spelling.specs.Readers.{value_and_rest, optional};
+ghost use Rattle.ert_spelling.specs.Reading.{read_timer, read_when, read_kind, read_start, read_status, read_left};
 
 use crate::numbers::{integer, natural, small};
 use crate::words::{Words, next_text, none};
 use ert_defs::{Kind, Start, Status, TimerRef, When};
 
 /// A reference to a timer.
-#[tactic(auto, unfolding(crate::specs::Reading::timer_at))]
+#[tactic(auto, unfolding(crate::specs::Reading::read_timer))]
 pub(crate) fn timer(words: Words) -> Option<(TimerRef, Words)>
-    ensures { seen result ≡ timer_at (words_of words.entry) }
+    ensures { value_and_rest result ≡ read_timer (words_of words.entry) }
 {
     let (wheel, words) = small(words)?;
     let (slot, words) = small(words)?;
@@ -28,9 +28,9 @@ pub(crate) fn timer(words: Words) -> Option<(TimerRef, Words)>
 }
 
 /// What a timer is started with.
-#[tactic(auto, unfolding(crate::specs::Reading::start_at))]
+#[tactic(auto, unfolding(crate::specs::Reading::read_start))]
 pub(crate) fn start(words: Words) -> Option<(Start, Words)>
-    ensures { seen result ≡ start_at (words_of words.entry) }
+    ensures { value_and_rest result ≡ read_start (words_of words.entry) }
 {
     let (when, words) = when(words)?;
     let (dest, words) = small(words)?;
@@ -48,9 +48,9 @@ pub(crate) fn start(words: Words) -> Option<(Start, Words)>
 }
 
 /// When a timer is to expire.
-#[tactic(auto, unfolding(crate::specs::Reading::when_at))]
+#[tactic(auto, unfolding(crate::specs::Reading::read_when))]
 fn when(words: Words) -> Option<(When, Words)>
-    ensures { seen result ≡ when_at (words_of words.entry) }
+    ensures { value_and_rest result ≡ read_when (words_of words.entry) }
 {
     let (name, words) = next_text(words)?;
     match name {
@@ -67,9 +67,9 @@ fn when(words: Words) -> Option<(When, Words)>
 }
 
 /// What a timer sends.
-#[tactic(auto, unfolding(crate::specs::Reading::kind_at))]
+#[tactic(auto, unfolding(crate::specs::Reading::read_kind))]
 pub(crate) fn kind(words: Words) -> Option<(Kind, Words)>
-    ensures { seen result ≡ kind_at (words_of words.entry) }
+    ensures { value_and_rest result ≡ read_kind (words_of words.entry) }
 {
     let (name, words) = next_text(words)?;
     match name {
@@ -81,7 +81,7 @@ pub(crate) fn kind(words: Words) -> Option<(Kind, Words)>
 
 /// Where a timer stood, where there was one.
 pub(crate) fn found(words: Words) -> Option<(Option<Status>, Words)>
-    ensures { seen result ≡ optional status_at (words_of words.entry) }
+    ensures { value_and_rest result ≡ optional read_status (words_of words.entry) }
 {
     if let Some(rest) = none(words) {
         return Some((None, rest));
@@ -91,9 +91,9 @@ pub(crate) fn found(words: Words) -> Option<(Option<Status>, Words)>
 }
 
 /// Where a timer stands.
-#[tactic(auto, unfolding(crate::specs::Reading::status_at))]
+#[tactic(auto, unfolding(crate::specs::Reading::read_status))]
 fn status(words: Words) -> Option<(Status, Words)>
-    ensures { seen result ≡ status_at (words_of words.entry) }
+    ensures { value_and_rest result ≡ read_status (words_of words.entry) }
 {
     let (name, words) = next_text(words)?;
     match name {
@@ -108,9 +108,9 @@ fn status(words: Words) -> Option<(Status, Words)>
 }
 
 /// How many milliseconds were left, where the timer was armed.
-#[tactic(auto, unfolding(crate::specs::Reading::left_at))]
+#[tactic(auto, unfolding(crate::specs::Reading::read_left))]
 pub(crate) fn left(words: Words) -> Option<(Option<u64>, Words)>
-    ensures { seen result ≡ left_at (words_of words.entry) }
+    ensures { value_and_rest result ≡ read_left (words_of words.entry) }
 {
     if let Some(rest) = none(words) {
         return Some((None, rest));

@@ -2,7 +2,7 @@
 
 ghost use Rattle.std.specs.Prelude.{◌≡◌, [], option_map, unwrap_or};
 ghost use Rattle.ert_spelling.specs.Faults.{first_turns, turns_after, request_turns, turn_rows, mail_turn_rows, meaning};
-ghost use Rattle.ert_spelling.specs.Readers.{called};
+ghost use Rattle.ert_spelling.specs.Readers.{meant_by};
 
 use crate::wanted::Wanted;
 use crate::words::next_text;
@@ -82,7 +82,7 @@ pub(crate) fn mail_turns(word: &[u8]) -> Option<&'static [Wanted]>
 }
 
 fn turns_of_event(name: &str) -> Option<&'static [Wanted]>
-    ensures { option_map (λ x. x.now) result ≡ called name.now turn_rows }
+    ensures { option_map (λ x. x.now) result ≡ meant_by name.now turn_rows }
 {
     use Wanted::{
         Act, Found, Integer, Kind, Left, Natural, Picked, RequestKind, Small, State, Taken, Truth,
@@ -115,7 +115,7 @@ fn turns_of_event(name: &str) -> Option<&'static [Wanted]>
 }
 
 fn turns_of_mail(name: &str) -> Option<&'static [Wanted]>
-    ensures { option_map (λ x. x.now) result ≡ called name.now mail_turn_rows }
+    ensures { option_map (λ x. x.now) result ≡ meant_by name.now mail_turn_rows }
 {
     use Wanted::{Integer, Left, Natural, Small};
     match name {

@@ -11,7 +11,7 @@ use Rattle.ert_defs.specs.Timers.{row_of, same_timer, settled_as, handed_as}
 use Rattle.ert_defs.specs.declared.timer.Status.{Status}
 use Rattle.ert_defs.specs.declared.timer.Status.TheVariants.{Armed, Expired, Delivered, Cancelled, Orphaned, Dropped}
 use Rattle.ert_defs.specs.declared.timer.TimerRef.{TimerRef}
-use Rattle.ert_state.specs.Wheels.{timer_in, rows_of, status_in, same_status, moved_one, moved, AreShown, IsOwnOf, IsOwn}
+use Rattle.ert_state.specs.Wheels.{timer_in, rows_of, status_among, same_status, moved_one, moved, AreShown, IsOwnOf, IsOwn}
 use Rattle.ert_state.specs.declared.wheels.Timer.{Timer}
 
 -- a function of a choice is the choice of its values
@@ -66,7 +66,7 @@ moved_status b from to status = cond (b && same_status status from) to status
 
 -- a move of a reference moves its status and no other
 pub status_moved : (r q : TimerRef) (from to : Status) (ts : List Timer)
-    → status_in (moved r from to ts) q ≡ option_map (moved_status (same_timer r q) from to) (status_in ts q)
+    → status_among (moved r from to ts) q ≡ option_map (moved_status (same_timer r q) from to) (status_among ts q)
 status_moved r q from to [] = refl
 status_moved r q from to (t ∷ ts) = rw (moved_row r from to t) (elim (cases_Bool (same_timer t.row.timer q)) [
   | inl is ↦
@@ -92,8 +92,8 @@ settled_is false to (Some status) = refl
 
 -- a move from armed settles
 pub status_settled : (ts : List Timer) (r q : TimerRef) (to : Status)
-    → status_in (moved r Armed to ts) q ≡ cond (same_timer r q) (settled_as to (status_in ts q)) (status_in ts q)
-status_settled ts r q to = status_moved r q Armed to ts ∙ settled_is (same_timer r q) to (status_in ts q)
+    → status_among (moved r Armed to ts) q ≡ cond (same_timer r q) (settled_as to (status_among ts q)) (status_among ts q)
+status_settled ts r q to = status_moved r q Armed to ts ∙ settled_is (same_timer r q) to (status_among ts q)
 
 handed_is : (b : Bool) (to : Status) (x : Option Status) → option_map (moved_status b Expired to) x ≡ cond b (handed_as to x) x
 handed_is true to None = refl
@@ -108,8 +108,8 @@ handed_is false to (Some status) = refl
 
 -- a move from expired hands over
 pub status_handed : (ts : List Timer) (r q : TimerRef) (to : Status)
-    → status_in (moved r Expired to ts) q ≡ cond (same_timer r q) (handed_as to (status_in ts q)) (status_in ts q)
-status_handed ts r q to = status_moved r q Expired to ts ∙ handed_is (same_timer r q) to (status_in ts q)
+    → status_among (moved r Expired to ts) q ≡ cond (same_timer r q) (handed_as to (status_among ts q)) (status_among ts q)
+status_handed ts r q to = status_moved r q Expired to ts ∙ handed_is (same_timer r q) to (status_among ts q)
 
 -- a timer that is armed puts its row last
 pub rows_armed : (ts : List Timer) (t : Timer) → rows_of (ts ++ t ∷ []) ≡ rows_of ts ++ t.row ∷ []
@@ -122,7 +122,7 @@ none_behind false t x none = (refl, none)
 
 -- a new timer that is armed has its status, and leaves those of all others
 pub status_armed : (ts : List Timer) (t : Timer) (q : TimerRef) → timer_in ts t.row.timer ≡ None
-    → status_in (ts ++ t ∷ []) q ≡ cond (same_timer t.row.timer q) (Some t.status) (status_in ts q)
+    → status_among (ts ++ t ∷ []) q ≡ cond (same_timer t.row.timer q) (Some t.status) (status_among ts q)
 status_armed [] t q none = through_cond (option_map (λ (u : Timer). u.status)) (same_timer t.row.timer q) (Some t) None
 status_armed (u ∷ ts) t q none =
     let parts = none_behind (same_timer u.row.timer t.row.timer) u (timer_in ts t.row.timer) none in
@@ -140,7 +140,7 @@ own_moved_one : (w : ℕ) (r : TimerRef) (from to : Status) (ts : List Timer) (t
 own_moved_one w r from to ts t is =
     let row = moved_row r from to t in
     let here = status_at (same_timer t.row.timer r && same_status t.status from) to t in
-    let there : status_in (moved r from to ts) t.row.timer ≡ Some (moved_status (same_timer r t.row.timer) from to t.status) =
+    let there : status_among (moved r from to ts) t.row.timer ≡ Some (moved_status (same_timer r t.row.timer) from to t.status) =
     status_moved r t.row.timer from to ts ∙ ap (option_map (moved_status (same_timer r t.row.timer) from to)) is.shown in
     record {
       wheel = rw row is.wheel;
@@ -159,8 +159,8 @@ own_differs : (w : ℕ) (ts : List Timer) (r : TimerRef) (t : Timer) → timer_i
     → r ≢ t.row.timer
 own_differs w ts r t none is same =
     let shown = is.shown in
-    let not_shown : status_in ts t.row.timer ≡ None =
-    ap (status_in ts) (sym same) ∙ ap (option_map (λ (u : Timer). u.status)) none in
+    let not_shown : status_among ts t.row.timer ≡ None =
+    ap (status_among ts) (sym same) ∙ ap (option_map (λ (u : Timer). u.status)) none in
     cc
 
 own_armed_one : (w : ℕ) (ts : List Timer) (t u : Timer) → timer_in ts t.row.timer ≡ None → IsOwnOf w ts u
@@ -171,7 +171,7 @@ own_armed_one w ts t u none is =
     record {
       wheel = is.wheel;
       shown = status_armed ts t u.row.timer none
-          ∙ (ap (λ b. cond b (Some t.status) (status_in ts u.row.timer)) other ∙ is.shown);
+          ∙ (ap (λ b. cond b (Some t.status) (status_among ts u.row.timer)) other ∙ is.shown);
     }
 
 -- arming keeps them, where the timer is of the wheel and new
@@ -183,11 +183,11 @@ own_armed w ts t own wheel none =
     (record {
       wheel = wheel;
       shown = status_armed ts t t.row.timer none
-          ∙ ap (λ b. cond b (Some t.status) (status_in ts t.row.timer)) (same_timer_self t.row.timer);
+          ∙ ap (λ b. cond b (Some t.status) (status_among ts t.row.timer)) (same_timer_self t.row.timer);
     })
 
 -- statuses that are those of a wheel at its references are its timers'
 pub own_shown : (w : ℕ) (ts : List Timer) (status : TimerRef → Option Status)
-    → ((r : TimerRef) → r.wheel ≡ w → status r ≡ status_in ts r) → IsOwn w ts → AreShown status ts
+    → ((r : TimerRef) → r.wheel ≡ w → status r ≡ status_among ts r) → IsOwn w ts → AreShown status ts
 own_shown w ts status agree own =
     All-weaker (IsOwnOf w ts) (λ t. status t.row.timer ≡ Some t.status) (λ t is. agree t.row.timer is.wheel ∙ is.shown) ts own

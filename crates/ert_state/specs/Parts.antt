@@ -19,7 +19,7 @@ use Rattle.ert_defs.specs.declared.timer.Status.{Status}
 use Rattle.ert_defs.specs.declared.timer.Status.TheVariants.{Armed, Expired, Delivered, Cancelled, Orphaned, Dropped}
 use Rattle.ert_defs.specs.declared.timer.TimerRef.{TimerRef}
 use Rattle.ert_state.specs.Uses.{IsNewUse}
-use Rattle.ert_state.specs.Wheels.{timers_at, rows_of, status_in, moved}
+use Rattle.ert_state.specs.Wheels.{timers_at, rows_of, status_among, moved}
 use Rattle.ert_state.specs.declared.exits.Exits.{Exits}
 use Rattle.ert_state.specs.declared.looks.Looks.{Looks}
 use Rattle.ert_state.specs.declared.mailboxes.Mailboxes.{Mailboxes}
@@ -75,19 +75,19 @@ rows_in ws w = rows_of (timers_at ws w)
 
 -- the status of each timer
 abbrev pub status_at : List (List Timer) → TimerRef → Option Status
-status_at ws r = status_in (timers_at ws r.wheel) r
+status_at ws r = status_among (timers_at ws r.wheel) r
 
 -- the wheels after a timer has moved from one status to another
 abbrev pub with_moved : TimerRef → Status → Status → List (List Timer) → List (List Timer)
 with_moved r from to ws = set ws r.wheel (moved r from to (timers_at ws r.wheel))
 
 -- an armed timer with this row
-abbrev pub armed : Row → Timer
-armed row = record { row = row; status = Armed }
+abbrev pub armed_timer : Row → Timer
+armed_timer row = record { row = row; status = Armed }
 
 -- the wheels after a timer was armed, where its start has a deadline
 abbrev pub with_armed : TimerRef → Start → Option ℕ → List (List Timer) → List (List Timer)
-with_armed r start deadline ws = set ws r.wheel (timers_at ws r.wheel ++ map armed (row_from r start deadline))
+with_armed r start deadline ws = set ws r.wheel (timers_at ws r.wheel ++ map armed_timer (row_from r start deadline))
 
 -- and after any event, where a timer that is armed by it was started for this deadline
 abbrev pub timers_after : Option ℕ → Event → List (List Timer) → List (List Timer)
@@ -117,8 +117,8 @@ abbrev pub expired : Option Row → SchedState → SchedState
 expired row s = record { hand = s.hand; result = s.result; fired = with_row s.fired row }
 
 -- after its hand was filled or emptied
-abbrev pub held : Option Request → SchedState → SchedState
-held request s = record { hand = request; result = None; fired = s.fired }
+abbrev pub with_hand : Option Request → SchedState → SchedState
+with_hand request s = record { hand = request; result = None; fired = s.fired }
 
 -- the schedulers after an event of an actor
 abbrev pub scheds_after : (ℕ → List Row) → Actor → Event → List SchedState → List SchedState
@@ -134,8 +134,8 @@ abbrev pub with_message : Option Row → MailState → MailState
 with_message row m = record { queue = m.queue ++ message_in (with_row [] row); monitors = m.monitors; next = m.next }
 
 -- after the answer to a request was put in
-abbrev pub with_answer : Option Request → Option ℕ → MailState → MailState
-with_answer request left m =
+abbrev pub with_answer_in : Option Request → Option ℕ → MailState → MailState
+with_answer_in request left m =
     record { queue = m.queue ++ answer_in request left; monitors = m.monitors; next = m.next }
 
 -- after a monitor was removed

@@ -18,8 +18,8 @@ abbrev pub rows_of : List Timer → List Row
 rows_of ts = map (λ t. t.row) ts
 
 -- the status of a reference
-abbrev pub status_in : List Timer → TimerRef → Option Status
-status_in ts r = option_map (λ t. t.status) (timer_in ts r)
+abbrev pub status_among : List Timer → TimerRef → Option Status
+status_among ts r = option_map (λ t. t.status) (timer_in ts r)
 
 -- whether none of these timers whose deadline passes the test is armed
 abbrev pub is_settled : (ℕ → Bool) → List Timer → Bool
@@ -75,7 +75,7 @@ AreShown status ts = All (λ t. status t.row.timer ≡ Some t.status) ts
 -- a timer is of a wheel, and the first of its reference there has its status
 pub record IsOwnOf (w : ℕ) (ts : List Timer) (t : Timer) : Type 0 where
   pub wheel : t.row.timer.wheel ≡ w
-  pub shown : status_in ts t.row.timer ≡ Some t.status
+  pub shown : status_among ts t.row.timer ≡ Some t.status
 
 -- so is each timer of the wheel
 abbrev pub IsOwn : ℕ → List Timer → Type 0

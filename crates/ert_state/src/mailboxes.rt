@@ -1,6 +1,6 @@
 ghost use Rattle.std.specs.Prelude.{◌≡◌, OnOk};
 ghost use Rattle.ert_defs.specs.Mails.{mail_after};
-ghost use Rattle.ert_state.specs.Parts.{scheds_in, with_message, with_answer, unwatched, watched, told_all};
+ghost use Rattle.ert_state.specs.Parts.{scheds_in, with_message, with_answer_in, unwatched, watched, told_all};
 
 use crate::lists::{drop_first, first, push, put};
 use crate::schedulers::Schedulers;
@@ -80,7 +80,7 @@ impl Mailbox {
 
     /// Puts the answer to a request last, where one is wanted.
     fn answer(&mut self, request: Option<Request>, left: Option<u64>) -> Result<(), NoMemory>
-        ensures { OnOk result (self.new ≡ with_answer request left self.old) }
+        ensures { OnOk result (self.new ≡ with_answer_in request left self.old) }
     {
         match request {
             Some(request) if request.info => put(&mut self.queue, Mail::of_answer(&request, left)),

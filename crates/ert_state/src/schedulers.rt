@@ -1,6 +1,6 @@
 ghost use Rattle.std.specs.Prelude.{◌≡◌, OnOk};
 ghost use Rattle.ert_defs.specs.Mails.{sched_after, is_about};
-ghost use Rattle.ert_state.specs.Parts.{rows_in, noted, expired, held};
+ghost use Rattle.ert_state.specs.Parts.{rows_in, noted, expired, with_hand};
 
 use crate::lists::{drop_first, first, put};
 use crate::timers::Timers;
@@ -76,7 +76,7 @@ impl Scheduler {
 
     /// Takes a request into the hand, or empties it.
     fn hold(&mut self, request: Option<Request>)
-        ensures { self.new ≡ held request self.old }
+        ensures { self.new ≡ with_hand request self.old }
     {
         self.hand = request;
         self.outcome = None;

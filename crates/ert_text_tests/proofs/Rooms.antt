@@ -1,7 +1,7 @@
 -- How much room a run needs whose whole input is known: by the law of one transcript.
 
 use Rattle.std.proofs.Common.{◌≡◌, ◌≤◌, ℕ, ◌+◌, Bool, false, List, [], ◌++◌, take, length, length-append, Option, None, Some, inl, inr, sym, ap, subst, ◌∙◌, arith}
-use Rattle.ert_io.specs.Told.{Told, told}
+use Rattle.ert_io.specs.Told.{SinkTold, sink_told}
 use Rattle.ert_ops.specs.Labels.{AreOps}
 use Rattle.ert_plain.proofs.Fronts.{first_lines}
 use Rattle.ert_plain.proofs.Runs.{one_text}
@@ -9,7 +9,7 @@ use Rattle.ert_scenario.specs.Scenarios.{Plan, IsScenario, HasRefusal}
 use Rattle.ert_transcript.specs.Scripts.{IsTranscript, lines_of}
 use Rattle.ert_program.proofs.Ends.{NeverBoth, all_taken}
 use Rattle.ert_program.proofs.InMemory.{OneScenario, read_whole}
-use Rattle.ert_program.specs.Inputs.{DidAll, MayWrite}
+use Rattle.ert_program.specs.Inputs.{DidAll, MayWriteOfPlan}
 use Rattle.ert_program.specs.Runs.{RunOf, InputFits}
 
 -- the ops of a scenario have labels of their own
@@ -17,7 +17,7 @@ abbrev pub AllOps : Type 0
 AllOps = (race : Bool) (bytes : List ℕ) (plan : Plan) → IsScenario race bytes plan → AreOps plan.ops
 
 -- what may be written of a plan is no longer than a transcript of it
-no_longer : (plan : Plan) (text whole : List ℕ) → AreOps plan.ops → IsTranscript plan.settings plan.ops whole → MayWrite RunOf plan text → length text ≤ length whole
+no_longer : (plan : Plan) (text whole : List ℕ) → AreOps plan.ops → IsTranscript plan.settings plan.ops whole → MayWriteOfPlan RunOf plan text → length text ≤ length whole
 no_longer plan text whole are is (inl begins) =
     let front = first_lines plan.settings plan.ops begins.done begins.entries begins.replies begins.labels are begins.legal begins.runs in
     let lines : List ℕ = lines_of [] (take begins.done plan.ops) begins.replies in
@@ -33,13 +33,13 @@ no_longer plan text whole are is (inr ran) =
 
 -- a run that was done into an empty sink tells the room that the input needs
 told_room : (text bytes : List ℕ) (rest : Option (List ℕ)) (room : Option ℕ) → OneScenario → NeverBoth → AllOps
-    → DidAll false RunOf (Some text) rest (told (Some []) None) (told (Some bytes) room) → InputFits (Some text) (Some (length bytes))
+    → DidAll false RunOf (Some text) rest (sink_told (Some []) None) (sink_told (Some bytes) room) → InputFits (Some text) (Some (length bytes))
 told_room text bytes rest room one never ops did = record {
   done = λ left plan read some may.
       let same : did.plan ≡ plan = one false text did.plan plan here (read_whole false text left plan read) in
       let is : IsTranscript plan.settings plan.ops did.text = subst (λ (p : Plan). IsTranscript p.settings p.ops did.text) same did.is.is in
       let less = no_longer plan some did.text (ops false text plan (read_whole false text left plan read)) is may in
-      let both : Some bytes ≡ Some did.text = ap (λ (t : Told). t.taken) did.writes in
+      let both : Some bytes ≡ Some did.text = ap (λ (t : SinkTold). t.taken) did.writes in
       let written : bytes ≡ did.text = cc in
       let long : length bytes ≡ length did.text = ap (λ (xs : List ℕ). length xs) written in
       omega arith;
@@ -51,10 +51,10 @@ told_room text bytes rest room one never ops did = record {
     here = read_whole false text rest did.plan did.read
 
 pub room_told : (text bytes : List ℕ) (left rest taken taken_new : Option (List ℕ)) (room : Option ℕ) → OneScenario → NeverBoth → AllOps
-    → left ≡ Some text → taken ≡ Some [] → taken_new ≡ Some bytes → DidAll false RunOf left rest (told taken None) (told taken_new room)
+    → left ≡ Some text → taken ≡ Some [] → taken_new ≡ Some bytes → DidAll false RunOf left rest (sink_told taken None) (sink_told taken_new room)
     → InputFits (Some text) (Some (length bytes))
 room_told text bytes left rest taken taken_new room one never ops here none there did =
     told_room text bytes rest room one never ops
-    (subst (λ (k : Option (List ℕ)). DidAll false RunOf (Some text) rest (told (Some []) None) (told k room)) there
-    (subst (λ (k : Option (List ℕ)). DidAll false RunOf (Some text) rest (told k None) (told taken_new room)) none
-    (subst (λ (k : Option (List ℕ)). DidAll false RunOf k rest (told taken None) (told taken_new room)) here did)))
+    (subst (λ (k : Option (List ℕ)). DidAll false RunOf (Some text) rest (sink_told (Some []) None) (sink_told k room)) there
+    (subst (λ (k : Option (List ℕ)). DidAll false RunOf (Some text) rest (sink_told k None) (sink_told taken_new room)) none
+    (subst (λ (k : Option (List ℕ)). DidAll false RunOf k rest (sink_told taken None) (sink_told taken_new room)) here did)))

@@ -39,12 +39,12 @@ abbrev pub reading_of : ℤ → ℤ → Reading
 reading_of mono sys = record { mono = mono; sys = sys }
 
 -- the start that an op asks for
-abbrev pub start_of : When → ℕ → ℕ → Kind → Start
-start_of when dest msg kind = record { when = when; dest = dest; msg = msg; kind = kind }
+abbrev pub start_for_op : When → ℕ → ℕ → Kind → Start
+start_for_op when dest msg kind = record { when = when; dest = dest; msg = msg; kind = kind }
 
 -- the request for the timer of a label that an op makes
-abbrev pub request_of : RequestKind → Labels → ℕ → ℕ → Bool → Request
-request_of kind ls l process info = record { kind = kind; timer = ref_of ls l; reply_to = process; info = info }
+abbrev pub request_for_op : RequestKind → Labels → ℕ → ℕ → Bool → Request
+request_for_op kind ls l process info = record { kind = kind; timer = ref_of ls l; reply_to = process; info = info }
 
 -- the settings are told, with the offset as it is read
 pub record TellsSettings (g : Settings) (start end : ℤ) (mode : Mode) (correction : Bool) : Type 0 where
@@ -85,22 +85,22 @@ Calls g way n ls ops.Info (Info start end mode correction offset state) h m =
     TellsSettings g start end mode correction × way [] (TellsOffset g (Caller n) (offset, state)) h m
 Calls g way n ls (ops.Convert time from to) reply h m = Converts time from to reply m
 Calls g way n ls (ops.Start l w when p msg) (StartOk timer) h m =
-    way (Wheel w ∷ []) (Starts g n w (start_of when p msg Wrapped) (Ok timer)) h m
+    way (Wheel w ∷ []) (Starts g n w (start_for_op when p msg Wrapped) (Ok timer)) h m
 Calls g way n ls (ops.Start l w when p msg) StartBadArg h m =
-    way (Wheel w ∷ []) (Starts g n w (start_of when p msg Wrapped) (Err BadArg)) h m
+    way (Wheel w ∷ []) (Starts g n w (start_for_op when p msg Wrapped) (Err BadArg)) h m
 Calls g way n ls (ops.Start l w when p msg) StartFull h m =
-    way (Wheel w ∷ []) (Starts g n w (start_of when p msg Wrapped) (Err Full)) h m
+    way (Wheel w ∷ []) (Starts g n w (start_for_op when p msg Wrapped) (Err Full)) h m
 Calls g way n ls (ops.SendAfter l w when p msg) (SendAfterOk timer) h m =
-    way (Wheel w ∷ []) (Starts g n w (start_of when p msg Bare) (Ok timer)) h m
+    way (Wheel w ∷ []) (Starts g n w (start_for_op when p msg Bare) (Ok timer)) h m
 Calls g way n ls (ops.SendAfter l w when p msg) SendAfterBadArg h m =
-    way (Wheel w ∷ []) (Starts g n w (start_of when p msg Bare) (Err BadArg)) h m
+    way (Wheel w ∷ []) (Starts g n w (start_for_op when p msg Bare) (Err BadArg)) h m
 Calls g way n ls (ops.SendAfter l w when p msg) SendAfterFull h m =
-    way (Wheel w ∷ []) (Starts g n w (start_of when p msg Bare) (Err Full)) h m
+    way (Wheel w ∷ []) (Starts g n w (start_for_op when p msg Bare) (Err Full)) h m
 Calls g way n ls (ops.Cancel l) (Cancel left) h m = way [] (Cancels g (Caller n) (ref_of ls l) left) h m
 Calls g way n ls (ops.CancelQuiet l) CancelQuiet h m = (left : Option ℕ) × way [] (Cancels g (Caller n) (ref_of ls l) left) h m
 Calls g way n ls (ops.Read l) (Read left) h m = way [] (Reads g (Caller n) (ref_of ls l) left) h m
-Calls g way n ls (ops.CancelAsync l p info) CancelAsync h m = AsksFor g way n (request_of ToCancel ls l p info) h m
-Calls g way n ls (ops.ReadAsync l p info) ReadAsync h m = AsksFor g way n (request_of ToRead ls l p info) h m
+Calls g way n ls (ops.CancelAsync l p info) CancelAsync h m = AsksFor g way n (request_for_op ToCancel ls l p info) h m
+Calls g way n ls (ops.ReadAsync l p info) ReadAsync h m = AsksFor g way n (request_for_op ToRead ls l p info) h m
 Calls g way n ls (ops.Serve w) (Serve served) h m = Serves g way w (Ok served) h m
 Calls g way n ls (ops.Advance w) (Advance to fired) h m = AdvancesWheel g way w (Ok (to, fired)) h m
 Calls g way n ls (ops.Deliver w) (Deliver put dropped) h m = Delivers g way w (Ok (put, dropped)) h m

@@ -6,7 +6,7 @@ use Rattle.ert_effects.specs.declared.answers.Turned.{Turned}
 use Rattle.ert_defs.specs.declared.mail.Mail.{Mail}
 use Rattle.ert_defs.specs.declared.mail.Mail.TheVariants.{Timeout, Bare, CancelDone, ReadDone, Change}
 use Rattle.ert_defs.specs.declared.timer.TimerRef.{TimerRef}
-use Rattle.ert_transcript.specs.Texts.{◌⋅◌, state_word, bool_word, moved_text, info_front, info_middle, offset_text, info_back}
+use Rattle.ert_transcript.specs.Texts.{◌⋅◌, state_text, bool_text, moved_text, info_front, info_middle, offset_text, info_back}
 use Rattle.ert_transcript.specs.declared.reply.Reply.{Reply}
 use Rattle.ert_transcript.specs.declared.reply.Reply.TheVariants.{Tick, TickWide, Check, CheckWide, Finalize, FinalizeWide, Time, System, Offset, Info, Convert, ConvertTooWide, StartOk, StartBadArg, StartFull, SendAfterOk, SendAfterBadArg, SendAfterFull, Cancel, CancelQuiet, Read, CancelAsync, ReadAsync, Serve, Advance, Deliver, Turn, Received, ReceivedEmpty, ReceivedExited, Exit, Alive, Monitor, MonitorFull, Demonitor, Notify}
 
@@ -33,7 +33,7 @@ line_of name (Tick now shift) = codes "tick " ⋅ moved_text now shift
 line_of name (TickWide value) = codes "tick offset_wide " ⋅ signed_decimal value ⋅ codes "\n"
 line_of name (Check now shift) = codes "check " ⋅ moved_text now shift
 line_of name (CheckWide value) = codes "check offset_wide " ⋅ signed_decimal value ⋅ codes "\n"
-line_of name (Finalize old now shift) = codes "finalize " ⋅ state_word old ⋅ codes " " ⋅ moved_text now shift
+line_of name (Finalize old now shift) = codes "finalize " ⋅ state_text old ⋅ codes " " ⋅ moved_text now shift
 line_of name (FinalizeWide value) = codes "finalize offset_wide " ⋅ signed_decimal value ⋅ codes "\n"
 line_of name (Time now) = codes "time " ⋅ signed_decimal now ⋅ codes "\n"
 line_of name (System time) = codes "system " ⋅ signed_decimal time ⋅ codes "\n"
@@ -62,8 +62,8 @@ line_of name ReceivedEmpty = codes "receive empty\n"
 line_of name ReceivedExited = codes "receive exited\n"
 line_of name (Exit true) = codes "exit ok\n"
 line_of name (Exit false) = codes "exit already\n"
-line_of name (Alive alive) = codes "alive " ⋅ bool_word alive ⋅ codes "\n"
+line_of name (Alive alive) = codes "alive " ⋅ bool_text alive ⋅ codes "\n"
 line_of name (Monitor number) = codes "monitor " ⋅ decimal number ⋅ codes "\n"
 line_of name MonitorFull = codes "monitor full\n"
-line_of name (Demonitor stood) = codes "demonitor " ⋅ bool_word stood ⋅ codes "\n"
+line_of name (Demonitor stood) = codes "demonitor " ⋅ bool_text stood ⋅ codes "\n"
 line_of name (Notify put) = codes "notify " ⋅ decimal put ⋅ codes "\n"

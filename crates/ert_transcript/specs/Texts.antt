@@ -13,21 +13,21 @@ abbrev pub ◌⋅◌ : List ℕ → List ℕ → List ℕ
 xs ⋅ ys = xs ++ ys
 
 -- the word for a state of the offset
-unfoldable pub state_word : OffsetState → List ℕ
-state_word Preliminary = codes "preliminary"
-state_word Final = codes "final"
-state_word Volatile = codes "volatile"
+unfoldable pub state_text : OffsetState → List ℕ
+state_text Preliminary = codes "preliminary"
+state_text Final = codes "final"
+state_text Volatile = codes "volatile"
 
 -- the word for a time warp mode
-unfoldable pub mode_word : Mode → List ℕ
-mode_word No = codes "no"
-mode_word Single = codes "single"
-mode_word Multi = codes "multi"
+unfoldable pub mode_text : Mode → List ℕ
+mode_text No = codes "no"
+mode_text Single = codes "single"
+mode_text Multi = codes "multi"
 
 -- the word for whether something is so
-unfoldable pub bool_word : Bool → List ℕ
-bool_word true = codes "true"
-bool_word false = codes "false"
+unfoldable pub bool_text : Bool → List ℕ
+bool_text true = codes "true"
+bool_text false = codes "false"
 
 -- the end of a line that tells a time, and the new offset where it moved
 abbrev pub moved_text : ℤ → Option ℤ → List ℕ
@@ -36,19 +36,19 @@ moved_text now (Some offset) = signed_decimal now ⋅ codes " offset " ⋅ signe
 
 -- the first part of the line of the settings: the start time, the end time and the time warp mode
 unfoldable pub info_front : ℤ → ℤ → Mode → List ℕ
-info_front start end mode = codes "info start " ⋅ signed_decimal start ⋅ codes " end " ⋅ signed_decimal end ⋅ codes " mode " ⋅ mode_word mode
+info_front start end mode = codes "info start " ⋅ signed_decimal start ⋅ codes " end " ⋅ signed_decimal end ⋅ codes " mode " ⋅ mode_text mode
 
 -- the middle part of that line: whether time correction is on
 unfoldable pub info_middle : Bool → List ℕ
-info_middle correction = codes " correction " ⋅ bool_word correction
+info_middle correction = codes " correction " ⋅ bool_text correction
 
 -- the offset and its state, at the end of a line
 abbrev pub offset_text : ℤ → OffsetState → List ℕ
-offset_text offset state = signed_decimal offset ⋅ codes " " ⋅ state_word state ⋅ codes "\n"
+offset_text offset state = signed_decimal offset ⋅ codes " " ⋅ state_text state ⋅ codes "\n"
 
 -- the last part of the line of the settings: the offset and its state
 unfoldable pub info_back : ℤ → OffsetState → List ℕ
-info_back offset state = codes " offset " ⋅ signed_decimal offset ⋅ codes " state " ⋅ state_word state ⋅ codes "\n"
+info_back offset state = codes " offset " ⋅ signed_decimal offset ⋅ codes " state " ⋅ state_text state ⋅ codes "\n"
 
 -- the last line of a transcript
 abbrev pub end_line : ℤ → List ℕ

@@ -1,7 +1,7 @@
 //! Streams in memory of which a call fails. Those of the machine, and an input that is too long, are what the programs
 //! have (`.ci/check_messages`).
 ghost use Rattle.std.specs.Prelude.{length};
-ghost use Rattle.ert_io.specs.Known.{HasRoom};
+ghost use Rattle.ert_io.specs.Known.{HasRoomFor};
 
 use ert_io::{MemSink, MemSource, ReadErr, Sink, Source, WriteErr, read_all, write_all};
 use std::alloc::{AllocError, Global};
@@ -43,7 +43,7 @@ fn writes<K: Sink>(
     bytes: &[u8],
     want: Result<(), WriteErr>,
 )
-    requires { HasRoom (K.room sink.old) (length bytes.now) }
+    requires { HasRoomFor (K.room sink.old) (length bytes.now) }
 {
     let got = write_all(sink, bytes);
     assert!(rt; got == want, "step {step}: {got:?}, not {want:?}");

@@ -2,7 +2,7 @@
 
 ghost use Rattle.std.specs.Prelude.{◌≡◌, map, Some, None};
 ghost use Rattle.serde_json.specs.View.{view};
-ghost use Rattle.ert_scenario.specs.Rows.{rows_of_one, rows_of_two, rows_of, row_in, send_after_row, asked};
+ghost use Rattle.ert_scenario.specs.Rows.{rows_of_one, rows_of_two, rows_of_format, row_in, send_after_row, request_args};
 
 use super::timers::start_args;
 use crate::fault::Fault;
@@ -13,7 +13,7 @@ use serde_json::Value;
 
 /// The op of this name, where it is one of them.
 pub(super) fn op(format: Format, name: &str, args: &[Value]) -> Option<Result<Op, Fault>>
-    ensures { result ≡ row_in name.now (rows_of format) (map view args.now) }
+    ensures { result ≡ row_in name.now (rows_of_format format) (map view args.now) }
 {
     match format {
         Format::One => op_of_one(name, args),
@@ -78,9 +78,9 @@ fn send_after(args: &[Value]) -> Result<Op, Fault>
 }
 
 /// The label, the process, and whether it is told.
-#[tactic(auto, unfolding(crate::specs::Rows::asked))]
+#[tactic(auto, unfolding(crate::specs::Rows::request_args))]
 fn asked(args: &[Value]) -> Result<(u32, u32, bool), Fault>
-    ensures { result ≡ asked (map view args.now) }
+    ensures { result ≡ request_args (map view args.now) }
 {
     let (label, args) = next(args);
     let (process, args) = next(args);

@@ -3,7 +3,7 @@
 ghost use Rattle.std.specs.Prelude.{◌≡◌, map, option_map, Some, None};
 ghost use Rattle.serde_json.specs.View.{view};
 ghost use Rattle.ert_scenario.specs.Kinds.{called};
-ghost use Rattle.ert_scenario.specs.Rows.{timer_rows, row_in, since_names, since as since_by, when_of, message_args, deadline_args, start_args, start_row};
+ghost use Rattle.ert_scenario.specs.Rows.{timer_rows, row_in, since_names, since as since_by, when_from, message_args, deadline_args, start_args, start_row};
 
 use crate::fault::Fault;
 use crate::kinds::{both, end, integer, natural, next, one_word, text, word};
@@ -118,7 +118,7 @@ fn since_called(name: &str) -> Result<Origin, Fault>
 
 /// The deadline that is so many milliseconds from there.
 fn when_of(origin: Origin, ms: i64) -> When
-    ensures { result ≡ when_of origin ms }
+    ensures { result ≡ when_from origin ms }
 {
     match origin {
         Origin::Now => When::After(ms),

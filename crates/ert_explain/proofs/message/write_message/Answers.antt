@@ -1,6 +1,6 @@
 use Rattle.std.proofs.Common.{◌≡◌, ◌++◌, ℕ, List, codes, string_bytes}
 use Rattle.ert_explain.proofs.Texts.{joined, ok_map}
-use Rattle.ert_explain.specs.Explained.{part_of}
+use Rattle.ert_explain.specs.Explained.{shown_bytes}
 use Rattle.ert_explain.specs.Messages.{head_text, front_text, middle_text, back_text, message}
 use Rattle.ert_explain.proofs.message.write_message.Goals as goal
 
@@ -11,7 +11,7 @@ returns c =
     let p : List ℕ = string_bytes c.args.page.now in
     let h : List ℕ = head_text e in
     let f : List ℕ = front_text e.cause in
-    let m : List ℕ = middle_text e.cause (part_of c.args.bytes.now e) in
+    let m : List ℕ = middle_text e.cause (shown_bytes c.args.bytes.now e) in
     let b : List ℕ = back_text e.cause e.near in
     let two = joined p (string_bytes c.write_head.new.page) (string_bytes c.write_front.new.page) h f c.in_ok-write_head.ensures c.in_ok-write_front.ensures in
     let middle : string_bytes c.write_middle.new.page ≡ string_bytes c.write_front.new.page ++ m = rw c.part_at-part.ensures at c.in_ok-write_middle.ensures in

@@ -2,11 +2,11 @@
 
 use Rattle.std.proofs.Common.{codes, refl}
 use Rattle.std.specs.Fmt.{digits}
-use Rattle.ert_transcript.specs.Texts.{state_word, mode_word, bool_word, info_front, info_middle, info_back}
+use Rattle.ert_transcript.specs.Texts.{state_text, mode_text, bool_text, info_front, info_middle, info_back}
 use Rattle.ert_plain.proofs.worked.transcripts_are_judged.Goals as goal
 
 pub returns : goal.returns
-unfolding digits state_word mode_word bool_word info_front info_middle info_back
+unfolding digits state_text mode_text bool_text info_front info_middle info_back
 returns c = record {
   frozen = refl;
   warped = refl;

@@ -3,36 +3,36 @@ use Rattle.ert_command.specs.declared.command.Command.TheVariants.{Live, Stress}
 use Rattle.ert_program.proofs.Ends.{memory_ends}
 use Rattle.ert_program.proofs.Made.{stress_ends}
 use Rattle.ert_program.proofs.Ranges.{of_command, found_is, same_live, same_stress}
-use Rattle.ert_program.specs.Endings.{asked}
+use Rattle.ert_program.specs.Endings.{command_asked}
 use Rattle.ert_program.specs.Lives.{LiveEnds}
 use Rattle.ert_program.specs.Races.{RaceOf}
 use Rattle.ert_program.specs.Runs.{RunOf}
 use Rattle.ert_program.specs.Stresses.{StressEnds}
-use Rattle.ert_program.specs.Streams.{Output, output_of, clock_of}
+use Rattle.ert_program.specs.Streams.{Output, output_of, clock_stream_of}
 use Rattle.ert_program.specs.declared.ending.Ended.{Ended}
 use Rattle.ert_program.proofs.program.ertime.Goals as goal
 
 pub live-requires-clause-some : goal.live-requires-clause-some
 live-requires-clause-some g c =
-    let is : asked c.args.words.now ≡ Some (Live c.in-Some-Live.n) =
+    let is : command_asked c.args.words.now ≡ Some (Live c.in-Some-Live.n) =
     found_is (map string_bytes c.args.words.now) c.in-Ok.command c.in-Some-Live.field-0 (Live c.in-Some-Live.n)
     c.in-Ok.ensures c.in-Some-Live.is (rw c.in-Some-Live.is at c.in-Some-Live.field-0-is) in
     (of_command (map string_bytes c.args.words.now) (Live c.in-Some-Live.n) is).0
 
 pub returns-in-Some-Live-clause-live : goal.returns-in-Some-Live-clause-live
 returns-in-Some-Live-clause-live g c = λ n e.
-    let is : asked c.args.words.now ≡ Some (Live c.in-Some-Live.n) =
+    let is : command_asked c.args.words.now ≡ Some (Live c.in-Some-Live.n) =
     found_is (map string_bytes c.args.words.now) c.in-Ok.command c.in-Some-Live.field-0 (Live c.in-Some-Live.n)
     c.in-Ok.ensures c.in-Some-Live.is (rw c.in-Some-Live.is at c.in-Some-Live.field-0-is) in
-    subst (λ (k : ℕ). LiveEnds k (clock_of g.C.OsClock.left g.C.OsClock.faults c.args.clock.now)
-    (clock_of g.C.OsClock.left g.C.OsClock.faults c.live.new.clock)
+    subst (λ (k : ℕ). LiveEnds k (clock_stream_of g.C.OsClock.left g.C.OsClock.faults c.args.clock.now)
+    (clock_stream_of g.C.OsClock.left g.C.OsClock.faults c.live.new.clock)
     (output_of g.O.Sink.taken g.O.Sink.room g.O.Sink.faults c.args.output.now)
     (output_of g.O.Sink.taken g.O.Sink.room g.O.Sink.faults c.live.new.output) c.live.result)
     (same_live c.in-Some-Live.n n (sym is ∙ e)) c.live.ensures.ends
 
 pub stress-requires-clause-count : goal.stress-requires-clause-count
 stress-requires-clause-count g c =
-    let is : asked c.args.words.now ≡ Some (Stress c.in-Some-Stress.seed c.in-Some-Stress.n) =
+    let is : command_asked c.args.words.now ≡ Some (Stress c.in-Some-Stress.seed c.in-Some-Stress.n) =
     found_is (map string_bytes c.args.words.now) c.in-Ok.command c.in-Some-Stress.field-0 (Stress c.in-Some-Stress.seed c.in-Some-Stress.n)
     c.in-Ok.ensures c.in-Some-Stress.is (rw c.in-Some-Stress.is at c.in-Some-Stress.field-0-is) in
     of_command (map string_bytes c.args.words.now) (Stress c.in-Some-Stress.seed c.in-Some-Stress.n) is
@@ -40,7 +40,7 @@ stress-requires-clause-count g c =
 pub returns-in-Some-Stress-clause-stress : goal.returns-in-Some-Stress-clause-stress
 returns-in-Some-Stress-clause-stress g c = λ seed n e.
     let made : c.in-Some-Stress.field-0 ≡ Stress c.in-Some-Stress.seed c.in-Some-Stress.n = search rules in
-    let is : asked c.args.words.now ≡ Some (Stress c.in-Some-Stress.seed c.in-Some-Stress.n) =
+    let is : command_asked c.args.words.now ≡ Some (Stress c.in-Some-Stress.seed c.in-Some-Stress.n) =
     found_is (map string_bytes c.args.words.now) c.in-Ok.command c.in-Some-Stress.field-0 (Stress c.in-Some-Stress.seed c.in-Some-Stress.n)
     c.in-Ok.ensures c.in-Some-Stress.is made in
     let both = same_stress c.in-Some-Stress.seed c.in-Some-Stress.n seed n (sym is ∙ e) in

@@ -14,21 +14,21 @@ use Rattle.ert_defs.specs.declared.entry.Entry.{Entry}
 use Rattle.ert_defs.specs.declared.timer.Kind.TheVariants.{Wrapped}
 use Rattle.ert_defs.specs.declared.timer.When.TheVariants.{After}
 use Rattle.ert_ops.specs.declared.op.Op.TheVariants as ops
-use Rattle.ert_race.specs.WorkedRace.{two_callers, two_cancels, timer, started, contested, closing_turn}
+use Rattle.ert_race.specs.WorkedRace.{two_callers, two_cancels, contested_timer, contest_start, contested, closing_turn}
 use Rattle.ert_race.specs.Made.{MakesTurns, MakesRound}
 use Rattle.ert_race.specs.Outcomes.{DoesList, ActAtOnce}
-use Rattle.ert_transcript.specs.Calls.{start_of}
+use Rattle.ert_transcript.specs.Calls.{start_for_op}
 use Rattle.ert_transcript.specs.declared.reply.Reply.TheVariants.{StartOk, Cancel}
 use Rattle.ert_race.proofs.contested.a_contest_has_an_outcome.Goals as goal
 
-starts : IsStarted two_callers 0 0 (start_of (After (pos 5)) 0 7 Wrapped) timer (state two_callers []) started
+starts : IsStarted two_callers 0 0 (start_for_op (After (pos 5)) 0 7 Wrapped) contested_timer (state two_callers []) contest_start
 starts = record { now = pos 0; probes = []; was = false; closing = []; on_wheel = refl; are_probes = tt; closes = refl; entries = refl }
 
 -- a caller's cancel, of which this is told
 abbrev cancelling : ℕ → Option ℕ → List Entry
-cancelling k left = look_entry (Caller k) (pos 0) ∷ peek_entry (Caller k) timer (Some 5) ∷ cancel_entry (Caller k) timer left ∷ []
+cancelling k left = look_entry (Caller k) (pos 0) ∷ peek_entry (Caller k) contested_timer (Some 5) ∷ cancel_entry (Caller k) contested_timer left ∷ []
 
-cancels : (k : ℕ) (left : Option ℕ) → Cancels two_callers (Caller k) timer left (state two_callers started) (cancelling k left)
+cancels : (k : ℕ) (left : Option ℕ) → Cancels two_callers (Caller k) contested_timer left (state two_callers contest_start) (cancelling k left)
 cancels k left = record {
   now = pos 0;
   found = Some 5;
@@ -37,7 +37,7 @@ cancels k left = record {
   quiet = λ none. let clash : Some 5 ≡ None = none in cc;
 }
 
-does_0 : DoesList two_callers ((1, timer) ∷ []) 0 (ops.Cancel 1 ∷ []) (record { replies = Cancel None ∷ []; own = [] }) started contested
+does_0 : DoesList two_callers ((1, contested_timer) ∷ []) 0 (ops.Cancel 1 ∷ []) (record { replies = Cancel None ∷ []; own = [] }) contest_start contested
 does_0 = record {
   pieces = contested;
   after = [];
@@ -55,7 +55,7 @@ does_0 = record {
   away = refl;
 }
 
-does_1 : DoesList two_callers ((1, timer) ∷ []) 1 (ops.Cancel 1 ∷ []) (record { replies = Cancel (Some 5) ∷ []; own = [] }) started contested
+does_1 : DoesList two_callers ((1, contested_timer) ∷ []) 1 (ops.Cancel 1 ∷ []) (record { replies = Cancel (Some 5) ∷ []; own = [] }) contest_start contested
 does_1 = record {
   pieces = contested;
   after = [];
@@ -74,10 +74,10 @@ does_1 = record {
 }
 
 -- no scheduler makes a turn beside them
-turns_none : (w : ℕ) → MakesTurns two_callers w 0 started contested
+turns_none : (w : ℕ) → MakesTurns two_callers w 0 contest_start contested
 turns_none w = record { turns = []; counted = refl; makes = record { pieces = []; after = contested; parted = refl; made = refl; away = refl } }
 
-at_once : ActAtOnce two_callers ((1, timer) ∷ []) two_cancels (record { replies = Cancel None ∷ []; own = [] } ∷ record { replies = Cancel (Some 5) ∷ []; own = [] } ∷ []) started contested
+at_once : ActAtOnce two_callers ((1, contested_timer) ∷ []) two_cancels (record { replies = Cancel None ∷ []; own = [] } ∷ record { replies = Cancel (Some 5) ∷ []; own = [] } ∷ []) contest_start contested
 at_once = record {
   done = (does_0, (does_1, tt));
   turned = λ w below. turns_none w;
@@ -87,10 +87,10 @@ at_once = record {
 abbrev turned : Turned
 turned = record { served = 0; to = 0; fired = 0; put = 0; dropped = 0 }
 
-advances : HasAdvanced 0 (0, 0) (state two_callers ((started ++ contested) ++ pick_entry 0 None ∷ [])) (look_entry (Sched 0) (pos 0) ∷ advanced_entry 0 0 ∷ [])
+advances : HasAdvanced 0 (0, 0) (state two_callers ((contest_start ++ contested) ++ pick_entry 0 None ∷ [])) (look_entry (Sched 0) (pos 0) ∷ advanced_entry 0 0 ∷ [])
 advances = record { now = pos 0; tries = []; fired = refl; settled = tt; due = tt; once = tt; entries = refl }
 
-turns : Turns two_callers (alone two_callers) 0 (Ok turned) (started ++ contested) closing_turn
+turns : Turns two_callers (alone two_callers) 0 (Ok turned) (contest_start ++ contested) closing_turn
 turns = record {
   before = pick_entry 0 None ∷ [];
   after = look_entry (Sched 0) (pos 0) ∷ advanced_entry 0 0 ∷ [];
@@ -105,7 +105,7 @@ turns = record {
   };
 }
 
-round : MakesRound two_callers 1 (started ++ contested) closing_turn
+round : MakesRound two_callers 1 (contest_start ++ contested) closing_turn
 round = record {
   turns = turned ∷ [];
   counted = refl;
@@ -116,12 +116,12 @@ pub returns : goal.returns
 unfolding digits
 returns c = record {
   legal = search rules;
-  first = started;
+  first = contest_start;
   later = contested ++ closing_turn;
   parted = refl;
-  replies = StartOk timer ∷ [];
-  labels = (1, timer) ∷ [];
-  began = (started, [], StartOk timer, [], refl, refl, starts, (refl, refl, refl));
+  replies = StartOk contested_timer ∷ [];
+  labels = (1, contested_timer) ∷ [];
+  began = (contest_start, [], StartOk contested_timer, [], refl, refl, starts, (refl, refl, refl));
   dids = record { replies = Cancel None ∷ []; own = [] } ∷ record { replies = Cancel (Some 5) ∷ []; own = [] } ∷ [];
   raced = record { before = contested; after = closing_turn; joined = refl; one = at_once; other = round };
   reads = refl;

@@ -1,13 +1,13 @@
 use Rattle.std.proofs.Common.{List, Some, map, drop}
 use Rattle.serde_json.specs.View.{view}
 use Rattle.ert_ops.specs.declared.op.Op.{Op}
-use Rattle.ert_scenario.specs.Kinds.{Found}
+use Rattle.ert_scenario.specs.Kinds.{FoundOrFault}
 use Rattle.ert_scenario.specs.Lists.{race_seen}
-use Rattle.ert_scenario.specs.Walked.{StandsAt}
+use Rattle.ert_scenario.specs.Walked.{WalkIsAt}
 use Rattle.ert_scenario.specs.Walks.{caller_raws, race_raws}
 use Rattle.ert_scenario.proofs.scanning.scan_race.Given as goal
 
 abbrev pub invariant-loop-list : goal.invariant-loop-list
 invariant-loop-list l =
-    (all : List (Found Op)) → StandsAt l.fn.walk (race_raws l.format (Some (race_seen l.race))) all
-    → StandsAt l.walk (caller_raws l.format (map view (drop l.list-index l.race.callers.now))) all
+    (all : List (FoundOrFault Op)) → WalkIsAt l.fn.walk (race_raws l.format (Some (race_seen l.race))) all
+    → WalkIsAt l.walk (caller_raws l.format (map view (drop l.list-index l.race.callers.now))) all

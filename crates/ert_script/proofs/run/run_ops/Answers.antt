@@ -1,6 +1,6 @@
 use Rattle.std.proofs.Common.{arith, sym, subst}
 use Rattle.std.proofs.lemmas.Result.{err_from_is_err_and}
-use Rattle.ert_io.specs.Told.{Told, told}
+use Rattle.ert_io.specs.Told.{SinkTold, sink_told}
 use Rattle.ert_script.specs.declared.output.RunErr.{RunErr}
 use Rattle.ert_ops.specs.Ranges.{IsOpInRange}
 use Rattle.ert_ops.specs.declared.op.Op.{Op}
@@ -60,8 +60,8 @@ returns-clause-ok g c =
 
 pub returns-clause-err : goal.returns-clause-err
 returns-clause-err g c =
-    let old : Told = told (g.K.Sink.taken c.args.sink.now) (g.K.Sink.room c.args.sink.now) in
-    let new : Told = told (g.K.Sink.taken c.write_page.new.output) (g.K.Sink.room c.write_page.new.output) in
+    let old : SinkTold = sink_told (g.K.Sink.taken c.args.sink.now) (g.K.Sink.room c.args.sink.now) in
+    let new : SinkTold = sink_told (g.K.Sink.taken c.write_page.new.output) (g.K.Sink.room c.write_page.new.output) in
     err_map (λ (why : RunErr). WritesSome c.args.world.now c.args.labels.now c.args.ops.now c.loop-op.world c.loop-op.labels why old new) c.write_page.result
     (λ why. breaks_last c.args.world.now c.loop-op.world c.args.labels.now c.loop-op.labels c.args.ops.now c.loop-op.op-index _ _ _ _ why
     c.loop-op.invariant.so_far)

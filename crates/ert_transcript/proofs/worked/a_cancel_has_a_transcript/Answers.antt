@@ -12,7 +12,7 @@ use Rattle.ert_defs.specs.declared.entry.Entry.{Entry}
 use Rattle.ert_defs.specs.declared.timer.Kind.TheVariants.{Wrapped}
 use Rattle.ert_defs.specs.declared.timer.TimerRef.{TimerRef}
 use Rattle.ert_defs.specs.declared.timer.When.TheVariants.{After}
-use Rattle.ert_transcript.specs.Calls.{start_of}
+use Rattle.ert_transcript.specs.Calls.{start_for_op}
 use Rattle.ert_transcript.specs.Scripts.{Script}
 use Rattle.ert_transcript.specs.Worked.{plain}
 use Rattle.ert_ops.specs.declared.op.Op.TheVariants as ops
@@ -25,14 +25,14 @@ timer = timer_at 0 3 1
 
 abbrev begun : List Entry
 begun = look_entry (Caller 0) (pos 0)
-    ∷ arm_entry 0 timer (start_of (After (pos 5)) 0 7 Wrapped)
+    ∷ arm_entry 0 timer (start_for_op (After (pos 5)) 0 7 Wrapped)
     ∷ mark_entry (Caller 0) 0 false false
     ∷ []
 
 abbrev ended : List Entry
 ended = look_entry (Caller 0) (pos 0) ∷ peek_entry (Caller 0) timer (Some 5) ∷ cancel_entry (Caller 0) timer (Some 5) ∷ []
 
-starts : IsStarted plain 0 0 (start_of (After (pos 5)) 0 7 Wrapped) timer (state plain []) begun
+starts : IsStarted plain 0 0 (start_for_op (After (pos 5)) 0 7 Wrapped) timer (state plain []) begun
 starts = record { now = pos 0; probes = []; was = false; closing = []; on_wheel = refl; are_probes = tt; closes = refl; entries = refl }
 
 cancel : Cancels plain (Caller 0) timer (Some 5) (state plain begun) ended
