@@ -19,13 +19,17 @@
 //! that is read from them. What is left of a timer is told by the look that the same call made: the whole
 //! milliseconds from that time to the deadline (`specs/Left.antt`).
 //!
-//! It stands on `ert_defs`, `ert_effects` and `ert_table`.
+//! Beside these stands the clock's part (`KeeperPart`), whose holder moves the clock.
+//!
+//! It stands on `ert_defs`, `ert_clock`, `ert_effects` and `ert_table`.
 #![tactic(auto)]
 
 mod clock_calls;
+mod keeper;
 mod process_calls;
 mod timer_calls;
 
 pub use clock_calls::{look, monotonic_time, system_time, time_offset};
+pub use keeper::KeeperPart;
 pub use process_calls::{is_alive, mark_exit};
 pub use timer_calls::{cancel_timer, read_timer};

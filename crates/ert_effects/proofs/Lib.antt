@@ -1,6 +1,9 @@
 pub mod Advanced
+pub mod Ended
 pub mod Growing
 pub mod Rounds
+pub mod Sums
 pub mod Swept
 pub mod Told
 pub mod TurnEnds
+pub mod Turning

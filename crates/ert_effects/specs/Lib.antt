@@ -6,6 +6,7 @@ pub mod RequestCalls
 pub mod RoomCalls
 pub mod SomeCalls
 pub mod TimerCalls
+pub mod Told
 pub mod Ways
 pub mod WheelCalls
 pub mod Worked

@@ -22,17 +22,21 @@
 //! others. A call of several locked steps is said once, with the way as an argument. A history that grows by
 //! a call after another grows by both, whatever the way.
 //!
+//! **What the entries tell** of an answer, `specs/Told` names.
+//!
 //! It stands on `ert_defs`, and on `ert_clock` for what a tick answers. The answers that the parts of the
 //! service give are types of this crate.
 #![tactic(auto)]
 
 mod answers;
 mod laws;
+mod told_answers;
 mod worked;
 mod worked_some;
 
 pub use answers::{Handed, MOST_LOOKS, MonitorErr, Room, SERVED_A_TURN, StartErr, Taken, Turned};
 pub use laws::{answers_are_read, exits_settle_timers, messages_are_read, turns_deliver_all};
+pub use told_answers::{asks_are_told, exits_are_told, turns_are_told};
 pub use worked::{
     advances_are_judged, cancels_are_judged, exits_are_judged, messages_are_judged,
     monitors_are_judged, refusals_are_judged, starts_are_judged, turns_are_judged,

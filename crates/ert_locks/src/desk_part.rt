@@ -2,8 +2,8 @@
 ghost use Rattle.std.specs.Prelude.{◌≡◌};
 ghost use Rattle.ert_locks.specs.Kinds.{Kind, IsKind};
 
+use ert_calls::KeeperPart;
 use ert_defs::Actor;
-use ert_keeper::KeeperPart;
 use ert_mail::{InboxPart, MailPart};
 use ert_timers::WheelPart;
 

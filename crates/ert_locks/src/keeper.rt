@@ -2,9 +2,9 @@
 use crate::locked::{Locked, meet};
 use crate::names::DeskName;
 use crate::seats::CallerSeat;
+use ert_calls::KeeperPart;
 use ert_clock::{ClockErr, Moved};
 use ert_defs::{Actor, OffsetState, Reading};
-use ert_keeper::KeeperPart;
 use ert_table::Desk;
 
 impl<L: DeskName> Locked<KeeperPart, L> {

@@ -32,7 +32,7 @@
 //! want of memory nothing has changed: a request is still in the hand, and its timer as it was. `take`,
 //! `demonitor` and `pick` take no memory. Messages and requests stand in rings: to put or to take one moves no other.
 //!
-//! It stands on `ert_defs`, `ert_laws`, `ert_effects`, `ert_table`, `ert_calls` and `ert_monitors`.
+//! It stands on `ert_defs`, `ert_laws`, `ert_effects`, `ert_table` and `ert_calls`.
 #![tactic(auto)]
 
 mod handing;

@@ -2,9 +2,8 @@
 ghost use Rattle.std.specs.Prelude.{◌≡◌};
 
 use crate::part::MailPart;
-use ert_defs::{Actor, Monitor, NoMemory};
+use ert_defs::{Actor, Monitor, NoMemory, has_monitor, remove_monitor, tell_monitors};
 use ert_effects::MonitorErr;
-use ert_monitors::{has_monitor, remove_monitor, tell_monitors};
 use ert_table::{Desk, OffsetCarry, Pass, TimeCarry};
 
 /// The greatest number of monitors that a process can have (profile).

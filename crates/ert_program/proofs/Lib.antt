@@ -2,11 +2,17 @@ pub mod Chosen
 pub mod Draws
 pub mod Ends
 pub mod InMemory
+pub mod Judged
+pub mod Levels
 pub mod LiveEndings
 pub mod LivedThrough
 pub mod Made
+pub mod Numbers
+pub mod Plain
 pub mod Raced
 pub mod Ranges
+pub mod Shapes
 pub mod Transcripts
 pub mod Valid
 pub mod Within
+pub mod Words

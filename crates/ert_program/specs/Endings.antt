@@ -2,9 +2,9 @@
 
 use Rattle.std.specs.Prelude.{◌≡◌, ℕ, ◌⊎◌, Bool, true, false, List, Option, Some, None, IfSome, Result, Ok, Err, map, string_bytes, String}
 use Rattle.std.specs.declared.alloc.Global.{Global}
-use Rattle.ert_command.specs.Commands.{command_of}
-use Rattle.ert_command.specs.declared.command.Command.{Command}
-use Rattle.ert_command.specs.declared.command.Command.TheVariants.{Run, Race, Live}
+use Rattle.ert_program.specs.Commands.{command_of}
+use Rattle.ert_program.specs.declared.command.Command.{Command}
+use Rattle.ert_program.specs.declared.command.Command.TheVariants.{Run, Race, Live}
 use Rattle.ert_io.specs.Faults.{Rose}
 use Rattle.ert_io.specs.Told.{took, TakesFront}
 use Rattle.ert_script.specs.declared.output.RunErr.{RunErr}

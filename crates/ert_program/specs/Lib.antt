@@ -1,8 +1,11 @@
+pub mod Apps
+pub mod Commands
 pub mod Draws
 pub mod Endings
 pub mod Generated
 pub mod Inputs
 pub mod Lives
+pub mod Matches
 pub mod Races
 pub mod Refusals
 pub mod Runs

@@ -1,8 +1,8 @@
 -- What `run` leaves.
 
 use Rattle.std.specs.Prelude.{◌≡◌, ℕ, false, List, Option, Some, length, IfSome}
-use Rattle.ert_command.specs.declared.command.Command.{Command}
-use Rattle.ert_command.specs.declared.command.Command.TheVariants.{Run}
+use Rattle.ert_program.specs.declared.command.Command.{Command}
+use Rattle.ert_program.specs.declared.command.Command.TheVariants.{Run}
 use Rattle.ert_defs.specs.declared.entry.Entry.{Entry}
 use Rattle.ert_io.specs.Known.{HasRoomFor}
 use Rattle.ert_io.specs.Told.{SinkTold}

@@ -1,6 +1,11 @@
 //! What the program `ertime` does, over any source and sink of bytes, any clock and any gate: it reads a scenario
 //! of the clock and timer service, and writes one line for each reply.
 //!
+//! **The command line** (`command_line`): which command its words are. `clap` reads them. `specs/Commands` says which lists
+//! of words are which command, as a function that computes, without a word about `clap`; `command_of` gives exactly that. A
+//! list with a word that is empty, or that has a character other than a to z and 0 to 9, is no command before `clap` is
+//! asked: so no word is a flag.
+//!
 //! `ertime` is the whole program; its contract says what each status means. Its commands stand in `running` and
 //! `racing`, which `reading` gives a scenario, and in `living` and `stressing`. It stands on `ert_scenario`, which reads,
 //! `ert_script`, which runs the ops on a world, `ert_race`, which lets threads run lists of them, `ert_io`, and
@@ -15,12 +20,15 @@
 //! The crate `ert_cli` hands it the command line and the standard streams of the machine.
 #![tactic(auto)]
 
+mod command;
+mod command_line;
 mod ending;
 mod generation;
 mod generator;
 mod in_memory;
 mod laws;
 mod living;
+mod parser;
 mod program;
 mod racing;
 mod reading;

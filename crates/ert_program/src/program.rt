@@ -1,5 +1,5 @@
 ghost use Rattle.std.specs.Prelude.{◌≡◌, ◌≢◌, ◌≤◌, ◌⊎◌, ℕ, false, Some, None, IsSomeAnd};
-ghost use Rattle.ert_command.specs.declared.command.Command.TheVariants.{Run, Race, Live, Stress};
+ghost use Rattle.ert_program.specs.declared.command.Command.TheVariants.{Run, Race, Live, Stress};
 ghost use Rattle.ert_io.specs.Faults.{Rose};
 ghost use Rattle.ert_io.specs.Told.{took, TakesFront};
 ghost use Rattle.ert_program.specs.Endings.{command_asked, reads_input, reads_clock, HasItsRefusal, UsageEnds};
@@ -10,12 +10,13 @@ ghost use Rattle.ert_program.specs.Runs.{AllFits, RunEnds, RunOn};
 ghost use Rattle.ert_program.specs.Streams.{told_by_sink, input_of, output_of, clock_stream_of};
 ghost use Rattle.ert_program.specs.Stresses.{StressEnds};
 
+use crate::command::Command;
+use crate::command_line::command_of;
 use crate::ending::{EndStatus, Ended};
 use crate::living::live;
 use crate::racing::race;
 use crate::running::run;
 use crate::stressing::stress;
-use ert_command::{Command, command_of};
 use ert_io::{OsClock, Sink, Source, write_all};
 use ert_race::Gate;
 use std::sync::Wait;

@@ -1,8 +1,8 @@
 //! What is left of a world that is divided: the clock, and what was given to no shard.
 ghost use Rattle.std.specs.Prelude.{◌≡◌};
 
+use ert_calls::KeeperPart;
 use ert_defs::Settings;
-use ert_keeper::KeeperPart;
 use ert_mail::{InboxPart, MailPart};
 use ert_table::{Desk, Pass};
 use ert_timers::WheelPart;

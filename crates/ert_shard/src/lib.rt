@@ -47,7 +47,7 @@
 //! `join_all` take none. Where there is none, `monitor` and `tell` change nothing, `advance` and `advance_some` let no
 //! timer expire, `deliver` and `deliver_some` keep what wasn't handed over, `shard` and `seat` leave everything as it was.
 //!
-//! It stands on `ert_defs`, `ert_clock`, `ert_effects`, `ert_table`, `ert_calls`, `ert_keeper`, `ert_timers`, `ert_mail`
+//! It stands on `ert_defs`, `ert_clock`, `ert_effects`, `ert_table`, `ert_calls`, `ert_timers`, `ert_mail`
 //! and `ert_world`, and its proofs on the laws of `ert_laws`.
 #![tactic(auto)]
 

@@ -9,7 +9,7 @@
 //! place of each by slot and generation, the uses of each slot, and the armed ones in order of
 //! deadline and then of arming. So an entry takes time that grows with the logarithm of what stands, but for
 //! the at most 64 monitors of a process. It stands on `ert_defs`, on the clock of `ert_clock` and on
-//! the monitors of `ert_monitors`.
+//! the monitors of `ert_defs`.
 #![tactic(auto)]
 
 mod clock;

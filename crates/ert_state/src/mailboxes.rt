@@ -4,8 +4,10 @@ ghost use Rattle.ert_state.specs.Parts.{scheds_in, with_message, with_answer_in,
 
 use crate::lists::{drop_first, first, push, put};
 use crate::schedulers::Schedulers;
-use ert_defs::{Actor, Event, Fired, Mail, Monitor, NoMemory, Request};
-use ert_monitors::{has_monitor, remove_monitor, tell_monitors};
+use ert_defs::{
+    Actor, Event, Fired, Mail, Monitor, NoMemory, Request, has_monitor, remove_monitor,
+    tell_monitors,
+};
 use std::alloc::Global;
 use std::collections::{BTreeMap, VecDeque};
 use std::marker::Model;

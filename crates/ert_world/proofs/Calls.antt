@@ -20,8 +20,8 @@ use Rattle.ert_defs.specs.declared.settings.OffsetState.{OffsetState}
 use Rattle.ert_defs.specs.declared.settings.OffsetState.TheVariants.{Preliminary, Final, Volatile}
 use Rattle.ert_defs.specs.declared.settings.Settings.{Settings}
 use Rattle.ert_mail.specs.Inboxes.{Waiting, Stands as InboxStands}
-use Rattle.ert_keeper.specs.Published.{ReadsBy}
-use Rattle.ert_keeper.specs.declared.part.KeeperPart.{KeeperPart}
+use Rattle.ert_calls.specs.Published.{ReadsBy}
+use Rattle.ert_calls.specs.declared.keeper.KeeperPart.{KeeperPart}
 use Rattle.ert_mail.specs.Mailboxes.{Mailbox, IsMonitor, Stands as MailStands}
 use Rattle.ert_table.proofs.Calls.{whole_exact}
 use Rattle.ert_table.specs.Calls.{AreOnlyOf, IsMade, IsOmitted, IsMadeIfOk}

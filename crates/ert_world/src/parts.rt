@@ -10,8 +10,8 @@ ghost use Rattle.ert_world.specs.Worlds.{AreTidy};
 
 use crate::sched_part::SchedPart;
 use crate::world::{CALLER, World};
+use ert_calls::KeeperPart;
 use ert_defs::Settings;
-use ert_keeper::KeeperPart;
 use ert_mail::{InboxPart, MailPart};
 use ert_table::{Desk, Pass};
 use ert_timers::WheelPart;

@@ -1,0 +1,104 @@
+//! What a program in C cannot do with a hub and its shards: shards that come back, a seat, and a world again. Each call
+//! that it can make is tested by `examples/c/tests/shards.c`, and calls of many threads by `fuzz/shards.c`.
+use crate::shard_calls::{cut, join, open, same, start, tick, whole};
+use ert_defs::NoMemory;
+use ert_shard::{Hub, Shard, ShardErr, Turn};
+use ert_world::SeatErr;
+use std::alloc::Global;
+use std::process::Abort;
+
+/// What a turn at this time does that puts so many messages.
+const fn turn(to: u64, put: u32) -> Turn {
+    Turn {
+        to,
+        fired: put,
+        put,
+        dropped: 0,
+    }
+}
+
+/// Scheduler 1 gets processes 2 and 3, and scheduler 0 the others.
+fn are_cut(rt: &impl Abort, low: &Shard, high: &Shard) {
+    same(rt, &(low.number(), low.from(), low.to()), &(0, 0, 2));
+    same(rt, &(high.number(), high.from(), high.to()), &(1, 2, 4));
+    same(rt, &high.processes(), &4);
+}
+
+/// A wheel that has had timers isn't cut for fewer processes than it had.
+fn is_not_cut(rt: &impl Abort, hub: &mut Hub) {
+    assert!(rt; hub.schedulers_left() > 0 && hub.processes_left() >= 1);
+    assert!(rt; matches!(hub.shard(1), Err(ShardErr::Used)));
+}
+
+/// The shard that was cut last comes back first, and then the other is next.
+#[test]
+fn shards_come_back(rt: HostRuntime) -> Result<(), NoMemory> {
+    let mut hub = open(&rt, rt.alloc())?;
+    let high = cut(&rt, &mut hub, 2);
+    let mut low = cut(&rt, &mut hub, 2);
+    are_cut(&rt, &low, &high);
+    let _timer = start(&rt, &mut low, 1, 5);
+    same(&rt, &hub.is_next(&high), &false);
+    join(&rt, &mut hub, low);
+    is_not_cut(&rt, &mut hub);
+    same(&rt, &hub.is_next(&high), &true);
+    Ok(())
+}
+
+/// Shards come back in any order.
+#[test]
+fn shards_come_back_in_any_order(rt: HostRuntime) -> Result<(), NoMemory> {
+    let mut hub = open(&rt, rt.alloc())?;
+    let high = cut(&rt, &mut hub, 2);
+    let low = cut(&rt, &mut hub, 2);
+    let mut back = Vec::new(rt.alloc());
+    back.reserve(2)?;
+    back.push_reserved(high);
+    back.push_reserved(low);
+    hub.join_all(&mut back);
+    same(&rt, &(back.len(), hub.schedulers_left()), &(0, 2));
+    same(&rt, &whole(&rt, hub).seats(), &0);
+    Ok(())
+}
+
+/// A wheel that came back is cut again for the processes that it had, and its timer expires there.
+#[test]
+fn a_wheel_is_cut_again(rt: HostRuntime) -> Result<(), NoMemory> {
+    let mut hub = open(&rt, rt.alloc())?;
+    let mut high = cut(&rt, &mut hub, 2);
+    let _timer = start(&rt, &mut high, 3, 5);
+    join(&rt, &mut hub, high);
+    let mut high = cut(&rt, &mut hub, 2);
+    tick(&rt, &mut hub, 5);
+    same(&rt, &hub.published(), &5_000_000);
+    same(&rt, &high.turn(), &Ok(turn(5, 1)));
+    Ok(())
+}
+
+/// A hub of which nothing is given away is a world.
+#[test]
+fn a_hub_is_a_world(rt: HostRuntime) -> Result<(), NoMemory> {
+    let hub = open(&rt, rt.alloc())?;
+    same(&rt, &whole(&rt, hub).seats(), &0);
+    Ok(())
+}
+
+/// There is one caller for seats.
+fn has_no_seat(rt: &impl Abort, alloc: Global, hub: &mut Hub) {
+    same(rt, &hub.seats(), &1);
+    assert!(rt; matches!(hub.seat(alloc), Err(SeatErr::NoSeat)));
+}
+
+/// A seat of the hub cancels a timer of a shard.
+#[test]
+fn a_seat_calls(rt: HostRuntime) -> Result<(), NoMemory> {
+    let mut hub = open(&rt, rt.alloc())?;
+    let mut seat = hub.seat(rt.alloc()).expect(&rt, "a seat");
+    let mut high = cut(&rt, &mut hub, 1);
+    let timer = start(&rt, &mut high, 3, 40);
+    same(&rt, &seat.read_timer(timer), &Some(40));
+    same(&rt, &seat.cancel_timer(timer), &Some(40));
+    same(&rt, &high.cancel_timer(timer), &None);
+    has_no_seat(&rt, rt.alloc(), &mut hub);
+    Ok(())
+}
