@@ -11,6 +11,7 @@
 #define MEASURE_H
 
 #include <inttypes.h>
+#include <malloc.h>
 #include <stdint.h>
 #include <stdio.h>
 #include <stdlib.h>
@@ -133,12 +134,19 @@ static inline int compare_times(const void *left, const void *right)
     return (a > b) - (a < b);
 }
 
+/* What a pass frees stays mapped, so that the next one doesn't measure how the kernel maps it again. */
+static inline void keep_memory(void)
+{
+    expect(mallopt(M_MMAP_THRESHOLD, INT32_MAX) == 1 && mallopt(M_TRIM_THRESHOLD, INT32_MAX) == 1);
+}
+
 /* Makes the passes of an operation, and prints its line. */
 static inline void measure(const struct operation *operation, const struct measurement *what, size_t passes)
 {
     uint64_t taken[MOST_PASSES];
     double each = (double)(operation->by_calls ? what->calls : what->timers);
     size_t made = 0;
+    keep_memory();
     while (made < passes) {
         taken[made] = operation->pass(what);
         if (taken[made++] > LONG_PASS && passes > FEW_PASSES)

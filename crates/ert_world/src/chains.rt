@@ -44,6 +44,7 @@ pub fn serve_all<S: SchedSteps>(steps: &mut S, sched: u32) -> Result<u32, NoMemo
 /// mailboxes and how many were thrown away, since their process has exited.
 ///
 /// After want of memory those that weren't handed over stay in the list.
+#[inline(always)]
 pub fn deliver<S: SchedSteps>(steps: &mut S, sched: u32) -> Result<(u32, u32), NoMemory>
     requires { S.acts steps.old sched }
     ensures call { Grows (Delivers (S.settings steps.old) (S.way (S.settings steps.old) (S.mark steps.old) sched) sched result) (S.history steps.old) (S.history steps.new) }

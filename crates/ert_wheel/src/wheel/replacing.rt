@@ -12,7 +12,7 @@ impl<T: Copy> Wheel<T> {
     /// The order is above that of every row that is held.
     ///
     /// Where the slot is the newest of the bucket to which the row belongs, no chain is written.
-    #[inline]
+    #[inline(always)]
     pub fn replace(&mut self, row: Row, value: T)
         requires slot { row.slot < length self.old.keys }
         requires held { IsSome (key_in self.old.keys row.slot) }
